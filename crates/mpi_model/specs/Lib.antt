@@ -1,0 +1,5 @@
+pub mod Failures
+pub mod Side
+pub mod Times
+pub mod Ranges
+pub mod Whole

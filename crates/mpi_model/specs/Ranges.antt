@@ -1,0 +1,83 @@
+-- The ranges of what calls and outcomes hold. The greatest number is 2^31 - 1, that of an `int`.
+use Rattle.std.specs.Prelude.{◌≡◌, ℕ, ◌<◌, ◌^◌, Option, Some, None, IfSome}
+use Rattle.mpi_model.specs.declared.envelope.Peer.{Peer}
+use Rattle.mpi_model.specs.declared.envelope.Peer.TheVariants as peers
+use Rattle.mpi_model.specs.declared.envelope.CommRef.{CommRef}
+use Rattle.mpi_model.specs.declared.envelope.CommRef.TheVariants as comms
+use Rattle.mpi_model.specs.declared.envelope.Envelope.{Envelope}
+use Rattle.mpi_model.specs.declared.collective.Kind.{Kind}
+use Rattle.mpi_model.specs.declared.collective.Kind.TheVariants.{Barrier, Bcast, Scatter, Gather, Reduce, Allreduce, Allgather, Alltoall}
+
+-- a source that an outcome tells, or nothing
+abbrev pub IsTold : Option ℕ → Type 0
+IsTold rank = IfSome rank (λ n. n < 2 ^ 31)
+
+abbrev pub IsComm : CommRef → Type 0
+IsComm comms.World = Unit {0}
+IsComm (comms.Id n) = n < 2 ^ 31
+
+-- the peer of a send: the null process or a rank
+abbrev pub IsTarget : Peer → Type 0
+IsTarget peers.Any = ⊥
+IsTarget peers.Null = Unit {0}
+IsTarget (peers.Rank n) = n < 2 ^ 31
+
+-- a number that is named, as the tag of a send and the root of a call have to be
+abbrev pub IsNamed : Option ℕ → Type 0
+IsNamed None = ⊥
+IsNamed (Some n) = n < 2 ^ 31
+
+abbrev pub IsSend : Envelope → Type 0
+IsSend e = IsTarget e.peer × IsNamed e.tag × IsComm e.comm × (e.count < 2 ^ 31)
+
+-- the peer of a receive
+abbrev pub IsSource : Peer → Type 0
+IsSource peers.Any = Unit {0}
+IsSource peers.Null = Unit {0}
+IsSource (peers.Rank n) = n < 2 ^ 31
+
+-- the tag of a receive: any, or a number
+abbrev pub IsAskedTag : Option ℕ → Type 0
+IsAskedTag tag = IfSome tag (λ n. n < 2 ^ 31)
+
+abbrev pub IsReceive : Envelope → Type 0
+IsReceive e = IsSource e.peer × IsAskedTag e.tag × IsComm e.comm × (e.count < 2 ^ 31)
+
+-- the two envelopes of a Sendrecv
+pub record BothEnvelopes : Type 0 where
+  pub send : Envelope
+  pub receive : Envelope
+
+abbrev pub IsExchange : BothEnvelopes → Type 0
+IsExchange e = IsSend e.send × IsReceive e.receive × (e.send.comm ≡ e.receive.comm)
+
+-- a collective call
+pub record CollectiveCall : Type 0 where
+  pub kind : Kind
+  pub root : Option ℕ
+  pub comm : CommRef
+
+-- Four kinds have a root.
+abbrev pub HasRoot : Kind → Type 0
+HasRoot Bcast = Unit {0}
+HasRoot Scatter = Unit {0}
+HasRoot Gather = Unit {0}
+HasRoot Reduce = Unit {0}
+HasRoot Barrier = ⊥
+HasRoot Allreduce = ⊥
+HasRoot Allgather = ⊥
+HasRoot Alltoall = ⊥
+
+-- A root just where the kind has one.
+abbrev pub IsRootOf : Kind → Option ℕ → Type 0
+IsRootOf Bcast root = IsNamed root
+IsRootOf Scatter root = IsNamed root
+IsRootOf Gather root = IsNamed root
+IsRootOf Reduce root = IsNamed root
+IsRootOf Barrier root = root ≡ None
+IsRootOf Allreduce root = root ≡ None
+IsRootOf Allgather root = root ≡ None
+IsRootOf Alltoall root = root ≡ None
+
+abbrev pub IsCollective : CollectiveCall → Type 0
+IsCollective c = IsRootOf c.kind c.root × IsComm c.comm

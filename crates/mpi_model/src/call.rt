@@ -1,0 +1,75 @@
+//! Calls of MPI, with what they name.
+
+ghost use Rattle.std.specs.Prelude.{◌≡◌, ◌↔◌, IsTrue, IfOk};
+
+use crate::collective::Collective;
+use crate::envelope::{Exchange, Mode, ReceiveEnvelope, SendEnvelope};
+use crate::list::Requests;
+use std::alloc::AllocError;
+
+/// A call, as it was entered. A request is named by the trace's number of it.
+#[derive(Debug, Drop)]
+pub enum Call {
+    /// A function that takes part in no matching.
+    Local,
+    Finalize,
+    /// `MPI_Send`, `MPI_Ssend`, `MPI_Bsend`, `MPI_Rsend` (MPI 4.0, 3.2.1 and 3.4).
+    Send(Mode, SendEnvelope),
+    /// `MPI_Isend` and its modes (MPI 4.0, 3.7.2).
+    Isend(Mode, SendEnvelope),
+    Recv(ReceiveEnvelope),
+    Irecv(ReceiveEnvelope),
+    /// A send of standard mode and a receive at once (MPI 4.0, 3.10).
+    Sendrecv(Exchange),
+    /// The completion calls (MPI 4.0, 3.7.3 and 3.7.5).
+    Wait(i64),
+    Waitall(Requests),
+    Waitany(Requests),
+    Waitsome(Requests),
+    Test(i64),
+    Collective(Collective),
+}
+
+impl Call {
+    pub fn try_clone(&self) -> Result<Call, AllocError>
+        ensures { IfOk result (λ c. c ≡ self.now) }
+    {
+        Ok(match self {
+            Call::Local => Call::Local,
+            Call::Finalize => Call::Finalize,
+            Call::Send(mode, envelope) => Call::Send(*mode, *envelope),
+            Call::Isend(mode, envelope) => Call::Isend(*mode, *envelope),
+            Call::Recv(envelope) => Call::Recv(*envelope),
+            Call::Irecv(envelope) => Call::Irecv(*envelope),
+            Call::Sendrecv(exchange) => Call::Sendrecv(*exchange),
+            Call::Wait(request) => Call::Wait(*request),
+            Call::Waitall(requests) => Call::Waitall(requests.try_clone()?),
+            Call::Waitany(requests) => Call::Waitany(requests.try_clone()?),
+            Call::Waitsome(requests) => Call::Waitsome(requests.try_clone()?),
+            Call::Test(request) => Call::Test(*request),
+            Call::Collective(collective) => Call::Collective(*collective),
+        })
+    }
+
+    /// Whether the two calls are equal in every field.
+    pub fn same(&self, other: &Call) -> bool
+        ensures { IsTrue result ↔ (self.now ≡ other.now) }
+    {
+        match (self, other) {
+            (Call::Local, Call::Local) => true,
+            (Call::Finalize, Call::Finalize) => true,
+            (Call::Send(m, e), Call::Send(n, f)) => *m == *n && e.envelope().same(f.envelope()),
+            (Call::Isend(m, e), Call::Isend(n, f)) => *m == *n && e.envelope().same(f.envelope()),
+            (Call::Recv(e), Call::Recv(f)) => e.envelope().same(f.envelope()),
+            (Call::Irecv(e), Call::Irecv(f)) => e.envelope().same(f.envelope()),
+            (Call::Sendrecv(e), Call::Sendrecv(f)) => e.same(*f),
+            (Call::Wait(r), Call::Wait(s)) => *r == *s,
+            (Call::Waitall(r), Call::Waitall(s)) => r.same(s),
+            (Call::Waitany(r), Call::Waitany(s)) => r.same(s),
+            (Call::Waitsome(r), Call::Waitsome(s)) => r.same(s),
+            (Call::Test(r), Call::Test(s)) => *r == *s,
+            (Call::Collective(c), Call::Collective(d)) => c.same(*d),
+            _ => false,
+        }
+    }
+}

@@ -1,0 +1,107 @@
+//! Collective calls (MPI 4.0, chapter 6).
+
+ghost use Rattle.std.specs.Prelude.{◌≡◌, ◌↔◌, IsTrue, SomeIff};
+ghost use Rattle.mpi_model.specs.Ranges.{HasRoot, IsRootOf};
+
+use crate::envelope::CommRef;
+use std::marker::Model;
+
+/// The kind of a collective call.
+#[derive(Clone, Copy, Debug, PartialEq, Eq)]
+pub enum Kind {
+    Barrier,
+    Bcast,
+    Scatter,
+    Gather,
+    Reduce,
+    Allreduce,
+    Allgather,
+    Alltoall,
+}
+
+impl Kind {
+    /// Whether a call of this kind names a root.
+    pub fn has_root(self) -> bool
+        ensures { IsTrue result ↔ HasRoot self }
+    {
+        matches!(
+            self,
+            Kind::Bcast | Kind::Scatter | Kind::Gather | Kind::Reduce
+        )
+    }
+}
+
+/// A collective call, with a root, a rank in the group, just where its kind has one.
+#[derive(Clone, Copy, Debug, PartialEq, Eq)]
+pub struct Collective {
+    kind: Kind,
+    root: Option<u32>,
+    comm: CommRef,
+}
+
+impl Model for Collective {
+    ghost use Rattle.mpi_model.specs.Ranges.{CollectiveCall, IsCollective};
+
+    ghost Value = { CollectiveCall };
+
+    ghost view = { λ e. record { kind = e.kind; root = e.root; comm = e.comm } };
+
+    ghost invariant = { λ e. IsCollective (record { kind = e.kind; root = e.root; comm = e.comm }) };
+
+    ghost inverse = { λ e. record { kind = e.kind; root = e.root; comm = e.comm } };
+}
+
+impl Collective {
+    ghost use Rattle.mpi_model.specs.Ranges.{IsCollective, IsRootOf, IsComm};
+
+    /// The call, or none where the root or the communicator is none that the kind can have.
+    pub fn new(kind: Kind, root: Option<u32>, comm: CommRef) -> Option<Collective>
+        ensures { SomeIff result (IsRootOf kind root × IsComm comm) (record { kind = kind; root = root; comm = comm }) }
+    {
+        if is_root_of(kind, root) && matches!(comm, CommRef::World | CommRef::Id(0..=0x7FFF_FFFF)) {
+            Some(Collective { kind, root, comm })
+        } else {
+            None
+        }
+    }
+
+    pub fn kind(self) -> Kind
+        ensures { result ≡ self.kind }
+    {
+        self.kind
+    }
+
+    /// The root's rank in the group, where the kind has a root.
+    pub fn root(self) -> Option<u32>
+        ensures value { result ≡ self.root }
+        ensures range { IsRootOf self.kind result }
+    {
+        self.root
+    }
+
+    pub fn comm(self) -> CommRef
+        ensures value { result ≡ self.comm }
+        ensures range { IsComm result }
+    {
+        self.comm
+    }
+
+    /// Whether the two calls are equal in every field.
+    pub fn same(self, other: Collective) -> bool
+        ensures { IsTrue result ↔ (self ≡ other) }
+    {
+        self.kind == other.kind && self.root == other.root && self.comm == other.comm
+    }
+}
+
+fn is_root_of(kind: Kind, root: Option<u32>) -> bool
+    ensures { IsTrue result ↔ IsRootOf kind root }
+{
+    match kind {
+        Kind::Barrier | Kind::Allreduce | Kind::Allgather | Kind::Alltoall => root.is_none(),
+        Kind::Bcast | Kind::Scatter | Kind::Gather | Kind::Reduce => matches!(
+            root,
+            Some(0..=0x7FFF_FFFF)
+        ),
+    }
+}

@@ -1,0 +1,117 @@
+//! Devices: where the bytes of a trace come from, and where the bytes of a report go.
+
+ghost use Rattle.std.specs.Prelude.{◌≡◌, ◌<◌, ◌≤◌, List, ℕ, Option, None, length, IfOk};
+ghost use Rattle.std.specs.Io.KnownBytes.{ReadConsumes, WriteAppends};
+ghost use Rattle.mpi_model.specs.Failures.{CountsFailure};
+ghost use Rattle.mpi_model.specs.Side.{Side, LeavesSide, untold};
+
+use std::io;
+
+/// A call of a device failed. What it moved is told by the call that failed.
+#[derive(Clone, Copy, Debug, PartialEq, Eq)]
+pub struct Failed;
+
+/// Where bytes come from.
+///
+/// A device tells its bytes, or it doesn't (a socket can't); then `left` is `None`, and no clause
+/// says anything of them.
+pub trait Read: Drop {
+    /// The bytes that are left, where the device tells them.
+    ghost left: { Self → Option (List ℕ) } = { λ _. None };
+
+    /// How often a read has failed.
+    ghost failures: { Self → ℕ };
+
+    /// What the same device keeps for writing, where it is a stream.
+    ghost write_side: { Self → Side } = { λ _. untold };
+
+    /// Fills a front of the buffer, and answers its length: 0 of a nonempty buffer only at the
+    /// end. At `Failed` no byte was taken.
+    fn read(&mut self, buffer: &mut [u8]) -> Result<usize, Failed>
+        ensures within { IfOk result (λ n. n ≤ length buffer.new) }
+        ensures bytes { ReadConsumes (left self.old) (left self.new) result buffer.new }
+        ensures failures { CountsFailure (failures self.old) (failures self.new) result }
+        ensures beside { LeavesSide (write_side self.old) (write_side self.new) };
+}
+
+/// Where bytes go.
+pub trait Write: Drop {
+    /// The bytes that were written, where the device tells them.
+    ghost written: { Self → Option (List ℕ) } = { λ _. None };
+
+    /// How often a write has failed.
+    ghost failures: { Self → ℕ };
+
+    /// What the same device keeps for reading, where it is a stream.
+    ghost read_side: { Self → Side } = { λ _. untold };
+
+    /// Takes a front of the piece, and answers its length: at least one byte of a nonempty piece.
+    /// At `Failed` no byte was taken.
+    fn write(&mut self, piece: &[u8]) -> Result<usize, Failed>
+        ensures within { IfOk result (λ n. n ≤ length piece.now) }
+        ensures some { IfOk result (λ n. 0 < length piece.now → 0 < n) }
+        ensures bytes { WriteAppends (written self.old) (written self.new) result piece.now }
+        ensures failures { CountsFailure (failures self.old) (failures self.new) result }
+        ensures beside { LeavesSide (read_side self.old) (read_side self.new) };
+}
+
+/// A device over a reader or a writer of std, or over a stream that is both.
+///
+/// It passes on the bytes of the inner value and counts the failures of reads and of writes, each
+/// up to 2^64 - 1. A write that takes none of a nonempty piece counts as a failure.
+#[derive(Debug, Drop)]
+pub struct Device<T> {
+    inner: T,
+    read_failures: u64,
+    write_failures: u64,
+}
+
+impl<T> Device<T> {
+    pub fn new(inner: T) -> Self
+        ensures inner { result.inner ≡ inner }
+        ensures no_read_failure { result.read_failures ≡ 0 }
+        ensures no_write_failure { result.write_failures ≡ 0 }
+    {
+        Device {
+            inner,
+            read_failures: 0,
+            write_failures: 0,
+        }
+    }
+}
+
+impl<T: io::Read + Drop> Read for Device<T> {
+    ghost left = { λ d. T.remaining d.inner };
+
+    ghost failures = { λ d. d.read_failures };
+
+    ghost write_side = { λ d. record { bytes = None; failures = d.write_failures } };
+
+    fn read(&mut self, buffer: &mut [u8]) -> Result<usize, Failed> {
+        match self.inner.read(buffer) {
+            Ok(n) => Ok(n),
+            Err(_) => {
+                self.read_failures = self.read_failures.saturating_add(1);
+                Err(Failed)
+            }
+        }
+    }
+}
+
+impl<T: io::Write + Drop> Write for Device<T> {
+    ghost written = { λ d. T.contents d.inner };
+
+    ghost failures = { λ d. d.write_failures };
+
+    ghost read_side = { λ d. record { bytes = None; failures = d.read_failures } };
+
+    fn write(&mut self, piece: &[u8]) -> Result<usize, Failed> {
+        match self.inner.write(piece) {
+            Ok(n) if n > 0 || piece.is_empty() => Ok(n),
+            _ => {
+                self.write_failures = self.write_failures.saturating_add(1);
+                Err(Failed)
+            }
+        }
+    }
+}

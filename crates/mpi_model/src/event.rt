@@ -1,0 +1,51 @@
+//! Events: a rank enters a call, or a call returns.
+
+ghost use Rattle.std.specs.Prelude.{◌≡◌, ◌↔◌, IsTrue, IfOk};
+
+use crate::call::Call;
+use crate::outcome::Outs;
+use crate::stamp::Stamp;
+use std::alloc::AllocError;
+
+/// One entry of a rank's trace. Times are part of it: at another time it is another event.
+#[derive(Debug, Drop)]
+pub enum Event {
+    Enter(Call, Stamp),
+    Return(Outs, Stamp),
+}
+
+impl Event {
+    pub fn try_clone(&self) -> Result<Event, AllocError>
+        ensures { IfOk result (λ e. e ≡ self.now) }
+    {
+        Ok(match self {
+            Event::Enter(call, stamp) => Event::Enter(call.try_clone()?, *stamp),
+            Event::Return(outs, stamp) => Event::Return(outs.try_clone()?, *stamp),
+        })
+    }
+
+    /// Whether the two events are equal in every field, times included.
+    pub fn same(&self, other: &Event) -> bool
+        ensures { IsTrue result ↔ (self.now ≡ other.now) }
+    {
+        match (self, other) {
+            (Event::Enter(c, s), Event::Enter(d, t)) => c.same(d) && *s == *t,
+            (Event::Return(c, s), Event::Return(d, t)) => c.same(d) && *s == *t,
+            _ => false,
+        }
+    }
+}
+
+/// How a call returned.
+#[derive(Debug, Drop)]
+pub struct Exit {
+    pub outs: Outs,
+    pub stamp: Stamp,
+}
+
+/// The name of an operation: its rank in the trace, and the number of its call, from 0.
+#[derive(Clone, Copy, Debug, PartialEq, Eq)]
+pub struct OpName {
+    pub rank: u32,
+    pub call: u64,
+}

@@ -1,0 +1,37 @@
+//! What an MPI run is made of: the calls and events of its ranks, the layout of its communicators,
+//! and the devices from which traces are read and to which reports are written.
+//!
+//! Every type keeps its own range, so a value outside it can't be built and no crate above tests
+//! it again: ranks, tags, counts, communicator numbers, roots and told sources are at most
+//! 2^31 - 1 (the greatest `int` of MPI's C binding), times at most [`LATEST`]. In a contract each
+//! such type is seen as its plain value, and a list type as the list that it holds.
+//!
+//! Only copies of lists and [`Layout::new`] ask for memory.
+//!
+//! - [`device`]: bytes in and out, one call at a time; [`whole`]: whole pieces over devices
+//! - [`stamp`], [`told`], [`envelope`], [`collective`], [`list`]: what calls are made of
+//! - [`call`], [`outcome`], [`event`]: what a rank does, and when
+//! - [`layout`]: the ranks of a run and its communicators
+#![tactic(auto)]
+
+mod call;
+mod collective;
+mod device;
+mod envelope;
+mod event;
+mod list;
+mod outcome;
+mod stamp;
+mod told;
+mod whole;
+
+pub use call::Call;
+pub use collective::{Collective, Kind};
+pub use device::{Device, Failed, Read, Write};
+pub use envelope::{CommRef, Envelope, Exchange, Mode, Peer, ReceiveEnvelope, SendEnvelope};
+pub use event::{Event, Exit, OpName};
+pub use list::{Element, Elements, Requests, Sources};
+pub use outcome::Outs;
+pub use stamp::{LATEST, Stamp};
+pub use told::Told;
+pub use whole::{ReadFault, WriteFault, read_exactly, write_all};

@@ -1,0 +1,56 @@
+//! What calls bring back when they return.
+
+ghost use Rattle.std.specs.Prelude.{◌≡◌, ◌↔◌, IsTrue, IfOk};
+
+use crate::list::{Elements, Sources};
+use crate::told::Told;
+use std::alloc::AllocError;
+
+/// The outcome of a call. Which kind belongs to which call is for the crates above to say: an
+/// outcome of another kind tells nothing and completes nothing.
+#[derive(Debug, Drop)]
+pub enum Outs {
+    Nothing,
+    /// The request that an Isend or Irecv posted.
+    Posted(i64),
+    /// What the status of a Recv, Sendrecv or Wait tells.
+    Status(Told),
+    Statuses(Sources),
+    /// The position in the call's list, from 0, of the request that a Waitany completed.
+    Index(Option<u32>, Told),
+    Several(Elements),
+    /// Whether a Test found its request completed.
+    Flag(bool, Told),
+}
+
+impl Outs {
+    pub fn try_clone(&self) -> Result<Outs, AllocError>
+        ensures { IfOk result (λ o. o ≡ self.now) }
+    {
+        Ok(match self {
+            Outs::Nothing => Outs::Nothing,
+            Outs::Posted(request) => Outs::Posted(*request),
+            Outs::Status(told) => Outs::Status(*told),
+            Outs::Statuses(sources) => Outs::Statuses(sources.try_clone()?),
+            Outs::Index(position, told) => Outs::Index(*position, *told),
+            Outs::Several(elements) => Outs::Several(elements.try_clone()?),
+            Outs::Flag(done, told) => Outs::Flag(*done, *told),
+        })
+    }
+
+    /// Whether the two outcomes are equal in every field.
+    pub fn same(&self, other: &Outs) -> bool
+        ensures { IsTrue result ↔ (self.now ≡ other.now) }
+    {
+        match (self, other) {
+            (Outs::Nothing, Outs::Nothing) => true,
+            (Outs::Posted(r), Outs::Posted(s)) => *r == *s,
+            (Outs::Status(t), Outs::Status(u)) => *t == *u,
+            (Outs::Statuses(s), Outs::Statuses(t)) => s.same(t),
+            (Outs::Index(p, t), Outs::Index(q, u)) => *p == *q && *t == *u,
+            (Outs::Several(e), Outs::Several(f)) => e.same(f),
+            (Outs::Flag(d, t), Outs::Flag(e, u)) => *d == *e && *t == *u,
+            _ => false,
+        }
+    }
+}
