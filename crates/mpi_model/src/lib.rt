@@ -25,6 +25,8 @@ mod list;
 mod memory;
 mod outcome;
 mod stamp;
+#[cfg(test)]
+mod tests;
 mod told;
 mod whole;
 
