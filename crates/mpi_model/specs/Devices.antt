@@ -1,8 +1,8 @@
 -- What the devices of this crate hold.
 use Rattle.std.specs.Prelude.{ℕ, List}
 use Rattle.mpi_model.specs.declared.device.Device.{Device}
-use Rattle.mpi_model.specs.declared.memory.MemoryReader.{MemoryReader}
-use Rattle.mpi_model.specs.declared.memory.MemoryWriter.{MemoryWriter}
+use Rattle.mpi_model.specs.declared.memory.reader.MemoryReader.{MemoryReader}
+use Rattle.mpi_model.specs.declared.memory.writer.MemoryWriter.{MemoryWriter}
 
 -- the reader, writer or stream of std on which a device stands
 abbrev pub inside : {T : Type 0} → Device T → T
