@@ -10,7 +10,7 @@ ghost use Rattle.trace_know.specs.View.{join, kept};
 
 use crate::cell::Known;
 use mpi_model::Event;
-use std::alloc::AllocError;
+use std::alloc::{AllocError, Global};
 use std::collections::BTreeMap;
 
 pub(crate) type Cells = BTreeMap<(u32, u64), Known>;
@@ -49,6 +49,22 @@ pub(crate) fn conflict_in(cells: &Cells, i: usize) -> Option<(u32, u64)>
         }
     }
     None
+}
+
+/// The places of all contradictions.
+pub(crate) fn conflict_places_in(
+    alloc: Global,
+    cells: &Cells,
+) -> Result<Vec<(u32, u64)>, AllocError>
+    ensures { IfOk result (λ places. places.items ≡ conflicts_of (kept cells.now.entries)) }
+{
+    let mut places = Vec::new(alloc);
+    for (&(rank, place), known) in cells.iter() {
+        if known.is_contradiction() {
+            places.push((rank, place))?;
+        }
+    }
+    Ok(places)
 }
 
 /// Whether both maps have equal entries.

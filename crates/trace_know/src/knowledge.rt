@@ -10,7 +10,8 @@ ghost use Rattle.trace_know.specs.View.{cell, join};
 
 use crate::cell::{Cell, Known, cell_of};
 use crate::cells::{
-    any_from, conflict_in, copy_of, count_conflicts, entry_in, join_all, same_cells,
+    any_from, conflict_in, conflict_places_in, copy_of, count_conflicts, entry_in, join_all,
+    same_cells,
 };
 use crate::segment::Segment;
 use mpi_model::Event;
@@ -103,6 +104,14 @@ impl Knowledge {
         ensures { result ≡ slice_get (conflicts_of self.now) i }
     {
         conflict_in(&self.cells, i)
+    }
+
+    /// The ranks and the places of all contradictions, in rising order of rank and place: one walk
+    /// where asking for each by its number would be one for each.
+    pub fn conflict_places(&self, alloc: Global) -> Result<Vec<(u32, u64)>, AllocError>
+        ensures { IfOk result (λ places. places.items ≡ conflicts_of self.now) }
+    {
+        conflict_places_in(alloc, &self.cells)
     }
 
     /// The readable prefix of a rank: one event is known of each place below it, and not of it.
