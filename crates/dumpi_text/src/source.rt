@@ -2,7 +2,7 @@
 
 ghost use Rattle.std.specs.Prelude.{◌≡◌, ◌<◌, ◌≤◌, ◌+◌, ◌++◌, ◌∷◌, ℕ, List, [], IfOk, IfErr, IfSome, IfNone, OnOk, OnErr, length, take, drop, true, false};
 ghost use Rattle.std.specs.Io.KnownBytes.{Keeps, IsAtEnd};
-ghost use Rattle.mpi_model.specs.Failures.{HasFailed};
+ghost use Rattle.mpi_model.specs.Failures.{CountsFailure};
 ghost use Rattle.dumpi_text.specs.Lines.{IsOneLine};
 
 use memchr::memchr;
@@ -121,8 +121,7 @@ impl<R: Read> Source<R> {
         ensures kept { Keeps (rest_of self.old) (rest_of self.new) }
         ensures more { IfOk result (λ more. more ≡ true → 0 < length self.new.at_hand) }
         ensures end { IfOk result (λ more. more ≡ false → IsAtEnd (rest_of self.new)) }
-        ensures later { self.old.failures ≤ self.new.failures }
-        ensures failed { OnErr result (HasFailed self.old.failures self.new.failures) }
+        ensures failures { CountsFailure self.old.failures self.new.failures result }
     {
         if self.start < self.end {
             return Ok(true);
@@ -138,7 +137,7 @@ impl<R: Read> Source<R> {
     pub fn next_line(&mut self, line: &mut Vec<u8>) -> Result<Found, LineError>
         ensures ok { IfOk result (λ found. TakesLine self.old self.new line.new.items found) }
         ensures err { IfErr result (λ error. LacksLine self.old self.new line.new.items error) }
-        ensures later { self.old.failures ≤ self.new.failures }
+        ensures no_failure { OnOk result (self.new.failures ≡ self.old.failures) }
     {
         line.clear();
         while line.len() <= LONGEST_LINE {
