@@ -13,6 +13,9 @@ use std::marker::Model;
 /// The longest line, without its line feed.
 pub const LONGEST_LINE: usize = 65_536;
 
+/// How many bytes are asked of the reader at once.
+const CHUNK: usize = 65_536;
+
 /// What stands in a line's place.
 #[derive(Clone, Copy, Debug, PartialEq, Eq)]
 pub enum Found {
@@ -92,7 +95,7 @@ impl<R: Read> Source<R> {
     pub fn new(alloc: Global, reader: R) -> Result<Self, AllocError>
         ensures { IfOk result (λ s. s ≡ record { at_hand = []; left = R.left reader; failures = R.failures reader }) }
     {
-        let chunk = vec![in alloc; 0; 4096]?;
+        let chunk = vec![in alloc; 0; CHUNK]?;
         Ok(Source {
             reader,
             chunk,
