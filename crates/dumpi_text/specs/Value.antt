@@ -1,5 +1,5 @@
 -- Values of parameters: one number, with at most one note.
-use Rattle.std.specs.Prelude.{ℕ, ℤ, pos, neg_ℤ, Bool, true, false, ◌&&◌, Option, Some, None, List, [], ◌∷◌, Result, Ok, Err, codes, nat_lt, ◌==◌, if◌then◌else◌}
+use Rattle.std.specs.Prelude.{ℕ, ℤ, pos, neg_ℤ, Bool, true, false, Option, Some, None, List, [], ◌∷◌, Result, Ok, Err, codes, nat_lt, ◌==◌, if◌then◌else◌}
 use Rattle.std.specs.List.{list_any}
 use Rattle.dumpi_text.specs.Call.{same_bytes}
 use Rattle.dumpi_text.specs.Words.{split_at}
