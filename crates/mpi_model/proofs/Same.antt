@@ -3,7 +3,7 @@ use Rattle.std.proofs.Common.{◌≡◌, ℕ, ◌&&◌, nat_eq, Option, Some, No
 use Rattle.std.specs.Bool.{Decides}
 use Rattle.std.specs.Option.{option_eq}
 use Rattle.std.proofs.lemmas.Grind.{common_steps}
-use Rattle.mpi_model.specs.declared.list.Element.{Element}
+use Rattle.mpi_model.specs.declared.list.elements.Element.{Element}
 
 pub told_same : (x y : Option ℕ) → Decides (option_eq nat_eq x y) (x ≡ y)
 told_same None None = search rules

@@ -5,3 +5,4 @@ pub mod Ranges
 pub mod Whole
 pub mod Groups
 pub mod Layouts
+pub mod Devices

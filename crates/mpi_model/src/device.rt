@@ -2,6 +2,7 @@
 
 ghost use Rattle.std.specs.Prelude.{◌≡◌, ◌<◌, ◌≤◌, List, ℕ, Option, None, length, IfOk};
 ghost use Rattle.std.specs.Io.KnownBytes.{ReadConsumes, WriteAppends};
+ghost use Rattle.mpi_model.specs.Devices.{failed_reads, failed_writes, inside};
 ghost use Rattle.mpi_model.specs.Failures.{CountsFailure};
 ghost use Rattle.mpi_model.specs.Side.{Side, LeavesSide, untold};
 
@@ -68,9 +69,8 @@ pub struct Device<T> {
 
 impl<T> Device<T> {
     pub fn new(inner: T) -> Self
-        ensures inner { result.inner ≡ inner }
-        ensures no_read_failure { result.read_failures ≡ 0 }
-        ensures no_write_failure { result.write_failures ≡ 0 }
+        ensures inner { inside result ≡ inner }
+        ensures no_failure { (failed_reads result ≡ 0) × (failed_writes result ≡ 0) }
     {
         Device {
             inner,
@@ -81,11 +81,11 @@ impl<T> Device<T> {
 }
 
 impl<T: io::Read + Drop> Read for Device<T> {
-    ghost left = { λ d. T.remaining d.inner };
+    ghost left = { λ d. T.remaining (inside d) };
 
-    ghost failures = { λ d. d.read_failures };
+    ghost failures = { λ d. failed_reads d };
 
-    ghost write_side = { λ d. record { bytes = None; failures = d.write_failures } };
+    ghost write_side = { λ d. record { bytes = None; failures = failed_writes d } };
 
     fn read(&mut self, buffer: &mut [u8]) -> Result<usize, Failed> {
         match self.inner.read(buffer) {
@@ -99,11 +99,11 @@ impl<T: io::Read + Drop> Read for Device<T> {
 }
 
 impl<T: io::Write + Drop> Write for Device<T> {
-    ghost written = { λ d. T.contents d.inner };
+    ghost written = { λ d. T.contents (inside d) };
 
-    ghost failures = { λ d. d.write_failures };
+    ghost failures = { λ d. failed_writes d };
 
-    ghost read_side = { λ d. record { bytes = None; failures = d.read_failures } };
+    ghost read_side = { λ d. record { bytes = None; failures = failed_reads d } };
 
     fn write(&mut self, piece: &[u8]) -> Result<usize, Failed> {
         match self.inner.write(piece) {

@@ -1,9 +1,14 @@
 //! Envelopes of sends and receives (MPI 4.0, 3.2.3).
 
-ghost use Rattle.std.specs.Prelude.{◌≡◌, ◌↔◌, IsTrue, SomeIff};
-ghost use Rattle.mpi_model.specs.Ranges.{IsSend, IsReceive};
+ghost use Rattle.std.specs.Prelude.{◌≡◌, ◌↔◌, IsTrue};
 
-use std::marker::Model;
+mod exchange;
+mod receive;
+mod send;
+
+pub use exchange::Exchange;
+pub use receive::ReceiveEnvelope;
+pub use send::SendEnvelope;
 
 /// The other end of a message, as a call names it: a rank in the communicator's group.
 #[derive(Clone, Copy, Debug, PartialEq, Eq)]
@@ -62,164 +67,5 @@ impl Envelope {
             return false;
         }
         self.count == other.count && self.datatype == other.datatype
-    }
-}
-
-/// The envelope of a send: it names its peer and its tag, and no number is above 2^31 - 1.
-#[derive(Clone, Copy, Debug, PartialEq, Eq)]
-pub struct SendEnvelope {
-    inner: Envelope,
-}
-
-impl Model for SendEnvelope {
-    ghost use Rattle.mpi_model.specs.declared.envelope.Envelope.{Envelope};
-    ghost use Rattle.mpi_model.specs.Ranges.{IsSend};
-
-    ghost Value = { Envelope };
-
-    ghost view = { λ e. e.inner };
-
-    ghost invariant = { λ e. IsSend e.inner };
-
-    ghost inverse = { λ e. record { inner = e } };
-}
-
-impl SendEnvelope {
-    ghost use Rattle.mpi_model.specs.Ranges.{IsSend};
-
-    /// The envelope, or none where no send can have it.
-    pub fn new(inner: Envelope) -> Option<SendEnvelope>
-        ensures { SomeIff result (IsSend inner) inner }
-    {
-        if can_be_sent(inner) {
-            Some(SendEnvelope { inner })
-        } else {
-            None
-        }
-    }
-
-    pub fn envelope(self) -> Envelope
-        ensures value { result ≡ self }
-        ensures range { IsSend result }
-    {
-        self.inner
-    }
-}
-
-fn can_be_sent(envelope: Envelope) -> bool
-    ensures { IsTrue result ↔ IsSend envelope }
-{
-    matches!(envelope.peer, Peer::Null | Peer::Rank(0..=0x7FFF_FFFF))
-        && matches!(envelope.tag, Some(0..=0x7FFF_FFFF))
-        && matches!(envelope.comm, CommRef::World | CommRef::Id(0..=0x7FFF_FFFF))
-        && envelope.count < 0x8000_0000
-}
-
-/// The envelope of a receive: it may name any source and any tag, and no number is above 2^31 - 1.
-#[derive(Clone, Copy, Debug, PartialEq, Eq)]
-pub struct ReceiveEnvelope {
-    inner: Envelope,
-}
-
-impl Model for ReceiveEnvelope {
-    ghost use Rattle.mpi_model.specs.declared.envelope.Envelope.{Envelope};
-    ghost use Rattle.mpi_model.specs.Ranges.{IsReceive};
-
-    ghost Value = { Envelope };
-
-    ghost view = { λ e. e.inner };
-
-    ghost invariant = { λ e. IsReceive e.inner };
-
-    ghost inverse = { λ e. record { inner = e } };
-}
-
-impl ReceiveEnvelope {
-    ghost use Rattle.mpi_model.specs.Ranges.{IsReceive};
-
-    /// The envelope, or none where no receive can have it.
-    pub fn new(inner: Envelope) -> Option<ReceiveEnvelope>
-        ensures { SomeIff result (IsReceive inner) inner }
-    {
-        if can_be_received(inner) {
-            Some(ReceiveEnvelope { inner })
-        } else {
-            None
-        }
-    }
-
-    pub fn envelope(self) -> Envelope
-        ensures value { result ≡ self }
-        ensures range { IsReceive result }
-    {
-        self.inner
-    }
-}
-
-fn can_be_received(envelope: Envelope) -> bool
-    ensures { IsTrue result ↔ IsReceive envelope }
-{
-    matches!(
-        envelope.peer,
-        Peer::Any | Peer::Null | Peer::Rank(0..=0x7FFF_FFFF)
-    ) && matches!(envelope.tag, None | Some(0..=0x7FFF_FFFF))
-        && matches!(envelope.comm, CommRef::World | CommRef::Id(0..=0x7FFF_FFFF))
-        && envelope.count < 0x8000_0000
-}
-
-/// The two envelopes of an `MPI_Sendrecv`, which name one communicator (MPI 4.0, 3.10).
-#[derive(Clone, Copy, Debug, PartialEq, Eq)]
-pub struct Exchange {
-    send: Envelope,
-    receive: Envelope,
-}
-
-impl Model for Exchange {
-    ghost use Rattle.mpi_model.specs.Ranges.{BothEnvelopes, IsExchange};
-
-    ghost Value = { BothEnvelopes };
-
-    ghost view = { λ e. record { send = e.send; receive = e.receive } };
-
-    ghost invariant = { λ e. IsExchange (record { send = e.send; receive = e.receive }) };
-
-    ghost inverse = { λ e. record { send = e.send; receive = e.receive } };
-}
-
-impl Exchange {
-    ghost use Rattle.mpi_model.specs.Ranges.{IsExchange, IsSend, IsReceive};
-
-    /// The two envelopes, or none where they name two communicators.
-    pub fn new(send: SendEnvelope, receive: ReceiveEnvelope) -> Option<Exchange>
-        ensures { SomeIff result (send.comm ≡ receive.comm) (record { send = send; receive = receive }) }
-    {
-        let send = send.envelope();
-        let receive = receive.envelope();
-        if send.comm == receive.comm {
-            Some(Exchange { send, receive })
-        } else {
-            None
-        }
-    }
-
-    pub fn send(self) -> Envelope
-        ensures value { result ≡ self.send }
-        ensures range { IsSend result }
-    {
-        self.send
-    }
-
-    pub fn receive(self) -> Envelope
-        ensures value { result ≡ self.receive }
-        ensures range { IsReceive result }
-    {
-        self.receive
-    }
-
-    /// Whether the two exchanges are equal in both envelopes.
-    pub fn same(self, other: Exchange) -> bool
-        ensures { IsTrue result ↔ (self ≡ other) }
-    {
-        self.send.same(other.send) && self.receive.same(other.receive)
     }
 }

@@ -8,7 +8,8 @@
 //!
 //! Only copies of lists and [`Layout::new`] ask for memory.
 //!
-//! - [`device`]: bytes in and out, one call at a time; [`whole`]: whole pieces over devices
+//! - [`device`]: bytes in and out, one call at a time; [`memory`]: devices in memory;
+//!   [`whole`]: whole pieces over devices
 //! - [`stamp`], [`told`], [`envelope`], [`collective`], [`list`]: what calls are made of
 //! - [`call`], [`outcome`], [`event`]: what a rank does, and when
 //! - [`layout`]: the ranks of a run and its communicators
@@ -21,8 +22,11 @@ mod envelope;
 mod event;
 mod layout;
 mod list;
+mod memory;
 mod outcome;
 mod stamp;
+#[cfg(test)]
+mod tests;
 mod told;
 mod whole;
 
@@ -34,6 +38,7 @@ pub use event::{Event, Exit, OpName};
 pub use layout::fault::LayoutFault;
 pub use layout::{Layout, MOST_COMMS, MOST_RANKS, Sends};
 pub use list::{Element, Elements, Requests, Sources};
+pub use memory::{EndlessReader, MemoryReader, MemoryWriter};
 pub use outcome::Outs;
 pub use stamp::{LATEST, Stamp};
 pub use told::Told;

@@ -1,0 +1,55 @@
+//! Envelopes of sends.
+
+ghost use Rattle.std.specs.Prelude.{◌≡◌, ◌↔◌, IsTrue, SomeIff};
+ghost use Rattle.mpi_model.specs.Ranges.{IsSend};
+
+use crate::envelope::{CommRef, Envelope, Peer};
+use std::marker::Model;
+
+/// The envelope of a send: it names its peer and its tag, and no number is above 2^31 - 1.
+#[derive(Clone, Copy, Debug, PartialEq, Eq)]
+pub struct SendEnvelope {
+    inner: Envelope,
+}
+
+impl Model for SendEnvelope {
+    ghost use Rattle.mpi_model.specs.declared.envelope.Envelope.{Envelope};
+    ghost use Rattle.mpi_model.specs.Ranges.{IsSend};
+
+    ghost Value = { Envelope };
+
+    ghost view = { λ e. e.inner };
+
+    ghost invariant = { λ e. IsSend e.inner };
+
+    ghost inverse = { λ e. record { inner = e } };
+}
+
+impl SendEnvelope {
+    /// The envelope, or none where no send can have it.
+    pub fn new(inner: Envelope) -> Option<SendEnvelope>
+        ensures { SomeIff result (IsSend inner) inner }
+    {
+        if can_be_sent(inner) {
+            Some(SendEnvelope { inner })
+        } else {
+            None
+        }
+    }
+
+    pub fn envelope(self) -> Envelope
+        ensures value { result ≡ self }
+        ensures range { IsSend result }
+    {
+        self.inner
+    }
+}
+
+fn can_be_sent(envelope: Envelope) -> bool
+    ensures { IsTrue result ↔ IsSend envelope }
+{
+    matches!(envelope.peer, Peer::Null | Peer::Rank(0..=0x7FFF_FFFF))
+        && matches!(envelope.tag, Some(0..=0x7FFF_FFFF))
+        && matches!(envelope.comm, CommRef::World | CommRef::Id(0..=0x7FFF_FFFF))
+        && envelope.count < 0x8000_0000
+}

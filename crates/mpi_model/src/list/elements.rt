@@ -1,0 +1,59 @@
+//! Requests that were completed, with what their statuses tell.
+
+ghost use Rattle.std.specs.Prelude.{◌≡◌, ◌↔◌, IsTrue, IfOk};
+
+use crate::told::Told;
+use std::alloc::AllocError;
+use std::marker::Model;
+
+/// A request that an `MPI_Waitsome` completed: its position in the call's list, from 0, and what
+/// its status tells.
+#[derive(Clone, Copy, Debug, PartialEq, Eq)]
+pub struct Element {
+    pub position: u32,
+    pub told: Told,
+}
+
+/// The requests that an `MPI_Waitsome` completed, in the order of its `indices`.
+#[derive(Debug, Drop)]
+pub struct Elements {
+    items: Vec<Element>,
+}
+
+impl Model for Elements {
+    ghost use Rattle.std.specs.Prelude.{List};
+    ghost use Rattle.mpi_model.specs.declared.list.elements.Element.{Element};
+
+    ghost Value = { List Element };
+
+    ghost view = { λ r. r.items.items };
+}
+
+impl Elements {
+    pub fn from_vec(items: Vec<Element>) -> Self
+        ensures { result ≡ items.items }
+    {
+        Elements { items }
+    }
+
+    pub fn as_slice(&self) -> &[Element]
+        ensures { result.now ≡ self.now }
+    {
+        &self.items
+    }
+
+    pub fn try_clone(&self) -> Result<Self, AllocError>
+        ensures { IfOk result (λ r. r ≡ self.now) }
+    {
+        Ok(Elements {
+            items: self.items.clone()?,
+        })
+    }
+
+    /// Whether the two lists hold the same elements in the same order.
+    pub fn same(&self, other: &Elements) -> bool
+        ensures { IsTrue result ↔ (self.now ≡ other.now) }
+    {
+        self.items == other.items
+    }
+}

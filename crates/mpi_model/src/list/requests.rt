@@ -1,0 +1,49 @@
+//! Requests in a call's order.
+
+ghost use Rattle.std.specs.Prelude.{◌≡◌, ◌↔◌, IsTrue, IfOk};
+
+use std::alloc::AllocError;
+use std::marker::Model;
+
+/// The request numbers that a call names, in its order.
+#[derive(Debug, Drop)]
+pub struct Requests {
+    items: Vec<i64>,
+}
+
+impl Model for Requests {
+    ghost use Rattle.std.specs.Prelude.{List, ℤ};
+
+    ghost Value = { List ℤ };
+
+    ghost view = { λ r. r.items.items };
+}
+
+impl Requests {
+    pub fn from_vec(items: Vec<i64>) -> Self
+        ensures { result ≡ items.items }
+    {
+        Requests { items }
+    }
+
+    pub fn as_slice(&self) -> &[i64]
+        ensures { result.now ≡ self.now }
+    {
+        &self.items
+    }
+
+    pub fn try_clone(&self) -> Result<Self, AllocError>
+        ensures { IfOk result (λ r. r ≡ self.now) }
+    {
+        Ok(Requests {
+            items: self.items.clone()?,
+        })
+    }
+
+    /// Whether the two lists hold the same numbers in the same order.
+    pub fn same(&self, other: &Requests) -> bool
+        ensures { IsTrue result ↔ (self.now ≡ other.now) }
+    {
+        self.items == other.items
+    }
+}

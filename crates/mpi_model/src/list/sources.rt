@@ -1,0 +1,50 @@
+//! What the statuses of a call tell.
+
+ghost use Rattle.std.specs.Prelude.{◌≡◌, ◌↔◌, IsTrue, IfOk};
+
+use crate::told::Told;
+use std::alloc::AllocError;
+use std::marker::Model;
+
+/// What the statuses of an `MPI_Waitall` tell, one entry for each request of the call.
+#[derive(Debug, Drop)]
+pub struct Sources {
+    items: Vec<Told>,
+}
+
+impl Model for Sources {
+    ghost use Rattle.std.specs.Prelude.{List, Option, ℕ};
+
+    ghost Value = { List (Option ℕ) };
+
+    ghost view = { λ r. r.items.items };
+}
+
+impl Sources {
+    pub fn from_vec(items: Vec<Told>) -> Self
+        ensures { result ≡ items.items }
+    {
+        Sources { items }
+    }
+
+    pub fn as_slice(&self) -> &[Told]
+        ensures { result.now ≡ self.now }
+    {
+        &self.items
+    }
+
+    pub fn try_clone(&self) -> Result<Self, AllocError>
+        ensures { IfOk result (λ r. r ≡ self.now) }
+    {
+        Ok(Sources {
+            items: self.items.clone()?,
+        })
+    }
+
+    /// Whether the two lists tell the same, entry by entry.
+    pub fn same(&self, other: &Sources) -> bool
+        ensures { IsTrue result ↔ (self.now ≡ other.now) }
+    {
+        self.items == other.items
+    }
+}

@@ -1,0 +1,12 @@
+pub mod SameEvents
+pub mod CellJoins
+pub mod Joins
+pub mod Facts
+pub mod Kept
+pub mod MapJoins
+pub mod Steps
+pub mod Placed
+pub mod Runs
+pub mod Readable
+pub mod Listed
+pub mod Beyond

@@ -1,0 +1,71 @@
+//! Cells: what is known of one place.
+
+ghost use Rattle.std.specs.Prelude.{◌≡◌, ◌↔◌, IsTrue};
+ghost use Rattle.std.specs.Option.{option_copied};
+ghost use Rattle.trace_know.specs.Cells.{shown, is_contradiction};
+
+use mpi_model::Event;
+use std::alloc::AllocError;
+
+/// What is known of a place where something is known.
+#[derive(Debug, Drop)]
+pub enum Known {
+    /// All that reached this place agreed on this event.
+    One(Event),
+    /// Two events reached it that differ. Nothing that comes later clears it.
+    Contradiction,
+}
+
+impl Clone for Known {
+    ghost use Rattle.std.specs.Prelude.{◌≡◌};
+
+    ghost is_clone = { λ a b. b ≡ a };
+
+    fn clone(&self) -> Result<Known, AllocError> {
+        Ok(match self {
+            Known::One(event) => Known::One(event.try_clone()?),
+            Known::Contradiction => Known::Contradiction,
+        })
+    }
+}
+
+impl Known {
+    /// Whether both are one equal event, or both a contradiction.
+    pub(crate) fn same(&self, other: &Known) -> bool
+        ensures { IsTrue result ↔ (self.now ≡ other.now) }
+    {
+        match (self, other) {
+            (Known::One(event), Known::One(held)) => event.same(held),
+            (Known::Contradiction, Known::Contradiction) => true,
+            _ => false,
+        }
+    }
+
+    pub(crate) fn is_contradiction(&self) -> bool
+        ensures { result ≡ is_contradiction self.now }
+    {
+        matches!(self, Known::Contradiction)
+    }
+}
+
+/// What is known of a place of a rank.
+#[derive(Clone, Copy, Debug)]
+pub enum Cell<'a> {
+    /// Nothing came for this place.
+    Nothing,
+    /// All that came agreed on this event.
+    One(&'a Event),
+    /// Two events came that differ.
+    Contradiction,
+}
+
+/// The cell of a place, by what is known of it.
+pub(crate) fn cell_of(known: Option<&Known>) -> Cell<'_>
+    ensures { shown result ≡ option_copied known.entry }
+{
+    match known {
+        None => Cell::Nothing,
+        Some(Known::One(event)) => Cell::One(event),
+        Some(Known::Contradiction) => Cell::Contradiction,
+    }
+}
