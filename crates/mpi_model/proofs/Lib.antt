@@ -1,2 +1,6 @@
+mod Doubles
+mod Groups
 mod Known
+mod Layouts
+mod Orders
 mod Same

@@ -3,3 +3,5 @@ pub mod Side
 pub mod Times
 pub mod Ranges
 pub mod Whole
+pub mod Groups
+pub mod Layouts

@@ -1,0 +1,7 @@
+use Rattle.std.proofs.Common.{◌≡◌, drop}
+use Rattle.std.specs.List.{list_any}
+use Rattle.mpi_model.specs.Layouts.{has_stranger}
+use Rattle.mpi_model.proofs.layout.rules.some_stranger.Given as goal
+
+abbrev pub invariant-loop-comm : goal.invariant-loop-comm
+invariant-loop-comm l = list_any (λ g. has_stranger l.ranks g.members) (drop l.comm-index l.comms) ≡ list_any (λ g. has_stranger l.ranks g.members) l.comms

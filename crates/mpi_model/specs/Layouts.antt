@@ -1,0 +1,81 @@
+-- What a layout is, and why there is none.
+use Rattle.std.specs.Prelude.{◌≡◌, ◌<◌, ◌≤◌, ℕ, ◌+◌, ◌==◌, ◌&&◌, ◌||◌, Bool, true, false, List, [], ◌∷◌, Option, Some, None, All, eqb, nat_lt, nat_le, length, if◌then◌else◌}
+use Rattle.std.specs.List.{list_any, IsDistinct, range_with_len}
+use Rattle.std.specs.List.Sorted.{IsStrictlyIncreasing}
+use Rattle.mpi_model.specs.declared.layout.Sends.{Sends}
+use Rattle.mpi_model.specs.declared.layout.fault.LayoutFault.{LayoutFault}
+use Rattle.mpi_model.specs.declared.layout.fault.LayoutFault.TheVariants.{RankCount, CommCount, DoubleComm, EmptyComm, MemberRange, DoubleMember, World}
+use Rattle.mpi_model.specs.Groups.{Group, has_double, members_of, numbers}
+
+-- what a layout holds
+pub record Parts : Type 0 where
+  pub ranks : ℕ
+  pub world : ℕ
+  pub sends : Sends
+  pub comms : List Group
+
+-- A group: an ordered set of ranks of the run, with at least one (MPI 4.0, 7.2.1).
+pub record IsGroup (ranks : ℕ) (members : List ℕ) : Type 0 where
+  pub some : 0 < length members
+  pub in_range : All (λ r. r < ranks) members
+  pub distinct : IsDistinct eqb members
+
+-- What holds of every layout. The world has all ranks, in their order (MPI 4.0, 11.2).
+pub record IsLayout (l : Parts) : Type 0 where
+  pub some_rank : 0 < l.ranks
+  pub few_ranks : l.ranks ≤ 1024
+  pub few_comms : length l.comms ≤ 256
+  pub rising : IsStrictlyIncreasing (numbers l.comms)
+  pub groups : All (λ g. IsGroup l.ranks g.members) l.comms
+  pub world : members_of l.comms l.world ≡ Some (range_with_len 0 l.ranks)
+
+-- The layout holds what was given: each number names the members that it named there.
+pub record Holds (ranks world : ℕ) (sends : Sends) (given : List Group) (l : Parts) : Type 0 where
+  pub same_ranks : l.ranks ≡ ranks
+  pub same_world : l.world ≡ world
+  pub same_sends : l.sends ≡ sends
+  pub members : (comm : ℕ) → members_of l.comms comm ≡ members_of given comm
+
+abbrev pub is_empty_group : Group → Bool
+is_empty_group g = length g.members == 0
+
+-- some member is no rank of the run
+abbrev pub has_stranger : ℕ → List ℕ → Bool
+has_stranger ranks members = list_any (λ r. nat_le ranks r) members
+
+abbrev pub has_double_member : Group → Bool
+has_double_member g = has_double g.members
+
+-- the numbers are first, first + 1, and so on
+abbrev pub counts_from : ℕ → List ℕ → Bool
+counts_from first [] = true
+counts_from first (x ∷ xs) = (x == first) && counts_from (first + 1) xs
+
+-- the members are the ranks from 0 to ranks - 1 in order
+abbrev pub is_whole : ℕ → List ℕ → Bool
+is_whole ranks members = (length members == ranks) && counts_from 0 members
+
+abbrev pub is_some_whole : ℕ → Option (List ℕ) → Bool
+is_some_whole ranks None = false
+is_some_whole ranks (Some members) = is_whole ranks members
+
+-- the world is there, and has all ranks in order
+abbrev pub has_world : ℕ → ℕ → List Group → Bool
+has_world ranks world gs = is_some_whole ranks (members_of gs world)
+
+-- the first fault of these communicators, where they are not too many
+abbrev pub comm_fault : ℕ → ℕ → List Group → Option LayoutFault
+comm_fault ranks world gs =
+    if has_double (numbers gs) then Some DoubleComm
+    else if list_any is_empty_group gs then Some EmptyComm
+    else if list_any (λ g. has_stranger ranks g.members) gs then Some MemberRange
+    else if list_any has_double_member gs then Some DoubleMember
+    else if has_world ranks world gs then None
+    else Some World
+
+-- The first fault of a layout of these communicators, in the order of the numbers.
+abbrev pub fault_of : ℕ → ℕ → List Group → Option LayoutFault
+fault_of ranks world gs =
+    if (ranks == 0) || nat_lt 1024 ranks then Some RankCount
+    else if nat_lt 256 (length gs) then Some CommCount
+    else comm_fault ranks world gs

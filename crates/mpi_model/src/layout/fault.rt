@@ -1,0 +1,55 @@
+//! Why there is no layout.
+
+ghost use Rattle.std.specs.Prelude.{◌≡◌};
+
+use std::alloc::{AllocError, AllocFailed};
+use thiserror::Error;
+
+/// Why there is no layout. But for `Memory`, the first of the faults in the order of their numbers.
+#[derive(Clone, Copy, Debug, PartialEq, Eq, Error)]
+pub enum LayoutFault {
+    /// No rank, or more than [`MOST_RANKS`](crate::MOST_RANKS).
+    #[error("L1 RankCount")]
+    RankCount,
+    /// More communicators than [`MOST_COMMS`](crate::MOST_COMMS).
+    #[error("L2 CommCount")]
+    CommCount,
+    /// Two communicators have one number.
+    #[error("L3 DoubleComm")]
+    DoubleComm,
+    /// A communicator has no member.
+    #[error("L4 EmptyComm")]
+    EmptyComm,
+    /// A member is no rank of the run.
+    #[error("L5 MemberRange")]
+    MemberRange,
+    /// A rank stands twice in one communicator.
+    #[error("L6 DoubleMember")]
+    DoubleMember,
+    /// The world is absent, or its members are not all ranks in their order (MPI 4.0, 11.2).
+    #[error("L7 World")]
+    World,
+    /// No memory was left.
+    #[error("Memory")]
+    Memory,
+}
+
+impl<T: Drop> From<AllocFailed<T>> for LayoutFault {
+    ghost use Rattle.mpi_model.specs.declared.layout.fault.LayoutFault.TheVariants.{Memory};
+
+    ghost from_gives = { λ _ e. e ≡ Memory };
+
+    fn from(_failed: AllocFailed<T>) -> LayoutFault {
+        LayoutFault::Memory
+    }
+}
+
+impl From<AllocError> for LayoutFault {
+    ghost use Rattle.mpi_model.specs.declared.layout.fault.LayoutFault.TheVariants.{Memory};
+
+    ghost from_gives = { λ _ e. e ≡ Memory };
+
+    fn from(_failed: AllocError) -> LayoutFault {
+        LayoutFault::Memory
+    }
+}
