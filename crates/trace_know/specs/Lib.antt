@@ -1,0 +1,5 @@
+pub mod Same
+pub mod Cell
+pub mod View
+pub mod Segment
+pub mod Trace
