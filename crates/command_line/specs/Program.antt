@@ -1,8 +1,10 @@
 -- The command line of the program, as clap reads it.
-use Rattle.std.specs.Prelude.{◌≡◌, List, [], Option, Some, None, if◌then◌else◌, true, codes}
+use Rattle.std.specs.Prelude.{◌≡◌, ℕ, List, [], Option, Some, None, if◌then◌else◌, true, codes}
 use Rattle.std.specs.Str.{bytes_eq}
 use Rattle.clap.specs.Words.{App, IsAmong, Row, Rule, Text, fault_of, first_of, kind_of, new_app, new_rule, subcommand_of, with_rule, with_subcommand}
 use Rattle.clap.specs.Simple.{on_top}
+use Rattle.clap.specs.declared.error.kind.ErrorKind.{ErrorKind}
+use Rattle.clap.specs.declared.error.kind.ErrorKind.TheVariants as kinds
 use Rattle.command_line.specs.declared.Asked.{Asked}
 use Rattle.command_line.specs.declared.CommandFault.{CommandFault}
 use Rattle.command_line.specs.declared.CommandFault.TheVariants.{Memory, Shown, Unread}
@@ -57,3 +59,15 @@ abbrev pub Refuses : List Text → CommandFault → Type 0
 Refuses words Memory = Unit {0}
 Refuses words (Shown error) = IsAmong (kind_of error) (fault_of program words)
 Refuses words Unread = (fault_of program words ≡ []) × (request_in (subcommand_of program words) ≡ None)
+
+-- help and the version are no mistake
+abbrev pub shown_status_of : ErrorKind → ℕ
+shown_status_of kinds.DisplayHelp = 0
+shown_status_of kinds.DisplayVersion = 0
+shown_status_of _ = 2
+
+-- the status of the program where the words ask for nothing
+abbrev pub status_of : CommandFault → ℕ
+status_of Memory = 1
+status_of (Shown error) = shown_status_of (kind_of error)
+status_of Unread = 2

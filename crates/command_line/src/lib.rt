@@ -9,7 +9,7 @@
 ghost use Rattle.std.specs.Prelude.{◌≡◌, IfErr, IfOk, Some, codes, false, map, option_map};
 ghost use Rattle.clap.specs.Words.{app_of, rule_of, subcommand_of, subcommand_rows_of};
 ghost use Rattle.clap.specs.declared.builder.command.Command.TheViews.{out-Command};
-ghost use Rattle.command_line.specs.Program.{Refuses, file_rule, program, request_in, request_of, verb_app, verb_named};
+ghost use Rattle.command_line.specs.Program.{Refuses, file_rule, program, request_in, request_of, shown_status_of, verb_app, verb_named};
 
 #[cfg(test)]
 mod tests;
@@ -37,14 +37,39 @@ pub struct Asked<'a> {
 /// Why the words ask for nothing.
 #[derive(Debug, Drop, Error)]
 pub enum CommandFault {
-    #[error("Memory")]
+    #[error("mpimatch: Memory\n")]
     Memory,
     /// A mistake, or a request for the help or the version: `clap` has the text and the status.
     #[error("{0}")]
     Shown(clap::Error),
     /// The words passed, and no verb with its two files is among them. `clap` leaves no such words.
-    #[error("no verb with its two files")]
+    #[error("mpimatch: no verb with its two files\n")]
     Unread,
+}
+
+impl CommandFault {
+    ghost use Rattle.command_line.specs.Program.{status_of};
+
+    /// The status with which the program ends: 0 for the help and the version, whose text goes to
+    /// standard output, 1 for want of memory, and 2 for a mistake.
+    pub fn status(&self) -> u8
+        ensures { result ≡ status_of self.now }
+    {
+        match self {
+            CommandFault::Memory => 1,
+            CommandFault::Shown(error) => shown_status(error.kind()),
+            CommandFault::Unread => 2,
+        }
+    }
+}
+
+fn shown_status(kind: ErrorKind) -> u8
+    ensures { result ≡ shown_status_of kind }
+{
+    match kind {
+        ErrorKind::DisplayHelp | ErrorKind::DisplayVersion => 0,
+        _ => 2,
+    }
 }
 
 /// What the words ask for; the first word is the name of the program.
