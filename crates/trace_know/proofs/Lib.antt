@@ -5,3 +5,8 @@ pub mod Facts
 pub mod Kept
 pub mod MapJoins
 pub mod Steps
+pub mod Placed
+pub mod Runs
+pub mod Readable
+pub mod Listed
+pub mod Beyond

@@ -3,3 +3,5 @@ pub mod Cell
 pub mod View
 pub mod Segment
 pub mod Trace
+pub mod Prefix
+pub mod Cells

@@ -1,5 +1,9 @@
 //! Cells: what is known of one place.
 
+ghost use Rattle.std.specs.Prelude.{◌≡◌, ◌↔◌, IsTrue};
+ghost use Rattle.std.specs.Option.{option_copied};
+ghost use Rattle.trace_know.specs.Cells.{shown, is_contradiction};
+
 use mpi_model::Event;
 use std::alloc::AllocError;
 
@@ -25,6 +29,25 @@ impl Clone for Known {
     }
 }
 
+impl Known {
+    /// Whether both are one equal event, or both a contradiction.
+    pub fn same(&self, other: &Known) -> bool
+        ensures { IsTrue result ↔ (self.now ≡ other.now) }
+    {
+        match (self, other) {
+            (Known::One(event), Known::One(held)) => event.same(held),
+            (Known::Contradiction, Known::Contradiction) => true,
+            _ => false,
+        }
+    }
+
+    pub fn is_contradiction(&self) -> bool
+        ensures { result ≡ is_contradiction self.now }
+    {
+        matches!(self, Known::Contradiction)
+    }
+}
+
 /// What is known of a place of a rank.
 #[derive(Clone, Copy, Debug)]
 pub enum Cell<'a> {
@@ -34,4 +57,15 @@ pub enum Cell<'a> {
     One(&'a Event),
     /// Two events came that differ.
     Contradiction,
+}
+
+/// The cell of a place, by what is known of it.
+pub(crate) fn cell_of(known: Option<&Known>) -> Cell<'_>
+    ensures { shown result ≡ option_copied known.entry }
+{
+    match known {
+        None => Cell::Nothing,
+        Some(Known::One(event)) => Cell::One(event),
+        Some(Known::Contradiction) => Cell::Contradiction,
+    }
 }

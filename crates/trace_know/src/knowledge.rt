@@ -1,11 +1,15 @@
 //! Knowledge: the join of the segments that were taken.
 
-ghost use Rattle.std.specs.Prelude.{◌≡◌, ◌↔◌, ◌+◌, ◌^◌, ◌≤◌, IsTrue, OnOk, OnErr, IfOk, length};
-ghost use Rattle.std.specs.FinMap as map;
+ghost use Rattle.std.specs.Prelude.{◌≡◌, ◌↔◌, ◌+◌, ◌^◌, ◌<◌, ◌≤◌, IsTrue, OnOk, OnErr, IfOk, IsSome, length, map, slice_get};
+ghost use Rattle.std.specs.FinMap.{empty, len};
+ghost use Rattle.std.specs.Map.Iter.{deref_pair};
+ghost use Rattle.std.specs.Option.{option_map, option_copied};
+ghost use Rattle.trace_know.specs.Cells.{shown, cells_of, conflicts_of, IsKnowledge};
+ghost use Rattle.trace_know.specs.Prefix.{event_at, events_of, prefix_of, IsBeyond, is_beyond};
 ghost use Rattle.trace_know.specs.Trace.{facts_from, facts_of, of_fact, view_of};
-ghost use Rattle.trace_know.specs.View.{join, kept};
+ghost use Rattle.trace_know.specs.View.{cell, join, kept};
 
-use crate::cell::Known;
+use crate::cell::{Cell, Known, cell_of};
 use crate::segment::Segment;
 use mpi_model::Event;
 use std::alloc::{AllocError, Global};
@@ -30,13 +34,17 @@ impl Model for Knowledge {
 
     ghost coded = { map.code (coded× coded_ℕ coded_ℕ) known.the_row.coded };
 
+    ghost use Rattle.trace_know.specs.Cells.{IsKnowledge};
+
     ghost view = { λ k. kept k.cells.entries };
+
+    ghost invariant = { λ k. IsKnowledge (kept k.cells.entries) };
 }
 
 impl Knowledge {
     /// Nothing is known. Takes no memory.
     pub fn new(alloc: Global) -> Knowledge
-        ensures { result ≡ map.empty }
+        ensures { result ≡ empty }
     {
         Knowledge {
             cells: BTreeMap::new(alloc),
@@ -60,12 +68,180 @@ impl Knowledge {
         Ok(())
     }
 
+    /// What is known of a place.
+    pub fn cell(&self, rank: u32, place: u64) -> Cell<'_>
+        ensures { shown result ≡ cell self.now rank place }
+    {
+        cell_of(self.known_at(rank, place))
+    }
+
     /// How many places something is known of.
     pub fn count(&self) -> usize
-        ensures { result ≡ map.len self.now }
+        ensures { result ≡ len self.now }
     {
         self.cells.len()
     }
+
+    /// The `i`-th place that something is known of, in rising order of rank and place: the rank,
+    /// the place, and what is known of it.
+    pub fn cell_at(&self, i: usize) -> Option<(u32, u64, Cell<'_>)>
+        ensures { option_map (λ at. ((at.0, at.1), shown at.2)) result ≡ slice_get (cells_of self.now) i }
+    {
+        let (&(rank, place), known) = entry_in(&self.cells, i)?;
+        Some((rank, place, cell_of(Some(known))))
+    }
+
+    /// How many places have a contradiction.
+    pub fn conflicts(&self) -> usize
+        ensures { result ≡ length (conflicts_of self.now) }
+    {
+        count_conflicts(&self.cells)
+    }
+
+    /// The rank and the place of the `i`-th contradiction, in rising order of rank and place.
+    pub fn conflict(&self, i: usize) -> Option<(u32, u64)>
+        ensures { result ≡ slice_get (conflicts_of self.now) i }
+    {
+        conflict_in(&self.cells, i)
+    }
+
+    /// The readable prefix of a rank: one event is known of each place below it, and not of it.
+    pub fn prefix(&self, rank: u32) -> u64
+        ensures { result ≡ prefix_of self.now rank }
+    {
+        let mut place = 0;
+        while self.event_at(rank, place).is_some() {
+            place += 1;
+        }
+        place
+    }
+
+    /// Whether something is known at or past the readable prefix of a rank.
+    pub fn beyond(&self, rank: u32) -> bool
+        ensures { result ≡ is_beyond self.now rank }
+    {
+        any_from(&self.cells, rank, self.prefix(rank))
+    }
+
+    /// The events below the readable prefix of a rank, in order.
+    pub fn readable(&self, alloc: Global, rank: u32) -> Result<Vec<&Event>, AllocError>
+        ensures { IfOk result (λ events. map (λ e. e.now) events.items ≡ events_of self.now rank) }
+    {
+        let mut events = Vec::new(alloc);
+        while let Some(event) = self.event_at(rank, events.len() as u64) {
+            events.push(event)?;
+        }
+        Ok(events)
+    }
+
+    /// Whether both know the same of each place, times included.
+    pub fn same(&self, other: &Knowledge) -> bool
+        ensures { IsTrue result ↔ (self.now ≡ other.now) }
+    {
+        same_cells(&self.cells, &other.cells)
+    }
+
+    pub fn try_clone(&self) -> Result<Knowledge, AllocError>
+        ensures { IfOk result (λ copy. copy ≡ self.now) }
+    {
+        Ok(Knowledge {
+            cells: copy_of(&self.cells)?,
+        })
+    }
+
+    /// Tells what holds of all that is known. It does nothing: it is for proofs.
+    pub fn known(&self)
+        ensures { IsKnowledge self.now }
+    {
+        let _ = &self.cells;
+    }
+
+    /// What is known of a place, where something is.
+    fn known_at(&self, rank: u32, place: u64) -> Option<&Known>
+        ensures cell { option_copied result ≡ cell self.now rank place }
+        ensures range { IsSome result → place < 2 ^ 40 }
+    {
+        self.cells.get(&(rank, place))
+    }
+
+    /// The event of a place, where one is known.
+    fn event_at(&self, rank: u32, place: u64) -> Option<&Event>
+        ensures event { option_copied result ≡ event_at self.now rank place }
+        ensures range { IsSome result → place < 2 ^ 40 }
+    {
+        match self.known_at(rank, place) {
+            Some(Known::One(event)) => Some(event),
+            _ => None,
+        }
+    }
+}
+
+/// The `i`-th entry.
+fn entry_in(cells: &Cells, i: usize) -> Option<(&(u32, u64), &Known)>
+    ensures { option_map (λ e. (e.0.now, Some e.1.now)) result ≡ slice_get (cells_of (kept cells.now.entries)) i }
+{
+    cells.iter().nth(i)
+}
+
+fn count_conflicts(cells: &Cells) -> usize
+    ensures { result ≡ length (conflicts_of (kept cells.now.entries)) }
+{
+    let mut count = 0;
+    for (_, known) in cells.iter() {
+        if known.is_contradiction() {
+            count += 1;
+        }
+    }
+    count
+}
+
+fn conflict_in(cells: &Cells, i: usize) -> Option<(u32, u64)>
+    ensures { result ≡ slice_get (conflicts_of (kept cells.now.entries)) i }
+{
+    let mut left = i;
+    for (&(rank, place), known) in cells.iter() {
+        if known.is_contradiction() {
+            if left == 0 {
+                return Some((rank, place));
+            }
+            left -= 1;
+        }
+    }
+    None
+}
+
+/// Whether both maps have equal entries.
+fn same_cells(one: &Cells, other: &Cells) -> bool
+    ensures { IsTrue result ↔ (kept one.now.entries ≡ kept other.now.entries) }
+{
+    let mut others = other.iter();
+    for entry in one.iter() {
+        if !is_entry(others.next(), entry) {
+            return false;
+        }
+    }
+    others.next().is_none()
+}
+
+/// Whether there is an entry, and its place and what is known there are those of the other.
+fn is_entry(found: Option<(&(u32, u64), &Known)>, entry: (&(u32, u64), &Known)) -> bool
+    ensures { IsTrue result ↔ (option_map deref_pair found.entry ≡ Some (deref_pair entry.entry)) }
+{
+    match found {
+        Some((place, known)) => *place == *entry.0 && known.same(entry.1),
+        None => false,
+    }
+}
+
+/// Whether something is known of the rank at the place or past it.
+fn any_from(cells: &Cells, rank: u32, place: u64) -> bool
+    requires { IsKnowledge (kept cells.now.entries) }
+    ensures { IsTrue result ↔ IsBeyond (kept cells.now.entries) rank place }
+{
+    cells
+        .range((rank, place)..(rank, u64::MAX))
+        .next()
+        .is_some()
 }
 
 /// Joins one fact.

@@ -1,0 +1,8 @@
+use Rattle.std.proofs.Common.{sym, subst}
+use Rattle.trace_know.specs.Cells.{IsKnowledge}
+use Rattle.trace_know.specs.View.{kept}
+use Rattle.trace_know.proofs.Placed.{empty-IsKnowledge}
+use Rattle.trace_know.proofs.knowledge.Knowledge.new.Goals as goal
+
+pub invariant_of-result : goal.invariant_of-result
+invariant_of-result c = subst (λ es. IsKnowledge (kept es)) (sym c.new.ensures.empty) empty-IsKnowledge
