@@ -37,7 +37,7 @@ pub struct Num {
 /// The numbers of a list, in its order.
 #[derive(Debug, Drop)]
 pub struct Nums {
-    items: Vec<Num>,
+    numbers: Vec<Num>,
 }
 
 impl Model for Nums {
@@ -46,20 +46,20 @@ impl Model for Nums {
 
     ghost Value = { List Num };
 
-    ghost view = { λ n. n.items.items };
+    ghost view = { λ n. n.numbers.items };
 }
 
 impl Nums {
-    pub fn from_vec(items: Vec<Num>) -> Self
-        ensures { result ≡ items.items }
+    pub fn from_vec(numbers: Vec<Num>) -> Self
+        ensures { result ≡ numbers.items }
     {
-        Nums { items }
+        Nums { numbers }
     }
 
     pub fn as_slice(&self) -> &[Num]
         ensures { result.now ≡ self.now }
     {
-        &self.items
+        &self.numbers
     }
 }
 
@@ -130,7 +130,7 @@ impl Group {
 /// The groups of a list, in its order.
 #[derive(Debug, Drop)]
 pub struct Groups {
-    items: Vec<Group>,
+    groups: Vec<Group>,
 }
 
 impl Model for Groups {
@@ -139,20 +139,20 @@ impl Model for Groups {
 
     ghost Value = { List Group };
 
-    ghost view = { λ g. g.items.items };
+    ghost view = { λ g. g.groups.items };
 }
 
 impl Groups {
-    pub fn from_vec(items: Vec<Group>) -> Self
-        ensures { result ≡ items.items }
+    pub fn from_vec(groups: Vec<Group>) -> Self
+        ensures { result ≡ groups.items }
     {
-        Groups { items }
+        Groups { groups }
     }
 
     pub fn as_slice(&self) -> &[Group]
         ensures { result.now ≡ self.now }
     {
-        &self.items
+        &self.groups
     }
 }
 
