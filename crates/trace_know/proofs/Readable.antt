@@ -7,10 +7,10 @@ use Rattle.std.specs.FinMap.{get, remove, len, empty_of_len, get-empty, get-remo
 use Rattle.mpi_model.specs.declared.event.Event.{Event}
 use Rattle.trace_know.specs.declared.cell.Known.{Known}
 use Rattle.trace_know.specs.View.{View, place_cmp, cell}
-use Rattle.trace_know.specs.Prefix.{event_of, event_at, AllOneBelow, IsPrefix, events_of, prefix_of}
+use Rattle.trace_know.specs.Prefix.{IsRunOf, event_of, event_at, AllOneBelow, IsPrefix, events_of, prefix_of}
 use Rattle.trace_know.proofs.SameEvents.{false_or_true}
 use Rattle.trace_know.proofs.Joins.{places_total, exact_places, equal}
-use Rattle.trace_know.proofs.Runs.{IsRunOf, run_of-IsRunOf, one_run, some_within, greatest_run, length_of_run}
+use Rattle.trace_know.proofs.Runs.{run_of-IsRunOf, one_run, some_within, greatest_run, length_of_run}
 
 -- something is known of each place below this one
 abbrev AllKnownBelow : View → ℕ → ℕ → Type 0

@@ -31,7 +31,7 @@ impl Clone for Known {
 
 impl Known {
     /// Whether both are one equal event, or both a contradiction.
-    pub fn same(&self, other: &Known) -> bool
+    pub(crate) fn same(&self, other: &Known) -> bool
         ensures { IsTrue result ↔ (self.now ≡ other.now) }
     {
         match (self, other) {
@@ -41,7 +41,7 @@ impl Known {
         }
     }
 
-    pub fn is_contradiction(&self) -> bool
+    pub(crate) fn is_contradiction(&self) -> bool
         ensures { result ≡ is_contradiction self.now }
     {
         matches!(self, Known::Contradiction)

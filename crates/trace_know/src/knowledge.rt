@@ -1,24 +1,24 @@
 //! Knowledge: the join of the segments that were taken.
 
-ghost use Rattle.std.specs.Prelude.{◌≡◌, ◌↔◌, ◌+◌, ◌^◌, ◌<◌, ◌≤◌, IsTrue, OnOk, OnErr, IfOk, IsSome, length, map, slice_get};
+ghost use Rattle.std.specs.Prelude.{◌≡◌, ◌↔◌, ◌^◌, ◌<◌, IsTrue, OnOk, OnErr, IfOk, IsSome, length, map, slice_get};
 ghost use Rattle.std.specs.FinMap.{empty, len};
-ghost use Rattle.std.specs.Map.Iter.{deref_pair};
 ghost use Rattle.std.specs.Option.{option_map, option_copied};
 ghost use Rattle.trace_know.specs.Cells.{shown, cells_of, conflicts_of, IsKnowledge};
-ghost use Rattle.trace_know.specs.Prefix.{event_at, events_of, prefix_of, IsBeyond, is_beyond};
-ghost use Rattle.trace_know.specs.Trace.{facts_from, facts_of, of_fact, view_of};
-ghost use Rattle.trace_know.specs.View.{cell, join, kept};
+ghost use Rattle.trace_know.specs.Prefix.{event_at, events_of, prefix_of, is_beyond};
+ghost use Rattle.trace_know.specs.Trace.{facts_of, view_of};
+ghost use Rattle.trace_know.specs.View.{cell, join};
 
 use crate::cell::{Cell, Known, cell_of};
+use crate::cells::{
+    any_from, conflict_in, copy_of, count_conflicts, entry_in, join_all, same_cells,
+};
 use crate::segment::Segment;
 use mpi_model::Event;
 use std::alloc::{AllocError, Global};
 use std::collections::BTreeMap;
 use std::marker::Model;
 
-type Cells = BTreeMap<(u32, u64), Known>;
-
-/// What is known of each place of each rank.
+/// What is known of each place of each rank. Empty knowledge takes no memory; a copy takes its own.
 #[derive(Debug, Drop)]
 pub struct Knowledge {
     cells: BTreeMap<(u32, u64), Known>,
@@ -174,113 +174,4 @@ impl Knowledge {
             _ => None,
         }
     }
-}
-
-/// The `i`-th entry.
-fn entry_in(cells: &Cells, i: usize) -> Option<(&(u32, u64), &Known)>
-    ensures { option_map (λ e. (e.0.now, Some e.1.now)) result ≡ slice_get (cells_of (kept cells.now.entries)) i }
-{
-    cells.iter().nth(i)
-}
-
-fn count_conflicts(cells: &Cells) -> usize
-    ensures { result ≡ length (conflicts_of (kept cells.now.entries)) }
-{
-    let mut count = 0;
-    for (_, known) in cells.iter() {
-        if known.is_contradiction() {
-            count += 1;
-        }
-    }
-    count
-}
-
-fn conflict_in(cells: &Cells, i: usize) -> Option<(u32, u64)>
-    ensures { result ≡ slice_get (conflicts_of (kept cells.now.entries)) i }
-{
-    let mut left = i;
-    for (&(rank, place), known) in cells.iter() {
-        if known.is_contradiction() {
-            if left == 0 {
-                return Some((rank, place));
-            }
-            left -= 1;
-        }
-    }
-    None
-}
-
-/// Whether both maps have equal entries.
-fn same_cells(one: &Cells, other: &Cells) -> bool
-    ensures { IsTrue result ↔ (kept one.now.entries ≡ kept other.now.entries) }
-{
-    let mut others = other.iter();
-    for entry in one.iter() {
-        if !is_entry(others.next(), entry) {
-            return false;
-        }
-    }
-    others.next().is_none()
-}
-
-/// Whether there is an entry, and its place and what is known there are those of the other.
-fn is_entry(found: Option<(&(u32, u64), &Known)>, entry: (&(u32, u64), &Known)) -> bool
-    ensures { IsTrue result ↔ (option_map deref_pair found.entry ≡ Some (deref_pair entry.entry)) }
-{
-    match found {
-        Some((place, known)) => *place == *entry.0 && known.same(entry.1),
-        None => false,
-    }
-}
-
-/// Whether something is known of the rank at the place or past it.
-fn any_from(cells: &Cells, rank: u32, place: u64) -> bool
-    requires { IsKnowledge (kept cells.now.entries) }
-    ensures { IsTrue result ↔ IsBeyond (kept cells.now.entries) rank place }
-{
-    cells
-        .range((rank, place)..(rank, u64::MAX))
-        .next()
-        .is_some()
-}
-
-/// Joins one fact.
-fn join_fact(cells: &mut Cells, rank: u32, place: u64, event: &Event) -> Result<(), AllocError>
-    ensures { OnOk result (kept cells.new.entries ≡ join (kept cells.old.entries) (of_fact (record { rank = rank; place = place; event = event.now }))) }
-{
-    match cells.get(&(rank, place)) {
-        None => {
-            cells.insert((rank, place), Known::One(event.try_clone()?))?;
-            Ok(())
-        }
-        Some(Known::Contradiction) => Ok(()),
-        Some(Known::One(held)) => {
-            if held.same(event) {
-                return Ok(());
-            }
-            cells.insert((rank, place), Known::Contradiction)?;
-            Ok(())
-        }
-    }
-}
-
-/// Joins the facts of events at consecutive places.
-#[tactic(auto, using(crate::proofs::Steps::next_joined, crate::proofs::Steps::all_joined))]
-fn join_all(cells: &mut Cells, rank: u32, first: u64, events: &[Event]) -> Result<(), AllocError>
-    requires { first + length events.now ≤ 2 ^ 40 }
-    ensures { OnOk result (kept cells.new.entries ≡ join (kept cells.old.entries) (view_of (facts_from rank first events.now))) }
-{
-    let mut place = first;
-    for event in events {
-        join_fact(cells, rank, place, event)?;
-        place += 1;
-    }
-    Ok(())
-}
-
-#[tactic(auto, using(crate::proofs::Steps::cloned))]
-fn copy_of(cells: &Cells) -> Result<Cells, AllocError>
-    ensures { IfOk result (λ copy. copy.entries ≡ cells.now.entries) }
-{
-    cells.clone()
 }

@@ -10,16 +10,20 @@
 //!
 //! - [`cell`]: what is known of one place
 //! - [`segment`]: events of one rank at consecutive places
-//! - [`knowledge`]: all that is known, and its readers
+//! - [`cells`]: cells in an ordered map; [`knowledge`]: all that is known, and its readers
 //! - [`laws`]: what holds of joins and views, as contracts of calls that do nothing
 #![tactic(auto)]
 
 mod cell;
+mod cells;
 mod knowledge;
 mod laws;
 mod segment;
 
 pub use cell::{Cell, Known};
 pub use knowledge::Knowledge;
-pub use laws::{join_laws, view_laws};
+pub use laws::{join_laws, prefix_laws, view_laws};
 pub use segment::{Segment, SegmentFault};
+
+#[cfg(test)]
+mod tests;

@@ -2,7 +2,7 @@ use Rattle.std.proofs.Common.{◌≡◌, Bool, true, false, not, refl, sym, ap, 
 use Rattle.std.specs.Map.Iter.{deref_pair}
 use Rattle.trace_know.specs.View.{kept}
 use Rattle.trace_know.proofs.Listed.{same_entries, first_taken, none_left, at_end}
-use Rattle.trace_know.proofs.knowledge.same_cells.Goals as goal
+use Rattle.trace_know.proofs.cells.same_cells.Goals as goal
 
 pub returns-then-not-is_entry : goal.returns-then-not-is_entry
 returns-then-not-is_entry c = (

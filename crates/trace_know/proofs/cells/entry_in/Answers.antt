@@ -1,7 +1,7 @@
 use Rattle.std.proofs.lemmas.Iterator.Consumers.{nth_from_yields_List, YieldsList-from_rest}
 use Rattle.trace_know.proofs.Kept.{entries-kept}
 use Rattle.trace_know.proofs.Listed.{shown_entry}
-use Rattle.trace_know.proofs.knowledge.entry_in.Goals as goal
+use Rattle.trace_know.proofs.cells.entry_in.Goals as goal
 
 pub returns : goal.returns
 returns c =

@@ -3,7 +3,7 @@ use Rattle.std.specs.Map.Iter.{deref_pair}
 use Rattle.trace_know.proofs.SameEvents.{false_or_true}
 use Rattle.trace_know.proofs.Listed.{found_first, none_left}
 use Rattle.trace_know.proofs.Beyond.{first_in_range, none_in_range}
-use Rattle.trace_know.proofs.knowledge.any_from.Goals as goal
+use Rattle.trace_know.proofs.cells.any_from.Goals as goal
 
 pub returns : goal.returns
 returns c =

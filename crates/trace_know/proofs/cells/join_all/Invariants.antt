@@ -1,7 +1,7 @@
 use Rattle.std.proofs.Common.{◌≡◌, ◌+◌, drop}
 use Rattle.trace_know.specs.View.{kept, join}
 use Rattle.trace_know.specs.Trace.{view_of, facts_from}
-use Rattle.trace_know.proofs.knowledge.join_all.Given as goal
+use Rattle.trace_know.proofs.cells.join_all.Given as goal
 
 abbrev pub invariant-loop-event : goal.invariant-loop-event
 invariant-loop-event l = record {

@@ -2,7 +2,7 @@ use Rattle.std.proofs.Common.{sym, ap, ◌∙◌, arith, length}
 use Rattle.trace_know.specs.Cells.{conflicts_in}
 use Rattle.trace_know.proofs.Kept.{entries-kept}
 use Rattle.trace_know.proofs.Listed.{conflicts_first, conflicts-le}
-use Rattle.trace_know.proofs.knowledge.count_conflicts.Goals as goal
+use Rattle.trace_know.proofs.cells.count_conflicts.Goals as goal
 
 pub overflow_add-count : goal.overflow_add-count
 overflow_add-count c =

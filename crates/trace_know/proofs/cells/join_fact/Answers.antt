@@ -2,7 +2,7 @@ use Rattle.std.proofs.Common.{◌≡◌, ◌≢◌, Some, None, refl, sym, ap, �
 use Rattle.trace_know.specs.declared.cell.Known.TheVariants.{One, Contradiction}
 use Rattle.trace_know.specs.Cell.{join_cell}
 use Rattle.trace_know.proofs.MapJoins.{known_at, is_joined, is_held, held_once, contradicted}
-use Rattle.trace_know.proofs.knowledge.join_fact.Goals as goal
+use Rattle.trace_know.proofs.cells.join_fact.Goals as goal
 
 pub returns-then-same : goal.returns-then-same
 returns-then-same c =

@@ -1,7 +1,7 @@
 use Rattle.std.proofs.Common.{refl, sym, ◌∙◌}
 use Rattle.trace_know.proofs.Kept.{entries-kept}
 use Rattle.trace_know.proofs.Listed.{conflicts_first}
-use Rattle.trace_know.proofs.knowledge.conflict_in.Goals as goal
+use Rattle.trace_know.proofs.cells.conflict_in.Goals as goal
 
 pub returns-then-left-eq0 : goal.returns-then-left-eq0
 returns-then-left-eq0 c =
