@@ -1,0 +1,55 @@
+#!/usr/bin/env python3
+"""Times the built program on traces of given sizes: run.py [--megabytes 10 50 100] [--ranks R] [--piece CALLS].
+
+For each size it makes a trace in a temporary folder, runs crates/mpimatch/out/mpimatch on it once
+to warm the file cache and then three times, and prints a row of the best run: text, calls, pieces,
+seconds, MB/s of text, calls/s, and peak memory.
+"""
+import argparse
+import os
+import subprocess
+import sys
+import tempfile
+import time
+
+TOP = os.path.dirname(os.path.dirname(os.path.abspath(__file__)))
+PROGRAM = os.path.join(TOP, "crates", "mpimatch", "out", "mpimatch")
+MAKER = os.path.join(TOP, "bench", "make_trace.py")
+
+
+def timed(folder):
+    """The seconds and the peak bytes of one run."""
+    begin = time.perf_counter()
+    process = subprocess.Popen(
+        [PROGRAM, "report", "layout.json", "manifest.json"], cwd=folder, stdout=subprocess.PIPE
+    )
+    report = process.stdout.read()
+    _, status, usage = os.wait4(process.pid, 0)
+    seconds = time.perf_counter() - begin
+    if status != 0 or not report.endswith(b"end\n"):
+        sys.exit(f"the program failed on {folder}")
+    return seconds, usage.ru_maxrss * 1024
+
+
+def main():
+    parser = argparse.ArgumentParser()
+    parser.add_argument("--megabytes", type=float, nargs="+", default=[10, 50, 100])
+    parser.add_argument("--ranks", type=int, default=16)
+    parser.add_argument("--piece", type=int, default=32_768)
+    arguments = parser.parse_args()
+    print("|  MB text |     calls | pieces | seconds |  MB/s |   calls/s | peak MB |")
+    print("|---------:|----------:|-------:|--------:|------:|----------:|--------:|")
+    for megabytes in arguments.megabytes:
+        with tempfile.TemporaryDirectory() as folder:
+            words = ["--megabytes", str(megabytes), "--ranks", str(arguments.ranks), "--piece", str(arguments.piece)]
+            made = subprocess.run([sys.executable, MAKER, folder, *words], check=True, capture_output=True, text=True)
+            size, calls = (int(word) for word in made.stdout.split())
+            pieces = len(os.listdir(folder)) - 2
+            timed(folder)
+            seconds, peak = min(timed(folder) for _ in range(3))
+            row = (size / 1e6, calls, pieces, seconds, size / 1e6 / seconds, calls / seconds, peak / 1e6)
+            print("| %8.1f | %9d | %6d | %7.2f | %5.1f | %9.0f | %7.0f |" % row, flush=True)
+
+
+if __name__ == "__main__":
+    main()

@@ -1,0 +1,19 @@
+use Rattle.std.proofs.Common.{◌≡◌, ◌∙◌, ap, ap₂, codes, true}
+use Rattle.std.proofs.lemmas.Result.{IfOk-weaker}
+use Rattle.clap.specs.Words.{App, app_of, new_app, with_subcommand}
+use Rattle.clap.specs.Simple.{app_of_fields, on_top}
+use Rattle.command_line.specs.Program.{bare}
+use Rattle.command_line.proofs.program_command.Goals as goal
+
+-- texts for the user leave the command's meaning as it is
+pub returns : goal.returns
+returns c =
+    let about : app_of c.about.result ≡ new_app (codes "mpimatch") = ap app_of_fields c.about.ensures ∙ c.new.ensures.app in
+    let version : app_of c.version.result ≡ on_top (λ s. record s { has_version = true }) (new_app (codes "mpimatch")) =
+    ap app_of_fields c.version.ensures ∙ ap (on_top (λ s. record s { has_version = true })) about in
+    let after : app_of c.after_help.result ≡ on_top (λ s. record s { has_version = true }) (new_app (codes "mpimatch")) =
+    ap app_of_fields c.after_help.ensures ∙ version in
+    let bare_is : app_of c.subcommand_required.result ≡ bare =
+    ap app_of_fields c.subcommand_required.ensures ∙ ap (on_top (λ s. record s { subcommand_required = true })) after in
+    IfOk-weaker c.subcommand.result _ _ (λ r h.
+    h.shape c.in_ok-report.ensures.local ∙ ap₂ with_subcommand bare_is (ap (λ (a : App). a.top) c.in_ok-report.ensures.shape)) c.subcommand.ensures

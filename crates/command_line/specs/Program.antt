@@ -1,0 +1,73 @@
+-- The command line of the program, as clap reads it.
+use Rattle.std.specs.Prelude.{◌≡◌, ℕ, List, [], Option, Some, None, if◌then◌else◌, true, codes}
+use Rattle.std.specs.Str.{bytes_eq}
+use Rattle.clap.specs.Words.{App, IsAmong, Row, Rule, Text, fault_of, first_of, kind_of, new_app, new_rule, subcommand_of, with_rule, with_subcommand}
+use Rattle.clap.specs.Simple.{on_top}
+use Rattle.clap.specs.declared.error.kind.ErrorKind.{ErrorKind}
+use Rattle.clap.specs.declared.error.kind.ErrorKind.TheVariants as kinds
+use Rattle.command_line.specs.declared.Asked.{Asked}
+use Rattle.command_line.specs.declared.CommandFault.{CommandFault}
+use Rattle.command_line.specs.declared.CommandFault.TheVariants.{Memory, Shown, Unread}
+use Rattle.command_line.specs.declared.Verb.{Verb}
+use Rattle.command_line.specs.declared.Verb.TheVariants.{Report}
+
+-- a file that has to be named
+abbrev pub file_rule : Text → Rule
+file_rule id = record (new_rule id) { required = true }
+
+-- a subcommand with its two files
+abbrev pub verb_app : Text → App
+verb_app name = with_rule (with_rule (new_app name) (file_rule (codes "LAYOUT"))) (file_rule (codes "MANIFEST"))
+
+abbrev pub with_verb : App → Text → App
+with_verb app name = with_subcommand app (verb_app name).top
+
+-- the program without its verbs
+abbrev pub bare : App
+bare = on_top (λ s. record s { has_version = true; subcommand_required = true }) (new_app (codes "mpimatch"))
+
+abbrev pub program : App
+program = with_verb bare (codes "report")
+
+abbrev pub verb_named : Text → Option Verb
+verb_named name = if bytes_eq name (codes "report") then Some Report else None
+
+-- what the words ask for
+pub record Request : Type 0 where
+  pub verb : Verb
+  pub layout : Text
+  pub manifest : Text
+
+abbrev pub request_of : Asked → Request
+request_of a = record { verb = a.verb; layout = a.layout.now; manifest = a.manifest.now }
+
+-- a verb with both of its files
+abbrev pub together : Option Verb → Option Text → Option Text → Option Request
+together None layout manifest = None
+together (Some verb) None manifest = None
+together (Some verb) (Some layout) None = None
+together (Some verb) (Some layout) (Some manifest) = Some (record { verb = verb; layout = layout; manifest = manifest })
+
+-- what the subcommand that was met asks for, with its values
+abbrev pub request_in : Option (Text × List Row) → Option Request
+request_in None = None
+request_in (Some met) = together (verb_named met.0) (first_of (codes "LAYOUT") met.1) (first_of (codes "MANIFEST") met.1)
+
+-- Why the words ask for nothing. An error that is shown has one of the kinds that clap gives for
+-- them.
+abbrev pub Refuses : List Text → CommandFault → Type 0
+Refuses words Memory = Unit {0}
+Refuses words (Shown error) = IsAmong (kind_of error) (fault_of program words)
+Refuses words Unread = (fault_of program words ≡ []) × (request_in (subcommand_of program words) ≡ None)
+
+-- help and the version are no mistake
+abbrev pub shown_status_of : ErrorKind → ℕ
+shown_status_of kinds.DisplayHelp = 0
+shown_status_of kinds.DisplayVersion = 0
+shown_status_of _ = 2
+
+-- the status of the program where the words ask for nothing
+abbrev pub status_of : CommandFault → ℕ
+status_of Memory = 1
+status_of (Shown error) = shown_status_of (kind_of error)
+status_of Unread = 2

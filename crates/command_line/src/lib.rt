@@ -1,0 +1,158 @@
+//! The command line of mpimatch: its verbs, each with the names of a layout and of a manifest.
+//!
+//! `clap` reads the words. `specs/Program.antt` writes the command line down by `clap`'s own
+//! builders, so what the words ask for, and the kind of each mistake, is `clap`'s meaning of that
+//! command. A verb that comes later is one line in `Verb`, in `verb_of`, in `program_command` and,
+//! in `specs/Program.antt`, in `verb_named` and in `program`.
+#![tactic(auto)]
+
+ghost use Rattle.std.specs.Prelude.{◌≡◌, IfErr, IfOk, Some, codes, false, map, option_map};
+ghost use Rattle.clap.specs.Words.{app_of, rule_of, subcommand_of, subcommand_rows_of};
+ghost use Rattle.clap.specs.declared.builder.command.Command.TheViews.{out-Command};
+ghost use Rattle.command_line.specs.Program.{Refuses, file_rule, program, request_in, request_of, shown_status_of, verb_app, verb_named};
+
+#[cfg(test)]
+mod tests;
+
+use clap::error::ErrorKind;
+use clap::{Arg, ArgMatches, Command};
+use std::alloc::{AllocError, Global};
+use thiserror::Error;
+
+/// What the program is asked to do.
+#[derive(Clone, Copy, Debug, PartialEq, Eq)]
+pub enum Verb {
+    /// Print the report of a trace.
+    Report,
+}
+
+/// A verb with the names of its two files, as the words spell them.
+#[derive(Clone, Copy, Debug)]
+pub struct Asked<'a> {
+    pub verb: Verb,
+    pub layout: &'a str,
+    pub manifest: &'a str,
+}
+
+/// Why the words ask for nothing.
+#[derive(Debug, Drop, Error)]
+pub enum CommandFault {
+    #[error("mpimatch: Memory\n")]
+    Memory,
+    /// A mistake, or a request for the help or the version: `clap` has the text and the status.
+    #[error("{0}")]
+    Shown(clap::Error),
+    /// The words passed, and no verb with its two files is among them. `clap` leaves no such words.
+    #[error("mpimatch: no verb with its two files\n")]
+    Unread,
+}
+
+impl CommandFault {
+    ghost use Rattle.command_line.specs.Program.{status_of};
+
+    /// The status with which the program ends: 0 for the help and the version, whose text goes to
+    /// standard output, 1 for want of memory, and 2 for a mistake.
+    pub fn status(&self) -> u8
+        ensures { result ≡ status_of self.now }
+    {
+        match self {
+            CommandFault::Memory => 1,
+            CommandFault::Shown(error) => shown_status(error.kind()),
+            CommandFault::Unread => 2,
+        }
+    }
+}
+
+fn shown_status(kind: ErrorKind) -> u8
+    ensures { result ≡ shown_status_of kind }
+{
+    match kind {
+        ErrorKind::DisplayHelp | ErrorKind::DisplayVersion => 0,
+        _ => 2,
+    }
+}
+
+/// What the words ask for; the first word is the name of the program.
+pub fn command_of<'a>(alloc: Global, words: &'a [&'a str]) -> Result<Asked<'a>, CommandFault>
+    ensures asked { IfOk result (λ a. request_in (subcommand_of program (map (λ w. w.now) words.entry.now)) ≡ Some (request_of a)) }
+    ensures refused { IfErr result (Refuses (map (λ w. w.now) words.entry.now)) }
+{
+    let command = match program_command(alloc) {
+        Ok(command) => command,
+        Err(_) => return Err(CommandFault::Memory),
+    };
+    let matches = match command.try_get_matches_from(words) {
+        Ok(matches) => matches,
+        Err(error) if error.kind() == ErrorKind::OutOfMemory => return Err(CommandFault::Memory),
+        Err(error) => return Err(CommandFault::Shown(error)),
+    };
+    match asked_in(&matches) {
+        Some(asked) => Ok(asked),
+        None => Err(CommandFault::Unread),
+    }
+}
+
+fn program_command<'a>(alloc: Global) -> Result<Command<'a>, AllocError>
+    ensures { IfOk result (λ c. app_of c ≡ program) }
+{
+    let report = verb_command(alloc, "report", "Prints what the trace tells of each rank")?;
+    Command::new(alloc, "mpimatch")
+        .about("Matches the sends and receives of an MPI run by its trace")
+        .version("0.1.0")
+        .after_help(
+            "Ends with 0, with 1 for a refused input, or with 2 for a mistake in the words.",
+        )
+        .subcommand_required(true)
+        .subcommand(report)
+}
+
+fn verb_command<'a>(alloc: Global, name: &'a str, about: &'a str) -> Result<Command<'a>, AllocError>
+    ensures shape { IfOk result (λ c. app_of c ≡ verb_app name.now) }
+    ensures local { IfOk result (λ c. (out-Command c).has_globals ≡ false) }
+{
+    let layout = file_argument(
+        alloc,
+        "LAYOUT",
+        "Ranks, communicators and how sends complete (JSON)",
+    );
+    let manifest = file_argument(
+        alloc,
+        "MANIFEST",
+        "The text files of the trace, by rank (JSON)",
+    );
+    Command::new(alloc, name)
+        .about(about)
+        .arg(layout)?
+        .arg(manifest)
+}
+
+fn file_argument<'a>(alloc: Global, name: &'a str, help: &'a str) -> Arg<'a>
+    ensures rule { rule_of result ≡ file_rule name.entry.now }
+    ensures local { result.global ≡ false }
+{
+    Arg::new(alloc, name).help(help).required(true)
+}
+
+fn verb_of(name: &str) -> Option<Verb>
+    ensures { result ≡ verb_named name.now }
+{
+    if name == "report" {
+        Some(Verb::Report)
+    } else {
+        None
+    }
+}
+
+fn asked_in<'a>(matches: &ArgMatches<'a>) -> Option<Asked<'a>>
+    ensures { option_map request_of result ≡ request_in (subcommand_rows_of matches.now) }
+{
+    let (name, inner) = matches.subcommand()?;
+    let verb = verb_of(name)?;
+    let layout = inner.get_str("LAYOUT")?;
+    let manifest = inner.get_str("MANIFEST")?;
+    Some(Asked {
+        verb,
+        layout,
+        manifest,
+    })
+}

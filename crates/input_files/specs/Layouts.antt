@@ -1,0 +1,62 @@
+-- Which layout a text is.
+use Rattle.std.specs.Prelude.{◌≡◌, ℕ, List, [], Option, Some, None, if◌then◌else◌, codes, option_and_then, option_map}
+use Rattle.std.specs.Str.{bytes_eq}
+use Rattle.serde_json.specs.Data.{Data, Items, no_items, item}
+use Rattle.serde_json.specs.Find.{as_array, as_str, get}
+use Rattle.mpi_model.specs.declared.layout.Sends.{Sends}
+use Rattle.mpi_model.specs.declared.layout.Sends.TheVariants.{Wait, Buffer}
+use Rattle.mpi_model.specs.Groups.{Group}
+use Rattle.mpi_model.specs.Layouts.{Holds, Parts, fault_of}
+use Rattle.input_files.specs.Fields.{IsJson, u32_in, u32s_in, with_first}
+use Rattle.input_files.specs.declared.fault.InputFault.{InputFault}
+use Rattle.input_files.specs.declared.fault.InputFault.TheVariants.{Memory, Json, Shape, Layout}
+
+abbrev pub group_from : Option ℕ → Option (List ℕ) → Option Group
+group_from None members = None
+group_from (Some comm) members = option_map (λ ms. record { comm = comm; members = ms }) members
+
+-- a communicator: its number and its members
+abbrev pub group_in : Data → Option Group
+group_in value = group_from (option_and_then u32_in (get (codes "id") value))
+    (option_and_then u32s_in (option_and_then as_array (get (codes "members") value)))
+
+-- the communicators of a list, in its order
+abbrev pub groups_in : Items → Option (List Group)
+groups_in no_items = Some []
+groups_in (item value values) = with_first (group_in value) (groups_in values)
+
+abbrev pub sends_named : List ℕ → Option Sends
+sends_named word = if bytes_eq word (codes "wait") then Some Wait
+    else if bytes_eq word (codes "buffer") then Some Buffer else None
+
+abbrev pub parts_from : Option ℕ → Option ℕ → Option Sends → Option (List Group) → Option Parts
+parts_from None world sends comms = None
+parts_from (Some ranks) None sends comms = None
+parts_from (Some ranks) (Some world) None comms = None
+parts_from (Some ranks) (Some world) (Some sends) None = None
+parts_from (Some ranks) (Some world) (Some sends) (Some comms) = Some (record { ranks = ranks; world = world; sends = sends; comms = comms })
+
+-- the fields of a layout, its communicators in the order of the file
+abbrev pub parts_in : Data → Option Parts
+parts_in value = parts_from (option_and_then u32_in (get (codes "ranks") value))
+    (option_and_then u32_in (get (codes "world") value))
+    (option_and_then sends_named (option_and_then as_str (get (codes "sends") value)))
+    (option_and_then groups_in (option_and_then as_array (get (codes "comms") value)))
+
+-- The text tells these fields.
+abbrev pub TellsParts : List ℕ → Parts → Type 0
+TellsParts text given = (value : Data) × IsJson text value × (parts_in value ≡ Some given)
+
+-- The text is this layout: it tells fields that break no rule, and the layout holds them.
+abbrev pub IsLayoutOf : List ℕ → Parts → Type 0
+IsLayoutOf text l = (given : Parts) × TellsParts text given
+    × (fault_of given.ranks given.world given.comms ≡ None)
+    × Holds given.ranks given.world given.sends given.comms l
+
+-- Why the text is no layout.
+abbrev pub RefusesLayout : List ℕ → InputFault → Type 0
+RefusesLayout text Memory = Unit {0}
+RefusesLayout text Json = (value : Data) → IsJson text value → ⊥
+RefusesLayout text Shape = (value : Data) × IsJson text value × (parts_in value ≡ None)
+RefusesLayout text (Layout fault) = (given : Parts) × TellsParts text given
+    × (fault_of given.ranks given.world given.comms ≡ Some fault)

@@ -1,0 +1,20 @@
+//! Why a text is no layout, or no manifest.
+
+use mpi_model::LayoutFault;
+use thiserror::Error;
+
+/// The first cause that stands, in this order; want of memory where it comes.
+#[derive(Clone, Copy, Debug, PartialEq, Eq, Error)]
+pub enum InputFault {
+    #[error("Memory")]
+    Memory,
+    /// The bytes are no JSON, or no UTF-8.
+    #[error("M2 Json")]
+    Json,
+    /// A field is missing, of another kind, or out of its range.
+    #[error("M3 Shape")]
+    Shape,
+    /// The fields are there, and break a rule of layouts.
+    #[error("{0}")]
+    Layout(LayoutFault),
+}

@@ -1,0 +1,71 @@
+//! The value of a JSON text, and what its fields hold.
+//!
+//! An answer `Result<Option<T>, AllocError>` has want of memory on its outside, and inside whether
+//! the value has the form.
+
+ghost use Rattle.std.specs.Prelude.{◌≡◌, IfErr, IfOk, option_and_then, option_map};
+ghost use Rattle.serde_json.specs.Find.{as_array, as_str, get};
+ghost use Rattle.serde_json.specs.View.{items_view, view};
+ghost use Rattle.input_files.specs.Fields.{HasNoValue, IsJson, u32_in, u32s_in, u64_in};
+
+use crate::fault::InputFault;
+use serde_json::Value;
+use std::alloc::{AllocError, Global};
+
+/// The value of a text. No other function reads JSON.
+pub(crate) fn value_of(alloc: Global, text: &[u8]) -> Result<Value, InputFault>
+    ensures ok { IfOk result (λ v. IsJson text.now (view v)) }
+    ensures err { IfErr result (HasNoValue text.now) }
+{
+    match Value::from_slice(alloc, text) {
+        Ok(value) => Ok(value),
+        Err(error) if error.is_memory() => Err(InputFault::Memory),
+        Err(_) => Err(InputFault::Json),
+    }
+}
+
+pub(crate) fn u64_at(value: &Value, name: &str) -> Option<u64>
+    ensures { result ≡ option_and_then u64_in (get name.now (view value.now)) }
+{
+    value.get(name)?.as_u64()
+}
+
+pub(crate) fn u32_at(value: &Value, name: &str) -> Option<u32>
+    ensures { result ≡ option_and_then u32_in (get name.now (view value.now)) }
+{
+    u32_of(value.get(name)?)
+}
+
+pub(crate) fn str_at<'v>(value: &'v Value, name: &str) -> Option<&'v str>
+    ensures { option_map (λ s. s.now) result ≡ option_and_then as_str (get name.now (view value.now)) }
+{
+    value.get(name)?.as_str()
+}
+
+pub(crate) fn list_at<'v>(value: &'v Value, name: &str) -> Option<&'v [Value]>
+    ensures { option_map (λ s. items_view s.now) result ≡ option_and_then as_array (get name.now (view value.now)) }
+{
+    Some(value.get(name)?.as_array()?.as_slice())
+}
+
+pub(crate) fn u32s_of(alloc: Global, values: &[Value]) -> Result<Option<Vec<u32>>, AllocError>
+    ensures { IfOk result (λ o. option_map (λ v. v.items) o ≡ u32s_in (items_view values.now)) }
+{
+    let mut numbers = Vec::new(alloc);
+    for value in values {
+        let Some(number) = u32_of(value) else {
+            return Ok(None);
+        };
+        numbers.push(number)?;
+    }
+    Ok(Some(numbers))
+}
+
+fn u32_of(value: &Value) -> Option<u32>
+    ensures { result ≡ u32_in (view value.now) }
+{
+    match value.as_u64() {
+        Some(n) if n <= 4_294_967_295 => Some(n as u32),
+        _ => None,
+    }
+}

@@ -1,0 +1,111 @@
+//! The layout of a run, as its file tells it.
+
+ghost use Rattle.std.specs.Prelude.{◌≡◌, IfErr, IfOk, option_and_then, option_map};
+ghost use Rattle.serde_json.specs.Find.{as_str, get};
+ghost use Rattle.serde_json.specs.View.{items_view, view};
+ghost use Rattle.mpi_model.specs.Groups.{groups};
+ghost use Rattle.input_files.specs.Layouts.{IsLayoutOf, RefusesLayout, group_in, groups_in, parts_in, sends_named};
+
+use crate::fault::InputFault;
+use crate::json::{list_at, str_at, u32_at, u32s_of, value_of};
+use mpi_model::{Layout, LayoutFault, Sends};
+use serde_json::Value;
+use std::alloc::{AllocError, Global};
+
+/// The layout that a text is: [`InputFault::Json`], then [`InputFault::Shape`], then the first rule
+/// of layouts that is broken.
+pub fn layout_of(alloc: Global, text: &[u8]) -> Result<Layout, InputFault>
+    ensures ok { IfOk result (λ l. IsLayoutOf text.now l) }
+    ensures err { IfErr result (RefusesLayout text.now) }
+{
+    let value = value_of(alloc, text)?;
+    let given = match given_in(alloc, &value) {
+        Ok(Some(given)) => given,
+        Ok(None) => return Err(InputFault::Shape),
+        Err(_) => return Err(InputFault::Memory),
+    };
+    let fault = match Layout::new(alloc, given.ranks, given.world, given.comms, given.sends) {
+        Ok(layout) => return Ok(layout),
+        Err(fault) => fault,
+    };
+    match fault {
+        LayoutFault::Memory => Err(InputFault::Memory),
+        broken => Err(InputFault::Layout(broken)),
+    }
+}
+
+// the fields of a layout, its communicators in the order of the file
+#[derive(Debug, Drop)]
+struct Given {
+    ranks: u32,
+    world: u32,
+    sends: Sends,
+    comms: Vec<(u32, Vec<u32>)>,
+}
+
+fn given_in(alloc: Global, value: &Value) -> Result<Option<Given>, AllocError>
+    ensures { IfOk result (λ o. option_map (λ g. record { ranks = g.ranks; world = g.world; sends = g.sends; comms = groups g.comms.items }) o ≡ parts_in (view value.now)) }
+{
+    let Some(ranks) = u32_at(value, "ranks") else {
+        return Ok(None);
+    };
+    let Some(world) = u32_at(value, "world") else {
+        return Ok(None);
+    };
+    let Some(sends) = sends_at(value, "sends") else {
+        return Ok(None);
+    };
+    let Some(values) = list_at(value, "comms") else {
+        return Ok(None);
+    };
+    match groups_of(alloc, values)? {
+        Some(comms) => Ok(Some(Given {
+            ranks,
+            world,
+            sends,
+            comms,
+        })),
+        None => Ok(None),
+    }
+}
+
+fn sends_at(value: &Value, name: &str) -> Option<Sends>
+    ensures { result ≡ option_and_then sends_named (option_and_then as_str (get name.now (view value.now))) }
+{
+    let word = str_at(value, name)?;
+    if word == "wait" {
+        Some(Sends::Wait)
+    } else if word == "buffer" {
+        Some(Sends::Buffer)
+    } else {
+        None
+    }
+}
+
+fn groups_of(alloc: Global, values: &[Value]) -> Result<Option<Vec<(u32, Vec<u32>)>>, AllocError>
+    ensures { IfOk result (λ o. option_map (λ v. groups v.items) o ≡ groups_in (items_view values.now)) }
+{
+    let mut found = Vec::new(alloc);
+    for value in values {
+        match group_of(alloc, value)? {
+            Some(group) => found.push(group)?,
+            None => return Ok(None),
+        }
+    }
+    Ok(Some(found))
+}
+
+fn group_of(alloc: Global, value: &Value) -> Result<Option<(u32, Vec<u32>)>, AllocError>
+    ensures { IfOk result (λ o. option_map (λ g. record { comm = g.0; members = g.1.items }) o ≡ group_in (view value.now)) }
+{
+    let Some(id) = u32_at(value, "id") else {
+        return Ok(None);
+    };
+    let Some(members) = list_at(value, "members") else {
+        return Ok(None);
+    };
+    match u32s_of(alloc, members)? {
+        Some(members) => Ok(Some((id, members))),
+        None => Ok(None),
+    }
+}

@@ -1,0 +1,23 @@
+//! The two input files of a run, as JSON texts: the layout and the manifest.
+//!
+//! `serde_json` reads a text into a value, and the definitions in `specs/` say which layout or
+//! manifest a value is. A key that stands twice in an object has its last value, and keys that are
+//! not named here are passed over. The work is linear in the text, but for the search of a layout's
+//! communicators; memory is in proportion to the text.
+//!
+//! - [`fault`]: why a text is refused
+//! - [`json`]: the value of a text, and its fields
+//! - [`layout`]: ranks, communicators, and how sends complete
+//! - [`manifest`]: the pieces of a trace
+#![tactic(auto)]
+
+mod fault;
+mod json;
+mod layout;
+mod manifest;
+#[cfg(test)]
+mod tests;
+
+pub use fault::InputFault;
+pub use layout::layout_of;
+pub use manifest::{Manifest, Piece, manifest_of};

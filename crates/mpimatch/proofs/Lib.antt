@@ -1,0 +1,5 @@
+pub mod Cuts
+pub mod Events
+pub mod Reading
+pub mod Told
+pub mod Traces

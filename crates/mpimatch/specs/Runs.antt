@@ -1,0 +1,58 @@
+-- What a run reads of its files, and what it reports.
+use Rattle.std.specs.Prelude.{◌≡◌, ◌≤◌, ◌⊎◌, ◌++◌, ℕ, List, [], ◌∷◌, Option}
+use Rattle.std.specs.Io.KnownBytes.{Keeps}
+use Rattle.std.specs.List.{Any}
+use Rattle.mpi_model.specs.Layouts.{Parts}
+use Rattle.trace_know.specs.Trace.{Trace, view_of}
+use Rattle.input_files.specs.Layouts.{IsLayoutOf, RefusesLayout}
+use Rattle.input_files.specs.Manifests.{IsManifestOf, ManifestParts, PieceParts, RefusesManifest}
+use Rattle.mpimatch.specs.Files.{IsFile}
+use Rattle.mpimatch.specs.Inputs.{RefusesInput}
+use Rattle.mpimatch.specs.Pieces.{IsNamed, RefusesPiece, TellsFacts}
+use Rattle.mpimatch.specs.declared.fault.RunFault.{RunFault}
+use Rattle.mpimatch.specs.declared.fault.RunFault.TheVariants.{Memory, File, Json, Shape, Layout, Text, Missing, Wrong, Place, Rank, Write}
+use Rattle.trace_know.specs.View.{View}
+use Rattle.mpimatch.specs.Report.{report_text}
+
+-- The facts of these pieces together, each from its file.
+abbrev pub TellTrace : (List ℕ → Option (List ℕ)) → List PieceParts → Trace → Type 0
+TellTrace file [] trace = trace ≡ []
+TellTrace file (piece ∷ pieces) trace = (own : Trace) × (rest : Trace)
+    × TellsFacts (file piece.file) piece.rank piece.first own × TellTrace file pieces rest × (trace ≡ own ++ rest)
+
+-- The view of all that the pieces tell.
+abbrev pub IsKnown : (List ℕ → Option (List ℕ)) → List PieceParts → View → Type 0
+IsKnown file pieces view = (trace : Trace) × TellTrace file pieces trace × (view ≡ view_of trace)
+
+-- A piece of a rank that the layout doesn't have.
+abbrev pub IsStranger : ℕ → RunFault → PieceParts → Type 0
+IsStranger ranks (Rank path) piece = IsNamed path piece.file × (ranks ≤ piece.rank)
+IsStranger ranks _ piece = ⊥
+
+-- Why the pieces are refused: one of them is, for its file, its text or its rank.
+abbrev pub RefusesPieces : (List ℕ → Option (List ℕ)) → ℕ → List PieceParts → RunFault → Type 0
+RefusesPieces file ranks pieces fault = (fault ≡ Memory) ⊎ Any (λ piece. RefusesPiece piece.file (file piece.file) fault ⊎ IsStranger ranks fault piece) pieces
+
+abbrev pub TellsLayout : Option (List ℕ) → Parts → Type 0
+TellsLayout file l = (bytes : List ℕ) × IsFile file bytes × IsLayoutOf bytes l
+
+abbrev pub TellsManifest : Option (List ℕ) → ManifestParts → Type 0
+TellsManifest file m = (bytes : List ℕ) × IsFile file bytes × IsManifestOf bytes m
+
+-- The report of what the files tell: that of the layout, and of the view of the facts of all pieces that the manifest names.
+abbrev pub IsReportOf : (List ℕ → Option (List ℕ)) → List ℕ → List ℕ → List ℕ → Type 0
+IsReportOf file layout manifest text = (l : Parts) × (m : ManifestParts) × (trace : Trace)
+    × TellsLayout (file layout) l × TellsManifest (file manifest) m × TellTrace file m.pieces trace
+    × (text ≡ report_text l (view_of trace))
+
+-- Why a run is refused: its layout, its manifest, or, under these, a piece is; or the report can't be written.
+abbrev pub RefusesRun : (List ℕ → Option (List ℕ)) → List ℕ → List ℕ → RunFault → Type 0
+RefusesRun file layout manifest fault = (fault ≡ Memory) ⊎ ((fault ≡ Write)
+    ⊎ (RefusesInput RefusesLayout layout (file layout) fault
+    ⊎ (RefusesInput RefusesManifest manifest (file manifest) fault
+    ⊎ ((l : Parts) × (m : ManifestParts) × TellsLayout (file layout) l × TellsManifest (file manifest) m
+    × RefusesPieces file l.ranks m.pieces fault))))
+
+-- Nothing was written, unless writing is what failed.
+abbrev pub KeepsOrFails : Option (List ℕ) → Option (List ℕ) → RunFault → Type 0
+KeepsOrFails old new fault = (fault ≡ Write) ⊎ Keeps old new

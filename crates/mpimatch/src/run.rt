@@ -1,0 +1,75 @@
+//! A run of a verb over the files that it names.
+
+ghost use Rattle.std.specs.Prelude.{◌≡◌, ℕ, true, IfErr, IfOk, List, OnOk, string_bytes};
+ghost use Rattle.std.specs.Io.KnownBytes.{Appends};
+ghost use Rattle.mpi_model.specs.Failures.{CountsFailure};
+ghost use Rattle.mpimatch.specs.Runs.{IsReportOf, KeepsOrFails, RefusesRun};
+
+use crate::fault::RunFault;
+use crate::input::{layout_at, manifest_at};
+use crate::knowing::know_of;
+use crate::opener::Opener;
+use crate::report::report_of;
+use command_line::Verb;
+use mpi_model::{Write, write_all};
+use std::alloc::Global;
+
+/// Runs a verb over a layout and a manifest, which it names by their files. Nothing is written
+/// before the whole run is good. The answer is whether all that was checked held.
+pub fn run_with<O: Opener, W: Write>(
+    alloc: Global,
+    verb: Verb,
+    layout: &str,
+    manifest: &str,
+    files: &mut O,
+    out: &mut W,
+) -> Result<bool, RunFault>
+    ensures report { OnOk result ((text : List ℕ) × IsReportOf (O.file files.old) layout.now manifest.now text × Appends (W.written out.old) (W.written out.new) text) }
+    ensures held { IfOk result (λ held. held ≡ true) }
+    ensures refused { IfErr result (RefusesRun (O.file files.old) layout.now manifest.now) }
+    ensures nothing { IfErr result (KeepsOrFails (W.written out.old) (W.written out.new)) }
+{
+    match verb {
+        Verb::Report => {
+            let report = report_with(alloc, layout, manifest, files)?;
+            write_report(out, report.as_str())?;
+            Ok(true)
+        }
+    }
+}
+
+fn write_report<W: Write>(out: &mut W, text: &str) -> Result<(), RunFault>
+    ensures ok { OnOk result (Appends (W.written out.old) (W.written out.new) text.now) }
+    ensures err { IfErr result (λ fault. fault ≡ RunFault.Write) }
+    ensures front { IfErr result (KeepsOrFails (W.written out.old) (W.written out.new)) }
+{
+    match write_all(out, text.as_bytes()) {
+        Ok(()) => Ok(()),
+        Err(_) => Err(RunFault::Write),
+    }
+}
+
+// the report of what the files tell
+fn report_with<O: Opener>(
+    alloc: Global,
+    layout: &str,
+    manifest: &str,
+    files: &mut O,
+) -> Result<String, RunFault>
+    ensures ok { IfOk result (λ report. IsReportOf (O.file files.old) layout.now manifest.now (string_bytes report)) }
+    ensures err { IfErr result (RefusesRun (O.file files.old) layout.now manifest.now) }
+{
+    let shape = match layout_at(alloc, layout, files) {
+        Ok(shape) => shape,
+        Err(fault) => return Err(fault),
+    };
+    let named = match manifest_at(alloc, manifest, files) {
+        Ok(named) => named,
+        Err(fault) => return Err(fault),
+    };
+    let know = match know_of(alloc, shape.ranks(), named.pieces(), files) {
+        Ok(know) => know,
+        Err(fault) => return Err(fault),
+    };
+    Ok(report_of(alloc, &shape, &know)?)
+}
