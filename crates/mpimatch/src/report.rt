@@ -16,7 +16,7 @@ pub fn report_of(alloc: Global, layout: &Layout, know: &Knowledge) -> Result<Str
     let mut text = String::new(alloc);
     push_head(&mut text, layout)?;
     push_ranks(&mut text, layout.ranks(), know)?;
-    push_conflicts(&mut text, know)?;
+    push_conflicts(&mut text, &know.conflict_places(alloc)?)?;
     text.push_str("end\n")?;
     Ok(text)
 }
@@ -51,11 +51,11 @@ fn push_rank(text: &mut String, rank: u32, know: &Knowledge) -> Result<(), Alloc
     write!(text, "rank {rank} prefix {prefix}{beyond}\n")
 }
 
-fn push_conflicts(text: &mut String, know: &Knowledge) -> Result<(), AllocError>
-    ensures { OnOk result (string_bytes text.new ≡ string_bytes text.old ++ flat_map conflict_line (conflicts_of know.now)) }
+fn push_conflicts(text: &mut String, places: &[(u32, u64)]) -> Result<(), AllocError>
+    ensures { OnOk result (string_bytes text.new ≡ string_bytes text.old ++ flat_map conflict_line places.now) }
 {
-    for i in 0..know.conflicts() {
-        push_conflict(text, know.conflict(i).unwrap())?;
+    for at in places {
+        push_conflict(text, *at)?;
     }
     Ok(())
 }

@@ -1,8 +1,7 @@
 use Rattle.std.proofs.Common.{◌≡◌, ◌++◌, string_bytes, take}
 use Rattle.std.specs.List.{flat_map}
-use Rattle.trace_know.specs.Cells.{conflicts_of}
 use Rattle.mpimatch.specs.Report.{conflict_line}
 use Rattle.mpimatch.proofs.report.push_conflicts.Given as goal
 
-abbrev pub invariant-loop-i : goal.invariant-loop-i
-invariant-loop-i l = string_bytes l.text ≡ string_bytes l.initial.text ++ flat_map conflict_line (take l.i (conflicts_of l.know))
+abbrev pub invariant-loop-at : goal.invariant-loop-at
+invariant-loop-at l = string_bytes l.text ≡ string_bytes l.initial.text ++ flat_map conflict_line (take l.at-index l.places)
