@@ -3,3 +3,4 @@ pub mod Events
 pub mod Reading
 pub mod Told
 pub mod Traces
+mod Refusals

@@ -1,6 +1,7 @@
 -- What a run reads of its files, and what it reports.
-use Rattle.std.specs.Prelude.{◌≡◌, ◌≤◌, ◌⊎◌, ◌++◌, ℕ, List, [], ◌∷◌, Option}
-use Rattle.std.specs.Io.KnownBytes.{Keeps}
+use Rattle.std.specs.Prelude.{◌≡◌, ◌<◌, ◌≤◌, ◌⊎◌, ◌++◌, ℕ, List, [], ◌∷◌, length, take, Option}
+use Rattle.std.specs.Io.KnownBytes.{Appends}
+use Rattle.mpi_model.specs.Failures.{HasFailed}
 use Rattle.std.specs.List.{Any}
 use Rattle.mpi_model.specs.Layouts.{Parts}
 use Rattle.trace_know.specs.Trace.{Trace, view_of}
@@ -45,14 +46,15 @@ IsReportOf file layout manifest text = (l : Parts) × (m : ManifestParts) × (tr
     × TellsLayout (file layout) l × TellsManifest (file manifest) m × TellTrace file m.pieces trace
     × (text ≡ report_text l (view_of trace))
 
--- Why a run is refused: its layout, its manifest, or, under these, a piece is; or the report can't be written.
+-- Why there is no report: the layout is refused, the manifest is, or, under these two, a piece is.
 abbrev pub RefusesRun : (List ℕ → Option (List ℕ)) → List ℕ → List ℕ → RunFault → Type 0
-RefusesRun file layout manifest fault = (fault ≡ Memory) ⊎ ((fault ≡ Write)
+RefusesRun file layout manifest fault = (fault ≡ Memory)
     ⊎ (RefusesInput RefusesLayout layout (file layout) fault
     ⊎ (RefusesInput RefusesManifest manifest (file manifest) fault
     ⊎ ((l : Parts) × (m : ManifestParts) × TellsLayout (file layout) l × TellsManifest (file manifest) m
-    × RefusesPieces file l.ranks m.pieces fault))))
+    × RefusesPieces file l.ranks m.pieces fault)))
 
--- Nothing was written, unless writing is what failed.
-abbrev pub KeepsOrFails : Option (List ℕ) → Option (List ℕ) → RunFault → Type 0
-KeepsOrFails old new fault = (fault ≡ Write) ⊎ Keeps old new
+-- A report couldn't be written whole: the writer failed, after it had taken a front of the report.
+abbrev pub BreaksOff : (List ℕ → Option (List ℕ)) → List ℕ → List ℕ → Option (List ℕ) → Option (List ℕ) → ℕ → ℕ → Type 0
+BreaksOff file layout manifest old new before now = (text : List ℕ) × (count : ℕ)
+    × IsReportOf file layout manifest text × (count < length text) × Appends old new (take count text) × HasFailed before now

@@ -1,9 +1,8 @@
 //! A run of a verb over the files that it names.
 
-ghost use Rattle.std.specs.Prelude.{◌≡◌, ℕ, true, IfErr, IfOk, List, OnOk, string_bytes};
-ghost use Rattle.std.specs.Io.KnownBytes.{Appends};
-ghost use Rattle.mpi_model.specs.Failures.{CountsFailure};
-ghost use Rattle.mpimatch.specs.Runs.{IsReportOf, KeepsOrFails, RefusesRun};
+ghost use Rattle.std.specs.Prelude.{◌≡◌, ◌≢◌, ◌⊎◌, ℕ, true, IfErr, IfOk, List, OnOk, string_bytes};
+ghost use Rattle.std.specs.Io.KnownBytes.{Appends, Keeps};
+ghost use Rattle.mpimatch.specs.Runs.{BreaksOff, IsReportOf, RefusesRun};
 
 use crate::fault::RunFault;
 use crate::input::{layout_at, manifest_at};
@@ -26,30 +25,26 @@ pub fn run_with<O: Opener, W: Write>(
 ) -> Result<bool, RunFault>
     ensures report { OnOk result ((text : List ℕ) × IsReportOf (O.file files.old) layout.now manifest.now text × Appends (W.written out.old) (W.written out.new) text) }
     ensures held { IfOk result (λ held. held ≡ true) }
-    ensures refused { IfErr result (RefusesRun (O.file files.old) layout.now manifest.now) }
-    ensures nothing { IfErr result (KeepsOrFails (W.written out.old) (W.written out.new)) }
+    ensures refused { IfErr result (λ fault. (fault ≡ RunFault.Write) ⊎ RefusesRun (O.file files.old) layout.now manifest.now fault) }
+    ensures nothing { IfErr result (λ fault. (fault ≡ RunFault.Write) ⊎ Keeps (W.written out.old) (W.written out.new)) }
+    ensures broken_off { result ≡ Err RunFault.Write → BreaksOff (O.file files.old) layout.now manifest.now (W.written out.old) (W.written out.new) (W.failures out.old) (W.failures out.new) }
 {
     match verb {
         Verb::Report => {
-            let report = report_with(alloc, layout, manifest, files)?;
-            write_report(out, report.as_str())?;
-            Ok(true)
+            let report = match report_with(alloc, layout, manifest, files) {
+                Ok(report) => report,
+                Err(fault) => return Err(fault),
+            };
+            match write_all(out, report.as_str().as_bytes()) {
+                Ok(()) => Ok(true),
+                Err(_) => Err(RunFault::Write),
+            }
         }
     }
 }
 
-fn write_report<W: Write>(out: &mut W, text: &str) -> Result<(), RunFault>
-    ensures ok { OnOk result (Appends (W.written out.old) (W.written out.new) text.now) }
-    ensures err { IfErr result (λ fault. fault ≡ RunFault.Write) }
-    ensures front { IfErr result (KeepsOrFails (W.written out.old) (W.written out.new)) }
-{
-    match write_all(out, text.as_bytes()) {
-        Ok(()) => Ok(()),
-        Err(_) => Err(RunFault::Write),
-    }
-}
-
 // the report of what the files tell
+#[tactic(auto, using(crate::proofs::Refusals::refused_unwritten))]
 fn report_with<O: Opener>(
     alloc: Global,
     layout: &str,
@@ -58,6 +53,7 @@ fn report_with<O: Opener>(
 ) -> Result<String, RunFault>
     ensures ok { IfOk result (λ report. IsReportOf (O.file files.old) layout.now manifest.now (string_bytes report)) }
     ensures err { IfErr result (RefusesRun (O.file files.old) layout.now manifest.now) }
+    ensures unwritten { IfErr result (λ fault. fault ≢ RunFault.Write) }
 {
     let shape = match layout_at(alloc, layout, files) {
         Ok(shape) => shape,
