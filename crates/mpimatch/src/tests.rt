@@ -109,9 +109,17 @@ MPI_Status status=[1] {{bytes=32, source=0, tag=7}}
 MPI_Recv returning at walltime 1.75, cputime 0.5 seconds in thread 0.
 ";
 
-// files by name, and how the program ends on a report of l.json and m.json: its status, its output, its errors
+// a name, files by their names, and how the program ends on a report of l.json and m.json: its status, its
+// output, its errors
+type Row = (
+    &'static str,
+    &'static [(&'static str, &'static str)],
+    u8,
+    &'static str,
+    &'static str,
+);
 
-static RUNS: [(&str, &[(&str, &str)], u8, &str, &str); 41] = [
+static WHOLE: [Row; 8] = [
     (
         "three ranks and no pieces",
         &[
@@ -178,6 +186,133 @@ end
 ",
         "",
     ),
+    (
+        "the same content twice",
+        &[
+            ("l.json", LAYOUT),
+            (
+                "m.json",
+                r#"{"pieces":[{"rank":0,"first":0,"file":"r0.txt"},{"rank":0,"first":0,"file":"r0.txt"}]}"#,
+            ),
+            ("r0.txt", R0),
+        ],
+        0,
+        "mpimatch report 1
+ranks 2 sends wait
+rank 0 prefix 2
+rank 1 prefix 0
+end
+",
+        "",
+    ),
+    (
+        "an open second call",
+        &[
+            ("l.json", LAYOUT),
+            ("m.json", ONE),
+            (
+                "r0.txt",
+                "MPI_Send entering at walltime 1.5, cputime 0.25 seconds in thread 0.
+int count=4
+MPI_Datatype datatype=11
+int dest=1
+int tag=7
+MPI_Comm comm=2 (MPI_COMM_WORLD)
+MPI_Send returning at walltime 1.75, cputime 0.25 seconds in thread 0.
+MPI_Send entering at walltime 1.5, cputime 0.25 seconds in thread 0.
+int count=4
+MPI_Datatype datatype=11
+int dest=1
+int tag=7
+MPI_Comm comm=2 (MPI_COMM_WORLD)
+",
+            ),
+        ],
+        0,
+        "mpimatch report 1
+ranks 2 sends wait
+rank 0 prefix 3
+rank 1 prefix 0
+end
+",
+        "",
+    ),
+    (
+        "a line that is no parameter",
+        &[
+            ("l.json", LAYOUT),
+            ("m.json", ONE),
+            (
+                "r0.txt",
+                "MPI_Send entering at walltime 1.5, cputime 0.25 seconds in thread 0.
+int count=4
+oops
+MPI_Datatype datatype=11
+int dest=1
+int tag=7
+MPI_Comm comm=2 (MPI_COMM_WORLD)
+MPI_Send returning at walltime 1.75, cputime 0.25 seconds in thread 0.
+",
+            ),
+        ],
+        0,
+        "mpimatch report 1
+ranks 2 sends wait
+rank 0 prefix 2
+rank 1 prefix 0
+end
+",
+        "",
+    ),
+    (
+        "a piece without calls",
+        &[
+            ("l.json", LAYOUT),
+            (
+                "m.json",
+                r#"{"pieces":[{"rank":9,"first":18446744073709551615,"file":"none"}]}"#,
+            ),
+            (
+                "none",
+                "
+",
+            ),
+        ],
+        0,
+        "mpimatch report 1
+ranks 2 sends wait
+rank 0 prefix 0
+rank 1 prefix 0
+end
+",
+        "",
+    ),
+    (
+        "a barrier and the end",
+        &[
+            ("l.json", LAYOUT),
+            ("m.json", ONE),
+            (
+                "r0.txt",
+                "MPI_Barrier entering at walltime 0, cputime 0 seconds in thread 0.
+MPI_Comm comm=2
+MPI_Barrier returned at walltime 1, cputime 0 seconds in thread 0.
+MPI_Finalize entering at walltime 2, cputime 0 seconds in thread 0.
+",
+            ),
+        ],
+        0,
+        "mpimatch report 1
+ranks 2 sends wait
+rank 0 prefix 3
+rank 1 prefix 0
+end
+",
+        "",
+    ),
+];
+
+static LONG: [Row; 2] = [
     (
         "calls 4 to 7, then 0 to 3",
         &[
@@ -300,115 +435,16 @@ end
 ",
         "",
     ),
-    (
-        "the same content twice",
-        &[
-            ("l.json", LAYOUT),
-            (
-                "m.json",
-                r#"{"pieces":[{"rank":0,"first":0,"file":"r0.txt"},{"rank":0,"first":0,"file":"r0.txt"}]}"#,
-            ),
-            ("r0.txt", R0),
-        ],
-        0,
-        "mpimatch report 1
-ranks 2 sends wait
-rank 0 prefix 2
-rank 1 prefix 0
-end
-",
-        "",
-    ),
-    (
-        "an open second call",
-        &[
-            ("l.json", LAYOUT),
-            ("m.json", ONE),
-            (
-                "r0.txt",
-                "MPI_Send entering at walltime 1.5, cputime 0.25 seconds in thread 0.
-int count=4
-MPI_Datatype datatype=11
-int dest=1
-int tag=7
-MPI_Comm comm=2 (MPI_COMM_WORLD)
-MPI_Send returning at walltime 1.75, cputime 0.25 seconds in thread 0.
-MPI_Send entering at walltime 1.5, cputime 0.25 seconds in thread 0.
-int count=4
-MPI_Datatype datatype=11
-int dest=1
-int tag=7
-MPI_Comm comm=2 (MPI_COMM_WORLD)
-",
-            ),
-        ],
-        0,
-        "mpimatch report 1
-ranks 2 sends wait
-rank 0 prefix 3
-rank 1 prefix 0
-end
-",
-        "",
-    ),
-    (
-        "a line that is no parameter",
-        &[
-            ("l.json", LAYOUT),
-            ("m.json", ONE),
-            (
-                "r0.txt",
-                "MPI_Send entering at walltime 1.5, cputime 0.25 seconds in thread 0.
-int count=4
-oops
-MPI_Datatype datatype=11
-int dest=1
-int tag=7
-MPI_Comm comm=2 (MPI_COMM_WORLD)
-MPI_Send returning at walltime 1.75, cputime 0.25 seconds in thread 0.
-",
-            ),
-        ],
-        0,
-        "mpimatch report 1
-ranks 2 sends wait
-rank 0 prefix 2
-rank 1 prefix 0
-end
-",
-        "",
-    ),
-    (
-        "a piece without calls",
-        &[
-            ("l.json", LAYOUT),
-            (
-                "m.json",
-                r#"{"pieces":[{"rank":9,"first":18446744073709551615,"file":"none"}]}"#,
-            ),
-            (
-                "none",
-                "
-",
-            ),
-        ],
-        0,
-        "mpimatch report 1
-ranks 2 sends wait
-rank 0 prefix 0
-rank 1 prefix 0
-end
-",
-        "",
-    ),
-    (
-        "any source, any tag, null process",
-        &[
-            ("l.json", LAYOUT),
-            ("m.json", ONE),
-            (
-                "r0.txt",
-                "MPI_Recv entering at walltime 0, cputime 0 seconds in thread 0.
+];
+
+static CONTENTS: [Row; 1] = [(
+    "any source, any tag, null process",
+    &[
+        ("l.json", LAYOUT),
+        ("m.json", ONE),
+        (
+            "r0.txt",
+            "MPI_Recv entering at walltime 0, cputime 0 seconds in thread 0.
 int count=1
 MPI_Datatype datatype=11
 int source=-1
@@ -437,40 +473,19 @@ int tag=2147483647
 MPI_Comm comm=2
 MPI_Send returning at walltime 3.5, cputime 0 seconds in thread 0.
 ",
-            ),
-        ],
-        0,
-        "mpimatch report 1
+        ),
+    ],
+    0,
+    "mpimatch report 1
 ranks 2 sends wait
 rank 0 prefix 8
 rank 1 prefix 0
 end
 ",
-        "",
-    ),
-    (
-        "a barrier and the end",
-        &[
-            ("l.json", LAYOUT),
-            ("m.json", ONE),
-            (
-                "r0.txt",
-                "MPI_Barrier entering at walltime 0, cputime 0 seconds in thread 0.
-MPI_Comm comm=2
-MPI_Barrier returned at walltime 1, cputime 0 seconds in thread 0.
-MPI_Finalize entering at walltime 2, cputime 0 seconds in thread 0.
-",
-            ),
-        ],
-        0,
-        "mpimatch report 1
-ranks 2 sends wait
-rank 0 prefix 3
-rank 1 prefix 0
-end
-",
-        "",
-    ),
+    "",
+)];
+
+static LINES: [Row; 4] = [
     (
         "a truncated second call",
         &[
@@ -557,6 +572,9 @@ MPI_Send returning at walltime 1.75, cputime 0.25 seconds in thread 0.
         "",
         "mpimatch: F6 NotReturned at r0.txt:3\n",
     ),
+];
+
+static MORE_LINES: [Row; 4] = [
     (
         "a parameter without a name",
         &[
@@ -608,6 +626,35 @@ MPI_Send returning at walltime 1.75, cputime 0.25 seconds in thread 0.
         "",
         "mpimatch: F3 BadStamp at r0.txt:1\n",
     ),
+    (
+        "an open call that lacks a tag",
+        &[
+            ("l.json", LAYOUT),
+            ("m.json", ONE),
+            (
+                "r0.txt",
+                "MPI_Send entering at walltime 1.5, cputime 0.25 seconds in thread 0.
+int count=4
+MPI_Datatype datatype=11
+int dest=1
+int tag=7
+MPI_Comm comm=2 (MPI_COMM_WORLD)
+MPI_Send returning at walltime 1.75, cputime 0.25 seconds in thread 0.
+MPI_Send entering at walltime 1.5, cputime 0.25 seconds in thread 0.
+int count=4
+MPI_Datatype datatype=11
+int dest=1
+int dest=-3
+",
+            ),
+        ],
+        1,
+        "",
+        "mpimatch: F9 Truncated at r0.txt:12\n",
+    ),
+];
+
+static CALLS: [Row; 5] = [
     (
         "no tag",
         &[
@@ -670,32 +717,6 @@ MPI_Send returning at walltime 1.75, cputime 0.25 seconds in thread 0.
         "mpimatch: C1 Missing tag at r0.txt:1\n",
     ),
     (
-        "an open call that lacks a tag",
-        &[
-            ("l.json", LAYOUT),
-            ("m.json", ONE),
-            (
-                "r0.txt",
-                "MPI_Send entering at walltime 1.5, cputime 0.25 seconds in thread 0.
-int count=4
-MPI_Datatype datatype=11
-int dest=1
-int tag=7
-MPI_Comm comm=2 (MPI_COMM_WORLD)
-MPI_Send returning at walltime 1.75, cputime 0.25 seconds in thread 0.
-MPI_Send entering at walltime 1.5, cputime 0.25 seconds in thread 0.
-int count=4
-MPI_Datatype datatype=11
-int dest=1
-int dest=-3
-",
-            ),
-        ],
-        1,
-        "",
-        "mpimatch: F9 Truncated at r0.txt:12\n",
-    ),
-    (
         "an open call with a wrong tag",
         &[
             ("l.json", LAYOUT),
@@ -743,6 +764,9 @@ MPI_Send returning at walltime 1.75, cputime 0.25 seconds in thread 0.
         "",
         "mpimatch: C2 Wrong count at r0.txt:1\n",
     ),
+];
+
+static MORE_CALLS: [Row; 4] = [
     (
         "a source that is none",
         &[
@@ -802,20 +826,6 @@ MPI_Barrier returned at walltime 1, cputime 0 seconds in thread 0.
         "mpimatch: C1 Missing comm at r0.txt:1\n",
     ),
     (
-        "a place past the last",
-        &[
-            ("l.json", LAYOUT),
-            (
-                "m.json",
-                r#"{"pieces":[{"rank":0,"first":549755813888,"file":"r0.txt"}]}"#,
-            ),
-            ("r0.txt", R0),
-        ],
-        1,
-        "",
-        "mpimatch: S3 Place in r0.txt\n",
-    ),
-    (
         "a text fault before a place",
         &[
             ("l.json", LAYOUT),
@@ -837,6 +847,23 @@ MPI_Send returning at walltime 1.75, cputime 0.25 seconds in thread 0.
         1,
         "",
         "mpimatch: C1 Missing tag at r0.txt:1\n",
+    ),
+];
+
+static REFUSED: [Row; 7] = [
+    (
+        "a place past the last",
+        &[
+            ("l.json", LAYOUT),
+            (
+                "m.json",
+                r#"{"pieces":[{"rank":0,"first":549755813888,"file":"r0.txt"}]}"#,
+            ),
+            ("r0.txt", R0),
+        ],
+        1,
+        "",
+        "mpimatch: S3 Place in r0.txt\n",
     ),
     (
         "a file that isn't there",
@@ -902,6 +929,9 @@ MPI_Send returning at walltime 1.75, cputime 0.25 seconds in thread 0.
         "",
         "mpimatch: M2 Json in l.json\n",
     ),
+];
+
+static MORE_REFUSED: [Row; 6] = [
     (
         "a layout without fields",
         &[("l.json", "{}")],
@@ -1030,14 +1060,64 @@ fn report_on(
     Ok((ending.status, bytes, ending.errors))
 }
 
-#[test]
-fn runs(rt: HostRuntime) -> Result<(), Fail> {
-    for row in &RUNS {
-        let (status, out, errors) = report_on(rt.alloc(), row.1, 0)?;
-        assert!(rt; errors.as_str() == row.4, "{}: {errors}", row.0);
-        assert!(rt; out.as_slice() == row.3.as_bytes(), "{}: output", row.0);
-        assert!(rt; status == row.2, "{}: {status}", row.0);
+// Each row's status, output and errors; the first row that ends in another way is named.
+fn run_rows(alloc: Global, rows: &'static [Row]) -> Result<(), Fail> {
+    for row in rows {
+        let (status, out, errors) = report_on(alloc, row.1, 0)?;
+        if status != row.2 || out.as_slice() != row.3.as_bytes() || errors.as_str() != row.4 {
+            return Err(row.0)?;
+        }
     }
+    Ok(())
+}
+
+#[test]
+fn whole_texts(rt: HostRuntime) -> Result<(), Fail> {
+    run_rows(rt.alloc(), &WHOLE)
+}
+
+#[test]
+fn longer_texts(rt: HostRuntime) -> Result<(), Fail> {
+    run_rows(rt.alloc(), &LONG)
+}
+
+#[test]
+fn contents_of_calls(rt: HostRuntime) -> Result<(), Fail> {
+    run_rows(rt.alloc(), &CONTENTS)
+}
+
+#[test]
+fn refused_lines(rt: HostRuntime) -> Result<(), Fail> {
+    run_rows(rt.alloc(), &LINES)
+}
+
+#[test]
+fn more_refused_lines(rt: HostRuntime) -> Result<(), Fail> {
+    run_rows(rt.alloc(), &MORE_LINES)
+}
+
+#[test]
+fn refused_calls(rt: HostRuntime) -> Result<(), Fail> {
+    run_rows(rt.alloc(), &CALLS)
+}
+
+#[test]
+fn more_refused_calls(rt: HostRuntime) -> Result<(), Fail> {
+    run_rows(rt.alloc(), &MORE_CALLS)
+}
+
+#[test]
+fn refused_files(rt: HostRuntime) -> Result<(), Fail> {
+    run_rows(rt.alloc(), &REFUSED)
+}
+
+#[test]
+fn more_refused_files(rt: HostRuntime) -> Result<(), Fail> {
+    run_rows(rt.alloc(), &MORE_REFUSED)
+}
+
+#[test]
+fn files_that_fail(rt: HostRuntime) -> Result<(), Fail> {
     for row in &CUT {
         let (status, out, errors) = report_on(rt.alloc(), row.1, 0)?;
         assert!(rt; errors.as_str() == row.2, "{}: {errors}", row.0);
