@@ -1,8 +1,8 @@
 -- Events cut into segments, as far as they came.
-use Rattle.std.proofs.Common.{◌≡◌, ◌∙◌, ◌+◌, ◌*◌, ◌++◌, ◌∷◌, [], ℕ, List, length, length-append, ap, ap₂, sym, refl, append_assoc, append-nil, arith}
+use Rattle.std.proofs.Common.{◌≡◌, ◌∙◌, ◌+◌, ◌++◌, ◌∷◌, [], ℕ, List, length, length-append, ap, ap₂, sym, append_assoc, append-nil, arith}
 use Rattle.mpi_model.specs.declared.event.Event.{Event}
 use Rattle.trace_know.specs.Segment.{enter_place}
-use Rattle.trace_know.specs.Trace.{Fact, Trace, facts_from}
+use Rattle.trace_know.specs.Trace.{Trace, facts_from}
 
 -- The facts of the segments and of the events that are still together are those of all events so far, and the next place is the one after them.
 pub record IsCutTo (rank first : ℕ) (events : List Event) (cut : Trace) (next : ℕ) (together : List Event) : Type 0 where

@@ -1,5 +1,5 @@
 -- The events of calls, one call more.
-use Rattle.std.proofs.Common.{◌≡◌, ◌∙◌, ◌++◌, ◌∷◌, [], List, Option, Some, None, Result, Ok, Err, IsSome, ap, sym, refl, append_assoc, append-nil, option_map}
+use Rattle.std.proofs.Common.{◌≡◌, ◌∙◌, ◌++◌, ◌∷◌, [], List, Option, Some, None, Result, Ok, Err, IsSome, ap, sym, refl, append_assoc, append-nil}
 use Rattle.mpi_model.specs.declared.event.Event.{Event}
 use Rattle.dumpi_text.specs.Call.{TextCall}
 use Rattle.mpimatch.specs.Typed.{events_of_call, typed}

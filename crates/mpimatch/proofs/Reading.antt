@@ -1,5 +1,5 @@
 -- A text that is read call by call.
-use Rattle.std.proofs.Common.{◌≡◌, ◌⊎◌, ◌++◌, ◌∷◌, [], ℕ, List, Option, Some, None, inl, inr, refl}
+use Rattle.std.proofs.Common.{◌≡◌, ◌⊎◌, ℕ, List, Option, Some, None, inl, inr, refl}
 use Rattle.std.specs.Io.KnownBytes.{IsAtEnd}
 use Rattle.dumpi_text.specs.Call.{TextCall}
 use Rattle.dumpi_text.specs.Next.{IsNext}
@@ -7,7 +7,6 @@ use Rattle.dumpi_text.specs.Source.{rest_of}
 use Rattle.dumpi_text.specs.Standing.{Stops, View}
 use Rattle.dumpi_text.specs.declared.fault.TextCause.{TextCause}
 use Rattle.dumpi_text.specs.declared.fault.TextCause.TheVariants as causes
-use Rattle.dumpi_text.specs.declared.fault.TextFault.{TextFault}
 use Rattle.dumpi_text.specs.declared.fault.TextFault.TheVariants.{At}
 use Rattle.dumpi_text.specs.declared.standing.Standing.{Standing}
 use Rattle.dumpi_text.specs.declared.standing.Standing.TheVariants.{Reading, Finished, Ended}

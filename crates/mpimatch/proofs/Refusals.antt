@@ -1,5 +1,5 @@
 -- What is refused before anything is written is no failure of writing.
-use Rattle.std.proofs.Common.{◌≡◌, ◌≢◌, ◌⊎◌, inl, inr, ℕ, List, Option, subst}
+use Rattle.std.proofs.Common.{◌≡◌, ◌≢◌, inl, inr, ℕ, List, Option, subst}
 use Rattle.input_files.specs.declared.fault.InputFault.{InputFault}
 use Rattle.input_files.specs.declared.fault.InputFault.TheVariants as inputs
 use Rattle.input_files.specs.Layouts.{RefusesLayout}

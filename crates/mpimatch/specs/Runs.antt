@@ -11,7 +11,7 @@ use Rattle.mpimatch.specs.Files.{IsFile}
 use Rattle.mpimatch.specs.Inputs.{RefusesInput}
 use Rattle.mpimatch.specs.Pieces.{IsNamed, RefusesPiece, TellsFacts}
 use Rattle.mpimatch.specs.declared.fault.RunFault.{RunFault}
-use Rattle.mpimatch.specs.declared.fault.RunFault.TheVariants.{Memory, File, Json, Shape, Layout, Text, Missing, Wrong, Place, Rank, Write}
+use Rattle.mpimatch.specs.declared.fault.RunFault.TheVariants.{Memory, Rank}
 use Rattle.trace_know.specs.View.{View}
 use Rattle.mpimatch.specs.Report.{report_text}
 

@@ -1,4 +1,4 @@
-use Rattle.std.proofs.Common.{rules, arith, ◌≡◌, ◌+◌, ◌++◌, ◌∷◌, [], length, subst}
+use Rattle.std.proofs.Common.{rules, ◌≡◌, ◌++◌, ◌∷◌, [], length}
 use Rattle.mpimatch.specs.Pieces.{facts_of_all}
 use Rattle.trace_know.specs.Segment.{enter_place}
 use Rattle.trace_know.specs.Trace.{facts_from}

@@ -1,12 +1,9 @@
-use Rattle.std.proofs.Common.{rules, arith, ◌≡◌, ◌∙◌, ◌+◌, ◌<◌, ◌≤◌, ◌⊎◌, ◌++◌, ◌∷◌, [], ℕ, List, Option, Some, None, IfSome, ap, sym, refl, subst, length, take, get_or, inl, inr}
-use Rattle.std.specs.Prelude.{String}
-use Rattle.std.specs.declared.alloc.Global.{Global}
-use Rattle.std.specs.List.{Any}
+use Rattle.std.proofs.Common.{rules, arith, ◌≡◌, ◌∙◌, ◌+◌, ◌<◌, ◌++◌, ◌∷◌, [], List, ap, sym, subst, length, take}
 use Rattle.std.proofs.lemmas.List.{take_more}
 use Rattle.trace_know.specs.Trace.{view_of}
-use Rattle.trace_know.specs.View.{View, join}
+use Rattle.trace_know.specs.View.{join}
 use Rattle.input_files.specs.Manifests.{PieceParts}
-use Rattle.mpimatch.specs.Pieces.{IsNamed, TellsFacts, facts_of_all}
+use Rattle.mpimatch.specs.Pieces.{TellsFacts, facts_of_all}
 use Rattle.mpimatch.specs.Runs.{IsKnown}
 use Rattle.mpimatch.proofs.Traces.{known_more, still}
 use Rattle.mpimatch.proofs.knowing.know_of.Goals as goal

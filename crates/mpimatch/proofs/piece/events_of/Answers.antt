@@ -1,6 +1,6 @@
 use Rattle.std.proofs.Common.{rules, ◌≡◌, ◌++◌, ◌∷◌, [], List, Some, Ok}
 use Rattle.dumpi_text.specs.Call.{TextCall}
-use Rattle.mpimatch.specs.Pieces.{Follows, IsRead, events_in}
+use Rattle.mpimatch.specs.Pieces.{Follows}
 use Rattle.mpimatch.specs.Typed.{events_of_call, typed}
 use Rattle.mpimatch.proofs.Events.{one_more}
 use Rattle.mpimatch.proofs.piece.events_of.Goals as goal

@@ -1,4 +1,3 @@
-use Rattle.std.proofs.Common.{rules, ◌≡◌, None}
 use Rattle.mpimatch.proofs.Reading.{goes_on}
 use Rattle.mpimatch.proofs.piece.next_of.Goals as goal
 
