@@ -1,7 +1,8 @@
 -- What the devices of this crate hold.
-use Rattle.std.specs.Prelude.{ℕ, List}
+use Rattle.std.specs.Prelude.{ℕ, List, Option}
 use Rattle.mpi_model.specs.declared.device.Device.{Device}
 use Rattle.mpi_model.specs.declared.memory.reader.MemoryReader.{MemoryReader}
+use Rattle.mpi_model.specs.declared.memory.reader.EndlessReader.{EndlessReader}
 use Rattle.mpi_model.specs.declared.memory.writer.MemoryWriter.{MemoryWriter}
 
 -- the reader, writer or stream of std on which a device stands
@@ -15,10 +16,40 @@ failed_reads d = d.read_failures
 abbrev pub failed_writes : {T : Type 0} → Device T → ℕ
 failed_writes d = d.write_failures
 
--- the bytes that a reader in memory still has
+-- ---- a reader in memory
+
+-- the bytes that it still has
 abbrev pub bytes_left : MemoryReader → List ℕ
 bytes_left r = r.bytes.now
 
--- the bytes that a writer in memory has taken
+-- the most bytes that a call gives
+abbrev pub most_read : MemoryReader → ℕ
+most_read r = r.most
+
+-- how many bytes it still gives before it fails, where it is to fail
+abbrev pub until_failure : MemoryReader → Option ℕ
+until_failure r = r.until_failure
+
+abbrev pub failures_of_reader : MemoryReader → ℕ
+failures_of_reader r = r.failures
+
+-- the byte that an endless reader gives
+abbrev pub repeated : EndlessReader → ℕ
+repeated r = r.byte
+
+-- ---- a writer in memory
+
+-- the bytes that it has taken
 abbrev pub bytes_written : MemoryWriter → List ℕ
 bytes_written w = w.bytes.items
+
+-- the most bytes that a call takes
+abbrev pub most_written : MemoryWriter → ℕ
+most_written w = w.most
+
+-- how many bytes it still takes
+abbrev pub room_of : MemoryWriter → ℕ
+room_of w = w.room
+
+abbrev pub failures_of_writer : MemoryWriter → ℕ
+failures_of_writer w = w.failures

@@ -1,6 +1,10 @@
 //! Readers in memory.
 
-ghost use Rattle.std.specs.Prelude.{◌≡◌, ◌<◌, ◌≤◌};
+ghost use Rattle.std.specs.Prelude.{◌≡◌, ◌<◌, ◌≤◌, ◌-◌, ◌↔◌, IfOk, IsErr, OnErr, Ok, Some, None, length, replicate};
+ghost use Rattle.std.specs.Io.KnownBytes.{ReadConsumes};
+ghost use Rattle.std.specs.Option.{option_map};
+ghost use Rattle.mpi_model.specs.Failures.{CountsFailure};
+ghost use Rattle.mpi_model.specs.Side.{LeavesSide, untold};
 
 use crate::device::{Failed, Read};
 
@@ -15,11 +19,12 @@ pub struct MemoryReader<'a> {
 }
 
 impl<'a> MemoryReader<'a> {
-    ghost use Rattle.mpi_model.specs.Devices.{bytes_left};
+    ghost use Rattle.mpi_model.specs.Devices.{bytes_left, most_read, until_failure};
 
     /// It gives all that a buffer takes, and never fails.
     pub fn new(bytes: &'a [u8]) -> Self
-        ensures { bytes_left result ≡ bytes.now }
+        ensures bytes { bytes_left result ≡ bytes.now }
+        ensures limits { (most_read result ≡ usize.MAX) × (until_failure result ≡ None) }
     {
         MemoryReader {
             bytes,
@@ -32,7 +37,8 @@ impl<'a> MemoryReader<'a> {
     /// It gives at most this many bytes a call.
     pub fn at_most(mut self, most: usize) -> Self
         requires { 0 < most }
-        ensures { bytes_left result ≡ bytes_left self.entry }
+        ensures bytes { bytes_left result ≡ bytes_left self.entry }
+        ensures limits { (most_read result ≡ most) × (until_failure result ≡ until_failure self.entry) }
     {
         self.most = most;
         self
@@ -40,7 +46,8 @@ impl<'a> MemoryReader<'a> {
 
     /// It gives this many bytes more, and fails in each call after them, at the end too.
     pub fn failing_after(mut self, count: usize) -> Self
-        ensures { bytes_left result ≡ bytes_left self.entry }
+        ensures bytes { bytes_left result ≡ bytes_left self.entry }
+        ensures limits { (most_read result ≡ most_read self.entry) × (until_failure result ≡ Some count) }
     {
         self.until_failure = Some(count);
         self
@@ -48,14 +55,24 @@ impl<'a> MemoryReader<'a> {
 }
 
 impl<'a> Read for MemoryReader<'a> {
-    ghost use Rattle.mpi_model.specs.Devices.{bytes_left};
-    ghost use Rattle.std.specs.Prelude.{Some};
+    ghost use Rattle.mpi_model.specs.Devices.{bytes_left, failures_of_reader, most_read, until_failure};
 
     ghost left = { λ r. Some (bytes_left r) };
 
-    ghost failures = { λ r. r.failures };
+    ghost failures = { λ r. failures_of_reader r };
 
-    fn read(&mut self, buffer: &mut [u8]) -> Result<usize, Failed> {
+    fn read(&mut self, buffer: &mut [u8]) -> Result<usize, Failed>
+        ensures within { IfOk result (λ n. n ≤ length buffer.new) }
+        ensures bytes { ReadConsumes (Some (bytes_left self.old)) (Some (bytes_left self.new)) result buffer.new }
+        ensures failures { CountsFailure (failures_of_reader self.old) (failures_of_reader self.new) result }
+        ensures beside { LeavesSide untold untold }
+
+        ensures most { IfOk result (λ n. n ≤ most_read self.old) }
+        ensures fails { IsErr result ↔ (until_failure self.old ≡ Some 0) }
+        ensures nearer { IfOk result (λ n. until_failure self.new ≡ option_map (λ left. left - n) (until_failure self.old)) }
+        ensures for_good { OnErr result (until_failure self.new ≡ until_failure self.old) }
+        ensures limit { most_read self.new ≡ most_read self.old }
+    {
         if self.until_failure == Some(0) {
             self.failures = self.failures.saturating_add(1);
             return Err(Failed);
@@ -79,15 +96,25 @@ pub struct EndlessReader {
 }
 
 impl EndlessReader {
-    pub fn new(byte: u8) -> Self {
+    ghost use Rattle.mpi_model.specs.Devices.{repeated};
+
+    pub fn new(byte: u8) -> Self
+        ensures { repeated result ≡ byte }
+    {
         EndlessReader { byte }
     }
 }
 
 impl Read for EndlessReader {
+    ghost use Rattle.mpi_model.specs.Devices.{repeated};
+
     ghost failures = { λ _. 0 };
 
-    fn read(&mut self, buffer: &mut [u8]) -> Result<usize, Failed> {
+    fn read(&mut self, buffer: &mut [u8]) -> Result<usize, Failed>
+        ensures full { result ≡ Ok (length buffer.new) }
+        ensures content { buffer.new ≡ replicate (length buffer.old) (repeated self.old) }
+        ensures same { repeated self.new ≡ repeated self.old }
+    {
         buffer.fill(self.byte);
         Ok(buffer.len())
     }

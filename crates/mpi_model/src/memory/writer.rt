@@ -1,6 +1,9 @@
 //! Writers in memory.
 
-ghost use Rattle.std.specs.Prelude.{◌≡◌, ◌<◌, ◌≤◌, []};
+ghost use Rattle.std.specs.Prelude.{◌≡◌, ◌<◌, ◌≤◌, ◌+◌, [], IfOk, Some, length};
+ghost use Rattle.std.specs.Io.KnownBytes.{WriteAppends};
+ghost use Rattle.mpi_model.specs.Failures.{CountsFailure};
+ghost use Rattle.mpi_model.specs.Side.{LeavesSide, untold};
 
 use crate::device::{Failed, Write};
 use std::alloc::Global;
@@ -17,11 +20,12 @@ pub struct MemoryWriter {
 }
 
 impl MemoryWriter {
-    ghost use Rattle.mpi_model.specs.Devices.{bytes_written};
+    ghost use Rattle.mpi_model.specs.Devices.{bytes_written, most_written, room_of};
 
     /// It takes all of a piece, and fails only for want of memory.
     pub fn new(alloc: Global) -> Self
-        ensures { bytes_written result ≡ [] }
+        ensures bytes { bytes_written result ≡ [] }
+        ensures limits { (most_written result ≡ usize.MAX) × (room_of result ≡ usize.MAX) }
     {
         MemoryWriter {
             bytes: Vec::new(alloc),
@@ -34,7 +38,8 @@ impl MemoryWriter {
     /// It takes at most this many bytes a call.
     pub fn at_most(mut self, most: usize) -> Self
         requires { 0 < most }
-        ensures { bytes_written result ≡ bytes_written self }
+        ensures bytes { bytes_written result ≡ bytes_written self }
+        ensures limits { (most_written result ≡ most) × (room_of result ≡ room_of self) }
     {
         self.most = most;
         self
@@ -42,7 +47,8 @@ impl MemoryWriter {
 
     /// It takes this many bytes more, and refuses each byte after them.
     pub fn failing_after(mut self, count: usize) -> Self
-        ensures { bytes_written result ≡ bytes_written self }
+        ensures bytes { bytes_written result ≡ bytes_written self }
+        ensures limits { (most_written result ≡ most_written self) × (room_of result ≡ count) }
     {
         self.room = count;
         self
@@ -57,14 +63,23 @@ impl MemoryWriter {
 }
 
 impl Write for MemoryWriter {
-    ghost use Rattle.mpi_model.specs.Devices.{bytes_written};
-    ghost use Rattle.std.specs.Prelude.{Some};
+    ghost use Rattle.mpi_model.specs.Devices.{bytes_written, failures_of_writer, most_written, room_of};
 
     ghost written = { λ w. Some (bytes_written w) };
 
-    ghost failures = { λ w. w.failures };
+    ghost failures = { λ w. failures_of_writer w };
 
-    fn write(&mut self, piece: &[u8]) -> Result<usize, Failed> {
+    fn write(&mut self, piece: &[u8]) -> Result<usize, Failed>
+        ensures within { IfOk result (λ n. n ≤ length piece.now) }
+        ensures some { IfOk result (λ n. 0 < length piece.now → 0 < n) }
+        ensures bytes { WriteAppends (Some (bytes_written self.old)) (Some (bytes_written self.new)) result piece.now }
+        ensures failures { CountsFailure (failures_of_writer self.old) (failures_of_writer self.new) result }
+        ensures beside { LeavesSide untold untold }
+
+        ensures most { IfOk result (λ n. n ≤ most_written self.old) }
+        ensures room { IfOk result (λ n. room_of self.new + n ≡ room_of self.old) }
+        ensures limit { most_written self.new ≡ most_written self.old }
+    {
         let count = piece.len().min(self.most).min(self.room);
         let is_refused = count == 0 && !piece.is_empty();
         if is_refused || io::Write::write(&mut self.bytes, &piece[..count]).is_err() {
