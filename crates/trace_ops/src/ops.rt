@@ -9,6 +9,10 @@ use mpi_model::{Call, Message, Receive};
 use std::alloc::{AllocError, Global};
 use std::marker::Model;
 
+mod gather;
+
+pub use gather::{all_ops, ops_of};
+
 /// What a rank did, as its readable events tell it.
 #[derive(Debug, Drop)]
 pub struct RankOps {
