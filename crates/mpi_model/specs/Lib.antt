@@ -6,3 +6,4 @@ pub mod Whole
 pub mod Groups
 pub mod Layouts
 pub mod Devices
+pub mod Fit
