@@ -7,3 +7,4 @@ pub mod Groups
 pub mod Layouts
 pub mod Devices
 pub mod Fit
+pub mod Events

@@ -7,7 +7,7 @@ use crate::envelope::Mode;
 use crate::event::OpName;
 
 /// A message of a send: ranks are those of the trace, and a communicator is named by its number.
-#[derive(Clone, Copy, Debug, PartialEq, Eq)]
+#[derive(Clone, Copy, Debug, PartialEq, Eq, PartialOrd, Ord)]
 pub struct Message {
     /// The call that sent it.
     pub name: OpName,
@@ -24,7 +24,7 @@ pub struct Message {
 
 /// A receive that was posted: ranks are those of the trace, and a communicator is named by its
 /// number.
-#[derive(Clone, Copy, Debug, PartialEq, Eq)]
+#[derive(Clone, Copy, Debug, PartialEq, Eq, PartialOrd, Ord)]
 pub struct Receive {
     /// The call that posted it.
     pub name: OpName,
