@@ -1,5 +1,5 @@
 -- A rising list is known by its members.
-use Rattle.std.proofs.Common.{◌≡◌, ◌↔◌, ℕ, zero, suc, ◌+◌, ◌<◌, true, false, ◌||◌, List, [], ◌∷◌, eqb, refl, sym, ◌∙◌, ap, subst, ⊎_elim, arith, length, get_or}
+use Rattle.std.proofs.Common.{◌≡◌, ◌↔◌, ℕ, suc, ◌+◌, ◌<◌, true, List, [], ◌∷◌, eqb, refl, subst, ⊎_elim, arith, get_or}
 use Rattle.std.specs.List.Sorted.{IsStrictlyIncreasing}
 use Rattle.std.proofs.lemmas.Bool.Decides.{nat_tests}
 use Rattle.trace_stuck.specs.Release.{among}

@@ -1,4 +1,3 @@
-use Rattle.std.proofs.Common.{sym}
 use Rattle.trace_stuck.proofs.Noted.{noted_already}
 use Rattle.trace_stuck.proofs.askers.note.Goals as goal
 
