@@ -1,4 +1,4 @@
-//! Runs: cells of one rank without a gap.
+//! A run: cells of one rank without a gap, and how it takes in another.
 
 ghost use Rattle.std.specs.Prelude.{◌≡◌, ◌+◌, ◌-◌, ◌<◌, ◌≤◌, ◌^◌, ◌++◌, length, min, max, ℕ, true, false, if◌then◌else◌, IfOk, OnOk, OnErr, IsTrue, IsFalse, slice_set, slice_index_or, map, [], ◌∷◌};
 ghost use Rattle.std.specs.VecDeque.{deque_len, deque_capacity};
