@@ -13,6 +13,8 @@
 //! - [`stamp`], [`told`], [`envelope`], [`collective`], [`list`]: what calls are made of
 //! - [`call`], [`outcome`], [`event`]: what a rank does, and when
 //! - [`layout`]: the ranks of a run and its communicators
+//!
+//! Its tests are in `crates/reading_tests/src/model.rt`.
 #![tactic(auto)]
 
 mod call;
@@ -25,8 +27,6 @@ mod list;
 mod memory;
 mod outcome;
 mod stamp;
-#[cfg(test)]
-mod tests;
 mod told;
 mod whole;
 

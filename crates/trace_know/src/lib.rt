@@ -12,6 +12,8 @@
 //! - [`segment`]: events of one rank at consecutive places
 //! - [`cells`]: cells in an ordered map; [`knowledge`]: all that is known, and its readers
 //! - [`laws`]: what holds of joins and views, as contracts of calls that do nothing
+//!
+//! Its tests are in `crates/knowledge_tests/src/know.rt`.
 #![tactic(auto)]
 
 mod cell;
@@ -24,6 +26,3 @@ pub use cell::{Cell, Known};
 pub use knowledge::Knowledge;
 pub use laws::{join_laws, prefix_laws, view_laws};
 pub use segment::{Segment, SegmentFault};
-
-#[cfg(test)]
-mod tests;
