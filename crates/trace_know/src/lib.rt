@@ -8,10 +8,10 @@
 //! The cells are kept as runs, stretches of places of a rank without a gap. Taking a segment finds
 //! by halving the runs that it touches, and moves its cells into the longest of them, or that one's
 //! into it: at a run's end it costs its own cells, and in any order of the segments a cell moves as
-//! often as the logarithm of their number. A new run among others moves the later ones, 80 bytes
-//! each. Joining other knowledge costs a copy of all cells, but where it knows nothing more. The
-//! readable prefix of a rank is one halving, and so is a cell. A walk over all cells takes no
-//! memory.
+//! often as the logarithm of their number. A new run among others moves the later ones, though
+//! not their cells. Joining other knowledge costs a copy of all cells, but where it knows nothing
+//! more. The readable prefix of a rank is one halving, and so is a cell. A walk over all cells
+//! takes no memory.
 //!
 //! - [`cell`]: what is known of one place
 //! - [`segment`]: events of one rank at consecutive places
