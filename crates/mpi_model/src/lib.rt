@@ -14,6 +14,8 @@
 //! - [`call`], [`outcome`], [`event`]: what a rank does, and when
 //! - [`message`]: what is matched, and which messages a receive can take
 //! - [`layout`]: the ranks of a run and its communicators
+//!
+//! Its tests are in `crates/reading_tests/src/model.rt`.
 #![tactic(auto)]
 
 mod call;
@@ -27,8 +29,6 @@ mod memory;
 mod message;
 mod outcome;
 mod stamp;
-#[cfg(test)]
-mod tests;
 mod told;
 mod whole;
 

@@ -19,7 +19,7 @@ abbrev pub of_runs : List Run → View
 of_runs [] = empty
 of_runs (run ∷ runs) = join (of_run run) (of_runs runs)
 
--- the places of all ranks on one line, with a gap between single rank's last place and the next rank's first
+-- the places of all ranks on one line, with a gap between one rank's last place and the next rank's first
 abbrev pub spot : ℕ → ℕ → ℕ
 spot rank place = rank * 2 ^ 41 + place + 1
 

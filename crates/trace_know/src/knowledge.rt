@@ -7,6 +7,7 @@ ghost use Rattle.trace_know.specs.Cell.{shown, put_known};
 ghost use Rattle.trace_know.specs.Placed.{IsPast, IsPlaced, IsKnowledge};
 ghost use Rattle.trace_know.specs.Listing.{cells_of, conflicts_of};
 ghost use Rattle.trace_know.specs.Prefix.{events_of, prefix_of, is_beyond};
+ghost use Rattle.trace_know.specs.Runs.{of_run, IsFilled};
 ghost use Rattle.trace_know.specs.Trace.{facts_of, view_of};
 ghost use Rattle.trace_know.specs.View.{IsBelow, cell, join};
 
@@ -17,7 +18,7 @@ use crate::readers::{
     any_from, cell_in, conflict_in, conflict_places_in, count_cells, count_conflicts, known_in,
     prefix_in, readable_in,
 };
-use crate::run::{Run, run_of, run_of_one};
+use crate::run::{Run, run_from, run_of, run_of_one};
 use crate::runs::take_run;
 use crate::segment::Segment;
 use crate::walk::Walk;
@@ -70,16 +71,26 @@ impl Knowledge {
         ensures err { OnErr result (self.new ≡ self.old) }
     {
         segment.known();
-        let most = self.most_with(segment.events().len())?;
         let piece = run_of(
             self.alloc,
             segment.rank(),
             segment.first_place(),
             segment.events(),
         )?;
-        take_run(&mut self.runs, piece)?;
-        self.most = most;
-        Ok(())
+        self.join_run(piece)
+    }
+
+    /// Joins the facts of a segment that is not needed any more: its events are moved, where
+    /// [`take`](Self::take) copies them. Without memory nothing changes, and the segment is gone.
+    pub fn take_owned(&mut self, segment: Segment) -> Result<(), AllocError>
+        ensures ok { OnOk result (self.new ≡ join self.old (view_of (facts_of segment))) }
+        ensures err { OnErr result (self.new ≡ self.old) }
+    {
+        segment.known();
+        let rank = segment.rank();
+        let first = segment.first_place();
+        let piece = run_from(self.alloc, rank, first, segment.into_events())?;
+        self.join_run(piece)
     }
 
     /// Joins all that the other knows. Without memory nothing changes. Works on a copy, but where
@@ -112,11 +123,8 @@ impl Knowledge {
         ensures ok { OnOk result (self.new ≡ insert self.old (rank, place) (put_known event)) }
         ensures err { OnErr result (self.new ≡ self.old) }
     {
-        let most = self.most_with(1)?;
         let piece = run_of_one(self.alloc, rank, place, known_of(event))?;
-        take_run(&mut self.runs, piece)?;
-        self.most = most;
-        Ok(())
+        self.join_run(piece)
     }
 
     /// All places that something is known of, in rising order of rank and place: the rank, the
@@ -230,6 +238,19 @@ impl Knowledge {
         ensures { option_copied result ≡ cell self.now rank place }
     {
         known_in(&self.runs, rank, place)
+    }
+
+    /// Joins the cells of a run. Without memory nothing changes.
+    fn join_run(&mut self, piece: Run) -> Result<(), AllocError>
+        requires filled { IsFilled piece }
+        requires placed { IsKnowledge (of_run piece) }
+        ensures ok { OnOk result (self.new ≡ join self.old (of_run piece)) }
+        ensures err { OnErr result (self.new ≡ self.old) }
+    {
+        let most = self.most_with(piece.cells.len())?;
+        take_run(&mut self.runs, piece)?;
+        self.most = most;
+        Ok(())
     }
 
     /// No fewer than there are cells after so many more, if that fits: else there is no memory for

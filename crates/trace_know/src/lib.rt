@@ -1,4 +1,4 @@
-//! What is known of a run: facts, the segments that bring them, and knowledge, the join of what came.
+//! Facts, the segments that bring them, and knowledge: the join of what came.
 //!
 //! A fact is an event at a place of a rank. Facts come in segments, in any order, cut and repeated
 //! in any way; [`Knowledge`] holds for each place what they say of it together: nothing, one
@@ -8,8 +8,10 @@
 //! The cells are kept as runs, stretches of places of a rank without a gap. Taking a segment finds
 //! by halving the runs that it touches, and moves its cells into the longest of them, or that one's
 //! into it: at a run's end it costs its own cells, and in any order of the segments a cell moves as
-//! often as the logarithm of their number. The readable prefix of a rank is one halving, and so is
-//! a cell. A walk over all cells takes no memory.
+//! often as the logarithm of their number. A new run among others moves the later ones, though
+//! not their cells. Joining other knowledge costs a copy of all cells, but where it knows nothing
+//! more. The readable prefix of a rank is one halving, and so is a cell. A walk over all cells
+//! takes no memory.
 //!
 //! - [`cell`]: what is known of one place
 //! - [`segment`]: events of one rank at consecutive places

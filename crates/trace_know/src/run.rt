@@ -1,4 +1,4 @@
-//! Runs: cells of one rank without a gap.
+//! A run: cells of one rank without a gap, and how it takes in another.
 
 ghost use Rattle.std.specs.Prelude.{◌≡◌, ◌+◌, ◌-◌, ◌<◌, ◌≤◌, ◌^◌, ◌++◌, length, min, max, ℕ, true, false, if◌then◌else◌, IfOk, OnOk, OnErr, IsTrue, IsFalse, slice_set, slice_index_or, map, [], ◌∷◌};
 ghost use Rattle.std.specs.VecDeque.{deque_len, deque_capacity};
@@ -278,6 +278,36 @@ pub(crate) fn run_of(
         sound,
         conflicts: 0,
     })
+}
+
+/// The events of a rank, each moved, as a run of their own.
+pub(crate) fn run_from(
+    alloc: Global,
+    rank: u32,
+    first: u64,
+    events: Vec<Event>,
+) -> Result<Run, AllocError>
+    ensures rank { IfOk result (λ r. r.rank ≡ rank) }
+    ensures first { IfOk result (λ r. r.first ≡ first) }
+    ensures cells { IfOk result (λ r. r.cells.items ≡ map (λ e. One e) events.items) }
+    ensures counted { IfOk result (λ r. IsCounted r) }
+{
+    let cells = cells_from(alloc, events)?;
+    let sound = cells.len();
+    Ok(Run {
+        rank,
+        first,
+        cells,
+        sound,
+        conflicts: 0,
+    })
+}
+
+/// The events, each as what is known of its place.
+fn cells_from(alloc: Global, events: Vec<Event>) -> Result<VecDeque<Known>, AllocError>
+    ensures { IfOk result (λ cells. cells.items ≡ map (λ e. One e) events.items) }
+{
+    events.into_iter().map(|event| Known::One(event)).collect(alloc)
 }
 
 /// A run of one cell.

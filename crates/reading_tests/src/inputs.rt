@@ -1,6 +1,6 @@
 //! Texts of layouts and manifests, row by row.
 
-use crate::{layout_of, manifest_of};
+use input_files::{layout_of, manifest_of};
 use mpi_model::Sends;
 use std::alloc::Global;
 use std::test::Fail;

@@ -1,4 +1,4 @@
-use crate::{NumName, RawCall, Texts, Value, ValueFault, parse_time, parse_value};
+use dumpi_text::{NumName, RawCall, Texts, Value, ValueFault, parse_time, parse_value};
 use mpi_model::{Device, Failed, Read};
 use std::alloc::Global;
 use std::fmt::Write;

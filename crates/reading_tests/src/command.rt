@@ -1,6 +1,6 @@
 //! What words ask for, row by row, and how the program ends on those that ask for nothing.
 
-use crate::{CommandFault, Verb, command_of};
+use command_line::{CommandFault, Verb, command_of};
 use std::alloc::Global;
 use std::test::Fail;
 

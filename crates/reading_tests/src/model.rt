@@ -1,6 +1,6 @@
 //! What no clause says: that calls succeed, printed text, and rows of the specification.
 
-use super::*;
+use mpi_model::*;
 use std::alloc::{AllocError, Global};
 use std::io;
 use std::test::Fail;
