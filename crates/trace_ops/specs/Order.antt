@@ -10,11 +10,11 @@ Has (y ∷ ys) x = (x ≡ y) ⊎ Has ys x
 
 -- an earlier message of the same sender
 abbrev pub sent_before : Message → Message → Bool
-sent_before a b = (a.name.rank == b.name.rank) && nat_lt a.name.call b.name.call
+sent_before a b = (a.from == b.from) && nat_lt a.name.call b.name.call
 
 -- an earlier receive of the same rank
 abbrev pub posted_before : Receive → Receive → Bool
-posted_before a b = (a.name.rank == b.name.rank) && nat_lt a.name.call b.name.call
+posted_before a b = (a.at == b.at) && nat_lt a.name.call b.name.call
 
 -- each message is sent before those that follow, by one rank
 abbrev pub AreInOrder : List Message → Type 0
