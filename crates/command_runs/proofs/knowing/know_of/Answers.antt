@@ -1,0 +1,28 @@
+use Rattle.std.proofs.Common.{rules, arith, ◌≡◌, ◌∙◌, ◌+◌, ◌<◌, ◌++◌, ◌∷◌, [], List, ap, sym, subst, length, take}
+use Rattle.std.proofs.lemmas.List.{take_more}
+use Rattle.trace_know.specs.Trace.{view_of}
+use Rattle.trace_know.specs.View.{join}
+use Rattle.input_files.specs.Manifests.{PieceParts}
+use Rattle.command_runs.specs.Pieces.{TellsFacts, facts_of_all}
+use Rattle.command_runs.specs.Runs.{IsKnown}
+use Rattle.command_runs.proofs.Traces.{known_more, still}
+use Rattle.command_runs.proofs.knowing.know_of.Goals as goal
+
+pub loop-piece-preserved : goal.loop-piece-preserved
+loop-piece-preserved g c =
+    let file = g.O.Opener.file c.args.files.now in
+    let below : c.loop-piece.piece-index < length c.args.pieces.now = omega arith in
+    let more : take (c.loop-piece.piece-index + 1) c.args.pieces.now ≡ take c.loop-piece.piece-index c.args.pieces.now ++ c.piece-item.result ∷ [] =
+    take_more c.args.pieces.now c.loop-piece.piece-index c.piece-item.result below
+    ∙ ap (λ (p : PieceParts). take c.loop-piece.piece-index c.args.pieces.now ++ p ∷ []) (sym c.piece-item.is) in
+    let told : TellsFacts (file c.piece-item.result.file) c.piece-item.result.rank c.piece-item.result.first (facts_of_all c.in-Ok.segments.items) =
+    rw c.loop-piece.invariant.files at c.in-Ok.ensures.ok in
+    let taken : c.take_all.new.know ≡ join c.loop-piece.know (view_of (facts_of_all c.in-Ok.segments.items)) = search rules in
+    record {
+      files = c.segments_of.ensures.same ∙ c.loop-piece.invariant.files;
+      known = subst (λ (ps : List PieceParts). IsKnown file ps c.take_all.new.know) (sym more)
+          (known_more file (take c.loop-piece.piece-index c.args.pieces.now) c.piece-item.result c.loop-piece.know c.take_all.new.know
+          (facts_of_all c.in-Ok.segments.items) c.loop-piece.invariant.known told taken);
+      stranger = still c.args.ranks c.args.pieces.now c.loop-piece.piece-index c.piece-item.result below c.piece-item.is
+          c.loop-piece.stranger _ c.loop-piece.invariant.stranger (search rules);
+    }

@@ -1,0 +1,10 @@
+pub mod Endings
+pub mod FaultLines
+pub mod Files
+pub mod Inputs
+pub mod Pieces
+pub mod Report
+pub mod Typed
+pub mod Runs
+pub mod Shown
+pub mod Whole

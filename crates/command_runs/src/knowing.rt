@@ -1,0 +1,66 @@
+//! What the pieces of a run tell together.
+
+ghost use Rattle.std.specs.Prelude.{◌≡◌, ◌≤◌, ◌⊎◌, IfErr, IfOk, IfSome, OnOk, Some};
+ghost use Rattle.command_runs.specs.Pieces.{IsNamed, facts_of_all};
+ghost use Rattle.command_runs.specs.Runs.{IsKnown, RefusesPieces};
+ghost use Rattle.trace_know.specs.Trace.{view_of};
+ghost use Rattle.trace_know.specs.View.{join};
+
+use crate::fault::RunFault;
+use crate::opener::Opener;
+use crate::piece::segments_of;
+use input_files::Piece;
+use std::alloc::{AllocError, Global};
+use trace_know::{Knowledge, Segment};
+
+/// What the pieces tell together, of a run of so many ranks. All of them are read before a piece is
+/// refused for its rank.
+pub fn know_of<O: Opener>(
+    alloc: Global,
+    ranks: u32,
+    pieces: &[Piece],
+    files: &mut O,
+) -> Result<Knowledge, RunFault>
+    ensures ok { IfOk result (λ know. IsKnown (O.file files.old) pieces.now know) }
+    ensures err { IfErr result (RefusesPieces (O.file files.old) ranks pieces.now) }
+{
+    let mut know = Knowledge::new(alloc);
+    let mut stranger = None;
+    for piece in pieces {
+        let segments = match segments_of(alloc, piece, files) {
+            Ok(segments) => segments,
+            Err(fault) => return Err(fault),
+        };
+        stranger = with_stranger(alloc, stranger, ranks, piece, &segments)?;
+        take_all(&mut know, &segments)?;
+    }
+    match stranger {
+        Some(path) => Err(RunFault::Rank { path }),
+        None => Ok(know),
+    }
+}
+
+// The file of the first piece that has calls of a rank outside the layout.
+fn with_stranger(
+    alloc: Global,
+    stranger: Option<String>,
+    ranks: u32,
+    piece: &Piece,
+    segments: &[Segment],
+) -> Result<Option<String>, AllocError>
+    ensures { IfOk result (λ found. IfSome found (λ path. (stranger ≡ Some path) ⊎ (IsNamed path piece.now.file × (ranks ≤ piece.now.rank)))) }
+{
+    if stranger.is_some() || piece.rank() < ranks || segments.is_empty() {
+        return Ok(stranger);
+    }
+    Ok(Some(piece.file().to_string(alloc)?))
+}
+
+fn take_all(know: &mut Knowledge, segments: &[Segment]) -> Result<(), AllocError>
+    ensures { OnOk result (know.new ≡ join know.old (view_of (facts_of_all segments.now))) }
+{
+    for segment in segments {
+        know.take(segment)?;
+    }
+    Ok(())
+}
