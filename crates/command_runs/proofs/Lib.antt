@@ -1,3 +1,4 @@
+pub mod Endings
 pub mod Cuts
 pub mod Events
 pub mod Reading

@@ -25,7 +25,8 @@ input_is_not_writing refuses name file (inr (inr h)) = fault_is_not_writing name
 
 pieces_are_not_writing : (file : List ℕ → Option (List ℕ)) (ranks : ℕ) (pieces : List PieceParts) → RefusesPieces file ranks pieces Write → ⊥
 pieces_are_not_writing file ranks pieces (inl e) = memory_is_not_writing e
-pieces_are_not_writing file ranks pieces (inr h) = elim h.4 [ inl a ↦ a | inr b ↦ b ]
+pieces_are_not_writing file ranks pieces (inr (inl h)) = h.4
+pieces_are_not_writing file ranks pieces (inr (inr h)) = h
 
 run_is_not_writing : (file : List ℕ → Option (List ℕ)) (layout manifest : List ℕ) → RefusesRun file layout manifest Write → ⊥
 run_is_not_writing file layout manifest (inl e) = memory_is_not_writing e

@@ -1,13 +1,17 @@
 -- The facts of pieces, one piece more.
-use Rattle.std.proofs.Common.{◌≡◌, ◌∙◌, ◌⊎◌, ◌<◌, ◌≤◌, ◌++◌, ◌∷◌, [], ℕ, List, Option, Some, None, IfSome, String, ap, sym, refl, subst, inl, inr, length, get_or, append_assoc, append-nil}
-use Rattle.std.specs.List.{Any}
+use Rattle.std.proofs.Common.{◌≡◌, ◌∙◌, ◌+◌, ◌++◌, ◌∷◌, [], ℕ, List, Option, Some, None, String, ap, sym, refl, subst, inl, inr, length, take, drop, arith, ◌<◌, ◌≢◌, append_assoc, append-nil}
+use Rattle.std.specs.List.{All}
+use Rattle.std.proofs.lemmas.List.{take-append-drop}
+use Rattle.std.proofs.lemmas.List.Elements.{All-push}
 use Rattle.std.specs.declared.alloc.Global.{Global}
-use Rattle.trace_know.specs.Trace.{Trace, view_of}
+use Rattle.mpi_model.specs.declared.event.Event.{Event}
+use Rattle.trace_know.specs.Segment.{PlacedEvents}
+use Rattle.trace_know.specs.Trace.{Trace, facts_from, view_of}
 use Rattle.trace_know.specs.View.{View, join}
 use Rattle.trace_know.proofs.Facts.{view_of-append}
 use Rattle.input_files.specs.Manifests.{PieceParts}
-use Rattle.command_runs.specs.Pieces.{IsNamed, TellsFacts}
-use Rattle.command_runs.specs.Runs.{IsKnown, TellTrace}
+use Rattle.command_runs.specs.Pieces.{TellsFacts, facts_of_all}
+use Rattle.command_runs.specs.Runs.{Begin, IsFirstStranger, IsInside, IsKnown, KeepsFirst, TellTrace}
 
 tell_more : (file : List ℕ → Option (List ℕ)) (pieces : List PieceParts) (piece : PieceParts) (trace own : Trace)
     → TellTrace file pieces trace → TellsFacts (file piece.file) piece.rank piece.first own → TellTrace file (pieces ++ piece ∷ []) (trace ++ own)
@@ -21,16 +25,42 @@ pub known_more : (file : List ℕ → Option (List ℕ)) (pieces : List PiecePar
 known_more file pieces piece view new own k h e =
     (k.0 ++ own, tell_more file pieces piece k.0 own k.1 h, e ∙ ap (λ (v : View). join v (view_of own)) k.2 ∙ sym (view_of-append k.0 own))
 
--- a piece of a rank that isn't there, as the file of a name
-abbrev pub IsStrangerAt : ℕ → String Global → PieceParts → Type 0
-IsStrangerAt ranks path piece = IsNamed path piece.file × (ranks ≤ piece.rank)
+-- what is known of strangers after these pieces: none is among them, or this is the first
+abbrev pub IsOutside : (List ℕ → Option (List ℕ)) → ℕ → List PieceParts → Option (String Global) → Type 0
+IsOutside file ranks pieces None = All (IsInside file ranks) pieces
+IsOutside file ranks pieces (Some path) = IsFirstStranger file ranks pieces path
 
-pub still : (ranks : ℕ) (pieces : List PieceParts) (i : ℕ) (piece : PieceParts) → i < length pieces → piece ≡ get_or pieces i piece
-    → (old new : Option (String Global)) → IfSome old (λ path. Any (IsStrangerAt ranks path) pieces)
-    → IfSome new (λ path. (old ≡ Some path) ⊎ IsStrangerAt ranks path piece)
-    → IfSome new (λ path. Any (IsStrangerAt ranks path) pieces)
-still ranks pieces i piece below is old None h n = tt
-still ranks pieces i piece below is old (Some path) h n = elim n [
-  | inl e ↦ subst (λ (o : Option (String Global)). IfSome o (λ p. Any (IsStrangerAt ranks p) pieces)) e h
-  | inr s ↦ (i, piece, below, sym is, s)
-]
+-- a stranger stays the first when a piece is added
+later : (file : List ℕ → Option (List ℕ)) (ranks : ℕ) (pieces : List PieceParts) (piece : PieceParts) (path : String Global)
+    → IsFirstStranger file ranks pieces path → IsFirstStranger file ranks (pieces ++ piece ∷ []) path
+later file ranks pieces piece path h =
+    (h.0, h.1, (h.2.0 ++ piece ∷ [], ap (λ (ps : List PieceParts). ps ++ piece ∷ []) h.2.1 ∙ append_assoc h.0 (h.1 ∷ h.2.0) (piece ∷ [])), h.3, h.4)
+
+pub outside_more : (file : List ℕ → Option (List ℕ)) (ranks : ℕ) (pieces : List PieceParts) (piece : PieceParts) (facts : Trace)
+    (old new : Option (String Global)) → IsOutside file ranks pieces old → TellsFacts (file piece.file) piece.rank piece.first facts
+    → KeepsFirst ranks piece facts old new → IsOutside file ranks (pieces ++ piece ∷ []) new
+outside_more file ranks pieces piece facts (Some path) new h told n =
+    subst (λ (o : Option (String Global)). IsOutside file ranks (pieces ++ piece ∷ []) o) (sym n) (later file ranks pieces piece path h)
+outside_more file ranks pieces piece facts None None h told n =
+    All-push (IsInside file ranks) pieces piece h (elim n [
+      | inl below ↦ inl below
+      | inr e ↦ inr (subst (λ (own : Trace). TellsFacts (file piece.file) piece.rank piece.first own) e told)
+    ])
+outside_more file ranks pieces piece facts None (Some path) h told n =
+    (pieces, piece, ([], refl), h, (n.0, n.1, (facts, told, n.2)))
+
+-- a list at one of its elements
+pub begins : (pieces : List PieceParts) (i : ℕ) (piece : PieceParts) → take (i + 1) pieces ≡ take i pieces ++ piece ∷ [] → Begin (take i pieces) piece pieces
+begins pieces i piece e = (
+  drop (i + 1) pieces,
+  sym (take-append-drop (i + 1) pieces) ∙ ap (λ (ps : List PieceParts). ps ++ drop (i + 1) pieces) e
+      ∙ append_assoc (take i pieces) (piece ∷ []) (drop (i + 1) pieces),
+)
+
+none_of : (rank place : ℕ) (events : List Event) → 0 < length events → (rest : Trace) → facts_from rank place events ++ rest ≢ []
+none_of rank place [] some rest e = omega arith
+none_of rank place (event ∷ events) some rest e = cc
+
+-- segments of which the first has an event tell a fact
+pub facts_of_some : (segment : PlacedEvents) (segments : List PlacedEvents) → 0 < length segment.events → facts_of_all (segment ∷ segments) ≢ []
+facts_of_some segment segments some e = none_of segment.rank segment.first_place segment.events some (facts_of_all segments) e

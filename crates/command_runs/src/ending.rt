@@ -1,9 +1,7 @@
 //! How the program ends: from words to a status and what standard error shows.
 
 ghost use Rattle.std.specs.Prelude.{◌≡◌, [], IfOk, map, string_bytes};
-ghost use Rattle.std.specs.Io.KnownBytes.{Keeps};
-ghost use Rattle.command_line.specs.declared.CommandFault.TheVariants as unasked;
-ghost use Rattle.command_runs.specs.Endings.{IsEnding, IsEndingFor};
+ghost use Rattle.command_runs.specs.Endings.{IsEnding, IsEndingFor, output_of};
 ghost use Rattle.command_runs.specs.FaultLines.{fault_line_of};
 
 use crate::fault::{RunFault, fault_line};
@@ -29,7 +27,7 @@ pub fn ending_of<'a, O: Opener, W: Write>(
     files: &mut O,
     out: &mut W,
 ) -> Result<Ending, AllocError>
-    ensures { IfOk result (λ e. IsEnding (O.file files.old) (map (λ w. w.now) words.entry.now) e.status (string_bytes e.errors) (W.written out.old) (W.written out.new)) }
+    ensures { IfOk result (λ e. IsEnding (O.file files.old) (map (λ w. w.now) words.entry.now) e.status (string_bytes e.errors) (output_of (W.written out.old) (W.failures out.old)) (output_of (W.written out.new) (W.failures out.new))) }
 {
     let asked = match command_of(alloc, words) {
         Ok(asked) => asked,
@@ -75,8 +73,7 @@ fn refused(alloc: Global, fault: &RunFault) -> Result<Ending, AllocError>
 
 // Shows why the words ask for nothing; the help and the version go to standard output.
 fn shown<W: Write>(alloc: Global, fault: &CommandFault, out: &mut W) -> Result<Ending, AllocError>
-    requires { (fault.now ≡ unasked.Memory) → ⊥ }
-    ensures { IfOk result (λ e. IsEndingFor fault.now e.status (string_bytes e.errors) (W.written out.old) (W.written out.new)) }
+    ensures { IfOk result (λ e. IsEndingFor fault.now e.status (string_bytes e.errors) (output_of (W.written out.old) (W.failures out.old)) (output_of (W.written out.new) (W.failures out.new))) }
 {
     let text = format!(in alloc; "{fault}")?;
     let status = fault.status();

@@ -1,8 +1,9 @@
 //! What the pieces of a run tell together.
 
-ghost use Rattle.std.specs.Prelude.{◌≡◌, ◌≤◌, ◌⊎◌, IfErr, IfOk, IfSome, OnOk, Some};
-ghost use Rattle.command_runs.specs.Pieces.{IsNamed, facts_of_all};
-ghost use Rattle.command_runs.specs.Runs.{IsKnown, RefusesPieces};
+ghost use Rattle.std.specs.Prelude.{◌≡◌, ◌≢◌, [], IfErr, IfOk, OnOk, false, true};
+ghost use Rattle.std.specs.List.{All};
+ghost use Rattle.command_runs.specs.Pieces.{facts_of_all};
+ghost use Rattle.command_runs.specs.Runs.{IsInside, IsKnown, KeepsFirst, RefusesPieces};
 ghost use Rattle.trace_know.specs.Trace.{view_of};
 ghost use Rattle.trace_know.specs.View.{join};
 
@@ -22,6 +23,7 @@ pub fn know_of<O: Opener>(
     files: &mut O,
 ) -> Result<Knowledge, RunFault>
     ensures ok { IfOk result (λ know. IsKnown (O.file files.old) pieces.now know) }
+    ensures inside { IfOk result (λ know. All (IsInside (O.file files.old) ranks) pieces.now) }
     ensures err { IfErr result (RefusesPieces (O.file files.old) ranks pieces.now) }
 {
     let mut know = Knowledge::new(alloc);
@@ -48,12 +50,28 @@ fn with_stranger(
     piece: &Piece,
     segments: &[Segment],
 ) -> Result<Option<String>, AllocError>
-    ensures { IfOk result (λ found. IfSome found (λ path. (stranger ≡ Some path) ⊎ (IsNamed path piece.now.file × (ranks ≤ piece.now.rank)))) }
+    ensures { IfOk result (KeepsFirst ranks piece.now (facts_of_all segments.now) stranger) }
 {
-    if stranger.is_some() || piece.rank() < ranks || segments.is_empty() {
-        return Ok(stranger);
+    if let Some(path) = stranger {
+        return Ok(Some(path));
+    }
+    if piece.rank() < ranks || !have_calls(segments) {
+        return Ok(None);
     }
     Ok(Some(piece.file().to_string(alloc)?))
+}
+
+// Whether the segments tell anything: each has an event.
+#[tactic(auto, using(crate::proofs::Traces::facts_of_some))]
+fn have_calls(segments: &[Segment]) -> bool
+    ensures some { result ≡ true → facts_of_all segments.now ≢ [] }
+    ensures none { result ≡ false → facts_of_all segments.now ≡ [] }
+{
+    let [first, ..] = segments else {
+        return false;
+    };
+    first.known();
+    true
 }
 
 fn take_all(know: &mut Knowledge, segments: &[Segment]) -> Result<(), AllocError>

@@ -47,25 +47,25 @@ pub fn run_with<O: Opener, W: Write>(
 #[tactic(auto, using(crate::proofs::Refusals::refused_unwritten))]
 fn report_with<O: Opener>(
     alloc: Global,
-    layout: &str,
-    manifest: &str,
+    layout_name: &str,
+    manifest_name: &str,
     files: &mut O,
 ) -> Result<String, RunFault>
-    ensures ok { IfOk result (λ report. IsReportOf (O.file files.old) layout.now manifest.now (string_bytes report)) }
-    ensures err { IfErr result (RefusesRun (O.file files.old) layout.now manifest.now) }
+    ensures ok { IfOk result (λ report. IsReportOf (O.file files.old) layout_name.now manifest_name.now (string_bytes report)) }
+    ensures err { IfErr result (RefusesRun (O.file files.old) layout_name.now manifest_name.now) }
     ensures unwritten { IfErr result (λ fault. fault ≢ RunFault.Write) }
 {
-    let shape = match layout_at(alloc, layout, files) {
-        Ok(shape) => shape,
+    let layout = match layout_at(alloc, layout_name, files) {
+        Ok(layout) => layout,
         Err(fault) => return Err(fault),
     };
-    let named = match manifest_at(alloc, manifest, files) {
-        Ok(named) => named,
+    let manifest = match manifest_at(alloc, manifest_name, files) {
+        Ok(manifest) => manifest,
         Err(fault) => return Err(fault),
     };
-    let know = match know_of(alloc, shape.ranks(), named.pieces(), files) {
+    let know = match know_of(alloc, layout.ranks(), manifest.pieces(), files) {
         Ok(know) => know,
         Err(fault) => return Err(fault),
     };
-    Ok(report_of(alloc, &shape, &know)?)
+    Ok(report_of(alloc, &layout, &know)?)
 }

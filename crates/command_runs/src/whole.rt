@@ -3,6 +3,7 @@
 ghost use Rattle.std.specs.Prelude.{◌≡◌, ◌≤◌, IfErr, IfOk, length};
 ghost use Rattle.std.specs.Io.KnownBytes.{Consumes, IsAtEnd};
 ghost use Rattle.command_runs.specs.Whole.{IsRefusedFor};
+ghost use Rattle.command_runs.specs.declared.whole.TheConstants.{LONGEST_FILE};
 
 use mpi_model::{Read, ReadFault, read_exactly};
 use std::alloc::{AllocError, AllocFailed, Global};
@@ -46,7 +47,7 @@ impl From<AllocError> for WholeFault {
 pub fn read_whole<R: Read>(alloc: Global, reader: &mut R) -> Result<Vec<u8>, WholeFault>
     ensures bytes { IfOk result (λ bytes. Consumes (R.left reader.old) (R.left reader.new) bytes.items) }
     ensures end { IfOk result (λ bytes. IsAtEnd (R.left reader.new)) }
-    ensures limit { IfOk result (λ bytes. length bytes.items ≤ 16777216) }
+    ensures limit { IfOk result (λ bytes. length bytes.items ≤ LONGEST_FILE) }
     ensures err { IfErr result (IsRefusedFor (R.left reader.old) (R.left reader.new) (R.failures reader.old) (R.failures reader.new)) }
 {
     let mut bytes = Vec::new(alloc);

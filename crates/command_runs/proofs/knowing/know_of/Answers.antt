@@ -5,7 +5,7 @@ use Rattle.trace_know.specs.View.{join}
 use Rattle.input_files.specs.Manifests.{PieceParts}
 use Rattle.command_runs.specs.Pieces.{TellsFacts, facts_of_all}
 use Rattle.command_runs.specs.Runs.{IsKnown}
-use Rattle.command_runs.proofs.Traces.{known_more, still}
+use Rattle.command_runs.proofs.Traces.{IsOutside, known_more, outside_more}
 use Rattle.command_runs.proofs.knowing.know_of.Goals as goal
 
 pub loop-piece-preserved : goal.loop-piece-preserved
@@ -23,6 +23,7 @@ loop-piece-preserved g c =
       known = subst (λ (ps : List PieceParts). IsKnown file ps c.take_all.new.know) (sym more)
           (known_more file (take c.loop-piece.piece-index c.args.pieces.now) c.piece-item.result c.loop-piece.know c.take_all.new.know
           (facts_of_all c.in-Ok.segments.items) c.loop-piece.invariant.known told taken);
-      stranger = still c.args.ranks c.args.pieces.now c.loop-piece.piece-index c.piece-item.result below c.piece-item.is
-          c.loop-piece.stranger _ c.loop-piece.invariant.stranger (search rules);
+      outside = subst (λ (ps : List PieceParts). IsOutside file c.args.ranks ps _) (sym more)
+          (outside_more file c.args.ranks (take c.loop-piece.piece-index c.args.pieces.now) c.piece-item.result
+          (facts_of_all c.in-Ok.segments.items) c.loop-piece.stranger _ c.loop-piece.invariant.outside told (search rules));
     }
