@@ -1,8 +1,8 @@
 use Rattle.std.proofs.Common.{◌≡◌, ◌++◌, take, drop, true}
 use Rattle.std.specs.List.{list_all}
 use Rattle.dumpi_text.specs.Time.{is_digit}
-use Rattle.dumpi_text.specs.Value.{digit_parts}
-use Rattle.dumpi_text.proofs.value.split_digits.Given as goal
+use Rattle.dumpi_text.specs.Tokens.{digit_parts}
+use Rattle.dumpi_text.proofs.tokens.split_digits.Given as goal
 
 abbrev pub invariant-loop-at : goal.invariant-loop-at
 invariant-loop-at l = record {
