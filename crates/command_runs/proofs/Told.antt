@@ -1,50 +1,63 @@
 -- What holds of a reader's text holds of the file where it is told.
-use Rattle.std.proofs.Common.{ℕ, List, Option, Some, None, inl, inr, subst}
+use Rattle.std.proofs.Common.{◌≡◌, ◌∙◌, ℕ, List, [], ◌∷◌, Option, Some, None, IsSome, ap, sym, subst, refl}
+use Rattle.std.specs.List.{flat_map}
 use Rattle.mpi_model.specs.declared.event.Event.{Event}
-use Rattle.dumpi_text.specs.Call.{TextCall}
-use Rattle.dumpi_text.specs.Grammar.{Ending}
-use Rattle.dumpi_text.specs.Reading.{HasRead, MeansAll}
-use Rattle.dumpi_text.specs.declared.fault.TextCause.{TextCause}
-use Rattle.dumpi_text.specs.declared.fault.TextCause.TheVariants as causes
-use Rattle.dumpi_text.specs.declared.step.Position.{Position}
+use Rattle.trace_know.specs.Segment.{PlacedEvents, enter_place}
+use Rattle.trace_know.specs.Trace.{facts_from, facts_of}
+use Rattle.dumpi_calls.specs.Collected.{AreSegments, HasPlacesPast, collected}
+use Rattle.dumpi_calls.specs.Seen.{Seen, seen_in}
+use Rattle.dumpi_calls.specs.Walks.{IsStopped, IsWalked, StopsWalk}
+use Rattle.dumpi_calls.specs.Whole.{SegmentsTellAll, TellsEvents, WalkTellsEvents}
+use Rattle.dumpi_calls.specs.declared.collect.Memory.{Memory as NoMemory}
+use Rattle.dumpi_calls.specs.declared.fault.WalkCause.{WalkCause}
+use Rattle.dumpi_calls.specs.declared.fault.WalkCause.TheVariants as causes
+use Rattle.dumpi_calls.specs.declared.fault.WalkFault.{WalkFault}
+use Rattle.dumpi_calls.specs.declared.walking.Walked.{Walked}
 use Rattle.command_runs.specs.Files.{IsTold}
-use Rattle.command_runs.specs.Pieces.{IsFirstRefused, RefusesPiece, RefusesText, StopsAfter, StopsAt, TellsEvents}
+use Rattle.command_runs.specs.Pieces.{IsWalkFault, PassesPlaces, RefusesPiece, StopsText, TellsFacts, facts_of_all}
 use Rattle.command_runs.specs.declared.fault.RunFault.{RunFault}
 use Rattle.command_runs.specs.declared.fault.RunFault.TheVariants.{Memory, File, Json, Shape, Layout, Text, Missing, Wrong, Place, Rank, Write}
 
-read_told : (file left : Option (List ℕ)) (calls : List TextCall) (at : Position) (rest : Option (List ℕ)) → IsTold file left → HasRead left calls at rest → HasRead file calls at rest
-read_told None left calls at rest told h = tt
-read_told (Some bytes) left calls at rest told h = subst (λ (t : Option (List ℕ)). HasRead t calls at rest) told h
+events_told : (file left : Option (List ℕ)) (events : List Event) → IsTold file left → TellsEvents left events → TellsEvents file events
+events_told None left events told h = tt
+events_told (Some bytes) left events told h = subst (λ (t : Option (List ℕ)). TellsEvents t events) told h
 
-means_told : (file left : Option (List ℕ)) (calls : List TextCall) (end : Ending) → IsTold file left → MeansAll left calls end → MeansAll file calls end
-means_told None left calls end told h = tt
-means_told (Some bytes) left calls end told h = subst (λ (t : Option (List ℕ)). MeansAll t calls end) told h
+-- a walk to the end of the text, and the segments of its events
+pub facts_told : (file left : Option (List ℕ)) (rank first : ℕ) (events : List Event) (walked : Walked) (segments : List PlacedEvents)
+    → WalkTellsEvents → SegmentsTellAll → IsTold file left → IsWalked collected left [] events walked → AreSegments rank first events segments
+    → TellsFacts file rank first (facts_of_all segments)
+facts_told file left rank first events walked segments tells all told h are =
+    (events, events_told file left events told (tells left events walked h), all rank first events segments are)
 
-pub events_told : (file left : Option (List ℕ)) (events : List Event) → IsTold file left → TellsEvents left events → TellsEvents file events
-events_told file left events told h = (h.0, h.1, means_told file left h.0 _ told h.2, h.3)
+-- a walk to the end of the text, and events past the last place
+pub places_told : (file left : Option (List ℕ)) (first : ℕ) (events : List Event) (walked : Walked)
+    → WalkTellsEvents → IsTold file left → IsWalked collected left [] events walked → HasPlacesPast first events → PassesPlaces first file
+places_told file left first events walked tells told h past = (events, events_told file left events told (tells left events walked h), past)
 
-stops_told : (file left : Option (List ℕ)) (calls : List TextCall) (cause : TextCause) (line : ℕ) → IsTold file left → StopsAfter left calls cause line → StopsAfter file calls cause line
-stops_told file left calls causes.Read line told h = tt
-stops_told file left calls (causes.Line fault) line told h = (h.0, means_told file left calls _ told h.1, h.2)
+some_seen : (found : Option (List Seen)) (seen : List Seen) → found ≡ Some seen → IsSome found
+some_seen None seen e = cc
+some_seen (Some calls) seen e = refl
 
-stop_told : (file left : Option (List ℕ)) (cause : TextCause) (line : ℕ) → IsTold file left → StopsAt left cause line → StopsAt file cause line
-stop_told file left cause line told h = (h.0, stops_told file left h.0 cause line told h.1, h.2)
+stops_told : (file left : Option (List ℕ)) (old new : List Event) (fault : WalkFault NoMemory) → IsTold file left
+    → IsStopped {S = List Event} {F = NoMemory} collected left old new fault → StopsText file fault.cause fault.line
+stops_told None left old new fault told h = tt
+stops_told (Some bytes) left old new fault told h =
+    (h.calls, some_seen (seen_in h.calls) h.handed.seen h.handed.typed_as, subst (λ (t : Option (List ℕ)). StopsWalk {F = NoMemory} t h.calls fault.cause fault.line) told h.stops)
 
-first_told : (file left : Option (List ℕ)) (raw : TextCall) → IsTold file left → IsFirstRefused left raw → IsFirstRefused file raw
-first_told file left raw told h = (h.0, h.1, h.2, read_told file left _ h.1 h.2 told h.3, h.4)
-
-pub by_text : (name : List ℕ) (file left : Option (List ℕ)) (fault : RunFault) → IsTold file left → RefusesText name left fault → RefusesPiece name file fault
-by_text name file left Memory told h = tt
-by_text name file left (Text cause path line) told h = elim h [
-  | inl s ↦ inl (s.0, stop_told file left cause line told s.1)
-  | inr r ↦ inr (r.0, first_told file left r.0 told r.1, r.2)
-]
-by_text name file left (Missing parameter path line) told h = (h.0, first_told file left h.0 told h.1, h.2)
-by_text name file left (Wrong parameter path line) told h = (h.0, first_told file left h.0 told h.1, h.2)
-by_text name file left (File path) told h = absurd h
-by_text name file left (Json path) told h = absurd h
-by_text name file left (Shape path) told h = absurd h
-by_text name file left (Layout fault path) told h = absurd h
-by_text name file left (Place path) told h = absurd h
-by_text name file left (Rank path) told h = absurd h
-by_text name file left Write told h = absurd h
+-- a walk that was stopped
+pub walk_told : (name : List ℕ) (first : ℕ) (file left : Option (List ℕ)) (old new : List Event) (fault : WalkFault NoMemory) (run : RunFault) → IsTold file left
+    → IsStopped {S = List Event} {F = NoMemory} collected left old new fault → IsWalkFault name fault run → RefusesPiece name first file run
+walk_told name first file left old new fault Memory told h is = tt
+walk_told name first file left old new fault (Text cause path line) told h is =
+    (is.0, fault.line, subst (λ (c : WalkCause NoMemory). StopsText file c fault.line) is.1 (stops_told file left old new fault told h))
+walk_told name first file left old new fault (Missing parameter path line) told h is =
+    (is.0, subst (λ (n : ℕ). StopsText file (causes.Missing parameter) n) (sym is.2) (subst (λ (c : WalkCause NoMemory). StopsText file c fault.line) is.1 (stops_told file left old new fault told h)))
+walk_told name first file left old new fault (Wrong parameter path line) told h is =
+    (is.0, subst (λ (n : ℕ). StopsText file (causes.Wrong parameter) n) (sym is.2) (subst (λ (c : WalkCause NoMemory). StopsText file c fault.line) is.1 (stops_told file left old new fault told h)))
+walk_told name first file left old new fault (File path) told h is = absurd is
+walk_told name first file left old new fault (Json path) told h is = absurd is
+walk_told name first file left old new fault (Shape path) told h is = absurd is
+walk_told name first file left old new fault (Layout broken path) told h is = absurd is
+walk_told name first file left old new fault (Place path) told h is = absurd is
+walk_told name first file left old new fault (Rank path) told h is = absurd is
+walk_told name first file left old new fault Write told h is = absurd is

@@ -8,7 +8,6 @@ use Rattle.mpi_model.specs.declared.event.Event.{Event}
 use Rattle.trace_know.specs.Segment.{PlacedEvents}
 use Rattle.trace_know.specs.Trace.{Trace, facts_from, view_of}
 use Rattle.trace_know.specs.View.{View, join}
-use Rattle.trace_know.proofs.Facts.{view_of-append}
 use Rattle.input_files.specs.Manifests.{PieceParts}
 use Rattle.command_runs.specs.Pieces.{TellsFacts, facts_of_all}
 use Rattle.command_runs.specs.Runs.{Begin, IsFirstStranger, IsInside, IsKnown, KeepsFirst, TellTrace}
@@ -19,11 +18,15 @@ tell_more file [] piece trace own e h = (own, [], h, refl, ap (λ (t : Trace). t
 tell_more file (p ∷ ps) piece trace own t h =
     (t.0, t.1 ++ own, t.2, tell_more file ps piece t.1 own t.3 h, ap (λ (facts : Trace). facts ++ own) t.4 ∙ append_assoc t.0 t.1 own)
 
-pub known_more : (file : List ℕ → Option (List ℕ)) (pieces : List PieceParts) (piece : PieceParts) (view new : View) (own : Trace)
+-- the view of a union is the join of the views
+abbrev pub Unites : Type 0
+Unites = (a b : Trace) → view_of (a ++ b) ≡ join (view_of a) (view_of b)
+
+pub known_more : Unites → (file : List ℕ → Option (List ℕ)) (pieces : List PieceParts) (piece : PieceParts) (view new : View) (own : Trace)
     → IsKnown file pieces view → TellsFacts (file piece.file) piece.rank piece.first own → new ≡ join view (view_of own)
     → IsKnown file (pieces ++ piece ∷ []) new
-known_more file pieces piece view new own k h e =
-    (k.0 ++ own, tell_more file pieces piece k.0 own k.1 h, e ∙ ap (λ (v : View). join v (view_of own)) k.2 ∙ sym (view_of-append k.0 own))
+known_more unites file pieces piece view new own k h e =
+    (k.0 ++ own, tell_more file pieces piece k.0 own k.1 h, e ∙ ap (λ (v : View). join v (view_of own)) k.2 ∙ sym (unites k.0 own))
 
 -- what is known of strangers after these pieces: none is among them, or this is the first
 abbrev pub IsOutside : (List ℕ → Option (List ℕ)) → ℕ → List PieceParts → Option (String Global) → Type 0

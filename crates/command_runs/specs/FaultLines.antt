@@ -7,7 +7,7 @@ use Rattle.dumpi_text.specs.declared.fault.LineFault.{LineFault}
 use Rattle.dumpi_text.specs.declared.fault.LineFault.TheVariants as lines
 use Rattle.dumpi_text.specs.declared.fault.TextCause.{TextCause}
 use Rattle.dumpi_text.specs.declared.fault.TextCause.TheVariants as causes
-use Rattle.command_runs.specs.Typed.{name_of}
+use Rattle.dumpi_calls.specs.Readings.{name_of}
 use Rattle.command_runs.specs.declared.fault.RunFault.{RunFault}
 use Rattle.command_runs.specs.declared.fault.RunFault.TheVariants.{Memory, File, Json, Shape, Layout, Text, Missing, Wrong, Place, Rank, Write}
 

@@ -4,7 +4,5 @@ pub mod Files
 pub mod Inputs
 pub mod Pieces
 pub mod Report
-pub mod Typed
 pub mod Runs
-pub mod Shown
 pub mod Whole

@@ -4,7 +4,7 @@ use Rattle.std.specs.List.{flat_map}
 use Rattle.mpi_model.specs.Layouts.{Parts}
 use Rattle.mpi_model.specs.declared.layout.Sends.{Sends}
 use Rattle.mpi_model.specs.declared.layout.Sends.TheVariants.{Wait, Buffer}
-use Rattle.trace_know.specs.Cells.{conflicts_of}
+use Rattle.trace_know.specs.Listing.{conflicts_of}
 use Rattle.trace_know.specs.Prefix.{is_beyond, prefix_of}
 use Rattle.trace_know.specs.View.{View}
 

@@ -53,7 +53,7 @@ KeepsFirst ranks piece facts None (Some path) = IsNamed path piece.file × (rank
 -- A piece is refused for its file or its text, and all before it are whole.
 abbrev pub RefusesFirst : (List ℕ → Option (List ℕ)) → List PieceParts → RunFault → Type 0
 RefusesFirst file pieces fault = (front : List PieceParts) × (piece : PieceParts) × Begin front piece pieces
-    × ((view : View) × IsKnown file front view) × RefusesPiece piece.file (file piece.file) fault
+    × ((view : View) × IsKnown file front view) × RefusesPiece piece.file piece.first (file piece.file) fault
 
 -- All pieces are whole, and the fault names the first stranger.
 abbrev pub NamesStranger : (List ℕ → Option (List ℕ)) → ℕ → List PieceParts → RunFault → Type 0

@@ -3,7 +3,7 @@
 ghost use Rattle.std.specs.Prelude.{◌≡◌, IfOk, string_bytes};
 ghost use Rattle.command_runs.specs.FaultLines.{cause_name, fault_line_of, layout_fault_name, line_fault_name};
 
-use crate::typing::Parameter;
+use dumpi_calls::Parameter;
 use dumpi_text::{LineFault, TextCause};
 use mpi_model::LayoutFault;
 use std::alloc::{AllocError, AllocFailed, Global};

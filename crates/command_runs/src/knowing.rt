@@ -12,7 +12,7 @@ use crate::opener::Opener;
 use crate::piece::segments_of;
 use input_files::Piece;
 use std::alloc::{AllocError, Global};
-use trace_know::{Knowledge, Segment};
+use trace_know::{Knowledge, Segment, join_laws, view_laws};
 
 /// What the pieces tell together, of a run of so many ranks. All of them are read before a piece is
 /// refused for its rank.
@@ -26,6 +26,7 @@ pub fn know_of<O: Opener>(
     ensures inside { IfOk result (λ know. All (IsInside (O.file files.old) ranks) pieces.now) }
     ensures err { IfErr result (RefusesPieces (O.file files.old) ranks pieces.now) }
 {
+    view_laws();
     let mut know = Knowledge::new(alloc);
     let mut stranger = None;
     for piece in pieces {
@@ -77,6 +78,8 @@ fn have_calls(segments: &[Segment]) -> bool
 fn take_all(know: &mut Knowledge, segments: &[Segment]) -> Result<(), AllocError>
     ensures { OnOk result (know.new ≡ join know.old (view_of (facts_of_all segments.now))) }
 {
+    join_laws();
+    view_laws();
     for segment in segments {
         know.take(segment)?;
     }

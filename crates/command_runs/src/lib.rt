@@ -9,8 +9,7 @@
 //! holds what is known and the events of one piece.
 //!
 //! - [`opener`]: where files come from; [`whole`]: a whole file, within its limit
-//! - [`typing`]: the calls of a text, read by the parameters of their functions
-//! - [`piece`]: the segments of a piece, [`cut`] from its text's events
+//! - [`piece`]: the segments of a piece
 //! - [`input`]: the layout and the manifest; [`knowing`]: what the pieces tell together
 //! - [`report`]: the report's text
 //! - [`run`]: a verb over its files; [`fault`]: why it is refused, and the line that says so
@@ -20,7 +19,6 @@
 //! program runs.
 #![tactic(auto)]
 
-mod cut;
 mod ending;
 mod fault;
 mod input;
@@ -29,12 +27,10 @@ mod opener;
 mod piece;
 mod report;
 mod run;
-mod typing;
 mod whole;
 
 pub use ending::{Ending, ending_of, ending_without_words};
 pub use fault::{RunFault, fault_line};
 pub use opener::{Disk, OpenFault, Opener};
 pub use run::run_with;
-pub use typing::Parameter;
 pub use whole::LONGEST_FILE;

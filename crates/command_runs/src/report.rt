@@ -2,7 +2,7 @@
 
 ghost use Rattle.std.specs.Prelude.{◌≡◌, ◌++◌, IfOk, OnOk, string_bytes};
 ghost use Rattle.std.specs.List.{flat_map};
-ghost use Rattle.trace_know.specs.Cells.{conflicts_of};
+ghost use Rattle.trace_know.specs.Listing.{conflicts_of};
 ghost use Rattle.command_runs.specs.Report.{conflict_line, head_lines, layout_line, rank_line, rank_lines, report_text, sends_word};
 
 use mpi_model::{Layout, Sends};

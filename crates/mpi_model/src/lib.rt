@@ -12,6 +12,7 @@
 //!   [`whole`]: whole pieces over devices
 //! - [`stamp`], [`told`], [`envelope`], [`collective`], [`list`]: what calls are made of
 //! - [`call`], [`outcome`], [`event`]: what a rank does, and when
+//! - [`message`]: what is matched, and which messages a receive can take
 //! - [`layout`]: the ranks of a run and its communicators
 //!
 //! Its tests are in `crates/reading_tests/src/model.rt`.
@@ -25,6 +26,7 @@ mod event;
 mod layout;
 mod list;
 mod memory;
+mod message;
 mod outcome;
 mod stamp;
 mod told;
@@ -39,6 +41,7 @@ pub use layout::fault::LayoutFault;
 pub use layout::{Layout, MOST_COMMS, MOST_RANKS, Sends};
 pub use list::{Element, Elements, Requests, Sources};
 pub use memory::{EndlessReader, MemoryReader, MemoryWriter};
+pub use message::{Message, Receive, fits};
 pub use outcome::Outs;
 pub use stamp::{LATEST, Stamp};
 pub use told::Told;

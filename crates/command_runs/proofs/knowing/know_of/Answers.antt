@@ -21,7 +21,7 @@ loop-piece-preserved g c =
     record {
       files = c.segments_of.ensures.same ∙ c.loop-piece.invariant.files;
       known = subst (λ (ps : List PieceParts). IsKnown file ps c.take_all.new.know) (sym more)
-          (known_more file (take c.loop-piece.piece-index c.args.pieces.now) c.piece-item.result c.loop-piece.know c.take_all.new.know
+          (known_more c.view_laws.ensures.union file (take c.loop-piece.piece-index c.args.pieces.now) c.piece-item.result c.loop-piece.know c.take_all.new.know
           (facts_of_all c.in-Ok.segments.items) c.loop-piece.invariant.known told taken);
       outside = subst (λ (ps : List PieceParts). IsOutside file c.args.ranks ps _) (sym more)
           (outside_more file c.args.ranks (take c.loop-piece.piece-index c.args.pieces.now) c.piece-item.result
