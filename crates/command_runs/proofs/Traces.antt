@@ -1,5 +1,5 @@
 -- The facts of pieces, one piece more.
-use Rattle.std.proofs.Common.{◌≡◌, ◌∙◌, ◌+◌, ◌++◌, ◌∷◌, [], ℕ, List, Option, Some, None, String, ap, sym, refl, subst, inl, inr, length, take, drop, arith, ◌<◌, ◌≢◌, append_assoc, append-nil}
+use Rattle.std.proofs.Common.{◌≡◌, ◌∙◌, ◌+◌, ◌++◌, ◌∷◌, [], ℕ, List, Option, Some, None, String, ap, sym, refl, subst, inl, inr, length, take, drop, get_or, arith, ◌<◌, ◌≢◌, append_assoc, append-nil}
 use Rattle.std.specs.List.{All}
 use Rattle.std.proofs.lemmas.List.{take-append-drop}
 use Rattle.std.proofs.lemmas.List.Elements.{All-push}
@@ -52,6 +52,12 @@ outside_more file ranks pieces piece facts None None h told n =
 outside_more file ranks pieces piece facts None (Some path) h told n =
     (pieces, piece, ([], refl), h, (n.0, n.1, (facts, told, n.2)))
 
+pub outside_later : (file : List ℕ → Option (List ℕ)) (ranks : ℕ) (front : List PieceParts) (pieces : List PieceParts) (piece : PieceParts) (facts : Trace)
+    (old new : Option (String Global)) → pieces ≡ front ++ piece ∷ [] → IsOutside file ranks front old → TellsFacts (file piece.file) piece.rank piece.first facts
+    → KeepsFirst ranks piece facts old new → IsOutside file ranks pieces new
+outside_later file ranks front pieces piece facts old new e h told n =
+    subst (λ (ps : List PieceParts). IsOutside file ranks ps new) (sym e) (outside_more file ranks front piece facts old new h told n)
+
 -- a list at one of its elements
 pub begins : (pieces : List PieceParts) (i : ℕ) (piece : PieceParts) → take (i + 1) pieces ≡ take i pieces ++ piece ∷ [] → Begin (take i pieces) piece pieces
 begins pieces i piece e = (
@@ -65,5 +71,10 @@ none_of rank place [] some rest e = omega arith
 none_of rank place (event ∷ events) some rest e = cc
 
 -- segments of which the first has an event tell a fact
-pub facts_of_some : (segment : PlacedEvents) (segments : List PlacedEvents) → 0 < length segment.events → facts_of_all (segment ∷ segments) ≢ []
+facts_of_some : (segment : PlacedEvents) (segments : List PlacedEvents) → 0 < length segment.events → facts_of_all (segment ∷ segments) ≢ []
 facts_of_some segment segments some e = none_of segment.rank segment.first_place segment.events some (facts_of_all segments) e
+
+pub facts_of_first : (segments : List PlacedEvents) (first : PlacedEvents) → 0 < length segments → first ≡ get_or segments 0 first
+    → 0 < length first.events → facts_of_all segments ≢ []
+facts_of_first [] first some is events e = omega arith
+facts_of_first (segment ∷ segments) first some is events e = facts_of_some segment segments (subst (λ (s : PlacedEvents). 0 < length s.events) is events) e

@@ -63,7 +63,6 @@ fn with_stranger(
 }
 
 // Whether the segments tell anything: each has an event.
-#[tactic(auto, using(crate::proofs::Traces::facts_of_some))]
 fn have_calls(segments: &[Segment]) -> bool
     ensures some { result ≡ true → facts_of_all segments.now ≢ [] }
     ensures none { result ≡ false → facts_of_all segments.now ≡ [] }
