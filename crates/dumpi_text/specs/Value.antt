@@ -1,80 +1,94 @@
--- Values of parameters: one number, with at most one note.
-use Rattle.std.specs.Prelude.{ℕ, ℤ, pos, neg_ℤ, Bool, true, false, Option, Some, None, List, [], ◌∷◌, Result, Ok, Err, codes, nat_lt, ◌==◌, if◌then◌else◌}
-use Rattle.std.specs.List.{list_any}
-use Rattle.dumpi_text.specs.Call.{same_bytes}
-use Rattle.dumpi_text.specs.Words.{split_at}
-use Rattle.dumpi_text.specs.Time.{is_digit, number_of}
+-- Values of parameters: a number, a list of numbers, or a list of groups. Spaces between the parts are passed over.
+use Rattle.std.specs.Prelude.{ℕ, ◌||◌, Option, Some, None, List, [], ◌∷◌, ◌==◌, if◌then◌else◌, option_map}
+use Rattle.dumpi_text.specs.Bytes.{equals, opening_bracket, closing_bracket, opening_brace, closing_brace}
+use Rattle.dumpi_text.specs.Tokens.{after_spaces, after_byte, digits_front, word_front}
+use Rattle.dumpi_text.specs.Number.{number_front, bracketed_front, number_item, note_front}
+use Rattle.dumpi_text.specs.Items.{items_front, fields_front, group_item}
 use Rattle.dumpi_text.specs.Stamps.{◌>>=◌}
-use Rattle.dumpi_text.specs.declared.value.NumName.{NumName}
-use Rattle.dumpi_text.specs.declared.value.NumName.TheVariants.{AnySource, AnyTag, ProcNull, CommWorld, Other}
-use Rattle.dumpi_text.specs.declared.value.Num.{Num}
+use Rattle.dumpi_text.specs.declared.number.Num.{Num}
+use Rattle.dumpi_text.specs.declared.group.Field.{Field}
 use Rattle.dumpi_text.specs.declared.value.Value.{Value}
-use Rattle.dumpi_text.specs.declared.value.Value.TheVariants.{Number}
-use Rattle.dumpi_text.specs.declared.value.ValueFault.{ValueFault}
-use Rattle.dumpi_text.specs.declared.value.ValueFault.TheVariants.{BadValue}
+use Rattle.dumpi_text.specs.declared.value.Value.TheVariants.{Number, Numbers, Groups}
 
--- the text without the spaces in front
-abbrev pub after_spaces : List ℕ → List ℕ
-after_spaces [] = []
-after_spaces (byte ∷ bytes) = if byte == 32 then after_spaces bytes else byte ∷ bytes
+-- what was found, as a value
 
--- whether a `-` stands in front, and what follows it
-abbrev pub sign_parts : List ℕ → Bool × List ℕ
-sign_parts [] = (false, [])
-sign_parts (byte ∷ bytes) = if byte == 45 then (true, bytes) else (false, byte ∷ bytes)
+abbrev pub one_number : Option (Num × List ℕ) → Option (Value × List ℕ)
+one_number found = option_map (λ x. (Number x.0, x.1)) found
 
--- the longest front of digits, and what follows it
-abbrev pub digit_parts : List ℕ → List ℕ × List ℕ
-digit_parts [] = ([], [])
-digit_parts (byte ∷ bytes) = if is_digit byte then (byte ∷ (digit_parts bytes).0, (digit_parts bytes).1) else ([], byte ∷ bytes)
+abbrev pub all_numbers : Option (List Num × List ℕ) → Option (Value × List ℕ)
+all_numbers found = option_map (λ x. (Numbers x.0, x.1)) found
 
--- the integer of a sign and digits, where it is from -2^63 to 2^63 - 1
-abbrev pub integer_of : Bool → List ℕ → Option ℤ
-integer_of negative [] = None
-integer_of false (digit ∷ digits) = if nat_lt 9223372036854775807 (number_of (digit ∷ digits)) then None else Some (pos (number_of (digit ∷ digits)))
-integer_of true (digit ∷ digits) = if nat_lt 9223372036854775808 (number_of (digit ∷ digits)) then None else Some (neg_ℤ (pos (number_of (digit ∷ digits))))
+abbrev pub all_groups : Option (List (List Field) × List ℕ) → Option (Value × List ℕ)
+all_groups found = option_map (λ x. (Groups x.0, x.1)) found
 
--- the integer in front, and what follows its digits
-unfoldable pub integer_front : List ℕ → Option (ℤ × List ℕ)
-integer_front text = do
-  value ← integer_of (sign_parts text).0 (digit_parts (sign_parts text).1).0
-  Some (value, (digit_parts (sign_parts text).1).1)
+abbrev pub one_group : Option (List Field × List ℕ) → Option (Value × List ℕ)
+one_group found = option_map (λ x. (Groups (x.0 ∷ []), x.1)) found
 
--- the name that a note gives its number, where the note holds exactly that name
-unfoldable pub name_of : List ℕ → NumName
-name_of note =
-    if same_bytes note (codes "MPI_ANY_SOURCE") then AnySource
-    else (if same_bytes note (codes "MPI_ANY_TAG") then AnyTag
-    else (if same_bytes note (codes "MPI_PROC_NULL") then ProcNull
-    else (if same_bytes note (codes "MPI_COMM_WORLD") then CommWorld else Other)))
+-- what follows the opening byte of a list: nothing, groups, or numbers
+abbrev pub list_rest : ℕ → List ℕ → Option (Value × List ℕ)
+list_rest close [] = None
+list_rest close (byte ∷ bytes) =
+    if byte == close then Some (Numbers [], bytes)
+    else (if byte == opening_brace then all_groups (items_front group_item close (byte ∷ bytes))
+    else all_numbers (items_front number_item close (byte ∷ bytes)))
 
-abbrev pub is_opening : ℕ → Bool
-is_opening byte = byte == 40
+-- whether a field begins, which a word and `=` do
+unfoldable pub field_begins : List ℕ → Option (List ℕ)
+field_begins text = do
+  word ← word_front text
+  after_byte equals word.1
 
-abbrev pub at_end : NumName → List ℕ → Option NumName
-at_end name [] = Some name
-at_end name (byte ∷ bytes) = None
+-- what follows a `{`: the fields of one group, where one begins, or a list
+abbrev pub by_field : Option (List ℕ) → List ℕ → Option (Value × List ℕ)
+by_field (Some rest) text = one_group (fields_front text)
+by_field None text = list_rest closing_brace text
 
--- by what stands before the first `)`, and what follows it
-abbrev pub name_in : List ℕ → Option (List ℕ) → Option NumName
-name_in note None = None
-name_in note (Some rest) = if list_any is_opening note then None else at_end (name_of note) (after_spaces rest)
+abbrev pub brace_rest : List ℕ → Option (Value × List ℕ)
+brace_rest text = by_field (field_begins text) text
 
--- what follows an integer: nothing, or one note
-abbrev pub name_after : List ℕ → Option NumName
-name_after [] = Some Other
-name_after (byte ∷ bytes) = if byte == 40 then name_in (split_at 41 bytes).0 (split_at 41 bytes).1 else None
+-- a list or a group
+abbrev pub list_front : List ℕ → Option (Value × List ℕ)
+list_front [] = None
+list_front (byte ∷ bytes) =
+    if byte == opening_bracket then list_rest closing_bracket (after_spaces bytes)
+    else (if byte == opening_brace then brace_rest (after_spaces bytes) else None)
 
-unfoldable pub number_in : List ℕ → Option Num
-number_in text = do
-  integer ← integer_front (after_spaces text)
-  name ← name_after (after_spaces integer.1)
-  Some (record { value = integer.0; name = name })
+-- a text that begins with a list or a group
+abbrev pub list_begins : List ℕ → Option (List ℕ)
+list_begins [] = None
+list_begins (byte ∷ bytes) = if byte == opening_bracket || byte == opening_brace then Some (byte ∷ bytes) else None
 
-abbrev pub value_from : Option Num → Result Value ValueFault
-value_from None = Err BadValue
-value_from (Some number) = Ok (Number number)
+-- the list or the group after a count, which is digits and `]`
+unfoldable pub after_count : List ℕ → Option (List ℕ)
+after_count text = do
+  digits ← digits_front text
+  rest ← after_byte closing_bracket digits.1
+  list_begins (after_spaces rest)
 
--- what a text says
-abbrev pub value_of : List ℕ → Result Value ValueFault
-value_of text = value_from (number_in text)
+-- what follows a `[`: a count before a list or a group; else a number; else a list
+abbrev pub by_count : Option (List ℕ) → Option (Num × List ℕ) → List ℕ → Option (Value × List ℕ)
+by_count (Some listed) number text = list_front listed
+by_count None (Some number) text = one_number (Some number)
+by_count None None text = list_rest closing_bracket text
+
+abbrev pub bracket_rest : List ℕ → Option (Value × List ℕ)
+bracket_rest text = by_count (after_count text) (bracketed_front text) text
+
+-- a value without its note
+abbrev pub core_front : List ℕ → Option (Value × List ℕ)
+core_front [] = None
+core_front (byte ∷ bytes) =
+    if byte == opening_bracket then bracket_rest (after_spaces bytes)
+    else (if byte == opening_brace then brace_rest (after_spaces bytes) else one_number (number_front (byte ∷ bytes)))
+
+-- a value after which nothing follows
+abbrev pub when_over : Value → List ℕ → Option Value
+when_over value [] = Some value
+when_over value (byte ∷ bytes) = None
+
+-- what a text says: a core, and an optional note
+unfoldable pub value_of : List ℕ → Option Value
+value_of text = do
+  core ← core_front (after_spaces text)
+  note ← note_front (after_spaces core.1)
+  when_over core.0 (after_spaces note.1)

@@ -1,160 +1,20 @@
-//! Values of parameters.
+//! Values: a number, a list of numbers, or a list of groups.
+//!
+//! Each part is read from the front of a text, and what follows it is handed on. One number takes no memory.
 
-ghost use Rattle.std.specs.Prelude.{◌≡◌, ◌≤◌, ℕ, ◌<◌, Option, Some, None, true, pos, nat_lt, if◌then◌else◌};
-ghost use Rattle.std.specs.List.{list_all, list_any};
-ghost use Rattle.std.specs.Option.{option_map};
-ghost use Rattle.dumpi_text.specs.Time.{is_digit, number_of};
-ghost use Rattle.dumpi_text.specs.Value.{after_spaces, sign_parts, digit_parts, integer_of, integer_front, name_of, at_end, is_opening, name_in, name_after, number_in, value_of};
+ghost use Rattle.std.specs.Prelude.{◌≡◌, ◌≢◌, ◌∷◌, [], IfErr, IfOk, None, Option, Some};
+ghost use Rattle.std.specs.Option.{option_copied};
+ghost use Rattle.dumpi_text.specs.Value.{after_count, bracket_rest, brace_rest, core_front, field_begins, list_begins, list_front, list_rest, one_group, value_of};
+ghost use Rattle.dumpi_text.specs.Bytes.{opening_brace};
+ghost use Rattle.dumpi_text.specs.Items.{fields_front};
+ghost use Rattle.dumpi_text.specs.declared.value.ValueFault.TheVariants.{BadValue};
 
-use crate::content::same;
-use crate::words::split_first;
-use std::alloc::Global;
-use std::marker::Model;
+use crate::group::{Group, Groups};
+use crate::items::read_items;
+use crate::number::{Num, Nums, read_bracketed, read_number, skip_note};
+use crate::tokens::{read_digits, read_word, skip_byte, skip_spaces};
+use std::alloc::{AllocError, AllocFailed, Global};
 use thiserror::Error;
-
-/// What the note of a number says.
-#[derive(Clone, Copy, Debug, PartialEq, Eq)]
-pub enum NumName {
-    /// `MPI_ANY_SOURCE`.
-    AnySource,
-    /// `MPI_ANY_TAG`.
-    AnyTag,
-    /// `MPI_PROC_NULL`.
-    ProcNull,
-    /// `MPI_COMM_WORLD`.
-    CommWorld,
-    /// Another note, or none.
-    Other,
-}
-
-/// A number, and the name that its note gives it.
-#[derive(Clone, Copy, Debug, PartialEq, Eq)]
-pub struct Num {
-    pub value: i64,
-    pub name: NumName,
-}
-
-/// The numbers of a list, in its order.
-#[derive(Debug, Drop)]
-pub struct Nums {
-    numbers: Vec<Num>,
-}
-
-impl Model for Nums {
-    ghost use Rattle.std.specs.Prelude.{List};
-    ghost use Rattle.dumpi_text.specs.declared.value.Num.{Num};
-
-    ghost Value = { List Num };
-
-    ghost view = { λ n. n.numbers.items };
-}
-
-impl Nums {
-    pub fn from_vec(numbers: Vec<Num>) -> Self
-        ensures { result ≡ numbers.items }
-    {
-        Nums { numbers }
-    }
-
-    pub fn as_slice(&self) -> &[Num]
-        ensures { result.now ≡ self.now }
-    {
-        &self.numbers
-    }
-}
-
-/// The word of a group's field: letters, digits and `_`.
-#[derive(Debug, Drop)]
-pub struct Word {
-    bytes: Vec<u8>,
-}
-
-impl Model for Word {
-    ghost use Rattle.std.specs.Prelude.{List, ℕ};
-
-    ghost Value = { List ℕ };
-
-    ghost view = { λ w. w.bytes.items };
-}
-
-impl Word {
-    pub fn from_vec(bytes: Vec<u8>) -> Self
-        ensures { result ≡ bytes.items }
-    {
-        Word { bytes }
-    }
-
-    pub fn as_slice(&self) -> &[u8]
-        ensures { result.now ≡ self.now }
-    {
-        &self.bytes
-    }
-}
-
-/// One field of a group.
-#[derive(Debug, Drop)]
-pub struct Field {
-    pub word: Word,
-    pub number: Num,
-}
-
-/// The fields of a group, in its order.
-#[derive(Debug, Drop)]
-pub struct Group {
-    fields: Vec<Field>,
-}
-
-impl Model for Group {
-    ghost use Rattle.std.specs.Prelude.{List};
-    ghost use Rattle.dumpi_text.specs.declared.value.Field.{Field};
-
-    ghost Value = { List Field };
-
-    ghost view = { λ g. g.fields.items };
-}
-
-impl Group {
-    pub fn from_vec(fields: Vec<Field>) -> Self
-        ensures { result ≡ fields.items }
-    {
-        Group { fields }
-    }
-
-    pub fn as_slice(&self) -> &[Field]
-        ensures { result.now ≡ self.now }
-    {
-        &self.fields
-    }
-}
-
-/// The groups of a list, in its order.
-#[derive(Debug, Drop)]
-pub struct Groups {
-    groups: Vec<Group>,
-}
-
-impl Model for Groups {
-    ghost use Rattle.std.specs.Prelude.{List};
-    ghost use Rattle.dumpi_text.specs.declared.value.Group.{Group};
-
-    ghost Value = { List Group };
-
-    ghost view = { λ g. g.groups.items };
-}
-
-impl Groups {
-    pub fn from_vec(groups: Vec<Group>) -> Self
-        ensures { result ≡ groups.items }
-    {
-        Groups { groups }
-    }
-
-    pub fn as_slice(&self) -> &[Group]
-        ensures { result.now ≡ self.now }
-    {
-        &self.groups
-    }
-}
 
 /// What a value says.
 #[derive(Debug, Drop)]
@@ -175,164 +35,153 @@ pub enum ValueFault {
     Memory,
 }
 
-/// The greatest number that a sign and digits may spell, 2^63, and its tenth.
-const GREATEST: u64 = 9_223_372_036_854_775_808;
+impl From<AllocError> for ValueFault {
+    ghost use Rattle.std.specs.Prelude.{◌≡◌};
+    ghost use Rattle.dumpi_text.specs.declared.value.ValueFault.TheVariants.{Memory};
 
-const TENTH: u64 = 922_337_203_685_477_580;
+    ghost from_gives = { λ _ e. e ≡ Memory };
 
-fn skip_spaces(text: &[u8]) -> &[u8]
-    ensures { result.now ≡ after_spaces text.now }
-{
-    for (at, byte) in text.iter().enumerate() {
-        if *byte != b' ' {
-            return &text[at..];
-        }
+    fn from(_error: AllocError) -> ValueFault {
+        ValueFault::Memory
     }
-    &[]
 }
 
-fn split_sign(text: &[u8]) -> (bool, &[u8])
-    ensures sign { result.0 ≡ (sign_parts text.now).0 }
-    ensures rest { result.1.now ≡ (sign_parts text.now).1 }
+impl<T: Drop> From<AllocFailed<T>> for ValueFault {
+    ghost use Rattle.std.specs.Prelude.{◌≡◌};
+    ghost use Rattle.dumpi_text.specs.declared.value.ValueFault.TheVariants.{Memory};
+
+    ghost from_gives = { λ _ e. e ≡ Memory };
+
+    fn from(_failed: AllocFailed<T>) -> ValueFault {
+        ValueFault::Memory
+    }
+}
+
+/// What follows the opening byte of a list.
+fn read_list<'t>(alloc: Global, close: u8, text: &'t [u8]) -> Result<(Value, &'t [u8]), ValueFault>
+    requires { close ≢ opening_brace }
+    ensures ok { IfOk result (λ x. list_rest close text.now ≡ Some (x.0, x.1.now)) }
+    ensures bad { IfErr result (λ fault. fault ≡ BadValue → list_rest close text.now ≡ None) }
 {
     match text {
-        [b'-', rest @ ..] => (true, rest),
-        _ => (false, text),
-    }
-}
-
-fn split_digits(text: &[u8]) -> (&[u8], &[u8])
-    ensures digits { result.0.now ≡ (digit_parts text.now).0 }
-    ensures rest { result.1.now ≡ (digit_parts text.now).1 }
-    ensures all { list_all is_digit result.0.now ≡ true }
-{
-    for (at, byte) in text.iter().enumerate() {
-        if *byte < b'0' || b'9' < *byte {
-            return (&text[..at], &text[at..]);
+        [byte, rest @ ..] if *byte == close => {
+            Ok((Value::Numbers(Nums::from_vec(Vec::new(alloc))), rest))
+        }
+        [b'{', ..] => {
+            let (groups, rest) = read_items(alloc, close, text)?;
+            Ok((Value::Groups(Groups::from_vec(groups)), rest))
+        }
+        [] => Err(ValueFault::BadValue),
+        _ => {
+            let (numbers, rest) = read_items(alloc, close, text)?;
+            Ok((Value::Numbers(Nums::from_vec(numbers)), rest))
         }
     }
-    (text, &[])
 }
 
-/// The number that digits spell, where it is at most 2^63.
-#[tactic(auto, using(crate::proofs::Numbers::number_after_grows, crate::proofs::Numbers::digit_is, crate::proofs::Numbers::number_after_step))]
-fn magnitude_of(digits: &[u8]) -> Option<u64>
-    requires { list_all is_digit digits.now ≡ true }
-    ensures { result ≡ (if nat_lt 9223372036854775808 (number_of digits.now) then None else Some (number_of digits.now)) }
+/// Whether a field begins; what follows its `=`.
+#[tactic(auto, unfolding(crate::specs::Value::field_begins))]
+fn begins_field(text: &[u8]) -> Option<&[u8]>
+    ensures { option_copied result ≡ field_begins text.now }
 {
-    let mut number: u64 = 0;
-    for digit in digits {
-        if number > TENTH {
-            return None;
-        }
-        number = 10 * number + u64::from(*digit - 48);
-        if number > GREATEST {
-            return None;
-        }
-    }
-    Some(number)
+    let (_, rest) = read_word(text)?;
+    skip_byte(b'=', rest)
 }
 
-fn integer_from(negative: bool, digits: &[u8]) -> Option<i64>
-    requires { list_all is_digit digits.now ≡ true }
-    ensures { result ≡ integer_of negative digits.now }
+/// What follows the `{` of a group that stands alone: a list of one.
+fn read_group<'t>(alloc: Global, text: &'t [u8]) -> Result<(Value, &'t [u8]), ValueFault>
+    ensures ok { IfOk result (λ x. one_group (fields_front text.now) ≡ Some (x.0, x.1.now)) }
+    ensures bad { IfErr result (λ fault. fault ≡ BadValue → one_group (fields_front text.now) ≡ None) }
 {
-    if digits.is_empty() {
-        return None;
-    }
-    let magnitude = magnitude_of(digits)?;
-    if negative {
-        if magnitude == 0 {
-            Some(0)
-        } else {
-            Some(-((magnitude - 1) as i64) - 1)
-        }
-    } else if magnitude < GREATEST {
-        Some(magnitude as i64)
-    } else {
-        None
+    let (fields, rest) = read_items(alloc, b'}', text)?;
+    let mut groups = Vec::new(alloc);
+    groups.push(Group::from_vec(fields))?;
+    Ok((Value::Groups(Groups::from_vec(groups)), rest))
+}
+
+/// What follows a `{`.
+fn read_brace<'t>(alloc: Global, text: &'t [u8]) -> Result<(Value, &'t [u8]), ValueFault>
+    ensures ok { IfOk result (λ x. brace_rest text.now ≡ Some (x.0, x.1.now)) }
+    ensures bad { IfErr result (λ fault. fault ≡ BadValue → brace_rest text.now ≡ None) }
+{
+    match begins_field(text) {
+        Some(_) => read_group(alloc, text),
+        None => read_list(alloc, b'}', text),
     }
 }
 
-#[tactic(auto, unfolding(crate::specs::Value::integer_front))]
-fn read_integer(text: &[u8]) -> Option<(i64, &[u8])>
-    ensures { option_map (λ x. (x.0, x.1.now)) result ≡ integer_front text.now }
+/// A list or a group.
+fn read_listed<'t>(alloc: Global, text: &'t [u8]) -> Result<(Value, &'t [u8]), ValueFault>
+    ensures ok { IfOk result (λ x. list_front text.now ≡ Some (x.0, x.1.now)) }
+    ensures bad { IfErr result (λ fault. fault ≡ BadValue → list_front text.now ≡ None) }
 {
-    let (negative, text) = split_sign(text);
-    let (digits, rest) = split_digits(text);
-    let value = integer_from(negative, digits)?;
-    Some((value, rest))
-}
-
-#[tactic(auto, unfolding(crate::specs::Value::name_of))]
-fn name_by(note: &[u8]) -> NumName
-    ensures { result ≡ name_of note.now }
-{
-    if same(note, b"MPI_ANY_SOURCE") {
-        NumName::AnySource
-    } else if same(note, b"MPI_ANY_TAG") {
-        NumName::AnyTag
-    } else if same(note, b"MPI_PROC_NULL") {
-        NumName::ProcNull
-    } else if same(note, b"MPI_COMM_WORLD") {
-        NumName::CommWorld
-    } else {
-        NumName::Other
+    match text {
+        [b'[', rest @ ..] => read_list(alloc, b']', skip_spaces(rest)),
+        [b'{', rest @ ..] => read_brace(alloc, skip_spaces(rest)),
+        _ => Err(ValueFault::BadValue),
     }
 }
 
-fn name_at_end(note: &[u8], rest: &[u8]) -> Option<NumName>
-    ensures { result ≡ at_end (name_of note.now) rest.now }
+/// The text, where it begins with a list or a group.
+fn begins_list(text: &[u8]) -> Option<&[u8]>
+    ensures { option_copied result ≡ list_begins text.now }
 {
-    match rest {
-        [] => Some(name_by(note)),
+    match text {
+        [b'[', ..] => Some(text),
+        [b'{', ..] => Some(text),
         _ => None,
     }
 }
 
-fn has_opening(note: &[u8]) -> bool
-    ensures { result ≡ list_any is_opening note.now }
+/// The list or the group after a count and its `]`.
+#[tactic(auto, unfolding(crate::specs::Value::after_count))]
+fn skip_count(text: &[u8]) -> Option<&[u8]>
+    ensures { option_copied result ≡ after_count text.now }
 {
-    note.iter().any(|byte| *byte == 40)
+    let (_, rest) = read_digits(text)?;
+    let rest = skip_byte(b']', rest)?;
+    begins_list(skip_spaces(rest))
 }
 
-fn read_note(note: &[u8], rest: &[u8]) -> Option<NumName>
-    ensures { result ≡ name_in note.now (Some rest.now) }
+/// What follows a `[`.
+fn read_bracket<'t>(alloc: Global, text: &'t [u8]) -> Result<(Value, &'t [u8]), ValueFault>
+    ensures ok { IfOk result (λ x. bracket_rest text.now ≡ Some (x.0, x.1.now)) }
+    ensures bad { IfErr result (λ fault. fault ≡ BadValue → bracket_rest text.now ≡ None) }
 {
-    if has_opening(note) {
-        return None;
-    }
-    name_at_end(note, skip_spaces(rest))
-}
-
-fn read_name(text: &[u8]) -> Option<NumName>
-    ensures { result ≡ name_after text.now }
-{
-    match text {
-        [] => Some(NumName::Other),
-        [b'(', rest @ ..] => match split_first(b')', rest) {
-            (_, None) => None,
-            (note, Some(rest)) => read_note(note, rest),
+    match skip_count(text) {
+        Some(listed) => read_listed(alloc, listed),
+        None => match read_bracketed(text) {
+            Some((number, rest)) => Ok((Value::Number(number), rest)),
+            None => read_list(alloc, b']', text),
         },
-        _ => None,
     }
 }
 
-#[tactic(auto, unfolding(crate::specs::Value::number_in))]
-fn read_number(text: &[u8]) -> Option<Num>
-    ensures { result ≡ number_in text.now }
+/// A value without its note.
+fn read_core<'t>(alloc: Global, text: &'t [u8]) -> Result<(Value, &'t [u8]), ValueFault>
+    ensures ok { IfOk result (λ x. core_front text.now ≡ Some (x.0, x.1.now)) }
+    ensures bad { IfErr result (λ fault. fault ≡ BadValue → core_front text.now ≡ None) }
 {
-    let (value, rest) = read_integer(skip_spaces(text))?;
-    let name = read_name(skip_spaces(rest))?;
-    Some(Num { value, name })
+    match text {
+        [] => Err(ValueFault::BadValue),
+        [b'[', rest @ ..] => read_bracket(alloc, skip_spaces(rest)),
+        [b'{', rest @ ..] => read_brace(alloc, skip_spaces(rest)),
+        _ => match read_number(text) {
+            Some((number, rest)) => Ok((Value::Number(number), rest)),
+            None => Err(ValueFault::BadValue),
+        },
+    }
 }
 
-/// What a value says. For now it reads one number with at most one note, and refuses lists and groups.
-pub fn parse_value(_alloc: Global, text: &[u8]) -> Result<Value, ValueFault>
-    ensures { result ≡ value_of text.now }
+/// What a value says.
+#[tactic(auto, unfolding(crate::specs::Value::value_of))]
+pub fn parse_value(alloc: Global, text: &[u8]) -> Result<Value, ValueFault>
+    ensures ok { IfOk result (λ value. value_of text.now ≡ Some value) }
+    ensures bad { IfErr result (λ fault. fault ≡ BadValue → value_of text.now ≡ None) }
 {
-    match read_number(text) {
-        None => Err(ValueFault::BadValue),
-        Some(number) => Ok(Value::Number(number)),
+    let (value, rest) = read_core(alloc, skip_spaces(text))?;
+    match skip_note(skip_spaces(rest)) {
+        Some((_, rest)) if skip_spaces(rest).is_empty() => Ok(value),
+        _ => Err(ValueFault::BadValue),
     }
 }

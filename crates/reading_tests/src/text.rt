@@ -1,4 +1,4 @@
-use dumpi_text::{NumName, RawCall, Texts, Value, ValueFault, parse_time, parse_value};
+use dumpi_text::{Field, Num, NumName, RawCall, Texts, Value, parse_time, parse_value};
 use mpi_model::{Device, Failed, Read};
 use std::alloc::Global;
 use std::fmt::Write;
@@ -776,54 +776,146 @@ fn parses_times(rt: HostRuntime) -> Result<(), Fail> {
     Ok(())
 }
 
+fn put_number(told: &mut String, number: &Num) -> Result<(), Fail> {
+    write!(told, "{}", number.value)?;
+    match number.name {
+        NumName::AnySource => told.push_str(" any source")?,
+        NumName::AnyTag => told.push_str(" any tag")?,
+        NumName::ProcNull => told.push_str(" null")?,
+        NumName::CommWorld => told.push_str(" world")?,
+        NumName::Other => {}
+    }
+    Ok(())
+}
+
+fn put_fields(told: &mut String, fields: &[Field]) -> Result<(), Fail> {
+    told.push_str("{")?;
+    for field in fields {
+        let word = std::str::from_utf8(field.word.as_slice())?;
+        write!(told, "{word}=")?;
+        put_number(told, &field.number)?;
+        told.push_str(";")?;
+    }
+    told.push_str("}")?;
+    Ok(())
+}
+
+/// What a value says: a number, numbers or groups; or X4.
+fn told_value(alloc: Global, text: &str) -> Result<String, Fail> {
+    let mut told = String::new(alloc);
+    match parse_value(alloc, text.as_bytes()) {
+        Ok(Value::Number(number)) => put_number(&mut told, &number)?,
+        Ok(Value::Numbers(numbers)) => {
+            told.push_str("numbers")?;
+            for number in numbers.as_slice() {
+                told.push_str(" ")?;
+                put_number(&mut told, number)?;
+            }
+        }
+        Ok(Value::Groups(groups)) => {
+            told.push_str("groups")?;
+            for group in groups.as_slice() {
+                told.push_str(" ")?;
+                put_fields(&mut told, group.as_slice())?;
+            }
+        }
+        Err(fault) => write!(told, "{fault}")?,
+    }
+    Ok(told)
+}
+
 #[test]
 fn parses_values(rt: HostRuntime) -> Result<(), Fail> {
     let alloc = rt.alloc();
+    let bad = "X4 BadValue";
     let rows = [
-        ("4", Some((4, NumName::Other))),
-        ("-1 (MPI_ANY_TAG)", Some((-1, NumName::AnyTag))),
-        ("-2(MPI_ANY_SOURCE)", Some((-2, NumName::AnySource))),
-        (" -3 (MPI_PROC_NULL) ", Some((-3, NumName::ProcNull))),
-        ("2 (MPI_COMM_WORLD)", Some((2, NumName::CommWorld))),
-        ("2 ( MPI_COMM_WORLD)", Some((2, NumName::Other))),
-        ("2 ()", Some((2, NumName::Other))),
-        ("-0", Some((0, NumName::Other))),
-        ("007", Some((7, NumName::Other))),
+        ("4", "4"),
+        ("-1 (MPI_ANY_TAG)", "-1 any tag"),
+        ("-2(MPI_ANY_SOURCE)", "-2 any source"),
+        (" -3 (MPI_PROC_NULL) ", "-3 null"),
+        ("2 (MPI_COMM_WORLD)", "2 world"),
+        ("2 ( MPI_COMM_WORLD)", "2"),
+        ("2 ()", "2"),
+        ("-0", "0"),
+        ("007", "7"),
+        ("9223372036854775807", "9223372036854775807"),
+        ("9223372036854775808", bad),
+        ("-9223372036854775808", "-9223372036854775808"),
+        ("-9223372036854775809", bad),
+        ("- 4", bad),
+        ("--4", bad),
+        ("-", bad),
+        ("", bad),
+        ("   ", bad),
+        ("4 (MPI_ANY_TAG) (b)", "4 any tag"),
+        ("4 (a) (MPI_ANY_TAG)", "4"),
+        ("4 (a) (b) (c)", bad),
+        ("4 (a(b))", bad),
+        ("4 (a", bad),
+        ("4 a", bad),
+        ("\t4", bad),
+        ("<IGNORED>", bad),
+        ("[4]", "4"),
+        ("[ 4 ] (MPI_ANY_TAG)", "4"),
+        ("[4 (MPI_ANY_TAG)] (x)", "4 any tag"),
+        ("[4] (a) (b)", bad),
+        ("{4}", "numbers 4"),
+        ("[4] [5]", "numbers 5"),
+        ("[[4]]", "numbers 4"),
+        ("[2] 4", bad),
+        ("[2] {4, 5}", "numbers 4 5"),
+        ("[2]{4,5}", "numbers 4 5"),
+        ("[99999999999999999999]{4,5}", "numbers 4 5"),
+        ("[99999999999999999999]", bad),
+        ("[2 (a)] {4, 5}", bad),
+        ("[-2] {4, 5}", bad),
+        ("[2] [4, 5] (note)", "numbers 4 5"),
+        ("[2] [4, 5] (note) (note)", bad),
+        ("{4, 5]", bad),
+        ("[4, 5}", bad),
+        ("{4, }", bad),
+        ("{4 5}", bad),
+        ("{, 4}", bad),
+        ("{}", "numbers"),
+        ("[]", "numbers"),
+        ("[0] {}", "numbers"),
+        ("[ ]", "numbers"),
         (
-            "9223372036854775807",
-            Some((9223372036854775807, NumName::Other)),
+            "{4 (MPI_ANY_TAG), [5 (MPI_PROC_NULL)]}",
+            "numbers 4 any tag 5 null",
         ),
-        ("9223372036854775808", None),
+        ("{[4] (a)}", bad),
+        ("{a=1}", "groups {a=1;}"),
         (
-            "-9223372036854775808",
-            Some((-9223372036854775807 - 1, NumName::Other)),
+            "{source=3 (MPI_ANY_SOURCE), tag = -1}",
+            "groups {source=3 any source;tag=-1;}",
         ),
-        ("-9223372036854775809", None),
-        ("18446744073709551617", None),
-        ("- 4", None),
-        ("--4", None),
-        ("-", None),
-        ("", None),
-        ("4 (a) (b)", None),
-        ("4 (a(b))", None),
-        ("4 (a", None),
-        ("4 a", None),
-        ("\t4", None),
-        ("<IGNORED>", None),
+        (
+            "[2] {{source=3}, {source=0}}",
+            "groups {source=3;} {source=0;}",
+        ),
+        ("[{a=1}]", "groups {a=1;}"),
+        ("[1] {a=1}", "groups {a=1;}"),
+        ("{{a=1}, 4}", bad),
+        ("{4, {a=1}}", bad),
+        ("{{a=1} (b)}", bad),
+        ("{{}}", bad),
+        ("{a=}", bad),
+        ("{=1}", bad),
+        ("{a=1,}", bad),
+        ("{a b=1}", bad),
+        ("{12=3}", "groups {12=3;}"),
+        ("{12 = 3}(x)", "groups {12=3;}"),
+        ("{a=1} {b=2}", bad),
+        ("4, 5", bad),
+        ("[", bad),
+        ("{", bad),
+        ("[4", bad),
+        ("[4] x", bad),
     ];
     for (text, expected) in rows {
-        match parse_value(alloc, text.as_bytes()) {
-            Ok(Value::Number(number)) => assert_eq!(rt;
-                Some((number.value, number.name)),
-                expected,
-                "{text}"
-            ),
-            Ok(_) => assert!(rt; false, "{text}"),
-            Err(fault) => {
-                assert_eq!(rt; fault, ValueFault::BadValue, "{text}");
-                assert!(rt; expected.is_none(), "{text}");
-            }
-        }
+        let shown = told_value(alloc, text)?;
+        assert_eq!(rt; shown.as_str(), expected, "{text}");
     }
     Ok(())
 }
