@@ -328,7 +328,11 @@ fn a_call_is_refused_for_each_parameter(rt: HostRuntime) -> Result<(), Fail> {
                     wanted.push_str("calls 1 skipped 0")?;
                 }
                 let shown = answer_with(alloc, function, &parameters, name, value)?;
-                assert_eq!(rt; shown.as_str(), wanted.as_str(), "{function} with {name}={value}");
+                assert_eq!(rt;
+                    shown.as_str(),
+                    wanted.as_str(),
+                    "{function} with {name}={value}"
+                );
             }
         }
     }
@@ -337,52 +341,282 @@ fn a_call_is_refused_for_each_parameter(rt: HostRuntime) -> Result<(), Fail> {
 
 /// One call with these parameters, and the answer.
 const VALUES: [(&str, &str, &str, &str); 46] = [
-    ("no element", "MPI_Send", "count=0 datatype=-9223372036854775808 dest=0 tag=0 comm=0", "calls 1 skipped 0"),
-    ("the greatest numbers", "MPI_Send", "count=2147483647 datatype=9223372036854775807 dest=2147483647 tag=2147483647 comm=2147483647", "calls 1 skipped 0"),
-    ("a datatype past 64 bits", "MPI_Send", "count=1 datatype=9223372036854775808 dest=1 tag=1 comm=1", "C2 datatype at 1 calls 0"),
-    ("a negative count", "MPI_Send", "count=-1 datatype=1 dest=1 tag=1 comm=1", "C2 count at 1 calls 0"),
-    ("a count past 2^31 - 1", "MPI_Send", "count=2147483648 datatype=1 dest=1 tag=1 comm=1", "C2 count at 1 calls 0"),
-    ("to the null process by -1", "MPI_Send", "count=1 datatype=1 dest=-1 tag=1 comm=1", "calls 1 skipped 0"),
-    ("to the null process by -2", "MPI_Send", "count=1 datatype=1 dest=-2 tag=1 comm=1", "calls 1 skipped 0"),
-    ("to -3", "MPI_Send", "count=1 datatype=1 dest=-3 tag=1 comm=1", "C2 dest at 1 calls 0"),
-    ("to -3 by the name of the null process", "MPI_Send", "count=1 datatype=1 dest=-3(MPI_PROC_NULL) tag=1 comm=1", "calls 1 skipped 0"),
-    ("to rank 2^31", "MPI_Send", "count=1 datatype=1 dest=2147483648 tag=1 comm=1", "C2 dest at 1 calls 0"),
-    ("a send with the tag -1", "MPI_Send", "count=1 datatype=1 dest=1 tag=-1 comm=1", "C2 tag at 1 calls 0"),
-    ("a send with any tag by its name", "MPI_Send", "count=1 datatype=1 dest=1 tag=-1(MPI_ANY_TAG) comm=1", "C2 tag at 1 calls 0"),
-    ("a send whose tag has a name that isn't meant", "MPI_Send", "count=1 datatype=1 dest=1 tag=7(MPI_ANY_TAG) comm=1", "calls 1 skipped 0"),
-    ("a negative communicator", "MPI_Send", "count=1 datatype=1 dest=1 tag=1 comm=-1", "C2 comm at 1 calls 0"),
-    ("a negative communicator by the world's name", "MPI_Send", "count=1 datatype=1 dest=1 tag=1 comm=-1(MPI_COMM_WORLD)", "calls 1 skipped 0"),
-    ("a communicator past 2^31 - 1", "MPI_Barrier", "comm=2147483648", "C2 comm at 1 calls 0"),
-    ("from any by -1", "MPI_Recv", "count=1 datatype=1 source=-1 tag=-1 comm=1", "calls 1 skipped 0"),
-    ("from the null process by -2", "MPI_Recv", "count=1 datatype=1 source=-2 tag=1 comm=1", "calls 1 skipped 0"),
-    ("from -3", "MPI_Recv", "count=1 datatype=1 source=-3 tag=1 comm=1", "C2 source at 1 calls 0"),
-    ("from -3 by the name of any", "MPI_Recv", "count=1 datatype=1 source=-3(MPI_ANY_SOURCE) tag=-9(MPI_ANY_TAG) comm=1", "calls 1 skipped 0"),
-    ("a receive of tag -2", "MPI_Recv", "count=1 datatype=1 source=1 tag=-2 comm=1", "C2 tag at 1 calls 0"),
-    ("a list of one number", "MPI_Send", "count={1} datatype=[1] dest=[1]{1} tag=[1] comm={[1]}", "calls 1 skipped 0"),
-    ("an empty list", "MPI_Send", "count={} datatype=1 dest=1 tag=1 comm=1", "C2 count at 1 calls 0"),
-    ("a list of two", "MPI_Send", "count={1,2} datatype=1 dest=1 tag=1 comm=1", "C2 count at 1 calls 0"),
-    ("a group", "MPI_Send", "count={n=1} datatype=1 dest=1 tag=1 comm=1", "C2 count at 1 calls 0"),
-    ("a negative root", "MPI_Bcast", "root=-1 comm=1", "C2 root at 1 calls 0"),
-    ("the least request", "MPI_Wait", "request=-9223372036854775808", "calls 1 skipped 0"),
-    ("the greatest request", "MPI_Test", "request=9223372036854775807 flag=0", "calls 1 skipped 0"),
-    ("no requests", "MPI_Waitall", "requests={}", "calls 1 skipped 0"),
-    ("one request without a list", "MPI_Waitall", "requests=5", "calls 1 skipped 0"),
-    ("groups in place of requests", "MPI_Waitall", "requests={{a=1}}", "C2 requests at 1 calls 0"),
-    ("a negative index", "MPI_Waitany", "requests={4} index=-1", "calls 1 skipped 0"),
-    ("an index past the list", "MPI_Waitany", "requests={4} index=1", "calls 1 skipped 0"),
-    ("two indices of Waitany", "MPI_Waitany", "requests={4} index={0,1}", "C2 index at 1 calls 0"),
-    ("a missing index and wrong requests", "MPI_Waitany", "requests=x", "C1 index at 1 calls 0"),
-    ("a missing request and a wrong dest", "MPI_Isend", "count=1 datatype=1 dest=-3 tag=1 comm=1", "C1 request at 1 calls 0"),
-    ("a missing tag and a wrong count", "MPI_Send", "count=x datatype=1 dest=1 comm=1", "C1 tag at 1 calls 0"),
-    ("wrong datatype and wrong comm", "MPI_Send", "count=1 datatype=x dest=1 tag=1 comm=x", "C2 datatype at 1 calls 0"),
-    ("missing count and missing comm", "MPI_Send", "datatype=1 dest=1 tag=1", "C1 count at 1 calls 0"),
-    ("a wrong request of an Irecv", "MPI_Irecv", "count=1 datatype=1 source=1 tag=1 comm=1 request=x", "C2 request at 1 calls 0"),
-    ("a wrong comm before a wrong request", "MPI_Irecv", "count=1 datatype=1 source=1 tag=1 comm=x request=x", "C2 comm at 1 calls 0"),
-    ("a wrong flag", "MPI_Test", "request=1 flag={}", "C2 flag at 1 calls 0"),
-    ("the first of two tags counts", "MPI_Send", "count=1 datatype=1 dest=1 tag=1 tag=x comm=1", "calls 1 skipped 0"),
-    ("the first of two tags is wrong", "MPI_Send", "count=1 datatype=1 dest=1 tag=x tag=1 comm=1", "C2 tag at 1 calls 0"),
-    ("a parameter that no row has", "MPI_Send", "count=1 datatype=1 dest=1 tag=1 comm=1 colour=x", "calls 1 skipped 0"),
-    ("parameters of a function of no row", "MPI_Comm_split", "comm=x colour=x", "calls 1 skipped 0"),
+    (
+        "no element",
+        "MPI_Send",
+        "count=0 datatype=-9223372036854775808 dest=0 tag=0 comm=0",
+        "calls 1 skipped 0",
+    ),
+    (
+        "the greatest numbers",
+        "MPI_Send",
+        "count=2147483647 datatype=9223372036854775807 dest=2147483647 tag=2147483647 comm=2147483647",
+        "calls 1 skipped 0",
+    ),
+    (
+        "a datatype past 64 bits",
+        "MPI_Send",
+        "count=1 datatype=9223372036854775808 dest=1 tag=1 comm=1",
+        "C2 datatype at 1 calls 0",
+    ),
+    (
+        "a negative count",
+        "MPI_Send",
+        "count=-1 datatype=1 dest=1 tag=1 comm=1",
+        "C2 count at 1 calls 0",
+    ),
+    (
+        "a count past 2^31 - 1",
+        "MPI_Send",
+        "count=2147483648 datatype=1 dest=1 tag=1 comm=1",
+        "C2 count at 1 calls 0",
+    ),
+    (
+        "to the null process by -1",
+        "MPI_Send",
+        "count=1 datatype=1 dest=-1 tag=1 comm=1",
+        "calls 1 skipped 0",
+    ),
+    (
+        "to the null process by -2",
+        "MPI_Send",
+        "count=1 datatype=1 dest=-2 tag=1 comm=1",
+        "calls 1 skipped 0",
+    ),
+    (
+        "to -3",
+        "MPI_Send",
+        "count=1 datatype=1 dest=-3 tag=1 comm=1",
+        "C2 dest at 1 calls 0",
+    ),
+    (
+        "to -3 by the name of the null process",
+        "MPI_Send",
+        "count=1 datatype=1 dest=-3(MPI_PROC_NULL) tag=1 comm=1",
+        "calls 1 skipped 0",
+    ),
+    (
+        "to rank 2^31",
+        "MPI_Send",
+        "count=1 datatype=1 dest=2147483648 tag=1 comm=1",
+        "C2 dest at 1 calls 0",
+    ),
+    (
+        "a send with the tag -1",
+        "MPI_Send",
+        "count=1 datatype=1 dest=1 tag=-1 comm=1",
+        "C2 tag at 1 calls 0",
+    ),
+    (
+        "a send with any tag by its name",
+        "MPI_Send",
+        "count=1 datatype=1 dest=1 tag=-1(MPI_ANY_TAG) comm=1",
+        "C2 tag at 1 calls 0",
+    ),
+    (
+        "a send whose tag has a name that isn't meant",
+        "MPI_Send",
+        "count=1 datatype=1 dest=1 tag=7(MPI_ANY_TAG) comm=1",
+        "calls 1 skipped 0",
+    ),
+    (
+        "a negative communicator",
+        "MPI_Send",
+        "count=1 datatype=1 dest=1 tag=1 comm=-1",
+        "C2 comm at 1 calls 0",
+    ),
+    (
+        "a negative communicator by the world's name",
+        "MPI_Send",
+        "count=1 datatype=1 dest=1 tag=1 comm=-1(MPI_COMM_WORLD)",
+        "calls 1 skipped 0",
+    ),
+    (
+        "a communicator past 2^31 - 1",
+        "MPI_Barrier",
+        "comm=2147483648",
+        "C2 comm at 1 calls 0",
+    ),
+    (
+        "from any by -1",
+        "MPI_Recv",
+        "count=1 datatype=1 source=-1 tag=-1 comm=1",
+        "calls 1 skipped 0",
+    ),
+    (
+        "from the null process by -2",
+        "MPI_Recv",
+        "count=1 datatype=1 source=-2 tag=1 comm=1",
+        "calls 1 skipped 0",
+    ),
+    (
+        "from -3",
+        "MPI_Recv",
+        "count=1 datatype=1 source=-3 tag=1 comm=1",
+        "C2 source at 1 calls 0",
+    ),
+    (
+        "from -3 by the name of any",
+        "MPI_Recv",
+        "count=1 datatype=1 source=-3(MPI_ANY_SOURCE) tag=-9(MPI_ANY_TAG) comm=1",
+        "calls 1 skipped 0",
+    ),
+    (
+        "a receive of tag -2",
+        "MPI_Recv",
+        "count=1 datatype=1 source=1 tag=-2 comm=1",
+        "C2 tag at 1 calls 0",
+    ),
+    (
+        "a list of one number",
+        "MPI_Send",
+        "count={1} datatype=[1] dest=[1]{1} tag=[1] comm={[1]}",
+        "calls 1 skipped 0",
+    ),
+    (
+        "an empty list",
+        "MPI_Send",
+        "count={} datatype=1 dest=1 tag=1 comm=1",
+        "C2 count at 1 calls 0",
+    ),
+    (
+        "a list of two",
+        "MPI_Send",
+        "count={1,2} datatype=1 dest=1 tag=1 comm=1",
+        "C2 count at 1 calls 0",
+    ),
+    (
+        "a group",
+        "MPI_Send",
+        "count={n=1} datatype=1 dest=1 tag=1 comm=1",
+        "C2 count at 1 calls 0",
+    ),
+    (
+        "a negative root",
+        "MPI_Bcast",
+        "root=-1 comm=1",
+        "C2 root at 1 calls 0",
+    ),
+    (
+        "the least request",
+        "MPI_Wait",
+        "request=-9223372036854775808",
+        "calls 1 skipped 0",
+    ),
+    (
+        "the greatest request",
+        "MPI_Test",
+        "request=9223372036854775807 flag=0",
+        "calls 1 skipped 0",
+    ),
+    (
+        "no requests",
+        "MPI_Waitall",
+        "requests={}",
+        "calls 1 skipped 0",
+    ),
+    (
+        "one request without a list",
+        "MPI_Waitall",
+        "requests=5",
+        "calls 1 skipped 0",
+    ),
+    (
+        "groups in place of requests",
+        "MPI_Waitall",
+        "requests={{a=1}}",
+        "C2 requests at 1 calls 0",
+    ),
+    (
+        "a negative index",
+        "MPI_Waitany",
+        "requests={4} index=-1",
+        "calls 1 skipped 0",
+    ),
+    (
+        "an index past the list",
+        "MPI_Waitany",
+        "requests={4} index=1",
+        "calls 1 skipped 0",
+    ),
+    (
+        "two indices of Waitany",
+        "MPI_Waitany",
+        "requests={4} index={0,1}",
+        "C2 index at 1 calls 0",
+    ),
+    (
+        "a missing index and wrong requests",
+        "MPI_Waitany",
+        "requests=x",
+        "C1 index at 1 calls 0",
+    ),
+    (
+        "a missing request and a wrong dest",
+        "MPI_Isend",
+        "count=1 datatype=1 dest=-3 tag=1 comm=1",
+        "C1 request at 1 calls 0",
+    ),
+    (
+        "a missing tag and a wrong count",
+        "MPI_Send",
+        "count=x datatype=1 dest=1 comm=1",
+        "C1 tag at 1 calls 0",
+    ),
+    (
+        "wrong datatype and wrong comm",
+        "MPI_Send",
+        "count=1 datatype=x dest=1 tag=1 comm=x",
+        "C2 datatype at 1 calls 0",
+    ),
+    (
+        "missing count and missing comm",
+        "MPI_Send",
+        "datatype=1 dest=1 tag=1",
+        "C1 count at 1 calls 0",
+    ),
+    (
+        "a wrong request of an Irecv",
+        "MPI_Irecv",
+        "count=1 datatype=1 source=1 tag=1 comm=1 request=x",
+        "C2 request at 1 calls 0",
+    ),
+    (
+        "a wrong comm before a wrong request",
+        "MPI_Irecv",
+        "count=1 datatype=1 source=1 tag=1 comm=x request=x",
+        "C2 comm at 1 calls 0",
+    ),
+    (
+        "a wrong flag",
+        "MPI_Test",
+        "request=1 flag={}",
+        "C2 flag at 1 calls 0",
+    ),
+    (
+        "the first of two tags counts",
+        "MPI_Send",
+        "count=1 datatype=1 dest=1 tag=1 tag=x comm=1",
+        "calls 1 skipped 0",
+    ),
+    (
+        "the first of two tags is wrong",
+        "MPI_Send",
+        "count=1 datatype=1 dest=1 tag=x tag=1 comm=1",
+        "C2 tag at 1 calls 0",
+    ),
+    (
+        "a parameter that no row has",
+        "MPI_Send",
+        "count=1 datatype=1 dest=1 tag=1 comm=1 colour=x",
+        "calls 1 skipped 0",
+    ),
+    (
+        "parameters of a function of no row",
+        "MPI_Comm_split",
+        "comm=x colour=x",
+        "calls 1 skipped 0",
+    ),
 ];
 
 #[test]
@@ -406,12 +640,32 @@ const TELLINGS: [(&str, &str, Option<u32>); 12] = [
     ("an empty list", "status={}", None),
     ("a group without a source", "status={tag=3}", None),
     ("a source", "status=[1]{{bytes=32,source=0}}", Some(0)),
-    ("the greatest source", "status={source=2147483647}", Some(2_147_483_647)),
-    ("a source past the greatest", "status={source=2147483648}", None),
+    (
+        "the greatest source",
+        "status={source=2147483647}",
+        Some(2_147_483_647),
+    ),
+    (
+        "a source past the greatest",
+        "status={source=2147483648}",
+        None,
+    ),
     ("a negative source", "status={source=-1}", None),
-    ("a source that is named any", "status={source=2(MPI_ANY_SOURCE)}", None),
-    ("a source that is named the null process", "status={source=2(MPI_PROC_NULL)}", None),
-    ("a source with a name that isn't meant", "status={source=2(MPI_ANY_TAG),source=5}", Some(2)),
+    (
+        "a source that is named any",
+        "status={source=2(MPI_ANY_SOURCE)}",
+        None,
+    ),
+    (
+        "a source that is named the null process",
+        "status={source=2(MPI_PROC_NULL)}",
+        None,
+    ),
+    (
+        "a source with a name that isn't meant",
+        "status={source=2(MPI_ANY_TAG),source=5}",
+        Some(2),
+    ),
 ];
 
 #[test]
@@ -450,13 +704,43 @@ fn a_text_is_walked_up_to_its_fault(rt: HostRuntime) -> Result<(), Fail> {
     // the line that is put in the place of one, counted from 0
     let rows = [
         ("as it is", 9, "", "calls 1 skipped 0"),
-        ("another thread", 0, "MPI_Send entering at walltime 1.5, cputime 0.25 seconds in thread 1.", "F4 OtherThread 1 at 1 calls 0"),
-        ("another function returns", 6, "MPI_Recv returning at walltime 1.75, cputime 0.25 seconds in thread 0.", "F7 NameDiffers 7 at 7 calls 0"),
-        ("entered inside", 2, "MPI_Send entering at walltime 1.5, cputime 0.25 seconds in thread 0.", "F6 NotReturned 3 at 3 calls 0"),
-        ("a parameter without a name", 2, "=4", "F8 BadParameter 3 at 3 calls 0"),
+        (
+            "another thread",
+            0,
+            "MPI_Send entering at walltime 1.5, cputime 0.25 seconds in thread 1.",
+            "F4 OtherThread 1 at 1 calls 0",
+        ),
+        (
+            "another function returns",
+            6,
+            "MPI_Recv returning at walltime 1.75, cputime 0.25 seconds in thread 0.",
+            "F7 NameDiffers 7 at 7 calls 0",
+        ),
+        (
+            "entered inside",
+            2,
+            "MPI_Send entering at walltime 1.5, cputime 0.25 seconds in thread 0.",
+            "F6 NotReturned 3 at 3 calls 0",
+        ),
+        (
+            "a parameter without a name",
+            2,
+            "=4",
+            "F8 BadParameter 3 at 3 calls 0",
+        ),
         ("a tag that is missing", 4, "oops", "C1 tag at 1 calls 0"),
-        ("a destination below -2", 3, "int dest=-3", "C2 dest at 1 calls 0"),
-        ("returned outside a call", 0, "MPI_Send returning at walltime 1.5, cputime 0.25 seconds in thread 0.", "F5 ReturnOutside 1 at 1 calls 0"),
+        (
+            "a destination below -2",
+            3,
+            "int dest=-3",
+            "C2 dest at 1 calls 0",
+        ),
+        (
+            "returned outside a call",
+            0,
+            "MPI_Send returning at walltime 1.5, cputime 0.25 seconds in thread 0.",
+            "F5 ReturnOutside 1 at 1 calls 0",
+        ),
     ];
     for (name, at, line, answer) in rows {
         let mut text = String::new(alloc);
@@ -512,10 +796,26 @@ fn a_text_that_is_cut(rt: HostRuntime) -> Result<(), Fail> {
 fn outcome_parameters_are_asked_of_returned_calls_alone(rt: HostRuntime) -> Result<(), Fail> {
     let alloc = rt.alloc();
     let rows = [
-        ("without its request", "count=1 datatype=1 dest=1 tag=1 comm=1", "calls 1 skipped 0 unfinished"),
-        ("with a wrong request", "count=1 datatype=1 dest=1 tag=1 comm=1 request=x", "calls 1 skipped 0 unfinished"),
-        ("with a wrong dest", "count=1 datatype=1 dest=-3 tag=1 comm=1", "C2 dest at 1 calls 0"),
-        ("without its tag and with a wrong dest", "count=1 datatype=1 dest=-3 comm=1", "F9 Truncated 6 at 6 calls 0"),
+        (
+            "without its request",
+            "count=1 datatype=1 dest=1 tag=1 comm=1",
+            "calls 1 skipped 0 unfinished",
+        ),
+        (
+            "with a wrong request",
+            "count=1 datatype=1 dest=1 tag=1 comm=1 request=x",
+            "calls 1 skipped 0 unfinished",
+        ),
+        (
+            "with a wrong dest",
+            "count=1 datatype=1 dest=-3 tag=1 comm=1",
+            "C2 dest at 1 calls 0",
+        ),
+        (
+            "without its tag and with a wrong dest",
+            "count=1 datatype=1 dest=-3 comm=1",
+            "F9 Truncated 6 at 6 calls 0",
+        ),
     ];
     for (name, parameters, answer) in rows {
         let (parameters, _) = parameters_of(alloc, parameters, "", "")?;
@@ -549,7 +849,11 @@ fn ten_thousand_requests(rt: HostRuntime) -> Result<(), Fail> {
     }
     line.push_str("}")?;
     let mut text = String::new(alloc);
-    put_call(&mut text, "MPI_Waitall", &[line.as_str(), "statuses={source=3}"])?;
+    put_call(
+        &mut text,
+        "MPI_Waitall",
+        &[line.as_str(), "statuses={source=3}"],
+    )?;
     let mut collect = Collect::new(alloc);
     let walked = walk(alloc, MemoryReader::new(text.as_bytes()), &mut collect).is_ok();
     assert!(rt; walked, "10,000 requests");
@@ -607,7 +911,12 @@ fn segments_are_cut_after_65536_events(rt: HostRuntime) -> Result<(), Fail> {
     let mut shown = String::new(alloc);
     for segment in segments.as_slice() {
         let count = segment.events().len();
-        write!(shown, "{} {} {count}; ", segment.rank(), segment.first_place())?;
+        write!(
+            shown,
+            "{} {} {count}; ",
+            segment.rank(),
+            segment.first_place()
+        )?;
     }
     assert_eq!(rt; shown.as_str(), "3 20 65536; 3 65556 3; ", "32,770 calls");
     Ok(())
