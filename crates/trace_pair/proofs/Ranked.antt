@@ -142,10 +142,10 @@ next_rank os i d old new lt a e law x =
     let s = is_sequence os i (get_or os i d) a w in
     let p = is_posting os i (get_or os i d) a w in
     let y : Indexes (between (sends_of (take i os)) [] []) (between (receives_of (take i os)) [] []) old =
-        subst (λ (ms : List Message). Indexes ms (between (receives_of (take i os)) [] []) old) (sym (bare (sends_of (take i os))))
-        (subst (λ (qs : List Receive). Indexes (sends_of (take i os)) qs old) (sym (bare (receives_of (take i os)))) x) in
+    subst (λ (ms : List Message). Indexes ms (between (receives_of (take i os)) [] []) old) (sym (bare (sends_of (take i os))))
+    (subst (λ (qs : List Receive). Indexes (sends_of (take i os)) qs old) (sym (bare (receives_of (take i os)))) x) in
     let z = (subst (λ (g : Ops). Adds g old new) e law) (sends_of (take i os)) [] (receives_of (take i os)) []
-        (record { own = s.own; order = s.order; apart_before = s.apart_before; apart_after = λ n m h. absurd h })
-        (record { own = p.own; order = p.order; apart_before = p.apart_before; apart_after = λ r q h. absurd h }) y in
+    (record { own = s.own; order = s.order; apart_before = s.apart_before; apart_after = λ n m h. absurd h })
+    (record { own = p.own; order = p.order; apart_before = p.apart_before; apart_after = λ r q h. absurd h }) y in
     subst (λ (ms : List Message). Indexes ms (receives_of (take (i + 1) os)) new) (one_more (λ o. o.sends) os i d lt)
     (subst (λ (qs : List Receive). Indexes (between (sends_of (take i os)) (get_or os i d).sends []) qs new) (one_more (λ o. o.receives) os i d lt) z)

@@ -18,13 +18,11 @@ pub fn pairs_are_the_rules()
         → (m : Message) (q : Receive) → Has ms m → Has qs q → other m q ≡ paired ms qs m q }
     ensures one_receive { (ms : List Message) (qs : List Receive) → ArePostedApart qs → (m : Message) (q r : Receive) → Has ms m → Has qs q → Has qs r → Paired ms qs m q → Paired ms qs m r → q ≡ r }
     ensures one_message { (ms : List Message) (qs : List Receive) → AreApart ms → (m n : Message) (q : Receive) → Has ms m → Has ms n → Has qs q → Paired ms qs m q → Paired ms qs n q → m ≡ n }
-{
-}
+{}
 
 /// Each pair is a couple of every legal matching of every continuation.
 pub fn pairs_are_certain()
     ensures { (ms : List Message) (qs : List Receive) (more_ms : List Message) (more_qs : List Receive) (couple : OpName → OpName → Bool) →
         Continues ms qs more_ms more_qs → IsLegal more_ms more_qs (λ m q. couple m.name q.name ≡ true) →
         (m : Message) (q : Receive) → Has ms m → Has qs q → Paired ms qs m q → couple m.name q.name ≡ true }
-{
-}
+{}

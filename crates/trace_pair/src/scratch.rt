@@ -33,7 +33,11 @@ pub fn pair_all(alloc: Global, ops: &[RankOps]) -> Result<PairTable, AllocError>
 }
 
 /// The table of these messages and receives.
-fn rows_of(alloc: Global, messages: &[Message], receives: &[Receive]) -> Result<PairTable, AllocError>
+fn rows_of(
+    alloc: Global,
+    messages: &[Message],
+    receives: &[Receive],
+) -> Result<PairTable, AllocError>
     ensures { IfOk result (λ table. AreCalls messages.now receives.now → table ≡ table_with messages.now receives.now) }
 {
     let mut table = PairTable::empty(alloc);
