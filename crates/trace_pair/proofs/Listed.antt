@@ -1,9 +1,8 @@
 -- The list of the pairs of the first messages says which of them is paired with what.
-use Rattle.std.proofs.Common.{subst, ◌≡◌, ℕ, zero, suc, ◌+◌, ◌<◌, Bool, true, false, ◌&&◌, List, [], ◌∷◌, ◌++◌, inl, inr, ⊎_elim, sym, refl, ◌∙◌, ap, arith, cond, ltb, eqb, Option, Some, None, map, take, length, get_or}
+use Rattle.std.proofs.Common.{subst, ◌≡◌, ℕ, zero, suc, ◌+◌, ◌<◌, Bool, true, false, ◌&&◌, List, [], ◌∷◌, ◌++◌, inl, inr, ⊎_elim, sym, refl, ◌∙◌, ap, arith, cond, eqb, Option, Some, None, take, length, get_or}
 use Rattle.std.specs.List.{find, filter_map, cons_option}
 use Rattle.std.specs.Option.{option_map}
 use Rattle.std.proofs.lemmas.Bool.Decides.{nat_tests}
-use Rattle.std.proofs.lemmas.List.{take_more}
 use Rattle.mpi_model.specs.declared.event.OpName.{OpName}
 use Rattle.trace_ops.specs.Order.{sent_before, posted_before, Has}
 use Rattle.trace_pair.specs.Indexed.{name_lt}
@@ -15,7 +14,7 @@ use Rattle.trace_pair.specs.Table.{pair_of, postponed_name, fits_untold, same_na
 use Rattle.trace_pair.specs.declared.pair.Pair.{Pair}
 use Rattle.mpi_model.specs.declared.message.Message.{Message}
 use Rattle.mpi_model.specs.declared.message.Receive.{Receive}
-use Rattle.trace_pair.proofs.Obeyed.{any_found, any_of, both, and_true, obeys_same, paired_obeys, before_lt, pair_obeys}
+use Rattle.trace_pair.proofs.Obeyed.{any_found, any_of, both, and_true, obeys_same, paired_obeys, pair_obeys}
 use Rattle.trace_pair.proofs.Certain.{same_name, in_order, fits_at, one_receive, not_before}
 use Rattle.trace_pair.proofs.Names.{sent_name, named_receive}
 use Rattle.trace_pair.proofs.Tabled.{rows_next}

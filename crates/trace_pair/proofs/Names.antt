@@ -1,5 +1,5 @@
 -- The order of names: by rank, and then by call.
-use Rattle.std.proofs.Common.{◌≡◌, ◌<◌, true, false, ◌&&◌, ◌∙◌, sym, ap, arith, eqb, ltb}
+use Rattle.std.proofs.Common.{◌≡◌, ◌<◌, true, false, ◌∙◌, sym, ap, arith}
 use Rattle.std.proofs.lemmas.Bool.Decides.{nat_tests}
 use Rattle.mpi_model.specs.declared.event.OpName.{OpName}
 use Rattle.mpi_model.specs.declared.message.Message.{Message}

@@ -1,12 +1,11 @@
 -- The orders of calls and keys are total, and tell all apart.
-use Rattle.std.proofs.Common.{◌≡◌, ℕ, true, ◌&&◌, refl, ◌∙◌, ap, arith, Option, Some, None, ℤ, ◌<ℤ◌, inl, inr}
+use Rattle.std.proofs.Common.{◌≡◌, ℕ, true, refl, ◌∙◌, ap, arith, Option, Some, None, ℤ, ◌<ℤ◌, inl, inr}
 use Rattle.std.specs.declared.cmp.Ordering.{Ordering}
 use Rattle.std.specs.declared.cmp.Ordering.TheVariants.{Less, Equal, Greater}
 use Rattle.std.specs.Ordering.{nat_cmp, int_cmp, ordering_then, is_gt}
 use Rattle.std.specs.Option.{option_cmp}
 use Rattle.std.specs.Cmp.{IsTotalOrder}
 use Rattle.std.specs.Cmp.Lexicographic.{options_total}
-use Rattle.std.specs.Prelude.{◌==◌, nat_lt}
 use Rattle.std.proofs.lemmas.Cmp.{on_total, then_total, nat_cmp_total, int_cmp_total, int_ranked, by_ranked}
 use Rattle.std.proofs.lemmas.Bool.{cases_lt}
 use Rattle.mpi_model.specs.declared.envelope.Mode.{Mode}
@@ -17,7 +16,6 @@ use Rattle.std.proofs.lemmas.Map.Lookups.{CmpEqualImpliesEq}
 use Rattle.mpi_model.specs.declared.event.OpName.{OpName}
 use Rattle.mpi_model.specs.declared.message.Message.{Message}
 use Rattle.mpi_model.specs.declared.message.Receive.{Receive}
-use Rattle.trace_ops.specs.Order.{sent_before, posted_before}
 use Rattle.trace_pair.specs.Indexed.{couple_of, name_lt}
 use Rattle.trace_pair.specs.KeyOrders.{name_cmp, message_cmp, receive_cmp, couple_cmp, Queue, queue_cmp, Lane, lane_cmp, Group, group_cmp, mode_cmp}
 use Rattle.trace_pair.specs.declared.pair.Couple.{Couple}

@@ -1,5 +1,5 @@
 -- The calls of all ranks, where each rank's are its own and in order.
-use Rattle.std.proofs.Common.{subst, ◌≡◌, ℕ, ◌+◌, ◌<◌, ◌≤◌, true, List, [], ◌∷◌, ◌++◌, inl, inr, ⊎_elim, refl, sym, ◌∙◌, ap, arith}
+use Rattle.std.proofs.Common.{subst, ◌≡◌, ℕ, ◌+◌, ◌<◌, true, List, [], ◌∷◌, ◌++◌, inl, inr, ⊎_elim, refl, sym, ◌∙◌, ap, arith}
 use Rattle.std.proofs.lemmas.Bool.Decides.{nat_tests}
 use Rattle.mpi_model.specs.declared.event.OpName.{OpName}
 use Rattle.mpi_model.specs.declared.message.Message.{Message}
@@ -8,7 +8,6 @@ use Rattle.trace_ops.specs.Ops.{Ops, IsOwn, AreOwn}
 use Rattle.trace_ops.specs.Order.{Has, AreInOrder, ArePosted}
 use Rattle.trace_pair.specs.Calls.{IsOwnMessage, IsOwnReceive, AreApart, ArePostedApart}
 use Rattle.trace_pair.specs.Indexed.{name_lt}
-use Rattle.trace_pair.specs.Places.{sent_at, posted_at}
 use Rattle.trace_pair.specs.Table.{sends_of, receives_of, Table, table_with, table_of}
 use Rattle.trace_pair.specs.Scratch.{AreRising, AreCalls}
 use Rattle.trace_pair.proofs.Listed.{one_named}

@@ -12,3 +12,4 @@ pub mod Kept
 pub mod Groups
 pub mod KeyOrders
 pub mod Queues
+pub mod Worked

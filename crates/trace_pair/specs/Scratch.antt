@@ -1,5 +1,5 @@
 -- The slow pairing: what it has found so far.
-use Rattle.std.specs.Prelude.{Option, ◌≡◌, Bool, true, ◌&&◌, ◌==◌, List, [], ◌∷◌}
+use Rattle.std.specs.Prelude.{Option, ◌≡◌, Bool, true, ◌&&◌, List, [], ◌∷◌}
 use Rattle.std.specs.List.{list_any, find}
 use Rattle.mpi_model.specs.declared.event.OpName.{OpName}
 use Rattle.mpi_model.specs.declared.message.Message.{Message}

@@ -8,6 +8,7 @@ ghost use Rattle.trace_ops.specs.Order.{Has};
 ghost use Rattle.trace_pair.specs.Calls.{AreApart, ArePostedApart};
 ghost use Rattle.trace_pair.specs.Pairing.{paired, obeys, Paired, Obeys};
 ghost use Rattle.trace_pair.specs.Matching.{Continues, IsLegal};
+ghost use Rattle.trace_pair.specs.Worked.{Over, AnyTag, Hidden, ToldLater, InOrder, CutBack, Exchanged, Interleaved, Freed, TwoCommunicators};
 
 /// A pair obeys the five rules, what obeys them is a pair, and no other relation obeys them. Each
 /// message has at most one receive, and each receive at most one message.
@@ -25,4 +26,18 @@ pub fn pairs_are_certain()
     ensures { (ms : List Message) (qs : List Receive) (more_ms : List Message) (more_qs : List Receive) (couple : OpName → OpName → Bool) →
         Continues ms qs more_ms more_qs → IsLegal more_ms more_qs (λ m q. couple m.name q.name ≡ true) →
         (m : Message) (q : Receive) → Has ms m → Has qs q → Paired ms qs m q → couple m.name q.name ≡ true }
+{}
+
+/// What the rules say of some small runs.
+pub fn worked_runs()
+    ensures over { Over }
+    ensures any_tag { AnyTag }
+    ensures hidden { Hidden }
+    ensures told_later { ToldLater }
+    ensures in_order { InOrder }
+    ensures cut_back { CutBack }
+    ensures exchanged { Exchanged }
+    ensures interleaved { Interleaved }
+    ensures freed { Freed }
+    ensures two_communicators { TwoCommunicators }
 {}

@@ -31,7 +31,7 @@ mod scratch;
 mod table;
 
 pub use index::PairIndex;
-pub use laws::{pairs_are_certain, pairs_are_the_rules};
+pub use laws::{pairs_are_certain, pairs_are_the_rules, worked_runs};
 pub use pair::{Pair, Side};
 pub use scratch::pair_all;
 pub use table::PairTable;

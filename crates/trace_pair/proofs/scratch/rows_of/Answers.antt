@@ -1,4 +1,4 @@
-use Rattle.std.proofs.Common.{◌∙◌, ap, arith}
+use Rattle.std.proofs.Common.{arith}
 use Rattle.trace_pair.proofs.Listed.{pairs_more, postponed_more}
 use Rattle.trace_pair.proofs.scratch.rows_of.Goals as goal
 
