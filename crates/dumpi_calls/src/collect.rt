@@ -12,10 +12,12 @@ use crate::sink::CallSink;
 use mpi_model::{Call, Event, Exit, Stamp};
 use std::alloc::{AllocError, AllocFailed, Global};
 use std::marker::Model;
+use thiserror::Error;
 use trace_know::{Segment, SegmentFault};
 
 /// No memory was left for a call's events.
-#[derive(Clone, Copy, Debug, PartialEq, Eq)]
+#[derive(Clone, Copy, Debug, PartialEq, Eq, Error)]
+#[error("no memory is left")]
 pub struct Memory;
 
 impl From<AllocError> for Memory {

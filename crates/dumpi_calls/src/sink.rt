@@ -17,7 +17,8 @@ use mpi_model::{Call, Exit, Stamp};
 ///
 /// # A sink of one's own
 ///
-/// How many elements a rank was sent. `sent_more` is a definition in the `specs/` of the sink's crate: what a call adds.
+/// How many elements a rank was sent. `elements_after` is a definition in the `specs/` of the sink's crate: the elements
+/// with one call more.
 ///
 /// ```rust
 /// struct SentTo {
@@ -27,15 +28,18 @@ use mpi_model::{Call, Exit, Stamp};
 ///
 /// impl SentTo {
 ///     fn add(&mut self, call: &Call)
-///         ensures { self.new ≡ sent_more self.old call.now }
+///         ensures { self.new ≡ record { rank = self.old.rank; elements = elements_after self.old.rank self.old.elements call.now } }
 ///     {
 ///         let sent = match call {
 ///             Call::Send(_, envelope) | Call::Isend(_, envelope) => envelope.envelope(),
 ///             Call::Sendrecv(exchange) => exchange.send(),
 ///             _ => return,
 ///         };
-///         if sent.peer == Peer::Rank(self.rank) {
-///             self.elements = self.elements.saturating_add(u64::from(sent.count));
+///         match sent.peer {
+///             Peer::Rank(rank) if rank == self.rank => {
+///                 self.elements = self.elements.saturating_add(u64::from(sent.count));
+///             }
+///             _ => {}
 ///         }
 ///     }
 /// }
@@ -43,7 +47,7 @@ use mpi_model::{Call, Exit, Stamp};
 /// impl CallSink for SentTo {
 ///     type Fault = Infallible;
 ///
-///     ghost step = { λ sink seen. sent_more sink seen.call };
+///     ghost step = { λ sink seen. record { rank = sink.rank; elements = elements_after sink.rank sink.elements seen.call } };
 ///
 ///     fn on_send(&mut self, call: &Call, _enter: Stamp, _exit: Option<&Exit>) -> Result<(), Infallible> {
 ///         self.add(call);
@@ -57,7 +61,7 @@ use mpi_model::{Call, Exit, Stamp};
 /// let walked = walk(alloc, reader, &mut sink)?;
 /// ```
 ///
-/// It stands whole, with `sent_more`, in `crates/reading_tests`, where it is run.
+/// It stands whole, with `elements_after`, in `crates/reading_tests`, where it is run.
 pub trait CallSink {
     /// Why a call is refused.
     type Fault: Drop;
