@@ -7,13 +7,10 @@
 //! |---|---|
 //! | `model` | `mpi_model` |
 //! | `text` | `dumpi_text` |
-//! | `calls` | `dumpi_calls` |
 //! | `inputs` | `input_files` |
 //! | `command` | `command_line` |
 #![tactic(auto)]
 
-#[cfg(test)]
-mod calls;
 #[cfg(test)]
 mod command;
 #[cfg(test)]
