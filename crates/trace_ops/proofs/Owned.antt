@@ -1,7 +1,7 @@
 -- The messages and receives of a rank are its own, and stand in order.
-use Rattle.std.proofs.Common.{◌≡◌, ℕ, ◌+◌, ◌<◌, ◌≤◌, Bool, true, false, ◌&&◌, List, [], ◌∷◌, ◌⊎◌, inl, inr, ⊎_elim, refl, sym, ◌∙◌, ap, subst, arith}
+use Rattle.std.proofs.Common.{◌≡◌, ℕ, zero, suc, map, ◌+◌, ◌<◌, ◌≤◌, Bool, true, false, ◌&&◌, List, [], ◌∷◌, ◌⊎◌, inl, inr, ⊎_elim, refl, sym, ◌∙◌, ap, subst, arith}
 use Rattle.std.specs.Prelude.{Option, Some, None, ◌==◌, nat_lt, if◌then◌else◌, slice_get}
-use Rattle.std.specs.List.{filter_map, cons_option}
+use Rattle.std.specs.List.{filter_map, cons_option, range_with_len}
 use Rattle.std.specs.Option.{option_map, option_and_then}
 use Rattle.std.proofs.lemmas.Bool.Decides.{nat_tests}
 use Rattle.mpi_model.specs.declared.envelope.Envelope.{Envelope}
@@ -14,7 +14,12 @@ use Rattle.mpi_model.specs.declared.call.Call.TheVariants.{Send, Isend, Sendrecv
 use Rattle.mpi_model.specs.declared.message.Message.{Message}
 use Rattle.mpi_model.specs.declared.message.Receive.{Receive}
 use Rattle.mpi_model.specs.Layouts.{Parts}
-use Rattle.trace_ops.specs.Calls.{Entry, Numbered, numbered}
+use Rattle.mpi_model.specs.declared.event.Event.{Event}
+use Rattle.trace_know.specs.View.{View}
+use Rattle.trace_know.specs.Prefix.{events_of, is_beyond}
+use Rattle.trace_ops.specs.Ops.{IsOwn, AreOwn}
+use Rattle.trace_ops.specs.RankOps.{ops_by, ops_of}
+use Rattle.trace_ops.specs.Calls.{Entry, Numbered, numbered, calls_of}
 use Rattle.trace_ops.specs.Foreign.{is_foreign, group, named}
 use Rattle.trace_ops.specs.Request.{posted_by}
 use Rattle.trace_ops.specs.Source.{told_of_own, told_of_post}
@@ -118,3 +123,21 @@ module _ (layout : Parts) (rank : ℕ) where
 
   pub receives_rise : (n : ℕ) (calls : List Entry) → ArePosted (receives_of layout rank n calls)
   receives_rise n calls = are_posted (receives_of layout rank n calls) (sorted (λ q. q.name.rank) (λ q. q.at) (λ q. q.name.call) rank (receive_of layout rank) receive_own n calls)
+
+-- ---- ops
+
+pub own_of : (layout : Parts) (rank : ℕ) (beyond : Bool) (events : List Event) → IsOwn rank (ops_by layout rank beyond events)
+unfolding ops_by
+own_of layout rank beyond events = record {
+  sent = λ m h. (sent_member layout rank 0 (calls_of events) m h).0;
+  sent_from = λ m h. (sent_member layout rank 0 (calls_of events) m h).1;
+  posted = λ q h. (taken_member layout rank 0 (calls_of events) q h).0;
+  posted_at = λ q h. (taken_member layout rank 0 (calls_of events) q h).1;
+  sends_rise = sends_rise layout rank 0 (calls_of events);
+  receives_rise = receives_rise layout rank 0 (calls_of events);
+}
+
+-- of all ranks from the first on
+pub all_own : (layout : Parts) (view : View) (first n : ℕ) → AreOwn first (map (ops_of layout view) (range_with_len first n))
+all_own layout view first zero = tt
+all_own layout view first (suc n) = (own_of layout first (is_beyond view first) (events_of view first), all_own layout view (first + 1) n)

@@ -1,6 +1,6 @@
 //! The groups that calls name, and the calls that the layout doesn't know.
 
-ghost use Rattle.std.specs.Prelude.{◌≡◌, ◌==◌, slice_get};
+ghost use Rattle.std.specs.Prelude.{◌≡◌, ◌==◌, true, slice_get};
 ghost use Rattle.std.specs.List.{list_any};
 ghost use Rattle.trace_ops.specs.Foreign.{group, is_foreign, is_placed, is_placed_envelope, is_within, named, number_of};
 
@@ -36,9 +36,24 @@ pub(crate) fn named(peer: Peer) -> Option<u32>
     }
 }
 
+/// Whether the rank stands at this place.
+fn is_at(members: &[u32], place: usize, rank: u32) -> bool
+    ensures { result ≡ true → list_any (λ r. r == rank) members.now ≡ true }
+{
+    if place >= members.len() {
+        return false;
+    }
+    members[place] == rank
+}
+
+/// Whether the rank is a member. In the world, and in each communicator that keeps its order from
+/// the start on, it stands at its own number, so that no search is needed.
 fn is_member(members: &[u32], rank: u32) -> bool
     ensures { result ≡ list_any (λ r. r == rank) members.now }
 {
+    if is_at(members, rank as usize, rank) {
+        return true;
+    }
     members.iter().any(|r| *r == rank)
 }
 

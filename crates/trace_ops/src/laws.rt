@@ -5,17 +5,18 @@ ghost use Rattle.std.specs.Prelude.{◌⊎◌, ◌++◌, ℕ, Bool, List};
 ghost use Rattle.mpi_model.specs.declared.event.Event.{Event};
 ghost use Rattle.mpi_model.specs.Layouts.{Parts};
 ghost use Rattle.trace_know.specs.View.{View, join};
-ghost use Rattle.trace_ops.specs.Ops.{IsOwn, Grows};
-ghost use Rattle.trace_ops.specs.RankOps.{ops_by, ops_of};
+ghost use Rattle.trace_ops.specs.Ops.{AreOwn, IsOwn, Grows};
+ghost use Rattle.trace_ops.specs.RankOps.{all_ops, ops_by, ops_of};
 
 use trace_know::{growth_laws, join_laws};
 
-/// The ops of a rank are its own, in order of their calls. Where its readable events get longer
-/// they grow: the old messages and receives are the first of the new ones, and only sources that
-/// were not told may be told now. Read the other way round it says what becomes of them where the
-/// readable events get shorter.
+/// The ops of a rank are its own, in order of their calls, also in the list of all ranks. Where
+/// its readable events get longer they grow: the old messages and receives are the first of the
+/// new ones, and only sources that were not told may be told now. Read the other way round it says
+/// what becomes of them where the readable events get shorter.
 pub fn ops_laws()
     ensures own { (layout : Parts) (rank : ℕ) (beyond : Bool) (events : List Event) → IsOwn rank (ops_by layout rank beyond events) }
+    ensures all { (layout : Parts) (view : View) → AreOwn 0 (all_ops layout view) }
     ensures grow { (layout : Parts) (rank : ℕ) (one other : Bool) (events more : List Event) → Grows (ops_by layout rank one events) (ops_by layout rank other (events ++ more)) }
 {}
 

@@ -55,10 +55,11 @@ fn sent_by(layout: &Layout, rank: u32, n: u64, call: &Call) -> Option<Message>
 pub(crate) fn message_of(layout: &Layout, rank: u32, n: u64, call: &Call) -> Option<Message>
     ensures { result ≡ message_of layout.now rank n call.now }
 {
+    let message = sent_by(layout, rank, n, call)?;
     if is_foreign(layout, rank, call) {
         return None;
     }
-    sent_by(layout, rank, n, call)
+    Some(message)
 }
 
 fn entered_by(layout: &Layout, n: u64, call: &Call) -> Option<Entered>
@@ -79,8 +80,9 @@ fn entered_by(layout: &Layout, n: u64, call: &Call) -> Option<Entered>
 pub(crate) fn entered_of(layout: &Layout, rank: u32, n: u64, call: &Call) -> Option<Entered>
     ensures { result ≡ entered_of layout.now rank n call.now }
 {
+    let entered = entered_by(layout, n, call)?;
     if is_foreign(layout, rank, call) {
         return None;
     }
-    entered_by(layout, n, call)
+    Some(entered)
 }
