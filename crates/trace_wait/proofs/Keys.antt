@@ -1,6 +1,6 @@
 -- What the sets of patterns and of rounds hold, one element more.
 use Rattle.std.proofs.Common.{◌≡◌, ℕ, ◌+◌, ◌<◌, Bool, true, false, ◌&&◌, ◌||◌, List, [], ◌∷◌, ◌++◌, Option, Some, None, take, get_or, refl, sym, ◌∙◌, ap, arith, length, append-nil}
-use Rattle.std.specs.Prelude.{filter, is_some, is_none, eqb, ◌==◌, if◌then◌else◌}
+use Rattle.std.specs.Prelude.{filter, is_some, is_none, ◌==◌, if◌then◌else◌}
 use Rattle.std.specs.List.{list_any, flat_map}
 use Rattle.std.specs.declared.cmp.Ordering.{Ordering}
 use Rattle.std.specs.declared.cmp.Ordering.TheVariants.{Less, Equal, Greater}
@@ -15,7 +15,7 @@ use Rattle.mpi_model.specs.declared.message.Message.{Message}
 use Rattle.mpi_model.specs.declared.message.Receive.{Receive}
 use Rattle.trace_wait.specs.declared.round.Round.{Round}
 use Rattle.trace_wait.specs.Conditions.{is_mismatch, is_mismatched_at}
-use Rattle.trace_wait.specs.Patterns.{Pattern, pattern_cmp, pattern_of, same_option, same_pattern, suits, asks, Place, place_cmp}
+use Rattle.trace_wait.specs.Patterns.{Pattern, pattern_cmp, same_option, same_pattern, suits, asks, Place, place_cmp}
 
 or_false : (a : Bool) → (a || false) ≡ a
 or_false true = refl

@@ -1,5 +1,5 @@
 -- A search by halves in a list whose keys rise finds what a search from its front would.
-use Rattle.std.proofs.Common.{◌≡◌, ℕ, zero, suc, ◌+◌, ◌<◌, ◌≤◌, ◌⊎◌, inl, inr, ⊎_elim, Bool, true, false, ◌&&◌, List, [], ◌∷◌, Option, Some, None, Result, Ok, Err, IfOk, IfErr, get_or, refl, sym, ◌∙◌, ap, subst, arith, length}
+use Rattle.std.proofs.Common.{◌≡◌, ℕ, zero, suc, ◌+◌, ◌<◌, ◌≤◌, ◌⊎◌, inl, inr, ⊎_elim, Bool, true, false, ◌&&◌, List, [], ◌∷◌, Some, None, Result, Ok, Err, IfOk, IfErr, get_or, refl, sym, subst, arith, length}
 use Rattle.std.specs.Prelude.{slice_get, ◌==◌, cond, nat_lt}
 use Rattle.std.specs.List.{find}
 use Rattle.std.specs.List.Sorted.{IsSearchInRange, IsBinarySearchResult, IsNonDecreasingBy}
@@ -8,8 +8,8 @@ use Rattle.std.proofs.lemmas.Cmp.{ranked}
 use Rattle.std.proofs.lemmas.Bool.Decides.{nat_tests}
 use Rattle.mpi_model.specs.declared.message.Message.{Message}
 use Rattle.mpi_model.specs.declared.message.Receive.{Receive}
-use Rattle.trace_ops.specs.Ops.{Ops, IsOwn, AreOwn}
-use Rattle.trace_ops.specs.Order.{Has, sent_before, posted_before, AreInOrder, ArePosted}
+use Rattle.trace_ops.specs.Ops.{Ops, AreOwn}
+use Rattle.trace_ops.specs.Order.{Has, AreInOrder, ArePosted}
 
 -- each key is below those after it
 abbrev pub Rises : {X : Type 0} → (X → ℕ) → List X → Type 0

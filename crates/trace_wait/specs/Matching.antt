@@ -1,5 +1,5 @@
 -- The messages and the receives that are in no pair.
-use Rattle.std.specs.Prelude.{ℕ, Bool, is_none, List, filter}
+use Rattle.std.specs.Prelude.{Bool, is_none, List, filter}
 use Rattle.std.specs.List.{flat_map}
 use Rattle.mpi_model.specs.declared.message.Message.{Message}
 use Rattle.mpi_model.specs.declared.message.Receive.{Receive}

@@ -1,5 +1,5 @@
 -- The other end of a pair.
-use Rattle.std.specs.Prelude.{ℕ, Bool, ◌==◌, ◌&&◌, Option, List}
+use Rattle.std.specs.Prelude.{Bool, ◌==◌, ◌&&◌, Option, List}
 use Rattle.std.specs.List.{find}
 use Rattle.std.specs.Option.{option_map}
 use Rattle.mpi_model.specs.declared.event.OpName.{OpName}

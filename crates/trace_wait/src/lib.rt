@@ -21,13 +21,13 @@
 mod collective;
 mod counts;
 mod mismatch;
+mod overview;
 mod paired;
 mod pairs;
 mod parts;
 mod posts;
 mod round;
 mod sets;
-mod overview;
 mod tally;
 mod unpaired;
 mod waiting;

@@ -5,8 +5,8 @@ ghost use Rattle.trace_ops.specs.Order.{AreInOrder, ArePosted};
 ghost use Rattle.trace_stuck.specs.Shape.{shape, waits_of, OnRank, OnOne};
 ghost use Rattle.trace_wait.specs.Parts.{is_buffered, may_send, send_part, source_part, may_receive, receive_part, send_of_call, receive_of_call, post_part, posted_by, requests};
 
-use crate::posts::{receive_of, send_of};
 use crate::overview::Overview;
+use crate::posts::{receive_of, send_of};
 use mpi_model::{Message, Mode, Receive, Sends};
 use std::alloc::{AllocError, Global};
 use trace_ops::RankOps;
@@ -25,9 +25,7 @@ fn is_buffered(how: Sends, mode: Mode) -> bool
 fn may_send(run: &Overview, m: &Message) -> bool
     ensures { result ≡ may_send run.now m.now }
 {
-    is_buffered(run.layout.sends(), m.mode)
-        || run.is_taken(m)
-        || run.fits_some_receive(m)
+    is_buffered(run.layout.sends(), m.mode) || run.is_taken(m) || run.fits_some_receive(m)
 }
 
 fn may_receive(run: &Overview, q: &Receive) -> bool

@@ -81,11 +81,7 @@ fn ask(q: &Receive, set: &mut BTreeSet<Pattern>) -> Result<(), AllocError>
     Ok(())
 }
 
-fn ask_unpaired(
-    paired: &Paired,
-    q: &Receive,
-    set: &mut BTreeSet<Pattern>,
-) -> Result<(), AllocError>
+fn ask_unpaired(paired: &Paired, q: &Receive, set: &mut BTreeSet<Pattern>) -> Result<(), AllocError>
     ensures { OnOk result ((p : Named) → contains pattern_cmp set.new p ≡ ((is_unpaired_receive paired.now q.now && asks q.now p) || contains pattern_cmp set.old p)) }
 {
     if paired.is_given(q) {

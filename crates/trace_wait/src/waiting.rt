@@ -10,11 +10,11 @@ ghost use Rattle.trace_wait.specs.Conditions.{some_of, request, waits_for, condi
 use crate::collective::collective_of_call;
 use crate::counts::all_calls;
 use crate::mismatch::mismatched_rounds;
+use crate::overview::Overview;
 use crate::paired::paired_by;
 use crate::pairs::{Pair, PairTable};
 use crate::parts::{post_part, posted_by, receive_of_call, requests, send_of_call};
 use crate::round::Round;
-use crate::overview::Overview;
 use crate::unpaired::{patterns_asked, patterns_offered};
 use mpi_model::{Call, Layout};
 use std::alloc::{AllocError, Global};
