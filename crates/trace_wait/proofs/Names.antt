@@ -5,8 +5,8 @@ use Rattle.std.specs.List.{list_any, find}
 use Rattle.std.specs.Option.{option_map}
 use Rattle.std.proofs.lemmas.List.Folds.{list_any_more}
 use Rattle.mpi_model.specs.declared.event.OpName.{OpName}
-use Rattle.trace_wait.specs.declared.pairs.Pair.{Pair}
-use Rattle.trace_wait.specs.Partners.{same_name, taken_by, given_by}
+use Rattle.trace_pair.specs.declared.pair.Pair.{Pair}
+use Rattle.trace_pair.specs.Table.{same_name, taken_by, given_by}
 
 module _ {X Y : Type 0} (p : X → Bool) (f : X → Y) where
   some_found : (xs : List X) → list_any p xs ≡ is_some (option_map f (find p xs))

@@ -1,4 +1,3 @@
-pub mod Partners
 pub mod Ranks
 pub mod Matching
 pub mod Patterns

@@ -4,8 +4,8 @@ use Rattle.std.specs.List.{flat_map}
 use Rattle.mpi_model.specs.declared.message.Message.{Message}
 use Rattle.mpi_model.specs.declared.message.Receive.{Receive}
 use Rattle.trace_ops.specs.Ops.{Ops}
-use Rattle.trace_wait.specs.declared.pairs.Pair.{Pair}
-use Rattle.trace_wait.specs.Partners.{taken_by, given_by}
+use Rattle.trace_pair.specs.declared.pair.Pair.{Pair}
+use Rattle.trace_pair.specs.Table.{taken_by, given_by}
 
 abbrev pub is_unpaired_message : List Pair → Message → Bool
 is_unpaired_message pairs m = is_none (taken_by pairs m.name)

@@ -12,10 +12,10 @@ use Rattle.mpi_model.specs.declared.envelope.Mode.TheVariants.{Standard, Synchro
 use Rattle.trace_stuck.specs.Shape.{Wait, OnNothing, OnRank, OnOne, waits_of}
 use Rattle.mpi_model.specs.declared.message.Message.{Message}
 use Rattle.mpi_model.specs.declared.message.Receive.{Receive}
-use Rattle.trace_wait.specs.declared.pairs.Pair.{Pair}
+use Rattle.trace_pair.specs.declared.pair.Pair.{Pair}
 use Rattle.trace_wait.specs.declared.round.Round.{Round}
 use Rattle.trace_ops.specs.Ops.{Ops}
-use Rattle.trace_wait.specs.Partners.{taken_by, given_by}
+use Rattle.trace_pair.specs.Table.{taken_by, given_by}
 use Rattle.mpi_model.specs.Fit.{fits}
 use Rattle.trace_wait.specs.Matching.{unpaired_messages, unpaired_receives}
 

@@ -23,7 +23,6 @@ mod counts;
 mod mismatch;
 mod overview;
 mod paired;
-mod pairs;
 mod parts;
 mod posts;
 mod round;
@@ -32,7 +31,6 @@ mod tally;
 mod unpaired;
 mod waiting;
 
-pub use pairs::{Pair, PairTable};
 pub use round::{Round, Standing};
 pub use tally::rounds;
 pub use trace_stuck::{

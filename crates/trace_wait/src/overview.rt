@@ -3,7 +3,7 @@
 ghost use Rattle.std.specs.Prelude.{◌≡◌, ◌==◌, ◌&&◌, count_by, is_some, nat_lt, slice_index};
 ghost use Rattle.std.specs.List.{list_any};
 ghost use Rattle.mpi_model.specs.Fit.{fits};
-ghost use Rattle.trace_wait.specs.Partners.{taken_by, given_by};
+ghost use Rattle.trace_pair.specs.Table.{taken_by, given_by};
 ghost use Rattle.trace_wait.specs.Matching.{unpaired_messages, unpaired_receives};
 ghost use Rattle.trace_wait.specs.Parts.{members};
 ghost use Rattle.trace_wait.specs.Patterns.{asks};
@@ -12,13 +12,13 @@ ghost use Rattle.trace_wait.specs.Conditions.{is_mismatched, round_number};
 
 use crate::counts::{CommCalls, row_of};
 use crate::paired::Paired;
-use crate::pairs::Pair;
 use crate::round::Round;
 use crate::unpaired::Pattern;
 use mpi_model::{Layout, Message, Receive};
 use std::collections::BTreeSet;
 use std::marker::Model;
 use trace_ops::{Entered, RankOps};
+use trace_pair::Pair;
 
 /// The whole run, and what was gathered of it to be looked up: which messages and receives are in
 /// no pair, which rounds are mismatched, and how many calls each member has entered.

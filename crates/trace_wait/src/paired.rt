@@ -3,15 +3,15 @@
 ghost use Rattle.std.specs.Prelude.{◌≡◌, ◌||◌, ℕ, is_some, IfOk, OnOk};
 ghost use Rattle.std.specs.List.{list_any};
 ghost use Rattle.std.specs.BTreeSet.{contains};
-ghost use Rattle.trace_wait.specs.Partners.{taken_by, given_by};
+ghost use Rattle.trace_pair.specs.Table.{taken_by, given_by};
 ghost use Rattle.trace_wait.specs.Patterns.{place_cmp, is_name};
 
-use crate::pairs::Pair;
 use crate::sets::note;
 use mpi_model::{Message, OpName, Receive};
 use std::alloc::{AllocError, Global};
 use std::collections::BTreeSet;
 use std::marker::Model;
+use trace_pair::Pair;
 
 /// The pairs, with the names of their messages and of their receives. A table of pairs stands in
 /// order of the message, so of a receive it could only be asked from its front.
@@ -26,7 +26,7 @@ impl<'a> Model for Paired<'a> {
     ghost use Rattle.std.specs.Prelude.{◌≡◌, ℕ, List};
     ghost use Rattle.std.specs.List.{list_any};
     ghost use Rattle.std.specs.BTreeSet.{contains};
-    ghost use Rattle.trace_wait.specs.declared.pairs.Pair.{Pair as Couple};
+    ghost use Rattle.trace_pair.specs.declared.pair.Pair.{Pair as Couple};
     ghost use Rattle.trace_wait.specs.Patterns.{place_cmp, is_name};
 
     ghost Value = { List Couple };

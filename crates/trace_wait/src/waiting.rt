@@ -12,13 +12,13 @@ use crate::counts::all_calls;
 use crate::mismatch::mismatched_rounds;
 use crate::overview::Overview;
 use crate::paired::paired_by;
-use crate::pairs::{Pair, PairTable};
 use crate::parts::{post_part, posted_by, receive_of_call, requests, send_of_call};
 use crate::round::Round;
 use crate::unpaired::{patterns_asked, patterns_offered};
 use mpi_model::{Call, Layout};
 use std::alloc::{AllocError, Global};
 use trace_ops::RankOps;
+use trace_pair::{Pair, PairTable};
 use trace_stuck::Condition;
 
 fn both(alloc: Global, first: Condition, second: Condition) -> Result<Condition, AllocError>

@@ -1,5 +1,5 @@
 use Rattle.std.proofs.Common.{◌∙◌, sym}
-use Rattle.trace_wait.specs.Partners.{given_by}
+use Rattle.trace_pair.specs.Table.{given_by}
 use Rattle.trace_wait.specs.Patterns.{asks}
 use Rattle.trace_wait.proofs.Keys.{passed_over, taken_in}
 use Rattle.trace_wait.proofs.unpaired.ask_unpaired.Goals as goal

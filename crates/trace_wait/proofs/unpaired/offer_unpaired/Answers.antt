@@ -1,5 +1,5 @@
 use Rattle.std.proofs.Common.{◌∙◌, sym}
-use Rattle.trace_wait.specs.Partners.{taken_by}
+use Rattle.trace_pair.specs.Table.{taken_by}
 use Rattle.trace_wait.specs.Patterns.{suits}
 use Rattle.trace_wait.proofs.Keys.{passed_over, taken_in}
 use Rattle.trace_wait.proofs.unpaired.offer_unpaired.Goals as goal

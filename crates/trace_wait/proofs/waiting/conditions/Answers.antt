@@ -1,7 +1,7 @@
 use Rattle.std.proofs.Common.{◌≡◌, IfOk, List, map, subst}
 use Rattle.std.specs.Option.{option_map}
 use Rattle.trace_stuck.specs.Shape.{shape}
-use Rattle.trace_wait.specs.declared.pairs.Pair.{Pair}
+use Rattle.trace_pair.specs.declared.pair.Pair.{Pair}
 use Rattle.trace_wait.specs.Conditions.{conditions_from}
 use Rattle.trace_wait.proofs.waiting.conditions.Goals as goal
 

@@ -1,7 +1,7 @@
 use Rattle.std.proofs.Common.{◌∙◌, ap, List}
 use Rattle.std.specs.List.{list_any}
 use Rattle.mpi_model.specs.Fit.{fits}
-use Rattle.trace_wait.specs.declared.pairs.Pair.{Pair}
+use Rattle.trace_pair.specs.declared.pair.Pair.{Pair}
 use Rattle.trace_wait.specs.Parts.{Run}
 use Rattle.trace_wait.specs.Matching.{unpaired_messages}
 use Rattle.trace_wait.specs.Patterns.{pattern_of}

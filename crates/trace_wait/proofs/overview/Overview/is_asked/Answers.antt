@@ -1,6 +1,6 @@
 use Rattle.std.proofs.Common.{◌∙◌, ap, List}
 use Rattle.std.specs.List.{list_any}
-use Rattle.trace_wait.specs.declared.pairs.Pair.{Pair}
+use Rattle.trace_pair.specs.declared.pair.Pair.{Pair}
 use Rattle.trace_wait.specs.Parts.{Run}
 use Rattle.trace_wait.specs.Matching.{unpaired_receives}
 use Rattle.trace_wait.specs.Patterns.{asks}

@@ -1,6 +1,6 @@
 use Rattle.std.proofs.Common.{◌∙◌, ap, is_some, List}
-use Rattle.trace_wait.specs.declared.pairs.Pair.{Pair}
-use Rattle.trace_wait.specs.Partners.{taken_by}
+use Rattle.trace_pair.specs.declared.pair.Pair.{Pair}
+use Rattle.trace_pair.specs.Table.{taken_by}
 use Rattle.trace_wait.proofs.Names.{some_taken_by}
 use Rattle.trace_wait.proofs.paired.Paired.is_taken.Goals as goal
 
