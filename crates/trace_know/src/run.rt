@@ -307,7 +307,10 @@ pub(crate) fn run_from(
 fn cells_from(alloc: Global, events: Vec<Event>) -> Result<VecDeque<Known>, AllocError>
     ensures { IfOk result (λ cells. cells.items ≡ map (λ e. One e) events.items) }
 {
-    events.into_iter().map(|event| Known::One(event)).collect(alloc)
+    events
+        .into_iter()
+        .map(|event| Known::One(event))
+        .collect(alloc)
 }
 
 /// A run of one cell.

@@ -25,6 +25,6 @@ returns-clause-ok c =
     let known = put_known c.args.event in
     let cells : piece.cells.items ≡ known ∷ [] = c.in_ok-piece.ensures.cells ∙ ap (λ (k : Known). k ∷ []) c.known_of.ensures in
     let set = ap (join c.args.self.now) (run-single piece c.args.rank c.args.place known c.in_ok-piece.ensures.rank c.in_ok-piece.ensures.first cells)
-        ∙ join-comm c.args.self.now (single c.args.rank c.args.place known)
-        ∙ sym (insert-join c.args.self.now c.args.rank c.args.place known (past-none c.args.self.now c.args.rank c.args.place c.requires.last)) in
+    ∙ join-comm c.args.self.now (single c.args.rank c.args.place known)
+    ∙ sym (insert-join c.args.self.now c.args.rank c.args.place known (past-none c.args.self.now c.args.rank c.args.place c.requires.last)) in
     subst (λ (v : View). OnOk c.join_run.result (c.join_run.new.self ≡ v)) set c.join_run.ensures.ok
