@@ -58,7 +58,7 @@ MPI_Barrier returning at walltime 1.75, cputime 0.25 seconds in thread 0.
 
 static REPORT: [&str; 4] = ["mpimatch", "report", "layout.json", "manifest.json"];
 
-fn shelf<'a>(layout: &'a [u8], until_failure: Option<usize>) -> Shelf<'a> {
+fn run_of<'a>(layout: &'a [u8], until_failure: Option<usize>) -> Shelf<'a> {
     Shelf {
         layout,
         manifest: MANIFEST,
@@ -116,7 +116,7 @@ static RUNS: [(&str, Option<usize>, usize, &str); 6] = [
 fn runs_over_files_that_tell_their_bytes(rt: HostRuntime) -> Result<(), Fail> {
     for row in &RUNS {
         let (name, until_failure, room, want) = *row;
-        let found = ended(rt.alloc(), shelf(LAYOUT, until_failure), room)?;
+        let found = ended(rt.alloc(), run_of(LAYOUT, until_failure), room)?;
         assert_eq!(rt; found.as_str(), want, "{name}");
     }
     Ok(())
@@ -126,10 +126,10 @@ fn runs_over_files_that_tell_their_bytes(rt: HostRuntime) -> Result<(), Fail> {
 fn the_limit_of_a_layout(rt: HostRuntime) -> Result<(), Fail> {
     let mut layout = LAYOUT.to_vec(rt.alloc())?;
     layout.resize(16_777_216, b' ')?;
-    let found = ended(rt.alloc(), shelf(&layout, None), usize::MAX)?;
+    let found = ended(rt.alloc(), run_of(&layout, None), usize::MAX)?;
     assert_eq!(rt; found.as_str(), RUNS[0].3, "16,777,216 bytes");
     layout.push(b' ')?;
-    let found = ended(rt.alloc(), shelf(&layout, None), usize::MAX)?;
+    let found = ended(rt.alloc(), run_of(&layout, None), usize::MAX)?;
     assert_eq!(rt;
         found.as_str(),
         "1: mpimatch: M1 File layout.json\n",
