@@ -47,7 +47,11 @@ fn split_next(close: u8, text: &[u8]) -> Option<(bool, &[u8])>
 
 /// One or more items and the closing byte. Each item takes a byte at least, so there are no more of them than bytes.
 #[tactic(auto, using(crate::proofs::ItemByItem::no_item_before, crate::proofs::ItemByItem::one_more, crate::proofs::ItemByItem::the_last, crate::proofs::ItemByItem::no_item, crate::proofs::ItemByItem::no_next))]
-pub fn read_items<T: Item>(alloc: Global, close: u8, text: &[u8]) -> Result<(Vec<T>, &[u8]), ValueFault>
+pub fn read_items<T: Item>(
+    alloc: Global,
+    close: u8,
+    text: &[u8],
+) -> Result<(Vec<T>, &[u8]), ValueFault>
     ensures ok { IfOk result (λ x. items_front T.front close text.now ≡ Some (x.0.items, x.1.now)) }
     ensures bad { IfErr result (λ fault. fault ≡ BadValue → items_front T.front close text.now ≡ None) }
 {
