@@ -4,11 +4,13 @@
 Each iteration of each rank has one call of a function that mpimatch doesn't know, a Send to and a
 Recv from each neighbour on a ring, and a Barrier. Even ranks send first, odd ones receive first.
 Each rank's text is cut into pieces of so many calls. The same arguments make the same bytes.
-It writes layout.json, manifest.json and the pieces, and prints the bytes and the calls.
+It writes layout.json, manifest.json and the pieces, and prints the bytes and the calls. Numbers that
+make no trace, as 0 ranks, are refused with a sentence.
 """
 import argparse
 import json
 import os
+import sys
 
 CALL_NANOSECONDS = 1_500
 
@@ -47,6 +49,10 @@ def iteration(rank, ranks, number):
 CALLS_OF_ITERATION = 6
 
 
+# the most ranks of a layout, and the most calls of a text
+MOST_RANKS, MOST_CALLS = 1_024, 1_000_000
+
+
 def main():
     parser = argparse.ArgumentParser()
     parser.add_argument("folder")
@@ -55,6 +61,12 @@ def main():
     parser.add_argument("--piece", type=int, default=32_768, help="calls of a piece")
     arguments = parser.parse_args()
     ranks, folder = arguments.ranks, arguments.folder
+    if not 0 < arguments.megabytes <= 100_000:
+        sys.exit("bench: --megabytes is a number above 0 and at most 100000")
+    if not 2 <= ranks <= MOST_RANKS:
+        sys.exit(f"bench: --ranks is a number from 2 to {MOST_RANKS}: a rank sends to its neighbours on a ring")
+    if not 1 <= arguments.piece <= MOST_CALLS:
+        sys.exit(f"bench: --piece is a number of calls from 1 to {MOST_CALLS}")
     os.makedirs(folder, exist_ok=True)
     size = sum(len(text) for text in iteration(0, ranks, 0))
     iterations = max(1, round(arguments.megabytes * 10**6 / size / ranks))

@@ -3,7 +3,8 @@
 
 For each size it makes a trace in a temporary folder, runs crates/mpimatch/out/mpimatch on it once
 to warm the file cache and then three times, and prints a row of the best run: text, calls, pieces,
-seconds, MB/s of text, calls/s, and peak memory.
+seconds, MB/s of text, calls/s, and peak memory. Where the program isn't built or fails, or a number
+makes no trace, it ends with a sentence that says so.
 """
 import argparse
 import os
@@ -27,7 +28,7 @@ def timed(folder):
     _, status, usage = os.wait4(process.pid, 0)
     seconds = time.perf_counter() - begin
     if status != 0 or not report.endswith(b"end\n"):
-        sys.exit(f"the program failed on {folder}")
+        sys.exit(f"bench: the program failed on a trace, with status {os.waitstatus_to_exitcode(status)}")
     return seconds, usage.ru_maxrss * 1024
 
 
@@ -37,12 +38,16 @@ def main():
     parser.add_argument("--ranks", type=int, default=16)
     parser.add_argument("--piece", type=int, default=32_768)
     arguments = parser.parse_args()
+    if not os.access(PROGRAM, os.X_OK):
+        sys.exit("bench: the program is not built: run ./mpimatch --version once, or ./check")
     print("|  MB text |     calls | pieces | seconds |  MB/s |   calls/s | peak MB |")
     print("|---------:|----------:|-------:|--------:|------:|----------:|--------:|")
     for megabytes in arguments.megabytes:
         with tempfile.TemporaryDirectory() as folder:
             words = ["--megabytes", str(megabytes), "--ranks", str(arguments.ranks), "--piece", str(arguments.piece)]
-            made = subprocess.run([sys.executable, MAKER, folder, *words], check=True, capture_output=True, text=True)
+            made = subprocess.run([sys.executable, MAKER, folder, *words], stdout=subprocess.PIPE, text=True)
+            if made.returncode != 0:
+                sys.exit("bench: no trace was made")
             size, calls = (int(word) for word in made.stdout.split())
             pieces = len(os.listdir(folder)) - 2
             timed(folder)

@@ -4,15 +4,14 @@
 //! builders, so what the words ask for, and the kind of each mistake, is `clap`'s meaning of that
 //! command. A verb that comes later is one line in `Verb`, in `verb_of`, in `program_command` and,
 //! in `specs/Program.antt`, in `verb_named` and in `program`.
+//!
+//! Its tests are in `crates/reading_tests/src/command.rt`.
 #![tactic(auto)]
 
-ghost use Rattle.std.specs.Prelude.{◌≡◌, IfErr, IfOk, Some, codes, false, map, option_map};
-ghost use Rattle.clap.specs.Words.{app_of, rule_of, subcommand_of, subcommand_rows_of};
+ghost use Rattle.std.specs.Prelude.{◌≡◌, [], IfErr, IfOk, OnOk, Some, codes, false, map, option_map};
+ghost use Rattle.clap.specs.Words.{app_of, fault_of, rule_of, subcommand_of, subcommand_rows_of};
 ghost use Rattle.clap.specs.declared.builder.command.Command.TheViews.{out-Command};
 ghost use Rattle.command_line.specs.Program.{Refuses, file_rule, program, request_in, request_of, shown_status_of, verb_app, verb_named};
-
-#[cfg(test)]
-mod tests;
 
 use clap::error::ErrorKind;
 use clap::{Arg, ArgMatches, Command};
@@ -75,6 +74,7 @@ fn shown_status(kind: ErrorKind) -> u8
 /// What the words ask for; the first word is the name of the program.
 pub fn command_of<'a>(alloc: Global, words: &'a [&'a str]) -> Result<Asked<'a>, CommandFault>
     ensures asked { IfOk result (λ a. request_in (subcommand_of program (map (λ w. w.now) words.entry.now)) ≡ Some (request_of a)) }
+    ensures taken { OnOk result (fault_of program (map (λ w. w.now) words.entry.now) ≡ []) }
     ensures refused { IfErr result (Refuses (map (λ w. w.now) words.entry.now)) }
 {
     let command = match program_command(alloc) {
@@ -92,16 +92,38 @@ pub fn command_of<'a>(alloc: Global, words: &'a [&'a str]) -> Result<Asked<'a>, 
     }
 }
 
+// What the help says below the verbs.
+const MORE_HELP: &str = r#"Example: mpimatch report layout.json manifest.json
+
+LAYOUT has the ranks and communicators of the run, in one JSON text:
+  {"ranks":2,"world":2,"sends":"wait","comms":[{"id":2,"members":[0,1]}]}
+world is the id of MPI_COMM_WORLD; sends is wait where a send of standard mode waits for its
+receive, and buffer where it does not.
+
+MANIFEST has the text files of the trace, each with its rank and the number of its first call:
+  {"pieces":[{"rank":0,"first":0,"file":"r0.txt"},{"rank":1,"first":0,"file":"r1.txt"}]}
+Calls of a rank are numbered from 0. Files are named from the folder in which mpimatch runs.
+
+It ends with 0 and the report, with 2 for a mistake in the words, or with 1 and a line on standard
+error where an input is refused:
+  M1 File PATH      it is missing, unreadable, a folder, or has more than 16,777,216 bytes
+  M2 Json in PATH   it is no JSON text in UTF-8
+  M3 Shape in PATH  a field is missing, of another kind, or out of its range
+Other lines name a rule of layouts, or a file and its line: docs/formats.md has them all.
+"#;
+
 fn program_command<'a>(alloc: Global) -> Result<Command<'a>, AllocError>
     ensures { IfOk result (λ c. app_of c ≡ program) }
 {
-    let report = verb_command(alloc, "report", "Prints what the trace tells of each rank")?;
+    let report = verb_command(
+        alloc,
+        "report",
+        "Prints how far each rank's trace reads, and its contradictions",
+    )?;
     Command::new(alloc, "mpimatch")
-        .about("Matches the sends and receives of an MPI run by its trace")
+        .about("Tells what the trace of an MPI run says of its ranks, after the run")
         .version("0.1.0")
-        .after_help(
-            "Ends with 0, with 1 for a refused input, or with 2 for a mistake in the words.",
-        )
+        .after_help(MORE_HELP)
         .subcommand_required(true)
         .subcommand(report)
 }

@@ -9,14 +9,14 @@
 //! - [`json`]: the value of a text, and its fields
 //! - [`layout`]: ranks, communicators, and how sends complete
 //! - [`manifest`]: the pieces of a trace
+//!
+//! Its tests are in `crates/reading_tests/src/inputs.rt`.
 #![tactic(auto)]
 
 mod fault;
 mod json;
 mod layout;
 mod manifest;
-#[cfg(test)]
-mod tests;
 
 pub use fault::InputFault;
 pub use layout::layout_of;

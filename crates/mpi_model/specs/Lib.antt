@@ -6,3 +6,5 @@ pub mod Whole
 pub mod Groups
 pub mod Layouts
 pub mod Devices
+pub mod Fit
+pub mod Events

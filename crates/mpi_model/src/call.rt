@@ -1,6 +1,7 @@
 //! Calls of MPI, with what they name.
 
 ghost use Rattle.std.specs.Prelude.{◌≡◌, ◌↔◌, IsTrue, IfOk};
+ghost use Rattle.mpi_model.specs.Events.{IsCall};
 
 use crate::collective::Collective;
 use crate::envelope::{Exchange, Mode, ReceiveEnvelope, SendEnvelope};
@@ -49,6 +50,25 @@ impl Call {
             Call::Test(request) => Call::Test(*request),
             Call::Collective(collective) => Call::Collective(*collective),
         })
+    }
+
+    /// Tells that every value of the call lies in its range. It does nothing: it is for proofs.
+    pub fn known(&self)
+        ensures { IsCall self.now }
+    {
+        match self {
+            Call::Local | Call::Finalize => {}
+            Call::Send(_, envelope) | Call::Isend(_, envelope) => envelope.known(),
+            Call::Recv(envelope) | Call::Irecv(envelope) => envelope.known(),
+            Call::Sendrecv(exchange) => exchange.known(),
+            Call::Wait(request) | Call::Test(request) => {
+                let _request = *request;
+            }
+            Call::Waitall(requests) | Call::Waitany(requests) | Call::Waitsome(requests) => {
+                requests.known();
+            }
+            Call::Collective(collective) => collective.known(),
+        }
     }
 
     /// Whether the two calls are equal in every field.

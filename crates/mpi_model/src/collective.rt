@@ -65,6 +65,13 @@ impl Collective {
         }
     }
 
+    /// Tells the range of the call's values. It does nothing: it is for proofs.
+    pub fn known(self)
+        ensures { IsCollective self }
+    {
+        let _kind = self.kind;
+    }
+
     pub fn kind(self) -> Kind
         ensures { result ≡ self.kind }
     {

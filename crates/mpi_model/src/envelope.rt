@@ -29,7 +29,7 @@ pub enum CommRef {
 }
 
 /// The mode of a send (MPI 4.0, 3.4).
-#[derive(Clone, Copy, Debug, PartialEq, Eq)]
+#[derive(Clone, Copy, Debug, PartialEq, Eq, PartialOrd, Ord)]
 pub enum Mode {
     Standard,
     Synchronous,

@@ -1,6 +1,7 @@
 //! Events: a rank enters a call, or a call returns.
 
 ghost use Rattle.std.specs.Prelude.{◌≡◌, ◌↔◌, IsTrue, IfOk};
+ghost use Rattle.mpi_model.specs.Events.{IsEvent};
 
 use crate::call::Call;
 use crate::outcome::Outs;
@@ -24,6 +25,22 @@ impl Event {
         })
     }
 
+    /// Tells that every value of the event lies in its range. It does nothing: it is for proofs.
+    pub fn known(&self)
+        ensures { IsEvent self.now }
+    {
+        match self {
+            Event::Enter(call, stamp) => {
+                call.known();
+                stamp.known();
+            }
+            Event::Return(outs, stamp) => {
+                outs.known();
+                stamp.known();
+            }
+        }
+    }
+
     /// Whether the two events are equal in every field, times included.
     pub fn same(&self, other: &Event) -> bool
         ensures { IsTrue result ↔ (self.now ≡ other.now) }
@@ -44,7 +61,7 @@ pub struct Exit {
 }
 
 /// The name of an operation: its rank in the trace, and the number of its call, from 0.
-#[derive(Clone, Copy, Debug, PartialEq, Eq)]
+#[derive(Clone, Copy, Debug, PartialEq, Eq, PartialOrd, Ord)]
 pub struct OpName {
     pub rank: u32,
     pub call: u64,

@@ -12,7 +12,10 @@
 //!   [`whole`]: whole pieces over devices
 //! - [`stamp`], [`told`], [`envelope`], [`collective`], [`list`]: what calls are made of
 //! - [`call`], [`outcome`], [`event`]: what a rank does, and when
+//! - [`message`]: what is matched, and which messages a receive can take
 //! - [`layout`]: the ranks of a run and its communicators
+//!
+//! Its tests are in `crates/reading_tests/src/model.rt`.
 #![tactic(auto)]
 
 mod call;
@@ -23,10 +26,9 @@ mod event;
 mod layout;
 mod list;
 mod memory;
+mod message;
 mod outcome;
 mod stamp;
-#[cfg(test)]
-mod tests;
 mod told;
 mod whole;
 
@@ -39,6 +41,7 @@ pub use layout::fault::LayoutFault;
 pub use layout::{Layout, MOST_COMMS, MOST_RANKS, Sends};
 pub use list::{Element, Elements, Requests, Sources};
 pub use memory::{EndlessReader, MemoryReader, MemoryWriter};
+pub use message::{Message, Receive, fits};
 pub use outcome::Outs;
 pub use stamp::{LATEST, Stamp};
 pub use told::Told;

@@ -1,6 +1,7 @@
 //! What calls bring back when they return.
 
 ghost use Rattle.std.specs.Prelude.{◌≡◌, ◌↔◌, IsTrue, IfOk};
+ghost use Rattle.mpi_model.specs.Events.{IsOutcome};
 
 use crate::list::{Elements, Sources};
 use crate::told::Told;
@@ -36,6 +37,27 @@ impl Outs {
             Outs::Several(elements) => Outs::Several(elements.try_clone()?),
             Outs::Flag(done, told) => Outs::Flag(*done, *told),
         })
+    }
+
+    /// Tells that every value of the outcome lies in its range. It does nothing: it is for proofs.
+    pub fn known(&self)
+        ensures { IsOutcome self.now }
+    {
+        match self {
+            Outs::Nothing => {}
+            Outs::Posted(request) => {
+                let _request = *request;
+            }
+            Outs::Status(told) | Outs::Flag(_, told) | Outs::Index(None, told) => {
+                let _rank = told.rank();
+            }
+            Outs::Statuses(sources) => sources.known(),
+            Outs::Index(Some(position), told) => {
+                let _position = *position;
+                let _rank = told.rank();
+            }
+            Outs::Several(elements) => elements.known(),
+        }
     }
 
     /// Whether the two outcomes are equal in every field.

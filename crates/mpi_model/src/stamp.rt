@@ -1,6 +1,7 @@
 //! When a call was entered or left.
 
 ghost use Rattle.std.specs.Prelude.{◌≡◌, ◌≤◌, SomeIff};
+ghost use Rattle.mpi_model.specs.Times.{IsTimes};
 
 use std::marker::Model;
 
@@ -39,6 +40,13 @@ impl Stamp {
         } else {
             None
         }
+    }
+
+    /// Tells the range of both times. It does nothing: it is for proofs.
+    pub fn known(self)
+        ensures { IsTimes self }
+    {
+        let _wall = self.wall;
     }
 
     /// The wall time in nanoseconds.

@@ -1,60 +1,40 @@
 //! mpimatch: what the trace texts of an MPI run tell of its ranks.
 //!
-//! `mpimatch report LAYOUT MANIFEST` reads a layout and the pieces that a manifest names, and
-//! prints the report of what they tell together. Nothing is printed before the whole run is good.
-//!
-//! - [`opener`]: where files come from; [`whole`]: a whole file, within its limit
-//! - [`typing`]: the calls of a text, read by the parameters of their functions
-//! - [`piece`]: the segments of a piece, [`cut`] from its text's events
-//! - [`input`]: the layout and the manifest; [`knowing`]: what the pieces tell together
-//! - [`report`]: the report's text
-//! - [`run`]: a verb over its files; [`fault`]: why it is refused, and the line that says so
-//! - [`ending`]: from words to a status and what standard error shows
+//! The program hands its words, the files of the system and standard output to `command_runs`, and
+//! ends with the status that comes of them. `crates/command_runs` has the rest.
 #![tactic(auto)]
 
-mod cut;
-mod ending;
-mod fault;
-mod input;
-mod knowing;
-mod opener;
-mod piece;
-mod report;
-mod run;
-#[cfg(test)]
-mod tests;
-mod typing;
-mod whole;
-
-use ending::ending_of;
+use command_runs::{Disk, ending_of, ending_without_words};
 use mpi_model::Device;
-use opener::Disk;
+use std::alloc::AllocError;
 use std::io;
 use std::process::ExitCode;
 
 fn main(rt: HostRuntime) -> anyhow::Result<ExitCode> {
     let alloc = rt.alloc();
-    let words: Vec<String> = match std::env::args(&rt) {
-        Ok(args) => args.collect(alloc)?,
-        Err(error) => {
-            eprintln!(rt; "mpimatch: {error}")?;
-            return Ok(ExitCode::from(2));
+    let ending = match std::env::args(&rt) {
+        Ok(args) => {
+            let words: Vec<String> = args.collect(alloc)?;
+            let mut texts = Vec::new(alloc);
+            for word in &words {
+                texts.push(word.as_str())?;
+            }
+            let mut files = Disk::new(&rt);
+            let mut out = Device::new(io::writer(&rt));
+            ending_of(alloc, texts.as_slice(), &mut files, &mut out)
         }
+        Err(error) if error.kind() == io::ErrorKind::OutOfMemory => Err(AllocError),
+        Err(_) => ending_without_words(alloc),
     };
-    let mut texts = Vec::new(alloc);
-    for word in &words {
-        texts.push(word.as_str())?;
-    }
-    let mut files = Disk::new(&rt);
-    let mut out = Device::new(io::writer(&rt));
-    match ending_of(alloc, texts.as_slice(), &mut files, &mut out) {
+    // (the status tells how the run ended, also where standard error takes no byte)
+    match ending {
         Ok(ending) => {
             let errors = ending.errors.as_str();
-            eprint!(rt; "{errors}")?;
+            let _ = eprint!(rt; "{errors}");
             Ok(ExitCode::from(ending.status))
         }
         Err(_) => {
-            eprint!(rt; "mpimatch: Memory\n")?;
+            let _ = eprint!(rt; "mpimatch: Memory\n");
             Ok(ExitCode::from(1))
         }
     }

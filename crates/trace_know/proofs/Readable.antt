@@ -7,10 +7,10 @@ use Rattle.std.specs.FinMap.{get, remove, len, empty_of_len, get-empty, get-remo
 use Rattle.mpi_model.specs.declared.event.Event.{Event}
 use Rattle.trace_know.specs.declared.cell.Known.{Known}
 use Rattle.trace_know.specs.View.{View, place_cmp, cell}
-use Rattle.trace_know.specs.Prefix.{IsRunOf, event_of, event_at, AllOneBelow, IsPrefix, events_of, prefix_of}
+use Rattle.trace_know.specs.Prefix.{IsLeading, event_of, event_at, AllOneBelow, IsPrefix, events_of, prefix_of}
 use Rattle.trace_know.proofs.SameEvents.{false_or_true}
 use Rattle.trace_know.proofs.Joins.{places_total, exact_places, equal}
-use Rattle.trace_know.proofs.Runs.{run_of-IsRunOf, one_run, some_within, greatest_run, length_of_run}
+use Rattle.trace_know.proofs.Leading.{leading-IsLeading, one_leading, some_within, greatest_leading, length_of_leading}
 
 -- something is known of each place below this one
 abbrev AllKnownBelow : View → ℕ → ℕ → Type 0
@@ -65,19 +65,19 @@ none_at view rank all = by_cell (event_at view rank (len view)) (λ some. absurd
       | inr le ↦ let e : p ≡ len view = omega arith in subst (λ x. IsSome (event_at view rank x)) (sym e) some
     ]
 
-pub events_of-IsRunOf : (view : View) (rank : ℕ) → IsRunOf (event_at view rank) (events_of view rank)
-events_of-IsRunOf view rank = run_of-IsRunOf (len view) (event_at view rank) (none_at view rank)
+pub events_of-IsLeading : (view : View) (rank : ℕ) → IsLeading (event_at view rank) (events_of view rank)
+events_of-IsLeading view rank = leading-IsLeading (len view) (event_at view rank) (none_at view rank)
 
 -- ---- the prefix
 
 pub prefix_of-IsPrefix : (view : View) (rank : ℕ) → IsPrefix view rank (prefix_of view rank)
 prefix_of-IsPrefix view rank = record {
-  all_one = some_within (event_at view rank) (events_of view rank) (events_of-IsRunOf view rank);
-  greatest = greatest_run (event_at view rank) (events_of view rank) (events_of-IsRunOf view rank);
+  all_one = some_within (event_at view rank) (events_of view rank) (events_of-IsLeading view rank);
+  greatest = greatest_leading (event_at view rank) (events_of view rank) (events_of-IsLeading view rank);
 }
 
 pub prefix_is : (view : View) (rank n : ℕ) → AllOneBelow view rank n → event_at view rank n ≡ None → n ≡ prefix_of view rank
-prefix_is view rank n all none = length_of_run (event_at view rank) (events_of view rank) (events_of-IsRunOf view rank) n all none
+prefix_is view rank n all none = length_of_leading (event_at view rank) (events_of view rank) (events_of-IsLeading view rank) n all none
 
-pub events_are : (view : View) (rank : ℕ) (xs : List Event) → IsRunOf (event_at view rank) xs → xs ≡ events_of view rank
-events_are view rank xs h = one_run (event_at view rank) xs (events_of view rank) h (events_of-IsRunOf view rank)
+pub events_are : (view : View) (rank : ℕ) (xs : List Event) → IsLeading (event_at view rank) xs → xs ≡ events_of view rank
+events_are view rank xs h = one_leading (event_at view rank) xs (events_of view rank) h (events_of-IsLeading view rank)

@@ -4,4 +4,7 @@ pub mod View
 pub mod Segment
 pub mod Trace
 pub mod Prefix
-pub mod Cells
+pub mod Placed
+pub mod Listing
+pub mod Rows
+pub mod Runs

@@ -2,7 +2,7 @@
 
 ghost use Rattle.std.specs.Prelude.{◌≡◌, ◌↔◌, IsTrue};
 ghost use Rattle.std.specs.Option.{option_copied};
-ghost use Rattle.trace_know.specs.Cells.{shown, is_contradiction};
+ghost use Rattle.trace_know.specs.Cell.{shown, put_known, is_contradiction};
 
 use mpi_model::Event;
 use std::alloc::AllocError;
@@ -57,6 +57,16 @@ pub enum Cell<'a> {
     One(&'a Event),
     /// Two events came that differ.
     Contradiction,
+}
+
+/// What is known of a place that has this event, or a contradiction (`None`).
+pub(crate) fn known_of(event: Option<Event>) -> Known
+    ensures { result ≡ put_known event }
+{
+    match event {
+        Some(event) => Known::One(event),
+        None => Known::Contradiction,
+    }
 }
 
 /// The cell of a place, by what is known of it.

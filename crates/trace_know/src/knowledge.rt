@@ -1,45 +1,56 @@
 //! Knowledge: the join of the segments that were taken.
 
-ghost use Rattle.std.specs.Prelude.{◌≡◌, ◌↔◌, ◌^◌, ◌<◌, IsTrue, OnOk, OnErr, IfOk, IsSome, length, map, slice_get};
-ghost use Rattle.std.specs.FinMap.{empty, len};
+ghost use Rattle.std.specs.Prelude.{◌≡◌, ◌↔◌, ◌+◌, ◌^◌, ◌<◌, ◌≤◌, IsTrue, OnOk, OnErr, IfOk, IsSome, length, map, slice_get};
+ghost use Rattle.std.specs.FinMap.{empty, insert, entries, len};
 ghost use Rattle.std.specs.Option.{option_map, option_copied};
-ghost use Rattle.trace_know.specs.Cells.{shown, cells_of, conflicts_of, IsKnowledge};
-ghost use Rattle.trace_know.specs.Prefix.{event_at, events_of, prefix_of, is_beyond};
+ghost use Rattle.trace_know.specs.Cell.{shown, put_known};
+ghost use Rattle.trace_know.specs.Placed.{IsPast, IsPlaced, IsKnowledge};
+ghost use Rattle.trace_know.specs.Listing.{cells_of, conflicts_of};
+ghost use Rattle.trace_know.specs.Prefix.{events_of, prefix_of, is_beyond};
+ghost use Rattle.trace_know.specs.Runs.{of_run, IsFilled};
 ghost use Rattle.trace_know.specs.Trace.{facts_of, view_of};
-ghost use Rattle.trace_know.specs.View.{cell, join};
+ghost use Rattle.trace_know.specs.View.{IsBelow, cell, join};
 
-use crate::cell::{Cell, Known, cell_of};
-use crate::cells::{
-    any_from, conflict_in, conflict_places_in, copy_of, count_conflicts, entry_in, join_all,
-    same_cells,
+use crate::cell::{Cell, Known, cell_of, known_of};
+use crate::compare::{holds_all, same_cells};
+use crate::copies::{copies_of, join_each};
+use crate::readers::{
+    any_from, cell_in, conflict_in, conflict_places_in, count_cells, count_conflicts, known_in,
+    prefix_in, readable_in,
 };
+use crate::run::{Run, run_from, run_of, run_of_one};
+use crate::runs::take_run;
 use crate::segment::Segment;
+use crate::walk::Walk;
 use mpi_model::Event;
 use std::alloc::{AllocError, Global};
-use std::collections::BTreeMap;
 use std::marker::Model;
 
 /// What is known of each place of each rank. Empty knowledge takes no memory; a copy takes its own.
 #[derive(Debug, Drop)]
 pub struct Knowledge {
-    cells: BTreeMap<(u32, u64), Known>,
+    alloc: Global,
+    runs: Vec<Run>,
+    /// No fewer than there are cells.
+    most: usize,
 }
 
 impl Model for Knowledge {
     ghost use Rattle.std.specs.Coded.{coded_ℕ, coded×};
     ghost use Rattle.std.specs.FinMap as map;
-    ghost use Rattle.trace_know.specs.View.{View, kept};
+    ghost use Rattle.trace_know.specs.Runs.{of_runs, Above};
+    ghost use Rattle.trace_know.specs.View.{View};
     ghost use Rattle.trace_know.specs.contracts.cell.Known as known;
 
     ghost Value = { View };
 
     ghost coded = { map.code (coded× coded_ℕ coded_ℕ) known.the_row.coded };
 
-    ghost use Rattle.trace_know.specs.Cells.{IsKnowledge};
+    ghost use Rattle.trace_know.specs.Runs.{IsHeld};
 
-    ghost view = { λ k. kept k.cells.entries };
+    ghost view = { λ k. of_runs k.runs.items };
 
-    ghost invariant = { λ k. IsKnowledge (kept k.cells.entries) };
+    ghost invariant = { λ k. IsHeld k.most k.runs.items };
 }
 
 impl Knowledge {
@@ -48,7 +59,9 @@ impl Knowledge {
         ensures { result ≡ empty }
     {
         Knowledge {
-            cells: BTreeMap::new(alloc),
+            alloc,
+            runs: Vec::new(alloc),
+            most: 0,
         }
     }
 
@@ -58,15 +71,76 @@ impl Knowledge {
         ensures err { OnErr result (self.new ≡ self.old) }
     {
         segment.known();
-        let mut cells = copy_of(&self.cells)?;
-        join_all(
-            &mut cells,
+        let piece = run_of(
+            self.alloc,
             segment.rank(),
             segment.first_place(),
             segment.events(),
         )?;
-        self.cells = cells;
+        self.join_run(piece)
+    }
+
+    /// Joins the facts of a segment that is not needed any more: its events are moved, where
+    /// [`take`](Self::take) copies them. Without memory nothing changes, and the segment is gone.
+    pub fn take_owned(&mut self, segment: Segment) -> Result<(), AllocError>
+        ensures ok { OnOk result (self.new ≡ join self.old (view_of (facts_of segment))) }
+        ensures err { OnErr result (self.new ≡ self.old) }
+    {
+        segment.known();
+        let rank = segment.rank();
+        let first = segment.first_place();
+        let piece = run_from(self.alloc, rank, first, segment.into_events())?;
+        self.join_run(piece)
+    }
+
+    /// Joins all that the other knows. Without memory nothing changes. Works on a copy, but where
+    /// the other knows nothing more.
+    pub fn join(&mut self, other: &Knowledge) -> Result<(), AllocError>
+        ensures ok { OnOk result (self.new ≡ join self.old other.now) }
+        ensures err { OnErr result (self.new ≡ self.old) }
+    {
+        if self.contains(other) {
+            return Ok(());
+        }
+        let most = self.most_with(other.count())?;
+        let mut runs = copies_of(self.alloc, &self.runs)?;
+        join_each(self.alloc, &mut runs, &other.runs)?;
+        self.runs = runs;
+        self.most = most;
         Ok(())
+    }
+
+    /// Sets the cell of a place past all that are known: to an event, or to a contradiction (`None`).
+    /// Without memory nothing changes.
+    pub fn put_last(
+        &mut self,
+        rank: u32,
+        place: u64,
+        event: Option<Event>,
+    ) -> Result<(), AllocError>
+        requires placed { IsPlaced rank place (put_known event) }
+        requires last { IsPast self.old rank place }
+        ensures ok { OnOk result (self.new ≡ insert self.old (rank, place) (put_known event)) }
+        ensures err { OnErr result (self.new ≡ self.old) }
+    {
+        let piece = run_of_one(self.alloc, rank, place, known_of(event))?;
+        self.join_run(piece)
+    }
+
+    /// All places that something is known of, in rising order of rank and place: the rank, the
+    /// place, and what is known of it. One walk where [`cell_at`](Self::cell_at) would look each up.
+    pub fn cells(&self) -> Walk<'_>
+        ensures { result ≡ entries self.now }
+    {
+        Walk::new(&self.runs)
+    }
+
+    /// Whether each place is known here at least as far as the other knows it: nothing is below one
+    /// event, and each event is below a contradiction.
+    pub fn contains(&self, other: &Knowledge) -> bool
+        ensures { IsTrue result ↔ IsBelow other.now self.now }
+    {
+        holds_all(&self.runs, Walk::new(&other.runs))
     }
 
     /// What is known of a place.
@@ -80,7 +154,7 @@ impl Knowledge {
     pub fn count(&self) -> usize
         ensures { result ≡ len self.now }
     {
-        self.cells.len()
+        count_cells(&self.runs)
     }
 
     /// The `i`-th place that something is known of, in rising order of rank and place: the rank,
@@ -88,7 +162,7 @@ impl Knowledge {
     pub fn cell_at(&self, i: usize) -> Option<(u32, u64, Cell<'_>)>
         ensures { option_map (λ at. ((at.0, at.1), shown at.2)) result ≡ slice_get (cells_of self.now) i }
     {
-        let (&(rank, place), known) = entry_in(&self.cells, i)?;
+        let (rank, place, known) = cell_in(&self.runs, i)?;
         Some((rank, place, cell_of(Some(known))))
     }
 
@@ -96,14 +170,14 @@ impl Knowledge {
     pub fn conflicts(&self) -> usize
         ensures { result ≡ length (conflicts_of self.now) }
     {
-        count_conflicts(&self.cells)
+        count_conflicts(&self.runs)
     }
 
     /// The rank and the place of the `i`-th contradiction, in rising order of rank and place.
     pub fn conflict(&self, i: usize) -> Option<(u32, u64)>
         ensures { result ≡ slice_get (conflicts_of self.now) i }
     {
-        conflict_in(&self.cells, i)
+        conflict_in(&self.runs, i)
     }
 
     /// The ranks and the places of all contradictions, in rising order of rank and place: one walk
@@ -111,50 +185,44 @@ impl Knowledge {
     pub fn conflict_places(&self, alloc: Global) -> Result<Vec<(u32, u64)>, AllocError>
         ensures { IfOk result (λ places. places.items ≡ conflicts_of self.now) }
     {
-        conflict_places_in(alloc, &self.cells)
+        conflict_places_in(alloc, &self.runs)
     }
 
     /// The readable prefix of a rank: one event is known of each place below it, and not of it.
     pub fn prefix(&self, rank: u32) -> u64
         ensures { result ≡ prefix_of self.now rank }
     {
-        let mut place = 0;
-        while self.event_at(rank, place).is_some() {
-            place += 1;
-        }
-        place
+        prefix_in(&self.runs, rank)
     }
 
     /// Whether something is known at or past the readable prefix of a rank.
     pub fn beyond(&self, rank: u32) -> bool
         ensures { result ≡ is_beyond self.now rank }
     {
-        any_from(&self.cells, rank, self.prefix(rank))
+        any_from(&self.runs, rank, self.prefix(rank))
     }
 
     /// The events below the readable prefix of a rank, in order.
     pub fn readable(&self, alloc: Global, rank: u32) -> Result<Vec<&Event>, AllocError>
         ensures { IfOk result (λ events. map (λ e. e.now) events.items ≡ events_of self.now rank) }
     {
-        let mut events = Vec::new(alloc);
-        while let Some(event) = self.event_at(rank, events.len() as u64) {
-            events.push(event)?;
-        }
-        Ok(events)
+        readable_in(alloc, &self.runs, rank)
     }
 
     /// Whether both know the same of each place, times included.
     pub fn same(&self, other: &Knowledge) -> bool
         ensures { IsTrue result ↔ (self.now ≡ other.now) }
     {
-        same_cells(&self.cells, &other.cells)
+        same_cells(self.cells(), other.cells())
     }
 
     pub fn try_clone(&self) -> Result<Knowledge, AllocError>
         ensures { IfOk result (λ copy. copy ≡ self.now) }
     {
         Ok(Knowledge {
-            cells: copy_of(&self.cells)?,
+            alloc: self.alloc,
+            runs: copies_of(self.alloc, &self.runs)?,
+            most: self.most,
         })
     }
 
@@ -162,25 +230,37 @@ impl Knowledge {
     pub fn known(&self)
         ensures { IsKnowledge self.now }
     {
-        let _ = &self.cells;
+        let _ = &self.runs;
     }
 
     /// What is known of a place, where something is.
     fn known_at(&self, rank: u32, place: u64) -> Option<&Known>
-        ensures cell { option_copied result ≡ cell self.now rank place }
-        ensures range { IsSome result → place < 2 ^ 40 }
+        ensures { option_copied result ≡ cell self.now rank place }
     {
-        self.cells.get(&(rank, place))
+        known_in(&self.runs, rank, place)
     }
 
-    /// The event of a place, where one is known.
-    fn event_at(&self, rank: u32, place: u64) -> Option<&Event>
-        ensures event { option_copied result ≡ event_at self.now rank place }
-        ensures range { IsSome result → place < 2 ^ 40 }
+    /// Joins the cells of a run. Without memory nothing changes.
+    fn join_run(&mut self, piece: Run) -> Result<(), AllocError>
+        requires filled { IsFilled piece }
+        requires placed { IsKnowledge (of_run piece) }
+        ensures ok { OnOk result (self.new ≡ join self.old (of_run piece)) }
+        ensures err { OnErr result (self.new ≡ self.old) }
     {
-        match self.known_at(rank, place) {
-            Some(Known::One(event)) => Some(event),
-            _ => None,
+        let most = self.most_with(piece.cells.len())?;
+        take_run(&mut self.runs, piece)?;
+        self.most = most;
+        Ok(())
+    }
+
+    /// No fewer than there are cells after so many more, if that fits: else there is no memory for
+    /// them either. The cells are counted anew only where the bound would pass all numbers.
+    fn most_with(&self, more: usize) -> Result<usize, AllocError>
+        ensures { IfOk result (λ most. (len self.now + more ≤ most) × (most < 2 ^ 64)) }
+    {
+        if let Some(most) = self.most.checked_add(more) {
+            return Ok(most);
         }
+        self.count().checked_add(more).ok_or(AllocError)
     }
 }

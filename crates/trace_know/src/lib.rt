@@ -1,29 +1,41 @@
-//! What is known of a run: facts, the segments that bring them, and knowledge, the join of what came.
+//! Facts, the segments that bring them, and knowledge: the join of what came.
 //!
 //! A fact is an event at a place of a rank. Facts come in segments, in any order, cut and repeated
 //! in any way; [`Knowledge`] holds for each place what they say of it together: nothing, one
 //! event, or a contradiction. So two of them that took the same facts are the same. In a contract
 //! it is seen as that view, never as what it keeps it in.
 //!
-//! Taking a segment costs time in the order of what is known, since it works on a copy; looking
-//! up a cell goes by halving.
+//! The cells are kept as runs, stretches of places of a rank without a gap. Taking a segment finds
+//! by halving the runs that it touches, and moves its cells into the longest of them, or that one's
+//! into it: at a run's end it costs its own cells, and in any order of the segments a cell moves as
+//! often as the logarithm of their number. A new run among others moves the later ones, though
+//! not their cells. Joining other knowledge costs a copy of all cells, but where it knows nothing
+//! more. The readable prefix of a rank is one halving, and so is a cell. A walk over all cells
+//! takes no memory.
 //!
 //! - [`cell`]: what is known of one place
 //! - [`segment`]: events of one rank at consecutive places
-//! - [`cells`]: cells in an ordered map; [`knowledge`]: all that is known, and its readers
+//! - [`run`]: cells of one rank without a gap; [`runs`]: runs in their order; [`copies`]: of runs
+//! - [`readers`]: what runs tell; [`walk`]: their cells one after another; [`compare`]: by walks
+//! - [`knowledge`]: all that is known
 //! - [`laws`]: what holds of joins and views, as contracts of calls that do nothing
+//!
+//! Its tests are in the crate `knowledge_tests`, in `src/know.rt`.
 #![tactic(auto)]
 
 mod cell;
-mod cells;
+mod compare;
+mod copies;
 mod knowledge;
 mod laws;
+mod readers;
+mod run;
+mod runs;
 mod segment;
+mod walk;
 
 pub use cell::{Cell, Known};
 pub use knowledge::Knowledge;
-pub use laws::{join_laws, prefix_laws, view_laws};
+pub use laws::{growth_laws, join_laws, listing_laws, prefix_laws, view_laws};
 pub use segment::{Segment, SegmentFault};
-
-#[cfg(test)]
-mod tests;
+pub use walk::Walk;

@@ -19,3 +19,6 @@ returns-clause-refused c =
       passed _ c.in-Ok.ensures _ c.in-Ok-try_get_matches_from.ensures.kinds,
       sym (ap request_in (meant _ c.in-Ok.ensures _ _ c.in-Ok-try_get_matches_from.ensures.matches)) ∙ none,
     )
+
+pub returns-in-Some-clause-taken : goal.returns-in-Some-clause-taken
+returns-in-Some-clause-taken c = passed _ c.in-Ok.ensures _ c.in-Ok-try_get_matches_from.ensures.kinds

@@ -2,6 +2,7 @@
 
 ghost use Rattle.std.specs.Prelude.{◌≡◌, ◌↔◌, IsTrue, SomeIff};
 ghost use Rattle.mpi_model.specs.Ranges.{IsReceive, IsSend};
+ghost use Rattle.mpi_model.specs.Events.{IsExchanged};
 
 use crate::envelope::{Envelope, ReceiveEnvelope, SendEnvelope};
 use std::marker::Model;
@@ -37,6 +38,13 @@ impl Exchange {
         } else {
             None
         }
+    }
+
+    /// Tells the range of both envelopes' values. It does nothing: it is for proofs.
+    pub fn known(self)
+        ensures { IsExchanged self }
+    {
+        let _send = self.send;
     }
 
     pub fn send(self) -> Envelope

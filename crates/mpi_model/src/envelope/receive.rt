@@ -2,6 +2,7 @@
 
 ghost use Rattle.std.specs.Prelude.{◌≡◌, ◌↔◌, IsTrue, SomeIff};
 ghost use Rattle.mpi_model.specs.Ranges.{IsReceive};
+ghost use Rattle.mpi_model.specs.Events.{IsReceived};
 
 use crate::envelope::{CommRef, Envelope, Peer};
 use std::marker::Model;
@@ -35,6 +36,13 @@ impl ReceiveEnvelope {
         } else {
             None
         }
+    }
+
+    /// Tells the range of the envelope's values. It does nothing: it is for proofs.
+    pub fn known(self)
+        ensures { IsReceived self }
+    {
+        let _inner = self.inner;
     }
 
     pub fn envelope(self) -> Envelope

@@ -2,6 +2,7 @@
 
 ghost use Rattle.std.specs.Prelude.{◌≡◌, ◌↔◌, IsTrue, SomeIff};
 ghost use Rattle.mpi_model.specs.Ranges.{IsSend};
+ghost use Rattle.mpi_model.specs.Events.{IsSent};
 
 use crate::envelope::{CommRef, Envelope, Peer};
 use std::marker::Model;
@@ -35,6 +36,13 @@ impl SendEnvelope {
         } else {
             None
         }
+    }
+
+    /// Tells the range of the envelope's values. It does nothing: it is for proofs.
+    pub fn known(self)
+        ensures { IsSent self }
+    {
+        let _inner = self.inner;
     }
 
     pub fn envelope(self) -> Envelope

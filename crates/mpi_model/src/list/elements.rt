@@ -1,6 +1,7 @@
 //! Requests that were completed, with what their statuses tell.
 
-ghost use Rattle.std.specs.Prelude.{◌≡◌, ◌↔◌, IsTrue, IfOk};
+ghost use Rattle.std.specs.Prelude.{◌≡◌, ◌↔◌, IsTrue, IfOk, All};
+ghost use Rattle.mpi_model.specs.Events.{IsElement};
 
 use crate::told::Told;
 use std::alloc::AllocError;
@@ -12,6 +13,15 @@ use std::marker::Model;
 pub struct Element {
     pub position: u32,
     pub told: Told,
+}
+
+impl Element {
+    /// Tells the range of the element's values. It does nothing: it is for proofs.
+    fn known(self)
+        ensures { IsElement self }
+    {
+        let _rank = self.told.rank();
+    }
 }
 
 /// The requests that an `MPI_Waitsome` completed, in the order of its `indices`.
@@ -48,6 +58,15 @@ impl Elements {
         Ok(Elements {
             items: self.items.clone()?,
         })
+    }
+
+    /// Tells the range of the elements. It does nothing: it is for proofs.
+    pub fn known(&self)
+        ensures { All IsElement self.now }
+    {
+        for element in self.items.iter() {
+            element.known();
+        }
     }
 
     /// Whether the two lists hold the same elements in the same order.

@@ -1,6 +1,7 @@
 //! Requests in a call's order.
 
-ghost use Rattle.std.specs.Prelude.{◌≡◌, ◌↔◌, IsTrue, IfOk};
+ghost use Rattle.std.specs.Prelude.{◌≡◌, ◌↔◌, IsTrue, IfOk, All};
+ghost use Rattle.mpi_model.specs.Events.{IsSigned};
 
 use std::alloc::AllocError;
 use std::marker::Model;
@@ -38,6 +39,15 @@ impl Requests {
         Ok(Requests {
             items: self.items.clone()?,
         })
+    }
+
+    /// Tells the range of the numbers. It does nothing: it is for proofs.
+    pub fn known(&self)
+        ensures { All IsSigned self.now }
+    {
+        for number in self.items.iter() {
+            let _number = *number;
+        }
     }
 
     /// Whether the two lists hold the same numbers in the same order.

@@ -1,6 +1,7 @@
 //! What the statuses of a call tell.
 
-ghost use Rattle.std.specs.Prelude.{◌≡◌, ◌↔◌, IsTrue, IfOk};
+ghost use Rattle.std.specs.Prelude.{◌≡◌, ◌↔◌, IsTrue, IfOk, All};
+ghost use Rattle.mpi_model.specs.Ranges.{IsTold};
 
 use crate::told::Told;
 use std::alloc::AllocError;
@@ -39,6 +40,15 @@ impl Sources {
         Ok(Sources {
             items: self.items.clone()?,
         })
+    }
+
+    /// Tells the range of what is told. It does nothing: it is for proofs.
+    pub fn known(&self)
+        ensures { All IsTold self.now }
+    {
+        for told in self.items.iter() {
+            let _rank = told.rank();
+        }
     }
 
     /// Whether the two lists tell the same, entry by entry.

@@ -1,0 +1,39 @@
+-- How the program ends, outcome by outcome.
+use Rattle.std.proofs.Common.{◌≡◌, ◌⊎◌, ℕ, List, [], Option, refl, inl, inr}
+use Rattle.std.specs.Io.KnownBytes.{Appends, Keeps}
+use Rattle.clap.specs.Words.{Text}
+use Rattle.mpi_model.specs.Failures.{HasFailed}
+use Rattle.command_line.specs.Program.{Refuses, Request}
+use Rattle.command_line.specs.declared.CommandFault.{CommandFault}
+use Rattle.command_runs.specs.Endings.{Ask, IsEnding, IsEndingFor, IsRefusedRun, Output}
+use Rattle.command_runs.specs.FaultLines.{fault_line_of}
+use Rattle.command_runs.specs.Runs.{IsReportOf, RefusesRun}
+use Rattle.command_runs.specs.declared.fault.RunFault.{RunFault}
+use Rattle.command_runs.specs.declared.fault.RunFault.TheVariants.{Memory, Write}
+
+-- the report was written
+pub reported : (file : List ℕ → Option (List ℕ)) (words : List Text) (request : Request) (text errors : List ℕ) (old new : Output)
+    → Ask words request → IsReportOf file request.layout request.manifest text → Appends old.bytes new.bytes text → errors ≡ []
+    → IsEnding file words 0 errors old new
+reported file words request text errors old new ask is appends silent = inl (refl, (silent, inl (request, ask, text, is, appends)))
+
+-- memory was wanting before the words were read
+pub wanting : (file : List ℕ → Option (List ℕ)) (words : List Text) (errors : List ℕ) (old new : Output)
+    → errors ≡ fault_line_of Memory → Keeps old.bytes new.bytes → IsEnding file words 1 errors old new
+wanting file words errors old new line kept = inr (inl (refl, (Memory, line, inr (kept, inl refl))))
+
+-- the run is refused, or its report could not be written
+pub not_reported : (file : List ℕ → Option (List ℕ)) (words : List Text) (request : Request) (fault : RunFault) (errors : List ℕ) (old new : Output)
+    → Ask words request → errors ≡ fault_line_of fault
+    → (fault ≡ Write) ⊎ RefusesRun file request.layout request.manifest fault → (fault ≡ Write) ⊎ Keeps old.bytes new.bytes
+    → (fault ≡ Write → HasFailed old.failures new.failures) → IsEnding file words 1 errors old new
+not_reported file words request fault errors old new ask line (inl writing) kept failed = inr (inl (refl, (fault, line, inl (writing, failed writing))))
+not_reported file words request fault errors old new ask line (inr refused) (inl writing) failed = inr (inl (refl, (fault, line, inl (writing, failed writing))))
+not_reported file words request fault errors old new ask line (inr refused) (inr kept) failed = inr (inl (refl, (fault, line, inr (kept, inr (request, ask, refused)))))
+
+-- the words ask for nothing
+pub unasked : (file : List ℕ → Option (List ℕ)) (words : List Text) (fault : CommandFault) (status : ℕ) (errors : List ℕ) (old new : Output)
+    → Refuses words fault → IsEndingFor fault status errors old new → IsEnding file words status errors old new
+unasked file words fault status errors old new refused (inl h) = inl (h.0, (h.1, inr ((fault, refused, h.2), h.3)))
+unasked file words fault status errors old new refused (inr (inl h)) = inr (inl (h.0, (Write, h.1, inl (refl, h.2))))
+unasked file words fault status errors old new refused (inr (inr h)) = inr (inr (h.0, (fault, refused, h.1), h.2))

@@ -1,0 +1,4 @@
+pub mod Endings
+pub mod Told
+pub mod Traces
+mod Refusals

@@ -1,0 +1,38 @@
+-- What is refused before anything is written is no failure of writing.
+use Rattle.std.proofs.Common.{◌≡◌, ◌≢◌, inl, inr, ℕ, List, Option, subst}
+use Rattle.input_files.specs.declared.fault.InputFault.{InputFault}
+use Rattle.input_files.specs.declared.fault.InputFault.TheVariants as inputs
+use Rattle.input_files.specs.Layouts.{RefusesLayout}
+use Rattle.input_files.specs.Manifests.{PieceParts, RefusesManifest}
+use Rattle.command_runs.specs.Inputs.{IsFaultOf, RefusesInput}
+use Rattle.command_runs.specs.Runs.{RefusesPieces, RefusesRun}
+use Rattle.command_runs.specs.declared.fault.RunFault.{RunFault}
+use Rattle.command_runs.specs.declared.fault.RunFault.TheVariants.{Memory, Write}
+
+memory_is_not_writing : Write ≡ Memory → ⊥
+memory_is_not_writing e = cc
+
+fault_is_not_writing : (name : List ℕ) (cause : InputFault) → IsFaultOf name cause Write → ⊥
+fault_is_not_writing name inputs.Memory h = memory_is_not_writing h
+fault_is_not_writing name inputs.Json h = h
+fault_is_not_writing name inputs.Shape h = h
+fault_is_not_writing name (inputs.Layout broken) h = h
+
+input_is_not_writing : (refuses : List ℕ → InputFault → Type 0) (name : List ℕ) (file : Option (List ℕ)) → RefusesInput refuses name file Write → ⊥
+input_is_not_writing refuses name file (inl e) = memory_is_not_writing e
+input_is_not_writing refuses name file (inr (inl h)) = h
+input_is_not_writing refuses name file (inr (inr h)) = fault_is_not_writing name h.1 h.4
+
+pieces_are_not_writing : (file : List ℕ → Option (List ℕ)) (ranks : ℕ) (pieces : List PieceParts) → RefusesPieces file ranks pieces Write → ⊥
+pieces_are_not_writing file ranks pieces (inl e) = memory_is_not_writing e
+pieces_are_not_writing file ranks pieces (inr (inl h)) = h.4
+pieces_are_not_writing file ranks pieces (inr (inr h)) = h
+
+run_is_not_writing : (file : List ℕ → Option (List ℕ)) (layout manifest : List ℕ) → RefusesRun file layout manifest Write → ⊥
+run_is_not_writing file layout manifest (inl e) = memory_is_not_writing e
+run_is_not_writing file layout manifest (inr (inl h)) = input_is_not_writing RefusesLayout layout (file layout) h
+run_is_not_writing file layout manifest (inr (inr (inl h))) = input_is_not_writing RefusesManifest manifest (file manifest) h
+run_is_not_writing file layout manifest (inr (inr (inr h))) = pieces_are_not_writing file h.0.ranks h.1.pieces h.4
+
+pub refused_unwritten : (file : List ℕ → Option (List ℕ)) (layout manifest : List ℕ) (fault : RunFault) → RefusesRun file layout manifest fault → fault ≢ Write
+refused_unwritten file layout manifest fault h e = run_is_not_writing file layout manifest (subst (RefusesRun file layout manifest) e h)

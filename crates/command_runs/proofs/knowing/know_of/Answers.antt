@@ -1,0 +1,59 @@
+use Rattle.std.proofs.Common.{rules, arith, ◌≡◌, ◌∙◌, ◌+◌, ◌<◌, ◌++◌, ◌∷◌, [], ℕ, List, Some, ap, sym, subst, inl, inr, length, take}
+use Rattle.std.proofs.Math.Seq.{take-length}
+use Rattle.std.proofs.lemmas.List.{take_more}
+use Rattle.trace_know.specs.Trace.{view_of}
+use Rattle.trace_know.specs.View.{join}
+use Rattle.input_files.specs.Manifests.{PieceParts}
+use Rattle.command_runs.specs.Pieces.{RefusesPiece, TellsFacts, facts_of_all}
+use Rattle.command_runs.specs.Runs.{IsFirstStranger, IsKnown}
+use Rattle.command_runs.proofs.Traces.{IsOutside, begins, known_more, outside_later}
+use Rattle.command_runs.proofs.knowing.know_of.Goals as goal
+
+pub loop-piece-preserved : goal.loop-piece-preserved
+loop-piece-preserved g c =
+    let file = g.O.Opener.file c.args.files.now in
+    let below : c.loop-piece.piece-index < length c.args.pieces.now = omega arith in
+    let more : take (c.loop-piece.piece-index + 1) c.args.pieces.now ≡ take c.loop-piece.piece-index c.args.pieces.now ++ c.piece-item.result ∷ [] =
+    take_more c.args.pieces.now c.loop-piece.piece-index c.piece-item.result below
+    ∙ ap (λ (p : PieceParts). take c.loop-piece.piece-index c.args.pieces.now ++ p ∷ []) (sym c.piece-item.is) in
+    let told : TellsFacts (file c.piece-item.result.file) c.piece-item.result.rank c.piece-item.result.first (facts_of_all c.in-Ok.segments.items) =
+    rw c.loop-piece.invariant.files at c.in-Ok.ensures.ok in
+    let taken : c.take_all.new.know ≡ join c.loop-piece.know (view_of (facts_of_all c.in-Ok.segments.items)) = search rules in
+    record {
+      files = c.segments_of.ensures.same ∙ c.loop-piece.invariant.files;
+      known = subst (λ (ps : List PieceParts). IsKnown file ps c.take_all.new.know) (sym more)
+          (known_more c.view_laws.ensures.union file (take c.loop-piece.piece-index c.args.pieces.now) c.piece-item.result c.loop-piece.know c.take_all.new.know
+          (facts_of_all c.in-Ok.segments.items) c.loop-piece.invariant.known told taken);
+      outside = outside_later file c.args.ranks (take c.loop-piece.piece-index c.args.pieces.now) _ c.piece-item.result
+          (facts_of_all c.in-Ok.segments.items) c.loop-piece.stranger _ more c.loop-piece.invariant.outside told (search rules);
+    }
+
+pub returns-in-Err-clause-err : goal.returns-in-Err-clause-err
+returns-in-Err-clause-err g c =
+    let file = g.O.Opener.file c.args.files.now in
+    let below : c.loop-piece.piece-index < length c.args.pieces.now = omega arith in
+    let more : take (c.loop-piece.piece-index + 1) c.args.pieces.now ≡ take c.loop-piece.piece-index c.args.pieces.now ++ c.piece-item.result ∷ [] =
+    take_more c.args.pieces.now c.loop-piece.piece-index c.piece-item.result below
+    ∙ ap (λ (p : PieceParts). take c.loop-piece.piece-index c.args.pieces.now ++ p ∷ []) (sym c.piece-item.is) in
+    let refuses : RefusesPiece c.piece-item.result.file c.piece-item.result.first (file c.piece-item.result.file) c.in-Err.fault =
+    rw c.loop-piece.invariant.files at c.in-Err.ensures.err in
+    inr (inl (
+      take c.loop-piece.piece-index c.args.pieces.now,
+      c.piece-item.result,
+      begins c.args.pieces.now c.loop-piece.piece-index c.piece-item.result more,
+      (c.loop-piece.know, c.loop-piece.invariant.known),
+      refuses,
+    ))
+
+pub returns-in-Some-clause-err : goal.returns-in-Some-clause-err
+returns-in-Some-clause-err g c =
+    let file = g.O.Opener.file c.args.files.now in
+    let end : c.loop-piece.piece-index ≡ length c.args.pieces.now = omega arith in
+    let all : take c.loop-piece.piece-index c.args.pieces.now ≡ c.args.pieces.now =
+    ap (λ (n : ℕ). take n c.args.pieces.now) end ∙ take-length c.args.pieces.now in
+    let outside : IsOutside file c.args.ranks (take c.loop-piece.piece-index c.args.pieces.now) (Some c.in-Some.path) =
+    rw c.in-Some.is at c.loop-piece.invariant.outside in
+    inr (inr (
+      (c.loop-piece.know, subst (λ (ps : List PieceParts). IsKnown file ps c.loop-piece.know) all c.loop-piece.invariant.known),
+      subst (λ (ps : List PieceParts). IsFirstStranger file c.args.ranks ps c.in-Some.path) all outside,
+    ))

@@ -1,0 +1,58 @@
+-- The fault lines: what standard error shows for a run that is refused.
+use Rattle.std.specs.Prelude.{ℕ, List, ◌++◌, String, string_bytes, codes, decimal}
+use Rattle.std.specs.declared.alloc.Global.{Global}
+use Rattle.mpi_model.specs.declared.layout.fault.LayoutFault.{LayoutFault}
+use Rattle.mpi_model.specs.declared.layout.fault.LayoutFault.TheVariants as layouts
+use Rattle.dumpi_text.specs.declared.fault.LineFault.{LineFault}
+use Rattle.dumpi_text.specs.declared.fault.LineFault.TheVariants as lines
+use Rattle.dumpi_text.specs.declared.fault.TextCause.{TextCause}
+use Rattle.dumpi_text.specs.declared.fault.TextCause.TheVariants as causes
+use Rattle.dumpi_calls.specs.Readings.{name_of}
+use Rattle.command_runs.specs.declared.fault.RunFault.{RunFault}
+use Rattle.command_runs.specs.declared.fault.RunFault.TheVariants.{Memory, File, Json, Shape, Layout, Text, Missing, Wrong, Place, Rank, Write}
+
+abbrev pub layout_fault_name : LayoutFault → List ℕ
+layout_fault_name layouts.RankCount = codes "L1 RankCount"
+layout_fault_name layouts.CommCount = codes "L2 CommCount"
+layout_fault_name layouts.DoubleComm = codes "L3 DoubleComm"
+layout_fault_name layouts.EmptyComm = codes "L4 EmptyComm"
+layout_fault_name layouts.MemberRange = codes "L5 MemberRange"
+layout_fault_name layouts.DoubleMember = codes "L6 DoubleMember"
+layout_fault_name layouts.World = codes "L7 World"
+layout_fault_name layouts.Memory = codes "Memory"
+
+abbrev pub line_fault_name : LineFault → List ℕ
+line_fault_name lines.LineTooLong = codes "F2 LineTooLong"
+line_fault_name lines.BadStamp = codes "F3 BadStamp"
+line_fault_name lines.OtherThread = codes "F4 OtherThread"
+line_fault_name lines.ReturnOutside = codes "F5 ReturnOutside"
+line_fault_name lines.NotReturned = codes "F6 NotReturned"
+line_fault_name lines.NameDiffers = codes "F7 NameDiffers"
+line_fault_name lines.BadParameter = codes "F8 BadParameter"
+line_fault_name lines.Truncated = codes "F9 Truncated"
+line_fault_name lines.TooManyCalls = codes "F10 TooManyCalls"
+line_fault_name lines.TooManyLines = codes "F11 TooManyLines"
+
+abbrev pub cause_name : TextCause → List ℕ
+cause_name causes.Read = codes "F1 Read"
+cause_name (causes.Line fault) = line_fault_name fault
+
+-- a line of a file
+abbrev pub at_line : String Global → ℕ → List ℕ
+at_line path line = codes " at " ++ string_bytes path ++ codes ":" ++ decimal line
+
+abbrev pub fault_text : RunFault → List ℕ
+fault_text Memory = codes "Memory"
+fault_text (File path) = codes "M1 File " ++ string_bytes path
+fault_text (Json path) = codes "M2 Json in " ++ string_bytes path
+fault_text (Shape path) = codes "M3 Shape in " ++ string_bytes path
+fault_text (Layout fault path) = layout_fault_name fault ++ codes " in " ++ string_bytes path
+fault_text (Text cause path line) = cause_name cause ++ at_line path line
+fault_text (Missing parameter path line) = codes "C1 Missing " ++ name_of parameter ++ at_line path line
+fault_text (Wrong parameter path line) = codes "C2 Wrong " ++ name_of parameter ++ at_line path line
+fault_text (Place path) = codes "S3 Place in " ++ string_bytes path
+fault_text (Rank path) = codes "N1 Rank in " ++ string_bytes path
+fault_text Write = codes "R1 Write"
+
+abbrev pub fault_line_of : RunFault → List ℕ
+fault_line_of fault = codes "mpimatch: " ++ fault_text fault ++ codes "\n"

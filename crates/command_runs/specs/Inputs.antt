@@ -1,0 +1,27 @@
+-- Why a layout or a manifest is refused.
+use Rattle.std.specs.Prelude.{◌≡◌, ◌⊎◌, ℕ, List, Option}
+use Rattle.input_files.specs.declared.fault.InputFault.{InputFault}
+use Rattle.input_files.specs.declared.fault.InputFault.TheVariants as inputs
+use Rattle.command_runs.specs.Files.{IsFile}
+use Rattle.command_runs.specs.Pieces.{IsNamed}
+use Rattle.command_runs.specs.declared.fault.RunFault.{RunFault}
+use Rattle.command_runs.specs.declared.fault.RunFault.TheVariants.{Memory, File, Json, Shape, Layout}
+
+-- The file can't be read whole, and the fault names it.
+abbrev pub RefusesFile : List ℕ → RunFault → Type 0
+RefusesFile name Memory = Unit {0}
+RefusesFile name (File path) = IsNamed path name
+RefusesFile name _ = ⊥
+
+-- The fault is that of the file's text, and names it.
+abbrev pub IsFaultOf : List ℕ → InputFault → RunFault → Type 0
+IsFaultOf name inputs.Memory fault = fault ≡ Memory
+IsFaultOf name inputs.Json (Json path) = IsNamed path name
+IsFaultOf name inputs.Shape (Shape path) = IsNamed path name
+IsFaultOf name (inputs.Layout broken) (Layout fault path) = (fault ≡ broken) × IsNamed path name
+IsFaultOf name _ _ = ⊥
+
+-- A layout or a manifest is refused: its file, or its text, which the fault names.
+abbrev pub RefusesInput : (List ℕ → InputFault → Type 0) → List ℕ → Option (List ℕ) → RunFault → Type 0
+RefusesInput refuses name file fault = (fault ≡ Memory) ⊎ (RefusesFile name fault
+    ⊎ ((bytes : List ℕ) × (cause : InputFault) × IsFile file bytes × refuses bytes cause × IsFaultOf name cause fault))

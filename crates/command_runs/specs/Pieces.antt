@@ -1,0 +1,59 @@
+-- The facts of a piece, and why a piece is refused.
+use Rattle.std.specs.Prelude.{◌≡◌, ℕ, List, Option, Some, None, IsSome, String, string_bytes}
+use Rattle.std.specs.List.{flat_map}
+use Rattle.std.specs.declared.alloc.Global.{Global}
+use Rattle.mpi_model.specs.declared.event.Event.{Event}
+use Rattle.dumpi_text.specs.Call.{TextCall}
+use Rattle.dumpi_text.specs.declared.fault.TextFault.TheVariants.{At}
+use Rattle.trace_know.specs.Segment.{PlacedEvents, enter_place}
+use Rattle.trace_know.specs.Trace.{Trace, facts_from, facts_of}
+use Rattle.dumpi_calls.specs.Collected.{HasPlacesPast}
+use Rattle.dumpi_calls.specs.Seen.{seen_in}
+use Rattle.dumpi_calls.specs.Walks.{StopsWalk}
+use Rattle.dumpi_calls.specs.Whole.{TellsEvents}
+use Rattle.dumpi_calls.specs.declared.collect.Memory.{Memory as NoMemory}
+use Rattle.dumpi_calls.specs.declared.fault.WalkCause.{WalkCause}
+use Rattle.dumpi_calls.specs.declared.fault.WalkCause.TheVariants as causes
+use Rattle.dumpi_calls.specs.declared.fault.WalkFault.{WalkFault}
+use Rattle.command_runs.specs.declared.fault.RunFault.{RunFault}
+use Rattle.command_runs.specs.declared.fault.RunFault.TheVariants.{Memory, File, Json, Shape, Layout, Text, Missing, Wrong, Place, Rank, Write}
+
+-- the facts that segments stand for together
+abbrev pub facts_of_all : List PlacedEvents → Trace
+facts_of_all segments = flat_map facts_of segments
+
+-- The facts of a piece: the events of its text stand from the Enter of its first call on.
+abbrev pub TellsFacts : Option (List ℕ) → ℕ → ℕ → Trace → Type 0
+TellsFacts text rank first facts = (events : List Event) × TellsEvents text events × (facts ≡ facts_from rank (enter_place first) events)
+
+-- ---- why a piece is refused
+
+abbrev pub IsNamed : String Global → List ℕ → Type 0
+IsNamed path name = string_bytes path ≡ name
+
+-- The fault of a run stands for the fault of a walk, and names the file.
+abbrev pub IsWalkFault : List ℕ → WalkFault NoMemory → RunFault → Type 0
+IsWalkFault name fault Memory = Unit {0}
+IsWalkFault name fault (Text cause path line) = IsNamed path name × (fault.cause ≡ causes.Text (At line cause))
+IsWalkFault name fault (Missing parameter path line) = IsNamed path name × (fault.cause ≡ causes.Missing parameter) × (line ≡ fault.line)
+IsWalkFault name fault (Wrong parameter path line) = IsNamed path name × (fault.cause ≡ causes.Wrong parameter) × (line ≡ fault.line)
+IsWalkFault name fault _ = ⊥
+
+-- Where its bytes are told, a text stops a walk at a line for this cause, and the calls before it are typed.
+abbrev pub StopsText : Option (List ℕ) → WalkCause NoMemory → ℕ → Type 0
+StopsText None cause line = Unit {0}
+StopsText (Some text) cause line = (calls : List TextCall) × IsSome (seen_in calls) × StopsWalk {F = NoMemory} (Some text) calls cause line
+
+-- A piece has a place at or past the last: its events from the Enter of its first call on do.
+abbrev pub PassesPlaces : ℕ → Option (List ℕ) → Type 0
+PassesPlaces first text = (events : List Event) × TellsEvents text events × HasPlacesPast first events
+
+-- Why a piece is refused: its file can't be opened, its text is refused, or a place would be past the last.
+abbrev pub RefusesPiece : List ℕ → ℕ → Option (List ℕ) → RunFault → Type 0
+RefusesPiece name first text Memory = Unit {0}
+RefusesPiece name first text (File path) = IsNamed path name
+RefusesPiece name first text (Place path) = IsNamed path name × PassesPlaces first text
+RefusesPiece name first text (Text cause path line) = IsNamed path name × (at : ℕ) × StopsText text (causes.Text (At line cause)) at
+RefusesPiece name first text (Missing parameter path line) = IsNamed path name × StopsText text (causes.Missing parameter) line
+RefusesPiece name first text (Wrong parameter path line) = IsNamed path name × StopsText text (causes.Wrong parameter) line
+RefusesPiece name first text _ = ⊥

@@ -1,0 +1,171 @@
+//! Why a run is refused, and the line that standard error shows.
+
+ghost use Rattle.std.specs.Prelude.{◌≡◌, IfOk, string_bytes};
+ghost use Rattle.command_runs.specs.FaultLines.{cause_name, fault_line_of, layout_fault_name, line_fault_name};
+
+use dumpi_calls::Parameter;
+use dumpi_text::{LineFault, TextCause};
+use mpi_model::LayoutFault;
+use std::alloc::{AllocError, AllocFailed, Global};
+use std::fmt;
+
+/// The first cause that stands in the order in which files are read and refusals are tried. Each
+/// names its file as the words or the manifest spell it, and lines from 1.
+#[derive(Debug, Drop)]
+pub enum RunFault {
+    Memory,
+    /// The file can't be opened or read, or has more bytes than its kind may have.
+    File {
+        path: String,
+    },
+    Json {
+        path: String,
+    },
+    Shape {
+        path: String,
+    },
+    Layout {
+        fault: LayoutFault,
+        path: String,
+    },
+    Text {
+        cause: TextCause,
+        path: String,
+        line: u64,
+    },
+    /// The call that is entered at the line lacks a parameter.
+    Missing {
+        parameter: Parameter,
+        path: String,
+        line: u64,
+    },
+    /// The call that is entered at the line has a parameter that can't be read or is out of its range.
+    Wrong {
+        parameter: Parameter,
+        path: String,
+        line: u64,
+    },
+    /// A call of the piece has a place at or past 2^40.
+    Place {
+        path: String,
+    },
+    /// The piece has calls of a rank that the layout doesn't have.
+    Rank {
+        path: String,
+    },
+    /// The report couldn't be written.
+    Write,
+}
+
+impl From<AllocError> for RunFault {
+    ghost use Rattle.std.specs.Prelude.{◌≡◌};
+    ghost use Rattle.command_runs.specs.declared.fault.RunFault.TheVariants.{Memory};
+
+    ghost from_gives = { λ _ e. e ≡ Memory };
+
+    fn from(_error: AllocError) -> RunFault {
+        RunFault::Memory
+    }
+}
+
+impl<T: Drop> From<AllocFailed<T>> for RunFault {
+    ghost use Rattle.std.specs.Prelude.{◌≡◌};
+    ghost use Rattle.command_runs.specs.declared.fault.RunFault.TheVariants.{Memory};
+
+    ghost from_gives = { λ _ e. e ≡ Memory };
+
+    fn from(_error: AllocFailed<T>) -> RunFault {
+        RunFault::Memory
+    }
+}
+
+/// The line for standard error, with its line feed.
+pub fn fault_line(alloc: Global, fault: &RunFault) -> Result<String, AllocError>
+    ensures { IfOk result (λ line. string_bytes line ≡ fault_line_of fault.now) }
+{
+    format!(in alloc; "mpimatch: {fault}\n")
+}
+
+impl fmt::Display for RunFault {
+    ghost use Rattle.std.specs.Prelude.{Some};
+    ghost use Rattle.command_runs.specs.FaultLines.{fault_text};
+
+    ghost output = { λ fault. Some (fault_text fault) };
+
+    fn fmt<W: fmt::Write>(&self, f: &mut fmt::Formatter<W>) -> fmt::Result {
+        match self {
+            RunFault::Memory => write!(f, "Memory"),
+            RunFault::File { path } => write!(f, "M1 File {path}"),
+            RunFault::Json { path } => write!(f, "M2 Json in {path}"),
+            RunFault::Shape { path } => write!(f, "M3 Shape in {path}"),
+            RunFault::Layout { fault, path } => {
+                let name = name_of_layout(*fault);
+                write!(f, "{name} in {path}")
+            }
+            RunFault::Text { cause, path, line } => {
+                let name = name_of_cause(*cause);
+                write!(f, "{name} at {path}:{line}")
+            }
+            RunFault::Missing {
+                parameter,
+                path,
+                line,
+            } => {
+                let name = parameter.name();
+                write!(f, "C1 Missing {name} at {path}:{line}")
+            }
+            RunFault::Wrong {
+                parameter,
+                path,
+                line,
+            } => {
+                let name = parameter.name();
+                write!(f, "C2 Wrong {name} at {path}:{line}")
+            }
+            RunFault::Place { path } => write!(f, "S3 Place in {path}"),
+            RunFault::Rank { path } => write!(f, "N1 Rank in {path}"),
+            RunFault::Write => write!(f, "R1 Write"),
+        }
+    }
+}
+
+fn name_of_layout(fault: LayoutFault) -> &'static str
+    ensures { result.now ≡ layout_fault_name fault }
+{
+    match fault {
+        LayoutFault::RankCount => "L1 RankCount",
+        LayoutFault::CommCount => "L2 CommCount",
+        LayoutFault::DoubleComm => "L3 DoubleComm",
+        LayoutFault::EmptyComm => "L4 EmptyComm",
+        LayoutFault::MemberRange => "L5 MemberRange",
+        LayoutFault::DoubleMember => "L6 DoubleMember",
+        LayoutFault::World => "L7 World",
+        LayoutFault::Memory => "Memory",
+    }
+}
+
+fn name_of_cause(cause: TextCause) -> &'static str
+    ensures { result.now ≡ cause_name cause }
+{
+    match cause {
+        TextCause::Read => "F1 Read",
+        TextCause::Line(fault) => name_of_line(fault),
+    }
+}
+
+fn name_of_line(fault: LineFault) -> &'static str
+    ensures { result.now ≡ line_fault_name fault }
+{
+    match fault {
+        LineFault::LineTooLong => "F2 LineTooLong",
+        LineFault::BadStamp => "F3 BadStamp",
+        LineFault::OtherThread => "F4 OtherThread",
+        LineFault::ReturnOutside => "F5 ReturnOutside",
+        LineFault::NotReturned => "F6 NotReturned",
+        LineFault::NameDiffers => "F7 NameDiffers",
+        LineFault::BadParameter => "F8 BadParameter",
+        LineFault::Truncated => "F9 Truncated",
+        LineFault::TooManyCalls => "F10 TooManyCalls",
+        LineFault::TooManyLines => "F11 TooManyLines",
+    }
+}

@@ -1,0 +1,82 @@
+//! The layout and the manifest of a run, from their files.
+
+ghost use Rattle.std.specs.Prelude.{◌≡◌, IfErr, IfOk};
+ghost use Rattle.input_files.specs.Layouts.{RefusesLayout};
+ghost use Rattle.input_files.specs.Manifests.{RefusesManifest};
+ghost use Rattle.command_runs.specs.Files.{IsFile};
+ghost use Rattle.command_runs.specs.Inputs.{IsFaultOf, RefusesFile, RefusesInput};
+ghost use Rattle.command_runs.specs.Runs.{TellsLayout, TellsManifest};
+
+use crate::fault::RunFault;
+use crate::opener::{OpenFault, Opener};
+use crate::whole::{WholeFault, read_whole};
+use input_files::{InputFault, Manifest, layout_of, manifest_of};
+use mpi_model::Layout;
+use std::alloc::{AllocError, Global};
+
+/// The layout of a file.
+pub fn layout_at<O: Opener>(alloc: Global, path: &str, files: &mut O) -> Result<Layout, RunFault>
+    ensures ok { IfOk result (λ l. TellsLayout (O.file files.old path.now) l) }
+    ensures err { IfErr result (RefusesInput RefusesLayout path.now (O.file files.old path.now)) }
+    ensures same { O.file files.new ≡ O.file files.old }
+{
+    let text = file_at(alloc, path, files)?;
+    match layout_of(alloc, &text) {
+        Ok(layout) => Ok(layout),
+        Err(fault) => Err(fault_at(alloc, fault, path)?),
+    }
+}
+
+/// The manifest of a file.
+pub fn manifest_at<O: Opener>(
+    alloc: Global,
+    path: &str,
+    files: &mut O,
+) -> Result<Manifest, RunFault>
+    ensures ok { IfOk result (λ m. TellsManifest (O.file files.old path.now) m) }
+    ensures err { IfErr result (RefusesInput RefusesManifest path.now (O.file files.old path.now)) }
+    ensures same { O.file files.new ≡ O.file files.old }
+{
+    let text = file_at(alloc, path, files)?;
+    match manifest_of(alloc, &text) {
+        Ok(manifest) => Ok(manifest),
+        Err(fault) => Err(fault_at(alloc, fault, path)?),
+    }
+}
+
+// the bytes of a file
+fn file_at<O: Opener>(alloc: Global, path: &str, files: &mut O) -> Result<Vec<u8>, RunFault>
+    ensures ok { IfOk result (λ bytes. IsFile (O.file files.old path.now) bytes.items) }
+    ensures err { IfErr result (RefusesFile path.now) }
+    ensures same { O.file files.new ≡ O.file files.old }
+{
+    let mut reader = match files.open(path) {
+        Ok(reader) => reader,
+        Err(OpenFault::Memory) => return Err(RunFault::Memory),
+        Err(OpenFault::File) => {
+            return Err(RunFault::File {
+                path: path.to_string(alloc)?,
+            });
+        }
+    };
+    match read_whole(alloc, &mut reader) {
+        Ok(bytes) => Ok(bytes),
+        Err(WholeFault::Memory) => Err(RunFault::Memory),
+        Err(_) => Err(RunFault::File {
+            path: path.to_string(alloc)?,
+        }),
+    }
+}
+
+// the fault of a file's text
+fn fault_at(alloc: Global, fault: InputFault, path: &str) -> Result<RunFault, AllocError>
+    ensures { IfOk result (IsFaultOf path.now fault) }
+{
+    let path = path.to_string(alloc)?;
+    Ok(match fault {
+        InputFault::Memory => RunFault::Memory,
+        InputFault::Json => RunFault::Json { path },
+        InputFault::Shape => RunFault::Shape { path },
+        InputFault::Layout(fault) => RunFault::Layout { fault, path },
+    })
+}

@@ -1,0 +1,56 @@
+//! Where the files of a run come from.
+
+ghost use Rattle.std.specs.Prelude.{◌≡◌, ℕ, IfOk, List, None, Option};
+ghost use Rattle.command_runs.specs.Files.{IsTold};
+
+use mpi_model::{Device, Read};
+use std::fs::Files;
+use std::io;
+
+/// Why a file gives no reader.
+#[derive(Clone, Copy, Debug, PartialEq, Eq)]
+pub enum OpenFault {
+    /// The file can't be opened.
+    File,
+    Memory,
+}
+
+/// What opens the files of a run.
+///
+/// It tells the bytes of its files, or it doesn't (a disk can't: other programs write to it).
+pub trait Opener: Drop {
+    /// A file that was opened.
+    type R: Read;
+
+    /// The bytes of the file of a name, where the opener tells them.
+    ghost file: { Self → List ℕ → Option (List ℕ) } = { λ _ _. None };
+
+    /// Opens the file of a name, taken as it stands, at its first byte.
+    fn open(&mut self, path: &str) -> Result<Self::R, OpenFault>
+        ensures told { IfOk result (λ reader. IsTold (file self.old path.now) (Self.R.left reader)) }
+        ensures same { file self.new ≡ file self.old };
+}
+
+/// The files of the system.
+#[derive(Drop)]
+pub struct Disk<'a, F: Files> {
+    rt: &'a F,
+}
+
+impl<'a, F: Files> Disk<'a, F> {
+    pub fn new(rt: &'a F) -> Self {
+        Disk { rt }
+    }
+}
+
+impl<'a, F: Files> Opener for Disk<'a, F> {
+    type R = Device<F::File>;
+
+    fn open(&mut self, path: &str) -> Result<Device<F::File>, OpenFault> {
+        match std::fs::open(self.rt, path) {
+            Ok(file) => Ok(Device::new(file)),
+            Err(error) if error.kind() == io::ErrorKind::OutOfMemory => Err(OpenFault::Memory),
+            Err(_) => Err(OpenFault::File),
+        }
+    }
+}

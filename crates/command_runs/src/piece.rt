@@ -1,0 +1,74 @@
+//! The segments of a piece: the events of its text's calls, cut after each 65,536.
+
+ghost use Rattle.std.specs.Prelude.{IfErr, IfOk, ◌≡◌};
+ghost use Rattle.command_runs.specs.Pieces.{IsWalkFault, RefusesPiece, TellsFacts, facts_of_all};
+
+use crate::fault::RunFault;
+use crate::opener::{OpenFault, Opener};
+use dumpi_calls::{Collect, Memory, WalkCause, WalkFault, walk, whole_segments, whole_texts};
+use dumpi_text::TextFault;
+use input_files::Piece;
+use std::alloc::{AllocError, Global};
+use trace_know::{Segment, SegmentFault};
+
+/// The segments of a piece, none of a text without calls.
+#[tactic(auto, using(crate::proofs::Told::facts_told, crate::proofs::Told::places_told, crate::proofs::Told::walk_told))]
+pub fn segments_of<O: Opener>(
+    alloc: Global,
+    piece: &Piece,
+    files: &mut O,
+) -> Result<Vec<Segment>, RunFault>
+    ensures ok { IfOk result (λ segments. TellsFacts (O.file files.old piece.now.file) piece.now.rank piece.now.first (facts_of_all segments.items)) }
+    ensures err { IfErr result (RefusesPiece piece.now.file piece.now.first (O.file files.old piece.now.file)) }
+    ensures same { O.file files.new ≡ O.file files.old }
+{
+    whole_texts();
+    whole_segments();
+    let path = piece.file();
+    let reader = match files.open(path) {
+        Ok(reader) => reader,
+        Err(OpenFault::Memory) => return Err(RunFault::Memory),
+        Err(OpenFault::File) => {
+            return Err(RunFault::File {
+                path: path.to_string(alloc)?,
+            });
+        }
+    };
+    let mut collect = Collect::new(alloc);
+    match walk(alloc, reader, &mut collect) {
+        Ok(_) => {}
+        Err(fault) => return Err(refusal(alloc, path, fault)?),
+    }
+    match collect.into_segments(piece.rank(), piece.first()) {
+        Ok(segments) => Ok(segments),
+        Err(SegmentFault::Place) => Err(RunFault::Place {
+            path: path.to_string(alloc)?,
+        }),
+        Err(_) => Err(RunFault::Memory),
+    }
+}
+
+// the fault of a run whose walk was stopped, which names the file
+fn refusal(alloc: Global, path: &str, fault: WalkFault<Memory>) -> Result<RunFault, AllocError>
+    ensures { IfOk result (IsWalkFault path.now fault) }
+{
+    let line = fault.line;
+    match fault.cause {
+        WalkCause::Text(TextFault::At { line, cause }) => Ok(RunFault::Text {
+            cause,
+            path: path.to_string(alloc)?,
+            line,
+        }),
+        WalkCause::Missing(parameter) => Ok(RunFault::Missing {
+            parameter,
+            path: path.to_string(alloc)?,
+            line,
+        }),
+        WalkCause::Wrong(parameter) => Ok(RunFault::Wrong {
+            parameter,
+            path: path.to_string(alloc)?,
+            line,
+        }),
+        _ => Ok(RunFault::Memory),
+    }
+}

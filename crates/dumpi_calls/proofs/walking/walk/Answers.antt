@@ -1,0 +1,21 @@
+use Rattle.std.proofs.Common.{◌∙◌, ◌++◌, ◌∷◌, [], ◌+◌, ◌≤◌, sym, arith}
+use Rattle.dumpi_calls.specs.Walks.{Follows, IsRead, Takes}
+use Rattle.dumpi_calls.proofs.Handed.{last_unfinished, not_begun, one_handed}
+use Rattle.dumpi_calls.proofs.walking.walk.Goals as goal
+
+pub returns-in-Err-clause-err : goal.returns-in-Err-clause-err
+returns-in-Err-clause-err g c = not_begun c.reading_call_by_call.ensures.starts g.S.CallSink.step (g.R.Read.left c.args.reader) c.args.sink.now
+
+pub loop-raw-preserved : goal.loop-raw-preserved
+loop-raw-preserved g c =
+    let inv = c.loop-raw.invariant.done in
+    let raw = c.in-Ok-Some.raw in
+    let found : Follows (g.R.Read.left c.args.reader) inv.0 c.in-Ok-Some.field-0 c.next_of.new.texts = c.in-Ok-Some.ensures.goes_on (g.R.Read.left c.args.reader) inv.0 inv.1 in
+    let read : IsRead (g.R.Read.left c.args.reader) (inv.0 ++ raw ∷ []) c.next_of.new.texts = rw c.in-Ok-Some.field-0-is at found in
+    let takes : Takes g.S.CallSink.step raw c.loop-raw.sink c.take.new.sink = c.in-Ok-take.ensures.ok in
+    let progress = rw c.in-Ok-Some.field-0-is at c.in-Ok-Some.ensures.progress in
+    let far : c.loop-raw.calls + 1 ≤ c.next_of.new.texts.at.line = omega (arith, c.loop-raw.invariant.far, progress) in
+    record {
+      far = far;
+      done = (inv.0 ++ raw ∷ [], read, one_handed g.S.CallSink.step inv.0 raw c.args.sink.now c.loop-raw.sink c.take.new.sink c.loop-raw.calls inv.2 takes, c.is_open-unfinished.ensures ∙ sym (last_unfinished inv.0 raw));
+    }

@@ -1,0 +1,74 @@
+-- What the two sinks make of calls.
+use Rattle.std.specs.Prelude.{◌≡◌, ◌<◌, ◌≤◌, ◌^◌, ℕ, ◌+◌, Bool, true, false, List, [], ◌∷◌, ◌++◌, length, Option, Some, None, if◌then◌else◌}
+use Rattle.mpi_model.specs.Failures.{one_more}
+use Rattle.mpi_model.specs.declared.event.Event.{Event}
+use Rattle.mpi_model.specs.declared.event.Event.TheVariants.{Enter, Return}
+use Rattle.mpi_model.specs.declared.event.Exit.{Exit}
+use Rattle.trace_know.specs.Segment.{PlacedEvents, enter_place}
+use Rattle.dumpi_calls.specs.Rows.{Callback, OnSend, OnIsend, OnRecv, OnIrecv, OnSendrecv, OnWait, OnWaitall, OnWaitany, OnWaitsome, OnTest, OnCollective, OnOther}
+use Rattle.dumpi_calls.specs.Seen.{Seen}
+use Rattle.dumpi_calls.specs.declared.tally.Tally.{Tally}
+
+-- ---- events
+
+-- the Return of a call, where it returned
+abbrev pub exit_events : Option Exit → List Event
+exit_events None = []
+exit_events (Some exit) = Return exit.outs exit.stamp ∷ []
+
+-- the events of a call: its Enter and, where it returned, its Return
+abbrev pub events_of : Seen → List Event
+events_of call = Enter call.call call.enter ∷ exit_events call.exit
+
+-- whether the last event is an Enter, after events that left a call open or not
+abbrev pub is_open_from : Bool → List Event → Bool
+is_open_from is_open [] = is_open
+is_open_from is_open (Enter call stamp ∷ events) = is_open_from true events
+is_open_from is_open (Return outs stamp ∷ events) = is_open_from false events
+
+-- whether events end in a call that has not returned
+abbrev pub ends_open : List Event → Bool
+ends_open events = is_open_from false events
+
+-- The events with those of one call more. A call that comes after one that has not returned is left out: a text has none.
+abbrev pub collected : List Event → Seen → List Event
+collected events call = if ends_open events then events else events ++ events_of call
+
+-- ---- segments
+
+-- events of a rank from the Enter of a call on
+abbrev pub placed : ℕ → ℕ → List Event → PlacedEvents
+placed rank first events = record { rank = rank; first_place = enter_place first; events = events }
+
+-- A part that is cut off: it has an event, and 65,536 of them where more follow.
+pub record IsPart (part rest : List Event) : Type 0 where
+  pub some : 0 < length part
+  pub most : length part ≤ 65536
+  pub full : 0 < length rest → length part ≡ 65536
+
+-- The segments of events from the Enter of a call on, cut after each 65,536: that is, after 32,768 calls.
+abbrev pub AreSegments : ℕ → ℕ → List Event → List PlacedEvents → Type 0
+AreSegments rank first events [] = events ≡ []
+AreSegments rank first events (segment ∷ segments) = (rest : List Event) × (events ≡ segment.events ++ rest) × IsPart segment.events rest
+    × (segment ≡ placed rank first segment.events) × AreSegments rank (first + 32768) rest segments
+
+-- there are events, and the last has a place at 2^40 or past it
+abbrev pub HasPlacesPast : ℕ → List Event → Type 0
+HasPlacesPast first events = (0 < length events) × (2 ^ 40 < enter_place first + length events)
+
+-- ---- counts
+
+-- one call more of a callback
+abbrev pub tallied : Tally → Callback → Tally
+tallied t OnSend = record t { on_send = one_more t.on_send }
+tallied t OnIsend = record t { on_isend = one_more t.on_isend }
+tallied t OnRecv = record t { on_recv = one_more t.on_recv }
+tallied t OnIrecv = record t { on_irecv = one_more t.on_irecv }
+tallied t OnSendrecv = record t { on_sendrecv = one_more t.on_sendrecv }
+tallied t OnWait = record t { on_wait = one_more t.on_wait }
+tallied t OnWaitall = record t { on_waitall = one_more t.on_waitall }
+tallied t OnWaitany = record t { on_waitany = one_more t.on_waitany }
+tallied t OnWaitsome = record t { on_waitsome = one_more t.on_waitsome }
+tallied t OnTest = record t { on_test = one_more t.on_test }
+tallied t OnCollective = record t { on_collective = one_more t.on_collective }
+tallied t (OnOther name) = record t { on_other = one_more t.on_other }

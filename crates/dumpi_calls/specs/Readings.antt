@@ -1,0 +1,183 @@
+-- What the parameters of a call say, one by one.
+use Rattle.std.specs.Prelude.{◌≡◌, ◌≢◌, ◌==◌, ℕ, ℤ, pos, negsuc, List, [], ◌∷◌, Option, Some, None, Result, Ok, Err, codes, nat_lt, option_map, IfErr, IfOk, IsSome, if◌then◌else◌}
+use Rattle.mpi_model.specs.declared.envelope.CommRef.{CommRef}
+use Rattle.mpi_model.specs.declared.envelope.CommRef.TheVariants.{World, Id}
+use Rattle.mpi_model.specs.declared.envelope.Peer.{Peer}
+use Rattle.mpi_model.specs.declared.envelope.Peer.TheVariants as peers
+use Rattle.dumpi_text.specs.Call.{TextCall, first_value}
+use Rattle.dumpi_text.specs.Value.{value_of}
+use Rattle.dumpi_text.specs.declared.number.Num.{Num}
+use Rattle.dumpi_text.specs.declared.number.NumName.{NumName}
+use Rattle.dumpi_text.specs.declared.number.NumName.TheVariants as names
+use Rattle.dumpi_text.specs.declared.value.Value.{Value}
+use Rattle.dumpi_text.specs.declared.value.Value.TheVariants as values
+use Rattle.dumpi_calls.specs.declared.parameter.CallFault.{CallFault}
+use Rattle.dumpi_calls.specs.declared.parameter.CallFault.TheVariants.{Memory, Missing, Wrong}
+use Rattle.dumpi_calls.specs.declared.parameter.Parameter.{Parameter}
+use Rattle.dumpi_calls.specs.declared.parameter.Parameter.TheVariants as parameters
+
+-- The answer is what is meant, unless memory was refused.
+abbrev pub Reads : {A : Type 0} → Result A CallFault → Result A CallFault → Type 0
+Reads result meant = IfOk result (λ value. meant ≡ Ok value) × IfErr result (λ fault. fault ≢ Memory → meant ≡ Err fault)
+
+-- what is read first, and then the rest by its value; the first fault is the whole's
+infixl 10 ◌>>=◌
+abbrev pub ◌>>=◌ : {A B : Type 0} → Result A CallFault → (A → Result B CallFault) → Result B CallFault
+(Ok value) >>= f = f value
+(Err fault) >>= f = Err fault
+
+-- a parameter's name in a trace text
+abbrev pub name_of : Parameter → List ℕ
+name_of parameters.Count = codes "count"
+name_of parameters.Datatype = codes "datatype"
+name_of parameters.Dest = codes "dest"
+name_of parameters.Source = codes "source"
+name_of parameters.Tag = codes "tag"
+name_of parameters.Comm = codes "comm"
+name_of parameters.SendCount = codes "sendcount"
+name_of parameters.SendType = codes "sendtype"
+name_of parameters.SendTag = codes "sendtag"
+name_of parameters.RecvCount = codes "recvcount"
+name_of parameters.RecvType = codes "recvtype"
+name_of parameters.RecvTag = codes "recvtag"
+name_of parameters.Root = codes "root"
+name_of parameters.Request = codes "request"
+name_of parameters.Requests = codes "requests"
+name_of parameters.Index = codes "index"
+name_of parameters.Indices = codes "indices"
+name_of parameters.Flag = codes "flag"
+name_of parameters.Status = codes "status"
+name_of parameters.Statuses = codes "statuses"
+
+-- ---- values
+
+-- the text of a parameter: the first of its name counts
+unfoldable pub text_of : Parameter → TextCall → Option (List ℕ)
+text_of parameter call = first_value (name_of parameter) call.params
+
+-- The parameters are there.
+abbrev pub AreThere : List Parameter → TextCall → Type 0
+AreThere [] call = Unit {0}
+AreThere (parameter ∷ parameters) call = IsSome (text_of parameter call) × AreThere parameters call
+
+-- a value that can't be read makes its parameter wrong
+abbrev pub or_wrong : {A : Type 0} → Parameter → Option A → Result A CallFault
+or_wrong parameter None = Err (Wrong parameter)
+or_wrong parameter (Some value) = Ok value
+
+-- the value of a parameter, by its text
+abbrev pub value_from : Parameter → Option (List ℕ) → Result Value CallFault
+value_from parameter None = Err (Missing parameter)
+value_from parameter (Some text) = or_wrong parameter (value_of text)
+
+-- the value of a parameter
+abbrev pub value_in : Parameter → TextCall → Result Value CallFault
+value_in parameter call = value_from parameter (text_of parameter call)
+
+-- one number: a number, or a list of exactly one
+abbrev pub one_number : Value → Option Num
+one_number (values.Number number) = Some number
+one_number (values.Numbers []) = None
+one_number (values.Numbers (number ∷ [])) = Some number
+one_number (values.Numbers (number ∷ other ∷ numbers)) = None
+one_number (values.Groups groups) = None
+
+-- a list of numbers: a list, or a number as a list of one
+abbrev pub all_numbers : Value → Option (List Num)
+all_numbers (values.Number number) = Some (number ∷ [])
+all_numbers (values.Numbers numbers) = Some numbers
+all_numbers (values.Groups groups) = None
+
+-- the number that a parameter is
+unfoldable pub number_in : Parameter → TextCall → Result Num CallFault
+number_in parameter call = do
+  value ← value_in parameter call
+  or_wrong parameter (one_number value)
+
+-- the numbers that a parameter lists
+unfoldable pub numbers_in : Parameter → TextCall → Result (List Num) CallFault
+numbers_in parameter call = do
+  value ← value_in parameter call
+  or_wrong parameter (all_numbers value)
+
+-- a number from 0 to 2^31 - 1, as a non-negative `int` is
+abbrev pub non_negative : ℤ → Option ℕ
+non_negative (pos n) = if nat_lt n 2147483648 then Some n else None
+non_negative (negsuc n) = None
+
+-- ---- what numbers tell: a name that is meant there wins over the number, and -1 and -2 stand for what has no rank
+
+-- a destination without a name
+abbrev pub dest_from : ℤ → Option Peer
+dest_from (pos n) = option_map peers.Rank (non_negative (pos n))
+dest_from (negsuc n) = if nat_lt n 2 then Some peers.Null else None
+
+-- the destination of a send, by its name and its number
+abbrev pub dest_by : NumName → ℤ → Option Peer
+dest_by names.ProcNull value = Some peers.Null
+dest_by _ value = dest_from value
+
+-- a source without a name
+abbrev pub source_from : ℤ → Option Peer
+source_from (pos n) = option_map peers.Rank (non_negative (pos n))
+source_from (negsuc n) = if n == 0 then Some peers.Any else (if n == 1 then Some peers.Null else None)
+
+-- the source of a receive, by its name and its number
+abbrev pub source_by : NumName → ℤ → Option Peer
+source_by names.AnySource value = Some peers.Any
+source_by names.ProcNull value = Some peers.Null
+source_by _ value = source_from value
+
+-- the tag of a receive without a name: `Some None` is any tag
+abbrev pub asked_tag_from : ℤ → Option (Option ℕ)
+asked_tag_from (pos n) = option_map Some (non_negative (pos n))
+asked_tag_from (negsuc n) = if n == 0 then Some None else None
+
+-- the tag of a receive, by its name and its number
+abbrev pub asked_tag_by : NumName → ℤ → Option (Option ℕ)
+asked_tag_by names.AnyTag value = Some None
+asked_tag_by _ value = asked_tag_from value
+
+-- a communicator, by its name and its number
+abbrev pub comm_by : NumName → ℤ → Option CommRef
+comm_by names.CommWorld value = Some World
+comm_by _ value = option_map Id (non_negative value)
+
+-- ---- parameters, each by its value
+
+-- a count, a tag of a send or a root
+unfoldable pub non_negative_in : Parameter → TextCall → Result ℕ CallFault
+non_negative_in parameter call = do
+  number ← number_in parameter call
+  or_wrong parameter (non_negative number.value)
+
+unfoldable pub dest_in : TextCall → Result Peer CallFault
+dest_in call = do
+  number ← number_in parameters.Dest call
+  or_wrong parameters.Dest (dest_by number.name number.value)
+
+unfoldable pub source_in : TextCall → Result Peer CallFault
+source_in call = do
+  number ← number_in parameters.Source call
+  or_wrong parameters.Source (source_by number.name number.value)
+
+unfoldable pub asked_tag_in : Parameter → TextCall → Result (Option ℕ) CallFault
+asked_tag_in parameter call = do
+  number ← number_in parameter call
+  or_wrong parameter (asked_tag_by number.name number.value)
+
+unfoldable pub comm_in : TextCall → Result CommRef CallFault
+comm_in call = do
+  number ← number_in parameters.Comm call
+  or_wrong parameters.Comm (comm_by number.name number.value)
+
+-- numbers without their names
+abbrev pub values_of : List Num → List ℤ
+values_of [] = []
+values_of (number ∷ numbers) = number.value ∷ values_of numbers
+
+-- the requests, by their numbers
+unfoldable pub requests_in : TextCall → Result (List ℤ) CallFault
+requests_in call = do
+  numbers ← numbers_in parameters.Requests call
+  Ok (values_of numbers)

@@ -1,0 +1,316 @@
+-- The table of functions: its callback, its entry and outcome parameters, and how these are read.
+use Rattle.std.specs.Prelude.{ℕ, List, [], ◌∷◌, Option, Some, None, Result, Ok, Err, codes, if◌then◌else◌}
+use Rattle.std.specs.Str.{bytes_eq}
+use Rattle.mpi_model.specs.Ranges.{HasRoot}
+use Rattle.mpi_model.specs.declared.call.Call.{Call}
+use Rattle.mpi_model.specs.declared.call.Call.TheVariants as calls
+use Rattle.mpi_model.specs.declared.collective.Kind.{Kind}
+use Rattle.mpi_model.specs.declared.collective.Kind.TheVariants as kinds
+use Rattle.mpi_model.specs.declared.envelope.CommRef.{CommRef}
+use Rattle.mpi_model.specs.declared.envelope.Envelope.{Envelope}
+use Rattle.mpi_model.specs.declared.envelope.Mode.{Mode}
+use Rattle.mpi_model.specs.declared.envelope.Mode.TheVariants.{Standard, Synchronous, Buffered, Ready}
+use Rattle.mpi_model.specs.declared.event.Exit.{Exit}
+use Rattle.mpi_model.specs.Times.{Times}
+use Rattle.dumpi_text.specs.Call.{TextCall}
+use Rattle.dumpi_calls.specs.Readings.{◌>>=◌, asked_tag_in, comm_in, dest_in, number_in, requests_in, non_negative_in, source_in, text_of}
+use Rattle.dumpi_calls.specs.Outcomes.{outcome_in}
+use Rattle.dumpi_calls.specs.declared.envelope.Part.{Part}
+use Rattle.dumpi_calls.specs.declared.function.Function.{Function}
+use Rattle.dumpi_calls.specs.declared.function.Function.TheVariants as functions
+use Rattle.dumpi_calls.specs.declared.typing.TypedCall.{TypedCall}
+use Rattle.dumpi_calls.specs.declared.parameter.CallFault.{CallFault}
+use Rattle.dumpi_calls.specs.declared.parameter.CallFault.TheVariants.{Missing}
+use Rattle.dumpi_calls.specs.declared.parameter.Parameter.{Parameter}
+use Rattle.dumpi_calls.specs.declared.parameter.Parameter.TheVariants.{Count, Datatype, Dest, Source, Tag, Comm, SendCount, SendType, SendTag, RecvCount, RecvType, RecvTag, Root, Request, Requests, Index, Flag}
+
+-- a collective function has a root just where its kind has one
+abbrev pub HasItsKind : Function → Type 0
+HasItsKind (functions.OfAll kind) = HasRoot kind → ⊥
+HasItsKind (functions.Rooted kind) = HasRoot kind
+HasItsKind _ = Unit {0}
+
+-- ---- names: they are compared byte for byte
+
+-- blocking sends, by their mode (MPI 4.0, 3.4)
+abbrev pub send_named : List ℕ → Option Function
+send_named name =
+    if bytes_eq name (codes "MPI_Send") then Some (functions.Send Standard)
+    else if bytes_eq name (codes "MPI_Ssend") then Some (functions.Send Synchronous)
+    else if bytes_eq name (codes "MPI_Bsend") then Some (functions.Send Buffered)
+    else if bytes_eq name (codes "MPI_Rsend") then Some (functions.Send Ready)
+    else None
+
+-- nonblocking sends (MPI 4.0, 3.7.2)
+abbrev pub isend_named : List ℕ → Option Function
+isend_named name =
+    if bytes_eq name (codes "MPI_Isend") then Some (functions.Isend Standard)
+    else if bytes_eq name (codes "MPI_Issend") then Some (functions.Isend Synchronous)
+    else if bytes_eq name (codes "MPI_Ibsend") then Some (functions.Isend Buffered)
+    else if bytes_eq name (codes "MPI_Irsend") then Some (functions.Isend Ready)
+    else None
+
+-- receives (MPI 4.0, 3.2.4, 3.7.2 and 3.10)
+abbrev pub receive_named : List ℕ → Option Function
+receive_named name =
+    if bytes_eq name (codes "MPI_Recv") then Some functions.Recv
+    else if bytes_eq name (codes "MPI_Irecv") then Some functions.Irecv
+    else if bytes_eq name (codes "MPI_Sendrecv") then Some functions.Sendrecv
+    else None
+
+-- completion calls (MPI 4.0, 3.7.3 and 3.7.5)
+abbrev pub completion_named : List ℕ → Option Function
+completion_named name =
+    if bytes_eq name (codes "MPI_Wait") then Some functions.Wait
+    else if bytes_eq name (codes "MPI_Waitall") then Some functions.Waitall
+    else if bytes_eq name (codes "MPI_Waitany") then Some functions.Waitany
+    else if bytes_eq name (codes "MPI_Waitsome") then Some functions.Waitsome
+    else if bytes_eq name (codes "MPI_Test") then Some functions.Test
+    else None
+
+-- collective calls without a root (MPI 4.0, 6)
+abbrev pub group_named : List ℕ → Option Function
+group_named name =
+    if bytes_eq name (codes "MPI_Barrier") then Some (functions.OfAll kinds.Barrier)
+    else if bytes_eq name (codes "MPI_Allreduce") then Some (functions.OfAll kinds.Allreduce)
+    else if bytes_eq name (codes "MPI_Allgather") then Some (functions.OfAll kinds.Allgather)
+    else if bytes_eq name (codes "MPI_Alltoall") then Some (functions.OfAll kinds.Alltoall)
+    else None
+
+-- collective calls with a root (MPI 4.0, 6)
+abbrev pub rooted_named : List ℕ → Option Function
+rooted_named name =
+    if bytes_eq name (codes "MPI_Bcast") then Some (functions.Rooted kinds.Bcast)
+    else if bytes_eq name (codes "MPI_Scatter") then Some (functions.Rooted kinds.Scatter)
+    else if bytes_eq name (codes "MPI_Gather") then Some (functions.Rooted kinds.Gather)
+    else if bytes_eq name (codes "MPI_Reduce") then Some (functions.Rooted kinds.Reduce)
+    else None
+
+-- every other function
+abbrev pub other_named : List ℕ → Function
+other_named name = if bytes_eq name (codes "MPI_Finalize") then functions.Finalize else functions.Other
+
+-- the function, or the next one
+abbrev pub or_else : Option Function → Function → Function
+or_else (Some function) next = function
+or_else None next = next
+
+-- the function of a name
+unfoldable pub function_named : List ℕ → Function
+function_named name =
+    or_else (send_named name) (or_else (isend_named name) (or_else (receive_named name)
+    (or_else (completion_named name) (or_else (group_named name) (or_else (rooted_named name) (other_named name))))))
+
+-- ---- envelopes (MPI 4.0, 3.2.3)
+
+-- the parameters that a send has to have, a receive, and a call that is both
+abbrev pub send_parameters : List Parameter
+send_parameters = Count ∷ Datatype ∷ Dest ∷ Tag ∷ Comm ∷ []
+
+abbrev pub receive_parameters : List Parameter
+receive_parameters = Count ∷ Datatype ∷ Source ∷ Tag ∷ Comm ∷ []
+
+abbrev pub sendrecv_parameters : List Parameter
+sendrecv_parameters = SendCount ∷ SendType ∷ Dest ∷ SendTag ∷ RecvCount ∷ RecvType ∷ Source ∷ RecvTag ∷ Comm ∷ []
+
+-- what a send says apart from its communicator
+unfoldable pub sent_part : Parameter → Parameter → Parameter → TextCall → Result Part CallFault
+sent_part count datatype tag call = do
+  elements ← non_negative_in count call
+  element ← number_in datatype call
+  peer ← dest_in call
+  tag ← non_negative_in tag call
+  Ok (record { count = elements; datatype = element.value; peer = peer; tag = Some tag })
+
+-- what a receive asks for apart from its communicator
+unfoldable pub asked_part : Parameter → Parameter → Parameter → TextCall → Result Part CallFault
+asked_part count datatype tag call = do
+  elements ← non_negative_in count call
+  element ← number_in datatype call
+  peer ← source_in call
+  tag ← asked_tag_in tag call
+  Ok (record { count = elements; datatype = element.value; peer = peer; tag = tag })
+
+-- a part with its communicator
+abbrev pub envelope_of : Part → CommRef → Envelope
+envelope_of part comm = record { peer = part.peer; tag = part.tag; comm = comm; count = part.count; datatype = part.datatype }
+
+-- the envelope of a send
+unfoldable pub sent : TextCall → Result Envelope CallFault
+sent call = do
+  part ← sent_part Count Datatype Tag call
+  comm ← comm_in call
+  Ok (envelope_of part comm)
+
+-- the envelope of a receive
+unfoldable pub asked : TextCall → Result Envelope CallFault
+asked call = do
+  part ← asked_part Count Datatype Tag call
+  comm ← comm_in call
+  Ok (envelope_of part comm)
+
+-- ---- the readings of the entry parameters, in their order
+
+unfoldable pub send_call : Mode → TextCall → Result Call CallFault
+send_call mode call = do
+  envelope ← sent call
+  Ok (calls.Send mode envelope)
+
+unfoldable pub isend_call : Mode → TextCall → Result Call CallFault
+isend_call mode call = do
+  envelope ← sent call
+  Ok (calls.Isend mode envelope)
+
+unfoldable pub recv_call : TextCall → Result Call CallFault
+recv_call call = do
+  envelope ← asked call
+  Ok (calls.Recv envelope)
+
+unfoldable pub irecv_call : TextCall → Result Call CallFault
+irecv_call call = do
+  envelope ← asked call
+  Ok (calls.Irecv envelope)
+
+unfoldable pub sendrecv_call : TextCall → Result Call CallFault
+sendrecv_call call = do
+  send ← sent_part SendCount SendType SendTag call
+  receive ← asked_part RecvCount RecvType RecvTag call
+  comm ← comm_in call
+  Ok (calls.Sendrecv (record { send = envelope_of send comm; receive = envelope_of receive comm }))
+
+unfoldable pub wait_call : TextCall → Result Call CallFault
+wait_call call = do
+  request ← number_in Request call
+  Ok (calls.Wait request.value)
+
+unfoldable pub waitall_call : TextCall → Result Call CallFault
+waitall_call call = do
+  requests ← requests_in call
+  Ok (calls.Waitall requests)
+
+unfoldable pub waitany_call : TextCall → Result Call CallFault
+waitany_call call = do
+  requests ← requests_in call
+  Ok (calls.Waitany requests)
+
+unfoldable pub waitsome_call : TextCall → Result Call CallFault
+waitsome_call call = do
+  requests ← requests_in call
+  Ok (calls.Waitsome requests)
+
+unfoldable pub test_call : TextCall → Result Call CallFault
+test_call call = do
+  request ← number_in Request call
+  Ok (calls.Test request.value)
+
+unfoldable pub group_call : Kind → TextCall → Result Call CallFault
+group_call kind call = do
+  comm ← comm_in call
+  Ok (calls.Collective (record { kind = kind; root = None; comm = comm }))
+
+unfoldable pub rooted_call : Kind → TextCall → Result Call CallFault
+rooted_call kind call = do
+  root ← non_negative_in Root call
+  comm ← comm_in call
+  Ok (calls.Collective (record { kind = kind; root = Some root; comm = comm }))
+
+-- ---- the table
+
+-- the callback of a function; that of all others is told the function's name
+pub data Callback : Type 0 where
+  OnSend : Callback
+  OnIsend : Callback
+  OnRecv : Callback
+  OnIrecv : Callback
+  OnSendrecv : Callback
+  OnWait : Callback
+  OnWaitall : Callback
+  OnWaitany : Callback
+  OnWaitsome : Callback
+  OnTest : Callback
+  OnCollective : Callback
+  OnOther : (name : List ℕ) → Callback
+
+-- A row: the callback; the parameters that have to be there, those of the outcome where the call returned; and how the
+-- entry parameters are read. `status`, `statuses` and `indices` may be absent.
+pub record Row : Type 0 where
+  pub callback : Callback
+  pub entry : List Parameter
+  pub outcome : List Parameter
+  pub call : TextCall → Result Call CallFault
+
+-- the row of a function; its name is told to the callback of all others
+abbrev pub row : Function → List ℕ → Row
+row (functions.Send mode) name = record { callback = OnSend; entry = send_parameters; outcome = []; call = send_call mode }
+row (functions.Isend mode) name = record { callback = OnIsend; entry = send_parameters; outcome = Request ∷ []; call = isend_call mode }
+row functions.Recv name = record { callback = OnRecv; entry = receive_parameters; outcome = []; call = recv_call }
+row functions.Irecv name = record { callback = OnIrecv; entry = receive_parameters; outcome = Request ∷ []; call = irecv_call }
+row functions.Sendrecv name = record { callback = OnSendrecv; entry = sendrecv_parameters; outcome = []; call = sendrecv_call }
+row functions.Wait name = record { callback = OnWait; entry = Request ∷ []; outcome = []; call = wait_call }
+row functions.Waitall name = record { callback = OnWaitall; entry = Requests ∷ []; outcome = []; call = waitall_call }
+row functions.Waitany name = record { callback = OnWaitany; entry = Requests ∷ []; outcome = Index ∷ []; call = waitany_call }
+row functions.Waitsome name = record { callback = OnWaitsome; entry = Requests ∷ []; outcome = []; call = waitsome_call }
+row functions.Test name = record { callback = OnTest; entry = Request ∷ []; outcome = Flag ∷ []; call = test_call }
+row (functions.OfAll kind) name = record { callback = OnCollective; entry = Comm ∷ []; outcome = []; call = group_call kind }
+row (functions.Rooted kind) name = record { callback = OnCollective; entry = Root ∷ Comm ∷ []; outcome = []; call = rooted_call kind }
+row functions.Finalize name = record { callback = OnOther name; entry = []; outcome = []; call = λ raw. Ok calls.Finalize }
+row functions.Other name = record { callback = OnOther name; entry = []; outcome = []; call = λ raw. Ok calls.Local }
+
+-- ---- calls
+
+-- this parameter where it isn't there, or else one of the others
+abbrev pub missing_first : Parameter → Option (List ℕ) → Option Parameter → Option Parameter
+missing_first parameter None others = Some parameter
+missing_first parameter (Some text) others = others
+
+-- the first of the parameters that isn't there
+abbrev pub first_missing : List Parameter → TextCall → Option Parameter
+first_missing [] call = None
+first_missing (parameter ∷ parameters) call = missing_first parameter (text_of parameter call) (first_missing parameters call)
+
+-- an entry parameter that is missing, or else an outcome parameter of a call that returned
+abbrev pub missing_by : Option Parameter → Option Times → Option Parameter → Option Parameter
+missing_by (Some parameter) exit outcome = Some parameter
+missing_by None None outcome = None
+missing_by None (Some stamp) outcome = outcome
+
+-- the first parameter of its row that a call lacks: those of the outcome are asked for where it returned
+abbrev pub missing_in : Row → TextCall → Option Parameter
+missing_in row raw = missing_by (first_missing row.entry raw) raw.exit (first_missing row.outcome raw)
+
+-- how a call returned, at this time
+unfoldable pub returned : Call → Times → TextCall → Result Exit CallFault
+returned call stamp raw = do
+  outs ← outcome_in call raw
+  Ok (record { outs = outs; stamp = stamp })
+
+-- how a call returned, if it did
+abbrev pub exit_in : Call → Option Times → TextCall → Result (Option Exit) CallFault
+exit_in call None raw = Ok None
+exit_in call (Some stamp) raw = do
+  exit ← returned call stamp raw
+  Ok (Some exit)
+
+-- a call whose parameters are all there
+unfoldable pub read_by : Row → TextCall → Result TypedCall CallFault
+read_by row raw = do
+  call ← row.call raw
+  exit ← exit_in call raw.exit raw
+  Ok (record { call = call; enter = raw.enter; exit = exit })
+
+-- what is read, unless a parameter is missing
+abbrev pub unless_missing : Option Parameter → Result TypedCall CallFault → Result TypedCall CallFault
+unless_missing (Some parameter) read = Err (Missing parameter)
+unless_missing None read = read
+
+-- a call by its row: the first parameter that is missing, then the first that is wrong
+abbrev pub typed_by : Row → TextCall → Result TypedCall CallFault
+typed_by row raw = unless_missing (missing_in row raw) (read_by row raw)
+
+-- the row of a call's function
+abbrev pub row_of : TextCall → Row
+row_of raw = row (function_named raw.name) raw.name
+
+-- the call that a text tells, or why it is refused
+abbrev pub typed : TextCall → Result TypedCall CallFault
+typed raw = typed_by (row_of raw) raw

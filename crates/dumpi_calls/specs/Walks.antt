@@ -1,0 +1,122 @@
+-- What a walk over a text does.
+use Rattle.std.specs.Prelude.{◌≡◌, ◌⊎◌, ℕ, Bool, true, false, List, [], ◌∷◌, ◌++◌, length, Option, Some, None, Ok, Err, IsSome, IsOk}
+use Rattle.std.specs.Io.KnownBytes.{IsAtEnd}
+use Rattle.mpi_model.specs.Times.{Times}
+use Rattle.dumpi_text.specs.Call.{TextCall}
+use Rattle.dumpi_text.specs.Grammar.{Complete, Stopped}
+use Rattle.dumpi_text.specs.Reading.{HasRead, MeansAll}
+use Rattle.dumpi_text.specs.Source.{rest_of}
+use Rattle.dumpi_text.specs.Standing.{View}
+use Rattle.dumpi_text.specs.declared.standing.Standing.TheVariants.{Reading, Finished}
+use Rattle.dumpi_text.specs.declared.fault.LineFault.TheVariants.{Truncated}
+use Rattle.dumpi_text.specs.declared.fault.TextCause.{TextCause}
+use Rattle.dumpi_text.specs.declared.fault.TextCause.TheVariants as causes
+use Rattle.dumpi_text.specs.declared.fault.TextFault.{TextFault}
+use Rattle.dumpi_text.specs.declared.fault.TextFault.TheVariants as faults
+use Rattle.dumpi_text.specs.declared.step.Position.{Position}
+use Rattle.dumpi_calls.specs.Rows.{row_of, typed}
+use Rattle.dumpi_calls.specs.Seen.{Seen, after, seen_by, seen_in}
+use Rattle.dumpi_calls.specs.declared.parameter.CallFault.TheVariants as refusals
+use Rattle.dumpi_calls.specs.declared.parameter.Parameter.{Parameter}
+use Rattle.dumpi_calls.specs.declared.typing.TypedCall.{TypedCall}
+use Rattle.dumpi_calls.specs.declared.fault.WalkCause.{WalkCause}
+use Rattle.dumpi_calls.specs.declared.fault.WalkCause.TheVariants.{Text, Missing, Wrong, Sink, Memory}
+use Rattle.dumpi_calls.specs.declared.fault.WalkFault.{WalkFault}
+use Rattle.dumpi_calls.specs.declared.walking.Walked.{Walked}
+
+-- ---- a text that is read
+
+-- These calls were read of a text, and it is read on, or nothing is left of it; the line that it tells is the last one's.
+pub record IsRead (text : Option (List ℕ)) (calls : List TextCall) (view : View) : Type 0 where
+  pub read : HasRead text calls view.at (rest_of view.rest)
+  pub stands : (view.standing ≡ Reading) ⊎ ((view.standing ≡ Finished) × IsAtEnd (rest_of view.rest))
+  pub told : view.told ≡ view.at
+
+-- One call more was read, or the text was over.
+abbrev pub Follows : Option (List ℕ) → List TextCall → Option TextCall → View → Type 0
+Follows text calls (Some call) view = IsRead text (calls ++ call ∷ []) view
+Follows text calls None view = MeansAll text calls (Complete view.told)
+
+-- the text begins with these calls, where it is told
+abbrev pub Begins : Option (List ℕ) → List TextCall → Type 0
+Begins text calls = (at : Position) × (rest : Option (List ℕ)) × HasRead text calls at rest
+
+-- the text begins with these calls, and the last of them ends at this line (0 before the first)
+abbrev pub BeginsTo : Option (List ℕ) → List TextCall → ℕ → Type 0
+BeginsTo text calls line = (at : Position) × (rest : Option (List ℕ)) × HasRead text calls at rest × (line ≡ at.line)
+
+-- The text stops at a line after these calls, where it is told, with the fault of that line; or its reader failed there.
+abbrev pub StopsAfter : Option (List ℕ) → List TextCall → TextCause → ℕ → Type 0
+StopsAfter text calls causes.Read line = Begins text calls
+StopsAfter text calls (causes.Line fault) line = (at : Position) × MeansAll text calls (Stopped fault at) × (line ≡ at.line)
+
+-- There is no next call after these.
+abbrev pub RefusesNext : Option (List ℕ) → List TextCall → TextFault → ℕ → Type 0
+RefusesNext text calls faults.Memory line = BeginsTo text calls line
+RefusesNext text calls faults.Ended line = ⊥
+RefusesNext text calls (faults.At at cause) line = (at ≡ line) × StopsAfter text calls cause line
+
+-- ---- calls
+
+-- whether a call has not returned
+abbrev pub lacks_exit : Option Times → Bool
+lacks_exit None = true
+lacks_exit (Some stamp) = false
+
+-- whether the last of the calls has not returned
+abbrev pub is_unfinished : List TextCall → Bool
+is_unfinished [] = false
+is_unfinished (call ∷ []) = lacks_exit call.exit
+is_unfinished (call ∷ other ∷ calls) = is_unfinished (other ∷ calls)
+
+-- The sink took the call.
+pub record Takes {S : Type 0} (step : S → Seen → S) (raw : TextCall) (old new : S) : Type 0 where
+  pub call : TypedCall
+  pub typed_as : typed raw ≡ Ok call
+  pub state : new ≡ step old (seen_by (row_of raw) call)
+
+-- Why a call is refused, and at which line. One that was cut off before its last entry parameter was written is a
+-- truncated text, whose line is its last; any other is refused at its entering line.
+abbrev pub RefusesCall : {F : Type 0} → TextCall → WalkCause F → ℕ → Type 0
+RefusesCall raw (Text fault) line = (fault ≡ faults.At raw.last_line (causes.Line Truncated)) × (line ≡ raw.last_line) × (raw.exit ≡ None)
+    × ((parameter : Parameter) × (typed raw ≡ Err (refusals.Missing parameter)))
+RefusesCall raw (Missing parameter) line = (line ≡ raw.line) × IsSome raw.exit × (typed raw ≡ Err (refusals.Missing parameter))
+RefusesCall raw (Wrong parameter) line = (line ≡ raw.line) × (typed raw ≡ Err (refusals.Wrong parameter))
+RefusesCall raw (Sink fault) line = (line ≡ raw.line) × IsOk (typed raw)
+RefusesCall raw Memory line = line ≡ raw.line
+
+-- ---- walks
+
+-- These calls were handed to the sink, in order, and are counted.
+pub record HandedOn {S : Type 0} (step : S → Seen → S) (calls : List TextCall) (old new : S) (count : ℕ) : Type 0 where
+  pub seen : List Seen
+  pub typed_as : seen_in calls ≡ Some seen
+  pub state : new ≡ after step old seen
+  pub counted : count ≡ length calls
+
+-- The whole text was walked.
+pub record IsWalked {S : Type 0} (step : S → Seen → S) (text : Option (List ℕ)) (old new : S) (walked : Walked) : Type 0 where
+  pub calls : List TextCall
+  pub at : Position
+  pub means : MeansAll text calls (Complete at)
+  pub handed : HandedOn step calls old new walked.calls
+  pub skipped : walked.skipped ≡ at.skipped
+  pub unfinished : walked.unfinished ≡ is_unfinished calls
+
+-- The text has no next call after these.
+abbrev pub LacksNext : {F : Type 0} → Option (List ℕ) → List TextCall → WalkCause F → ℕ → Type 0
+LacksNext text calls (Text fault) line = RefusesNext text calls fault line
+LacksNext text calls Memory line = BeginsTo text calls line
+LacksNext text calls (Missing parameter) line = ⊥
+LacksNext text calls (Wrong parameter) line = ⊥
+LacksNext text calls (Sink fault) line = ⊥
+
+-- Why a walk stops after these calls: the text has no next one, or the next one is refused.
+abbrev pub StopsWalk : {F : Type 0} → Option (List ℕ) → List TextCall → WalkCause F → ℕ → Type 0
+StopsWalk {F = F} text calls cause line = LacksNext {F = F} text calls cause line ⊎ ((raw : TextCall) × Begins text (calls ++ raw ∷ []) × RefusesCall {F = F} raw cause line)
+
+-- The walk stopped at the first call that can't be had or is refused, and exactly the calls before it were handed on.
+pub record IsStopped {S F : Type 0} (step : S → Seen → S) (text : Option (List ℕ)) (old new : S) (fault : WalkFault F) : Type 0 where
+  pub calls : List TextCall
+  pub handed : HandedOn step calls old new fault.calls
+  pub stops : StopsWalk {F = F} text calls fault.cause fault.line

@@ -1,0 +1,202 @@
+//! A sink that keeps the events of its calls, for segments.
+
+ghost use Rattle.std.specs.Prelude.{◌≡◌, ◌<◌, ◌≤◌, ◌^◌, ◌+◌, ◌↔◌, [], IsTrue, ◌≢◌, IfOk, IfErr, OnErr, OnOk, Err, length, true};
+ghost use Rattle.std.specs.Option.{option_copied};
+ghost use Rattle.dumpi_calls.specs.Collected.{AreSegments, collected, ends_open, placed};
+ghost use Rattle.dumpi_calls.specs.Rows.{OnCollective};
+ghost use Rattle.dumpi_calls.specs.Seen.{seen};
+ghost use Rattle.trace_know.specs.Segment.{alternate, enter_place};
+
+use crate::cutting::cut;
+use crate::sink::CallSink;
+use mpi_model::{Call, Event, Exit, Stamp};
+use std::alloc::{AllocError, AllocFailed, Global};
+use std::marker::Model;
+use thiserror::Error;
+use trace_know::{Segment, SegmentFault};
+
+/// No memory was left for a call's events.
+#[derive(Clone, Copy, Debug, PartialEq, Eq, Error)]
+#[error("no memory is left")]
+pub struct Memory;
+
+impl From<AllocError> for Memory {
+    fn from(_error: AllocError) -> Memory {
+        Memory
+    }
+}
+
+impl<T: Drop> From<AllocFailed<T>> for Memory {
+    fn from(_failed: AllocFailed<T>) -> Memory {
+        Memory
+    }
+}
+
+/// The events of calls, in their order. They alternate: a call that comes after one that has not returned is left out.
+#[derive(Debug, Drop)]
+pub struct Collect {
+    events: Vec<Event>,
+    is_open: bool,
+}
+
+impl Model for Collect {
+    ghost use Rattle.std.specs.Prelude.{◌≡◌, List, true};
+    ghost use Rattle.mpi_model.specs.declared.event.Event.{Event};
+    ghost use Rattle.trace_know.specs.Segment.{alternate};
+    ghost use Rattle.dumpi_calls.specs.Collected.{ends_open};
+
+    ghost Value = { List Event };
+
+    ghost view = { λ c. c.events.items };
+
+    ghost invariant = { λ c. (alternate true c.events.items ≡ true) × (c.is_open ≡ ends_open c.events.items) };
+}
+
+/// Places are below this one, 2^40.
+const PLACES: u64 = 1_099_511_627_776;
+
+// whether so many events, from a call on, have a place past the last
+fn has_places_past(first_call: u64, count: usize) -> bool
+    ensures { IsTrue result ↔ (2 ^ 40 < enter_place first_call + count) }
+{
+    first_call.saturating_mul(2).saturating_add(count as u64) > PLACES
+}
+
+impl Collect {
+    ghost use Rattle.dumpi_calls.specs.Collected.{AreSegments, HasPlacesPast};
+    ghost use Rattle.trace_know.specs.declared.segment.SegmentFault.TheVariants.{Place, Memory as NoMemory};
+    ghost use Rattle.dumpi_calls.specs.Collected.{collected};
+    ghost use Rattle.dumpi_calls.specs.Rows.{OnCollective};
+    ghost use Rattle.dumpi_calls.specs.Seen.{seen};
+
+    /// No events.
+    pub fn new(alloc: Global) -> Collect
+        ensures { result ≡ [] }
+    {
+        Collect {
+            events: Vec::new(alloc),
+            is_open: false,
+        }
+    }
+
+    /// The events as segments of a rank, from the Enter of its call `first_call` on, cut after each 65,536 events. No
+    /// event gives no segment. It answers `Place` where an event would have a place at 2^40 or past it, and `Memory`.
+    pub fn into_segments(self, rank: u32, first_call: u64) -> Result<Vec<Segment>, SegmentFault>
+        ensures ok { IfOk result (λ segments. AreSegments rank first_call self segments.items) }
+        ensures place { result ≡ Err Place ↔ HasPlacesPast first_call self }
+        ensures err { IfErr result (λ fault. fault ≢ Place → fault ≡ NoMemory) }
+    {
+        let Collect { events, .. } = self;
+        if !events.is_empty() && has_places_past(first_call, events.len()) {
+            return Err(SegmentFault::Place);
+        }
+        if events.is_empty() {
+            return Ok(Vec::new(*events.allocator()));
+        }
+        match cut(*events.allocator(), rank, first_call, events) {
+            Ok(segments) => Ok(segments),
+            Err(_) => Err(SegmentFault::Memory),
+        }
+    }
+
+    // keeps the events of one call, unless a call before it has not returned
+    fn push(&mut self, call: &Call, enter: Stamp, exit: Option<&Exit>) -> Result<(), Memory>
+        ensures ok { OnOk result (self.new ≡ collected self.old (seen OnCollective call.now enter (option_copied exit.entry))) }
+        ensures err { OnErr result (self.new ≡ self.old) }
+    {
+        if self.is_open {
+            return Ok(());
+        }
+        let call = call.try_clone()?;
+        match exit {
+            None => {
+                self.events.push(Event::Enter(call, enter))?;
+                self.is_open = true;
+            }
+            Some(exit) => {
+                let outs = exit.outs.try_clone()?;
+                self.events.reserve(2)?;
+                self.events.push(Event::Enter(call, enter))?;
+                self.events.push(Event::Return(outs, exit.stamp))?;
+            }
+        }
+        Ok(())
+    }
+}
+
+impl CallSink for Collect {
+    ghost use Rattle.dumpi_calls.specs.Collected.{collected};
+
+    type Fault = Memory;
+
+    ghost step = { collected };
+
+    fn on_send(&mut self, call: &Call, enter: Stamp, exit: Option<&Exit>) -> Result<(), Memory> {
+        self.push(call, enter, exit)
+    }
+
+    fn on_isend(&mut self, call: &Call, enter: Stamp, exit: Option<&Exit>) -> Result<(), Memory> {
+        self.push(call, enter, exit)
+    }
+
+    fn on_recv(&mut self, call: &Call, enter: Stamp, exit: Option<&Exit>) -> Result<(), Memory> {
+        self.push(call, enter, exit)
+    }
+
+    fn on_irecv(&mut self, call: &Call, enter: Stamp, exit: Option<&Exit>) -> Result<(), Memory> {
+        self.push(call, enter, exit)
+    }
+
+    fn on_sendrecv(
+        &mut self,
+        call: &Call,
+        enter: Stamp,
+        exit: Option<&Exit>,
+    ) -> Result<(), Memory> {
+        self.push(call, enter, exit)
+    }
+
+    fn on_wait(&mut self, call: &Call, enter: Stamp, exit: Option<&Exit>) -> Result<(), Memory> {
+        self.push(call, enter, exit)
+    }
+
+    fn on_waitall(&mut self, call: &Call, enter: Stamp, exit: Option<&Exit>) -> Result<(), Memory> {
+        self.push(call, enter, exit)
+    }
+
+    fn on_waitany(&mut self, call: &Call, enter: Stamp, exit: Option<&Exit>) -> Result<(), Memory> {
+        self.push(call, enter, exit)
+    }
+
+    fn on_waitsome(
+        &mut self,
+        call: &Call,
+        enter: Stamp,
+        exit: Option<&Exit>,
+    ) -> Result<(), Memory> {
+        self.push(call, enter, exit)
+    }
+
+    fn on_test(&mut self, call: &Call, enter: Stamp, exit: Option<&Exit>) -> Result<(), Memory> {
+        self.push(call, enter, exit)
+    }
+
+    fn on_collective(
+        &mut self,
+        call: &Call,
+        enter: Stamp,
+        exit: Option<&Exit>,
+    ) -> Result<(), Memory> {
+        self.push(call, enter, exit)
+    }
+
+    fn on_other(
+        &mut self,
+        _name: &[u8],
+        call: &Call,
+        enter: Stamp,
+        exit: Option<&Exit>,
+    ) -> Result<(), Memory> {
+        self.push(call, enter, exit)
+    }
+}

@@ -1,0 +1,55 @@
+//! Events cut into segments, after each 65,536.
+
+ghost use Rattle.std.specs.Prelude.{◌≡◌, ◌+◌, ◌<◌, ◌≤◌, ◌^◌, IfOk, length, true};
+ghost use Rattle.dumpi_calls.specs.Collected.{AreSegments, placed};
+ghost use Rattle.trace_know.specs.Segment.{alternate, enter_place};
+
+use mpi_model::Event;
+use std::alloc::{AllocError, Global};
+use std::mem;
+use trace_know::Segment;
+
+/// The most events of a segment: an Enter and a Return of each of [`MOST_CALLS`].
+const MOST_EVENTS: usize = 65_536;
+
+/// The calls of a full segment.
+const MOST_CALLS: u64 = 32_768;
+
+// the segment of events that are one
+fn segment(rank: u32, first: u64, events: Vec<Event>) -> Segment
+    requires some { 0 < length events.items }
+    requires most { length events.items ≤ 65536 }
+    requires places { enter_place first + length events.items ≤ 2 ^ 40 }
+    requires halves { alternate true events.items ≡ true }
+    ensures { result ≡ placed rank first events.items }
+{
+    Segment::new(rank, first, events).unwrap()
+}
+
+/// The segments of a rank's events from the Enter of a call on, none of no event.
+pub fn cut(
+    alloc: Global,
+    rank: u32,
+    first: u64,
+    events: Vec<Event>,
+) -> Result<Vec<Segment>, AllocError>
+    requires halves { alternate true events.items ≡ true }
+    requires places { enter_place first + length events.items ≤ 2 ^ 40 }
+    ensures { IfOk result (λ segments. AreSegments rank first events.items segments.items) }
+{
+    let mut segments = Vec::new(alloc);
+    let mut next = first;
+    let mut together = Vec::new(alloc);
+    for event in events {
+        if together.len() == MOST_EVENTS {
+            let full = mem::replace(&mut together, Vec::new(alloc));
+            segments.push(segment(rank, next, full))?;
+            next += MOST_CALLS;
+        }
+        together.push(event)?;
+    }
+    if !together.is_empty() {
+        segments.push(segment(rank, next, together))?;
+    }
+    Ok(segments)
+}

@@ -1,0 +1,161 @@
+//! The envelopes of sends and receives (MPI 4.0, 3.2.3).
+
+ghost use Rattle.std.specs.Prelude.{◌≡◌, ◌∷◌, ◌<◌, ◌^◌, [], IfOk, OnOk};
+ghost use Rattle.mpi_model.specs.Ranges.{IsAskedTag, IsComm, IsNamed, IsSource, IsTarget};
+ghost use Rattle.dumpi_calls.specs.Outcomes.{brought_by};
+ghost use Rattle.dumpi_calls.specs.Readings.{AreThere, Reads};
+ghost use Rattle.dumpi_calls.specs.Rows.{asked, asked_part, receive_parameters, send_parameters, sendrecv_parameters, envelope_of, sent, sent_part, sendrecv_call};
+
+use crate::parameter::{CallFault, Parameter};
+use crate::reading::{asked_tag, comm, dest, non_negative, number, source};
+use dumpi_text::RawCall;
+use mpi_model::{Call, CommRef, Envelope, Exchange, Peer, ReceiveEnvelope, SendEnvelope};
+use std::alloc::Global;
+
+/// What an envelope says apart from its communicator, which a Sendrecv names once, after both.
+#[derive(Clone, Copy, Debug)]
+pub struct Part {
+    pub count: u32,
+    pub datatype: i64,
+    pub peer: Peer,
+    pub tag: Option<u32>,
+}
+
+// a part with its communicator
+fn envelope(part: Part, comm: CommRef) -> Envelope
+    ensures { result ≡ envelope_of part comm }
+{
+    Envelope {
+        peer: part.peer,
+        tag: part.tag,
+        comm,
+        count: part.count,
+        datatype: part.datatype,
+    }
+}
+
+// what a send says, by these parameters and `dest`
+#[tactic(auto, unfolding(crate::specs::Rows::sent_part))]
+fn part_sent(
+    alloc: Global,
+    raw: &RawCall,
+    count: Parameter,
+    datatype: Parameter,
+    tag: Parameter,
+) -> Result<Part, CallFault>
+    ensures means { Reads result (sent_part count datatype tag raw.now) }
+    ensures there { OnOk result (AreThere (count ∷ datatype ∷ Parameter.Dest ∷ tag ∷ []) raw.now) }
+    ensures range { IfOk result (λ p. IsTarget p.peer × IsNamed p.tag × (p.count < 2 ^ 31)) }
+{
+    let count = non_negative(alloc, raw, count)?;
+    let datatype = number(alloc, raw, datatype)?.value;
+    let peer = dest(alloc, raw)?;
+    let tag = non_negative(alloc, raw, tag)?;
+    Ok(Part {
+        count,
+        datatype,
+        peer,
+        tag: Some(tag),
+    })
+}
+
+// what a receive asks for, by these parameters and `source`
+#[tactic(auto, unfolding(crate::specs::Rows::asked_part))]
+fn part_asked(
+    alloc: Global,
+    raw: &RawCall,
+    count: Parameter,
+    datatype: Parameter,
+    tag: Parameter,
+) -> Result<Part, CallFault>
+    ensures means { Reads result (asked_part count datatype tag raw.now) }
+    ensures there { OnOk result (AreThere (count ∷ datatype ∷ Parameter.Source ∷ tag ∷ []) raw.now) }
+    ensures range { IfOk result (λ p. IsSource p.peer × IsAskedTag p.tag × (p.count < 2 ^ 31)) }
+{
+    let count = non_negative(alloc, raw, count)?;
+    let datatype = number(alloc, raw, datatype)?.value;
+    let peer = source(alloc, raw)?;
+    let tag = asked_tag(alloc, raw, tag)?;
+    Ok(Part {
+        count,
+        datatype,
+        peer,
+        tag,
+    })
+}
+
+fn send_envelope(part: Part, comm: CommRef) -> SendEnvelope
+    requires part { IsTarget part.peer × IsNamed part.tag × (part.count < 2 ^ 31) }
+    requires comm { IsComm comm }
+    ensures { result ≡ envelope_of part comm }
+{
+    SendEnvelope::new(envelope(part, comm)).unwrap()
+}
+
+fn receive_envelope(part: Part, comm: CommRef) -> ReceiveEnvelope
+    requires part { IsSource part.peer × IsAskedTag part.tag × (part.count < 2 ^ 31) }
+    requires comm { IsComm comm }
+    ensures { result ≡ envelope_of part comm }
+{
+    ReceiveEnvelope::new(envelope(part, comm)).unwrap()
+}
+
+/// The envelope of a send.
+#[tactic(auto, unfolding(crate::specs::Rows::sent))]
+pub fn sent_in(alloc: Global, raw: &RawCall) -> Result<SendEnvelope, CallFault>
+    ensures means { Reads result (sent raw.now) }
+    ensures there { OnOk result (AreThere send_parameters raw.now) }
+{
+    let part = part_sent(
+        alloc,
+        raw,
+        Parameter::Count,
+        Parameter::Datatype,
+        Parameter::Tag,
+    )?;
+    let comm = comm(alloc, raw)?;
+    Ok(send_envelope(part, comm))
+}
+
+/// The envelope of a receive.
+#[tactic(auto, unfolding(crate::specs::Rows::asked))]
+pub fn asked_in(alloc: Global, raw: &RawCall) -> Result<ReceiveEnvelope, CallFault>
+    ensures means { Reads result (asked raw.now) }
+    ensures there { OnOk result (AreThere receive_parameters raw.now) }
+{
+    let part = part_asked(
+        alloc,
+        raw,
+        Parameter::Count,
+        Parameter::Datatype,
+        Parameter::Tag,
+    )?;
+    let comm = comm(alloc, raw)?;
+    Ok(receive_envelope(part, comm))
+}
+
+/// The call that sends and receives at once.
+#[tactic(auto, unfolding(crate::specs::Rows::sendrecv_call))]
+pub fn sendrecv_in(alloc: Global, raw: &RawCall) -> Result<Call, CallFault>
+    ensures means { Reads result (sendrecv_call raw.now) }
+    ensures there { OnOk result (AreThere sendrecv_parameters raw.now) }
+    ensures brings { IfOk result (λ c. brought_by c ≡ []) }
+{
+    let send = part_sent(
+        alloc,
+        raw,
+        Parameter::SendCount,
+        Parameter::SendType,
+        Parameter::SendTag,
+    )?;
+    let receive = part_asked(
+        alloc,
+        raw,
+        Parameter::RecvCount,
+        Parameter::RecvType,
+        Parameter::RecvTag,
+    )?;
+    let comm = comm(alloc, raw)?;
+    let exchange = Exchange::new(send_envelope(send, comm), receive_envelope(receive, comm));
+    Ok(Call::Sendrecv(exchange.unwrap()))
+}

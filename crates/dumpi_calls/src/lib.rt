@@ -1,0 +1,39 @@
+//! The calls of a trace text, handed to a sink one by one: the typed form of what `libundumpi` does with a trace.
+//!
+//! [`walk`] reads a text, types each call by the table of functions of docs/formats.md, and hands it to the callback of
+//! its function. A [`CallSink`] says what becomes of it: [`Collect`] keeps the calls' events and cuts them into segments,
+//! [`Tally`] counts, and a sink of one's own does whatever it states as its step.
+//!
+//! A text is read in one pass. What a walk keeps is one call at a time, so memory grows only with what the sink keeps; a
+//! parameter that is one number takes none. A call that is refused is not handed on, and ends the walk.
+//!
+//! - [`parameter`]: the parameters and why a call is refused for one; [`reading`]: what each says
+//! - [`function`]: the functions, by their names; [`envelope`], [`outcome`]: what calls name and bring back;
+//!   [`typing`]: a call by the row of its function
+//! - [`sink`]: the callbacks; [`fault`], [`walking`]: the walk
+//! - [`collect`], [`cutting`], [`tally`]: two sinks; [`laws`]: what holds of walks over whole texts
+//!
+//! Its tests are in `crates/reading_tests/src/calls.rt`.
+#![tactic(auto)]
+
+mod collect;
+mod cutting;
+mod envelope;
+mod fault;
+mod function;
+mod laws;
+mod outcome;
+mod parameter;
+mod reading;
+mod sink;
+mod tally;
+mod typing;
+mod walking;
+
+pub use collect::{Collect, Memory};
+pub use fault::{WalkCause, WalkFault};
+pub use laws::{whole_segments, whole_texts};
+pub use parameter::Parameter;
+pub use sink::CallSink;
+pub use tally::Tally;
+pub use walking::{Walked, walk};

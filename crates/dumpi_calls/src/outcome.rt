@@ -1,0 +1,217 @@
+//! What a returned call brings back, of the kind that belongs to it (MPI 4.0, 3.2.5 and 3.7).
+//!
+//! `status`, `statuses` and `indices` are never missing and never wrong: what is absent or can't be read tells nothing.
+
+ghost use Rattle.std.specs.Prelude.{◌≡◌, ◌∷◌, [], IfOk, OnOk, length};
+ghost use Rattle.std.specs.Option.{option_copied};
+ghost use Rattle.mpi_model.specs.Ranges.{IsTold};
+ghost use Rattle.dumpi_calls.specs.Readings.{AreThere, Reads};
+ghost use Rattle.dumpi_calls.specs.Outcomes.{brought_by, elements_from, flag, groups_in, index, indices_in, is_done, outcome_in, position_of, posted, several, status, statuses, told_at, told_by, told_of, tolds_from};
+ghost use Rattle.dumpi_calls.specs.declared.parameter.Parameter.TheVariants as parameters;
+
+use crate::function::is;
+use crate::parameter::{CallFault, Parameter};
+use crate::reading::{listed, non_negative_of, number, text_in};
+use dumpi_text::{
+    Field, Group, Groups, Num, NumName, Nums, RawCall, Value, ValueFault, parse_value,
+};
+use mpi_model::{Call, Element, Elements, Outs, Sources, Told};
+use std::alloc::{AllocError, Global};
+
+// the source that a number tells, unless its name says that it is none
+fn told_source(number: Num) -> Option<u32>
+    ensures value { result ≡ told_by number.name number.value }
+    ensures range { IsTold result }
+{
+    match number.name {
+        NumName::AnySource | NumName::ProcNull => None,
+        _ => non_negative_of(number.value),
+    }
+}
+
+// what a group tells: its first field `source` counts
+fn told_of_group(fields: &[Field]) -> Told
+    ensures { result ≡ told_of fields.now }
+{
+    for field in fields {
+        if is(field.word.as_slice(), "source") {
+            return Told::new(told_source(field.number)).unwrap();
+        }
+    }
+    Told::new(None).unwrap()
+}
+
+// what the group at a place tells
+fn told_of_place(groups: &[Group], place: usize) -> Told
+    ensures { result ≡ told_at groups.now place }
+{
+    match groups.get(place) {
+        Some(group) => told_of_group(group.as_slice()),
+        None => Told::new(None).unwrap(),
+    }
+}
+
+// the groups of a parameter, none where it is absent or can't be read
+#[tactic(auto, unfolding(crate::specs::Outcomes::groups_in))]
+fn groups(alloc: Global, raw: &RawCall, parameter: Parameter) -> Result<Groups, AllocError>
+    ensures { IfOk result (λ g. g ≡ groups_in parameter raw.now) }
+{
+    match text_in(raw, parameter) {
+        None => Ok(Groups::from_vec(Vec::new(alloc))),
+        Some(text) => match parse_value(alloc, text) {
+            Ok(Value::Groups(groups)) => Ok(groups),
+            Ok(_) => Ok(Groups::from_vec(Vec::new(alloc))),
+            Err(ValueFault::BadValue) => Ok(Groups::from_vec(Vec::new(alloc))),
+            Err(ValueFault::Memory) => Err(AllocError),
+        },
+    }
+}
+
+// what `status` tells
+fn told(alloc: Global, raw: &RawCall) -> Result<Told, AllocError>
+    ensures { IfOk result (λ t. t ≡ told_at (groups_in parameters.Status raw.now) 0) }
+{
+    let groups = groups(alloc, raw, Parameter::Status)?;
+    Ok(told_of_place(groups.as_slice(), 0))
+}
+
+// what the groups tell of each request, by its place
+#[tactic(auto, using(crate::proofs::Tolds::one_told_more))]
+fn tolds(alloc: Global, groups: &[Group], requests: &[i64]) -> Result<Sources, AllocError>
+    ensures { IfOk result (λ s. s ≡ tolds_from groups.now 0 requests.now) }
+{
+    let mut tolds = Vec::with_capacity(alloc, requests.len())?;
+    for (place, _request) in requests.iter().enumerate() {
+        tolds.push(told_of_place(groups, place))?;
+    }
+    Ok(Sources::from_vec(tolds))
+}
+
+// a position within a list of so many
+fn position(count: usize, value: i64) -> Option<u32>
+    ensures { result ≡ position_of count value }
+{
+    if value < 0 || value > 0xFFFF_FFFF {
+        return None;
+    }
+    let place = value as u32;
+    if (place as usize) < count {
+        Some(place)
+    } else {
+        None
+    }
+}
+
+// the numbers of `indices`, none where it is absent or can't be read
+#[tactic(auto, unfolding(crate::specs::Outcomes::indices_in))]
+fn indices(alloc: Global, raw: &RawCall) -> Result<Nums, AllocError>
+    ensures { IfOk result (λ n. n ≡ indices_in raw.now) }
+{
+    match text_in(raw, Parameter::Indices) {
+        None => Ok(Nums::from_vec(Vec::new(alloc))),
+        Some(text) => match parse_value(alloc, text) {
+            Ok(value) => match listed(alloc, value)? {
+                Some(numbers) => Ok(numbers),
+                None => Ok(Nums::from_vec(Vec::new(alloc))),
+            },
+            Err(ValueFault::BadValue) => Ok(Nums::from_vec(Vec::new(alloc))),
+            Err(ValueFault::Memory) => Err(AllocError),
+        },
+    }
+}
+
+// the indices that are positions in a list of so many, each with what the group at its own place tells
+fn elements(
+    alloc: Global,
+    groups: &[Group],
+    count: usize,
+    indices: &[Num],
+) -> Result<Elements, AllocError>
+    ensures { IfOk result (λ e. e ≡ elements_from groups.now count 0 indices.now) }
+{
+    let mut elements = Vec::new(alloc);
+    for (place, index) in indices.iter().enumerate() {
+        if let Some(position) = position(count, index.value) {
+            elements.push(Element {
+                position,
+                told: told_of_place(groups, place),
+            })?;
+        }
+    }
+    Ok(Elements::from_vec(elements))
+}
+
+#[tactic(auto, unfolding(crate::specs::Outcomes::posted))]
+fn posted_in(alloc: Global, raw: &RawCall) -> Result<Outs, CallFault>
+    ensures means { Reads result (posted raw.now) }
+    ensures there { OnOk result (AreThere (Parameter.Request ∷ []) raw.now) }
+{
+    let request = number(alloc, raw, Parameter::Request)?;
+    Ok(Outs::Posted(request.value))
+}
+
+fn status_in(alloc: Global, raw: &RawCall) -> Result<Outs, AllocError>
+    ensures { IfOk result (λ o. o ≡ status raw.now) }
+{
+    let told = told(alloc, raw)?;
+    Ok(Outs::Status(told))
+}
+
+fn statuses_in(alloc: Global, requests: &[i64], raw: &RawCall) -> Result<Outs, AllocError>
+    ensures { IfOk result (λ o. o ≡ statuses requests.now raw.now) }
+{
+    let groups = groups(alloc, raw, Parameter::Statuses)?;
+    Ok(Outs::Statuses(tolds(alloc, groups.as_slice(), requests)?))
+}
+
+#[tactic(auto, unfolding(crate::specs::Outcomes::index))]
+fn index_in(alloc: Global, requests: &[i64], raw: &RawCall) -> Result<Outs, CallFault>
+    ensures means { Reads result (index requests.now raw.now) }
+    ensures there { OnOk result (AreThere (Parameter.Index ∷ []) raw.now) }
+{
+    let number = number(alloc, raw, Parameter::Index)?;
+    let told = told(alloc, raw)?;
+    Ok(Outs::Index(position(requests.len(), number.value), told))
+}
+
+fn several_in(alloc: Global, requests: &[i64], raw: &RawCall) -> Result<Outs, AllocError>
+    ensures { IfOk result (λ o. o ≡ several requests.now raw.now) }
+{
+    let groups = groups(alloc, raw, Parameter::Statuses)?;
+    let indices = indices(alloc, raw)?;
+    let elements = elements(alloc, groups.as_slice(), requests.len(), indices.as_slice())?;
+    Ok(Outs::Several(elements))
+}
+
+// whether a flag says that the request is done
+fn done(value: i64) -> bool
+    ensures { result ≡ is_done value }
+{
+    value != 0
+}
+
+#[tactic(auto, unfolding(crate::specs::Outcomes::flag))]
+fn flag_in(alloc: Global, raw: &RawCall) -> Result<Outs, CallFault>
+    ensures means { Reads result (flag raw.now) }
+    ensures there { OnOk result (AreThere (Parameter.Flag ∷ []) raw.now) }
+{
+    let number = number(alloc, raw, Parameter::Flag)?;
+    let told = told(alloc, raw)?;
+    Ok(Outs::Flag(done(number.value), told))
+}
+
+/// What a returned call brings back.
+pub fn outcome(alloc: Global, call: &Call, raw: &RawCall) -> Result<Outs, CallFault>
+    ensures means { Reads result (outcome_in call.now raw.now) }
+    ensures there { OnOk result (AreThere (brought_by call.now) raw.now) }
+{
+    match call {
+        Call::Local | Call::Finalize | Call::Send(..) | Call::Collective(_) => Ok(Outs::Nothing),
+        Call::Isend(..) | Call::Irecv(_) => posted_in(alloc, raw),
+        Call::Recv(_) | Call::Sendrecv(_) | Call::Wait(_) => Ok(status_in(alloc, raw)?),
+        Call::Waitall(requests) => Ok(statuses_in(alloc, requests.as_slice(), raw)?),
+        Call::Waitany(requests) => index_in(alloc, requests.as_slice(), raw),
+        Call::Waitsome(requests) => Ok(several_in(alloc, requests.as_slice(), raw)?),
+        Call::Test(_) => flag_in(alloc, raw),
+    }
+}

@@ -1,0 +1,243 @@
+//! What each parameter of a call says: numbers, and the ranks, tags and communicators that they name.
+//!
+//! A name that a number's note gives wins over the number where the parameter knows it; where none decides, -1 and -2
+//! stand for what has no rank. That choice is this project's own, and no constant of `dumpi2ascii`.
+
+ghost use Rattle.std.specs.Prelude.{◌≡◌, ◌∷◌, ◌<◌, ◌^◌, [], IfOk, IfSome, OnOk};
+ghost use Rattle.mpi_model.specs.Ranges.{IsAskedTag, IsComm, IsSource, IsTarget};
+ghost use Rattle.std.specs.Option.{option_copied};
+ghost use Rattle.dumpi_calls.specs.Readings.{AreThere, Reads, all_numbers, asked_tag_by, asked_tag_in, comm_by, comm_in, dest_by, dest_in, number_in, numbers_in, one_number, requests_in, non_negative, non_negative_in, source_by, source_in, text_of, value_in, values_of};
+
+use crate::parameter::{CallFault, Parameter};
+use dumpi_text::{Num, NumName, Nums, RawCall, Value, ValueFault, parse_value};
+use mpi_model::{CommRef, Peer, Requests};
+use std::alloc::{AllocError, Global};
+
+/// The text of a parameter.
+#[tactic(auto, unfolding(crate::specs::Readings::text_of))]
+pub fn text_in(raw: &RawCall, parameter: Parameter) -> Option<&[u8]>
+    ensures { option_copied result ≡ text_of parameter raw.now }
+{
+    raw.param(parameter.name().as_bytes())
+}
+
+// the value of a parameter
+fn value(alloc: Global, raw: &RawCall, parameter: Parameter) -> Result<Value, CallFault>
+    ensures means { Reads result (value_in parameter raw.now) }
+    ensures there { OnOk result (AreThere (parameter ∷ []) raw.now) }
+{
+    match text_in(raw, parameter) {
+        None => Err(CallFault::Missing(parameter)),
+        Some(text) => match parse_value(alloc, text) {
+            Ok(value) => Ok(value),
+            Err(ValueFault::BadValue) => Err(CallFault::Wrong(parameter)),
+            Err(ValueFault::Memory) => Err(CallFault::Memory),
+        },
+    }
+}
+
+// the number of a value that is one number, or a list of exactly one
+fn one(value: Value) -> Option<Num>
+    ensures { result ≡ one_number value }
+{
+    match value {
+        Value::Number(number) => Some(number),
+        Value::Numbers(numbers) => match numbers.as_slice() {
+            [number] => Some(*number),
+            _ => None,
+        },
+        Value::Groups(_) => None,
+    }
+}
+
+/// The number that a parameter is.
+#[tactic(auto, unfolding(crate::specs::Readings::number_in))]
+pub fn number(alloc: Global, raw: &RawCall, parameter: Parameter) -> Result<Num, CallFault>
+    ensures means { Reads result (number_in parameter raw.now) }
+    ensures there { OnOk result (AreThere (parameter ∷ []) raw.now) }
+{
+    match one(value(alloc, raw, parameter)?) {
+        Some(number) => Ok(number),
+        None => Err(CallFault::Wrong(parameter)),
+    }
+}
+
+/// A count, a tag of a send or a root: 0 to 2^31 - 1.
+#[tactic(auto, unfolding(crate::specs::Readings::non_negative_in))]
+pub fn non_negative(alloc: Global, raw: &RawCall, parameter: Parameter) -> Result<u32, CallFault>
+    ensures means { Reads result (non_negative_in parameter raw.now) }
+    ensures there { OnOk result (AreThere (parameter ∷ []) raw.now) }
+    ensures range { IfOk result (λ n. n < 2 ^ 31) }
+{
+    let number = number(alloc, raw, parameter)?;
+    match non_negative_of(number.value) {
+        Some(count) => Ok(count),
+        None => Err(CallFault::Wrong(parameter)),
+    }
+}
+
+/// The tag that a receive asks for: none is any tag (MPI 4.0, 3.2.4).
+#[tactic(auto, unfolding(crate::specs::Readings::asked_tag_in))]
+pub fn asked_tag(
+    alloc: Global,
+    raw: &RawCall,
+    parameter: Parameter,
+) -> Result<Option<u32>, CallFault>
+    ensures means { Reads result (asked_tag_in parameter raw.now) }
+    ensures there { OnOk result (AreThere (parameter ∷ []) raw.now) }
+    ensures range { IfOk result IsAskedTag }
+{
+    let number = number(alloc, raw, parameter)?;
+    match asked_tag_of(number) {
+        Some(tag) => Ok(tag),
+        None => Err(CallFault::Wrong(parameter)),
+    }
+}
+
+/// The destination of a send: a rank of the group, or the null process.
+#[tactic(auto, unfolding(crate::specs::Readings::dest_in))]
+pub fn dest(alloc: Global, raw: &RawCall) -> Result<Peer, CallFault>
+    ensures means { Reads result (dest_in raw.now) }
+    ensures there { OnOk result (AreThere (Parameter.Dest ∷ []) raw.now) }
+    ensures range { IfOk result IsTarget }
+{
+    let number = number(alloc, raw, Parameter::Dest)?;
+    match dest_of(number) {
+        Some(peer) => Ok(peer),
+        None => Err(CallFault::Wrong(Parameter::Dest)),
+    }
+}
+
+/// The source that a receive names: a rank of the group, any, or the null process.
+#[tactic(auto, unfolding(crate::specs::Readings::source_in))]
+pub fn source(alloc: Global, raw: &RawCall) -> Result<Peer, CallFault>
+    ensures means { Reads result (source_in raw.now) }
+    ensures there { OnOk result (AreThere (Parameter.Source ∷ []) raw.now) }
+    ensures range { IfOk result IsSource }
+{
+    let number = number(alloc, raw, Parameter::Source)?;
+    match source_of(number) {
+        Some(peer) => Ok(peer),
+        None => Err(CallFault::Wrong(Parameter::Source)),
+    }
+}
+
+/// The communicator that a call names.
+#[tactic(auto, unfolding(crate::specs::Readings::comm_in))]
+pub fn comm(alloc: Global, raw: &RawCall) -> Result<CommRef, CallFault>
+    ensures means { Reads result (comm_in raw.now) }
+    ensures there { OnOk result (AreThere (Parameter.Comm ∷ []) raw.now) }
+    ensures range { IfOk result IsComm }
+{
+    let number = number(alloc, raw, Parameter::Comm)?;
+    match comm_of(number) {
+        Some(comm) => Ok(comm),
+        None => Err(CallFault::Wrong(Parameter::Comm)),
+    }
+}
+
+// the numbers without their names
+fn values(alloc: Global, numbers: &[Num]) -> Result<Vec<i64>, AllocError>
+    ensures { IfOk result (λ v. v.items ≡ values_of numbers.now) }
+{
+    let mut values = Vec::with_capacity(alloc, numbers.len())?;
+    for number in numbers {
+        values.push(number.value)?;
+    }
+    Ok(values)
+}
+
+/// The numbers of a value that is a list of numbers, or one number.
+pub fn listed(alloc: Global, value: Value) -> Result<Option<Nums>, AllocError>
+    ensures { IfOk result (λ n. n ≡ all_numbers value) }
+{
+    match value {
+        Value::Number(number) => {
+            let mut numbers = Vec::with_capacity(alloc, 1)?;
+            numbers.push(number)?;
+            Ok(Some(Nums::from_vec(numbers)))
+        }
+        Value::Numbers(numbers) => Ok(Some(numbers)),
+        Value::Groups(_) => Ok(None),
+    }
+}
+
+// the numbers that a parameter lists
+#[tactic(auto, unfolding(crate::specs::Readings::numbers_in))]
+fn number_list(alloc: Global, raw: &RawCall, parameter: Parameter) -> Result<Nums, CallFault>
+    ensures means { Reads result (numbers_in parameter raw.now) }
+    ensures there { OnOk result (AreThere (parameter ∷ []) raw.now) }
+{
+    match listed(alloc, value(alloc, raw, parameter)?)? {
+        Some(numbers) => Ok(numbers),
+        None => Err(CallFault::Wrong(parameter)),
+    }
+}
+
+/// The requests that a call names, by their numbers in its order.
+#[tactic(auto, unfolding(crate::specs::Readings::requests_in))]
+pub fn requests(alloc: Global, raw: &RawCall) -> Result<Requests, CallFault>
+    ensures means { Reads result (requests_in raw.now) }
+    ensures there { OnOk result (AreThere (Parameter.Requests ∷ []) raw.now) }
+{
+    let numbers = number_list(alloc, raw, Parameter::Requests)?;
+    Ok(Requests::from_vec(values(alloc, numbers.as_slice())?))
+}
+
+fn dest_of(number: Num) -> Option<Peer>
+    ensures value { result ≡ dest_by number.name number.value }
+    ensures range { IfSome result IsTarget }
+{
+    if number.name == NumName::ProcNull {
+        return Some(Peer::Null);
+    }
+    match number.value {
+        -2 | -1 => Some(Peer::Null),
+        value => Some(Peer::Rank(non_negative_of(value)?)),
+    }
+}
+
+fn source_of(number: Num) -> Option<Peer>
+    ensures value { result ≡ source_by number.name number.value }
+    ensures range { IfSome result IsSource }
+{
+    match (number.name, number.value) {
+        (NumName::AnySource, _) => Some(Peer::Any),
+        (NumName::ProcNull, _) => Some(Peer::Null),
+        (_, -1) => Some(Peer::Any),
+        (_, -2) => Some(Peer::Null),
+        (_, value) => Some(Peer::Rank(non_negative_of(value)?)),
+    }
+}
+
+fn asked_tag_of(number: Num) -> Option<Option<u32>>
+    ensures value { result ≡ asked_tag_by number.name number.value }
+    ensures range { IfSome result IsAskedTag }
+{
+    if number.name == NumName::AnyTag || number.value == -1 {
+        return Some(None);
+    }
+    Some(Some(non_negative_of(number.value)?))
+}
+
+fn comm_of(number: Num) -> Option<CommRef>
+    ensures value { result ≡ comm_by number.name number.value }
+    ensures range { IfSome result IsComm }
+{
+    if number.name == NumName::CommWorld {
+        return Some(CommRef::World);
+    }
+    Some(CommRef::Id(non_negative_of(number.value)?))
+}
+
+/// A number from 0 to 2^31 - 1, the non-negative values of an `int`.
+pub fn non_negative_of(value: i64) -> Option<u32>
+    ensures value { result ≡ non_negative value }
+    ensures range { IfSome result (λ n. n < 2 ^ 31) }
+{
+    if 0 <= value && value < 0x8000_0000 {
+        Some(value as u32)
+    } else {
+        None
+    }
+}

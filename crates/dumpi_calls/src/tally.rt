@@ -1,0 +1,175 @@
+//! A sink that counts.
+
+ghost use Rattle.std.specs.Prelude.{◌≡◌};
+
+use crate::sink::CallSink;
+use mpi_model::{Call, Exit, Stamp};
+use std::convert::Infallible;
+
+/// How often each callback was called. A count stays at the greatest value of its type. It refuses no call.
+#[derive(Clone, Copy, Debug, PartialEq, Eq)]
+pub struct Tally {
+    pub on_send: u64,
+    pub on_isend: u64,
+    pub on_recv: u64,
+    pub on_irecv: u64,
+    pub on_sendrecv: u64,
+    pub on_wait: u64,
+    pub on_waitall: u64,
+    pub on_waitany: u64,
+    pub on_waitsome: u64,
+    pub on_test: u64,
+    pub on_collective: u64,
+    pub on_other: u64,
+}
+
+impl Tally {
+    /// Every count at 0.
+    pub fn new() -> Tally
+        ensures { result ≡ record { on_send = 0; on_isend = 0; on_recv = 0; on_irecv = 0; on_sendrecv = 0; on_wait = 0; on_waitall = 0; on_waitany = 0; on_waitsome = 0; on_test = 0; on_collective = 0; on_other = 0 } }
+    {
+        Tally {
+            on_send: 0,
+            on_isend: 0,
+            on_recv: 0,
+            on_irecv: 0,
+            on_sendrecv: 0,
+            on_wait: 0,
+            on_waitall: 0,
+            on_waitany: 0,
+            on_waitsome: 0,
+            on_test: 0,
+            on_collective: 0,
+            on_other: 0,
+        }
+    }
+}
+
+impl CallSink for Tally {
+    ghost use Rattle.dumpi_calls.specs.Collected.{tallied};
+
+    type Fault = Infallible;
+
+    ghost step = { λ t seen. tallied t seen.callback };
+
+    fn on_send(
+        &mut self,
+        _call: &Call,
+        _enter: Stamp,
+        _exit: Option<&Exit>,
+    ) -> Result<(), Infallible> {
+        self.on_send = self.on_send.saturating_add(1);
+        Ok(())
+    }
+
+    fn on_isend(
+        &mut self,
+        _call: &Call,
+        _enter: Stamp,
+        _exit: Option<&Exit>,
+    ) -> Result<(), Infallible> {
+        self.on_isend = self.on_isend.saturating_add(1);
+        Ok(())
+    }
+
+    fn on_recv(
+        &mut self,
+        _call: &Call,
+        _enter: Stamp,
+        _exit: Option<&Exit>,
+    ) -> Result<(), Infallible> {
+        self.on_recv = self.on_recv.saturating_add(1);
+        Ok(())
+    }
+
+    fn on_irecv(
+        &mut self,
+        _call: &Call,
+        _enter: Stamp,
+        _exit: Option<&Exit>,
+    ) -> Result<(), Infallible> {
+        self.on_irecv = self.on_irecv.saturating_add(1);
+        Ok(())
+    }
+
+    fn on_sendrecv(
+        &mut self,
+        _call: &Call,
+        _enter: Stamp,
+        _exit: Option<&Exit>,
+    ) -> Result<(), Infallible> {
+        self.on_sendrecv = self.on_sendrecv.saturating_add(1);
+        Ok(())
+    }
+
+    fn on_wait(
+        &mut self,
+        _call: &Call,
+        _enter: Stamp,
+        _exit: Option<&Exit>,
+    ) -> Result<(), Infallible> {
+        self.on_wait = self.on_wait.saturating_add(1);
+        Ok(())
+    }
+
+    fn on_waitall(
+        &mut self,
+        _call: &Call,
+        _enter: Stamp,
+        _exit: Option<&Exit>,
+    ) -> Result<(), Infallible> {
+        self.on_waitall = self.on_waitall.saturating_add(1);
+        Ok(())
+    }
+
+    fn on_waitany(
+        &mut self,
+        _call: &Call,
+        _enter: Stamp,
+        _exit: Option<&Exit>,
+    ) -> Result<(), Infallible> {
+        self.on_waitany = self.on_waitany.saturating_add(1);
+        Ok(())
+    }
+
+    fn on_waitsome(
+        &mut self,
+        _call: &Call,
+        _enter: Stamp,
+        _exit: Option<&Exit>,
+    ) -> Result<(), Infallible> {
+        self.on_waitsome = self.on_waitsome.saturating_add(1);
+        Ok(())
+    }
+
+    fn on_test(
+        &mut self,
+        _call: &Call,
+        _enter: Stamp,
+        _exit: Option<&Exit>,
+    ) -> Result<(), Infallible> {
+        self.on_test = self.on_test.saturating_add(1);
+        Ok(())
+    }
+
+    fn on_collective(
+        &mut self,
+        _call: &Call,
+        _enter: Stamp,
+        _exit: Option<&Exit>,
+    ) -> Result<(), Infallible> {
+        self.on_collective = self.on_collective.saturating_add(1);
+        Ok(())
+    }
+
+    fn on_other(
+        &mut self,
+        _name: &[u8],
+        _call: &Call,
+        _enter: Stamp,
+        _exit: Option<&Exit>,
+    ) -> Result<(), Infallible> {
+        self.on_other = self.on_other.saturating_add(1);
+        Ok(())
+    }
+}

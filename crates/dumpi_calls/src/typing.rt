@@ -1,0 +1,310 @@
+//! The calls of a text, read by the parameters of their functions.
+//!
+//! A call is refused for the first of its function's parameters that is missing, entry parameters first, and only then
+//! for the first that is wrong. A sound call is read in one go, so that each parameter is looked up once; only for one
+//! that is refused it is asked what is missing.
+
+ghost use Rattle.std.specs.Prelude.{◌≡◌, ◌∷◌, [], IfOk, IsSome, None, OnOk};
+ghost use Rattle.dumpi_calls.specs.Outcomes.{brought_by};
+ghost use Rattle.dumpi_calls.specs.Readings.{AreThere, Reads};
+ghost use Rattle.dumpi_calls.specs.Rows.{HasItsKind, exit_in, first_missing, group_call, isend_call, irecv_call, missing_in, read_by, receive_parameters, recv_call, returned, rooted_call, row, send_call, send_parameters, test_call, typed_by, wait_call, waitall_call, waitany_call, waitsome_call};
+ghost use Rattle.mpi_model.specs.Ranges.{HasRoot};
+
+use crate::envelope::{asked_in, sendrecv_in, sent_in};
+use crate::function::Function;
+use crate::outcome::outcome;
+use crate::parameter::{CallFault, Parameter};
+use crate::reading::{comm, non_negative, number, requests, text_in};
+use dumpi_text::RawCall;
+use mpi_model::{Call, Collective, Exit, Kind, Mode, Stamp};
+use std::alloc::Global;
+
+/// A call with what it names, when it was entered, and how it returned, if it did.
+#[derive(Debug, Drop)]
+pub struct TypedCall {
+    pub call: Call,
+    pub enter: Stamp,
+    pub exit: Option<Exit>,
+}
+
+// the first of these parameters that isn't there
+fn first_of(raw: &RawCall, parameters: &[Parameter]) -> Option<Parameter>
+    ensures { result ≡ first_missing parameters.now raw.now }
+{
+    for parameter in parameters {
+        if text_in(raw, *parameter).is_none() {
+            return Some(*parameter);
+        }
+    }
+    None
+}
+
+// the first entry parameter of the row that isn't there
+fn entry_missing(function: Function, raw: &RawCall) -> Option<Parameter>
+    ensures { result ≡ first_missing (row function raw.now.name).entry raw.now }
+{
+    match function {
+        Function::Send(_) | Function::Isend(_) => first_of(
+            raw,
+            &[
+                Parameter::Count,
+                Parameter::Datatype,
+                Parameter::Dest,
+                Parameter::Tag,
+                Parameter::Comm,
+            ],
+        ),
+        Function::Recv | Function::Irecv => first_of(
+            raw,
+            &[
+                Parameter::Count,
+                Parameter::Datatype,
+                Parameter::Source,
+                Parameter::Tag,
+                Parameter::Comm,
+            ],
+        ),
+        Function::Sendrecv => first_of(
+            raw,
+            &[
+                Parameter::SendCount,
+                Parameter::SendType,
+                Parameter::Dest,
+                Parameter::SendTag,
+                Parameter::RecvCount,
+                Parameter::RecvType,
+                Parameter::Source,
+                Parameter::RecvTag,
+                Parameter::Comm,
+            ],
+        ),
+        Function::Wait | Function::Test => first_of(raw, &[Parameter::Request]),
+        Function::Waitall | Function::Waitany | Function::Waitsome => {
+            first_of(raw, &[Parameter::Requests])
+        }
+        Function::OfAll(_) => first_of(raw, &[Parameter::Comm]),
+        Function::Rooted(_) => first_of(raw, &[Parameter::Root, Parameter::Comm]),
+        Function::Finalize | Function::Other => None,
+    }
+}
+
+// the first outcome parameter of the row that isn't there
+fn outcome_missing(function: Function, raw: &RawCall) -> Option<Parameter>
+    ensures { result ≡ first_missing (row function raw.now.name).outcome raw.now }
+{
+    match function {
+        Function::Isend(_) | Function::Irecv => first_of(raw, &[Parameter::Request]),
+        Function::Waitany => first_of(raw, &[Parameter::Index]),
+        Function::Test => first_of(raw, &[Parameter::Flag]),
+        Function::Send(_) | Function::Recv | Function::Sendrecv => None,
+        Function::Wait | Function::Waitall | Function::Waitsome => None,
+        Function::OfAll(_) | Function::Rooted(_) => None,
+        Function::Finalize | Function::Other => None,
+    }
+}
+
+// the first parameter of the row that isn't there; outcome parameters are asked for where the call returned
+fn missing(function: Function, raw: &RawCall) -> Option<Parameter>
+    ensures { result ≡ missing_in (row function raw.now.name) raw.now }
+{
+    match entry_missing(function, raw) {
+        Some(parameter) => Some(parameter),
+        None => match raw.exit() {
+            Some(_) => outcome_missing(function, raw),
+            None => None,
+        },
+    }
+}
+
+#[tactic(auto, unfolding(crate::specs::Rows::send_call))]
+fn send(alloc: Global, mode: Mode, raw: &RawCall) -> Result<Call, CallFault>
+    ensures means { Reads result (send_call mode raw.now) }
+    ensures there { OnOk result (AreThere send_parameters raw.now) }
+    ensures brings { IfOk result (λ c. brought_by c ≡ []) }
+{
+    let envelope = sent_in(alloc, raw)?;
+    Ok(Call::Send(mode, envelope))
+}
+
+#[tactic(auto, unfolding(crate::specs::Rows::isend_call))]
+fn isend(alloc: Global, mode: Mode, raw: &RawCall) -> Result<Call, CallFault>
+    ensures means { Reads result (isend_call mode raw.now) }
+    ensures there { OnOk result (AreThere send_parameters raw.now) }
+    ensures brings { IfOk result (λ c. brought_by c ≡ Parameter.Request ∷ []) }
+{
+    let envelope = sent_in(alloc, raw)?;
+    Ok(Call::Isend(mode, envelope))
+}
+
+#[tactic(auto, unfolding(crate::specs::Rows::recv_call))]
+fn recv(alloc: Global, raw: &RawCall) -> Result<Call, CallFault>
+    ensures means { Reads result (recv_call raw.now) }
+    ensures there { OnOk result (AreThere receive_parameters raw.now) }
+    ensures brings { IfOk result (λ c. brought_by c ≡ []) }
+{
+    let envelope = asked_in(alloc, raw)?;
+    Ok(Call::Recv(envelope))
+}
+
+#[tactic(auto, unfolding(crate::specs::Rows::irecv_call))]
+fn irecv(alloc: Global, raw: &RawCall) -> Result<Call, CallFault>
+    ensures means { Reads result (irecv_call raw.now) }
+    ensures there { OnOk result (AreThere receive_parameters raw.now) }
+    ensures brings { IfOk result (λ c. brought_by c ≡ Parameter.Request ∷ []) }
+{
+    let envelope = asked_in(alloc, raw)?;
+    Ok(Call::Irecv(envelope))
+}
+
+#[tactic(auto, unfolding(crate::specs::Rows::wait_call))]
+fn wait(alloc: Global, raw: &RawCall) -> Result<Call, CallFault>
+    ensures means { Reads result (wait_call raw.now) }
+    ensures there { OnOk result (AreThere (Parameter.Request ∷ []) raw.now) }
+    ensures brings { IfOk result (λ c. brought_by c ≡ []) }
+{
+    let request = number(alloc, raw, Parameter::Request)?;
+    Ok(Call::Wait(request.value))
+}
+
+#[tactic(auto, unfolding(crate::specs::Rows::test_call))]
+fn test(alloc: Global, raw: &RawCall) -> Result<Call, CallFault>
+    ensures means { Reads result (test_call raw.now) }
+    ensures there { OnOk result (AreThere (Parameter.Request ∷ []) raw.now) }
+    ensures brings { IfOk result (λ c. brought_by c ≡ Parameter.Flag ∷ []) }
+{
+    let request = number(alloc, raw, Parameter::Request)?;
+    Ok(Call::Test(request.value))
+}
+
+#[tactic(auto, unfolding(crate::specs::Rows::waitall_call))]
+fn waitall(alloc: Global, raw: &RawCall) -> Result<Call, CallFault>
+    ensures means { Reads result (waitall_call raw.now) }
+    ensures there { OnOk result (AreThere (Parameter.Requests ∷ []) raw.now) }
+    ensures brings { IfOk result (λ c. brought_by c ≡ []) }
+{
+    let requests = requests(alloc, raw)?;
+    Ok(Call::Waitall(requests))
+}
+
+#[tactic(auto, unfolding(crate::specs::Rows::waitany_call))]
+fn waitany(alloc: Global, raw: &RawCall) -> Result<Call, CallFault>
+    ensures means { Reads result (waitany_call raw.now) }
+    ensures there { OnOk result (AreThere (Parameter.Requests ∷ []) raw.now) }
+    ensures brings { IfOk result (λ c. brought_by c ≡ Parameter.Index ∷ []) }
+{
+    let requests = requests(alloc, raw)?;
+    Ok(Call::Waitany(requests))
+}
+
+#[tactic(auto, unfolding(crate::specs::Rows::waitsome_call))]
+fn waitsome(alloc: Global, raw: &RawCall) -> Result<Call, CallFault>
+    ensures means { Reads result (waitsome_call raw.now) }
+    ensures there { OnOk result (AreThere (Parameter.Requests ∷ []) raw.now) }
+    ensures brings { IfOk result (λ c. brought_by c ≡ []) }
+{
+    let requests = requests(alloc, raw)?;
+    Ok(Call::Waitsome(requests))
+}
+
+#[tactic(auto, unfolding(crate::specs::Rows::group_call))]
+fn of_all(alloc: Global, kind: Kind, raw: &RawCall) -> Result<Call, CallFault>
+    requires { ¬ (HasRoot kind) }
+    ensures means { Reads result (group_call kind raw.now) }
+    ensures there { OnOk result (AreThere (Parameter.Comm ∷ []) raw.now) }
+    ensures brings { IfOk result (λ c. brought_by c ≡ []) }
+{
+    let comm = comm(alloc, raw)?;
+    Ok(Call::Collective(Collective::new(kind, None, comm).unwrap()))
+}
+
+#[tactic(auto, unfolding(crate::specs::Rows::rooted_call))]
+fn rooted(alloc: Global, kind: Kind, raw: &RawCall) -> Result<Call, CallFault>
+    requires { HasRoot kind }
+    ensures means { Reads result (rooted_call kind raw.now) }
+    ensures there { OnOk result (AreThere (Parameter.Root ∷ Parameter.Comm ∷ []) raw.now) }
+    ensures brings { IfOk result (λ c. brought_by c ≡ []) }
+{
+    let root = non_negative(alloc, raw, Parameter::Root)?;
+    let comm = comm(alloc, raw)?;
+    Ok(Call::Collective(Collective::new(kind, Some(root), comm).unwrap()))
+}
+
+// the call by the entry parameters of its row
+fn call_in(alloc: Global, function: Function, raw: &RawCall) -> Result<Call, CallFault>
+    requires { HasItsKind function }
+    ensures means { Reads result ((row function raw.now.name).call raw.now) }
+    ensures there { OnOk result (AreThere (row function raw.now.name).entry raw.now) }
+    ensures brings { IfOk result (λ c. brought_by c ≡ (row function raw.now.name).outcome) }
+{
+    match function {
+        Function::Send(mode) => send(alloc, mode, raw),
+        Function::Isend(mode) => isend(alloc, mode, raw),
+        Function::Recv => recv(alloc, raw),
+        Function::Irecv => irecv(alloc, raw),
+        Function::Sendrecv => sendrecv_in(alloc, raw),
+        Function::Wait => wait(alloc, raw),
+        Function::Waitall => waitall(alloc, raw),
+        Function::Waitany => waitany(alloc, raw),
+        Function::Waitsome => waitsome(alloc, raw),
+        Function::Test => test(alloc, raw),
+        Function::OfAll(kind) => of_all(alloc, kind, raw),
+        Function::Rooted(kind) => rooted(alloc, kind, raw),
+        Function::Finalize => Ok(Call::Finalize),
+        Function::Other => Ok(Call::Local),
+    }
+}
+
+// how a call returned, at this time
+#[tactic(auto, unfolding(crate::specs::Rows::returned))]
+fn exit_at(alloc: Global, call: &Call, stamp: Stamp, raw: &RawCall) -> Result<Exit, CallFault>
+    ensures means { Reads result (returned call.now stamp raw.now) }
+    ensures there { OnOk result (AreThere (brought_by call.now) raw.now) }
+{
+    let outs = outcome(alloc, call, raw)?;
+    Ok(Exit { outs, stamp })
+}
+
+// how a call returned, if it did
+fn exit_of(alloc: Global, call: &Call, raw: &RawCall) -> Result<Option<Exit>, CallFault>
+    ensures means { Reads result (exit_in call.now raw.now.exit raw.now) }
+    ensures there { IsSome raw.now.exit → OnOk result (AreThere (brought_by call.now) raw.now) }
+{
+    match raw.exit() {
+        None => Ok(None),
+        Some(stamp) => match exit_at(alloc, call, stamp, raw) {
+            Ok(exit) => Ok(Some(exit)),
+            Err(fault) => Err(fault),
+        },
+    }
+}
+
+// the call and its exit, read in one go
+#[tactic(auto, unfolding(crate::specs::Rows::read_by), using(crate::proofs::Missing::none_missing))]
+fn read(alloc: Global, function: Function, raw: &RawCall) -> Result<TypedCall, CallFault>
+    requires { HasItsKind function }
+    ensures means { Reads result (read_by (row function raw.now.name) raw.now) }
+    ensures there { OnOk result (missing_in (row function raw.now.name) raw.now ≡ None) }
+{
+    let call = call_in(alloc, function, raw)?;
+    let exit = exit_of(alloc, &call, raw)?;
+    Ok(TypedCall {
+        call,
+        enter: raw.enter(),
+        exit,
+    })
+}
+
+/// The call that a text tells, by the row of its function.
+pub fn typed_call(alloc: Global, function: Function, raw: &RawCall) -> Result<TypedCall, CallFault>
+    requires { HasItsKind function }
+    ensures means { Reads result (typed_by (row function raw.now.name) raw.now) }
+{
+    match read(alloc, function, raw) {
+        Ok(call) => Ok(call),
+        Err(CallFault::Memory) => Err(CallFault::Memory),
+        Err(fault) => match missing(function, raw) {
+            Some(parameter) => Err(CallFault::Missing(parameter)),
+            None => Err(fault),
+        },
+    }
+}

@@ -1,0 +1,175 @@
+//! A walk over the calls of a text.
+
+ghost use Rattle.std.specs.Prelude.{◌≡◌, ◌<◌, ◌≤◌, ℕ, List, Option, Err, Ok, Some, None, IfErr, IfOk, IfSome, OnErr};
+ghost use Rattle.dumpi_text.specs.Call.{TextCall};
+ghost use Rattle.dumpi_calls.specs.Rows.{row_of, typed, typed_by, row, HasItsKind};
+ghost use Rattle.dumpi_calls.specs.Walks.{Follows, IsRead, IsStopped, IsWalked, LacksNext, RefusesCall, RefusesNext, StopsWalk, Takes, lacks_exit};
+
+use crate::fault::{WalkCause, WalkFault};
+use crate::function::function_of;
+use crate::parameter::CallFault;
+use crate::sink::{CallSink, hand_on};
+use crate::typing::typed_call;
+use dumpi_text::{LineFault, RawCall, TextCause, TextFault, Texts, reading_call_by_call};
+use mpi_model::Read;
+use std::alloc::Global;
+
+/// A text that was walked to its end.
+#[derive(Clone, Copy, Debug, PartialEq, Eq)]
+pub struct Walked {
+    /// How many calls were handed on: all of the text's.
+    pub calls: u64,
+    /// How many nonblank lines were skipped.
+    pub skipped: u64,
+    /// Whether the text ends before its last call has returned.
+    pub unfinished: bool,
+}
+
+// Why a call is refused. One that was cut off before its last entry parameter was written is a truncated text.
+fn refusal<F: Drop>(raw: &RawCall, fault: CallFault, calls: u64) -> WalkFault<F>
+    ensures cause { typed raw.now ≡ Err fault → RefusesCall raw.now result.cause result.line }
+    ensures memory { fault ≡ CallFault.Memory → RefusesCall raw.now result.cause result.line }
+    ensures calls { result.calls ≡ calls }
+{
+    match fault {
+        CallFault::Memory => WalkFault {
+            cause: WalkCause::Memory,
+            line: raw.line(),
+            calls,
+        },
+        CallFault::Wrong(parameter) => WalkFault {
+            cause: WalkCause::Wrong(parameter),
+            line: raw.line(),
+            calls,
+        },
+        CallFault::Missing(parameter) => match raw.exit() {
+            Some(_) => WalkFault {
+                cause: WalkCause::Missing(parameter),
+                line: raw.line(),
+                calls,
+            },
+            None => WalkFault {
+                cause: WalkCause::Text(TextFault::At {
+                    line: raw.last_line(),
+                    cause: TextCause::Line(LineFault::Truncated),
+                }),
+                line: raw.last_line(),
+                calls,
+            },
+        },
+    }
+}
+
+// reads a call's parameters and hands it on
+fn take<S: CallSink>(
+    alloc: Global,
+    raw: &RawCall,
+    sink: &mut S,
+    calls: u64,
+) -> Result<(), WalkFault<S::Fault>>
+    ensures ok { IfOk result (λ done. Takes S.step raw.now sink.old sink.new) }
+    ensures err { IfErr result (λ fault. RefusesCall raw.now fault.cause fault.line) }
+    ensures calls { IfErr result (λ fault. fault.calls ≡ calls) }
+    ensures unchanged { OnErr result (sink.new ≡ sink.old) }
+{
+    let function = function_of(raw.name());
+    match typed_call(alloc, function, raw) {
+        Err(fault) => Err(refusal(raw, fault, calls)),
+        Ok(call) => match hand_on(sink, function, raw.name(), &call) {
+            Ok(()) => Ok(()),
+            Err(fault) => Err(WalkFault {
+                cause: WalkCause::Sink(fault),
+                line: raw.line(),
+                calls,
+            }),
+        },
+    }
+}
+
+// whether a call has not returned
+fn is_open(raw: &RawCall) -> bool
+    ensures { result ≡ lacks_exit raw.now.exit }
+{
+    match raw.exit() {
+        None => true,
+        Some(_) => false,
+    }
+}
+
+// the next call of the text
+fn next_of<R: Read>(texts: &mut Texts<R>) -> Result<Option<RawCall>, TextFault>
+    ensures goes_on { (text : Option (List ℕ)) (calls : List TextCall) → IsRead text calls texts.old → IfOk result (λ found. Follows text calls found texts.new) }
+    ensures stops { (text : Option (List ℕ)) (calls : List TextCall) → IsRead text calls texts.old → IfErr result (λ fault. RefusesNext text calls fault texts.new.told.line) }
+    ensures progress { IfOk result (λ found. IfSome found (λ call. texts.old.at.line < texts.new.at.line)) }
+    ensures lines { texts.new.at.line ≤ 16777216 }
+{
+    reading_call_by_call();
+    match texts.next_raw() {
+        Ok(next) => Ok(next),
+        Err(fault) => Err(fault),
+    }
+}
+
+// why a text has no next call
+fn lack<F: Drop>(fault: TextFault, line: u64, calls: u64) -> WalkFault<F>
+    ensures cause { (text : Option (List ℕ)) (before : List TextCall) → RefusesNext text before fault line → LacksNext text before result.cause result.line }
+    ensures calls { result.calls ≡ calls }
+{
+    match fault {
+        TextFault::Memory | TextFault::Ended => WalkFault {
+            cause: WalkCause::Memory,
+            line,
+            calls,
+        },
+        TextFault::At { .. } => WalkFault {
+            cause: WalkCause::Text(fault),
+            line,
+            calls,
+        },
+    }
+}
+
+/// Hands the calls of a text to a sink, in order, each by the callback of its function, up to the first that can't be
+/// read or that the sink refuses. The text is read in one pass, and memory doesn't grow with it.
+pub fn walk<R: Read, S: CallSink>(
+    alloc: Global,
+    reader: R,
+    sink: &mut S,
+) -> Result<Walked, WalkFault<S::Fault>>
+    ensures ok { IfOk result (λ walked. IsWalked S.step (R.left reader) sink.old sink.new walked) }
+    ensures err { IfErr result (λ fault. IsStopped S.step (R.left reader) sink.old sink.new fault) }
+{
+    reading_call_by_call();
+    let mut calls: u64 = 0;
+    let mut unfinished = false;
+    let mut texts = match Texts::new(alloc, reader) {
+        Ok(texts) => texts,
+        Err(_) => {
+            return Err(WalkFault {
+                cause: WalkCause::Memory,
+                line: 0,
+                calls,
+            });
+        }
+    };
+    loop {
+        match next_of(&mut texts) {
+            Ok(Some(raw)) => {
+                match take(alloc, &raw, sink, calls) {
+                    Ok(()) => {}
+                    Err(fault) => return Err(fault),
+                }
+                calls += 1;
+                unfinished = is_open(&raw);
+            }
+            Ok(None) => {
+                return Ok(Walked {
+                    calls,
+                    skipped: texts.skipped(),
+                    unfinished,
+                });
+            }
+            Err(fault) => return Err(lack(fault, texts.line(), calls)),
+        }
+    }
+}

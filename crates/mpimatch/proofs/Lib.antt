@@ -1,6 +1,0 @@
-pub mod Cuts
-pub mod Events
-pub mod Reading
-pub mod Told
-pub mod Traces
-mod Refusals

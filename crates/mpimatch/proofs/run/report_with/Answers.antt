@@ -1,9 +1,0 @@
-use Rattle.std.proofs.Common.{ℕ, List, Option, inl, inr, subst}
-use Rattle.input_files.specs.Manifests.{RefusesManifest}
-use Rattle.mpimatch.specs.Inputs.{RefusesInput}
-use Rattle.mpimatch.proofs.run.report_with.Goals as goal
-
-pub returns-in-Err-manifest_at-clause-err : goal.returns-in-Err-manifest_at-clause-err
-returns-in-Err-manifest_at-clause-err g c =
-    inr (inr (inl (subst (λ (file : List ℕ → Option (List ℕ)). RefusesInput RefusesManifest c.args.manifest.now (file c.args.manifest.now) c.in-Err-manifest_at.fault)
-    c.in-Ok.ensures.same c.in-Err-manifest_at.ensures.err)))

@@ -1,9 +1,0 @@
-pub mod FaultLines
-pub mod Files
-pub mod Inputs
-pub mod Pieces
-pub mod Report
-pub mod Typed
-pub mod Runs
-pub mod Shown
-pub mod Whole

@@ -1,0 +1,105 @@
+-- The counts of a run as its cells change.
+use Rattle.std.proofs.Common.{◌≡◌, ℕ, ◌+◌, ◌<◌, ◌≤◌, suc, zero, min, true, false, List, [], ◌∷◌, ◌++◌, length, map, refl, sym, ap, ◌∙◌, arith}
+use Rattle.std.specs.Prelude.{slice_set, slice_index_or}
+use Rattle.mpi_model.specs.declared.event.Event.{Event}
+use Rattle.trace_know.specs.declared.cell.Known.{Known}
+use Rattle.trace_know.specs.declared.cell.Known.TheVariants.{One, Contradiction}
+use Rattle.trace_know.specs.Cell.{is_contradiction}
+use Rattle.trace_know.specs.Runs.{before_conflict, conflicts_among}
+
+pub set-same : {X : Type 0} (xs : List X) (i : ℕ) (x : X) → i < length xs → x ≡ slice_index_or xs i x → slice_set xs i x ≡ xs
+set-same [] i x h is = refl
+set-same (y ∷ ys) zero x h is = λ j. is j ∷ ys
+set-same (y ∷ ys) (suc i) x h is = ap (λ zs. y ∷ zs) (set-same ys i x (omega arith) is)
+
+pub before-le : (ks : List Known) → before_conflict ks ≤ length ks
+before-le [] = omega arith
+before-le (One e ∷ ks) = omega (arith, before-le ks)
+before-le (Contradiction ∷ ks) = omega arith
+
+pub conflicts-most : (ks : List Known) → conflicts_among ks ≤ length ks
+conflicts-most [] = omega arith
+conflicts-most (One e ∷ ks) = omega (arith, conflicts-most ks)
+conflicts-most (Contradiction ∷ ks) = omega (arith, conflicts-most ks)
+
+-- where all are sound, none is a contradiction
+pub whole : (ks : List Known) → before_conflict ks ≡ length ks → conflicts_among ks ≡ 0
+whole [] h = refl
+whole (One e ∷ ks) h = whole ks (omega arith)
+whole (Contradiction ∷ ks) h = absurd (omega arith)
+
+-- ---- one cell turned
+
+pub before-turned : (ks : List Known) (i : ℕ) → i < length ks → is_contradiction (slice_index_or ks i Contradiction) ≡ false → before_conflict (slice_set ks i Contradiction) ≡ min (before_conflict ks) i
+before-turned [] i h one = absurd (omega arith)
+before-turned (One e ∷ ks) zero h one = omega arith
+before-turned (Contradiction ∷ ks) zero h one = absurd cc
+before-turned (One e ∷ ks) (suc i) h one = let rest = before-turned ks i (omega arith) one in omega arith
+before-turned (Contradiction ∷ ks) (suc i) h one = omega arith
+
+pub conflicts-turned : (ks : List Known) (i : ℕ) → i < length ks → is_contradiction (slice_index_or ks i Contradiction) ≡ false → (conflicts_among (slice_set ks i Contradiction) ≡ conflicts_among ks + 1) × (conflicts_among ks < length ks)
+conflicts-turned [] i h one = absurd (omega arith)
+conflicts-turned (One e ∷ ks) zero h one = let most = conflicts-most ks in (omega arith, omega arith)
+conflicts-turned (Contradiction ∷ ks) zero h one = absurd cc
+conflicts-turned (One e ∷ ks) (suc i) h one = let rest = conflicts-turned ks i (omega arith) one in (rest.0, omega (arith, rest.1))
+conflicts-turned (Contradiction ∷ ks) (suc i) h one = let rest = conflicts-turned ks i (omega arith) one in (omega (arith, rest.0), omega (arith, rest.1))
+
+-- ---- one cell more
+
+pub before-short : (ks : List Known) (k : Known) → before_conflict ks < length ks → before_conflict (ks ++ k ∷ []) ≡ before_conflict ks
+before-short [] k h = absurd (omega arith)
+before-short (One e ∷ ks) k h = ap (λ n. suc n) (before-short ks k (omega arith))
+before-short (Contradiction ∷ ks) k h = refl
+
+pub before-conflict : (ks : List Known) (k : Known) → is_contradiction k ≡ true → before_conflict (ks ++ k ∷ []) ≡ before_conflict ks
+before-conflict [] (One e) h = absurd cc
+before-conflict [] Contradiction h = refl
+before-conflict (One e ∷ ks) k h = ap (λ n. suc n) (before-conflict ks k h)
+before-conflict (Contradiction ∷ ks) k h = refl
+
+pub before-more : (ks : List Known) (k : Known) → is_contradiction k ≡ false → before_conflict ks ≡ length ks → before_conflict (ks ++ k ∷ []) ≡ before_conflict ks + 1
+before-more [] (One e) h is = refl
+before-more [] Contradiction h is = absurd cc
+before-more (One e ∷ ks) k h is = let rest = before-more ks k h (omega arith) in omega arith
+before-more (Contradiction ∷ ks) k h is = absurd (omega arith)
+
+pub conflicts-back : (ks : List Known) (k : Known) → conflicts_among (ks ++ k ∷ []) ≡ conflicts_among (k ∷ ks)
+conflicts-back [] k = refl
+conflicts-back (One e ∷ ks) (One f) = conflicts-back ks (One f)
+conflicts-back (One e ∷ ks) Contradiction = conflicts-back ks Contradiction
+conflicts-back (Contradiction ∷ ks) (One f) = ap (λ n. suc n) (conflicts-back ks (One f))
+conflicts-back (Contradiction ∷ ks) Contradiction = ap (λ n. suc n) (conflicts-back ks Contradiction)
+
+pub conflicts-front : (ks : List Known) (k : Known) → is_contradiction k ≡ true → conflicts_among (k ∷ ks) ≡ conflicts_among ks + 1
+conflicts-front ks (One e) h = absurd cc
+conflicts-front ks Contradiction h = omega arith
+
+pub conflicts-still : (ks : List Known) (k : Known) → is_contradiction k ≡ false → conflicts_among (k ∷ ks) ≡ conflicts_among ks
+conflicts-still ks (One e) h = refl
+conflicts-still ks Contradiction h = absurd cc
+
+pub before-none : (ks : List Known) (k : Known) → is_contradiction k ≡ true → before_conflict (k ∷ ks) ≡ 0
+before-none ks (One e) h = absurd cc
+before-none ks Contradiction h = refl
+
+pub before-front : (ks : List Known) (k : Known) → is_contradiction k ≡ false → before_conflict (k ∷ ks) ≡ before_conflict ks + 1
+before-front ks (One e) h = omega arith
+before-front ks Contradiction h = absurd cc
+
+pub before-events : (es : List Event) → before_conflict (map (λ e. One e) es) ≡ length es
+before-events [] = refl
+before-events (e ∷ es) = ap (λ n. suc n) (before-events es)
+
+pub conflicts-events : (es : List Event) → conflicts_among (map (λ e. One e) es) ≡ 0
+conflicts-events [] = refl
+conflicts-events (e ∷ es) = conflicts-events es
+
+pub length-ones : (es : List Event) → length (map (λ e. One e) es) ≡ length es
+length-ones [] = refl
+length-ones (e ∷ es) = ap (λ n. suc n) (length-ones es)
+
+-- cells that are all one event
+pub events-counted : (es : List Event) (ks : List Known) → ks ≡ map (λ e. One e) es → (before_conflict ks ≡ length ks) × (conflicts_among ks ≡ 0)
+events-counted es ks is =
+    let lengths : length ks ≡ length es = ap length is ∙ length-ones es in
+    (ap before_conflict is ∙ before-events es ∙ sym lengths, ap conflicts_among is ∙ conflicts-events es)

@@ -1,0 +1,8 @@
+use Rattle.std.proofs.Common.{sym, ap, ◌∙◌}
+use Rattle.std.specs.FinMap.{entries}
+use Rattle.trace_know.specs.Runs.{listed}
+use Rattle.trace_know.proofs.Listing.{entries-listed}
+use Rattle.trace_know.proofs.knowledge.Knowledge.cells.Goals as goal
+
+pub returns : goal.returns
+returns c = c.new.ensures ∙ ap listed c.deref.ensures.value ∙ sym (entries-listed c.self.inside.runs.items c.self.invariant.above) ∙ ap entries c.self.view_is

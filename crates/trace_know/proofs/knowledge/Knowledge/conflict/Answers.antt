@@ -1,0 +1,12 @@
+use Rattle.std.proofs.Common.{List, sym, ap, ◌∙◌}
+use Rattle.std.specs.List.{slice_get}
+use Rattle.std.specs.FinMap.{entries}
+use Rattle.trace_know.specs.declared.run.Run.{Run}
+use Rattle.trace_know.specs.Listing.{conflicts_in}
+use Rattle.trace_know.specs.Runs.{listed}
+use Rattle.trace_know.proofs.Listing.{entries-listed}
+use Rattle.trace_know.proofs.knowledge.Knowledge.conflict.Goals as goal
+
+pub returns : goal.returns
+returns c = c.conflict_in.ensures ∙ ap (λ (rs : List Run). slice_get (conflicts_in (listed rs)) c.args.i) c.deref.ensures.value
+    ∙ ap (λ es. slice_get (conflicts_in es) c.args.i) (sym (entries-listed c.self.inside.runs.items c.self.invariant.above) ∙ ap entries c.self.view_is)

@@ -1,0 +1,8 @@
+use Rattle.std.proofs.Common.{◌≡◌, drop}
+use Rattle.std.specs.List.{slice_get}
+use Rattle.trace_know.specs.Listing.{conflicts_in}
+use Rattle.trace_know.specs.Runs.{listed}
+use Rattle.trace_know.proofs.readers.conflict_in.Given as goal
+
+abbrev pub invariant-loop-run : goal.invariant-loop-run
+invariant-loop-run l = slice_get (conflicts_in (listed (drop l.run-index l.runs))) l.left ≡ slice_get (conflicts_in (listed l.runs)) l.i

@@ -1,0 +1,7 @@
+use Rattle.std.proofs.Common.{◌≡◌, ◌+◌, length, drop}
+use Rattle.trace_know.specs.Listing.{conflicts_in}
+use Rattle.trace_know.specs.Runs.{listed}
+use Rattle.trace_know.proofs.readers.count_conflicts.Given as goal
+
+abbrev pub invariant-loop-run : goal.invariant-loop-run
+invariant-loop-run l = l.count + length (conflicts_in (listed (drop l.run-index l.runs))) ≡ length (conflicts_in (listed l.runs))

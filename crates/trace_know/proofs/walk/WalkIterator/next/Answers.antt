@@ -1,0 +1,32 @@
+use Rattle.std.proofs.Common.{◌≡◌, ℕ, ◌+◌, ◌<◌, List, ◌∷◌, drop, length, sym, ap, ◌∙◌, arith}
+use Rattle.trace_know.specs.declared.cell.Known.{Known}
+use Rattle.trace_know.specs.Runs.{listed}
+use Rattle.trace_know.proofs.Walks.{walk-left, walk-turned, within_first, shorter}
+use Rattle.trace_know.proofs.walk.WalkIterator.next.Goals as goal
+
+pub returns-then-self-len-clause-steps : goal.returns-then-self-len-clause-steps
+returns-then-self-len-clause-steps c =
+    let run = c.in_ok-run.run'.now in
+    let runs = c.self.inside.runs.now in
+    let at = c.self.inside.at in
+    let known = c.index-known.result.now in
+    sym c.self.view_is ∙ walk-left runs run c.in_ok-run.rest.now at known c.in_ok-run.ensures.cases.0 (omega arith)
+    ∙ ap (λ (k : Known). ((run.rank, run.first + at), k) ∷ drop (at + 1) (listed runs)) (sym c.index-known.ensures)
+
+pub returns-then-self-len-clause-goes : goal.returns-then-self-len-clause-goes
+returns-then-self-len-clause-goes c = record { on = λ finite. (tt, finite, shorter _ _ _ (returns-then-self-len-clause-steps c)); keeps = tt; rests = λ finite. tt }
+
+pub returns-clause-steps : goal.returns-clause-steps
+returns-clause-steps c =
+    let run = c.in_ok-run.run'.now in
+    let runs = c.self.inside.runs.now in
+    let rest = c.in_ok-run.rest.now in
+    let at = c.self.inside.at in
+    let known = c.index-known.result.now in
+    let within : at < length run.cells.items = within_first runs run rest at c.in_ok-run.ensures.cases.0 c.self.invariant in
+    sym c.self.view_is ∙ walk-left runs run rest at known c.in_ok-run.ensures.cases.0 within
+    ∙ ap (λ (k : Known). ((run.rank, run.first + at), k) ∷ drop (at + 1) (listed runs)) (sym c.index-known.ensures)
+    ∙ ap (λ (es : List ((ℕ × ℕ) × Known)). ((run.rank, run.first + at), known) ∷ es) (walk-turned runs run rest at c.in_ok-run.ensures.cases.0 (omega arith))
+
+pub returns-clause-goes : goal.returns-clause-goes
+returns-clause-goes c = record { on = λ finite. (tt, finite, shorter _ _ _ (returns-clause-steps c)); keeps = tt; rests = λ finite. tt }

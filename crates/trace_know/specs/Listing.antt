@@ -1,0 +1,22 @@
+-- The cells of a view one after another, in rising order of rank and place.
+use Rattle.std.specs.Prelude.{ℕ, Option, Some, List, filter, map}
+use Rattle.std.specs.FinMap.{entries}
+use Rattle.trace_know.specs.declared.cell.Known.{Known}
+use Rattle.trace_know.specs.Cell.{is_contradiction}
+use Rattle.trace_know.specs.View.{View}
+
+-- an entry of a view, as a reader shows it
+abbrev pub as_shown : (ℕ × ℕ) × Known → (ℕ × ℕ) × Option Known
+as_shown e = (e.0, Some e.1)
+
+-- the cells that are not nothing
+abbrev pub cells_of : View → List ((ℕ × ℕ) × Option Known)
+cells_of view = map as_shown (entries view)
+
+-- the places with a contradiction among these, in their order
+abbrev pub conflicts_in : List ((ℕ × ℕ) × Known) → List (ℕ × ℕ)
+conflicts_in es = map (λ e. e.0) (filter (λ e. is_contradiction e.1) es)
+
+-- the places with a contradiction
+abbrev pub conflicts_of : View → List (ℕ × ℕ)
+conflicts_of view = conflicts_in (entries view)

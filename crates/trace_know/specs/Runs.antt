@@ -1,0 +1,120 @@
+-- Runs.
+use Rattle.std.specs.Prelude.{◌≡◌, ℕ, suc, Some, ◌+◌, ◌*◌, ◌^◌, ◌<◌, ◌≤◌, ⊤, List, [], ◌∷◌, ◌++◌, length}
+use Rattle.std.specs.List.{slice_get}
+use Rattle.std.specs.FinMap.{empty, get, len}
+use Rattle.trace_know.specs.declared.cell.Known.{Known}
+use Rattle.trace_know.specs.declared.cell.Known.TheVariants.{One, Contradiction}
+use Rattle.trace_know.specs.declared.run.Run.{Run}
+use Rattle.trace_know.specs.View.{View, join}
+use Rattle.trace_know.specs.Rows.{row}
+use Rattle.trace_know.specs.Cell.{IsAtMost}
+use Rattle.trace_know.specs.Placed.{IsKnowledge}
+
+-- the view of a run
+abbrev pub of_run : Run → View
+of_run run = row run.rank run.first run.cells.items
+
+-- the view of runs
+abbrev pub of_runs : List Run → View
+of_runs [] = empty
+of_runs (run ∷ runs) = join (of_run run) (of_runs runs)
+
+-- the places of all ranks on one line, with a gap between one rank's last place and the next rank's first
+abbrev pub spot : ℕ → ℕ → ℕ
+spot rank place = rank * 2 ^ 41 + place + 1
+
+abbrev pub start_of : Run → ℕ
+start_of run = spot run.rank run.first
+
+abbrev pub end_of : Run → ℕ
+end_of run = spot run.rank (run.first + length run.cells.items)
+
+-- how many cells stand before the first contradiction
+abbrev pub before_conflict : List Known → ℕ
+before_conflict [] = 0
+before_conflict (One event ∷ cells) = suc (before_conflict cells)
+before_conflict (Contradiction ∷ cells) = 0
+
+-- how many of the cells are contradictions
+abbrev pub conflicts_among : List Known → ℕ
+conflicts_among [] = 0
+conflicts_among (One event ∷ cells) = conflicts_among cells
+conflicts_among (Contradiction ∷ cells) = suc (conflicts_among cells)
+
+-- the run's counts are those of its cells
+pub record IsCounted (run : Run) : Type 0 where
+  pub sound : run.sound ≡ before_conflict run.cells.items
+  pub conflicts : run.conflicts ≡ conflicts_among run.cells.items
+
+-- the run has cells, all at places of a trace, and counts them rightly
+pub record IsFilled (run : Run) : Type 0 where
+  pub some : 0 < length run.cells.items
+  pub places : run.first + length run.cells.items ≤ 2 ^ 40
+  pub counted : IsCounted run
+
+-- the runs rise from a spot on, with a gap before each
+abbrev pub Above : ℕ → List Run → Type 0
+Above low [] = ⊤
+Above low (run ∷ runs) = (low < start_of run) × IsFilled run × Above (end_of run) runs
+
+-- where the last of the runs ends
+abbrev pub last_end : ℕ → List Run → ℕ
+last_end low [] = low
+last_end low (run ∷ runs) = last_end (end_of run) runs
+
+-- the run can be joined to one that is at least as long and has room from a lowest place on
+pub record Joins (rank first end room most low : ℕ) (run : Run) : Type 0 where
+  pub ranked : run.rank ≡ rank
+  pub before : run.first ≤ end
+  pub behind : first ≤ run.first + length run.cells.items
+  pub floor : low ≤ run.first
+  pub ceiling : run.first + length run.cells.items ≤ low + room
+  pub shorter : length run.cells.items ≤ most
+
+-- the runs have the same cells at the same places
+pub record IsAlike (one other : Run) : Type 0 where
+  pub rank : one.rank ≡ other.rank
+  pub first : one.first ≡ other.first
+  pub cells : one.cells.items ≡ other.cells.items
+  pub sound : one.sound ≡ other.sound
+  pub conflicts : one.conflicts ≡ other.conflicts
+
+-- the cells of a rank from a place on, each with its rank and place
+abbrev pub placed_cells : ℕ → ℕ → List Known → List ((ℕ × ℕ) × Known)
+placed_cells rank place [] = []
+placed_cells rank place (known ∷ cells) = ((rank, place), known) ∷ placed_cells rank (place + 1) cells
+
+-- the cells of runs, in their order
+abbrev pub listed : List Run → List ((ℕ × ℕ) × Known)
+listed [] = []
+listed (run ∷ runs) = placed_cells run.rank run.first run.cells.items ++ listed runs
+
+-- the lists have the same runs
+abbrev pub AreAlike : List Run → List Run → Type 0
+AreAlike [] [] = ⊤
+AreAlike [] (run ∷ runs) = ⊥
+AreAlike (run ∷ runs) [] = ⊥
+AreAlike (one ∷ ones) (other ∷ others) = IsAlike one other × AreAlike ones others
+
+-- the run has what is known of a rank from place 0 on, up to the first place of which nothing is known
+pub record IsFront (runs : List Run) (rank : ℕ) (run : Run) : Type 0 where
+  pub cells : (place : ℕ) → place ≤ length run.cells.items → get (of_runs runs) (rank, place) ≡ slice_get run.cells.items place
+  pub counted : IsCounted run
+
+-- the view has at least what each of the entries has
+abbrev pub AllHeld : List ((ℕ × ℕ) × Known) → View → Type 0
+AllHeld [] view = ⊤
+AllHeld (e ∷ es) view = IsAtMost (Some e.1) (get view e.0) × AllHeld es view
+
+-- a walk stands before a cell of the first of rising runs, or there are none
+abbrev pub IsWalk : ℕ → List Run → Type 0
+IsWalk at [] = at ≡ 0
+IsWalk at (run ∷ runs) = (at < length run.cells.items) × ((low : ℕ) × Above low (run ∷ runs))
+
+-- What holds of the runs of every knowledge: they rise, their cells stand at places that a trace can have, and are no
+-- more than a number that fits a `usize`.
+pub record IsHeld (most : ℕ) (runs : List Run) : Type 0 where
+  pub above : Above 0 runs
+  pub placed : IsKnowledge (of_runs runs)
+  pub few : len (of_runs runs) ≤ most
+  pub fits : most < 2 ^ 64

@@ -1,0 +1,62 @@
+//! Comparing what is known, cell by cell, by walks.
+
+ghost use Rattle.std.specs.Prelude.{◌≡◌, ◌↔◌, ℕ, Some, IsTrue};
+ghost use Rattle.std.specs.Option.{option_map, option_copied};
+ghost use Rattle.trace_know.specs.Cell.{IsAtMost};
+ghost use Rattle.trace_know.specs.declared.cell.Known.{Known as KnownValue};
+ghost use Rattle.trace_know.specs.Runs.{Above, AllHeld, of_runs};
+
+use crate::cell::Known;
+use crate::readers::known_in;
+use crate::run::Run;
+use crate::walk::Walk;
+
+/// Whether both walks have the same cells.
+pub(crate) fn same_cells(ones: Walk<'_>, others: Walk<'_>) -> bool
+    ensures { IsTrue result ↔ (ones.entry ≡ others.entry) }
+{
+    let mut ones = ones;
+    let mut others = others;
+    while let Some(one) = ones.next() {
+        if !is_cell(others.next(), one) {
+            return false;
+        }
+    }
+    others.next().is_none()
+}
+
+/// Whether there is a cell, and it is the other.
+fn is_cell(found: Option<(u32, u64, &Known)>, cell: (u32, u64, &Known)) -> bool
+    ensures { IsTrue result ↔ (option_map {U = (ℕ × ℕ) × KnownValue} (λ e. ((e.0, e.1), e.2.now)) found.entry ≡ Some ((cell.entry.0, cell.entry.1), cell.entry.2.now)) }
+{
+    match found {
+        Some((rank, place, known)) => { rank == cell.0 && place == cell.1 && known.same(cell.2) }
+        None => false,
+    }
+}
+
+/// Whether what is held of a place is no less than what is known of it elsewhere.
+fn is_held(held: Option<&Known>, known: &Known) -> bool
+    ensures { IsTrue result ↔ IsAtMost (Some known.now) (option_copied held.entry) }
+{
+    match (held, known) {
+        (None, _) => false,
+        (Some(Known::Contradiction), _) => true,
+        (Some(Known::One(_)), Known::Contradiction) => false,
+        (Some(Known::One(event)), Known::One(other)) => event.same(other),
+    }
+}
+
+/// Whether runs hold all cells of a walk.
+pub(crate) fn holds_all(runs: &[Run], others: Walk<'_>) -> bool
+    requires { Above 0 runs.now }
+    ensures { IsTrue result ↔ AllHeld others.entry (of_runs runs.now) }
+{
+    let mut others = others;
+    while let Some((rank, place, known)) = others.next() {
+        if !is_held(known_in(runs, rank, place), known) {
+            return false;
+        }
+    }
+    true
+}

@@ -1,0 +1,337 @@
+//! A run: cells of one rank without a gap, and how it takes in another.
+
+ghost use Rattle.std.specs.Prelude.{◌≡◌, ◌+◌, ◌-◌, ◌<◌, ◌≤◌, ◌^◌, ◌++◌, length, min, max, ℕ, true, false, if◌then◌else◌, IfOk, OnOk, OnErr, IsTrue, IsFalse, slice_set, slice_index_or, map, [], ◌∷◌};
+ghost use Rattle.std.specs.VecDeque.{deque_len, deque_capacity};
+ghost use Rattle.trace_know.specs.declared.cell.Known.{Known as KnownValue};
+ghost use Rattle.trace_know.specs.declared.cell.Known.TheVariants.{Contradiction, One};
+ghost use Rattle.trace_know.specs.Cell.{join_known, is_contradiction};
+ghost use Rattle.trace_know.specs.View.{join};
+ghost use Rattle.trace_know.specs.Rows.{single, row};
+ghost use Rattle.trace_know.specs.Runs.{of_run, IsAlike, IsCounted, IsFilled, before_conflict, conflicts_among};
+
+use crate::cell::Known;
+use mpi_model::Event;
+use std::alloc::{AllocError, Global};
+use std::collections::VecDeque;
+
+/// Cells of a rank from a place on, and how many of them stand before the first contradiction, and
+/// how many are contradictions.
+#[derive(Debug, Drop)]
+pub(crate) struct Run {
+    pub(crate) rank: u32,
+    pub(crate) first: u64,
+    pub(crate) cells: VecDeque<Known>,
+    pub(crate) sound: usize,
+    pub(crate) conflicts: usize,
+}
+
+/// Whether a cell stays as it is where the other is joined to it. Else it turns into a contradiction.
+fn stays(cell: &Known, known: &Known) -> bool
+    ensures stays { IsTrue result → join_known cell.now known.now ≡ cell.now }
+    ensures turns { IsFalse result → (join_known cell.now known.now ≡ Contradiction) × (is_contradiction cell.now ≡ false) }
+{
+    match (cell, known) {
+        (Known::One(a), Known::One(b)) => a.same(b),
+        (Known::One(_), Known::Contradiction) => false,
+        (Known::Contradiction, _) => true,
+    }
+}
+
+/// Turns the cell at an index into a contradiction.
+fn turn(run: &mut Run, at: usize)
+    requires at { at < length run.old.cells.items }
+    requires one { (d : KnownValue) → is_contradiction (slice_index_or run.old.cells.items at d) ≡ false }
+    requires counted { IsCounted run.old }
+    ensures cells { run.new.cells.items ≡ slice_set run.old.cells.items at Contradiction }
+    ensures same { (run.new.rank ≡ run.old.rank) × (run.new.first ≡ run.old.first) }
+    ensures len { deque_len run.new.cells ≡ deque_len run.old.cells }
+    ensures capacity { deque_capacity run.new.cells ≡ deque_capacity run.old.cells }
+    ensures counted { IsCounted run.new }
+{
+    run.cells[at] = Known::Contradiction;
+    run.sound = run.sound.min(at);
+    run.conflicts += 1;
+}
+
+/// Joins what is known to the cell at an index.
+fn meet(run: &mut Run, at: usize, known: Known)
+    requires at { at < length run.old.cells.items }
+    requires counted { IsCounted run.old }
+    ensures view { of_run run.new ≡ join (of_run run.old) (single run.old.rank (run.old.first + at) known) }
+    ensures same { (run.new.rank ≡ run.old.rank) × (run.new.first ≡ run.old.first) }
+    ensures len { deque_len run.new.cells ≡ deque_len run.old.cells }
+    ensures capacity { deque_capacity run.new.cells ≡ deque_capacity run.old.cells }
+    ensures counted { IsCounted run.new }
+{
+    if stays(&run.cells[at], &known) {
+        return;
+    }
+    turn(run, at);
+}
+
+/// How many cells stand before the first contradiction with one more at the end.
+fn sound_with(run: &Run, last: &Known) -> usize
+    requires room { deque_len run.now.cells < deque_capacity run.now.cells }
+    requires counted { IsCounted run.now }
+    ensures { result ≡ before_conflict (run.now.cells.items ++ last.now ∷ []) }
+{
+    if run.sound < run.cells.len() {
+        return run.sound;
+    }
+    if last.is_contradiction() {
+        return run.sound;
+    }
+    run.sound + 1
+}
+
+/// How many contradictions there are with one more cell.
+fn conflicts_with(run: &Run, known: &Known) -> usize
+    requires room { deque_len run.now.cells < deque_capacity run.now.cells }
+    requires counted { IsCounted run.now }
+    ensures { result ≡ conflicts_among (known.now ∷ run.now.cells.items) }
+{
+    if known.is_contradiction() {
+        return run.conflicts + 1;
+    }
+    run.conflicts
+}
+
+/// How many cells stand before the first contradiction with one more at the front.
+fn sound_from(run: &Run, first: &Known) -> usize
+    requires room { deque_len run.now.cells < deque_capacity run.now.cells }
+    requires counted { IsCounted run.now }
+    ensures { result ≡ before_conflict (first.now ∷ run.now.cells.items) }
+{
+    if first.is_contradiction() {
+        return 0;
+    }
+    run.sound + 1
+}
+
+/// Adds what is known of the place after the last.
+fn add_back(run: &mut Run, known: Known)
+    requires room { deque_len run.old.cells < deque_capacity run.old.cells }
+    requires counted { IsCounted run.old }
+    ensures cells { run.new.cells.items ≡ run.old.cells.items ++ known ∷ [] }
+    ensures same { (run.new.rank ≡ run.old.rank) × (run.new.first ≡ run.old.first) }
+    ensures len { deque_len run.new.cells ≡ deque_len run.old.cells + 1 }
+    ensures capacity { deque_capacity run.new.cells ≡ deque_capacity run.old.cells }
+    ensures counted { IsCounted run.new }
+{
+    let sound = sound_with(run, &known);
+    run.conflicts = conflicts_with(run, &known);
+    run.sound = sound;
+    run.cells.push_back_reserved(known);
+}
+
+/// Adds what is known of the place before the first.
+fn add_front(run: &mut Run, known: Known)
+    requires room { deque_len run.old.cells < deque_capacity run.old.cells }
+    requires before { 0 < run.old.first }
+    requires counted { IsCounted run.old }
+    ensures cells { run.new.cells.items ≡ known ∷ run.old.cells.items }
+    ensures same { (run.new.rank ≡ run.old.rank) × (run.new.first + 1 ≡ run.old.first) }
+    ensures len { deque_len run.new.cells ≡ deque_len run.old.cells + 1 }
+    ensures capacity { deque_capacity run.new.cells ≡ deque_capacity run.old.cells }
+    ensures counted { IsCounted run.new }
+{
+    let sound = sound_from(run, &known);
+    run.conflicts = conflicts_with(run, &known);
+    run.sound = sound;
+    run.cells.push_front_reserved(known);
+    run.first -= 1;
+}
+
+/// Joins what is known to the cell at an index, or adds it as the last.
+fn meet_back(run: &mut Run, at: usize, known: Known)
+    requires at { at ≤ length run.old.cells.items }
+    requires room { at < deque_capacity run.old.cells }
+    requires counted { IsCounted run.old }
+    ensures view { of_run run.new ≡ join (of_run run.old) (single run.old.rank (run.old.first + at) known) }
+    ensures same { (run.new.rank ≡ run.old.rank) × (run.new.first ≡ run.old.first) }
+    ensures len { deque_len run.new.cells ≡ max (deque_len run.old.cells) (at + 1) }
+    ensures capacity { deque_capacity run.new.cells ≡ deque_capacity run.old.cells }
+    ensures counted { IsCounted run.new }
+{
+    if at < run.cells.len() {
+        meet(run, at, known);
+    } else {
+        add_back(run, known);
+    }
+}
+
+/// Takes all that another piece of the same rank has. The piece is no longer than the run, and
+/// touches or overlaps it.
+pub(crate) fn absorb(run: &mut Run, piece: Run)
+    requires rank { piece.rank ≡ run.old.rank }
+    requires touches { (piece.first ≤ run.old.first + length run.old.cells.items) × (run.old.first ≤ piece.first + length piece.cells.items) }
+    requires shorter { length piece.cells.items ≤ length run.old.cells.items }
+    requires room { (piece.first + length piece.cells.items ≤ run.old.first + deque_capacity run.old.cells) × (run.old.first + length run.old.cells.items ≤ piece.first + deque_capacity run.old.cells) }
+    requires ends { (run.old.first + length run.old.cells.items ≤ 2 ^ 40) × (piece.first + length piece.cells.items ≤ 2 ^ 40) }
+    requires counted { IsCounted run.old }
+    ensures view { of_run run.new ≡ join (of_run run.old) (of_run piece) }
+    ensures rank { run.new.rank ≡ run.old.rank }
+    ensures first { run.new.first ≡ min run.old.first piece.first }
+    ensures end { run.new.first + length run.new.cells.items ≡ max (run.old.first + length run.old.cells.items) (piece.first + length piece.cells.items) }
+    ensures capacity { deque_capacity run.new.cells ≡ deque_capacity run.old.cells }
+    ensures counted { IsCounted run.new }
+{
+    if piece.first >= run.first {
+        absorb_back(run, piece);
+    } else {
+        absorb_front(run, piece);
+    }
+}
+
+/// Gives the run room for a piece that it touches, and takes all that the piece has. At `Err` the
+/// run has what it had.
+pub(crate) fn grow_by(run: &mut Run, piece: Run) -> Result<(), AllocError>
+    requires rank { piece.rank ≡ run.old.rank }
+    requires touches { (piece.first ≤ run.old.first + length run.old.cells.items) × (run.old.first ≤ piece.first + length piece.cells.items) }
+    requires shorter { length piece.cells.items ≤ length run.old.cells.items }
+    requires ends { (run.old.first + length run.old.cells.items ≤ 2 ^ 40) × (piece.first + length piece.cells.items ≤ 2 ^ 40) }
+    requires counted { IsCounted run.old }
+    ensures ok { OnOk result (of_run run.new ≡ join (of_run run.old) (of_run piece)) }
+    ensures rank { run.new.rank ≡ run.old.rank }
+    ensures first { OnOk result (run.new.first ≡ min run.old.first piece.first) }
+    ensures end { OnOk result (run.new.first + length run.new.cells.items ≡ max (run.old.first + length run.old.cells.items) (piece.first + length piece.cells.items)) }
+    ensures counted { IsCounted run.new }
+    ensures err { OnErr result (IsAlike run.new run.old) }
+{
+    let from = run.first.min(piece.first);
+    let held = run.cells.len();
+    let end = run.first + held as u64;
+    let to = end.max(piece.first + piece.cells.len() as u64);
+    run.cells.reserve((to - from) as usize - held)?;
+    absorb(run, piece);
+    Ok(())
+}
+
+fn absorb_back(run: &mut Run, piece: Run)
+    requires rank { piece.rank ≡ run.old.rank }
+    requires touches { (run.old.first ≤ piece.first) × (piece.first ≤ run.old.first + length run.old.cells.items) }
+    requires room { piece.first + length piece.cells.items ≤ run.old.first + deque_capacity run.old.cells }
+    requires ends { piece.first + length piece.cells.items ≤ 2 ^ 40 }
+    requires counted { IsCounted run.old }
+    ensures view { of_run run.new ≡ join (of_run run.old) (of_run piece) }
+    ensures rank { run.new.rank ≡ run.old.rank }
+    ensures first { run.new.first ≡ run.old.first }
+    ensures end { run.new.first + length run.new.cells.items ≡ max (run.old.first + length run.old.cells.items) (piece.first + length piece.cells.items) }
+    ensures capacity { deque_capacity run.new.cells ≡ deque_capacity run.old.cells }
+    ensures counted { IsCounted run.new }
+{
+    let mut cells = piece.cells;
+    let mut at = (piece.first - run.first) as usize;
+    while let Some(known) = cells.pop_front() {
+        meet_back(run, at, known);
+        at += 1;
+    }
+}
+
+fn absorb_front(run: &mut Run, piece: Run)
+    requires rank { piece.rank ≡ run.old.rank }
+    requires touches { (piece.first ≤ run.old.first) × (run.old.first ≤ piece.first + length piece.cells.items) }
+    requires inside { piece.first + length piece.cells.items ≤ run.old.first + length run.old.cells.items }
+    requires room { run.old.first + length run.old.cells.items ≤ piece.first + deque_capacity run.old.cells }
+    requires ends { piece.first + length piece.cells.items ≤ 2 ^ 40 }
+    requires counted { IsCounted run.old }
+    ensures view { of_run run.new ≡ join (of_run run.old) (of_run piece) }
+    ensures rank { run.new.rank ≡ run.old.rank }
+    ensures first { run.new.first ≡ piece.first }
+    ensures end { run.new.first + length run.new.cells.items ≡ run.old.first + length run.old.cells.items }
+    ensures capacity { deque_capacity run.new.cells ≡ deque_capacity run.old.cells }
+    ensures counted { IsCounted run.new }
+{
+    let mut cells = piece.cells;
+    let mut place = piece.first + cells.len() as u64;
+    while let Some(known) = cells.pop_back() {
+        place -= 1;
+        if place < run.first {
+            add_front(run, known);
+        } else {
+            meet(run, (place - run.first) as usize, known);
+        }
+    }
+}
+
+/// The events of a rank, each copied once, as a run of their own.
+pub(crate) fn run_of(
+    alloc: Global,
+    rank: u32,
+    first: u64,
+    events: &[Event],
+) -> Result<Run, AllocError>
+    ensures rank { IfOk result (λ r. r.rank ≡ rank) }
+    ensures first { IfOk result (λ r. r.first ≡ first) }
+    ensures cells { IfOk result (λ r. r.cells.items ≡ map (λ e. One e) events.now) }
+    ensures counted { IfOk result (λ r. IsCounted r) }
+{
+    let mut cells = VecDeque::with_capacity(alloc, events.len())?;
+    for event in events {
+        cells.push_back(Known::One(event.try_clone()?))?;
+    }
+    let sound = cells.len();
+    Ok(Run {
+        rank,
+        first,
+        cells,
+        sound,
+        conflicts: 0,
+    })
+}
+
+/// The events of a rank, each moved, as a run of their own.
+pub(crate) fn run_from(
+    alloc: Global,
+    rank: u32,
+    first: u64,
+    events: Vec<Event>,
+) -> Result<Run, AllocError>
+    ensures rank { IfOk result (λ r. r.rank ≡ rank) }
+    ensures first { IfOk result (λ r. r.first ≡ first) }
+    ensures cells { IfOk result (λ r. r.cells.items ≡ map (λ e. One e) events.items) }
+    ensures counted { IfOk result (λ r. IsCounted r) }
+{
+    let cells = cells_from(alloc, events)?;
+    let sound = cells.len();
+    Ok(Run {
+        rank,
+        first,
+        cells,
+        sound,
+        conflicts: 0,
+    })
+}
+
+/// The events, each as what is known of its place.
+fn cells_from(alloc: Global, events: Vec<Event>) -> Result<VecDeque<Known>, AllocError>
+    ensures { IfOk result (λ cells. cells.items ≡ map (λ e. One e) events.items) }
+{
+    events
+        .into_iter()
+        .map(|event| Known::One(event))
+        .collect(alloc)
+}
+
+/// A run of one cell.
+pub(crate) fn run_of_one(
+    alloc: Global,
+    rank: u32,
+    first: u64,
+    known: Known,
+) -> Result<Run, AllocError>
+    ensures rank { IfOk result (λ r. r.rank ≡ rank) }
+    ensures first { IfOk result (λ r. r.first ≡ first) }
+    ensures cells { IfOk result (λ r. r.cells.items ≡ known ∷ []) }
+    ensures counted { IfOk result (λ r. IsCounted r) }
+{
+    let mut run = Run {
+        rank,
+        first,
+        cells: VecDeque::with_capacity(alloc, 1)?,
+        sound: 0,
+        conflicts: 0,
+    };
+    add_back(&mut run, known);
+    Ok(run)
+}

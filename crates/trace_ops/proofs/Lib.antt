@@ -1,0 +1,7 @@
+pub mod Taken
+pub mod Behind
+pub mod Cases
+pub mod Growing
+pub mod Owned
+pub mod Joined
+pub mod Found

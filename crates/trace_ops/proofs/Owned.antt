@@ -1,0 +1,143 @@
+-- The messages and receives of a rank are its own, and stand in order.
+use Rattle.std.proofs.Common.{◌≡◌, ℕ, zero, suc, map, ◌+◌, ◌<◌, ◌≤◌, Bool, true, false, ◌&&◌, List, [], ◌∷◌, ◌⊎◌, inl, inr, ⊎_elim, refl, sym, ◌∙◌, ap, subst, arith}
+use Rattle.std.specs.Prelude.{Option, Some, None, ◌==◌, nat_lt, if◌then◌else◌, slice_get}
+use Rattle.std.specs.List.{filter_map, cons_option, range_with_len}
+use Rattle.std.specs.Option.{option_map, option_and_then}
+use Rattle.std.proofs.lemmas.Bool.Decides.{nat_tests}
+use Rattle.mpi_model.specs.declared.envelope.Envelope.{Envelope}
+use Rattle.mpi_model.specs.declared.envelope.Mode.{Mode}
+use Rattle.mpi_model.specs.declared.envelope.Mode.TheVariants.{Standard}
+use Rattle.mpi_model.specs.declared.envelope.Peer.{Peer}
+use Rattle.mpi_model.specs.declared.envelope.Peer.TheVariants.{Any, Null, Rank}
+use Rattle.mpi_model.specs.declared.call.Call.{Call}
+use Rattle.mpi_model.specs.declared.call.Call.TheVariants.{Send, Isend, Sendrecv, Recv, Irecv}
+use Rattle.mpi_model.specs.declared.message.Message.{Message}
+use Rattle.mpi_model.specs.declared.message.Receive.{Receive}
+use Rattle.mpi_model.specs.Layouts.{Parts}
+use Rattle.mpi_model.specs.declared.event.Event.{Event}
+use Rattle.trace_know.specs.View.{View}
+use Rattle.trace_know.specs.Prefix.{events_of, is_beyond}
+use Rattle.trace_ops.specs.Ops.{IsOwn, AreOwn}
+use Rattle.trace_ops.specs.RankOps.{ops_by, ops_of}
+use Rattle.trace_ops.specs.Calls.{Entry, Numbered, numbered, calls_of}
+use Rattle.trace_ops.specs.Foreign.{is_foreign, group, named}
+use Rattle.trace_ops.specs.Request.{posted_by}
+use Rattle.trace_ops.specs.Source.{told_of_own, told_of_post}
+use Rattle.trace_ops.specs.Message.{message_of, message_to, sent_with, sent_by, sends_of}
+use Rattle.trace_ops.specs.Receive.{receive_of, receives_of, taken_by, taken_from, taken_with}
+use Rattle.trace_ops.specs.Order.{Has, AreInOrder, ArePosted}
+
+-- an operation, where there is one, is of the rank and of the call
+abbrev IsOf : {Y : Type 0} → (Y → ℕ) → (Y → ℕ) → (Y → ℕ) → ℕ → ℕ → Option Y → Type 0
+IsOf named_rank at call rank n None = Unit {0}
+IsOf named_rank at call rank n (Some y) = (named_rank y ≡ rank) × (at y ≡ rank) × (call y ≡ n)
+
+before : (a b m n : ℕ) → a ≡ b → m < n → ((a == b) && nat_lt m n) ≡ true
+before a b m n e lt = grind (arith, nat_tests)
+
+module _ {Y : Type 0} (named_rank at call : Y → ℕ) (rank : ℕ) (f : Numbered → Option Y) (own : (k : Numbered) → IsOf named_rank at call rank k.number (f k)) where
+  abbrev Sorted : List Y → Type 0
+  Sorted [] = Unit {0}
+  Sorted (y ∷ ys) = ((z : Y) → Has ys z → ((at y == at z) && nat_lt (call y) (call z)) ≡ true) × Sorted ys
+
+  pub member : (n : ℕ) (calls : List Entry) (y : Y) → Has (filter_map f (numbered n calls)) y → (named_rank y ≡ rank) × (at y ≡ rank) × (n ≤ call y)
+  member n [] y h = absurd h
+  member n (c ∷ cs) y h = by (f (record { number = n; entry = c; later = cs })) (own (record { number = n; entry = c; later = cs })) h (member (n + 1) cs y)
+    where
+      by : (o : Option Y) → IsOf named_rank at call rank n o → Has (cons_option o (filter_map f (numbered (n + 1) cs))) y →
+          (Has (filter_map f (numbered (n + 1) cs)) y → (named_rank y ≡ rank) × (at y ≡ rank) × (n + 1 ≤ call y)) → (named_rank y ≡ rank) × (at y ≡ rank) × (n ≤ call y)
+      by None o h more = let m = more h in (m.0, m.1, omega (arith, m.2))
+      by (Some z) o (inl e) more = (ap named_rank e ∙ o.0, ap at e ∙ o.1, (let k : call y ≡ n = ap call e ∙ o.2 in omega (arith, k)))
+      by (Some z) o (inr h) more = let m = more h in (m.0, m.1, omega (arith, m.2))
+
+  pub sorted : (n : ℕ) (calls : List Entry) → Sorted (filter_map f (numbered n calls))
+  sorted n [] = tt
+  sorted n (c ∷ cs) = by (f (record { number = n; entry = c; later = cs })) (own (record { number = n; entry = c; later = cs })) (sorted (n + 1) cs)
+    where
+      by : (o : Option Y) → IsOf named_rank at call rank n o → Sorted (filter_map f (numbered (n + 1) cs)) → Sorted (cons_option o (filter_map f (numbered (n + 1) cs)))
+      by None o s = s
+      by (Some y) o s = ((λ z h. let m = member (n + 1) cs z h in before (at y) (at z) (call y) (call z) (o.1 ∙ sym m.1) (omega (arith, o.2, m.2))), s)
+
+-- ---- messages
+
+module _ (layout : Parts) (rank : ℕ) where
+  abbrev IsSent : ℕ → Option Message → Type 0
+  IsSent n o = IsOf (λ m. m.name.rank) (λ m. m.from) (λ m. m.name.call) rank n o
+
+  with_own : (n : ℕ) (mode : Mode) (e : Envelope) (to : Option ℕ) → IsSent n (option_map (message_to layout rank n mode e) to)
+  with_own n mode e None = tt
+  with_own n mode e (Some to) = (refl, refl, refl)
+
+  sent_own : (n : ℕ) (call : Call) → IsSent n (sent_by layout rank n call)
+  sent_own n (Send mode e) = with_own n mode e (option_and_then (slice_get (group layout e.comm)) (named e.peer))
+  sent_own n (Isend mode e) = with_own n mode e (option_and_then (slice_get (group layout e.comm)) (named e.peer))
+  sent_own n (Sendrecv x) = with_own n Standard x.send (option_and_then (slice_get (group layout x.send.comm)) (named x.send.peer))
+  sent_own n call = tt
+
+  pub message_own : (k : Numbered) → IsSent k.number (message_of layout rank k.number k.entry.call)
+  message_own k = by (is_foreign layout rank k.entry.call) (sent_own k.number k.entry.call)
+    where
+      by : (b : Bool) → IsSent k.number (sent_by layout rank k.number k.entry.call) → IsSent k.number (if b then None else sent_by layout rank k.number k.entry.call)
+      by true s = tt
+      by false s = s
+
+  pub sent_member : (n : ℕ) (calls : List Entry) (m : Message) → Has (sends_of layout rank n calls) m → (m.name.rank ≡ rank) × (m.from ≡ rank) × (n ≤ m.name.call)
+  sent_member = member (λ m. m.name.rank) (λ m. m.from) (λ m. m.name.call) rank (λ c. message_of layout rank c.number c.entry.call) message_own
+
+  in_order : (ms : List Message) → Sorted (λ m. m.name.rank) (λ m. m.from) (λ m. m.name.call) rank (λ c. message_of layout rank c.number c.entry.call) message_own ms → AreInOrder ms
+  in_order [] s = tt
+  in_order (m ∷ ms) s = (s.0, in_order ms s.1)
+
+  pub sends_rise : (n : ℕ) (calls : List Entry) → AreInOrder (sends_of layout rank n calls)
+  sends_rise n calls = in_order (sends_of layout rank n calls) (sorted (λ m. m.name.rank) (λ m. m.from) (λ m. m.name.call) rank (λ c. message_of layout rank c.number c.entry.call) message_own n calls)
+
+  -- ---- receives
+
+  abbrev IsTaken : ℕ → Option Receive → Type 0
+  IsTaken n o = IsOf (λ q. q.name.rank) (λ q. q.at) (λ q. q.name.call) rank n o
+
+  from_own : (n : ℕ) (e : Envelope) (told : Option ℕ) (peer : Peer) → IsTaken n (taken_from layout rank n e told peer)
+  from_own n e told Null = tt
+  from_own n e told Any = (refl, refl, refl)
+  from_own n e told (Rank p) = (refl, refl, refl)
+
+  taken_own : (n : ℕ) (c : Entry) (later : List Entry) (call : Call) → IsTaken n (taken_by layout rank n c later call)
+  taken_own n c later (Recv e) = from_own n e (told_of_own (group layout e.comm) c.outs) e.peer
+  taken_own n c later (Sendrecv x) = from_own n x.receive (told_of_own (group layout x.receive.comm) c.outs) x.receive.peer
+  taken_own n c later (Irecv e) = from_own n e (told_of_post (group layout e.comm) later (posted_by c)) e.peer
+  taken_own n c later call = tt
+
+  pub receive_own : (k : Numbered) → IsTaken k.number (receive_of layout rank k)
+  receive_own k = by (is_foreign layout rank k.entry.call) (taken_own k.number k.entry k.later k.entry.call)
+    where
+      by : (b : Bool) → IsTaken k.number (taken_by layout rank k.number k.entry k.later k.entry.call) → IsTaken k.number (if b then None else taken_by layout rank k.number k.entry k.later k.entry.call)
+      by true s = tt
+      by false s = s
+
+  pub taken_member : (n : ℕ) (calls : List Entry) (q : Receive) → Has (receives_of layout rank n calls) q → (q.name.rank ≡ rank) × (q.at ≡ rank) × (n ≤ q.name.call)
+  taken_member = member (λ q. q.name.rank) (λ q. q.at) (λ q. q.name.call) rank (receive_of layout rank) receive_own
+
+  are_posted : (qs : List Receive) → Sorted (λ q. q.name.rank) (λ q. q.at) (λ q. q.name.call) rank (receive_of layout rank) receive_own qs → ArePosted qs
+  are_posted [] s = tt
+  are_posted (q ∷ qs) s = (s.0, are_posted qs s.1)
+
+  pub receives_rise : (n : ℕ) (calls : List Entry) → ArePosted (receives_of layout rank n calls)
+  receives_rise n calls = are_posted (receives_of layout rank n calls) (sorted (λ q. q.name.rank) (λ q. q.at) (λ q. q.name.call) rank (receive_of layout rank) receive_own n calls)
+
+-- ---- ops
+
+pub own_of : (layout : Parts) (rank : ℕ) (beyond : Bool) (events : List Event) → IsOwn rank (ops_by layout rank beyond events)
+unfolding ops_by
+own_of layout rank beyond events = record {
+  sent = λ m h. (sent_member layout rank 0 (calls_of events) m h).0;
+  sent_from = λ m h. (sent_member layout rank 0 (calls_of events) m h).1;
+  posted = λ q h. (taken_member layout rank 0 (calls_of events) q h).0;
+  posted_at = λ q h. (taken_member layout rank 0 (calls_of events) q h).1;
+  sends_rise = sends_rise layout rank 0 (calls_of events);
+  receives_rise = receives_rise layout rank 0 (calls_of events);
+}
+
+-- of all ranks from the first on
+pub all_own : (layout : Parts) (view : View) (first n : ℕ) → AreOwn first (map (ops_of layout view) (range_with_len first n))
+all_own layout view first zero = tt
+all_own layout view first (suc n) = (own_of layout first (is_beyond view first) (events_of view first), all_own layout view (first + 1) n)

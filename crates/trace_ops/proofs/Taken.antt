@@ -1,0 +1,56 @@
+-- One element more of a list that is gone through.
+use Rattle.std.proofs.Common.{◌≡◌, ℕ, zero, suc, ◌+◌, ◌<◌, List, [], ◌∷◌, ◌++◌, map, take, drop, get_or, length, reverse, refl, sym, ◌∙◌, ap, subst, arith, append_assoc, Bor}
+use Rattle.std.specs.Prelude.{ℤ, Option, Some, None, slice_get}
+use Rattle.std.specs.List.{filter_map, cons_option}
+use Rattle.std.specs.Option.{option_and_then, option_map}
+use Rattle.std.proofs.lemmas.List.{take_more, drop_more, reverse-append, append-nil}
+use Rattle.std.proofs.lemmas.List.Elements.{filter_map-append}
+use Rattle.mpi_model.specs.declared.event.Event.{Event}
+use Rattle.mpi_model.specs.declared.list.elements.Element.{Element}
+use Rattle.trace_ops.specs.declared.completed.Completed.{Completed}
+use Rattle.trace_ops.specs.Calls.{Entry, Numbered, call_of, outs_of, calls_of, numbered}
+use Rattle.trace_ops.specs.Request.{element_of}
+
+-- the calls from a place on
+calls_next : (es : List (Bor Event)) (i : ℕ) (e : Bor Event) → i < length es → e ≡ get_or es i e →
+    calls_of (drop i (map (λ e. e.now) es)) ≡ record { call = call_of e.now; outs = option_and_then outs_of (option_map (λ e. e.now) (slice_get es (i + 1))) } ∷ calls_of (drop (i + 2) (map (λ e. e.now) es))
+calls_next [] i e lt h = absurd (omega (arith, lt))
+calls_next (x ∷ []) zero e lt h = rw h refl
+calls_next (x ∷ y ∷ es) zero e lt h = rw h refl
+calls_next (x ∷ es) (suc i) e lt h =
+    let n : suc i + 1 ≡ suc (i + 1) = omega arith in
+    let m : suc i + 2 ≡ suc (i + 2) = omega arith in
+    rw (n, m) (calls_next es i e (omega (arith, lt)) h)
+
+pub calls_go : (es : List (Bor Event)) (i : ℕ) (e : Bor Event) (done new : List Entry) (c : Entry) → i < length es → e ≡ get_or es i e →
+    c ≡ record { call = call_of e.now; outs = option_and_then outs_of (option_map (λ e. e.now) (slice_get es (i + 1))) } → new ≡ done ++ c ∷ [] →
+    done ++ calls_of (drop i (map (λ e. e.now) es)) ≡ calls_of (map (λ e. e.now) es) → new ++ calls_of (drop (i + 2) (map (λ e. e.now) es)) ≡ calls_of (map (λ e. e.now) es)
+calls_go es i e done new c lt at k j h =
+    ap (λ (l : List Entry). l ++ calls_of (drop (i + 2) (map (λ e. e.now) es))) j
+    ∙ rw append_assoc (ap (λ (x : Entry). done ++ x ∷ calls_of (drop (i + 2) (map (λ e. e.now) es))) k
+    ∙ ap (λ (l : List Entry). done ++ l) (sym (calls_next es i e lt at)) ∙ h)
+
+-- the elements of a Waitsome, one more
+pub elements_go : (requests : List ℤ) (elements : List Element) (i : ℕ) (e : Element) (done new : List Completed) (item : Option Completed) → i < length elements →
+    e ≡ get_or elements i e → item ≡ element_of requests e → done ≡ filter_map (element_of requests) (take i elements) → new ≡ done ++ cons_option item [] →
+    new ≡ filter_map (element_of requests) (take (i + 1) elements)
+elements_go requests elements i e done new item lt at j h k =
+    k ∙ ap (λ (l : List Completed). l ++ cons_option item []) h
+    ∙ ap (λ (o : Option Completed). filter_map (element_of requests) (take i elements) ++ cons_option o []) (j ∙ ap (element_of requests) at)
+    ∙ sym (ap (filter_map (element_of requests)) (take_more elements i e lt) ∙ filter_map-append (element_of requests) (take i elements) (get_or elements i e ∷ []))
+
+turned : {Y : Type 0} (done : List Y) (item : Option Y) → reverse (done ++ cons_option item []) ≡ cons_option item (reverse done)
+turned {Y} done None = ap (λ (l : List Y). reverse l) (append-nil done)
+turned {Y} done (Some y) = reverse-append done (y ∷ [])
+
+-- One call more towards the front, in a list that is turned round at the end.
+pub turned_more : {Y : Type 0} (h : Numbered → Option Y) (calls : List Entry) (n m : ℕ) (entry : Entry) (done new : List Y) (item : Option Y) → n < length calls → m ≡ n + 1 →
+    entry ≡ get_or calls n entry → item ≡ h (record { number = n; entry = entry; later = drop m calls }) → new ≡ done ++ cons_option item [] →
+    reverse done ≡ filter_map h (numbered m (drop m calls)) → reverse new ≡ filter_map h (numbered n (drop n calls))
+turned_more {Y} h calls n m entry done new item lt e at k j i =
+    let front : drop n calls ≡ entry ∷ drop m calls = drop_more calls n entry lt ∙ ap (λ (c : Entry). c ∷ drop (n + 1) calls) (sym at) ∙ ap (λ (s : ℕ). entry ∷ drop s calls) (sym e) in
+    ap (λ (l : List Y). reverse l) j ∙ turned done item
+    ∙ ap (λ (l : List Y). cons_option item l) i
+    ∙ ap (λ (o : Option Y). cons_option o (filter_map h (numbered m (drop m calls)))) k
+    ∙ ap (λ (s : ℕ). cons_option (h (record { number = n; entry = entry; later = drop m calls })) (filter_map h (numbered s (drop m calls)))) e
+    ∙ sym (ap (λ (l : List Entry). filter_map h (numbered n l)) front)

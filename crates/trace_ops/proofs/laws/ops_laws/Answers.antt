@@ -1,0 +1,20 @@
+use Rattle.std.proofs.Common.{ℕ, List, ◌++◌}
+use Rattle.trace_ops.specs.Calls.{calls_of}
+use Rattle.trace_ops.specs.Message.{message_of}
+use Rattle.trace_ops.specs.RankOps.{ops_by}
+use Rattle.trace_ops.proofs.Growing.{goes_on, same_front, receives_more}
+use Rattle.trace_ops.proofs.Owned.{own_of, all_own}
+use Rattle.trace_ops.proofs.laws.ops_laws.Goals as goal
+
+pub returns-clause-own : goal.returns-clause-own
+returns-clause-own c = own_of
+
+pub returns-clause-all : goal.returns-clause-all
+returns-clause-all c layout view = all_own layout view 0 layout.ranks
+
+pub returns-clause-grow : goal.returns-clause-grow
+unfolding ops_by
+returns-clause-grow c layout rank one other events more = record {
+  sends = same_front (message_of layout rank) 0 (calls_of events) (calls_of (events ++ more)) (goes_on events more);
+  receives = receives_more layout rank 0 (calls_of events) (calls_of (events ++ more)) (goes_on events more);
+}

@@ -1,0 +1,39 @@
+-- The calls of a rank, as its readable events tell them.
+use Rattle.std.specs.Prelude.{ℕ, ◌+◌, Option, Some, None, List, [], ◌∷◌}
+use Rattle.mpi_model.specs.declared.call.Call.{Call}
+use Rattle.mpi_model.specs.declared.call.Call.TheVariants.{Local}
+use Rattle.mpi_model.specs.declared.outcome.Outs.{Outs}
+use Rattle.mpi_model.specs.declared.event.Event.{Event}
+use Rattle.mpi_model.specs.declared.event.Event.TheVariants.{Enter, Return}
+
+-- a call that was entered, and its outcome, where it has returned
+pub record Entry : Type 0 where
+  pub call : Call
+  pub outs : Option Outs
+
+-- the call of an Enter (an event at an even place is one)
+abbrev pub call_of : Event → Call
+call_of (Enter call time) = call
+call_of (Return outs time) = Local
+
+-- the outcome of a Return (an event at an odd place is one)
+abbrev pub outs_of : Event → Option Outs
+outs_of (Enter call time) = None
+outs_of (Return outs time) = Some outs
+
+-- The calls of these events: call n has its Enter at place 2n and its Return at 2n + 1. The last may not have returned.
+abbrev pub calls_of : List Event → List Entry
+calls_of [] = []
+calls_of (enter ∷ []) = record { call = call_of enter; outs = None } ∷ []
+calls_of (enter ∷ exit ∷ events) = record { call = call_of enter; outs = outs_of exit } ∷ calls_of events
+
+-- a call of a rank: its number, the call, and the calls that follow it
+pub record Numbered : Type 0 where
+  pub number : ℕ
+  pub entry : Entry
+  pub later : List Entry
+
+-- the calls, numbered from n
+abbrev pub numbered : ℕ → List Entry → List Numbered
+numbered n [] = []
+numbered n (entry ∷ later) = record { number = n; entry = entry; later = later } ∷ numbered (n + 1) later

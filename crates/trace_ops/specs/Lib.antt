@@ -1,0 +1,12 @@
+pub mod Order
+pub mod Ops
+pub mod Calls
+pub mod Foreign
+pub mod Request
+pub mod Source
+pub mod Message
+pub mod Receive
+pub mod Round
+pub mod RankState
+pub mod RankOps
+pub mod Touched

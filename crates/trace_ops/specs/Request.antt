@@ -1,0 +1,84 @@
+-- Requests: which call posts them, which outcomes complete them, and which are active (MPI 4.0, 3.7.2, 3.7.3 and 3.7.5).
+use Rattle.std.specs.Prelude.{ℕ, ℤ, Bool, true, false, ◌||◌, if◌then◌else◌, Option, Some, None, List, [], ◌∷◌, slice_get}
+use Rattle.std.specs.List.{list_any, filter_map}
+use Rattle.std.specs.Option.{option_map}
+use Rattle.std.specs.Ordering.{int_eq}
+use Rattle.mpi_model.specs.declared.call.Call.{Call}
+use Rattle.mpi_model.specs.declared.call.Call.TheVariants.{Isend, Irecv, Wait, Waitall, Waitany, Waitsome, Test}
+use Rattle.mpi_model.specs.declared.outcome.Outs.{Outs}
+use Rattle.mpi_model.specs.declared.outcome.Outs.TheVariants.{Posted, Status, Statuses, Index, Several, Flag}
+use Rattle.mpi_model.specs.declared.list.elements.Element.{Element}
+use Rattle.trace_ops.specs.declared.completed.Completed.{Completed}
+use Rattle.trace_ops.specs.Calls.{Entry, Numbered, numbered}
+
+-- the number that a returned call posts: that of an Isend or Irecv, foreign or not
+abbrev pub post_of : Call → Option Outs → Option ℤ
+post_of (Isend mode e) (Some (Posted request)) = Some request
+post_of (Irecv e) (Some (Posted request)) = Some request
+post_of call outs = None
+
+abbrev pub posted_by : Entry → Option ℤ
+posted_by c = post_of c.call c.outs
+
+abbrev pub completes : ℤ → Option ℕ → Completed
+completes request told = record { request = request; told = told }
+
+-- all the requests of a list, each with what the entry at its own place tells; missing entries tell nothing
+abbrev pub all_of : List ℤ → List (Option ℕ) → List Completed
+all_of [] tells = []
+all_of (request ∷ requests) [] = completes request None ∷ all_of requests []
+all_of (request ∷ requests) (told ∷ tells) = completes request told ∷ all_of requests tells
+
+-- the request at a position of a list; an index past the list completes nothing
+abbrev pub indexed : List ℤ → ℕ → Option ℕ → Option Completed
+indexed requests position told = option_map (λ request. completes request told) (slice_get requests position)
+
+abbrev pub element_of : List ℤ → Element → Option Completed
+element_of requests e = indexed requests e.position e.told
+
+abbrev pub one_of : Option Completed → List Completed
+one_of None = []
+one_of (Some c) = c ∷ []
+
+-- the request of a Waitany, where its outcome has an index
+abbrev pub any_of : List ℤ → Option ℕ → Option ℕ → List Completed
+any_of requests None told = []
+any_of requests (Some position) told = one_of (indexed requests position told)
+
+-- The requests that a returned call completes, each with the source that its place of the outcome tells: that of a Wait,
+-- that of a Test whose flag is set, all of a Waitall, the indexed ones of a Waitany or Waitsome. An outcome whose kind
+-- doesn't belong to its call completes nothing.
+abbrev pub completions : Call → Option Outs → List Completed
+completions (Wait request) (Some (Status told)) = completes request told ∷ []
+completions (Test request) (Some (Flag done told)) = if done then completes request told ∷ [] else []
+completions (Waitall requests) (Some (Statuses tells)) = all_of requests tells
+completions (Waitany requests) (Some (Index position told)) = any_of requests position told
+completions (Waitsome requests) (Some (Several elements)) = filter_map (element_of requests) elements
+completions call outs = []
+
+abbrev pub completed_by : Entry → List Completed
+completed_by c = completions c.call c.outs
+
+abbrev pub is_posted : Option ℤ → ℤ → Bool
+is_posted None x = false
+is_posted (Some request) x = int_eq request x
+
+abbrev pub is_completed : ℤ → List Completed → Bool
+is_completed x done = list_any (λ c. int_eq c.request x) done
+
+-- the call completes the number, or posts it anew
+abbrev pub touches : ℤ → Entry → Bool
+touches x c = is_posted (posted_by c) x || is_completed x (completed_by c)
+
+-- the number, with its call, where no later call touches it
+abbrev pub still_active : ℕ → List Entry → Option ℤ → Option (ℤ × ℕ)
+still_active n later None = None
+still_active n later (Some x) = if list_any (touches x) later then None else Some (x, n)
+
+abbrev pub active_post : Numbered → Option (ℤ × ℕ)
+active_post c = still_active c.number c.later (posted_by c.entry)
+
+-- The active requests after these calls, each with the call that posted it, in order of posting: a number that is posted
+-- anew stands where it was posted last.
+abbrev pub active_of : ℕ → List Entry → List (ℤ × ℕ)
+active_of n calls = filter_map active_post (numbered n calls)

@@ -1,0 +1,125 @@
+//! The calls of a rank, as its readable events tell them.
+
+ghost use Rattle.std.specs.Prelude.{◌≡◌, IfOk, map, slice_get};
+ghost use Rattle.std.specs.Option.{option_and_then, option_copied, option_map};
+ghost use Rattle.mpi_model.specs.declared.call.Call.TheVariants.{Local};
+ghost use Rattle.trace_ops.specs.Calls.{call_of, calls_of, outs_of};
+ghost use Rattle.trace_ops.specs.Request.{completed_by, posted_by};
+
+use crate::completed::{Completed, completions, post_of};
+use mpi_model::{Call, Event, Outs};
+use std::alloc::{AllocError, Global};
+use std::marker::Model;
+
+/// A call that was entered, with its outcome, where it has returned, and what that completes.
+#[derive(Debug, Drop)]
+pub(crate) struct Called<'a> {
+    call: &'a Call,
+    outs: Option<&'a Outs>,
+    completed: Vec<Completed>,
+}
+
+impl<'a> Model for Called<'a> {
+    ghost use Rattle.std.specs.Prelude.{◌≡◌};
+    ghost use Rattle.std.specs.Option.{option_copied};
+    ghost use Rattle.mpi_model.specs.declared.call.Call.TheVariants.{Local};
+    ghost use Rattle.trace_ops.specs.Calls.{Entry};
+    ghost use Rattle.trace_ops.specs.Request.{completions};
+
+    ghost Value = { Entry };
+
+    ghost view = { λ c. record { call = c.call.now; outs = option_copied c.outs } };
+
+    ghost invariant = { λ c. c.completed.items ≡ completions c.call.now (option_copied c.outs) };
+}
+
+impl<'a> Called<'a> {
+    fn new(alloc: Global, call: &'a Call, outs: Option<&'a Outs>) -> Result<Called<'a>, AllocError>
+        ensures { IfOk result (λ c. c ≡ record { call = call.now; outs = option_copied outs.entry }) }
+    {
+        let completed = completions(alloc, call, outs)?;
+        Ok(Called {
+            call,
+            outs,
+            completed,
+        })
+    }
+
+    pub fn call(&self) -> &Call
+        ensures { result.now ≡ self.now.call }
+    {
+        self.call
+    }
+
+    pub fn outs(&self) -> Option<&Outs>
+        ensures { option_copied result ≡ self.now.outs }
+    {
+        self.outs
+    }
+
+    /// The request number that it posted.
+    pub fn posted(&self) -> Option<i64>
+        ensures { result ≡ posted_by self.now }
+    {
+        post_of(self.call, self.outs)
+    }
+
+    /// The requests that it completed.
+    pub fn completed(&self) -> &[Completed]
+        ensures { result.now ≡ completed_by self.now }
+    {
+        &self.completed
+    }
+}
+
+/// The call of an Enter; `local` stands where none was entered.
+fn call_of<'a>(event: &'a Event, local: &'a Call) -> &'a Call
+    requires { local.now ≡ Local }
+    ensures { result.now ≡ call_of event.now }
+{
+    match event {
+        Event::Enter(call, _) => call,
+        Event::Return(_, _) => local,
+    }
+}
+
+/// The outcome of a Return.
+fn outs_of(event: &Event) -> Option<&Outs>
+    ensures { option_copied result ≡ outs_of event.now }
+{
+    match event {
+        Event::Return(outs, _) => Some(outs),
+        Event::Enter(_, _) => None,
+    }
+}
+
+/// The outcome of the Return at a place, where there is one.
+fn outs_at<'a>(events: &[&'a Event], place: usize) -> Option<&'a Outs>
+    ensures { option_copied result ≡ option_and_then outs_of (option_map (λ e. e.now) (slice_get events.now place)) }
+{
+    if place < events.len() {
+        outs_of(events[place])
+    } else {
+        None
+    }
+}
+
+/// The calls of a rank's readable events: call `n` has its Enter at `2n` and its Return behind it.
+/// `local` stands where no call was entered.
+pub(crate) fn calls_of<'a>(
+    alloc: Global,
+    events: &[&'a Event],
+    local: &'a Call,
+) -> Result<Vec<Called<'a>>, AllocError>
+    requires { local.now ≡ Local }
+    ensures { IfOk result (λ calls. calls.items ≡ calls_of (map (λ e. e.now) events.now)) }
+{
+    let mut calls = Vec::with_capacity(alloc, events.len() / 2 + 1)?;
+    let mut place = 0;
+    while place < events.len() {
+        let call = call_of(events[place], local);
+        calls.push(Called::new(alloc, call, outs_at(events, place + 1))?)?;
+        place += 2;
+    }
+    Ok(calls)
+}

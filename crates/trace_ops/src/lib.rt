@@ -1,0 +1,37 @@
+//! What each rank did, by what is known of its run: its messages and receives, its entries into
+//! collective calls, its active requests, and how it stands.
+//!
+//! [`ops_of`] goes once through the readable events of a rank, from the last call to the first: so
+//! what later calls tell of a request is known when its post is met. Its time is linear in the
+//! events and in what Waitall and its kin list, but for outcomes that tell sources outside their
+//! receive's group. It keeps nothing of what is known but a copy of the call in which the rank
+//! waits. A message and a receive take at most 64 bytes each.
+//!
+//! - [`entered`], [`state`], [`ops`]: what is told of a rank
+//! - [`completed`], [`called`]: its calls, with the requests that their outcomes complete
+//! - [`group`]: the groups that calls name, and the calls that the layout doesn't know
+//! - [`message`]: messages and collective entries; [`touched`], [`receive`]: receives with their
+//!   told sources, and active requests
+//! - [`rank_state`]: how a rank stands
+//! - `ops::gather`: the way from what is known to all of that
+//! - [`laws`]: how a rank's ops grow with its readable events, as contracts of calls that do nothing
+//!
+//! Its tests are in the crate `matching_tests`, file `ops`.
+#![tactic(auto)]
+
+mod called;
+mod completed;
+mod entered;
+mod group;
+mod laws;
+mod message;
+mod ops;
+mod rank_state;
+mod receive;
+mod state;
+mod touched;
+
+pub use entered::Entered;
+pub use laws::{join_law, ops_laws};
+pub use ops::{RankOps, all_ops, ops_of};
+pub use state::State;

@@ -1,0 +1,121 @@
+//! What a rank did.
+
+ghost use Rattle.std.specs.Prelude.{◌≡◌, IfOk, option_map};
+ghost use Rattle.trace_ops.specs.Ops.{no_ops};
+
+use crate::entered::Entered;
+use crate::state::State;
+use mpi_model::{Call, Message, Receive};
+use std::alloc::{AllocError, Global};
+use std::marker::Model;
+
+mod gather;
+
+pub use gather::{all_ops, ops_of};
+
+/// What a rank did, as its readable events tell it.
+#[derive(Debug, Drop)]
+pub struct RankOps {
+    sends: Vec<Message>,
+    receives: Vec<Receive>,
+    rounds: Vec<Entered>,
+    active: Vec<(i64, u64)>,
+    state: State,
+    waiting: Option<(u64, Call)>,
+    foreign: u64,
+}
+
+impl Model for RankOps {
+    ghost use Rattle.trace_ops.specs.Ops.{Ops};
+
+    ghost Value = { Ops };
+
+    ghost view = { λ o. record { sends = o.sends.items; receives = o.receives.items; rounds = o.rounds.items; active = o.active.items; state = o.state; waiting = o.waiting; foreign = o.foreign } };
+}
+
+impl RankOps {
+    /// What a rank without calls did. Takes no memory.
+    pub fn empty(alloc: Global) -> RankOps
+        ensures { result ≡ no_ops }
+    {
+        RankOps {
+            sends: Vec::new(alloc),
+            receives: Vec::new(alloc),
+            rounds: Vec::new(alloc),
+            active: Vec::new(alloc),
+            state: State::Free,
+            waiting: None,
+            foreign: 0,
+        }
+    }
+
+    /// The messages that the rank's sends start, in order of their calls (MPI 4.0, 3.2.3).
+    pub fn sends(&self) -> &[Message]
+        ensures { result.now ≡ self.now.sends }
+    {
+        &self.sends
+    }
+
+    /// The receives of the rank, in order of their calls, each with its source where that is told.
+    pub fn receives(&self) -> &[Receive]
+        ensures { result.now ≡ self.now.receives }
+    {
+        &self.receives
+    }
+
+    /// The collective calls that the rank entered, in order.
+    pub fn rounds(&self) -> &[Entered]
+        ensures { result.now ≡ self.now.rounds }
+    {
+        &self.rounds
+    }
+
+    /// The active requests at the end of the rank's readable events, each with the number of the
+    /// call that posted it, in order of posting.
+    pub fn active(&self) -> &[(i64, u64)]
+        ensures { result.now ≡ self.now.active }
+    {
+        &self.active
+    }
+
+    pub fn state(&self) -> State
+        ensures { result ≡ self.now.state }
+    {
+        self.state
+    }
+
+    /// The number of the call in which the rank waits, and the call, where it is waiting.
+    pub fn waiting(&self) -> Option<(u64, &Call)>
+        ensures { option_map (λ w. (w.0, w.1.now)) result ≡ self.now.waiting }
+    {
+        match &self.waiting {
+            Some((number, call)) => Some((*number, call)),
+            None => None,
+        }
+    }
+
+    /// How many foreign calls the rank entered.
+    pub fn foreign(&self) -> u64
+        ensures { result ≡ self.now.foreign }
+    {
+        self.foreign
+    }
+
+    pub fn try_clone(&self) -> Result<RankOps, AllocError>
+        ensures { IfOk result (λ copy. copy ≡ self.now) }
+    {
+        let waiting = match &self.waiting {
+            Some((number, call)) => Some((*number, call.try_clone()?)),
+            None => None,
+        };
+        Ok(RankOps {
+            sends: self.sends.clone()?,
+            receives: self.receives.clone()?,
+            rounds: self.rounds.clone()?,
+            active: self.active.clone()?,
+            state: self.state,
+            waiting,
+            foreign: self.foreign,
+        })
+    }
+}

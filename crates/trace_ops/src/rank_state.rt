@@ -1,0 +1,91 @@
+//! How a rank stands at the end of its readable events.
+
+ghost use Rattle.std.specs.Prelude.{◌≡◌, IfOk};
+ghost use Rattle.std.specs.Option.{option_map};
+ghost use Rattle.trace_ops.specs.RankState.{is_finalize, is_waiting_call, last_of, may_block, state_after, state_of, waiting_at, waits_in};
+
+use crate::called::Called;
+use crate::group::is_foreign;
+use crate::state::State;
+use mpi_model::{Call, Layout};
+use std::alloc::AllocError;
+
+fn may_block(call: &Call) -> bool
+    ensures { result ≡ may_block call.now }
+{
+    match call {
+        Call::Send(_, _)
+        | Call::Recv(_)
+        | Call::Sendrecv(_)
+        | Call::Wait(_)
+        | Call::Waitall(_)
+        | Call::Waitany(_)
+        | Call::Waitsome(_)
+        | Call::Collective(_) => true,
+        Call::Local | Call::Finalize | Call::Isend(_, _) | Call::Irecv(_) | Call::Test(_) => false,
+    }
+}
+
+fn is_waiting_call(layout: &Layout, rank: u32, call: &Call) -> bool
+    ensures { result ≡ is_waiting_call layout.now rank call.now }
+{
+    may_block(call) && !is_foreign(layout, rank, call)
+}
+
+fn waits_in(layout: &Layout, rank: u32, called: &Called<'_>) -> bool
+    ensures { result ≡ waits_in layout.now rank called.now }
+{
+    called.outs().is_none() && is_waiting_call(layout, rank, called.call())
+}
+
+fn is_finalize(call: &Call) -> bool
+    ensures { result ≡ is_finalize call.now }
+{
+    matches!(call, Call::Finalize)
+}
+
+fn state_after(layout: &Layout, rank: u32, called: &Called<'_>) -> State
+    ensures { result ≡ state_after layout.now rank called.now }
+{
+    if is_finalize(called.call()) {
+        State::Ended
+    } else if waits_in(layout, rank, called) {
+        State::Waiting
+    } else {
+        State::Free
+    }
+}
+
+/// The last call, with its number.
+fn last_of<'a, 'b>(calls: &'a [Called<'b>]) -> Option<(u64, &'a Called<'b>)>
+    ensures { option_map (λ last. (last.0, last.1.now)) result ≡ last_of calls.now }
+{
+    let n = calls.len().checked_sub(1)?;
+    Some((n as u64, calls.get(n)?))
+}
+
+/// The state of a rank with these calls.
+pub(crate) fn state_of(layout: &Layout, rank: u32, beyond: bool, calls: &[Called<'_>]) -> State
+    ensures { result ≡ state_of layout.now rank beyond calls.now }
+{
+    if beyond {
+        return State::Free;
+    }
+    match last_of(calls) {
+        Some((_, called)) => state_after(layout, rank, called),
+        None => State::Free,
+    }
+}
+
+/// A copy of the call in which a rank with this state waits, with its number.
+pub(crate) fn waiting_of(
+    state: State,
+    calls: &[Called<'_>],
+) -> Result<Option<(u64, Call)>, AllocError>
+    ensures { IfOk result (λ w. w ≡ waiting_at state (last_of calls.now)) }
+{
+    match (state, last_of(calls)) {
+        (State::Waiting, Some((n, called))) => Ok(Some((n, called.call().try_clone()?))),
+        _ => Ok(None),
+    }
+}

@@ -1,0 +1,12 @@
+//! How a rank stands at the end of its readable events.
+
+/// How a rank stands.
+#[derive(Clone, Copy, Debug, PartialEq, Eq)]
+pub enum State {
+    /// It can go on, or more is known of it than can be read.
+    Free,
+    /// Its last readable event enters a call in which it may have to wait for others.
+    Waiting,
+    /// Its last readable event belongs to `MPI_Finalize`.
+    Ended,
+}

@@ -1,0 +1,189 @@
+-- The pairs are those of the five rules, whatever bound the recursion starts from.
+use Rattle.std.proofs.Common.{◌≡◌, ℕ, zero, suc, ◌+◌, ◌<◌, Bool, true, false, ◌&&◌, ◌||◌, List, [], ◌∷◌, inl, inr, ⊎_elim, sym, refl, ◌∙◌, ap, arith, ltb, eqb}
+use Rattle.std.specs.Prelude.{not, is_some, is_none}
+use Rattle.std.specs.List.{list_any, list_all}
+use Rattle.std.proofs.lemmas.Bool.Decides.{nat_tests}
+use Rattle.mpi_model.specs.declared.message.Message.{Message}
+use Rattle.mpi_model.specs.declared.message.Receive.{Receive}
+use Rattle.mpi_model.specs.Fit.{fits}
+use Rattle.trace_ops.specs.Order.{sent_before, posted_before, Has}
+use Rattle.trace_pair.specs.Pairing.{obeys, paired_below, paired, Obeys, Paired}
+
+pub any_same : {X : Type 0} (p t : X → Bool) (xs : List X) → ((x : X) → Has xs x → p x ≡ t x) → list_any p xs ≡ list_any t xs
+any_same p t [] h = refl
+any_same p t (x ∷ xs) h = let e = h x (inl refl) in let f = any_same p t xs (λ y i. h y (inr i)) in cc
+
+pub all_same : {X : Type 0} (p t : X → Bool) (xs : List X) → ((x : X) → Has xs x → p x ≡ t x) → list_all p xs ≡ list_all t xs
+all_same p t [] h = refl
+all_same p t (x ∷ xs) h = let e = h x (inl refl) in let f = all_same p t xs (λ y i. h y (inr i)) in cc
+
+pub any_found : {X : Type 0} (p : X → Bool) (xs : List X) → list_any p xs ≡ true → (x : X) × Has xs x × (p x ≡ true)
+any_found {X = X} p [] h = absurd (cc)
+any_found {X = X} p (x ∷ xs) h =
+    elim (p x) as (λ b. p x ≡ b → (b || list_any p xs) ≡ true → (y : X) × Has (x ∷ xs) y × (p y ≡ true)) [
+      | true ↦ λ e _. (x, inl refl, e)
+      | false ↦ λ e g. let r = any_found p xs g in (r.0, inr r.1, r.2)
+    ] refl h
+
+pub any_of : {X : Type 0} (p : X → Bool) (xs : List X) (x : X) → Has xs x → p x ≡ true → list_any p xs ≡ true
+any_of p [] x i h = absurd i
+any_of p (y ∷ ys) x i h =
+    ⊎_elim (λ (e : x ≡ y). let e' = ap p e in rw (sym e' ∙ h) refl) (λ j. let e = any_of p ys x j h in elim (p y) as (λ b. (b || list_any p ys) ≡ true) [ true ↦ refl | false ↦ e ]) i
+
+pub all_at : {X : Type 0} (p : X → Bool) (xs : List X) (x : X) → list_all p xs ≡ true → Has xs x → p x ≡ true
+all_at p [] x h i = absurd i
+all_at p (y ∷ ys) x h i =
+    elim (p y) as (λ b. p y ≡ b → (b && list_all p ys) ≡ true → p x ≡ true) [
+      | true ↦ λ e g. ⊎_elim (λ (d : x ≡ y). ap p d ∙ e) (λ j. all_at p ys x g j) i
+      | false ↦ λ e g. absurd (cc)
+    ] refl h
+
+pub all_of : {X : Type 0} (p : X → Bool) (xs : List X) → ((x : X) → Has xs x → p x ≡ true) → list_all p xs ≡ true
+all_of p [] h = refl
+all_of p (y ∷ ys) h = let e = h y (inl refl) in let f = all_of p ys (λ x i. h x (inr i)) in rw e f
+
+-- from a test of two parts
+pub both : (a b : Bool) → (a && b) ≡ true → (a ≡ true) × (b ≡ true)
+both true b h = (refl, h)
+both false b h = absurd (cc)
+
+pub and_true : (a b : Bool) → a ≡ true → b ≡ true → (a && b) ≡ true
+and_true a b h k = rw h k
+
+pub not_true : (a : Bool) → (a ≡ true → ⊥) → not a ≡ true
+not_true true h = absurd (h refl)
+not_true false h = refl
+
+pub not_true-elim : (a : Bool) → not a ≡ true → a ≡ true → ⊥
+not_true-elim true h k = cc
+not_true-elim false h k = cc
+
+-- "where a holds, b does"
+pub if_then : (a b : Bool) → (a ≡ true → b ≡ true) → (not a || b) ≡ true
+if_then true b h = h refl
+if_then false b h = refl
+
+pub if_then-elim : (a b : Bool) → (not a || b) ≡ true → a ≡ true → b ≡ true
+if_then-elim true b h k = h
+if_then-elim false b h k = cc
+
+same_and : (a b c : Bool) → (a ≡ true → b ≡ c) → (a && b) ≡ (a && c)
+same_and true b c h = h refl
+same_and false b c h = refl
+
+same_if_then : (a b c : Bool) → (a ≡ true → b ≡ c) → (not a || b) ≡ (not a || c)
+same_if_then true b c h = h refl
+same_if_then false b c h = refl
+
+-- The rules look at couples of earlier calls alone.
+pub obeys_same : (ms : List Message) (qs : List Receive) (R S : Message → Receive → Bool) (m : Message) (q : Receive) → ((n : Message) (r : Receive) → Has ms n → Has qs r → sent_before n m ≡ true → posted_before r q ≡ true → R n r ≡ S n r) → obeys ms qs R m q ≡ obeys ms qs S m q
+unfolding obeys
+obeys_same ms qs R S m q h =
+    let e4 = all_same
+    (λ n. not (sent_before n m && fits n q) || list_any (λ r. posted_before r q && R n r) qs)
+    (λ n. not (sent_before n m && fits n q) || list_any (λ r. posted_before r q && S n r) qs)
+    ms (λ n i. same_if_then (sent_before n m && fits n q) _ _ (λ b. any_same
+    (λ r. posted_before r q && R n r) (λ r. posted_before r q && S n r) qs
+    (λ r j. same_and (posted_before r q) _ _ (λ pb. h n r i j (both _ _ b).0 pb)))) in
+    let e5 = all_same
+    (λ r. not (is_some r.source && posted_before r q && fits m r) || list_any (λ n. sent_before n m && R n r) ms)
+    (λ r. not (is_some r.source && posted_before r q && fits m r) || list_any (λ n. sent_before n m && S n r) ms)
+    qs (λ r j. same_if_then (is_some r.source && posted_before r q && fits m r) _ _ (λ b. any_same
+    (λ n. sent_before n m && R n r) (λ n. sent_before n m && S n r) ms
+    (λ n i. same_and (sent_before n m) _ _ (λ sb. h n r i j sb (both _ _ (both _ _ b).0).1)))) in
+    rw (e4, e5) refl
+
+pub before_lt : (m n : Message) → sent_before n m ≡ true → n.name.call < m.name.call
+before_lt m n h = let p = (both (eqb n.from m.from) (ltb n.name.call m.name.call) h).1 in grind (arith, nat_tests)
+
+pub posted_lt : (q r : Receive) → posted_before r q ≡ true → r.name.call < q.name.call
+posted_lt q r h = let p = (both (eqb r.at q.at) (ltb r.name.call q.name.call) h).1 in grind (arith, nat_tests)
+
+-- any two bounds above the sum give the same answer
+pub bounds_same : (k j : ℕ) (ms : List Message) (qs : List Receive) (m : Message) (q : Receive) → m.name.call + q.name.call < k → m.name.call + q.name.call < j → paired_below k ms qs m q ≡ paired_below j ms qs m q
+unfolding paired_below
+bounds_same zero j ms qs m q h g = absurd (omega arith)
+bounds_same (suc k) zero ms qs m q h g = absurd (omega arith)
+bounds_same (suc k) (suc j) ms qs m q h g =
+    obeys_same ms qs (paired_below k ms qs) (paired_below j ms qs) m q (λ n r _ _ sb pb.
+    let x = before_lt m n sb in let y = posted_lt q r pb in
+    bounds_same k j ms qs n r (omega arith) (omega arith))
+
+-- the pairs obey the rules
+pub paired_obeys : (ms : List Message) (qs : List Receive) (m : Message) (q : Receive) → paired ms qs m q ≡ obeys ms qs (paired ms qs) m q
+unfolding paired paired_below
+paired_obeys ms qs m q =
+    obeys_same ms qs (paired_below (m.name.call + q.name.call) ms qs) (paired ms qs) m q (λ n r _ _ sb pb.
+    let x = before_lt m n sb in let y = posted_lt q r pb in
+    bounds_same (m.name.call + q.name.call) (suc (n.name.call + r.name.call)) ms qs n r (omega arith) (omega arith))
+
+-- the rules as facts
+pub Obeys-from : (ms : List Message) (qs : List Receive) (R : Message → Receive → Bool) (m : Message) (q : Receive) → obeys ms qs R m q ≡ true → Obeys ms qs (λ n r. R n r ≡ true) m q
+unfolding obeys
+Obeys-from ms qs R m q h =
+    let a1 = is_some q.source in let a2 = fits m q in
+    let a3 = not (list_any (λ u. is_none u.source && posted_before u q && fits m u) qs) in
+    let a4 = list_all (λ n. not (sent_before n m && fits n q) || list_any (λ r. posted_before r q && R n r) qs) ms in
+    let a5 = list_all (λ r. not (is_some r.source && posted_before r q && fits m r) || list_any (λ n. sent_before n m && R n r) ms) qs in
+    let h5 = both (a1 && a2 && a3 && a4) a5 h in
+    let h4 = both (a1 && a2 && a3) a4 h5.0 in
+    let h3 = both (a1 && a2) a3 h4.0 in
+    let h2 = both a1 a2 h3.0 in
+    record {
+      told = h2.0;
+      fit = h2.1;
+      no_untold = λ u i n p f. not_true-elim _ h3.1 (any_of (λ u. is_none u.source && posted_before u q && fits m u) qs u i (and_true (is_none u.source && posted_before u q) (fits m u) (and_true (is_none u.source) (posted_before u q) n p) f));
+      messages = λ n i s f.
+          let g = if_then-elim (sent_before n m && fits n q) _ (all_at (λ n. not (sent_before n m && fits n q) || list_any (λ r. posted_before r q && R n r) qs) ms n h4.1 i) (and_true (sent_before n m) (fits n q) s f) in
+          let w = any_found (λ r. posted_before r q && R n r) qs g in
+          let p = both (posted_before w.0 q) (R n w.0) w.2 in
+          (w.0, w.1, p.0, p.1);
+      receives = λ r i t p f.
+          let g = if_then-elim (is_some r.source && posted_before r q && fits m r) _ (all_at (λ r. not (is_some r.source && posted_before r q && fits m r) || list_any (λ n. sent_before n m && R n r) ms) qs r h5.1 i) (and_true (is_some r.source && posted_before r q) (fits m r) (and_true (is_some r.source) (posted_before r q) t p) f) in
+          let w = any_found (λ n. sent_before n m && R n r) ms g in
+          let p = both (sent_before w.0 m) (R w.0 r) w.2 in
+          (w.0, w.1, p.0, p.1);
+    }
+
+pub obeys-from : (ms : List Message) (qs : List Receive) (R : Message → Receive → Bool) (m : Message) (q : Receive) → Obeys ms qs (λ n r. R n r ≡ true) m q → obeys ms qs R m q ≡ true
+unfolding obeys
+obeys-from ms qs R m q o =
+    let a1 = is_some q.source in let a2 = fits m q in
+    let a3 = not (list_any (λ u. is_none u.source && posted_before u q && fits m u) qs) in
+    let a4 = list_all (λ n. not (sent_before n m && fits n q) || list_any (λ r. posted_before r q && R n r) qs) ms in
+    let a5 = list_all (λ r. not (is_some r.source && posted_before r q && fits m r) || list_any (λ n. sent_before n m && R n r) ms) qs in
+    and_true (a1 && a2 && a3 && a4) a5
+    (and_true (a1 && a2 && a3) a4
+    (and_true (a1 && a2) a3 (and_true a1 a2 o.told o.fit)
+    (not_true (list_any (λ u. is_none u.source && posted_before u q && fits m u) qs) (λ h.
+    let w = any_found (λ u. is_none u.source && posted_before u q && fits m u) qs h in
+    let p = both (is_none w.0.source && posted_before w.0 q) (fits m w.0) w.2 in
+    let p' = both (is_none w.0.source) (posted_before w.0 q) p.0 in
+    o.no_untold w.0 w.1 p'.0 p'.1 p.1)))
+    (all_of (λ n. not (sent_before n m && fits n q) || list_any (λ r. posted_before r q && R n r) qs) ms (λ n i. if_then (sent_before n m && fits n q) _ (λ b.
+    let p = both (sent_before n m) (fits n q) b in
+    let w = o.messages n i p.0 p.1 in
+    any_of (λ r. posted_before r q && R n r) qs w.0 w.1 (and_true (posted_before w.0 q) (R n w.0) w.2 w.3)))))
+    (all_of (λ r. not (is_some r.source && posted_before r q && fits m r) || list_any (λ n. sent_before n m && R n r) ms) qs (λ r i. if_then (is_some r.source && posted_before r q && fits m r) _ (λ b.
+    let p = both (is_some r.source && posted_before r q) (fits m r) b in
+    let p' = both (is_some r.source) (posted_before r q) p.0 in
+    let w = o.receives r i p'.0 p'.1 p.1 in
+    any_of (λ n. sent_before n m && R n r) ms w.0 w.1 (and_true (sent_before w.0 m) (R w.0 r) w.2 w.3))))
+
+-- a pair obeys the five rules, and what obeys them is a pair
+pub pair_obeys : (ms : List Message) (qs : List Receive) (m : Message) (q : Receive) → Paired ms qs m q → Obeys ms qs (Paired ms qs) m q
+pair_obeys ms qs m q h = Obeys-from ms qs (paired ms qs) m q (sym (paired_obeys ms qs m q) ∙ h)
+
+pub obeys_paired : (ms : List Message) (qs : List Receive) (m : Message) (q : Receive) → Obeys ms qs (Paired ms qs) m q → Paired ms qs m q
+obeys_paired ms qs m q o = paired_obeys ms qs m q ∙ obeys-from ms qs (paired ms qs) m q o
+
+-- No other relation obeys them.
+only_below : (k : ℕ) (ms : List Message) (qs : List Receive) (R : Message → Receive → Bool) → ((m : Message) (q : Receive) → Has ms m → Has qs q → R m q ≡ obeys ms qs R m q) → (m : Message) (q : Receive) → m.name.call + q.name.call < k → Has ms m → Has qs q → R m q ≡ paired ms qs m q
+only_below zero ms qs R h m q lt i j = absurd (omega arith)
+only_below (suc k) ms qs R h m q lt i j =
+    h m q i j ∙ obeys_same ms qs R (paired ms qs) m q (λ n r i' j' sb pb.
+    let x = before_lt m n sb in let y = posted_lt q r pb in
+    only_below k ms qs R h n r (omega arith) i' j') ∙ sym (paired_obeys ms qs m q)
+
+pub only_paired : (ms : List Message) (qs : List Receive) (R : Message → Receive → Bool) → ((m : Message) (q : Receive) → Has ms m → Has qs q → R m q ≡ obeys ms qs R m q) → (m : Message) (q : Receive) → Has ms m → Has qs q → R m q ≡ paired ms qs m q
+only_paired ms qs R h m q i j = only_below (suc (m.name.call + q.name.call)) ms qs R h m q (omega arith) i j

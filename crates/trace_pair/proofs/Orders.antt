@@ -1,0 +1,185 @@
+-- The orders of calls and keys are total, and tell all apart.
+use Rattle.std.proofs.Common.{◌≡◌, ℕ, true, refl, ◌∙◌, ap, arith, Option, Some, None, ℤ, ◌<ℤ◌, inl, inr}
+use Rattle.std.specs.declared.cmp.Ordering.{Ordering}
+use Rattle.std.specs.declared.cmp.Ordering.TheVariants.{Less, Equal, Greater}
+use Rattle.std.specs.Ordering.{nat_cmp, int_cmp, ordering_then, is_gt}
+use Rattle.std.specs.Option.{option_cmp}
+use Rattle.std.specs.Cmp.{IsTotalOrder}
+use Rattle.std.specs.Cmp.Lexicographic.{options_total}
+use Rattle.std.proofs.lemmas.Cmp.{on_total, then_total, nat_cmp_total, int_cmp_total, int_ranked, by_ranked}
+use Rattle.std.proofs.lemmas.Bool.{cases_lt}
+use Rattle.mpi_model.specs.declared.envelope.Mode.{Mode}
+use Rattle.mpi_model.specs.declared.envelope.Mode.TheVariants.{Standard, Synchronous, Buffered, Ready}
+use Rattle.mpi_model.specs.contracts.envelope.ModeOrd.TheImpl.Laws as mode_laws
+use Rattle.std.proofs.lemmas.Bool.Decides.{nat_tests}
+use Rattle.std.proofs.lemmas.Map.Lookups.{CmpEqualImpliesEq}
+use Rattle.mpi_model.specs.declared.event.OpName.{OpName}
+use Rattle.mpi_model.specs.declared.message.Message.{Message}
+use Rattle.mpi_model.specs.declared.message.Receive.{Receive}
+use Rattle.trace_pair.specs.Indexed.{couple_of, name_lt}
+use Rattle.trace_pair.specs.KeyOrders.{name_cmp, message_cmp, receive_cmp, couple_cmp, Queue, queue_cmp, Lane, lane_cmp, Group, group_cmp, mode_cmp}
+use Rattle.trace_pair.specs.declared.pair.Couple.{Couple}
+
+then_equal : (a b : Ordering) → ordering_then a b ≡ Equal → (a ≡ Equal) × (b ≡ Equal)
+then_equal Less b h = absurd (cc)
+then_equal Equal b h = (refl, h)
+then_equal Greater b h = absurd (cc)
+
+pub exact_nats : CmpEqualImpliesEq nat_cmp
+exact_nats a b h = grind (arith, nat_tests)
+
+exact_ints : CmpEqualImpliesEq int_cmp
+exact_ints a b h = by_ranked (a <ℤ b) (a ≡ b) (b <ℤ a) (int_cmp a b) (int_ranked a b (int_cmp a b) refl) (λ e _. absurd (cc)) (λ _ e. e) (λ e _. absurd (cc))
+
+exact_modes : CmpEqualImpliesEq mode_cmp
+exact_modes Standard Standard h = refl
+exact_modes Synchronous Synchronous h = refl
+exact_modes Buffered Buffered h = refl
+exact_modes Ready Ready h = refl
+exact_modes Standard Synchronous h = absurd (cc)
+exact_modes Standard Buffered h = absurd (cc)
+exact_modes Standard Ready h = absurd (cc)
+exact_modes Synchronous Standard h = absurd (cc)
+exact_modes Synchronous Buffered h = absurd (cc)
+exact_modes Synchronous Ready h = absurd (cc)
+exact_modes Buffered Standard h = absurd (cc)
+exact_modes Buffered Synchronous h = absurd (cc)
+exact_modes Buffered Ready h = absurd (cc)
+exact_modes Ready Standard h = absurd (cc)
+exact_modes Ready Synchronous h = absurd (cc)
+exact_modes Ready Buffered h = absurd (cc)
+
+exact_options : CmpEqualImpliesEq (option_cmp nat_cmp)
+exact_options None None h = refl
+exact_options None (Some b) h = absurd (cc)
+exact_options (Some a) None h = absurd (cc)
+exact_options (Some a) (Some b) h = ap (λ (x : ℕ). Some x) (exact_nats a b h)
+
+name_total : IsTotalOrder name_cmp
+name_total = then_total (on_total (λ (x : OpName). x.rank) nat_cmp_total) (on_total (λ (x : OpName). x.call) nat_cmp_total)
+
+pub messages_total : IsTotalOrder message_cmp
+messages_total = then_total (on_total (λ (x : Message). x.name) name_total) (then_total (on_total (λ (x : Message). x.comm) nat_cmp_total) (then_total (on_total (λ (x : Message). x.from) nat_cmp_total) (then_total (on_total (λ (x : Message). x.to) nat_cmp_total) (then_total (on_total (λ (x : Message). x.tag) nat_cmp_total) (then_total (on_total (λ (x : Message). x.mode) mode_laws.total-law) (then_total (on_total (λ (x : Message). x.count) nat_cmp_total) (on_total (λ (x : Message). x.datatype) int_cmp_total)))))))
+
+pub receives_total : IsTotalOrder receive_cmp
+receives_total = then_total (on_total (λ (x : Receive). x.name) name_total) (then_total (on_total (λ (x : Receive). x.comm) nat_cmp_total) (then_total (on_total (λ (x : Receive). x.at) nat_cmp_total) (then_total (on_total (λ (x : Receive). x.source) (options_total nat_cmp_total)) (then_total (on_total (λ (x : Receive). x.tag) (options_total nat_cmp_total)) (then_total (on_total (λ (x : Receive). x.count) nat_cmp_total) (on_total (λ (x : Receive). x.datatype) int_cmp_total))))))
+
+pub queues_total : IsTotalOrder queue_cmp
+queues_total = then_total (then_total (then_total (on_total (λ (x : Queue). x.0) nat_cmp_total) (on_total (λ (x : Queue). x.1) nat_cmp_total)) (on_total (λ (x : Queue). x.2) nat_cmp_total)) (on_total (λ (x : Queue). x.3) nat_cmp_total)
+
+pub lanes_total : IsTotalOrder lane_cmp
+lanes_total = then_total (then_total (on_total (λ (x : Lane). x.0) nat_cmp_total) (on_total (λ (x : Lane). x.1) nat_cmp_total)) (on_total (λ (x : Lane). x.2) nat_cmp_total)
+
+pub groups_total : IsTotalOrder group_cmp
+groups_total = then_total (then_total (then_total (on_total (λ (x : Group). x.0) nat_cmp_total) (on_total (λ (x : Group). x.1) nat_cmp_total)) (on_total (λ (x : Group). x.2) (options_total nat_cmp_total))) (on_total (λ (x : Group). x.3) (options_total nat_cmp_total))
+
+abbrev name : ℕ → ℕ → OpName
+name r c = record { rank = r; call = c }
+
+abbrev message : OpName → ℕ → ℕ → ℕ → ℕ → Mode → ℕ → ℤ → Message
+message n c f t g k e d = record { name = n; comm = c; from = f; to = t; tag = g; mode = k; count = e; datatype = d }
+
+abbrev receive : OpName → ℕ → ℕ → Option ℕ → Option ℕ → ℕ → ℤ → Receive
+receive n c a s g e d = record { name = n; comm = c; at = a; source = s; tag = g; count = e; datatype = d }
+
+abbrev queue : ℕ → ℕ → ℕ → ℕ → Queue
+queue a b c d = (a, b, c, d)
+
+abbrev lane : ℕ → ℕ → ℕ → Lane
+lane a b c = (a, b, c)
+
+abbrev group : ℕ → ℕ → Option ℕ → Option ℕ → Group
+group a b c d = (a, b, c, d)
+
+exact_names : CmpEqualImpliesEq name_cmp
+exact_names a b h =
+    let h0 = then_equal (nat_cmp a.rank b.rank) (nat_cmp a.call b.call) h in
+    ap (λ x. name x a.call) (exact_nats a.rank b.rank h0.0)
+    ∙ ap (λ x. name b.rank x) (exact_nats a.call b.call h0.1)
+
+pub exact_messages : CmpEqualImpliesEq message_cmp
+exact_messages a b h =
+    let h0 = then_equal (name_cmp a.name b.name) (ordering_then (nat_cmp a.comm b.comm) (ordering_then (nat_cmp a.from b.from) (ordering_then (nat_cmp a.to b.to) (ordering_then (nat_cmp a.tag b.tag) (ordering_then (mode_cmp a.mode b.mode) (ordering_then (nat_cmp a.count b.count) (int_cmp a.datatype b.datatype))))))) h in
+    let h1 = then_equal (nat_cmp a.comm b.comm) (ordering_then (nat_cmp a.from b.from) (ordering_then (nat_cmp a.to b.to) (ordering_then (nat_cmp a.tag b.tag) (ordering_then (mode_cmp a.mode b.mode) (ordering_then (nat_cmp a.count b.count) (int_cmp a.datatype b.datatype)))))) h0.1 in
+    let h2 = then_equal (nat_cmp a.from b.from) (ordering_then (nat_cmp a.to b.to) (ordering_then (nat_cmp a.tag b.tag) (ordering_then (mode_cmp a.mode b.mode) (ordering_then (nat_cmp a.count b.count) (int_cmp a.datatype b.datatype))))) h1.1 in
+    let h3 = then_equal (nat_cmp a.to b.to) (ordering_then (nat_cmp a.tag b.tag) (ordering_then (mode_cmp a.mode b.mode) (ordering_then (nat_cmp a.count b.count) (int_cmp a.datatype b.datatype)))) h2.1 in
+    let h4 = then_equal (nat_cmp a.tag b.tag) (ordering_then (mode_cmp a.mode b.mode) (ordering_then (nat_cmp a.count b.count) (int_cmp a.datatype b.datatype))) h3.1 in
+    let h5 = then_equal (mode_cmp a.mode b.mode) (ordering_then (nat_cmp a.count b.count) (int_cmp a.datatype b.datatype)) h4.1 in
+    let h6 = then_equal (nat_cmp a.count b.count) (int_cmp a.datatype b.datatype) h5.1 in
+    ap (λ x. message x a.comm a.from a.to a.tag a.mode a.count a.datatype) (exact_names a.name b.name h0.0)
+    ∙ ap (λ x. message b.name x a.from a.to a.tag a.mode a.count a.datatype) (exact_nats a.comm b.comm h1.0)
+    ∙ ap (λ x. message b.name b.comm x a.to a.tag a.mode a.count a.datatype) (exact_nats a.from b.from h2.0)
+    ∙ ap (λ x. message b.name b.comm b.from x a.tag a.mode a.count a.datatype) (exact_nats a.to b.to h3.0)
+    ∙ ap (λ x. message b.name b.comm b.from b.to x a.mode a.count a.datatype) (exact_nats a.tag b.tag h4.0)
+    ∙ ap (λ x. message b.name b.comm b.from b.to b.tag x a.count a.datatype) (exact_modes a.mode b.mode h5.0)
+    ∙ ap (λ x. message b.name b.comm b.from b.to b.tag b.mode x a.datatype) (exact_nats a.count b.count h6.0)
+    ∙ ap (λ x. message b.name b.comm b.from b.to b.tag b.mode b.count x) (exact_ints a.datatype b.datatype h6.1)
+
+pub exact_receives : CmpEqualImpliesEq receive_cmp
+exact_receives a b h =
+    let h0 = then_equal (name_cmp a.name b.name) (ordering_then (nat_cmp a.comm b.comm) (ordering_then (nat_cmp a.at b.at) (ordering_then (option_cmp nat_cmp a.source b.source) (ordering_then (option_cmp nat_cmp a.tag b.tag) (ordering_then (nat_cmp a.count b.count) (int_cmp a.datatype b.datatype)))))) h in
+    let h1 = then_equal (nat_cmp a.comm b.comm) (ordering_then (nat_cmp a.at b.at) (ordering_then (option_cmp nat_cmp a.source b.source) (ordering_then (option_cmp nat_cmp a.tag b.tag) (ordering_then (nat_cmp a.count b.count) (int_cmp a.datatype b.datatype))))) h0.1 in
+    let h2 = then_equal (nat_cmp a.at b.at) (ordering_then (option_cmp nat_cmp a.source b.source) (ordering_then (option_cmp nat_cmp a.tag b.tag) (ordering_then (nat_cmp a.count b.count) (int_cmp a.datatype b.datatype)))) h1.1 in
+    let h3 = then_equal (option_cmp nat_cmp a.source b.source) (ordering_then (option_cmp nat_cmp a.tag b.tag) (ordering_then (nat_cmp a.count b.count) (int_cmp a.datatype b.datatype))) h2.1 in
+    let h4 = then_equal (option_cmp nat_cmp a.tag b.tag) (ordering_then (nat_cmp a.count b.count) (int_cmp a.datatype b.datatype)) h3.1 in
+    let h5 = then_equal (nat_cmp a.count b.count) (int_cmp a.datatype b.datatype) h4.1 in
+    ap (λ x. receive x a.comm a.at a.source a.tag a.count a.datatype) (exact_names a.name b.name h0.0)
+    ∙ ap (λ x. receive b.name x a.at a.source a.tag a.count a.datatype) (exact_nats a.comm b.comm h1.0)
+    ∙ ap (λ x. receive b.name b.comm x a.source a.tag a.count a.datatype) (exact_nats a.at b.at h2.0)
+    ∙ ap (λ x. receive b.name b.comm b.at x a.tag a.count a.datatype) (exact_options a.source b.source h3.0)
+    ∙ ap (λ x. receive b.name b.comm b.at b.source x a.count a.datatype) (exact_options a.tag b.tag h4.0)
+    ∙ ap (λ x. receive b.name b.comm b.at b.source b.tag x a.datatype) (exact_nats a.count b.count h5.0)
+    ∙ ap (λ x. receive b.name b.comm b.at b.source b.tag b.count x) (exact_ints a.datatype b.datatype h5.1)
+
+pub exact_queues : CmpEqualImpliesEq queue_cmp
+exact_queues a b h =
+    let h3 = then_equal (ordering_then (ordering_then (nat_cmp a.0 b.0) (nat_cmp a.1 b.1)) (nat_cmp a.2 b.2)) (nat_cmp a.3 b.3) h in
+    let h2 = then_equal (ordering_then (nat_cmp a.0 b.0) (nat_cmp a.1 b.1)) (nat_cmp a.2 b.2) h3.0 in
+    let h1 = then_equal (nat_cmp a.0 b.0) (nat_cmp a.1 b.1) h2.0 in
+    ap (λ x. queue x a.1 a.2 a.3) (exact_nats a.0 b.0 h1.0)
+    ∙ ap (λ x. queue b.0 x a.2 a.3) (exact_nats a.1 b.1 h1.1)
+    ∙ ap (λ x. queue b.0 b.1 x a.3) (exact_nats a.2 b.2 h2.1)
+    ∙ ap (λ x. queue b.0 b.1 b.2 x) (exact_nats a.3 b.3 h3.1)
+
+pub exact_lanes : CmpEqualImpliesEq lane_cmp
+exact_lanes a b h =
+    let h2 = then_equal (ordering_then (nat_cmp a.0 b.0) (nat_cmp a.1 b.1)) (nat_cmp a.2 b.2) h in
+    let h1 = then_equal (nat_cmp a.0 b.0) (nat_cmp a.1 b.1) h2.0 in
+    ap (λ x. lane x a.1 a.2) (exact_nats a.0 b.0 h1.0)
+    ∙ ap (λ x. lane b.0 x a.2) (exact_nats a.1 b.1 h1.1)
+    ∙ ap (λ x. lane b.0 b.1 x) (exact_nats a.2 b.2 h2.1)
+
+pub exact_groups : CmpEqualImpliesEq group_cmp
+exact_groups a b h =
+    let h3 = then_equal (ordering_then (ordering_then (nat_cmp a.0 b.0) (nat_cmp a.1 b.1)) (option_cmp nat_cmp a.2 b.2)) (option_cmp nat_cmp a.3 b.3) h in
+    let h2 = then_equal (ordering_then (nat_cmp a.0 b.0) (nat_cmp a.1 b.1)) (option_cmp nat_cmp a.2 b.2) h3.0 in
+    let h1 = then_equal (nat_cmp a.0 b.0) (nat_cmp a.1 b.1) h2.0 in
+    ap (λ x. group x a.1 a.2 a.3) (exact_nats a.0 b.0 h1.0)
+    ∙ ap (λ x. group b.0 x a.2 a.3) (exact_nats a.1 b.1 h1.1)
+    ∙ ap (λ x. group b.0 b.1 x a.3) (exact_options a.2 b.2 h2.1)
+    ∙ ap (λ x. group b.0 b.1 b.2 x) (exact_options a.3 b.3 h3.1)
+
+pub couples_total : IsTotalOrder couple_cmp
+couples_total = then_total (on_total (λ (x : Couple). x.message) messages_total) (on_total (λ (x : Couple). x.receive) receives_total)
+
+pub exact_couples : CmpEqualImpliesEq couple_cmp
+exact_couples a b h =
+    let h0 = then_equal (message_cmp a.message b.message) (receive_cmp a.receive b.receive) h in
+    ap (λ x. couple_of x a.receive) (exact_messages a.message b.message h0.0) ∙ ap (λ x. couple_of b.message x) (exact_receives a.receive b.receive h0.1)
+
+-- the later name is above
+above_name : (a b : OpName) (rest : Ordering) → name_lt a b ≡ true → is_gt (ordering_then (name_cmp b a) rest) ≡ true
+above_name a b rest h =
+    elim (cases_lt a.rank b.rank) [
+      | inl lt ↦ let e : nat_cmp b.rank a.rank ≡ Greater = grind (arith, nat_tests) in
+          ap (λ x. is_gt (ordering_then (ordering_then x (nat_cmp b.call a.call)) rest)) e
+      | inr le ↦ let e : nat_cmp b.rank a.rank ≡ Equal = grind (arith, nat_tests) in
+          let f : nat_cmp b.call a.call ≡ Greater = grind (arith, nat_tests) in
+          ap (λ x. is_gt (ordering_then (ordering_then x (nat_cmp b.call a.call)) rest)) e ∙ ap (λ x. is_gt (ordering_then x rest)) f
+    ]
+
+pub later_message : (p n : Message) → name_lt p.name n.name ≡ true → is_gt (message_cmp n p) ≡ true
+later_message p n h = above_name p.name n.name _ h
+
+pub later_receive : (p q : Receive) → name_lt p.name q.name ≡ true → is_gt (receive_cmp q p) ≡ true
+later_receive p q h = above_name p.name q.name _ h

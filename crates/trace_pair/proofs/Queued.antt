@@ -1,0 +1,242 @@
+-- Where the messages, receives and couples of an index stand.
+use Rattle.std.proofs.Common.{subst, ◌≡◌, ℕ, Bool, true, false, ◌&&◌, ◌||◌, List, inl, inr, ⊎_elim, sym, refl, ◌∙◌, ap, arith, ◌⊎◌, Option, Some, None, eqb}
+use Rattle.std.specs.Prelude.{is_some, IfSome, IfNone}
+use Rattle.std.specs.Ordering.{is_gt}
+use Rattle.std.specs.BTreeMap.{BTreeMap}
+use Rattle.std.specs.BTreeSet.{BTreeSet}
+use Rattle.std.proofs.lemmas.Bool.Decides.{nat_tests}
+use Rattle.mpi_model.specs.declared.message.Message.{Message}
+use Rattle.mpi_model.specs.declared.message.Receive.{Receive}
+use Rattle.mpi_model.specs.Fit.{fits, admits}
+use Rattle.trace_ops.specs.Order.{Has}
+use Rattle.trace_pair.specs.Groups.{has, members}
+use Rattle.trace_pair.specs.Indexed.{IsFirstMessage, IsFirstReceive, couple_of, name_lt}
+use Rattle.trace_pair.specs.KeyOrders.{message_cmp, receive_cmp, couple_cmp, Queue, queue_cmp, queue_of, Lane, lane_cmp, lane_of, Group, group_cmp, group_of}
+use Rattle.trace_pair.specs.Queues.{AreQueued, AreGrouped, AreCoupled, alike, of_kind, IsBestAmong}
+use Rattle.trace_pair.specs.declared.pair.Couple.{Couple}
+use Rattle.trace_pair.proofs.Obeyed.{both, and_true}
+use Rattle.trace_pair.proofs.Names.{name_along, name_not_later}
+use Rattle.trace_pair.proofs.Members.{has_member, stands}
+use Rattle.trace_pair.proofs.Orders.{messages_total, receives_total, couples_total, queues_total, groups_total, exact_messages, exact_receives, exact_couples, exact_queues, exact_groups, later_message, later_receive}
+
+nat_says : (a b : ℕ) → eqb a b ≡ true → a ≡ b
+nat_says a b h = grind (arith, nat_tests)
+
+equal_nats : (a b : ℕ) → a ≡ b → eqb a b ≡ true
+equal_nats a b e = grind (arith, nat_tests)
+
+admits_says : (s x : ℕ) → admits (Some s) x ≡ true → s ≡ x
+admits_says s x h = nat_says s x h
+
+fit_parts : (m : Message) (q : Receive) → fits m q ≡ true → (m.comm ≡ q.comm) × (m.to ≡ q.at) × (admits q.source m.from ≡ true) × (admits q.tag m.tag ≡ true)
+fit_parts m q h =
+    let a = eqb m.comm q.comm in let b = eqb m.to q.at in let s = admits q.source m.from in let t = admits q.tag m.tag in
+    let h3 = both (a && b && s) t h in let h2 = both (a && b) s h3.0 in let h1 = both a b h2.0 in
+    (nat_says m.comm q.comm h1.0, nat_says m.to q.at h1.1, h2.1, h3.1)
+
+fit_from : (m : Message) (q : Receive) → m.comm ≡ q.comm → m.to ≡ q.at → admits q.source m.from ≡ true → admits q.tag m.tag ≡ true → fits m q ≡ true
+fit_from m q c r s t =
+    let a = eqb m.comm q.comm in let b = eqb m.to q.at in let x = admits q.source m.from in let y = admits q.tag m.tag in
+    and_true (a && b && x) y (and_true (a && b) x (and_true a b (equal_nats m.comm q.comm c) (equal_nats m.to q.at r)) s) t
+
+not_least : (b : Bool) → b ≡ true → b ≡ false → ⊥
+not_least true h g = cc
+not_least false h g = cc
+
+abbrev queue : ℕ → ℕ → ℕ → ℕ → Queue
+queue a b c d = (a, b, c, d)
+
+abbrev lane : ℕ → ℕ → ℕ → Lane
+lane a b c = (a, b, c)
+
+abbrev group : ℕ → ℕ → Option ℕ → Option ℕ → Group
+group a b c d = (a, b, c, d)
+
+module _ (tagged : BTreeMap Queue (BTreeSet Message)) (lanes : BTreeMap Lane (BTreeSet Message)) (inv : AreQueued tagged lanes) where
+  pub in_queue : (m : Message) → has queue_cmp message_cmp tagged (queue_of m) m ≡ true → Has (members tagged) m
+  in_queue m h = has_member queues_total exact_queues messages_total exact_messages tagged inv.first_ordered (queue_of m) m h
+
+  at_queue : (m : Message) → Has (members tagged) m → has queue_cmp message_cmp tagged (queue_of m) m ≡ true
+  at_queue m i = stands queues_total exact_queues messages_total exact_messages queue_of tagged inv.first_ordered inv.first_placed m i
+
+  -- the first of a queue is the first that fits a receive of its tag
+  queue_fits : (q : Receive) (s t : ℕ) (n : Message) → q.source ≡ Some s → q.tag ≡ Some t → fits n q ≡ true → queue q.comm s q.at t ≡ queue_of n
+  queue_fits q s t n e f h =
+      let p = fit_parts n q h in
+      let a : s ≡ n.from = admits_says s n.from (ap (λ (o : Option ℕ). admits o n.from) (sym e) ∙ p.2) in
+      let b : t ≡ n.tag = admits_says t n.tag (ap (λ (o : Option ℕ). admits o n.tag) (sym f) ∙ p.3) in
+      ap (λ c. queue c s q.at t) (sym p.0) ∙ ap (λ r. queue n.comm r q.at t) a ∙ ap (λ r. queue n.comm n.from r t) (sym p.1) ∙ ap (λ r. queue n.comm n.from n.to r) b
+
+  pub queue_first : (q : Receive) (s t : ℕ) (n : Message) → q.source ≡ Some s → q.tag ≡ Some t → has queue_cmp message_cmp tagged (queue q.comm s q.at t) n ≡ true →
+      ((d : Message) → has queue_cmp message_cmp tagged (queue q.comm s q.at t) d ≡ true → is_gt (message_cmp n d) ≡ false) → IsFirstMessage (members tagged) q n
+  queue_first q s t n e f h least =
+      let k : queue q.comm s q.at t ≡ queue_of n = inv.first_placed (queue q.comm s q.at t) n h in
+      record {
+        member = has_member queues_total exact_queues messages_total exact_messages tagged inv.first_ordered (queue q.comm s q.at t) n h;
+        fit = fit_from n q (sym (ap (λ (x : Queue). x.0) k)) (sym (ap (λ (x : Queue). x.2) k))
+            (ap (λ (o : Option ℕ). admits o n.from) e ∙ equal_nats s n.from (ap (λ (x : Queue). x.1) k))
+            (ap (λ (o : Option ℕ). admits o n.tag) f ∙ equal_nats t n.tag (ap (λ (x : Queue). x.3) k));
+        first = λ p i g b. not_least (is_gt (message_cmp n p)) (later_message p n b)
+            (least p (ap (λ (x : Queue). has queue_cmp message_cmp tagged x p) (queue_fits q s t p e f g) ∙ at_queue p i));
+      }
+
+  pub queue_none : (q : Receive) (s t : ℕ) → q.source ≡ Some s → q.tag ≡ Some t → ((d : Message) → has queue_cmp message_cmp tagged (queue q.comm s q.at t) d ≡ false) →
+      (n : Message) → Has (members tagged) n → fits n q ≡ true → ⊥
+  queue_none q s t e f none n i g =
+      not_least (has queue_cmp message_cmp tagged (queue q.comm s q.at t) n) (ap (λ (x : Queue). has queue_cmp message_cmp tagged x n) (queue_fits q s t n e f g) ∙ at_queue n i) (none n)
+
+  -- the first of a lane is the first that fits a receive of any tag
+  lane_fits : (q : Receive) (s : ℕ) (n : Message) → q.source ≡ Some s → fits n q ≡ true → lane q.comm s q.at ≡ lane_of n
+  lane_fits q s n e h =
+      let p = fit_parts n q h in
+      let a : s ≡ n.from = admits_says s n.from (ap (λ (o : Option ℕ). admits o n.from) (sym e) ∙ p.2) in
+      ap (λ c. lane c s q.at) (sym p.0) ∙ ap (λ r. lane n.comm r q.at) a ∙ ap (λ r. lane n.comm n.from r) (sym p.1)
+
+  at_lane : (m : Message) → Has (members tagged) m → has lane_cmp message_cmp lanes (lane_of m) m ≡ true
+  at_lane m i = sym (inv.same m) ∙ at_queue m i
+
+  pub lane_first : (q : Receive) (s : ℕ) (n : Message) → q.source ≡ Some s → q.tag ≡ None → has lane_cmp message_cmp lanes (lane q.comm s q.at) n ≡ true →
+      ((d : Message) → has lane_cmp message_cmp lanes (lane q.comm s q.at) d ≡ true → is_gt (message_cmp n d) ≡ false) → IsFirstMessage (members tagged) q n
+  lane_first q s n e f h least =
+      let k : lane q.comm s q.at ≡ lane_of n = inv.second_placed (lane q.comm s q.at) n h in
+      record {
+        member = in_queue n (inv.same n ∙ ap (λ (x : Lane). has lane_cmp message_cmp lanes x n) (sym k) ∙ h);
+        fit = fit_from n q (sym (ap (λ (x : Lane). x.0) k)) (sym (ap (λ (x : Lane). x.2) k))
+            (ap (λ (o : Option ℕ). admits o n.from) e ∙ equal_nats s n.from (ap (λ (x : Lane). x.1) k))
+            (ap (λ (o : Option ℕ). admits o n.tag) f);
+        first = λ p i g b. not_least (is_gt (message_cmp n p)) (later_message p n b)
+            (least p (ap (λ (x : Lane). has lane_cmp message_cmp lanes x p) (lane_fits q s p e g) ∙ at_lane p i));
+      }
+
+  pub lane_none : (q : Receive) (s : ℕ) → q.source ≡ Some s → ((d : Message) → has lane_cmp message_cmp lanes (lane q.comm s q.at) d ≡ false) →
+      (n : Message) → Has (members tagged) n → fits n q ≡ true → ⊥
+  lane_none q s e none n i g =
+      not_least (has lane_cmp message_cmp lanes (lane q.comm s q.at) n) (ap (λ (x : Lane). has lane_cmp message_cmp lanes x n) (lane_fits q s n e g) ∙ at_lane n i) (none n)
+
+  pub queue_if : (q : Receive) (s t : ℕ) (o : Option Message) → q.source ≡ Some s → q.tag ≡ Some t →
+      IfSome o (λ n. (has queue_cmp message_cmp tagged (queue q.comm s q.at t) n ≡ true) × ((d : Message) → has queue_cmp message_cmp tagged (queue q.comm s q.at t) d ≡ true → is_gt (message_cmp n d) ≡ false)) →
+      IfSome o (IsFirstMessage (members tagged) q)
+  queue_if q s t None e f h = tt
+  queue_if q s t (Some n) e f h = queue_first q s t n e f h.0 h.1
+
+  pub queue_if_none : (q : Receive) (s t : ℕ) (o : Option Message) → q.source ≡ Some s → q.tag ≡ Some t → IfNone o ((d : Message) → has queue_cmp message_cmp tagged (queue q.comm s q.at t) d ≡ false) →
+      IfNone o (is_some q.source ≡ true → (n : Message) → Has (members tagged) n → fits n q ≡ true → ⊥)
+  queue_if_none q s t None e f h = λ told. queue_none q s t e f h
+  queue_if_none q s t (Some n) e f h = tt
+
+  pub lane_if : (q : Receive) (s : ℕ) (o : Option Message) → q.source ≡ Some s → q.tag ≡ None →
+      IfSome o (λ n. (has lane_cmp message_cmp lanes (lane q.comm s q.at) n ≡ true) × ((d : Message) → has lane_cmp message_cmp lanes (lane q.comm s q.at) d ≡ true → is_gt (message_cmp n d) ≡ false)) →
+      IfSome o (IsFirstMessage (members tagged) q)
+  lane_if q s None e f h = tt
+  lane_if q s (Some n) e f h = lane_first q s n e f h.0 h.1
+
+  pub lane_if_none : (q : Receive) (s : ℕ) (o : Option Message) → q.source ≡ Some s → IfNone o ((d : Message) → has lane_cmp message_cmp lanes (lane q.comm s q.at) d ≡ false) →
+      IfNone o (is_some q.source ≡ true → (n : Message) → Has (members tagged) n → fits n q ≡ true → ⊥)
+  lane_if_none q s None e h = λ told. lane_none q s e h
+  lane_if_none q s (Some n) e h = tt
+
+module _ (groups : BTreeMap Group (BTreeSet Receive)) (inv : AreGrouped groups) where
+  at_group : (r : Receive) → Has (members groups) r → has group_cmp receive_cmp groups (group_of r) r ≡ true
+  at_group r i = stands groups_total exact_groups receives_total exact_receives group_of groups inv.ordered inv.placed r i
+
+  told_alike : (a b : Option ℕ) (x : ℕ) → alike a b ≡ true → admits a x ≡ true → admits b x ≡ true → a ≡ b
+  told_alike None None x h f g = refl
+  told_alike None (Some b) x h f g = absurd (cc)
+  told_alike (Some a) None x h f g = absurd (cc)
+  told_alike (Some a) (Some b) x h f g = ap (λ (y : ℕ). Some y) (admits_says a x f ∙ sym (admits_says b x g))
+
+  group_fits : (m : Message) (source tag : Option ℕ) (r : Receive) → admits source m.from ≡ true → admits tag m.tag ≡ true → of_kind source tag r ≡ true → fits m r ≡ true → group m.comm m.to source tag ≡ group_of r
+  group_fits m source tag r a b k h =
+      let p = fit_parts m r h in
+      let t = both (alike source r.source) (alike tag r.tag) k in
+      let x = told_alike source r.source m.from t.0 a p.2 in
+      let y = told_alike tag r.tag m.tag t.1 b p.3 in
+      ap (λ c. group c m.to source tag) p.0 ∙ ap (λ c. group r.comm c source tag) p.1 ∙ ap (λ c. group r.comm r.at c tag) x ∙ ap (λ c. group r.comm r.at r.source c) y
+
+  pub group_first : (m : Message) (source tag : Option ℕ) (q : Receive) → admits source m.from ≡ true → admits tag m.tag ≡ true → has group_cmp receive_cmp groups (group m.comm m.to source tag) q ≡ true →
+      ((d : Receive) → has group_cmp receive_cmp groups (group m.comm m.to source tag) d ≡ true → is_gt (receive_cmp q d) ≡ false) → IsBestAmong (members groups) m (of_kind source tag) (Some q)
+  group_first m source tag q a b h least =
+      let k : group m.comm m.to source tag ≡ group_of q = inv.placed (group m.comm m.to source tag) q h in (
+        has_member groups_total exact_groups receives_total exact_receives groups inv.ordered (group m.comm m.to source tag) q h,
+        fit_from m q (ap (λ (x : Group). x.0) k) (ap (λ (x : Group). x.1) k)
+            (ap (λ (o : Option ℕ). admits o m.from) (sym (ap (λ (x : Group). x.2) k)) ∙ a) (ap (λ (o : Option ℕ). admits o m.tag) (sym (ap (λ (x : Group). x.3) k)) ∙ b),
+        λ r i g f p. not_least (is_gt (receive_cmp q r)) (later_receive r q p)
+            (least r (ap (λ (x : Group). has group_cmp receive_cmp groups x r) (group_fits m source tag r a b g f) ∙ at_group r i)),
+      )
+
+  pub group_none : (m : Message) (source tag : Option ℕ) → admits source m.from ≡ true → admits tag m.tag ≡ true → ((d : Receive) → has group_cmp receive_cmp groups (group m.comm m.to source tag) d ≡ false) →
+      IsBestAmong (members groups) m (of_kind source tag) None
+  group_none m source tag a b none r i g f =
+      not_least (has group_cmp receive_cmp groups (group m.comm m.to source tag) r) (ap (λ (x : Group). has group_cmp receive_cmp groups x r) (group_fits m source tag r a b g f) ∙ at_group r i) (none r)
+
+  pub group_if : (m : Message) (source tag : Option ℕ) (o : Option Receive) → admits source m.from ≡ true → admits tag m.tag ≡ true →
+      IfSome o (λ q. (has group_cmp receive_cmp groups (group m.comm m.to source tag) q ≡ true) × ((d : Receive) → has group_cmp receive_cmp groups (group m.comm m.to source tag) d ≡ true → is_gt (receive_cmp q d) ≡ false)) →
+      IfNone o ((d : Receive) → has group_cmp receive_cmp groups (group m.comm m.to source tag) d ≡ false) → IsBestAmong (members groups) m (of_kind source tag) o
+  group_if m source tag None a b h g = group_none m source tag a b g
+  group_if m source tag (Some q) a b h g = group_first m source tag q a b h.0 h.1
+
+-- the earlier of two
+or_left : (a b : Bool) → (a || b) ≡ true → (a ≡ true) ⊎ (b ≡ true)
+or_left true b h = inl refl
+or_left false b h = inr h
+
+module _ (xs : List Receive) (m : Message) (p t : Receive → Bool) where
+  pub best_second : (b : Option Receive) → IsBestAmong xs m p None → IsBestAmong xs m t b → IsBestAmong xs m (λ r. p r || t r) b
+  best_second None h g = λ r i k f. ⊎_elim (λ (x : p r ≡ true). h r i x f) (λ (x : t r ≡ true). g r i x f) (or_left (p r) (t r) k)
+  best_second (Some q) h g = (g.0, g.1, λ r i k f b. ⊎_elim (λ (x : p r ≡ true). h r i x f) (λ (x : t r ≡ true). g.2 r i x f b) (or_left (p r) (t r) k))
+
+  pub best_first : (q : Receive) → IsBestAmong xs m p (Some q) → IsBestAmong xs m t None → IsBestAmong xs m (λ r. p r || t r) (Some q)
+  best_first q h g = (h.0, h.1, λ r i k f b. ⊎_elim (λ (x : p r ≡ true). h.2 r i x f b) (λ (x : t r ≡ true). g r i x f) (or_left (p r) (t r) k))
+
+  pub best_later : (q s : Receive) → name_lt s.name q.name ≡ true → IsBestAmong xs m p (Some q) → IsBestAmong xs m t (Some s) → IsBestAmong xs m (λ r. p r || t r) (Some s)
+  best_later q s e h g = (g.0, g.1, λ r i k f b. ⊎_elim (λ (x : p r ≡ true). h.2 r i x f (name_along r.name s.name q.name b e)) (λ (x : t r ≡ true). g.2 r i x f b) (or_left (p r) (t r) k))
+
+  pub best_earlier : (q s : Receive) → name_lt s.name q.name ≡ false → IsBestAmong xs m p (Some q) → IsBestAmong xs m t (Some s) → IsBestAmong xs m (λ r. p r || t r) (Some q)
+  best_earlier q s e h g = (
+    h.0,
+    h.1,
+    λ r i k f b. ⊎_elim (λ (x : p r ≡ true). h.2 r i x f b)
+        (λ (x : t r ≡ true). g.2 r i x f (name_not_later r.name q.name s.name b e)) (or_left (p r) (t r) k),
+  )
+
+-- each receive is of one of the four kinds
+kinds : (a b : Option ℕ) (x y : ℕ) → ((alike (Some x) a && alike (Some y) b) || (alike (Some x) a && alike None b) || ((alike None a && alike (Some y) b) || (alike None a && alike None b))) ≡ true
+kinds None None x y = refl
+kinds None (Some b) x y = refl
+kinds (Some a) None x y = refl
+kinds (Some a) (Some b) x y = refl
+
+abbrev all_kinds : Message → Receive → Bool
+all_kinds m r = (of_kind (Some m.from) (Some m.tag) r || of_kind (Some m.from) None r) || (of_kind None (Some m.tag) r || of_kind None None r)
+
+pub best_if : (xs : List Receive) (m : Message) (o : Option Receive) → IsBestAmong xs m (all_kinds m) o → IfSome o (IsFirstReceive xs m)
+best_if xs m None h = tt
+best_if xs m (Some q) h = record { member = h.0; fit = h.1; first = λ r i f b. h.2 r i (kinds r.source r.tag m.from m.tag) f b }
+
+pub best_if_none : (xs : List Receive) (m : Message) (o : Option Receive) → IsBestAmong xs m (all_kinds m) o → IfNone o ((r : Receive) → Has xs r → fits m r ≡ true → ⊥)
+best_if_none xs m None h = λ r i f. h r i (kinds r.source r.tag m.from m.tag) f
+best_if_none xs m (Some q) h = tt
+
+-- the couples of a message, and of a receive
+module _ (takers : BTreeMap Message (BTreeSet Couple)) (taken : BTreeMap Receive (BTreeSet Couple)) (inv : AreCoupled takers taken) where
+  at_taker : (c : Couple) → Has (members takers) c → has message_cmp couple_cmp takers c.message c ≡ true
+  at_taker c i = stands messages_total exact_messages couples_total exact_couples (λ c. c.message) takers inv.first_ordered inv.first_placed c i
+
+  in_takers : (c : Couple) → has message_cmp couple_cmp takers c.message c ≡ true → Has (members takers) c
+  in_takers c h = has_member messages_total exact_messages couples_total exact_couples takers inv.first_ordered c.message c h
+
+  pub taker_some : (m : Message) (c : Couple) → has message_cmp couple_cmp takers m c ≡ true → Has (members takers) (couple_of m c.receive)
+  taker_some m c h =
+      let k : m ≡ c.message = inv.first_placed m c h in
+      subst (λ (n : Message). Has (members takers) (couple_of n c.receive)) (sym k) (in_takers c (ap (λ (n : Message). has message_cmp couple_cmp takers n c) (sym k) ∙ h))
+
+  pub taker_none : (m : Message) → ((c : Couple) → has message_cmp couple_cmp takers m c ≡ false) → (q : Receive) → Has (members takers) (couple_of m q) → ⊥
+  taker_none m none q i = not_least (has message_cmp couple_cmp takers m (couple_of m q)) (at_taker (couple_of m q) i) (none (couple_of m q))
+
+  pub taken_some : (q : Receive) (c : Couple) → has receive_cmp couple_cmp taken q c ≡ true → Has (members takers) (couple_of c.message q)
+  taken_some q c h =
+      let k : q ≡ c.receive = inv.second_placed q c h in
+      subst (λ (r : Receive). Has (members takers) (couple_of c.message r)) (sym k) (in_takers c (inv.same c ∙ ap (λ (r : Receive). has receive_cmp couple_cmp taken r c) (sym k) ∙ h))
+
+  pub taken_none : (q : Receive) → ((c : Couple) → has receive_cmp couple_cmp taken q c ≡ false) → (m : Message) → Has (members takers) (couple_of m q) → ⊥
+  taken_none q none m i = not_least (has receive_cmp couple_cmp taken q (couple_of m q)) (sym (inv.same (couple_of m q)) ∙ at_taker (couple_of m q) i) (none (couple_of m q))

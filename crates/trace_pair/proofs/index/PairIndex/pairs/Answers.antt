@@ -1,0 +1,20 @@
+use Rattle.std.proofs.Common.{subst, List}
+use Rattle.trace_ops.specs.Ops.{Ops}
+use Rattle.trace_pair.specs.Kept.{IsKept}
+use Rattle.trace_pair.proofs.Sure.{certain_table, legal_table, only_table}
+use Rattle.trace_pair.proofs.index.PairIndex.pairs.Goals as goal
+
+pub returns-clause-certain : goal.returns-clause-certain
+returns-clause-certain c =
+    let kept = subst (λ (h : List Ops). IsKept h c.self.inside.state c.self.inside.table) c.self.view_is c.self.invariant in
+    certain_table c.args.self.now _ kept.own kept.tabled
+
+pub returns-clause-legal : goal.returns-clause-legal
+returns-clause-legal c =
+    let kept = subst (λ (h : List Ops). IsKept h c.self.inside.state c.self.inside.table) c.self.view_is c.self.invariant in
+    legal_table c.args.self.now _ kept.own kept.tabled
+
+pub returns-clause-only : goal.returns-clause-only
+returns-clause-only c =
+    let kept = subst (λ (h : List Ops). IsKept h c.self.inside.state c.self.inside.table) c.self.view_is c.self.invariant in
+    only_table c.args.self.now _ kept.own kept.tabled

@@ -1,0 +1,43 @@
+use Rattle.std.proofs.Common.{refl}
+use Rattle.trace_pair.specs.Pairing.{obeys, paired_below, paired}
+use Rattle.trace_pair.proofs.laws.worked_runs.Goals as goal
+
+pub returns-clause-over : goal.returns-clause-over
+unfolding paired paired_below obeys
+returns-clause-over c = (refl, refl)
+
+pub returns-clause-any_tag : goal.returns-clause-any_tag
+unfolding paired paired_below obeys
+returns-clause-any_tag c = refl
+
+pub returns-clause-hidden : goal.returns-clause-hidden
+unfolding paired paired_below obeys
+returns-clause-hidden c = refl
+
+pub returns-clause-told_later : goal.returns-clause-told_later
+unfolding paired paired_below obeys
+returns-clause-told_later c = refl
+
+pub returns-clause-in_order : goal.returns-clause-in_order
+unfolding paired paired_below obeys
+returns-clause-in_order c = refl
+
+pub returns-clause-cut_back : goal.returns-clause-cut_back
+unfolding paired paired_below obeys
+returns-clause-cut_back c = refl
+
+pub returns-clause-exchanged : goal.returns-clause-exchanged
+unfolding paired paired_below obeys
+returns-clause-exchanged c = refl
+
+pub returns-clause-interleaved : goal.returns-clause-interleaved
+unfolding paired paired_below obeys
+returns-clause-interleaved c = refl
+
+pub returns-clause-freed : goal.returns-clause-freed
+unfolding paired paired_below obeys
+returns-clause-freed c = (refl, refl)
+
+pub returns-clause-two_communicators : goal.returns-clause-two_communicators
+unfolding paired paired_below obeys
+returns-clause-two_communicators c = refl

@@ -1,0 +1,15 @@
+use Rattle.std.proofs.Common.{rules}
+use Rattle.trace_pair.proofs.Moves.{pop_receive_untold, pop_receive_coupled, pop_receive_open, told_of}
+use Rattle.trace_pair.proofs.matched.pop_receive.Goals as goal
+
+pub returns-then-is_none : goal.returns-then-is_none
+returns-then-is_none c = λ ms qs more adds held.
+    pop_receive_untold ms qs more c.args.q.now adds _ _ _ _ held _ (search rules) c.remove.ensures
+
+pub returns-in_ok-insert-in-Some : goal.returns-in_ok-insert-in-Some
+returns-in_ok-insert-in-Some c = λ ms qs more adds held.
+    pop_receive_coupled ms qs more c.args.q.now adds _ _ _ _ held c.in-Some.m _ _ c.in-Some.ensures.some c.in_ok-insert-in-Some.ensures c.remove-in-Some.ensures
+
+pub returns-in-None : goal.returns-in-None
+returns-in-None c = λ ms qs more adds held.
+    pop_receive_open ms qs more c.args.q.now adds _ _ _ _ held _ (told_of c.args.q.now.source (search rules)) c.in-None.ensures.none c.remove-in-None.ensures

@@ -1,0 +1,24 @@
+use Rattle.std.proofs.Common.{◌∙◌, sym, subst, List}
+use Rattle.mpi_model.specs.declared.message.Receive.{Receive}
+use Rattle.trace_pair.specs.Groups.{members}
+use Rattle.trace_pair.specs.KeyOrders.{group_of}
+use Rattle.trace_pair.specs.Sets.{AddsTo}
+use Rattle.trace_pair.proofs.Orders.{groups_total, exact_groups, receives_total, exact_receives}
+use Rattle.trace_pair.proofs.Members.{adds, placed_more}
+use Rattle.trace_pair.proofs.queues.Receives.insert.Goals as goal
+
+pub invariant_of-self : goal.invariant_of-self
+invariant_of-self c = record {
+  ordered = c.add.ensures.ordered;
+  placed = λ k d h. c.self.invariant.placed k d (sym (c.in_err-add.ensures.err k d) ∙ h);
+}
+
+pub invariant_of-self-2 : goal.invariant_of-self-2
+invariant_of-self-2 c = record {
+  ordered = c.add.ensures.ordered;
+  placed = placed_more groups_total exact_groups receives_total exact_receives group_of c.self.inside.groups c.add.new.sets c.self.invariant.placed c.args.q c.in_ok-add.ensures.ok;
+}
+
+pub returns : goal.returns
+returns c = subst (λ (l : List Receive). AddsTo l (members c.add.new.sets) c.args.q) c.self.view_is
+    (adds groups_total exact_groups receives_total exact_receives c.self.inside.groups c.add.new.sets c.self.invariant.ordered c.add.ensures.ordered (group_of c.args.q) c.args.q c.in_ok-add.ensures.ok)

@@ -1,0 +1,18 @@
+use Rattle.std.proofs.Common.{subst, List}
+use Rattle.mpi_model.specs.declared.message.Receive.{Receive}
+use Rattle.trace_pair.specs.Groups.{members}
+use Rattle.trace_pair.specs.KeyOrders.{group_of}
+use Rattle.trace_pair.specs.Sets.{DropsFrom}
+use Rattle.trace_pair.proofs.Orders.{groups_total, exact_groups, receives_total, exact_receives}
+use Rattle.trace_pair.proofs.Members.{drops, placed_less}
+use Rattle.trace_pair.proofs.queues.Receives.remove.Goals as goal
+
+pub invariant_of-self : goal.invariant_of-self
+invariant_of-self c = record {
+  ordered = c.drop_at.ensures.ordered;
+  placed = placed_less groups_total exact_groups receives_total exact_receives group_of c.self.inside.groups c.drop_at.new.sets c.self.invariant.placed (group_of c.args.q.now) c.args.q.now c.drop_at.ensures.dropped;
+}
+
+pub returns : goal.returns
+returns c = subst (λ (l : List Receive). DropsFrom l (members c.drop_at.new.sets) c.args.q.now) c.self.view_is
+    (drops groups_total exact_groups receives_total exact_receives group_of c.self.inside.groups c.drop_at.new.sets c.self.invariant.ordered c.drop_at.ensures.ordered c.self.invariant.placed c.args.q.now c.drop_at.ensures.dropped)

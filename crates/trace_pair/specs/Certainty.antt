@@ -1,0 +1,33 @@
+-- Why pairs may be relied on: no further trace, and no choice that MPI leaves open, takes one back.
+use Rattle.std.specs.Prelude.{◌≡◌, Bool, true, is_some, List}
+use Rattle.std.specs.List.{AllZip}
+use Rattle.mpi_model.specs.declared.event.OpName.{OpName}
+use Rattle.mpi_model.specs.declared.message.Message.{Message}
+use Rattle.mpi_model.specs.declared.message.Receive.{Receive}
+use Rattle.trace_ops.specs.Ops.{Ops, AreOwn, Grows}
+use Rattle.trace_ops.specs.Order.{Has}
+use Rattle.trace_pair.specs.Matching.{IsLegal}
+use Rattle.trace_pair.specs.Table.{sends_of, receives_of, pair_of}
+use Rattle.trace_pair.specs.declared.pair.Pair.{Pair}
+
+-- The couples are a legal matching of these ops.
+abbrev pub IsLegalFor : List Ops → (OpName → OpName → Bool) → Type 0
+IsLegalFor held couple = IsLegal (sends_of held) (receives_of held) (λ m q. couple m.name q.name ≡ true)
+
+-- Each pair is a couple of every legal matching of every continuation, however untold receives are told there.
+abbrev pub AreCertain : List Ops → List Pair → Type 0
+AreCertain held pairs = (more : List Ops) (couple : OpName → OpName → Bool) → AreOwn 0 more → AllZip Grows held more → IsLegalFor more couple
+    → (p : Pair) → Has pairs p → couple p.message p.receive ≡ true
+
+-- No receive is untold.
+abbrev pub AreAllTold : List Ops → Type 0
+AreAllTold held = (q : Receive) → Has (receives_of held) q → is_some q.source ≡ true
+
+-- The pairs are a legal matching.
+abbrev pub AreLegal : List Ops → List Pair → Type 0
+AreLegal held pairs = IsLegal (sends_of held) (receives_of held) (λ m q. Has pairs (pair_of m q))
+
+-- Every legal matching is within the pairs.
+abbrev pub AreTheOnlyLegal : List Ops → List Pair → Type 0
+AreTheOnlyLegal held pairs = (couple : OpName → OpName → Bool) → IsLegalFor held couple
+    → (m : Message) (q : Receive) → Has (sends_of held) m → Has (receives_of held) q → couple m.name q.name ≡ true → Has pairs (pair_of m q)

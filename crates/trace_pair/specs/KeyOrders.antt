@@ -1,0 +1,56 @@
+-- The orders of calls and of the keys of an index: by the parts in turn.
+use Rattle.std.specs.Prelude.{ℕ, Option}
+use Rattle.std.specs.declared.cmp.Ordering.{Ordering}
+use Rattle.std.specs.Ordering.{nat_cmp, int_cmp, ordering_then}
+use Rattle.std.specs.Option.{option_cmp}
+use Rattle.mpi_model.specs.declared.envelope.Mode.{Mode}
+use Rattle.mpi_model.specs.contracts.envelope.ModeOrd.TheImpl as mode_ord
+use Rattle.mpi_model.specs.declared.event.OpName.{OpName}
+use Rattle.mpi_model.specs.declared.message.Message.{Message}
+use Rattle.mpi_model.specs.declared.message.Receive.{Receive}
+use Rattle.trace_pair.specs.declared.pair.Couple.{Couple}
+
+abbrev pub name_cmp : OpName → OpName → Ordering
+name_cmp a b = ordering_then (nat_cmp a.rank b.rank) (nat_cmp a.call b.call)
+
+abbrev pub mode_cmp : Mode → Mode → Ordering
+mode_cmp = (mode_ord.ghosts).cmp
+
+abbrev pub message_cmp : Message → Message → Ordering
+message_cmp a b = ordering_then (name_cmp a.name b.name) (ordering_then (nat_cmp a.comm b.comm) (ordering_then (nat_cmp a.from b.from) (ordering_then (nat_cmp a.to b.to) (ordering_then (nat_cmp a.tag b.tag) (ordering_then (mode_cmp a.mode b.mode) (ordering_then (nat_cmp a.count b.count) (int_cmp a.datatype b.datatype)))))))
+
+abbrev pub receive_cmp : Receive → Receive → Ordering
+receive_cmp a b = ordering_then (name_cmp a.name b.name) (ordering_then (nat_cmp a.comm b.comm) (ordering_then (nat_cmp a.at b.at) (ordering_then (option_cmp nat_cmp a.source b.source) (ordering_then (option_cmp nat_cmp a.tag b.tag) (ordering_then (nat_cmp a.count b.count) (int_cmp a.datatype b.datatype))))))
+
+abbrev pub couple_cmp : Couple → Couple → Ordering
+couple_cmp a b = ordering_then (message_cmp a.message b.message) (receive_cmp a.receive b.receive)
+
+-- communicator, sender, receiver and tag
+abbrev pub Queue : Type 0
+Queue = ℕ × ℕ × ℕ × ℕ
+
+abbrev pub queue_cmp : Queue → Queue → Ordering
+queue_cmp a b = ordering_then (ordering_then (ordering_then (nat_cmp a.0 b.0) (nat_cmp a.1 b.1)) (nat_cmp a.2 b.2)) (nat_cmp a.3 b.3)
+
+abbrev pub queue_of : Message → Queue
+queue_of m = (m.comm, m.from, m.to, m.tag)
+
+-- communicator, sender and receiver
+abbrev pub Lane : Type 0
+Lane = ℕ × ℕ × ℕ
+
+abbrev pub lane_cmp : Lane → Lane → Ordering
+lane_cmp a b = ordering_then (ordering_then (nat_cmp a.0 b.0) (nat_cmp a.1 b.1)) (nat_cmp a.2 b.2)
+
+abbrev pub lane_of : Message → Lane
+lane_of m = (m.comm, m.from, m.to)
+
+-- communicator, receiver, source and tag
+abbrev pub Group : Type 0
+Group = ℕ × ℕ × Option ℕ × Option ℕ
+
+abbrev pub group_cmp : Group → Group → Ordering
+group_cmp a b = ordering_then (ordering_then (ordering_then (nat_cmp a.0 b.0) (nat_cmp a.1 b.1)) (option_cmp nat_cmp a.2 b.2)) (option_cmp nat_cmp a.3 b.3)
+
+abbrev pub group_of : Receive → Group
+group_of q = (q.comm, q.at, q.source, q.tag)

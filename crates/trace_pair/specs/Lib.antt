@@ -1,0 +1,15 @@
+pub mod Places
+pub mod Pairing
+pub mod Matching
+pub mod Table
+pub mod Certainty
+pub mod Scratch
+pub mod Sets
+pub mod Calls
+pub mod Indexed
+pub mod Followed
+pub mod Kept
+pub mod Groups
+pub mod KeyOrders
+pub mod Queues
+pub mod Worked

@@ -1,0 +1,38 @@
+-- What the sets of an index keep of the maps that they stand in.
+use Rattle.std.specs.Prelude.{◌≡◌, ℕ, Bool, true, cond, ◌&&◌, Option, Some, None, is_some, is_none, List}
+use Rattle.std.specs.BTreeMap.{BTreeMap, IsOrdered}
+use Rattle.std.specs.BTreeSet.{BTreeSet}
+use Rattle.mpi_model.specs.declared.message.Message.{Message}
+use Rattle.mpi_model.specs.declared.message.Receive.{Receive}
+use Rattle.trace_ops.specs.Order.{Has}
+use Rattle.trace_pair.specs.Groups.{ArePlaced, StandTwice}
+use Rattle.trace_pair.specs.Indexed.{name_lt}
+use Rattle.trace_pair.specs.KeyOrders.{message_cmp, receive_cmp, couple_cmp, Queue, queue_cmp, queue_of, Lane, lane_cmp, lane_of, Group, group_cmp, group_of}
+use Rattle.trace_pair.specs.declared.pair.Couple.{Couple}
+use Rattle.mpi_model.specs.Fit.{fits}
+
+-- messages by queue, and the same ones by lane
+abbrev pub AreQueued : BTreeMap Queue (BTreeSet Message) → BTreeMap Lane (BTreeSet Message) → Type 0
+AreQueued tagged lanes = StandTwice queue_cmp lane_cmp message_cmp queue_of lane_of tagged lanes
+
+-- receives by group
+pub record AreGrouped (groups : BTreeMap Group (BTreeSet Receive)) : Type 0 where
+  pub ordered : IsOrdered group_cmp groups
+  pub placed : ArePlaced group_cmp receive_cmp group_of groups
+
+-- couples by message, and the same ones by receive
+abbrev pub AreCoupled : BTreeMap Message (BTreeSet Couple) → BTreeMap Receive (BTreeSet Couple) → Type 0
+AreCoupled takers taken = StandTwice message_cmp receive_cmp couple_cmp (λ c. c.message) (λ c. c.receive) takers taken
+
+-- both are told, or neither is
+abbrev pub alike : Option ℕ → Option ℕ → Bool
+alike a b = cond (is_some a) (is_some b) (is_none b)
+
+-- source and tag of the receive are told where these are
+abbrev pub of_kind : Option ℕ → Option ℕ → Receive → Bool
+of_kind source tag r = alike source r.source && alike tag r.tag
+
+-- the first of the receives that pass the test and fit the message
+abbrev pub IsBestAmong : List Receive → Message → (Receive → Bool) → Option Receive → Type 0
+IsBestAmong xs m p None = (r : Receive) → Has xs r → p r ≡ true → fits m r ≡ true → ⊥
+IsBestAmong xs m p (Some q) = Has xs q × (fits m q ≡ true) × ((r : Receive) → Has xs r → p r ≡ true → fits m r ≡ true → name_lt r.name q.name ≡ true → ⊥)

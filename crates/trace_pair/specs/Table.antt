@@ -1,0 +1,81 @@
+-- The pairs and the postponed messages of all ranks' ops.
+use Rattle.std.specs.Ordering.{int_eq}
+use Rattle.std.specs.Prelude.{ℕ, Bool, ◌&&◌, ◌==◌, cond, nat_lt, Option, Some, None, is_none, List, replicate}
+use Rattle.std.specs.List.{flat_map, filter_map, list_any, find}
+use Rattle.std.specs.Option.{option_map}
+use Rattle.mpi_model.specs.declared.event.OpName.{OpName}
+use Rattle.mpi_model.specs.declared.message.Message.{Message}
+use Rattle.mpi_model.specs.declared.message.Receive.{Receive}
+use Rattle.mpi_model.specs.Fit.{fits}
+use Rattle.trace_ops.specs.Ops.{Ops, no_ops}
+use Rattle.trace_pair.specs.Pairing.{receive_of}
+use Rattle.trace_pair.specs.declared.pair.Pair.{Pair}
+use Rattle.trace_pair.specs.declared.pair.Side.{Side}
+use Rattle.trace_pair.specs.declared.pair.Side.TheVariants.{Sent, Received}
+
+-- the sends of all ranks, one rank after another
+abbrev pub sends_of : List Ops → List Message
+sends_of held = flat_map (λ o. o.sends) held
+
+abbrev pub receives_of : List Ops → List Receive
+receives_of held = flat_map (λ o. o.receives) held
+
+-- More elements are sent than the receive takes, at one datatype. What differs in the datatype isn't compared.
+abbrev pub is_over : Message → Receive → Bool
+is_over m q = int_eq m.datatype q.datatype && nat_lt q.count m.count
+
+-- the names of a pair
+abbrev pub pair_of : Message → Receive → Pair
+pair_of m q = record { message = m.name; receive = q.name; over = is_over m q }
+
+-- the pairs, in order of the message
+abbrev pub pairs_of : List Message → List Receive → List Pair
+pairs_of ms qs = filter_map (λ m. option_map (pair_of m) (receive_of ms qs m)) ms
+
+-- An untold receive fits the message.
+abbrev pub fits_untold : List Receive → Message → Bool
+fits_untold qs m = list_any (λ u. is_none u.source && fits m u) qs
+
+-- postponed: in no pair, though an untold receive fits it, wherever that stands in its rank
+abbrev pub is_postponed : List Message → List Receive → Message → Bool
+is_postponed ms qs m = is_none (receive_of ms qs m) && fits_untold qs m
+
+-- its name, if it is postponed
+abbrev pub postponed_name : List Message → List Receive → Message → Option OpName
+postponed_name ms qs m = cond (is_postponed ms qs m) (Some m.name) None
+
+-- the postponed messages, in their order
+abbrev pub postponed_of : List Message → List Receive → List OpName
+postponed_of ms qs = filter_map (postponed_name ms qs) ms
+
+-- what a table shows
+pub record Table : Type 0 where
+  pub pairs : List Pair
+  pub postponed : List OpName
+
+abbrev pub table_with : List Message → List Receive → Table
+table_with ms qs = record { pairs = pairs_of ms qs; postponed = postponed_of ms qs }
+
+-- the table of all ranks' ops
+abbrev pub table_of : List Ops → Table
+table_of held = table_with (sends_of held) (receives_of held)
+
+abbrev pub same_name : OpName → OpName → Bool
+same_name a b = (a.rank == b.rank) && (a.call == b.call)
+
+-- the receive that takes the message of that name
+abbrev pub taken_by : List Pair → OpName → Option OpName
+taken_by pairs name = option_map (λ p. p.receive) (find (λ p. same_name p.message name) pairs)
+
+-- the message that the receive of that name takes
+abbrev pub given_by : List Pair → OpName → Option OpName
+given_by pairs name = option_map (λ p. p.message) (find (λ p. same_name p.receive name) pairs)
+
+-- the other end of the pair of a send or of a receive
+abbrev pub partner_in : Side → List Pair → OpName → Option OpName
+partner_in Sent pairs name = taken_by pairs name
+partner_in Received pairs name = given_by pairs name
+
+-- that many ranks without calls
+abbrev pub fresh : ℕ → List Ops
+fresh ranks = replicate ranks no_ops

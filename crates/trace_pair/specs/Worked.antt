@@ -1,0 +1,71 @@
+-- Worked examples: what the rules say of some small runs. Calls of one communicator 2 unless said otherwise.
+use Rattle.std.specs.Prelude.{◌≡◌, ℕ, Bool, true, false, pos, Option, Some, None, List, [], ◌∷◌}
+use Rattle.mpi_model.specs.declared.event.OpName.{OpName}
+use Rattle.mpi_model.specs.declared.envelope.Mode.TheVariants.{Standard}
+use Rattle.mpi_model.specs.declared.message.Message.{Message}
+use Rattle.mpi_model.specs.declared.message.Receive.{Receive}
+use Rattle.trace_pair.specs.declared.pair.Pair.{Pair}
+use Rattle.trace_pair.specs.Table.{Table, table_with}
+
+abbrev op : ℕ → ℕ → OpName
+op rank call = record { rank = rank; call = call }
+
+-- a message of one rank's call to another rank, with a tag
+abbrev sends : ℕ → ℕ → ℕ → ℕ → Message
+sends rank call to tag = record { name = op rank call; comm = 2; from = rank; to = to; tag = tag; mode = Standard; count = 1; datatype = pos 11 }
+
+abbrev receives : ℕ → ℕ → Option ℕ → Option ℕ → Receive
+receives rank call source tag = record { name = op rank call; comm = 2; at = rank; source = source; tag = tag; count = 1; datatype = pos 11 }
+
+abbrev pair : ℕ → ℕ → ℕ → ℕ → Pair
+pair rank call at by = record { message = op rank call; receive = op at by; over = false }
+
+abbrev table : List Pair → List OpName → Table
+table pairs postponed = record { pairs = pairs; postponed = postponed }
+
+-- A send of more elements than the receive takes is over, and one of as many isn't.
+abbrev pub Over : Type 0
+Over = (table_with ((record (sends 0 0 1 7) { count = 4 }) ∷ []) ((record (receives 1 0 (Some 0) (Some 7)) { count = 3 }) ∷ []) ≡ table ((record (pair 0 0 1 0) { over = true }) ∷ []) [])
+    × (table_with ((record (sends 0 0 1 7) { count = 4 }) ∷ []) ((record (receives 1 0 (Some 0) (Some 7)) { count = 4 }) ∷ []) ≡ table (pair 0 0 1 0 ∷ []) [])
+
+-- A receive of any tag takes the first message, and the next receive doesn't fit the second.
+abbrev pub AnyTag : Type 0
+AnyTag = table_with (sends 0 0 1 5 ∷ sends 0 1 1 6 ∷ []) (receives 1 0 (Some 0) None ∷ receives 1 1 (Some 0) (Some 5) ∷ []) ≡ table (pair 0 0 1 0 ∷ []) []
+
+-- An untold receive hides the message from the receive behind it: the message is postponed.
+abbrev pub Hidden : Type 0
+Hidden = table_with (sends 0 0 1 7 ∷ []) (receives 1 0 None (Some 7) ∷ receives 1 1 (Some 0) (Some 7) ∷ []) ≡ table [] (op 0 0 ∷ [])
+
+-- Once a status tells that it took from rank 2, the next receive has the message.
+abbrev pub ToldLater : Type 0
+ToldLater = table_with (sends 0 0 1 7 ∷ []) (receives 1 0 (Some 2) (Some 7) ∷ receives 1 1 (Some 0) (Some 7) ∷ []) ≡ table (pair 0 0 1 1 ∷ []) []
+
+-- Messages of one sender go to one rank's receives in order.
+abbrev pub InOrder : Type 0
+InOrder = table_with (sends 0 0 1 7 ∷ sends 0 1 1 7 ∷ sends 0 2 1 7 ∷ []) (receives 1 0 (Some 0) (Some 7) ∷ receives 1 1 (Some 0) (Some 7) ∷ receives 1 2 (Some 0) (Some 7) ∷ [])
+    ≡ table (pair 0 0 1 0 ∷ pair 0 1 1 1 ∷ pair 0 2 1 2 ∷ []) []
+
+-- Where the sender's later calls became unreadable, the first pair stays.
+abbrev pub CutBack : Type 0
+CutBack = table_with (sends 0 0 1 7 ∷ []) (receives 1 0 (Some 0) (Some 7) ∷ receives 1 1 (Some 0) (Some 7) ∷ receives 1 2 (Some 0) (Some 7) ∷ []) ≡ table (pair 0 0 1 0 ∷ []) []
+
+-- Two ranks that exchange by Sendrecv are two pairs.
+abbrev pub Exchanged : Type 0
+Exchanged = table_with (sends 0 0 1 7 ∷ sends 1 0 0 7 ∷ []) (receives 0 0 (Some 1) (Some 7) ∷ receives 1 0 (Some 0) (Some 7) ∷ []) ≡ table (pair 0 0 1 0 ∷ pair 1 0 0 0 ∷ []) []
+
+-- Two senders on receives of any source, which statuses tell: 0, 2, 2, 0.
+abbrev pub Interleaved : Type 0
+Interleaved = table_with (sends 0 0 1 7 ∷ sends 0 1 1 7 ∷ sends 2 0 1 7 ∷ sends 2 1 1 7 ∷ [])
+    (receives 1 0 (Some 0) (Some 7) ∷ receives 1 1 (Some 2) (Some 7) ∷ receives 1 2 (Some 2) (Some 7) ∷ receives 1 3 (Some 0) (Some 7) ∷ [])
+    ≡ table (pair 0 0 1 0 ∷ pair 0 1 1 3 ∷ pair 2 0 1 1 ∷ pair 2 1 1 2 ∷ []) []
+
+-- One untold receive holds back all that come behind it, and telling its source frees them at once.
+abbrev pub Freed : Type 0
+Freed = (table_with (sends 0 0 1 7 ∷ sends 0 1 1 7 ∷ []) (receives 1 0 None None ∷ receives 1 1 (Some 0) (Some 7) ∷ receives 1 2 (Some 0) (Some 7) ∷ []) ≡ table [] (op 0 0 ∷ op 0 1 ∷ []))
+    × (table_with (sends 0 0 1 7 ∷ sends 0 1 1 7 ∷ []) (receives 1 0 (Some 2) None ∷ receives 1 1 (Some 0) (Some 7) ∷ receives 1 2 (Some 0) (Some 7) ∷ [])
+    ≡ table (pair 0 0 1 1 ∷ pair 0 1 1 2 ∷ []) [])
+
+-- Messages of one sender and tag on two communicators don't order one another.
+abbrev pub TwoCommunicators : Type 0
+TwoCommunicators = table_with (sends 0 0 1 7 ∷ (record (sends 0 1 1 7) { comm = 3 }) ∷ []) ((record (receives 1 0 (Some 0) (Some 7)) { comm = 3 }) ∷ receives 1 1 (Some 0) (Some 7) ∷ [])
+    ≡ table (pair 0 0 1 1 ∷ pair 0 1 1 0 ∷ []) []

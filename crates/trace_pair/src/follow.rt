@@ -1,0 +1,157 @@
+//! The sets of an index, as the calls of one rank become others.
+
+ghost use Rattle.std.specs.Prelude.{◌≡◌, ◌↔◌, ◌≤◌, List, [], OnOk, IsTrue, take, length};
+ghost use Rattle.mpi_model.specs.declared.message.Message.{Message};
+ghost use Rattle.mpi_model.specs.declared.message.Receive.{Receive};
+ghost use Rattle.trace_pair.specs.Calls.{between, IsSequence, IsPosting};
+ghost use Rattle.trace_pair.specs.Followed.{Indexes};
+
+use crate::matched::{Matched, pop_message, pop_receive, push_message, push_receive};
+use mpi_model::{Message, Receive};
+use std::alloc::AllocError;
+use trace_ops::RankOps;
+
+fn is_same_message(a: &Message, b: &Message) -> bool
+    ensures { IsTrue result ↔ (a.now ≡ b.now) }
+{
+    *a == *b
+}
+
+fn is_same_receive(a: &Receive, b: &Receive) -> bool
+    ensures { IsTrue result ↔ (a.now ≡ b.now) }
+{
+    *a == *b
+}
+
+/// Takes back the messages of a rank behind the first `keep`.
+fn drop_messages(state: &mut Matched, held: &[Message], keep: usize) -> Result<(), AllocError>
+    requires { keep ≤ length held.now }
+    ensures { OnOk result ((before after : List Message) (qs : List Receive) → IsSequence before after held.now
+        → Indexes (between before held.now after) qs state.old → Indexes (between before (take keep held.now) after) qs state.new) }
+{
+    let mut left = held.len();
+    while left > keep {
+        left -= 1;
+        pop_message(state, &held[left])?;
+    }
+    Ok(())
+}
+
+/// Adds the messages of a rank behind the first `keep`.
+fn add_messages(state: &mut Matched, held: &[Message], keep: usize) -> Result<(), AllocError>
+    requires { keep ≤ length held.now }
+    ensures { OnOk result ((before after : List Message) (qs : List Receive) → IsSequence before after held.now
+        → Indexes (between before (take keep held.now) after) qs state.old → Indexes (between before held.now after) qs state.new) }
+{
+    let mut next = keep;
+    while next < held.len() {
+        push_message(state, held[next])?;
+        next += 1;
+    }
+    Ok(())
+}
+
+/// How many messages the two lists have in common at their front.
+fn common_messages(a: &[Message], b: &[Message]) -> usize
+    ensures first { result ≤ length a.now }
+    ensures second { result ≤ length b.now }
+    ensures same { take result a.now ≡ take result b.now }
+{
+    let mut i = 0;
+    while i < a.len() && i < b.len() {
+        if !is_same_message(&a[i], &b[i]) {
+            return i;
+        }
+        i += 1;
+    }
+    i
+}
+
+/// Makes the messages of a rank those of `new`, whatever they were.
+fn set_messages(state: &mut Matched, held: &[Message], new: &[Message]) -> Result<(), AllocError>
+    ensures { OnOk result ((before after : List Message) (qs : List Receive) → IsSequence before after held.now → IsSequence before after new.now
+        → Indexes (between before held.now after) qs state.old → Indexes (between before new.now after) qs state.new) }
+{
+    let keep = common_messages(held, new);
+    drop_messages(state, held, keep)?;
+    add_messages(state, new, keep)?;
+    Ok(())
+}
+
+/// Takes back the receives of a rank behind the first `keep`.
+fn drop_receives(state: &mut Matched, held: &[Receive], keep: usize) -> Result<(), AllocError>
+    requires { keep ≤ length held.now }
+    ensures { OnOk result ((before after : List Receive) (ms : List Message) → IsPosting before after held.now
+        → Indexes ms (between before held.now after) state.old → Indexes ms (between before (take keep held.now) after) state.new) }
+{
+    let mut left = held.len();
+    while left > keep {
+        left -= 1;
+        pop_receive(state, &held[left])?;
+    }
+    Ok(())
+}
+
+/// Adds the receives of a rank behind the first `keep`.
+fn add_receives(state: &mut Matched, held: &[Receive], keep: usize) -> Result<(), AllocError>
+    requires { keep ≤ length held.now }
+    ensures { OnOk result ((before after : List Receive) (ms : List Message) → IsPosting before after held.now
+        → Indexes ms (between before (take keep held.now) after) state.old → Indexes ms (between before held.now after) state.new) }
+{
+    let mut next = keep;
+    while next < held.len() {
+        push_receive(state, held[next])?;
+        next += 1;
+    }
+    Ok(())
+}
+
+/// How many receives the two lists have in common at their front.
+fn common_receives(a: &[Receive], b: &[Receive]) -> usize
+    ensures first { result ≤ length a.now }
+    ensures second { result ≤ length b.now }
+    ensures same { take result a.now ≡ take result b.now }
+{
+    let mut i = 0;
+    while i < a.len() && i < b.len() {
+        if !is_same_receive(&a[i], &b[i]) {
+            return i;
+        }
+        i += 1;
+    }
+    i
+}
+
+/// Makes the receives of a rank those of `new`, whatever they were.
+fn set_receives(state: &mut Matched, held: &[Receive], new: &[Receive]) -> Result<(), AllocError>
+    ensures { OnOk result ((before after : List Receive) (ms : List Message) → IsPosting before after held.now → IsPosting before after new.now
+        → Indexes ms (between before held.now after) state.old → Indexes ms (between before new.now after) state.new) }
+{
+    let keep = common_receives(held, new);
+    drop_receives(state, held, keep)?;
+    add_receives(state, new, keep)?;
+    Ok(())
+}
+
+/// Makes the calls of a rank those of the new ops, whatever they were.
+pub(crate) fn set_rank(state: &mut Matched, held: &RankOps, new: &RankOps) -> Result<(), AllocError>
+    ensures { OnOk result ((before after : List Message) (above below : List Receive) → IsSequence before after held.now.sends → IsSequence before after new.now.sends
+        → IsPosting above below held.now.receives → IsPosting above below new.now.receives
+        → Indexes (between before held.now.sends after) (between above held.now.receives below) state.old
+        → Indexes (between before new.now.sends after) (between above new.now.receives below) state.new) }
+{
+    set_messages(state, held.sends(), new.sends())?;
+    set_receives(state, held.receives(), new.receives())?;
+    Ok(())
+}
+
+/// Adds the calls of a rank that has none.
+pub(crate) fn add_rank(state: &mut Matched, new: &RankOps) -> Result<(), AllocError>
+    ensures { OnOk result ((before after : List Message) (above below : List Receive) → IsSequence before after new.now.sends → IsPosting above below new.now.receives
+        → Indexes (between before [] after) (between above [] below) state.old
+        → Indexes (between before new.now.sends after) (between above new.now.receives below) state.new) }
+{
+    add_messages(state, new.sends(), 0)?;
+    add_receives(state, new.receives(), 0)?;
+    Ok(())
+}

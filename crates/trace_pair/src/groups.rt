@@ -1,0 +1,72 @@
+//! A sorted set of members for each key, in an ordered map.
+ghost use Rattle.std.specs.Prelude.{◌≡◌, true, false, IfSome, IfNone, OnOk, OnErr, IsTrue, if◌then◌else◌, ◌||◌, ◌&&◌, [], ◌↔◌};
+ghost use Rattle.std.specs.BTreeMap.{IsOrdered};
+ghost use Rattle.std.specs.BTreeSet.{contains};
+ghost use Rattle.std.specs.Ordering.{is_eq, is_gt};
+ghost use Rattle.trace_pair.specs.Groups.{has};
+
+use std::alloc::{AllocError, Global};
+use std::collections::{BTreeMap, BTreeSet};
+
+fn first_of<T: Ord + Copy>(members: &BTreeSet<T>) -> Option<T>
+    ensures some { IfSome result (λ c. IsTrue (contains T.cmp members.now c) × ((d : T) → contains T.cmp members.now d ≡ true → is_gt (T.cmp c d) ≡ false)) }
+    ensures none { IfNone result ((d : T) → contains T.cmp members.now d ≡ false) }
+{
+    members.first().copied()
+}
+
+/// The first member at a key.
+pub(crate) fn first_at<K: Ord, T: Ord + Copy>(sets: &BTreeMap<K, BTreeSet<T>>, key: &K) -> Option<T>
+    ensures some { IfSome result (λ c. IsTrue (has K.cmp T.cmp sets.now key.now c) × ((d : T) → has K.cmp T.cmp sets.now key.now d ≡ true → is_gt (T.cmp c d) ≡ false)) }
+    ensures none { IfNone result ((d : T) → has K.cmp T.cmp sets.now key.now d ≡ false) }
+{
+    match sets.get(key) {
+        Some(members) => first_of(members),
+        None => None,
+    }
+}
+
+fn put<T: Ord + Drop>(members: &mut BTreeSet<T>, x: T) -> Result<(), AllocError>
+    ensures ok { OnOk result ((d : T) → contains T.cmp members.new d ≡ (is_eq (T.cmp x d) || contains T.cmp members.old d)) }
+    ensures err { OnErr result ((d : T) → contains T.cmp members.new d ≡ contains T.cmp members.old d) }
+{
+    members.insert(x)?;
+    Ok(())
+}
+
+/// Adds a member at a key.
+pub(crate) fn add<K: Ord + Drop, T: Ord + Drop>(
+    alloc: Global,
+    sets: &mut BTreeMap<K, BTreeSet<T>>,
+    key: K,
+    x: T,
+) -> Result<(), AllocError>
+    ensures ok { OnOk result ((k : K) (d : T) → has K.cmp T.cmp sets.new k d ≡ ((is_eq (K.cmp key k) && is_eq (T.cmp x d)) || has K.cmp T.cmp sets.old k d)) }
+    ensures err { OnErr result ((k : K) (d : T) → has K.cmp T.cmp sets.new k d ≡ has K.cmp T.cmp sets.old k d) }
+    ensures ordered { IsOrdered K.cmp sets.new }
+{
+    if let Some(members) = sets.get_mut(&key) {
+        put(members, x)?;
+        return Ok(());
+    }
+    let mut members = BTreeSet::new(alloc);
+    put(&mut members, x)?;
+    sets.insert(key, members)?;
+    Ok(())
+}
+
+fn take<T: Ord + Drop>(members: &mut BTreeSet<T>, x: &T)
+    ensures { (d : T) → contains T.cmp members.new d ≡ (if is_eq (T.cmp x.now d) then false else contains T.cmp members.old d) }
+{
+    members.remove(x);
+}
+
+/// Takes a member from a key.
+pub(crate) fn drop_at<K: Ord, T: Ord + Drop>(sets: &mut BTreeMap<K, BTreeSet<T>>, key: &K, x: &T)
+    ensures dropped { (k : K) (d : T) → has K.cmp T.cmp sets.new k d ≡ (if is_eq (K.cmp key.now k) && is_eq (T.cmp x.now d) then false else has K.cmp T.cmp sets.old k d) }
+    ensures ordered { IsOrdered K.cmp sets.new }
+{
+    if let Some(members) = sets.get_mut(key) {
+        take(members, x);
+    }
+}

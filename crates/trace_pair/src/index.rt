@@ -1,0 +1,169 @@
+//! An index of the pairs that follows the ops of the ranks as they grow and are cut back.
+
+ghost use Rattle.std.specs.Prelude.{◌≡◌, ◌<◌, [], OnOk, OnErr, IfOk, length, slice_set, slice_index_or};
+ghost use Rattle.trace_ops.specs.Ops.{IsOwn, AreOwn, Grows, no_ops};
+ghost use Rattle.trace_pair.specs.Certainty.{AreCertain, AreAllTold, AreLegal, AreTheOnlyLegal};
+ghost use Rattle.trace_pair.specs.Followed.{Indexes, Follows};
+ghost use Rattle.trace_pair.specs.Table.{fresh, table_of};
+
+use crate::follow::{add_rank, set_rank};
+use crate::matched::Matched;
+use crate::table::PairTable;
+use std::alloc::{AllocError, Global};
+use std::marker::Model;
+use trace_ops::RankOps;
+
+/// The pairs of the ops that it holds, one for each rank.
+#[derive(Drop)]
+pub struct PairIndex {
+    held: Vec<RankOps>,
+    state: Matched,
+    table: PairTable,
+}
+
+impl Model for PairIndex {
+    ghost use Rattle.std.specs.Prelude.{List};
+    ghost use Rattle.trace_ops.specs.Ops.{Ops};
+    ghost use Rattle.trace_pair.specs.Kept.{IsKept};
+
+    ghost Value = { List Ops };
+
+    ghost view = { λ s. s.held.items };
+
+    ghost invariant = { λ s. IsKept s.held.items s.state s.table };
+}
+
+impl PairIndex {
+    /// Every rank is without calls.
+    pub fn new(alloc: Global, ranks: u32) -> Result<PairIndex, AllocError>
+        ensures { IfOk result (λ index. index ≡ fresh ranks) }
+    {
+        Ok(PairIndex {
+            held: fresh_ops(alloc, ranks)?,
+            state: Matched::empty(alloc),
+            table: PairTable::empty(alloc),
+        })
+    }
+
+    /// The index of these ops, the ops of rank r at place r: as `grow` makes it rank by rank, but the
+    /// table is made once.
+    pub fn of_all(alloc: Global, ops: Vec<RankOps>) -> Result<PairIndex, AllocError>
+        requires own { AreOwn 0 ops.items }
+        ensures { IfOk result (λ index. index ≡ ops.items) }
+    {
+        let mut state = Matched::empty(alloc);
+        add_ranks(&mut state, &ops)?;
+        let mut table = PairTable::empty(alloc);
+        table.fill(&state, &ops)?;
+        Ok(PairIndex {
+            held: ops,
+            state,
+            table,
+        })
+    }
+
+    /// The rank did more, and some of its sources may be told by now. Where memory is refused, the
+    /// index is as made by `new`.
+    pub fn grow(&mut self, rank: u32, ops: RankOps) -> Result<(), AllocError>
+        requires rank { rank < length self.old }
+        requires own { IsOwn rank ops }
+        requires grows { Grows (slice_index_or self.old rank no_ops) ops }
+        ensures ok { OnOk result (self.new ≡ slice_set self.old rank ops) }
+        ensures memory { OnErr result (self.new ≡ fresh (length self.old)) }
+    {
+        self.set(rank, ops)
+    }
+
+    /// The rank did less than was thought, and some of its sources may be untold by now. Where memory
+    /// is refused, the index is as made by `new`.
+    pub fn cut(&mut self, rank: u32, ops: RankOps) -> Result<(), AllocError>
+        requires rank { rank < length self.old }
+        requires own { IsOwn rank ops }
+        requires grows { Grows ops (slice_index_or self.old rank no_ops) }
+        ensures ok { OnOk result (self.new ≡ slice_set self.old rank ops) }
+        ensures memory { OnErr result (self.new ≡ fresh (length self.old)) }
+    {
+        self.set(rank, ops)
+    }
+
+    /// The table of the held ops, what its pairs are worth, and that none is missing where every
+    /// source is told (MPI 4.0, 3.5).
+    pub fn pairs(&self) -> &PairTable
+        ensures table { result.now ≡ table_of self.now }
+        ensures certain { AreCertain self.now result.now.pairs }
+        ensures legal { AreAllTold self.now → AreLegal self.now result.now.pairs }
+        ensures only { AreAllTold self.now → AreTheOnlyLegal self.now result.now.pairs }
+    {
+        &self.table
+    }
+
+    /// The rank's ops are these, whatever they were.
+    fn set(&mut self, rank: u32, ops: RankOps) -> Result<(), AllocError>
+        requires rank { rank < length self.old }
+        requires own { IsOwn rank ops }
+        ensures ok { OnOk result (self.new ≡ slice_set self.old rank ops) }
+        ensures memory { OnErr result (self.new ≡ fresh (length self.old)) }
+    {
+        match follow(&mut self.held, &mut self.state, &mut self.table, rank, ops) {
+            Ok(()) => Ok(()),
+            Err(error) => {
+                forget(&mut self.held);
+                self.state.clear();
+                self.table.clear();
+                Err(error)
+            }
+        }
+    }
+}
+
+fn fresh_ops(alloc: Global, ranks: u32) -> Result<Vec<RankOps>, AllocError>
+    ensures { IfOk result (λ held. held.items ≡ fresh ranks) }
+{
+    let mut held = Vec::new(alloc);
+    for _ in 0..ranks {
+        held.push(RankOps::empty(alloc))?;
+    }
+    Ok(held)
+}
+
+/// Makes every rank one without calls; takes no memory.
+fn forget(held: &mut Vec<RankOps>)
+    ensures { held.new.items ≡ fresh (length held.old.items) }
+{
+    let alloc = *held.allocator();
+    let mut next = 0;
+    while next < held.len() {
+        held[next] = RankOps::empty(alloc);
+        next += 1;
+    }
+}
+
+/// Makes the rank's ops these, and the state and the table with them.
+fn follow(
+    held: &mut Vec<RankOps>,
+    state: &mut Matched,
+    table: &mut PairTable,
+    rank: u32,
+    ops: RankOps,
+) -> Result<(), AllocError>
+    requires { rank < length held.old.items }
+    ensures length { length held.new.items ≡ length held.old.items }
+    ensures held { OnOk result (held.new.items ≡ slice_set held.old.items rank ops) }
+    ensures state { OnOk result (AreOwn 0 held.old.items → IsOwn rank ops → Follows held.old.items state.old → Follows held.new.items state.new) }
+    ensures table { OnOk result (AreOwn 0 held.old.items → IsOwn rank ops → Follows held.old.items state.old → table.new ≡ table_of held.new.items) }
+{
+    set_rank(state, &held[rank as usize], &ops)?;
+    held[rank as usize] = ops;
+    table.fill(state, held)?;
+    Ok(())
+}
+
+/// Adds the calls of all ranks to a state without calls.
+fn add_ranks(state: &mut Matched, ops: &[RankOps]) -> Result<(), AllocError>
+    ensures { OnOk result (AreOwn 0 ops.now → Indexes [] [] state.old → Follows ops.now state.new) }
+{
+    for own in ops {
+        add_rank(state, own)?;
+    }
+    Ok(())
+}

@@ -1,0 +1,37 @@
+//! Which message was received by which receive.
+//!
+//! A pair is reported only where it is certain: whatever the ranks did next, and however their
+//! untold receives were told, MPI allows no run in which the two aren't matched. Where no receive
+//! is untold, the pairs are the only matching that MPI allows. Both are clauses of [`pair_all`]
+//! and of [`PairIndex::pairs`].
+//!
+//! [`pair_all`] follows the rules closely and is slow: for large runs take [`PairIndex::of_all`],
+//! which pairs n calls in n log n and whose contract is the same. The index follows the ranks as
+//! they grow and are cut back; one step costs in proportion to what is new, one pass over that
+//! rank's calls, and one over the table.
+//!
+//! - [`pair`]: a pair, and the two sides of one
+//! - [`rules`]: the five rules, one by one; [`scratch`]: the pairing straight from them
+//! - [`table`]: the pairs and the postponed messages
+//! - [`groups`], [`queues`]: sets of calls and couples, found by a few probes of an ordered map
+//! - [`matched`]: the sets of an index, as one call comes or goes; [`follow`]: as a rank's calls do
+//! - [`index`]: the index
+//! - [`laws`]: what makes the rules easy to believe, as contracts of calls that do nothing
+#![tactic(auto)]
+
+mod follow;
+mod groups;
+mod index;
+mod laws;
+mod matched;
+mod pair;
+mod queues;
+mod rules;
+mod scratch;
+mod table;
+
+pub use index::PairIndex;
+pub use laws::{pairs_are_certain, pairs_are_the_rules, worked_runs};
+pub use pair::{Pair, Side};
+pub use scratch::pair_all;
+pub use table::PairTable;

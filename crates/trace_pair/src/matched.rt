@@ -1,0 +1,175 @@
+//! The sets of an index, as one call comes to the end of its rank or goes from there.
+
+ghost use Rattle.std.specs.Prelude.{◌≡◌, List, true, OnOk, IfSome, IfNone, is_some, []};
+ghost use Rattle.mpi_model.specs.declared.message.Message.{Message};
+ghost use Rattle.mpi_model.specs.declared.message.Receive.{Receive};
+ghost use Rattle.trace_ops.specs.Order.{Has};
+ghost use Rattle.trace_pair.specs.Calls.{AddsMessage, AddsReceive};
+ghost use Rattle.trace_pair.specs.Followed.{Indexes};
+ghost use Rattle.trace_pair.specs.Indexed.{TakesMessage, TakesReceive};
+ghost use Rattle.trace_pair.specs.Pairing.{receive_of};
+ghost use Rattle.trace_pair.specs.Table.{fits_untold};
+
+use crate::pair::Couple;
+use crate::queues::{Couples, Messages, Receives};
+use crate::rules::is_posted_before;
+use mpi_model::{Message, Receive};
+use std::alloc::{AllocError, Global};
+
+/// The messages that wait, the receives without a message, and the pairs.
+#[derive(Drop)]
+pub(crate) struct Matched {
+    waiting: Messages,
+    opened: Receives,
+    untold: Receives,
+    couples: Couples,
+}
+
+impl Matched {
+    pub(crate) fn empty(alloc: Global) -> Matched
+        ensures { Indexes [] [] result }
+    {
+        Matched {
+            waiting: Messages::empty(alloc),
+            opened: Receives::empty(alloc),
+            untold: Receives::empty(alloc),
+            couples: Couples::empty(alloc),
+        }
+    }
+
+    /// Forgets all calls; takes no memory.
+    pub(crate) fn clear(&mut self)
+        ensures { Indexes [] [] self.new }
+    {
+        self.waiting.clear();
+        self.opened.clear();
+        self.untold.clear();
+        self.couples.clear();
+    }
+
+    /// The receive that takes the held message.
+    pub(crate) fn partner_of(&self, m: &Message) -> Option<Receive>
+        ensures { (ms : List Message) (qs : List Receive) → Indexes ms qs self.now → Has ms m.now → result ≡ receive_of ms qs m.now }
+    {
+        match self.couples.of_message(m) {
+            Some(q) => Some(q),
+            None => None,
+        }
+    }
+
+    /// Whether an untold receive fits the message.
+    pub(crate) fn does_untold_fit(&self, m: &Message) -> bool
+        ensures { (ms : List Message) (qs : List Receive) → Indexes ms qs self.now → result ≡ fits_untold qs m.now }
+    {
+        self.untold.first_for(m).is_some()
+    }
+}
+
+/// The receive that takes the new message.
+fn taker_for(state: &Matched, m: &Message) -> Option<Receive>
+    ensures some { IfSome result (λ q. (ms : List Message) (qs : List Receive) → Indexes ms qs state.now → Has qs q × TakesMessage ms qs m.now q) }
+    ensures none { IfNone result ((ms : List Message) (qs : List Receive) → Indexes ms qs state.now → (q : Receive) → Has qs q → TakesMessage ms qs m.now q → ⊥) }
+{
+    let Some(q) = state.opened.first_for(m) else {
+        return None;
+    };
+    if let Some(u) = state.untold.first_for(m) {
+        if is_posted_before(&u, &q) {
+            return None;
+        }
+    }
+    if let Some(_) = state.waiting.first_for(&q) {
+        return None;
+    }
+    Some(q)
+}
+
+/// The message that the new receive takes.
+fn taken_by(state: &Matched, q: &Receive) -> Option<Message>
+    requires { is_some q.now.source ≡ true }
+    ensures some { IfSome result (λ m. (ms : List Message) (qs : List Receive) → Indexes ms qs state.now → Has ms m × TakesReceive ms qs m q.now) }
+    ensures none { IfNone result ((ms : List Message) (qs : List Receive) → Indexes ms qs state.now → (m : Message) → Has ms m → TakesReceive ms qs m q.now → ⊥) }
+{
+    let Some(m) = state.waiting.first_for(q) else {
+        return None;
+    };
+    if let Some(_) = state.untold.first_for(&m) {
+        return None;
+    }
+    if let Some(_) = state.opened.first_for(&m) {
+        return None;
+    }
+    Some(m)
+}
+
+pub(crate) fn push_message(state: &mut Matched, m: Message) -> Result<(), AllocError>
+    ensures { OnOk result ((ms more : List Message) (qs : List Receive) → AddsMessage ms more m → Indexes ms qs state.old → Indexes more qs state.new) }
+{
+    match taker_for(state, &m) {
+        Some(q) => {
+            state.opened.remove(&q);
+            state.couples.insert(Couple {
+                message: m,
+                receive: q,
+            })?;
+        }
+        None => state.waiting.insert(m)?,
+    }
+    Ok(())
+}
+
+pub(crate) fn push_receive(state: &mut Matched, q: Receive) -> Result<(), AllocError>
+    ensures { OnOk result ((ms : List Message) (qs more : List Receive) → AddsReceive qs more q → Indexes ms qs state.old → Indexes ms more state.new) }
+{
+    if q.source.is_none() {
+        state.untold.insert(q)?;
+        return Ok(());
+    }
+    match taken_by(state, &q) {
+        Some(m) => {
+            state.waiting.remove(&m);
+            state.couples.insert(Couple {
+                message: m,
+                receive: q,
+            })?;
+        }
+        None => state.opened.insert(q)?,
+    }
+    Ok(())
+}
+
+pub(crate) fn pop_message(state: &mut Matched, m: &Message) -> Result<(), AllocError>
+    ensures { OnOk result ((ms more : List Message) (qs : List Receive) → AddsMessage ms more m.now → Indexes more qs state.old → Indexes ms qs state.new) }
+{
+    match state.couples.of_message(m) {
+        Some(q) => {
+            state.couples.remove(&Couple {
+                message: *m,
+                receive: q,
+            });
+            state.opened.insert(q)?;
+        }
+        None => state.waiting.remove(m),
+    }
+    Ok(())
+}
+
+pub(crate) fn pop_receive(state: &mut Matched, q: &Receive) -> Result<(), AllocError>
+    ensures { OnOk result ((ms : List Message) (qs more : List Receive) → AddsReceive qs more q.now → Indexes ms more state.old → Indexes ms qs state.new) }
+{
+    if q.source.is_none() {
+        state.untold.remove(q);
+        return Ok(());
+    }
+    match state.couples.of_receive(q) {
+        Some(m) => {
+            state.couples.remove(&Couple {
+                message: m,
+                receive: *q,
+            });
+            state.waiting.insert(m)?;
+        }
+        None => state.opened.remove(q),
+    }
+    Ok(())
+}

@@ -1,0 +1,40 @@
+//! Pairs: a message with the receive that takes it.
+
+ghost use Rattle.std.specs.Prelude.{◌≡◌};
+ghost use Rattle.trace_pair.specs.Table.{pair_of};
+
+use mpi_model::{Message, OpName, Receive};
+
+/// The names of a message and of the receive that takes it.
+#[derive(Clone, Copy, Debug, PartialEq, Eq)]
+pub struct Pair {
+    pub message: OpName,
+    pub receive: OpName,
+    /// More elements are sent than the receive takes, at one datatype: the call is erroneous
+    /// (MPI 4.0, 3.2.4).
+    pub over: bool,
+}
+
+/// An end of a pair: a call can have both, as a Sendrecv has.
+#[derive(Clone, Copy, Debug, PartialEq, Eq)]
+pub enum Side {
+    Sent,
+    Received,
+}
+
+/// A message and the receive that takes it.
+#[derive(Clone, Copy, Debug, PartialEq, Eq, PartialOrd, Ord)]
+pub(crate) struct Couple {
+    pub(crate) message: Message,
+    pub(crate) receive: Receive,
+}
+
+pub(crate) fn make_pair(m: &Message, q: &Receive) -> Pair
+    ensures { result ≡ pair_of m.now q.now }
+{
+    Pair {
+        message: m.name,
+        receive: q.name,
+        over: m.datatype == q.datatype && m.count > q.count,
+    }
+}

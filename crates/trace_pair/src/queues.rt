@@ -1,0 +1,279 @@
+//! The sets of an index: messages, receives and couples, found by a few probes of an ordered map.
+ghost use Rattle.std.specs.Prelude.{◌≡◌, ◌||◌, true, OnOk, IfSome, IfNone, is_some, List, Bool, []};
+ghost use Rattle.mpi_model.specs.Fit.{fits, admits};
+ghost use Rattle.trace_ops.specs.Order.{Has};
+ghost use Rattle.trace_pair.specs.Sets.{AddsTo, DropsFrom};
+ghost use Rattle.trace_pair.specs.Indexed.{IsFirstMessage, IsFirstReceive, couple_of, name_lt};
+ghost use Rattle.trace_pair.specs.Queues.{IsBestAmong, of_kind};
+
+use crate::groups::{add, drop_at, first_at};
+use crate::pair::Couple;
+use mpi_model::{Message, OpName, Receive};
+use std::alloc::{AllocError, Global};
+use std::collections::{BTreeMap, BTreeSet};
+use std::marker::Model;
+
+/// A set of messages, by communicator, sender, receiver and tag; and the same ones without the tag, for a receive of any.
+#[derive(Drop)]
+pub(crate) struct Messages {
+    alloc: Global,
+    tagged: BTreeMap<(u32, u32, u32, u32), BTreeSet<Message>>,
+    lanes: BTreeMap<(u32, u32, u32), BTreeSet<Message>>,
+}
+
+impl Model for Messages {
+    ghost use Rattle.std.specs.Prelude.{List};
+    ghost use Rattle.mpi_model.specs.declared.message.Message.{Message};
+    ghost use Rattle.trace_pair.specs.Groups.{members};
+    ghost use Rattle.trace_pair.specs.Queues.{AreQueued};
+
+    ghost Value = { List Message };
+
+    ghost view = { λ s. members s.tagged };
+
+    ghost invariant = { λ s. AreQueued s.tagged s.lanes };
+}
+
+impl Messages {
+    pub(crate) fn empty(alloc: Global) -> Messages
+        ensures { result ≡ [] }
+    {
+        Messages {
+            alloc,
+            tagged: BTreeMap::new(alloc),
+            lanes: BTreeMap::new(alloc),
+        }
+    }
+
+    pub(crate) fn clear(&mut self)
+        ensures { self.new ≡ [] }
+    {
+        self.tagged.clear();
+        self.lanes.clear();
+    }
+
+    pub(crate) fn insert(&mut self, m: Message) -> Result<(), AllocError>
+        ensures { OnOk result (AddsTo self.old self.new m) }
+    {
+        add(
+            self.alloc,
+            &mut self.tagged,
+            (m.comm, m.from, m.to, m.tag),
+            m,
+        )?;
+        match add(self.alloc, &mut self.lanes, (m.comm, m.from, m.to), m) {
+            Ok(()) => Ok(()),
+            Err(error) => {
+                drop_at(&mut self.tagged, &(m.comm, m.from, m.to, m.tag), &m);
+                drop_at(&mut self.lanes, &(m.comm, m.from, m.to), &m);
+                Err(error)
+            }
+        }
+    }
+
+    pub(crate) fn remove(&mut self, m: &Message)
+        ensures { DropsFrom self.old self.new m.now }
+    {
+        drop_at(&mut self.tagged, &(m.comm, m.from, m.to, m.tag), m);
+        drop_at(&mut self.lanes, &(m.comm, m.from, m.to), m);
+    }
+
+    /// The first message that fits a receive whose source is told.
+    pub(crate) fn first_for(&self, q: &Receive) -> Option<Message>
+        ensures some { IfSome result (IsFirstMessage self.now q.now) }
+        ensures none { IfNone result (is_some q.now.source ≡ true → (n : Message) → Has self.now n → fits n q.now ≡ true → ⊥) }
+    {
+        match q.source {
+            None => None,
+            Some(source) => match q.tag {
+                Some(tag) => first_at(&self.tagged, &(q.comm, source, q.at, tag)),
+                None => first_at(&self.lanes, &(q.comm, source, q.at)),
+            },
+        }
+    }
+}
+
+/// A set of receives, by communicator, receiver, source and tag.
+#[derive(Drop)]
+pub(crate) struct Receives {
+    alloc: Global,
+    groups: BTreeMap<(u32, u32, Option<u32>, Option<u32>), BTreeSet<Receive>>,
+}
+
+impl Model for Receives {
+    ghost use Rattle.std.specs.Prelude.{List};
+    ghost use Rattle.mpi_model.specs.declared.message.Receive.{Receive};
+    ghost use Rattle.trace_pair.specs.Groups.{members};
+    ghost use Rattle.trace_pair.specs.Queues.{AreGrouped};
+
+    ghost Value = { List Receive };
+
+    ghost view = { λ s. members s.groups };
+
+    ghost invariant = { λ s. AreGrouped s.groups };
+}
+
+impl Receives {
+    pub(crate) fn empty(alloc: Global) -> Receives
+        ensures { result ≡ [] }
+    {
+        Receives {
+            alloc,
+            groups: BTreeMap::new(alloc),
+        }
+    }
+
+    pub(crate) fn clear(&mut self)
+        ensures { self.new ≡ [] }
+    {
+        self.groups.clear();
+    }
+
+    pub(crate) fn insert(&mut self, q: Receive) -> Result<(), AllocError>
+        ensures { OnOk result (AddsTo self.old self.new q) }
+    {
+        add(
+            self.alloc,
+            &mut self.groups,
+            (q.comm, q.at, q.source, q.tag),
+            q,
+        )?;
+        Ok(())
+    }
+
+    pub(crate) fn remove(&mut self, q: &Receive)
+        ensures { DropsFrom self.old self.new q.now }
+    {
+        drop_at(&mut self.groups, &(q.comm, q.at, q.source, q.tag), q);
+    }
+
+    /// The first of the receives with this source and tag that fits the message.
+    fn first_with(&self, m: &Message, source: Option<u32>, tag: Option<u32>) -> Option<Receive>
+        requires source { admits source m.now.from ≡ true }
+        requires tag { admits tag m.now.tag ≡ true }
+        ensures { IsBestAmong self.now m.now (of_kind source tag) result }
+    {
+        first_at(&self.groups, &(m.comm, m.to, source, tag))
+    }
+
+    pub(crate) fn first_for(&self, m: &Message) -> Option<Receive>
+        ensures some { IfSome result (IsFirstReceive self.now m.now) }
+        ensures none { IfNone result ((r : Receive) → Has self.now r → fits m.now r ≡ true → ⊥) }
+    {
+        let source = Some(m.from);
+        let tag = Some(m.tag);
+        let told = earlier_of(
+            self.first_with(m, source, tag),
+            self.first_with(m, source, None),
+        );
+        let untold = earlier_of(
+            self.first_with(m, None, tag),
+            self.first_with(m, None, None),
+        );
+        earlier_of(told, untold)
+    }
+}
+
+fn is_named_before(a: &OpName, b: &OpName) -> bool
+    ensures { result ≡ name_lt a.now b.now }
+{
+    a.rank < b.rank || (a.rank == b.rank && a.call < b.call)
+}
+
+/// The earlier of two receives.
+fn earlier_of(a: Option<Receive>, b: Option<Receive>) -> Option<Receive>
+    ensures { (xs : List Receive) (m : Message) (p t : Receive → Bool) → IsBestAmong xs m p a → IsBestAmong xs m t b → IsBestAmong xs m (λ r. p r || t r) result }
+{
+    match a {
+        None => b,
+        Some(q) => match b {
+            None => Some(q),
+            Some(r) => if is_named_before(&r.name, &q.name) {
+                Some(r)
+            } else {
+                Some(q)
+            },
+        },
+    }
+}
+
+/// A set of couples, by message and by receive.
+#[derive(Drop)]
+pub(crate) struct Couples {
+    alloc: Global,
+    takers: BTreeMap<Message, BTreeSet<Couple>>,
+    taken: BTreeMap<Receive, BTreeSet<Couple>>,
+}
+
+impl Model for Couples {
+    ghost use Rattle.std.specs.Prelude.{List};
+    ghost use Rattle.trace_pair.specs.declared.pair.Couple.{Couple};
+    ghost use Rattle.trace_pair.specs.Groups.{members};
+    ghost use Rattle.trace_pair.specs.Queues.{AreCoupled};
+
+    ghost Value = { List Couple };
+
+    ghost view = { λ s. members s.takers };
+
+    ghost invariant = { λ s. AreCoupled s.takers s.taken };
+}
+
+impl Couples {
+    pub(crate) fn empty(alloc: Global) -> Couples
+        ensures { result ≡ [] }
+    {
+        Couples {
+            alloc,
+            takers: BTreeMap::new(alloc),
+            taken: BTreeMap::new(alloc),
+        }
+    }
+
+    pub(crate) fn clear(&mut self)
+        ensures { self.new ≡ [] }
+    {
+        self.takers.clear();
+        self.taken.clear();
+    }
+
+    pub(crate) fn insert(&mut self, c: Couple) -> Result<(), AllocError>
+        ensures { OnOk result (AddsTo self.old self.new c) }
+    {
+        add(self.alloc, &mut self.takers, c.message, c)?;
+        match add(self.alloc, &mut self.taken, c.receive, c) {
+            Ok(()) => Ok(()),
+            Err(error) => {
+                drop_at(&mut self.takers, &c.message, &c);
+                drop_at(&mut self.taken, &c.receive, &c);
+                Err(error)
+            }
+        }
+    }
+
+    pub(crate) fn remove(&mut self, c: &Couple)
+        ensures { DropsFrom self.old self.new c.now }
+    {
+        drop_at(&mut self.takers, &c.message, c);
+        drop_at(&mut self.taken, &c.receive, c);
+    }
+
+    pub(crate) fn of_message(&self, m: &Message) -> Option<Receive>
+        ensures some { IfSome result (λ q. Has self.now (couple_of m.now q)) }
+        ensures none { IfNone result ((q : Receive) → Has self.now (couple_of m.now q) → ⊥) }
+    {
+        match first_at(&self.takers, m) {
+            Some(c) => Some(c.receive),
+            None => None,
+        }
+    }
+
+    pub(crate) fn of_receive(&self, q: &Receive) -> Option<Message>
+        ensures some { IfSome result (λ m. Has self.now (couple_of m q.now)) }
+        ensures none { IfNone result ((m : Message) → Has self.now (couple_of m q.now) → ⊥) }
+    {
+        match first_at(&self.taken, q) {
+            Some(c) => Some(c.message),
+            None => None,
+        }
+    }
+}

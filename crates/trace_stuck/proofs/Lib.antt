@@ -1,0 +1,10 @@
+pub mod Holds
+pub mod Named
+pub mod Orders
+pub mod Flags
+pub mod Shapes
+pub mod Queues
+pub mod Lefts
+pub mod Noted
+pub mod Checks
+pub mod Rising

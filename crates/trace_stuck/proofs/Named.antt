@@ -1,0 +1,101 @@
+-- A condition that holds only since one more rank can go on names that rank.
+use Rattle.std.proofs.Common.{Vec, Global, ◌⊎◌, subst, ◌≡◌, ℕ, Bool, true, false, ◌&&◌, ◌||◌, List, [], ◌∷◌, ◌++◌, map, eqb, refl, sym, ◌∙◌, ap, inl, inr, ⊎_elim, arith}
+use Rattle.std.specs.List.{list_any, list_all, flat_map}
+use Rattle.std.proofs.lemmas.List.Folds.{list_any-append, flat_map-map}
+use Rattle.std.proofs.lemmas.Bool.Decides.{nat_tests}
+use Rattle.trace_stuck.specs.declared.condition.Condition.{Condition}
+use Rattle.trace_stuck.specs.declared.condition.Condition.TheOpen.{Condition-F, Yes, Rank, All, One}
+use Rattle.trace_stuck.specs.declared.condition.Condition.TheFolds.{fold-roll-Condition, ind-Condition, map-Condition}
+use Rattle.trace_stuck.specs.declared.condition.Condition.TheViews.{out-Condition, roll-Condition}
+use Rattle.trace_stuck.specs.declared.condition.Condition.TheViews as views
+use Rattle.trace_stuck.specs.Holds.{holds}
+use Rattle.trace_stuck.specs.Release.{among}
+use Rattle.trace_stuck.specs.Named.{named, named_step}
+use Rattle.trace_stuck.proofs.Holds.{level, holds_roll, both, either, or_left, or_right}
+
+flat_parts : (parts : List Condition) → flat_map (λ p. p) (map named parts) ≡ flat_map named parts
+flat_parts parts = flat_map-map (λ p. p) named parts
+
+abbrev named_level : Condition-F Condition → List ℕ
+named_level Yes = []
+named_level (Rank r) = r ∷ []
+named_level (All parts) = flat_map named parts.items
+named_level (One parts) = flat_map named parts.items
+
+named_roll : (x : Condition-F Condition) → named (roll-Condition x) ≡ named_level x
+named_roll Yes = fold-roll-Condition (List ℕ) named_step Yes
+named_roll (Rank r) = fold-roll-Condition (List ℕ) named_step (Rank r)
+named_roll (All parts) = fold-roll-Condition (List ℕ) named_step (All parts) ∙ flat_parts parts.items
+named_roll (One parts) = fold-roll-Condition (List ℕ) named_step (One parts) ∙ flat_parts parts.items
+
+pub named_Rank : (r : ℕ) → named (views.made-Rank r) ≡ r ∷ []
+named_Rank r = ap named (sym (views.rolls-Rank r)) ∙ named_roll (Rank r)
+
+pub named_All : (parts : Vec Condition Global) → named (views.All parts) ≡ flat_map named parts.items
+named_All parts = ap named (sym (views.rolls-All parts)) ∙ named_roll (All parts)
+
+pub named_One : (parts : Vec Condition Global) → named (views.One parts) ≡ flat_map named parts.items
+named_One parts = ap named (sym (views.rolls-One parts)) ∙ named_roll (One parts)
+
+pub ruleset named_rules = (named_Rank, named_All, named_One)
+
+pub and_false : (a b : Bool) → (a && b) ≡ false → (a ≡ false) ⊎ (b ≡ false)
+and_false true b h = inr h
+and_false false b h = inl refl
+
+pub or_false_parts : (a b : Bool) → (a || b) ≡ false → (a ≡ false) × (b ≡ false)
+or_false_parts true b h = absurd (cc)
+or_false_parts false b h = (refl, h)
+
+pub among_append : (xs ys : List ℕ) (r : ℕ) → among (xs ++ ys) r ≡ (among xs r || among ys r)
+among_append xs ys r = list_any-append (λ s. eqb s r) xs ys
+
+pub among_self : (q : ℕ) → among (q ∷ []) q ≡ true
+among_self q = or_left (eqb q q) false (grind (arith, nat_tests))
+
+module _ (able more : ℕ → Bool) (q : ℕ) where
+  abbrev NamesNew : Condition → Type 0
+  NamesNew c = holds more c ≡ true → holds able c ≡ false → among (named c) q ≡ true
+
+  -- the first part, or one of the rest
+  names_first : (x xs : List ℕ) → among x q ≡ true → among (x ++ xs) q ≡ true
+  names_first x xs h = among_append x xs q ∙ or_left (among x q) (among xs q) h
+
+  names_rest : (x xs : List ℕ) → among xs q ≡ true → among (x ++ xs) q ≡ true
+  names_rest x xs h = among_append x xs q ∙ or_right (among x q) (among xs q) h
+
+  all_new : (cs : List ((c : Condition) × NamesNew c)) → list_all (holds more) (map (λ e. e.0) cs) ≡ true → list_all (holds able) (map (λ e. e.0) cs) ≡ false →
+      among (flat_map named (map (λ e. e.0) cs)) q ≡ true
+  all_new [] h k = absurd (cc)
+  all_new (e ∷ cs) h k =
+      let p = both (holds more e.0) (list_all (holds more) (map (λ e. e.0) cs)) h in
+      ⊎_elim
+      (λ (a : holds able e.0 ≡ false). names_first (named e.0) (flat_map named (map (λ e. e.0) cs)) (e.1 p.0 a))
+      (λ (b : list_all (holds able) (map (λ e. e.0) cs) ≡ false). names_rest (named e.0) (flat_map named (map (λ e. e.0) cs)) (all_new cs p.1 b))
+      (and_false (holds able e.0) (list_all (holds able) (map (λ e. e.0) cs)) k)
+
+  any_new : (cs : List ((c : Condition) × NamesNew c)) → list_any (holds more) (map (λ e. e.0) cs) ≡ true → list_any (holds able) (map (λ e. e.0) cs) ≡ false →
+      among (flat_map named (map (λ e. e.0) cs)) q ≡ true
+  any_new [] h k = absurd (cc)
+  any_new (e ∷ cs) h k =
+      let p = or_false_parts (holds able e.0) (list_any (holds able) (map (λ e. e.0) cs)) k in
+      ⊎_elim
+      (λ (a : holds more e.0 ≡ true). names_first (named e.0) (flat_map named (map (λ e. e.0) cs)) (e.1 a p.0))
+      (λ (b : list_any (holds more) (map (λ e. e.0) cs) ≡ true). names_rest (named e.0) (flat_map named (map (λ e. e.0) cs)) (any_new cs b p.1))
+      (either (holds more e.0) (list_any (holds more) (map (λ e. e.0) cs)) h)
+
+  level_new : ((s : ℕ) → more s ≡ true → (able s ≡ true) ⊎ (q ≡ s)) → (y : Condition-F ((c : Condition) × NamesNew c)) →
+      level more (map-Condition _ _ (λ e. e.0) y) ≡ true → level able (map-Condition _ _ (λ e. e.0) y) ≡ false →
+      among (named_level (map-Condition _ _ (λ e. e.0) y)) q ≡ true
+  level_new new Yes h k = absurd (cc)
+  level_new new (Rank r) h k =
+      ⊎_elim (λ (a : able r ≡ true). absurd (cc)) (λ (e : q ≡ r). subst (λ (x : ℕ). among (x ∷ []) q ≡ true) e (among_self q)) (new r h)
+  level_new new (All parts) h k = all_new parts.items h k
+  level_new new (One parts) h k = any_new parts.items h k
+
+  pub names_new : ((s : ℕ) → more s ≡ true → (able s ≡ true) ⊎ (q ≡ s)) → (c : Condition) → NamesNew c
+  names_new new c = ind-Condition NamesNew (λ x y is h k.
+      let h' = sym (holds_roll more x) ∙ h in
+      let k' = sym (holds_roll able x) ∙ k in
+      ap (λ l. among l q) (named_roll x)
+      ∙ subst (λ z. level more z ≡ true → level able z ≡ false → among (named_level z) q ≡ true) is (level_new new y) h' k') c

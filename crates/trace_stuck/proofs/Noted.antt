@@ -1,0 +1,57 @@
+-- One more rank noted at a rank.
+use Rattle.std.proofs.Common.{◌≡◌, ℕ, zero, suc, ◌<◌, true, false, List, [], ◌∷◌, ◌++◌, ◌⊎◌, Some, eqb, refl, sym, ◌∙◌, ap, subst, ⊎_elim, arith, length, set, Vec, Global}
+use Rattle.std.specs.Prelude.{slice_get}
+use Rattle.std.proofs.Math.ListN.{length-set}
+use Rattle.trace_stuck.specs.Release.{among}
+use Rattle.trace_stuck.specs.Named.{at_rank, Asks}
+use Rattle.trace_stuck.proofs.Holds.{either, or_left, or_right}
+use Rattle.trace_stuck.proofs.Orders.{is_equal}
+use Rattle.trace_stuck.proofs.Named.{among_append, among_self}
+
+at_same : (askers : List (Vec ℕ Global)) (s : ℕ) (v : Vec ℕ Global) → s < length askers → at_rank (set askers s v) s ≡ v.items
+at_same [] s v lt = absurd (omega arith)
+at_same (a ∷ askers) zero v lt = refl
+at_same (a ∷ askers) (suc s) v lt = at_same askers s v (omega arith)
+
+at_other : (askers : List (Vec ℕ Global)) (s t : ℕ) (v : Vec ℕ Global) → (s ≡ t → ⊥) → at_rank (set askers s v) t ≡ at_rank askers t
+at_other [] s t v ne = refl
+at_other (a ∷ askers) zero zero v ne = absurd (ne refl)
+at_other (a ∷ askers) zero (suc t) v ne = refl
+at_other (a ∷ askers) (suc s) zero v ne = refl
+at_other (a ∷ askers) (suc s) (suc t) v ne = at_other askers s t v (λ e. ne (ap suc e))
+
+two_cases : (s t : ℕ) → (s ≡ t) ⊎ (s ≡ t → ⊥)
+two_cases s t = grind arith
+
+pub noted_set : (askers : List (Vec ℕ Global)) (s r : ℕ) (v : Vec ℕ Global) → s < length askers → v.items ≡ at_rank askers s ++ r ∷ [] → Asks askers (set askers s v) s r
+noted_set askers s r v lt e = record {
+  len = length-set askers s v;
+  kept = λ t x h. ⊎_elim
+      (λ (i : s ≡ t). subst (λ (u : ℕ). among (at_rank (set askers s v) u) x ≡ true) i
+      (ap (λ l. among l x) (at_same askers s v lt ∙ e) ∙ among_append (at_rank askers s) (r ∷ []) x
+      ∙ or_left (among (at_rank askers s) x) (among (r ∷ []) x) (subst (λ (u : ℕ). among (at_rank askers u) x ≡ true) (sym i) h)))
+      (λ (n : s ≡ t → ⊥). ap (λ l. among l x) (at_other askers s t v n) ∙ h)
+      (two_cases s t);
+  noted = λ t below h.
+      let i = is_equal s t (alone s t h) in
+      subst (λ (u : ℕ). among (at_rank (set askers s v) u) r ≡ true) i
+      (ap (λ l. among l r) (at_same askers s v lt ∙ e) ∙ among_append (at_rank askers s) (r ∷ []) r ∙ or_right (among (at_rank askers s) r) (among (r ∷ []) r) (among_self r));
+}
+  where
+    alone : (s t : ℕ) → among (s ∷ []) t ≡ true → eqb s t ≡ true
+    alone s t h = ⊎_elim (λ a. a) (λ (b : false ≡ true). absurd (cc)) (either (eqb s t) false h)
+
+pub at_is : (askers : List (Vec ℕ Global)) (s : ℕ) (v : Vec ℕ Global) → slice_get askers s ≡ Some v → at_rank askers s ≡ v.items
+at_is [] s v h = absurd (cc)
+at_is (a ∷ askers) zero v h = let e : a ≡ v = cc in ap (λ (w : Vec ℕ Global). w.items) e
+at_is (a ∷ askers) (suc s) v h = at_is askers s v h
+
+-- r was noted at s before
+pub noted_already : (askers : List (Vec ℕ Global)) (s r : ℕ) → among (at_rank askers s) r ≡ true → Asks askers askers s r
+noted_already askers s r h = record {
+  len = refl;
+  kept = λ t x a. a;
+  noted = λ t below a. ⊎_elim
+      (λ (e : eqb s t ≡ true). subst (λ (u : ℕ). among (at_rank askers u) r ≡ true) (is_equal s t e) h)
+      (λ (b : false ≡ true). absurd (cc)) (either (eqb s t) false a);
+}

@@ -1,0 +1,69 @@
+-- The shape of a condition that was just made.
+use Rattle.std.proofs.Common.{Vec, Global, ◌≡◌, ℕ, zero, suc, ◌<◌, Bool, List, [], ◌∷◌, ◌++◌, IsTrue, map, length, get_or, refl, sym, ◌∙◌, ap, arith}
+use Rattle.trace_stuck.specs.declared.condition.Condition.{Condition}
+use Rattle.trace_stuck.specs.declared.condition.Condition.TheOpen.{Rank, All, One}
+use Rattle.trace_stuck.specs.declared.condition.Condition.TheFolds.{fold-roll-Condition}
+use Rattle.trace_stuck.specs.declared.condition.Condition.TheViews as views
+use Rattle.trace_stuck.specs.Shape.{Wait, OnRank, OnAll, OnOne, waits_of, shape_step, shape}
+
+pub shape_Rank : (r : ℕ) → shape (views.made-Rank r) ≡ OnRank r
+shape_Rank r = ap shape (sym (views.rolls-Rank r)) ∙ fold-roll-Condition Wait shape_step (Rank r)
+
+pub shape_All : (parts : Vec Condition Global) → shape (views.All parts) ≡ OnAll (waits_of (map shape parts.items))
+shape_All parts = ap shape (sym (views.rolls-All parts)) ∙ fold-roll-Condition Wait shape_step (All parts)
+
+pub shape_One : (parts : Vec Condition Global) → shape (views.One parts) ≡ OnOne (waits_of (map shape parts.items))
+shape_One parts = ap shape (sym (views.rolls-One parts)) ∙ fold-roll-Condition Wait shape_step (One parts)
+
+pub map_push : {X Y : Type 0} (f : X → Y) (xs : List X) (x : X) → map f (xs ++ x ∷ []) ≡ map f xs ++ f x ∷ []
+map_push f [] x = refl
+map_push {Y = Y} f (y ∷ ys) x = ap (λ (l : List Y). f y ∷ l) (map_push f ys x)
+
+pub ruleset shapes = (shape_Rank, shape_All, shape_One, map_push)
+
+-- parts are known by the list that they make
+one_waits : (xs ys : List Wait) → waits_of xs ≡ waits_of ys → xs ≡ ys
+one_waits [] [] h = refl
+one_waits [] (y ∷ ys) h = absurd (cc)
+one_waits (x ∷ xs) [] h = absurd (cc)
+one_waits (x ∷ xs) (y ∷ ys) h =
+    let a : x ≡ y = cc in
+    let b : waits_of xs ≡ waits_of ys = cc in
+    let rest = one_waits xs ys b in
+    cc (a, rest)
+
+-- a test of the parts is a test of the whole
+module _ (first second : Condition) (parts others : Vec Condition Global) (xs ys : List Condition) (x_is : xs ≡ parts.items) (y_is : ys ≡ others.items)
+    (b : Bool) (test : (IsTrue b → map shape xs ≡ map shape ys) × (map shape xs ≡ map shape ys → IsTrue b)) where
+  lists : map shape xs ≡ map shape ys → map shape parts.items ≡ map shape others.items
+  lists h = ap (map shape) (sym x_is) ∙ h ∙ ap (map shape) y_is
+
+  back : map shape parts.items ≡ map shape others.items → map shape xs ≡ map shape ys
+  back h = ap (map shape) x_is ∙ h ∙ ap (map shape) (sym y_is)
+
+  pub same_all : first ≡ views.All parts → second ≡ views.All others → (IsTrue b → shape first ≡ shape second) × (shape first ≡ shape second → IsTrue b)
+  same_all f s = (
+    λ h. ap shape f ∙ shape_All parts ∙ ap (λ (l : List Wait). OnAll (waits_of l)) (lists (test.0 h)) ∙ sym (shape_All others) ∙ sym (ap shape s),
+    λ h.
+        let e : OnAll (waits_of (map shape parts.items)) ≡ OnAll (waits_of (map shape others.items)) = sym (shape_All parts) ∙ sym (ap shape f) ∙ h ∙ ap shape s ∙ shape_All others in
+        let w : waits_of (map shape parts.items) ≡ waits_of (map shape others.items) = cc in
+        test.1 (back (one_waits (map shape parts.items) (map shape others.items) w)),
+  )
+
+  pub same_one : first ≡ views.One parts → second ≡ views.One others → (IsTrue b → shape first ≡ shape second) × (shape first ≡ shape second → IsTrue b)
+  same_one f s = (
+    λ h. ap shape f ∙ shape_One parts ∙ ap (λ (l : List Wait). OnOne (waits_of l)) (lists (test.0 h)) ∙ sym (shape_One others) ∙ sym (ap shape s),
+    λ h.
+        let e : OnOne (waits_of (map shape parts.items)) ≡ OnOne (waits_of (map shape others.items)) = sym (shape_One parts) ∙ sym (ap shape f) ∙ h ∙ ap shape s ∙ shape_One others in
+        let w : waits_of (map shape parts.items) ≡ waits_of (map shape others.items) = cc in
+        test.1 (back (one_waits (map shape parts.items) (map shape others.items) w)),
+  )
+
+-- lists of one shape have one shape at each place
+pub shapes_at : (xs ys : List Condition) (i : ℕ) (d e : Condition) → i < length xs → i < length ys → map shape xs ≡ map shape ys → shape (get_or xs i d) ≡ shape (get_or ys i e)
+shapes_at [] ys i d e lt le h = absurd (omega arith)
+shapes_at (x ∷ xs) [] i d e lt le h = absurd (omega arith)
+shapes_at (x ∷ xs) (y ∷ ys) zero d e lt le h = cc
+shapes_at (x ∷ xs) (y ∷ ys) (suc i) d e lt le h =
+    let rest : map shape xs ≡ map shape ys = cc in
+    shapes_at xs ys i d e (omega (arith, lt)) (omega (arith, le)) rest

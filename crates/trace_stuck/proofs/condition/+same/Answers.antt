@@ -1,0 +1,24 @@
+use Rattle.std.proofs.Common.{◌≡◌, ◌∙◌, false, true, ap, sym, arith}
+use Rattle.trace_stuck.specs.Shape.{shape}
+use Rattle.trace_stuck.proofs.Orders.{nothing}
+use Rattle.trace_stuck.proofs.Shapes.{same_all, same_one, shapes_at}
+use Rattle.trace_stuck.proofs.condition.+same.Goals as goal
+
+pub are_same-returns-then-not-is_same : goal.are_same-returns-then-not-is_same
+are_same-returns-then-not-is_same t c = (
+  λ (h : false ≡ true). absurd (nothing h),
+  λ h.
+      let here = shapes_at c.args.first.now c.args.second.now c.loop-i.i c.index-first-i.result c.index-second-i.result
+      c.loop-i-test.true (omega (arith, c.loop-i-test.true, c.loop-i.invariant.0)) h in
+      sym c.if-not-is_same.true ∙ c.is_same.ensures.1 (ap shape c.index-first-i.is ∙ here ∙ sym (ap shape c.index-second-i.is)),
+)
+
+pub is_same-returns-in-All-All : goal.is_same-returns-in-All-All
+is_same-returns-in-All-All t c =
+    same_all c.args.first.now c.args.second.now c.in-All-All.parts c.in-All-All.others c.deref.result.now c.deref-in-All-All.result.now
+    c.deref.ensures.value c.deref-in-All-All.ensures.value c.are_same.result c.are_same.ensures c.in-All-All.is-0 c.in-All-All.is-1
+
+pub is_same-returns-in-One-One : goal.is_same-returns-in-One-One
+is_same-returns-in-One-One t c =
+    same_one c.args.first.now c.args.second.now c.in-One-One.parts c.in-One-One.others c.deref-in-One-One.result.now c.deref-in-One-One-2.result.now
+    c.deref-in-One-One.ensures.value c.deref-in-One-One-2.ensures.value c.are_same-in-One-One.result c.are_same-in-One-One.ensures c.in-One-One.is-0 c.in-One-One.is-1

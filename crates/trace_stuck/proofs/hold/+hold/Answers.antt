@@ -1,0 +1,8 @@
+use Rattle.trace_stuck.proofs.Holds.{holds_All, holds_One}
+use Rattle.trace_stuck.proofs.hold.+hold.Goals as goal
+
+pub does_hold-returns-in-All : goal.does_hold-returns-in-All
+does_hold-returns-in-All g t c = let e = holds_All (g.A.Able.able c.args.able.now) c.in-All.all in cc (c.in-All.is, c.deref.ensures.value, c.does_each_hold.ensures)
+
+pub does_hold-returns-in-One : goal.does_hold-returns-in-One
+does_hold-returns-in-One g t c = let e = holds_One (g.A.Able.able c.args.able.now) c.in-One.all in cc (c.in-One.is, c.deref-in-One.ensures.value, c.does_some_hold.ensures)

@@ -1,0 +1,9 @@
+pub mod States
+pub mod Shape
+pub mod Holds
+pub mod Stuck
+pub mod Release
+pub mod Laws
+pub mod Named
+pub mod Queue
+pub mod Verdicts

@@ -1,0 +1,48 @@
+-- How a queue of released ranks stands. No public clause speaks of it.
+use Rattle.std.specs.Prelude.{◌≡◌, ◌≤◌, ◌+◌, ◌&&◌, ◌||◌, ◌⊎◌, not, ℕ, Bool, true, false, Option, List, [], ◌∷◌, ◌++◌, length, set, drop, slice_get, unwrap_or}
+use Rattle.trace_ops.specs.declared.state.State.{State}
+use Rattle.trace_stuck.specs.declared.condition.Condition.{Condition}
+use Rattle.trace_stuck.specs.States.{is_free, is_waiting}
+use Rattle.trace_stuck.specs.Holds.{may_go}
+use Rattle.trace_stuck.specs.Release.{among, IsReleaseOrder}
+use Rattle.trace_stuck.specs.Named.{names}
+
+-- the flag of a rank: up where it can go on
+abbrev pub flag : List Bool → ℕ → Bool
+flag flags r = unwrap_or (slice_get flags r) false
+
+-- the rank waits, its flag is down, and it may go on where the ranks whose flag is up can
+abbrev pub is_next : List State → List (Option Condition) → List Bool → ℕ → Bool
+is_next states conditions able r = is_waiting states r && not (flag able r) && may_go conditions (flag able) r
+
+-- how many flags are down
+abbrev pub down : List Bool → ℕ
+down [] = 0
+down (true ∷ xs) = down xs
+down (false ∷ xs) = down xs + 1
+
+-- no rank is to be tried
+abbrev pub nobody : ℕ → Bool
+nobody r = false
+
+-- every rank is to be tried
+abbrev pub everybody : ℕ → Bool
+everybody r = true
+
+-- what a try of the rank leaves: it was next and is released, or nothing changed
+abbrev pub TriedAs : Bool → ℕ → List Bool → List ℕ → List Bool → List ℕ → Type 0
+TriedAs true r able release able_after release_after = (able_after ≡ set able r true) × (release_after ≡ release ++ r ∷ [])
+TriedAs false r able release able_after release_after = (able_after ≡ able) × (release_after ≡ release)
+
+abbrev pub Tried : List State → List (Option Condition) → ℕ → List Bool → List ℕ → List Bool → List ℕ → Type 0
+Tried states conditions r able release able_after release_after = TriedAs (is_next states conditions able r) r able release able_after release_after
+
+-- The first `from` released ranks were gone through. A rank that is next is still to be tried, or its condition
+-- names a released rank that was not gone through.
+pub record Ready (states : List State) (conditions : List (Option Condition)) (from : ℕ) (todo : ℕ → Bool) (able : List Bool) (release : List ℕ) : Type 0 where
+  pub len : length able ≡ length states
+  pub few : down able + length release ≤ length states
+  pub order : IsReleaseOrder states conditions release
+  pub ties : (r : ℕ) → flag able r ≡ (is_free states r || among release r)
+  pub next : (r : ℕ) → is_next states conditions able r ≡ true →
+      (todo r ≡ true) ⊎ ((s : ℕ) × (among (drop from release) s ≡ true) × (among (names conditions r) s ≡ true))

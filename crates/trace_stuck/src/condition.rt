@@ -1,0 +1,119 @@
+//! Conditions: what a waiting rank needs before it can go on.
+
+ghost use Rattle.std.specs.Prelude.{◌≡◌, ◌↔◌, IfOk, IsTrue, map};
+ghost use Rattle.trace_stuck.specs.Shape.{shape, waits_of, OnNothing, OnRank, OnAll, OnOne};
+
+use std::alloc::{AllocError, Global};
+
+/// What a waiting rank needs before it can go on. Ranks are trace ranks.
+///
+/// In a contract two conditions are compared by their `shape`, the plain tree of their parts.
+#[derive(Debug, Drop)]
+pub enum Condition {
+    /// Nothing: it can go on.
+    Yes,
+    /// That this rank can go on.
+    Rank(u32),
+    /// All of these; of none it is true.
+    All(Vec<Condition>),
+    /// One of these; of none it is false.
+    One(Vec<Condition>),
+}
+
+impl Condition {
+    /// Nothing to wait for.
+    pub fn yes() -> Condition
+        ensures { shape result ≡ OnNothing }
+    {
+        Condition::Yes
+    }
+
+    /// Waits for one rank.
+    #[tactic(auto, using(crate::proofs::Shapes::shapes))]
+    pub fn rank(r: u32) -> Condition
+        ensures { shape result ≡ OnRank r }
+    {
+        Condition::Rank(r)
+    }
+
+    /// Waits for all of these.
+    #[tactic(auto, using(crate::proofs::Shapes::shapes))]
+    pub fn all(parts: Vec<Condition>) -> Condition
+        ensures { shape result ≡ OnAll (waits_of (map shape parts.items)) }
+    {
+        Condition::All(parts)
+    }
+
+    /// Waits for one of these.
+    #[tactic(auto, using(crate::proofs::Shapes::shapes))]
+    pub fn one(parts: Vec<Condition>) -> Condition
+        ensures { shape result ≡ OnOne (waits_of (map shape parts.items)) }
+    {
+        Condition::One(parts)
+    }
+
+    /// A copy, with equal parts.
+    pub fn try_clone(&self, alloc: Global) -> Result<Condition, AllocError>
+        ensures { IfOk result (λ c. shape c ≡ shape self.now) }
+    {
+        copy_of(alloc, self)
+    }
+
+    /// Whether the two have equal parts.
+    pub fn same(&self, other: &Condition) -> bool
+        ensures { IsTrue result ↔ (shape self.now ≡ shape other.now) }
+    {
+        is_same(self, other)
+    }
+}
+
+#[cycle(copy)]
+fn copy_of(alloc: Global, condition: &Condition) -> Result<Condition, AllocError>
+    ensures { IfOk result (λ c. shape c ≡ shape condition.now) }
+{
+    match condition {
+        Condition::Yes => Ok(Condition::yes()),
+        Condition::Rank(r) => Ok(Condition::rank(*r)),
+        Condition::All(parts) => Ok(Condition::all(copies_of(alloc, parts)?)),
+        Condition::One(parts) => Ok(Condition::one(copies_of(alloc, parts)?)),
+    }
+}
+
+#[cycle(copy)]
+fn copies_of(alloc: Global, parts: &[Condition]) -> Result<Vec<Condition>, AllocError>
+    ensures { IfOk result (λ v. map shape v.items ≡ map shape parts.now) }
+{
+    let mut copies = Vec::new(alloc);
+    for c in parts {
+        copies.push(copy_of(alloc, c)?)?;
+    }
+    Ok(copies)
+}
+
+#[cycle(same)]
+fn is_same(first: &Condition, second: &Condition) -> bool
+    ensures { IsTrue result ↔ (shape first.now ≡ shape second.now) }
+{
+    match (first, second) {
+        (Condition::Yes, Condition::Yes) => true,
+        (Condition::Rank(r), Condition::Rank(s)) => *r == *s,
+        (Condition::All(parts), Condition::All(others)) => are_same(parts, others),
+        (Condition::One(parts), Condition::One(others)) => are_same(parts, others),
+        _ => false,
+    }
+}
+
+#[cycle(same)]
+fn are_same(first: &[Condition], second: &[Condition]) -> bool
+    ensures { IsTrue result ↔ (map shape first.now ≡ map shape second.now) }
+{
+    if first.len() != second.len() {
+        return false;
+    }
+    for i in 0..first.len() {
+        if !is_same(&first[i], &second[i]) {
+            return false;
+        }
+    }
+    true
+}

@@ -1,0 +1,81 @@
+//! Whether a condition holds where these ranks can go on.
+
+ghost use Rattle.std.specs.Prelude.{◌≡◌, ◌||◌, ◌==◌, ℕ, List, Bool, true, false};
+ghost use Rattle.std.specs.List.{list_any, list_all};
+ghost use Rattle.trace_stuck.specs.Holds.{holds, may_go};
+ghost use Rattle.trace_stuck.specs.Queue.{flag};
+
+use crate::condition::Condition;
+
+/// Says which ranks can go on.
+pub(crate) trait Able {
+    ghost able: { Self → ℕ → Bool };
+
+    fn can_go(&self, r: u32) -> bool
+        ensures { result ≡ able self.now r };
+}
+
+/// The ranks whose flag is up.
+#[derive(Drop)]
+pub(crate) struct Flags<'a> {
+    pub flags: &'a [bool],
+}
+
+impl<'a> Able for Flags<'a> {
+    ghost able = { λ f. flag f.flags.now };
+
+    fn can_go(&self, r: u32) -> bool {
+        flag_at(self.flags, r as usize)
+    }
+}
+
+pub(crate) fn flag_at(flags: &[bool], r: usize) -> bool
+    ensures { result ≡ flag flags.now r }
+{
+    flags.get(r).copied().unwrap_or(false)
+}
+
+#[cycle(hold)]
+fn does_hold<A: Able>(able: &A, condition: &Condition) -> bool
+    ensures { result ≡ holds (A.able able.now) condition.now }
+{
+    match condition {
+        Condition::Yes => true,
+        Condition::Rank(r) => able.can_go(*r),
+        Condition::All(all) => does_each_hold(able, all),
+        Condition::One(all) => does_some_hold(able, all),
+    }
+}
+
+#[cycle(hold)]
+fn does_each_hold<A: Able>(able: &A, parts: &[Condition]) -> bool
+    ensures { result ≡ list_all (holds (A.able able.now)) parts.now }
+{
+    for c in parts {
+        if !does_hold(able, c) {
+            return false;
+        }
+    }
+    true
+}
+
+#[cycle(hold)]
+fn does_some_hold<A: Able>(able: &A, parts: &[Condition]) -> bool
+    ensures { result ≡ list_any (holds (A.able able.now)) parts.now }
+{
+    for c in parts {
+        if does_hold(able, c) {
+            return true;
+        }
+    }
+    false
+}
+
+pub(crate) fn may_rank_go<A: Able>(conditions: &[Option<Condition>], able: &A, r: usize) -> bool
+    ensures { result ≡ may_go conditions.now (A.able able.now) r }
+{
+    match conditions.get(r) {
+        Some(Some(c)) => does_hold(able, c),
+        _ => false,
+    }
+}

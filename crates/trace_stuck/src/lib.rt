@@ -1,0 +1,41 @@
+//! Which waiting ranks are stuck: conditions, closed sets, release orders.
+//!
+//! A waiting rank has a [`Condition`] on other ranks, built of all-of and one-of (an AND-OR
+//! wait-for graph). A set of waiting ranks is closed where none of them may go on even if every
+//! rank outside that has not ended can. The stuck ranks are the union of all closed sets, the
+//! greatest one. A cycle alone is no deadlock: one of its ranks may have another way out.
+//!
+//! The program starts from the other side. It releases each rank that may go on, then those that
+//! wait for it, and so on; who is left at the end is stuck. The order of release is a witness that
+//! names no rank too many, the closed set one that names none too few, and two checks that take no
+//! memory tell both apart from anything else.
+//!
+//! Cost over n ranks whose conditions have c parts together: a condition is looked at once, and
+//! again for each released rank that it names, so at most (n + 1) c steps, and in the order of
+//! n + c where each condition names few ranks or is one-of ranks. [`check_release`] and
+//! [`check_closed`] look through the list for each part, n c steps at most.
+//!
+//! - [`state`]: the state of each rank; [`condition`]: what it waits for
+//! - [`hold`]: whether a condition holds; [`askers`]: which conditions name a rank
+//! - [`release`]: the order of release; [`verdict`]: that order, and who is left
+//! - [`check`]: both checks; [`laws`]: what holds whatever the program does
+//!
+//! Its tests stand in `crates/matching_tests/src/stuck.rt`.
+#![tactic(auto)]
+
+mod askers;
+mod check;
+mod condition;
+mod hold;
+mod laws;
+mod release;
+mod state;
+mod verdict;
+
+pub use check::{check_closed, check_release};
+pub use condition::Condition;
+pub use laws::{
+    checked_verdicts_are_right, conditions_are_monotone, rising_lists_are_one,
+    stuck_ranks_are_closed,
+};
+pub use verdict::{Verdict, stuck};

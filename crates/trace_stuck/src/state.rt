@@ -1,0 +1,35 @@
+//! The state of a rank, by its place in the list of states.
+
+ghost use Rattle.std.specs.Prelude.{◌≡◌};
+ghost use Rattle.trace_stuck.specs.States.{is_waiting, is_free, is_ended};
+
+use trace_ops::State;
+
+pub(crate) fn is_rank_waiting(states: &[State], r: usize) -> bool
+    ensures { result ≡ is_waiting states.now r }
+{
+    match states.get(r) {
+        Some(State::Waiting) => true,
+        _ => false,
+    }
+}
+
+pub(crate) fn is_rank_free(states: &[State], r: usize) -> bool
+    ensures { result ≡ is_free states.now r }
+{
+    match states.get(r) {
+        Some(State::Free) => true,
+        _ => false,
+    }
+}
+
+/// Whether the rank has ended. What is no rank counts as ended.
+pub(crate) fn is_rank_ended(states: &[State], r: usize) -> bool
+    ensures { result ≡ is_ended states.now r }
+{
+    match states.get(r) {
+        Some(State::Free) => false,
+        Some(State::Waiting) => false,
+        _ => true,
+    }
+}

@@ -1,0 +1,6 @@
+pub mod Tables
+pub mod Columns
+pub mod Steps
+pub mod Keys
+pub mod Searches
+pub mod Names

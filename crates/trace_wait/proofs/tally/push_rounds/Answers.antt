@@ -1,0 +1,6 @@
+use Rattle.trace_wait.proofs.Columns.{pushed_more}
+use Rattle.trace_wait.proofs.tally.push_rounds.Goals as goal
+
+pub loop-k-preserved : goal.loop-k-preserved
+loop-k-preserved c =
+    pushed_more c.args.comm c.args.members c.loop-k.k c.args.tallies.now _ c.stands.result c.args.out.now.items c.loop-k.out.items c.push.new.self.items c.loop-k-test.true c.in_ok-push.ensures.items c.stands.ensures c.loop-k.invariant

@@ -1,0 +1,99 @@
+-- The parts of which conditions are made: a send, a receive, a request.
+use Rattle.std.specs.Prelude.{ℕ, ℤ, Bool, true, false, ◌==◌, ◌||◌, Option, Some, None, is_some, List, [], map, unwrap_or, if◌then◌else◌}
+use Rattle.std.specs.List.{list_any, find, filter_map}
+use Rattle.std.specs.Option.{option_map}
+use Rattle.std.specs.Ordering.{int_eq}
+use Rattle.mpi_model.specs.Layouts.{Parts}
+use Rattle.mpi_model.specs.Groups.{members_of}
+use Rattle.mpi_model.specs.declared.layout.Sends.{Sends}
+use Rattle.mpi_model.specs.declared.layout.Sends.TheVariants as sends
+use Rattle.mpi_model.specs.declared.envelope.Mode.{Mode}
+use Rattle.mpi_model.specs.declared.envelope.Mode.TheVariants.{Standard, Synchronous, Buffered, Ready}
+use Rattle.trace_stuck.specs.Shape.{Wait, OnNothing, OnRank, OnOne, waits_of}
+use Rattle.mpi_model.specs.declared.message.Message.{Message}
+use Rattle.mpi_model.specs.declared.message.Receive.{Receive}
+use Rattle.trace_pair.specs.declared.pair.Pair.{Pair}
+use Rattle.trace_wait.specs.declared.round.Round.{Round}
+use Rattle.trace_ops.specs.Ops.{Ops}
+use Rattle.trace_pair.specs.Table.{taken_by, given_by}
+use Rattle.mpi_model.specs.Fit.{fits}
+use Rattle.trace_wait.specs.Matching.{unpaired_messages, unpaired_receives}
+
+-- what the conditions are made from
+pub record Run : Type 0 where
+  pub layout : Parts
+  pub ops : List Ops
+  pub pairs : List Pair
+  pub rounds : List Round
+
+-- the members of a communicator, as trace ranks in group order
+abbrev pub members : Run → ℕ → List ℕ
+members s c = unwrap_or (members_of s.layout.comms c) []
+
+-- the send is buffered, or it is standard or ready where sends are buffered
+abbrev pub is_buffered : Sends → Mode → Bool
+is_buffered how Buffered = true
+is_buffered how Synchronous = false
+is_buffered sends.Buffer Standard = true
+is_buffered sends.Buffer Ready = true
+is_buffered sends.Wait Standard = false
+is_buffered sends.Wait Ready = false
+
+-- A send may go on where it is buffered, is paired, or fits an unpaired receive; else it waits for its destination.
+abbrev pub may_send : Run → Message → Bool
+may_send s m = is_buffered s.layout.sends m.mode || is_some (taken_by s.pairs m.name) || list_any (λ q. fits m q) (unpaired_receives s.ops s.pairs)
+
+abbrev pub send_part : Run → Message → Wait
+send_part s m = if may_send s m then OnNothing else OnRank m.to
+
+-- the source that a receive waits for: the told one, or one of all members
+abbrev pub source_part : Run → Receive → Wait
+source_part s q = from q.source
+  where
+    from : Option ℕ → Wait
+    from (Some r) = OnRank r
+    from None = OnOne (waits_of (map OnRank (members s q.comm)))
+
+-- A receive may go on where it is paired, or an unpaired message fits it; else it waits for its source.
+abbrev pub may_receive : Run → Receive → Bool
+may_receive s q = is_some (given_by s.pairs q.name) || list_any (λ m. fits m q) (unpaired_messages s.ops s.pairs)
+
+abbrev pub receive_part : Run → Receive → Wait
+receive_part s q = if may_receive s q then OnNothing else source_part s q
+
+-- the send, and the receive, that call n of a rank started: there is none where it is of the null process or local
+abbrev pub send_of : Ops → ℕ → Option Message
+send_of o n = find (λ m. m.name.call == n) o.sends
+
+abbrev pub receive_of : Ops → ℕ → Option Receive
+receive_of o n = find (λ q. q.name.call == n) o.receives
+
+abbrev pub send_of_call : Run → Ops → ℕ → Wait
+send_of_call s o n = part (send_of o n)
+  where
+    part : Option Message → Wait
+    part (Some m) = send_part s m
+    part None = OnNothing
+
+abbrev pub receive_of_call : Run → Ops → ℕ → Wait
+receive_of_call s o n = part (receive_of o n)
+  where
+    part : Option Receive → Wait
+    part (Some q) = receive_part s q
+    part None = OnNothing
+
+-- A request waits as the send or the receive that its call posted.
+abbrev pub post_part : Run → Ops → ℕ → Wait
+post_part s o n = part (send_of o n)
+  where
+    part : Option Message → Wait
+    part (Some m) = send_part s m
+    part None = receive_of_call s o n
+
+-- the call that posted the active request of this number
+abbrev pub posted_by : Ops → ℤ → Option ℕ
+posted_by o x = option_map (λ a. a.1) (find (λ a. int_eq a.0 x) o.active)
+
+-- what each active request of the list waits for, in the list's order
+abbrev pub requests : Run → Ops → List ℤ → List Wait
+requests s o xs = filter_map (λ x. option_map (post_part s o) (posted_by o x)) xs

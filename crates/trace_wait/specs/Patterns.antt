@@ -1,0 +1,50 @@
+-- The keys of the ordered sets in which things are looked up: what a receive names of a message, rounds, names. No public clause speaks of it.
+use Rattle.std.specs.Prelude.{ℕ, Bool, true, false, ◌==◌, ◌&&◌, Option, Some, None}
+use Rattle.std.specs.declared.cmp.Ordering.{Ordering}
+use Rattle.std.specs.Ordering.{nat_cmp, ordering_then}
+use Rattle.std.specs.Option.{option_cmp}
+use Rattle.mpi_model.specs.Fit.{admits}
+use Rattle.mpi_model.specs.declared.event.OpName.{OpName}
+use Rattle.mpi_model.specs.declared.message.Message.{Message}
+use Rattle.mpi_model.specs.declared.message.Receive.{Receive}
+
+-- communicator, receiver, source and tag
+abbrev pub Pattern : Type 0
+Pattern = ℕ × ℕ × Option ℕ × Option ℕ
+
+-- the order of the keys
+abbrev pub pattern_cmp : Pattern → Pattern → Ordering
+pattern_cmp a b = ordering_then (ordering_then (ordering_then (nat_cmp a.0 b.0) (nat_cmp a.1 b.1)) (option_cmp nat_cmp a.2 b.2)) (option_cmp nat_cmp a.3 b.3)
+
+-- what the receive names
+abbrev pub pattern_of : Receive → Pattern
+pattern_of q = (q.comm, q.at, q.source, q.tag)
+
+-- both name nothing, or the same
+abbrev pub same_option : Option ℕ → Option ℕ → Bool
+same_option None None = true
+same_option None (Some b) = false
+same_option (Some a) None = false
+same_option (Some a) (Some b) = a == b
+
+abbrev pub same_pattern : Pattern → Pattern → Bool
+same_pattern a b = (a.0 == b.0) && (a.1 == b.1) && same_option a.2 b.2 && same_option a.3 b.3
+
+-- a receive that names this can take the message
+abbrev pub suits : Message → Pattern → Bool
+suits m p = (m.comm == p.0) && (m.to == p.1) && admits p.2 m.from && admits p.3 m.tag
+
+-- the receive names just this
+abbrev pub asks : Receive → Pattern → Bool
+asks q p = same_pattern (pattern_of q) p
+
+-- a round, or the name of an operation, as a key
+abbrev pub Place : Type 0
+Place = ℕ × ℕ
+
+abbrev pub place_cmp : Place → Place → Ordering
+place_cmp a b = ordering_then (nat_cmp a.0 b.0) (nat_cmp a.1 b.1)
+
+-- the name is of this rank and call
+abbrev pub is_name : ℕ → ℕ → OpName → Bool
+is_name r c name = (name.rank == r) && (name.call == c)

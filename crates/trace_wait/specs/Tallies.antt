@@ -1,0 +1,44 @@
+-- The same rounds, gathered row by row: what the program keeps of a round while rows come in.
+use Rattle.std.specs.Prelude.{ℕ, zero, suc, ◌+◌, ◌-◌, ◌^◌, true, ◌==◌, ◌&&◌, not, List, [], ◌∷◌, min, if◌then◌else◌}
+use Rattle.std.specs.List.{fold}
+use Rattle.trace_ops.specs.declared.entered.Entered.{Entered}
+use Rattle.trace_wait.specs.declared.round.Round.{Round}
+use Rattle.trace_wait.specs.declared.round.Standing.{Standing}
+use Rattle.trace_wait.specs.declared.round.Standing.TheVariants.{Mismatched, Complete, Partial}
+use Rattle.trace_wait.specs.declared.tally.Tally.{Tally}
+use Rattle.trace_ops.specs.Ops.{Ops}
+use Rattle.trace_wait.specs.Ranks.{ops_of}
+use Rattle.trace_wait.specs.Rounds.{kind_number, same_root, on_comm}
+
+abbrev pub start : Entered → Tally
+start e = record { kind = e.kind; root = e.root; is_alike = true; entered = 1 }
+
+abbrev pub add : Tally → Entered → Tally
+add t e = record {
+  kind = t.kind;
+  root = t.root;
+  is_alike = t.is_alike && (kind_number t.kind == kind_number e.kind) && same_root t.root e.root;
+  entered = min (t.entered + 1) (2 ^ 32 - 1);
+}
+
+-- one more call of the k-th round
+abbrev pub put : List Tally → ℕ → Entered → List Tally
+put [] k e = start e ∷ []
+put (t ∷ ts) zero e = add t e ∷ ts
+put (t ∷ ts) (suc k) e = t ∷ put ts k e
+
+-- a row's calls go to the rounds of their places
+abbrev pub merged : List Entered → List Tally → List Tally
+merged [] ts = ts
+merged (e ∷ es) [] = start e ∷ merged es []
+merged (e ∷ es) (t ∷ ts) = add t e ∷ merged es ts
+
+abbrev pub tallied : List Ops → ℕ → List ℕ → List Tally
+tallied ops c members = fold (λ ts r. merged (on_comm c (ops_of ops r).rounds) ts) [] members
+
+abbrev pub stands : ℕ → Tally → Standing
+stands members t = if not t.is_alike then Mismatched else if t.entered == members then Complete t.kind t.root else Partial t.kind t.root t.entered members
+
+abbrev pub rounds_from : ℕ → ℕ → ℕ → List Tally → List Round
+rounds_from c members k [] = []
+rounds_from c members k (t ∷ ts) = record { comm = c; k = k; standing = stands members t } ∷ rounds_from c members (k + 1) ts

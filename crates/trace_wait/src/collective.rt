@@ -1,0 +1,176 @@
+//! The conditions of collective calls, a function for each row of their table.
+
+ghost use Rattle.std.specs.Prelude.{Some, IfSome, option_map, ◌≡◌, ◌==◌, ◌++◌, ◌∷◌, [], if◌then◌else◌, map, filter, not, slice_get, IfOk, OnOk};
+ghost use Rattle.std.specs.List.{find};
+ghost use Rattle.trace_wait.specs.Parts.{members};
+ghost use Rattle.trace_stuck.specs.Shape.{shape, waits_of, OnRank, OnAll};
+ghost use Rattle.trace_wait.specs.Conditions.{has_entered, absent, other_side, root_first, root_rank, from_root, to_root, by_kind, round_part, collective_of_call};
+
+use crate::counts::has_more;
+use crate::overview::{Overview, round_number};
+use mpi_model::{Kind, Sends};
+use std::alloc::{AllocError, Global};
+use trace_ops::{Entered, RankOps};
+use trace_stuck::Condition;
+
+fn push_missing(has_entered: bool, r: u32, parts: &mut Vec<Condition>) -> Result<(), AllocError>
+    ensures { OnOk result (map shape parts.new.items ≡ map shape parts.old.items ++ map OnRank (if has_entered then [] else r ∷ [])) }
+{
+    if !has_entered {
+        parts.push(Condition::rank(r))?;
+    }
+    Ok(())
+}
+
+/// All members that have not entered.
+fn absent(alloc: Global, run: &Overview, comm: u32, k: u64) -> Result<Condition, AllocError>
+    ensures { IfOk result (λ c. shape c ≡ absent run.now comm k) }
+{
+    let mut parts = Vec::new(alloc);
+    let members = run.members(comm);
+    let calls = run.calls_on(comm);
+    for (place, r) in members.iter().enumerate() {
+        push_missing(has_more(calls, place, k), *r, &mut parts)?;
+    }
+    Ok(Condition::all(parts))
+}
+
+fn other_side(alloc: Global, run: &Overview, comm: u32, k: u64) -> Result<Condition, AllocError>
+    ensures { IfOk result (λ c. shape c ≡ other_side run.now comm k) }
+{
+    match run.layout.sends() {
+        Sends::Wait => absent(alloc, run, comm, k),
+        Sends::Buffer => Ok(Condition::yes()),
+    }
+}
+
+/// Whether the root, which has this place in the group, has entered the round.
+fn has_root_entered(run: &Overview, comm: u32, k: u64, place: u32, root: u32) -> bool
+    requires { slice_get (members run.now comm) place ≡ Some root }
+    ensures { result ≡ has_entered run.now comm k root }
+{
+    let _root = root;
+    has_more(run.calls_on(comm), place as usize, k)
+}
+
+fn root_first(run: &Overview, comm: u32, k: u64, place: u32, root: u32) -> Condition
+    requires { slice_get (members run.now comm) place ≡ Some root }
+    ensures { shape result ≡ root_first run.now comm k root }
+{
+    if has_root_entered(run, comm, k, place, root) {
+        Condition::yes()
+    } else {
+        Condition::rank(root)
+    }
+}
+
+fn member_at(members: &[u32], place: u32) -> Option<u32>
+    ensures { result ≡ slice_get members.now place }
+{
+    members.get(place as usize).copied()
+}
+
+/// The root's place in the group, and the root as a trace rank.
+fn root_rank(run: &Overview, entered: &Entered) -> Option<(u32, u32)>
+    ensures place { IfSome result (λ root. slice_get (members run.now entered.now.comm) root.0 ≡ Some root.1) }
+    ensures rank { option_map (λ root. root.1) result ≡ root_rank run.now entered.now }
+{
+    let place = entered.root?;
+    Some((place, member_at(run.members(entered.comm), place)?))
+}
+
+fn from_root(
+    alloc: Global,
+    run: &Overview,
+    r: u32,
+    entered: &Entered,
+    k: u64,
+) -> Result<Condition, AllocError>
+    ensures { IfOk result (λ c. shape c ≡ from_root run.now r entered.now k) }
+{
+    match root_rank(run, entered) {
+        None => Ok(Condition::yes()),
+        Some((place, root)) => if root == r {
+            other_side(alloc, run, entered.comm, k)
+        } else {
+            Ok(root_first(run, entered.comm, k, place, root))
+        },
+    }
+}
+
+fn to_root(
+    alloc: Global,
+    run: &Overview,
+    r: u32,
+    entered: &Entered,
+    k: u64,
+) -> Result<Condition, AllocError>
+    ensures { IfOk result (λ c. shape c ≡ to_root run.now r entered.now k) }
+{
+    match root_rank(run, entered) {
+        None => Ok(Condition::yes()),
+        Some((_, root)) => if root == r {
+            absent(alloc, run, entered.comm, k)
+        } else {
+            other_side(alloc, run, entered.comm, k)
+        },
+    }
+}
+
+fn by_kind(
+    alloc: Global,
+    run: &Overview,
+    r: u32,
+    entered: &Entered,
+    k: u64,
+) -> Result<Condition, AllocError>
+    ensures { IfOk result (λ c. shape c ≡ by_kind run.now r entered.now k) }
+{
+    match entered.kind {
+        Kind::Barrier | Kind::Allreduce | Kind::Allgather | Kind::Alltoall => absent(
+            alloc,
+            run,
+            entered.comm,
+            k,
+        ),
+        Kind::Bcast | Kind::Scatter => from_root(alloc, run, r, entered, k),
+        Kind::Reduce | Kind::Gather => to_root(alloc, run, r, entered, k),
+    }
+}
+
+fn round_part(
+    alloc: Global,
+    run: &Overview,
+    r: u32,
+    entered: &Entered,
+    k: u64,
+) -> Result<Condition, AllocError>
+    ensures { IfOk result (λ c. shape c ≡ round_part run.now r entered.now k) }
+{
+    if run.is_mismatched(entered.comm, k) {
+        Ok(Condition::yes())
+    } else {
+        by_kind(alloc, run, r, entered, k)
+    }
+}
+
+fn entered_by(o: &RankOps, n: u64) -> Option<Entered>
+    ensures { result ≡ find (λ e. e.call == n) o.now.rounds }
+{
+    o.rounds().iter().copied().find(|e| e.call == n)
+}
+
+pub(crate) fn collective_of_call(
+    alloc: Global,
+    run: &Overview,
+    r: u32,
+    o: &RankOps,
+    n: u64,
+) -> Result<Condition, AllocError>
+    ensures { IfOk result (λ c. shape c ≡ collective_of_call run.now r o.now n) }
+{
+    match entered_by(o, n) {
+        Some(entered) => round_part(alloc, run, r, &entered, round_number(o, &entered)),
+        None => Ok(Condition::yes()),
+    }
+}

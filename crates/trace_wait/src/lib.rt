@@ -1,0 +1,40 @@
+//! What waiting ranks wait for: the rounds of collective calls, and the condition of each rank.
+//!
+//! A round of a communicator is the k-th collective call of each of its members. The condition of
+//! a waiting rank says whom it needs, by the call in which it waits and by what is known of its
+//! partners: see `docs/definitions.md`. Which ranks are stuck then is told by [`trace_stuck`],
+//! whose public names this crate passes on.
+//!
+//! Cost: rounds go once through each member's collective calls for each of its communicators.
+//! Conditions go once through all messages and receives, with a look-up in an ordered set for each
+//! that is in no pair, and take a further step for each part that they have.
+//!
+//! - [`round`]: how a round stands; [`tally`]: the rounds of all communicators
+//! - [`counts`]: how many collective calls each member has entered
+//! - [`sets`], [`paired`], [`unpaired`], [`mismatch`]: what is looked up for the conditions; [`overview`]: all of it together
+//! - [`posts`]: what a call started; [`parts`]: what a send, a receive and a request wait for; [`collective`]: a collective call
+//! - [`waiting`]: the condition of each rank
+//!
+//! Its tests stand in `crates/matching_tests/src/wait.rt`.
+#![tactic(auto)]
+
+mod collective;
+mod counts;
+mod mismatch;
+mod overview;
+mod paired;
+mod parts;
+mod posts;
+mod round;
+mod sets;
+mod tally;
+mod unpaired;
+mod waiting;
+
+pub use round::{Round, Standing};
+pub use tally::rounds;
+pub use trace_stuck::{
+    Condition, Verdict, check_closed, check_release, checked_verdicts_are_right,
+    conditions_are_monotone, rising_lists_are_one, stuck, stuck_ranks_are_closed,
+};
+pub use waiting::conditions;

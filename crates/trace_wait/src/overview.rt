@@ -1,0 +1,134 @@
+//! What the conditions are made from.
+
+ghost use Rattle.std.specs.Prelude.{◌≡◌, ◌==◌, ◌&&◌, count_by, is_some, nat_lt, slice_index};
+ghost use Rattle.std.specs.List.{list_any};
+ghost use Rattle.mpi_model.specs.Fit.{fits};
+ghost use Rattle.trace_pair.specs.Table.{taken_by, given_by};
+ghost use Rattle.trace_wait.specs.Matching.{unpaired_messages, unpaired_receives};
+ghost use Rattle.trace_wait.specs.Parts.{members};
+ghost use Rattle.trace_wait.specs.Patterns.{asks};
+ghost use Rattle.trace_wait.specs.Calls.{counts};
+ghost use Rattle.trace_wait.specs.Conditions.{is_mismatched, round_number};
+
+use crate::counts::{CommCalls, row_of};
+use crate::paired::Paired;
+use crate::round::Round;
+use crate::unpaired::Pattern;
+use mpi_model::{Layout, Message, Receive};
+use std::collections::BTreeSet;
+use std::marker::Model;
+use trace_ops::{Entered, RankOps};
+use trace_pair::Pair;
+
+/// The whole run, and what was gathered of it to be looked up: which messages and receives are in
+/// no pair, which rounds are mismatched, and how many calls each member has entered.
+#[derive(Drop)]
+pub(crate) struct Overview<'a> {
+    pub layout: &'a Layout,
+    pub ops: &'a [RankOps],
+    pub pairs: &'a [Pair],
+    pub paired: &'a Paired<'a>,
+    pub rounds: &'a [Round],
+    pub offered: &'a BTreeSet<Pattern>,
+    pub asked: &'a BTreeSet<Pattern>,
+    pub mismatched: &'a BTreeSet<(u32, u64)>,
+    pub calls: &'a [CommCalls],
+}
+
+impl<'a> Model for Overview<'a> {
+    ghost use Rattle.std.specs.Prelude.{◌≡◌, ℕ};
+    ghost use Rattle.std.specs.List.{list_any};
+    ghost use Rattle.std.specs.BTreeSet.{contains};
+    ghost use Rattle.trace_wait.specs.Parts.{Run};
+    ghost use Rattle.trace_wait.specs.Matching.{unpaired_messages, unpaired_receives};
+    ghost use Rattle.trace_wait.specs.Patterns.{Pattern as Named, pattern_cmp, place_cmp, suits, asks};
+    ghost use Rattle.trace_wait.specs.Conditions.{is_mismatched_at};
+    ghost use Rattle.trace_wait.specs.Calls.{table};
+
+    ghost Value = { Run };
+
+    ghost view = { λ s. record { layout = s.layout.now; ops = s.ops.now; pairs = s.pairs.now; rounds = s.rounds.now } };
+
+    ghost invariant = { λ s.
+        ((p : Named) → contains pattern_cmp s.offered.now p ≡ list_any (λ m. suits m p) (unpaired_messages s.ops.now s.paired.now))
+        × ((p : Named) → contains pattern_cmp s.asked.now p ≡ list_any (λ q. asks q p) (unpaired_receives s.ops.now s.paired.now))
+        × ((c k : ℕ) → contains place_cmp s.mismatched.now (c, k) ≡ list_any (is_mismatched_at c k) s.rounds.now)
+        × (s.calls.now ≡ table s.layout.now.comms s.ops.now s.layout.now.comms)
+        × (s.paired.now ≡ s.pairs.now) };
+}
+
+impl<'a> Overview<'a> {
+    /// The members of a communicator, as trace ranks in group order.
+    pub fn members(&self, comm: u32) -> &[u32]
+        ensures { result.now ≡ members self.now comm }
+    {
+        match self.layout.members(comm) {
+            Some(ranks) => ranks,
+            None => &[],
+        }
+    }
+
+    /// How many calls on the communicator each of its members has entered.
+    pub fn calls_on(&self, comm: u32) -> &[u64]
+        ensures { result.now ≡ counts self.now.layout.comms self.now.ops comm }
+    {
+        row_of(self.calls, comm)
+    }
+
+    /// Whether the message is in a pair.
+    pub fn is_taken(&self, m: &Message) -> bool
+        ensures { result ≡ is_some (taken_by self.now.pairs m.now.name) }
+    {
+        self.paired.is_taken(m)
+    }
+
+    /// Whether the receive is in a pair.
+    pub fn is_given(&self, q: &Receive) -> bool
+        ensures { result ≡ is_some (given_by self.now.pairs q.now.name) }
+    {
+        self.paired.is_given(q)
+    }
+
+    /// Whether some unpaired receive names just this.
+    fn is_asked(&self, pattern: Pattern) -> bool
+        ensures { result ≡ list_any (λ q. asks q pattern) (unpaired_receives self.now.ops self.now.pairs) }
+    {
+        self.asked.contains(&pattern)
+    }
+
+    /// Whether some unpaired receive can take the message.
+    pub fn fits_some_receive(&self, m: &Message) -> bool
+        ensures { result ≡ list_any (λ q. fits m.now q) (unpaired_receives self.now.ops self.now.pairs) }
+    {
+        self.is_asked((m.comm, m.to, None, None))
+            || (self.is_asked((m.comm, m.to, None, Some(m.tag)))
+                || (self.is_asked((m.comm, m.to, Some(m.from), None))
+                    || self.is_asked((m.comm, m.to, Some(m.from), Some(m.tag)))))
+    }
+
+    /// Whether the receive can take some unpaired message.
+    pub fn fits_some_message(&self, q: &Receive) -> bool
+        ensures { result ≡ list_any (λ m. fits m q.now) (unpaired_messages self.now.ops self.now.pairs) }
+    {
+        self.offered.contains(&(q.comm, q.at, q.source, q.tag))
+    }
+
+    /// Whether round k of the communicator is mismatched.
+    pub fn is_mismatched(&self, comm: u32, k: u64) -> bool
+        ensures { result ≡ is_mismatched self.now comm k }
+    {
+        self.mismatched.contains(&(comm, k))
+    }
+}
+
+/// The number of the round that the call entered.
+pub(crate) fn round_number(o: &RankOps, entered: &Entered) -> u64
+    ensures { result ≡ round_number o.now entered.now }
+{
+    let before = o
+        .rounds()
+        .iter()
+        .filter(|d| d.comm == entered.comm && d.call < entered.call)
+        .count();
+    before as u64
+}

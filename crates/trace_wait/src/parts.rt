@@ -1,0 +1,158 @@
+//! The parts of conditions: a send, a receive, a request.
+
+ghost use Rattle.std.specs.Prelude.{◌≡◌, ◌++◌, ◌∷◌, [], map, IfOk, OnOk};
+ghost use Rattle.trace_ops.specs.Order.{AreInOrder, ArePosted};
+ghost use Rattle.trace_stuck.specs.Shape.{shape, waits_of, OnRank, OnOne};
+ghost use Rattle.trace_wait.specs.Parts.{is_buffered, may_send, send_part, source_part, may_receive, receive_part, send_of_call, receive_of_call, post_part, posted_by, requests};
+
+use crate::overview::Overview;
+use crate::posts::{receive_of, send_of};
+use mpi_model::{Message, Mode, Receive, Sends};
+use std::alloc::{AllocError, Global};
+use trace_ops::RankOps;
+use trace_stuck::Condition;
+
+fn is_buffered(how: Sends, mode: Mode) -> bool
+    ensures { result ≡ is_buffered how mode }
+{
+    match mode {
+        Mode::Buffered => true,
+        Mode::Synchronous => false,
+        Mode::Standard | Mode::Ready => how == Sends::Buffer,
+    }
+}
+
+fn may_send(run: &Overview, m: &Message) -> bool
+    ensures { result ≡ may_send run.now m.now }
+{
+    is_buffered(run.layout.sends(), m.mode) || run.is_taken(m) || run.fits_some_receive(m)
+}
+
+fn may_receive(run: &Overview, q: &Receive) -> bool
+    ensures { result ≡ may_receive run.now q.now }
+{
+    run.is_given(q) || run.fits_some_message(q)
+}
+
+fn send_part(run: &Overview, m: &Message) -> Condition
+    ensures { shape result ≡ send_part run.now m.now }
+{
+    if may_send(run, m) {
+        Condition::yes()
+    } else {
+        Condition::rank(m.to)
+    }
+}
+
+/// One of these ranks.
+fn one_of(alloc: Global, ranks: &[u32]) -> Result<Condition, AllocError>
+    ensures { IfOk result (λ c. shape c ≡ OnOne (waits_of (map OnRank ranks.now))) }
+{
+    let mut parts = Vec::new(alloc);
+    for r in ranks {
+        parts.push(Condition::rank(*r))?;
+    }
+    Ok(Condition::one(parts))
+}
+
+fn source_part(alloc: Global, run: &Overview, q: &Receive) -> Result<Condition, AllocError>
+    ensures { IfOk result (λ c. shape c ≡ source_part run.now q.now) }
+{
+    match q.source {
+        Some(r) => Ok(Condition::rank(r)),
+        None => one_of(alloc, run.members(q.comm)),
+    }
+}
+
+fn receive_part(alloc: Global, run: &Overview, q: &Receive) -> Result<Condition, AllocError>
+    ensures { IfOk result (λ c. shape c ≡ receive_part run.now q.now) }
+{
+    if may_receive(run, q) {
+        Ok(Condition::yes())
+    } else {
+        source_part(alloc, run, q)
+    }
+}
+
+pub(crate) fn send_of_call(run: &Overview, o: &RankOps, n: u64) -> Condition
+    requires { AreInOrder o.now.sends }
+    ensures { shape result ≡ send_of_call run.now o.now n }
+{
+    match send_of(o, n) {
+        Some(m) => send_part(run, &m),
+        None => Condition::yes(),
+    }
+}
+
+pub(crate) fn receive_of_call(
+    alloc: Global,
+    run: &Overview,
+    o: &RankOps,
+    n: u64,
+) -> Result<Condition, AllocError>
+    requires { ArePosted o.now.receives }
+    ensures { IfOk result (λ c. shape c ≡ receive_of_call run.now o.now n) }
+{
+    match receive_of(o, n) {
+        Some(q) => receive_part(alloc, run, &q),
+        None => Ok(Condition::yes()),
+    }
+}
+
+pub(crate) fn post_part(
+    alloc: Global,
+    run: &Overview,
+    o: &RankOps,
+    n: u64,
+) -> Result<Condition, AllocError>
+    requires sends { AreInOrder o.now.sends }
+    requires receives { ArePosted o.now.receives }
+    ensures { IfOk result (λ c. shape c ≡ post_part run.now o.now n) }
+{
+    match send_of(o, n) {
+        Some(m) => Ok(send_part(run, &m)),
+        None => receive_of_call(alloc, run, o, n),
+    }
+}
+
+/// The call that posted the active request of this number.
+pub(crate) fn posted_by(o: &RankOps, x: &i64) -> Option<u64>
+    ensures { result ≡ posted_by o.now x.now }
+{
+    Some(o.active().iter().find(|a| a.0 == *x)?.1)
+}
+
+/// What the active requests of the list wait for.
+pub(crate) fn requests(
+    alloc: Global,
+    run: &Overview,
+    o: &RankOps,
+    xs: &[i64],
+) -> Result<Vec<Condition>, AllocError>
+    requires sends { AreInOrder o.now.sends }
+    requires receives { ArePosted o.now.receives }
+    ensures { IfOk result (λ parts. map shape parts.items ≡ requests run.now o.now xs.now) }
+{
+    let mut parts = Vec::new(alloc);
+    for x in xs {
+        push_request(alloc, run, o, x, &mut parts)?;
+    }
+    Ok(parts)
+}
+
+fn push_request(
+    alloc: Global,
+    run: &Overview,
+    o: &RankOps,
+    x: &i64,
+    parts: &mut Vec<Condition>,
+) -> Result<(), AllocError>
+    requires sends { AreInOrder o.now.sends }
+    requires receives { ArePosted o.now.receives }
+    ensures { OnOk result (map shape parts.new.items ≡ map shape parts.old.items ++ requests run.now o.now (x.now ∷ [])) }
+{
+    if let Some(n) = posted_by(o, x) {
+        parts.push(post_part(alloc, run, o, n)?)?;
+    }
+    Ok(())
+}

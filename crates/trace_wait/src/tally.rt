@@ -1,0 +1,189 @@
+//! The rounds of all communicators. Each member's calls on a communicator are gone through once.
+
+ghost use Rattle.std.specs.Prelude.{◌≡◌, ◌==◌, ◌≤◌, ◌<◌, ◌^◌, ◌++◌, IfOk, OnOk, length};
+ghost use Rattle.trace_wait.specs.Ranks.{ops_of};
+ghost use Rattle.trace_wait.specs.Rounds.{kind_number, same_root, on_comm, group, rounds_on, rounds_of};
+ghost use Rattle.trace_wait.specs.Tallies.{start, add, put, merged, tallied, stands, rounds_from};
+
+use crate::round::{Round, Standing};
+use mpi_model::{Kind, Layout};
+use std::alloc::{AllocError, Global};
+use trace_ops::{Entered, RankOps};
+
+/// What is known of a round while its calls come in.
+#[derive(Clone, Copy, Debug)]
+struct Tally {
+    kind: Kind,
+    root: Option<u32>,
+    is_alike: bool,
+    entered: u32,
+}
+
+fn kind_number(kind: Kind) -> u8
+    ensures { result ≡ kind_number kind }
+{
+    match kind {
+        Kind::Barrier => 0,
+        Kind::Bcast => 1,
+        Kind::Scatter => 2,
+        Kind::Gather => 3,
+        Kind::Reduce => 4,
+        Kind::Allreduce => 5,
+        Kind::Allgather => 6,
+        Kind::Alltoall => 7,
+    }
+}
+
+fn is_same_root(a: Option<u32>, b: Option<u32>) -> bool
+    ensures { result ≡ same_root a b }
+{
+    match (a, b) {
+        (None, None) => true,
+        (Some(a), Some(b)) => a == b,
+        (Some(_), None) => false,
+        (None, Some(_)) => false,
+    }
+}
+
+fn start(e: &Entered) -> Tally
+    ensures { result ≡ start e.now }
+{
+    Tally {
+        kind: e.kind,
+        root: e.root,
+        is_alike: true,
+        entered: 1,
+    }
+}
+
+fn add(t: Tally, e: &Entered) -> Tally
+    ensures { result ≡ add t e.now }
+{
+    let is_alike = t.is_alike
+        && kind_number(t.kind) == kind_number(e.kind)
+        && is_same_root(t.root, e.root);
+    Tally {
+        kind: t.kind,
+        root: t.root,
+        is_alike,
+        entered: t.entered.saturating_add(1),
+    }
+}
+
+fn put(tallies: &mut Vec<Tally>, k: usize, e: &Entered) -> Result<(), AllocError>
+    requires { k ≤ length tallies.old.items }
+    ensures { OnOk result (tallies.new.items ≡ put tallies.old.items k e.now) }
+{
+    if k < tallies.len() {
+        tallies[k] = add(tallies[k], e);
+    } else {
+        tallies.push(start(e))?;
+    }
+    Ok(())
+}
+
+fn merge(tallies: &mut Vec<Tally>, comm: u32, entries: &[Entered]) -> Result<(), AllocError>
+    ensures { OnOk result (tallies.new.items ≡ merged (on_comm comm entries.now) tallies.old.items) }
+{
+    let mut k = 0usize;
+    for e in entries {
+        if e.comm == comm {
+            put(tallies, k, e)?;
+            k += 1;
+        }
+    }
+    Ok(())
+}
+
+pub(crate) fn entries_of(ops: &[RankOps], r: u32) -> &[Entered]
+    ensures { result.now ≡ (ops_of ops.now r).rounds }
+{
+    match ops.get(r as usize) {
+        Some(o) => o.rounds(),
+        None => &[],
+    }
+}
+
+fn tallies_of(
+    alloc: Global,
+    ops: &[RankOps],
+    comm: u32,
+    members: &[u32],
+) -> Result<Vec<Tally>, AllocError>
+    ensures { IfOk result (λ v. v.items ≡ tallied ops.now comm members.now) }
+{
+    let mut tallies = Vec::new(alloc);
+    for r in members {
+        merge(&mut tallies, comm, entries_of(ops, *r))?;
+    }
+    Ok(tallies)
+}
+
+fn stands(members: u32, t: &Tally) -> Standing
+    ensures { result ≡ stands members t.now }
+{
+    if !t.is_alike {
+        Standing::Mismatched
+    } else if t.entered == members {
+        Standing::Complete(t.kind, t.root)
+    } else {
+        Standing::Partial(t.kind, t.root, t.entered, members)
+    }
+}
+
+fn push_rounds(
+    comm: u32,
+    members: u32,
+    tallies: &[Tally],
+    out: &mut Vec<Round>,
+) -> Result<(), AllocError>
+    ensures { OnOk result (out.new.items ≡ out.old.items ++ rounds_from comm members 0 tallies.now) }
+{
+    for (k, t) in tallies.iter().enumerate() {
+        out.push(Round {
+            comm,
+            k: k as u64,
+            standing: stands(members, t),
+        })?;
+    }
+    Ok(())
+}
+
+pub(crate) fn members_of<'a>(layout: &'a Layout, comm: u32) -> &'a [u32]
+    ensures value { result.now ≡ group layout.now.comms comm }
+    ensures few { length result.now ≤ 1024 }
+{
+    layout.known();
+    match layout.members(comm) {
+        Some(ranks) => ranks,
+        None => &[],
+    }
+}
+
+fn push_comm(
+    alloc: Global,
+    layout: &Layout,
+    ops: &[RankOps],
+    comm: u32,
+    out: &mut Vec<Round>,
+) -> Result<(), AllocError>
+    ensures { OnOk result (out.new.items ≡ out.old.items ++ rounds_on layout.now.comms ops.now comm) }
+{
+    let members = members_of(layout, comm);
+    let tallies = tallies_of(alloc, ops, comm, members)?;
+    push_rounds(comm, members.len() as u32, &tallies, out)
+}
+
+/// The rounds of all communicators, by communicator and k.
+pub fn rounds(alloc: Global, layout: &Layout, ops: &[RankOps]) -> Result<Vec<Round>, AllocError>
+    ensures { IfOk result (λ v. v.items ≡ rounds_of layout.now.comms ops.now) }
+{
+    layout.known();
+    let mut out = Vec::new(alloc);
+    let mut i = 0usize;
+    while let Some(comm) = layout.comm_at(i) {
+        push_comm(alloc, layout, ops, comm, &mut out)?;
+        i += 1;
+    }
+    Ok(out)
+}

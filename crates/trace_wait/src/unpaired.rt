@@ -1,0 +1,120 @@
+//! Which messages and receives are in no pair, looked up by what a receive names of a message.
+//!
+//! A receive names communicator, receiver, source and tag, or leaves source or tag open. So a
+//! message can be named in four ways: all four stand in the set of an unpaired message, and one
+//! look-up tells whether some unpaired message fits a receive.
+
+ghost use Rattle.std.specs.Prelude.{◌≡◌, ◌&&◌, ◌||◌, IfOk, OnOk, filter};
+ghost use Rattle.std.specs.List.{list_any};
+ghost use Rattle.std.specs.BTreeSet.{contains};
+ghost use Rattle.trace_wait.specs.Matching.{is_unpaired_message, is_unpaired_receive, unpaired_messages, unpaired_receives};
+ghost use Rattle.trace_wait.specs.Patterns.{Pattern as Named, pattern_cmp, suits, asks};
+
+use crate::paired::Paired;
+use crate::sets::note;
+use mpi_model::{Message, Receive};
+use std::alloc::{AllocError, Global};
+use std::collections::BTreeSet;
+use trace_ops::RankOps;
+
+/// Communicator, receiver, source and tag, as a receive names them.
+pub(crate) type Pattern = (u32, u32, Option<u32>, Option<u32>);
+
+/// Notes each way in which a receive can name the message.
+fn offer(m: &Message, set: &mut BTreeSet<Pattern>) -> Result<(), AllocError>
+    ensures { OnOk result ((p : Named) → contains pattern_cmp set.new p ≡ (suits m.now p || contains pattern_cmp set.old p)) }
+{
+    note(set, (m.comm, m.to, None, None))?;
+    note(set, (m.comm, m.to, None, Some(m.tag)))?;
+    note(set, (m.comm, m.to, Some(m.from), None))?;
+    note(set, (m.comm, m.to, Some(m.from), Some(m.tag)))?;
+    Ok(())
+}
+
+fn offer_unpaired(
+    paired: &Paired,
+    m: &Message,
+    set: &mut BTreeSet<Pattern>,
+) -> Result<(), AllocError>
+    ensures { OnOk result ((p : Named) → contains pattern_cmp set.new p ≡ ((is_unpaired_message paired.now m.now && suits m.now p) || contains pattern_cmp set.old p)) }
+{
+    if paired.is_taken(m) {
+        return Ok(());
+    }
+    offer(m, set)?;
+    Ok(())
+}
+
+fn offer_all(
+    paired: &Paired,
+    sends: &[Message],
+    set: &mut BTreeSet<Pattern>,
+) -> Result<(), AllocError>
+    ensures { OnOk result ((p : Named) → contains pattern_cmp set.new p ≡ (list_any (λ m. suits m p) (filter (is_unpaired_message paired.now) sends.now) || contains pattern_cmp set.old p)) }
+{
+    for m in sends {
+        offer_unpaired(paired, m, set)?;
+    }
+    Ok(())
+}
+
+/// The patterns that suit some unpaired message.
+pub(crate) fn patterns_offered(
+    alloc: Global,
+    ops: &[RankOps],
+    paired: &Paired,
+) -> Result<BTreeSet<Pattern>, AllocError>
+    ensures { IfOk result (λ s. (p : Named) → contains pattern_cmp s p ≡ list_any (λ m. suits m p) (unpaired_messages ops.now paired.now)) }
+{
+    let mut set = BTreeSet::new(alloc);
+    for o in ops {
+        offer_all(paired, o.sends(), &mut set)?;
+    }
+    Ok(set)
+}
+
+/// Notes what the receive names.
+fn ask(q: &Receive, set: &mut BTreeSet<Pattern>) -> Result<(), AllocError>
+    ensures { OnOk result ((p : Named) → contains pattern_cmp set.new p ≡ (asks q.now p || contains pattern_cmp set.old p)) }
+{
+    note(set, (q.comm, q.at, q.source, q.tag))?;
+    Ok(())
+}
+
+fn ask_unpaired(paired: &Paired, q: &Receive, set: &mut BTreeSet<Pattern>) -> Result<(), AllocError>
+    ensures { OnOk result ((p : Named) → contains pattern_cmp set.new p ≡ ((is_unpaired_receive paired.now q.now && asks q.now p) || contains pattern_cmp set.old p)) }
+{
+    if paired.is_given(q) {
+        return Ok(());
+    }
+    ask(q, set)?;
+    Ok(())
+}
+
+fn ask_all(
+    paired: &Paired,
+    receives: &[Receive],
+    set: &mut BTreeSet<Pattern>,
+) -> Result<(), AllocError>
+    ensures { OnOk result ((p : Named) → contains pattern_cmp set.new p ≡ (list_any (λ q. asks q p) (filter (is_unpaired_receive paired.now) receives.now) || contains pattern_cmp set.old p)) }
+{
+    for q in receives {
+        ask_unpaired(paired, q, set)?;
+    }
+    Ok(())
+}
+
+/// The patterns that some unpaired receive names.
+pub(crate) fn patterns_asked(
+    alloc: Global,
+    ops: &[RankOps],
+    paired: &Paired,
+) -> Result<BTreeSet<Pattern>, AllocError>
+    ensures { IfOk result (λ s. (p : Named) → contains pattern_cmp s p ≡ list_any (λ q. asks q p) (unpaired_receives ops.now paired.now)) }
+{
+    let mut set = BTreeSet::new(alloc);
+    for o in ops {
+        ask_all(paired, o.receives(), &mut set)?;
+    }
+    Ok(set)
+}

@@ -1,0 +1,153 @@
+//! The condition of each waiting rank.
+
+ghost use Rattle.std.specs.Prelude.{◌≡◌, ◌<◌, ◌^◌, ◌∷◌, [], map, length, IfOk};
+ghost use Rattle.std.specs.Option.{option_map};
+ghost use Rattle.trace_ops.specs.Ops.{AreOwn};
+ghost use Rattle.trace_ops.specs.Order.{AreInOrder, ArePosted};
+ghost use Rattle.trace_stuck.specs.Shape.{shape, waits_of, OnAll};
+ghost use Rattle.trace_wait.specs.Conditions.{some_of, request, waits_for, condition_of, conditions_from};
+
+use crate::collective::collective_of_call;
+use crate::counts::all_calls;
+use crate::mismatch::mismatched_rounds;
+use crate::overview::Overview;
+use crate::paired::paired_by;
+use crate::parts::{post_part, posted_by, receive_of_call, requests, send_of_call};
+use crate::round::Round;
+use crate::unpaired::{patterns_asked, patterns_offered};
+use mpi_model::{Call, Layout};
+use std::alloc::{AllocError, Global};
+use trace_ops::RankOps;
+use trace_pair::{Pair, PairTable};
+use trace_stuck::Condition;
+
+fn both(alloc: Global, first: Condition, second: Condition) -> Result<Condition, AllocError>
+    ensures { IfOk result (λ c. shape c ≡ OnAll (waits_of (shape first ∷ shape second ∷ []))) }
+{
+    let mut parts = Vec::new(alloc);
+    parts.push(first)?;
+    parts.push(second)?;
+    Ok(Condition::all(parts))
+}
+
+fn some_of(parts: Vec<Condition>) -> Condition
+    ensures { shape result ≡ some_of (map shape parts.items) }
+{
+    if parts.is_empty() {
+        Condition::yes()
+    } else {
+        Condition::one(parts)
+    }
+}
+
+fn request(alloc: Global, run: &Overview, o: &RankOps, x: &i64) -> Result<Condition, AllocError>
+    requires sends { AreInOrder o.now.sends }
+    requires receives { ArePosted o.now.receives }
+    ensures { IfOk result (λ c. shape c ≡ request run.now o.now x.now) }
+{
+    match posted_by(o, x) {
+        Some(n) => post_part(alloc, run, o, n),
+        None => Ok(Condition::yes()),
+    }
+}
+
+fn waits_for(
+    alloc: Global,
+    run: &Overview,
+    r: u32,
+    o: &RankOps,
+    n: u64,
+    call: &Call,
+) -> Result<Condition, AllocError>
+    requires sends { AreInOrder o.now.sends }
+    requires receives { ArePosted o.now.receives }
+    ensures { IfOk result (λ c. shape c ≡ waits_for run.now r o.now n call.now) }
+{
+    match call {
+        Call::Send(_, _) => Ok(send_of_call(run, o, n)),
+        Call::Recv(_) => receive_of_call(alloc, run, o, n),
+        Call::Sendrecv(_) => both(
+            alloc,
+            send_of_call(run, o, n),
+            receive_of_call(alloc, run, o, n)?,
+        ),
+        Call::Wait(x) => request(alloc, run, o, x),
+        Call::Waitall(xs) => Ok(Condition::all(requests(alloc, run, o, xs.as_slice())?)),
+        Call::Waitany(xs) => Ok(some_of(requests(alloc, run, o, xs.as_slice())?)),
+        Call::Waitsome(xs) => Ok(some_of(requests(alloc, run, o, xs.as_slice())?)),
+        Call::Collective(_) => collective_of_call(alloc, run, r, o, n),
+        Call::Local => Ok(Condition::yes()),
+        Call::Finalize => Ok(Condition::yes()),
+        Call::Isend(_, _) => Ok(Condition::yes()),
+        Call::Irecv(_) => Ok(Condition::yes()),
+        Call::Test(_) => Ok(Condition::yes()),
+    }
+}
+
+fn condition_of(
+    alloc: Global,
+    run: &Overview,
+    r: u32,
+    o: &RankOps,
+) -> Result<Option<Condition>, AllocError>
+    requires sends { AreInOrder o.now.sends }
+    requires receives { ArePosted o.now.receives }
+    ensures { IfOk result (λ c. option_map shape c ≡ condition_of run.now r o.now) }
+{
+    match o.waiting() {
+        Some((n, call)) => Ok(Some(waits_for(alloc, run, r, o, n, call)?)),
+        None => Ok(None),
+    }
+}
+
+/// The conditions under these pairs.
+fn conditions_under(
+    alloc: Global,
+    layout: &Layout,
+    ops: &[RankOps],
+    pairs: &[Pair],
+    rounds: &[Round],
+) -> Result<Vec<Option<Condition>>, AllocError>
+    requires few { length ops.now < 2 ^ 32 }
+    requires own { AreOwn 0 ops.now }
+    ensures { IfOk result (λ v. map (option_map shape) v.items ≡ conditions_from (record { layout = layout.now; ops = ops.now; pairs = pairs.now; rounds = rounds.now }) 0 ops.now) }
+{
+    let paired = paired_by(alloc, pairs)?;
+    let offered = patterns_offered(alloc, ops, &paired)?;
+    let asked = patterns_asked(alloc, ops, &paired)?;
+    let mismatched = mismatched_rounds(alloc, rounds)?;
+    let calls = all_calls(alloc, layout, ops)?;
+    let run = Overview {
+        layout,
+        ops,
+        pairs,
+        paired: &paired,
+        rounds,
+        offered: &offered,
+        asked: &asked,
+        mismatched: &mismatched,
+        calls: &calls,
+    };
+    let mut out = Vec::new(alloc);
+    for (r, o) in ops.iter().enumerate() {
+        out.push(condition_of(alloc, &run, r as u32, o)?)?;
+    }
+    Ok(out)
+}
+
+/// The condition of each rank, none where it isn't waiting.
+///
+/// The ops of rank r stand at place r; the pairs and the rounds are those of these ops.
+pub fn conditions(
+    alloc: Global,
+    layout: &Layout,
+    ops: &[RankOps],
+    pairs: &PairTable,
+    rounds: &[Round],
+) -> Result<Vec<Option<Condition>>, AllocError>
+    requires few { length ops.now < 2 ^ 32 }
+    requires own { AreOwn 0 ops.now }
+    ensures { IfOk result (λ v. map (option_map shape) v.items ≡ conditions_from (record { layout = layout.now; ops = ops.now; pairs = pairs.now.pairs; rounds = rounds.now }) 0 ops.now) }
+{
+    conditions_under(alloc, layout, ops, pairs.pairs(), rounds)
+}
