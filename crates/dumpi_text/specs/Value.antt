@@ -10,17 +10,19 @@ use Rattle.dumpi_text.specs.declared.group.Field.{Field}
 use Rattle.dumpi_text.specs.declared.value.Value.{Value}
 use Rattle.dumpi_text.specs.declared.value.Value.TheVariants.{Number, Numbers, Groups}
 
--- what was found, as a value
-
+-- a number
 abbrev pub one_number : Option (Num × List ℕ) → Option (Value × List ℕ)
 one_number found = option_map (λ x. (Number x.0, x.1)) found
 
+-- a list of numbers
 abbrev pub all_numbers : Option (List Num × List ℕ) → Option (Value × List ℕ)
 all_numbers found = option_map (λ x. (Numbers x.0, x.1)) found
 
+-- a list of groups
 abbrev pub all_groups : Option (List (List Field) × List ℕ) → Option (Value × List ℕ)
 all_groups found = option_map (λ x. (Groups x.0, x.1)) found
 
+-- a group that stands alone: a list of one
 abbrev pub one_group : Option (List Field × List ℕ) → Option (Value × List ℕ)
 one_group found = option_map (λ x. (Groups (x.0 ∷ []), x.1)) found
 
@@ -38,11 +40,12 @@ field_begins text = do
   word ← word_front text
   after_byte equals word.1
 
--- what follows a `{`: the fields of one group, where one begins, or a list
+-- what follows a `{`, by whether a field begins: the fields of one group, or a list
 abbrev pub by_field : Option (List ℕ) → List ℕ → Option (Value × List ℕ)
 by_field (Some rest) text = one_group (fields_front text)
 by_field None text = list_rest closing_brace text
 
+-- what follows a `{`
 abbrev pub brace_rest : List ℕ → Option (Value × List ℕ)
 brace_rest text = by_field (field_begins text) text
 
@@ -65,12 +68,13 @@ after_count text = do
   rest ← after_byte closing_bracket digits.1
   list_begins (after_spaces rest)
 
--- what follows a `[`: a count before a list or a group; else a number; else a list
+-- what follows a `[`, by what it may be: a count before a list or a group; else a number; else a list
 abbrev pub by_count : Option (List ℕ) → Option (Num × List ℕ) → List ℕ → Option (Value × List ℕ)
 by_count (Some listed) number text = list_front listed
 by_count None (Some number) text = one_number (Some number)
 by_count None None text = list_rest closing_bracket text
 
+-- what follows a `[`
 abbrev pub bracket_rest : List ℕ → Option (Value × List ℕ)
 bracket_rest text = by_count (after_count text) (bracketed_front text) text
 

@@ -1,0 +1,104 @@
+-- What a line of a text does, at its place.
+use Rattle.std.specs.Prelude.{ℕ, ◌+◌, List, [], ◌∷◌, ◌++◌, length, Option, Some, None, nat_lt, if◌then◌else◌}
+use Rattle.mpi_model.specs.Times.{Times}
+use Rattle.dumpi_text.specs.Bytes.{carriage_return}
+use Rattle.dumpi_text.specs.Words.{trimmed, without_last}
+use Rattle.dumpi_text.specs.Parameter.{parameter_of}
+use Rattle.dumpi_text.specs.Stamps.{Kind, Blank, Entering, Returning, Bad, Other, kind_of, is_entering}
+use Rattle.dumpi_text.specs.declared.fault.LineFault.{LineFault}
+use Rattle.dumpi_text.specs.declared.fault.LineFault.TheVariants.{LineTooLong, ReturnOutside, NotReturned, NameDiffers, BadParameter, Truncated, TooManyCalls, TooManyLines}
+use Rattle.dumpi_text.specs.declared.source.TheConstants.{LONGEST_LINE}
+use Rattle.dumpi_text.specs.declared.step.TheConstants.{MOST_CALLS, MOST_LINES}
+use Rattle.dumpi_text.specs.declared.step.Position.{Position}
+use Rattle.dumpi_text.specs.Call.{TextCall, CallContent, Param, same_bytes}
+
+-- a call that was entered: its content so far, when it was entered, and the number of its entering line
+pub record Opening : Type 0 where
+  pub content : CallContent
+  pub enter : Times
+  pub line : ℕ
+
+-- what a line leaves: what is open then, the call that it ends, or its fault
+pub data Taken : Type 0 where
+  Stays : (current : Option Opening) → Taken
+  Gives : (call : TextCall) → Taken
+  Refuses : (fault : LineFault) → Taken
+
+-- the call that a returning line ends, or that the end of the text leaves open
+abbrev pub call_of : Opening → Option Times → ℕ → TextCall
+call_of current exit last = record { name = current.content.name; params = current.content.params; enter = current.enter; exit = exit; line = current.line; last_line = last }
+
+-- One line outside a call, and inside one, at its place: what is open then, or the call that it ends, or its fault.
+abbrev pub outside : Position → Kind → Taken × Position
+outside at Blank = (Stays None, at)
+outside at (Entering name enter) =
+    if nat_lt at.calls MOST_CALLS
+    then (Stays (Some (record { content = record { name = name; params = [] }; enter = enter; line = at.line })), record at { calls = at.calls + 1 })
+    else (Refuses TooManyCalls, at)
+outside at (Returning name exit) = (Refuses ReturnOutside, at)
+outside at (Bad fault) = (Refuses fault, at)
+outside at (Other content) = (Stays None, record at { skipped = at.skipped + 1 })
+
+-- one parameter more, at the end
+abbrev pub more_params : CallContent → Param → CallContent
+more_params content param = record content { params = content.params ++ param ∷ [] }
+
+-- a line inside a call that is no stamp line, by the parameter on it
+abbrev pub with_param : Position → Opening → Option (List ℕ × List ℕ) → Taken × Position
+with_param at current None = (Stays (Some current), record at { skipped = at.skipped + 1 })
+with_param at current (Some ([], value)) = (Refuses BadParameter, at)
+with_param at current (Some (byte ∷ name, value)) = (Stays (Some (record current { content = more_params current.content (record { name = byte ∷ name; value = value }) })), at)
+
+-- a returning line inside a call: the call ends where the name is its own, and the line has this fault otherwise
+abbrev pub returning : Position → Opening → List ℕ → Times → LineFault → Taken × Position
+returning at current name exit fault = if same_bytes name current.content.name then (Gives (call_of current (Some exit) at.line), at) else (Refuses fault, at)
+
+-- one line inside a call
+abbrev pub inside : Position → Opening → Kind → Taken × Position
+inside at current Blank = (Stays (Some current), at)
+inside at current (Entering name enter) = (Refuses NotReturned, at)
+inside at current (Returning name exit) = returning at current name exit NameDiffers
+inside at current (Bad fault) = (Refuses fault, at)
+inside at current (Other content) = with_param at current (parameter_of content)
+
+-- one line, outside or inside a call
+abbrev pub by_kind : Position → Option Opening → Kind → Taken × Position
+by_kind at None kind = outside at kind
+by_kind at (Some current) kind = inside at current kind
+
+-- A last line without a line feed: outside a call it may enter none, and inside one it has to end the call.
+abbrev pub last_inside : Position → Opening → Kind → Taken × Position
+last_inside at current Blank = (Refuses Truncated, at)
+last_inside at current (Entering name enter) = (Refuses Truncated, at)
+last_inside at current (Returning name exit) = returning at current name exit Truncated
+last_inside at current (Bad fault) = (Refuses Truncated, at)
+last_inside at current (Other content) = (Refuses Truncated, at)
+
+-- a last line without a line feed, outside or inside a call
+abbrev pub last_by_kind : Position → Option Opening → Kind → Taken × Position
+last_by_kind at None kind = if is_entering kind then (Refuses Truncated, at) else outside at kind
+last_by_kind at (Some current) kind = last_inside at current kind
+
+-- the limit on lines is tried after the other refusals
+abbrev pub within_limit : Taken × Position → Taken × Position
+within_limit (Refuses fault, at) = (Refuses fault, at)
+within_limit (Stays current, at) = if nat_lt MOST_LINES at.line then (Refuses TooManyLines, at) else (Stays current, at)
+within_limit (Gives call, at) = if nat_lt MOST_LINES at.line then (Refuses TooManyLines, at) else (Gives call, at)
+
+-- the place of the line that follows
+abbrev pub next_line : Position → Position
+next_line at = record at { line = at.line + 1 }
+
+-- one line that ends with a line feed: one carriage return before it is dropped, then the blanks at both ends
+unfoldable pub step : Position → Option Opening → List ℕ → Taken × Position
+step at current line =
+    if nat_lt LONGEST_LINE (length line)
+    then (Refuses LineTooLong, next_line at)
+    else within_limit (by_kind (next_line at) current (kind_of (trimmed (without_last carriage_return line))))
+
+-- a last line without a line feed
+unfoldable pub last_step : Position → Option Opening → List ℕ → Taken × Position
+last_step at current line =
+    if nat_lt LONGEST_LINE (length line)
+    then (Refuses LineTooLong, next_line at)
+    else within_limit (last_by_kind (next_line at) current (kind_of (trimmed line)))
