@@ -12,8 +12,6 @@
 //!   [`typing`]: a call by the row of its function
 //! - [`sink`]: the callbacks; [`fault`], [`walking`]: the walk
 //! - [`collect`], [`cutting`], [`tally`]: two sinks; [`laws`]: what holds of walks over whole texts
-//!
-//! Its tests are in `crates/reading_tests/src/calls.rt`.
 #![tactic(auto)]
 
 mod collect;

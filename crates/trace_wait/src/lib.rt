@@ -14,8 +14,6 @@
 //! - [`sets`], [`paired`], [`unpaired`], [`mismatch`]: what is looked up for the conditions; [`overview`]: all of it together
 //! - [`posts`]: what a call started; [`parts`]: what a send, a receive and a request wait for; [`collective`]: a collective call
 //! - [`waiting`]: the condition of each rank
-//!
-//! Its tests stand in `crates/matching_tests/src/wait.rt`.
 #![tactic(auto)]
 
 mod collective;
