@@ -6,7 +6,10 @@
 //! | File | Tests |
 //! |---|---|
 //! | `ops` | `trace_ops` |
+//! | `stuck` | `trace_stuck` |
 #![tactic(auto)]
 
 #[cfg(test)]
 mod ops;
+#[cfg(test)]
+mod stuck;

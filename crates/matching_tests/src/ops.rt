@@ -198,98 +198,106 @@ fn shown(alloc: Global, ops: &RankOps) -> Result<String, Fail> {
     Ok(text)
 }
 
-type Row<'a> = (&'a str, u32, u32, &'a [(Made<'a>, Came<'a>)], &'a str);
-
-/// The first row whose rank did something else, with what it did; empty where there is none.
-fn first_difference(alloc: Global, rows: &[Row<'_>]) -> Result<String, Fail> {
+/// Fails with the row's name and what its rank did, where that is something else.
+fn row(
+    alloc: Global,
+    name: &str,
+    rank: u32,
+    comm: u32,
+    calls: &[(Made<'_>, Came<'_>)],
+    want: &str,
+) -> Result<(), Fail> {
     let layout = layout(alloc)?;
-    for (name, rank, comm, calls, want) in rows {
-        let know = known(alloc, *rank, 0, *comm, calls)?;
-        let ops = ops_of(alloc, &layout, &know, *rank)?;
-        let text = shown(alloc, &ops.try_clone()?)?;
-        if text.as_str() != *want {
-            return Ok(format!(in alloc; "{name}: {text}")?);
-        }
+    let know = known(alloc, rank, 0, comm, calls)?;
+    let ops = ops_of(alloc, &layout, &know, rank)?;
+    let text = shown(alloc, &ops.try_clone()?)?;
+    if text.as_str() != want {
+        return Err(format!(in alloc; "{name}: {text}")?.into());
     }
-    Ok(String::new(alloc))
+    Ok(())
 }
 
 #[test]
 fn worked_rows(rt: HostRuntime) -> Result<(), Fail> {
     let irecv4 = (Made::Irecv(Peer::Any, Some(7)), Came::Posted(4));
     let irecv5 = (Made::Irecv(Peer::Any, Some(7)), Came::Posted(5));
-    let rows: [Row<'_>; 8] = [
-        ("nothing is known", 1, 2, &[], "free"),
-        (
-            "an untold receive",
-            1,
-            2,
-            &[
-                irecv4,
-                (Made::Recv(Peer::Rank(0), Some(7)), Came::Status(None)),
-            ],
-            "free r0<?:7 r1<0:7 a4@0",
-        ),
-        (
-            "and then told",
-            1,
-            2,
-            &[
-                irecv4,
-                (Made::Recv(Peer::Rank(0), Some(7)), Came::Status(None)),
-                (Made::Wait(4), Came::Status(Some(2))),
-            ],
-            "free r0<2:7 r1<0:7",
-        ),
-        (
-            "waiting in a second receive",
-            1,
-            2,
-            &[
-                (Made::Recv(Peer::Rank(0), Some(7)), Came::Status(Some(0))),
-                (Made::Recv(Peer::Rank(0), Some(9)), Came::Open),
-            ],
-            "waiting in 1 r0<0:7 r1<0:9",
-        ),
-        (
-            "waiting for any of two",
-            0,
-            2,
-            &[
-                (Made::Irecv(Peer::Rank(1), Some(7)), Came::Posted(4)),
-                (Made::Irecv(Peer::Rank(2), Some(7)), Came::Posted(5)),
-                (Made::Waitany(&[4, 5]), Came::Open),
-            ],
-            "waiting in 2 r0<1:7 r1<2:7 a4@0 a5@1",
-        ),
-        (
-            "a communicator that the layout doesn't have",
-            0,
-            9,
-            &[(Made::Send(Peer::Rank(1), 7), Came::Nothing)],
-            "free f1",
-        ),
-        (
-            "a number posted anew stands at its own place",
-            1,
-            2,
-            &[irecv4, irecv5, irecv4],
-            "free r0<?:7 r1<?:7 r2<?:7 a5@1 a4@2",
-        ),
-        (
-            "and an index past the list completes nothing",
-            1,
-            2,
-            &[
-                irecv4,
-                irecv5,
-                irecv4,
-                (Made::Waitany(&[5, 4]), Came::Index(Some(9), Some(0))),
-            ],
-            "free r0<?:7 r1<?:7 r2<?:7 a5@1 a4@2",
-        ),
-    ];
-    assert_eq!(rt; first_difference(rt.alloc(), &rows)?.as_str(), "");
+    let alloc = rt.alloc();
+    row(alloc, "nothing is known", 1, 2, &[], "free")?;
+    row(
+        alloc,
+        "an untold receive",
+        1,
+        2,
+        &[
+            irecv4,
+            (Made::Recv(Peer::Rank(0), Some(7)), Came::Status(None)),
+        ],
+        "free r0<?:7 r1<0:7 a4@0",
+    )?;
+    row(
+        alloc,
+        "and then told",
+        1,
+        2,
+        &[
+            irecv4,
+            (Made::Recv(Peer::Rank(0), Some(7)), Came::Status(None)),
+            (Made::Wait(4), Came::Status(Some(2))),
+        ],
+        "free r0<2:7 r1<0:7",
+    )?;
+    row(
+        alloc,
+        "waiting in a second receive",
+        1,
+        2,
+        &[
+            (Made::Recv(Peer::Rank(0), Some(7)), Came::Status(Some(0))),
+            (Made::Recv(Peer::Rank(0), Some(9)), Came::Open),
+        ],
+        "waiting in 1 r0<0:7 r1<0:9",
+    )?;
+    row(
+        alloc,
+        "waiting for any of two",
+        0,
+        2,
+        &[
+            (Made::Irecv(Peer::Rank(1), Some(7)), Came::Posted(4)),
+            (Made::Irecv(Peer::Rank(2), Some(7)), Came::Posted(5)),
+            (Made::Waitany(&[4, 5]), Came::Open),
+        ],
+        "waiting in 2 r0<1:7 r1<2:7 a4@0 a5@1",
+    )?;
+    row(
+        alloc,
+        "a communicator that the layout doesn't have",
+        0,
+        9,
+        &[(Made::Send(Peer::Rank(1), 7), Came::Nothing)],
+        "free f1",
+    )?;
+    row(
+        alloc,
+        "a number posted anew stands at its own place",
+        1,
+        2,
+        &[irecv4, irecv5, irecv4],
+        "free r0<?:7 r1<?:7 r2<?:7 a5@1 a4@2",
+    )?;
+    row(
+        alloc,
+        "and an index past the list completes nothing",
+        1,
+        2,
+        &[
+            irecv4,
+            irecv5,
+            irecv4,
+            (Made::Waitany(&[5, 4]), Came::Index(Some(9), Some(0))),
+        ],
+        "free r0<?:7 r1<?:7 r2<?:7 a5@1 a4@2",
+    )?;
     Ok(())
 }
 
@@ -297,241 +305,269 @@ fn worked_rows(rt: HostRuntime) -> Result<(), Fail> {
 fn told_sources(rt: HostRuntime) -> Result<(), Fail> {
     let any4 = (Made::Irecv(Peer::Any, None), Came::Posted(4));
     let any5 = (Made::Irecv(Peer::Any, None), Came::Posted(5));
-    let rows: [Row<'_>; 9] = [
-        (
-            "a receive's own status, translated by the group",
-            1,
-            3,
-            &[(Made::Recv(Peer::Any, None), Came::Status(Some(0)))],
-            "free r0<2:*",
-        ),
-        (
-            "a told number outside the group tells nothing",
-            1,
-            3,
-            &[(Made::Recv(Peer::Any, None), Came::Status(Some(2)))],
-            "free r0<?:*",
-        ),
-        (
-            "a later place of one outcome can tell",
-            1,
-            2,
-            &[
-                any4,
-                (
-                    Made::Waitsome(&[4, 9]),
-                    Came::Several(&[(0, Some(7)), (1, Some(1)), (0, Some(2))]),
-                ),
-            ],
-            "free r0<2:*",
-        ),
-        (
-            "the first completing outcome counts, though it tells nothing",
-            1,
-            2,
-            &[
-                any4,
-                (Made::Wait(4), Came::Status(None)),
-                (Made::Wait(4), Came::Status(Some(2))),
-            ],
-            "free r0<?:*",
-        ),
-        (
-            "after a number was posted anew the earlier post is told nothing",
-            1,
-            2,
-            &[any4, any4, (Made::Wait(4), Came::Status(Some(2)))],
-            "free r0<?:* r1<2:*",
-        ),
-        (
-            "each of a Waitall by its own place",
-            1,
-            2,
-            &[
-                any4,
-                any5,
-                (Made::Waitall(&[5, 4]), Came::Statuses(&[Some(0), Some(2)])),
-            ],
-            "free r0<2:* r1<0:*",
-        ),
-        (
-            "a Waitall with fewer statuses completes all",
-            1,
-            2,
-            &[
-                any4,
-                any5,
-                (Made::Waitall(&[5, 4]), Came::Statuses(&[Some(0)])),
-            ],
-            "free r0<?:* r1<0:*",
-        ),
-        (
-            "a Waitany tells of its index alone",
-            1,
-            2,
-            &[
-                any4,
-                any5,
-                (Made::Waitany(&[5, 4]), Came::Index(Some(1), Some(0))),
-            ],
-            "free r0<0:* r1<?:* a5@1",
-        ),
-        (
-            "a Sendrecv from any",
-            1,
-            2,
-            &[(
-                Made::Sendrecv(Peer::Rank(0), Peer::Any),
-                Came::Status(Some(2)),
-            )],
-            "free s0>0:7 r0<2:7",
-        ),
-    ];
-    assert_eq!(rt; first_difference(rt.alloc(), &rows)?.as_str(), "");
+    let alloc = rt.alloc();
+    row(
+        alloc,
+        "a receive's own status, translated by the group",
+        1,
+        3,
+        &[(Made::Recv(Peer::Any, None), Came::Status(Some(0)))],
+        "free r0<2:*",
+    )?;
+    row(
+        alloc,
+        "a told number outside the group tells nothing",
+        1,
+        3,
+        &[(Made::Recv(Peer::Any, None), Came::Status(Some(2)))],
+        "free r0<?:*",
+    )?;
+    row(
+        alloc,
+        "a later place of one outcome can tell",
+        1,
+        2,
+        &[
+            any4,
+            (
+                Made::Waitsome(&[4, 9]),
+                Came::Several(&[(0, Some(7)), (1, Some(1)), (0, Some(2))]),
+            ),
+        ],
+        "free r0<2:*",
+    )?;
+    row(
+        alloc,
+        "the first completing outcome counts, though it tells nothing",
+        1,
+        2,
+        &[
+            any4,
+            (Made::Wait(4), Came::Status(None)),
+            (Made::Wait(4), Came::Status(Some(2))),
+        ],
+        "free r0<?:*",
+    )?;
+    row(
+        alloc,
+        "after a number was posted anew the earlier post is told nothing",
+        1,
+        2,
+        &[any4, any4, (Made::Wait(4), Came::Status(Some(2)))],
+        "free r0<?:* r1<2:*",
+    )?;
+    row(
+        alloc,
+        "each of a Waitall by its own place",
+        1,
+        2,
+        &[
+            any4,
+            any5,
+            (Made::Waitall(&[5, 4]), Came::Statuses(&[Some(0), Some(2)])),
+        ],
+        "free r0<2:* r1<0:*",
+    )?;
+    row(
+        alloc,
+        "a Waitall with fewer statuses completes all",
+        1,
+        2,
+        &[
+            any4,
+            any5,
+            (Made::Waitall(&[5, 4]), Came::Statuses(&[Some(0)])),
+        ],
+        "free r0<?:* r1<0:*",
+    )?;
+    row(
+        alloc,
+        "a Waitany tells of its index alone",
+        1,
+        2,
+        &[
+            any4,
+            any5,
+            (Made::Waitany(&[5, 4]), Came::Index(Some(1), Some(0))),
+        ],
+        "free r0<0:* r1<?:* a5@1",
+    )?;
+    row(
+        alloc,
+        "a Sendrecv from any",
+        1,
+        2,
+        &[(
+            Made::Sendrecv(Peer::Rank(0), Peer::Any),
+            Came::Status(Some(2)),
+        )],
+        "free s0>0:7 r0<2:7",
+    )?;
     Ok(())
 }
 
 #[test]
 fn requests_that_stay_active(rt: HostRuntime) -> Result<(), Fail> {
     let send4 = (Made::Isend(Peer::Rank(0), 7), Came::Posted(4));
-    let rows: [Row<'_>; 7] = [
-        (
-            "a Test without its flag",
-            1,
-            2,
-            &[send4, (Made::Test(4), Came::Flag(false, Some(0)))],
-            "free s0>0:7 a4@0",
-        ),
-        (
-            "a Test with its flag",
-            1,
-            2,
-            &[send4, (Made::Test(4), Came::Flag(true, None))],
-            "free s0>0:7",
-        ),
-        (
-            "an outcome of another kind completes nothing",
-            1,
-            2,
-            &[send4, (Made::Wait(4), Came::Flag(true, Some(0)))],
-            "free s0>0:7 a4@0",
-        ),
-        (
-            "an outcome of another kind posts nothing",
-            1,
-            2,
-            &[(Made::Isend(Peer::Rank(0), 7), Came::Status(Some(4)))],
-            "free s0>0:7",
-        ),
-        (
-            "a send to the null process posts and moves nothing",
-            1,
-            2,
-            &[(Made::Isend(Peer::Null, 7), Came::Posted(i64::MIN))],
-            "free a-9223372036854775808@0",
-        ),
-        (
-            "a foreign send posts its number",
-            1,
-            4,
-            &[send4],
-            "free a4@0 f1",
-        ),
-        (
-            "a Waitany without an index completes nothing",
-            1,
-            2,
-            &[send4, (Made::Waitany(&[4]), Came::Index(None, Some(0)))],
-            "free s0>0:7 a4@0",
-        ),
-    ];
-    assert_eq!(rt; first_difference(rt.alloc(), &rows)?.as_str(), "");
+    let alloc = rt.alloc();
+    row(
+        alloc,
+        "a Test without its flag",
+        1,
+        2,
+        &[send4, (Made::Test(4), Came::Flag(false, Some(0)))],
+        "free s0>0:7 a4@0",
+    )?;
+    row(
+        alloc,
+        "a Test with its flag",
+        1,
+        2,
+        &[send4, (Made::Test(4), Came::Flag(true, None))],
+        "free s0>0:7",
+    )?;
+    row(
+        alloc,
+        "an outcome of another kind completes nothing",
+        1,
+        2,
+        &[send4, (Made::Wait(4), Came::Flag(true, Some(0)))],
+        "free s0>0:7 a4@0",
+    )?;
+    row(
+        alloc,
+        "an outcome of another kind posts nothing",
+        1,
+        2,
+        &[(Made::Isend(Peer::Rank(0), 7), Came::Status(Some(4)))],
+        "free s0>0:7",
+    )?;
+    row(
+        alloc,
+        "a send to the null process posts and moves nothing",
+        1,
+        2,
+        &[(Made::Isend(Peer::Null, 7), Came::Posted(i64::MIN))],
+        "free a-9223372036854775808@0",
+    )?;
+    row(
+        alloc,
+        "a foreign send posts its number",
+        1,
+        4,
+        &[send4],
+        "free a4@0 f1",
+    )?;
+    row(
+        alloc,
+        "a Waitany without an index completes nothing",
+        1,
+        2,
+        &[send4, (Made::Waitany(&[4]), Came::Index(None, Some(0)))],
+        "free s0>0:7 a4@0",
+    )?;
     Ok(())
 }
 
 #[test]
 fn foreign_calls_and_states(rt: HostRuntime) -> Result<(), Fail> {
-    let rows: [Row<'_>; 12] = [
-        (
-            "a caller that is no member",
-            1,
-            4,
-            &[(Made::Barrier, Came::Open)],
-            "free f1",
-        ),
-        (
-            "a root outside the group",
-            1,
-            3,
-            &[(Made::Bcast(2), Came::Open)],
-            "free f1",
-        ),
-        (
-            "a root within the group",
-            1,
-            3,
-            &[(Made::Bcast(1), Came::Open)],
-            "waiting in 0 c0@3:1",
-        ),
-        (
-            "a Sendrecv is foreign as a whole",
-            1,
-            3,
-            &[(Made::Sendrecv(Peer::Rank(0), Peer::Rank(2)), Came::Open)],
-            "free f1",
-        ),
-        (
-            "the null process on an absent communicator",
-            1,
-            9,
-            &[(Made::Recv(Peer::Null, None), Came::Open)],
-            "free f1",
-        ),
-        (
-            "the null process on a communicator of the layout",
-            1,
-            2,
-            &[(Made::Recv(Peer::Null, None), Came::Open)],
-            "waiting in 0",
-        ),
-        (
-            "the Enter of Finalize is enough",
-            1,
-            2,
-            &[(Made::Finalize, Came::Open)],
-            "ended",
-        ),
-        (
-            "Finalize has returned",
-            1,
-            2,
-            &[(Made::Finalize, Came::Nothing)],
-            "ended",
-        ),
-        (
-            "a call after Finalize",
-            1,
-            2,
-            &[(Made::Finalize, Came::Nothing), (Made::Barrier, Came::Open)],
-            "waiting in 1 c1@2:-",
-        ),
-        (
-            "an open call that doesn't wait",
-            1,
-            2,
-            &[(Made::Irecv(Peer::Any, None), Came::Open)],
-            "free r0<?:*",
-        ),
-        ("an open Test", 1, 2, &[(Made::Test(4), Came::Open)], "free"),
-        (
-            "an open local call",
-            1,
-            2,
-            &[(Made::Local, Came::Open)],
-            "free",
-        ),
-    ];
-    assert_eq!(rt; first_difference(rt.alloc(), &rows)?.as_str(), "");
+    let alloc = rt.alloc();
+    row(
+        alloc,
+        "a caller that is no member",
+        1,
+        4,
+        &[(Made::Barrier, Came::Open)],
+        "free f1",
+    )?;
+    row(
+        alloc,
+        "a root outside the group",
+        1,
+        3,
+        &[(Made::Bcast(2), Came::Open)],
+        "free f1",
+    )?;
+    row(
+        alloc,
+        "a root within the group",
+        1,
+        3,
+        &[(Made::Bcast(1), Came::Open)],
+        "waiting in 0 c0@3:1",
+    )?;
+    row(
+        alloc,
+        "a Sendrecv is foreign as a whole",
+        1,
+        3,
+        &[(Made::Sendrecv(Peer::Rank(0), Peer::Rank(2)), Came::Open)],
+        "free f1",
+    )?;
+    row(
+        alloc,
+        "the null process on an absent communicator",
+        1,
+        9,
+        &[(Made::Recv(Peer::Null, None), Came::Open)],
+        "free f1",
+    )?;
+    row(
+        alloc,
+        "the null process on a communicator of the layout",
+        1,
+        2,
+        &[(Made::Recv(Peer::Null, None), Came::Open)],
+        "waiting in 0",
+    )?;
+    row(
+        alloc,
+        "the Enter of Finalize is enough",
+        1,
+        2,
+        &[(Made::Finalize, Came::Open)],
+        "ended",
+    )?;
+    row(
+        alloc,
+        "Finalize has returned",
+        1,
+        2,
+        &[(Made::Finalize, Came::Nothing)],
+        "ended",
+    )?;
+    row(
+        alloc,
+        "a call after Finalize",
+        1,
+        2,
+        &[(Made::Finalize, Came::Nothing), (Made::Barrier, Came::Open)],
+        "waiting in 1 c1@2:-",
+    )?;
+    row(
+        alloc,
+        "an open call that doesn't wait",
+        1,
+        2,
+        &[(Made::Irecv(Peer::Any, None), Came::Open)],
+        "free r0<?:*",
+    )?;
+    row(
+        alloc,
+        "an open Test",
+        1,
+        2,
+        &[(Made::Test(4), Came::Open)],
+        "free",
+    )?;
+    row(
+        alloc,
+        "an open local call",
+        1,
+        2,
+        &[(Made::Local, Came::Open)],
+        "free",
+    )?;
     Ok(())
 }
 
