@@ -1,0 +1,69 @@
+//! The segments that wait for a node.
+
+ghost use Rattle.std.specs.Prelude.{◌≡◌, ◌∷◌, ◌++◌, [], drop, length, OnOk, OnErr, IfSome, IfNone};
+
+use std::alloc::{AllocError, Global};
+use std::collections::VecDeque;
+use std::marker::Model;
+use trace_know::Segment;
+
+/// Segments in the order in which they were posted.
+#[derive(Drop)]
+pub(crate) struct Inbox {
+    queue: VecDeque<Segment>,
+}
+
+impl Model for Inbox {
+    ghost use Rattle.std.specs.Prelude.{List};
+    ghost use Rattle.trace_know.specs.Segment.{PlacedEvents};
+
+    ghost Value = { List PlacedEvents };
+
+    ghost view = { λ i. i.queue.items };
+}
+
+impl Inbox {
+    pub(crate) fn new(alloc: Global) -> Inbox
+        ensures { result ≡ [] }
+    {
+        Inbox {
+            queue: VecDeque::new(alloc),
+        }
+    }
+
+    /// Adds a segment at the back.
+    pub(crate) fn push(&mut self, segment: Segment) -> Result<(), AllocError>
+        ensures ok { OnOk result (self.new ≡ self.old ++ segment ∷ []) }
+        ensures err { OnErr result (self.new ≡ self.old) }
+    {
+        self.queue.push_back(segment)?;
+        Ok(())
+    }
+
+    /// The segment that came first.
+    pub(crate) fn front(&self) -> Option<&Segment>
+        ensures some { IfSome result (λ s. self.now ≡ s.now ∷ drop 1 self.now) }
+        ensures none { IfNone result (self.now ≡ []) }
+    {
+        self.queue.front()
+    }
+
+    /// Removes the front.
+    pub(crate) fn pop(&mut self)
+        ensures { self.new ≡ drop 1 self.old }
+    {
+        let _ = self.queue.pop_front();
+    }
+
+    pub(crate) fn clear(&mut self)
+        ensures { self.new ≡ [] }
+    {
+        self.queue.clear();
+    }
+
+    pub(crate) fn len(&self) -> usize
+        ensures { result ≡ length self.now }
+    {
+        self.queue.len()
+    }
+}

@@ -1,0 +1,21 @@
+//! Nodes that the same segments reached are equal, as the contract of a call that does nothing, so
+//! that the check proves it.
+
+ghost use Rattle.std.specs.Prelude.{◌≡◌, ℕ};
+ghost use Rattle.trace_node.specs.Answer.{Answered, IsAnswer};
+ghost use Rattle.trace_world.specs.Schedule.{State};
+ghost use Rattle.trace_world.specs.Equal.{ReachedAlike, know_at};
+ghost use Rattle.trace_world.specs.Shows.{Shows, WorldState};
+
+use trace_know::view_laws;
+use trace_node::answers_are_one;
+
+/// Two nodes of a world that the same facts reached, in any orders, groupings and repetitions, know
+/// the same, and their answers are equal.
+pub fn equal_nodes()
+    ensures knowledge { (w : WorldState) (s : State) (one other : ℕ) → Shows w s → ReachedAlike s one other → know_at w one ≡ know_at w other }
+    ensures answers { (w : WorldState) (s : State) (one other : ℕ) → Shows w s → ReachedAlike s one other → (a b : Answered) → IsAnswer w.layout (know_at w one) a → IsAnswer w.layout (know_at w other) b → a ≡ b }
+{
+    view_laws();
+    answers_are_one();
+}

@@ -1,0 +1,30 @@
+//! Nodes that exchange what they know, after any list of steps.
+//!
+//! A [`World`] is some nodes of one layout. Each has an inbox, into which workers post segments,
+//! and from which it takes them. A shipment makes a mail, the frame of all that a node knows then;
+//! a delivery joins a mail into any node; a restart leaves a node with nothing. Whatever the steps
+//! and their order, each node knows just what the segments that reached it tell together, and its
+//! answer is that of the definitions: that is the contract of [`World::run`].
+//!
+//! A step costs what its node's call costs; a shipment copies what is known into a frame.
+//!
+//! - [`step`]: the steps, and why one is refused
+//! - [`inbox`]: the segments that wait for a node; [`mail`]: a shipped frame; [`letter`]: how it is read
+//! - [`moves`]: what a step does to nodes and inboxes
+//! - [`world`]: nodes with their inboxes, and the mails
+//! - [`laws`]: nodes that the same segments reached are equal, as a contract
+//!
+//! Its tests are in the crate `trace_world_tests`.
+#![tactic(auto)]
+
+mod inbox;
+mod laws;
+mod letter;
+mod mail;
+mod moves;
+mod step;
+mod world;
+
+pub use laws::equal_nodes;
+pub use step::{Step, WorldFault};
+pub use world::World;

@@ -1,0 +1,62 @@
+//! A frame that was shipped.
+
+ghost use Rattle.std.specs.Prelude.{◌≡◌, ◌↔◌, ◌<◌, IfOk, IfErr, IsErrOf, length};
+ghost use Rattle.std.specs.FinMap.{entries};
+ghost use Rattle.trace_wire.specs.Frames.{HasFrame, payload, longest};
+ghost use Rattle.trace_world.specs.Refusals.{IsFrameFault};
+ghost use Rattle.trace_world.specs.Shows.{frame_of};
+
+use crate::letter::Letter;
+use crate::step::WorldFault;
+use mpi_model::MemoryWriter;
+use std::alloc::{AllocError, Global};
+use std::marker::Model;
+use trace_know::Knowledge;
+use trace_wire::{WireFault, frame_laws, read_frame, write_frame};
+
+/// The frame of what a node knew.
+#[derive(Drop)]
+pub(crate) struct Mail {
+    frame: MemoryWriter,
+}
+
+impl Model for Mail {
+    ghost use Rattle.std.specs.Prelude.{List, ℕ};
+    ghost use Rattle.mpi_model.specs.Devices.{bytes_written};
+    ghost use Rattle.trace_world.specs.Worlds.{IsFrame};
+
+    ghost Value = { List ℕ };
+
+    ghost view = { λ m. bytes_written m.frame };
+
+    ghost invariant = { λ m. IsFrame (bytes_written m.frame) };
+}
+
+impl Mail {
+    /// The frame of all that is known.
+    pub(crate) fn of(alloc: Global, know: &Knowledge) -> Result<Mail, WorldFault>
+        ensures ok { IfOk result (λ m. (m ≡ frame_of know.now) × HasFrame (entries know.now)) }
+        ensures err { IfErr result (λ fault. IsFrameFault know.now fault) }
+    {
+        let mut frame = MemoryWriter::new(alloc);
+        match write_frame(know, &mut frame) {
+            Ok(()) => Ok(Mail { frame }),
+            Err(WireFault::Length) => Err(WorldFault::FrameLength),
+            // a writer in memory fails where no memory is left
+            Err(_) => Err(WorldFault::Memory),
+        }
+    }
+
+    /// What was known when it was shipped.
+    pub(crate) fn open(&self, alloc: Global) -> Result<Knowledge, AllocError>
+        ensures { IfOk result (λ know. (self.now ≡ frame_of know) × HasFrame (entries know)) }
+    {
+        frame_laws();
+        let mut letter = Letter::new(self.frame.bytes());
+        match read_frame(alloc, &mut letter) {
+            Ok(know) => Ok(know),
+            Err(WireFault::Memory) => Err(AllocError),
+            Err(_) => unreachable!(),
+        }
+    }
+}

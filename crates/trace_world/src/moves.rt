@@ -1,0 +1,64 @@
+//! What a step does to nodes and inboxes.
+
+ghost use Rattle.std.specs.Prelude.{◌≡◌, ◌<◌, ◌++◌, ◌∷◌, [], ℕ, true, false, OnOk, OnErr, IfErr, IsErrOf, Some, drop, length, slice_set};
+ghost use Rattle.std.specs.List.{slice_get};
+ghost use Rattle.mpi_model.specs.Layouts.{Parts};
+ghost use Rattle.trace_know.specs.Segment.{PlacedEvents};
+ghost use Rattle.trace_know.specs.Trace.{facts_of, view_of};
+ghost use Rattle.trace_node.specs.Node.{IsWithin};
+ghost use Rattle.trace_world.specs.Moves.{Learns};
+ghost use Rattle.trace_world.specs.Refusals.{is_done};
+ghost use Rattle.trace_world.specs.Schedule.{at};
+ghost use Rattle.trace_world.specs.Shows.{knows};
+ghost use Rattle.trace_world.specs.Worlds.{layouts, AreWithin};
+
+use crate::inbox::Inbox;
+use crate::step::WorldFault;
+use trace_know::{Knowledge, Segment};
+use trace_node::{Node, NodeFault};
+
+/// Adds a copy of a segment to a node's inbox.
+pub(crate) fn post(inboxes: &mut Vec<Inbox>, node: usize, segment: &Segment) -> Result<(), WorldFault>
+    requires there { node < length inboxes.old.items }
+    ensures ok { OnOk result (inboxes.new.items ≡ slice_set inboxes.old.items node (at inboxes.old.items node ++ segment.now ∷ [])) }
+    ensures err { IfErr result (λ fault. (fault ≡ WorldFault.Memory) × (inboxes.new.items ≡ inboxes.old.items)) }
+{
+    let Ok(copy) = segment.try_clone() else {
+        return Err(WorldFault::Memory);
+    };
+    let inbox = &mut inboxes[node];
+    if inbox.push(copy).is_err() {
+        return Err(WorldFault::Memory);
+    }
+    Ok(())
+}
+
+/// A node takes a segment of a rank of its layout.
+pub(crate) fn take<'a>(nodes: &mut Vec<Node<'a>>, node: usize, segment: &Segment) -> Result<(), WorldFault>
+    requires there { node < length nodes.old.items }
+    requires within { (layout : Parts) → slice_get (layouts nodes.old.items) node ≡ Some layout → segment.now.rank < layout.ranks }
+    ensures { Learns nodes.old.items node (view_of (facts_of segment.now)) result nodes.new.items }
+{
+    let place = &mut nodes[node];
+    match place.take(segment) {
+        Ok(()) => Ok(()),
+        Err(NodeFault::Stale) => Err(WorldFault::Stale),
+        Err(NodeFault::Memory) => Err(WorldFault::Memory),
+        Err(NodeFault::Rank) => unreachable!(),
+    }
+}
+
+/// A node joins other knowledge of ranks of its layout.
+pub(crate) fn merge<'a>(nodes: &mut Vec<Node<'a>>, node: usize, more: &Knowledge) -> Result<(), WorldFault>
+    requires there { node < length nodes.old.items }
+    requires within { (layout : Parts) → slice_get (layouts nodes.old.items) node ≡ Some layout → IsWithin layout more.now }
+    ensures { Learns nodes.old.items node more.now result nodes.new.items }
+{
+    let place = &mut nodes[node];
+    match place.merge(more) {
+        Ok(()) => Ok(()),
+        Err(NodeFault::Stale) => Err(WorldFault::Stale),
+        Err(NodeFault::Memory) => Err(WorldFault::Memory),
+        Err(NodeFault::Rank) => unreachable!(),
+    }
+}

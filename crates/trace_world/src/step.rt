@@ -1,0 +1,87 @@
+//! The steps of a schedule, and why one is refused.
+
+ghost use Rattle.std.specs.Prelude.{◌≡◌};
+ghost use Rattle.trace_world.specs.Refusals.{node_of};
+
+use thiserror::Error;
+use trace_know::Segment;
+
+/// One step of a schedule. Nodes and mails are numbered from 0.
+#[derive(Debug, Drop)]
+pub enum Step {
+    /// A worker adds a segment to the back of a node's inbox.
+    Post {
+        /// Which worker posts it. It makes no difference to the nodes.
+        worker: u8,
+        /// The node whose inbox it is.
+        node: usize,
+        /// The segment.
+        segment: Segment,
+    },
+    /// A node takes the front of its inbox into its knowledge.
+    Take {
+        /// The node.
+        node: usize,
+    },
+    /// A node's knowledge becomes the next mail, a frame that stays as it is.
+    Ship {
+        /// The node.
+        node: usize,
+    },
+    /// A mail is joined into a node's knowledge. The mail stays, so it can be delivered again.
+    Deliver {
+        /// The number of the mail, in order of the shipments.
+        mail: usize,
+        /// The node.
+        node: usize,
+    },
+    /// A node forgets all that it knows and all that lies in its inbox.
+    Restart {
+        /// The node.
+        node: usize,
+    },
+}
+
+impl Step {
+    /// The node that the step is about.
+    pub(crate) fn node(&self) -> usize
+        ensures { result ≡ node_of self.now }
+    {
+        match self {
+            Step::Post { node, .. } => *node,
+            Step::Take { node } => *node,
+            Step::Ship { node } => *node,
+            Step::Deliver { node, .. } => *node,
+            Step::Restart { node } => *node,
+        }
+    }
+}
+
+/// Why a world refuses, tried in this order. A refused step has changed nothing, but at `Stale`.
+#[derive(Clone, Copy, Debug, PartialEq, Eq, Error)]
+pub enum WorldFault {
+    /// No node has this number.
+    #[error("V1 NoNode")]
+    NoNode,
+    /// No mail has this number.
+    #[error("V2 NoMail")]
+    NoMail,
+    /// The node's inbox is empty.
+    #[error("V3 EmptyInbox")]
+    EmptyInbox,
+    /// The segment's rank is none of the layout.
+    #[error("V4 Rank")]
+    Rank,
+    /// The frame to be shipped would be longer than a frame may be.
+    #[error("V5 FrameLength")]
+    FrameLength,
+    /// The step was done, and the node has no answer now: memory was refused, or it had none before.
+    #[error("V6 Stale")]
+    Stale,
+    /// A world has 1 to 64 nodes.
+    #[error("V7 NodeCount")]
+    NodeCount,
+    /// No memory was left.
+    #[error("Memory")]
+    Memory,
+}

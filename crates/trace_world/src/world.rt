@@ -1,0 +1,273 @@
+//! Nodes with their inboxes, and the mails that were shipped.
+
+ghost use Rattle.std.specs.Prelude.{◌≡◌, ◌<◌, ◌≤◌, ◌×◌, ◌∷◌, ◌↔◌, ◌++◌, [], ℕ, true, false, IfOk, OnOk, IfErr, IsErrOf, MatchResult, IfSome, IfNone, length, map, take, replicate};
+ghost use Rattle.std.specs.FinMap.{empty};
+ghost use Rattle.std.specs.List.{slice_get};
+ghost use Rattle.std.specs.Option.{option_map};
+ghost use Rattle.trace_world.specs.Refusals.{refusal, refusal_there, IsOutcome, IsCountFault, is_done, done, stale, NoneStaler, SameNodes};
+ghost use Rattle.trace_node.specs.Node.{held};
+ghost use Rattle.trace_world.specs.Schedule.{opening};
+ghost use Rattle.trace_world.specs.Shows.{Shows, Follows, WorldState};
+ghost use Rattle.trace_world.specs.Worlds.{most_nodes};
+
+use crate::inbox::Inbox;
+use crate::mail::Mail;
+use crate::moves;
+use crate::step::{Step, WorldFault};
+use mpi_model::Layout;
+use std::alloc::{AllocError, Global};
+use std::marker::Model;
+use trace_know::Segment;
+use trace_node::Node;
+
+/// The greatest number of nodes.
+const MOST_NODES: usize = 64;
+
+/// Nodes of one layout, each with its inbox, and the mails that were shipped.
+///
+/// In a contract a world is seen as what its nodes hold, the segments in their inboxes and the
+/// bytes of its mails. It shows a state of the schedule where each node knows just what the segments
+/// that reached it tell together.
+#[derive(Drop)]
+pub struct World<'a> {
+    alloc: Global,
+    layout: &'a Layout,
+    nodes: Vec<Node<'a>>,
+    inboxes: Vec<Inbox>,
+    mails: Vec<Mail>,
+}
+
+impl<'a> Model for World<'a> {
+    ghost use Rattle.trace_world.specs.Codes.{coded_world};
+    ghost use Rattle.trace_world.specs.Shows.{WorldState, world_state};
+
+    ghost Value = { WorldState };
+
+    ghost coded = { coded_world };
+
+    ghost use Rattle.trace_world.specs.Worlds.{IsWorld};
+
+    ghost view = { λ w. world_state w.layout.now w.nodes.items w.inboxes.items w.mails.items };
+
+    ghost invariant = { λ w. IsWorld w.layout.now w.nodes.items w.inboxes.items w.mails.items };
+}
+
+impl<'a> World<'a> {
+    /// So many nodes that know nothing, with empty inboxes, and no mail.
+    pub fn new(alloc: Global, layout: &'a Layout, nodes: usize) -> Result<World<'a>, WorldFault>
+        ensures shows { IfOk result (λ w. Shows w (opening nodes)) }
+        ensures layout { IfOk result (λ w. w.layout ≡ layout.now) }
+        ensures fresh { IfOk result (λ w. stale w.nodes ≡ replicate nodes false) }
+        ensures refused { IfErr result (λ fault. IsCountFault nodes fault) }
+    {
+        if nodes == 0 || nodes > MOST_NODES {
+            return Err(WorldFault::NodeCount);
+        }
+        let Ok(inboxes) = empty_inboxes(alloc, nodes) else {
+            return Err(WorldFault::Memory);
+        };
+        let Ok(nodes) = new_nodes(alloc, layout, nodes) else {
+            return Err(WorldFault::Memory);
+        };
+        Ok(World {
+            alloc,
+            layout,
+            nodes,
+            inboxes,
+            mails: Vec::new(alloc),
+        })
+    }
+
+    /// Does one step. At [`WorldFault::Stale`] it was done, and its node has no answer; any other
+    /// refusal changes nothing.
+    pub fn step(&mut self, step: &Step) -> Result<(), WorldFault>
+        ensures done { is_done result ≡ true → Follows self.old (step.now ∷ []) self.new }
+        ensures undone { is_done result ≡ false → self.new ≡ self.old }
+        ensures outcome { IsOutcome (refusal self.old step.now) result }
+        ensures fresh { OnOk result (NoneStaler self.old.nodes self.new.nodes) }
+        ensures same { SameNodes self.old self.new }
+    {
+        let node = step.node();
+        if node >= self.nodes.len() {
+            return Err(WorldFault::NoNode);
+        }
+        match step {
+            Step::Post { segment, .. } => self.post(node, segment),
+            Step::Take { .. } => self.take(node),
+            Step::Ship { .. } => self.ship(node),
+            Step::Deliver { mail, .. } => self.deliver(*mail, node),
+            Step::Restart { .. } => self.restart(node),
+        }
+    }
+
+    /// Does the steps in order, up to the first that is refused, which it names.
+    pub fn run(&mut self, steps: &[Step]) -> Result<(), (usize, WorldFault)>
+        ensures ok { OnOk result (Follows self.old steps.now self.new) }
+        ensures fresh { OnOk result (NoneStaler self.old.nodes self.new.nodes) }
+        ensures err { IfErr result (λ e. (e.0 < length steps.now) × Follows self.old (take (done e) steps.now) self.new) }
+        ensures same { SameNodes self.old self.new }
+    {
+        for k in 0..steps.len() {
+            if let Err(fault) = self.step(&steps[k]) {
+                return Err((k, fault));
+            }
+        }
+        Ok(())
+    }
+
+    /// Makes a node's answer anew. Where there is no memory for it, the node has none; what is known
+    /// stays in any case.
+    pub fn refresh(&mut self, node: usize) -> Result<(), WorldFault>
+        ensures shown { Follows self.old [] self.new }
+        ensures ok { OnOk result (node < length self.old.nodes) }
+        ensures answered { OnOk result (slice_get (stale self.new.nodes) node ≡ Some false) }
+        ensures none { IsErrOf result WorldFault.NoNode ↔ (length self.old.nodes ≤ node) }
+        ensures same { SameNodes self.old self.new }
+    {
+        if node >= self.nodes.len() {
+            return Err(WorldFault::NoNode);
+        }
+        let place = &mut self.nodes[node];
+        if place.refresh().is_err() {
+            return Err(WorldFault::Memory);
+        }
+        Ok(())
+    }
+
+    /// A node, which tells what it knows and its answer.
+    pub fn node(&self, node: usize) -> Option<&Node<'a>>
+        ensures { option_map (λ n. n.now) result ≡ slice_get self.now.nodes node }
+    {
+        self.nodes.get(node)
+    }
+
+    /// How many segments wait for a node.
+    pub fn inbox_len(&self, node: usize) -> Option<usize>
+        ensures { result ≡ option_map length (slice_get self.now.inboxes node) }
+    {
+        Some(self.inboxes.get(node)?.len())
+    }
+
+    /// How many mails were shipped.
+    pub fn mails(&self) -> usize
+        ensures { result ≡ length self.now.mails }
+    {
+        self.mails.len()
+    }
+
+    /// Adds a copy of a segment to a node's inbox.
+    fn post(&mut self, node: usize, segment: &Segment) -> Result<(), WorldFault>
+        requires there { node < length self.old.nodes }
+        ensures done { (worker : ℕ) → is_done result ≡ true → Follows self.old (Step.Post worker node segment.now ∷ []) self.new }
+        ensures undone { is_done result ≡ false → self.new ≡ self.old }
+        ensures outcome { (worker : ℕ) → IsOutcome (refusal_there self.old (Step.Post worker node segment.now)) result }
+        ensures fresh { self.new.nodes ≡ self.old.nodes }
+        ensures layout { self.new.layout ≡ self.old.layout }
+    {
+        if segment.rank() >= self.layout.ranks() {
+            return Err(WorldFault::Rank);
+        }
+        moves::post(&mut self.inboxes, node, segment)
+    }
+
+    /// Joins the front of a node's inbox into what it knows.
+    fn take(&mut self, node: usize) -> Result<(), WorldFault>
+        requires there { node < length self.old.nodes }
+        ensures done { is_done result ≡ true → Follows self.old (Step.Take node ∷ []) self.new }
+        ensures undone { is_done result ≡ false → self.new ≡ self.old }
+        ensures outcome { IsOutcome (refusal_there self.old (Step.Take node)) result }
+        ensures fresh { OnOk result (NoneStaler self.old.nodes self.new.nodes) }
+        ensures same { SameNodes self.old self.new }
+    {
+        let Some(segment) = self.inboxes[node].front() else {
+            return Err(WorldFault::EmptyInbox);
+        };
+        let taken = moves::take(&mut self.nodes, node, segment);
+        if matches!(taken, Ok(()) | Err(WorldFault::Stale)) {
+            self.inboxes[node].pop();
+        }
+        taken
+    }
+
+    /// The frame of what a node knows becomes the next mail.
+    fn ship(&mut self, node: usize) -> Result<(), WorldFault>
+        requires there { node < length self.old.nodes }
+        ensures done { is_done result ≡ true → Follows self.old (Step.Ship node ∷ []) self.new }
+        ensures undone { is_done result ≡ false → self.new ≡ self.old }
+        ensures outcome { IsOutcome (refusal_there self.old (Step.Ship node)) result }
+        ensures fresh { self.new.nodes ≡ self.old.nodes }
+        ensures layout { self.new.layout ≡ self.old.layout }
+    {
+        self.nodes[node].known();
+        let mail = Mail::of(self.alloc, self.nodes[node].know())?;
+        add(&mut self.mails, mail)
+    }
+
+    /// Joins a mail into what a node knows.
+    fn deliver(&mut self, mail: usize, node: usize) -> Result<(), WorldFault>
+        requires there { node < length self.old.nodes }
+        ensures done { is_done result ≡ true → Follows self.old (Step.Deliver mail node ∷ []) self.new }
+        ensures undone { is_done result ≡ false → self.new ≡ self.old }
+        ensures outcome { IsOutcome (refusal_there self.old (Step.Deliver mail node)) result }
+        ensures fresh { OnOk result (NoneStaler self.old.nodes self.new.nodes) }
+        ensures same { SameNodes self.old self.new }
+    {
+        if mail >= self.mails.len() {
+            return Err(WorldFault::NoMail);
+        }
+        let Ok(know) = self.mails[mail].open(self.alloc) else {
+            return Err(WorldFault::Memory);
+        };
+        moves::merge(&mut self.nodes, node, &know)
+    }
+
+    /// A node is as a new one, with an empty inbox.
+    fn restart(&mut self, node: usize) -> Result<(), WorldFault>
+        requires there { node < length self.old.nodes }
+        ensures done { is_done result ≡ true → Follows self.old (Step.Restart node ∷ []) self.new }
+        ensures undone { is_done result ≡ false → self.new ≡ self.old }
+        ensures outcome { IsOutcome (refusal_there self.old (Step.Restart node)) result }
+        ensures fresh { OnOk result (NoneStaler self.old.nodes self.new.nodes) }
+        ensures same { SameNodes self.old self.new }
+    {
+        let Ok(fresh) = Node::new(self.alloc, self.layout) else {
+            return Err(WorldFault::Memory);
+        };
+        self.nodes[node] = fresh;
+        self.inboxes[node].clear();
+        Ok(())
+    }
+}
+
+/// Adds a mail.
+fn add(mails: &mut Vec<Mail>, mail: Mail) -> Result<(), WorldFault>
+    ensures ok { OnOk result (mails.new.items ≡ mails.old.items ++ mail ∷ []) }
+    ensures err { IfErr result (λ fault. (fault ≡ WorldFault.Memory) × (mails.new.items ≡ mails.old.items)) }
+{
+    if mails.push(mail).is_err() {
+        return Err(WorldFault::Memory);
+    }
+    Ok(())
+}
+
+/// So many nodes that know nothing.
+fn new_nodes<'a>(alloc: Global, layout: &'a Layout, count: usize) -> Result<Vec<Node<'a>>, AllocError>
+    ensures { IfOk result (λ nodes. nodes.items ≡ replicate count (held layout.now empty false)) }
+{
+    let mut nodes = Vec::new(alloc);
+    for _ in 0..count {
+        nodes.push(Node::new(alloc, layout)?)?;
+    }
+    Ok(nodes)
+}
+
+/// So many inboxes with nothing in them.
+fn empty_inboxes(alloc: Global, count: usize) -> Result<Vec<Inbox>, AllocError>
+    ensures { IfOk result (λ inboxes. inboxes.items ≡ replicate count []) }
+{
+    let mut inboxes = Vec::new(alloc);
+    for _ in 0..count {
+        inboxes.push(Inbox::new(alloc))?;
+    }
+    Ok(inboxes)
+}
