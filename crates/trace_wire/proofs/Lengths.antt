@@ -1,5 +1,5 @@
 -- Lengths of what is spelled.
-use Rattle.std.proofs.Common.{◌≡◌, ℕ, ◌<◌, ◌+◌, ◌*◌, ◌^◌, List, [], ◌∷◌, ◌++◌, length, Option, arith, ap, refl, ◌∙◌, length-append}
+use Rattle.std.proofs.Common.{◌≡◌, ℕ, suc, ◌<◌, ◌+◌, ◌*◌, ◌^◌, List, [], ◌∷◌, ◌++◌, length, Option, arith, ap, refl, ◌∙◌, length-append}
 use Rattle.std.specs.Prelude.{ℤ, min}
 use Rattle.std.specs.List.{flat_map}
 use Rattle.std.specs.Int.{w32, to_be_bytes}
@@ -11,22 +11,27 @@ use Rattle.trace_wire.specs.Fields.{element}
 use Rattle.trace_wire.specs.Frames.{Entry, cell_bytes, cells_bytes, known_bytes, place_form}
 use Rattle.trace_wire.proofs.FormLaws.{items_short}
 
--- items of one width
-width : {A : Type 0} (spell : A → List ℕ) (w : ℕ) → ((a : A) → length (spell a) ≡ w) → (xs : List A) → length (flat_map spell xs) ≡ length xs * w
-width spell w each [] = refl
-width spell w each (x ∷ xs) = ap length (flat_map-cons spell x xs) ∙ length-append (spell x) (flat_map spell xs) ∙ ap (λ (n : ℕ). n + length (flat_map spell xs)) (each x) ∙ ap (λ (n : ℕ). w + n) (width spell w each xs)
+-- items of four and of eight bytes
+width4 : {A : Type 0} (spell : A → List ℕ) → ((a : A) → length (spell a) ≡ 4) → (xs : List A) → length (flat_map spell xs) ≡ length xs * 4
+width4 spell each [] = refl
+width4 spell each (x ∷ xs) =
+    let len = ap length (flat_map-cons spell x xs) ∙ length-append (spell x) (flat_map spell xs) in
+    omega (arith, len, each x, width4 spell each xs)
 
-list_len : {A : Type 0} (form : Form A) (w : ℕ) → ((a : A) → length (form.spell a) ≡ w) → (xs : List A) → length ((list form).spell xs) ≡ 4 + length xs * w
-list_len form w each xs = length-append (to_be_bytes w32 (length xs)) (flat_map form.spell xs) ∙ ap (λ (n : ℕ). 4 + n) (width form.spell w each xs)
+width8 : {A : Type 0} (spell : A → List ℕ) → ((a : A) → length (spell a) ≡ 8) → (xs : List A) → length (flat_map spell xs) ≡ length xs * 8
+width8 spell each [] = refl
+width8 spell each (x ∷ xs) =
+    let len = ap length (flat_map-cons spell x xs) ∙ length-append (spell x) (flat_map spell xs) in
+    omega (arith, len, each x, width8 spell each xs)
 
 pub requests_len : (xs : List ℤ) → length ((list signed).spell xs) ≡ 4 + length xs * 8
-requests_len xs = list_len signed 8 (λ a. refl) xs
+requests_len xs = length-append (to_be_bytes w32 (length xs)) (flat_map signed.spell xs) ∙ ap (λ (n : ℕ). 4 + n) (width8 signed.spell (λ a. refl) xs)
 
 pub sources_len : (xs : List (Option ℕ)) → length ((list told).spell xs) ≡ 4 + length xs * 4
-sources_len xs = list_len told 4 (λ a. refl) xs
+sources_len xs = length-append (to_be_bytes w32 (length xs)) (flat_map told.spell xs) ∙ ap (λ (n : ℕ). 4 + n) (width4 told.spell (λ a. refl) xs)
 
 pub elements_len : (xs : List Element) → length ((list element).spell xs) ≡ 4 + length xs * 8
-elements_len xs = list_len element 8 (λ a. refl) xs
+elements_len xs = length-append (to_be_bytes w32 (length xs)) (flat_map element.spell xs) ∙ ap (λ (n : ℕ). 4 + n) (width8 element.spell (λ a. refl) xs)
 
 -- a list whose spelling has a length of 32 bits has a count of 32 bits
 list_short : {A : Type 0} (form : Form A) → ((a : A) → 0 < length (form.spell a)) → (xs : List A) → length ((list form).spell xs) < 2 ^ 32 → length xs < 2 ^ 32

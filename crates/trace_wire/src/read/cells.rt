@@ -110,7 +110,7 @@ fn cells_of(alloc: Global, count: u32, bytes: &[u8]) -> Result<(Knowledge, &[u8]
 }
 
 /// The cells of a payload, all of its bytes.
-#[tactic(auto, unfolding(crate::specs::Frames::payload_of))]
+#[tactic(auto, unfolding(crate::specs::FirstFault::payload_of))]
 pub(crate) fn read_cells(alloc: Global, bytes: &[u8]) -> Result<Knowledge, WireFault>
     ensures value { Gives (λ k. entries k) result (payload_of bytes.now) }
     ensures cause { IfErr result IsOfBytes }
