@@ -1,6 +1,9 @@
 pub mod Forms
+pub mod Fields
 pub mod Events
-pub mod Outcomes
 pub mod Frames
-pub mod Writing
+pub mod FirstFault
+pub mod Outcomes
 pub mod Reading
+pub mod Sending
+pub mod Writing

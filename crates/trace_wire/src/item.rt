@@ -1,20 +1,25 @@
-//! Lists of items.
+//! What stands in counted lists.
 
-ghost use Rattle.std.specs.Prelude.{◌≡◌, ℕ, List, length, Result, OnOk};
+ghost use Rattle.std.specs.Prelude.{◌≡◌, ℕ, List, Result};
 ghost use Rattle.trace_wire.specs.Outcomes.{Reads};
-ghost use Rattle.trace_wire.specs.Forms.{Form, items_at, list, signed, told, pair, number};
-ghost use Rattle.trace_wire.specs.Events.{element};
+ghost use Rattle.trace_wire.specs.Forms.{Form, signed, told, pair, number};
+ghost use Rattle.trace_wire.specs.Fields.{element};
+ghost use Rattle.trace_wire.specs.Sending.{Sends};
 
-use crate::field::{signed_of, told_field, u32_of, FieldFault};
+use crate::read::field::{FieldFault, signed_of, told_field, u32_of};
+use crate::write::field::{put_element, put_i64, put_told};
+use crate::write::sink::Sink;
 use mpi_model::{Element, Told};
-use std::alloc::Global;
 
-/// What stands in a counted list.
-pub trait Item: Drop {
+/// What can stand in a counted list of a frame.
+pub(crate) trait Item: Drop {
     ghost form: { Form Self };
 
     fn read(bytes: &[u8]) -> Result<(Self, &[u8]), FieldFault>
         ensures { Reads (λ x. (x.0, x.1.now)) result (form.read bytes.now) };
+
+    fn put<S: Sink>(&self, out: &mut S)
+        ensures { Sends (S.page out.old) (S.page out.new) (form.spell self.now) };
 }
 
 impl Item for i64 {
@@ -23,6 +28,10 @@ impl Item for i64 {
     fn read(bytes: &[u8]) -> Result<(i64, &[u8]), FieldFault> {
         signed_of(bytes)
     }
+
+    fn put<S: Sink>(&self, out: &mut S) {
+        put_i64(out, *self);
+    }
 }
 
 impl Item for Told {
@@ -30,6 +39,10 @@ impl Item for Told {
 
     fn read(bytes: &[u8]) -> Result<(Told, &[u8]), FieldFault> {
         told_field(bytes)
+    }
+
+    fn put<S: Sink>(&self, out: &mut S) {
+        put_told(out, *self);
     }
 }
 
@@ -41,24 +54,8 @@ impl Item for Element {
         let (told, rest) = field!(told_field(rest));
         Ok((Element { position, told }, rest))
     }
-}
 
-fn items_of<T: Item>(alloc: Global, count: u32, bytes: &[u8]) -> Result<(Vec<T>, &[u8]), FieldFault>
-    ensures { Reads (λ x. (x.0.items, x.1.now)) result (items_at T.form count bytes.now) }
-{
-    let mut items = Vec::new(alloc);
-    let mut rest = bytes;
-    for _ in 0..count {
-        let (item, after) = T::read(rest)?;
-        items.push(item)?;
-        rest = after;
+    fn put<S: Sink>(&self, out: &mut S) {
+        put_element(out, *self);
     }
-    Ok((items, rest))
-}
-
-pub fn list_of<T: Item>(alloc: Global, bytes: &[u8]) -> Result<(Vec<T>, &[u8]), FieldFault>
-    ensures { Reads (λ x. (x.0.items, x.1.now)) result ((list T.form).read bytes.now) }
-{
-    let (count, rest) = u32_of(bytes)?;
-    items_of(alloc, count, rest)
 }

@@ -79,10 +79,10 @@ ships layout nodes inboxes mails mails' node know e framed f s h =
       knowledge = h.knowledge;
       inboxes = h.inboxes;
       mails =
-        f
-        ∙ ap (λ l. l ++ frame_of know ∷ []) h.mails
-        ∙ ap (λ k. map (λ m. frame_of (knowledge_of m)) s.mails ++ frame_of k ∷ []) same
-        ∙ sym (map-append (λ (m : List PlacedEvents). frame_of (knowledge_of m)) s.mails (at s.reached node ∷ []));
+          f
+          ∙ ap (λ l. l ++ frame_of know ∷ []) h.mails
+          ∙ ap (λ k. map (λ m. frame_of (knowledge_of m)) s.mails ++ frame_of k ∷ []) same
+          ∙ sym (map-append (λ (m : List PlacedEvents). frame_of (knowledge_of m)) s.mails (at s.reached node ∷ []));
       framed = framed-append s.mails (at s.reached node) h.framed (subst (λ v. HasFrame (entries v)) same framed);
     }
 

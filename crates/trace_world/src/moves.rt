@@ -18,7 +18,11 @@ use trace_know::{Knowledge, Segment};
 use trace_node::{Node, NodeFault};
 
 /// Adds a copy of a segment to a node's inbox.
-pub(crate) fn post(inboxes: &mut Vec<Inbox>, node: usize, segment: &Segment) -> Result<(), WorldFault>
+pub(crate) fn post(
+    inboxes: &mut Vec<Inbox>,
+    node: usize,
+    segment: &Segment,
+) -> Result<(), WorldFault>
     requires there { node < length inboxes.old.items }
     ensures ok { OnOk result (inboxes.new.items ≡ slice_set inboxes.old.items node (at inboxes.old.items node ++ segment.now ∷ [])) }
     ensures err { IfErr result (λ fault. (fault ≡ WorldFault.Memory) × (inboxes.new.items ≡ inboxes.old.items)) }
@@ -34,7 +38,11 @@ pub(crate) fn post(inboxes: &mut Vec<Inbox>, node: usize, segment: &Segment) -> 
 }
 
 /// A node takes a segment of a rank of its layout.
-pub(crate) fn take<'a>(nodes: &mut Vec<Node<'a>>, node: usize, segment: &Segment) -> Result<(), WorldFault>
+pub(crate) fn take<'a>(
+    nodes: &mut Vec<Node<'a>>,
+    node: usize,
+    segment: &Segment,
+) -> Result<(), WorldFault>
     requires there { node < length nodes.old.items }
     requires within { (layout : Parts) → slice_get (layouts nodes.old.items) node ≡ Some layout → segment.now.rank < layout.ranks }
     ensures { Learns nodes.old.items node (view_of (facts_of segment.now)) result nodes.new.items }
@@ -49,7 +57,11 @@ pub(crate) fn take<'a>(nodes: &mut Vec<Node<'a>>, node: usize, segment: &Segment
 }
 
 /// A node joins other knowledge of ranks of its layout.
-pub(crate) fn merge<'a>(nodes: &mut Vec<Node<'a>>, node: usize, more: &Knowledge) -> Result<(), WorldFault>
+pub(crate) fn merge<'a>(
+    nodes: &mut Vec<Node<'a>>,
+    node: usize,
+    more: &Knowledge,
+) -> Result<(), WorldFault>
     requires there { node < length nodes.old.items }
     requires within { (layout : Parts) → slice_get (layouts nodes.old.items) node ≡ Some layout → IsWithin layout more.now }
     ensures { Learns nodes.old.items node more.now result nodes.new.items }

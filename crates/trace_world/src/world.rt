@@ -251,7 +251,11 @@ fn add(mails: &mut Vec<Mail>, mail: Mail) -> Result<(), WorldFault>
 }
 
 /// So many nodes that know nothing.
-fn new_nodes<'a>(alloc: Global, layout: &'a Layout, count: usize) -> Result<Vec<Node<'a>>, AllocError>
+fn new_nodes<'a>(
+    alloc: Global,
+    layout: &'a Layout,
+    count: usize,
+) -> Result<Vec<Node<'a>>, AllocError>
     ensures { IfOk result (λ nodes. nodes.items ≡ replicate count (held layout.now empty false)) }
 {
     let mut nodes = Vec::new(alloc);

@@ -1,0 +1,316 @@
+-- The laws of an event's fields.
+use Rattle.std.proofs.Common.{◌≡◌, ℕ, ◌^◌, ◌<◌, ◌≤◌, Bool, true, false, cond, ltb, eqb, Option, Some, None, refl, sym, ap, subst, arith, inl, inr}
+use Rattle.std.specs.Prelude.{ℤ, pos, negsuc, nat_le}
+use Rattle.std.specs.Int.{w32, w64, cast_signed, cast_unsigned}
+use Rattle.std.proofs.lemmas.Bool.{ltb-true, eqb-true}
+use Rattle.std.proofs.lemmas.Bool.Decides.{nat_tests}
+use Rattle.std.proofs.lemmas.Int.{ints, to_z-of_z, of_z-to_z}
+use Rattle.mpi_model.specs.Times.{latest, IsTimes}
+use Rattle.mpi_model.specs.Ranges.{IsTold, IsComm, IsSource, IsNamed, IsTarget, IsRootOf, IsCollective}
+use Rattle.mpi_model.specs.declared.envelope.Peer.{Peer}
+use Rattle.mpi_model.specs.declared.envelope.Peer.TheVariants as peers
+use Rattle.mpi_model.specs.declared.envelope.CommRef.{CommRef}
+use Rattle.mpi_model.specs.declared.envelope.CommRef.TheVariants as comms
+use Rattle.mpi_model.specs.declared.envelope.Mode.{Mode}
+use Rattle.mpi_model.specs.declared.envelope.Mode.TheVariants as modes
+use Rattle.mpi_model.specs.declared.collective.Kind.{Kind}
+use Rattle.mpi_model.specs.declared.collective.Kind.TheVariants as kinds
+use Rattle.mpi_model.specs.declared.envelope.Envelope.{Envelope}
+use Rattle.trace_wire.specs.Forms.{◌>>=◌, number, byte, mapped, guarded, pair, small, told, signed, small_of, marked_of, marked_code}
+use Rattle.trace_wire.specs.Fields.{peer_code, peer_of, comm_code, comm_of, mode_code, mode_of, kind_code, kind_of, flag_code, flag_of, peer, comm, mode, kind, flag, moment, stamp, envelope, named, send_envelope, same_comm, exchange, rooted, gathering}
+use Rattle.mpi_model.specs.Events.{IsSigned, IsSent, IsReceived, IsExchanged}
+use Rattle.trace_wire.proofs.FormLaws.{IsForm, wide32, wide64, number_form, byte_form, mapped_form, pair_form, guarded_form, record_form, refit, chosen, choose, no_value, some_is, bind_some}
+
+-- ---- numbers below 2 ^ 31, and marks
+
+small_is : (n m : ℕ) → small_of n ≡ Some m → (n ≡ m) × (m < 2 ^ 31)
+small_is n m e = elim (chosen (ltb n (2 ^ 31)) (Some n) None (Some m) e) [
+    | inl p ↦ (some_is n m p.1, subst (λ k. k < 2 ^ 31) (some_is n m p.1) (ltb-true n (2 ^ 31) p.0))
+    | inr p ↦ no_value _ m p.1
+  ]
+
+small_again : (n : ℕ) → n < 2 ^ 31 → small_of n ≡ Some n
+small_again n lt = grind (arith, nat_tests)
+
+pub small_form : IsForm small (λ n. n < 2 ^ 31)
+small_form = mapped_form (number w32) (λ n. n) small_of (λ n. n < 2 ^ 32) (λ n. n < 2 ^ 31) (number_form w32 (2 ^ 32) wide32) (record {
+  back = λ n m lt e. let p = small_is n m e in (sym p.0, p.1);
+  again = λ n lt. small_again n lt;
+  fits = λ n lt. omega arith;
+})
+
+-- a number, made into a value
+small_made : {A : Type 0} (P : ℕ → A → Type 0) (make : ℕ → A) (n : ℕ) (a : A) → ((m : ℕ) → m < 2 ^ 31 → P m (make m)) → (small_of n >>= λ m. Some (make m)) ≡ Some a → P n a
+small_made {A} P make n a one e =
+    let p = bind_some (small_of n) (λ m. Some (make m)) a e in
+    let q = small_is n p.0 p.1 in
+    subst (λ (k : ℕ). P k a) (sym q.0) (subst (λ (b : A). P p.0 b) (some_is (make p.0) a p.2) (one p.0 q.1))
+
+unmarked : (mark n : ℕ) → 2 ^ 31 ≤ mark → n < 2 ^ 31 → eqb n mark ≡ false
+unmarked mark n le lt = grind (arith, nat_tests)
+
+
+told_back : (n : ℕ) (o : Option ℕ) → marked_of n ≡ Some o → (marked_code o ≡ n) × IsTold o
+told_back n o e = choose (λ (k : ℕ). (marked_code o ≡ k) × IsTold o) n 4294967295 _ _ o e
+    (λ h. subst (λ (p : Option ℕ). (marked_code p ≡ 4294967295) × IsTold p) (some_is None o h) (refl, tt))
+    (λ h. small_made (λ (k : ℕ) (p : Option ℕ). (marked_code p ≡ k) × IsTold p) (λ m. Some m) n o (λ m lt. (refl, lt)) h)
+
+told_again : (o : Option ℕ) → IsTold o → marked_of (marked_code o) ≡ Some o
+told_again None fits = refl
+told_again (Some n) fits = rw (unmarked 4294967295 n (omega arith) fits, small_again n fits) refl
+
+told_fits : (o : Option ℕ) → IsTold o → marked_code o < 2 ^ 32
+told_fits None fits = omega arith
+told_fits (Some n) fits = omega arith
+
+pub told_form : IsForm told IsTold
+told_form = mapped_form (number w32) marked_code marked_of (λ n. n < 2 ^ 32) IsTold (number_form w32 (2 ^ 32) wide32) (record {
+  back = λ n o lt e. told_back n o e;
+  again = told_again;
+  fits = told_fits;
+})
+
+peer_back : (n : ℕ) (p : Peer) → peer_of n ≡ Some p → (peer_code p ≡ n) × IsSource p
+peer_back n p e = choose (λ (k : ℕ). (peer_code p ≡ k) × IsSource p) n 4294967295 _ _ p e
+    (λ h. subst (λ (q : Peer). (peer_code q ≡ 4294967295) × IsSource q) (some_is peers.Any p h) (refl, tt))
+    (λ e1. choose (λ (k : ℕ). (peer_code p ≡ k) × IsSource p) n 4294967294 _ _ p e1
+    (λ h. subst (λ (q : Peer). (peer_code q ≡ 4294967294) × IsSource q) (some_is peers.Null p h) (refl, tt))
+    (λ h. small_made (λ (k : ℕ) (q : Peer). (peer_code q ≡ k) × IsSource q) (λ m. peers.Rank m) n p (λ m lt. (refl, lt)) h))
+
+peer_again : (p : Peer) → IsSource p → peer_of (peer_code p) ≡ Some p
+peer_again peers.Any fits = refl
+peer_again peers.Null fits = refl
+peer_again (peers.Rank n) fits = rw (unmarked 4294967295 n (omega arith) fits, unmarked 4294967294 n (omega arith) fits, small_again n fits) refl
+
+peer_fits : (p : Peer) → IsSource p → peer_code p < 2 ^ 32
+peer_fits peers.Any fits = omega arith
+peer_fits peers.Null fits = omega arith
+peer_fits (peers.Rank n) fits = omega arith
+
+pub peer_form : IsForm peer IsSource
+peer_form = mapped_form (number w32) peer_code peer_of (λ n. n < 2 ^ 32) IsSource (number_form w32 (2 ^ 32) wide32) (record {
+  back = λ n o lt e. peer_back n o e;
+  again = peer_again;
+  fits = peer_fits;
+})
+
+comm_back : (n : ℕ) (o : CommRef) → comm_of n ≡ Some o → (comm_code o ≡ n) × IsComm o
+comm_back n o e = choose (λ (k : ℕ). (comm_code o ≡ k) × IsComm o) n 4294967295 _ _ o e
+    (λ h. subst (λ (p : CommRef). (comm_code p ≡ 4294967295) × IsComm p) (some_is comms.World o h) (refl, tt))
+    (λ h. small_made (λ (k : ℕ) (p : CommRef). (comm_code p ≡ k) × IsComm p) (λ m. comms.Id m) n o (λ m lt. (refl, lt)) h)
+
+comm_again : (o : CommRef) → IsComm o → comm_of (comm_code o) ≡ Some o
+comm_again comms.World fits = refl
+comm_again (comms.Id n) fits = rw (unmarked 4294967295 n (omega arith) fits, small_again n fits) refl
+
+comm_fits : (o : CommRef) → IsComm o → comm_code o < 2 ^ 32
+comm_fits comms.World fits = omega arith
+comm_fits (comms.Id n) fits = omega arith
+
+pub comm_form : IsForm comm IsComm
+comm_form = mapped_form (number w32) comm_code comm_of (λ n. n < 2 ^ 32) IsComm (number_form w32 (2 ^ 32) wide32) (record {
+  back = λ n o lt e. comm_back n o e;
+  again = comm_again;
+  fits = comm_fits;
+})
+
+-- ---- one of a few values
+
+-- a value of a chain of codes is the first, or one of the rest
+step : {A : Type 0} (code : A → ℕ) (n k : ℕ) (x : A) (r : Option A) (y : A) → code x ≡ k → cond (eqb n k) (Some x) r ≡ Some y → (r ≡ Some y → code y ≡ n) → code y ≡ n
+step {A} code n k x r y is e other = choose (λ (m : ℕ). code y ≡ m) n k (Some x) r y e (λ h. subst (λ (z : A). code z ≡ k) (some_is x y h) is) other
+
+mode_back : (n : ℕ) (m : Mode) → mode_of n ≡ Some m → mode_code m ≡ n
+mode_back n m e =
+    step mode_code n 0 modes.Standard _ m refl e (λ e1.
+    step mode_code n 1 modes.Synchronous _ m refl e1 (λ e2.
+    step mode_code n 2 modes.Buffered _ m refl e2 (λ e3.
+    step mode_code n 3 modes.Ready _ m refl e3 (no_value _ m))))
+
+mode_again : (m : Mode) → mode_of (mode_code m) ≡ Some m
+mode_again modes.Standard = refl
+mode_again modes.Synchronous = refl
+mode_again modes.Buffered = refl
+mode_again modes.Ready = refl
+
+mode_fits : (m : Mode) → mode_code m < 256
+mode_fits modes.Standard = omega arith
+mode_fits modes.Synchronous = omega arith
+mode_fits modes.Buffered = omega arith
+mode_fits modes.Ready = omega arith
+
+-- the form of a few values, each of which has a byte
+few_form : {A : Type 0} (code : A → ℕ) (of : ℕ → Option A) → ((n : ℕ) (a : A) → of n ≡ Some a → code a ≡ n) → ((a : A) → of (code a) ≡ Some a) → ((a : A) → code a < 256) → IsForm (mapped byte code of) (λ _. Unit {0})
+few_form {A} code of back again fits = mapped_form byte code of (λ n. n < 256) (λ _. Unit {0}) byte_form (record {
+  back = λ n a lt e. (back n a e, tt);
+  again = λ a ok. again a;
+  fits = λ a ok. fits a;
+})
+
+pub mode_form : IsForm mode (λ _. Unit {0})
+mode_form = few_form mode_code mode_of mode_back mode_again mode_fits
+
+kind_back : (n : ℕ) (m : Kind) → kind_of n ≡ Some m → kind_code m ≡ n
+kind_back n m e =
+    step kind_code n 0 kinds.Barrier _ m refl e (λ e1.
+    step kind_code n 1 kinds.Bcast _ m refl e1 (λ e2.
+    step kind_code n 2 kinds.Scatter _ m refl e2 (λ e3.
+    step kind_code n 3 kinds.Gather _ m refl e3 (λ e4.
+    step kind_code n 4 kinds.Reduce _ m refl e4 (λ e5.
+    step kind_code n 5 kinds.Allreduce _ m refl e5 (λ e6.
+    step kind_code n 6 kinds.Allgather _ m refl e6 (λ e7.
+    step kind_code n 7 kinds.Alltoall _ m refl e7 (no_value _ m))))))))
+
+kind_again : (m : Kind) → kind_of (kind_code m) ≡ Some m
+kind_again kinds.Barrier = refl
+kind_again kinds.Bcast = refl
+kind_again kinds.Scatter = refl
+kind_again kinds.Gather = refl
+kind_again kinds.Reduce = refl
+kind_again kinds.Allreduce = refl
+kind_again kinds.Allgather = refl
+kind_again kinds.Alltoall = refl
+
+kind_fits : (m : Kind) → kind_code m < 256
+kind_fits kinds.Barrier = omega arith
+kind_fits kinds.Bcast = omega arith
+kind_fits kinds.Scatter = omega arith
+kind_fits kinds.Gather = omega arith
+kind_fits kinds.Reduce = omega arith
+kind_fits kinds.Allreduce = omega arith
+kind_fits kinds.Allgather = omega arith
+kind_fits kinds.Alltoall = omega arith
+
+pub kind_form : IsForm kind (λ _. Unit {0})
+kind_form = few_form kind_code kind_of kind_back kind_again kind_fits
+
+flag_back : (n : ℕ) (b : Bool) → flag_of n ≡ Some b → flag_code b ≡ n
+flag_back n b e = step flag_code n 0 false _ b refl e (λ e1. step flag_code n 1 true _ b refl e1 (no_value _ b))
+
+flag_again : (b : Bool) → flag_of (flag_code b) ≡ Some b
+flag_again false = refl
+flag_again true = refl
+
+flag_fits : (b : Bool) → flag_code b < 256
+flag_fits false = omega arith
+flag_fits true = omega arith
+
+pub flag_form : IsForm flag (λ _. Unit {0})
+flag_form = few_form flag_code flag_of flag_back flag_again flag_fits
+
+-- ---- records
+
+signed_back : (n : ℕ) (z : ℤ) → n < 2 ^ 64 → cast_signed w64 n ≡ z → (cast_unsigned w64 z ≡ n) × IsSigned z
+signed_back n z lt e = subst (λ (y : ℤ). (cast_unsigned w64 y ≡ n) × IsSigned y) e (of_z-to_z w64 n lt, omega (arith, ints))
+
+signed_small : (z : ℤ) → IsSigned z → cast_unsigned w64 z < 2 ^ 64
+signed_small (pos n) fits = omega arith
+signed_small (negsuc n) fits = omega arith
+
+pub signed_form : IsForm signed IsSigned
+signed_form = mapped_form (number w64) (cast_unsigned w64) (λ n. Some (cast_signed w64 n)) (λ n. n < 2 ^ 64) IsSigned (number_form w64 (2 ^ 64) wide64) (record {
+  back = λ n z lt e. signed_back n z lt (some_is (cast_signed w64 n) z e);
+  again = λ z fits. ap (λ (y : ℤ). Some y) (to_z-of_z w64 z fits);
+  fits = λ z fits. signed_small z fits;
+})
+
+moment_is : (n : ℕ) → (n < 2 ^ 64) × (nat_le n latest ≡ true) → n ≤ latest
+moment_is n h = grind (arith, nat_tests, h)
+
+moment_has : (n : ℕ) → n ≤ latest → (n < 2 ^ 64) × (nat_le n latest ≡ true)
+moment_has n h = (omega arith, grind (arith, nat_tests))
+
+moment_form : IsForm moment (λ n. n ≤ latest)
+moment_form = refit moment _ (λ n. n ≤ latest) moment_is moment_has (guarded_form (number w64) (λ n. nat_le n latest) (λ n. n < 2 ^ 64) (number_form w64 (2 ^ 64) wide64))
+
+pub stamp_form : IsForm stamp IsTimes
+stamp_form = record_form (pair moment moment) (λ t. (t.wall, t.cpu)) (λ x. record { wall = x.0; cpu = x.1 }) _ IsTimes (λ a. refl) (λ b. refl) (λ a fits. (fits.0, fits.1)) (λ b fits. (fits.0, fits.1)) (pair_form moment moment _ _ moment_form moment_form)
+
+pub envelope_form : IsForm envelope IsReceived
+envelope_form = record_form (pair peer (pair told (pair comm (pair small signed)))) _ (λ x. record { peer = x.0; tag = x.1.0; comm = x.1.1.0; count = x.1.1.1.0; datatype = x.1.1.1.1 }) _ IsReceived (λ a. refl) (λ b. refl)
+    (λ a fits. ((fits.0, fits.1.0, fits.1.1.0, fits.1.1.1.0), fits.1.1.1.1))
+    (λ b fits. (fits.0.0, (fits.0.1, (fits.0.2, (fits.0.3, fits.1)))))
+    (pair_form peer _ _ _ peer_form (pair_form told _ _ _ told_form (pair_form comm _ _ _ comm_form (pair_form small signed _ _ small_form signed_form))))
+
+-- the peer and the tag of a send, as those of a receive
+sent : (p : Peer) (t : Option ℕ) → IsSource p → IsTold t → named p t ≡ true → IsTarget p × IsNamed t
+sent peers.Any t a b h = absurd cc
+sent peers.Null None a b h = absurd cc
+sent peers.Null (Some n) a b h = (tt, b)
+sent (peers.Rank r) None a b h = absurd cc
+sent (peers.Rank r) (Some n) a b h = (a, b)
+
+received : (p : Peer) (t : Option ℕ) → IsTarget p → IsNamed t → IsSource p × IsTold t × (named p t ≡ true)
+received peers.Any t a b = absurd a
+received peers.Null None a b = absurd b
+received peers.Null (Some n) a b = (tt, b, refl)
+received (peers.Rank r) None a b = absurd b
+received (peers.Rank r) (Some n) a b = (a, b, refl)
+
+rooted_there : (k : Kind) (r : Option ℕ) → IsTold r → rooted k r ≡ true → IsRootOf k r
+rooted_there kinds.Barrier None f h = refl
+rooted_there kinds.Barrier (Some n) f h = absurd cc
+rooted_there kinds.Allreduce None f h = refl
+rooted_there kinds.Allreduce (Some n) f h = absurd cc
+rooted_there kinds.Allgather None f h = refl
+rooted_there kinds.Allgather (Some n) f h = absurd cc
+rooted_there kinds.Alltoall None f h = refl
+rooted_there kinds.Alltoall (Some n) f h = absurd cc
+rooted_there kinds.Bcast None f h = absurd cc
+rooted_there kinds.Bcast (Some n) f h = f
+rooted_there kinds.Scatter None f h = absurd cc
+rooted_there kinds.Scatter (Some n) f h = f
+rooted_there kinds.Gather None f h = absurd cc
+rooted_there kinds.Gather (Some n) f h = f
+rooted_there kinds.Reduce None f h = absurd cc
+rooted_there kinds.Reduce (Some n) f h = f
+
+rooted_here : (k : Kind) (r : Option ℕ) → IsRootOf k r → IsTold r × (rooted k r ≡ true)
+rooted_here kinds.Barrier None f = (tt, refl)
+rooted_here kinds.Barrier (Some n) f = absurd cc
+rooted_here kinds.Allreduce None f = (tt, refl)
+rooted_here kinds.Allreduce (Some n) f = absurd cc
+rooted_here kinds.Allgather None f = (tt, refl)
+rooted_here kinds.Allgather (Some n) f = absurd cc
+rooted_here kinds.Alltoall None f = (tt, refl)
+rooted_here kinds.Alltoall (Some n) f = absurd cc
+rooted_here kinds.Bcast None f = absurd f
+rooted_here kinds.Bcast (Some n) f = (f, refl)
+rooted_here kinds.Scatter None f = absurd f
+rooted_here kinds.Scatter (Some n) f = (f, refl)
+rooted_here kinds.Gather None f = absurd f
+rooted_here kinds.Gather (Some n) f = (f, refl)
+rooted_here kinds.Reduce None f = absurd f
+rooted_here kinds.Reduce (Some n) f = (f, refl)
+
+-- A send names its peer and its tag.
+send_there : (e : Envelope) → IsReceived e × (named e.peer e.tag ≡ true) → IsSent e
+send_there e h = let p = sent e.peer e.tag h.0.0.0 h.0.0.1 h.1 in ((p.0, p.1, h.0.0.2, h.0.0.3), h.0.1)
+
+send_here : (e : Envelope) → IsSent e → IsReceived e × (named e.peer e.tag ≡ true)
+send_here e h = let p = received e.peer e.tag h.0.0 h.0.1 in (((p.0, p.1, h.0.2, h.0.3), h.1), p.2)
+
+pub send_form : IsForm send_envelope IsSent
+send_form = refit send_envelope _ IsSent send_there send_here (guarded_form envelope (λ e. named e.peer e.tag) IsReceived envelope_form)
+
+comms_are : (a b : CommRef) → same_comm a b ≡ true → a ≡ b
+comms_are comms.World comms.World h = refl
+comms_are (comms.Id m) (comms.Id n) h = ap (λ (k : ℕ). comms.Id k) (eqb-true m n h)
+comms_are comms.World (comms.Id n) h = absurd cc
+comms_are (comms.Id n) comms.World h = absurd cc
+
+comm_same : (a : CommRef) → same_comm a a ≡ true
+comm_same comms.World = refl
+comm_same (comms.Id n) = grind (arith, nat_tests)
+
+pub exchange_form : IsForm exchange IsExchanged
+exchange_form = record_form (guarded (pair send_envelope envelope) (λ x. same_comm x.0.comm x.1.comm)) (λ b. (b.send, b.receive)) (λ x. record { send = x.0; receive = x.1 }) _ IsExchanged (λ a. refl) (λ b. refl)
+    (λ a fits. ((fits.0.0.0, fits.0.1.0, comms_are a.0.comm a.1.comm fits.1), fits.0.0.1, fits.0.1.1))
+    (λ b fits. (((fits.0.0, fits.1), (fits.0.1, fits.2)), subst (λ (c : CommRef). same_comm b.send.comm c ≡ true) fits.0.2 (comm_same b.send.comm)))
+    (guarded_form (pair send_envelope envelope) (λ x. same_comm x.0.comm x.1.comm) _ (pair_form send_envelope envelope _ _ send_form envelope_form))
+
+pub gathering_form : IsForm gathering IsCollective
+gathering_form = record_form (guarded (pair kind (pair told comm)) (λ x. rooted x.0 x.1.0)) (λ g. (g.kind, (g.root, g.comm))) (λ x. record { kind = x.0; root = x.1.0; comm = x.1.1 }) _ IsCollective (λ a. refl) (λ b. refl)
+    (λ a fits. (rooted_there a.0 a.1.0 fits.0.1.0 fits.1, fits.0.1.1))
+    (λ b fits. let r = rooted_here b.kind b.root fits.0 in ((tt, (r.0, fits.1)), r.1))
+    (guarded_form (pair kind (pair told comm)) (λ x. rooted x.0 x.1.0) _ (pair_form kind (pair told comm) _ _ kind_form (pair_form told comm _ _ told_form comm_form)))

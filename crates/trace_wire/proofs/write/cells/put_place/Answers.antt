@@ -1,0 +1,5 @@
+use Rattle.trace_wire.proofs.Sending.{then}
+use Rattle.trace_wire.proofs.write.cells.put_place.Goals as goal
+
+pub returns : goal.returns
+returns g c = then c.put_u32.ensures c.put_u64.ensures

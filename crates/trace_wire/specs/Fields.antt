@@ -1,0 +1,182 @@
+-- The fields of calls and outcomes, as forms.
+use Rattle.std.specs.Prelude.{ℕ, Bool, true, false, List, [], ◌∷◌, Option, Some, None, nat_le, ◌==◌, if◌then◌else◌}
+use Rattle.std.specs.Int.{w32, w64}
+use Rattle.mpi_model.specs.Times.{Times, latest}
+use Rattle.mpi_model.specs.Ranges.{BothEnvelopes, CollectiveCall}
+use Rattle.mpi_model.specs.declared.envelope.Peer.{Peer}
+use Rattle.mpi_model.specs.declared.envelope.Peer.TheVariants as peers
+use Rattle.mpi_model.specs.declared.envelope.CommRef.{CommRef}
+use Rattle.mpi_model.specs.declared.envelope.CommRef.TheVariants as comms
+use Rattle.mpi_model.specs.declared.envelope.Mode.{Mode}
+use Rattle.mpi_model.specs.declared.envelope.Mode.TheVariants as modes
+use Rattle.mpi_model.specs.declared.collective.Kind.{Kind}
+use Rattle.mpi_model.specs.declared.collective.Kind.TheVariants as kinds
+use Rattle.mpi_model.specs.declared.envelope.Envelope.{Envelope}
+use Rattle.mpi_model.specs.declared.list.elements.Element.{Element}
+use Rattle.trace_wire.specs.Forms.{◌>>=◌, Form, number, byte, mapped, guarded, pair, small, told, signed, small_of}
+
+-- ---- codes of the fields
+
+-- a peer: a rank, or a mark for any source or for the null process (MPI 4.0, 3.2.4 and 3.10)
+abbrev pub peer_code : Peer → ℕ
+peer_code peers.Any = 4294967295
+peer_code peers.Null = 4294967294
+peer_code (peers.Rank n) = n
+
+abbrev pub peer_of : ℕ → Option Peer
+peer_of n = if n == 4294967295 then Some peers.Any else (if n == 4294967294 then Some peers.Null else (small_of n >>= λ m. Some (peers.Rank m)))
+
+-- a communicator: its number, or a mark for MPI_COMM_WORLD
+abbrev pub comm_code : CommRef → ℕ
+comm_code comms.World = 4294967295
+comm_code (comms.Id n) = n
+
+abbrev pub comm_of : ℕ → Option CommRef
+comm_of n = if n == 4294967295 then Some comms.World else (small_of n >>= λ m. Some (comms.Id m))
+
+-- the mode of a send (MPI 4.0, 3.4)
+abbrev pub mode_code : Mode → ℕ
+mode_code modes.Standard = 0
+mode_code modes.Synchronous = 1
+mode_code modes.Buffered = 2
+mode_code modes.Ready = 3
+
+abbrev pub mode_of : ℕ → Option Mode
+mode_of n =
+    if n == 0 then Some modes.Standard else (
+    if n == 1 then Some modes.Synchronous else (
+    if n == 2 then Some modes.Buffered else (
+    if n == 3 then Some modes.Ready else None)))
+
+-- the kind of a collective call (MPI 4.0, chapter 6)
+abbrev pub kind_code : Kind → ℕ
+kind_code kinds.Barrier = 0
+kind_code kinds.Bcast = 1
+kind_code kinds.Scatter = 2
+kind_code kinds.Gather = 3
+kind_code kinds.Reduce = 4
+kind_code kinds.Allreduce = 5
+kind_code kinds.Allgather = 6
+kind_code kinds.Alltoall = 7
+
+abbrev pub kind_of : ℕ → Option Kind
+kind_of n =
+    if n == 0 then Some kinds.Barrier else (
+    if n == 1 then Some kinds.Bcast else (
+    if n == 2 then Some kinds.Scatter else (
+    if n == 3 then Some kinds.Gather else (
+    if n == 4 then Some kinds.Reduce else (
+    if n == 5 then Some kinds.Allreduce else (
+    if n == 6 then Some kinds.Allgather else (
+    if n == 7 then Some kinds.Alltoall else None)))))))
+
+-- whether a test found its request completed
+abbrev pub flag_code : Bool → ℕ
+flag_code false = 0
+flag_code true = 1
+
+abbrev pub flag_of : ℕ → Option Bool
+flag_of n = if n == 0 then Some false else (if n == 1 then Some true else None)
+
+-- ---- fields, one line each
+
+abbrev pub peer : Form Peer
+peer = mapped (number w32) peer_code peer_of
+
+abbrev pub comm : Form CommRef
+comm = mapped (number w32) comm_code comm_of
+
+abbrev pub mode : Form Mode
+mode = mapped byte mode_code mode_of
+
+abbrev pub kind : Form Kind
+kind = mapped byte kind_code kind_of
+
+abbrev pub flag : Form Bool
+flag = mapped byte flag_code flag_of
+
+-- a time in nanoseconds
+abbrev pub moment : Form ℕ
+moment = guarded (number w64) (λ n. nat_le n latest)
+
+abbrev pub stamp : Form Times
+stamp = mapped (pair moment moment) (λ t. (t.wall, t.cpu)) (λ x. Some (record { wall = x.0; cpu = x.1 }))
+
+-- the envelope of a receive: peer, tag, communicator, count, datatype
+abbrev pub envelope : Form Envelope
+envelope = mapped (pair peer (pair told (pair comm (pair small signed))))
+    (λ e. (e.peer, (e.tag, (e.comm, (e.count, e.datatype)))))
+    (λ x. Some (record { peer = x.0; tag = x.1.0; comm = x.1.1.0; count = x.1.1.1.0; datatype = x.1.1.1.1 }))
+
+-- A send names its peer and its tag.
+abbrev pub named : Peer → Option ℕ → Bool
+named peers.Any tag = false
+named peers.Null None = false
+named peers.Null (Some n) = true
+named (peers.Rank r) None = false
+named (peers.Rank r) (Some n) = true
+
+abbrev pub send_envelope : Form Envelope
+send_envelope = guarded envelope (λ e. named e.peer e.tag)
+
+-- Two calls name one communicator. MPI_COMM_WORLD and the number that a layout gives to it are two names.
+abbrev pub same_comm : CommRef → CommRef → Bool
+same_comm comms.World comms.World = true
+same_comm (comms.Id m) (comms.Id n) = m == n
+same_comm comms.World (comms.Id n) = false
+same_comm (comms.Id n) comms.World = false
+
+-- the envelopes of a Sendrecv: one communicator (MPI 4.0, 3.10)
+abbrev pub exchange : Form BothEnvelopes
+exchange = mapped (guarded (pair send_envelope envelope) (λ x. same_comm x.0.comm x.1.comm))
+    (λ b. (b.send, b.receive)) (λ x. Some (record { send = x.0; receive = x.1 }))
+
+-- Four kinds of collective calls have a root, and the others have none.
+abbrev pub rooted : Kind → Option ℕ → Bool
+rooted kinds.Barrier None = true
+rooted kinds.Barrier (Some n) = false
+rooted kinds.Allreduce None = true
+rooted kinds.Allreduce (Some n) = false
+rooted kinds.Allgather None = true
+rooted kinds.Allgather (Some n) = false
+rooted kinds.Alltoall None = true
+rooted kinds.Alltoall (Some n) = false
+rooted kinds.Bcast None = false
+rooted kinds.Bcast (Some n) = true
+rooted kinds.Scatter None = false
+rooted kinds.Scatter (Some n) = true
+rooted kinds.Gather None = false
+rooted kinds.Gather (Some n) = true
+rooted kinds.Reduce None = false
+rooted kinds.Reduce (Some n) = true
+
+-- a collective call: kind, root, communicator
+abbrev pub gathering : Form CollectiveCall
+gathering = mapped (guarded (pair kind (pair told comm)) (λ x. rooted x.0 x.1.0))
+    (λ g. (g.kind, (g.root, g.comm))) (λ x. Some (record { kind = x.0; root = x.1.0; comm = x.1.1 }))
+
+-- a value made of what was read
+abbrev pub made : {A B : Type 0} → (A → B) → Option (A × List ℕ) → Option (B × List ℕ)
+made make found = found >>= λ x. Some (make x.0, x.1)
+
+-- a position where there is one
+abbrev pub index_fields : Option ℕ → List ℕ
+index_fields None = 0 ∷ []
+index_fields (Some i) = 1 ∷ (number w32).spell i
+
+abbrev pub index_at : ℕ → List ℕ → Option (Option ℕ × List ℕ)
+index_at code bytes =
+    if code == 0 then Some (None, bytes) else (
+    if code == 1 then made (λ i. Some i) ((number w32).read bytes) else None)
+
+abbrev pub index_behind : List ℕ → Option (Option ℕ × List ℕ)
+index_behind bytes = do
+  code ← byte.read bytes
+  index_at code.0 code.1
+
+abbrev pub index : Form (Option ℕ)
+index = record { spell = index_fields; read = index_behind }
+
+-- a request that was completed: its position, and what is told
+abbrev pub element : Form Element
+element = mapped (pair (number w32) told) (λ e. (e.position, e.told)) (λ x. Some (record { position = x.0; told = x.1 }))

@@ -1,0 +1,36 @@
+//! Reading a frame from a device.
+
+ghost use Rattle.std.specs.Prelude.{◌≡◌, OnOk, IfOk, IfErr};
+ghost use Rattle.std.specs.FinMap.{entries};
+ghost use Rattle.mpi_model.specs.Side.{LeavesSide};
+ghost use Rattle.trace_wire.specs.Reading.{ReadsFrame, IsUnread};
+
+pub(crate) mod cells;
+pub(crate) mod event;
+pub(crate) mod field;
+pub(crate) mod input;
+pub(crate) mod list;
+
+use crate::fault::WireFault;
+use crate::read::cells::{are_bytes, read_cells};
+use crate::read::input::{fill, payload_len, read_bytes};
+use mpi_model::Read;
+use std::alloc::Global;
+use trace_know::Knowledge;
+
+/// Reads one frame, and nothing after it.
+pub fn read_frame<R: Read>(alloc: Global, reader: &mut R) -> Result<Knowledge, WireFault>
+    ensures ok { IfOk result (λ k. ReadsFrame (R.left reader.old) (R.left reader.new) (entries k)) }
+    ensures no_failure { OnOk result (R.failures reader.new ≡ R.failures reader.old) }
+    ensures err { IfErr result (λ fault. IsUnread (R.left reader.old) (R.failures reader.old) (R.failures reader.new) fault) }
+    ensures beside { LeavesSide (R.write_side reader.old) (R.write_side reader.new) }
+{
+    let mut head = [0_u8; 10];
+    field!(fill(reader, &mut head));
+    are_bytes(&head);
+    let count = field!(payload_len(&head));
+    let payload = field!(read_bytes(alloc, reader, count as usize));
+    are_bytes(&payload);
+    let knowledge = field!(read_cells(alloc, &payload));
+    Ok(knowledge)
+}

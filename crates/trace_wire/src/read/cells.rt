@@ -1,0 +1,133 @@
+//! Cells, read from the bytes of a payload.
+
+ghost use Rattle.std.specs.Prelude.{◌≡◌, ◌<◌, ◌↔◌, IsTrue, get_or, ℕ, List, Option, None, length, Result, OnOk, IfOk, IfErr, true};
+ghost use Rattle.std.specs.FinMap.{entries};
+ghost use Rattle.trace_know.specs.Cell.{put_known};
+ghost use Rattle.trace_know.specs.Placed.{IsPlaced};
+ghost use Rattle.trace_wire.specs.Outcomes.{Reads, Gives, wire_of, IsOfBytes};
+ghost use Rattle.trace_wire.specs.Frames.{place_form, is_past};
+ghost use Rattle.trace_wire.specs.FirstFault.{known_at, cell_at, cells_at, payload_of};
+
+use mpi_model::Event;
+use trace_know::{Knowledge, Known};
+use crate::read::event::event_of;
+use crate::fault::WireFault;
+use crate::read::field::{byte_of, u32_of, u64_of, FieldFault};
+use std::alloc::Global;
+
+fn fault_of(fault: FieldFault) -> WireFault
+    ensures value { result ≡ wire_of fault }
+    ensures cause { IsOfBytes result }
+{
+    match fault {
+        FieldFault::Memory => WireFault::Memory,
+        FieldFault::Content => WireFault::Content,
+    }
+}
+
+fn known_of(alloc: Global, place: u64, bytes: &[u8]) -> Result<(Known, &[u8]), FieldFault>
+    ensures { Reads (λ x. (x.0, x.1.now)) result (known_at place bytes.now) }
+{
+    match bytes {
+        [] => Err(FieldFault::Content),
+        [0, rest @ ..] => {
+            let (event, rest) = field!(event_of(alloc, place, rest));
+            Ok((Known::One(event), rest))
+        }
+        [1, rest @ ..] => Ok((Known::Contradiction, rest)),
+        [_, ..] => Err(FieldFault::Content),
+    }
+}
+
+fn place_of(bytes: &[u8]) -> Result<((u32, u64), &[u8]), FieldFault>
+    ensures { Reads (λ x. (x.0, x.1.now)) result (place_form.read bytes.now) }
+{
+    let (rank, rest) = u32_of(bytes)?;
+    let (place, rest) = u64_of(rest)?;
+    Ok(((rank, place), rest))
+}
+
+fn is_past(before: Option<(u32, u64)>, here: (u32, u64)) -> bool
+    ensures { result ≡ is_past before here }
+{
+    match before {
+        None => true,
+        Some((rank, place)) => rank < here.0 || (rank == here.0 && place < here.1),
+    }
+}
+
+fn cell_of(alloc: Global, before: Option<(u32, u64)>, bytes: &[u8]) -> Result<(((u32, u64), Known), &[u8]), WireFault>
+    ensures value { Gives (λ x. (x.0, x.1.now)) result (cell_at before bytes.now) }
+    ensures past { IfOk result (λ x. is_past before x.0.0 ≡ true) }
+    ensures placed { IfOk result (λ x. IsPlaced x.0.0.0 x.0.0.1 x.0.1) }
+    ensures cause { IfErr result IsOfBytes }
+{
+    are_bytes(bytes);
+    let (here, rest) = match place_of(bytes) {
+        Ok(found) => found,
+        Err(fault) => return Err(fault_of(fault)),
+    };
+    if !is_past(before, here) {
+        return Err(WireFault::Order);
+    }
+    if here.1 >= 1_099_511_627_776 {
+        return Err(WireFault::Content);
+    }
+    match known_of(alloc, here.1, rest) {
+        Ok((known, rest)) => Ok(((here, known), rest)),
+        Err(fault) => Err(fault_of(fault)),
+    }
+}
+
+/// What stands at a place, as the knowledge takes it.
+fn event_in(known: Known) -> Option<Event>
+    ensures { put_known result ≡ known }
+{
+    match known {
+        Known::One(event) => Some(event),
+        Known::Contradiction => None,
+    }
+}
+
+#[tactic(auto, using(crate::proofs::CellLoop::ends))]
+fn cells_of(alloc: Global, count: u32, bytes: &[u8]) -> Result<(Knowledge, &[u8]), WireFault>
+    ensures value { Gives (λ x. (entries x.0, x.1.now)) result (cells_at count None bytes.now) }
+    ensures cause { IfErr result IsOfBytes }
+{
+    let mut knowledge = Knowledge::new(alloc);
+    let mut last = None;
+    let mut rest = bytes;
+    for _ in 0..count {
+        let ((here, known), after) = field!(cell_of(alloc, last, rest));
+        match knowledge.put_last(here.0, here.1, event_in(known)) {
+            Ok(()) => {}
+            Err(_) => return Err(WireFault::Memory),
+        }
+        last = Some(here);
+        rest = after;
+    }
+    Ok((knowledge, rest))
+}
+
+/// The cells of a payload, all of its bytes.
+#[tactic(auto, unfolding(crate::specs::FirstFault::payload_of))]
+pub(crate) fn read_cells(alloc: Global, bytes: &[u8]) -> Result<Knowledge, WireFault>
+    ensures value { Gives (λ k. entries k) result (payload_of bytes.now) }
+    ensures cause { IfErr result IsOfBytes }
+{
+    let (count, rest) = match u32_of(bytes) {
+        Ok(found) => found,
+        Err(fault) => return Err(fault_of(fault)),
+    };
+    let (cells, rest) = field!(cells_of(alloc, count, rest));
+    if !rest.is_empty() {
+        return Err(WireFault::Rest);
+    }
+    Ok(cells)
+}
+
+/// Tells the range of bytes. It does nothing: it is for proofs.
+pub(crate) fn are_bytes(bytes: &[u8])
+    ensures { (i : ℕ) → get_or bytes.now i 0 < 256 }
+{
+}

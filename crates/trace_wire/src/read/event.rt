@@ -1,0 +1,194 @@
+//! Events, read from bytes.
+
+ghost use Rattle.std.specs.Prelude.{◌≡◌, ℕ, List, length, Result};
+ghost use Rattle.trace_wire.specs.Outcomes.{Reads};
+ghost use Rattle.trace_wire.specs.Forms.{Form};
+ghost use Rattle.trace_wire.specs.Events.{call_at, outs_at, event_at, body_at, is_even};
+ghost use Rattle.trace_wire.specs.Fields.{envelope, send_envelope, exchange, gathering, index};
+
+use crate::read::field::{byte_of, comm_field, flag_field, kind_field, mode_field, peer_field, signed_of, small_field, stamp_field, told_field, u32_of, FieldFault};
+use crate::read::list::list_of;
+use mpi_model::{Call, Collective, Elements, Envelope, Event, Exchange, Outs, ReceiveEnvelope, Requests, SendEnvelope, Sources, Stamp};
+use std::alloc::Global;
+
+fn receive_field(bytes: &[u8]) -> Result<(ReceiveEnvelope, &[u8]), FieldFault>
+    ensures { Reads (λ x. (x.0, x.1.now)) result (envelope.read bytes.now) }
+{
+    let (peer, rest) = peer_field(bytes)?;
+    let (tag, rest) = field!(told_field(rest));
+    let (comm, rest) = comm_field(rest)?;
+    let (count, rest) = small_field(rest)?;
+    let (datatype, rest) = signed_of(rest)?;
+    let inner = Envelope {
+        peer,
+        tag: tag.rank(),
+        comm,
+        count,
+        datatype,
+    };
+    match ReceiveEnvelope::new(inner) {
+        Some(found) => Ok((found, rest)),
+        None => Err(FieldFault::Content),
+    }
+}
+
+fn send_field(bytes: &[u8]) -> Result<(SendEnvelope, &[u8]), FieldFault>
+    ensures { Reads (λ x. (x.0, x.1.now)) result (send_envelope.read bytes.now) }
+{
+    let (found, rest) = field!(receive_field(bytes));
+    match SendEnvelope::new(found.envelope()) {
+        Some(found) => Ok((found, rest)),
+        None => Err(FieldFault::Content),
+    }
+}
+
+fn exchange_field(bytes: &[u8]) -> Result<(Exchange, &[u8]), FieldFault>
+    ensures { Reads (λ x. (x.0, x.1.now)) result (exchange.read bytes.now) }
+{
+    let (send, rest) = field!(send_field(bytes));
+    let (receive, rest) = field!(receive_field(rest));
+    match Exchange::new(send, receive) {
+        Some(found) => Ok((found, rest)),
+        None => Err(FieldFault::Content),
+    }
+}
+
+fn collective_field(bytes: &[u8]) -> Result<(Collective, &[u8]), FieldFault>
+    ensures { Reads (λ x. (x.0, x.1.now)) result (gathering.read bytes.now) }
+{
+    let (kind, rest) = kind_field(bytes)?;
+    let (root, rest) = field!(told_field(rest));
+    let (comm, rest) = comm_field(rest)?;
+    match Collective::new(kind, root.rank(), comm) {
+        Some(found) => Ok((found, rest)),
+        None => Err(FieldFault::Content),
+    }
+}
+
+fn index_field(bytes: &[u8]) -> Result<(Option<u32>, &[u8]), FieldFault>
+    ensures { Reads (λ x. (x.0, x.1.now)) result (index.read bytes.now) }
+{
+    let (code, rest) = byte_of(bytes)?;
+    match code {
+        0 => Ok((None, rest)),
+        1 => {
+            let (position, rest) = u32_of(rest)?;
+            Ok((Some(position), rest))
+        }
+        _ => Err(FieldFault::Content),
+    }
+}
+
+#[tactic(auto, unfolding(crate::specs::Events::call_at))]
+fn call_of(alloc: Global, code: u8, bytes: &[u8]) -> Result<(Call, &[u8]), FieldFault>
+    ensures { Reads (λ x. (x.0, x.1.now)) result (call_at code bytes.now) }
+{
+    match code {
+        0 => Ok((Call::Local, bytes)),
+        1 => Ok((Call::Finalize, bytes)),
+        2 => {
+            let (mode, rest) = mode_field(bytes)?;
+            let (envelope, rest) = field!(send_field(rest));
+            Ok((Call::Send(mode, envelope), rest))
+        }
+        3 => {
+            let (mode, rest) = mode_field(bytes)?;
+            let (envelope, rest) = field!(send_field(rest));
+            Ok((Call::Isend(mode, envelope), rest))
+        }
+        4 => {
+            let (envelope, rest) = field!(receive_field(bytes));
+            Ok((Call::Recv(envelope), rest))
+        }
+        5 => {
+            let (envelope, rest) = field!(receive_field(bytes));
+            Ok((Call::Irecv(envelope), rest))
+        }
+        6 => {
+            let (both, rest) = field!(exchange_field(bytes));
+            Ok((Call::Sendrecv(both), rest))
+        }
+        7 => {
+            let (request, rest) = signed_of(bytes)?;
+            Ok((Call::Wait(request), rest))
+        }
+        8 => {
+            let (requests, rest) = field!(list_of(alloc, bytes));
+            Ok((Call::Waitall(Requests::from_vec(requests)), rest))
+        }
+        9 => {
+            let (requests, rest) = field!(list_of(alloc, bytes));
+            Ok((Call::Waitany(Requests::from_vec(requests)), rest))
+        }
+        10 => {
+            let (requests, rest) = field!(list_of(alloc, bytes));
+            Ok((Call::Waitsome(Requests::from_vec(requests)), rest))
+        }
+        11 => {
+            let (request, rest) = signed_of(bytes)?;
+            Ok((Call::Test(request), rest))
+        }
+        12 => {
+            let (call, rest) = field!(collective_field(bytes));
+            Ok((Call::Collective(call), rest))
+        }
+        _ => Err(FieldFault::Content),
+    }
+}
+
+#[tactic(auto, unfolding(crate::specs::Events::outs_at))]
+fn outs_of(alloc: Global, code: u8, bytes: &[u8]) -> Result<(Outs, &[u8]), FieldFault>
+    ensures { Reads (λ x. (x.0, x.1.now)) result (outs_at code bytes.now) }
+{
+    match code {
+        0 => Ok((Outs::Nothing, bytes)),
+        1 => {
+            let (request, rest) = signed_of(bytes)?;
+            Ok((Outs::Posted(request), rest))
+        }
+        2 => {
+            let (source, rest) = field!(told_field(bytes));
+            Ok((Outs::Status(source), rest))
+        }
+        3 => {
+            let (sources, rest) = field!(list_of(alloc, bytes));
+            Ok((Outs::Statuses(Sources::from_vec(sources)), rest))
+        }
+        4 => {
+            let (position, rest) = field!(index_field(bytes));
+            let (source, rest) = field!(told_field(rest));
+            Ok((Outs::Index(position, source), rest))
+        }
+        5 => {
+            let (items, rest) = field!(list_of(alloc, bytes));
+            Ok((Outs::Several(Elements::from_vec(items)), rest))
+        }
+        6 => {
+            let (flag, rest) = flag_field(bytes)?;
+            let (source, rest) = field!(told_field(rest));
+            Ok((Outs::Flag(flag, source), rest))
+        }
+        _ => Err(FieldFault::Content),
+    }
+}
+
+fn body_of(alloc: Global, is_enter: bool, code: u8, time: Stamp, bytes: &[u8]) -> Result<(Event, &[u8]), FieldFault>
+    ensures { Reads (λ x. (x.0, x.1.now)) result (body_at is_enter code time bytes.now) }
+{
+    if is_enter {
+        let (call, rest) = field!(call_of(alloc, code, bytes));
+        Ok((Event::Enter(call, time), rest))
+    } else {
+        let (outs, rest) = field!(outs_of(alloc, code, bytes));
+        Ok((Event::Return(outs, time), rest))
+    }
+}
+
+/// The event at a place.
+pub(crate) fn event_of(alloc: Global, place: u64, bytes: &[u8]) -> Result<(Event, &[u8]), FieldFault>
+    ensures { Reads (λ x. (x.0, x.1.now)) result (event_at place bytes.now) }
+{
+    let (code, rest) = byte_of(bytes)?;
+    let (time, rest) = field!(stamp_field(rest));
+    body_of(alloc, place % 2 == 0, code, time, rest)
+}

@@ -1,0 +1,237 @@
+//! The fields of an event, as bytes.
+
+ghost use Rattle.mpi_model.specs.Ranges.{IsSource, IsComm};
+ghost use Rattle.std.specs.Prelude.{◌<◌, ◌^◌, IfSome, IfOk, ◌≡◌, ℕ, List, Option, length, Result};
+ghost use Rattle.std.specs.Int.{w32, w64};
+ghost use Rattle.trace_wire.specs.Outcomes.{Reads};
+ghost use Rattle.trace_wire.specs.Forms.{Form, byte_at, number_at, number, small_of, marked_of, small, told, signed, pair, items_at, list};
+ghost use Rattle.trace_wire.specs.Fields.{peer_of, comm_of, mode_of, kind_of, flag_of, peer, comm, mode, kind, flag, stamp, envelope, send_envelope, exchange, gathering, index};
+ghost use Rattle.trace_wire.specs.declared.read.field.FieldFault.TheVariants.{Memory};
+
+use mpi_model::{CommRef, Kind, Mode, Peer, Stamp, Told};
+use std::alloc::{AllocError, AllocFailed, Global};
+
+/// Why a field could not be read.
+#[derive(Clone, Copy, Debug, PartialEq, Eq)]
+pub(crate) enum FieldFault {
+    Memory,
+    /// It runs past the end, or has a value outside its range.
+    Content,
+}
+
+impl From<AllocError> for FieldFault {
+    ghost from_gives = { λ _ e. e ≡ Memory };
+
+    fn from(_e: AllocError) -> FieldFault {
+        FieldFault::Memory
+    }
+}
+
+impl<T: Drop> From<AllocFailed<T>> for FieldFault {
+    ghost from_gives = { λ _ e. e ≡ Memory };
+
+    fn from(_e: AllocFailed<T>) -> FieldFault {
+        FieldFault::Memory
+    }
+}
+
+pub(crate) fn byte_of(bytes: &[u8]) -> Result<(u8, &[u8]), FieldFault>
+    ensures { Reads (λ x. (x.0, x.1.now)) result (byte_at bytes.now) }
+{
+    match bytes {
+        [] => Err(FieldFault::Content),
+        [first, rest @ ..] => Ok((*first, rest)),
+    }
+}
+
+pub(crate) fn u32_of(bytes: &[u8]) -> Result<(u32, &[u8]), FieldFault>
+    ensures { Reads (λ x. (x.0, x.1.now)) result (number_at w32 bytes.now) }
+{
+    if bytes.len() < 4 {
+        return Err(FieldFault::Content);
+    }
+    let (front, rest) = bytes.split_at(4);
+    let number = u32::from_be_bytes([front[0], front[1], front[2], front[3]]);
+    Ok((number, rest))
+}
+
+pub(crate) fn u64_of(bytes: &[u8]) -> Result<(u64, &[u8]), FieldFault>
+    ensures { Reads (λ x. (x.0, x.1.now)) result (number_at w64 bytes.now) }
+{
+    if bytes.len() < 8 {
+        return Err(FieldFault::Content);
+    }
+    let (front, rest) = bytes.split_at(8);
+    let number = u64::from_be_bytes([
+        front[0], front[1], front[2], front[3], front[4], front[5], front[6], front[7],
+    ]);
+    Ok((number, rest))
+}
+
+pub(crate) fn signed_of(bytes: &[u8]) -> Result<(i64, &[u8]), FieldFault>
+    ensures { Reads (λ x. (x.0, x.1.now)) result (signed.read bytes.now) }
+{
+    let (number, rest) = u64_of(bytes)?;
+    Ok((number.cast_signed(), rest))
+}
+
+fn small_from(n: u32) -> Option<u32>
+    ensures read { result ≡ small_of n }
+    ensures range { IfSome result (λ m. m < 2 ^ 31) }
+{
+    if n < 0x8000_0000 { Some(n) } else { None }
+}
+
+pub(crate) fn small_field(bytes: &[u8]) -> Result<(u32, &[u8]), FieldFault>
+    ensures read { Reads (λ x. (x.0, x.1.now)) result (small.read bytes.now) }
+    ensures range { IfOk result (λ x. x.0 < 2 ^ 31) }
+{
+    let (number, rest) = u32_of(bytes)?;
+    match small_from(number) {
+        Some(n) => Ok((n, rest)),
+        None => Err(FieldFault::Content),
+    }
+}
+
+fn told_from(n: u32) -> Option<Told>
+    ensures { result ≡ marked_of n }
+{
+    if n == 0xFFFF_FFFF {
+        return Told::new(None);
+    }
+    match small_from(n) {
+        Some(n) => Told::new(Some(n)),
+        None => None,
+    }
+}
+
+pub(crate) fn told_field(bytes: &[u8]) -> Result<(Told, &[u8]), FieldFault>
+    ensures { Reads (λ x. (x.0, x.1.now)) result (told.read bytes.now) }
+{
+    let (number, rest) = u32_of(bytes)?;
+    match told_from(number) {
+        Some(n) => Ok((n, rest)),
+        None => Err(FieldFault::Content),
+    }
+}
+
+fn peer_from(n: u32) -> Option<Peer>
+    ensures read { result ≡ peer_of n }
+    ensures range { IfSome result (IsSource) }
+{
+    if n == 0xFFFF_FFFF {
+        return Some(Peer::Any);
+    }
+    if n == 0xFFFF_FFFE {
+        return Some(Peer::Null);
+    }
+    match small_from(n) {
+        Some(n) => Some(Peer::Rank(n)),
+        None => None,
+    }
+}
+
+pub(crate) fn peer_field(bytes: &[u8]) -> Result<(Peer, &[u8]), FieldFault>
+    ensures read { Reads (λ x. (x.0, x.1.now)) result (peer.read bytes.now) }
+    ensures range { IfOk result (λ x. IsSource x.0) }
+{
+    let (number, rest) = u32_of(bytes)?;
+    match peer_from(number) {
+        Some(n) => Ok((n, rest)),
+        None => Err(FieldFault::Content),
+    }
+}
+
+fn comm_from(n: u32) -> Option<CommRef>
+    ensures read { result ≡ comm_of n }
+    ensures range { IfSome result (IsComm) }
+{
+    if n == 0xFFFF_FFFF {
+        return Some(CommRef::World);
+    }
+    match small_from(n) {
+        Some(n) => Some(CommRef::Id(n)),
+        None => None,
+    }
+}
+
+pub(crate) fn comm_field(bytes: &[u8]) -> Result<(CommRef, &[u8]), FieldFault>
+    ensures read { Reads (λ x. (x.0, x.1.now)) result (comm.read bytes.now) }
+    ensures range { IfOk result (λ x. IsComm x.0) }
+{
+    let (number, rest) = u32_of(bytes)?;
+    match comm_from(number) {
+        Some(n) => Ok((n, rest)),
+        None => Err(FieldFault::Content),
+    }
+}
+
+fn mode_from(n: u8) -> Option<Mode>
+    ensures { result ≡ mode_of n }
+{
+    match n {
+        0 => Some(Mode::Standard),
+        1 => Some(Mode::Synchronous),
+        2 => Some(Mode::Buffered),
+        3 => Some(Mode::Ready),
+        _ => None,
+    }
+}
+
+pub(crate) fn mode_field(bytes: &[u8]) -> Result<(Mode, &[u8]), FieldFault>
+    ensures { Reads (λ x. (x.0, x.1.now)) result (mode.read bytes.now) }
+{
+    let (number, rest) = byte_of(bytes)?;
+    match mode_from(number) {
+        Some(n) => Ok((n, rest)),
+        None => Err(FieldFault::Content),
+    }
+}
+
+fn kind_from(n: u8) -> Option<Kind>
+    ensures { result ≡ kind_of n }
+{
+    match n {
+        0 => Some(Kind::Barrier),
+        1 => Some(Kind::Bcast),
+        2 => Some(Kind::Scatter),
+        3 => Some(Kind::Gather),
+        4 => Some(Kind::Reduce),
+        5 => Some(Kind::Allreduce),
+        6 => Some(Kind::Allgather),
+        7 => Some(Kind::Alltoall),
+        _ => None,
+    }
+}
+
+pub(crate) fn kind_field(bytes: &[u8]) -> Result<(Kind, &[u8]), FieldFault>
+    ensures { Reads (λ x. (x.0, x.1.now)) result (kind.read bytes.now) }
+{
+    let (number, rest) = byte_of(bytes)?;
+    match kind_from(number) {
+        Some(n) => Ok((n, rest)),
+        None => Err(FieldFault::Content),
+    }
+}
+
+pub(crate) fn flag_field(bytes: &[u8]) -> Result<(bool, &[u8]), FieldFault>
+    ensures { Reads (λ x. (x.0, x.1.now)) result (flag.read bytes.now) }
+{
+    let (number, rest) = byte_of(bytes)?;
+    match number {
+        0 => Ok((false, rest)),
+        1 => Ok((true, rest)),
+        _ => Err(FieldFault::Content),
+    }
+}
+
+pub(crate) fn stamp_field(bytes: &[u8]) -> Result<(Stamp, &[u8]), FieldFault>
+    ensures { Reads (λ x. (x.0, x.1.now)) result (stamp.read bytes.now) }
+{
+    let (wall, rest) = u64_of(bytes)?;
+    let (cpu, rest) = u64_of(rest)?;
+    match Stamp::new(wall, cpu) {
+        Some(time) => Ok((time, rest)),
+        None => Err(FieldFault::Content),
+    }
+}
