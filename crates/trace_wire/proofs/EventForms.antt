@@ -11,11 +11,11 @@ use Rattle.mpi_model.specs.declared.outcome.Outs.{Outs}
 use Rattle.mpi_model.specs.declared.outcome.Outs.TheVariants as outs
 use Rattle.mpi_model.specs.declared.event.Event.{Event}
 use Rattle.mpi_model.specs.declared.event.Event.TheVariants as events
-use Rattle.trace_wire.specs.Forms.{◌>>=◌, Form, number, byte, pair, list, told, signed}
+use Rattle.trace_wire.specs.Forms.{◌>>=◌, Form, number, byte, pair, list, told, signed, IsBytes}
 use Rattle.trace_wire.specs.Events.{call_code, call_fields, call_at, outs_code, outs_fields, outs_at, body_at, is_even, event_at, event_bytes, event}
 use Rattle.trace_wire.specs.Fields.{mode, flag, stamp, envelope, send_envelope, exchange, gathering, made, index, element, index_fields, index_at, index_behind}
 use Rattle.mpi_model.specs.Events.{IsSigned, IsCall, IsOutcome, IsPosition, IsElement, IsEvent}
-use Rattle.trace_wire.proofs.FormLaws.{IsBytes, IsBytes-rest, Takes, Takes-then, IsForm, wide32, number_form, byte_form, pair_form, record_form, list_form, choose, no_value, some_is, bind_some}
+use Rattle.trace_wire.proofs.FormLaws.{IsBytes-rest, Takes, Takes-then, IsForm, wide32, number_form, byte_form, pair_form, record_form, list_form, choose, no_value, some_is, bind_some}
 use Rattle.trace_wire.proofs.FieldForms.{mode_form, flag_form, signed_form, stamp_form, told_form, envelope_form, send_form, exchange_form, gathering_form}
 
 -- what was read behind the code of a kind

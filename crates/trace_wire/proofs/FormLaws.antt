@@ -8,10 +8,7 @@ use Rattle.std.proofs.lemmas.List.{take_at, drop_at, take-append-drop, length-ap
 use Rattle.std.proofs.lemmas.List.Concat.{flat_map-cons}
 use Rattle.std.proofs.lemmas.Nat.{be_bytes_2, be_bytes_4, be_bytes_8, from_be_bytes-to_be_bytes_2, from_be_bytes-to_be_bytes_4, from_be_bytes-to_be_bytes_8}
 use Rattle.std.proofs.lemmas.Bool.{eqb-true}
-use Rattle.trace_wire.specs.Forms.{byte_at, byte, guarded, ◌>>=◌, Form, number_at, number, mapped, pair, items_at, list}
-
-abbrev pub IsBytes : List ℕ → Type 0
-IsBytes bytes = (i : ℕ) → get_or bytes i 0 < 256
+use Rattle.trace_wire.specs.Forms.{IsBytes, byte_at, byte, guarded, ◌>>=◌, Form, number_at, number, mapped, pair, items_at, list}
 
 pub IsBytes-drop : (n : ℕ) (bytes : List ℕ) → IsBytes bytes → IsBytes (drop n bytes)
 IsBytes-drop n bytes h i = rw get_or-drop (h (n + i))

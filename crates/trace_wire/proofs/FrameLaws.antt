@@ -10,14 +10,14 @@ use Rattle.trace_know.specs.declared.cell.Known.{Known}
 use Rattle.trace_know.specs.declared.cell.Known.TheVariants as knowns
 use Rattle.trace_wire.specs.declared.fault.WireFault.{WireFault}
 use Rattle.trace_wire.specs.declared.fault.WireFault.TheVariants.{Magic, Version, Length, Short, Order, Content, Rest}
-use Rattle.trace_wire.specs.Forms.{number, number_at}
+use Rattle.trace_wire.specs.Forms.{number, number_at, IsBytes}
 use Rattle.trace_wire.specs.Events.{is_even, event_at}
 use Rattle.trace_wire.specs.Fields.{made}
 use Rattle.trace_know.specs.Placed.{IsHalfOf, IsPlaced}
 use Rattle.mpi_model.specs.declared.event.Event.TheVariants as events
 use Rattle.trace_wire.specs.Frames.{Entry, known_bytes, place_form, cell_bytes, cells_bytes, payload, frame, longest, is_past, IsInRange, AreCells, HasFrame}
 use Rattle.trace_wire.specs.FirstFault.{known_by, known_at, ◌>=>◌, or_fault, cell_after, cell_at, cells_at, no_rest, payload_of, is_magic, is_first_version, body_of, framed, frame_at}
-use Rattle.trace_wire.proofs.FormLaws.{items_short, IsBytes, IsBytes-rest, IsBytes-take, Takes, Takes-then, IsForm, wide32, wide64, number_form, number_takes, number_again, pair_form, choose, no_value, some_is, bind_some}
+use Rattle.trace_wire.proofs.FormLaws.{items_short, IsBytes-rest, IsBytes-take, Takes, Takes-then, IsForm, wide32, wide64, number_form, number_takes, number_again, pair_form, choose, no_value, some_is, bind_some}
 use Rattle.trace_wire.proofs.EventForms.{EventFits, event_form}
 
 -- the value of a step that did not fail

@@ -4,6 +4,7 @@ ghost use Rattle.std.specs.Prelude.{◌≡◌, ◌<◌, ◌↔◌, IsTrue, get_o
 ghost use Rattle.std.specs.FinMap.{entries};
 ghost use Rattle.trace_know.specs.Cell.{put_known};
 ghost use Rattle.trace_know.specs.Placed.{IsPlaced};
+ghost use Rattle.trace_wire.specs.Forms.{IsBytes};
 ghost use Rattle.trace_wire.specs.Outcomes.{Reads, Gives, wire_of, IsOfBytes};
 ghost use Rattle.trace_wire.specs.Frames.{place_form, is_past};
 ghost use Rattle.trace_wire.specs.FirstFault.{known_at, cell_at, cells_at, payload_of};
@@ -128,6 +129,6 @@ pub(crate) fn read_cells(alloc: Global, bytes: &[u8]) -> Result<Knowledge, WireF
 
 /// Tells the range of bytes. It does nothing: it is for proofs.
 pub(crate) fn are_bytes(bytes: &[u8])
-    ensures { (i : ℕ) → get_or bytes.now i 0 < 256 }
+    ensures { IsBytes bytes.now }
 {
 }

@@ -3,7 +3,7 @@ use Rattle.std.specs.FinMap.{entries}
 use Rattle.trace_wire.specs.FirstFault.{payload_of}
 use Rattle.trace_wire.specs.Outcomes.{FailsWith}
 use Rattle.trace_wire.specs.Reading.{IsUnfilled}
-use Rattle.trace_wire.proofs.FormLaws.{IsBytes}
+use Rattle.trace_wire.specs.Forms.{IsBytes}
 use Rattle.trace_wire.proofs.Heads.{no_head, bad_head, no_body, bad_body, whole_frame}
 use Rattle.trace_wire.proofs.read.read_frame.Goals as goal
 
