@@ -208,18 +208,18 @@ chosen false x y z e = inr (refl, e)
 -- one more case of a chain of codes
 pub choose : {A : Type 0} (P : ℕ → Type 0) (n k : ℕ) (x r : Option A) (y : A) → cond (eqb n k) x r ≡ Some y → (x ≡ Some y → P k) → (r ≡ Some y → P n) → P n
 choose P n k x r y e one other = elim (chosen (eqb n k) x r (Some y) e) [
-    | inl p ↦ subst P (sym (eqb-true n k p.0)) (one p.1)
-    | inr p ↦ other p.1
-  ]
+  | inl p ↦ subst P (sym (eqb-true n k p.0)) (one p.1)
+  | inr p ↦ other p.1
+]
 
 pub no_value : {A : Type 0} (P : Type 0) (y : A) → None ≡ Some y → P
 no_value P y e = absurd cc
 
 passes : {A : Type 0} (test : A → Bool) (a b : A) → cond (test a) (Some a) None ≡ Some b → (b ≡ a) × (test b ≡ true)
 passes test a b e = elim (chosen (test a) (Some a) None (Some b) e) [
-    | inl p ↦ (sym (some_is a b p.1), subst (λ c. test c ≡ true) (some_is a b p.1) p.0)
-    | inr p ↦ no_value _ b p.1
-  ]
+  | inl p ↦ (sym (some_is a b p.1), subst (λ c. test c ≡ true) (some_is a b p.1) p.0)
+  | inr p ↦ no_value _ b p.1
+]
 
 pub guarded_form : {A : Type 0} (form : Form A) (test : A → Bool) (Fits : A → Type 0) → IsForm form Fits → IsForm (guarded form test) (λ a. Fits a × (test a ≡ true))
 guarded_form {A} form test Fits is = mapped_form form (λ a. a) (λ a. cond (test a) (Some a) None) Fits (λ a. Fits a × (test a ≡ true)) is (record {

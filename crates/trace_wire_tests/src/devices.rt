@@ -34,7 +34,9 @@ fn two_frames_one_after_the_other(rt: HostRuntime) -> Result<(), Fail> {
 fn a_reader_that_fails_at_each_byte(rt: HostRuntime) -> Result<(), Fail> {
     for count in 0..WORKED.len() {
         let mut reader = MemoryReader::new(&WORKED).failing_after(count);
-        let fault = read_frame(rt.alloc(), &mut reader).err().ok_or("it failed")?;
+        let fault = read_frame(rt.alloc(), &mut reader)
+            .err()
+            .ok_or("it failed")?;
         assert_eq!(rt; name_of(fault), "W1 Read", "{count}");
     }
     let mut reader = MemoryReader::new(&WORKED).failing_after(WORKED.len());
@@ -46,10 +48,16 @@ fn a_reader_that_fails_at_each_byte(rt: HostRuntime) -> Result<(), Fail> {
 fn a_writer_that_fails_at_each_byte(rt: HostRuntime) -> Result<(), Fail> {
     let know = taken(rt.alloc(), "ABC")?;
     for count in 0..WORKED.len() {
-        let mut writer = MemoryWriter::new(rt.alloc()).at_most(7).failing_after(count);
+        let mut writer = MemoryWriter::new(rt.alloc())
+            .at_most(7)
+            .failing_after(count);
         let fault = write_frame(&know, &mut writer).err().ok_or("it failed")?;
         assert_eq!(rt; name_of(fault), "W1 Write", "{count}");
-        assert_eq!(rt; writer.bytes(), WORKED.get(..count).ok_or("a front")?, "{count}");
+        assert_eq!(rt;
+            writer.bytes(),
+            WORKED.get(..count).ok_or("a front")?,
+            "{count}"
+        );
     }
     Ok(())
 }

@@ -5,59 +5,145 @@ use std::alloc::Global;
 use std::test::Fail;
 use trace_wire::WireFault;
 
-#[test]
-fn bytes_are_refused_for_their_first_cause(rt: HostRuntime) -> Result<(), Fail> {
-    let rows: [(&str, &[u8], &str); 19] = [
-        ("nothing is known", b"MPTX\0\x01\0\0\0\x04\0\0\0\0", "ok"),
-        ("a byte more in the payload", b"MPTX\0\x01\0\0\0\x05\0\0\0\0\0", "W8 Rest"),
-        ("a byte behind the frame", b"MPTX\0\x01\0\0\0\x04\0\0\0\0\0", "ok"),
-        ("another first byte", b"NPTX\0\x01\0\0\0\x04\0\0\0\0", "W2 Magic"),
-        ("version 2", b"MPTX\0\x02\0\0\0\x04\0\0\0\0", "W3 Version"),
-        ("version 256", b"MPTX\x01\0\0\0\0\x04\0\0\0\0", "W3 Version"),
-        ("a length above the limit", b"MPTX\0\x01\x01\0\0\x01\0\0\0\0", "W4 Length"),
-        ("the greatest length", b"MPTX\0\x01\xFF\xFF\xFF\xFF\0\0\0\0", "W4 Length"),
-        ("the limit, and little is there", b"MPTX\0\x01\x01\0\0\0\0\0\0\0", "W5 Short"),
-        ("another first byte, and cut", b"NPTX\0\x02\xFF\xFF\xFF", "W5 Short"),
-        ("another first byte and version", b"NPTX\0\x02\xFF\xFF\xFF\xFF", "W2 Magic"),
-        ("version 2 and too long", b"MPTX\0\x02\xFF\xFF\xFF\xFF", "W3 Version"),
-        ("no payload", b"MPTX\0\x01\0\0\0\0", "W7 Content"),
-        ("a payload of three bytes", b"MPTX\0\x01\0\0\0\x03\0\0\0", "W7 Content"),
-        ("one cell is promised", b"MPTX\0\x01\0\0\0\x04\0\0\0\x01", "W7 Content"),
-        ("2^32 - 1 cells are promised", b"MPTX\0\x01\0\0\0\x04\xFF\xFF\xFF\xFF", "W7 Content"),
-        (
+/// A row of the table: its name, the bytes, and what the format says of them.
+fn row(number: u8) -> (&'static str, &'static [u8], &'static str) {
+    match number {
+        0 => ("nothing is known", b"MPTX\0\x01\0\0\0\x04\0\0\0\0", "ok"),
+        1 => (
+            "a byte more in the payload",
+            b"MPTX\0\x01\0\0\0\x05\0\0\0\0\0",
+            "W8 Rest",
+        ),
+        2 => (
+            "a byte behind the frame",
+            b"MPTX\0\x01\0\0\0\x04\0\0\0\0\0",
+            "ok",
+        ),
+        3 => (
+            "another first byte",
+            b"NPTX\0\x01\0\0\0\x04\0\0\0\0",
+            "W2 Magic",
+        ),
+        4 => ("version 2", b"MPTX\0\x02\0\0\0\x04\0\0\0\0", "W3 Version"),
+        5 => ("version 256", b"MPTX\x01\0\0\0\0\x04\0\0\0\0", "W3 Version"),
+        6 => (
+            "a length above the limit",
+            b"MPTX\0\x01\x01\0\0\x01\0\0\0\0",
+            "W4 Length",
+        ),
+        7 => (
+            "the greatest length",
+            b"MPTX\0\x01\xFF\xFF\xFF\xFF\0\0\0\0",
+            "W4 Length",
+        ),
+        8 => (
+            "the limit, and little is there",
+            b"MPTX\0\x01\x01\0\0\0\0\0\0\0",
+            "W5 Short",
+        ),
+        9 => (
+            "another first byte, and cut",
+            b"NPTX\0\x02\xFF\xFF\xFF",
+            "W5 Short",
+        ),
+        10 => (
+            "another first byte and version",
+            b"NPTX\0\x02\xFF\xFF\xFF\xFF",
+            "W2 Magic",
+        ),
+        11 => (
+            "version 2 and too long",
+            b"MPTX\0\x02\xFF\xFF\xFF\xFF",
+            "W3 Version",
+        ),
+        12 => ("no payload", b"MPTX\0\x01\0\0\0\0", "W7 Content"),
+        13 => (
+            "a payload of three bytes",
+            b"MPTX\0\x01\0\0\0\x03\0\0\0",
+            "W7 Content",
+        ),
+        14 => (
+            "one cell is promised",
+            b"MPTX\0\x01\0\0\0\x04\0\0\0\x01",
+            "W7 Content",
+        ),
+        15 => (
+            "2^32 - 1 cells are promised",
+            b"MPTX\0\x01\0\0\0\x04\xFF\xFF\xFF\xFF",
+            "W7 Content",
+        ),
+        16 => (
             "a contradiction at rank 1, place 3",
             b"MPTX\0\x01\0\0\0\x11\0\0\0\x01\0\0\0\x01\0\0\0\0\0\0\0\x03\x01",
             "ok",
         ),
-        (
+        17 => (
             "a cell of kind 2",
             b"MPTX\0\x01\0\0\0\x11\0\0\0\x01\0\0\0\x01\0\0\0\0\0\0\0\x03\x02",
             "W7 Content",
         ),
-        (
+        18 => (
             "place 3 of rank 1, and then place 0 of rank 0",
             b"MPTX\0\x01\0\0\0\x1E\0\0\0\x02\0\0\0\x01\0\0\0\0\0\0\0\x03\x01\0\0\0\0\0\0\0\0\0\0\0\0\x01",
             "W6 Order",
         ),
-    ];
-    for (name, bytes, want) in rows {
+        _ => (
+            "2^32 - 1 requests are promised",
+            b"MPTX\0\x01\0\0\0\x26\0\0\0\x01\0\0\0\0\0\0\0\0\0\0\0\0\0\x08\0\0\0\0\0\0\0\0\0\0\0\0\0\0\0\0\xFF\xFF\xFF\xFF",
+            "W7 Content",
+        ),
+    }
+}
+
+#[test]
+fn bytes_are_refused_for_their_first_cause(rt: HostRuntime) -> Result<(), Fail> {
+    for number in 0..20_u8 {
+        let (name, bytes, want) = row(number);
         assert_eq!(rt; answer(rt.alloc(), bytes), want, "{name}");
     }
     Ok(())
 }
 
-/// Second cells whose place isn't past the first one, (1, 3), and that have other faults as well.
+/// A second cell whose place may not be past the first one, (1, 3), and that may have other faults as well.
+fn second(number: u8) -> (&'static str, &'static [u8], &'static str) {
+    match number {
+        0 => (
+            "the kind is cut off",
+            b"\0\0\0\x01\0\0\0\0\0\0\0\x03",
+            "W6 Order",
+        ),
+        1 => (
+            "the kind is unknown",
+            b"\0\0\0\x01\0\0\0\0\0\0\0\x02\x09",
+            "W6 Order",
+        ),
+        2 => (
+            "the place is cut off",
+            b"\0\0\0\0\0\0\0\0\0\0\0",
+            "W7 Content",
+        ),
+        3 => (
+            "a rank before, at place 2^40",
+            b"\0\0\0\0\0\0\x01\0\0\0\0\0\x01",
+            "W6 Order",
+        ),
+        4 => (
+            "the next rank, at place 2^40",
+            b"\0\0\0\x02\0\0\x01\0\0\0\0\0\x01",
+            "W7 Content",
+        ),
+        _ => (
+            "the next rank, at place 2^40 - 1",
+            b"\0\0\0\x02\0\0\0\xFF\xFF\xFF\xFF\xFF\x01",
+            "ok",
+        ),
+    }
+}
+
 #[test]
 fn order_comes_before_content(rt: HostRuntime) -> Result<(), Fail> {
-    let rows: [(&str, &[u8], &str); 6] = [
-        ("the kind is cut off", b"\0\0\0\x01\0\0\0\0\0\0\0\x03", "W6 Order"),
-        ("the kind is unknown", b"\0\0\0\x01\0\0\0\0\0\0\0\x02\x09", "W6 Order"),
-        ("the place is cut off", b"\0\0\0\0\0\0\0\0\0\0\0", "W7 Content"),
-        ("a rank before, at place 2^40", b"\0\0\0\0\0\0\x01\0\0\0\0\0\x01", "W6 Order"),
-        ("the next rank, at place 2^40", b"\0\0\0\x02\0\0\x01\0\0\0\0\0\x01", "W7 Content"),
-        ("the next rank, at place 2^40 - 1", b"\0\0\0\x02\0\0\0\xFF\xFF\xFF\xFF\xFF\x01", "ok"),
-    ];
-    for (name, cell, want) in rows {
+    for number in 0..6_u8 {
+        let (name, cell, want) = second(number);
         assert_eq!(rt; second_cell(rt.alloc(), cell)?, want, "{name}");
     }
     Ok(())
@@ -88,7 +174,11 @@ fn lengths_are_tried_before_the_payload_is_read(rt: HostRuntime) -> Result<(), F
     for shift in 0..32_u32 {
         for less in 0..2_u32 {
             let len = (u32::MAX >> shift).saturating_sub(less);
-            let want = if len > 16_777_216 { "W4 Length" } else { "W5 Short" };
+            let want = if len > 16_777_216 {
+                "W4 Length"
+            } else {
+                "W5 Short"
+            };
             if len > 4 {
                 assert_eq!(rt; with_length(rt.alloc(), len)?, want, "{len}");
             }

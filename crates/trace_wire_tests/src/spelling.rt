@@ -55,13 +55,25 @@ fn send(mode: Mode, peer: Peer, tag: u32, comm: CommRef, datatype: i64) -> Resul
 
 /// The envelope of a send of one element.
 fn sent(peer: Peer, tag: u32, comm: CommRef, datatype: i64) -> Result<SendEnvelope, Fail> {
-    let envelope = Envelope { peer, tag: Some(tag), comm, count: 1, datatype };
+    let envelope = Envelope {
+        peer,
+        tag: Some(tag),
+        comm,
+        count: 1,
+        datatype,
+    };
     Ok(SendEnvelope::new(envelope).ok_or("a send")?)
 }
 
 /// The envelope of a receive of as many elements as there can be.
 fn received(peer: Peer, tag: Option<u32>, comm: CommRef) -> Result<ReceiveEnvelope, Fail> {
-    let envelope = Envelope { peer, tag, comm, count: MOST, datatype: i64::MIN };
+    let envelope = Envelope {
+        peer,
+        tag,
+        comm,
+        count: MOST,
+        datatype: i64::MIN,
+    };
     Ok(ReceiveEnvelope::new(envelope).ok_or("a receive")?)
 }
 
@@ -82,7 +94,15 @@ fn calls_without_fields(rt: HostRuntime) -> Result<(), Fail> {
     let alloc = rt.alloc();
     assert!(rt; row(alloc, Call::Local, (0, b""), Outs::Nothing, (0, b""))?);
     let posted = Outs::Posted(i64::MIN);
-    assert!(rt; row(alloc, Call::Finalize, (1, b""), posted, (1, b"\x80\0\0\0\0\0\0\0"))?);
+    assert!(rt;
+        row(
+            alloc,
+            Call::Finalize,
+            (1, b""),
+            posted,
+            (1, b"\x80\0\0\0\0\0\0\0")
+        )?
+    );
     Ok(())
 }
 
@@ -90,13 +110,23 @@ fn calls_without_fields(rt: HostRuntime) -> Result<(), Fail> {
 fn sends(rt: HostRuntime) -> Result<(), Fail> {
     let alloc = rt.alloc();
     let call = send(Mode::Standard, Peer::Null, 0, CommRef::World, -1)?;
-    let fields = b"\0\xFF\xFF\xFF\xFE\0\0\0\0\xFF\xFF\xFF\xFF\0\0\0\x01\xFF\xFF\xFF\xFF\xFF\xFF\xFF\xFF";
+    let fields =
+        b"\0\xFF\xFF\xFF\xFE\0\0\0\0\xFF\xFF\xFF\xFF\0\0\0\x01\xFF\xFF\xFF\xFF\xFF\xFF\xFF\xFF";
     let outs = Outs::Status(told(None)?);
     assert!(rt; row(alloc, call, (2, fields), outs, (2, b"\xFF\xFF\xFF\xFF"))?);
     let most = sent(Peer::Rank(MOST), MOST, CommRef::Id(MOST), i64::MAX)?;
-    let fields = b"\x03\x7F\xFF\xFF\xFF\x7F\xFF\xFF\xFF\x7F\xFF\xFF\xFF\0\0\0\x01\x7F\xFF\xFF\xFF\xFF\xFF\xFF\xFF";
+    let fields =
+        b"\x03\x7F\xFF\xFF\xFF\x7F\xFF\xFF\xFF\x7F\xFF\xFF\xFF\0\0\0\x01\x7F\xFF\xFF\xFF\xFF\xFF\xFF\xFF";
     let outs = Outs::Status(told(Some(MOST))?);
-    assert!(rt; row(alloc, Call::Isend(Mode::Ready, most), (3, fields), outs, (2, b"\x7F\xFF\xFF\xFF"))?);
+    assert!(rt;
+        row(
+            alloc,
+            Call::Isend(Mode::Ready, most),
+            (3, fields),
+            outs,
+            (2, b"\x7F\xFF\xFF\xFF")
+        )?
+    );
     Ok(())
 }
 
@@ -126,7 +156,8 @@ fn receives(rt: HostRuntime) -> Result<(), Fail> {
     let none = Outs::Statuses(Sources::from_vec(Vec::new(alloc)));
     assert!(rt; row(alloc, Call::Recv(any), (4, fields), none, (3, b"\0\0\0\0"))?);
     let null = received(Peer::Null, Some(MOST), CommRef::World)?;
-    let fields = b"\xFF\xFF\xFF\xFE\x7F\xFF\xFF\xFF\xFF\xFF\xFF\xFF\x7F\xFF\xFF\xFF\x80\0\0\0\0\0\0\0";
+    let fields =
+        b"\xFF\xFF\xFF\xFE\x7F\xFF\xFF\xFF\xFF\xFF\xFF\xFF\x7F\xFF\xFF\xFF\x80\0\0\0\0\0\0\0";
     let sources = vec![in alloc; told(None)?, told(Some(0))?]?;
     let two = Outs::Statuses(Sources::from_vec(sources));
     let wanted = b"\0\0\0\x02\xFF\xFF\xFF\xFF\0\0\0\0";
@@ -140,7 +171,8 @@ fn exchanges(rt: HostRuntime) -> Result<(), Fail> {
     let send = sent(Peer::Rank(1), 7, CommRef::World, 11)?;
     let receive = received(Peer::Any, Some(8), CommRef::World)?;
     let both = Call::Sendrecv(Exchange::new(send, receive).ok_or("one communicator")?);
-    let fields = b"\0\0\0\x01\0\0\0\x07\xFF\xFF\xFF\xFF\0\0\0\x01\0\0\0\0\0\0\0\x0B\xFF\xFF\xFF\xFF\0\0\0\x08\xFF\xFF\xFF\xFF\x7F\xFF\xFF\xFF\x80\0\0\0\0\0\0\0";
+    let fields =
+        b"\0\0\0\x01\0\0\0\x07\xFF\xFF\xFF\xFF\0\0\0\x01\0\0\0\0\0\0\0\x0B\xFF\xFF\xFF\xFF\0\0\0\x08\xFF\xFF\xFF\xFF\x7F\xFF\xFF\xFF\x80\0\0\0\0\0\0\0";
     let outs = Outs::Index(None, told(None)?);
     assert!(rt; row(alloc, both, (6, fields), outs, (4, b"\0\xFF\xFF\xFF\xFF"))?);
     Ok(())
@@ -151,10 +183,26 @@ fn waits_for_one(rt: HostRuntime) -> Result<(), Fail> {
     let alloc = rt.alloc();
     let outs = Outs::Index(Some(u32::MAX), told(Some(0))?);
     let wanted = b"\x01\xFF\xFF\xFF\xFF\0\0\0\0";
-    assert!(rt; row(alloc, Call::Wait(-1), (7, b"\xFF\xFF\xFF\xFF\xFF\xFF\xFF\xFF"), outs, (4, wanted))?);
+    assert!(rt;
+        row(
+            alloc,
+            Call::Wait(-1),
+            (7, b"\xFF\xFF\xFF\xFF\xFF\xFF\xFF\xFF"),
+            outs,
+            (4, wanted)
+        )?
+    );
     let outs = Outs::Flag(true, told(Some(1))?);
     let wanted = b"\x01\0\0\0\x01";
-    assert!(rt; row(alloc, Call::Test(i64::MIN), (11, b"\x80\0\0\0\0\0\0\0"), outs, (6, wanted))?);
+    assert!(rt;
+        row(
+            alloc,
+            Call::Test(i64::MIN),
+            (11, b"\x80\0\0\0\0\0\0\0"),
+            outs,
+            (6, wanted)
+        )?
+    );
     Ok(())
 }
 
@@ -166,8 +214,14 @@ fn waits_for_several(rt: HostRuntime) -> Result<(), Fail> {
     assert!(rt; row(alloc, call, (8, b"\0\0\0\0"), none, (5, b"\0\0\0\0"))?);
     let call = Call::Waitany(requests(alloc, &[1, -2])?);
     let fields = b"\0\0\0\x02\0\0\0\0\0\0\0\x01\xFF\xFF\xFF\xFF\xFF\xFF\xFF\xFE";
-    let first = Element { position: u32::MAX, told: told(None)? };
-    let second = Element { position: 0, told: told(Some(MOST))? };
+    let first = Element {
+        position: u32::MAX,
+        told: told(None)?,
+    };
+    let second = Element {
+        position: 0,
+        told: told(Some(MOST))?,
+    };
     let two = Outs::Several(Elements::from_vec(vec![in alloc; first, second]?));
     let wanted = b"\0\0\0\x02\xFF\xFF\xFF\xFF\xFF\xFF\xFF\xFF\0\0\0\0\x7F\xFF\xFF\xFF";
     assert!(rt; row(alloc, call, (9, fields), two, (5, wanted))?);
@@ -194,7 +248,10 @@ fn collective_calls(rt: HostRuntime) -> Result<(), Fail> {
         let call = collective(kind, root, CommRef::Id(5))?;
         let [a, b, c, d] = mark.to_be_bytes();
         let fields = [code, a, b, c, d, 0, 0, 0, 5];
-        assert!(rt; row(rt.alloc(), call, (12, &fields), Outs::Nothing, (0, b""))?, "{code}");
+        assert!(rt;
+            row(rt.alloc(), call, (12, &fields), Outs::Nothing, (0, b""))?,
+            "{code}"
+        );
     }
     Ok(())
 }

@@ -21,4 +21,4 @@ pub returns-clause-views : goal.returns-clause-views
 returns-clause-views c = λ v w hv hw e.
     let same : entries v ≡ entries w = (one_frame (entries w) (entries v) [] hw hv (e ∙ sym (append-nil (frame (entries w))))).0 in
     c.join_laws.ensures.same_cells v w (λ rank place.
-        get-entries v (rank, place) ∙ ap (λ (es : List Entry). find place_cmp (rank, place) es) same ∙ sym (get-entries w (rank, place)))
+    get-entries v (rank, place) ∙ ap (λ (es : List Entry). find place_cmp (rank, place) es) same ∙ sym (get-entries w (rank, place)))
