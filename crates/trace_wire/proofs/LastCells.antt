@@ -1,33 +1,22 @@
 -- Cells that are put behind the last of a knowledge.
-use Rattle.std.proofs.Common.{◌≡◌, ℕ, ◌+◌, ◌-◌, ◌^◌, ◌%◌, ◌<◌, ◌≤◌, Bool, true, false, cond, ltb, eqb, List, [], ◌∷◌, ◌++◌, Option, Some, None, Result, Ok, Err, refl, sym, ap, subst, ◌∙◌, arith, inl, inr, ◌⊎◌}
-use Rattle.std.specs.Prelude.{IsSome, ◌&&◌, ◌||◌}
-use Rattle.std.specs.List.{AllByRecursion}
+use Rattle.std.proofs.Common.{◌≡◌, ℕ, ◌<◌, true, List, [], ◌∷◌, ◌++◌, Option, Some, None, Result, Ok, Err, refl, sym, ap, subst, ◌∙◌, arith, inl, inr, ◌⊎◌}
+use Rattle.std.specs.Prelude.{IsSome}
 use Rattle.std.specs.Ordering.{nat_cmp, is_eq, eq_by_cmp}
 use Rattle.std.specs.declared.cmp.Ordering.{Ordering}
 use Rattle.std.specs.declared.cmp.Ordering.TheVariants.{Less, Equal, Greater}
 use Rattle.std.specs.Cmp.{IsTotalOrder, nat_cmp_total}
-use Rattle.std.specs.FinMap.{empty, get, insert, entries, find, put, get-entries, entries-insert, len-entries, len-empty, IsAntisymmetric}
+use Rattle.std.specs.FinMap.{empty, insert, entries, find, put, get-entries, entries-insert, len-entries, len-empty, IsAntisymmetric}
 use Rattle.std.proofs.lemmas.List.{nil_from_length}
-use Rattle.std.proofs.lemmas.Bool.{ltb-true, eqb-true, cases_lt}
+use Rattle.std.proofs.lemmas.Bool.{cases_lt}
 use Rattle.std.proofs.lemmas.Bool.Decides.{nat_tests}
 use Rattle.std.proofs.lemmas.Cmp.{on_total, then_total}
 use Rattle.std.proofs.lemmas.Map.Lookups.{exact_pairs, exact_unsigned}
-use Rattle.mpi_model.specs.Times.{Times}
-use Rattle.mpi_model.specs.declared.event.Event.{Event}
-use Rattle.mpi_model.specs.declared.event.Event.TheVariants as events
 use Rattle.trace_know.specs.declared.cell.Known.{Known}
-use Rattle.trace_know.specs.declared.cell.Known.TheVariants as knowns
-use Rattle.trace_know.specs.Placed.{IsPast, IsHalfOf}
-use Rattle.trace_know.specs.View.{View, place_cmp, cell}
+use Rattle.trace_know.specs.Placed.{IsPast}
+use Rattle.trace_know.specs.View.{View, place_cmp}
 use Rattle.trace_wire.specs.declared.fault.WireFault.{WireFault}
-use Rattle.trace_wire.specs.declared.fault.WireFault.TheVariants.{Order, Content}
-use Rattle.trace_wire.specs.Forms.{byte, pair}
-use Rattle.trace_wire.specs.Events.{call_at, outs_at, body_at, is_even, event_at}
-use Rattle.trace_wire.specs.Fields.{stamp, made}
-use Rattle.trace_wire.specs.Frames.{Entry, place_form, is_past}
-use Rattle.trace_wire.specs.FirstFault.{known_by, known_at, cell_after, cell_at, or_fault}
-use Rattle.trace_wire.proofs.FormLaws.{choose, chosen, no_value, some_is, bind_some}
-use Rattle.trace_wire.proofs.FrameLaws.{bind_ok, or_ok, passed}
+use Rattle.trace_wire.specs.Frames.{Entry, is_past}
+use Rattle.trace_wire.proofs.FormLaws.{chosen}
 use Rattle.trace_wire.proofs.CellLoop.{cells_after}
 
 places_total : IsTotalOrder place_cmp

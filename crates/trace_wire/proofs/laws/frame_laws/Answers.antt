@@ -1,4 +1,4 @@
-use Rattle.std.proofs.Common.{◌≡◌, ℕ, List, [], ap, sym, ◌∙◌, append-nil}
+use Rattle.std.proofs.Common.{◌≡◌, List, [], ap, sym, ◌∙◌, append-nil}
 use Rattle.std.specs.FinMap.{entries, find, get-entries}
 use Rattle.trace_know.specs.View.{place_cmp}
 use Rattle.trace_wire.specs.Frames.{Entry, frame}

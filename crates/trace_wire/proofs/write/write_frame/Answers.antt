@@ -1,4 +1,4 @@
-use Rattle.std.proofs.Common.{◌≡◌, ◌≤◌, length, arith}
+use Rattle.std.proofs.Common.{◌≤◌, length, arith}
 use Rattle.std.specs.FinMap.{entries}
 use Rattle.trace_wire.specs.Frames.{frame, longest, payload}
 use Rattle.trace_wire.proofs.Sending.{broke_off, came_out}

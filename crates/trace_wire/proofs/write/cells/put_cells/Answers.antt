@@ -1,4 +1,4 @@
-use Rattle.std.proofs.Common.{◌≡◌, ◌+◌, ◌∷◌, List, ℕ, length, ap, arith, subst, ◌∙◌}
+use Rattle.std.proofs.Common.{◌≡◌, ◌+◌, ◌∷◌, List, length, ap, arith, subst, ◌∙◌}
 use Rattle.trace_wire.specs.Frames.{Entry, cell_bytes, cells_bytes, known_bytes}
 use Rattle.trace_wire.specs.Sending.{Comes}
 use Rattle.trace_wire.proofs.Lengths.{cells_len}
