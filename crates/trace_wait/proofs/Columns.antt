@@ -4,8 +4,7 @@ use Rattle.std.specs.Prelude.{if◌then◌else◌, slice_get, ◌==◌, eqb, All
 use Rattle.std.specs.List.{filter_map, flat_map, list_all, list_any, fold, range_with_len, cons_option}
 use Rattle.std.specs.Option.{option_map}
 use Rattle.std.proofs.lemmas.List.Folds.{list_all-append, fold-map}
-use Rattle.std.proofs.lemmas.List.{take_more, length-map}
-use Rattle.std.proofs.lemmas.List.Elements.{filter-append}
+use Rattle.std.proofs.lemmas.List.{take_more, length-map, length-take-le}
 use Rattle.std.proofs.lemmas.Map.Steps.{length-le_from_distinct_below}
 use Rattle.std.proofs.lemmas.Bool.Decides.{nat_tests}
 use Rattle.mpi_model.specs.Layouts.{IsGroup}
@@ -154,9 +153,20 @@ rounds_are comms ops c few =
     from_zero j = omega arith
 
 -- steps of the loops
-pub on_comm_more : (c : ℕ) (entries : List Entered) (i : ℕ) (d : Entered) → i < length entries →
-    on_comm c (take (i + 1) entries) ≡ on_comm c (take i entries) ++ on_comm c (get_or entries i d ∷ [])
-on_comm_more c entries i d lt = ap (on_comm c) (take_more entries i d lt) ∙ filter-append (λ e. e.comm == c) (take i entries) (get_or entries i d ∷ [])
+
+-- one call more of a member
+pub merged_more : (calls : List Entered) (k : ℕ) (d : Entered) (first ts after : List Tally) → k < length calls →
+    ts ≡ merged (take k calls) first → after ≡ put ts k (get_or calls k d) → after ≡ merged (take (k + 1) calls) first
+merged_more calls k d first ts after lt h e =
+    e ∙ ap (λ (l : List Tally). put l k (get_or calls k d)) h
+    ∙ ap (λ n. put (merged (take k calls) first) n (get_or calls k d)) (sym (length-take-le k calls (omega (arith, lt))))
+    ∙ sym (merged_push (take k calls) first (get_or calls k d)) ∙ ap (λ (l : List Entered). merged l first) (sym (take_more calls k d lt))
+
+-- the k-th call goes to a round that is there, or is the next
+pub merged_reaches : (calls : List Entered) (k : ℕ) (first ts : List Tally) → k < length calls → ts ≡ merged (take k calls) first → k ≤ length ts
+merged_reaches calls k first ts lt h =
+    let n = length-take-le k calls (omega (arith, lt)) in
+    omega (arith, n, merged_long (take k calls) first, ap length h)
 
 pub rounds_from_more : (c members first : ℕ) (ts : List Tally) (i k : ℕ) (d : Tally) → k ≡ first + i → i < length ts →
     rounds_from c members first (take (i + 1) ts) ≡ rounds_from c members first (take i ts) ++ record { comm = c; k = k; standing = stands members (get_or ts i d) } ∷ []
@@ -195,39 +205,6 @@ member_below n (x ∷ xs) h q a = ⊎_elim (λ (e : eqb q x ≡ true). let f : q
 
 pub small_group : (ranks : ℕ) (members : List ℕ) → IsGroup ranks members → length members ≤ ranks
 small_group ranks members g = length-le_from_distinct_below members ranks g.distinct (member_below ranks members g.in_range)
-
-hit : (c : ℕ) (e : Entered) → e.comm ≡ c → on_comm c (e ∷ []) ≡ e ∷ []
-hit c e h = one (e.comm == c) (grind (arith, nat_tests))
-  where
-    one : (b : Bool) → b ≡ true → (if b then e ∷ [] else []) ≡ e ∷ []
-    one true k = refl
-    one false k = absurd (cc)
-
-miss : (c : ℕ) (e : Entered) → (e.comm ≡ c → ⊥) → on_comm c (e ∷ []) ≡ []
-miss c e h = one (e.comm == c) (grind (arith, nat_tests))
-  where
-    one : (b : Bool) → b ≡ false → (if b then e ∷ [] else []) ≡ []
-    one true k = absurd (cc)
-    one false k = refl
-
-module _ (c : ℕ) (entries : List Entered) (i k : ℕ) (d : Entered) (first ts after : List Tally) (lt : i < length entries)
-    (so_far : ts ≡ merged (on_comm c (take i entries)) first) (many : k ≡ length (on_comm c (take i entries))) where
-  pub merge_hit : (get_or entries i d).comm ≡ c → after ≡ put ts k (get_or entries i d) →
-      (after ≡ merged (on_comm c (take (i + 1) entries)) first) × (k + 1 ≡ length (on_comm c (take (i + 1) entries)))
-  merge_hit is e =
-      let more : on_comm c (take (i + 1) entries) ≡ on_comm c (take i entries) ++ get_or entries i d ∷ [] =
-      on_comm_more c entries i d lt ∙ ap (λ (l : List Entered). on_comm c (take i entries) ++ l) (hit c (get_or entries i d) is) in (
-        e ∙ ap (λ (l : List Tally). put l k (get_or entries i d)) so_far ∙ ap (λ n. put (merged (on_comm c (take i entries)) first) n (get_or entries i d)) many
-            ∙ sym (merged_push (on_comm c (take i entries)) first (get_or entries i d)) ∙ ap (λ l. merged l first) (sym more),
-        omega (arith, many, ap length more, length-append (on_comm c (take i entries)) (get_or entries i d ∷ [])),
-      )
-
-  pub merge_miss : ((get_or entries i d).comm ≡ c → ⊥) →
-      (ts ≡ merged (on_comm c (take (i + 1) entries)) first) × (k ≡ length (on_comm c (take (i + 1) entries)))
-  merge_miss is =
-      let more : on_comm c (take (i + 1) entries) ≡ on_comm c (take i entries) =
-      on_comm_more c entries i d lt ∙ ap (λ (l : List Entered). on_comm c (take i entries) ++ l) (miss c (get_or entries i d) is) ∙ append-nil (on_comm c (take i entries)) in
-      (so_far ∙ ap (λ l. merged l first) (sym more), many ∙ ap length (sym more))
 
 pub pushed_more : (c members k : ℕ) (ts : List Tally) (d : Tally) (st : Standing) (first out after : List Round) → k < length ts →
     after ≡ out ++ record { comm = c; k = k; standing = st } ∷ [] → st ≡ stands members (get_or ts k d) → out ≡ first ++ rounds_from c members 0 (take k ts) →

@@ -4,3 +4,5 @@ pub mod Steps
 pub mod Keys
 pub mod Searches
 pub mod Names
+pub mod Rows
+pub mod Posted

@@ -2,6 +2,7 @@ pub mod Ranks
 pub mod Matching
 pub mod Patterns
 pub mod Rounds
+pub mod Entries
 pub mod Parts
 pub mod Conditions
 pub mod Tallies

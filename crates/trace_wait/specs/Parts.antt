@@ -90,9 +90,13 @@ post_part s o n = part (send_of o n)
     part (Some m) = send_part s m
     part None = receive_of_call s o n
 
+-- the call that posted the request of this number, among requests with the calls that posted them
+abbrev pub posted_in : List (ℤ × ℕ) → ℤ → Option ℕ
+posted_in active x = option_map (λ a. a.1) (find (λ a. int_eq a.0 x) active)
+
 -- the call that posted the active request of this number
 abbrev pub posted_by : Ops → ℤ → Option ℕ
-posted_by o x = option_map (λ a. a.1) (find (λ a. int_eq a.0 x) o.active)
+posted_by o x = posted_in o.active x
 
 -- what each active request of the list waits for, in the list's order
 abbrev pub requests : Run → Ops → List ℤ → List Wait

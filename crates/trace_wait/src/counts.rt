@@ -1,14 +1,15 @@
 //! How many calls on each communicator each of its members has entered, counted once.
 
-ghost use Rattle.std.specs.Prelude.{◌≡◌, ◌==◌, ◌<◌, map, count_by, nat_lt, slice_index, IfOk};
+ghost use Rattle.std.specs.Prelude.{◌≡◌, ◌<◌, map, nat_lt, slice_index, IfOk};
 ghost use Rattle.trace_wait.specs.Rounds.{group};
 ghost use Rattle.trace_wait.specs.Calls.{calls_of, counts, table, row_of};
 
-use crate::tally::{entries_of, members_of};
+use crate::entries::{Entries, entries_of};
+use crate::tally::members_of;
 use mpi_model::Layout;
 use std::alloc::{AllocError, Global};
 use std::marker::Model;
-use trace_ops::{Entered, RankOps};
+use trace_ops::RankOps;
 
 /// The calls on a communicator, by member.
 #[derive(Debug, Drop)]
@@ -39,32 +40,51 @@ impl CommCalls {
     }
 }
 
-fn calls_on(entries: &[Entered], comm: u32) -> usize
-    ensures { result ≡ count_by (λ e. e.comm == comm) entries.now }
+/// How many calls of the rank are on the communicator.
+fn calls_on(entries: &Entries, r: u32, comm: u32) -> usize
+    ensures { result ≡ calls_of entries.now comm r }
 {
-    entries.iter().filter(|e| e.comm == comm).count()
+    entries.on(r, comm).len()
 }
 
 fn counts(
     alloc: Global,
-    ops: &[RankOps],
+    entries: &Entries,
     comm: u32,
     members: &[u32],
 ) -> Result<Vec<u64>, AllocError>
-    ensures { IfOk result (λ v. v.items ≡ map (calls_of ops.now comm) members.now) }
+    ensures { IfOk result (λ v. v.items ≡ map (calls_of entries.now comm) members.now) }
 {
     let mut calls = Vec::new(alloc);
     for r in members {
-        calls.push(calls_on(entries_of(ops, *r), comm) as u64)?;
+        calls.push(calls_on(entries, *r, comm) as u64)?;
     }
     Ok(calls)
 }
 
-fn row(alloc: Global, layout: &Layout, ops: &[RankOps], comm: u32) -> Result<CommCalls, AllocError>
-    ensures { IfOk result (λ t. t ≡ record { comm = comm; calls = counts layout.now.comms ops.now comm }) }
+fn row(
+    alloc: Global,
+    layout: &Layout,
+    entries: &Entries,
+    comm: u32,
+) -> Result<CommCalls, AllocError>
+    ensures { IfOk result (λ t. t ≡ record { comm = comm; calls = counts layout.now.comms entries.now comm }) }
 {
-    let calls = counts(alloc, ops, comm, members_of(layout, comm))?;
+    let calls = counts(alloc, entries, comm, members_of(layout, comm))?;
     Ok(CommCalls { comm, calls })
+}
+
+fn rows_of(alloc: Global, layout: &Layout, entries: &Entries) -> Result<Vec<CommCalls>, AllocError>
+    ensures { IfOk result (λ v. v.items ≡ table layout.now.comms entries.now layout.now.comms) }
+{
+    layout.known();
+    let mut rows = Vec::new(alloc);
+    let mut i = 0usize;
+    while let Some(comm) = layout.comm_at(i) {
+        rows.push(row(alloc, layout, entries, comm)?)?;
+        i += 1;
+    }
+    Ok(rows)
 }
 
 /// The rows of all communicators.
@@ -75,14 +95,8 @@ pub(crate) fn all_calls(
 ) -> Result<Vec<CommCalls>, AllocError>
     ensures { IfOk result (λ v. v.items ≡ table layout.now.comms ops.now layout.now.comms) }
 {
-    layout.known();
-    let mut rows = Vec::new(alloc);
-    let mut i = 0usize;
-    while let Some(comm) = layout.comm_at(i) {
-        rows.push(row(alloc, layout, ops, comm)?)?;
-        i += 1;
-    }
-    Ok(rows)
+    let entries = entries_of(alloc, ops)?;
+    rows_of(alloc, layout, &entries)
 }
 
 /// The calls on a communicator, by member.

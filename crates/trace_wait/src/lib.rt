@@ -5,19 +5,22 @@
 //! partners: see `docs/definitions.md`. Which ranks are stuck then is told by [`trace_stuck`],
 //! whose public names this crate passes on.
 //!
-//! Cost: rounds go once through each member's collective calls for each of its communicators.
-//! Conditions go once through all messages and receives, with a look-up in an ordered set for each
-//! that is in no pair, and take a further step for each part that they have.
+//! Cost: rounds go once through all collective calls, and conditions once through all messages and
+//! receives, with a few look-ups in an ordered set or map for each; a part of a condition costs
+//! some look-ups more.
 //!
+//! - [`entries`]: collective calls by communicator; [`counts`]: how many each member has entered
 //! - [`round`]: how a round stands; [`tally`]: the rounds of all communicators
-//! - [`counts`]: how many collective calls each member has entered
 //! - [`sets`], [`paired`], [`unpaired`], [`mismatch`]: what is looked up for the conditions; [`overview`]: all of it together
-//! - [`posts`]: what a call started; [`parts`]: what a send, a receive and a request wait for; [`collective`]: a collective call
+//! - [`posts`]: what a call started; [`active`]: which call posted a request
+//! - [`parts`]: what a send, a receive and a request wait for; [`collective`]: a collective call
 //! - [`waiting`]: the condition of each rank
 #![tactic(auto)]
 
+mod active;
 mod collective;
 mod counts;
+mod entries;
 mod mismatch;
 mod overview;
 mod paired;

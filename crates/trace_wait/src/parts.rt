@@ -5,6 +5,7 @@ ghost use Rattle.trace_ops.specs.Order.{AreInOrder, ArePosted};
 ghost use Rattle.trace_stuck.specs.Shape.{shape, waits_of, OnRank, OnOne};
 ghost use Rattle.trace_wait.specs.Parts.{is_buffered, may_send, send_part, source_part, may_receive, receive_part, send_of_call, receive_of_call, post_part, posted_by, requests};
 
+use crate::active::{Posts, posts_of};
 use crate::overview::Overview;
 use crate::posts::{receive_of, send_of};
 use mpi_model::{Message, Mode, Receive, Sends};
@@ -133,9 +134,10 @@ pub(crate) fn requests(
     requires receives { ArePosted o.now.receives }
     ensures { IfOk result (λ parts. map shape parts.items ≡ requests run.now o.now xs.now) }
 {
+    let posts = posts_of(alloc, o.active())?;
     let mut parts = Vec::new(alloc);
     for x in xs {
-        push_request(alloc, run, o, x, &mut parts)?;
+        push_request(alloc, run, o, &posts, x, &mut parts)?;
     }
     Ok(parts)
 }
@@ -144,14 +146,16 @@ fn push_request(
     alloc: Global,
     run: &Overview,
     o: &RankOps,
+    posts: &Posts,
     x: &i64,
     parts: &mut Vec<Condition>,
 ) -> Result<(), AllocError>
+    requires posts { posts.now ≡ o.now.active }
     requires sends { AreInOrder o.now.sends }
     requires receives { ArePosted o.now.receives }
     ensures { OnOk result (map shape parts.new.items ≡ map shape parts.old.items ++ requests run.now o.now (x.now ∷ [])) }
 {
-    if let Some(n) = posted_by(o, x) {
+    if let Some(n) = posts.call_of(*x) {
         parts.push(post_part(alloc, run, o, n)?)?;
     }
     Ok(())

@@ -1,10 +1,10 @@
 //! The rounds of all communicators. Each member's calls on a communicator are gone through once.
 
 ghost use Rattle.std.specs.Prelude.{◌≡◌, ◌==◌, ◌≤◌, ◌<◌, ◌^◌, ◌++◌, IfOk, OnOk, length};
-ghost use Rattle.trace_wait.specs.Ranks.{ops_of};
-ghost use Rattle.trace_wait.specs.Rounds.{kind_number, same_root, on_comm, group, rounds_on, rounds_of};
+ghost use Rattle.trace_wait.specs.Rounds.{kind_number, same_root, group, rounds_on, rounds_of};
 ghost use Rattle.trace_wait.specs.Tallies.{start, add, put, merged, tallied, stands, rounds_from};
 
+use crate::entries::{Entries, entries_of};
 use crate::round::{Round, Standing};
 use mpi_model::{Kind, Layout};
 use std::alloc::{AllocError, Global};
@@ -82,39 +82,27 @@ fn put(tallies: &mut Vec<Tally>, k: usize, e: &Entered) -> Result<(), AllocError
     Ok(())
 }
 
-fn merge(tallies: &mut Vec<Tally>, comm: u32, entries: &[Entered]) -> Result<(), AllocError>
-    ensures { OnOk result (tallies.new.items ≡ merged (on_comm comm entries.now) tallies.old.items) }
+/// The k-th call of a member goes to the k-th round.
+fn merge(tallies: &mut Vec<Tally>, calls: &[Entered]) -> Result<(), AllocError>
+    ensures { OnOk result (tallies.new.items ≡ merged calls.now tallies.old.items) }
 {
-    let mut k = 0usize;
-    for e in entries {
-        if e.comm == comm {
-            put(tallies, k, e)?;
-            k += 1;
-        }
+    for (k, e) in calls.iter().enumerate() {
+        put(tallies, k, e)?;
     }
     Ok(())
 }
 
-pub(crate) fn entries_of(ops: &[RankOps], r: u32) -> &[Entered]
-    ensures { result.now ≡ (ops_of ops.now r).rounds }
-{
-    match ops.get(r as usize) {
-        Some(o) => o.rounds(),
-        None => &[],
-    }
-}
-
 fn tallies_of(
     alloc: Global,
-    ops: &[RankOps],
+    entries: &Entries,
     comm: u32,
     members: &[u32],
 ) -> Result<Vec<Tally>, AllocError>
-    ensures { IfOk result (λ v. v.items ≡ tallied ops.now comm members.now) }
+    ensures { IfOk result (λ v. v.items ≡ tallied entries.now comm members.now) }
 {
     let mut tallies = Vec::new(alloc);
     for r in members {
-        merge(&mut tallies, comm, entries_of(ops, *r))?;
+        merge(&mut tallies, entries.on(*r, comm))?;
     }
     Ok(tallies)
 }
@@ -163,27 +151,34 @@ pub(crate) fn members_of<'a>(layout: &'a Layout, comm: u32) -> &'a [u32]
 fn push_comm(
     alloc: Global,
     layout: &Layout,
-    ops: &[RankOps],
+    entries: &Entries,
     comm: u32,
     out: &mut Vec<Round>,
 ) -> Result<(), AllocError>
-    ensures { OnOk result (out.new.items ≡ out.old.items ++ rounds_on layout.now.comms ops.now comm) }
+    ensures { OnOk result (out.new.items ≡ out.old.items ++ rounds_on layout.now.comms entries.now comm) }
 {
     let members = members_of(layout, comm);
-    let tallies = tallies_of(alloc, ops, comm, members)?;
+    let tallies = tallies_of(alloc, entries, comm, members)?;
     push_rounds(comm, members.len() as u32, &tallies, out)
+}
+
+fn rounds_by(alloc: Global, layout: &Layout, entries: &Entries) -> Result<Vec<Round>, AllocError>
+    ensures { IfOk result (λ v. v.items ≡ rounds_of layout.now.comms entries.now) }
+{
+    layout.known();
+    let mut out = Vec::new(alloc);
+    let mut i = 0usize;
+    while let Some(comm) = layout.comm_at(i) {
+        push_comm(alloc, layout, entries, comm, &mut out)?;
+        i += 1;
+    }
+    Ok(out)
 }
 
 /// The rounds of all communicators, by communicator and k.
 pub fn rounds(alloc: Global, layout: &Layout, ops: &[RankOps]) -> Result<Vec<Round>, AllocError>
     ensures { IfOk result (λ v. v.items ≡ rounds_of layout.now.comms ops.now) }
 {
-    layout.known();
-    let mut out = Vec::new(alloc);
-    let mut i = 0usize;
-    while let Some(comm) = layout.comm_at(i) {
-        push_comm(alloc, layout, ops, comm, &mut out)?;
-        i += 1;
-    }
-    Ok(out)
+    let entries = entries_of(alloc, ops)?;
+    rounds_by(alloc, layout, &entries)
 }

@@ -11,11 +11,11 @@ use Rattle.mpi_model.specs.declared.outcome.Outs.{Outs}
 use Rattle.mpi_model.specs.declared.outcome.Outs.TheVariants as outs
 use Rattle.mpi_model.specs.declared.event.Event.{Event}
 use Rattle.mpi_model.specs.declared.event.Event.TheVariants as events
-use Rattle.trace_wire.specs.Forms.{◌>>=◌, Form, number, byte, pair, list, told, signed}
+use Rattle.trace_wire.specs.Forms.{◌>>=◌, Form, number, byte, pair, list, told, signed, IsBytes}
 use Rattle.trace_wire.specs.Events.{call_code, call_fields, call_at, outs_code, outs_fields, outs_at, body_at, is_even, event_at, event_bytes, event}
 use Rattle.trace_wire.specs.Fields.{mode, flag, stamp, envelope, send_envelope, exchange, gathering, made, index, element, index_fields, index_at, index_behind}
 use Rattle.mpi_model.specs.Events.{IsSigned, IsCall, IsOutcome, IsPosition, IsElement, IsEvent}
-use Rattle.trace_wire.proofs.FormLaws.{IsBytes, IsBytes-rest, Takes, Takes-then, IsForm, wide32, number_form, byte_form, pair_form, record_form, list_form, choose, no_value, some_is, bind_some}
+use Rattle.trace_wire.proofs.FormLaws.{IsBytes-rest, Takes, Takes-then, IsForm, wide32, number_form, byte_form, pair_form, record_form, list_form, choose, no_value, some_is, bind_some}
 use Rattle.trace_wire.proofs.FieldForms.{mode_form, flag_form, signed_form, stamp_form, told_form, envelope_form, send_form, exchange_form, gathering_form}
 
 -- what was read behind the code of a kind
@@ -91,9 +91,9 @@ index_takes : (n : ℕ) (bytes : List ℕ) (x : Option ℕ × List ℕ) → IsBy
 index_takes n bytes x fits e0 =
     choose (λ (k : ℕ). Takes (k ∷ bytes) (index_fields x.0) x.1 × IsPosition x.0) n 0 _ _ x e0 (λ h. subst (λ (y : Option ℕ × List ℕ). Takes (0 ∷ bytes) (index_fields y.0) y.1 × IsPosition y.0) (some_is (None, bytes) x h) (record { parts = refl; rest_fits = fits }, tt)) (λ e1.
     choose (λ (k : ℕ). Takes (k ∷ bytes) (index_fields x.0) x.1 × IsPosition x.0) n 1 _ _ x e1 (λ h.
-        let p = bind_some ((number w32).read bytes) (λ y. Some (Some y.0, y.1)) x h in
-        let t = (number_form w32 (2 ^ 32) wide32).takes bytes p.0 fits p.1 in
-        subst (λ (y : Option ℕ × List ℕ). Takes (1 ∷ bytes) (index_fields y.0) y.1 × IsPosition y.0) (some_is (Some p.0.0, p.0.1) x p.2) (record { parts = ap (λ (r : List ℕ). 1 ∷ r) t.0.parts; rest_fits = t.0.rest_fits }, t.1)) (λ e2. no_value _ x e2))
+    let p = bind_some ((number w32).read bytes) (λ y. Some (Some y.0, y.1)) x h in
+    let t = (number_form w32 (2 ^ 32) wide32).takes bytes p.0 fits p.1 in
+    subst (λ (y : Option ℕ × List ℕ). Takes (1 ∷ bytes) (index_fields y.0) y.1 × IsPosition y.0) (some_is (Some p.0.0, p.0.1) x p.2) (record { parts = ap (λ (r : List ℕ). 1 ∷ r) t.0.parts; rest_fits = t.0.rest_fits }, t.1)) (λ e2. no_value _ x e2))
 
 index_behind_takes : (bytes : List ℕ) (x : Option ℕ × List ℕ) → IsBytes bytes → index_behind bytes ≡ Some x → Takes bytes (index_fields x.0) x.1 × IsPosition x.0
 index_behind_takes [] x fits e = absurd cc
@@ -168,12 +168,12 @@ body_takes true code time bytes x ok fits e =
     let p = bind_some (call_at code bytes) (λ y. Some (events.Enter y.0 time, y.1)) x e in
     let t = call_takes code bytes p.0 fits p.1 in
     subst (λ (y : Event × List ℕ). AfterHead true code time bytes y) (some_is (events.Enter p.0.0 time, p.0.1) x p.2)
-        (call_fields p.0.0, ap (λ (k : ℕ). (pair byte stamp).spell (k, time) ++ call_fields p.0.0) t.0, t.1, λ place is. (is, (t.2, ok)))
+    (call_fields p.0.0, ap (λ (k : ℕ). (pair byte stamp).spell (k, time) ++ call_fields p.0.0) t.0, t.1, λ place is. (is, (t.2, ok)))
 body_takes false code time bytes x ok fits e =
     let p = bind_some (outs_at code bytes) (λ y. Some (events.Return y.0 time, y.1)) x e in
     let t = outs_takes code bytes p.0 fits p.1 in
     subst (λ (y : Event × List ℕ). AfterHead false code time bytes y) (some_is (events.Return p.0.0 time, p.0.1) x p.2)
-        (outs_fields p.0.0, ap (λ (k : ℕ). (pair byte stamp).spell (k, time) ++ outs_fields p.0.0) t.0, t.1, λ place is. (is, (t.2, ok)))
+    (outs_fields p.0.0, ap (λ (k : ℕ). (pair byte stamp).spell (k, time) ++ outs_fields p.0.0) t.0, t.1, λ place is. (is, (t.2, ok)))
 
 event_takes : (place : ℕ) (bytes : List ℕ) (x : Event × List ℕ) → IsBytes bytes → event_at place bytes ≡ Some x → Takes bytes (event_bytes x.0) x.1 × EventFits place x.0
 event_takes place bytes x fits e =

@@ -25,9 +25,9 @@ use Rattle.trace_wire.proofs.FormLaws.{IsForm, wide32, wide64, number_form, byte
 
 small_is : (n m : ℕ) → small_of n ≡ Some m → (n ≡ m) × (m < 2 ^ 31)
 small_is n m e = elim (chosen (ltb n (2 ^ 31)) (Some n) None (Some m) e) [
-    | inl p ↦ (some_is n m p.1, subst (λ k. k < 2 ^ 31) (some_is n m p.1) (ltb-true n (2 ^ 31) p.0))
-    | inr p ↦ no_value _ m p.1
-  ]
+  | inl p ↦ (some_is n m p.1, subst (λ k. k < 2 ^ 31) (some_is n m p.1) (ltb-true n (2 ^ 31) p.0))
+  | inr p ↦ no_value _ m p.1
+]
 
 small_again : (n : ℕ) → n < 2 ^ 31 → small_of n ≡ Some n
 small_again n lt = grind (arith, nat_tests)
@@ -48,7 +48,6 @@ small_made {A} P make n a one e =
 
 unmarked : (mark n : ℕ) → 2 ^ 31 ≤ mark → n < 2 ^ 31 → eqb n mark ≡ false
 unmarked mark n le lt = grind (arith, nat_tests)
-
 
 told_back : (n : ℕ) (o : Option ℕ) → marked_of n ≡ Some o → (marked_code o ≡ n) × IsTold o
 told_back n o e = choose (λ (k : ℕ). (marked_code o ≡ k) × IsTold o) n 4294967295 _ _ o e

@@ -1,5 +1,5 @@
 -- What is read is spelled so, and what is spelled so is read, whatever follows.
-use Rattle.std.proofs.Common.{◌≡◌, ℕ, zero, suc, ◌+◌, ◌^◌, ◌<◌, ◌≤◌, Bool, true, false, cond, ltb, eqb, List, [], ◌∷◌, ◌++◌, length, get_or, take, drop, Option, Some, None, refl, sym, ap, subst, ◌∙◌, append_assoc, arith, inl, inr, ◌⊎◌}
+use Rattle.std.proofs.Common.{◌≡◌, ℕ, zero, suc, ◌+◌, ◌^◌, ◌<◌, ◌≤◌, Bool, true, false, cond, ltb, eqb, List, [], ◌∷◌, ◌++◌, length, take, drop, Option, Some, None, refl, sym, ap, subst, ◌∙◌, append_assoc, arith, inl, inr, ◌⊎◌}
 use Rattle.std.specs.List.{flat_map, All, AllByRecursion}
 use Rattle.std.proofs.lemmas.List.Elements.{All-from_recursion, recursion_from_All}
 use Rattle.std.specs.Int.{Width, w16, w32, w64, byte_len, from_be_bytes, to_be_bytes}
@@ -8,10 +8,7 @@ use Rattle.std.proofs.lemmas.List.{take_at, drop_at, take-append-drop, length-ap
 use Rattle.std.proofs.lemmas.List.Concat.{flat_map-cons}
 use Rattle.std.proofs.lemmas.Nat.{be_bytes_2, be_bytes_4, be_bytes_8, from_be_bytes-to_be_bytes_2, from_be_bytes-to_be_bytes_4, from_be_bytes-to_be_bytes_8}
 use Rattle.std.proofs.lemmas.Bool.{eqb-true}
-use Rattle.trace_wire.specs.Forms.{byte_at, byte, guarded, ◌>>=◌, Form, number_at, number, mapped, pair, items_at, list}
-
-abbrev pub IsBytes : List ℕ → Type 0
-IsBytes bytes = (i : ℕ) → get_or bytes i 0 < 256
+use Rattle.trace_wire.specs.Forms.{IsBytes, byte_at, byte, guarded, ◌>>=◌, Form, number_at, number, mapped, pair, items_at, list}
 
 pub IsBytes-drop : (n : ℕ) (bytes : List ℕ) → IsBytes bytes → IsBytes (drop n bytes)
 IsBytes-drop n bytes h i = rw get_or-drop (h (n + i))
@@ -211,18 +208,18 @@ chosen false x y z e = inr (refl, e)
 -- one more case of a chain of codes
 pub choose : {A : Type 0} (P : ℕ → Type 0) (n k : ℕ) (x r : Option A) (y : A) → cond (eqb n k) x r ≡ Some y → (x ≡ Some y → P k) → (r ≡ Some y → P n) → P n
 choose P n k x r y e one other = elim (chosen (eqb n k) x r (Some y) e) [
-    | inl p ↦ subst P (sym (eqb-true n k p.0)) (one p.1)
-    | inr p ↦ other p.1
-  ]
+  | inl p ↦ subst P (sym (eqb-true n k p.0)) (one p.1)
+  | inr p ↦ other p.1
+]
 
 pub no_value : {A : Type 0} (P : Type 0) (y : A) → None ≡ Some y → P
 no_value P y e = absurd cc
 
 passes : {A : Type 0} (test : A → Bool) (a b : A) → cond (test a) (Some a) None ≡ Some b → (b ≡ a) × (test b ≡ true)
 passes test a b e = elim (chosen (test a) (Some a) None (Some b) e) [
-    | inl p ↦ (sym (some_is a b p.1), subst (λ c. test c ≡ true) (some_is a b p.1) p.0)
-    | inr p ↦ no_value _ b p.1
-  ]
+  | inl p ↦ (sym (some_is a b p.1), subst (λ c. test c ≡ true) (some_is a b p.1) p.0)
+  | inr p ↦ no_value _ b p.1
+]
 
 pub guarded_form : {A : Type 0} (form : Form A) (test : A → Bool) (Fits : A → Type 0) → IsForm form Fits → IsForm (guarded form test) (λ a. Fits a × (test a ≡ true))
 guarded_form {A} form test Fits is = mapped_form form (λ a. a) (λ a. cond (test a) (Some a) None) Fits (λ a. Fits a × (test a ≡ true)) is (record {

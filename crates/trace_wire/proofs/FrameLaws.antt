@@ -10,14 +10,14 @@ use Rattle.trace_know.specs.declared.cell.Known.{Known}
 use Rattle.trace_know.specs.declared.cell.Known.TheVariants as knowns
 use Rattle.trace_wire.specs.declared.fault.WireFault.{WireFault}
 use Rattle.trace_wire.specs.declared.fault.WireFault.TheVariants.{Magic, Version, Length, Short, Order, Content, Rest}
-use Rattle.trace_wire.specs.Forms.{number, number_at}
+use Rattle.trace_wire.specs.Forms.{number, number_at, IsBytes}
 use Rattle.trace_wire.specs.Events.{is_even, event_at}
 use Rattle.trace_wire.specs.Fields.{made}
 use Rattle.trace_know.specs.Placed.{IsHalfOf, IsPlaced}
 use Rattle.mpi_model.specs.declared.event.Event.TheVariants as events
 use Rattle.trace_wire.specs.Frames.{Entry, known_bytes, place_form, cell_bytes, cells_bytes, payload, frame, longest, is_past, IsInRange, AreCells, HasFrame}
 use Rattle.trace_wire.specs.FirstFault.{known_by, known_at, ◌>=>◌, or_fault, cell_after, cell_at, cells_at, no_rest, payload_of, is_magic, is_first_version, body_of, framed, frame_at}
-use Rattle.trace_wire.proofs.FormLaws.{items_short, IsBytes, IsBytes-rest, IsBytes-take, Takes, Takes-then, IsForm, wide32, wide64, number_form, number_takes, number_again, pair_form, choose, no_value, some_is, bind_some}
+use Rattle.trace_wire.proofs.FormLaws.{items_short, IsBytes-rest, IsBytes-take, Takes, Takes-then, IsForm, wide32, wide64, number_form, number_takes, number_again, pair_form, choose, no_value, some_is, bind_some}
 use Rattle.trace_wire.proofs.EventForms.{EventFits, event_form}
 
 -- the value of a step that did not fail
@@ -68,9 +68,9 @@ half_here place knowns.Contradiction half fits = tt
 known_by_takes : (place n : ℕ) (bytes : List ℕ) (x : Known × List ℕ) → IsBytes bytes → known_by place n bytes ≡ Some x → Takes (n ∷ bytes) (known_bytes x.0) x.1 × KnownFits place x.0
 known_by_takes place n bytes x fits e0 =
     choose (λ (k : ℕ). Takes (k ∷ bytes) (known_bytes x.0) x.1 × KnownFits place x.0) n 0 _ _ x e0 (λ h.
-        let p = bind_some (event_at place bytes) (λ y. Some (knowns.One y.0, y.1)) x h in
-        let t = (event_form place).takes bytes p.0 fits p.1 in
-        subst (λ (y : Known × List ℕ). Takes (0 ∷ bytes) (known_bytes y.0) y.1 × KnownFits place y.0) (some_is (knowns.One p.0.0, p.0.1) x p.2) (record { parts = ap (λ (r : List ℕ). 0 ∷ r) t.0.parts; rest_fits = t.0.rest_fits }, t.1)) (λ e1.
+    let p = bind_some (event_at place bytes) (λ y. Some (knowns.One y.0, y.1)) x h in
+    let t = (event_form place).takes bytes p.0 fits p.1 in
+    subst (λ (y : Known × List ℕ). Takes (0 ∷ bytes) (known_bytes y.0) y.1 × KnownFits place y.0) (some_is (knowns.One p.0.0, p.0.1) x p.2) (record { parts = ap (λ (r : List ℕ). 0 ∷ r) t.0.parts; rest_fits = t.0.rest_fits }, t.1)) (λ e1.
     choose (λ (k : ℕ). Takes (k ∷ bytes) (known_bytes x.0) x.1 × KnownFits place x.0) n 1 _ _ x e1 (λ h. subst (λ (y : Known × List ℕ). Takes (1 ∷ bytes) (known_bytes y.0) y.1 × KnownFits place y.0) (some_is (knowns.Contradiction, bytes) x h) (record { parts = refl; rest_fits = fits }, tt)) (λ e2. no_value _ x e2))
 
 known_takes : (place : ℕ) (bytes : List ℕ) (x : Known × List ℕ) → IsBytes bytes → known_at place bytes ≡ Some x → Takes bytes (known_bytes x.0) x.1 × KnownFits place x.0
@@ -226,7 +226,7 @@ frame_takes (a ∷ b ∷ c ∷ d ∷ f ∷ g ∷ bytes) x fits e =
     let inner : bytes ≡ to_be_bytes w32 (length (payload x.0)) ++ (payload x.0 ++ x.1) = t.0.parts ∙ ap (λ (r : List ℕ). to_be_bytes w32 n.0.0 ++ r) y.0 ∙ ap (λ (k : ℕ). to_be_bytes w32 k ++ (payload x.0 ++ x.1)) (sym y.1) in
     let limit : n.0.0 ≤ longest = ltb-false longest n.0.0 l.0 in
     let whole : (a ∷ b ∷ c ∷ d ∷ f ∷ g ∷ bytes) ≡ frame x.0 ++ x.1 =
-        rw (mm.0, mm.1, mm.2, mm.3, vv.0, vv.1) (ap (λ (r : List ℕ). 77 ∷ 80 ∷ 84 ∷ 88 ∷ 0 ∷ 1 ∷ r) (inner ∙ sym (append_assoc (to_be_bytes w32 (length (payload x.0))) (payload x.0) x.1))) in
+    rw (mm.0, mm.1, mm.2, mm.3, vv.0, vv.1) (ap (λ (r : List ℕ). 77 ∷ 80 ∷ 84 ∷ 88 ∷ 0 ∷ 1 ∷ r) (inner ∙ sym (append_assoc (to_be_bytes w32 (length (payload x.0))) (payload x.0) x.1))) in
     (whole, (y.2, subst (λ (k : ℕ). k ≤ longest) (sym y.1) limit))
 
 pub frame_again : (es : List Entry) (rest : List ℕ) → HasFrame es → frame_at (frame es ++ rest) ≡ Ok (es, rest)

@@ -1,33 +1,22 @@
 -- Cells that are put behind the last of a knowledge.
-use Rattle.std.proofs.Common.{◌≡◌, ℕ, ◌+◌, ◌-◌, ◌^◌, ◌%◌, ◌<◌, ◌≤◌, Bool, true, false, cond, ltb, eqb, List, [], ◌∷◌, ◌++◌, Option, Some, None, Result, Ok, Err, refl, sym, ap, subst, ◌∙◌, arith, inl, inr, ◌⊎◌}
-use Rattle.std.specs.Prelude.{IsSome, ◌&&◌, ◌||◌}
-use Rattle.std.specs.List.{AllByRecursion}
+use Rattle.std.proofs.Common.{◌≡◌, ℕ, ◌<◌, true, List, [], ◌∷◌, ◌++◌, Option, Some, None, Result, Ok, Err, refl, sym, ap, subst, ◌∙◌, arith, inl, inr, ◌⊎◌}
+use Rattle.std.specs.Prelude.{IsSome}
 use Rattle.std.specs.Ordering.{nat_cmp, is_eq, eq_by_cmp}
 use Rattle.std.specs.declared.cmp.Ordering.{Ordering}
 use Rattle.std.specs.declared.cmp.Ordering.TheVariants.{Less, Equal, Greater}
 use Rattle.std.specs.Cmp.{IsTotalOrder, nat_cmp_total}
-use Rattle.std.specs.FinMap.{empty, get, insert, entries, find, put, get-entries, entries-insert, len-entries, len-empty, IsAntisymmetric}
+use Rattle.std.specs.FinMap.{empty, insert, entries, find, put, get-entries, entries-insert, len-entries, len-empty, IsAntisymmetric}
 use Rattle.std.proofs.lemmas.List.{nil_from_length}
-use Rattle.std.proofs.lemmas.Bool.{ltb-true, eqb-true, cases_lt}
+use Rattle.std.proofs.lemmas.Bool.{cases_lt}
 use Rattle.std.proofs.lemmas.Bool.Decides.{nat_tests}
 use Rattle.std.proofs.lemmas.Cmp.{on_total, then_total}
 use Rattle.std.proofs.lemmas.Map.Lookups.{exact_pairs, exact_unsigned}
-use Rattle.mpi_model.specs.Times.{Times}
-use Rattle.mpi_model.specs.declared.event.Event.{Event}
-use Rattle.mpi_model.specs.declared.event.Event.TheVariants as events
 use Rattle.trace_know.specs.declared.cell.Known.{Known}
-use Rattle.trace_know.specs.declared.cell.Known.TheVariants as knowns
-use Rattle.trace_know.specs.Placed.{IsPast, IsHalfOf}
-use Rattle.trace_know.specs.View.{View, place_cmp, cell}
+use Rattle.trace_know.specs.Placed.{IsPast}
+use Rattle.trace_know.specs.View.{View, place_cmp}
 use Rattle.trace_wire.specs.declared.fault.WireFault.{WireFault}
-use Rattle.trace_wire.specs.declared.fault.WireFault.TheVariants.{Order, Content}
-use Rattle.trace_wire.specs.Forms.{byte, pair}
-use Rattle.trace_wire.specs.Events.{call_at, outs_at, body_at, is_even, event_at}
-use Rattle.trace_wire.specs.Fields.{stamp, made}
-use Rattle.trace_wire.specs.Frames.{Entry, place_form, is_past}
-use Rattle.trace_wire.specs.FirstFault.{known_by, known_at, cell_after, cell_at, or_fault}
-use Rattle.trace_wire.proofs.FormLaws.{choose, chosen, no_value, some_is, bind_some}
-use Rattle.trace_wire.proofs.FrameLaws.{bind_ok, or_ok, passed}
+use Rattle.trace_wire.specs.Frames.{Entry, is_past}
+use Rattle.trace_wire.proofs.FormLaws.{chosen}
 use Rattle.trace_wire.proofs.CellLoop.{cells_after}
 
 places_total : IsTotalOrder place_cmp
@@ -59,15 +48,15 @@ more_place r p q h = grind (arith, nat_tests)
 
 less : (a b : ℕ × ℕ) → Before a b → place_cmp a b ≡ Less
 less a b h = elim h [
-    | inl lt ↦ less_rank a.0 a.1 b.0 b.1 lt
-    | inr e ↦ subst (λ (s : ℕ). place_cmp (a.0, a.1) (s, b.1) ≡ Less) e.0 (less_place a.0 a.1 b.1 e.1)
-  ]
+  | inl lt ↦ less_rank a.0 a.1 b.0 b.1 lt
+  | inr e ↦ subst (λ (s : ℕ). place_cmp (a.0, a.1) (s, b.1) ≡ Less) e.0 (less_place a.0 a.1 b.1 e.1)
+]
 
 more : (a b : ℕ × ℕ) → Before a b → place_cmp b a ≡ Greater
 more a b h = elim h [
-    | inl lt ↦ more_rank a.0 a.1 b.0 b.1 lt
-    | inr e ↦ subst (λ (s : ℕ). place_cmp (s, b.1) (a.0, a.1) ≡ Greater) e.0 (more_place a.0 a.1 b.1 e.1)
-  ]
+  | inl lt ↦ more_rank a.0 a.1 b.0 b.1 lt
+  | inr e ↦ subst (λ (s : ℕ). place_cmp (s, b.1) (a.0, a.1) ≡ Greater) e.0 (more_place a.0 a.1 b.1 e.1)
+]
 
 -- all cells stand before a place
 abbrev pub AllBefore : ℕ × ℕ → List Entry → Type 0
@@ -82,22 +71,22 @@ AllUpTo (Some last) (e ∷ es) = (Before e.0 last ⊎ (e.0 ≡ last)) × AllUpTo
 
 is_before : (a b : ℕ × ℕ) → is_past (Some a) b ≡ true → Before a b
 is_before a b h = elim (cases_lt a.0 b.0) [
-    | inl lt ↦ inl lt
-    | inr le ↦ inr (grind (arith, nat_tests), grind (arith, nat_tests))
-  ]
+  | inl lt ↦ inl lt
+  | inr le ↦ inr (grind (arith, nat_tests), grind (arith, nat_tests))
+]
 
 before_then : (a b c : ℕ × ℕ) → Before a b → Before b c → Before a c
 before_then a b c h k = elim h [
-    | inl lt ↦ elim k [ | inl lt2 ↦ inl (omega arith) | inr e ↦ inl (omega (arith, e.0)) ]
-    | inr e ↦ elim k [ | inl lt2 ↦ inl (omega (arith, e.0)) | inr f ↦ inr (e.0 ∙ f.0, omega (arith, e.1, f.1)) ]
-  ]
+  | inl lt ↦ elim k [ inl lt2 ↦ inl (omega arith) | inr e ↦ inl (omega (arith, e.0)) ]
+  | inr e ↦ elim k [ inl lt2 ↦ inl (omega (arith, e.0)) | inr f ↦ inr (e.0 ∙ f.0, omega (arith, e.1, f.1)) ]
+]
 
 pub up_to_before : (last : Option (ℕ × ℕ)) (here : ℕ × ℕ) (es : List Entry) → is_past last here ≡ true → AllUpTo last es → AllBefore here es
 up_to_before last here [] h a = tt
 up_to_before None here (e ∷ es) h a = absurd a
 up_to_before (Some last) here (e ∷ es) h a =
     let one = is_before last here h in
-    let first : Before e.0 here = elim a.0 [ | inl b ↦ before_then e.0 last here b one | inr is ↦ subst (λ (q : ℕ × ℕ). Before q here) (sym is) one ] in
+    let first : Before e.0 here = elim a.0 [ inl b ↦ before_then e.0 last here b one | inr is ↦ subst (λ (q : ℕ × ℕ). Before q here) (sym is) one ] in
     (first, up_to_before (Some last) here es h a.1)
 
 pub before_up_to : (here : ℕ × ℕ) (k : Known) (es : List Entry) → AllBefore here es → AllUpTo (Some here) (es ++ (here, k) ∷ [])
@@ -115,9 +104,9 @@ insert-last v here k a = entries-insert places_total v here k ∙ put_behind her
 found_before : (here q : ℕ × ℕ) (es : List Entry) → AllBefore here es → IsSome (find place_cmp q es) → place_cmp q here ≡ Less
 found_before here q [] a some = absurd cc
 found_before here q (e ∷ es) a some = elim (chosen (eq_by_cmp place_cmp q e.0) (Some e.1) (find place_cmp q es) (find place_cmp q (e ∷ es)) refl) [
-    | inl p ↦ subst (λ (x : ℕ × ℕ). place_cmp x here ≡ Less) (sym (exact_places q e.0 (equal _ p.0))) (less e.0 here a.0)
-    | inr p ↦ found_before here q es a.1 (subst (λ (o : Option Known). IsSome o) (sym p.1) some)
-  ]
+  | inl p ↦ subst (λ (x : ℕ × ℕ). place_cmp x here ≡ Less) (sym (exact_places q e.0 (equal _ p.0))) (less e.0 here a.0)
+  | inr p ↦ found_before here q es a.1 (subst (λ (o : Option Known). IsSome o) (sym p.1) some)
+]
 
 pub past_all : (v : View) (rank place : ℕ) → AllBefore (rank, place) (entries v) → IsPast v rank place
 past_all v rank place a r p some = found_before (rank, place) (r, p) (entries v) a (subst (λ (o : Option Known). IsSome o) (get-entries v (r, p)) some)

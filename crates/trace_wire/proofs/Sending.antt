@@ -1,5 +1,5 @@
 -- Bytes put into a sink, one after another.
-use Rattle.std.proofs.Common.{◌≡◌, ◌<◌, ◌≤◌, take, ◌+◌, ℕ, Bool, true, false, Option, List, [], ◌∷◌, ◌++◌, length, refl, sym, ◌∙◌, ap, arith, append_assoc, append-nil, length-append, subst}
+use Rattle.std.proofs.Common.{◌≡◌, ◌<◌, take, get_or, ◌+◌, ℕ, zero, suc, Bool, true, false, Option, List, [], ◌∷◌, ◌++◌, length, refl, sym, ◌∙◌, ap, arith, append_assoc, append-nil, length-append, subst}
 use Rattle.std.proofs.KnownBytes.{Appends-trans, Appends-nil, Keeps-trans, Keeps-refl}
 use Rattle.std.specs.Io.KnownBytes.{Appends}
 use Rattle.std.specs.List.{flat_map}
@@ -203,3 +203,18 @@ came s t bytes h = reads h.sends (sym (h.parts ∙ append-nil h.front))
 -- the next item of a list
 pub next_item : {A : Type 0} (spell : A → List ℕ) (s t u : Page) (bytes : List ℕ) (x : A) (xs : List A) → Comes s t bytes (flat_map spell (x ∷ xs)) → Sends t u (spell x) → Comes s u bytes (flat_map spell xs)
 next_item spell s t u bytes x xs h k = comes_on s t u bytes (spell x) (flat_map spell xs) (subst (λ (r : List ℕ). Comes s t bytes r) (flat_map-cons spell x xs) h) k
+
+-- a front of a list with one item more
+take_next : {A : Type 0} (xs : List A) (i : ℕ) (x : A) → i < length xs → x ≡ get_or xs i x → take (i + 1) xs ≡ take i xs ++ x ∷ []
+take_next [] i x h e = absurd (omega (arith, h))
+take_next {A = A} (y ∷ xs) zero x h e = ap (λ (z : A). z ∷ []) (sym e)
+take_next {A = A} (y ∷ xs) (suc i) x h e =
+    let n : suc i + 1 ≡ suc (i + 1) = omega arith in
+    ap (λ (k : ℕ). take k (y ∷ xs)) n ∙ ap (λ (l : List A). y ∷ l) (take_next xs i x (omega (arith, h)) e)
+
+spelled_last : {A : Type 0} (spell : A → List ℕ) (xs : List A) (x : A) → flat_map spell (xs ++ x ∷ []) ≡ flat_map spell xs ++ spell x
+spelled_last spell [] x = append-nil (spell x)
+spelled_last spell (y ∷ xs) x = ap (λ (l : List ℕ). spell y ++ l) (spelled_last spell xs x) ∙ sym (append_assoc (spell y) (flat_map spell xs) (spell x))
+
+pub one_more_item : {A : Type 0} (spell : A → List ℕ) (xs : List A) (i : ℕ) (x : A) → i < length xs → x ≡ get_or xs i x → flat_map spell (take (i + 1) xs) ≡ flat_map spell (take i xs) ++ spell x
+one_more_item {A = A} spell xs i x h e = ap (λ (l : List A). flat_map spell l) (take_next xs i x h e) ∙ spelled_last spell (take i xs) x

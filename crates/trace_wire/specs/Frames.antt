@@ -69,7 +69,3 @@ AreCells before (e ∷ es) = (is_past before e.0 ≡ true) × (IsPlaced e.0.0 e.
 -- What has a frame: cells in order and in their ranges, and no more than the longest payload holds.
 abbrev pub HasFrame : List Entry → Type 0
 HasFrame es = AreCells None es × (length (payload es) ≤ longest)
-
--- the view has a frame
-abbrev pub FitsFrame : View → Type 0
-FitsFrame view = HasFrame (entries view)

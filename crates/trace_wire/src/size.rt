@@ -8,6 +8,12 @@ ghost use Rattle.trace_wire.specs.Frames.{AreCells, AreInRange, IsInRange, cells
 use mpi_model::{Call, Event, Outs};
 use trace_know::{Knowledge, Known, Walk, listing_laws};
 
+/// The bytes of a head: what stands before the payload.
+pub(crate) const HEAD: u64 = 10;
+
+/// The most bytes that a payload has.
+pub(crate) const LONGEST: u64 = 16_777_216;
+
 /// A count and so many items of one length.
 fn list_len(count: usize, each: u64) -> u64
     ensures { result ≡ min (4 + count * each) (2 ^ 64 - 1) }

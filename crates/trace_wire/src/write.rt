@@ -16,7 +16,7 @@ pub(crate) mod paged;
 pub(crate) mod sink;
 
 use crate::fault::WireFault;
-use crate::size::frame_len;
+use crate::size::{HEAD, LONGEST, frame_len};
 use crate::write::cells::put_frame;
 use crate::write::direct::Direct;
 use crate::write::paged::Paged;
@@ -24,12 +24,6 @@ use crate::write::sink::Sink;
 use arrayvec::ArrayVec;
 use mpi_model::Write;
 use trace_know::Knowledge;
-
-/// The bytes of a head: what stands before the payload.
-const HEAD: u64 = 10;
-
-/// The most bytes that a payload has.
-const LONGEST: u64 = 16_777_216;
 
 /// Writes the frame, and answers whether a write failed.
 fn send<W: Write>(len: u32, knowledge: &Knowledge, writer: &mut W) -> bool

@@ -11,9 +11,9 @@ use Rattle.trace_know.specs.Segment.{PlacedEvents}
 use Rattle.trace_know.specs.Trace.{Trace, facts_of, view_of}
 use Rattle.trace_know.specs.View.{View, join}
 use Rattle.trace_node.specs.Node.{Held}
-use Rattle.trace_wire.specs.Frames.{frame, HasFrame, Entry}
+use Rattle.trace_wire.specs.Frames.{frame_of, frame, HasFrame, Entry}
 use Rattle.trace_world.specs.Schedule.{State, after, after_all, at}
-use Rattle.trace_world.specs.Shows.{knowledge_of, frame_of, knows, AllFramed, Shows, Follows, WorldState, world_state}
+use Rattle.trace_world.specs.Shows.{knowledge_of, knows, AllFramed, Shows, Follows, WorldState, world_state}
 use Rattle.trace_world.specs.Moves.{joined}
 use Rattle.trace_world.specs.Refusals.{is_done, done}
 use Rattle.trace_world.specs.declared.step.WorldFault.{WorldFault}

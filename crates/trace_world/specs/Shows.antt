@@ -7,7 +7,7 @@ use Rattle.trace_know.specs.Segment.{PlacedEvents}
 use Rattle.trace_know.specs.Trace.{facts_of, view_of}
 use Rattle.trace_know.specs.View.{View}
 use Rattle.trace_node.specs.Node.{Held}
-use Rattle.trace_wire.specs.Frames.{frame, HasFrame}
+use Rattle.trace_wire.specs.Frames.{frame_of, HasFrame}
 use Rattle.trace_world.specs.declared.step.Step.{Step}
 use Rattle.trace_world.specs.Schedule.{State, after_all}
 
@@ -18,10 +18,6 @@ most_nodes = 64
 -- What segments tell together: the view of all their facts.
 abbrev pub knowledge_of : List PlacedEvents → View
 knowledge_of segments = view_of (flat_map facts_of segments)
-
--- the frame of a view
-abbrev pub frame_of : View → List ℕ
-frame_of view = frame (entries view)
 
 -- What a caller sees of a world: the layout of its nodes, what each of them holds, the segments in each inbox, and the
 -- bytes of each mail.

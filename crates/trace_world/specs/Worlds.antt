@@ -5,9 +5,9 @@ use Rattle.mpi_model.specs.Layouts.{Parts}
 use Rattle.trace_know.specs.Segment.{PlacedEvents}
 use Rattle.trace_know.specs.View.{View}
 use Rattle.trace_node.specs.Node.{Held, IsWithin}
-use Rattle.trace_wire.specs.Frames.{HasFrame}
+use Rattle.trace_wire.specs.Frames.{frame_of, HasFrame}
 use Rattle.trace_world.specs.Schedule.{at}
-use Rattle.trace_world.specs.Shows.{frame_of, most_nodes}
+use Rattle.trace_world.specs.Shows.{most_nodes}
 
 -- the layouts of the nodes
 abbrev pub layouts : List Held → List Parts

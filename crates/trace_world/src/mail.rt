@@ -2,9 +2,8 @@
 
 ghost use Rattle.std.specs.Prelude.{◌≡◌, ◌↔◌, ◌<◌, IfOk, IfErr, IsErrOf, length};
 ghost use Rattle.std.specs.FinMap.{entries};
-ghost use Rattle.trace_wire.specs.Frames.{HasFrame, payload, longest};
+ghost use Rattle.trace_wire.specs.Frames.{frame_of, HasFrame, payload, longest};
 ghost use Rattle.trace_world.specs.Refusals.{IsFrameFault};
-ghost use Rattle.trace_world.specs.Shows.{frame_of};
 
 use crate::letter::Letter;
 use crate::step::WorldFault;

@@ -4,16 +4,20 @@ ghost use Rattle.std.specs.Prelude.{◌≡◌, ◌<◌, ◌↔◌, IsTrue, get_o
 ghost use Rattle.std.specs.FinMap.{entries};
 ghost use Rattle.trace_know.specs.Cell.{put_known};
 ghost use Rattle.trace_know.specs.Placed.{IsPlaced};
+ghost use Rattle.trace_wire.specs.Forms.{IsBytes};
 ghost use Rattle.trace_wire.specs.Outcomes.{Reads, Gives, wire_of, IsOfBytes};
 ghost use Rattle.trace_wire.specs.Frames.{place_form, is_past};
 ghost use Rattle.trace_wire.specs.FirstFault.{known_at, cell_at, cells_at, payload_of};
 
-use mpi_model::Event;
-use trace_know::{Knowledge, Known};
-use crate::read::event::event_of;
 use crate::fault::WireFault;
-use crate::read::field::{byte_of, u32_of, u64_of, FieldFault};
+use crate::read::event::event_of;
+use crate::read::field::{FieldFault, byte_of, u32_of, u64_of};
+use mpi_model::Event;
 use std::alloc::Global;
+use trace_know::{Knowledge, Known};
+
+/// Places are below this, 2^40.
+const PLACES: u64 = 1_099_511_627_776;
 
 fn fault_of(fault: FieldFault) -> WireFault
     ensures value { result ≡ wire_of fault }
@@ -56,7 +60,11 @@ fn is_past(before: Option<(u32, u64)>, here: (u32, u64)) -> bool
     }
 }
 
-fn cell_of(alloc: Global, before: Option<(u32, u64)>, bytes: &[u8]) -> Result<(((u32, u64), Known), &[u8]), WireFault>
+fn cell_of(
+    alloc: Global,
+    before: Option<(u32, u64)>,
+    bytes: &[u8],
+) -> Result<(((u32, u64), Known), &[u8]), WireFault>
     ensures value { Gives (λ x. (x.0, x.1.now)) result (cell_at before bytes.now) }
     ensures past { IfOk result (λ x. is_past before x.0.0 ≡ true) }
     ensures placed { IfOk result (λ x. IsPlaced x.0.0.0 x.0.0.1 x.0.1) }
@@ -70,7 +78,7 @@ fn cell_of(alloc: Global, before: Option<(u32, u64)>, bytes: &[u8]) -> Result<((
     if !is_past(before, here) {
         return Err(WireFault::Order);
     }
-    if here.1 >= 1_099_511_627_776 {
+    if here.1 >= PLACES {
         return Err(WireFault::Content);
     }
     match known_of(alloc, here.1, rest) {
@@ -128,6 +136,5 @@ pub(crate) fn read_cells(alloc: Global, bytes: &[u8]) -> Result<Knowledge, WireF
 
 /// Tells the range of bytes. It does nothing: it is for proofs.
 pub(crate) fn are_bytes(bytes: &[u8])
-    ensures { (i : ℕ) → get_or bytes.now i 0 < 256 }
-{
-}
+    ensures { IsBytes bytes.now }
+{}

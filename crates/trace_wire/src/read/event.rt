@@ -6,9 +6,15 @@ ghost use Rattle.trace_wire.specs.Forms.{Form};
 ghost use Rattle.trace_wire.specs.Events.{call_at, outs_at, event_at, body_at, is_even};
 ghost use Rattle.trace_wire.specs.Fields.{envelope, send_envelope, exchange, gathering, index};
 
-use crate::read::field::{byte_of, comm_field, flag_field, kind_field, mode_field, peer_field, signed_of, small_field, stamp_field, told_field, u32_of, FieldFault};
+use crate::read::field::{
+    FieldFault, byte_of, comm_field, flag_field, kind_field, mode_field, peer_field, signed_of,
+    small_field, stamp_field, told_field, u32_of,
+};
 use crate::read::list::list_of;
-use mpi_model::{Call, Collective, Elements, Envelope, Event, Exchange, Outs, ReceiveEnvelope, Requests, SendEnvelope, Sources, Stamp};
+use mpi_model::{
+    Call, Collective, Elements, Envelope, Event, Exchange, Outs, ReceiveEnvelope, Requests,
+    SendEnvelope, Sources, Stamp,
+};
 use std::alloc::Global;
 
 fn receive_field(bytes: &[u8]) -> Result<(ReceiveEnvelope, &[u8]), FieldFault>
@@ -172,7 +178,13 @@ fn outs_of(alloc: Global, code: u8, bytes: &[u8]) -> Result<(Outs, &[u8]), Field
     }
 }
 
-fn body_of(alloc: Global, is_enter: bool, code: u8, time: Stamp, bytes: &[u8]) -> Result<(Event, &[u8]), FieldFault>
+fn body_of(
+    alloc: Global,
+    is_enter: bool,
+    code: u8,
+    time: Stamp,
+    bytes: &[u8],
+) -> Result<(Event, &[u8]), FieldFault>
     ensures { Reads (λ x. (x.0, x.1.now)) result (body_at is_enter code time bytes.now) }
 {
     if is_enter {
@@ -185,7 +197,11 @@ fn body_of(alloc: Global, is_enter: bool, code: u8, time: Stamp, bytes: &[u8]) -
 }
 
 /// The event at a place.
-pub(crate) fn event_of(alloc: Global, place: u64, bytes: &[u8]) -> Result<(Event, &[u8]), FieldFault>
+pub(crate) fn event_of(
+    alloc: Global,
+    place: u64,
+    bytes: &[u8],
+) -> Result<(Event, &[u8]), FieldFault>
     ensures { Reads (λ x. (x.0, x.1.now)) result (event_at place bytes.now) }
 {
     let (code, rest) = byte_of(bytes)?;

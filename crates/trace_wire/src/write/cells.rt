@@ -52,7 +52,7 @@ fn put_cells<S: Sink>(out: &mut S, cells: Walk<'_>)
 fn put_head<S: Sink>(out: &mut S, len: u32)
     ensures { Sends (S.page out.old) (S.page out.new) (head_of len) }
 {
-    out.put(&[77, 80, 84, 88, 0, 1]);
+    out.put(&[b'M', b'P', b'T', b'X', 0, 1]);
     put_u32(out, len);
 }
 

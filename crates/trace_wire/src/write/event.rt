@@ -18,10 +18,8 @@ use mpi_model::{Call, Event, Outs, Stamp};
 fn put_items<T: Item, S: Sink>(out: &mut S, items: &[T])
     ensures { Sends (S.page out.old) (S.page out.new) (flat_map T.form.spell items.now) }
 {
-    let mut rest = items;
-    while let [first, after @ ..] = rest {
-        first.put(out);
-        rest = after;
+    for item in items {
+        item.put(out);
     }
 }
 

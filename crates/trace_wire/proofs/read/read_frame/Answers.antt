@@ -3,7 +3,7 @@ use Rattle.std.specs.FinMap.{entries}
 use Rattle.trace_wire.specs.FirstFault.{payload_of}
 use Rattle.trace_wire.specs.Outcomes.{FailsWith}
 use Rattle.trace_wire.specs.Reading.{IsUnfilled}
-use Rattle.trace_wire.proofs.FormLaws.{IsBytes}
+use Rattle.trace_wire.specs.Forms.{IsBytes}
 use Rattle.trace_wire.proofs.Heads.{no_head, bad_head, no_body, bad_body, whole_frame}
 use Rattle.trace_wire.proofs.read.read_frame.Goals as goal
 
@@ -28,7 +28,7 @@ returns-in-Err-read_cells-clause-err g c =
     let items = c.in-Ok-read_bytes.found.items in
     let fails : FailsWith c.in-Err-read_cells.fault (payload_of items) = subst (λ (t : List ℕ). FailsWith c.in-Err-read_cells.fault (payload_of t)) c.deref-2.ensures.value c.in-Err-read_cells.ensures.value in
     bad_body _ (g.R.Read.left c.fill.new.reader) (g.R.Read.left c.read_bytes.new.reader) c.fill.new.buffer items c.in-Ok-payload_len.found _ _ c.in-Err-read_cells.fault len c.in-Ok.ensures.ok c.in-Ok-payload_len.ensures.value
-        c.in-Ok-read_bytes.ensures.ok.0 c.in-Ok-read_bytes.ensures.ok.1 (c.in-Ok-read_bytes.ensures.no_failure ∙ c.in-Ok.ensures.no_failure) c.in-Err-read_cells.ensures.cause fails
+    c.in-Ok-read_bytes.ensures.ok.0 c.in-Ok-read_bytes.ensures.ok.1 (c.in-Ok-read_bytes.ensures.no_failure ∙ c.in-Ok.ensures.no_failure) c.in-Err-read_cells.ensures.cause fails
 
 pub returns-clause-ok : goal.returns-clause-ok
 returns-clause-ok g c =
@@ -38,4 +38,4 @@ returns-clause-ok g c =
     let is : payload_of items ≡ Ok es = subst (λ (t : List ℕ). payload_of t ≡ Ok es) c.deref-2.ensures.value c.in-Ok-read_cells.ensures.value in
     let bytes : IsBytes items = subst (λ (t : List ℕ). IsBytes t) c.deref.ensures.value c.are_bytes-2.ensures in
     whole_frame _ (g.R.Read.left c.fill.new.reader) (g.R.Read.left c.read_bytes.new.reader) c.fill.new.buffer items c.in-Ok-payload_len.found es len c.are_bytes.ensures bytes c.in-Ok.ensures.ok c.in-Ok-payload_len.ensures.value
-        c.in-Ok-read_bytes.ensures.ok.0 c.in-Ok-read_bytes.ensures.ok.1 is
+    c.in-Ok-read_bytes.ensures.ok.0 c.in-Ok-read_bytes.ensures.ok.1 is

@@ -29,8 +29,8 @@ pub loop-preserved : goal.loop-preserved
 loop-preserved c =
     let before = up_to_before c.loop.last c.in-Ok.found.0.0 (entries c.loop.knowledge) c.in-Ok.ensures.past c.loop.invariant.up_to in
     let now : entries c.put_last.new.self ≡ entries c.loop.knowledge ++ c.in-Ok.found.0 ∷ [] =
-        ap entries c.in-Ok-put_last.ensures.ok ∙ insert-last c.loop.knowledge c.in-Ok.found.0.0 _ before
-        ∙ ap (λ (k : Known). entries c.loop.knowledge ++ (c.in-Ok.found.0.0, k) ∷ []) c.event_in.ensures in
+    ap entries c.in-Ok-put_last.ensures.ok ∙ insert-last c.loop.knowledge c.in-Ok.found.0.0 _ before
+    ∙ ap (λ (k : Known). entries c.loop.knowledge ++ (c.in-Ok.found.0.0, k) ∷ []) c.event_in.ensures in
     let next = goes_on (entries c.loop.knowledge) c.args.count c.loop.counter c.loop.last c.loop.rest.now c.in-Ok.found.0 c.in-Ok.found.1.now (cells_at c.args.count None c.args.bytes.now) c.loop-test.true c.in-Ok.ensures.value c.loop.invariant.so_far in
     record {
       so_far = subst (λ (es : List Entry). cells_after es (cells_at (c.args.count - (c.loop.counter + 1)) (Some c.in-Ok.found.0.0) c.in-Ok.found.1.now) ≡ cells_at c.args.count None c.args.bytes.now) (sym now) next;

@@ -1,4 +1,4 @@
-use Rattle.std.proofs.Common.{◌≡◌, List, ℕ, length, ap, sym, arith, ◌∙◌, length-append}
+use Rattle.std.proofs.Common.{◌≡◌, length, ap, sym, arith, ◌∙◌, length-append}
 use Rattle.std.specs.FinMap.{entries, len-entries}
 use Rattle.std.specs.Int.{w32, to_be_bytes}
 use Rattle.trace_wire.specs.Forms.{number}

@@ -1,0 +1,95 @@
+//! The collective calls of each rank, by communicator: all are gone through once.
+
+ghost use Rattle.std.specs.Prelude.{◌≡◌, ◌++◌, ◌∷◌, [], ℕ, IfOk, OnOk};
+ghost use Rattle.trace_wait.specs.Ranks.{ops_of};
+ghost use Rattle.trace_wait.specs.Rounds.{on_comm};
+ghost use Rattle.trace_wait.specs.Entries.{listed, listed_at, IsRowOf};
+
+use std::alloc::{AllocError, Global};
+use std::collections::BTreeMap;
+use std::marker::Model;
+use trace_ops::{Entered, RankOps};
+
+/// The collective calls of one rank, by communicator, each in their order.
+type Row = BTreeMap<u32, Vec<Entered>>;
+
+/// What the ranks did, and each rank's collective calls by communicator.
+#[derive(Drop)]
+pub(crate) struct Entries<'a> {
+    ops: &'a [RankOps],
+    rows: Vec<Row>,
+}
+
+impl<'a> Model for Entries<'a> {
+    ghost use Rattle.std.specs.Prelude.{List};
+    ghost use Rattle.trace_ops.specs.Ops.{Ops};
+    ghost use Rattle.trace_wait.specs.Entries.{AreRows};
+
+    ghost Value = { List Ops };
+
+    ghost view = { λ s. s.ops.now };
+
+    ghost invariant = { λ s. AreRows s.rows.items s.ops.now };
+}
+
+/// One call more, behind those on its communicator.
+fn note_entry(alloc: Global, row: &mut Row, e: &Entered) -> Result<(), AllocError>
+    ensures { OnOk result ((c : ℕ) → listed row.new c ≡ listed row.old c ++ on_comm c (e.now ∷ [])) }
+{
+    if let Some(list) = row.get_mut(&e.comm) {
+        list.push(*e)?;
+        return Ok(());
+    }
+    let mut list = Vec::new(alloc);
+    list.push(*e)?;
+    row.insert(e.comm, list)?;
+    Ok(())
+}
+
+fn row_of(alloc: Global, entries: &[Entered]) -> Result<Row, AllocError>
+    ensures { IfOk result (λ row. IsRowOf row entries.now) }
+{
+    let mut row = Row::new(alloc);
+    for e in entries {
+        note_entry(alloc, &mut row, e)?;
+    }
+    Ok(row)
+}
+
+/// The collective calls of these ranks, ready to be asked for by communicator.
+pub(crate) fn entries_of<'a>(alloc: Global, ops: &'a [RankOps]) -> Result<Entries<'a>, AllocError>
+    ensures { IfOk result (λ s. s ≡ ops.now) }
+{
+    let mut rows = Vec::new(alloc);
+    for o in ops {
+        rows.push(row_of(alloc, o.rounds())?)?;
+    }
+    Ok(Entries { ops, rows })
+}
+
+fn listed(row: &Row, comm: u32) -> &[Entered]
+    ensures { result.now ≡ listed row.now comm }
+{
+    match row.get(&comm) {
+        Some(list) => list,
+        None => &[],
+    }
+}
+
+fn listed_at(rows: &[Row], r: u32, comm: u32) -> &[Entered]
+    ensures { result.now ≡ listed_at rows.now r comm }
+{
+    match rows.get(r as usize) {
+        Some(row) => listed(row, comm),
+        None => &[],
+    }
+}
+
+impl<'a> Entries<'a> {
+    /// The calls of a rank on a communicator, in their order.
+    pub fn on(&self, r: u32, comm: u32) -> &[Entered]
+        ensures { result.now ≡ on_comm comm (ops_of self.now r).rounds }
+    {
+        listed_at(&self.rows, r, comm)
+    }
+}
