@@ -1,0 +1,121 @@
+//! Schedules over two nodes, each rank with one call that takes part in no matching.
+
+use mpi_model::{Call, Event, Layout, Outs, Sends, Stamp};
+use std::alloc::Global;
+use trace_know::Segment;
+use trace_world::{Step, World, WorldFault};
+
+/// Two ranks and one communicator that is the world.
+fn layout(alloc: Global) -> Option<Layout> {
+    let members = vec![in alloc; 0, 1].ok()?;
+    let comms = vec![in alloc; (2, members)].ok()?;
+    Layout::new(alloc, 2, 2, comms, Sends::Wait).ok()
+}
+
+/// Call 0 of a rank, which enters at 0 s and returns at half a second.
+fn call(alloc: Global, rank: u32) -> Option<Segment> {
+    let enter = Event::Enter(Call::Local, Stamp::new(0, 0)?);
+    let exit = Event::Return(Outs::Nothing, Stamp::new(500_000_000, 0)?);
+    let events = vec![in alloc; enter, exit].ok()?;
+    Segment::new(rank, 0, events).ok()
+}
+
+fn post(alloc: Global, node: usize, rank: u32) -> Option<Step> {
+    Some(Step::Post {
+        worker: 0,
+        node,
+        segment: call(alloc, rank)?,
+    })
+}
+
+/// The readable prefixes of both ranks at a node.
+fn prefixes(world: &World, node: usize) -> Option<(u64, u64)> {
+    let know = world.node(node)?.know();
+    Some((know.prefix(0), know.prefix(1)))
+}
+
+/// Rank 0's call reaches node 0 and is shipped; then rank 1's call reaches node 0 too.
+fn shipped<'a>(alloc: Global, layout: &'a Layout) -> Option<World<'a>> {
+    let mut world = World::new(alloc, layout, 2).ok()?;
+    world.step(&post(alloc, 0, 0)?).ok()?;
+    world.step(&Step::Take { node: 0 }).ok()?;
+    world.step(&Step::Ship { node: 0 }).ok()?;
+    world.step(&post(alloc, 0, 1)?).ok()?;
+    world.step(&Step::Take { node: 0 }).ok()?;
+    Some(world)
+}
+
+/// What both nodes have read after these steps.
+fn after(alloc: Global, steps: &[Step]) -> Option<((u64, u64), (u64, u64))> {
+    let layout = layout(alloc)?;
+    let mut world = shipped(alloc, &layout)?;
+    world.run(steps).ok()?;
+    Some((prefixes(&world, 0)?, prefixes(&world, 1)?))
+}
+
+/// Why a step is refused after the shipment, a delivery and a restart of node 1.
+fn refused(alloc: Global, step: &Step) -> Option<WorldFault> {
+    let layout = layout(alloc)?;
+    let mut world = shipped(alloc, &layout)?;
+    world.step(&Step::Deliver { mail: 0, node: 1 }).ok()?;
+    world.step(&Step::Restart { node: 1 }).ok()?;
+    world.step(step).err()
+}
+
+/// A mail tells what its sender knew when it was shipped, not what it knows when it's delivered; a
+/// restart forgets; a mail can come again.
+#[test]
+fn deliveries_and_restarts(rt: HostRuntime) {
+    let alloc = rt.alloc();
+    let delivered = after(alloc, &[Step::Deliver { mail: 0, node: 1 }]);
+    let restarted = after(alloc, &[Step::Deliver { mail: 0, node: 1 }, Step::Restart { node: 1 }]);
+    let again = after(
+        alloc,
+        &[Step::Deliver { mail: 0, node: 1 }, Step::Restart { node: 1 }, Step::Deliver { mail: 0, node: 1 }],
+    );
+    let rows = [
+        ("delivered", delivered, (2, 0)),
+        ("restarted", restarted, (0, 0)),
+        ("delivered again", again, (2, 0)),
+    ];
+    for (name, found, second) in rows {
+        assert!(rt; found == Some(((2, 2), second)), "{name}");
+    }
+}
+
+/// Each refusal for its cause.
+#[test]
+fn refusals(rt: HostRuntime) {
+    let alloc = rt.alloc();
+    let foreign = post(alloc, 0, 2).and_then(|step| refused(alloc, &step));
+    let rows = [
+        ("an empty inbox", refused(alloc, &Step::Take { node: 1 }), WorldFault::EmptyInbox),
+        ("no such mail", refused(alloc, &Step::Deliver { mail: 1, node: 1 }), WorldFault::NoMail),
+        ("no such node", refused(alloc, &Step::Take { node: 2 }), WorldFault::NoNode),
+        ("no such node comes first", refused(alloc, &Step::Deliver { mail: 1, node: 2 }), WorldFault::NoNode),
+        ("a rank that the layout lacks", foreign, WorldFault::Rank),
+    ];
+    for (name, found, wanted) in rows {
+        assert!(rt; found == Some(wanted), "{name}");
+    }
+}
+
+/// How many nodes a world can have.
+fn count_fault(alloc: Global, nodes: usize) -> Option<WorldFault> {
+    let layout = layout(alloc)?;
+    World::new(alloc, &layout, nodes).err()
+}
+
+#[test]
+fn a_world_has_one_to_64_nodes(rt: HostRuntime) {
+    let alloc = rt.alloc();
+    let rows = [
+        (0, Some(WorldFault::NodeCount)),
+        (1, None),
+        (64, None),
+        (65, Some(WorldFault::NodeCount)),
+    ];
+    for (nodes, wanted) in rows {
+        assert!(rt; count_fault(alloc, nodes) == wanted, "{nodes} nodes");
+    }
+}
