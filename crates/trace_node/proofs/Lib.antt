@@ -1,0 +1,4 @@
+pub mod Shapes
+pub mod Waits
+pub mod LastCell
+pub mod One

@@ -44,17 +44,17 @@ impl Model for Answer {
     ghost use Rattle.trace_node.specs.Stopped.{stopped};
 
     ghost view = { λ a. record {
-        ranks = a.ranks;
-        sends = a.sends;
-        prefixes = a.prefixes.items;
-        beyond = a.beyond.items;
-        conflicts = a.conflicts.items;
-        pairs = a.pairs.items;
-        postponed = a.postponed.items;
-        rounds = a.rounds.items;
-        states = a.states.items;
-        stuck = map stopped a.stuck.items;
-        foreign = a.foreign
+      ranks = a.ranks;
+      sends = a.sends;
+      prefixes = a.prefixes.items;
+      beyond = a.beyond.items;
+      conflicts = a.conflicts.items;
+      pairs = a.pairs.items;
+      postponed = a.postponed.items;
+      rounds = a.rounds.items;
+      states = a.states.items;
+      stuck = map stopped a.stuck.items;
+      foreign = a.foreign;
     } };
 }
 

@@ -5,14 +5,16 @@ ghost use Rattle.std.specs.Option.{option_map};
 ghost use Rattle.trace_ops.specs.RankOps.{all_ops};
 ghost use Rattle.trace_pair.specs.Table.{table_of};
 ghost use Rattle.trace_stuck.specs.Shape.{shape};
-ghost use Rattle.trace_node.specs.Answer.{IsAnswer, beyond_of, foreign_of, prefixes_of, states_of, wall_of};
+ghost use Rattle.trace_wait.specs.Ranks.{ops_of};
+ghost use Rattle.trace_node.specs.Answer.{IsAnswer, beyond_of, call_of, foreign_of, prefixes_of, states_of, stopped_at, wait_at, wall_of};
+ghost use Rattle.trace_node.specs.Stopped.{stopped};
 
 use crate::answer::Answer;
 use crate::stuck::Stuck;
 use mpi_model::{Event, Layout};
 use std::alloc::{AllocError, Global};
 use trace_know::{Cell, Knowledge};
-use trace_ops::{RankOps, State};
+use trace_ops::{RankOps, State, ops_laws};
 use trace_pair::PairTable;
 use trace_wait::{Condition, conditions, rounds, stuck};
 
@@ -74,6 +76,7 @@ fn wall_of(know: &Knowledge, rank: u32, call: u64) -> u64
 
 /// The number of the call in which a rank waits.
 fn call_of(ops: &[RankOps], rank: u32) -> u64
+    ensures { result ≡ call_of (ops_of ops.now rank) }
 {
     match ops.get(rank as usize) {
         Some(own) => match own.waiting() {
@@ -90,6 +93,7 @@ fn wait_at(
     conditions: &[Option<Condition>],
     rank: u32,
 ) -> Result<Condition, AllocError>
+    ensures { IfOk result (λ c. shape c ≡ wait_at (map (option_map shape) conditions.now) rank) }
 {
     match conditions.get(rank as usize) {
         Some(Some(condition)) => condition.try_clone(alloc),
@@ -105,6 +109,7 @@ fn stuck_of(
     conditions: &[Option<Condition>],
     ranks: &[u32],
 ) -> Result<Vec<Stuck>, AllocError>
+    ensures { IfOk result (λ v. map stopped v.items ≡ map (stopped_at know.now ops.now (map (option_map shape) conditions.now)) ranks.now) }
 {
     let mut all = Vec::new(alloc);
     for rank in ranks {
@@ -131,6 +136,8 @@ pub(crate) fn answer_of(
     requires table { table.now ≡ table_of ops.now }
     ensures { IfOk result (λ a. IsAnswer layout.now know.now a) }
 {
+    layout.known();
+    ops_laws();
     let rounds = rounds(alloc, layout, ops)?;
     let conditions = conditions(alloc, layout, ops, table, &rounds)?;
     let states = states_of(alloc, ops)?;
