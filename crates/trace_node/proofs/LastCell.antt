@@ -1,5 +1,5 @@
 -- Whether something is known of a rank that the layout doesn't have, told by the last cell.
-use Rattle.std.proofs.Common.{◌≡◌, ◌↔◌, ℕ, suc, ◌+◌, ◌-◌, ◌<◌, ◌≤◌, Option, Some, None, List, map, length, get_or, refl, sym, ◌∙◌, ap, subst, arith, ⊎_elim, IsSome}
+use Rattle.std.proofs.Common.{◌≡◌, ◌↔◌, ℕ, suc, ◌+◌, ◌-◌, ◌<◌, ◌≤◌, Option, Some, None, List, map, length, get_or, refl, sym, ◌∙◌, ap, subst, arith, ⊎_elim, IsSome, IsTrue, Bool, ◌⊎◌, inl, inr}
 use Rattle.std.specs.Prelude.{Contains}
 use Rattle.std.specs.List.{slice_get}
 use Rattle.std.specs.List.Sorted.{IsStrictlySortedBy}
@@ -17,6 +17,9 @@ use Rattle.trace_node.specs.Node.{HasStranger}
 
 rank_le : (a b : ℕ × ℕ) → place_cmp a b ≡ Less → a.0 ≤ b.0
 rank_le a b h = grind (arith, nat_tests)
+
+cases_le : (m n : ℕ) → (m ≤ n) ⊎ (n < m)
+cases_le m n = ⊎_elim (λ (e : m ≡ n). inl (omega (arith, e))) (⊎_elim (λ (lt : m < n). inl (omega (arith, lt))) (λ (lt : n < m). inr lt)) (cases_order m n)
 
 abbrev keys : View → List (ℕ × ℕ)
 keys view = map (λ at. at.0) (cells_of view)
@@ -63,3 +66,11 @@ module _ (layout : Parts) (view : View) (lists : ListsCells view) (rises : IsStr
   -- where no cell stands, nothing is known of anyone
   pub nobody : length (cells_of view) ≡ 0 → HasStranger layout view → ⊥
   nobody none s = let c = (lists s.0 s.1 (cell view s.0 s.1)).1 (refl, s.3) in omega (arith, none, c.1)
+
+  -- the last cell's rank tells
+  pub tells : (i rank place : ℕ) (known : Option Known) → i + 1 ≡ length (cells_of view) → slice_get (cells_of view) i ≡ Some ((rank, place), known) →
+      (b : Bool) → (IsTrue b ↔ (layout.ranks ≤ rank)) → IsTrue b ↔ HasStranger layout view
+  tells i rank place known last e b test = (
+    λ h. some_stranger i rank place known e (test.0 h),
+    λ s. ⊎_elim (λ (le : layout.ranks ≤ rank). test.1 le) (λ (lt : rank < layout.ranks). absurd (no_stranger i rank place known last e lt s)) (cases_le layout.ranks rank),
+  )

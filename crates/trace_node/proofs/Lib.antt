@@ -1,4 +1,6 @@
 pub mod Shapes
 pub mod Waits
 pub mod LastCell
+pub mod Within
+pub mod Walls
 pub mod One

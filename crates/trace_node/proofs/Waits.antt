@@ -1,12 +1,14 @@
 -- Which ranks are stuck is known by the shapes of the conditions.
-use Rattle.std.proofs.Common.{◌≡◌, ◌↔◌, ℕ, zero, suc, Bool, true, false, Option, Some, None, List, [], ◌∷◌, map, refl, sym, ◌∙◌}
+use Rattle.std.proofs.Common.{◌≡◌, ◌↔◌, ℕ, zero, suc, Bool, true, false, Option, Some, None, List, [], ◌∷◌, map, refl, sym, ◌∙◌, subst}
+use Rattle.std.specs.List.Sorted.{IsStrictlyIncreasing}
 use Rattle.std.specs.Option.{option_map}
 use Rattle.trace_ops.specs.declared.state.State.{State}
 use Rattle.trace_stuck.specs.declared.condition.Condition.{Condition}
 use Rattle.trace_stuck.specs.Holds.{may_go}
+use Rattle.trace_stuck.specs.Release.{among}
 use Rattle.trace_stuck.specs.Shape.{Wait, shape}
 use Rattle.trace_stuck.specs.Stuck.{IsStuck}
-use Rattle.trace_node.specs.Answer.{IsStuckBy}
+use Rattle.trace_node.specs.Answer.{AreStuck, IsStuckBy}
 use Rattle.trace_node.proofs.Shapes.{holds_alike}
 
 abbrev pub shapes : List (Option Condition) → List (Option Wait)
@@ -34,3 +36,11 @@ stays_stuck states cs ds r h stuck = (
 pub stuck_by : (states : List State) (cs : List (Option Condition)) (waits : List (Option Wait)) (r : ℕ) → shapes cs ≡ waits →
     IsStuck states cs r ↔ IsStuckBy states waits r
 stuck_by states cs waits r h = (λ stuck. (cs, h, stuck), λ by. stays_stuck states by.0 cs r (by.1 ∙ sym h) by.2)
+
+-- a rising list of the stuck ranks under some conditions is one of those under their shapes
+pub are_stuck : (ranks : List ℕ) (states told : List State) (cs : List (Option Condition)) (waits : List (Option Wait)) → told ≡ states → shapes cs ≡ waits →
+    IsStrictlyIncreasing ranks → ((r : ℕ) → (among ranks r ≡ true) ↔ IsStuck told cs r) → AreStuck states waits ranks
+are_stuck ranks states told cs waits s e rising all = subst (λ (l : List State). AreStuck l waits ranks) s (record {
+  rising = rising;
+  stuck = λ r. let f = all r in let g = stuck_by told cs waits r e in (λ a. g.0 (f.0 a), λ b. f.1 (g.1 b));
+})

@@ -140,14 +140,17 @@ AnswersAreOne = (layout : Parts) (view : View) (one other : Answered) → IsAnsw
 
 -- ---- parts of two answers
 
--- both tell the same of ranks and places
+-- both tell the same of the ranks
 pub record HasSameRanks (one other : Answered) : Type 0 where
   pub ranks : one.ranks ≡ other.ranks
   pub sends : one.sends ≡ other.sends
   pub prefixes : one.prefixes ≡ other.prefixes
+  pub states : one.states ≡ other.states
+
+-- both tell the same of places and foreign calls
+pub record HasSamePlaces (one other : Answered) : Type 0 where
   pub beyond : one.beyond ≡ other.beyond
   pub conflicts : one.conflicts ≡ other.conflicts
-  pub states : one.states ≡ other.states
   pub foreign : one.foreign ≡ other.foreign
 
 -- both tell the same of messages, rounds and stuck ranks

@@ -1,0 +1,98 @@
+//! Whether two answers tell the same, part by part.
+
+ghost use Rattle.std.specs.Prelude.{◌≡◌, ◌↔◌, IsTrue, map};
+ghost use Rattle.trace_node.specs.Answer.{HasSameCalls, HasSamePlaces, HasSameRanks};
+ghost use Rattle.trace_node.specs.Stopped.{stopped};
+
+use crate::answer::Answer;
+use crate::stuck::Stuck;
+use mpi_model::OpName;
+use trace_ops::State;
+use trace_pair::Pair;
+use trace_wait::Round;
+
+fn are_same_numbers(first: &[u64], second: &[u64]) -> bool
+    ensures { IsTrue result ↔ (first.now ≡ second.now) }
+{
+    first == second
+}
+
+fn are_same_flags(first: &[bool], second: &[bool]) -> bool
+    ensures { IsTrue result ↔ (first.now ≡ second.now) }
+{
+    first == second
+}
+
+fn are_same_places(first: &[(u32, u64)], second: &[(u32, u64)]) -> bool
+    ensures { IsTrue result ↔ (first.now ≡ second.now) }
+{
+    first == second
+}
+
+fn are_same_states(first: &[State], second: &[State]) -> bool
+    ensures { IsTrue result ↔ (first.now ≡ second.now) }
+{
+    first == second
+}
+
+fn are_same_names(first: &[OpName], second: &[OpName]) -> bool
+    ensures { IsTrue result ↔ (first.now ≡ second.now) }
+{
+    first == second
+}
+
+fn are_same_pairs(first: &[Pair], second: &[Pair]) -> bool
+    ensures { IsTrue result ↔ (first.now ≡ second.now) }
+{
+    first == second
+}
+
+fn are_same_rounds(first: &[Round], second: &[Round]) -> bool
+    ensures { IsTrue result ↔ (first.now ≡ second.now) }
+{
+    first == second
+}
+
+/// Whether the two lists tell the same of each stuck rank.
+fn are_same_stuck(first: &[Stuck], second: &[Stuck]) -> bool
+    ensures { IsTrue result ↔ (map stopped first.now ≡ map stopped second.now) }
+{
+    if first.len() != second.len() {
+        return false;
+    }
+    for i in 0..first.len() {
+        if !first[i].same(&second[i]) {
+            return false;
+        }
+    }
+    true
+}
+
+/// Whether both tell the same of the ranks.
+pub(crate) fn has_same_ranks(first: &Answer, second: &Answer) -> bool
+    ensures { IsTrue result ↔ HasSameRanks first.now second.now }
+{
+    first.ranks() == second.ranks()
+        && first.sends() == second.sends()
+        && are_same_numbers(first.prefixes(), second.prefixes())
+        && are_same_states(first.states(), second.states())
+}
+
+/// Whether both tell the same of places and foreign calls.
+pub(crate) fn has_same_places(first: &Answer, second: &Answer) -> bool
+    ensures { IsTrue result ↔ HasSamePlaces first.now second.now }
+{
+    are_same_flags(first.beyond(), second.beyond())
+        && are_same_places(first.conflicts(), second.conflicts())
+        && first.foreign() == second.foreign()
+}
+
+/// Whether both tell the same of messages, rounds and stuck ranks.
+pub(crate) fn has_same_calls(first: &Answer, second: &Answer) -> bool
+    ensures { IsTrue result ↔ HasSameCalls first.now second.now }
+{
+    are_same_pairs(first.pairs(), second.pairs())
+        && are_same_names(first.postponed(), second.postponed())
+        && are_same_rounds(first.rounds(), second.rounds())
+        && are_same_stuck(first.stuck(), second.stuck())
+}
