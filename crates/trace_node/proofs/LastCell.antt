@@ -51,12 +51,12 @@ module _ (layout : Parts) (view : View) (lists : ListsCells view) (rises : IsStr
       let wide : length (keys view) ≡ length (cells_of view) = length-map (cells_of view) (λ at. at.0) in
       ⊎_elim
       (λ (same : c.0 ≡ i). let q : (r, p) ≡ (rank, place) = sym here ∙ ap (λ (k : ℕ). get_or (keys view) k (0, 0)) same ∙ there in
-          let e0 : r ≡ rank = ap (λ (x : ℕ × ℕ). x.0) q in omega (arith, e0))
+      let e0 : r ≡ rank = ap (λ (x : ℕ × ℕ). x.0) q in omega (arith, e0))
       (⊎_elim
-        (λ (below : c.0 < i). let less = Less-from_sorted place_cmp (keys view) c.0 i (0, 0) rises below (omega (arith, wide, lt)) in
-            let le = rank_le (get_or (keys view) c.0 (0, 0)) (get_or (keys view) i (0, 0)) less in
-            subst (λ (x : ℕ × ℕ). x.0 ≤ rank) here (subst (λ (x : ℕ × ℕ). (get_or (keys view) c.0 (0, 0)).0 ≤ x.0) there le))
-        (λ (above : i < c.0). absurd (omega (arith, above, last, c.1))))
+      (λ (below : c.0 < i). let less = Less-from_sorted place_cmp (keys view) c.0 i (0, 0) rises below (omega (arith, wide, lt)) in
+      let le = rank_le (get_or (keys view) c.0 (0, 0)) (get_or (keys view) i (0, 0)) less in
+      subst (λ (x : ℕ × ℕ). x.0 ≤ rank) here (subst (λ (x : ℕ × ℕ). (get_or (keys view) c.0 (0, 0)).0 ≤ x.0) there le))
+      (λ (above : i < c.0). absurd (omega (arith, above, last, c.1))))
       (cases_order c.0 i)
 
   pub no_stranger : (i rank place : ℕ) (known : Option Known) → i + 1 ≡ length (cells_of view) → slice_get (cells_of view) i ≡ Some ((rank, place), known) →

@@ -4,3 +4,4 @@ pub mod LastCell
 pub mod Within
 pub mod Walls
 pub mod One
+pub mod Same

@@ -19,6 +19,6 @@ pub saturated : (view : View) → IsKnowledge view → (rank call place : ℕ) �
 saturated view is rank call place e =
     ⊎_elim (λ (s : place ≡ 2 * call). ap (event_at view rank) s)
     (⊎_elim
-      (λ (below : place < 2 * call). far view is rank place (omega (arith, e, below)) ∙ sym (far view is rank (2 * call) (omega (arith, e, below))))
-      (λ (above : 2 * call < place). absurd (omega (arith, e, above))))
+    (λ (below : place < 2 * call). far view is rank place (omega (arith, e, below)) ∙ sym (far view is rank (2 * call) (omega (arith, e, below))))
+    (λ (above : 2 * call < place). absurd (omega (arith, e, above))))
     (cases_order place (2 * call))

@@ -19,7 +19,7 @@ nothing h = cc
 
 pub within_empty : (layout : Parts) → IsWithin layout empty
 within_empty layout = λ rank place some.
-    let e : cell empty rank place ≡ None = get-empty {R = place_cmp} (rank, place) in
+    let e : cell empty rank place ≡ None = get-empty place_cmp (rank, place) in
     absurd (nothing (subst (λ (o : Option Known). IsSome o) e some))
 
 pub without_stranger : (layout : Parts) (view : View) → (HasStranger layout view → ⊥) → IsWithin layout view

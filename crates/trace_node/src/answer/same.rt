@@ -6,10 +6,10 @@ ghost use Rattle.trace_node.specs.Stopped.{stopped};
 
 use crate::answer::Answer;
 use crate::stuck::Stuck;
-use mpi_model::OpName;
+use mpi_model::{Kind, OpName};
 use trace_ops::State;
 use trace_pair::Pair;
-use trace_wait::Round;
+use trace_wait::{Round, Standing};
 
 fn are_same_numbers(first: &[u64], second: &[u64]) -> bool
     ensures { IsTrue result ↔ (first.now ≡ second.now) }
@@ -47,10 +47,57 @@ fn are_same_pairs(first: &[Pair], second: &[Pair]) -> bool
     first == second
 }
 
+fn is_same_kind(first: Kind, second: Kind) -> bool
+    ensures { IsTrue result ↔ (first ≡ second) }
+{
+    first == second
+}
+
+fn is_same_root(first: Option<u32>, second: Option<u32>) -> bool
+    ensures { IsTrue result ↔ (first ≡ second) }
+{
+    match (first, second) {
+        (None, None) => true,
+        (Some(a), Some(b)) => a == b,
+        _ => false,
+    }
+}
+
+fn is_same_standing(first: Standing, second: Standing) -> bool
+    ensures { IsTrue result ↔ (first ≡ second) }
+{
+    match (first, second) {
+        (Standing::Mismatched, Standing::Mismatched) => true,
+        (Standing::Complete(a, r), Standing::Complete(b, s)) => {
+            is_same_kind(a, b) && is_same_root(r, s)
+        }
+        (Standing::Partial(a, r, n, m), Standing::Partial(b, s, o, p)) => {
+            is_same_kind(a, b) && is_same_root(r, s) && n == o && m == p
+        }
+        _ => false,
+    }
+}
+
+fn is_same_round(first: Round, second: Round) -> bool
+    ensures { IsTrue result ↔ (first ≡ second) }
+{
+    first.comm == second.comm
+        && first.k == second.k
+        && is_same_standing(first.standing, second.standing)
+}
+
 fn are_same_rounds(first: &[Round], second: &[Round]) -> bool
     ensures { IsTrue result ↔ (first.now ≡ second.now) }
 {
-    first == second
+    if first.len() != second.len() {
+        return false;
+    }
+    for i in 0..first.len() {
+        if !is_same_round(first[i], second[i]) {
+            return false;
+        }
+    }
+    true
 }
 
 /// Whether the two lists tell the same of each stuck rank.

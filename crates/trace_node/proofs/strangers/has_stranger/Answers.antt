@@ -22,15 +22,15 @@ pub returns-then-count-eq0 : goal.returns-then-count-eq0
 returns-then-count-eq0 c = (
   λ (h : false ≡ true). absurd (nothing h),
   λ s. absurd (nobody c.args.layout.now c.args.know.now (c.listing_laws.ensures.cells c.args.know.now) (c.listing_laws.ensures.cells_rise c.args.know.now)
-    (counted c.args.know.now ∙ sym c.count-count.ensures ∙ c.if-count-eq0.true) s),
+      (counted c.args.know.now ∙ sym c.count-count.ensures ∙ c.if-count-eq0.true) s),
 )
 
 pub returns-in-Some : goal.returns-in-Some
 returns-in-Some c =
     let last = counted c.args.know.now ∙ sym c.count-count.ensures in
     tells c.args.layout.now c.args.know.now (c.listing_laws.ensures.cells c.args.know.now) (c.listing_laws.ensures.cells_rise c.args.know.now)
-      (c.count-count.result - 1) c.in-Some.rank c.in-Some.field-0-1 (shown c.in-Some.field-0-2) (omega (arith, last, c.if-count-eq0.false)) (sym c.in-Some.ensures)
-      (leb c.ranks.result c.in-Some.rank) (is_at_most c.ranks.result c.in-Some.rank c.args.layout.now.ranks c.ranks.ensures.value)
+    (c.count-count.result - 1) c.in-Some.rank c.in-Some.field-0-1 (shown c.in-Some.field-0-2) (omega (arith, last, c.if-count-eq0.false)) (sym c.in-Some.ensures)
+    (leb c.ranks.result c.in-Some.rank) (is_at_most c.ranks.result c.in-Some.rank c.args.layout.now.ranks c.ranks.ensures.value)
 
 pub returns-in-None : goal.returns-in-None
 returns-in-None c =

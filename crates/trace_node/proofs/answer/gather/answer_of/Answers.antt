@@ -11,7 +11,7 @@ pub returns : goal.returns
 returns c =
     let rounds = c.deref.ensures.value ∙ c.in_ok-rounds.ensures in
     let waits : shapes c.in_ok-conditions.conditions.items ≡ waits_of c.args.layout.now c.args.ops.now =
-        c.in_ok-conditions.ensures ∙ (λ i. conditions_from (record { layout = c.args.layout.now; ops = c.args.ops.now; pairs = (c.requires.table i).pairs; rounds = rounds i }) 0 c.args.ops.now) in
+    c.in_ok-conditions.ensures ∙ (λ i. conditions_from (record { layout = c.args.layout.now; ops = c.args.ops.now; pairs = (c.requires.table i).pairs; rounds = rounds i }) 0 c.args.ops.now) in
     let conditions = ap shapes c.deref-3.ensures.value ∙ waits in
     let told = ap shapes c.deref-4.ensures.value ∙ waits in
     record {
@@ -27,7 +27,7 @@ returns c =
       stuck = (
         c.in_ok-verdict.verdict.stuck.items,
         are_stuck c.in_ok-verdict.verdict.stuck.items (states_of c.args.ops.now) c.deref-2.result.now c.deref-3.result.now (waits_of c.args.layout.now c.args.ops.now)
-          (c.deref-2.ensures.value ∙ c.in_ok-states.ensures) conditions c.in_ok-verdict.ensures.rising c.in_ok-verdict.ensures.stuck,
+            (c.deref-2.ensures.value ∙ c.in_ok-states.ensures) conditions c.in_ok-verdict.ensures.rising c.in_ok-verdict.ensures.stuck,
         c.in_ok-stuck_of.ensures ∙ (λ i. map (stopped_at c.args.know.now c.args.ops.now (told i)) (c.deref-5.ensures.value i)),
       );
       foreign = c.foreign_of.ensures;

@@ -1,5 +1,0 @@
-use Rattle.trace_node.proofs.Within.{within_join, without_stranger}
-use Rattle.trace_node.proofs.node.Node.merge.Goals as goal
-
-pub invariant_of-self-2 : goal.invariant_of-self-2
-invariant_of-self-2 c = ?
