@@ -86,6 +86,13 @@ impl PairIndex {
         self.set(rank, ops)
     }
 
+    /// The ops that it holds, those of rank r at place r.
+    pub fn ops(&self) -> &[RankOps]
+        ensures { result.now ≡ self.now }
+    {
+        &self.held
+    }
+
     /// The table of the held ops, what its pairs are worth, and that none is missing where every
     /// source is told (MPI 4.0, 3.5).
     pub fn pairs(&self) -> &PairTable

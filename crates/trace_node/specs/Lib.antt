@@ -1,0 +1,4 @@
+pub mod Answer
+pub mod Stopped
+pub mod Node
+pub mod Codes

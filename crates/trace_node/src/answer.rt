@@ -1,0 +1,174 @@
+//! What a node tells of all that it knows.
+
+ghost use Rattle.std.specs.Prelude.{◌≡◌, ◌↔◌, IsTrue, IfOk, map};
+ghost use Rattle.trace_node.specs.Stopped.{stopped};
+
+use crate::answer::same::{has_same_calls, has_same_places, has_same_ranks};
+use crate::stuck::Stuck;
+use mpi_model::{OpName, Sends};
+use std::alloc::{AllocError, Global};
+use std::marker::Model;
+use trace_ops::State;
+use trace_pair::Pair;
+use trace_wait::Round;
+
+mod gather;
+mod same;
+
+pub(crate) use gather::answer_of;
+
+/// What is told of a layout and of what is known: what the report prints.
+#[derive(Debug, Drop)]
+pub struct Answer {
+    ranks: u32,
+    sends: Sends,
+    prefixes: Vec<u64>,
+    beyond: Vec<bool>,
+    conflicts: Vec<(u32, u64)>,
+    pairs: Vec<Pair>,
+    postponed: Vec<OpName>,
+    rounds: Vec<Round>,
+    states: Vec<State>,
+    stuck: Vec<Stuck>,
+    foreign: u64,
+}
+
+impl Model for Answer {
+    ghost use Rattle.std.specs.Prelude.{map};
+    ghost use Rattle.trace_node.specs.Answer.{Answered};
+    ghost use Rattle.trace_node.specs.Codes.{coded_answered};
+
+    ghost Value = { Answered };
+
+    ghost coded = { coded_answered };
+
+    ghost use Rattle.trace_node.specs.Stopped.{stopped};
+
+    ghost view = { λ a. record {
+      ranks = a.ranks;
+      sends = a.sends;
+      prefixes = a.prefixes.items;
+      beyond = a.beyond.items;
+      conflicts = a.conflicts.items;
+      pairs = a.pairs.items;
+      postponed = a.postponed.items;
+      rounds = a.rounds.items;
+      states = a.states.items;
+      stuck = map stopped a.stuck.items;
+      foreign = a.foreign;
+    } };
+}
+
+impl Answer {
+    /// The number of ranks.
+    pub fn ranks(&self) -> u32
+        ensures { result ≡ self.now.ranks }
+    {
+        self.ranks
+    }
+
+    /// How sends of standard mode complete.
+    pub fn sends(&self) -> Sends
+        ensures { result ≡ self.now.sends }
+    {
+        self.sends
+    }
+
+    /// The readable prefix of each rank: how far its places are known without a gap.
+    pub fn prefixes(&self) -> &[u64]
+        ensures { result.now ≡ self.now.prefixes }
+    {
+        &self.prefixes
+    }
+
+    /// Of each rank, whether something is known past its readable prefix.
+    pub fn beyond(&self) -> &[bool]
+        ensures { result.now ≡ self.now.beyond }
+    {
+        &self.beyond
+    }
+
+    /// The rank and place of each contradiction, in rising order.
+    pub fn conflicts(&self) -> &[(u32, u64)]
+        ensures { result.now ≡ self.now.conflicts }
+    {
+        &self.conflicts
+    }
+
+    /// The messages with the receives that take them, in order of the message (MPI 4.0, 3.5).
+    pub fn pairs(&self) -> &[Pair]
+        ensures { result.now ≡ self.now.pairs }
+    {
+        &self.pairs
+    }
+
+    /// The messages in no pair that an untold receive fits, in their order.
+    pub fn postponed(&self) -> &[OpName]
+        ensures { result.now ≡ self.now.postponed }
+    {
+        &self.postponed
+    }
+
+    /// The rounds of collective calls (MPI 4.0, 6.1), by communicator and number.
+    pub fn rounds(&self) -> &[Round]
+        ensures { result.now ≡ self.now.rounds }
+    {
+        &self.rounds
+    }
+
+    /// How each rank stands.
+    pub fn states(&self) -> &[State]
+        ensures { result.now ≡ self.now.states }
+    {
+        &self.states
+    }
+
+    /// The ranks that wait for ever, in rising order.
+    pub fn stuck(&self) -> &[Stuck]
+        ensures { map stopped result.now ≡ self.now.stuck }
+    {
+        &self.stuck
+    }
+
+    /// How many calls were entered that the layout doesn't know. The count stays at `u64::MAX`.
+    pub fn foreign(&self) -> u64
+        ensures { result ≡ self.now.foreign }
+    {
+        self.foreign
+    }
+
+    pub fn try_clone(&self) -> Result<Answer, AllocError>
+        ensures { IfOk result (λ copy. copy ≡ self.now) }
+    {
+        Ok(Answer {
+            ranks: self.ranks,
+            sends: self.sends,
+            prefixes: self.prefixes.clone()?,
+            beyond: self.beyond.clone()?,
+            conflicts: self.conflicts.clone()?,
+            pairs: self.pairs.clone()?,
+            postponed: self.postponed.clone()?,
+            rounds: self.rounds.clone()?,
+            states: self.states.clone()?,
+            stuck: copies_of(*self.stuck.allocator(), &self.stuck)?,
+            foreign: self.foreign,
+        })
+    }
+
+    /// Whether both tell the same.
+    pub fn same(&self, other: &Answer) -> bool
+        ensures { IsTrue result ↔ (self.now ≡ other.now) }
+    {
+        has_same_ranks(self, other) && has_same_places(self, other) && has_same_calls(self, other)
+    }
+}
+
+fn copies_of(alloc: Global, stuck: &[Stuck]) -> Result<Vec<Stuck>, AllocError>
+    ensures { IfOk result (λ copies. map stopped copies.items ≡ map stopped stuck.now) }
+{
+    let mut copies = Vec::with_capacity(alloc, stuck.len())?;
+    for s in stuck {
+        copies.push(s.try_clone(alloc)?)?;
+    }
+    Ok(copies)
+}

@@ -1,0 +1,32 @@
+//! A node: all that is known of a run, with the answer to it.
+//!
+//! A [`Node`] takes segments of the ranks' traces and other knowledge, in any order and cut in any
+//! way, and keeps what they say together. Its [`Answer`] is what the report prints: readable
+//! prefixes and contradictions, message pairs and postponed messages, rounds of collective calls,
+//! how each rank stands, and the stuck ranks with what they wait for. It is a function of the layout
+//! and of what is known, so nodes that know the same give one answer.
+//!
+//! Where there is no memory for an answer, the knowledge is kept and the node is stale until
+//! [`Node::refresh`]: it loses no fact.
+//!
+//! - [`fault`]: why a segment, other knowledge or a question is refused
+//! - [`stuck`]: a stuck rank; [`answer`]: what is told; `answer::gather`: the way there
+//! - [`strangers`]: whether something is known of a rank that the layout doesn't have
+//! - [`node`]: knowledge with its answer
+//! - [`laws`]: that there is one answer, as the contract of a call that does nothing
+//!
+//! Its tests are in the crate `trace_node_tests`.
+#![tactic(auto)]
+
+mod answer;
+mod fault;
+mod laws;
+mod node;
+mod strangers;
+mod stuck;
+
+pub use answer::Answer;
+pub use fault::{NodeFault, Stale};
+pub use laws::answers_are_one;
+pub use node::Node;
+pub use stuck::Stuck;
