@@ -1,5 +1,5 @@
 -- What an answer tells, and which answer is that of a layout and of what is known.
-use Rattle.std.specs.Prelude.{◌≡◌, ◌↔◌, ℕ, ◌*◌, ◌-◌, ◌^◌, min, Bool, true, Option, Some, None, List, map, sum, unwrap_or, slice_get}
+use Rattle.std.specs.Prelude.{◌≡◌, ◌↔◌, ℕ, ◌*◌, ◌-◌, ◌^◌, min, Bool, true, Option, Some, None, List, map, sum_by, unwrap_or, slice_get}
 use Rattle.std.specs.List.{range_with_len}
 use Rattle.std.specs.List.Sorted.{IsStrictlyIncreasing}
 use Rattle.std.specs.Option.{option_map}
@@ -68,7 +68,7 @@ states_of ops = map (λ o. o.state) ops
 
 -- how many foreign calls the ranks entered; the count stays at the greatest of 64 bits
 abbrev pub foreign_of : List Ops → ℕ
-foreign_of ops = min (sum (map (λ o. o.foreign) ops)) (2 ^ 64 - 1)
+foreign_of ops = min (sum_by (λ o. o.foreign) ops) (2 ^ 64 - 1)
 
 -- ---- what ranks wait for
 
@@ -108,9 +108,11 @@ abbrev pub wait_at : List (Option Wait) → ℕ → Wait
 wait_at waits r = unwrap_or (unwrap_or (slice_get waits r) None) OnNothing
 
 -- what is told of a stuck rank
-abbrev pub stopped_at : Parts → View → List Ops → ℕ → Stopped
-stopped_at layout view ops r = let call = call_of (ops_of ops r) in
-    record { rank = r; call = call; wall = wall_of view r call; waits = wait_at (waits_of layout ops) r }
+abbrev pub stopped_in : View → List (Option Wait) → ℕ → ℕ → Stopped
+stopped_in view waits r call = record { rank = r; call = call; wall = wall_of view r call; waits = wait_at waits r }
+
+abbrev pub stopped_at : View → List Ops → List (Option Wait) → ℕ → Stopped
+stopped_at view ops waits r = stopped_in view waits r (call_of (ops_of ops r))
 
 -- ---- the answer
 
@@ -125,7 +127,7 @@ pub record IsAnswerBy (layout : Parts) (view : View) (ops : List Ops) (a : Answe
   pub postponed : a.postponed ≡ (table_of ops).postponed
   pub rounds : a.rounds ≡ rounds_of layout.comms ops
   pub states : a.states ≡ states_of ops
-  pub stuck : (ranks : List ℕ) × AreStuck (states_of ops) (waits_of layout ops) ranks × (a.stuck ≡ map (stopped_at layout view ops) ranks)
+  pub stuck : (ranks : List ℕ) × AreStuck (states_of ops) (waits_of layout ops) ranks × (a.stuck ≡ map (stopped_at view ops (waits_of layout ops)) ranks)
   pub foreign : a.foreign ≡ foreign_of ops
 
 -- The answer of what is known. There is one (`answers_are_one`).
@@ -138,14 +140,17 @@ AnswersAreOne = (layout : Parts) (view : View) (one other : Answered) → IsAnsw
 
 -- ---- parts of two answers
 
--- both tell the same of ranks and places
+-- both tell the same of the ranks
 pub record HasSameRanks (one other : Answered) : Type 0 where
   pub ranks : one.ranks ≡ other.ranks
   pub sends : one.sends ≡ other.sends
   pub prefixes : one.prefixes ≡ other.prefixes
+  pub states : one.states ≡ other.states
+
+-- both tell the same of places and foreign calls
+pub record HasSamePlaces (one other : Answered) : Type 0 where
   pub beyond : one.beyond ≡ other.beyond
   pub conflicts : one.conflicts ≡ other.conflicts
-  pub states : one.states ≡ other.states
   pub foreign : one.foreign ≡ other.foreign
 
 -- both tell the same of messages, rounds and stuck ranks

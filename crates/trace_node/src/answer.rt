@@ -1,9 +1,9 @@
 //! What a node tells of all that it knows.
 
 ghost use Rattle.std.specs.Prelude.{◌≡◌, ◌↔◌, IsTrue, IfOk, map};
-ghost use Rattle.trace_node.specs.Answer.{HasSameRanks, HasSameCalls};
 ghost use Rattle.trace_node.specs.Stopped.{stopped};
 
+use crate::answer::same::{has_same_calls, has_same_places, has_same_ranks};
 use crate::stuck::Stuck;
 use mpi_model::{OpName, Sends};
 use std::alloc::{AllocError, Global};
@@ -13,6 +13,7 @@ use trace_pair::Pair;
 use trace_wait::Round;
 
 mod gather;
+mod same;
 
 pub(crate) use gather::answer_of;
 
@@ -44,17 +45,17 @@ impl Model for Answer {
     ghost use Rattle.trace_node.specs.Stopped.{stopped};
 
     ghost view = { λ a. record {
-        ranks = a.ranks;
-        sends = a.sends;
-        prefixes = a.prefixes.items;
-        beyond = a.beyond.items;
-        conflicts = a.conflicts.items;
-        pairs = a.pairs.items;
-        postponed = a.postponed.items;
-        rounds = a.rounds.items;
-        states = a.states.items;
-        stuck = map stopped a.stuck.items;
-        foreign = a.foreign
+      ranks = a.ranks;
+      sends = a.sends;
+      prefixes = a.prefixes.items;
+      beyond = a.beyond.items;
+      conflicts = a.conflicts.items;
+      pairs = a.pairs.items;
+      postponed = a.postponed.items;
+      rounds = a.rounds.items;
+      states = a.states.items;
+      stuck = map stopped a.stuck.items;
+      foreign = a.foreign;
     } };
 }
 
@@ -158,30 +159,7 @@ impl Answer {
     pub fn same(&self, other: &Answer) -> bool
         ensures { IsTrue result ↔ (self.now ≡ other.now) }
     {
-        self.has_same_ranks(other) && self.has_same_calls(other)
-    }
-
-    /// Whether both tell the same of ranks and places.
-    fn has_same_ranks(&self, other: &Answer) -> bool
-        ensures { IsTrue result ↔ HasSameRanks self.now other.now }
-    {
-        self.ranks == other.ranks
-            && self.sends == other.sends
-            && self.prefixes == other.prefixes
-            && self.beyond == other.beyond
-            && self.conflicts == other.conflicts
-            && self.states == other.states
-            && self.foreign == other.foreign
-    }
-
-    /// Whether both tell the same of messages, rounds and stuck ranks.
-    fn has_same_calls(&self, other: &Answer) -> bool
-        ensures { IsTrue result ↔ HasSameCalls self.now other.now }
-    {
-        self.pairs == other.pairs
-            && self.postponed == other.postponed
-            && self.rounds == other.rounds
-            && are_same(&self.stuck, &other.stuck)
+        has_same_ranks(self, other) && has_same_places(self, other) && has_same_calls(self, other)
     }
 }
 
@@ -193,19 +171,4 @@ fn copies_of(alloc: Global, stuck: &[Stuck]) -> Result<Vec<Stuck>, AllocError>
         copies.push(s.try_clone(alloc)?)?;
     }
     Ok(copies)
-}
-
-/// Whether the two lists tell the same of each stuck rank.
-fn are_same(first: &[Stuck], second: &[Stuck]) -> bool
-    ensures { IsTrue result ↔ (map stopped first.now ≡ map stopped second.now) }
-{
-    if first.len() != second.len() {
-        return false;
-    }
-    for i in 0..first.len() {
-        if !first[i].same(&second[i]) {
-            return false;
-        }
-    }
-    true
 }

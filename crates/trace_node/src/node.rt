@@ -13,7 +13,7 @@ use crate::strangers::has_stranger;
 use mpi_model::Layout;
 use std::alloc::{AllocError, Global};
 use std::marker::Model;
-use trace_know::{Knowledge, Segment};
+use trace_know::{Knowledge, Segment, join_laws, view_laws};
 use trace_ops::{all_ops, ops_laws};
 use trace_pair::PairIndex;
 
@@ -92,6 +92,8 @@ impl<'a> Node<'a> {
         ensures memory { IsErrOf result NodeFault.Memory → self.new ≡ self.old }
         ensures stale { IsErrOf result NodeFault.Stale → self.new ≡ held self.old.layout (join self.old.know (view_of (facts_of segment.now))) true }
     {
+        join_laws();
+        view_laws();
         if segment.rank() >= self.layout.ranks() {
             return Err(NodeFault::Rank);
         }
@@ -113,6 +115,7 @@ impl<'a> Node<'a> {
         ensures memory { IsErrOf result NodeFault.Memory → self.new ≡ self.old }
         ensures stale { IsErrOf result NodeFault.Stale → self.new ≡ held self.old.layout (join self.old.know other.now) true }
     {
+        join_laws();
         if has_stranger(self.layout, other) {
             return Err(NodeFault::Rank);
         }
@@ -202,6 +205,7 @@ impl<'a> Node<'a> {
 fn answer_to(alloc: Global, layout: &Layout, know: &Knowledge) -> Result<Answer, AllocError>
     ensures { IfOk result (λ a. IsAnswer layout.now know.now a) }
 {
+    layout.known();
     ops_laws();
     let index = PairIndex::of_all(alloc, all_ops(alloc, layout, know)?)?;
     answer_of(alloc, layout, know, index.ops(), index.pairs())

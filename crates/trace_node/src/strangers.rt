@@ -4,18 +4,20 @@ ghost use Rattle.std.specs.Prelude.{◌≡◌, ◌↔◌, IsTrue};
 ghost use Rattle.trace_node.specs.Node.{HasStranger};
 
 use mpi_model::Layout;
-use trace_know::Knowledge;
+use trace_know::{Knowledge, listing_laws};
 
 /// Whether something is known of a rank that the layout doesn't have. The cells go by rank, so the
 /// last one tells.
 pub(crate) fn has_stranger(layout: &Layout, know: &Knowledge) -> bool
     ensures { IsTrue result ↔ HasStranger layout.now know.now }
 {
-    match know.count().checked_sub(1) {
-        Some(last) => match know.cell_at(last) {
-            Some((rank, _, _)) => rank >= layout.ranks(),
-            None => false,
-        },
+    listing_laws();
+    let count = know.count();
+    if count == 0 {
+        return false;
+    }
+    match know.cell_at(count - 1) {
+        Some((rank, _, _)) => rank >= layout.ranks(),
         None => false,
     }
 }

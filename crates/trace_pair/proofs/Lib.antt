@@ -14,6 +14,8 @@ pub mod Members
 pub mod Orders
 pub mod Queued
 pub mod Twice
+pub mod Mutual
+pub mod Known
 pub mod Continued
 pub mod Sure
 pub mod Names

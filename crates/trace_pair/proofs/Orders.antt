@@ -16,9 +16,8 @@ use Rattle.std.proofs.lemmas.Map.Lookups.{CmpEqualImpliesEq}
 use Rattle.mpi_model.specs.declared.event.OpName.{OpName}
 use Rattle.mpi_model.specs.declared.message.Message.{Message}
 use Rattle.mpi_model.specs.declared.message.Receive.{Receive}
-use Rattle.trace_pair.specs.Indexed.{couple_of, name_lt}
-use Rattle.trace_pair.specs.KeyOrders.{name_cmp, message_cmp, receive_cmp, couple_cmp, Queue, queue_cmp, Lane, lane_cmp, Group, group_cmp, mode_cmp}
-use Rattle.trace_pair.specs.declared.pair.Couple.{Couple}
+use Rattle.trace_pair.specs.Indexed.{name_lt}
+use Rattle.trace_pair.specs.KeyOrders.{name_cmp, message_cmp, receive_cmp, Queue, queue_cmp, Lane, lane_cmp, Group, group_cmp, mode_cmp}
 
 then_equal : (a b : Ordering) → ordering_then a b ≡ Equal → (a ≡ Equal) × (b ≡ Equal)
 then_equal Less b h = absurd (cc)
@@ -55,7 +54,7 @@ exact_options None (Some b) h = absurd (cc)
 exact_options (Some a) None h = absurd (cc)
 exact_options (Some a) (Some b) h = ap (λ (x : ℕ). Some x) (exact_nats a b h)
 
-name_total : IsTotalOrder name_cmp
+pub name_total : IsTotalOrder name_cmp
 name_total = then_total (on_total (λ (x : OpName). x.rank) nat_cmp_total) (on_total (λ (x : OpName). x.call) nat_cmp_total)
 
 pub messages_total : IsTotalOrder message_cmp
@@ -91,7 +90,7 @@ lane a b c = (a, b, c)
 abbrev group : ℕ → ℕ → Option ℕ → Option ℕ → Group
 group a b c d = (a, b, c, d)
 
-exact_names : CmpEqualImpliesEq name_cmp
+pub exact_names : CmpEqualImpliesEq name_cmp
 exact_names a b h =
     let h0 = then_equal (nat_cmp a.rank b.rank) (nat_cmp a.call b.call) h in
     ap (λ x. name x a.call) (exact_nats a.rank b.rank h0.0)
@@ -158,14 +157,6 @@ exact_groups a b h =
     ∙ ap (λ x. group b.0 x a.2 a.3) (exact_nats a.1 b.1 h1.1)
     ∙ ap (λ x. group b.0 b.1 x a.3) (exact_options a.2 b.2 h2.1)
     ∙ ap (λ x. group b.0 b.1 b.2 x) (exact_options a.3 b.3 h3.1)
-
-pub couples_total : IsTotalOrder couple_cmp
-couples_total = then_total (on_total (λ (x : Couple). x.message) messages_total) (on_total (λ (x : Couple). x.receive) receives_total)
-
-pub exact_couples : CmpEqualImpliesEq couple_cmp
-exact_couples a b h =
-    let h0 = then_equal (message_cmp a.message b.message) (receive_cmp a.receive b.receive) h in
-    ap (λ x. couple_of x a.receive) (exact_messages a.message b.message h0.0) ∙ ap (λ x. couple_of b.message x) (exact_receives a.receive b.receive h0.1)
 
 -- the later name is above
 above_name : (a b : OpName) (rest : Ordering) → name_lt a b ≡ true → is_gt (ordering_then (name_cmp b a) rest) ≡ true

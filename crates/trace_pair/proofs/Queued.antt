@@ -1,4 +1,4 @@
--- Where the messages, receives and couples of an index stand.
+-- Where the messages and receives of an index stand.
 use Rattle.std.proofs.Common.{subst, ◌≡◌, ℕ, Bool, true, false, ◌&&◌, ◌||◌, List, inl, inr, ⊎_elim, sym, refl, ◌∙◌, ap, arith, ◌⊎◌, Option, Some, None, eqb}
 use Rattle.std.specs.Prelude.{is_some, IfSome, IfNone}
 use Rattle.std.specs.Ordering.{is_gt}
@@ -10,14 +10,13 @@ use Rattle.mpi_model.specs.declared.message.Receive.{Receive}
 use Rattle.mpi_model.specs.Fit.{fits, admits}
 use Rattle.trace_ops.specs.Order.{Has}
 use Rattle.trace_pair.specs.Groups.{has, members}
-use Rattle.trace_pair.specs.Indexed.{IsFirstMessage, IsFirstReceive, couple_of, name_lt}
-use Rattle.trace_pair.specs.KeyOrders.{message_cmp, receive_cmp, couple_cmp, Queue, queue_cmp, queue_of, Lane, lane_cmp, lane_of, Group, group_cmp, group_of}
-use Rattle.trace_pair.specs.Queues.{AreQueued, AreGrouped, AreCoupled, alike, of_kind, IsBestAmong}
-use Rattle.trace_pair.specs.declared.pair.Couple.{Couple}
+use Rattle.trace_pair.specs.Indexed.{IsFirstMessage, IsFirstReceive, name_lt}
+use Rattle.trace_pair.specs.KeyOrders.{message_cmp, receive_cmp, Queue, queue_cmp, queue_of, Lane, lane_cmp, lane_of, Group, group_cmp, group_of}
+use Rattle.trace_pair.specs.Queues.{AreQueued, AreGrouped, alike, of_kind, IsBestAmong}
 use Rattle.trace_pair.proofs.Obeyed.{both, and_true}
 use Rattle.trace_pair.proofs.Names.{name_along, name_not_later}
 use Rattle.trace_pair.proofs.Members.{has_member, stands}
-use Rattle.trace_pair.proofs.Orders.{messages_total, receives_total, couples_total, queues_total, groups_total, exact_messages, exact_receives, exact_couples, exact_queues, exact_groups, later_message, later_receive}
+use Rattle.trace_pair.proofs.Orders.{messages_total, receives_total, queues_total, groups_total, exact_messages, exact_receives, exact_queues, exact_groups, later_message, later_receive}
 
 nat_says : (a b : ℕ) → eqb a b ≡ true → a ≡ b
 nat_says a b h = grind (arith, nat_tests)
@@ -25,10 +24,10 @@ nat_says a b h = grind (arith, nat_tests)
 equal_nats : (a b : ℕ) → a ≡ b → eqb a b ≡ true
 equal_nats a b e = grind (arith, nat_tests)
 
-admits_says : (s x : ℕ) → admits (Some s) x ≡ true → s ≡ x
+pub admits_says : (s x : ℕ) → admits (Some s) x ≡ true → s ≡ x
 admits_says s x h = nat_says s x h
 
-fit_parts : (m : Message) (q : Receive) → fits m q ≡ true → (m.comm ≡ q.comm) × (m.to ≡ q.at) × (admits q.source m.from ≡ true) × (admits q.tag m.tag ≡ true)
+pub fit_parts : (m : Message) (q : Receive) → fits m q ≡ true → (m.comm ≡ q.comm) × (m.to ≡ q.at) × (admits q.source m.from ≡ true) × (admits q.tag m.tag ≡ true)
 fit_parts m q h =
     let a = eqb m.comm q.comm in let b = eqb m.to q.at in let s = admits q.source m.from in let t = admits q.tag m.tag in
     let h3 = both (a && b && s) t h in let h2 = both (a && b) s h3.0 in let h1 = both a b h2.0 in
@@ -216,27 +215,3 @@ best_if xs m (Some q) h = record { member = h.0; fit = h.1; first = λ r i f b. 
 pub best_if_none : (xs : List Receive) (m : Message) (o : Option Receive) → IsBestAmong xs m (all_kinds m) o → IfNone o ((r : Receive) → Has xs r → fits m r ≡ true → ⊥)
 best_if_none xs m None h = λ r i f. h r i (kinds r.source r.tag m.from m.tag) f
 best_if_none xs m (Some q) h = tt
-
--- the couples of a message, and of a receive
-module _ (takers : BTreeMap Message (BTreeSet Couple)) (taken : BTreeMap Receive (BTreeSet Couple)) (inv : AreCoupled takers taken) where
-  at_taker : (c : Couple) → Has (members takers) c → has message_cmp couple_cmp takers c.message c ≡ true
-  at_taker c i = stands messages_total exact_messages couples_total exact_couples (λ c. c.message) takers inv.first_ordered inv.first_placed c i
-
-  in_takers : (c : Couple) → has message_cmp couple_cmp takers c.message c ≡ true → Has (members takers) c
-  in_takers c h = has_member messages_total exact_messages couples_total exact_couples takers inv.first_ordered c.message c h
-
-  pub taker_some : (m : Message) (c : Couple) → has message_cmp couple_cmp takers m c ≡ true → Has (members takers) (couple_of m c.receive)
-  taker_some m c h =
-      let k : m ≡ c.message = inv.first_placed m c h in
-      subst (λ (n : Message). Has (members takers) (couple_of n c.receive)) (sym k) (in_takers c (ap (λ (n : Message). has message_cmp couple_cmp takers n c) (sym k) ∙ h))
-
-  pub taker_none : (m : Message) → ((c : Couple) → has message_cmp couple_cmp takers m c ≡ false) → (q : Receive) → Has (members takers) (couple_of m q) → ⊥
-  taker_none m none q i = not_least (has message_cmp couple_cmp takers m (couple_of m q)) (at_taker (couple_of m q) i) (none (couple_of m q))
-
-  pub taken_some : (q : Receive) (c : Couple) → has receive_cmp couple_cmp taken q c ≡ true → Has (members takers) (couple_of c.message q)
-  taken_some q c h =
-      let k : q ≡ c.receive = inv.second_placed q c h in
-      subst (λ (r : Receive). Has (members takers) (couple_of c.message r)) (sym k) (in_takers c (inv.same c ∙ ap (λ (r : Receive). has receive_cmp couple_cmp taken r c) (sym k) ∙ h))
-
-  pub taken_none : (q : Receive) → ((c : Couple) → has receive_cmp couple_cmp taken q c ≡ false) → (m : Message) → Has (members takers) (couple_of m q) → ⊥
-  taken_none q none m i = not_least (has receive_cmp couple_cmp taken q (couple_of m q)) (sym (inv.same (couple_of m q)) ∙ at_taker (couple_of m q) i) (none (couple_of m q))

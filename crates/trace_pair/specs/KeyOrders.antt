@@ -8,7 +8,6 @@ use Rattle.mpi_model.specs.contracts.envelope.ModeOrd.TheImpl as mode_ord
 use Rattle.mpi_model.specs.declared.event.OpName.{OpName}
 use Rattle.mpi_model.specs.declared.message.Message.{Message}
 use Rattle.mpi_model.specs.declared.message.Receive.{Receive}
-use Rattle.trace_pair.specs.declared.pair.Couple.{Couple}
 
 abbrev pub name_cmp : OpName → OpName → Ordering
 name_cmp a b = ordering_then (nat_cmp a.rank b.rank) (nat_cmp a.call b.call)
@@ -21,9 +20,6 @@ message_cmp a b = ordering_then (name_cmp a.name b.name) (ordering_then (nat_cmp
 
 abbrev pub receive_cmp : Receive → Receive → Ordering
 receive_cmp a b = ordering_then (name_cmp a.name b.name) (ordering_then (nat_cmp a.comm b.comm) (ordering_then (nat_cmp a.at b.at) (ordering_then (option_cmp nat_cmp a.source b.source) (ordering_then (option_cmp nat_cmp a.tag b.tag) (ordering_then (nat_cmp a.count b.count) (int_cmp a.datatype b.datatype))))))
-
-abbrev pub couple_cmp : Couple → Couple → Ordering
-couple_cmp a b = ordering_then (message_cmp a.message b.message) (receive_cmp a.receive b.receive)
 
 -- communicator, sender, receiver and tag
 abbrev pub Queue : Type 0

@@ -7,6 +7,7 @@ pub mod Scratch
 pub mod Sets
 pub mod Calls
 pub mod Indexed
+pub mod Coupled
 pub mod Followed
 pub mod Kept
 pub mod Groups

@@ -7,8 +7,7 @@ use Rattle.mpi_model.specs.declared.message.Receive.{Receive}
 use Rattle.trace_ops.specs.Order.{Has}
 use Rattle.trace_pair.specs.Groups.{ArePlaced, StandTwice}
 use Rattle.trace_pair.specs.Indexed.{name_lt}
-use Rattle.trace_pair.specs.KeyOrders.{message_cmp, receive_cmp, couple_cmp, Queue, queue_cmp, queue_of, Lane, lane_cmp, lane_of, Group, group_cmp, group_of}
-use Rattle.trace_pair.specs.declared.pair.Couple.{Couple}
+use Rattle.trace_pair.specs.KeyOrders.{message_cmp, receive_cmp, Queue, queue_cmp, queue_of, Lane, lane_cmp, lane_of, Group, group_cmp, group_of}
 use Rattle.mpi_model.specs.Fit.{fits}
 
 -- messages by queue, and the same ones by lane
@@ -19,10 +18,6 @@ AreQueued tagged lanes = StandTwice queue_cmp lane_cmp message_cmp queue_of lane
 pub record AreGrouped (groups : BTreeMap Group (BTreeSet Receive)) : Type 0 where
   pub ordered : IsOrdered group_cmp groups
   pub placed : ArePlaced group_cmp receive_cmp group_of groups
-
--- couples by message, and the same ones by receive
-abbrev pub AreCoupled : BTreeMap Message (BTreeSet Couple) → BTreeMap Receive (BTreeSet Couple) → Type 0
-AreCoupled takers taken = StandTwice message_cmp receive_cmp couple_cmp (λ c. c.message) (λ c. c.receive) takers taken
 
 -- both are told, or neither is
 abbrev pub alike : Option ℕ → Option ℕ → Bool

@@ -13,12 +13,14 @@
 //! - [`pair`]: a pair, and the two sides of one
 //! - [`rules`]: the five rules, one by one; [`scratch`]: the pairing straight from them
 //! - [`table`]: the pairs and the postponed messages
-//! - [`groups`], [`queues`]: sets of calls and couples, found by a few probes of an ordered map
+//! - [`groups`], [`queues`]: sets of calls, found by a few probes of an ordered map; [`couples`]: the
+//!   pairs by either name
 //! - [`matched`]: the sets of an index, as one call comes or goes; [`follow`]: as a rank's calls do
 //! - [`index`]: the index
 //! - [`laws`]: what makes the rules easy to believe, as contracts of calls that do nothing
 #![tactic(auto)]
 
+mod couples;
 mod follow;
 mod groups;
 mod index;

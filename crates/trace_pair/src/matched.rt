@@ -10,8 +10,9 @@ ghost use Rattle.trace_pair.specs.Indexed.{TakesMessage, TakesReceive};
 ghost use Rattle.trace_pair.specs.Pairing.{receive_of};
 ghost use Rattle.trace_pair.specs.Table.{fits_untold};
 
+use crate::couples::Couples;
 use crate::pair::Couple;
-use crate::queues::{Couples, Messages, Receives};
+use crate::queues::{Messages, Receives};
 use crate::rules::is_posted_before;
 use mpi_model::{Message, Receive};
 use std::alloc::{AllocError, Global};

@@ -23,10 +23,19 @@ pub enum Side {
 }
 
 /// A message and the receive that takes it.
-#[derive(Clone, Copy, Debug, PartialEq, Eq, PartialOrd, Ord)]
+#[derive(Clone, Copy, Debug, PartialEq, Eq)]
 pub(crate) struct Couple {
     pub(crate) message: Message,
     pub(crate) receive: Receive,
+}
+
+/// What a receive tells beside what the message tells that it takes.
+#[derive(Clone, Copy, Debug, PartialEq, Eq)]
+pub(crate) struct Taker {
+    pub(crate) call: u64,
+    pub(crate) datatype: i64,
+    pub(crate) count: u32,
+    pub(crate) any_tag: bool,
 }
 
 pub(crate) fn make_pair(m: &Message, q: &Receive) -> Pair

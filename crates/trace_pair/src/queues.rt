@@ -1,13 +1,12 @@
-//! The sets of an index: messages, receives and couples, found by a few probes of an ordered map.
+//! The sets of an index: messages and receives, found by a few probes of an ordered map.
 ghost use Rattle.std.specs.Prelude.{◌≡◌, ◌||◌, true, OnOk, IfSome, IfNone, is_some, List, Bool, []};
 ghost use Rattle.mpi_model.specs.Fit.{fits, admits};
 ghost use Rattle.trace_ops.specs.Order.{Has};
 ghost use Rattle.trace_pair.specs.Sets.{AddsTo, DropsFrom};
-ghost use Rattle.trace_pair.specs.Indexed.{IsFirstMessage, IsFirstReceive, couple_of, name_lt};
+ghost use Rattle.trace_pair.specs.Indexed.{IsFirstMessage, IsFirstReceive, name_lt};
 ghost use Rattle.trace_pair.specs.Queues.{IsBestAmong, of_kind};
 
 use crate::groups::{add, drop_at, first_at};
-use crate::pair::Couple;
 use mpi_model::{Message, OpName, Receive};
 use std::alloc::{AllocError, Global};
 use std::collections::{BTreeMap, BTreeSet};
@@ -194,86 +193,5 @@ fn earlier_of(a: Option<Receive>, b: Option<Receive>) -> Option<Receive>
                 Some(q)
             },
         },
-    }
-}
-
-/// A set of couples, by message and by receive.
-#[derive(Drop)]
-pub(crate) struct Couples {
-    alloc: Global,
-    takers: BTreeMap<Message, BTreeSet<Couple>>,
-    taken: BTreeMap<Receive, BTreeSet<Couple>>,
-}
-
-impl Model for Couples {
-    ghost use Rattle.std.specs.Prelude.{List};
-    ghost use Rattle.trace_pair.specs.declared.pair.Couple.{Couple};
-    ghost use Rattle.trace_pair.specs.Groups.{members};
-    ghost use Rattle.trace_pair.specs.Queues.{AreCoupled};
-
-    ghost Value = { List Couple };
-
-    ghost view = { λ s. members s.takers };
-
-    ghost invariant = { λ s. AreCoupled s.takers s.taken };
-}
-
-impl Couples {
-    pub(crate) fn empty(alloc: Global) -> Couples
-        ensures { result ≡ [] }
-    {
-        Couples {
-            alloc,
-            takers: BTreeMap::new(alloc),
-            taken: BTreeMap::new(alloc),
-        }
-    }
-
-    pub(crate) fn clear(&mut self)
-        ensures { self.new ≡ [] }
-    {
-        self.takers.clear();
-        self.taken.clear();
-    }
-
-    pub(crate) fn insert(&mut self, c: Couple) -> Result<(), AllocError>
-        ensures { OnOk result (AddsTo self.old self.new c) }
-    {
-        add(self.alloc, &mut self.takers, c.message, c)?;
-        match add(self.alloc, &mut self.taken, c.receive, c) {
-            Ok(()) => Ok(()),
-            Err(error) => {
-                drop_at(&mut self.takers, &c.message, &c);
-                drop_at(&mut self.taken, &c.receive, &c);
-                Err(error)
-            }
-        }
-    }
-
-    pub(crate) fn remove(&mut self, c: &Couple)
-        ensures { DropsFrom self.old self.new c.now }
-    {
-        drop_at(&mut self.takers, &c.message, c);
-        drop_at(&mut self.taken, &c.receive, c);
-    }
-
-    pub(crate) fn of_message(&self, m: &Message) -> Option<Receive>
-        ensures some { IfSome result (λ q. Has self.now (couple_of m.now q)) }
-        ensures none { IfNone result ((q : Receive) → Has self.now (couple_of m.now q) → ⊥) }
-    {
-        match first_at(&self.takers, m) {
-            Some(c) => Some(c.receive),
-            None => None,
-        }
-    }
-
-    pub(crate) fn of_receive(&self, q: &Receive) -> Option<Message>
-        ensures some { IfSome result (λ m. Has self.now (couple_of m q.now)) }
-        ensures none { IfNone result ((m : Message) → Has self.now (couple_of m q.now) → ⊥) }
-    {
-        match first_at(&self.taken, q) {
-            Some(c) => Some(c.message),
-            None => None,
-        }
     }
 }

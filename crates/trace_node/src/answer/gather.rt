@@ -1,19 +1,22 @@
 //! From what is known to what is told of it.
 
-ghost use Rattle.std.specs.Prelude.{◌≡◌, ◌<◌, ◌^◌, IfOk, map};
-ghost use Rattle.std.specs.Option.{option_map};
-ghost use Rattle.trace_ops.specs.RankOps.{all_ops};
+ghost use Rattle.std.specs.Prelude.{◌≡◌, ◌<◌, ◌^◌, IfOk, length, map};
+ghost use Rattle.std.specs.Option.{option_copied, option_map};
+ghost use Rattle.trace_know.specs.Prefix.{event_at};
+ghost use Rattle.trace_ops.specs.Ops.{AreOwn};
 ghost use Rattle.trace_pair.specs.Table.{table_of};
 ghost use Rattle.trace_stuck.specs.Shape.{shape};
-ghost use Rattle.trace_node.specs.Answer.{IsAnswer, beyond_of, foreign_of, prefixes_of, states_of, wall_of};
+ghost use Rattle.trace_wait.specs.Ranks.{ops_of};
+ghost use Rattle.trace_node.specs.Answer.{IsAnswerBy, beyond_of, call_of, entry_of, foreign_of, prefixes_of, states_of, stopped_at, wait_at, wall_of};
+ghost use Rattle.trace_node.specs.Stopped.{stopped};
 
 use crate::answer::Answer;
 use crate::stuck::Stuck;
-use mpi_model::{Event, Layout};
+use mpi_model::{Event, Layout, OpName};
 use std::alloc::{AllocError, Global};
 use trace_know::{Cell, Knowledge};
 use trace_ops::{RankOps, State};
-use trace_pair::PairTable;
+use trace_pair::{Pair, PairTable};
 use trace_wait::{Condition, conditions, rounds, stuck};
 
 /// The readable prefix of each rank.
@@ -60,20 +63,40 @@ fn foreign_of(ops: &[RankOps]) -> u64
     foreign
 }
 
-/// The wall time at which a call was entered. Past the last number of 64 bits nothing is known, and
-/// nothing is known of the last.
+/// The one event that is known of a place.
+fn event_at(know: &Knowledge, rank: u32, place: u64) -> Option<&Event>
+    ensures { option_copied result ≡ event_at know.now rank place }
+{
+    match know.cell(rank, place) {
+        Cell::One(event) => Some(event),
+        Cell::Nothing => None,
+        Cell::Contradiction => None,
+    }
+}
+
+/// The wall time of an Enter.
+fn entry_of(event: Option<&Event>) -> u64
+    ensures { result ≡ entry_of (option_copied event.entry) }
+{
+    match event {
+        Some(Event::Enter(_, stamp)) => stamp.wall(),
+        Some(Event::Return(_, _)) => 0,
+        None => 0,
+    }
+}
+
+/// The wall time at which a call was entered. Nothing is known of places past 2^40, so a number at
+/// the end of its type stands for all behind it.
 fn wall_of(know: &Knowledge, rank: u32, call: u64) -> u64
     ensures { result ≡ wall_of know.now rank call }
 {
     know.known();
-    match know.cell(rank, call.saturating_mul(2)) {
-        Cell::One(Event::Enter(_, stamp)) => stamp.wall(),
-        _ => 0,
-    }
+    entry_of(event_at(know, rank, call.saturating_mul(2)))
 }
 
 /// The number of the call in which a rank waits.
 fn call_of(ops: &[RankOps], rank: u32) -> u64
+    ensures { result ≡ call_of (ops_of ops.now rank) }
 {
     match ops.get(rank as usize) {
         Some(own) => match own.waiting() {
@@ -90,6 +113,7 @@ fn wait_at(
     conditions: &[Option<Condition>],
     rank: u32,
 ) -> Result<Condition, AllocError>
+    ensures { IfOk result (λ c. shape c ≡ wait_at (map (option_map shape) conditions.now) rank) }
 {
     match conditions.get(rank as usize) {
         Some(Some(condition)) => condition.try_clone(alloc),
@@ -105,6 +129,7 @@ fn stuck_of(
     conditions: &[Option<Condition>],
     ranks: &[u32],
 ) -> Result<Vec<Stuck>, AllocError>
+    ensures { IfOk result (λ v. map stopped v.items ≡ map (stopped_at know.now ops.now (map (option_map shape) conditions.now)) ranks.now) }
 {
     let mut all = Vec::new(alloc);
     for rank in ranks {
@@ -119,6 +144,18 @@ fn stuck_of(
     Ok(all)
 }
 
+fn pairs_of(alloc: Global, table: &PairTable) -> Result<Vec<Pair>, AllocError>
+    ensures { IfOk result (λ v. v.items ≡ table.now.pairs) }
+{
+    table.pairs().to_vec(alloc)
+}
+
+fn postponed_of(alloc: Global, table: &PairTable) -> Result<Vec<OpName>, AllocError>
+    ensures { IfOk result (λ v. v.items ≡ table.now.postponed) }
+{
+    table.postponed().to_vec(alloc)
+}
+
 /// What is told of all that is known, by the ops of the ranks and their pairs.
 pub(crate) fn answer_of(
     alloc: Global,
@@ -127,9 +164,10 @@ pub(crate) fn answer_of(
     ops: &[RankOps],
     table: &PairTable,
 ) -> Result<Answer, AllocError>
-    requires ops { ops.now ≡ all_ops layout.now know.now }
+    requires few { length ops.now < 2 ^ 32 }
+    requires own { AreOwn 0 ops.now }
     requires table { table.now ≡ table_of ops.now }
-    ensures { IfOk result (λ a. IsAnswer layout.now know.now a) }
+    ensures { IfOk result (λ a. IsAnswerBy layout.now know.now ops.now a) }
 {
     let rounds = rounds(alloc, layout, ops)?;
     let conditions = conditions(alloc, layout, ops, table, &rounds)?;
@@ -141,8 +179,8 @@ pub(crate) fn answer_of(
         prefixes: prefixes_of(alloc, layout, know)?,
         beyond: beyond_of(alloc, layout, know)?,
         conflicts: know.conflict_places(alloc)?,
-        pairs: table.pairs().to_vec(alloc)?,
-        postponed: table.postponed().to_vec(alloc)?,
+        pairs: pairs_of(alloc, table)?,
+        postponed: postponed_of(alloc, table)?,
         rounds,
         states,
         stuck: stuck_of(alloc, know, ops, &conditions, &verdict.stuck)?,

@@ -1,4 +1,5 @@
 use Rattle.std.proofs.Common.{rules}
+use Rattle.trace_pair.proofs.Known.{known_receive}
 use Rattle.trace_pair.proofs.Moves.{pop_receive_untold, pop_receive_coupled, pop_receive_open, told_of}
 use Rattle.trace_pair.proofs.matched.pop_receive.Goals as goal
 
@@ -8,7 +9,8 @@ returns-then-is_none c = λ ms qs more adds held.
 
 pub returns-in_ok-insert-in-Some : goal.returns-in_ok-insert-in-Some
 returns-in_ok-insert-in-Some c = λ ms qs more adds held.
-    pop_receive_coupled ms qs more c.args.q.now adds _ _ _ _ held c.in-Some.m _ _ c.in-Some.ensures.some c.in_ok-insert-in-Some.ensures c.remove-in-Some.ensures
+    let i = c.in-Some.ensures.some (known_receive ms more _ _ _ _ held c.args.q.now adds.new) in
+    pop_receive_coupled ms qs more c.args.q.now adds _ _ _ _ held c.in-Some.m _ _ i c.in_ok-insert-in-Some.ensures (c.remove-in-Some.ensures i)
 
 pub returns-in-None : goal.returns-in-None
 returns-in-None c = λ ms qs more adds held.

@@ -1,10 +1,12 @@
+use Rattle.trace_pair.proofs.Known.{new_message}
 use Rattle.trace_pair.proofs.Moves.{push_coupled, push_waits}
 use Rattle.trace_pair.proofs.matched.push_message.Goals as goal
 
 pub returns-in_ok-insert-in-Some : goal.returns-in_ok-insert-in-Some
 returns-in_ok-insert-in-Some c = λ ms more qs adds held.
     let t = c.in-Some.ensures.some ms qs held in
-    push_coupled ms more qs c.args.m adds _ _ _ _ held c.in-Some.q _ _ t.0 t.1 c.remove.ensures c.in_ok-insert-in-Some.ensures
+    push_coupled ms more qs c.args.m adds _ _ _ _ held c.in-Some.q _ _ t.0 t.1 c.remove.ensures
+    (c.in_ok-insert-in-Some.ensures (new_message ms qs _ _ _ _ held more c.args.m c.in-Some.q adds t.0 t.1))
 
 pub returns-in_ok-insert-in-None : goal.returns-in_ok-insert-in-None
 returns-in_ok-insert-in-None c = λ ms more qs adds held.

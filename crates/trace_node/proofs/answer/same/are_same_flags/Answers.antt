@@ -1,0 +1,6 @@
+use Rattle.std.specs.Cmp.Lexicographic.{pointwise_decides}
+use Rattle.trace_node.proofs.Same.{flag_same}
+use Rattle.trace_node.proofs.answer.same.are_same_flags.Goals as goal
+
+pub returns : goal.returns
+returns c = rw c.eq.ensures (pointwise_decides flag_same c.args.first.now c.args.second.now)
