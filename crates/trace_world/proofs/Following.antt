@@ -1,5 +1,5 @@
 -- Each step of a world follows the step of the schedule.
-use Rattle.std.proofs.Common.{◌≡◌, ◌<◌, ◌≤◌, ℕ, ◌+◌, Bool, true, false, Ok, Err, Unit, tt, subst, List, [], ◌∷◌, ◌++◌, length, map, drop, take, get_or, set, refl, sym, ap, ◌∙◌, arith}
+use Rattle.std.proofs.Common.{◌≡◌, ◌<◌, ◌≤◌, ℕ, ◌+◌, Bool, true, false, Ok, Err, zero, suc, subst, List, [], ◌∷◌, ◌++◌, length, map, drop, take, get_or, set, refl, sym, ap, ◌∙◌, arith}
 use Rattle.std.specs.Prelude.{slice_set, slice_index_or, replicate}
 use Rattle.std.specs.List.{flat_map}
 use Rattle.std.specs.FinMap.{empty, entries}
@@ -68,7 +68,7 @@ framed-append (m ∷ mails) mail h last = (h.0, framed-append mails mail h.1 las
 -- each of the mails has a frame
 framed-at : (mails : List (List PlacedEvents)) (i : ℕ) → AllFramed mails → i < length mails → HasFrame (entries (knowledge_of (at mails i)))
 framed-at [] i h lt = absurd (omega lt)
-framed-at (m ∷ mails) 0 h lt = h.0
+framed-at (m ∷ mails) zero h lt = h.0
 framed-at (m ∷ mails) (suc i) h lt = framed-at mails i h.1 (omega lt)
 
 pub ships : (layout : Parts) (nodes : List Held) (inboxes : List (List PlacedEvents)) (mails mails' : List (List ℕ)) (node : ℕ) (know : View) → know ≡ slice_index_or (knows nodes) node empty → HasFrame (entries know) → mails' ≡ mails ++ frame_of know ∷ []

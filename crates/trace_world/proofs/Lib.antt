@@ -1,3 +1,4 @@
 pub mod Following
 pub mod Keeping
 pub mod Equal
+pub mod Moving

@@ -1,5 +1,5 @@
 -- What a node makes of more knowledge, among the nodes of a world.
-use Rattle.std.specs.Prelude.{◌≡◌, ℕ, Bool, true, false, Unit, Result, Ok, Err, List, slice_set, slice_index_or}
+use Rattle.std.specs.Prelude.{◌≡◌, ℕ, Bool, true, false, Result, Ok, Err, List, slice_set, slice_index_or}
 use Rattle.std.specs.FinMap.{empty}
 use Rattle.trace_know.specs.View.{View, join}
 use Rattle.trace_node.specs.Node.{Held}

@@ -1,5 +1,5 @@
 -- Why steps are refused, and what is left then.
-use Rattle.std.specs.Prelude.{◌≡◌, ◌⊎◌, ℕ, ◌+◌, ◌<◌, ◌≤◌, Bool, true, false, Unit, Result, Ok, Err, Option, Some, None, List, [], ◌∷◌, map, length, nat_lt, slice_index_or, ⊤, if◌then◌else◌}
+use Rattle.std.specs.Prelude.{◌≡◌, ◌⊎◌, ℕ, ◌+◌, ◌<◌, ◌≤◌, Bool, true, false, Result, Ok, Err, Option, Some, None, List, [], ◌∷◌, map, length, nat_lt, slice_index_or, ⊤, if◌then◌else◌}
 use Rattle.std.specs.FinMap.{empty, entries}
 use Rattle.trace_know.specs.Segment.{PlacedEvents}
 use Rattle.trace_know.specs.View.{View}

@@ -30,7 +30,7 @@ IsFrame bytes = (view : View) × (bytes ≡ frame_of view) × HasFrame (entries 
 pub record IsWorld (layout : Parts) (nodes : List Held) (inboxes : List (List PlacedEvents)) (mails : List (List ℕ)) : Type 0 where
   pub some : 0 < length nodes
   pub few : length nodes ≤ most_nodes
-  pub inboxes : length inboxes ≡ length nodes
-  pub layouts : layouts nodes ≡ replicate (length nodes) layout
+  pub each : length inboxes ≡ length nodes
+  pub one_layout : layouts nodes ≡ replicate (length nodes) layout
   pub posted : (i : ℕ) → AreWithin layout (at inboxes i)
   pub mailed : (i : ℕ) → i < length mails → IsWithinFrame layout (slice_index_or mails i [])

@@ -2,6 +2,8 @@
 
 ghost use Rattle.std.specs.Prelude.{◌≡◌, ◌≤◌, IfOk, Some, length};
 ghost use Rattle.std.specs.Io.KnownBytes.{ReadConsumes};
+ghost use Rattle.mpi_model.specs.Failures.{CountsFailure};
+ghost use Rattle.mpi_model.specs.Side.{LeavesSide, untold};
 
 use mpi_model::{Failed, Read};
 
@@ -28,6 +30,8 @@ impl<'a> Read for Letter<'a> {
     fn read(&mut self, buffer: &mut [u8]) -> Result<usize, Failed>
         ensures within { IfOk result (λ n. n ≤ length buffer.new) }
         ensures bytes { ReadConsumes (Some self.old.bytes.now) (Some self.new.bytes.now) result buffer.new }
+        ensures failures { CountsFailure 0 0 result }
+        ensures beside { LeavesSide untold untold }
     {
         let count = buffer.len().min(self.bytes.len());
         let (given, left) = self.bytes.split_at(count);

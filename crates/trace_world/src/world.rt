@@ -1,6 +1,6 @@
 //! Nodes with their inboxes, and the mails that were shipped.
 
-ghost use Rattle.std.specs.Prelude.{◌≡◌, ◌<◌, ◌≤◌, ◌×◌, ◌∷◌, ◌↔◌, ◌++◌, [], ℕ, true, false, IfOk, OnOk, IfErr, IsErrOf, MatchResult, IfSome, IfNone, length, map, take, replicate};
+ghost use Rattle.std.specs.Prelude.{◌≡◌, ◌<◌, ◌≤◌, ◌∷◌, ◌↔◌, ◌++◌, [], ℕ, true, false, IfOk, OnOk, IfErr, IsErrOf, MatchResult, IfSome, IfNone, length, map, take, replicate};
 ghost use Rattle.std.specs.FinMap.{empty};
 ghost use Rattle.std.specs.List.{slice_get};
 ghost use Rattle.std.specs.Option.{option_map};
@@ -8,7 +8,6 @@ ghost use Rattle.trace_world.specs.Refusals.{refusal, refusal_there, IsOutcome, 
 ghost use Rattle.trace_node.specs.Node.{held};
 ghost use Rattle.trace_world.specs.Schedule.{opening};
 ghost use Rattle.trace_world.specs.Shows.{Shows, Follows, WorldState};
-ghost use Rattle.trace_world.specs.Worlds.{most_nodes};
 
 use crate::inbox::Inbox;
 use crate::mail::Mail;
