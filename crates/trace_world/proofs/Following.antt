@@ -1,5 +1,5 @@
 -- Each step of a world follows the step of the schedule.
-use Rattle.std.proofs.Common.{◌≡◌, ◌<◌, ◌≤◌, ℕ, ◌+◌, Bool, true, false, Ok, Err, zero, suc, subst, List, [], ◌∷◌, ◌++◌, length, map, drop, take, get_or, set, refl, sym, ap, ◌∙◌, arith}
+use Rattle.std.proofs.Common.{◌≡◌, ◌<◌, ◌≤◌, ℕ, ◌+◌, Bool, true, false, Ok, Err, OnOk, IfErr, Result, zero, suc, subst, List, [], ◌∷◌, ◌++◌, length, map, drop, take, get_or, set, refl, sym, ap, ◌∙◌, arith}
 use Rattle.std.specs.Prelude.{slice_set, slice_index_or, replicate}
 use Rattle.std.specs.List.{flat_map}
 use Rattle.std.specs.FinMap.{empty, entries}
@@ -15,7 +15,7 @@ use Rattle.trace_wire.specs.Frames.{frame_of, frame, HasFrame, Entry}
 use Rattle.trace_world.specs.Schedule.{State, after, after_all, at}
 use Rattle.trace_world.specs.Shows.{knowledge_of, knows, AllFramed, Shows, Follows, WorldState, world_state}
 use Rattle.trace_world.specs.Moves.{joined}
-use Rattle.trace_world.specs.Refusals.{is_done, done}
+use Rattle.trace_world.specs.Refusals.{is_done, done, SameNodes}
 use Rattle.trace_world.specs.declared.step.WorldFault.{WorldFault}
 use Rattle.trace_world.specs.declared.step.WorldFault.TheVariants.{NoNode, NoMail, EmptyInbox, Rank, FrameLength, Stale, NodeCount, Memory}
 use Rattle.trace_world.specs.declared.step.Step.{Step}
@@ -67,9 +67,9 @@ framed-append (m ∷ mails) mail h last = (h.0, framed-append mails mail h.1 las
 
 -- each of the mails has a frame
 framed-at : (mails : List (List PlacedEvents)) (i : ℕ) → AllFramed mails → i < length mails → HasFrame (entries (knowledge_of (at mails i)))
-framed-at [] i h lt = absurd (omega lt)
+framed-at [] i h lt = absurd (omega (arith, lt))
 framed-at (m ∷ mails) zero h lt = h.0
-framed-at (m ∷ mails) (suc i) h lt = framed-at mails i h.1 (omega lt)
+framed-at (m ∷ mails) (suc i) h lt = framed-at mails i h.1 (omega (arith, lt))
 
 pub ships : (layout : Parts) (nodes : List Held) (inboxes : List (List PlacedEvents)) (mails mails' : List (List ℕ)) (node : ℕ) (know : View) → know ≡ slice_index_or (knows nodes) node empty → HasFrame (entries know) → mails' ≡ mails ++ frame_of know ∷ []
     → Follows (world_state layout nodes inboxes mails) (Ship node ∷ []) (world_state layout nodes inboxes mails')
@@ -108,6 +108,19 @@ restarts layout nodes nodes' inboxes inboxes' mails node e f s h =
       mails = h.mails;
       framed = h.framed;
     }
+
+-- a world whose nodes know the same shows the same
+pub still : (layout : Parts) (nodes nodes' : List Held) (inboxes : List (List PlacedEvents)) (mails : List (List ℕ)) → knows nodes' ≡ knows nodes → Follows (world_state layout nodes inboxes mails) [] (world_state layout nodes' inboxes mails)
+still layout nodes nodes' inboxes mails e s h = record { knowledge = e ∙ h.knowledge; inboxes = h.inboxes; mails = h.mails; framed = h.framed }
+
+-- a mail that was added is the last one
+pub added : (mails mails' : List (List ℕ)) (mail : List ℕ) (know : View) (result : Result (Unit {0}) WorldFault) → mail ≡ frame_of know → OnOk result (mails' ≡ mails ++ mail ∷ []) → IfErr result (λ fault. (fault ≡ Memory) × (mails' ≡ mails)) → is_done result ≡ true → mails' ≡ mails ++ frame_of know ∷ []
+added mails mails' mail know (Ok x) is e f went = e ∙ ap (λ m. mails ++ m ∷ []) is
+added mails mails' mail know (Err fault) is e f went = let x : false ≡ true = subst (λ x. is_done (Err x) ≡ true) f.0 went in absurd (cc)
+
+-- the nodes are as many as at first
+pub same_then : (a b c : WorldState) → SameNodes a b → SameNodes b c → SameNodes a c
+same_then a b c f g = record { layout = g.layout ∙ f.layout; count = g.count ∙ f.count }
 
 after_all-append : (xs : List Step) (x : Step) (s : State) → after_all (xs ++ x ∷ []) s ≡ after x (after_all xs s)
 after_all-append [] x s = refl

@@ -1,15 +1,21 @@
--- One node among the nodes of a world joins more.
-use Rattle.std.proofs.Common.{◌≡◌, ◌<◌, ℕ, Bool, true, false, List, length, map, get_or, set, refl, sym, ap, ◌∙◌}
-use Rattle.std.specs.Prelude.{slice_set, slice_index_or}
+-- One node among the nodes of a world joins more, is refreshed or starts anew.
+use Rattle.std.proofs.Common.{◌≡◌, ◌<◌, ◌≤◌, ℕ, zero, suc, Bool, true, false, Ok, Err, Some, None, Result, List, [], ◌∷◌, length, map, get_or, set, refl, sym, ap, ◌∙◌, subst, arith}
+use Rattle.std.specs.Prelude.{slice_set, slice_index_or, replicate}
+use Rattle.std.specs.List.{slice_get}
+use Rattle.std.specs.Option.{option_map}
 use Rattle.std.specs.FinMap.{empty}
-use Rattle.std.proofs.lemmas.List.{map-set}
+use Rattle.std.proofs.lemmas.List.{map-set, length-set, get_or-replicate}
 use Rattle.std.proofs.lemmas.List as lists
+use Rattle.std.proofs.lemmas.Option.{slice_get-map, slice_get-get_or}
 use Rattle.std.proofs.Math.Seq.{map-set_same}
+use Rattle.mpi_model.specs.Layouts.{Parts}
 use Rattle.trace_know.specs.View.{View, join}
 use Rattle.trace_node.specs.Node.{Held, held}
+use Rattle.trace_world.specs.declared.step.WorldFault.{WorldFault}
+use Rattle.trace_world.specs.declared.step.WorldFault.TheVariants.{NoNode, NoMail, EmptyInbox, Rank, FrameLength, Stale, NodeCount, Memory}
 use Rattle.trace_world.specs.Shows.{knows}
-use Rattle.trace_world.specs.Moves.{Joined}
-use Rattle.trace_world.specs.Refusals.{stale}
+use Rattle.trace_world.specs.Moves.{Joined, Learns, joined}
+use Rattle.trace_world.specs.Refusals.{stale, is_done, NoneStaler}
 use Rattle.trace_world.specs.Worlds.{layouts}
 
 pub joins : (nodes : List Held) (node : ℕ) (old new : Held) (more : View) (is_stale : Bool) → node < length nodes → old ≡ get_or nodes node old → new ≡ held old.layout (join old.know more) is_stale
@@ -25,3 +31,66 @@ joins nodes node old new more is_stale lt is e = record {
 -- whether a node has an answer, among the nodes
 pub stale_at : (nodes : List Held) (node : ℕ) (old : Held) → node < length nodes → old ≡ get_or nodes node old → old.is_stale ≡ false → slice_index_or (stale nodes) node true ≡ false
 stale_at nodes node old lt is fresh = lists.get_or-map (λ (n : Held). n.is_stale) nodes node old true lt ∙ ap (λ (n : Held). n.is_stale) (sym is) ∙ fresh
+
+-- the layout of a node, among the nodes
+pub layout_at : (nodes : List Held) (node : ℕ) (old : Held) → node < length nodes → old ≡ get_or nodes node old → slice_get (layouts nodes) node ≡ Some old.layout
+layout_at nodes node old lt is = slice_get-map (λ (n : Held). n.layout) nodes node ∙ ap (option_map (λ (n : Held). n.layout)) (slice_get-get_or nodes node old lt) ∙ ap (λ (n : Held). Some n.layout) (sym is)
+
+-- where a step was done, its node has joined more
+pub learned : (old new : List Held) (node : ℕ) (more : View) (result : Result (Unit {0}) WorldFault) → Learns old node more result new → is_done result ≡ true → knows new ≡ joined (knows old) node more
+learned old new node more (Ok x) h d = h.1.knows
+learned old new node more (Err Stale) h d = h.knows
+learned old new node more (Err Memory) h d = let x : false ≡ true = d in absurd (cc)
+learned old new node more (Err NoNode) h d = absurd h
+learned old new node more (Err NoMail) h d = absurd h
+learned old new node more (Err EmptyInbox) h d = absurd h
+learned old new node more (Err Rank) h d = absurd h
+learned old new node more (Err FrameLength) h d = absurd h
+learned old new node more (Err NodeCount) h d = absurd h
+
+-- each node is of the one layout
+pub of_layout : (layout : Parts) (nodes : List Held) (node : ℕ) (old : Held) → layouts nodes ≡ replicate (length nodes) layout → node < length nodes → old ≡ get_or nodes node old → old.layout ≡ layout
+of_layout layout nodes node old one lt is =
+    ap (λ (n : Held). n.layout) is ∙ sym (lists.get_or-map (λ (n : Held). n.layout) nodes node old layout lt) ∙ ap (λ l. get_or l node layout) one ∙ get_or-replicate (length nodes) node layout layout lt
+
+-- another node of the one layout in the place of one
+pub layouts_set : (layout : Parts) (nodes : List Held) (node : ℕ) (new : Held) → layouts nodes ≡ replicate (length nodes) layout → node < length nodes → new.layout ≡ layout
+    → layouts (slice_set nodes node new) ≡ replicate (length (slice_set nodes node new)) layout
+layouts_set layout nodes node new one lt e =
+    map-set_same (λ (n : Held). n.layout) nodes node new new (e ∙ sym (of_layout layout nodes node (get_or nodes node new) one lt (lists.get_or_default nodes node new (get_or nodes node new) lt)))
+    ∙ one ∙ ap (λ n. replicate n layout) (sym (length-set nodes node new))
+
+-- a node that has an answer now in the place of one
+pub answered_at : (nodes : List Held) (node : ℕ) (new : Held) → node < length nodes → new.is_stale ≡ false → slice_get (stale (slice_set nodes node new)) node ≡ Some false
+answered_at nodes node new lt fresh =
+    ap (λ l. slice_get l node) (map-set (λ (n : Held). n.is_stale) nodes node new)
+    ∙ slice_get-get_or (set (stale nodes) node new.is_stale) node true (subst (λ n. node < n) (sym (length-set (stale nodes) node new.is_stale ∙ lists.length-map nodes (λ (n : Held). n.is_stale))) lt)
+    ∙ ap Some (lists.get_or-set_same (stale nodes) node new.is_stale true (subst (λ n. node < n) (sym (lists.length-map nodes (λ (n : Held). n.is_stale))) lt) ∙ fresh)
+
+-- what a node knows, among the nodes
+pub know_at : (nodes : List Held) (node : ℕ) (old : Held) → node < length nodes → old ≡ get_or nodes node old → old.know ≡ slice_index_or (knows nodes) node empty
+know_at nodes node old lt is = ap (λ (n : Held). n.know) is ∙ sym (lists.get_or-map (λ (n : Held). n.know) nodes node old empty lt)
+
+-- a node that knows the same in the place of one
+pub known_still : (nodes : List Held) (node : ℕ) (old new : Held) → old ≡ get_or nodes node old → new.know ≡ old.know → knows (slice_set nodes node new) ≡ knows nodes
+known_still nodes node old new is e = map-set_same (λ (n : Held). n.know) nodes node new old (e ∙ ap (λ (n : Held). n.know) is)
+
+-- a node of the same layout in the place of one
+pub laid_still : (nodes : List Held) (node : ℕ) (old new : Held) → old ≡ get_or nodes node old → new.layout ≡ old.layout → layouts (slice_set nodes node new) ≡ layouts nodes
+laid_still nodes node old new is e = map-set_same (λ (n : Held). n.layout) nodes node new old (e ∙ ap (λ (n : Held). n.layout) is)
+
+-- a node that is as new in the place of one
+pub renewed_knows : (nodes : List Held) (node : ℕ) (new : Held) (layout : Parts) → new ≡ held layout empty false → knows (slice_set nodes node new) ≡ slice_set (knows nodes) node empty
+renewed_knows nodes node new layout e = map-set (λ (n : Held). n.know) nodes node new ∙ ap (λ (n : Held). set (knows nodes) node n.know) e
+
+-- a false in the place of something leaves each false that was there
+set_false : (xs : List Bool) (node i : ℕ) → slice_index_or xs i false ≡ false → slice_index_or (slice_set xs node false) i false ≡ false
+set_false [] node i e = e
+set_false (x ∷ xs) zero zero e = refl
+set_false (x ∷ xs) zero (suc i) e = e
+set_false (x ∷ xs) (suc node) zero e = e
+set_false (x ∷ xs) (suc node) (suc i) e = set_false xs node i e
+
+pub renewed_stale : (nodes : List Held) (node : ℕ) (new : Held) (layout : Parts) → new ≡ held layout empty false → NoneStaler nodes (slice_set nodes node new)
+renewed_stale nodes node new layout e i fresh =
+    ap (λ l. slice_index_or l i false) (map-set (λ (n : Held). n.is_stale) nodes node new ∙ ap (λ (n : Held). set (stale nodes) node n.is_stale) e) ∙ set_false (stale nodes) node i fresh

@@ -52,10 +52,7 @@ impl Mail {
     {
         frame_laws();
         let mut letter = Letter::new(self.frame.bytes());
-        match read_frame(alloc, &mut letter) {
-            Ok(know) => Ok(know),
-            Err(WireFault::Memory) => Err(AllocError),
-            Err(_) => unreachable!(),
-        }
+        // a mail is a frame and a letter doesn't fail, so all that can lack is memory
+        read_frame(alloc, &mut letter).map_err(|_| AllocError)
     }
 }

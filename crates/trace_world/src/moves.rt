@@ -7,7 +7,7 @@ ghost use Rattle.trace_know.specs.Segment.{PlacedEvents};
 ghost use Rattle.trace_know.specs.Trace.{facts_of, view_of};
 ghost use Rattle.trace_node.specs.Node.{IsWithin};
 ghost use Rattle.trace_world.specs.Moves.{Learns};
-ghost use Rattle.trace_world.specs.Refusals.{is_done};
+ghost use Rattle.trace_world.specs.Refusals.{is_done, stale};
 ghost use Rattle.trace_world.specs.Schedule.{at};
 ghost use Rattle.trace_world.specs.Shows.{knows};
 ghost use Rattle.trace_world.specs.Worlds.{layouts, AreWithin};
@@ -72,5 +72,21 @@ pub(crate) fn merge<'a>(
         Err(NodeFault::Stale) => Err(WorldFault::Stale),
         Err(NodeFault::Memory) => Err(WorldFault::Memory),
         Err(NodeFault::Rank) => unreachable!(),
+    }
+}
+
+/// A node makes its answer anew.
+pub(crate) fn refresh<'a>(nodes: &mut Vec<Node<'a>>, node: usize) -> Result<(), WorldFault>
+    requires there { node < length nodes.old.items }
+    ensures knows { knows nodes.new.items ≡ knows nodes.old.items }
+    ensures layouts { layouts nodes.new.items ≡ layouts nodes.old.items }
+    ensures length { length nodes.new.items ≡ length nodes.old.items }
+    ensures ok { OnOk result (slice_get (stale nodes.new.items) node ≡ Some false) }
+    ensures err { IfErr result (λ fault. fault ≡ WorldFault.Memory) }
+{
+    let place = &mut nodes[node];
+    match place.refresh() {
+        Ok(()) => Ok(()),
+        Err(_) => Err(WorldFault::Memory),
     }
 }

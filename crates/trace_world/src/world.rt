@@ -16,8 +16,9 @@ use crate::step::{Step, WorldFault};
 use mpi_model::Layout;
 use std::alloc::{AllocError, Global};
 use std::marker::Model;
-use trace_know::Segment;
+use trace_know::{Segment, view_laws};
 use trace_node::Node;
+use trace_wire::frame_laws;
 
 /// The greatest number of nodes.
 const MOST_NODES: usize = 64;
@@ -126,11 +127,7 @@ impl<'a> World<'a> {
         if node >= self.nodes.len() {
             return Err(WorldFault::NoNode);
         }
-        let place = &mut self.nodes[node];
-        if place.refresh().is_err() {
-            return Err(WorldFault::Memory);
-        }
-        Ok(())
+        moves::refresh(&mut self.nodes, node)
     }
 
     /// A node, which tells what it knows and its answer.
@@ -154,12 +151,12 @@ impl<'a> World<'a> {
         self.mails.len()
     }
 
-    /// Adds a copy of a segment to a node's inbox.
+    /// Adds a copy of a segment to a node's inbox, whichever worker posts it.
     fn post(&mut self, node: usize, segment: &Segment) -> Result<(), WorldFault>
         requires there { node < length self.old.nodes }
-        ensures done { (worker : ℕ) → is_done result ≡ true → Follows self.old (Step.Post worker node segment.now ∷ []) self.new }
+        ensures done { is_done result ≡ true → Follows self.old (Step.Post 0 node segment.now ∷ []) self.new }
         ensures undone { is_done result ≡ false → self.new ≡ self.old }
-        ensures outcome { (worker : ℕ) → IsOutcome (refusal_there self.old (Step.Post worker node segment.now)) result }
+        ensures outcome { IsOutcome (refusal_there self.old (Step.Post 0 node segment.now)) result }
         ensures fresh { self.new.nodes ≡ self.old.nodes }
         ensures layout { self.new.layout ≡ self.old.layout }
     {
@@ -178,6 +175,7 @@ impl<'a> World<'a> {
         ensures fresh { OnOk result (NoneStaler self.old.nodes self.new.nodes) }
         ensures same { SameNodes self.old self.new }
     {
+        view_laws();
         let Some(segment) = self.inboxes[node].front() else {
             return Err(WorldFault::EmptyInbox);
         };
@@ -197,8 +195,10 @@ impl<'a> World<'a> {
         ensures fresh { self.new.nodes ≡ self.old.nodes }
         ensures layout { self.new.layout ≡ self.old.layout }
     {
-        self.nodes[node].known();
-        let mail = Mail::of(self.alloc, self.nodes[node].know())?;
+        frame_laws();
+        let place = &self.nodes[node];
+        place.known();
+        let mail = Mail::of(self.alloc, place.know())?;
         add(&mut self.mails, mail)
     }
 
@@ -211,6 +211,8 @@ impl<'a> World<'a> {
         ensures fresh { OnOk result (NoneStaler self.old.nodes self.new.nodes) }
         ensures same { SameNodes self.old self.new }
     {
+        view_laws();
+        frame_laws();
         if mail >= self.mails.len() {
             return Err(WorldFault::NoMail);
         }

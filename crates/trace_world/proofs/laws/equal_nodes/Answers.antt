@@ -4,11 +4,12 @@ use Rattle.trace_world.specs.Schedule.{State}
 use Rattle.trace_world.specs.Equal.{ReachedAlike, know_at}
 use Rattle.trace_world.specs.Shows.{Shows, WorldState}
 use Rattle.trace_world.proofs.laws.equal_nodes.Goals as goal
+use Rattle.std.proofs.Common.{subst}
+use Rattle.trace_world.proofs.Equal.{alike}
 
--- src/laws.rt:15:1
 pub returns-clause-knowledge : goal.returns-clause-knowledge
-returns-clause-knowledge c = ?
+returns-clause-knowledge c = alike c.view_laws.ensures.same_facts
 
--- src/laws.rt:15:1
 pub returns-clause-answers : goal.returns-clause-answers
-returns-clause-answers c = ?
+returns-clause-answers c w s one other h facts a b ia ib =
+    c.answers_are_one.ensures w.layout (know_at w other) a b (subst (λ v. IsAnswer w.layout v a) (alike c.view_laws.ensures.same_facts w s one other h facts) ia) ib

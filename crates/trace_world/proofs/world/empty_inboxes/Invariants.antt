@@ -9,4 +9,4 @@ use Rattle.trace_world.specs.Shows.{Shows, Follows, WorldState}
 use Rattle.trace_world.proofs.world.empty_inboxes.Given as goal
 
 abbrev pub invariant-loop : goal.invariant-loop
-invariant-loop l = ?
+invariant-loop l = l.inboxes.items ≡ replicate l.counter []

@@ -9,4 +9,4 @@ use Rattle.trace_world.specs.Shows.{Shows, Follows, WorldState}
 use Rattle.trace_world.proofs.world.new_nodes.Given as goal
 
 abbrev pub invariant-loop : goal.invariant-loop
-invariant-loop l = ?
+invariant-loop l = l.nodes.items ≡ replicate l.counter (held l.layout empty false)

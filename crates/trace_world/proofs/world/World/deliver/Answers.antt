@@ -7,7 +7,13 @@ use Rattle.trace_node.specs.Node.{held}
 use Rattle.trace_world.specs.Schedule.{opening}
 use Rattle.trace_world.specs.Shows.{Shows, Follows, WorldState}
 use Rattle.trace_world.proofs.world.World.deliver.Goals as goal
+use Rattle.std.proofs.Common.{subst, sym, arith}
+use Rattle.std.proofs.lemmas.Grind.{common_steps}
+use Rattle.trace_wire.specs.Frames.{frame_of}
+use Rattle.trace_world.proofs.Following.{delivers}
+use Rattle.trace_world.proofs.Moving.{learned}
 
--- src/world.rt:206:5
 pub returns-clause-done : goal.returns-clause-done
-returns-clause-done c = ?
+returns-clause-done c =
+    let is : slice_index_or c.self.inside.mails.items c.args.mail [] ≡ frame_of c.in-Ok.know = grind (arith, common_steps, c.index.ensures, c.in-Ok.ensures.0) in
+    λ done. rw (← c.self.view_is) (delivers c.view_laws.ensures.union c.frame_laws.ensures.views _ _ _ _ _ _ _ _ (omega arith) is c.in-Ok.ensures.1 (learned _ _ _ _ _ c.merge.ensures done))

@@ -7,7 +7,8 @@ use Rattle.trace_node.specs.Node.{held}
 use Rattle.trace_world.specs.Schedule.{opening}
 use Rattle.trace_world.specs.Shows.{Shows, Follows, WorldState}
 use Rattle.trace_world.proofs.world.World.post.Goals as goal
+use Rattle.std.proofs.Common.{subst, sym, arith}
+use Rattle.trace_world.proofs.Keeping.{post_keeps}
 
--- src/world.rt:158:5
 pub invariant_of-self : goal.invariant_of-self
-invariant_of-self c = ?
+invariant_of-self c = post_keeps _ _ _ _ _ _ _ _ c.self.invariant (subst (λ (w : WorldState). c.args.node < length w.nodes) (sym c.self.view_is) c.requires.there) (omega arith) c.post.ensures.ok c.post.ensures.err

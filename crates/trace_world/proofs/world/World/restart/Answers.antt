@@ -7,15 +7,19 @@ use Rattle.trace_node.specs.Node.{held}
 use Rattle.trace_world.specs.Schedule.{opening}
 use Rattle.trace_world.specs.Shows.{Shows, Follows, WorldState}
 use Rattle.trace_world.proofs.world.World.restart.Goals as goal
+use Rattle.std.proofs.Common.{subst, sym, arith, ap, ◌∙◌}
+use Rattle.trace_node.specs.Node.{Held}
+use Rattle.trace_world.proofs.Following.{restarts}
+use Rattle.trace_world.proofs.Keeping.{node_keeps, clear_keeps}
+use Rattle.trace_world.proofs.Moving.{renewed_knows, renewed_stale}
 
--- src/world.rt:224:5
 pub invariant_of-self : goal.invariant_of-self
-invariant_of-self c = ?
+invariant_of-self c =
+    let there = (subst (λ (w : WorldState). c.args.node < length w.nodes) (sym c.self.view_is) c.requires.there) in
+    rw c.clear.ensures (clear_keeps _ _ _ _ _ (node_keeps _ _ _ _ _ _ c.self.invariant there (ap (λ (n : Held). n.layout) c.in-Ok.ensures)) (omega (arith, there, c.self.invariant.each)))
 
--- src/world.rt:224:5
 pub returns-clause-done : goal.returns-clause-done
-returns-clause-done c = ?
+returns-clause-done c = λ _. rw (← c.self.view_is) (restarts _ _ _ _ _ _ _ (renewed_knows _ _ _ _ c.in-Ok.ensures) (ap (slice_set c.self.inside.inboxes.items c.args.node) c.clear.ensures))
 
--- src/world.rt:224:5
 pub returns-clause-fresh : goal.returns-clause-fresh
-returns-clause-fresh c = ?
+returns-clause-fresh c = rw (← c.self.view_is) (renewed_stale _ _ _ _ c.in-Ok.ensures)

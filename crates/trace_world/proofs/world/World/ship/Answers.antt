@@ -1,17 +1,22 @@
-use Rattle.std.proofs.Common.{rules, ◌≡◌, ◌<◌, ◌≤◌, ◌∷◌, ◌↔◌, ◌++◌, [], ℕ, true, false, IfOk, OnOk, IfErr, IsErrOf, MatchResult, IfSome, IfNone, length, map, take, replicate, ◌+◌, ◌-◌, ◌*◌, ◌/◌, ◌%◌, Bool, nat_eq, nat_lt, List, slice_index_or, slice_set, bit_and, bit_or, Fits, w8, w32, w64, Bor, MutBor}
+use Rattle.std.proofs.Common.{◌≡◌, ◌<◌, length, subst, sym, arith, ap, ◌∙◌}
+use Rattle.std.specs.Prelude.{slice_index_or}
 use Rattle.std.specs.FinMap.{empty}
-use Rattle.std.specs.List.{slice_get}
-use Rattle.std.specs.Option.{option_map}
-use Rattle.trace_world.specs.Refusals.{refusal, refusal_there, IsOutcome, IsCountFault, is_done, done, stale, NoneStaler, SameNodes}
-use Rattle.trace_node.specs.Node.{held}
-use Rattle.trace_world.specs.Schedule.{opening}
-use Rattle.trace_world.specs.Shows.{Shows, Follows, WorldState}
+use Rattle.trace_node.specs.Node.{IsWithin}
+use Rattle.trace_world.specs.Shows.{WorldState, knows}
+use Rattle.trace_world.proofs.Following.{ships, added}
+use Rattle.trace_world.proofs.Keeping.{ship_keeps}
+use Rattle.trace_world.proofs.Moving.{of_layout, know_at}
 use Rattle.trace_world.proofs.world.World.ship.Goals as goal
 
--- src/world.rt:192:5
 pub invariant_of-self : goal.invariant_of-self
-invariant_of-self c = ?
+invariant_of-self c =
+    let there = (subst (λ (w : WorldState). c.args.node < length w.nodes) (sym c.self.view_is) c.requires.there) in
+    let here : IsWithin c.index-place.result.now.layout c.know.result.now = subst (λ v. IsWithin c.index-place.result.now.layout v) (sym c.know.ensures) c.known.ensures in
+    let within : IsWithin c.self.inside.layout.now c.know.result.now = subst (λ l. IsWithin l c.know.result.now) (of_layout _ _ _ _ c.self.invariant.one_layout there c.index-place.ensures) here in
+    ship_keeps c.frame_laws.ensures.views _ _ _ _ _ _ _ _ c.self.invariant c.in_ok-mail.ensures.ok.0 c.in_ok-mail.ensures.ok.1 within c.add.ensures.ok c.add.ensures.err
 
--- src/world.rt:192:5
 pub returns-clause-done : goal.returns-clause-done
-returns-clause-done c = ?
+returns-clause-done c =
+    let there = (subst (λ (w : WorldState). c.args.node < length w.nodes) (sym c.self.view_is) c.requires.there) in
+    let known : c.know.result.now ≡ slice_index_or (knows c.self.inside.nodes.items) c.args.node empty = c.know.ensures ∙ know_at _ _ _ there c.index-place.ensures in
+    λ went. rw (← c.self.view_is) (ships _ _ _ _ _ _ _ known c.in_ok-mail.ensures.ok.1 (added _ _ _ _ _ c.in_ok-mail.ensures.ok.0 c.add.ensures.ok c.add.ensures.err went))

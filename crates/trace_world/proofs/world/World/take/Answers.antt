@@ -7,7 +7,14 @@ use Rattle.trace_node.specs.Node.{held}
 use Rattle.trace_world.specs.Schedule.{opening}
 use Rattle.trace_world.specs.Shows.{Shows, Follows, WorldState}
 use Rattle.trace_world.proofs.world.World.take.Goals as goal
+use Rattle.std.proofs.Common.{drop, subst, sym, arith, ap, ◌∙◌}
+use Rattle.std.proofs.lemmas.Grind.{common_steps}
+use Rattle.trace_world.specs.Schedule.{at}
+use Rattle.trace_world.proofs.Following.{takes}
+use Rattle.trace_world.proofs.Moving.{learned}
 
--- src/world.rt:173:5
 pub returns-then-matches-clause-done : goal.returns-then-matches-clause-done
-returns-then-matches-clause-done c = ?
+returns-then-matches-clause-done c =
+    let front : at c.self.inside.inboxes.items c.args.node ≡ c.in-Some.segment.now ∷ drop 1 (at c.self.inside.inboxes.items c.args.node) = grind (arith, common_steps) in
+    let rest : slice_set c.self.inside.inboxes.items c.args.node c.pop.new.self ≡ slice_set c.self.inside.inboxes.items c.args.node (drop 1 (at c.self.inside.inboxes.items c.args.node)) = grind (arith, common_steps) in
+    λ done. rw (← c.self.view_is) (takes c.view_laws.ensures.union _ _ _ _ _ _ _ _ front rest (learned _ _ _ _ _ c.take-taken.ensures done))
