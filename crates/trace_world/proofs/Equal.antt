@@ -1,10 +1,10 @@
 -- Nodes that the same facts reached know the same.
-use Rattle.std.proofs.Common.{◌≡◌, ℕ, List, [], map, ap, sym, ◌∙◌}
+use Rattle.std.proofs.Common.{◌≡◌, ℕ, [], ap, sym, ◌∙◌}
 use Rattle.std.specs.Prelude.{slice_index_or}
 use Rattle.std.specs.FinMap.{empty}
 use Rattle.std.proofs.Math.ListN.{get_or-map}
 use Rattle.trace_know.specs.Trace.{Trace, SameFacts, view_of}
-use Rattle.trace_world.specs.Schedule.{State, at}
+use Rattle.trace_world.specs.Schedule.{State}
 use Rattle.trace_world.specs.Shows.{WorldState, Shows, knowledge_of}
 use Rattle.trace_world.specs.Equal.{ReachedAlike, trace_at, know_at}
 

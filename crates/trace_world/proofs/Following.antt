@@ -1,6 +1,6 @@
 -- Each step of a world follows the step of the schedule.
-use Rattle.std.proofs.Common.{◌≡◌, ◌<◌, ◌≤◌, ℕ, ◌+◌, Bool, true, false, Ok, Err, OnOk, IfErr, Result, zero, suc, subst, List, [], ◌∷◌, ◌++◌, length, map, drop, take, get_or, set, refl, sym, ap, ◌∙◌, arith}
-use Rattle.std.specs.Prelude.{slice_set, slice_index_or, replicate}
+use Rattle.std.proofs.Common.{◌≡◌, ◌<◌, ℕ, ◌+◌, true, false, Ok, Err, OnOk, IfErr, Result, zero, suc, subst, List, [], ◌∷◌, ◌++◌, length, map, drop, take, get_or, set, refl, sym, ap, ◌∙◌, arith}
+use Rattle.std.specs.Prelude.{slice_set, slice_index_or}
 use Rattle.std.specs.List.{flat_map}
 use Rattle.std.specs.FinMap.{empty, entries}
 use Rattle.std.proofs.lemmas.Grind.{flat_map-append}
@@ -11,7 +11,7 @@ use Rattle.trace_know.specs.Segment.{PlacedEvents}
 use Rattle.trace_know.specs.Trace.{Trace, facts_of, view_of}
 use Rattle.trace_know.specs.View.{View, join}
 use Rattle.trace_node.specs.Node.{Held}
-use Rattle.trace_wire.specs.Frames.{frame_of, frame, HasFrame, Entry}
+use Rattle.trace_wire.specs.Frames.{frame_of, HasFrame}
 use Rattle.trace_world.specs.Schedule.{State, after, after_all, at}
 use Rattle.trace_world.specs.Shows.{knowledge_of, knows, AllFramed, Shows, Follows, WorldState, world_state}
 use Rattle.trace_world.specs.Moves.{joined}

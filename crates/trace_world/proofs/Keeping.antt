@@ -1,5 +1,5 @@
 -- What holds of every world stays after each step.
-use Rattle.std.proofs.Common.{◌≡◌, ◌≢◌, ◌⊎◌, Ok, Err, false, OnOk, IfErr, zero, suc, ◌<◌, ◌≤◌, ℕ, ◌+◌, subst, List, [], ◌∷◌, ◌++◌, length, map, drop, get_or, set, refl, sym, ap, ◌∙◌, arith, ⊎_elim, inl, inr}
+use Rattle.std.proofs.Common.{◌≡◌, ◌≢◌, ◌⊎◌, Ok, Err, false, OnOk, IfErr, zero, suc, ◌<◌, ◌≤◌, ℕ, subst, List, [], ◌∷◌, ◌++◌, length, map, drop, get_or, set, refl, sym, ap, ◌∙◌, arith, ⊎_elim, inl, inr}
 use Rattle.std.specs.Prelude.{slice_set, slice_index_or, Result, replicate}
 use Rattle.std.specs.FinMap.{empty, entries}
 use Rattle.std.proofs.lemmas.Bool.{cases_order}
@@ -64,7 +64,10 @@ pub post_keeps : (layout : Parts) (nodes : List Held) (inboxes inboxes' : List (
     → IfErr result (λ fault. (fault ≡ Memory) × (inboxes' ≡ inboxes)) → IsWorld layout nodes inboxes' mails
 post_keeps layout nodes inboxes inboxes' mails node segment (Ok x) w lt within e f =
     subst (λ l. IsWorld layout nodes l mails) (sym e) (record {
-      some = w.some; few = w.few; one_layout = w.one_layout; mailed = w.mailed;
+      some = w.some;
+      few = w.few;
+      one_layout = w.one_layout;
+      mailed = w.mailed;
       each = length-set inboxes node (at inboxes node ++ segment ∷ []) ∙ w.each;
       posted = within-set layout inboxes node (at inboxes node ++ segment ∷ []) (omega (arith, lt, w.each)) w.posted (within-append layout (at inboxes node) segment (w.posted node) within);
     })
@@ -76,7 +79,11 @@ pub ship_keeps : OneFrameLaw → (layout : Parts) (nodes : List Held) (inboxes :
     → IfErr result (λ fault. (fault ≡ Memory) × (mails' ≡ mails)) → IsWorld layout nodes inboxes mails'
 ship_keeps one layout nodes inboxes mails mails' mail know (Ok x) w is framed within e f =
     subst (λ l. IsWorld layout nodes inboxes l) (sym e) (record {
-      some = w.some; few = w.few; one_layout = w.one_layout; each = w.each; posted = w.posted;
+      some = w.some;
+      few = w.few;
+      one_layout = w.one_layout;
+      each = w.each;
+      posted = w.posted;
       mailed = mailed-append layout mails mail w.mailed (λ view same there. subst (IsWithin layout) (one know view framed there (sym is ∙ same)) within);
     })
 ship_keeps one layout nodes inboxes mails mails' mail know (Err fault) w is framed within e f = subst (λ l. IsWorld layout nodes inboxes l) (sym f.1) w
@@ -85,21 +92,25 @@ ship_keeps one layout nodes inboxes mails mails' mail know (Err fault) w is fram
 pub node_keeps : (layout : Parts) (nodes : List Held) (inboxes : List (List PlacedEvents)) (mails : List (List ℕ)) (node : ℕ) (new : Held) → IsWorld layout nodes inboxes mails → node < length nodes → new.layout ≡ layout
     → IsWorld layout (slice_set nodes node new) inboxes mails
 node_keeps layout nodes inboxes mails node new w lt e = record {
-    some = omega (arith, w.some, length-set nodes node new);
-    few = omega (arith, w.few, length-set nodes node new);
-    each = w.each ∙ sym (length-set nodes node new);
-    one_layout = layouts_set layout nodes node new w.one_layout lt e;
-    posted = w.posted; mailed = w.mailed;
-  }
+  some = omega (arith, w.some, length-set nodes node new);
+  few = omega (arith, w.few, length-set nodes node new);
+  each = w.each ∙ sym (length-set nodes node new);
+  one_layout = layouts_set layout nodes node new w.one_layout lt e;
+  posted = w.posted;
+  mailed = w.mailed;
+}
 
 -- an emptied inbox
 pub clear_keeps : (layout : Parts) (nodes : List Held) (inboxes : List (List PlacedEvents)) (mails : List (List ℕ)) (node : ℕ) → IsWorld layout nodes inboxes mails → node < length inboxes
     → IsWorld layout nodes (slice_set inboxes node []) mails
 clear_keeps layout nodes inboxes mails node w lt = record {
-    some = w.some; few = w.few; one_layout = w.one_layout; mailed = w.mailed;
-    each = length-set inboxes node [] ∙ w.each;
-    posted = within-set layout inboxes node [] lt w.posted tt;
-  }
+  some = w.some;
+  few = w.few;
+  one_layout = w.one_layout;
+  mailed = w.mailed;
+  each = length-set inboxes node [] ∙ w.each;
+  posted = within-set layout inboxes node [] lt w.posted tt;
+}
 
 -- nothing lies in empty inboxes
 none_at : (layout : Parts) (n i : ℕ) → AreWithin layout (at (replicate n []) i)
@@ -115,13 +126,13 @@ map-replicate f (suc n) x = ap (λ l. f x ∷ l) (map-replicate f n x)
 -- nodes that are all new, with empty inboxes and no mail
 pub opens : (layout : Parts) (nodes : ℕ) (new : Held) → 0 < nodes → nodes ≤ most_nodes → new.layout ≡ layout → IsWorld layout (replicate nodes new) (replicate nodes []) []
 opens layout nodes new some few e = record {
-    some = subst (λ n. 0 < n) (sym (length-replicate nodes new)) some;
-    few = subst (λ n. n ≤ most_nodes) (sym (length-replicate nodes new)) few;
-    each = length-replicate nodes [] ∙ sym (length-replicate nodes new);
-    one_layout = map-replicate (λ (n : Held). n.layout) nodes new ∙ ap (replicate nodes) e ∙ ap (λ n. replicate n layout) (sym (length-replicate nodes new));
-    posted = λ i. none_at layout nodes i;
-    mailed = λ i lt. absurd (omega (arith, lt));
-  }
+  some = subst (λ n. 0 < n) (sym (length-replicate nodes new)) some;
+  few = subst (λ n. n ≤ most_nodes) (sym (length-replicate nodes new)) few;
+  each = length-replicate nodes [] ∙ sym (length-replicate nodes new);
+  one_layout = map-replicate (λ (n : Held). n.layout) nodes new ∙ ap (replicate nodes) e ∙ ap (λ n. replicate n layout) (sym (length-replicate nodes new));
+  posted = λ i. none_at layout nodes i;
+  mailed = λ i lt. absurd (omega (arith, lt));
+}
 
 -- a world of new nodes
 pub opened : (layout : Parts) (nodes : ℕ) (ns : List Held) (inboxes : List (List PlacedEvents)) (mails : List (List ℕ)) → 0 < nodes → nodes ≤ most_nodes → ns ≡ replicate nodes (held layout empty false) → inboxes ≡ replicate nodes [] → mails ≡ []
@@ -133,9 +144,11 @@ opened layout nodes ns inboxes mails some few e f g =
 pub opening_shown : (layout : Parts) (nodes : ℕ) (ns : List Held) (inboxes : List (List PlacedEvents)) (mails : List (List ℕ)) → ns ≡ replicate nodes (held layout empty false) → inboxes ≡ replicate nodes [] → mails ≡ []
     → Shows (world_state layout ns inboxes mails) (opening nodes)
 opening_shown layout nodes ns inboxes mails e f g = record {
-    knowledge = ap knows e ∙ map-replicate (λ (n : Held). n.know) nodes (held layout empty false) ∙ sym (map-replicate knowledge_of nodes []);
-    inboxes = f; mails = g; framed = tt;
-  }
+  knowledge = ap knows e ∙ map-replicate (λ (n : Held). n.know) nodes (held layout empty false) ∙ sym (map-replicate knowledge_of nodes []);
+  inboxes = f;
+  mails = g;
+  framed = tt;
+}
 
 -- each of them has an answer
 pub opening_fresh : (layout : Parts) (nodes : ℕ) (ns : List Held) → ns ≡ replicate nodes (held layout empty false) → stale ns ≡ replicate nodes false

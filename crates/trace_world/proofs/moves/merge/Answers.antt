@@ -1,14 +1,4 @@
-use Rattle.std.proofs.Common.{rules, ◌≡◌, ◌<◌, ◌++◌, ◌∷◌, [], ℕ, true, false, OnOk, OnErr, IfErr, IsErrOf, Some, drop, length, slice_set, ◌+◌, ◌-◌, ◌*◌, ◌≤◌, ◌/◌, ◌%◌, Bool, nat_eq, nat_lt, List, slice_index_or, bit_and, bit_or, Fits, w8, w32, w64, Bor, MutBor}
-use Rattle.std.specs.List.{slice_get}
-use Rattle.mpi_model.specs.Layouts.{Parts}
-use Rattle.trace_know.specs.Segment.{PlacedEvents}
-use Rattle.trace_know.specs.Trace.{facts_of, view_of}
-use Rattle.trace_node.specs.Node.{IsWithin}
-use Rattle.trace_world.specs.Moves.{Learns}
-use Rattle.trace_world.specs.Refusals.{is_done}
-use Rattle.trace_world.specs.Schedule.{at}
-use Rattle.trace_world.specs.Shows.{knows}
-use Rattle.trace_world.specs.Worlds.{layouts, AreWithin}
+use Rattle.std.proofs.Common.{true, false}
 use Rattle.trace_world.proofs.moves.merge.Goals as goal
 use Rattle.std.proofs.Common.{arith, ap, Err}
 use Rattle.trace_world.proofs.Moving.{joins, stale_at, layout_at}

@@ -1,4 +1,4 @@
-use Rattle.std.proofs.Common.{ap, arith, ◌∙◌}
+use Rattle.std.proofs.Common.{ap}
 use Rattle.trace_node.specs.Node.{Held}
 use Rattle.trace_world.proofs.Moving.{known_still, laid_still, answered_at}
 use Rattle.trace_world.proofs.moves.refresh.Goals as goal

@@ -4,10 +4,10 @@ use Rattle.trace_world.proofs.world.World.run.Goals as goal
 
 pub loop-k-preserved : goal.loop-k-preserved
 loop-k-preserved c = record {
-    follows = goes_on _ _ _ _ _ _ c.loop-k-test.true c.index-steps-k.is c.loop-k.invariant.follows (c.in_default.ensures.done refl);
-    fresh = λ i h. c.in_default.ensures.fresh i (c.loop-k.invariant.fresh i h);
-    same = same_then _ _ _ c.loop-k.invariant.same c.in_default.ensures.same;
-  }
+  follows = goes_on _ _ _ _ _ _ c.loop-k-test.true c.index-steps-k.is c.loop-k.invariant.follows (c.in_default.ensures.done refl);
+  fresh = λ i h. c.in_default.ensures.fresh i (c.loop-k.invariant.fresh i h);
+  same = same_then _ _ _ c.loop-k.invariant.same c.in_default.ensures.same;
+}
 
 pub returns-in-Err-clause-err : goal.returns-in-Err-clause-err
 returns-in-Err-clause-err c = (c.loop-k-test.true, stops _ _ _ _ _ _ _ c.loop-k-test.true c.index-steps-k.is c.loop-k.invariant.follows c.in-Err.ensures.done c.in-Err.ensures.undone)
