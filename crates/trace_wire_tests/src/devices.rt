@@ -1,7 +1,7 @@
 //! Slow and failing devices, several frames on one of them, and the limit of a frame's length.
 
-use crate::fixture::{WORKED, both, frame, name_of, read, taken};
-use mpi_model::{Call, EndlessReader, MemoryReader, MemoryWriter, Outs, Sources, Told};
+use crate::fixture::{both, frame, name_of, read, taken, worked};
+use mpi_model::{Call, EndlessReader, MemoryReader, MemoryWriter, Outs, Read, Sources, Told};
 use std::alloc::Global;
 use std::test::Fail;
 use trace_know::Knowledge;
@@ -10,54 +10,72 @@ use trace_wire::{frame_len, read_frame, write_frame};
 #[test]
 fn a_reader_of_one_byte_a_call(rt: HostRuntime) -> Result<(), Fail> {
     let alloc = rt.alloc();
-    let mut reader = MemoryReader::new(&WORKED).at_most(1);
+    let bytes = worked(alloc)?;
+    let mut reader = MemoryReader::new(&bytes).at_most(1);
     let know = read_frame(alloc, &mut reader)?;
     assert!(rt; know.same(&taken(alloc, "ABC")?));
     Ok(())
 }
 
-#[test]
-fn two_frames_one_after_the_other(rt: HostRuntime) -> Result<(), Fail> {
-    let alloc = rt.alloc();
+/// Two frames, one behind the other.
+fn two(alloc: Global) -> Result<Vec<u8>, Fail> {
     let mut writer = MemoryWriter::new(alloc);
     write_frame(&taken(alloc, "ABC")?, &mut writer)?;
     write_frame(&taken(alloc, "A")?, &mut writer)?;
-    let mut reader = MemoryReader::new(writer.bytes());
-    assert!(rt; read_frame(alloc, &mut reader)?.same(&taken(alloc, "ABC")?));
-    assert!(rt; read_frame(alloc, &mut reader)?.same(&taken(alloc, "A")?));
-    let fault = read_frame(alloc, &mut reader).err().ok_or("a third frame")?;
-    assert_eq!(rt; name_of(fault), "W5 Short");
+    Ok(writer.bytes().to_vec(alloc)?)
+}
+
+/// Whether the next frame of the reader is that of these segments.
+fn is_next(alloc: Global, reader: &mut MemoryReader<'_>, names: &str) -> Result<bool, Fail> {
+    let know = read_frame(alloc, reader)?;
+    Ok(know.same(&taken(alloc, names)?))
+}
+
+#[test]
+fn two_frames_one_after_the_other(rt: HostRuntime) -> Result<(), Fail> {
+    let bytes = two(rt.alloc())?;
+    let mut reader = MemoryReader::new(&bytes);
+    assert!(rt; is_next(rt.alloc(), &mut reader, "ABC")?);
+    assert!(rt; is_next(rt.alloc(), &mut reader, "A")?);
+    assert_eq!(rt; fault_of(rt.alloc(), &mut reader), "W5 Short");
     Ok(())
+}
+
+/// What reading a frame answers: `ok`, or the fault.
+fn fault_of<R: Read>(alloc: Global, reader: &mut R) -> &'static str {
+    match read_frame(alloc, reader) {
+        Ok(_) => "ok",
+        Err(fault) => name_of(fault),
+    }
 }
 
 #[test]
 fn a_reader_that_fails_at_each_byte(rt: HostRuntime) -> Result<(), Fail> {
-    for count in 0..WORKED.len() {
-        let mut reader = MemoryReader::new(&WORKED).failing_after(count);
-        let fault = read_frame(rt.alloc(), &mut reader)
-            .err()
-            .ok_or("it failed")?;
-        assert_eq!(rt; name_of(fault), "W1 Read", "{count}");
+    let bytes = worked(rt.alloc())?;
+    for count in 0..=bytes.len() {
+        let mut reader = MemoryReader::new(&bytes).failing_after(count);
+        let want = if count < bytes.len() { "W1 Read" } else { "ok" };
+        assert_eq!(rt; fault_of(rt.alloc(), &mut reader), want, "{count}");
     }
-    let mut reader = MemoryReader::new(&WORKED).failing_after(WORKED.len());
-    assert!(rt; read_frame(rt.alloc(), &mut reader).is_ok());
     Ok(())
+}
+
+/// Whether a writer that takes so many bytes and then fails took a front of the frame.
+fn fails_after(alloc: Global, know: &Knowledge, count: usize, front: &[u8]) -> bool {
+    let mut writer = MemoryWriter::new(alloc).at_most(7).failing_after(count);
+    match write_frame(know, &mut writer) {
+        Ok(()) => false,
+        Err(fault) => name_of(fault) == "W1 Write" && writer.bytes() == front,
+    }
 }
 
 #[test]
 fn a_writer_that_fails_at_each_byte(rt: HostRuntime) -> Result<(), Fail> {
+    let bytes = worked(rt.alloc())?;
     let know = taken(rt.alloc(), "ABC")?;
-    for count in 0..WORKED.len() {
-        let mut writer = MemoryWriter::new(rt.alloc())
-            .at_most(7)
-            .failing_after(count);
-        let fault = write_frame(&know, &mut writer).err().ok_or("it failed")?;
-        assert_eq!(rt; name_of(fault), "W1 Write", "{count}");
-        assert_eq!(rt;
-            writer.bytes(),
-            WORKED.get(..count).ok_or("a front")?,
-            "{count}"
-        );
+    for count in 0..bytes.len() {
+        let front = bytes.get(..count).ok_or("a front")?;
+        assert!(rt; fails_after(rt.alloc(), &know, count, front), "{count}");
     }
     Ok(())
 }
@@ -65,8 +83,7 @@ fn a_writer_that_fails_at_each_byte(rt: HostRuntime) -> Result<(), Fail> {
 #[test]
 fn a_reader_without_an_end(rt: HostRuntime) -> Result<(), Fail> {
     let mut reader = EndlessReader::new(b'M');
-    let fault = read_frame(rt.alloc(), &mut reader).err().ok_or("no frame")?;
-    assert_eq!(rt; name_of(fault), "W2 Magic");
+    assert_eq!(rt; fault_of(rt.alloc(), &mut reader), "W2 Magic");
     Ok(())
 }
 

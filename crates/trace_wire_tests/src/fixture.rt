@@ -7,12 +7,13 @@ use trace_know::{Knowledge, Segment};
 use trace_wire::{WireFault, read_frame, write_frame};
 
 /// The frame of A, B and C: of rank 0 two contents of place 0, and of rank 1 the Enter of `MPI_Finalize` there.
-pub(crate) const WORKED: [u8; 57] = [
-    0x4D, 0x50, 0x54, 0x58, 0, 1, 0, 0, 0, 0x2F, 0, 0, 0, 2, // the head, and two cells
-    0, 0, 0, 0, 0, 0, 0, 0, 0, 0, 0, 0, 1, // rank 0, place 0: a contradiction
-    0, 0, 0, 1, 0, 0, 0, 0, 0, 0, 0, 0, 0, // rank 1, place 0: one event
-    1, 0, 0, 0, 0, 0, 0, 0, 1, 0, 0, 0, 0, 0, 0, 0, 2, // MPI_Finalize, 1 ns and 2 ns
-];
+pub(crate) fn worked(alloc: Global) -> Result<Vec<u8>, Fail> {
+    let mut bytes = b"MPTX\0\x01\0\0\0\x2F\0\0\0\x02".to_vec(alloc)?;
+    bytes.extend_from_slice(b"\0\0\0\0\0\0\0\0\0\0\0\0\x01")?;
+    bytes.extend_from_slice(b"\0\0\0\x01\0\0\0\0\0\0\0\0\0")?;
+    bytes.extend_from_slice(b"\x01\0\0\0\0\0\0\0\x01\0\0\0\0\0\0\0\x02")?;
+    Ok(bytes)
+}
 
 /// The latest time that a trace can tell.
 pub(crate) const LATEST: u64 = 9_999_999_999_999_999_999;
