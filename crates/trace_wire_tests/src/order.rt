@@ -153,7 +153,9 @@ fn order_comes_before_content(rt: HostRuntime) -> Result<(), Fail> {
 fn second_cell(alloc: Global, cell: &[u8]) -> Result<&'static str, Fail> {
     let mut bytes = b"MPTX\0\x01\0\0\0\0\0\0\0\x02\0\0\0\x01\0\0\0\0\0\0\0\x03\x01".to_vec(alloc)?;
     bytes.extend_from_slice(cell)?;
-    let len = bytes.len().saturating_sub(10) as u8;
+    let len = u8::try_from(bytes.len().saturating_sub(10))
+        .ok()
+        .ok_or("a length")?;
     if let Some(low) = bytes.get_mut(9) {
         *low = len;
     }

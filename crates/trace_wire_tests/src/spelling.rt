@@ -48,7 +48,8 @@ fn wanted(alloc: Global, enter: (u8, &[u8]), leave: (u8, &[u8])) -> Result<Vec<u
     add_cell(&mut payload, 0, enter)?;
     add_cell(&mut payload, 1, leave)?;
     let mut bytes = b"MPTX\0\x01".to_vec(alloc)?;
-    bytes.extend_from_slice(&(payload.len() as u32).to_be_bytes())?;
+    let len = u32::try_from(payload.len()).ok().ok_or("a length")?;
+    bytes.extend_from_slice(&len.to_be_bytes())?;
     bytes.extend_from_slice(&payload)?;
     Ok(bytes)
 }
