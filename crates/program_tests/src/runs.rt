@@ -5,7 +5,7 @@
 ghost use Rattle.std.specs.Prelude.{Some, None, codes, if◌then◌else◌};
 ghost use Rattle.std.specs.Str.{bytes_eq};
 
-use command_runs::{OpenFault, Opener, ending_of, ending_without_words};
+use command_runs::{OpenFault, Opener, Unwatched, ending_of, ending_without_words};
 use mpi_model::{MemoryReader, MemoryWriter};
 use std::alloc::Global;
 use std::test::Fail;
@@ -71,7 +71,7 @@ fn run_of<'a>(layout: &'a [u8], until_failure: Option<usize>) -> Shelf<'a> {
 // many bytes.
 fn ended(alloc: Global, mut files: Shelf<'_>, room: usize) -> Result<String, Fail> {
     let mut out = MemoryWriter::new(alloc).failing_after(room);
-    let ending = ending_of(alloc, &REPORT, &mut files, &mut out)?;
+    let ending = ending_of(alloc, &REPORT, &mut files, &mut Unwatched, &mut out)?;
     let written = std::str::from_utf8(out.bytes())?;
     let (status, errors) = (ending.status, ending.errors.as_str());
     Ok(format!(in alloc; "{status}: {written}{errors}")?)
@@ -83,7 +83,7 @@ static RUNS: [(&str, Option<usize>, usize, &str); 6] = [
         "all is read and written",
         None,
         usize::MAX,
-        "0: mpimatch report 1\nranks 1 sends wait\nrank 0 prefix 2\nend\n",
+        "0: mpimatch report 1\nranks 1 sends wait\nrank 0 prefix 2 free\nround 2:0 barrier complete\nstuck none\nforeign 0\nend\n",
     ),
     (
         "the reader fails at once",
