@@ -1,6 +1,6 @@
 //! Cells, read from the bytes of a payload.
 
-ghost use Rattle.std.specs.Prelude.{◌≡◌, ◌<◌, ◌↔◌, IsTrue, get_or, ℕ, List, Option, None, length, Result, OnOk, IfOk, IfErr, true};
+ghost use Rattle.std.specs.Prelude.{◌≡◌, None, IfOk, IfErr, true};
 ghost use Rattle.std.specs.FinMap.{entries};
 ghost use Rattle.trace_know.specs.Cell.{put_known};
 ghost use Rattle.trace_know.specs.Placed.{IsPlaced};

@@ -1,9 +1,7 @@
 //! Events, read from bytes.
 
-ghost use Rattle.std.specs.Prelude.{◌≡◌, ℕ, List, length, Result};
 ghost use Rattle.trace_wire.specs.Outcomes.{Reads};
-ghost use Rattle.trace_wire.specs.Forms.{Form};
-ghost use Rattle.trace_wire.specs.Events.{call_at, outs_at, event_at, body_at, is_even};
+ghost use Rattle.trace_wire.specs.Events.{call_at, outs_at, event_at, body_at};
 ghost use Rattle.trace_wire.specs.Fields.{envelope, send_envelope, exchange, gathering, index};
 
 use crate::read::field::{

@@ -1,11 +1,11 @@
 //! The fields of an event, as bytes.
 
 ghost use Rattle.mpi_model.specs.Ranges.{IsSource, IsComm};
-ghost use Rattle.std.specs.Prelude.{◌<◌, ◌^◌, IfSome, IfOk, ◌≡◌, ℕ, List, Option, length, Result};
+ghost use Rattle.std.specs.Prelude.{◌<◌, ◌^◌, IfSome, IfOk, ◌≡◌};
 ghost use Rattle.std.specs.Int.{w32, w64};
 ghost use Rattle.trace_wire.specs.Outcomes.{Reads};
-ghost use Rattle.trace_wire.specs.Forms.{Form, byte_at, number_at, number, small_of, marked_of, small, told, signed, pair, items_at, list};
-ghost use Rattle.trace_wire.specs.Fields.{peer_of, comm_of, mode_of, kind_of, flag_of, peer, comm, mode, kind, flag, stamp, envelope, send_envelope, exchange, gathering, index};
+ghost use Rattle.trace_wire.specs.Forms.{byte_at, number_at, small_of, marked_of, small, told, signed};
+ghost use Rattle.trace_wire.specs.Fields.{peer_of, comm_of, mode_of, kind_of, peer, comm, mode, kind, flag, stamp};
 ghost use Rattle.trace_wire.specs.declared.read.field.FieldFault.TheVariants.{Memory};
 
 use mpi_model::{CommRef, Kind, Mode, Peer, Stamp, Told};
