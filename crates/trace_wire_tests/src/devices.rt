@@ -1,10 +1,12 @@
 //! Slow and failing devices, several frames on one of them, and the limit of a frame's length.
 
 use crate::fixture::{both, frame, name_of, read, taken, worked};
-use mpi_model::{Call, EndlessReader, MemoryReader, MemoryWriter, Outs, Read, Sources, Told};
+use mpi_model::{
+    Call, EndlessReader, Event, MemoryReader, MemoryWriter, Outs, Read, Sources, Stamp, Told,
+};
 use std::alloc::Global;
 use std::test::Fail;
-use trace_know::Knowledge;
+use trace_know::{Knowledge, Segment};
 use trace_wire::{frame_len, read_frame, write_frame};
 
 #[test]
@@ -104,6 +106,35 @@ fn the_longest_frame(rt: HostRuntime) -> Result<(), Fail> {
     assert_eq!(rt; frame_len(&know), 16_777_226);
     let bytes = frame(rt.alloc(), &know)?;
     assert_eq!(rt; bytes.len(), 16_777_226);
+    assert!(rt; read(rt.alloc(), &bytes)?.same(&know));
+    Ok(())
+}
+
+/// All places of a segment, each with an event without fields: 30 bytes a cell.
+fn local_calls(alloc: Global, rank: u32) -> Result<Segment, Fail> {
+    let stamp = Stamp::new(1, 0).ok_or("a time")?;
+    let mut events = Vec::new(alloc);
+    for _ in 0..32_768 {
+        events.push(Event::Enter(Call::Local, stamp))?;
+        events.push(Event::Return(Outs::Nothing, stamp))?;
+    }
+    Ok(Segment::new(rank, 0, events)?)
+}
+
+/// Knowledge of a segment of each of these ranks.
+fn wide(alloc: Global, ranks: u32) -> Result<Knowledge, Fail> {
+    let mut know = Knowledge::new(alloc);
+    for rank in 0..ranks {
+        know.take_owned(local_calls(alloc, rank)?)?;
+    }
+    Ok(know)
+}
+
+#[test]
+fn a_frame_of_many_cells(rt: HostRuntime) -> Result<(), Fail> {
+    let know = wide(rt.alloc(), 8)?;
+    let bytes = frame(rt.alloc(), &know)?;
+    assert_eq!(rt; bytes.len(), 15_728_654);
     assert!(rt; read(rt.alloc(), &bytes)?.same(&know));
     Ok(())
 }
