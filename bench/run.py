@@ -1,12 +1,14 @@
 #!/usr/bin/env python3
-"""Times the built program on traces of given sizes: run.py [--megabytes 10 50 100] [--ranks R] [--piece CALLS].
+"""Times the built program on traces of given sizes: run.py [--megabytes 10 50 100] [--ranks R] [--piece CALLS]
+[--shuffle] [--twice SHARE].
 
 For each size it makes a trace in a temporary folder, runs crates/mpimatch/out/mpimatch on it once
 to warm the file cache and then three times, and prints a row of the best run: text, calls, pieces,
-seconds, MB/s of text, calls/s, and peak memory. Where the program isn't built or fails, or a number
+seconds, MB/s of text, calls/s, processor seconds, and peak memory. The pieces are those of the manifest. Where the program isn't built or fails, or a number
 makes no trace, it ends with a sentence that says so.
 """
 import argparse
+import json
 import os
 import subprocess
 import sys
@@ -19,7 +21,7 @@ MAKER = os.path.join(TOP, "bench", "make_trace.py")
 
 
 def timed(folder):
-    """The seconds and the peak bytes of one run."""
+    """The seconds, the processor seconds and the peak bytes of one run."""
     begin = time.perf_counter()
     process = subprocess.Popen(
         [PROGRAM, "report", "layout.json", "manifest.json"], cwd=folder, stdout=subprocess.PIPE
@@ -29,7 +31,7 @@ def timed(folder):
     seconds = time.perf_counter() - begin
     if status != 0 or not report.endswith(b"end\n"):
         sys.exit(f"bench: the program failed on a trace, with status {os.waitstatus_to_exitcode(status)}")
-    return seconds, usage.ru_maxrss * 1024
+    return seconds, usage.ru_utime + usage.ru_stime, usage.ru_maxrss * 1024
 
 
 def main():
@@ -37,23 +39,27 @@ def main():
     parser.add_argument("--megabytes", type=float, nargs="+", default=[10, 50, 100])
     parser.add_argument("--ranks", type=int, default=16)
     parser.add_argument("--piece", type=int, default=32_768)
+    parser.add_argument("--shuffle", action="store_true")
+    parser.add_argument("--twice", type=float, default=0)
     arguments = parser.parse_args()
     if not os.access(PROGRAM, os.X_OK):
         sys.exit("bench: the program is not built: run ./mpimatch --version once, or ./check")
-    print("|  MB text |     calls | pieces | seconds |  MB/s |   calls/s | peak MB |")
-    print("|---------:|----------:|-------:|--------:|------:|----------:|--------:|")
+    print("|  MB text |     calls | pieces | seconds |  MB/s |   calls/s | CPU s | peak MB |")
+    print("|---------:|----------:|-------:|--------:|------:|----------:|------:|--------:|")
     for megabytes in arguments.megabytes:
         with tempfile.TemporaryDirectory() as folder:
             words = ["--megabytes", str(megabytes), "--ranks", str(arguments.ranks), "--piece", str(arguments.piece)]
+            words += ["--twice", str(arguments.twice)] + ["--shuffle"] * arguments.shuffle
             made = subprocess.run([sys.executable, MAKER, folder, *words], stdout=subprocess.PIPE, text=True)
             if made.returncode != 0:
                 sys.exit("bench: no trace was made")
             size, calls = (int(word) for word in made.stdout.split())
-            pieces = len(os.listdir(folder)) - 2
+            with open(os.path.join(folder, "manifest.json")) as file:
+                pieces = len(json.load(file)["pieces"])
             timed(folder)
-            seconds, peak = min(timed(folder) for _ in range(3))
-            row = (size / 1e6, calls, pieces, seconds, size / 1e6 / seconds, calls / seconds, peak / 1e6)
-            print("| %8.1f | %9d | %6d | %7.2f | %5.1f | %9.0f | %7.0f |" % row, flush=True)
+            seconds, processor, peak = min(timed(folder) for _ in range(3))
+            row = (size / 1e6, calls, pieces, seconds, size / 1e6 / seconds, calls / seconds, processor, peak / 1e6)
+            print("| %8.1f | %9d | %6d | %7.2f | %5.1f | %9.0f | %5.2f | %7.0f |" % row, flush=True)
 
 
 if __name__ == "__main__":
