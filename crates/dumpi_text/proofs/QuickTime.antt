@@ -1,5 +1,5 @@
 -- Times as dumpi2ascii writes them: digits, a point and nine digits.
-use Rattle.std.proofs.Common.{◌≡◌, ◌≢◌, ℕ, ◌+◌, ◌-◌, ◌*◌, ◌<◌, ◌≤◌, true, false, eqb, Option, Some, None, Result, Ok, Err, List, [], ◌∷◌, ◌++◌, length, length-drop, get_or, drop, take, slice_range, replicate, nat_lt, arith, ap, sym, refl, ◌∙◌}
+use Rattle.std.proofs.Common.{◌≡◌, ◌≢◌, ℕ, ◌+◌, ◌-◌, ◌*◌, ◌<◌, ◌≤◌, true, false, eqb, Option, Some, Result, Ok, List, [], ◌∷◌, ◌++◌, length, length-drop, get_or, drop, take, slice_range, replicate, nat_lt, arith, ap, sym, refl, ◌∙◌}
 use Rattle.std.specs.List.{list_all}
 use Rattle.std.proofs.lemmas.Grind.{common_steps}
 use Rattle.std.proofs.lemmas.List.{append-nil, take_more, length-take-le, take-append-drop, drop_more, take_all, take_at}
