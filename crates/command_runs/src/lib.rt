@@ -16,7 +16,7 @@
 //! - [`run`]: a verb over its files; [`fault`]: why it is refused, and the line that says so
 //! - [`ending`]: from words to a status and what standard error shows
 //!
-//! Its tests are in `crates/program_tests/src/runs.rt`, and in `tests/cases/`, which the built
+//! Its tests are in `crates/command_runs_tests/src/runs.rt`, and in `tests/cases/`, which the built
 //! program runs.
 #![tactic(auto)]
 

@@ -2,9 +2,8 @@
 
 use command_line::{CommandFault, Verb, command_of};
 use std::alloc::Global;
-use std::test::Fail;
 
-// words, and the status with which the program ends on them
+/// Words, and the status with which the program ends on them
 static REFUSED: [(&str, &[&str], i32); 12] = [
     ("none", &["mpimatch"], 2),
     ("no files", &["mpimatch", "report"], 2),
@@ -32,7 +31,7 @@ static REFUSED: [(&str, &[&str], i32); 12] = [
     ("version", &["mpimatch", "--version"], 0),
 ];
 
-// words, and the two files that they name
+/// Words, and the two files that they name
 static ASKED: [(&str, &[&str], &str, &str); 3] = [
     (
         "report",
@@ -49,6 +48,7 @@ static ASKED: [(&str, &[&str], &str, &str); 3] = [
     ),
 ];
 
+/// The status with which the program ends on these words, where they ask for nothing.
 fn status_of(alloc: Global, words: &'static [&'static str]) -> Option<i32> {
     match command_of(alloc, words) {
         Err(CommandFault::Shown(error)) => Some(error.exit_code()),
@@ -56,23 +56,27 @@ fn status_of(alloc: Global, words: &'static [&'static str]) -> Option<i32> {
     }
 }
 
+/// The two files that these words name, where they ask for a report.
+fn files_of(alloc: Global, words: &'static [&'static str]) -> Option<(&'static str, &'static str)> {
+    match command_of(alloc, words) {
+        Ok(asked) if asked.verb == Verb::Report => Some((asked.layout, asked.manifest)),
+        _ => None,
+    }
+}
+
 #[test]
-fn words_that_ask_for_nothing(rt: HostRuntime) -> Result<(), Fail> {
+fn words_that_ask_for_nothing(rt: HostRuntime) {
     for row in &REFUSED {
         let (name, words, status) = *row;
         assert!(rt; status_of(rt.alloc(), words) == Some(status), "{name}");
     }
-    Ok(())
 }
 
 #[test]
-fn words_that_ask_for_a_report(rt: HostRuntime) -> Result<(), Fail> {
+fn words_that_ask_for_a_report(rt: HostRuntime) {
     for row in &ASKED {
         let (name, words, layout, manifest) = *row;
-        let asked = command_of(rt.alloc(), words).ok().ok_or(name)?;
-        assert!(rt; asked.verb == Verb::Report, "{name}");
-        assert!(rt; asked.layout == layout, "{name}");
-        assert!(rt; asked.manifest == manifest, "{name}");
+        let found = files_of(rt.alloc(), words);
+        assert!(rt; found == Some((layout, manifest)), "{name}");
     }
-    Ok(())
 }
