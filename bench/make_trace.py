@@ -6,7 +6,7 @@ Recv from each neighbour on a ring, and a Barrier. Even ranks send first, odd on
 Each rank's text is cut into pieces of so many calls. With --shuffle the manifest names them in a
 random order, with --twice a share of them two times. The same arguments make the same bytes.
 It writes layout.json, manifest.json and the pieces, and prints the bytes and the calls. Numbers that
-make no trace, as 0 ranks, are refused with a sentence.
+make no trace, as 0 ranks, are refused with a sentence, and so is a folder that can't be written.
 """
 import argparse
 import json
@@ -105,4 +105,7 @@ def main():
 
 
 if __name__ == "__main__":
-    main()
+    try:
+        main()
+    except OSError as fault:
+        sys.exit(f"bench: the trace can't be written: {fault}")
