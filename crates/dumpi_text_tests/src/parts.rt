@@ -32,11 +32,13 @@ fn put_value(told: &mut String, name: &[u8], value: &[u8]) -> Result<(), Fail> {
 
 /// The parameters in their order, and what stands past the last.
 fn put_params(told: &mut String, call: &RawCall) -> Result<(), Fail> {
-    for place in 0..call.params_len() + 1 {
-        match call.param_at(place) {
-            Some((name, value)) => put_value(told, name, value)?,
-            None => told.push_str(" end")?,
+    for place in 0..call.params_len() {
+        if let Some((name, value)) = call.param_at(place) {
+            put_value(told, name, value)?;
         }
+    }
+    if call.param_at(call.params_len()).is_none() {
+        told.push_str(" end")?;
     }
     Ok(())
 }
