@@ -5,7 +5,7 @@ use Rattle.std.specs.List.{list_any, cons_option}
 use Rattle.mpi_model.specs.declared.message.Receive.{Receive}
 use Rattle.mpi_model.specs.Fit.{fits}
 use Rattle.trace_pair.specs.Table.{is_postponed}
-use Rattle.trace_pair.proofs.table.PairTable.add.Goals as goal
+use Rattle.trace_pair.proofs.rows.Rows.add.Goals as goal
 
 pub returns-in_ok-postpone-in-None-clause-postponed : goal.returns-in_ok-postpone-in-None-clause-postponed
 returns-in_ok-postpone-in-None-clause-postponed c = λ ms qs held i.

@@ -7,7 +7,7 @@ use Rattle.trace_ops.specs.Order.{Has}
 use Rattle.trace_pair.specs.Pairing.{receive_of}
 use Rattle.trace_pair.specs.Table.{pair_of, postponed_name, sends_of, receives_of}
 use Rattle.trace_pair.proofs.Tabled.{rows_more, has_part}
-use Rattle.trace_pair.proofs.table.PairTable.fill.Goals as goal
+use Rattle.trace_pair.proofs.rows.Rows.of_held.Goals as goal
 
 pub loop-ops-preserved : goal.loop-ops-preserved
 loop-ops-preserved c =
@@ -20,8 +20,8 @@ loop-ops-preserved c =
     let e : c.sends.result.now ≡ (get_or held i d).sends = c.sends.ensures ∙ ap (λ (o : Ops). o.sends) c.ops-item.is in
     let member : (m : Message) → Has c.sends.result.now m → Has ms m = λ m h. has_part (λ o. o.sends) held i d m lt (subst (λ (l : List Message). Has l m) e h) in
     record {
-      pairs = λ x. rows_more (λ o. o.sends) (λ m. option_map (pair_of m) (receive_of ms qs m)) c.loop-ops.self.pairs c.add_all.new.self.pairs held i d lt (c.loop-ops.invariant.pairs x)
-          (c.in_ok-add_all.ensures.pairs ms qs x member ∙ ap (λ (l : List Message). c.loop-ops.self.pairs ++ filter_map (λ m. option_map (pair_of m) (receive_of ms qs m)) l) e);
-      postponed = λ x. rows_more (λ o. o.sends) (postponed_name ms qs) c.loop-ops.self.postponed c.add_all.new.self.postponed held i d lt (c.loop-ops.invariant.postponed x)
-          (c.in_ok-add_all.ensures.postponed ms qs x member ∙ ap (λ (l : List Message). c.loop-ops.self.postponed ++ filter_map (postponed_name ms qs) l) e);
+      pairs = λ x. rows_more (λ o. o.sends) (λ m. option_map (pair_of m) (receive_of ms qs m)) c.loop-ops.rows.pairs c.add_all.new.self.pairs held i d lt (c.loop-ops.invariant.pairs x)
+          (c.in_ok-add_all.ensures.pairs ms qs x member ∙ ap (λ (l : List Message). c.loop-ops.rows.pairs ++ filter_map (λ m. option_map (pair_of m) (receive_of ms qs m)) l) e);
+      postponed = λ x. rows_more (λ o. o.sends) (postponed_name ms qs) c.loop-ops.rows.postponed c.add_all.new.self.postponed held i d lt (c.loop-ops.invariant.postponed x)
+          (c.in_ok-add_all.ensures.postponed ms qs x member ∙ ap (λ (l : List Message). c.loop-ops.rows.postponed ++ filter_map (postponed_name ms qs) l) e);
     }

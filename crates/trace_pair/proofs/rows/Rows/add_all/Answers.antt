@@ -2,7 +2,7 @@ use Rattle.std.specs.Option.{option_map}
 use Rattle.trace_pair.specs.Pairing.{receive_of}
 use Rattle.trace_pair.specs.Table.{pair_of, postponed_name}
 use Rattle.trace_pair.proofs.Tabled.{rows_next, has_at}
-use Rattle.trace_pair.proofs.table.PairTable.add_all.Goals as goal
+use Rattle.trace_pair.proofs.rows.Rows.add_all.Goals as goal
 
 pub loop-m-preserved : goal.loop-m-preserved
 loop-m-preserved c =

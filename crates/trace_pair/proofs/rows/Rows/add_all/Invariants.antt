@@ -7,7 +7,7 @@ use Rattle.trace_ops.specs.Order.{Has}
 use Rattle.trace_pair.specs.Followed.{Indexes}
 use Rattle.trace_pair.specs.Pairing.{receive_of}
 use Rattle.trace_pair.specs.Table.{pair_of, postponed_name}
-use Rattle.trace_pair.proofs.table.PairTable.add_all.Given as goal
+use Rattle.trace_pair.proofs.rows.Rows.add_all.Given as goal
 
 abbrev pub invariant-loop-m : goal.invariant-loop-m
 invariant-loop-m l = record {
