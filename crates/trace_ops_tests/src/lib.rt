@@ -8,6 +8,7 @@
 //! | `fields` | the fields of a message, and ranks of which more is known |
 //! | `made` | calls, outcomes, the layout and knowledge for the rows |
 //! | `rows` | what ranks did, row by row |
+//! | `rules` | outcomes of another kind, what the layout doesn't know, what waits |
 //! | `shown` | what a rank did, in one line |
 #![tactic(auto)]
 
@@ -17,5 +18,7 @@ mod fields;
 mod made;
 #[cfg(test)]
 mod rows;
+#[cfg(test)]
+mod rules;
 #[cfg(test)]
 mod shown;
