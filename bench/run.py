@@ -1,10 +1,14 @@
 #!/usr/bin/env python3
 """Times the built program on traces of given sizes: run.py [--megabytes 10 50 100] [--ranks R] [--piece CALLS]
-[--shuffle] [--twice SHARE].
+[--shuffle] [--twice SHARE] [--parts].
 
 For each size it makes a trace in a temporary folder, runs crates/mpimatch/out/mpimatch on it once
 to warm the file cache and then three times, and prints a row of the best run: text, calls, pieces,
-seconds, MB/s of text, calls/s, processor seconds, and peak memory. The pieces are those of the manifest. Where the program isn't built or fails, or a number
+seconds, MB/s of text, calls/s, processor seconds, and peak memory. The pieces are those of the
+manifest. With --parts (which needs strace) a further line says how the time of one run parts: until
+the last piece was read, joined while it is; until the first byte of the report was written, which is
+the answer; and until the last. The first is longer than without strace, the others are not. Where
+the program isn't built or fails, or a number
 makes no trace, it ends with a sentence that says so.
 """
 import argparse
@@ -34,6 +38,22 @@ def timed(folder):
     return seconds, usage.ru_utime + usage.ru_stime, usage.ru_maxrss * 1024
 
 
+def parts(folder):
+    """The seconds of one run until all was read, from there to the report's first byte, and to its last."""
+    log = os.path.join(folder, "strace")
+    words = ["strace", "-ttt", "-e", "trace=openat,read,write", "-o", log, PROGRAM, "report", "layout.json", "manifest.json"]
+    try:
+        subprocess.run(words, cwd=folder, stdout=subprocess.DEVNULL, check=True)
+    except (OSError, subprocess.CalledProcessError) as error:
+        sys.exit(f"bench: no run under strace: {error}")
+    with open(log) as lines:
+        calls = [line.split(" ", 1) for line in lines if line[:1].isdigit()]
+    manifest = next(float(at) for at, call in calls if "manifest.json" in call)
+    read = max(float(at) for at, call in calls if call.startswith("read("))
+    written = [float(at) for at, call in calls if call.startswith("write(1,")]
+    return read - manifest, written[0] - read, written[-1] - written[0]
+
+
 def main():
     parser = argparse.ArgumentParser()
     parser.add_argument("--megabytes", type=float, nargs="+", default=[10, 50, 100])
@@ -41,6 +61,7 @@ def main():
     parser.add_argument("--piece", type=int, default=32_768)
     parser.add_argument("--shuffle", action="store_true")
     parser.add_argument("--twice", type=float, default=0)
+    parser.add_argument("--parts", action="store_true")
     arguments = parser.parse_args()
     if not os.access(PROGRAM, os.X_OK):
         sys.exit("bench: the program is not built: run ./mpimatch --version once, or ./check")
@@ -60,6 +81,8 @@ def main():
             seconds, processor, peak = min(timed(folder) for _ in range(3))
             row = (size / 1e6, calls, pieces, seconds, size / 1e6 / seconds, calls / seconds, processor, peak / 1e6)
             print("| %8.1f | %9d | %6d | %7.2f | %5.1f | %9.0f | %5.2f | %7.0f |" % row, flush=True)
+            if arguments.parts:
+                print("read %.2f s (traced), answer %.2f s, written %.2f s" % parts(folder), flush=True)
 
 
 if __name__ == "__main__":

@@ -1,5 +1,5 @@
 -- What is refused before anything is written is no failure of writing.
-use Rattle.std.proofs.Common.{◌≡◌, inl, inr, ℕ, List, Option, Result, Ok, Err, Bool, subst}
+use Rattle.std.proofs.Common.{◌≡◌, inl, inr, ℕ, List, Option, Result, Err, Bool, subst}
 use Rattle.mpi_model.specs.Layouts.{Parts}
 use Rattle.input_files.specs.declared.fault.InputFault.{InputFault}
 use Rattle.input_files.specs.declared.fault.InputFault.TheVariants as inputs

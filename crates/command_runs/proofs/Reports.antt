@@ -1,5 +1,5 @@
 -- The report of a node's answer is that of the run.
-use Rattle.std.proofs.Common.{◌≡◌, refl, ℕ, List, Option, subst}
+use Rattle.std.proofs.Common.{refl, ℕ, List, Option, subst}
 use Rattle.mpi_model.specs.Layouts.{Parts}
 use Rattle.trace_node.specs.Answer.{Answered, IsAnswer}
 use Rattle.trace_node.specs.Node.{Held}

@@ -1,5 +1,5 @@
 -- A sink that holds texts back, over one that holds none.
-use Rattle.std.proofs.Common.{◌≡◌, ◌+◌, ℕ, List, [], ◌++◌, refl, sym, ◌∙◌, ap, arith, append-nil, subst}
+use Rattle.std.proofs.Common.{◌≡◌, ℕ, List, [], ◌++◌, sym, ◌∙◌, ap, append-nil, subst}
 use Rattle.trace_report.specs.Page.{Page, Prints}
 use Rattle.trace_report.proofs.Printing.{then, reads}
 

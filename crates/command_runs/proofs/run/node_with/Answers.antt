@@ -1,7 +1,7 @@
-use Rattle.std.proofs.Common.{◌≡◌, ◌∙◌, ◌<◌, ℕ, List, Option, arith, ap, false, inl, inr, rules}
+use Rattle.std.proofs.Common.{◌∙◌, ap, false, inr}
 use Rattle.std.specs.List.{All}
 use Rattle.trace_know.specs.View.{View}
-use Rattle.trace_node.specs.Node.{HasStranger, held}
+use Rattle.trace_node.specs.Node.{held}
 use Rattle.command_runs.specs.Traces.{IsInside, IsKnown}
 use Rattle.command_runs.specs.Refusals.{RefusesPieces}
 use Rattle.command_runs.proofs.run.node_with.Goals as goal
