@@ -1,15 +1,17 @@
 #!/usr/bin/env python3
-"""Makes the trace of a stencil: make_trace.py FOLDER --megabytes M [--ranks R] [--piece CALLS].
+"""Makes the trace of a stencil: make_trace.py FOLDER --megabytes M [--ranks R] [--piece CALLS] [--shuffle] [--twice SHARE].
 
 Each iteration of each rank has one call of a function that mpimatch doesn't know, a Send to and a
 Recv from each neighbour on a ring, and a Barrier. Even ranks send first, odd ones receive first.
-Each rank's text is cut into pieces of so many calls. The same arguments make the same bytes.
+Each rank's text is cut into pieces of so many calls. With --shuffle the manifest names them in a
+random order, with --twice a share of them two times. The same arguments make the same bytes.
 It writes layout.json, manifest.json and the pieces, and prints the bytes and the calls. Numbers that
-make no trace, as 0 ranks, are refused with a sentence.
+make no trace, as 0 ranks, are refused with a sentence, and so is a folder that can't be written.
 """
 import argparse
 import json
 import os
+import random
 import sys
 
 CALL_NANOSECONDS = 1_500
@@ -59,6 +61,8 @@ def main():
     parser.add_argument("--megabytes", type=float, required=True)
     parser.add_argument("--ranks", type=int, default=16)
     parser.add_argument("--piece", type=int, default=32_768, help="calls of a piece")
+    parser.add_argument("--shuffle", action="store_true", help="pieces in a random order")
+    parser.add_argument("--twice", type=float, default=0, help="the share of pieces that come twice")
     arguments = parser.parse_args()
     ranks, folder = arguments.ranks, arguments.folder
     if not 0 < arguments.megabytes <= 100_000:
@@ -67,6 +71,8 @@ def main():
         sys.exit(f"bench: --ranks is a number from 2 to {MOST_RANKS}: a rank sends to its neighbours on a ring")
     if not 1 <= arguments.piece <= MOST_CALLS:
         sys.exit(f"bench: --piece is a number of calls from 1 to {MOST_CALLS}")
+    if not 0 <= arguments.twice <= 1:
+        sys.exit("bench: --twice is a share from 0 to 1")
     os.makedirs(folder, exist_ok=True)
     size = sum(len(text) for text in iteration(0, ranks, 0))
     iterations = max(1, round(arguments.megabytes * 10**6 / size / ranks))
@@ -85,6 +91,10 @@ def main():
                 pieces.append({"rank": rank, "first": first, "file": name})
                 bytes_written += len(text)
                 first += len(front)
+    chance = random.Random(1)
+    pieces += chance.sample(pieces, int(len(pieces) * arguments.twice))
+    if arguments.shuffle:
+        chance.shuffle(pieces)
     members = list(range(ranks))
     layout = {"ranks": ranks, "world": 2, "sends": "wait", "comms": [{"id": 2, "members": members}]}
     with open(os.path.join(folder, "layout.json"), "w") as file:
@@ -95,4 +105,7 @@ def main():
 
 
 if __name__ == "__main__":
-    main()
+    try:
+        main()
+    except OSError as fault:
+        sys.exit(f"bench: the trace can't be written: {fault}")

@@ -5,7 +5,7 @@
 //! command. A verb that comes later is one line in `Verb`, in `verb_of`, in `program_command` and,
 //! in `specs/Program.antt`, in `verb_named` and in `program`.
 //!
-//! Its tests are in `crates/reading_tests/src/command.rt`.
+//! Its tests are in the crate `command_line_tests`.
 #![tactic(auto)]
 
 ghost use Rattle.std.specs.Prelude.{◌≡◌, [], IfErr, IfOk, OnOk, Some, codes, false, map, option_map};
@@ -92,6 +92,21 @@ pub fn command_of<'a>(alloc: Global, words: &'a [&'a str]) -> Result<Asked<'a>, 
     }
 }
 
+// What the help of `report` says below its arguments.
+const REPORT_HELP: &str =
+    r#"It joins the pieces of the trace, in whatever order they come, and prints:
+  rank R prefix P STATE        rank R can be read up to place P, and is free, waiting or ended there
+                               (beyond: more is known past a gap or a contradiction)
+  conflict R PLACE             two pieces tell two things of this place
+  pair R:CALL R:CALL           a message and the receive that took it (over: it was too large)
+  postponed R:CALL             a message that may be that of a receive whose source is not told
+  round COMM:K KIND STANDING   the collective call K on a communicator, and who has entered it
+  stuck R call CALL since SECONDS waits WHOM
+                               rank R can't go on: it needs this rank, all(..) of these, any(..) of these
+  foreign N                    calls on a communicator, or of a rank, that the layout doesn't have
+Call n of a rank has the places 2n, where it was entered, and 2n + 1, where it returned.
+"#;
+
 // What the help says below the verbs.
 const MORE_HELP: &str = r#"Example: mpimatch report layout.json manifest.json
 
@@ -118,7 +133,8 @@ fn program_command<'a>(alloc: Global) -> Result<Command<'a>, AllocError>
     let report = verb_command(
         alloc,
         "report",
-        "Prints how far each rank's trace reads, and its contradictions",
+        "Prints who received what from whom, and which ranks are stuck",
+        REPORT_HELP,
     )?;
     Command::new(alloc, "mpimatch")
         .about("Tells what the trace of an MPI run says of its ranks, after the run")
@@ -128,7 +144,12 @@ fn program_command<'a>(alloc: Global) -> Result<Command<'a>, AllocError>
         .subcommand(report)
 }
 
-fn verb_command<'a>(alloc: Global, name: &'a str, about: &'a str) -> Result<Command<'a>, AllocError>
+fn verb_command<'a>(
+    alloc: Global,
+    name: &'a str,
+    about: &'a str,
+    more: &'a str,
+) -> Result<Command<'a>, AllocError>
     ensures shape { IfOk result (λ c. app_of c ≡ verb_app name.now) }
     ensures local { IfOk result (λ c. (out-Command c).has_globals ≡ false) }
 {
@@ -144,6 +165,7 @@ fn verb_command<'a>(alloc: Global, name: &'a str, about: &'a str) -> Result<Comm
     );
     Command::new(alloc, name)
         .about(about)
+        .after_help(more)
         .arg(layout)?
         .arg(manifest)
 }

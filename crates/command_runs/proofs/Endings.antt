@@ -5,9 +5,10 @@ use Rattle.clap.specs.Words.{Text}
 use Rattle.mpi_model.specs.Failures.{HasFailed}
 use Rattle.command_line.specs.Program.{Refuses, Request}
 use Rattle.command_line.specs.declared.CommandFault.{CommandFault}
-use Rattle.command_runs.specs.Endings.{Ask, IsEnding, IsEndingFor, IsRefusedRun, Output}
+use Rattle.command_runs.specs.Endings.{Ask, IsEnding, IsEndingFor, Output}
 use Rattle.command_runs.specs.FaultLines.{fault_line_of}
-use Rattle.command_runs.specs.Runs.{IsReportOf, RefusesRun}
+use Rattle.command_runs.specs.Refusals.{RefusesRun}
+use Rattle.command_runs.specs.Runs.{IsReportOf}
 use Rattle.command_runs.specs.declared.fault.RunFault.{RunFault}
 use Rattle.command_runs.specs.declared.fault.RunFault.TheVariants.{Memory, Write}
 

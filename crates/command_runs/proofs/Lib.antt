@@ -1,4 +1,6 @@
 pub mod Endings
 pub mod Told
 pub mod Traces
-mod Refusals
+pub mod Within
+pub mod Refusals
+pub mod Reports

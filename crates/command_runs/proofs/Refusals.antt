@@ -1,11 +1,12 @@
 -- What is refused before anything is written is no failure of writing.
-use Rattle.std.proofs.Common.{◌≡◌, ◌≢◌, inl, inr, ℕ, List, Option, subst}
+use Rattle.std.proofs.Common.{◌≡◌, inl, inr, ℕ, List, Option, Result, Err, Bool, subst}
+use Rattle.mpi_model.specs.Layouts.{Parts}
 use Rattle.input_files.specs.declared.fault.InputFault.{InputFault}
 use Rattle.input_files.specs.declared.fault.InputFault.TheVariants as inputs
-use Rattle.input_files.specs.Layouts.{RefusesLayout}
 use Rattle.input_files.specs.Manifests.{PieceParts, RefusesManifest}
-use Rattle.command_runs.specs.Inputs.{IsFaultOf, RefusesInput}
-use Rattle.command_runs.specs.Runs.{RefusesPieces, RefusesRun}
+use Rattle.command_runs.specs.Inputs.{IsFaultOf, RefusesInput, TellsLayout}
+use Rattle.command_runs.specs.Nodes.{RefusesNode}
+use Rattle.command_runs.specs.Refusals.{RefusesPieces, RefusesRun}
 use Rattle.command_runs.specs.declared.fault.RunFault.{RunFault}
 use Rattle.command_runs.specs.declared.fault.RunFault.TheVariants.{Memory, Write}
 
@@ -30,9 +31,21 @@ pieces_are_not_writing file ranks pieces (inr (inr h)) = h
 
 run_is_not_writing : (file : List ℕ → Option (List ℕ)) (layout manifest : List ℕ) → RefusesRun file layout manifest Write → ⊥
 run_is_not_writing file layout manifest (inl e) = memory_is_not_writing e
-run_is_not_writing file layout manifest (inr (inl h)) = input_is_not_writing RefusesLayout layout (file layout) h
+run_is_not_writing file layout manifest (inr (inl h)) = input_is_not_writing _ layout (file layout) h
 run_is_not_writing file layout manifest (inr (inr (inl h))) = input_is_not_writing RefusesManifest manifest (file manifest) h
 run_is_not_writing file layout manifest (inr (inr (inr h))) = pieces_are_not_writing file h.0.ranks h.1.pieces h.4
 
-pub refused_unwritten : (file : List ℕ → Option (List ℕ)) (layout manifest : List ℕ) (fault : RunFault) → RefusesRun file layout manifest fault → fault ≢ Write
-refused_unwritten file layout manifest fault h e = run_is_not_writing file layout manifest (subst (RefusesRun file layout manifest) e h)
+one_fault : (fault : RunFault) (answer : Result Bool RunFault) → answer ≡ Err fault → answer ≡ Err Write → fault ≡ Write
+one_fault fault answer is writes = cc (is, writes)
+
+-- A run that is refused for this has not failed in writing.
+pub no_writing : (file : List ℕ → Option (List ℕ)) (layout manifest : List ℕ) (fault : RunFault) (answer : Result Bool RunFault) → RefusesRun file layout manifest fault
+    → answer ≡ Err fault → answer ≡ Err Write → ⊥
+no_writing file layout manifest fault answer h is writes = run_is_not_writing file layout manifest (subst (RefusesRun file layout manifest) (one_fault fault answer is writes) h)
+
+-- What refuses the node refuses the run.
+pub node_refused : (file : List ℕ → Option (List ℕ)) (l : Parts) (layout manifest : List ℕ) (fault : RunFault) → TellsLayout (file layout) l
+    → RefusesNode file l manifest fault → RefusesRun file layout manifest fault
+node_refused file l layout manifest fault told (inl e) = inl e
+node_refused file l layout manifest fault told (inr (inl h)) = inr (inr (inl h))
+node_refused file l layout manifest fault told (inr (inr h)) = inr (inr (inr (l, h.0, told, h.1, h.2)))

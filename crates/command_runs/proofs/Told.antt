@@ -1,9 +1,7 @@
 -- What holds of a reader's text holds of the file where it is told.
-use Rattle.std.proofs.Common.{◌≡◌, ◌∙◌, ℕ, List, [], ◌∷◌, Option, Some, None, IsSome, ap, sym, subst, refl}
-use Rattle.std.specs.List.{flat_map}
+use Rattle.std.proofs.Common.{◌≡◌, ℕ, List, [], Option, Some, None, IsSome, sym, subst, refl}
 use Rattle.mpi_model.specs.declared.event.Event.{Event}
-use Rattle.trace_know.specs.Segment.{PlacedEvents, enter_place}
-use Rattle.trace_know.specs.Trace.{facts_from, facts_of}
+use Rattle.trace_know.specs.Segment.{PlacedEvents}
 use Rattle.dumpi_calls.specs.Collected.{AreSegments, HasPlacesPast, collected}
 use Rattle.dumpi_calls.specs.Seen.{Seen, seen_in}
 use Rattle.dumpi_calls.specs.Walks.{IsStopped, IsWalked, StopsWalk}

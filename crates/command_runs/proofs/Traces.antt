@@ -10,7 +10,7 @@ use Rattle.trace_know.specs.Trace.{Trace, facts_from, view_of}
 use Rattle.trace_know.specs.View.{View, join}
 use Rattle.input_files.specs.Manifests.{PieceParts}
 use Rattle.command_runs.specs.Pieces.{TellsFacts, facts_of_all}
-use Rattle.command_runs.specs.Runs.{Begin, IsFirstStranger, IsInside, IsKnown, KeepsFirst, TellTrace}
+use Rattle.command_runs.specs.Traces.{Begin, IsFirstStranger, IsInside, IsKnown, KeepsFirst, TellTrace}
 
 tell_more : (file : List ℕ → Option (List ℕ)) (pieces : List PieceParts) (piece : PieceParts) (trace own : Trace)
     → TellTrace file pieces trace → TellsFacts (file piece.file) piece.rank piece.first own → TellTrace file (pieces ++ piece ∷ []) (trace ++ own)

@@ -6,7 +6,8 @@ use Rattle.clap.specs.Words.{Text, subcommand_of}
 use Rattle.command_line.specs.Program.{Refuses, Request, program, request_in, status_of}
 use Rattle.command_line.specs.declared.CommandFault.{CommandFault}
 use Rattle.command_runs.specs.FaultLines.{fault_line_of}
-use Rattle.command_runs.specs.Runs.{IsReportOf, RefusesRun}
+use Rattle.command_runs.specs.Refusals.{RefusesRun}
+use Rattle.command_runs.specs.Runs.{IsReportOf}
 use Rattle.command_runs.specs.declared.fault.RunFault.{RunFault}
 use Rattle.command_runs.specs.declared.fault.RunFault.TheVariants.{Memory, Write}
 

@@ -1,5 +1,8 @@
 -- Why a layout or a manifest is refused.
 use Rattle.std.specs.Prelude.{◌≡◌, ◌⊎◌, ℕ, List, Option}
+use Rattle.mpi_model.specs.Layouts.{Parts}
+use Rattle.input_files.specs.Layouts.{IsLayoutOf}
+use Rattle.input_files.specs.Manifests.{IsManifestOf, ManifestParts}
 use Rattle.input_files.specs.declared.fault.InputFault.{InputFault}
 use Rattle.input_files.specs.declared.fault.InputFault.TheVariants as inputs
 use Rattle.command_runs.specs.Files.{IsFile}
@@ -25,3 +28,11 @@ IsFaultOf name _ _ = ⊥
 abbrev pub RefusesInput : (List ℕ → InputFault → Type 0) → List ℕ → Option (List ℕ) → RunFault → Type 0
 RefusesInput refuses name file fault = (fault ≡ Memory) ⊎ (RefusesFile name fault
     ⊎ ((bytes : List ℕ) × (cause : InputFault) × IsFile file bytes × refuses bytes cause × IsFaultOf name cause fault))
+
+-- The file tells this layout.
+abbrev pub TellsLayout : Option (List ℕ) → Parts → Type 0
+TellsLayout file l = (bytes : List ℕ) × IsFile file bytes × IsLayoutOf bytes l
+
+-- The file tells this manifest.
+abbrev pub TellsManifest : Option (List ℕ) → ManifestParts → Type 0
+TellsManifest file m = (bytes : List ℕ) × IsFile file bytes × IsManifestOf bytes m

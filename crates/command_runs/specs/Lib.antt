@@ -2,7 +2,9 @@ pub mod Endings
 pub mod FaultLines
 pub mod Files
 pub mod Inputs
+pub mod Nodes
 pub mod Pieces
-pub mod Report
+pub mod Refusals
 pub mod Runs
+pub mod Traces
 pub mod Whole

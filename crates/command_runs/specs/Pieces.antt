@@ -16,7 +16,7 @@ use Rattle.dumpi_calls.specs.declared.fault.WalkCause.{WalkCause}
 use Rattle.dumpi_calls.specs.declared.fault.WalkCause.TheVariants as causes
 use Rattle.dumpi_calls.specs.declared.fault.WalkFault.{WalkFault}
 use Rattle.command_runs.specs.declared.fault.RunFault.{RunFault}
-use Rattle.command_runs.specs.declared.fault.RunFault.TheVariants.{Memory, File, Json, Shape, Layout, Text, Missing, Wrong, Place, Rank, Write}
+use Rattle.command_runs.specs.declared.fault.RunFault.TheVariants.{Memory, File, Text, Missing, Wrong, Place}
 
 -- the facts that segments stand for together
 abbrev pub facts_of_all : List PlacedEvents → Trace

@@ -7,6 +7,7 @@ ghost use Rattle.command_runs.specs.FaultLines.{fault_line_of};
 use crate::fault::{RunFault, fault_line};
 use crate::opener::Opener;
 use crate::run::run_with;
+use crate::watch::Watcher;
 use command_line::{CommandFault, command_of};
 use mpi_model::{Write, write_all};
 use std::alloc::{AllocError, Global};
@@ -21,10 +22,11 @@ pub struct Ending {
 /// Does what the words ask for, the first being the program's name: 0 where the run was good or
 /// help or the version was asked for, 1 for a refused input, with its fault line, and 2 for a
 /// mistake in the words.
-pub fn ending_of<'a, O: Opener, W: Write>(
+pub fn ending_of<'a, O: Opener, V: Watcher, W: Write>(
     alloc: Global,
     words: &'a [&'a str],
     files: &mut O,
+    watcher: &mut V,
     out: &mut W,
 ) -> Result<Ending, AllocError>
     ensures { IfOk result (λ e. IsEnding (O.file files.old) (map (λ w. w.now) words.entry.now) e.status (string_bytes e.errors) (output_of (W.written out.old) (W.failures out.old)) (output_of (W.written out.new) (W.failures out.new))) }
@@ -34,7 +36,8 @@ pub fn ending_of<'a, O: Opener, W: Write>(
         Err(CommandFault::Memory) => return refused(alloc, &RunFault::Memory),
         Err(fault) => return shown(alloc, &fault, out),
     };
-    match run_with(alloc, asked.verb, asked.layout, asked.manifest, files, out) {
+    let (layout, manifest) = (asked.layout, asked.manifest);
+    match run_with(alloc, asked.verb, layout, manifest, files, watcher, out) {
         Ok(true) => Ok(silent(alloc, 0)),
         Ok(false) => Ok(silent(alloc, 1)),
         Err(fault) => refused(alloc, &fault),

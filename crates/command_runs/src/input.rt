@@ -4,8 +4,7 @@ ghost use Rattle.std.specs.Prelude.{◌≡◌, IfErr, IfOk};
 ghost use Rattle.input_files.specs.Layouts.{RefusesLayout};
 ghost use Rattle.input_files.specs.Manifests.{RefusesManifest};
 ghost use Rattle.command_runs.specs.Files.{IsFile};
-ghost use Rattle.command_runs.specs.Inputs.{IsFaultOf, RefusesFile, RefusesInput};
-ghost use Rattle.command_runs.specs.Runs.{TellsLayout, TellsManifest};
+ghost use Rattle.command_runs.specs.Inputs.{IsFaultOf, RefusesFile, RefusesInput, TellsLayout, TellsManifest};
 
 use crate::fault::RunFault;
 use crate::opener::{OpenFault, Opener};

@@ -3,38 +3,46 @@
 ghost use Rattle.std.specs.Prelude.{◌≡◌, ◌≢◌, [], IfErr, IfOk, OnOk, false, true};
 ghost use Rattle.std.specs.List.{All};
 ghost use Rattle.command_runs.specs.Pieces.{facts_of_all};
-ghost use Rattle.command_runs.specs.Runs.{IsInside, IsKnown, KeepsFirst, RefusesPieces};
+ghost use Rattle.command_runs.specs.Refusals.{RefusesPieces};
+ghost use Rattle.command_runs.specs.Traces.{IsInside, IsKnown, KeepsFirst};
 ghost use Rattle.trace_know.specs.Trace.{view_of};
 ghost use Rattle.trace_know.specs.View.{join};
+ghost use Rattle.trace_node.specs.Node.{IsWithin};
 
 use crate::fault::RunFault;
 use crate::opener::Opener;
 use crate::piece::segments_of;
+use crate::watch::Watcher;
 use input_files::Piece;
+use mpi_model::Layout;
 use std::alloc::{AllocError, Global};
 use trace_know::{Knowledge, Segment, join_laws, view_laws};
 
-/// What the pieces tell together, of a run of so many ranks. All of them are read before a piece is
+/// What the pieces tell together, of a run of this layout. All of them are read before a piece is
 /// refused for its rank.
-pub fn know_of<O: Opener>(
+pub fn know_of<O: Opener, V: Watcher>(
     alloc: Global,
-    ranks: u32,
+    layout: &Layout,
     pieces: &[Piece],
     files: &mut O,
+    watcher: &mut V,
 ) -> Result<Knowledge, RunFault>
     ensures ok { IfOk result (λ know. IsKnown (O.file files.old) pieces.now know) }
-    ensures inside { IfOk result (λ know. All (IsInside (O.file files.old) ranks) pieces.now) }
-    ensures err { IfErr result (RefusesPieces (O.file files.old) ranks pieces.now) }
+    ensures inside { IfOk result (λ know. All (IsInside (O.file files.old) layout.now.ranks) pieces.now) }
+    ensures within { IfOk result (λ know. IsWithin layout.now know) }
+    ensures err { IfErr result (RefusesPieces (O.file files.old) layout.now.ranks pieces.now) }
 {
+    join_laws();
     view_laws();
+    watcher.begin(pieces.len());
     let mut know = Knowledge::new(alloc);
     let mut stranger = None;
     for piece in pieces {
-        let segments = match segments_of(alloc, piece, files) {
+        let segments = match segments_of(alloc, piece, files, watcher) {
             Ok(segments) => segments,
             Err(fault) => return Err(fault),
         };
-        stranger = with_stranger(alloc, stranger, ranks, piece, &segments)?;
+        stranger = with_stranger(alloc, stranger, layout, piece, &segments)?;
         take_all(&mut know, &segments)?;
     }
     match stranger {
@@ -47,16 +55,16 @@ pub fn know_of<O: Opener>(
 fn with_stranger(
     alloc: Global,
     stranger: Option<String>,
-    ranks: u32,
+    layout: &Layout,
     piece: &Piece,
     segments: &[Segment],
 ) -> Result<Option<String>, AllocError>
-    ensures { IfOk result (KeepsFirst ranks piece.now (facts_of_all segments.now) stranger) }
+    ensures { IfOk result (KeepsFirst layout.now.ranks piece.now (facts_of_all segments.now) stranger) }
 {
     if let Some(path) = stranger {
         return Ok(Some(path));
     }
-    if piece.rank() < ranks || !have_calls(segments) {
+    if piece.rank() < layout.ranks() || !have_calls(segments) {
         return Ok(None);
     }
     Ok(Some(piece.file().to_string(alloc)?))

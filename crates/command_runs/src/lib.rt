@@ -1,21 +1,22 @@
 //! What the commands of mpimatch do over their files, and how the program ends.
 //!
 //! `report` reads a layout and the pieces that a manifest names, and writes the report of what they
-//! tell together. Nothing is written before the whole run is good. Files come from an [`Opener`],
+//! tell together: they are joined into one knowledge while they are read, a node takes that over, and
+//! its answer is written. Nothing is written before the whole run is good. Files come from an [`Opener`],
 //! so that a run can be proved and tested over files in memory; the program opens those of the
 //! system.
 //!
-//! The work is linear in the texts, but for the joins of their segments (`trace_know`). Memory
-//! holds what is known and the events of one piece.
+//! The work is linear in the texts, but for the joins of their segments (`trace_know`) and the answer
+//! (`trace_node`). Memory holds what is known and the events of one piece.
 //!
 //! - [`opener`]: where files come from; [`whole`]: a whole file, within its limit
 //! - [`piece`]: the segments of a piece
 //! - [`input`]: the layout and the manifest; [`knowing`]: what the pieces tell together
-//! - [`report`]: the report's text
+//! - [`watch`]: who is told how the reading comes along; [`terminal`]: what a person then sees
 //! - [`run`]: a verb over its files; [`fault`]: why it is refused, and the line that says so
 //! - [`ending`]: from words to a status and what standard error shows
 //!
-//! Its tests are in `crates/program_tests/src/runs.rt`, and in `tests/cases/`, which the built
+//! Its tests are in `crates/command_runs_tests/src/runs.rt`, and in `tests/cases/`, which the built
 //! program runs.
 #![tactic(auto)]
 
@@ -25,12 +26,15 @@ mod input;
 mod knowing;
 mod opener;
 mod piece;
-mod report;
 mod run;
+mod terminal;
+mod watch;
 mod whole;
 
 pub use ending::{Ending, ending_of, ending_without_words};
 pub use fault::{RunFault, fault_line};
 pub use opener::{Disk, OpenFault, Opener};
 pub use run::run_with;
+pub use terminal::Terminal;
+pub use watch::{Unwatched, Watcher};
 pub use whole::LONGEST_FILE;

@@ -5,6 +5,7 @@ ghost use Rattle.command_runs.specs.Pieces.{IsWalkFault, RefusesPiece, TellsFact
 
 use crate::fault::RunFault;
 use crate::opener::{OpenFault, Opener};
+use crate::watch::Watcher;
 use dumpi_calls::{Collect, Memory, WalkCause, WalkFault, walk, whole_segments, whole_texts};
 use dumpi_text::TextFault;
 use input_files::Piece;
@@ -13,10 +14,11 @@ use trace_know::{Segment, SegmentFault};
 
 /// The segments of a piece, none of a text without calls.
 #[tactic(auto, using(crate::proofs::Told::facts_told, crate::proofs::Told::places_told, crate::proofs::Told::walk_told))]
-pub fn segments_of<O: Opener>(
+pub fn segments_of<O: Opener, V: Watcher>(
     alloc: Global,
     piece: &Piece,
     files: &mut O,
+    watcher: &mut V,
 ) -> Result<Vec<Segment>, RunFault>
     ensures ok { IfOk result (λ segments. TellsFacts (O.file files.old piece.now.file) piece.now.rank piece.now.first (facts_of_all segments.items)) }
     ensures err { IfErr result (RefusesPiece piece.now.file piece.now.first (O.file files.old piece.now.file)) }
@@ -36,7 +38,7 @@ pub fn segments_of<O: Opener>(
     };
     let mut collect = Collect::new(alloc);
     match walk(alloc, reader, &mut collect) {
-        Ok(_) => {}
+        Ok(walked) => watcher.has_read(path, &walked),
         Err(fault) => return Err(refusal(alloc, path, fault)?),
     }
     match collect.into_segments(piece.rank(), piece.first()) {

@@ -5,9 +5,10 @@ ghost use Rattle.std.specs.Option.{option_copied};
 ghost use Rattle.dumpi_calls.specs.Collected.{AreSegments, collected, ends_open, placed};
 ghost use Rattle.dumpi_calls.specs.Rows.{OnCollective};
 ghost use Rattle.dumpi_calls.specs.Seen.{seen};
+ghost use Rattle.dumpi_calls.specs.declared.cutting.TheConstants.{PLACES};
 ghost use Rattle.trace_know.specs.Segment.{alternate, enter_place};
 
-use crate::cutting::cut;
+use crate::cutting::{PLACES, cut};
 use crate::sink::CallSink;
 use mpi_model::{Call, Event, Exit, Stamp};
 use std::alloc::{AllocError, AllocFailed, Global};
@@ -52,12 +53,9 @@ impl Model for Collect {
     ghost invariant = { λ c. (alternate true c.events.items ≡ true) × (c.is_open ≡ ends_open c.events.items) };
 }
 
-/// Places are below this one, 2^40.
-const PLACES: u64 = 1_099_511_627_776;
-
 // whether so many events, from a call on, have a place past the last
 fn has_places_past(first_call: u64, count: usize) -> bool
-    ensures { IsTrue result ↔ (2 ^ 40 < enter_place first_call + count) }
+    ensures { IsTrue result ↔ (PLACES < enter_place first_call + count) }
 {
     first_call.saturating_mul(2).saturating_add(count as u64) > PLACES
 }

@@ -1,7 +1,8 @@
 //! Events cut into segments, after each 65,536.
 
-ghost use Rattle.std.specs.Prelude.{◌≡◌, ◌+◌, ◌<◌, ◌≤◌, ◌^◌, IfOk, length, true};
+ghost use Rattle.std.specs.Prelude.{◌≡◌, ◌+◌, ◌<◌, ◌≤◌, IfOk, length, true};
 ghost use Rattle.dumpi_calls.specs.Collected.{AreSegments, placed};
+ghost use Rattle.dumpi_calls.specs.declared.cutting.TheConstants.{MOST_EVENTS, PLACES};
 ghost use Rattle.trace_know.specs.Segment.{alternate, enter_place};
 
 use mpi_model::Event;
@@ -9,17 +10,20 @@ use std::alloc::{AllocError, Global};
 use std::mem;
 use trace_know::Segment;
 
+/// Places are below this one, 2^40.
+pub const PLACES: u64 = 1_099_511_627_776;
+
 /// The most events of a segment: an Enter and a Return of each of [`MOST_CALLS`].
-const MOST_EVENTS: usize = 65_536;
+pub const MOST_EVENTS: usize = 65_536;
 
 /// The calls of a full segment.
-const MOST_CALLS: u64 = 32_768;
+pub const MOST_CALLS: u64 = 32_768;
 
 // the segment of events that are one
 fn segment(rank: u32, first: u64, events: Vec<Event>) -> Segment
     requires some { 0 < length events.items }
-    requires most { length events.items ≤ 65536 }
-    requires places { enter_place first + length events.items ≤ 2 ^ 40 }
+    requires most { length events.items ≤ MOST_EVENTS }
+    requires places { enter_place first + length events.items ≤ PLACES }
     requires halves { alternate true events.items ≡ true }
     ensures { result ≡ placed rank first events.items }
 {
@@ -34,7 +38,7 @@ pub fn cut(
     events: Vec<Event>,
 ) -> Result<Vec<Segment>, AllocError>
     requires halves { alternate true events.items ≡ true }
-    requires places { enter_place first + length events.items ≤ 2 ^ 40 }
+    requires places { enter_place first + length events.items ≤ PLACES }
     ensures { IfOk result (λ segments. AreSegments rank first events.items segments.items) }
 {
     let mut segments = Vec::new(alloc);

@@ -12,6 +12,9 @@
 //!   [`typing`]: a call by the row of its function
 //! - [`sink`]: the callbacks; [`fault`], [`walking`]: the walk
 //! - [`collect`], [`cutting`], [`tally`]: two sinks; [`laws`]: what holds of walks over whole texts
+//!
+//! Its tests are in the crate `dumpi_calls_tests`; calls that are refused, by each parameter of each function, are in
+//! `tests/functions.txt`.
 #![tactic(auto)]
 
 mod collect;

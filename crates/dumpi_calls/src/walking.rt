@@ -2,6 +2,7 @@
 
 ghost use Rattle.std.specs.Prelude.{◌≡◌, ◌<◌, ◌≤◌, ℕ, List, Option, Err, Ok, Some, None, IfErr, IfOk, IfSome, OnErr};
 ghost use Rattle.dumpi_text.specs.Call.{TextCall};
+ghost use Rattle.dumpi_text.specs.declared.step.TheConstants.{MOST_LINES};
 ghost use Rattle.dumpi_calls.specs.Rows.{row_of, typed, typed_by, row, HasItsKind};
 ghost use Rattle.dumpi_calls.specs.Walks.{Follows, IsRead, IsStopped, IsWalked, LacksNext, RefusesCall, RefusesNext, StopsWalk, Takes, lacks_exit};
 
@@ -101,7 +102,7 @@ fn next_of<R: Read>(texts: &mut Texts<R>) -> Result<Option<RawCall>, TextFault>
     ensures goes_on { (text : Option (List ℕ)) (calls : List TextCall) → IsRead text calls texts.old → IfOk result (λ found. Follows text calls found texts.new) }
     ensures stops { (text : Option (List ℕ)) (calls : List TextCall) → IsRead text calls texts.old → IfErr result (λ fault. RefusesNext text calls fault texts.new.told.line) }
     ensures progress { IfOk result (λ found. IfSome found (λ call. texts.old.at.line < texts.new.at.line)) }
-    ensures lines { texts.new.at.line ≤ 16777216 }
+    ensures lines { texts.new.at.line ≤ MOST_LINES }
 {
     reading_call_by_call();
     match texts.next_raw() {

@@ -1,10 +1,10 @@
 //! Tokens of values. Each is read from the front of a text, and what follows it is handed on.
 
-ghost use Rattle.std.specs.Prelude.{◌≡◌, true};
+ghost use Rattle.std.specs.Prelude.{◌≡◌, IfSome, drop, true};
 ghost use Rattle.std.specs.List.{list_all};
 ghost use Rattle.std.specs.Option.{option_copied, option_map};
 ghost use Rattle.dumpi_text.specs.Time.{is_digit};
-ghost use Rattle.dumpi_text.specs.Tokens.{after_spaces, after_byte, digit_parts, digits_front, word_front};
+ghost use Rattle.dumpi_text.specs.Tokens.{after_spaces, after_byte, byte_front, digit_parts, digits_front, word_front};
 
 use crate::words::split_word;
 
@@ -20,14 +20,22 @@ pub fn skip_spaces(text: &[u8]) -> &[u8]
     &[]
 }
 
+/// What follows a byte that stands in front.
+pub fn strip_byte(wanted: u8, text: &[u8]) -> Option<&[u8]>
+    ensures found { option_copied result ≡ byte_front wanted text.now }
+    ensures rest { IfSome result (λ rest. rest.now ≡ drop 1 text.now) }
+{
+    match text {
+        [byte, rest @ ..] if *byte == wanted => Some(rest),
+        _ => None,
+    }
+}
+
 /// What follows a byte that stands in front, after spaces.
 pub fn skip_byte(wanted: u8, text: &[u8]) -> Option<&[u8]>
     ensures { option_copied result ≡ after_byte wanted text.now }
 {
-    match skip_spaces(text) {
-        [byte, rest @ ..] if *byte == wanted => Some(rest),
-        _ => None,
-    }
+    strip_byte(wanted, skip_spaces(text))
 }
 
 /// The longest front of digits, and what follows it.

@@ -10,7 +10,7 @@
 //! - [`layout`]: ranks, communicators, and how sends complete
 //! - [`manifest`]: the pieces of a trace
 //!
-//! Its tests are in `crates/reading_tests/src/inputs.rt`.
+//! Its tests are in the crate `input_files_tests`.
 #![tactic(auto)]
 
 mod fault;

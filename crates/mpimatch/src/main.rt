@@ -1,13 +1,13 @@
-//! mpimatch: what the trace texts of an MPI run tell of its ranks.
+//! mpimatch: who received what from whom, and which ranks are stuck, by the trace texts of an MPI run.
 //!
 //! The program hands its words, the files of the system and standard output to `command_runs`, and
 //! ends with the status that comes of them. `crates/command_runs` has the rest.
 #![tactic(auto)]
 
-use command_runs::{Disk, ending_of, ending_without_words};
+use command_runs::{Disk, Terminal, ending_of, ending_without_words};
 use mpi_model::Device;
 use std::alloc::AllocError;
-use std::io;
+use std::io::{self, IsTerminal};
 use std::process::ExitCode;
 
 fn main(rt: HostRuntime) -> anyhow::Result<ExitCode> {
@@ -20,8 +20,9 @@ fn main(rt: HostRuntime) -> anyhow::Result<ExitCode> {
                 texts.push(word.as_str())?;
             }
             let mut files = Disk::new(&rt);
+            let mut watcher = Terminal::new(&rt, rt.stderr().is_terminal());
             let mut out = Device::new(io::writer(&rt));
-            ending_of(alloc, texts.as_slice(), &mut files, &mut out)
+            ending_of(alloc, texts.as_slice(), &mut files, &mut watcher, &mut out)
         }
         Err(error) if error.kind() == io::ErrorKind::OutOfMemory => Err(AllocError),
         Err(_) => ending_without_words(alloc),

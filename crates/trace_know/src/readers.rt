@@ -12,11 +12,9 @@ ghost use Rattle.trace_know.specs.Runs.{Above, IsFilled, IsFront, listed, of_run
 use crate::cell::Known;
 use crate::run::Run;
 use crate::runs::{first_at, known_at};
+use crate::segment::PLACES;
 use mpi_model::Event;
 use std::alloc::{AllocError, Global};
-
-/// Places are below this one, 2^40.
-const PLACES: u64 = 1_099_511_627_776;
 
 /// How many cells there are.
 pub(crate) fn count_cells(runs: &[Run]) -> usize

@@ -4,6 +4,7 @@ ghost use Rattle.std.specs.Prelude.{◌≡◌, ◌+◌, ◌-◌, ◌<◌, ◌≤
 ghost use Rattle.std.specs.VecDeque.{deque_len, deque_capacity};
 ghost use Rattle.trace_know.specs.declared.cell.Known.{Known as KnownValue};
 ghost use Rattle.trace_know.specs.declared.cell.Known.TheVariants.{Contradiction, One};
+ghost use Rattle.trace_know.specs.declared.segment.TheConstants.{PLACES};
 ghost use Rattle.trace_know.specs.Cell.{join_known, is_contradiction};
 ghost use Rattle.trace_know.specs.View.{join};
 ghost use Rattle.trace_know.specs.Rows.{single, row};
@@ -167,7 +168,7 @@ pub(crate) fn absorb(run: &mut Run, piece: Run)
     requires touches { (piece.first ≤ run.old.first + length run.old.cells.items) × (run.old.first ≤ piece.first + length piece.cells.items) }
     requires shorter { length piece.cells.items ≤ length run.old.cells.items }
     requires room { (piece.first + length piece.cells.items ≤ run.old.first + deque_capacity run.old.cells) × (run.old.first + length run.old.cells.items ≤ piece.first + deque_capacity run.old.cells) }
-    requires ends { (run.old.first + length run.old.cells.items ≤ 2 ^ 40) × (piece.first + length piece.cells.items ≤ 2 ^ 40) }
+    requires ends { (run.old.first + length run.old.cells.items ≤ PLACES) × (piece.first + length piece.cells.items ≤ PLACES) }
     requires counted { IsCounted run.old }
     ensures view { of_run run.new ≡ join (of_run run.old) (of_run piece) }
     ensures rank { run.new.rank ≡ run.old.rank }
@@ -189,7 +190,7 @@ pub(crate) fn grow_by(run: &mut Run, piece: Run) -> Result<(), AllocError>
     requires rank { piece.rank ≡ run.old.rank }
     requires touches { (piece.first ≤ run.old.first + length run.old.cells.items) × (run.old.first ≤ piece.first + length piece.cells.items) }
     requires shorter { length piece.cells.items ≤ length run.old.cells.items }
-    requires ends { (run.old.first + length run.old.cells.items ≤ 2 ^ 40) × (piece.first + length piece.cells.items ≤ 2 ^ 40) }
+    requires ends { (run.old.first + length run.old.cells.items ≤ PLACES) × (piece.first + length piece.cells.items ≤ PLACES) }
     requires counted { IsCounted run.old }
     ensures ok { OnOk result (of_run run.new ≡ join (of_run run.old) (of_run piece)) }
     ensures rank { run.new.rank ≡ run.old.rank }
@@ -211,7 +212,7 @@ fn absorb_back(run: &mut Run, piece: Run)
     requires rank { piece.rank ≡ run.old.rank }
     requires touches { (run.old.first ≤ piece.first) × (piece.first ≤ run.old.first + length run.old.cells.items) }
     requires room { piece.first + length piece.cells.items ≤ run.old.first + deque_capacity run.old.cells }
-    requires ends { piece.first + length piece.cells.items ≤ 2 ^ 40 }
+    requires ends { piece.first + length piece.cells.items ≤ PLACES }
     requires counted { IsCounted run.old }
     ensures view { of_run run.new ≡ join (of_run run.old) (of_run piece) }
     ensures rank { run.new.rank ≡ run.old.rank }
@@ -233,7 +234,7 @@ fn absorb_front(run: &mut Run, piece: Run)
     requires touches { (piece.first ≤ run.old.first) × (run.old.first ≤ piece.first + length piece.cells.items) }
     requires inside { piece.first + length piece.cells.items ≤ run.old.first + length run.old.cells.items }
     requires room { run.old.first + length run.old.cells.items ≤ piece.first + deque_capacity run.old.cells }
-    requires ends { piece.first + length piece.cells.items ≤ 2 ^ 40 }
+    requires ends { piece.first + length piece.cells.items ≤ PLACES }
     requires counted { IsCounted run.old }
     ensures view { of_run run.new ≡ join (of_run run.old) (of_run piece) }
     ensures rank { run.new.rank ≡ run.old.rank }

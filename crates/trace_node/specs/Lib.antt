@@ -2,3 +2,4 @@ pub mod Answer
 pub mod Stopped
 pub mod Node
 pub mod Codes
+pub mod Following

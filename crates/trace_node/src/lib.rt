@@ -12,6 +12,7 @@
 //! - [`fault`]: why a segment, other knowledge or a question is refused
 //! - [`stuck`]: a stuck rank; [`answer`]: what is told; `answer::gather`: the way there
 //! - [`strangers`]: whether something is known of a rank that the layout doesn't have
+//! - [`follow`]: the index of the pairs, as more is known
 //! - [`node`]: knowledge with its answer
 //! - [`laws`]: that there is one answer, as the contract of a call that does nothing
 //!
@@ -20,6 +21,7 @@
 
 mod answer;
 mod fault;
+mod follow;
 mod laws;
 mod node;
 mod strangers;

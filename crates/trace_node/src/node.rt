@@ -1,20 +1,23 @@
 //! A node: knowledge with its answer.
 
-ghost use Rattle.std.specs.Prelude.{◌≡◌, ◌≢◌, ◌↔◌, ◌≤◌, true, false, IsTrue, IsSome, IfOk, OnOk, OnErr, IfErr, IsErr, IsErrOf};
+ghost use Rattle.std.specs.Prelude.{◌≡◌, ◌≢◌, ◌↔◌, ◌≤◌, true, false, IsTrue, Some, IsSome, IfOk, OnOk, OnErr, IfErr, IsErr, IsErrOf};
 ghost use Rattle.std.specs.FinMap.{empty};
 ghost use Rattle.trace_know.specs.Trace.{facts_of, view_of};
 ghost use Rattle.trace_know.specs.View.{join};
+ghost use Rattle.trace_ops.specs.RankOps.{all_ops};
 ghost use Rattle.trace_node.specs.Answer.{IsAnswer};
+ghost use Rattle.trace_node.specs.Following.{WereTold};
 ghost use Rattle.trace_node.specs.Node.{HasStranger, IsWithin, held};
 
 use crate::answer::{Answer, answer_of};
 use crate::fault::{NodeFault, Stale};
+use crate::follow::{followed, index_of};
 use crate::strangers::has_stranger;
 use mpi_model::Layout;
 use std::alloc::{AllocError, Global};
 use std::marker::Model;
 use trace_know::{Knowledge, Segment, join_laws, view_laws};
-use trace_ops::{all_ops, ops_laws};
+use trace_ops::ops_laws;
 use trace_pair::PairIndex;
 
 /// All that is known of the run of a layout, with the answer to it. A stale node has dropped its
@@ -26,15 +29,17 @@ pub struct Node<'a> {
     alloc: Global,
     layout: &'a Layout,
     know: Knowledge,
+    /// The pairs of all that is known, where they are kept.
+    index: Option<PairIndex>,
     /// None where the node is stale.
     answer: Option<Answer>,
 }
 
 impl<'a> Model for Node<'a> {
-    ghost use Rattle.std.specs.Prelude.{IfSome, is_none};
-    ghost use Rattle.trace_node.specs.Answer.{IsAnswer};
+    ghost use Rattle.std.specs.Prelude.{is_none};
     ghost use Rattle.trace_node.specs.Codes.{coded_held};
-    ghost use Rattle.trace_node.specs.Node.{Held, IsWithin};
+    ghost use Rattle.trace_node.specs.Following.{IsNode};
+    ghost use Rattle.trace_node.specs.Node.{Held};
 
     ghost Value = { Held };
 
@@ -42,7 +47,7 @@ impl<'a> Model for Node<'a> {
 
     ghost view = { λ n. record { layout = n.layout.now; know = n.know; is_stale = is_none n.answer } };
 
-    ghost invariant = { λ n. IsWithin n.layout.now n.know × IfSome n.answer (λ a. IsAnswer n.layout.now n.know a) };
+    ghost invariant = { λ n. IsNode n.layout.now n.know n.index n.answer };
 }
 
 impl<'a> Node<'a> {
@@ -50,14 +55,15 @@ impl<'a> Node<'a> {
     pub fn new(alloc: Global, layout: &'a Layout) -> Result<Node<'a>, AllocError>
         ensures { IfOk result (λ n. n ≡ held layout.now empty false) }
     {
-        let know = Knowledge::new(alloc);
-        let answer = answer_to(alloc, layout, &know)?;
-        Ok(Node {
+        let mut node = Node {
             alloc,
             layout,
-            know,
-            answer: Some(answer),
-        })
+            know: Knowledge::new(alloc),
+            index: None,
+            answer: None,
+        };
+        node.refresh()?;
+        Ok(node)
     }
 
     /// A node that knows what was gathered, as one that is new and merges it, but without a copy.
@@ -70,15 +76,17 @@ impl<'a> Node<'a> {
         if has_stranger(layout, &know) {
             return Err(NodeFault::Rank);
         }
-        let Ok(answer) = answer_to(alloc, layout, &know) else {
-            return Err(NodeFault::Memory);
-        };
-        Ok(Node {
+        let mut node = Node {
             alloc,
             layout,
             know,
-            answer: Some(answer),
-        })
+            index: None,
+            answer: None,
+        };
+        if node.refresh().is_err() {
+            return Err(NodeFault::Memory);
+        }
+        Ok(node)
     }
 
     /// Joins the facts of the segment, and makes the answer to all that is known then. A stale node
@@ -100,8 +108,9 @@ impl<'a> Node<'a> {
         if self.know.take(segment).is_err() {
             return Err(NodeFault::Memory);
         }
+        let index = self.index.take();
         let before = self.answer.take();
-        self.catch_up(before)
+        self.catch_up(index, before)
     }
 
     /// Joins all that the other knows, and makes the answer to all that is known then. A stale node
@@ -122,8 +131,9 @@ impl<'a> Node<'a> {
         if self.know.join(other).is_err() {
             return Err(NodeFault::Memory);
         }
+        let index = self.index.take();
         let before = self.answer.take();
-        self.catch_up(before)
+        self.catch_up(index, before)
     }
 
     /// Makes the answer anew, from all that is known. Where there is no memory for it, the node is
@@ -132,9 +142,10 @@ impl<'a> Node<'a> {
         ensures ok { OnOk result (self.new ≡ held self.old.layout self.old.know false) }
         ensures err { OnErr result (self.new ≡ held self.old.layout self.old.know true) }
     {
+        self.index = None;
         self.answer = None;
-        self.answer = Some(answer_to(self.alloc, self.layout, &self.know)?);
-        Ok(())
+        let index = index_of(self.alloc, self.layout, &self.know)?;
+        self.tell(index)
     }
 
     /// The answer to all that is known.
@@ -173,23 +184,45 @@ impl<'a> Node<'a> {
             alloc: self.alloc,
             layout: self.layout,
             know: self.know.try_clone()?,
+            index: None,
             answer,
         })
     }
 
     /// Makes the answer, where there was one before more was known: else the node stays stale.
-    fn catch_up(&mut self, before: Option<Answer>) -> Result<(), NodeFault>
-        requires { self.old.is_stale ≡ true }
+    fn catch_up(
+        &mut self,
+        index: Option<PairIndex>,
+        before: Option<Answer>,
+    ) -> Result<(), NodeFault>
+        requires stale { self.old.is_stale ≡ true }
+        requires told { WereTold self.old.layout self.old.know index before }
         ensures ok { OnOk result (self.new ≡ held self.old.layout self.old.know false) }
         ensures fresh { OnOk result (IsSome before) }
         ensures stale { IfErr result (λ fault. (fault ≡ NodeFault.Stale) × (self.new ≡ self.old)) }
     {
-        if before.is_none() {
+        let Some(before) = before else {
+            return Err(NodeFault::Stale);
+        };
+        let Ok(index) = index_after(self.alloc, self.layout, &self.know, index, &before) else {
+            return Err(NodeFault::Stale);
+        };
+        if self.tell(index).is_err() {
             return Err(NodeFault::Stale);
         }
-        if self.refresh().is_err() {
-            return Err(NodeFault::Stale);
-        }
+        Ok(())
+    }
+
+    /// Makes the answer to all that is known, and keeps its index.
+    fn tell(&mut self, index: PairIndex) -> Result<(), AllocError>
+        requires stale { self.old.is_stale ≡ true }
+        requires index { index ≡ all_ops self.old.layout self.old.know }
+        ensures ok { OnOk result (self.new ≡ held self.old.layout self.old.know false) }
+        ensures err { OnErr result (self.new ≡ self.old) }
+    {
+        let answer = answer_to(self.alloc, self.layout, &self.know, &index)?;
+        self.index = Some(index);
+        self.answer = Some(answer);
         Ok(())
     }
 
@@ -201,12 +234,34 @@ impl<'a> Node<'a> {
     }
 }
 
-/// The answer to all that is known.
-fn answer_to(alloc: Global, layout: &Layout, know: &Knowledge) -> Result<Answer, AllocError>
+/// The answer to all that is known, of the index of its ops.
+fn answer_to(
+    alloc: Global,
+    layout: &Layout,
+    know: &Knowledge,
+    index: &PairIndex,
+) -> Result<Answer, AllocError>
+    requires { index.now ≡ all_ops layout.now know.now }
     ensures { IfOk result (λ a. IsAnswer layout.now know.now a) }
 {
     layout.known();
     ops_laws();
-    let index = PairIndex::of_all(alloc, all_ops(alloc, layout, know)?)?;
     answer_of(alloc, layout, know, index.ops(), index.pairs())
+}
+
+/// The index of all that is known, from an older one where there is one.
+fn index_after(
+    alloc: Global,
+    layout: &Layout,
+    know: &Knowledge,
+    index: Option<PairIndex>,
+    before: &Answer,
+) -> Result<PairIndex, AllocError>
+    requires { WereTold layout.now know.now index (Some before.now) }
+    ensures { IfOk result (λ held. held ≡ all_ops layout.now know.now) }
+{
+    match index {
+        Some(index) => followed(alloc, layout, know, before, index),
+        None => index_of(alloc, layout, know),
+    }
 }

@@ -20,3 +20,4 @@ pub mod Continued
 pub mod Sure
 pub mod Names
 pub mod Owned
+pub mod Searched

@@ -1,5 +1,5 @@
 -- The two maps of couples, as a couple comes or goes.
-use Rattle.std.proofs.Common.{subst, ◌≡◌, true, false, List, [], inl, inr, ⊎_elim, sym, refl, ◌∙◌, ap, ◌⊎◌, cond, Option, Some, None}
+use Rattle.std.proofs.Common.{subst, ◌≡◌, true, false, [], inl, inr, ⊎_elim, sym, refl, ◌∙◌, ap, ◌⊎◌, cond, Option, Some, None}
 use Rattle.std.specs.Ordering.{is_eq}
 use Rattle.std.specs.Option.{option_map}
 use Rattle.std.specs.Prelude.{IfSome, IfNone}

@@ -169,6 +169,16 @@ above_name a b rest h =
           ap (λ x. is_gt (ordering_then (ordering_then x (nat_cmp b.call a.call)) rest)) e ∙ ap (λ x. is_gt (ordering_then x rest)) f
     ]
 
+pub later_name : (a b : OpName) → name_lt a b ≡ true → is_gt (name_cmp b a) ≡ true
+later_name a b h =
+    elim (cases_lt a.rank b.rank) [
+      | inl lt ↦ let e : nat_cmp b.rank a.rank ≡ Greater = grind (arith, nat_tests) in
+          ap (λ x. is_gt (ordering_then x (nat_cmp b.call a.call))) e
+      | inr le ↦ let e : nat_cmp b.rank a.rank ≡ Equal = grind (arith, nat_tests) in
+          let f : nat_cmp b.call a.call ≡ Greater = grind (arith, nat_tests) in
+          ap (λ x. is_gt (ordering_then x (nat_cmp b.call a.call))) e ∙ ap (λ x. is_gt x) f
+    ]
+
 pub later_message : (p n : Message) → name_lt p.name n.name ≡ true → is_gt (message_cmp n p) ≡ true
 later_message p n h = above_name p.name n.name _ h
 

@@ -20,7 +20,7 @@ use Rattle.trace_pair.proofs.Owned.{AreOwnCalls, own_calls}
 use Rattle.trace_pair.proofs.Continued.{continues}
 use Rattle.trace_pair.proofs.Names.{placed, placed_receive}
 
-pair_has : (ms : List Message) (qs : List Receive) (p : Pair) → Has (pairs_of ms qs) p → (m : Message) × Has ms m × (q : Receive) × Has qs q × Paired ms qs m q × (p ≡ pair_of m q)
+pub pair_has : (ms : List Message) (qs : List Receive) (p : Pair) → Has (pairs_of ms qs) p → (m : Message) × Has ms m × (q : Receive) × Has qs q × Paired ms qs m q × (p ≡ pair_of m q)
 pair_has ms qs p i =
     let w = from_some (λ m. option_map (pair_of m) (receive_of ms qs m)) ms p i in
     let v = mapped w.0 (receive_of ms qs w.0) p w.2 in

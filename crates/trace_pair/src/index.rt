@@ -53,8 +53,7 @@ impl PairIndex {
     {
         let mut state = Matched::empty(alloc);
         add_ranks(&mut state, &ops)?;
-        let mut table = PairTable::empty(alloc);
-        table.fill(&state, &ops)?;
+        let table = PairTable::of_held(alloc, &state, &ops)?;
         Ok(PairIndex {
             held: ops,
             state,
@@ -104,8 +103,9 @@ impl PairIndex {
         &self.table
     }
 
-    /// The rank's ops are these, whatever they were.
-    fn set(&mut self, rank: u32, ops: RankOps) -> Result<(), AllocError>
+    /// The rank's ops are these, whatever they were: `grow` and `cut` for a caller who doesn't know
+    /// which of them it is. Where memory is refused, the index is as made by `new`.
+    pub fn set(&mut self, rank: u32, ops: RankOps) -> Result<(), AllocError>
         requires rank { rank < length self.old }
         requires own { IsOwn rank ops }
         ensures ok { OnOk result (self.new ≡ slice_set self.old rank ops) }
@@ -116,7 +116,7 @@ impl PairIndex {
             Err(error) => {
                 forget(&mut self.held);
                 self.state.clear();
-                self.table.clear();
+                self.table = PairTable::empty(*self.held.allocator());
                 Err(error)
             }
         }
@@ -153,15 +153,20 @@ fn follow(
     rank: u32,
     ops: RankOps,
 ) -> Result<(), AllocError>
-    requires { rank < length held.old.items }
+    requires rank { rank < length held.old.items }
+    requires held { AreOwn 0 held.old.items }
+    requires own { IsOwn rank ops }
+    requires followed { Follows held.old.items state.old }
     ensures length { length held.new.items ≡ length held.old.items }
     ensures held { OnOk result (held.new.items ≡ slice_set held.old.items rank ops) }
-    ensures state { OnOk result (AreOwn 0 held.old.items → IsOwn rank ops → Follows held.old.items state.old → Follows held.new.items state.new) }
-    ensures table { OnOk result (AreOwn 0 held.old.items → IsOwn rank ops → Follows held.old.items state.old → table.new ≡ table_of held.new.items) }
+    ensures state { OnOk result (Follows held.new.items state.new) }
+    ensures table { OnOk result (table.new ≡ table_of held.new.items) }
 {
+    let alloc = *held.allocator();
     set_rank(state, &held[rank as usize], &ops)?;
     held[rank as usize] = ops;
-    table.fill(state, held)?;
+    *table = PairTable::empty(alloc);
+    *table = PairTable::of_held(alloc, state, held)?;
     Ok(())
 }
 

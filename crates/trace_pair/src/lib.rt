@@ -12,7 +12,7 @@
 //!
 //! - [`pair`]: a pair, and the two sides of one
 //! - [`rules`]: the five rules, one by one; [`scratch`]: the pairing straight from them
-//! - [`table`]: the pairs and the postponed messages
+//! - [`rows`], [`table`]: the pairs and the postponed messages, and the other end of each
 //! - [`groups`], [`queues`]: sets of calls, found by a few probes of an ordered map; [`couples`]: the
 //!   pairs by either name
 //! - [`matched`]: the sets of an index, as one call comes or goes; [`follow`]: as a rank's calls do
@@ -28,6 +28,7 @@ mod laws;
 mod matched;
 mod pair;
 mod queues;
+mod rows;
 mod rules;
 mod scratch;
 mod table;

@@ -9,6 +9,7 @@ ghost use Rattle.trace_pair.specs.Scratch.{AreCalls, found_for};
 ghost use Rattle.trace_pair.specs.Table.{table_of, table_with, pair_of, fits_untold, sends_of, receives_of};
 
 use crate::pair::make_pair;
+use crate::rows::Rows;
 use crate::rules::{does_untold_fit, receive_for};
 use crate::table::PairTable;
 use mpi_model::{Message, Receive};
@@ -28,19 +29,16 @@ pub fn pair_all(alloc: Global, ops: &[RankOps]) -> Result<PairTable, AllocError>
 {
     let messages = all_sends(alloc, ops)?;
     let receives = all_receives(alloc, ops)?;
-    let table = rows_of(alloc, &messages, &receives)?;
+    let rows = rows_of(alloc, &messages, &receives)?;
+    let table = PairTable::of_rows(alloc, rows)?;
     Ok(table)
 }
 
-/// The table of these messages and receives.
-fn rows_of(
-    alloc: Global,
-    messages: &[Message],
-    receives: &[Receive],
-) -> Result<PairTable, AllocError>
+/// The rows of these messages and receives.
+fn rows_of(alloc: Global, messages: &[Message], receives: &[Receive]) -> Result<Rows, AllocError>
     ensures { IfOk result (λ table. AreCalls messages.now receives.now → table ≡ table_with messages.now receives.now) }
 {
-    let mut table = PairTable::empty(alloc);
+    let mut table = Rows::empty(alloc);
     for m in messages {
         add_row(&mut table, messages, receives, m)?;
     }
@@ -69,7 +67,7 @@ fn all_receives(alloc: Global, ops: &[RankOps]) -> Result<Vec<Receive>, AllocErr
 
 /// Adds what the message is, given the rows of the earlier messages: paired, postponed, or neither.
 fn add_row(
-    table: &mut PairTable,
+    table: &mut Rows,
     messages: &[Message],
     receives: &[Receive],
     m: &Message,
@@ -79,7 +77,7 @@ fn add_row(
     ensures postponed { OnOk result (table.new.postponed ≡ table.old.postponed
         ++ cons_option (cond (is_none (found_for messages.now receives.now table.old.pairs m.now) && fits_untold receives.now m.now) (Some m.now.name) None) []) }
 {
-    match receive_for(messages, receives, table.pairs(), m) {
+    match receive_for(messages, receives, &table.pairs, m) {
         Some(q) => table.put(make_pair(m, q))?,
         None => {
             if does_untold_fit(receives, m) {

@@ -1,19 +1,16 @@
 //! A table: the pairs and the postponed messages, in order of the message.
 
-ghost use Rattle.std.specs.Prelude.{◌≡◌, ◌++◌, ◌∷◌, [], List, OnOk};
-ghost use Rattle.std.specs.List.{cons_option, filter_map};
-ghost use Rattle.std.specs.Option.{option_map};
-ghost use Rattle.mpi_model.specs.declared.message.Message.{Message};
-ghost use Rattle.mpi_model.specs.declared.message.Receive.{Receive};
+ghost use Rattle.std.specs.Prelude.{◌≡◌, ◌<◌, ◌++◌, ◌∷◌, [], OnOk, IfOk, ℕ, length};
+ghost use Rattle.trace_ops.specs.Ops.{AreOwn};
 ghost use Rattle.trace_ops.specs.Order.{Has};
-ghost use Rattle.trace_pair.specs.Followed.{Indexes, Follows};
-ghost use Rattle.trace_pair.specs.Pairing.{receive_of};
-ghost use Rattle.trace_pair.specs.Table.{pair_of, postponed_name, table_of, partner_in, taken_by, given_by};
+ghost use Rattle.trace_pair.specs.Followed.{Follows};
+ghost use Rattle.trace_pair.specs.Searched.{ArePairs, AreByReceive, IsSearchable, receive_at, message_at};
+ghost use Rattle.trace_pair.specs.Table.{table_of, partner_in, taken_by, given_by};
 
 use crate::matched::Matched;
-use crate::pair::{Pair, Side, make_pair};
-use crate::rules::is_same_name;
-use mpi_model::{Message, OpName};
+use crate::pair::{Pair, Side};
+use crate::rows::Rows;
+use mpi_model::OpName;
 use std::alloc::{AllocError, Global};
 use std::marker::Model;
 use trace_ops::RankOps;
@@ -21,16 +18,20 @@ use trace_ops::RankOps;
 /// The pairs and the postponed messages, in order of the message.
 #[derive(Drop)]
 pub struct PairTable {
-    pairs: Vec<Pair>,
-    postponed: Vec<OpName>,
+    rows: Rows,
+    /// The places of the pairs, in order of the receive.
+    by_receive: Vec<usize>,
 }
 
 impl Model for PairTable {
     ghost use Rattle.trace_pair.specs.Table.{Table};
+    ghost use Rattle.trace_pair.specs.Searched.{IsSearchable};
 
     ghost Value = { Table };
 
-    ghost view = { λ s. record { pairs = s.pairs.items; postponed = s.postponed.items } };
+    ghost view = { λ s. s.rows };
+
+    ghost invariant = { λ s. IsSearchable s.rows.pairs s.by_receive.items };
 }
 
 impl PairTable {
@@ -38,118 +39,121 @@ impl PairTable {
         ensures { result ≡ table_of [] }
     {
         PairTable {
-            pairs: Vec::new(alloc),
-            postponed: Vec::new(alloc),
+            rows: Rows::empty(alloc),
+            by_receive: Vec::new(alloc),
         }
     }
 
-    /// Takes no memory.
-    pub(crate) fn clear(&mut self)
-        ensures { self.new ≡ table_of [] }
+    /// The table of these rows.
+    pub(crate) fn of_rows(alloc: Global, rows: Rows) -> Result<PairTable, AllocError>
+        requires { ArePairs rows.pairs }
+        ensures { IfOk result (λ table. table ≡ rows) }
     {
-        self.pairs.clear();
-        self.postponed.clear();
+        let by_receive = places_by_receive(alloc, &rows.pairs)?;
+        Ok(PairTable { rows, by_receive })
+    }
+
+    /// The table of the held ops.
+    pub(crate) fn of_held(
+        alloc: Global,
+        state: &Matched,
+        held: &[RankOps],
+    ) -> Result<PairTable, AllocError>
+        requires own { AreOwn 0 held.now }
+        requires followed { Follows held.now state.now }
+        ensures { IfOk result (λ table. table ≡ table_of held.now) }
+    {
+        let rows = Rows::of_held(alloc, state, held)?;
+        PairTable::of_rows(alloc, rows)
     }
 
     /// In order of the message: by rank, then by call.
     pub fn pairs(&self) -> &[Pair]
         ensures { result.now ≡ self.now.pairs }
     {
-        &self.pairs
+        &self.rows.pairs
     }
 
     /// Messages in no pair that an untold receive fits, in their order.
     pub fn postponed(&self) -> &[OpName]
         ensures { result.now ≡ self.now.postponed }
     {
-        &self.postponed
+        &self.rows.postponed
     }
 
-    /// The other end of the pair of a send, or of a receive, if it is in one. Goes through the pairs.
+    /// The other end of the pair of a send, or of a receive, if it is in one; found by halving.
     pub fn partner(&self, name: OpName, side: Side) -> Option<OpName>
         ensures { result ≡ partner_in side self.now.pairs name }
     {
         match side {
-            Side::Sent => taken_by(&self.pairs, &name),
-            Side::Received => given_by(&self.pairs, &name),
+            Side::Sent => taken_by(&self.rows.pairs, &name),
+            Side::Received => given_by(&self.rows.pairs, &self.by_receive, &name),
         }
     }
+}
 
-    pub(crate) fn put(&mut self, pair: Pair) -> Result<(), AllocError>
-        ensures pairs { OnOk result (self.new.pairs ≡ self.old.pairs ++ pair ∷ []) }
-        ensures postponed { self.new.postponed ≡ self.old.postponed }
-    {
-        self.pairs.push(pair)?;
-        Ok(())
-    }
+/// The receive of the pair at a place.
+fn receive_at(pairs: &[Pair], place: usize) -> Option<OpName>
+    ensures { result ≡ receive_at pairs.now place }
+{
+    pairs.get(place).map(|p| p.receive)
+}
 
-    pub(crate) fn postpone(&mut self, name: OpName) -> Result<(), AllocError>
-        ensures pairs { self.new.pairs ≡ self.old.pairs }
-        ensures postponed { OnOk result (self.new.postponed ≡ self.old.postponed ++ name ∷ []) }
-    {
-        self.postponed.push(name)?;
-        Ok(())
-    }
+/// The message of the pair at a place.
+fn message_at(pairs: &[Pair], place: usize) -> Option<OpName>
+    ensures { result ≡ message_at pairs.now place }
+{
+    pairs.get(place).map(|p| p.message)
+}
 
-    /// Adds what the held message is: paired, postponed, or neither.
-    fn add(&mut self, state: &Matched, m: &Message) -> Result<(), AllocError>
-        ensures pairs { OnOk result ((ms : List Message) (qs : List Receive) → Indexes ms qs state.now → Has ms m.now →
-            self.new.pairs ≡ self.old.pairs ++ cons_option (option_map (pair_of m.now) (receive_of ms qs m.now)) []) }
-        ensures postponed { OnOk result ((ms : List Message) (qs : List Receive) → Indexes ms qs state.now → Has ms m.now →
-            self.new.postponed ≡ self.old.postponed ++ cons_option (postponed_name ms qs m.now) []) }
-    {
-        match state.partner_of(m) {
-            Some(q) => self.put(make_pair(m, &q))?,
-            None => {
-                if state.does_untold_fit(m) {
-                    self.postpone(m.name)?;
-                }
-            }
-        }
-        Ok(())
-    }
+fn put_place(places: &mut Vec<usize>, place: usize) -> Result<(), AllocError>
+    ensures { OnOk result (places.new.items ≡ places.old.items ++ place ∷ []) }
+{
+    places.push(place)?;
+    Ok(())
+}
 
-    /// Adds what the held messages are.
-    fn add_all(&mut self, state: &Matched, some: &[Message]) -> Result<(), AllocError>
-        ensures pairs { OnOk result ((ms : List Message) (qs : List Receive) → Indexes ms qs state.now → ((m : Message) → Has some.now m → Has ms m) →
-            self.new.pairs ≡ self.old.pairs ++ filter_map (λ m. option_map (pair_of m) (receive_of ms qs m)) some.now) }
-        ensures postponed { OnOk result ((ms : List Message) (qs : List Receive) → Indexes ms qs state.now → ((m : Message) → Has some.now m → Has ms m) →
-            self.new.postponed ≡ self.old.postponed ++ filter_map (postponed_name ms qs) some.now) }
-    {
-        for m in some {
-            self.add(state, m)?;
-        }
-        Ok(())
+/// The places of the pairs, as they stand.
+fn all_places(alloc: Global, pairs: &[Pair]) -> Result<Vec<usize>, AllocError>
+    ensures { IfOk result (λ places. (i : ℕ) → i < length pairs.now → Has places.items i) }
+{
+    let mut places = Vec::with_capacity(alloc, pairs.len())?;
+    let mut next = 0;
+    while next < pairs.len() {
+        put_place(&mut places, next)?;
+        next += 1;
     }
+    Ok(places)
+}
 
-    /// Makes the table that of the held ops.
-    pub(crate) fn fill(&mut self, state: &Matched, held: &[RankOps]) -> Result<(), AllocError>
-        ensures { OnOk result (Follows held.now state.now → self.new ≡ table_of held.now) }
-    {
-        self.clear();
-        for ops in held {
-            self.add_all(state, ops.sends())?;
-        }
-        Ok(())
-    }
+/// The places of the pairs, in order of the receive.
+fn places_by_receive(alloc: Global, pairs: &[Pair]) -> Result<Vec<usize>, AllocError>
+    ensures sorted { IfOk result (λ places. AreByReceive pairs.now places.items) }
+    ensures all { IfOk result (λ places. (i : ℕ) → i < length pairs.now → Has places.items i) }
+{
+    let mut places = all_places(alloc, pairs)?;
+    places.sort_unstable_by_key(|place| receive_at(pairs, *place));
+    Ok(places)
 }
 
 /// The receive that takes the message of that name.
 fn taken_by(pairs: &[Pair], name: &OpName) -> Option<OpName>
+    requires { ArePairs pairs.now }
     ensures { result ≡ taken_by pairs.now name.now }
 {
-    pairs
-        .iter()
-        .find(|p| is_same_name(&p.message, name))
-        .map(|p| p.receive)
+    match pairs.binary_search_by_key(name, |p| p.message) {
+        Ok(place) => receive_at(pairs, place),
+        Err(_) => None,
+    }
 }
 
 /// The message that the receive of that name takes.
-fn given_by(pairs: &[Pair], name: &OpName) -> Option<OpName>
+fn given_by(pairs: &[Pair], places: &[usize], name: &OpName) -> Option<OpName>
+    requires { IsSearchable pairs.now places.now }
     ensures { result ≡ given_by pairs.now name.now }
 {
-    pairs
-        .iter()
-        .find(|p| is_same_name(&p.receive, name))
-        .map(|p| p.message)
+    match places.binary_search_by_key(&Some(*name), |place| receive_at(pairs, *place)) {
+        Ok(at) => message_at(pairs, places[at]),
+        Err(_) => None,
+    }
 }

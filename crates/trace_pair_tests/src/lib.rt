@@ -7,3 +7,5 @@
 mod made;
 #[cfg(test)]
 mod rows;
+#[cfg(test)]
+mod steps;

@@ -125,7 +125,7 @@ fn events_of(alloc: Global, calls: &[Did]) -> Result<Vec<Event>, Fail> {
 }
 
 /// Three ranks, all in communicators 2, which is the world, and 3.
-fn layout(alloc: Global) -> Result<Layout, Fail> {
+pub(crate) fn layout(alloc: Global) -> Result<Layout, Fail> {
     let comms = vec![in alloc;
         (2, vec![in alloc; 0, 1, 2]?),
         (3, vec![in alloc; 0, 1, 2]?),
@@ -133,7 +133,12 @@ fn layout(alloc: Global) -> Result<Layout, Fail> {
     Ok(Layout::new(alloc, 3, 2, comms, Sends::Wait)?)
 }
 
-fn take(alloc: Global, know: &mut Knowledge, rank: u32, calls: &[Did]) -> Result<(), Fail> {
+pub(crate) fn take(
+    alloc: Global,
+    know: &mut Knowledge,
+    rank: u32,
+    calls: &[Did],
+) -> Result<(), Fail> {
     let events = events_of(alloc, calls)?;
     if !events.is_empty() {
         know.take_owned(Segment::new(rank, 0, events)?)?;

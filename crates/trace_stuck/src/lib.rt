@@ -23,7 +23,7 @@
 //! - [`release`]: the order of release; [`verdict`]: that order, and who is left
 //! - [`check`]: both checks; [`laws`]: what holds whatever the program does
 //!
-//! Its tests stand in `crates/matching_tests/src/stuck.rt`.
+//! Its tests are in the crate `trace_stuck_tests`.
 #![tactic(auto)]
 
 mod askers;

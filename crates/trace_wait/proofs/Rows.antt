@@ -1,13 +1,13 @@
 -- Rows of collective calls, one call or one rank more.
-use Rattle.std.proofs.Common.{◌≡◌, ℕ, zero, suc, ◌+◌, ◌<◌, Bool, true, false, List, [], ◌∷◌, ◌++◌, Some, None, take, get_or, refl, sym, ◌∙◌, ap, subst, arith, length}
-use Rattle.std.specs.Prelude.{◌==◌, cond}
+use Rattle.std.proofs.Common.{◌≡◌, ℕ, zero, suc, ◌+◌, ◌<◌, List, [], ◌∷◌, ◌++◌, take, get_or, refl, sym, ◌∙◌, ap, subst, length}
+use Rattle.std.specs.Prelude.{◌==◌}
 use Rattle.std.proofs.lemmas.List.{take_more}
 use Rattle.std.proofs.lemmas.List.Elements.{filter-append}
 use Rattle.trace_ops.specs.declared.entered.Entered.{Entered}
 use Rattle.trace_ops.specs.Ops.{Ops}
 use Rattle.trace_wait.specs.Ranks.{ops_of}
 use Rattle.trace_wait.specs.Rounds.{on_comm}
-use Rattle.trace_wait.specs.Entries.{Row, IsRowOf, AreRows, listed_at, listed}
+use Rattle.trace_wait.specs.Entries.{Row, IsRowOf, AreRows, listed_at}
 
 -- one call more
 pub row_more : (c : ℕ) (es : List Entered) (i : ℕ) (d : Entered) (now after : List Entered) → i < length es → now ≡ on_comm c (take i es) →

@@ -15,6 +15,8 @@
 //! - [`posts`]: what a call started; [`active`]: which call posted a request
 //! - [`parts`]: what a send, a receive and a request wait for; [`collective`]: a collective call
 //! - [`waiting`]: the condition of each rank
+//!
+//! Its tests are in the crate `trace_wait_tests`.
 #![tactic(auto)]
 
 mod active;

@@ -15,19 +15,24 @@ use Rattle.trace_wire.specs.Events.{event_bytes}
 abbrev pub Entry : Type 0
 Entry = (ℕ × ℕ) × Known
 
+-- what is known of a place: one event, or a contradiction
 abbrev pub known_bytes : Known → List ℕ
 known_bytes (knowns.One event) = 0 ∷ event_bytes event
 known_bytes knowns.Contradiction = 1 ∷ []
 
+-- a rank and a place
 abbrev pub place_form : Form (ℕ × ℕ)
 place_form = pair (number w32) (number w64)
 
+-- a cell
 abbrev pub cell_bytes : Entry → List ℕ
 cell_bytes e = place_form.spell e.0 ++ known_bytes e.1
 
+-- cells one after another
 abbrev pub cells_bytes : List Entry → List ℕ
 cells_bytes es = flat_map cell_bytes es
 
+-- how many cells, and the cells
 abbrev pub payload : List Entry → List ℕ
 payload es = (number w32).spell (length es) ++ cells_bytes es
 
@@ -35,9 +40,11 @@ payload es = (number w32).spell (length es) ++ cells_bytes es
 abbrev pub head_of : ℕ → List ℕ
 head_of len = 77 ∷ 80 ∷ 84 ∷ 88 ∷ 0 ∷ 1 ∷ (number w32).spell len
 
+-- the head, and the payload
 abbrev pub frame : List Entry → List ℕ
 frame es = head_of (length (payload es)) ++ payload es
 
+-- the most bytes of a payload
 abbrev pub longest : ℕ
 longest = 16777216
 

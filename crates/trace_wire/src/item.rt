@@ -1,8 +1,7 @@
 //! What stands in counted lists.
 
-ghost use Rattle.std.specs.Prelude.{◌≡◌, ℕ, List, Result};
 ghost use Rattle.trace_wire.specs.Outcomes.{Reads};
-ghost use Rattle.trace_wire.specs.Forms.{Form, signed, told, pair, number};
+ghost use Rattle.trace_wire.specs.Forms.{Form, signed, told};
 ghost use Rattle.trace_wire.specs.Fields.{element};
 ghost use Rattle.trace_wire.specs.Sending.{Sends};
 

@@ -1,6 +1,6 @@
 //! The laws of frames, as the contract of a call that does nothing.
 
-ghost use Rattle.std.specs.Prelude.{◌≡◌, ℕ, List, [], ◌++◌, Ok, Err, Result};
+ghost use Rattle.std.specs.Prelude.{◌≡◌, ℕ, List, [], ◌++◌, Ok, Err};
 ghost use Rattle.std.specs.FinMap.{entries};
 ghost use Rattle.trace_know.specs.View.{View};
 ghost use Rattle.trace_wire.specs.declared.fault.WireFault.{WireFault};

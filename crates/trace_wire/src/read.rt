@@ -18,7 +18,11 @@ use mpi_model::Read;
 use std::alloc::Global;
 use trace_know::Knowledge;
 
-/// Reads one frame, and nothing after it.
+/// Reads one frame, and leaves what follows it unread.
+///
+/// Bytes that are no frame are refused for their first cause, in the order of [`WireFault`]: the ten bytes of the head
+/// are read and tried first, then the payload is read, and then its cells are tried one by one. Memory is asked for the
+/// bytes that came, whatever the length says. What was read before a refusal is lost.
 pub fn read_frame<R: Read>(alloc: Global, reader: &mut R) -> Result<Knowledge, WireFault>
     ensures ok { IfOk result (λ k. ReadsFrame (R.left reader.old) (R.left reader.new) (entries k)) }
     ensures no_failure { OnOk result (R.failures reader.new ≡ R.failures reader.old) }

@@ -21,6 +21,7 @@ fn list_len(count: usize, each: u64) -> u64
     (count as u64).saturating_mul(each).saturating_add(4)
 }
 
+/// The bytes behind the code and the times of a call.
 #[tactic(auto, using(crate::proofs::Lengths::requests_len))]
 fn call_len(call: &Call) -> u64
     ensures { result ≡ min (length (call_fields call.now)) (2 ^ 64 - 1) }
@@ -38,6 +39,7 @@ fn call_len(call: &Call) -> u64
     }
 }
 
+/// The bytes behind the code and the times of an outcome.
 #[tactic(auto, using(crate::proofs::Lengths::sources_len, crate::proofs::Lengths::elements_len))]
 fn outs_len(outs: &Outs) -> u64
     ensures { result ≡ min (length (outs_fields outs.now)) (2 ^ 64 - 1) }
@@ -54,6 +56,7 @@ fn outs_len(outs: &Outs) -> u64
     }
 }
 
+/// The bytes of an event.
 fn event_len(event: &Event) -> u64
     ensures { result ≡ min (length (event_bytes event.now)) (2 ^ 64 - 1) }
 {
@@ -63,6 +66,7 @@ fn event_len(event: &Event) -> u64
     }
 }
 
+/// The bytes of what is known of a place. It also tells that an event lies in its range.
 fn known_len(known: &Known) -> u64
     ensures value { result ≡ min (length (known_bytes known.now)) (2 ^ 64 - 1) }
     ensures range { IsInRange known.now }
@@ -76,6 +80,7 @@ fn known_len(known: &Known) -> u64
     }
 }
 
+/// The bytes of the cells that a walk has left. It also tells that their events lie in their ranges.
 fn cells_len(cells: Walk<'_>) -> u64
     ensures value { result ≡ min (length (cells_bytes cells.entry)) (2 ^ 64 - 1) }
     ensures range { AreInRange cells.entry }

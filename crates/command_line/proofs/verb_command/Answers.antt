@@ -8,8 +8,8 @@ use Rattle.command_line.proofs.verb_command.Goals as goal
 
 pub returns : goal.returns
 returns c =
-    let bare : app_of c.about.result ≡ new_app c.args.name.now = ap app_of_fields c.about.ensures ∙ c.new.ensures.app in
-    let bare_local : (out-Command c.about.result).has_globals ≡ false = search rules in
+    let bare : app_of c.after_help.result ≡ new_app c.args.name.now = ap app_of_fields c.after_help.ensures ∙ ap app_of_fields c.about.ensures ∙ c.new.ensures.app in
+    let bare_local : (out-Command c.after_help.result).has_globals ≡ false = search rules in
     let one : app_of c.in_ok-arg.field-0 ≡ with_rule (new_app c.args.name.now) (file_rule (codes "LAYOUT")) =
     c.in_ok-arg.ensures.shape c.file_argument-layout.ensures.local ∙ ap₂ with_rule bare c.file_argument-layout.ensures.rule in
     let local : (out-Command c.in_ok-arg.field-0).has_globals ≡ false =

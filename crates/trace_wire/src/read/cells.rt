@@ -1,6 +1,6 @@
 //! Cells, read from the bytes of a payload.
 
-ghost use Rattle.std.specs.Prelude.{◌≡◌, ◌<◌, ◌↔◌, IsTrue, get_or, ℕ, List, Option, None, length, Result, OnOk, IfOk, IfErr, true};
+ghost use Rattle.std.specs.Prelude.{◌≡◌, None, IfOk, IfErr, true};
 ghost use Rattle.std.specs.FinMap.{entries};
 ghost use Rattle.trace_know.specs.Cell.{put_known};
 ghost use Rattle.trace_know.specs.Placed.{IsPlaced};
@@ -19,6 +19,7 @@ use trace_know::{Knowledge, Known};
 /// Places are below this, 2^40.
 const PLACES: u64 = 1_099_511_627_776;
 
+/// The fault of a frame that a field's fault is.
 fn fault_of(fault: FieldFault) -> WireFault
     ensures value { result ≡ wire_of fault }
     ensures cause { IsOfBytes result }
@@ -29,6 +30,7 @@ fn fault_of(fault: FieldFault) -> WireFault
     }
 }
 
+/// What stands at a place.
 fn known_of(alloc: Global, place: u64, bytes: &[u8]) -> Result<(Known, &[u8]), FieldFault>
     ensures { Reads (λ x. (x.0, x.1.now)) result (known_at place bytes.now) }
 {
@@ -43,6 +45,7 @@ fn known_of(alloc: Global, place: u64, bytes: &[u8]) -> Result<(Known, &[u8]), F
     }
 }
 
+/// A rank and a place.
 fn place_of(bytes: &[u8]) -> Result<((u32, u64), &[u8]), FieldFault>
     ensures { Reads (λ x. (x.0, x.1.now)) result (place_form.read bytes.now) }
 {
@@ -51,6 +54,7 @@ fn place_of(bytes: &[u8]) -> Result<((u32, u64), &[u8]), FieldFault>
     Ok(((rank, place), rest))
 }
 
+/// Whether a place is past the one before.
 fn is_past(before: Option<(u32, u64)>, here: (u32, u64)) -> bool
     ensures { result ≡ is_past before here }
 {
@@ -60,6 +64,7 @@ fn is_past(before: Option<(u32, u64)>, here: (u32, u64)) -> bool
     }
 }
 
+/// A cell that follows another.
 fn cell_of(
     alloc: Global,
     before: Option<(u32, u64)>,
@@ -97,6 +102,7 @@ fn event_in(known: Known) -> Option<Event>
     }
 }
 
+/// So many cells, put into knowledge as they are read.
 #[tactic(auto, using(crate::proofs::CellLoop::ends))]
 fn cells_of(alloc: Global, count: u32, bytes: &[u8]) -> Result<(Knowledge, &[u8]), WireFault>
     ensures value { Gives (λ x. (entries x.0, x.1.now)) result (cells_at count None bytes.now) }

@@ -1,9 +1,7 @@
 //! Events, read from bytes.
 
-ghost use Rattle.std.specs.Prelude.{◌≡◌, ℕ, List, length, Result};
 ghost use Rattle.trace_wire.specs.Outcomes.{Reads};
-ghost use Rattle.trace_wire.specs.Forms.{Form};
-ghost use Rattle.trace_wire.specs.Events.{call_at, outs_at, event_at, body_at, is_even};
+ghost use Rattle.trace_wire.specs.Events.{call_at, outs_at, event_at, body_at};
 ghost use Rattle.trace_wire.specs.Fields.{envelope, send_envelope, exchange, gathering, index};
 
 use crate::read::field::{
@@ -17,6 +15,7 @@ use mpi_model::{
 };
 use std::alloc::Global;
 
+/// The envelope of a receive.
 fn receive_field(bytes: &[u8]) -> Result<(ReceiveEnvelope, &[u8]), FieldFault>
     ensures { Reads (λ x. (x.0, x.1.now)) result (envelope.read bytes.now) }
 {
@@ -38,6 +37,7 @@ fn receive_field(bytes: &[u8]) -> Result<(ReceiveEnvelope, &[u8]), FieldFault>
     }
 }
 
+/// The envelope of a send: one that names its peer and its tag.
 fn send_field(bytes: &[u8]) -> Result<(SendEnvelope, &[u8]), FieldFault>
     ensures { Reads (λ x. (x.0, x.1.now)) result (send_envelope.read bytes.now) }
 {
@@ -48,6 +48,7 @@ fn send_field(bytes: &[u8]) -> Result<(SendEnvelope, &[u8]), FieldFault>
     }
 }
 
+/// The envelopes of a Sendrecv, which name one communicator.
 fn exchange_field(bytes: &[u8]) -> Result<(Exchange, &[u8]), FieldFault>
     ensures { Reads (λ x. (x.0, x.1.now)) result (exchange.read bytes.now) }
 {
@@ -59,6 +60,7 @@ fn exchange_field(bytes: &[u8]) -> Result<(Exchange, &[u8]), FieldFault>
     }
 }
 
+/// A collective call, with a root just where its kind has one.
 fn collective_field(bytes: &[u8]) -> Result<(Collective, &[u8]), FieldFault>
     ensures { Reads (λ x. (x.0, x.1.now)) result (gathering.read bytes.now) }
 {
@@ -71,6 +73,7 @@ fn collective_field(bytes: &[u8]) -> Result<(Collective, &[u8]), FieldFault>
     }
 }
 
+/// A position, where there is one.
 fn index_field(bytes: &[u8]) -> Result<(Option<u32>, &[u8]), FieldFault>
     ensures { Reads (λ x. (x.0, x.1.now)) result (index.read bytes.now) }
 {
@@ -85,6 +88,7 @@ fn index_field(bytes: &[u8]) -> Result<(Option<u32>, &[u8]), FieldFault>
     }
 }
 
+/// A call by the code of its kind.
 #[tactic(auto, unfolding(crate::specs::Events::call_at))]
 fn call_of(alloc: Global, code: u8, bytes: &[u8]) -> Result<(Call, &[u8]), FieldFault>
     ensures { Reads (λ x. (x.0, x.1.now)) result (call_at code bytes.now) }
@@ -142,6 +146,7 @@ fn call_of(alloc: Global, code: u8, bytes: &[u8]) -> Result<(Call, &[u8]), Field
     }
 }
 
+/// An outcome by the code of its kind.
 #[tactic(auto, unfolding(crate::specs::Events::outs_at))]
 fn outs_of(alloc: Global, code: u8, bytes: &[u8]) -> Result<(Outs, &[u8]), FieldFault>
     ensures { Reads (λ x. (x.0, x.1.now)) result (outs_at code bytes.now) }
@@ -178,6 +183,7 @@ fn outs_of(alloc: Global, code: u8, bytes: &[u8]) -> Result<(Outs, &[u8]), Field
     }
 }
 
+/// An Enter or a Return, behind its kind and times.
 fn body_of(
     alloc: Global,
     is_enter: bool,

@@ -1,11 +1,11 @@
 //! The fields of an event, as bytes.
 
 ghost use Rattle.mpi_model.specs.Ranges.{IsSource, IsComm};
-ghost use Rattle.std.specs.Prelude.{◌<◌, ◌^◌, IfSome, IfOk, ◌≡◌, ℕ, List, Option, length, Result};
+ghost use Rattle.std.specs.Prelude.{◌<◌, ◌^◌, IfSome, IfOk, ◌≡◌};
 ghost use Rattle.std.specs.Int.{w32, w64};
 ghost use Rattle.trace_wire.specs.Outcomes.{Reads};
-ghost use Rattle.trace_wire.specs.Forms.{Form, byte_at, number_at, number, small_of, marked_of, small, told, signed, pair, items_at, list};
-ghost use Rattle.trace_wire.specs.Fields.{peer_of, comm_of, mode_of, kind_of, flag_of, peer, comm, mode, kind, flag, stamp, envelope, send_envelope, exchange, gathering, index};
+ghost use Rattle.trace_wire.specs.Forms.{byte_at, number_at, small_of, marked_of, small, told, signed};
+ghost use Rattle.trace_wire.specs.Fields.{peer_of, comm_of, mode_of, kind_of, peer, comm, mode, kind, flag, stamp};
 ghost use Rattle.trace_wire.specs.declared.read.field.FieldFault.TheVariants.{Memory};
 
 use mpi_model::{CommRef, Kind, Mode, Peer, Stamp, Told};
@@ -35,6 +35,7 @@ impl<T: Drop> From<AllocFailed<T>> for FieldFault {
     }
 }
 
+/// A byte.
 pub(crate) fn byte_of(bytes: &[u8]) -> Result<(u8, &[u8]), FieldFault>
     ensures { Reads (λ x. (x.0, x.1.now)) result (byte_at bytes.now) }
 {
@@ -44,6 +45,7 @@ pub(crate) fn byte_of(bytes: &[u8]) -> Result<(u8, &[u8]), FieldFault>
     }
 }
 
+/// A big-endian number of four bytes.
 pub(crate) fn u32_of(bytes: &[u8]) -> Result<(u32, &[u8]), FieldFault>
     ensures { Reads (λ x. (x.0, x.1.now)) result (number_at w32 bytes.now) }
 {
@@ -55,6 +57,7 @@ pub(crate) fn u32_of(bytes: &[u8]) -> Result<(u32, &[u8]), FieldFault>
     Ok((number, rest))
 }
 
+/// A big-endian number of eight bytes.
 pub(crate) fn u64_of(bytes: &[u8]) -> Result<(u64, &[u8]), FieldFault>
     ensures { Reads (λ x. (x.0, x.1.now)) result (number_at w64 bytes.now) }
 {
@@ -68,6 +71,7 @@ pub(crate) fn u64_of(bytes: &[u8]) -> Result<(u64, &[u8]), FieldFault>
     Ok((number, rest))
 }
 
+/// A number with a sign, in two's complement.
 pub(crate) fn signed_of(bytes: &[u8]) -> Result<(i64, &[u8]), FieldFault>
     ensures { Reads (λ x. (x.0, x.1.now)) result (signed.read bytes.now) }
 {
@@ -75,6 +79,7 @@ pub(crate) fn signed_of(bytes: &[u8]) -> Result<(i64, &[u8]), FieldFault>
     Ok((number.cast_signed(), rest))
 }
 
+/// A number up to 2^31 - 1.
 fn small_from(n: u32) -> Option<u32>
     ensures read { result ≡ small_of n }
     ensures range { IfSome result (λ m. m < 2 ^ 31) }
@@ -82,6 +87,7 @@ fn small_from(n: u32) -> Option<u32>
     if n < 0x8000_0000 { Some(n) } else { None }
 }
 
+/// A number up to 2^31 - 1.
 pub(crate) fn small_field(bytes: &[u8]) -> Result<(u32, &[u8]), FieldFault>
     ensures read { Reads (λ x. (x.0, x.1.now)) result (small.read bytes.now) }
     ensures range { IfOk result (λ x. x.0 < 2 ^ 31) }
@@ -93,6 +99,7 @@ pub(crate) fn small_field(bytes: &[u8]) -> Result<(u32, &[u8]), FieldFault>
     }
 }
 
+/// A number, or none by its mark.
 fn told_from(n: u32) -> Option<Told>
     ensures { result ≡ marked_of n }
 {
@@ -105,6 +112,7 @@ fn told_from(n: u32) -> Option<Told>
     }
 }
 
+/// What is told, a tag or a root: a number, or none.
 pub(crate) fn told_field(bytes: &[u8]) -> Result<(Told, &[u8]), FieldFault>
     ensures { Reads (λ x. (x.0, x.1.now)) result (told.read bytes.now) }
 {
@@ -115,6 +123,7 @@ pub(crate) fn told_field(bytes: &[u8]) -> Result<(Told, &[u8]), FieldFault>
     }
 }
 
+/// A peer by its number or mark.
 fn peer_from(n: u32) -> Option<Peer>
     ensures read { result ≡ peer_of n }
     ensures range { IfSome result (IsSource) }
@@ -131,6 +140,7 @@ fn peer_from(n: u32) -> Option<Peer>
     }
 }
 
+/// A peer.
 pub(crate) fn peer_field(bytes: &[u8]) -> Result<(Peer, &[u8]), FieldFault>
     ensures read { Reads (λ x. (x.0, x.1.now)) result (peer.read bytes.now) }
     ensures range { IfOk result (λ x. IsSource x.0) }
@@ -142,6 +152,7 @@ pub(crate) fn peer_field(bytes: &[u8]) -> Result<(Peer, &[u8]), FieldFault>
     }
 }
 
+/// A communicator by its number or mark.
 fn comm_from(n: u32) -> Option<CommRef>
     ensures read { result ≡ comm_of n }
     ensures range { IfSome result (IsComm) }
@@ -155,6 +166,7 @@ fn comm_from(n: u32) -> Option<CommRef>
     }
 }
 
+/// A communicator.
 pub(crate) fn comm_field(bytes: &[u8]) -> Result<(CommRef, &[u8]), FieldFault>
     ensures read { Reads (λ x. (x.0, x.1.now)) result (comm.read bytes.now) }
     ensures range { IfOk result (λ x. IsComm x.0) }
@@ -166,6 +178,7 @@ pub(crate) fn comm_field(bytes: &[u8]) -> Result<(CommRef, &[u8]), FieldFault>
     }
 }
 
+/// The mode of a send by its code.
 fn mode_from(n: u8) -> Option<Mode>
     ensures { result ≡ mode_of n }
 {
@@ -178,6 +191,7 @@ fn mode_from(n: u8) -> Option<Mode>
     }
 }
 
+/// The mode of a send.
 pub(crate) fn mode_field(bytes: &[u8]) -> Result<(Mode, &[u8]), FieldFault>
     ensures { Reads (λ x. (x.0, x.1.now)) result (mode.read bytes.now) }
 {
@@ -188,6 +202,7 @@ pub(crate) fn mode_field(bytes: &[u8]) -> Result<(Mode, &[u8]), FieldFault>
     }
 }
 
+/// The kind of a collective call by its code.
 fn kind_from(n: u8) -> Option<Kind>
     ensures { result ≡ kind_of n }
 {
@@ -204,6 +219,7 @@ fn kind_from(n: u8) -> Option<Kind>
     }
 }
 
+/// The kind of a collective call.
 pub(crate) fn kind_field(bytes: &[u8]) -> Result<(Kind, &[u8]), FieldFault>
     ensures { Reads (λ x. (x.0, x.1.now)) result (kind.read bytes.now) }
 {
@@ -214,6 +230,7 @@ pub(crate) fn kind_field(bytes: &[u8]) -> Result<(Kind, &[u8]), FieldFault>
     }
 }
 
+/// Whether a test found its request completed.
 pub(crate) fn flag_field(bytes: &[u8]) -> Result<(bool, &[u8]), FieldFault>
     ensures { Reads (λ x. (x.0, x.1.now)) result (flag.read bytes.now) }
 {
@@ -225,6 +242,7 @@ pub(crate) fn flag_field(bytes: &[u8]) -> Result<(bool, &[u8]), FieldFault>
     }
 }
 
+/// Wall and CPU time.
 pub(crate) fn stamp_field(bytes: &[u8]) -> Result<(Stamp, &[u8]), FieldFault>
     ensures { Reads (λ x. (x.0, x.1.now)) result (stamp.read bytes.now) }
 {

@@ -1,8 +1,7 @@
 //! Counted lists, read from bytes.
 
-ghost use Rattle.std.specs.Prelude.{◌≡◌, ℕ, List, Result};
 ghost use Rattle.trace_wire.specs.Outcomes.{Reads};
-ghost use Rattle.trace_wire.specs.Forms.{Form, items_at, list};
+ghost use Rattle.trace_wire.specs.Forms.{items_at, list};
 
 use crate::item::Item;
 use crate::read::field::{FieldFault, u32_of};

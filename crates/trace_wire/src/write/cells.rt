@@ -10,6 +10,7 @@ use crate::write::field::{put_byte, put_u32, put_u64};
 use crate::write::sink::Sink;
 use trace_know::{Knowledge, Known, Walk};
 
+/// A rank and a place.
 fn put_place<S: Sink>(out: &mut S, rank: u32, place: u64)
     ensures { Sends (S.page out.old) (S.page out.new) (place_form.spell (rank, place)) }
 {
@@ -17,6 +18,7 @@ fn put_place<S: Sink>(out: &mut S, rank: u32, place: u64)
     put_u64(out, place);
 }
 
+/// One event, or a contradiction.
 fn put_known<S: Sink>(out: &mut S, known: &Known)
     requires { length (known_bytes known.now) < 2 ^ 32 }
     ensures { Sends (S.page out.old) (S.page out.new) (known_bytes known.now) }
@@ -30,6 +32,7 @@ fn put_known<S: Sink>(out: &mut S, known: &Known)
     }
 }
 
+/// A cell.
 fn put_cell<S: Sink>(out: &mut S, rank: u32, place: u64, known: &Known)
     requires { length (cell_bytes ((rank, place), known.now)) < 2 ^ 32 }
     ensures { Sends (S.page out.old) (S.page out.new) (cell_bytes ((rank, place), known.now)) }
@@ -38,6 +41,7 @@ fn put_cell<S: Sink>(out: &mut S, rank: u32, place: u64, known: &Known)
     put_known(out, known);
 }
 
+/// The cells that a walk has left.
 fn put_cells<S: Sink>(out: &mut S, cells: Walk<'_>)
     requires { length (cells_bytes cells) < 2 ^ 32 }
     ensures { Sends (S.page out.old) (S.page out.new) (cells_bytes cells.entry) }

@@ -1,6 +1,6 @@
 //! A sink that hands all bytes to the device at once.
 
-ghost use Rattle.std.specs.Prelude.{◌≡◌, [], false};
+ghost use Rattle.std.specs.Prelude.{[]};
 
 use crate::write::sink::Sink;
 use mpi_model::{Write, write_all};

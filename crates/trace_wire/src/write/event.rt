@@ -15,6 +15,7 @@ use crate::write::field::{
 use crate::write::sink::Sink;
 use mpi_model::{Call, Event, Outs, Stamp};
 
+/// Items one after another.
 fn put_items<T: Item, S: Sink>(out: &mut S, items: &[T])
     ensures { Sends (S.page out.old) (S.page out.new) (flat_map T.form.spell items.now) }
 {
@@ -68,6 +69,7 @@ fn put_outs<S: Sink>(out: &mut S, outs: &Outs)
     }
 }
 
+/// The code of a call.
 fn byte_of_call(call: &Call) -> u8
     ensures { result ≡ call_code call.now }
 {
@@ -88,6 +90,7 @@ fn byte_of_call(call: &Call) -> u8
     }
 }
 
+/// The code of an outcome.
 fn byte_of_outs(outs: &Outs) -> u8
     ensures { result ≡ outs_code outs.now }
 {
@@ -110,6 +113,7 @@ fn put_head<S: Sink>(out: &mut S, code: u8, time: Stamp)
     put_stamp(out, time);
 }
 
+/// An event.
 pub(crate) fn put_event<S: Sink>(out: &mut S, event: &Event)
     requires { length (event_bytes event.now) < 2 ^ 32 }
     ensures { Sends (S.page out.old) (S.page out.new) (event_bytes event.now) }

@@ -17,24 +17,28 @@ const NO_NUMBER: u32 = 0xFFFF_FFFF;
 /// The mark of the null process.
 const NULL_PROCESS: u32 = 0xFFFF_FFFE;
 
+/// A byte.
 pub(crate) fn put_byte<S: Sink>(out: &mut S, n: u8)
     ensures { Sends (S.page out.old) (S.page out.new) (byte.spell n) }
 {
     out.put(&[n]);
 }
 
+/// A number of four bytes.
 pub(crate) fn put_u32<S: Sink>(out: &mut S, n: u32)
     ensures { Sends (S.page out.old) (S.page out.new) ((number w32).spell n) }
 {
     out.put(&n.to_be_bytes());
 }
 
+/// A number of eight bytes.
 pub(crate) fn put_u64<S: Sink>(out: &mut S, n: u64)
     ensures { Sends (S.page out.old) (S.page out.new) ((number w64).spell n) }
 {
     out.put(&n.to_be_bytes());
 }
 
+/// A number with a sign.
 pub(crate) fn put_i64<S: Sink>(out: &mut S, n: i64)
     ensures { Sends (S.page out.old) (S.page out.new) (signed.spell n) }
 {
@@ -52,12 +56,14 @@ fn put_marked<S: Sink>(out: &mut S, number: Option<u32>)
     out.put(&code.to_be_bytes());
 }
 
+/// What is told.
 pub(crate) fn put_told<S: Sink>(out: &mut S, source: Told)
     ensures { Sends (S.page out.old) (S.page out.new) (told.spell source) }
 {
     put_marked(out, source.rank());
 }
 
+/// Wall and CPU time.
 pub(crate) fn put_stamp<S: Sink>(out: &mut S, time: Stamp)
     ensures { Sends (S.page out.old) (S.page out.new) (stamp.spell time) }
 {
@@ -65,6 +71,7 @@ pub(crate) fn put_stamp<S: Sink>(out: &mut S, time: Stamp)
     put_u64(out, time.cpu());
 }
 
+/// A peer.
 fn put_peer<S: Sink>(out: &mut S, end: Peer)
     ensures { Sends (S.page out.old) (S.page out.new) (peer.spell end) }
 {
@@ -76,6 +83,7 @@ fn put_peer<S: Sink>(out: &mut S, end: Peer)
     out.put(&code.to_be_bytes());
 }
 
+/// A communicator.
 fn put_comm<S: Sink>(out: &mut S, named: CommRef)
     ensures { Sends (S.page out.old) (S.page out.new) (comm.spell named) }
 {
@@ -86,6 +94,7 @@ fn put_comm<S: Sink>(out: &mut S, named: CommRef)
     out.put(&code.to_be_bytes());
 }
 
+/// Peer, tag, communicator, count and datatype.
 pub(crate) fn put_envelope<S: Sink>(out: &mut S, e: Envelope)
     ensures { Sends (S.page out.old) (S.page out.new) (envelope.spell e) }
 {
@@ -96,6 +105,7 @@ pub(crate) fn put_envelope<S: Sink>(out: &mut S, e: Envelope)
     put_i64(out, e.datatype);
 }
 
+/// The code of a mode.
 fn byte_of_mode(of: Mode) -> u8
     ensures { result ≡ mode_code of }
 {
@@ -107,6 +117,7 @@ fn byte_of_mode(of: Mode) -> u8
     }
 }
 
+/// The code of a kind of collective call.
 fn byte_of_kind(of: Kind) -> u8
     ensures { result ≡ kind_code of }
 {
@@ -130,6 +141,7 @@ pub(crate) fn put_sent<S: Sink>(out: &mut S, of: Mode, e: SendEnvelope)
     put_envelope(out, e.envelope());
 }
 
+/// The envelopes of a Sendrecv.
 pub(crate) fn put_exchange<S: Sink>(out: &mut S, e: Exchange)
     ensures { Sends (S.page out.old) (S.page out.new) (exchange.spell e) }
 {
@@ -137,6 +149,7 @@ pub(crate) fn put_exchange<S: Sink>(out: &mut S, e: Exchange)
     put_envelope(out, e.receive());
 }
 
+/// A collective call.
 pub(crate) fn put_collective<S: Sink>(out: &mut S, call: Collective)
     ensures { Sends (S.page out.old) (S.page out.new) (gathering.spell call) }
 {
@@ -145,6 +158,7 @@ pub(crate) fn put_collective<S: Sink>(out: &mut S, call: Collective)
     put_comm(out, call.comm());
 }
 
+/// A completed request: its position, and what is told.
 pub(crate) fn put_element<S: Sink>(out: &mut S, e: Element)
     ensures { Sends (S.page out.old) (S.page out.new) (element.spell e) }
 {

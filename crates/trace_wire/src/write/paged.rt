@@ -1,8 +1,5 @@
 //! A sink that gathers short fields, so that the device is called once a page.
 
-ghost use Rattle.std.specs.Prelude.{◌≡◌, []};
-ghost use Rattle.trace_wire.specs.Sending.{Sends};
-
 use crate::write::direct::Direct;
 use crate::write::sink::Sink;
 use arrayvec::ArrayVec;

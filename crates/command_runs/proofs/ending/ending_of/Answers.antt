@@ -6,7 +6,7 @@ use Rattle.command_runs.specs.Endings.{IsEnding, output_of}
 use Rattle.command_runs.specs.FaultLines.{fault_line_of}
 use Rattle.command_runs.specs.declared.ending.Ending.{Ending}
 use Rattle.command_runs.specs.declared.fault.RunFault.{RunFault}
-use Rattle.command_runs.proofs.Endings.{not_reported, unasked}
+use Rattle.command_runs.proofs.Endings.{not_reported, reported, unasked}
 use Rattle.command_runs.proofs.ending.ending_of.Goals as goal
 
 both : {A E : Type 0} (P Q : A → Type 0) (r : Result A E) → IfOk r P → IfOk r Q → IfOk r (λ a. P a × Q a)
@@ -32,3 +32,13 @@ returns-in-Err-run_with g c =
     c.in-Err-run_with.ensures.refused c.in-Err-run_with.ensures.nothing (λ w. (c.in-Err-run_with.ensures.broken_off (ap (λ (f : RunFault). Err f) w)).5)))
     (both (λ (e : Ending). e.status ≡ 1) (λ (e : Ending). string_bytes e.errors ≡ fault_line_of c.in-Err-run_with.fault)
     c.refused-in-Err-run_with.result c.refused-in-Err-run_with.ensures.status c.refused-in-Err-run_with.ensures.errors)
+
+pub returns-in-Ok-true : goal.returns-in-Ok-true
+returns-in-Ok-true g c =
+    let words : List Text = map (λ w. w.now) c.args.words.now in
+    let file = g.O.Opener.file c.args.files.now in
+    let old = output_of (g.W.Write.written c.args.out.now) (g.W.Write.failures c.args.out.now) in
+    let new = output_of (g.W.Write.written c.run_with.new.out) (g.W.Write.failures c.run_with.new.out) in
+    let report = c.in-Ok-true.ensures.report in
+    subst (λ (status : ℕ). IsEnding file words status (string_bytes c.silent.result.errors) old new) (sym c.silent.ensures.status)
+    (reported file words (request_of c.in-Ok.asked) report.0 (string_bytes c.silent.result.errors) old new c.in-Ok.ensures.asked report.1 report.2 c.silent.ensures.errors)

@@ -1,13 +1,22 @@
-use Rattle.std.proofs.Common.{rules, arith, ◌≡◌, ◌∙◌, ◌+◌, ◌<◌, ◌++◌, ◌∷◌, [], ℕ, List, Some, ap, sym, subst, inl, inr, length, take}
+use Rattle.std.proofs.Common.{rules, refl, arith, ◌≡◌, ◌∙◌, ◌+◌, ◌<◌, ◌++◌, ◌∷◌, [], ℕ, List, Some, ap, sym, subst, inl, inr, length, take}
 use Rattle.std.proofs.Math.Seq.{take-length}
 use Rattle.std.proofs.lemmas.List.{take_more}
 use Rattle.trace_know.specs.Trace.{view_of}
 use Rattle.trace_know.specs.View.{join}
 use Rattle.input_files.specs.Manifests.{PieceParts}
 use Rattle.command_runs.specs.Pieces.{RefusesPiece, TellsFacts, facts_of_all}
-use Rattle.command_runs.specs.Runs.{IsFirstStranger, IsKnown}
+use Rattle.command_runs.specs.Traces.{IsFirstStranger, IsKnown}
 use Rattle.command_runs.proofs.Traces.{IsOutside, begins, known_more, outside_later}
+use Rattle.command_runs.proofs.Within.{within_more, within_nothing}
 use Rattle.command_runs.proofs.knowing.know_of.Goals as goal
+
+pub loop-piece-init : goal.loop-piece-init
+loop-piece-init g c = record {
+  files = refl;
+  known = ([], refl, search rules);
+  outside = search rules;
+  within = λ _. within_nothing c.args.layout.now _ (search rules);
+}
 
 pub loop-piece-preserved : goal.loop-piece-preserved
 loop-piece-preserved g c =
@@ -24,8 +33,10 @@ loop-piece-preserved g c =
       known = subst (λ (ps : List PieceParts). IsKnown file ps c.take_all.new.know) (sym more)
           (known_more c.view_laws.ensures.union file (take c.loop-piece.piece-index c.args.pieces.now) c.piece-item.result c.loop-piece.know c.take_all.new.know
           (facts_of_all c.in-Ok.segments.items) c.loop-piece.invariant.known told taken);
-      outside = outside_later file c.args.ranks (take c.loop-piece.piece-index c.args.pieces.now) _ c.piece-item.result
+      outside = outside_later file c.args.layout.now.ranks (take c.loop-piece.piece-index c.args.pieces.now) _ c.piece-item.result
           (facts_of_all c.in-Ok.segments.items) c.loop-piece.stranger _ more c.loop-piece.invariant.outside told (search rules);
+      within = within_more c.join_laws.ensures.cells c.view_laws.ensures.cells _ c.args.layout.now c.piece-item.result (facts_of_all c.in-Ok.segments.items)
+          c.loop-piece.stranger _ c.loop-piece.know c.take_all.new.know c.loop-piece.invariant.within told (search rules) taken;
     }
 
 pub returns-in-Err-clause-err : goal.returns-in-Err-clause-err
@@ -51,9 +62,9 @@ returns-in-Some-clause-err g c =
     let end : c.loop-piece.piece-index ≡ length c.args.pieces.now = omega arith in
     let all : take c.loop-piece.piece-index c.args.pieces.now ≡ c.args.pieces.now =
     ap (λ (n : ℕ). take n c.args.pieces.now) end ∙ take-length c.args.pieces.now in
-    let outside : IsOutside file c.args.ranks (take c.loop-piece.piece-index c.args.pieces.now) (Some c.in-Some.path) =
+    let outside : IsOutside file c.args.layout.now.ranks (take c.loop-piece.piece-index c.args.pieces.now) (Some c.in-Some.path) =
     rw c.in-Some.is at c.loop-piece.invariant.outside in
     inr (inr (
       (c.loop-piece.know, subst (λ (ps : List PieceParts). IsKnown file ps c.loop-piece.know) all c.loop-piece.invariant.known),
-      subst (λ (ps : List PieceParts). IsFirstStranger file c.args.ranks ps c.in-Some.path) all outside,
+      subst (λ (ps : List PieceParts). IsFirstStranger file c.args.layout.now.ranks ps c.in-Some.path) all outside,
     ))

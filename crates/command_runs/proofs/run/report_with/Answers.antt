@@ -1,39 +1,40 @@
-use Rattle.std.proofs.Common.{◌≡◌, ◌∙◌, ℕ, List, Option, ap, inl, inr, subst}
-use Rattle.std.specs.List.{All}
-use Rattle.input_files.specs.Manifests.{RefusesManifest}
-use Rattle.command_runs.specs.Inputs.{RefusesInput}
-use Rattle.command_runs.specs.Report.{report_text}
-use Rattle.command_runs.specs.Runs.{IsInside, IsKnown, RefusesPieces, TellsManifest}
+use Rattle.std.proofs.Common.{arith, inl, inr, refl}
+use Rattle.trace_report.specs.Report.{report_text}
+use Rattle.command_runs.specs.Nodes.{IsNodeOf, RefusesNode}
+use Rattle.command_runs.proofs.Refusals.{no_writing, node_refused}
+use Rattle.command_runs.proofs.Reports.{reported}
 use Rattle.command_runs.proofs.run.report_with.Goals as goal
 
-pub returns-in-Err-manifest_at-clause-err : goal.returns-in-Err-manifest_at-clause-err
-returns-in-Err-manifest_at-clause-err g c =
-    inr (inr (inl (subst (λ (file : List ℕ → Option (List ℕ)). RefusesInput RefusesManifest c.args.manifest_name.now (file c.args.manifest_name.now) c.in-Err-manifest_at.fault)
-    c.in-Ok.ensures.same c.in-Err-manifest_at.ensures.err)))
-
-pub returns-in-Err-know_of-clause-err : goal.returns-in-Err-know_of-clause-err
-returns-in-Err-know_of-clause-err g c =
+pub returns-in-Err-clause-broken_off : goal.returns-in-Err-clause-broken_off
+returns-in-Err-clause-broken_off g c =
     let file = g.O.Opener.file c.args.files.now in
-    let same : g.O.Opener.file c.manifest_at.new.files ≡ g.O.Opener.file c.args.files.now = c.manifest_at.ensures.same ∙ c.layout_at.ensures.same in
-    let told : TellsManifest (file c.args.manifest_name.now) c.in-Ok-manifest_at.manifest = rw c.layout_at.ensures.same at c.in-Ok-manifest_at.ensures.ok in
-    let refuses : RefusesPieces file c.in-Ok.layout.ranks c.in-Ok-manifest_at.manifest.pieces c.in-Err-know_of.fault =
-    rw (same, c.ranks.ensures.value, c.pieces.ensures) at c.in-Err-know_of.ensures.err in
-    inr (inr (inr (c.in-Ok.layout, c.in-Ok-manifest_at.manifest, c.in-Ok.ensures.ok, told, refuses)))
+    λ e. absurd (no_writing file c.args.layout_name.now c.args.manifest_name.now c.in-Err.fault _ (inr (inl c.in-Err.ensures.err)) refl e)
 
-pub returns-clause-ok : goal.returns-clause-ok
-returns-clause-ok g c =
+pub returns-in-Err-node_with-clause-refused : goal.returns-in-Err-node_with-clause-refused
+returns-in-Err-node_with-clause-refused g c =
     let file = g.O.Opener.file c.args.files.now in
-    let same : g.O.Opener.file c.manifest_at.new.files ≡ g.O.Opener.file c.args.files.now = c.manifest_at.ensures.same ∙ c.layout_at.ensures.same in
-    let told : TellsManifest (file c.args.manifest_name.now) c.in-Ok-manifest_at.manifest = rw c.layout_at.ensures.same at c.in-Ok-manifest_at.ensures.ok in
-    let known : IsKnown file c.in-Ok-manifest_at.manifest.pieces c.in-Ok-know_of.know = rw (same, c.pieces.ensures) at c.in-Ok-know_of.ensures.ok in
-    let inside : All (IsInside file c.in-Ok.layout.ranks) c.in-Ok-manifest_at.manifest.pieces =
-    rw (same, c.ranks.ensures.value, c.pieces.ensures) at c.in-Ok-know_of.ensures.inside in (
-      c.in-Ok.layout,
-      c.in-Ok-manifest_at.manifest,
-      known.0,
-      c.in-Ok.ensures.ok,
-      told,
-      known.1,
-      inside,
-      c.in_ok-report_of.ensures ∙ ap (report_text c.in-Ok.layout) known.2,
-    )
+    let refuses : RefusesNode file c.in-Ok.layout c.args.manifest_name.now c.in-Err-node_with.fault = rw c.layout_at.ensures.same at c.in-Err-node_with.ensures.err in
+    inr (node_refused file c.in-Ok.layout c.args.layout_name.now c.args.manifest_name.now c.in-Err-node_with.fault c.in-Ok.ensures.ok refuses)
+
+pub returns-in-Err-node_with-clause-broken_off : goal.returns-in-Err-node_with-clause-broken_off
+returns-in-Err-node_with-clause-broken_off g c =
+    let file = g.O.Opener.file c.args.files.now in
+    let refuses : RefusesNode file c.in-Ok.layout c.args.manifest_name.now c.in-Err-node_with.fault = rw c.layout_at.ensures.same at c.in-Err-node_with.ensures.err in
+    λ e. absurd (no_writing file c.args.layout_name.now c.args.manifest_name.now c.in-Err-node_with.fault _
+    (node_refused file c.in-Ok.layout c.args.layout_name.now c.args.manifest_name.now c.in-Err-node_with.fault c.in-Ok.ensures.ok refuses) refl e)
+
+pub returns-in-Ok-write_report-clause-report : goal.returns-in-Ok-write_report-clause-report
+returns-in-Ok-write_report-clause-report g c =
+    let file = g.O.Opener.file c.args.files.now in
+    let of : IsNodeOf file c.in-Ok.layout c.args.manifest_name.now c.in-Ok-node_with.node = rw c.layout_at.ensures.same at c.in-Ok-node_with.ensures.ok in
+    let is = reported file c.args.layout_name.now c.args.manifest_name.now c.in-Ok.layout c.in-Ok-node_with.node c.in-Ok-answer.answer.now c.in-Ok.ensures.ok of c.in-Ok-answer.ensures.ok in
+    (report_text c.in-Ok-answer.answer.now, is, c.in-Ok-write_report.ensures.ok)
+
+pub returns-clause-broken_off : goal.returns-clause-broken_off
+returns-clause-broken_off g c =
+    let file = g.O.Opener.file c.args.files.now in
+    let of : IsNodeOf file c.in-Ok.layout c.args.manifest_name.now c.in-Ok-node_with.node = rw c.layout_at.ensures.same at c.in-Ok-node_with.ensures.ok in
+    let is = reported file c.args.layout_name.now c.args.manifest_name.now c.in-Ok.layout c.in-Ok-node_with.node c.in-Ok-answer.answer.now c.in-Ok.ensures.ok of c.in-Ok-answer.ensures.ok in
+    let front = c.in-Err-write_report.ensures.err in
+    let once = c.in-Err-write_report.ensures.failures.1 in
+    λ _. (report_text c.in-Ok-answer.answer.now, front.0, is, front.1, front.3, omega (arith, once))

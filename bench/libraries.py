@@ -1,0 +1,60 @@
+#!/usr/bin/env python3
+"""Times the libraries between knowledge and the report: libraries.py [--room FOLDER] WORKLOAD NUMBER..
+
+Workloads:
+
+    entered RANKS CALLS COMMS      each rank enters CALLS barriers, on COMMS communicators of all ranks in turn; every
+                                   second rank has not entered the last one, in which the others wait
+    posted RANKS SENDS RECEIVES    each rank posts so many sends to the next one and receives from the one before, and
+                                   waits for all of them in one MPI_Waitall
+    FOLDER RANKS                   the trace of bench/make_trace.py in FOLDER, made with --piece 1000000: read, too
+
+It copies the crates with what earlier checks kept in out/ to a room of its own, adds the sources of bench/waiting/ as a
+program, proves and builds that, and runs it: each line is a call, the processor time that it took, and the length of its answer.
+"""
+import argparse
+import pathlib
+import shutil
+import subprocess
+import sys
+import tempfile
+
+TOP = pathlib.Path(__file__).resolve().parent.parent
+NAME = "waiting_bench"
+USES = ["mpi_model", "dumpi_calls", "trace_know", "trace_ops", "trace_pair", "trace_wait", "anyhow"]
+
+
+def main():
+    parser = argparse.ArgumentParser()
+    parser.add_argument("--room", default=str(pathlib.Path(tempfile.gettempdir()) / "mpimatch-bench"))
+    parser.add_argument("words", nargs="+")
+    arguments = parser.parse_args()
+    room = pathlib.Path(arguments.room)
+    lines = [line for line in (TOP / "crates.txt").read_text().split("\n") if line and not line.startswith("#")]
+    uses = {line.split(":")[0]: line.split(":")[1].split() for line in lines}
+    needed = [it for it in USES if it in uses]
+    for name in needed:
+        needed += [it for it in uses[name] if it in uses and it not in needed]
+    for name in needed:
+        if not (room / "crates" / name).exists():
+            shutil.copytree(TOP / "crates" / name, room / "crates" / name, ignore=shutil.ignore_patterns("must-fail"))
+        for part in ("src", "specs", "proofs"):
+            if (TOP / "crates" / name / part).is_dir():
+                shutil.copytree(TOP / "crates" / name / part, room / "crates" / name / part, dirs_exist_ok=True)
+    source = room / "crates" / NAME / "src"
+    source.mkdir(parents=True, exist_ok=True)
+    for text in sorted((TOP / "bench" / "waiting").glob("*.rt.txt")):
+        shutil.copy(text, source / text.name.removesuffix(".txt"))
+    shutil.copy(TOP / "HANDLES", room)
+    listed = [f"{it}: {' '.join(uses[it])}\n" for it in needed] + [f"{NAME}: {' '.join(USES)}\n"]
+    (room / "crates.txt").write_text("".join(listed))
+    crate = room / "crates" / NAME
+    built = subprocess.run(["rt", "run", "--jobs", "1", "--", "nothing"], cwd=crate, capture_output=True, text=True)
+    program = crate / "out" / NAME
+    if not program.exists():
+        sys.exit(f"bench: the program is not built:\n{(built.stdout + built.stderr)[-2000:]}")
+    sys.exit(subprocess.run([program, *arguments.words]).returncode)
+
+
+if __name__ == "__main__":
+    main()

@@ -1,0 +1,12 @@
+//! Tests of `command_line`: of what no clause of it says, through what is public in it.
+//!
+//! A crate with tests is proved twice, so the libraries hold none, and their tests stand in crates of
+//! their own, side by side. docs/gate.md says what makes a test cheap to prove. A failure names its row.
+//!
+//! | File | Tests |
+//! |---|---|
+//! | `words` | what words ask for, and how the program ends on those that ask for nothing |
+#![tactic(auto)]
+
+#[cfg(test)]
+mod words;

@@ -1,0 +1,33 @@
+-- Why a run is refused.
+use Rattle.std.specs.Prelude.{◌≡◌, ◌⊎◌, ℕ, List, Option}
+use Rattle.mpi_model.specs.Layouts.{Parts}
+use Rattle.trace_know.specs.View.{View}
+use Rattle.input_files.specs.Layouts.{RefusesLayout}
+use Rattle.input_files.specs.Manifests.{ManifestParts, PieceParts, RefusesManifest}
+use Rattle.command_runs.specs.Inputs.{RefusesInput, TellsLayout, TellsManifest}
+use Rattle.command_runs.specs.Pieces.{RefusesPiece}
+use Rattle.command_runs.specs.Traces.{Begin, IsFirstStranger, IsKnown}
+use Rattle.command_runs.specs.declared.fault.RunFault.{RunFault}
+use Rattle.command_runs.specs.declared.fault.RunFault.TheVariants.{Memory, Rank}
+
+-- A piece is refused for its file or its text, and all before it are whole.
+abbrev pub RefusesFirst : (List ℕ → Option (List ℕ)) → List PieceParts → RunFault → Type 0
+RefusesFirst file pieces fault = (front : List PieceParts) × (piece : PieceParts) × Begin front piece pieces
+    × ((view : View) × IsKnown file front view) × RefusesPiece piece.file piece.first (file piece.file) fault
+
+-- All pieces are whole, and the fault names the first stranger.
+abbrev pub NamesStranger : (List ℕ → Option (List ℕ)) → ℕ → List PieceParts → RunFault → Type 0
+NamesStranger file ranks pieces (Rank path) = ((view : View) × IsKnown file pieces view) × IsFirstStranger file ranks pieces path
+NamesStranger file ranks pieces _ = ⊥
+
+-- Why the pieces are refused: one of them is, for its file or its text, or, where none is, for its rank.
+abbrev pub RefusesPieces : (List ℕ → Option (List ℕ)) → ℕ → List PieceParts → RunFault → Type 0
+RefusesPieces file ranks pieces fault = (fault ≡ Memory) ⊎ (RefusesFirst file pieces fault ⊎ NamesStranger file ranks pieces fault)
+
+-- Why there is no report: the layout is refused, the manifest is, or, under these two, a piece is.
+abbrev pub RefusesRun : (List ℕ → Option (List ℕ)) → List ℕ → List ℕ → RunFault → Type 0
+RefusesRun file layout manifest fault = (fault ≡ Memory)
+    ⊎ (RefusesInput RefusesLayout layout (file layout) fault
+    ⊎ (RefusesInput RefusesManifest manifest (file manifest) fault
+    ⊎ ((l : Parts) × (m : ManifestParts) × TellsLayout (file layout) l × TellsManifest (file manifest) m
+    × RefusesPieces file l.ranks m.pieces fault)))

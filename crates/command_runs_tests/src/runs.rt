@@ -1,0 +1,147 @@
+//! Runs over files in memory: that tell their bytes, that fail while they are read, that are too
+//! long, and a report that can't be written. What files on a disk can do too is in tests/cases/,
+//! which the built program runs.
+
+ghost use Rattle.std.specs.Prelude.{Some, None, codes, if◌then◌else◌};
+ghost use Rattle.std.specs.Str.{bytes_eq};
+
+use command_runs::{OpenFault, Opener, Unwatched, ending_of, ending_without_words};
+use mpi_model::{MemoryReader, MemoryWriter};
+use std::alloc::Global;
+use std::test::Fail;
+
+// The files of a run of one piece, and how many bytes of the piece are read before its reader
+// fails. It tells their bytes.
+#[derive(Drop)]
+struct Shelf<'a> {
+    layout: &'a [u8],
+    manifest: &'a [u8],
+    piece: &'a [u8],
+    until_failure: Option<usize>,
+}
+
+impl<'a> Opener for Shelf<'a> {
+    type R = MemoryReader<'a>;
+
+    ghost file = { λ shelf path.
+        if bytes_eq path (codes "layout.json") then Some shelf.layout.now
+        else if bytes_eq path (codes "manifest.json") then Some shelf.manifest.now
+        else if bytes_eq path (codes "r0.txt") then Some shelf.piece.now
+        else None };
+
+    fn open(&mut self, path: &str) -> Result<MemoryReader<'a>, OpenFault> {
+        if path == "layout.json" {
+            return Ok(MemoryReader::new(self.layout));
+        }
+        if path == "manifest.json" {
+            return Ok(MemoryReader::new(self.manifest));
+        }
+        if path != "r0.txt" {
+            return Err(OpenFault::File);
+        }
+        let piece = MemoryReader::new(self.piece);
+        match self.until_failure {
+            Some(count) => Ok(piece.failing_after(count)),
+            None => Ok(piece),
+        }
+    }
+}
+
+const LAYOUT: &[u8] = br#"{"ranks":1,"world":2,"sends":"wait","comms":[{"id":2,"members":[0]}]}"#;
+
+const MANIFEST: &[u8] = br#"{"pieces":[{"rank":0,"first":0,"file":"r0.txt"}]}"#;
+
+const PIECE: &[u8] = b"MPI_Barrier entering at walltime 1.5, cputime 0.25 seconds in thread 0.
+MPI_Comm comm=2
+MPI_Barrier returning at walltime 1.75, cputime 0.25 seconds in thread 0.
+";
+
+static REPORT: [&str; 4] = ["mpimatch", "report", "layout.json", "manifest.json"];
+
+fn run_of<'a>(layout: &'a [u8], until_failure: Option<usize>) -> Shelf<'a> {
+    Shelf {
+        layout,
+        manifest: MANIFEST,
+        piece: PIECE,
+        until_failure,
+    }
+}
+
+// The status of a run, and then what it wrote and what it showed, where the output has room for so
+// many bytes.
+fn ended(alloc: Global, mut files: Shelf<'_>, room: usize) -> Result<String, Fail> {
+    let mut out = MemoryWriter::new(alloc).failing_after(room);
+    let ending = ending_of(alloc, &REPORT, &mut files, &mut Unwatched, &mut out)?;
+    let written = std::str::from_utf8(out.bytes())?;
+    let (status, errors) = (ending.status, ending.errors.as_str());
+    Ok(format!(in alloc; "{status}: {written}{errors}")?)
+}
+
+// a name, the bytes of the piece before its reader fails, the room of the output, and the ending
+static RUNS: [(&str, Option<usize>, usize, &str); 6] = [
+    (
+        "all is read and written",
+        None,
+        usize::MAX,
+        "0: mpimatch report 1\nranks 1 sends wait\nrank 0 prefix 2 free\nround 2:0 barrier complete\nstuck none\nforeign 0\nend\n",
+    ),
+    (
+        "the reader fails at once",
+        Some(0),
+        usize::MAX,
+        "1: mpimatch: F1 Read at r0.txt:1\n",
+    ),
+    (
+        "the reader fails within the second line",
+        Some(80),
+        usize::MAX,
+        "1: mpimatch: F1 Read at r0.txt:2\n",
+    ),
+    (
+        "the reader fails after the last line",
+        Some(PIECE.len()),
+        usize::MAX,
+        "1: mpimatch: F1 Read at r0.txt:4\n",
+    ),
+    ("no room", None, 0, "1: mpimatch: R1 Write\n"),
+    (
+        "room for a front",
+        None,
+        8,
+        "1: mpimatchmpimatch: R1 Write\n",
+    ),
+];
+
+#[test]
+fn runs_over_files_that_tell_their_bytes(rt: HostRuntime) -> Result<(), Fail> {
+    for row in &RUNS {
+        let (name, until_failure, room, want) = *row;
+        let found = ended(rt.alloc(), run_of(LAYOUT, until_failure), room)?;
+        assert_eq!(rt; found.as_str(), want, "{name}");
+    }
+    Ok(())
+}
+
+#[test]
+fn the_limit_of_a_layout(rt: HostRuntime) -> Result<(), Fail> {
+    let mut layout = LAYOUT.to_vec(rt.alloc())?;
+    layout.resize(16_777_216, b' ')?;
+    let found = ended(rt.alloc(), run_of(&layout, None), usize::MAX)?;
+    assert_eq!(rt; found.as_str(), RUNS[0].3, "16,777,216 bytes");
+    layout.push(b' ')?;
+    let found = ended(rt.alloc(), run_of(&layout, None), usize::MAX)?;
+    assert_eq!(rt;
+        found.as_str(),
+        "1: mpimatch: M1 File layout.json\n",
+        "one more"
+    );
+    Ok(())
+}
+
+#[test]
+fn words_that_can_not_be_read(rt: HostRuntime) -> Result<(), Fail> {
+    let ending = ending_without_words(rt.alloc())?;
+    assert_eq!(rt; ending.status, 2);
+    assert_eq!(rt; ending.errors.as_str(), "mpimatch: a word is not UTF-8\n");
+    Ok(())
+}

@@ -1,0 +1,109 @@
+//! What is known where memory is refused. Each step is tried again after a refusal, which has to leave what was known: so the
+//! test passes whichever request is refused (`rt try --test --fail-alloc N`), and where none is.
+
+use mpi_model::{Call, Event, Outs, Stamp};
+use std::alloc::Global;
+use std::process::Abort;
+use std::test::Fail;
+use trace_know::{Knowledge, Segment};
+
+/// Events of local calls from an Enter on, whose times are this late.
+fn events(alloc: Global, count: u64, late: u64) -> Option<Vec<Event>> {
+    let mut events = Vec::with_capacity(alloc, 8).ok()?;
+    for i in 0..count {
+        let stamp = Stamp::new(late, 0)?;
+        let event = if i % 2 == 0 {
+            Event::Enter(Call::Local, stamp)
+        } else {
+            Event::Return(Outs::Nothing, stamp)
+        };
+        events.push(event).ok()?;
+    }
+    Some(events)
+}
+
+/// A segment of rank 0, tried twice.
+fn segment(alloc: Global, first: u64, count: u64, late: u64) -> Result<Segment, Fail> {
+    let made = match events(alloc, count, late) {
+        Some(events) => events,
+        None => events(alloc, count, late).ok_or("two requests were refused")?,
+    };
+    Ok(Segment::new(0, first, made)?)
+}
+
+/// How much is known, how many contradictions, and the prefix of rank 0 with what is beyond it.
+fn summary(know: &Knowledge) -> (usize, usize, u64, bool) {
+    (
+        know.count(),
+        know.conflicts(),
+        know.prefix(0),
+        know.beyond(0),
+    )
+}
+
+/// Takes a segment. A refusal leaves what was known.
+fn take(
+    rt: &impl Abort,
+    know: &mut Knowledge,
+    piece: Segment,
+    expected: (usize, usize, u64, bool),
+) -> Result<(), Fail> {
+    let before = summary(know);
+    if know.take(&piece).is_err() {
+        assert_eq!(rt; summary(know), before, "a refused take");
+        know.take(&piece)?;
+    }
+    assert_eq!(rt; summary(know), expected, "a take");
+    Ok(())
+}
+
+/// Joins the other. A refusal leaves what was known.
+fn join(
+    rt: &impl Abort,
+    know: &mut Knowledge,
+    other: &Knowledge,
+    expected: (usize, usize, u64, bool),
+) -> Result<(), Fail> {
+    let before = summary(know);
+    if know.join(other).is_err() {
+        assert_eq!(rt; summary(know), before, "a refused join");
+        know.join(other)?;
+    }
+    assert_eq!(rt; summary(know), expected, "a join");
+    Ok(())
+}
+
+/// A piece of rank 0, how late its times are, and what is known once it was taken.
+type Step = (u64, u64, u64, (usize, usize, u64, bool));
+
+static STEPS: [Step; 5] = [
+    (2, 2, 0, (2, 0, 0, true)),
+    (6, 2, 0, (4, 0, 0, true)),
+    (0, 2, 0, (6, 0, 2, true)),
+    (1, 2, 0, (8, 0, 6, true)),
+    (2, 8, 1, (14, 2, 4, true)),
+];
+
+static OTHER_STEPS: [Step; 2] = [(6, 6, 1, (6, 0, 0, true)), (20, 2, 1, (8, 0, 0, true))];
+
+/// What these steps lead to.
+fn after(rt: &impl Abort, alloc: Global, steps: &[Step]) -> Result<Knowledge, Fail> {
+    let mut know = Knowledge::new(alloc);
+    for (first, count, late, expected) in steps {
+        take(
+            rt,
+            &mut know,
+            segment(alloc, *first, *count, *late)?,
+            *expected,
+        )?;
+    }
+    Ok(know)
+}
+
+#[test]
+fn refusals_leave_what_was_known(rt: HostRuntime) -> Result<(), Fail> {
+    let other = after(&rt, rt.alloc(), &OTHER_STEPS)?;
+    let mut know = after(&rt, rt.alloc(), &STEPS)?;
+    join(&rt, &mut know, &other, (20, 4, 4, true))?;
+    join(&rt, &mut know, &other, (20, 4, 4, true))
+}

@@ -1,0 +1,106 @@
+//! The rows of a table, as they are found message by message.
+
+ghost use Rattle.std.specs.Prelude.{◌≡◌, ◌++◌, ◌∷◌, [], List, OnOk, IfOk};
+ghost use Rattle.std.specs.List.{cons_option, filter_map};
+ghost use Rattle.std.specs.Option.{option_map};
+ghost use Rattle.mpi_model.specs.declared.message.Message.{Message};
+ghost use Rattle.mpi_model.specs.declared.message.Receive.{Receive};
+ghost use Rattle.trace_ops.specs.Order.{Has};
+ghost use Rattle.trace_pair.specs.Followed.{Indexes, Follows};
+ghost use Rattle.trace_pair.specs.Pairing.{receive_of};
+ghost use Rattle.trace_pair.specs.Table.{pair_of, postponed_name, table_of};
+
+use crate::matched::Matched;
+use crate::pair::{Pair, make_pair};
+use mpi_model::{Message, OpName};
+use std::alloc::{AllocError, Global};
+use std::marker::Model;
+use trace_ops::RankOps;
+
+/// The pairs and the postponed messages that were found so far.
+#[derive(Drop)]
+pub(crate) struct Rows {
+    pub(crate) pairs: Vec<Pair>,
+    pub(crate) postponed: Vec<OpName>,
+}
+
+impl Model for Rows {
+    ghost use Rattle.trace_pair.specs.Table.{Table};
+
+    ghost Value = { Table };
+
+    ghost view = { λ s. record { pairs = s.pairs.items; postponed = s.postponed.items } };
+}
+
+impl Rows {
+    pub(crate) fn empty(alloc: Global) -> Rows
+        ensures { result ≡ table_of [] }
+    {
+        Rows {
+            pairs: Vec::new(alloc),
+            postponed: Vec::new(alloc),
+        }
+    }
+
+    pub(crate) fn put(&mut self, pair: Pair) -> Result<(), AllocError>
+        ensures pairs { OnOk result (self.new.pairs ≡ self.old.pairs ++ pair ∷ []) }
+        ensures postponed { self.new.postponed ≡ self.old.postponed }
+    {
+        self.pairs.push(pair)?;
+        Ok(())
+    }
+
+    pub(crate) fn postpone(&mut self, name: OpName) -> Result<(), AllocError>
+        ensures pairs { self.new.pairs ≡ self.old.pairs }
+        ensures postponed { OnOk result (self.new.postponed ≡ self.old.postponed ++ name ∷ []) }
+    {
+        self.postponed.push(name)?;
+        Ok(())
+    }
+
+    /// Adds what the held message is: paired, postponed, or neither.
+    fn add(&mut self, state: &Matched, m: &Message) -> Result<(), AllocError>
+        ensures pairs { OnOk result ((ms : List Message) (qs : List Receive) → Indexes ms qs state.now → Has ms m.now →
+            self.new.pairs ≡ self.old.pairs ++ cons_option (option_map (pair_of m.now) (receive_of ms qs m.now)) []) }
+        ensures postponed { OnOk result ((ms : List Message) (qs : List Receive) → Indexes ms qs state.now → Has ms m.now →
+            self.new.postponed ≡ self.old.postponed ++ cons_option (postponed_name ms qs m.now) []) }
+    {
+        match state.partner_of(m) {
+            Some(q) => self.put(make_pair(m, &q))?,
+            None => {
+                if state.does_untold_fit(m) {
+                    self.postpone(m.name)?;
+                }
+            }
+        }
+        Ok(())
+    }
+
+    /// Adds what the held messages are.
+    fn add_all(&mut self, state: &Matched, some: &[Message]) -> Result<(), AllocError>
+        ensures pairs { OnOk result ((ms : List Message) (qs : List Receive) → Indexes ms qs state.now → ((m : Message) → Has some.now m → Has ms m) →
+            self.new.pairs ≡ self.old.pairs ++ filter_map (λ m. option_map (pair_of m) (receive_of ms qs m)) some.now) }
+        ensures postponed { OnOk result ((ms : List Message) (qs : List Receive) → Indexes ms qs state.now → ((m : Message) → Has some.now m → Has ms m) →
+            self.new.postponed ≡ self.old.postponed ++ filter_map (postponed_name ms qs) some.now) }
+    {
+        for m in some {
+            self.add(state, m)?;
+        }
+        Ok(())
+    }
+
+    /// The rows of the held ops.
+    pub(crate) fn of_held(
+        alloc: Global,
+        state: &Matched,
+        held: &[RankOps],
+    ) -> Result<Rows, AllocError>
+        ensures { IfOk result (λ rows. Follows held.now state.now → rows ≡ table_of held.now) }
+    {
+        let mut rows = Rows::empty(alloc);
+        for ops in held {
+            rows.add_all(state, ops.sends())?;
+        }
+        Ok(rows)
+    }
+}

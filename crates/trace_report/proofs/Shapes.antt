@@ -1,0 +1,18 @@
+-- The shape of a condition, level by level.
+use Rattle.std.proofs.Common.{Vec, Global, ◌≡◌, ℕ, map, sym, ◌∙◌, ap}
+use Rattle.trace_stuck.specs.declared.condition.Condition.{Condition}
+use Rattle.trace_stuck.specs.declared.condition.Condition.TheOpen.{Rank, All, One}
+use Rattle.trace_stuck.specs.declared.condition.Condition.TheFolds.{fold-roll-Condition}
+use Rattle.trace_stuck.specs.declared.condition.Condition.TheViews as views
+use Rattle.trace_stuck.specs.Shape.{Wait, OnRank, OnAll, OnOne, waits_of, shape_step, shape}
+
+pub shape_Rank : (r : ℕ) → shape (views.made-Rank r) ≡ OnRank r
+shape_Rank r = ap shape (sym (views.rolls-Rank r)) ∙ fold-roll-Condition Wait shape_step (Rank r)
+
+pub shape_All : (parts : Vec Condition Global) → shape (views.All parts) ≡ OnAll (waits_of (map shape parts.items))
+shape_All parts = ap shape (sym (views.rolls-All parts)) ∙ fold-roll-Condition Wait shape_step (All parts)
+
+pub shape_One : (parts : Vec Condition Global) → shape (views.One parts) ≡ OnOne (waits_of (map shape parts.items))
+shape_One parts = ap shape (sym (views.rolls-One parts)) ∙ fold-roll-Condition Wait shape_step (One parts)
+
+pub ruleset shapes = (shape_Rank, shape_All, shape_One)

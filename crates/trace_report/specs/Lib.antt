@@ -1,0 +1,6 @@
+pub mod Words
+pub mod Seconds
+pub mod Waits
+pub mod Report
+pub mod Page
+pub mod BrokenOff

@@ -1,0 +1,71 @@
+//! The whole report, and its way to a device.
+
+ghost use Rattle.std.specs.Prelude.{◌≡◌, ◌<◌, length, take, IfOk, IfErr, OnOk};
+ghost use Rattle.std.specs.Io.KnownBytes.{Appends};
+ghost use Rattle.mpi_model.specs.Failures.{CountsFailure};
+ghost use Rattle.mpi_model.specs.Side.{LeavesSide};
+ghost use Rattle.trace_report.specs.BrokenOff.{WritesFront};
+ghost use Rattle.trace_report.specs.Page.{Prints, capped, closing, opening, outlet};
+ghost use Rattle.trace_report.specs.Report.{report_text};
+
+use crate::direct::Direct;
+use crate::fault::ReportFault;
+use crate::matching::{put_all_postponed, put_conflicts, put_pairs};
+use crate::paged::Paged;
+use crate::ranks::{put_head, put_ranks};
+use crate::rounds::put_rounds;
+use crate::sink::Sink;
+use crate::stuck::{put_all_stuck, put_last};
+use arrayvec::ArrayVec;
+use mpi_model::Write;
+use trace_node::Answer;
+
+/// Writes the report of an answer, and answers how many bytes it has. It takes no memory, hands the
+/// device a page at a time, and writes nothing after a failure.
+pub fn write_report<W: Write>(answer: &Answer, writer: &mut W) -> Result<u64, ReportFault>
+    ensures ok { OnOk result (Appends (W.written writer.old) (W.written writer.new) (report_text answer.now)) }
+    ensures length { IfOk result (λ n. n ≡ capped (length (report_text answer.now))) }
+
+    // at a refused write just the first `written` bytes of the text were written
+    ensures err { IfErr result (λ fault. WritesFront (W.written writer.old) (W.written writer.new) (report_text answer.now) fault) }
+    ensures failures { CountsFailure (W.failures writer.old) (W.failures writer.new) result }
+    ensures beside { LeavesSide (W.read_side writer.old) (W.read_side writer.new) }
+{
+    let (written, failed) = print(answer, writer);
+    if failed {
+        Err(ReportFault::Write { written })
+    } else {
+        Ok(written)
+    }
+}
+
+// Prints the report, and answers how many bytes the device took, and whether a write failed.
+fn print<W: Write>(answer: &Answer, writer: &mut W) -> (u64, bool)
+    ensures { Prints (opening (outlet (W.written writer.old) (W.failures writer.old) (W.read_side writer.old))) (closing (outlet (W.written writer.new) (W.failures writer.new) (W.read_side writer.new)) result.0 result.1) (report_text answer.now) }
+{
+    let direct = Direct {
+        writer,
+        written: 0,
+        failed: false,
+    };
+    let mut out = Paged {
+        direct,
+        page: ArrayVec::new(),
+    };
+    put_report(&mut out, answer);
+    out.flush();
+    (out.direct.written, out.direct.failed)
+}
+
+fn put_report<S: Sink>(out: &mut S, answer: &Answer)
+    ensures { Prints (S.page out.old) (S.page out.new) (report_text answer.now) }
+{
+    put_head(out, answer);
+    put_ranks(out, answer);
+    put_conflicts(out, answer.conflicts());
+    put_pairs(out, answer.pairs());
+    put_all_postponed(out, answer.postponed());
+    put_rounds(out, answer.rounds());
+    put_all_stuck(out, answer.stuck());
+    put_last(out, answer);
+}

@@ -1,0 +1,84 @@
+//! Rounds of collective calls.
+
+ghost use Rattle.std.specs.Prelude.{◌++◌, codes, decimal};
+ghost use Rattle.std.specs.List.{flat_map};
+ghost use Rattle.trace_report.specs.Page.{Prints};
+ghost use Rattle.trace_report.specs.Report.{complete_text, kind_text, open_text, root_text, round_line, standing_text};
+
+use crate::sink::Sink;
+use crate::words::{kind_word, put_number};
+use mpi_model::Kind;
+use trace_wait::{Round, Standing};
+
+#[tactic(auto, using(crate::proofs::Printing::nothing))]
+pub(crate) fn put_rounds<S: Sink>(out: &mut S, rounds: &[Round])
+    ensures { Prints (S.page out.old) (S.page out.new) (flat_map round_line rounds.now) }
+{
+    for round in rounds {
+        put_round(out, round);
+    }
+}
+
+fn put_round<S: Sink>(out: &mut S, round: &Round)
+    ensures { Prints (S.page out.old) (S.page out.new) (round_line round.now) }
+{
+    out.put(b"round ");
+    put_number(out, round.comm as u64);
+    out.put(b":");
+    put_number(out, round.k);
+    out.put(b" ");
+    put_standing(out, round.standing);
+    out.put(b"\n");
+}
+
+fn put_standing<S: Sink>(out: &mut S, standing: Standing)
+    ensures { Prints (S.page out.old) (S.page out.new) (standing_text standing) }
+{
+    match standing {
+        Standing::Mismatched => out.put(b"mismatched"),
+        Standing::Complete(kind, root) => put_complete(out, kind, root),
+        Standing::Partial(kind, root, entered, members) => {
+            put_open(out, kind, root, entered, members)
+        }
+    }
+}
+
+fn put_complete<S: Sink>(out: &mut S, kind: Kind, root: Option<u32>)
+    ensures { Prints (S.page out.old) (S.page out.new) (complete_text kind root) }
+{
+    put_kind(out, kind, root);
+    out.put(b" complete");
+}
+
+fn put_open<S: Sink>(out: &mut S, kind: Kind, root: Option<u32>, entered: u32, members: u32)
+    ensures { Prints (S.page out.old) (S.page out.new) (open_text kind root entered members) }
+{
+    put_kind(out, kind, root);
+    out.put(b" open ");
+    put_number(out, entered as u64);
+    out.put(b" of ");
+    put_number(out, members as u64);
+}
+
+fn put_kind<S: Sink>(out: &mut S, kind: Kind, root: Option<u32>)
+    ensures { Prints (S.page out.old) (S.page out.new) (kind_text kind root) }
+{
+    out.put(kind_word(kind));
+    put_root(out, root);
+}
+
+fn put_root<S: Sink>(out: &mut S, root: Option<u32>)
+    ensures { Prints (S.page out.old) (S.page out.new) (root_text root) }
+{
+    match root {
+        Some(root) => put_some_root(out, root),
+        None => out.put(b""),
+    }
+}
+
+fn put_some_root<S: Sink>(out: &mut S, root: u32)
+    ensures { Prints (S.page out.old) (S.page out.new) (codes " " ++ decimal root) }
+{
+    out.put(b" ");
+    put_number(out, root as u64);
+}

@@ -1,0 +1,54 @@
+//! Stuck ranks, and the end of a report.
+
+ghost use Rattle.std.specs.Prelude.{map};
+ghost use Rattle.std.specs.List.{flat_map};
+ghost use Rattle.trace_report.specs.Page.{Prints};
+ghost use Rattle.trace_report.specs.Report.{last_lines, stuck_line, stuck_lines};
+ghost use Rattle.trace_node.specs.Stopped.{stopped};
+
+use crate::seconds::put_seconds;
+use crate::sink::Sink;
+use crate::waits::put_wait;
+use crate::words::put_number;
+use trace_node::{Answer, Stuck};
+
+pub(crate) fn put_all_stuck<S: Sink>(out: &mut S, ranks: &[Stuck])
+    ensures { Prints (S.page out.old) (S.page out.new) (stuck_lines (map stopped ranks.now)) }
+{
+    if ranks.is_empty() {
+        out.put(b"stuck none\n");
+    } else {
+        put_each_stuck(out, ranks);
+    }
+}
+
+#[tactic(auto, using(crate::proofs::Printing::nothing))]
+fn put_each_stuck<S: Sink>(out: &mut S, ranks: &[Stuck])
+    ensures { Prints (S.page out.old) (S.page out.new) (flat_map stuck_line (map stopped ranks.now)) }
+{
+    for stuck in ranks {
+        put_stuck(out, stuck);
+    }
+}
+
+fn put_stuck<S: Sink>(out: &mut S, stuck: &Stuck)
+    ensures { Prints (S.page out.old) (S.page out.new) (stuck_line (stopped stuck.now)) }
+{
+    out.put(b"stuck ");
+    put_number(out, stuck.rank as u64);
+    out.put(b" call ");
+    put_number(out, stuck.call);
+    out.put(b" since ");
+    put_seconds(out, stuck.wall);
+    out.put(b" waits ");
+    put_wait(out, &stuck.waits);
+    out.put(b"\n");
+}
+
+pub(crate) fn put_last<S: Sink>(out: &mut S, answer: &Answer)
+    ensures { Prints (S.page out.old) (S.page out.new) (last_lines answer.now) }
+{
+    out.put(b"foreign ");
+    put_number(out, answer.foreign());
+    out.put(b"\nend\n");
+}

@@ -1,0 +1,58 @@
+//! The words and numbers of which lines are made.
+
+ghost use Rattle.std.specs.Prelude.{◌≡◌, decimal};
+ghost use Rattle.trace_report.specs.Page.{Prints};
+ghost use Rattle.trace_report.specs.Words.{kind_word, sends_word, state_word, where_so};
+
+use crate::sink::Sink;
+use itoa::Buffer;
+use mpi_model::{Kind, Sends};
+use trace_ops::State;
+
+pub(crate) fn put_number<S: Sink>(out: &mut S, n: u64)
+    ensures { Prints (S.page out.old) (S.page out.new) (decimal n) }
+{
+    let mut buffer = Buffer::new();
+    out.put(buffer.format(n).as_bytes());
+}
+
+/// The word, where it applies.
+pub(crate) fn put_where<S: Sink>(out: &mut S, applies: bool, word: &[u8])
+    ensures { Prints (S.page out.old) (S.page out.new) (where_so applies word.now) }
+{
+    out.put(if applies { word } else { b"" });
+}
+
+pub(crate) fn sends_word(sends: Sends) -> &'static [u8]
+    ensures { result.now ≡ sends_word sends }
+{
+    match sends {
+        Sends::Wait => b"wait",
+        Sends::Buffer => b"buffer",
+    }
+}
+
+pub(crate) fn state_word(state: State) -> &'static [u8]
+    ensures { result.now ≡ state_word state }
+{
+    match state {
+        State::Free => b"free",
+        State::Waiting => b"waiting",
+        State::Ended => b"ended",
+    }
+}
+
+pub(crate) fn kind_word(kind: Kind) -> &'static [u8]
+    ensures { result.now ≡ kind_word kind }
+{
+    match kind {
+        Kind::Barrier => b"barrier",
+        Kind::Bcast => b"bcast",
+        Kind::Scatter => b"scatter",
+        Kind::Gather => b"gather",
+        Kind::Reduce => b"reduce",
+        Kind::Allreduce => b"allreduce",
+        Kind::Allgather => b"allgather",
+        Kind::Alltoall => b"alltoall",
+    }
+}

@@ -1,0 +1,19 @@
+//! Tests of frames: of what no clause of `trace_wire` says, through what is public in it.
+//!
+//! Expected bytes and refusals are those of `docs/formats.md`, written out by hand.
+//!
+//! | File | Tests |
+//! |---|---|
+//! | `spelling` | the bytes of each kind of event, there and back |
+//! | `order` | the first cause of a refusal, byte by byte |
+//! | `devices` | slow and failing devices, several frames on one of them, and the limit of a frame's length |
+#![tactic(auto)]
+
+#[cfg(test)]
+mod devices;
+#[cfg(test)]
+mod fixture;
+#[cfg(test)]
+mod order;
+#[cfg(test)]
+mod spelling;
