@@ -1,14 +1,11 @@
-//! Tests of trace_node: what its contracts can't say, and each call that takes memory with memory
-//! at hand. What is wanted comes from the specification's rows.
+//! Tests of trace_node: what its contracts can't say, and calls that take memory with memory at
+//! hand. What is wanted comes from the specification's rows.
 //!
-//! - `made`: layouts, calls and segments
-//! - `answers`: what is told of small runs
-//! - `orders`: knowledge that comes in other orders
+//! - `made`: a layout, and pieces of two ranks
+//! - `nodes`: what nodes tell of them, in whatever order they come
 #![tactic(auto)]
 
 #[cfg(test)]
-mod answers;
-#[cfg(test)]
 mod made;
 #[cfg(test)]
-mod orders;
+mod nodes;

@@ -1,71 +1,61 @@
-//! Layouts, calls and segments. Call `n` enters at `n` seconds and returns half a second later.
+//! Two ranks on one communicator, 2, and pieces of what they did.
 
 use mpi_model::*;
 use std::alloc::Global;
 use std::test::Fail;
 use trace_know::Segment;
 
-/// So many ranks, and one communicator, 2, that is the world.
-pub(crate) fn layout(alloc: Global, ranks: u32) -> Result<Layout, Fail> {
-    let mut members = Vec::new(alloc);
-    for rank in 0..ranks {
-        members.push(rank)?;
-    }
+fn world(alloc: Global) -> Result<Vec<(u32, Vec<u32>)>, Fail> {
     let mut comms = Vec::new(alloc);
-    comms.push((2, members))?;
-    let made = Layout::new(alloc, ranks, 2, comms, Sends::Wait);
+    comms.push((2, vec![in alloc; 0u32, 1]?))?;
+    Ok(comms)
+}
+
+pub(crate) fn layout(alloc: Global) -> Result<Layout, Fail> {
+    let made = Layout::new(alloc, 2, 2, world(alloc)?, Sends::Wait);
     Ok(made.map_err(|_| "a layout")?)
 }
 
-fn envelope(peer: u32, tag: u32) -> Envelope {
-    Envelope {
+fn send(peer: u32, tag: u32) -> Result<Call, Fail> {
+    let envelope = Envelope {
         peer: Peer::Rank(peer),
         tag: Some(tag),
         comm: CommRef::Id(2),
         count: 1,
         datatype: 11,
-    }
-}
-
-pub(crate) fn send(peer: u32, tag: u32) -> Result<Call, Fail> {
-    let made = SendEnvelope::new(envelope(peer, tag)).ok_or("a send")?;
+    };
+    let made = SendEnvelope::new(envelope).ok_or("a send")?;
     Ok(Call::Send(Mode::Standard, made))
 }
 
-pub(crate) fn receive(peer: u32, tag: u32) -> Result<Call, Fail> {
-    let made = ReceiveEnvelope::new(envelope(peer, tag)).ok_or("a receive")?;
+fn receive(peer: u32, tag: u32) -> Result<Call, Fail> {
+    let envelope = Envelope {
+        peer: Peer::Rank(peer),
+        tag: Some(tag),
+        comm: CommRef::Id(2),
+        count: 1,
+        datatype: 11,
+    };
+    let made = ReceiveEnvelope::new(envelope).ok_or("a receive")?;
     Ok(Call::Recv(made))
 }
 
-pub(crate) fn stamp(seconds: u64, more: u64) -> Result<Stamp, Fail> {
-    let wall = seconds.saturating_mul(1_000_000_000).saturating_add(more);
-    Ok(Stamp::new(wall, 0).ok_or("a moment")?)
-}
-
-/// A call that was entered and has not returned.
-pub(crate) fn open(alloc: Global, rank: u32, n: u64, call: Call) -> Result<Segment, Fail> {
-    let mut events = Vec::new(alloc);
-    events.push(Event::Enter(call, stamp(n, 0)?))?;
+/// The rank entered call `n` at 1.5 s, and has not returned.
+fn open(alloc: Global, rank: u32, n: u64, call: Call) -> Result<Segment, Fail> {
+    let stamp = Stamp::new(1_500_000_000, 0).ok_or("a moment")?;
+    let events = vec![in alloc; Event::Enter(call, stamp)]?;
     let made = Segment::new(rank, n, events);
     Ok(made.map_err(|_| "a segment")?)
 }
 
-/// A call that has returned.
-pub(crate) fn done(
-    alloc: Global,
-    rank: u32,
-    n: u64,
-    call: Call,
-    outs: Outs,
-) -> Result<Segment, Fail> {
-    let mut events = Vec::new(alloc);
-    events.push(Event::Enter(call, stamp(n, 0)?))?;
-    events.push(Event::Return(outs, stamp(n, 500_000_000)?))?;
-    let made = Segment::new(rank, n, events);
-    Ok(made.map_err(|_| "a segment")?)
-}
-
-/// A receive's outcome that tells no source.
-pub(crate) fn untold() -> Result<Outs, Fail> {
-    Ok(Outs::Status(Told::new(None).ok_or("no source")?))
+/// Rank 0 sends tag 7 to rank 1, or tag 8; rank 1 receives tag 7 from rank 0, or sends tag 7 to it;
+/// a rank that isn't there.
+pub(crate) fn piece(alloc: Global, n: u32) -> Result<Segment, Fail> {
+    match n {
+        0 => open(alloc, 0, 0, send(1, 7)?),
+        1 => open(alloc, 0, 0, send(1, 8)?),
+        2 => open(alloc, 1, 0, receive(0, 7)?),
+        3 => open(alloc, 1, 0, send(0, 7)?),
+        _ => open(alloc, 2, 0, Call::Local),
+    }
 }
