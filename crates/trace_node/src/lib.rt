@@ -19,8 +19,6 @@
 //! - [`follow`]: the index of the pairs, as more is known
 //! - [`node`]: knowledge with its answer
 //! - [`laws`]: that there is one answer, as the contract of a call that does nothing
-//!
-//! Its tests are in the crate `trace_node_tests`.
 #![tactic(auto)]
 
 mod answer;
