@@ -6,6 +6,10 @@
 //! how each rank stands, and the stuck ranks with what they wait for. It is a function of the layout
 //! and of what is known, so nodes that know the same give one answer.
 //!
+//! Cost: a segment or other knowledge costs its join; of the ranks whose readable events changed,
+//! their events once and the index of pairs for what is new; and for the answer one pass over all
+//! messages, receives, collective calls and pairs.
+//!
 //! Where there is no memory for an answer, the knowledge is kept and the node is stale until
 //! [`Node::refresh`]: it loses no fact.
 //!
@@ -15,8 +19,6 @@
 //! - [`follow`]: the index of the pairs, as more is known
 //! - [`node`]: knowledge with its answer
 //! - [`laws`]: that there is one answer, as the contract of a call that does nothing
-//!
-//! Its tests are in the crate `trace_node_tests`.
 #![tactic(auto)]
 
 mod answer;
