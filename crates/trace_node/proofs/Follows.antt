@@ -1,5 +1,5 @@
 -- How an index goes on by one rank.
-use Rattle.std.proofs.Common.{◌≡◌, ℕ, suc, ◌+◌, ◌<◌, Bool, Some, List, ◌++◌, length, map, get_or, set, sym, ◌∙◌, ap, subst, arith, add-one, zero-add}
+use Rattle.std.proofs.Common.{◌≡◌, ℕ, suc, ◌+◌, ◌<◌, ◌≤◌, Bool, Option, Some, List, ◌++◌, length, map, get_or, set, refl, sym, ◌∙◌, ap, subst, arith, add-one, zero-add}
 use Rattle.std.specs.List.{range_with_len, slice_get}
 use Rattle.std.specs.Option.{option_map}
 use Rattle.std.proofs.lemmas.List.FromFn.{length-map-range_with_len, get_or-map-range_with_len, length-range_with_len, get_or-range_with_len}
@@ -8,8 +8,9 @@ use Rattle.mpi_model.specs.declared.event.Event.{Event}
 use Rattle.mpi_model.specs.Layouts.{Parts}
 use Rattle.trace_know.specs.Prefix.{BeginsWith, events_of, prefix_of, is_beyond}
 use Rattle.trace_know.specs.View.{View, IsBelow}
-use Rattle.trace_ops.specs.Ops.{Ops, Grows, no_ops}
+use Rattle.trace_ops.specs.Ops.{Ops, IsOwn, Grows, no_ops}
 use Rattle.trace_ops.specs.RankOps.{all_ops, ops_by, ops_of}
+use Rattle.trace_node.specs.Answer.{beyond_of, prefixes_of}
 use Rattle.trace_node.specs.Following.{IsFollowing, mixed}
 use Rattle.trace_node.proofs.Mixed.{length-mixed, mixed-all, get_or-mixed, set-mixed, mixed-same}
 

@@ -1,5 +1,5 @@
 -- Two lists of one length, the one's first elements before the other's last ones.
-use Rattle.std.proofs.Common.{◌≡◌, ℕ, zero, suc, ◌<◌, List, [], ◌∷◌, length, get_or, set, refl, ap, arith}
+use Rattle.std.proofs.Common.{◌≡◌, ℕ, zero, suc, ◌+◌, ◌<◌, List, [], ◌∷◌, length, get_or, set, refl, sym, ◌∙◌, ap, arith}
 use Rattle.trace_node.specs.Following.{mixed}
 
 module _ {X : Type 0} where

@@ -1,5 +1,5 @@
 -- What holds of a node while its answer is made anew.
-use Rattle.std.proofs.Common.{◌≡◌, ◌↔◌, Bool, false, IsTrue, Result, Ok, Err, OnOk, Option, Some, None, List, sym, subst}
+use Rattle.std.proofs.Common.{◌≡◌, ◌↔◌, Bool, true, false, IsTrue, Result, Ok, Err, OnOk, Option, Some, None, List, sym, subst}
 use Rattle.std.specs.Prelude.{IfSome, is_err}
 use Rattle.mpi_model.specs.Layouts.{Parts}
 use Rattle.trace_know.specs.View.{View, IsBelow}

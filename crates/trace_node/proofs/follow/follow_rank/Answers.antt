@@ -1,4 +1,4 @@
-use Rattle.std.proofs.Common.{◌≡◌, ◌↔◌, ℕ, ◌+◌, ◌≤◌, ◌<◌, Bool, false, IsTrue, Result, Ok, Err, OnOk, List, sym, subst, arith, ⊎_elim}
+use Rattle.std.proofs.Common.{◌≡◌, ◌↔◌, ℕ, ◌+◌, ◌≤◌, ◌<◌, Bool, false, IsTrue, Result, Ok, Err, OnOk, List, sym, subst, arith, ⊎_elim, ◌∙◌}
 use Rattle.std.proofs.lemmas.Bool.{cases_order}
 use Rattle.trace_know.specs.Prefix.{prefix_of}
 use Rattle.trace_ops.specs.Ops.{Ops}

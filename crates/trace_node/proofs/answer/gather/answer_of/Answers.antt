@@ -1,4 +1,6 @@
-use Rattle.std.proofs.Common.{◌≡◌, ◌∙◌, map, ap}
+use Rattle.std.proofs.Common.{◌≡◌, ◌∙◌, List, Option, map, ap, sym}
+use Rattle.std.specs.Option.{option_map}
+use Rattle.trace_stuck.specs.Shape.{Wait, shape}
 use Rattle.trace_pair.specs.Table.{Table}
 use Rattle.trace_wait.specs.Conditions.{conditions_from}
 use Rattle.trace_node.specs.Answer.{states_of, stopped_at, waits_of}
