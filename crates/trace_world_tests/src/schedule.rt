@@ -68,10 +68,20 @@ fn refused(alloc: Global, step: &Step) -> Option<WorldFault> {
 fn deliveries_and_restarts(rt: HostRuntime) {
     let alloc = rt.alloc();
     let delivered = after(alloc, &[Step::Deliver { mail: 0, node: 1 }]);
-    let restarted = after(alloc, &[Step::Deliver { mail: 0, node: 1 }, Step::Restart { node: 1 }]);
+    let restarted = after(
+        alloc,
+        &[
+            Step::Deliver { mail: 0, node: 1 },
+            Step::Restart { node: 1 },
+        ],
+    );
     let again = after(
         alloc,
-        &[Step::Deliver { mail: 0, node: 1 }, Step::Restart { node: 1 }, Step::Deliver { mail: 0, node: 1 }],
+        &[
+            Step::Deliver { mail: 0, node: 1 },
+            Step::Restart { node: 1 },
+            Step::Deliver { mail: 0, node: 1 },
+        ],
     );
     let rows = [
         ("delivered", delivered, (2, 0)),
@@ -89,10 +99,26 @@ fn refusals(rt: HostRuntime) {
     let alloc = rt.alloc();
     let foreign = post(alloc, 0, 2).and_then(|step| refused(alloc, &step));
     let rows = [
-        ("an empty inbox", refused(alloc, &Step::Take { node: 1 }), WorldFault::EmptyInbox),
-        ("no such mail", refused(alloc, &Step::Deliver { mail: 1, node: 1 }), WorldFault::NoMail),
-        ("no such node", refused(alloc, &Step::Take { node: 2 }), WorldFault::NoNode),
-        ("no such node comes first", refused(alloc, &Step::Deliver { mail: 1, node: 2 }), WorldFault::NoNode),
+        (
+            "an empty inbox",
+            refused(alloc, &Step::Take { node: 1 }),
+            WorldFault::EmptyInbox,
+        ),
+        (
+            "no such mail",
+            refused(alloc, &Step::Deliver { mail: 1, node: 1 }),
+            WorldFault::NoMail,
+        ),
+        (
+            "no such node",
+            refused(alloc, &Step::Take { node: 2 }),
+            WorldFault::NoNode,
+        ),
+        (
+            "no such node comes first",
+            refused(alloc, &Step::Deliver { mail: 1, node: 2 }),
+            WorldFault::NoNode,
+        ),
         ("a rank that the layout lacks", foreign, WorldFault::Rank),
     ];
     for (name, found, wanted) in rows {
