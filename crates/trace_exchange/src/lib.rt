@@ -13,20 +13,20 @@
 //! waits for the other side.
 //!
 //! - [`fault`]: why an exchange is refused
-//! - [`hear`]: one frame, read and merged
-//! - [`lead`](mod@lead) and [`follow`](mod@follow): the two sides of an exchange
+//! - [`hearing`]: one frame, read and merged
+//! - [`leader`] and [`follower`]: the two sides of an exchange
 //! - [`laws`]: what both nodes know after it, as the contract of a call that does nothing
 //!
 //! Its tests are in the crate `trace_exchange_tests`.
 #![tactic(auto)]
 
 mod fault;
-mod follow;
-mod hear;
+mod follower;
+mod hearing;
 mod laws;
-mod lead;
+mod leader;
 
 pub use fault::ExchangeFault;
-pub use follow::follow;
+pub use follower::follow;
 pub use laws::exchange_laws;
-pub use lead::lead;
+pub use leader::lead;

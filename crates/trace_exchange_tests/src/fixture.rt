@@ -5,6 +5,7 @@ use std::alloc::Global;
 use trace_know::Segment;
 use trace_node::Node;
 use trace_report::report_text;
+use trace_wire::write_frame;
 
 /// What is reported of both pieces together.
 pub(crate) const PINGPONG: &[u8] = b"mpimatch report 1
@@ -47,6 +48,13 @@ fn call_of(rank: u32) -> Option<(Call, Outs)> {
     }
 }
 
+/// The entry of a local call by a rank that the layout lacks.
+pub(crate) fn stranger(alloc: Global) -> Option<Segment> {
+    let stamp = Stamp::new(0, 0)?;
+    let events = vec![in alloc; Event::Enter(Call::Local, stamp)].ok()?;
+    Segment::new(2, 0, events).ok()
+}
+
 /// A rank's piece.
 pub(crate) fn piece(alloc: Global, rank: u32) -> Option<Segment> {
     let (call, outs) = call_of(rank)?;
@@ -60,6 +68,13 @@ pub(crate) fn node_of<'a>(alloc: Global, layout: &'a Layout, rank: u32) -> Optio
     let mut node = Node::new(alloc, layout).ok()?;
     node.take(&piece(alloc, rank)?).ok()?;
     Some(node)
+}
+
+/// The frame of all that a node knows.
+pub(crate) fn frame_of(alloc: Global, node: &Node) -> Option<Vec<u8>> {
+    let mut writer = MemoryWriter::new(alloc);
+    write_frame(node.know(), &mut writer).ok()?;
+    writer.bytes().to_vec(alloc).ok()
 }
 
 /// What the node reports.

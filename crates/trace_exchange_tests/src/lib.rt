@@ -7,6 +7,7 @@
 //! |---|---|
 //! | `memory` | both sides in memory, fed with each other's bytes |
 //! | `refusals` | what is left where a stream fails or ends at each byte, and where a merge is refused |
+//! | `nodes` | what a node tells by its frame and its report |
 //! | `socket` | both sides over a socket of this machine, each on a thread |
 #![tactic(auto)]
 
@@ -14,6 +15,8 @@
 mod fixture;
 #[cfg(test)]
 mod memory;
+#[cfg(test)]
+mod nodes;
 #[cfg(test)]
 mod pipe;
 #[cfg(test)]

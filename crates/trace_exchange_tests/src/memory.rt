@@ -1,7 +1,7 @@
 //! Both sides of an exchange in memory, fed with each other's bytes.
 
 use crate::fixture::{layout, node_of, reports_all};
-use crate::pipe::Pipe;
+use crate::pipe::{Pipe, is_stream};
 use mpi_model::{Layout, MemoryReader, MemoryWriter};
 use std::alloc::Global;
 use std::test::Fail;
@@ -20,6 +20,7 @@ fn told(
         reader: MemoryReader::new(bytes).at_most(7),
         writer: MemoryWriter::new(alloc).at_most(5),
     };
+    is_stream(&stream);
     let answer = if leads {
         lead(alloc, &mut stream, node)
     } else {

@@ -4,6 +4,7 @@ ghost use Rattle.std.specs.Prelude.{◌≤◌, ◌<◌, Some, length, IfOk};
 ghost use Rattle.std.specs.Io.KnownBytes.{ReadConsumes, WriteAppends};
 ghost use Rattle.mpi_model.specs.Failures.{CountsFailure};
 ghost use Rattle.mpi_model.specs.Side.{LeavesSide};
+ghost use Rattle.trace_exchange.specs.Stream.{IsStream, side};
 
 use mpi_model::{Failed, MemoryReader, MemoryWriter, Read, Write};
 
@@ -43,3 +44,9 @@ impl<'a> Write for Pipe<'a> {
         self.writer.write(piece)
     }
 }
+
+/// Asks of a type that each half tells of the other: then the contracts of an exchange over it hold
+/// whole. It does nothing.
+pub(crate) fn is_stream<S: Read + Write>(_stream: &S)
+    requires { IsStream (λ s. side (S.left s) (S.Read.failures s)) S.read_side (λ s. side (S.written s) (S.Write.failures s)) S.write_side }
+{}

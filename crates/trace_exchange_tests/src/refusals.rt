@@ -1,14 +1,14 @@
 //! What is left where a stream fails or ends at each byte, in either direction, and where a merge is
 //! refused.
 
-use crate::fixture::{layout, node_of, piece, reports_all};
+use crate::fixture::{frame_of, layout, node_of, piece, reports_all};
 use crate::pipe::Pipe;
 use mpi_model::{Layout, MemoryReader, MemoryWriter};
 use std::alloc::Global;
 use std::test::Fail;
 use trace_exchange::{ExchangeFault, follow, lead};
 use trace_node::Node;
-use trace_wire::{read_frame, write_frame};
+use trace_wire::read_frame;
 
 /// How a stream stops.
 #[derive(Clone, Copy, PartialEq, Eq)]
@@ -16,13 +16,6 @@ enum Stop {
     EndsReading,
     FailsReading,
     FailsWriting,
-}
-
-/// The frame of all that a node knows.
-fn frame_of(alloc: Global, node: &Node) -> Option<Vec<u8>> {
-    let mut writer = MemoryWriter::new(alloc);
-    write_frame(node.know(), &mut writer).ok()?;
-    writer.bytes().to_vec(alloc).ok()
 }
 
 /// A stream of these bytes that stops so after `count` of them.

@@ -1,6 +1,7 @@
 //! Both sides of an exchange over a socket of this machine, each on a thread.
 
 use crate::fixture::{PINGPONG, layout, node_of, report_of};
+use crate::pipe::is_stream;
 use mpi_model::{Device, Layout};
 use std::alloc::Global;
 use std::net::{Net, TcpListener, TcpStream};
@@ -23,7 +24,9 @@ fn connected<R: Net<Listener = TcpListener, Stream = TcpStream>>(
 /// What the node of rank 0 reports after it led.
 fn led(alloc: Global, layout: &Layout, stream: TcpStream) -> Option<Vec<u8>> {
     let mut node = node_of(alloc, layout, 0)?;
-    lead(alloc, &mut Device::new(stream), &mut node).ok()?;
+    let mut device = Device::new(stream);
+    is_stream(&device);
+    lead(alloc, &mut device, &mut node).ok()?;
     report_of(alloc, &node)
 }
 
