@@ -22,7 +22,7 @@ front_is : (b : Option (List ℕ)) (known bytes : List ℕ) → Consumes (Some k
 front_is None known bytes read = absurd read
 front_is (Some rest) known bytes read = (rest, read)
 
-done : {A : Type 0} → A → Result A WireFault
+abbrev done : {A : Type 0} → A → Result A WireFault
 done x = Ok x
 
 ok_is : {A : Type 0} (x y : A) → done x ≡ done y → x ≡ y

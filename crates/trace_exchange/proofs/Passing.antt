@@ -1,5 +1,5 @@
 -- What was read or written stays so when a call on the other half, which leaves this one, comes before it or after it.
-use Rattle.std.proofs.Common.{◌≡◌, ℕ, List, ◌++◌, Option, Some, None, Result, Ok, Err, sym, ap, subst, ◌∙◌}
+use Rattle.std.proofs.Common.{◌≡◌, ℕ, List, ◌++◌, Option, Some, None, Result, Ok, Err, sym, ap, subst, take, ◌∙◌}
 use Rattle.std.specs.Prelude.{IfSome}
 use Rattle.std.specs.Io.KnownBytes.{Appends, Consumes, Keeps}
 use Rattle.mpi_model.specs.Failures.{one_more}
@@ -8,6 +8,7 @@ use Rattle.trace_know.specs.View.{View}
 use Rattle.trace_node.specs.Node.{Held}
 use Rattle.trace_wire.specs.declared.fault.WireFault.{WireFault}
 use Rattle.trace_wire.specs.declared.fault.WireFault.TheVariants as wires
+use Rattle.trace_wire.specs.FirstFault.{frame_at}
 use Rattle.trace_wire.specs.Frames.{frame_of}
 use Rattle.trace_wire.specs.Reading.{IsUnread}
 use Rattle.trace_exchange.specs.declared.fault.ExchangeFault.{ExchangeFault}
@@ -66,7 +67,7 @@ pub unwritten_after : (a b c : Side) (know : View) (fault : WireFault) → Leave
 unwritten_after a b c know wires.Length leaves why =
     (why.0, keeps_after a.bytes b.bytes c.bytes leaves.bytes why.1, why.2 ∙ leaves.failures)
 unwritten_after a b c know wires.Write leaves why =
-    (why.0, (why.1.0, why.1.1, appends_after a.bytes b.bytes c.bytes _ leaves.bytes why.1.2), why.2 ∙ ap one_more leaves.failures)
+    (why.0, (why.1.0, why.1.1, appends_after a.bytes b.bytes c.bytes (take why.1.0 (frame_of know)) leaves.bytes why.1.2), why.2 ∙ ap one_more leaves.failures)
 unwritten_after a b c know wires.Memory leaves why = absurd why
 unwritten_after a b c know wires.Read leaves why = absurd why
 unwritten_after a b c know wires.Magic leaves why = absurd why
@@ -86,6 +87,10 @@ got_after : (a b c : Side) (heard : View) → LeavesSide a b → Got b c heard �
 got_after a b c heard leaves got =
     (got.0, consumes_after a.bytes b.bytes c.bytes (frame_of heard) leaves.bytes got.1, got.2 ∙ leaves.failures)
 
+-- the bytes begin with no frame, for this cause
+abbrev blames : WireFault → List ℕ → Type 0
+blames fault bytes = frame_at bytes ≡ Err fault
+
 -- why no frame was read, where the bytes are the cause
 no_frame_after : (a b : Side) (now : ℕ) (P : List ℕ → Type 0) → LeavesSide a b → (now ≡ b.failures) × IfSome b.bytes P → (now ≡ a.failures) × IfSome a.bytes P
 no_frame_after a b now P leaves why = (why.0 ∙ leaves.failures, told_after a.bytes b.bytes P leaves.bytes why.1)
@@ -94,13 +99,13 @@ unread_after : (a b : Side) (now : ℕ) (fault : WireFault) → LeavesSide a b �
 unread_after a b now wires.Memory leaves why = why ∙ leaves.failures
 unread_after a b now wires.Read leaves why = why ∙ ap one_more leaves.failures
 unread_after a b now wires.Write leaves why = absurd why
-unread_after a b now wires.Magic leaves why = no_frame_after a b now _ leaves why
-unread_after a b now wires.Version leaves why = no_frame_after a b now _ leaves why
-unread_after a b now wires.Length leaves why = no_frame_after a b now _ leaves why
-unread_after a b now wires.Short leaves why = no_frame_after a b now _ leaves why
-unread_after a b now wires.Order leaves why = no_frame_after a b now _ leaves why
-unread_after a b now wires.Content leaves why = no_frame_after a b now _ leaves why
-unread_after a b now wires.Rest leaves why = no_frame_after a b now _ leaves why
+unread_after a b now wires.Magic leaves why = no_frame_after a b now (blames wires.Magic) leaves why
+unread_after a b now wires.Version leaves why = no_frame_after a b now (blames wires.Version) leaves why
+unread_after a b now wires.Length leaves why = no_frame_after a b now (blames wires.Length) leaves why
+unread_after a b now wires.Short leaves why = no_frame_after a b now (blames wires.Short) leaves why
+unread_after a b now wires.Order leaves why = no_frame_after a b now (blames wires.Order) leaves why
+unread_after a b now wires.Content leaves why = no_frame_after a b now (blames wires.Content) leaves why
+unread_after a b now wires.Rest leaves why = no_frame_after a b now (blames wires.Rest) leaves why
 
 -- What a node heard after a write, it heard of the stream as it was before.
 pub hears_after : (a b c : Side) (before after : Held) (r : Result (Unit {0}) ExchangeFault) → LeavesSide a b → Hears b c before after r → Hears a c before after r

@@ -1,5 +1,5 @@
 -- What an exchange does to a stream and a node, and what it leaves where it is refused.
-use Rattle.std.specs.Prelude.{◌≡◌, ⊥, false, true, Result, Ok, Err}
+use Rattle.std.specs.Prelude.{◌≡◌, false, true, Result, Ok, Err}
 use Rattle.std.specs.FinMap.{entries}
 use Rattle.std.specs.Io.KnownBytes.{Appends, Consumes}
 use Rattle.mpi_model.specs.Side.{Side, LeavesSide}

@@ -11,8 +11,8 @@ pub record Stream : Type 0 where
   pub reads : Side
   pub writes : Side
 
-abbrev pub stream : Side → Side → Stream
-stream reads writes = record { reads = reads; writes = writes }
+abbrev pub halves : Side → Side → Stream
+halves reads writes = record { reads = reads; writes = writes }
 
 -- Of a type that is read and written: what a write leaves of the reading half is said of that half itself, and so is what
 -- a read leaves of the writing half.

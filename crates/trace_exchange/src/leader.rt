@@ -3,7 +3,7 @@
 ghost use Rattle.std.specs.Prelude.{◌≡◌};
 ghost use Rattle.trace_know.specs.View.{IsBelow};
 ghost use Rattle.trace_exchange.specs.Exchange.{Leads, LeadLeaves};
-ghost use Rattle.trace_exchange.specs.Stream.{IsStream, side, stream};
+ghost use Rattle.trace_exchange.specs.Stream.{IsStream, halves, side};
 
 use crate::fault::ExchangeFault;
 use crate::hearing::hear;
@@ -24,16 +24,16 @@ pub fn lead<'a, S: Read + Write>(
 ) -> Result<(), ExchangeFault>
     // over a stream whose halves tell of each other
     ensures told { IsStream (λ s. side (S.left s) (S.Read.failures s)) S.read_side (λ s. side (S.written s) (S.Write.failures s)) S.write_side
-        → Leads (stream (side (S.left stream.old) (S.Read.failures stream.old)) (side (S.written stream.old) (S.Write.failures stream.old)))
-            (stream (side (S.left stream.new) (S.Read.failures stream.new)) (side (S.written stream.new) (S.Write.failures stream.new))) node.old node.new result }
+        → Leads (halves (side (S.left stream.old) (S.Read.failures stream.old)) (side (S.written stream.old) (S.Write.failures stream.old)))
+        (halves (side (S.left stream.new) (S.Read.failures stream.new)) (side (S.written stream.new) (S.Write.failures stream.new))) node.old node.new result }
 
     // over any stream
     ensures leaves { LeadLeaves node.old node.new result }
     ensures grows { IsBelow node.old.know node.new.know }
 {
     join_laws();
-    if let Err(fault) = write_frame(node.know(), stream) {
-        return Err(ExchangeFault::Write(fault));
+    match write_frame(node.know(), stream) {
+        Ok(()) => hear(alloc, stream, node),
+        Err(fault) => Err(ExchangeFault::Write(fault)),
     }
-    hear(alloc, stream, node)
 }
