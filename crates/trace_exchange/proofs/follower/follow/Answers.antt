@@ -46,8 +46,8 @@ returns-in-Ok-write_frame-clause-grows g c =
     let hears = c.in-Ok.ensures.value in
     follower_grows c.join_laws.ensures.above_one c.join_laws.ensures.idempotent c.args.node.now c.hear.new.node (heard_all tt) (hears.0, hears.2)
 
-pub returns-clause-told : goal.returns-clause-told
-returns-clause-told g c = λ tells.
+pub returns-in-Err-write_frame-clause-told : goal.returns-in-Err-write_frame-clause-told
+returns-in-Err-write_frame-clause-told g c = λ tells.
     let old = c.args.stream.now in
     let mid = c.hear.new.reader in
     let new = c.write_frame.new.writer in
@@ -62,10 +62,10 @@ returns-clause-told g c = λ tells.
     untold r0 r1 r2 w0 w1 w2 c.args.node.now c.hear.new.node tt c.in-Err-write_frame.fault c.in-Ok.ensures.value (leaves_half _ _ w0 w1 (tells old).1 (tells mid).1 c.in-Ok.ensures.beside)
     why (leaves_half _ _ r1 r2 (tells mid).0 (tells new).0 write.beside)
 
-pub returns-clause-leaves : goal.returns-clause-leaves
-returns-clause-leaves g c = let hears = c.in-Ok.ensures.value in (hears.0, hears.2)
+pub returns-in-Err-write_frame-clause-leaves : goal.returns-in-Err-write_frame-clause-leaves
+returns-in-Err-write_frame-clause-leaves g c = let hears = c.in-Ok.ensures.value in (hears.0, hears.2)
 
-pub returns-clause-grows : goal.returns-clause-grows
-returns-clause-grows g c =
+pub returns-in-Err-write_frame-clause-grows : goal.returns-in-Err-write_frame-clause-grows
+returns-in-Err-write_frame-clause-grows g c =
     let hears = c.in-Ok.ensures.value in
     follower_grows c.join_laws.ensures.above_one c.join_laws.ensures.idempotent c.args.node.now c.hear.new.node (heard_all tt) (hears.0, hears.2)

@@ -22,14 +22,20 @@ returns-in-Ok-clause-told g c = λ tells.
     c.hear.ensures.value (leaves_half _ _ w1 w2 (tells mid).1 (tells new).1 c.hear.ensures.beside)
 
 pub returns-in-Ok-clause-leaves : goal.returns-in-Ok-clause-leaves
-returns-in-Ok-clause-leaves g c = lead_leaves _ _ c.args.node.now c.hear.new.node c.hear.result c.hear.ensures.value
+returns-in-Ok-clause-leaves g c =
+    let mid = c.write_frame.new.writer in
+    let new = c.hear.new.reader in
+    lead_leaves (side (g.S.Read.left mid) (g.S.Read.failures mid)) (side (g.S.Read.left new) (g.S.Read.failures new)) c.args.node.now c.hear.new.node c.hear.result c.hear.ensures.value
 
 pub returns-in-Ok-clause-grows : goal.returns-in-Ok-clause-grows
 returns-in-Ok-clause-grows g c =
-    leader_grows c.join_laws.ensures.above_one c.join_laws.ensures.idempotent c.args.node.now c.hear.new.node c.hear.result (lead_leaves _ _ c.args.node.now c.hear.new.node c.hear.result c.hear.ensures.value)
+    let mid = c.write_frame.new.writer in
+    let new = c.hear.new.reader in
+    leader_grows c.join_laws.ensures.above_one c.join_laws.ensures.idempotent c.args.node.now c.hear.new.node c.hear.result
+    (lead_leaves (side (g.S.Read.left mid) (g.S.Read.failures mid)) (side (g.S.Read.left new) (g.S.Read.failures new)) c.args.node.now c.hear.new.node c.hear.result c.hear.ensures.value)
 
-pub returns-clause-told : goal.returns-clause-told
-returns-clause-told g c = λ tells.
+pub returns-in-Err-clause-told : goal.returns-in-Err-clause-told
+returns-in-Err-clause-told g c = λ tells.
     let old = c.args.stream.now in
     let mid = c.write_frame.new.writer in
     let w0 = side (g.S.Write.written old) (g.S.Write.failures old) in
