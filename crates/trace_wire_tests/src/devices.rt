@@ -82,6 +82,44 @@ fn a_writer_that_fails_at_each_byte(rt: HostRuntime) -> Result<(), Fail> {
     Ok(())
 }
 
+/// Bytes that are refused and end where their frame would end, and why.
+static REFUSED: [(&[u8], &str); 7] = [
+    (b"NPTX\0\x01\0\0\0\x04", "W2 Magic"),
+    (b"MPTX\0\x02\0\0\0\x04", "W3 Version"),
+    (b"MPTX\0\x01\x01\0\0\x01", "W4 Length"),
+    (b"MPTX\0\x01\0\0\0\0", "W7 Content"),
+    (b"MPTX\0\x01\0\0\0\x04\0\0\0\x01", "W7 Content"),
+    (
+        b"MPTX\0\x01\0\0\0\x1E\0\0\0\x02\0\0\0\x01\0\0\0\0\0\0\0\x03\x01\0\0\0\0\0\0\0\0\0\0\0\0\x01",
+        "W6 Order",
+    ),
+    (b"MPTX\0\x01\0\0\0\x05\0\0\0\0\0", "W8 Rest"),
+];
+
+/// What reading answers where `end` stands behind these bytes, and how many bytes are left then.
+fn refused_before_the_end(alloc: Global, bytes: &[u8]) -> Result<(&'static str, usize), Fail> {
+    let mut all = bytes.to_vec(alloc)?;
+    all.extend_from_slice(b"end")?;
+    let mut reader = MemoryReader::new(&all);
+    let fault = fault_of(alloc, &mut reader);
+    let mut rest = [0_u8; 64];
+    let left = reader.read(&mut rest).ok().ok_or("a read")?;
+    Ok((fault, left))
+}
+
+/// A refused head takes its ten bytes, and refused cells take their payload: nothing behind it.
+#[test]
+fn a_refused_frame_takes_no_byte_past_itself(rt: HostRuntime) -> Result<(), Fail> {
+    for (bytes, want) in REFUSED {
+        assert_eq!(rt;
+            refused_before_the_end(rt.alloc(), bytes)?,
+            (want, 3),
+            "{want}"
+        );
+    }
+    Ok(())
+}
+
 #[test]
 fn a_reader_without_an_end(rt: HostRuntime) -> Result<(), Fail> {
     let mut reader = EndlessReader::new(b'M');

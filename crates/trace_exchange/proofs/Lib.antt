@@ -1,0 +1,4 @@
+pub mod Merging
+pub mod Passing
+pub mod Leaving
+pub mod Meeting
