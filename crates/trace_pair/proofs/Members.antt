@@ -64,6 +64,9 @@ module _ {K T : Type 0} {cmp : K → K → Ordering} {order : T → T → Orderi
       let c : contains order w.0.1 d ≡ true = (btree_set_contains_iff total sharp w.0.1 d).1 (contains_has w.0.1.keys d w.2) in
       (w.0.0, ap (λ s. holds order s d) g ∙ c)
 
+  pub same_members : (old new : BTreeMap K (BTreeSet T)) → IsOrdered cmp old → IsOrdered cmp new → ((k : K) (d : T) → has cmp order new k d ≡ has cmp order old k d) → (y : T) → Has (members new) y → Has (members old) y
+  same_members old new o n law y i = let w = member_has new n y i in has_member old o w.0 y (sym (law w.0 y) ∙ w.1)
+
   itself : (k : K) (x : T) → (is_eq (cmp k k) && is_eq (order x x)) ≡ true
   itself k x = ap (λ a. is_eq a && is_eq (order x x)) (tied_itself keys k) ∙ ap (λ a. is_eq a) (tied_itself total x)
 

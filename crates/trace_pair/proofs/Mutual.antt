@@ -46,6 +46,12 @@ module _ {V : Type 0} (old new : BTreeMap OpName V) (key : OpName) (v : Option V
         | false ↦ λ e. inr (law k ∙ ap (λ b. cond b v (get name_cmp old k)) e)
       ] refl
 
+-- the value at a key was written again
+pub kept_all : {V : Type 0} (old new : BTreeMap OpName V) (key : OpName) → ((k : OpName) → get name_cmp new k ≡ cond (is_eq (name_cmp key k)) (get name_cmp old key) (get name_cmp old k)) → (k : OpName) → get name_cmp new k ≡ get name_cmp old k
+kept_all old new key law k =
+    ⊎_elim (λ (e : key ≡ k). ap (λ (n : OpName). get name_cmp new n) (sym e) ∙ at_key old new key (get name_cmp old key) law ∙ ap (λ (n : OpName). get name_cmp old n) e)
+    (λ (e : get name_cmp new k ≡ get name_cmp old k). e) (elsewhere old new key (get name_cmp old key) law k)
+
 -- maps with the same values
 pub mutual_same : (a c : Takers) (b d : Taken) → AreMutual a b → IsOrdered name_cmp c → IsOrdered name_cmp d → ((k : OpName) → get name_cmp c k ≡ get name_cmp a k) → ((k : OpName) → get name_cmp d k ≡ get name_cmp b k) → AreMutual c d
 mutual_same a c b d inv o p f g = record {

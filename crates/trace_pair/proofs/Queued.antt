@@ -1,8 +1,8 @@
 -- Where the messages and receives of an index stand.
-use Rattle.std.proofs.Common.{◌≡◌, ℕ, Bool, true, false, ◌&&◌, ◌||◌, List, inl, inr, ⊎_elim, sym, refl, ◌∙◌, ap, arith, ◌⊎◌, Option, Some, None, eqb}
-use Rattle.std.specs.Prelude.{is_some, IfSome, IfNone}
-use Rattle.std.specs.Ordering.{is_gt}
-use Rattle.std.specs.BTreeMap.{BTreeMap}
+use Rattle.std.proofs.Common.{subst, cond, ◌≡◌, ℕ, Bool, true, false, ◌&&◌, ◌||◌, List, inl, inr, ⊎_elim, sym, refl, ◌∙◌, ap, arith, ◌⊎◌, Option, Some, None, eqb}
+use Rattle.std.specs.Prelude.{is_some, is_none, IfSome, IfNone}
+use Rattle.std.specs.Ordering.{is_eq, is_gt}
+use Rattle.std.specs.BTreeMap.{BTreeMap, IsOrdered}
 use Rattle.std.specs.BTreeSet.{BTreeSet}
 use Rattle.std.proofs.lemmas.Bool.Decides.{nat_tests}
 use Rattle.mpi_model.specs.declared.message.Message.{Message}
@@ -12,10 +12,11 @@ use Rattle.trace_ops.specs.Order.{Has}
 use Rattle.trace_pair.specs.Groups.{has, members}
 use Rattle.trace_pair.specs.Indexed.{IsFirstMessage, IsFirstReceive, name_lt}
 use Rattle.trace_pair.specs.KeyOrders.{message_cmp, receive_cmp, Queue, queue_cmp, queue_of, Lane, lane_cmp, lane_of, Group, group_cmp, group_of}
-use Rattle.trace_pair.specs.Queues.{AreQueued, AreGrouped, alike, of_kind, IsBestAmong}
+use Rattle.trace_pair.specs.Queues.{AreQueued, AreGrouped, alike, of_kind, had, kinds_with, IsBestAmong}
+use Rattle.trace_pair.specs.declared.queues.Kinds.{Kinds}
 use Rattle.trace_pair.proofs.Obeyed.{both, and_true}
 use Rattle.trace_pair.proofs.Names.{name_along, name_not_later}
-use Rattle.trace_pair.proofs.Members.{has_member, stands}
+use Rattle.trace_pair.proofs.Members.{has_member, same_members, stands, adds, drops, placed_more, placed_less}
 use Rattle.trace_pair.proofs.Orders.{messages_total, receives_total, queues_total, groups_total, exact_messages, exact_receives, exact_queues, exact_groups, later_message, later_receive}
 
 nat_says : (a b : ℕ) → eqb a b ≡ true → a ≡ b
@@ -134,7 +135,47 @@ module _ (tagged : BTreeMap Queue (BTreeSet Message)) (lanes : BTreeMap Lane (BT
   lane_if_none q s None e h = λ told. lane_none q s e h
   lane_if_none q s (Some n) e h = tt
 
-module _ (groups : BTreeMap Group (BTreeSet Receive)) (inv : AreGrouped groups) where
+-- the kinds that are marked, as one comes
+or_more : (a b : Bool) → a ≡ true → (a || b) ≡ true
+or_more true b h = refl
+or_more false b h = absurd (cc)
+
+or_new : (a : Bool) → (a || true) ≡ true
+or_new true = refl
+or_new false = refl
+
+pub had_with : (k : Kinds) (s t : Option ℕ) → had (kinds_with k s t) s t ≡ true
+had_with k None None = or_new k.untold_any_tag
+had_with k None (Some b) = or_new k.untold
+had_with k (Some a) None = or_new k.told_any_tag
+had_with k (Some a) (Some b) = or_new k.told
+
+pub had_still : (k : Kinds) (s t : Option ℕ) (a b : Option ℕ) → had k a b ≡ true → had (kinds_with k s t) a b ≡ true
+had_still k s t None None h = or_more k.untold_any_tag (is_none s && is_none t) h
+had_still k s t None (Some b) h = or_more k.untold (is_none s && is_some t) h
+had_still k s t (Some a) None h = or_more k.told_any_tag (is_some s && is_none t) h
+had_still k s t (Some a) (Some b) h = or_more k.told (is_some s && is_some t) h
+
+-- receives of one kind are marked alike
+had_alike : (k : Kinds) (s t a b : Option ℕ) → (alike s a && alike t b) ≡ true → had k a b ≡ had k s t
+had_alike k None None None None h = refl
+had_alike k None None None (Some b) h = absurd (cc)
+had_alike k None None (Some a) b h = absurd (cc)
+had_alike k None (Some t) None None h = absurd (cc)
+had_alike k None (Some t) None (Some b) h = refl
+had_alike k None (Some t) (Some a) b h = absurd (cc)
+had_alike k (Some s) None None b h = absurd (cc)
+had_alike k (Some s) None (Some a) None h = refl
+had_alike k (Some s) None (Some a) (Some b) h = absurd (cc)
+had_alike k (Some s) (Some t) None b h = absurd (cc)
+had_alike k (Some s) (Some t) (Some a) None h = absurd (cc)
+had_alike k (Some s) (Some t) (Some a) (Some b) h = refl
+
+module _ (kinds : Kinds) (groups : BTreeMap Group (BTreeSet Receive)) (inv : AreGrouped kinds groups) where
+  -- a kind that no receive had
+  pub kind_none : (m : Message) (source tag : Option ℕ) → had kinds source tag ≡ false → IsBestAmong (members groups) m (of_kind source tag) None
+  kind_none m source tag none r i g f = not_least (had kinds r.source r.tag) (inv.marked r i) (had_alike kinds source tag r.source r.tag g ∙ none)
+
   at_group : (r : Receive) → Has (members groups) r → has group_cmp receive_cmp groups (group_of r) r ≡ true
   at_group r i = stands groups_total exact_groups receives_total exact_receives group_of groups inv.ordered inv.placed r i
 
@@ -173,6 +214,32 @@ module _ (groups : BTreeMap Group (BTreeSet Receive)) (inv : AreGrouped groups) 
       IfNone o ((d : Receive) → has group_cmp receive_cmp groups (group m.comm m.to source tag) d ≡ false) → IsBestAmong (members groups) m (of_kind source tag) o
   group_if m source tag None a b h g = group_none m source tag a b g
   group_if m source tag (Some q) a b h g = group_first m source tag q a b h.0 h.1
+
+-- the groups, as a receive comes or goes
+module _ (kinds : Kinds) (old new : BTreeMap Group (BTreeSet Receive)) (inv : AreGrouped kinds old) (o : IsOrdered group_cmp new) where
+  pub grouped_same : (s t : Option ℕ) → ((k : Group) (d : Receive) → has group_cmp receive_cmp new k d ≡ has group_cmp receive_cmp old k d) → AreGrouped (kinds_with kinds s t) new
+  grouped_same s t law = record {
+    ordered = o;
+    placed = λ k d h. inv.placed k d (sym (law k d) ∙ h);
+    marked = λ r i. had_still kinds s t r.source r.tag (inv.marked r (same_members groups_total exact_groups receives_total exact_receives old new inv.ordered o law r i));
+  }
+
+  pub grouped_more : (q : Receive) → ((k : Group) (d : Receive) → has group_cmp receive_cmp new k d ≡ ((is_eq (group_cmp (group_of q) k) && is_eq (receive_cmp q d)) || has group_cmp receive_cmp old k d)) → AreGrouped (kinds_with kinds q.source q.tag) new
+  grouped_more q law = record {
+    ordered = o;
+    placed = placed_more groups_total exact_groups receives_total exact_receives group_of old new inv.placed q law;
+    marked = λ r i. ⊎_elim
+        (λ (j : Has (members old) r). had_still kinds q.source q.tag r.source r.tag (inv.marked r j))
+        (λ (e : r ≡ q). subst (λ (x : Receive). had (kinds_with kinds q.source q.tag) x.source x.tag ≡ true) (sym e) (had_with kinds q.source q.tag))
+        ((adds groups_total exact_groups receives_total exact_receives old new inv.ordered o (group_of q) q law).cases r i);
+  }
+
+  pub grouped_less : (q : Receive) → ((k : Group) (d : Receive) → has group_cmp receive_cmp new k d ≡ cond (is_eq (group_cmp (group_of q) k) && is_eq (receive_cmp q d)) false (has group_cmp receive_cmp old k d)) → AreGrouped kinds new
+  grouped_less q law = record {
+    ordered = o;
+    placed = placed_less groups_total exact_groups receives_total exact_receives group_of old new inv.placed (group_of q) q law;
+    marked = λ r i. inv.marked r ((drops groups_total exact_groups receives_total exact_receives group_of old new inv.ordered o inv.placed q law).was r i);
+  }
 
 -- the earlier of two
 or_left : (a b : Bool) → (a || b) ≡ true → (a ≡ true) ⊎ (b ≡ true)

@@ -1,23 +1,38 @@
 -- What the sets of an index keep of the maps that they stand in.
-use Rattle.std.specs.Prelude.{◌≡◌, ℕ, Bool, true, cond, ◌&&◌, Option, Some, None, is_some, is_none, List}
+use Rattle.std.specs.Prelude.{◌≡◌, ℕ, Bool, true, cond, ◌&&◌, ◌||◌, Option, Some, None, is_some, is_none, List}
 use Rattle.std.specs.BTreeMap.{BTreeMap, IsOrdered}
 use Rattle.std.specs.BTreeSet.{BTreeSet}
 use Rattle.mpi_model.specs.declared.message.Message.{Message}
 use Rattle.mpi_model.specs.declared.message.Receive.{Receive}
 use Rattle.trace_ops.specs.Order.{Has}
-use Rattle.trace_pair.specs.Groups.{ArePlaced, StandTwice}
+use Rattle.trace_pair.specs.Groups.{ArePlaced, StandTwice, members}
 use Rattle.trace_pair.specs.Indexed.{name_lt}
 use Rattle.trace_pair.specs.KeyOrders.{message_cmp, receive_cmp, Queue, queue_cmp, queue_of, Lane, lane_cmp, lane_of, Group, group_cmp, group_of}
 use Rattle.mpi_model.specs.Fit.{fits}
+use Rattle.trace_pair.specs.declared.queues.Kinds.{Kinds}
 
 -- messages by queue, and the same ones by lane
 abbrev pub AreQueued : BTreeMap Queue (BTreeSet Message) → BTreeMap Lane (BTreeSet Message) → Type 0
 AreQueued tagged lanes = StandTwice queue_cmp lane_cmp message_cmp queue_of lane_of tagged lanes
 
--- receives by group
-pub record AreGrouped (groups : BTreeMap Group (BTreeSet Receive)) : Type 0 where
+-- whether receives with such a source and tag are of these kinds
+abbrev pub had : Kinds → Option ℕ → Option ℕ → Bool
+had kinds source tag = cond (is_some source) (cond (is_some tag) kinds.told kinds.told_any_tag) (cond (is_some tag) kinds.untold kinds.untold_any_tag)
+
+-- and the kind of this source and tag
+abbrev pub kinds_with : Kinds → Option ℕ → Option ℕ → Kinds
+kinds_with kinds source tag = record {
+  told = kinds.told || (is_some source && is_some tag);
+  told_any_tag = kinds.told_any_tag || (is_some source && is_none tag);
+  untold = kinds.untold || (is_none source && is_some tag);
+  untold_any_tag = kinds.untold_any_tag || (is_none source && is_none tag);
+}
+
+-- receives by group, each of a kind that is marked
+pub record AreGrouped (kinds : Kinds) (groups : BTreeMap Group (BTreeSet Receive)) : Type 0 where
   pub ordered : IsOrdered group_cmp groups
   pub placed : ArePlaced group_cmp receive_cmp group_of groups
+  pub marked : (r : Receive) → Has (members groups) r → had kinds r.source r.tag ≡ true
 
 -- both are told, or neither is
 abbrev pub alike : Option ℕ → Option ℕ → Bool

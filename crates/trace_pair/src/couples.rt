@@ -1,18 +1,18 @@
 //! The couples of an index, found by the name of either call.
 
-ghost use Rattle.std.specs.Prelude.{◌≡◌, [], List, Some, None, OnOk, OnErr, IfSome, IfNone, if◌then◌else◌, ◌↔◌, false};
+ghost use Rattle.std.specs.Prelude.{◌≡◌, [], List, Some, None, IfOk, OnOk, OnErr, IfSome, IfNone, IsTrue, if◌then◌else◌, false};
 ghost use Rattle.std.specs.BTreeMap.{get, IsOrdered};
 ghost use Rattle.std.specs.Ordering.{is_eq};
 ghost use Rattle.trace_ops.specs.Order.{Has};
 ghost use Rattle.trace_pair.specs.Indexed.{couple_of};
 ghost use Rattle.trace_pair.specs.Coupled.{taker_of, receive_by, IsNew, IsOneMessage, IsOneReceive};
-ghost use Rattle.trace_pair.specs.KeyOrders.{name_cmp};
 ghost use Rattle.trace_pair.specs.Sets.{AddsTo, DropsFrom};
 
 use crate::pair::{Couple, Taker};
 use mpi_model::{Message, OpName, Receive};
 use std::alloc::{AllocError, Global};
 use std::collections::BTreeMap;
+use std::collections::btree_map::Entry;
 use std::marker::Model;
 
 /// A set of couples in which no call is twice. Of the receive it keeps only what its message
@@ -41,17 +41,29 @@ fn value_at<K: Ord, V: Copy>(map: &BTreeMap<K, V>, key: &K) -> Option<V>
     map.get(key).copied()
 }
 
-fn put_at<K: Ord + Drop, V: Drop>(
+/// Puts the value at a key that has none, and tells whether it did.
+fn put_new<K: Ord + Drop, V: Drop>(
     map: &mut BTreeMap<K, V>,
     key: K,
     value: V,
-) -> Result<(), AllocError>
-    ensures ok { OnOk result ((k : K) → get K.cmp map.new k ≡ (if is_eq (K.cmp key k) then Some value else get K.cmp map.old k)) }
+) -> Result<bool, AllocError>
+    ensures free { IfOk result (λ put. IsTrue put → get K.cmp map.old key ≡ None) }
+    ensures put { IfOk result (λ put. IsTrue put → (k : K) → get K.cmp map.new k ≡ (if is_eq (K.cmp key k) then Some value else get K.cmp map.old k)) }
+    ensures there { IfOk result (λ put. put ≡ false → get K.cmp map.old key ≡ None → ⊥) }
+    ensures kept { IfOk result (λ put. put ≡ false → (k : K) → get K.cmp map.new k ≡ (if is_eq (K.cmp key k) then get K.cmp map.old key else get K.cmp map.old k)) }
     ensures err { OnErr result ((k : K) → get K.cmp map.new k ≡ get K.cmp map.old k) }
     ensures ordered { IsOrdered K.cmp map.new }
 {
-    map.insert(key, value)?;
-    Ok(())
+    match map.entry(key)? {
+        Entry::Vacant(place) => {
+            place.insert(value);
+            Ok(true)
+        }
+        Entry::Occupied(place) => {
+            place.into_mut();
+            Ok(false)
+        }
+    }
 }
 
 fn take_at<K: Ord + Drop, V: Drop>(map: &mut BTreeMap<K, V>, key: &K) -> Option<V>
@@ -60,18 +72,6 @@ fn take_at<K: Ord + Drop, V: Drop>(map: &mut BTreeMap<K, V>, key: &K) -> Option<
     ensures ordered { IsOrdered K.cmp map.new }
 {
     map.remove(key)
-}
-
-/// Whether either call is in a couple.
-fn is_in_one(
-    takers: &BTreeMap<OpName, Taker>,
-    taken: &BTreeMap<OpName, Message>,
-    message: &OpName,
-    receive: &OpName,
-) -> bool
-    ensures { (result ≡ false) ↔ ((get name_cmp takers.now message.now ≡ None) × (get name_cmp taken.now receive.now ≡ None)) }
-{
-    value_at(takers, message).is_some() || value_at(taken, receive).is_some()
 }
 
 /// What the receive tells beside its message.
@@ -131,12 +131,15 @@ impl Couples {
             rank: m.to,
             call: taker.call,
         };
-        if is_in_one(&self.takers, &self.taken, &m.name, &receive) {
+        if !put_new(&mut self.takers, m.name, taker)? {
             return Ok(());
         }
-        put_at(&mut self.takers, m.name, taker)?;
-        match put_at(&mut self.taken, receive, m) {
-            Ok(()) => Ok(()),
+        match put_new(&mut self.taken, receive, m) {
+            Ok(true) => Ok(()),
+            Ok(false) => {
+                take_at(&mut self.takers, &m.name);
+                Ok(())
+            }
             Err(error) => {
                 take_at(&mut self.takers, &m.name);
                 Err(error)

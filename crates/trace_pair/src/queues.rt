@@ -4,7 +4,7 @@ ghost use Rattle.mpi_model.specs.Fit.{fits, admits};
 ghost use Rattle.trace_ops.specs.Order.{Has};
 ghost use Rattle.trace_pair.specs.Sets.{AddsTo, DropsFrom};
 ghost use Rattle.trace_pair.specs.Indexed.{IsFirstMessage, IsFirstReceive, name_lt};
-ghost use Rattle.trace_pair.specs.Queues.{IsBestAmong, of_kind};
+ghost use Rattle.trace_pair.specs.Queues.{IsBestAmong, of_kind, had, kinds_with};
 
 use crate::groups::{add, drop_at, first_at};
 use mpi_model::{Message, OpName, Receive};
@@ -92,10 +92,58 @@ impl Messages {
     }
 }
 
+/// The kinds of receives that a set had since it was last empty: by whether the source and the tag
+/// are told. A kind that it never had needs no probe.
+#[derive(Clone, Copy, Debug, PartialEq, Eq)]
+pub(crate) struct Kinds {
+    pub(crate) told: bool,
+    pub(crate) told_any_tag: bool,
+    pub(crate) untold: bool,
+    pub(crate) untold_any_tag: bool,
+}
+
+const NO_KINDS: Kinds = Kinds {
+    told: false,
+    told_any_tag: false,
+    untold: false,
+    untold_any_tag: false,
+};
+
+impl Kinds {
+    /// Whether receives with such a source and tag were among them.
+    fn has(self, source: Option<u32>, tag: Option<u32>) -> bool
+        ensures { result ≡ had self source tag }
+    {
+        match source {
+            Some(_) => match tag {
+                Some(_) => self.told,
+                None => self.told_any_tag,
+            },
+            None => match tag {
+                Some(_) => self.untold,
+                None => self.untold_any_tag,
+            },
+        }
+    }
+
+    /// And the kind of this source and tag.
+    fn marked(self, source: Option<u32>, tag: Option<u32>) -> Kinds
+        ensures { result ≡ kinds_with self source tag }
+    {
+        Kinds {
+            told: self.told || (source.is_some() && tag.is_some()),
+            told_any_tag: self.told_any_tag || (source.is_some() && tag.is_none()),
+            untold: self.untold || (source.is_none() && tag.is_some()),
+            untold_any_tag: self.untold_any_tag || (source.is_none() && tag.is_none()),
+        }
+    }
+}
+
 /// A set of receives, by communicator, receiver, source and tag.
 #[derive(Drop)]
 pub(crate) struct Receives {
     alloc: Global,
+    kinds: Kinds,
     groups: BTreeMap<(u32, u32, Option<u32>, Option<u32>), BTreeSet<Receive>>,
 }
 
@@ -109,7 +157,7 @@ impl Model for Receives {
 
     ghost view = { λ s. members s.groups };
 
-    ghost invariant = { λ s. AreGrouped s.groups };
+    ghost invariant = { λ s. AreGrouped s.kinds s.groups };
 }
 
 impl Receives {
@@ -118,6 +166,7 @@ impl Receives {
     {
         Receives {
             alloc,
+            kinds: NO_KINDS,
             groups: BTreeMap::new(alloc),
         }
     }
@@ -125,12 +174,14 @@ impl Receives {
     pub(crate) fn clear(&mut self)
         ensures { self.new ≡ [] }
     {
+        self.kinds = NO_KINDS;
         self.groups.clear();
     }
 
     pub(crate) fn insert(&mut self, q: Receive) -> Result<(), AllocError>
         ensures { OnOk result (AddsTo self.old self.new q) }
     {
+        self.kinds = self.kinds.marked(q.source, q.tag);
         add(
             self.alloc,
             &mut self.groups,
@@ -152,6 +203,9 @@ impl Receives {
         requires tag { admits tag m.now.tag ≡ true }
         ensures { IsBestAmong self.now m.now (of_kind source tag) result }
     {
+        if !self.kinds.has(source, tag) {
+            return None;
+        }
         first_at(&self.groups, &(m.comm, m.to, source, tag))
     }
 

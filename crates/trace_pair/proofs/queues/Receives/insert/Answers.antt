@@ -1,23 +1,22 @@
-use Rattle.std.proofs.Common.{◌∙◌, sym, subst, List}
+use Rattle.std.proofs.Common.{sym, subst, List}
 use Rattle.mpi_model.specs.declared.message.Receive.{Receive}
 use Rattle.trace_pair.specs.Groups.{members}
 use Rattle.trace_pair.specs.KeyOrders.{group_of}
+use Rattle.trace_pair.specs.Queues.{AreGrouped}
 use Rattle.trace_pair.specs.Sets.{AddsTo}
+use Rattle.trace_pair.specs.declared.queues.Kinds.{Kinds}
 use Rattle.trace_pair.proofs.Orders.{groups_total, exact_groups, receives_total, exact_receives}
-use Rattle.trace_pair.proofs.Members.{adds, placed_more}
+use Rattle.trace_pair.proofs.Members.{adds}
+use Rattle.trace_pair.proofs.Queued.{grouped_same, grouped_more}
 use Rattle.trace_pair.proofs.queues.Receives.insert.Goals as goal
 
 pub invariant_of-self : goal.invariant_of-self
-invariant_of-self c = record {
-  ordered = c.add.ensures.ordered;
-  placed = λ k d h. c.self.invariant.placed k d (sym (c.in_err-add.ensures.err k d) ∙ h);
-}
+invariant_of-self c = subst (λ (k : Kinds). AreGrouped k c.add.new.sets) (sym c.marked-self-inside.ensures)
+    (grouped_same c.self.inside.kinds c.self.inside.groups c.add.new.sets c.self.invariant c.add.ensures.ordered c.args.q.source c.args.q.tag c.in_err-add.ensures.err)
 
 pub invariant_of-self-2 : goal.invariant_of-self-2
-invariant_of-self-2 c = record {
-  ordered = c.add.ensures.ordered;
-  placed = placed_more groups_total exact_groups receives_total exact_receives group_of c.self.inside.groups c.add.new.sets c.self.invariant.placed c.args.q c.in_ok-add.ensures.ok;
-}
+invariant_of-self-2 c = subst (λ (k : Kinds). AreGrouped k c.add.new.sets) (sym c.marked-self-inside.ensures)
+    (grouped_more c.self.inside.kinds c.self.inside.groups c.add.new.sets c.self.invariant c.add.ensures.ordered c.args.q c.in_ok-add.ensures.ok)
 
 pub returns : goal.returns
 returns c = subst (λ (l : List Receive). AddsTo l (members c.add.new.sets) c.args.q) c.self.view_is

@@ -4,14 +4,12 @@ use Rattle.trace_pair.specs.Groups.{members}
 use Rattle.trace_pair.specs.KeyOrders.{group_of}
 use Rattle.trace_pair.specs.Sets.{DropsFrom}
 use Rattle.trace_pair.proofs.Orders.{groups_total, exact_groups, receives_total, exact_receives}
-use Rattle.trace_pair.proofs.Members.{drops, placed_less}
+use Rattle.trace_pair.proofs.Members.{drops}
+use Rattle.trace_pair.proofs.Queued.{grouped_less}
 use Rattle.trace_pair.proofs.queues.Receives.remove.Goals as goal
 
 pub invariant_of-self : goal.invariant_of-self
-invariant_of-self c = record {
-  ordered = c.drop_at.ensures.ordered;
-  placed = placed_less groups_total exact_groups receives_total exact_receives group_of c.self.inside.groups c.drop_at.new.sets c.self.invariant.placed (group_of c.args.q.now) c.args.q.now c.drop_at.ensures.dropped;
-}
+invariant_of-self c = grouped_less c.self.inside.kinds c.self.inside.groups c.drop_at.new.sets c.self.invariant c.drop_at.ensures.ordered c.args.q.now c.drop_at.ensures.dropped
 
 pub returns : goal.returns
 returns c = subst (λ (l : List Receive). DropsFrom l (members c.drop_at.new.sets) c.args.q.now) c.self.view_is
