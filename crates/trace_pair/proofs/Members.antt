@@ -48,6 +48,11 @@ no_and : (b : Bool) → (b && false) ≡ false
 no_and true = refl
 no_and false = refl
 
+-- a member was taken from a key, and then the key, at which none was left
+pub emptied : (a b old mid new : Bool) → new ≡ cond a false mid → mid ≡ cond (a && b) false old → (a ≡ true → mid ≡ false) → new ≡ cond (a && b) false old
+emptied true b old mid new n m e = n ∙ sym (e refl) ∙ m
+emptied false b old mid new n m e = n ∙ m
+
 module _ {K T : Type 0} {cmp : K → K → Ordering} {order : T → T → Ordering} (keys : IsTotalOrder cmp) (exact : CmpEqualImpliesEq cmp) (total : IsTotalOrder order) (sharp : CmpEqualImpliesEq order) where
   pub has_member : (m : BTreeMap K (BTreeSet T)) → IsOrdered cmp m → (k : K) (d : T) → has cmp order m k d ≡ true → Has (members m) d
   has_member m o k d h =

@@ -61,12 +61,52 @@ fn take<T: Ord + Drop>(members: &mut BTreeSet<T>, x: &T)
     members.remove(x);
 }
 
-/// Takes a member from a key.
-pub(crate) fn drop_at<K: Ord, T: Ord + Drop>(sets: &mut BTreeMap<K, BTreeSet<T>>, key: &K, x: &T)
+/// Whether a set has no member.
+fn is_empty<T: Ord + Copy>(members: &BTreeSet<T>) -> bool
+    ensures { IsTrue result → (d : T) → contains T.cmp members.now d ≡ false }
+{
+    first_of(members).is_none()
+}
+
+/// Takes a member from a key, and tells whether it left none there.
+fn take_from<K: Ord, T: Ord + Copy + Drop>(
+    sets: &mut BTreeMap<K, BTreeSet<T>>,
+    key: &K,
+    x: &T,
+) -> bool
+    ensures dropped { (k : K) (d : T) → has K.cmp T.cmp sets.new k d ≡ (if is_eq (K.cmp key.now k) && is_eq (T.cmp x.now d) then false else has K.cmp T.cmp sets.old k d) }
+    ensures none { IsTrue result → (k : K) → is_eq (K.cmp key.now k) ≡ true → (d : T) → has K.cmp T.cmp sets.new k d ≡ false }
+    ensures ordered { IsOrdered K.cmp sets.new }
+{
+    match sets.get_mut(key) {
+        Some(members) => {
+            take(members, x);
+            is_empty(members)
+        }
+        None => false,
+    }
+}
+
+/// Takes out a key, and what stands there.
+fn forget<K: Ord + Drop, T: Ord + Drop>(sets: &mut BTreeMap<K, BTreeSet<T>>, key: &K)
+    ensures gone { (k : K) (d : T) → has K.cmp T.cmp sets.new k d ≡ (if is_eq (K.cmp key.now k) then false else has K.cmp T.cmp sets.old k d) }
+    ensures ordered { IsOrdered K.cmp sets.new }
+{
+    sets.remove(key);
+}
+
+/// Takes a member from a key. A key whose last member goes, goes with it: a set of one takes a whole
+/// tree node, and keeps it when it is empty.
+pub(crate) fn drop_at<K: Ord + Drop, T: Ord + Copy + Drop>(
+    sets: &mut BTreeMap<K, BTreeSet<T>>,
+    key: &K,
+    x: &T,
+)
     ensures dropped { (k : K) (d : T) → has K.cmp T.cmp sets.new k d ≡ (if is_eq (K.cmp key.now k) && is_eq (T.cmp x.now d) then false else has K.cmp T.cmp sets.old k d) }
     ensures ordered { IsOrdered K.cmp sets.new }
 {
-    if let Some(members) = sets.get_mut(key) {
-        take(members, x);
+    if !take_from(sets, key, x) {
+        return;
     }
+    forget(sets, key);
 }
