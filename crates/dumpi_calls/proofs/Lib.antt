@@ -1,3 +1,4 @@
+pub mod Names
 pub mod Missing
 pub mod Tolds
 pub mod NextCall
