@@ -1,9 +1,9 @@
 //! Numbers as dumpi2ascii writes them, each read in one pass and in place. What these functions don't answer for is read
 //! as any value is.
 
-ghost use Rattle.std.specs.Prelude.{◌≡◌, ◌<◌, ◌≤◌, [], IfSome, Some, false, length, take, true};
+ghost use Rattle.std.specs.Prelude.{◌≡◌, ◌∷◌, ◌<◌, ◌≤◌, [], IfSome, Some, false, length, take, true};
 ghost use Rattle.std.specs.List.{list_all, list_any};
-ghost use Rattle.dumpi_text.specs.Bytes.{closing_parenthesis};
+ghost use Rattle.dumpi_text.specs.Bytes.{closing_parenthesis, opening_bracket};
 ghost use Rattle.dumpi_text.specs.Call.{same_bytes};
 ghost use Rattle.dumpi_text.specs.Number.{is_opening, name_of, note_front};
 ghost use Rattle.dumpi_text.specs.Time.{is_digit, number_of};
@@ -98,8 +98,8 @@ fn name_after(text: &[u8]) -> Option<NumName>
     }
 }
 
-/// The number of a text that is its digits, with a note after a space or none.
-pub fn quick_number(text: &[u8]) -> Option<Num>
+// The number of a text that is its digits, with a note after a space or none.
+fn plain_number(text: &[u8]) -> Option<Num>
     ensures { IfSome result (λ number. value_of text.now ≡ Some (Number number)) }
 {
     let (value, count) = digits_front(text);
@@ -111,4 +111,28 @@ pub fn quick_number(text: &[u8]) -> Option<Num>
         value: value as i64,
         name,
     })
+}
+
+// The number of a text that is digits in brackets, by what follows its `[`.
+fn bracketed_number(text: &[u8]) -> Option<Num>
+    ensures { IfSome result (λ number. value_of (opening_bracket ∷ text.now) ≡ Some (Number number)) }
+{
+    let (value, count) = digits_front(text);
+    if count == 0 || count + 1 != text.len() || text[count] != b']' {
+        return None;
+    }
+    Some(Num {
+        value: value as i64,
+        name: NumName::Other,
+    })
+}
+
+/// The number of a text that is its digits, with a note after a space or none, or digits in brackets.
+pub fn quick_number(text: &[u8]) -> Option<Num>
+    ensures { IfSome result (λ number. value_of text.now ≡ Some (Number number)) }
+{
+    match text {
+        [b'[', rest @ ..] => bracketed_number(rest),
+        _ => plain_number(text),
+    }
 }

@@ -2,7 +2,7 @@ use Rattle.std.proofs.Common.{◌≡◌, ◌-◌, ℕ, length, length-drop, take
 use Rattle.std.proofs.lemmas.Grind.{common_steps}
 use Rattle.std.proofs.lemmas.List.{take_all}
 use Rattle.dumpi_calls.proofs.QuickNumber.{quick_value}
-use Rattle.dumpi_calls.proofs.quick.quick_number.Goals as goal
+use Rattle.dumpi_calls.proofs.quick.plain_number.Goals as goal
 
 pub returns : goal.returns
 returns c =
