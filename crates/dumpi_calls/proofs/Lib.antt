@@ -1,3 +1,5 @@
+pub mod Names
+pub mod QuickNumber
 pub mod Missing
 pub mod Tolds
 pub mod NextCall

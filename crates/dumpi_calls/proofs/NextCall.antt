@@ -1,9 +1,10 @@
 -- A text that is read call by call, by dumpi_text's laws, which come as premises.
-use Rattle.std.proofs.Common.{◌≡◌, ◌⊎◌, ℕ, List, Option, Some, None, inl, inr, refl, sym, subst, ap, ◌∙◌}
+use Rattle.std.proofs.Common.{◌≡◌, ◌⊎◌, ℕ, Bool, true, false, List, Option, Some, None, inl, inr, refl, sym, subst, ap, ◌∙◌}
 use Rattle.std.specs.Io.KnownBytes.{IsAtEnd}
 use Rattle.dumpi_text.specs.Call.{TextCall}
 use Rattle.dumpi_text.specs.Grammar.{Complete}
 use Rattle.dumpi_text.specs.Next.{IsNext}
+use Rattle.dumpi_text.specs.Shown.{put_in}
 use Rattle.dumpi_text.specs.Reading.{EndsAfterTheLast, MeansAll, ReadsOneMore, ReadsToTheEnd, StopsAtTheFault}
 use Rattle.dumpi_text.specs.Source.{rest_of}
 use Rattle.dumpi_text.specs.Standing.{Stops, View}
@@ -54,6 +55,11 @@ goes_on one_more to_the_end after_the_last text calls found old new next told go
   | inl e ↦ reads_on one_more to_the_end text calls found old new is_read (next e) goes (over e) (told e)
   | inr e ↦ was_last after_the_last text calls found old new is_read e.1 (finished e.0) (same e.0)
 ]
+
+-- no call is put in a place where there was none
+pub nothing_put : (found : Bool) (call : TextCall) → found ≡ false → put_in found call ≡ None
+nothing_put true call e = cc
+nothing_put false call e = refl
 
 -- a refusal at a line, by its cause
 stops_at : StopsAtTheFault → (text : Option (List ℕ)) (calls : List TextCall) (cause : TextCause) (line : ℕ) (old new : View) → IsRead text calls old

@@ -30,11 +30,29 @@ pub enum Function {
     Other,
 }
 
+/// Whether two byte strings are the same. Inlined, so that a literal's bytes are compared one by one.
+#[inline(always)]
+#[tactic(auto, using(crate::proofs::Names::not_as_long))]
+fn same(name: &[u8], word: &[u8]) -> bool
+    ensures { result ≡ bytes_eq name.now word.now }
+{
+    if name.len() != word.len() {
+        return false;
+    }
+    for (at, byte) in word.iter().enumerate() {
+        if name[at] != *byte {
+            return false;
+        }
+    }
+    true
+}
+
 /// Whether a name is this word, byte for byte.
+#[inline(always)]
 pub fn is(name: &[u8], word: &str) -> bool
     ensures { result ≡ bytes_eq name.now word.now }
 {
-    name == word.as_bytes()
+    same(name, word.as_bytes())
 }
 
 // a blocking send

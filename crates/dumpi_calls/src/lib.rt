@@ -7,7 +7,8 @@
 //! A text is read in one pass. What a walk keeps is one call at a time, so memory grows only with what the sink keeps; a
 //! parameter that is one number takes none. A call that is refused is not handed on, and ends the walk.
 //!
-//! - [`parameter`]: the parameters and why a call is refused for one; [`reading`]: what each says
+//! - [`parameter`]: the parameters and why a call is refused for one; [`reading`]: what each says; [`quick`]: numbers as
+//!   dumpi2ascii writes them, in one pass
 //! - [`function`]: the functions, by their names; [`envelope`], [`outcome`]: what calls name and bring back;
 //!   [`typing`]: a call by the row of its function
 //! - [`sink`]: the callbacks; [`fault`], [`walking`]: the walk
@@ -25,6 +26,7 @@ mod function;
 mod laws;
 mod outcome;
 mod parameter;
+mod quick;
 mod reading;
 mod sink;
 mod tally;

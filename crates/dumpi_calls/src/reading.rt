@@ -4,11 +4,13 @@
 //! stand for what has no rank. That choice is this project's own, and no constant of `dumpi2ascii`.
 
 ghost use Rattle.std.specs.Prelude.{◌≡◌, ◌∷◌, ◌<◌, ◌^◌, [], IfOk, IfSome, OnOk};
+ghost use Rattle.dumpi_text.specs.Value.{value_of};
 ghost use Rattle.mpi_model.specs.Ranges.{IsAskedTag, IsComm, IsSource, IsTarget};
 ghost use Rattle.std.specs.Option.{option_copied};
-ghost use Rattle.dumpi_calls.specs.Readings.{AreThere, Reads, all_numbers, asked_tag_by, asked_tag_in, comm_by, comm_in, dest_by, dest_in, number_in, numbers_in, one_number, requests_in, non_negative, non_negative_in, source_by, source_in, text_of, value_in, values_of};
+ghost use Rattle.dumpi_calls.specs.Readings.{AreThere, Reads, all_numbers, asked_tag_by, asked_tag_in, comm_by, comm_in, dest_by, dest_in, number_in, numbers_in, one_number, or_wrong, requests_in, non_negative, non_negative_in, source_by, source_in, text_of, value_in, values_of};
 
 use crate::parameter::{CallFault, Parameter};
+use crate::quick::quick_number;
 use dumpi_text::{Num, NumName, Nums, RawCall, Value, ValueFault, parse_value};
 use mpi_model::{CommRef, Peer, Requests};
 use std::alloc::{AllocError, Global};
@@ -21,6 +23,17 @@ pub fn text_in(raw: &RawCall, parameter: Parameter) -> Option<&[u8]>
     raw.param(parameter.name().as_bytes())
 }
 
+// the value of a parameter, by its text
+fn value_by(alloc: Global, parameter: Parameter, text: &[u8]) -> Result<Value, CallFault>
+    ensures { Reads result (or_wrong parameter (value_of text.now)) }
+{
+    match parse_value(alloc, text) {
+        Ok(value) => Ok(value),
+        Err(ValueFault::BadValue) => Err(CallFault::Wrong(parameter)),
+        Err(ValueFault::Memory) => Err(CallFault::Memory),
+    }
+}
+
 // the value of a parameter
 fn value(alloc: Global, raw: &RawCall, parameter: Parameter) -> Result<Value, CallFault>
     ensures means { Reads result (value_in parameter raw.now) }
@@ -28,11 +41,7 @@ fn value(alloc: Global, raw: &RawCall, parameter: Parameter) -> Result<Value, Ca
 {
     match text_in(raw, parameter) {
         None => Err(CallFault::Missing(parameter)),
-        Some(text) => match parse_value(alloc, text) {
-            Ok(value) => Ok(value),
-            Err(ValueFault::BadValue) => Err(CallFault::Wrong(parameter)),
-            Err(ValueFault::Memory) => Err(CallFault::Memory),
-        },
+        Some(text) => value_by(alloc, parameter, text),
     }
 }
 
@@ -56,9 +65,15 @@ pub fn number(alloc: Global, raw: &RawCall, parameter: Parameter) -> Result<Num,
     ensures means { Reads result (number_in parameter raw.now) }
     ensures there { OnOk result (AreThere (parameter ∷ []) raw.now) }
 {
-    match one(value(alloc, raw, parameter)?) {
-        Some(number) => Ok(number),
-        None => Err(CallFault::Wrong(parameter)),
+    match text_in(raw, parameter) {
+        None => Err(CallFault::Missing(parameter)),
+        Some(text) => match quick_number(text) {
+            Some(number) => Ok(number),
+            None => match one(value_by(alloc, parameter, text)?) {
+                Some(number) => Ok(number),
+                None => Err(CallFault::Wrong(parameter)),
+            },
+        },
     }
 }
 

@@ -1,7 +1,8 @@
 //! A walk over the calls of a text.
 
-ghost use Rattle.std.specs.Prelude.{◌≡◌, ◌<◌, ◌≤◌, ℕ, List, Option, Err, Ok, Some, None, IfErr, IfOk, IfSome, OnErr};
+ghost use Rattle.std.specs.Prelude.{◌≡◌, ◌<◌, ◌≤◌, ℕ, List, Option, Err, Ok, Some, None, IfErr, IfOk, OnErr, true};
 ghost use Rattle.dumpi_text.specs.Call.{TextCall};
+ghost use Rattle.dumpi_text.specs.Shown.{put_in};
 ghost use Rattle.dumpi_text.specs.declared.step.TheConstants.{MOST_LINES};
 ghost use Rattle.dumpi_calls.specs.Rows.{row_of, typed, typed_by, row, HasItsKind};
 ghost use Rattle.dumpi_calls.specs.Walks.{Follows, IsRead, IsStopped, IsWalked, LacksNext, RefusesCall, RefusesNext, StopsWalk, Takes, lacks_exit};
@@ -97,15 +98,15 @@ fn is_open(raw: &RawCall) -> bool
     }
 }
 
-// the next call of the text
-fn next_of<R: Read>(texts: &mut Texts<R>) -> Result<Option<RawCall>, TextFault>
-    ensures goes_on { (text : Option (List ℕ)) (calls : List TextCall) → IsRead text calls texts.old → IfOk result (λ found. Follows text calls found texts.new) }
+// the next call of the text, put in the place of the one before: whether there is one
+fn next_of<R: Read>(texts: &mut Texts<R>, raw: &mut RawCall) -> Result<bool, TextFault>
+    ensures goes_on { (text : Option (List ℕ)) (calls : List TextCall) → IsRead text calls texts.old → IfOk result (λ found. Follows text calls (put_in found raw.new) texts.new) }
     ensures stops { (text : Option (List ℕ)) (calls : List TextCall) → IsRead text calls texts.old → IfErr result (λ fault. RefusesNext text calls fault texts.new.told.line) }
-    ensures progress { IfOk result (λ found. IfSome found (λ call. texts.old.at.line < texts.new.at.line)) }
+    ensures progress { result ≡ Ok true → texts.old.at.line < texts.new.at.line }
     ensures lines { texts.new.at.line ≤ MOST_LINES }
 {
     reading_call_by_call();
-    match texts.next_raw() {
+    match texts.next_into(raw) {
         Ok(next) => Ok(next),
         Err(fault) => Err(fault),
     }
@@ -153,9 +154,10 @@ pub fn walk<R: Read, S: CallSink>(
             });
         }
     };
+    let mut raw = RawCall::new(alloc);
     loop {
-        match next_of(&mut texts) {
-            Ok(Some(raw)) => {
+        match next_of(&mut texts, &mut raw) {
+            Ok(true) => {
                 match take(alloc, &raw, sink, calls) {
                     Ok(()) => {}
                     Err(fault) => return Err(fault),
@@ -163,7 +165,7 @@ pub fn walk<R: Read, S: CallSink>(
                 calls += 1;
                 unfinished = is_open(&raw);
             }
-            Ok(None) => {
+            Ok(false) => {
                 return Ok(Walked {
                     calls,
                     skipped: texts.skipped(),

@@ -1,19 +1,27 @@
-use Rattle.std.proofs.Common.{◌∙◌, ◌++◌, ◌∷◌, [], ◌+◌, ◌≤◌, sym, arith}
+use Rattle.std.proofs.Common.{◌≡◌, ◌∙◌, ◌++◌, ◌∷◌, [], ◌+◌, ◌<◌, ◌≤◌, true, zero-le, ap, refl, rules, sym, arith}
+use Rattle.dumpi_text.specs.Shown.{put_in}
 use Rattle.dumpi_calls.specs.Walks.{Follows, IsRead, Takes}
-use Rattle.dumpi_calls.proofs.Handed.{last_unfinished, not_begun, one_handed}
+use Rattle.dumpi_calls.proofs.Handed.{is_begun, last_unfinished, not_begun, nothing_handed, one_handed}
 use Rattle.dumpi_calls.proofs.walking.walk.Goals as goal
 
 pub returns-in-Err-clause-err : goal.returns-in-Err-clause-err
 returns-in-Err-clause-err g c = not_begun c.reading_call_by_call.ensures.starts g.S.CallSink.step (g.R.Read.left c.args.reader) c.args.sink.now
 
+pub loop-raw-init : goal.loop-raw-init
+loop-raw-init g c =
+    let text = g.R.Read.left c.args.reader in
+    let begun : IsRead text [] c.in-Ok.texts = rw c.in-Ok.ensures (is_begun text (g.R.Read.failures c.args.reader)) in
+    record { far = zero-le; done = ([], begun, nothing_handed g.S.CallSink.step c.args.sink.now, refl) }
+
 pub loop-raw-preserved : goal.loop-raw-preserved
 loop-raw-preserved g c =
     let inv = c.loop-raw.invariant.done in
-    let raw = c.in-Ok-Some.raw in
-    let found : Follows (g.R.Read.left c.args.reader) inv.0 c.in-Ok-Some.field-0 c.next_of.new.texts = c.in-Ok-Some.ensures.goes_on (g.R.Read.left c.args.reader) inv.0 inv.1 in
-    let read : IsRead (g.R.Read.left c.args.reader) (inv.0 ++ raw ∷ []) c.next_of.new.texts = rw c.in-Ok-Some.field-0-is at found in
+    let raw = c.next_of.new.raw in
+    let found : Follows (g.R.Read.left c.args.reader) inv.0 (put_in c.in-Ok-true.field-0 raw) c.next_of.new.texts = c.in-Ok-true.ensures.goes_on (g.R.Read.left c.args.reader) inv.0 inv.1 in
+    let is_true : c.in-Ok-true.field-0 ≡ true = c.in-Ok-true.field-0-test in
+    let read : IsRead (g.R.Read.left c.args.reader) (inv.0 ++ raw ∷ []) c.next_of.new.texts = rw is_true at found in
     let takes : Takes g.S.CallSink.step raw c.loop-raw.sink c.take.new.sink = c.in-Ok-take.ensures.ok in
-    let progress = rw c.in-Ok-Some.field-0-is at c.in-Ok-Some.ensures.progress in
+    let progress : c.loop-raw.texts.at.line < c.next_of.new.texts.at.line = search rules in
     let far : c.loop-raw.calls + 1 ≤ c.next_of.new.texts.at.line = omega (arith, c.loop-raw.invariant.far, progress) in
     record {
       far = far;
