@@ -1,0 +1,60 @@
+//! One lock around what is shown.
+
+ghost use Rattle.std.specs.Prelude.{◌≡◌, ◌↔◌, IsTrue, IfOk, IfErr, IfSome, IsErrOf};
+ghost use Rattle.trace_know.specs.View.{IsBelow};
+
+use crate::fault::{PutFault, ShowFault};
+use crate::shown::Shown;
+use mpi_model::Layout;
+use std::alloc::{AllocError, Global};
+use std::sync::{Mutex, Wait};
+use trace_node::Node;
+
+/// What is shown to any number of threads. It begins with empty knowledge.
+///
+/// Under the lock it changes by [`Shown::put`] and is read by [`Shown::try_clone`], and by nothing
+/// else.
+#[derive(Drop)]
+pub struct Board<'a> {
+    shown: Mutex<Shown<'a>>,
+}
+
+impl<'a> Board<'a> {
+    ghost use Rattle.trace_board.specs.Older.{IsOlder};
+
+    /// A board that shows empty knowledge of the run of a layout.
+    pub fn new(alloc: Global, layout: &'a Layout) -> Result<Board<'a>, AllocError> {
+        Ok(Board {
+            shown: Mutex::new(Shown::nothing(alloc, layout)?),
+        })
+    }
+
+    /// Shows a node of the board's layout from now on. After a refusal the board shows what it
+    /// showed. Waits for the lock, which others hold for one copy.
+    pub fn publish<R: Wait>(&self, rt: &R, node: &Node<'a>) -> Result<(), PutFault>
+        ensures { IsErrOf result PutFault.Stale ↔ IsTrue node.now.is_stale }
+    {
+        self.shown.lock(rt).put(node)
+    }
+
+    /// A copy of what is shown. Where it doesn't contain what the reader saw last (`seen`), it is
+    /// answered as [`ShowFault::Older`]. Waits for the lock, which others hold for one copy.
+    pub fn show<R: Wait>(
+        &self,
+        rt: &R,
+        seen: Option<&Shown<'a>>,
+    ) -> Result<Shown<'a>, ShowFault<'a>>
+        ensures newer { IfOk result (λ s. IfSome seen.entry (λ before. IsBelow before.now.know s.know)) }
+        ensures older { IfErr result (λ fault. IsOlder fault seen.entry) }
+    {
+        let Ok(found) = self.shown.lock(rt).try_clone() else {
+            return Err(ShowFault::Memory);
+        };
+        if let Some(seen) = seen {
+            if !found.know().contains(seen.know()) {
+                return Err(ShowFault::Older(found));
+            }
+        }
+        Ok(found)
+    }
+}

@@ -1,0 +1,26 @@
+//! A board: the newest published answer, with the knowledge that it is of, for any number of
+//! threads.
+//!
+//! A [`Board`] is one lock around one [`Shown`]. Who owns a node publishes it: a copy of what it
+//! knows and of its answer takes the place of what was shown. Who asks gets a copy. So no thread
+//! ever sees an answer that isn't that of the knowledge beside it: the type of what lies under the
+//! lock keeps that, and it holds each time the lock is free.
+//!
+//! Cost: both calls hold the lock for one copy of all that is known and of its answer, and for
+//! nothing else; the comparison with what a reader saw last is made outside of it.
+//!
+//! - [`shown`]: what is shown, which is put and copied
+//! - [`board`]: the lock around it
+//! - [`fault`]: why nothing was put, or nothing newer is shown
+//!
+//! What a call did under the lock no contract can name: that `publish` changes the board, and that
+//! `show` reads it, is shown by the tests in `trace_board_tests`.
+#![tactic(auto)]
+
+mod board;
+mod fault;
+mod shown;
+
+pub use board::Board;
+pub use fault::{PutFault, ShowFault};
+pub use shown::Shown;
