@@ -41,8 +41,10 @@ impl Mail {
         match write_frame(know, &mut frame) {
             Ok(()) => Ok(Mail { frame }),
             Err(WireFault::Length) => Err(WorldFault::FrameLength),
-            // a writer in memory fails where no memory is left
-            Err(_) => Err(WorldFault::Memory),
+            // a writer in memory fails only where no memory is left
+            Err(WireFault::Write) => Err(WorldFault::Memory),
+            // `write_frame` takes no memory and reads nothing
+            Err(_) => unreachable!(),
         }
     }
 
@@ -52,7 +54,11 @@ impl Mail {
     {
         frame_laws();
         let mut letter = Letter::new(self.frame.bytes());
-        // a mail is a frame and a letter doesn't fail, so all that can lack is memory
-        read_frame(alloc, &mut letter).map_err(|_| AllocError)
+        match read_frame(alloc, &mut letter) {
+            Ok(know) => Ok(know),
+            Err(WireFault::Memory) => Err(AllocError),
+            // a mail is a frame, which nothing refuses, and a letter doesn't fail
+            Err(_) => unreachable!(),
+        }
     }
 }
