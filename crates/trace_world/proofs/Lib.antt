@@ -3,3 +3,4 @@ pub mod Keeping
 pub mod Equal
 pub mod Moving
 pub mod Mails
+pub mod Answers

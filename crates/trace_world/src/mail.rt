@@ -2,6 +2,7 @@
 
 ghost use Rattle.std.specs.Prelude.{◌≡◌, ◌↔◌, ◌<◌, IfOk, IfErr, IsErrOf, length};
 ghost use Rattle.std.specs.FinMap.{entries};
+ghost use Rattle.trace_wire.specs.declared.fault.WireFault.TheVariants.{Memory};
 ghost use Rattle.trace_wire.specs.Frames.{frame_of, HasFrame, payload, longest};
 ghost use Rattle.trace_world.specs.Refusals.{IsFrameFault};
 
@@ -56,9 +57,15 @@ impl Mail {
         let mut letter = Letter::new(self.frame.bytes());
         match read_frame(alloc, &mut letter) {
             Ok(know) => Ok(know),
-            Err(WireFault::Memory) => Err(AllocError),
             // a mail is a frame, which nothing refuses, and a letter doesn't fail
-            Err(_) => unreachable!(),
+            Err(fault) => Err(want_of_memory(fault)),
         }
     }
+}
+
+/// The fault of a reading that can lack nothing but memory.
+fn want_of_memory(_fault: WireFault) -> AllocError
+    requires { _fault ≡ Memory }
+{
+    AllocError
 }
