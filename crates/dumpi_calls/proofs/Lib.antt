@@ -1,5 +1,6 @@
 pub mod Names
 pub mod QuickNumber
+pub mod FieldByField
 pub mod Missing
 pub mod Tolds
 pub mod NextCall

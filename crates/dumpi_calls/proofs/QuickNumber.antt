@@ -4,11 +4,11 @@ use Rattle.std.specs.List.{list_all}
 use Rattle.std.proofs.lemmas.Bool.{cases_eq, false≢true}
 use Rattle.std.proofs.lemmas.Grind.{common_steps}
 use Rattle.std.proofs.lemmas.List.{drop_more, length-take-le, take-append-drop, take_more}
-use Rattle.dumpi_text.specs.Number.{bracketed_front, integer_front, integer_of, note_front, number_front}
+use Rattle.dumpi_text.specs.Number.{bracketed_front, integer_front, note_front, number_front}
 use Rattle.dumpi_text.specs.Time.{is_digit, number_after, number_of}
 use Rattle.dumpi_text.specs.Tokens.{after_spaces, digit_parts}
 use Rattle.dumpi_text.specs.Stamps.{◌>>=◌}
-use Rattle.dumpi_text.specs.Value.{after_count, bracket_rest, core_front, value_of, when_over}
+use Rattle.dumpi_text.specs.Value.{after_count, bracket_rest, value_of, when_over}
 use Rattle.dumpi_text.specs.declared.number.NumName.{NumName}
 use Rattle.dumpi_text.specs.declared.number.NumName.TheVariants.{Other}
 use Rattle.dumpi_text.specs.declared.value.Value.{Value}
@@ -109,3 +109,16 @@ bracketed_value text count some whole closing all small =
     let rest : drop count text ≡ 93 ∷ [] = drop_more text count 0 (omega arith) ∙ ap (λ (b : ℕ). b ∷ drop (count + 1) text) closing ∙ ap (λ (r : List ℕ). 93 ∷ r) (drop_of_length-le text (omega arith)) in
     ap (λ (t : List ℕ). value_of (91 ∷ t)) (sym (take-append-drop count text) ∙ ap (λ (r : List ℕ). take count text ++ r) rest)
     ∙ bracketed_read (take count text) (omega (arith, length-take-le count text)) all small
+
+-- the number of digits in front of what follows them, after spaces
+front_read : (digits rest left : List ℕ) (name : NumName) → 0 < length digits → list_all is_digit digits ≡ true → number_of digits < 1000000000000000000 → digit_parts rest ≡ ([], rest)
+    → note_front (after_spaces rest) ≡ Some (name, left) → number_front (after_spaces (digits ++ rest)) ≡ Some (record { value = pos (number_of digits); name = name }, left)
+front_read [] rest left name some all small none note = absurd (omega arith)
+front_read (d ∷ ds) rest left name some all small none note = rw (unlike d 32 (first_digit d ds all) refl) (number_read d ds rest left name all small none note)
+
+pub front_value : (text : List ℕ) (count : ℕ) (rest left : List ℕ) (name : NumName) → 0 < count → count ≤ length text → list_all is_digit (take count text) ≡ true
+    → number_of (take count text) < 1000000000000000000 → rest ≡ drop count text → digit_parts rest ≡ ([], rest) → note_front (after_spaces rest) ≡ Some (name, left)
+    → number_front (after_spaces text) ≡ Some (record { value = pos (number_of (take count text)); name = name }, left)
+front_value text count rest left name some within all small is_rest none note =
+    ap (λ (t : List ℕ). number_front (after_spaces t)) (sym (take-append-drop count text) ∙ ap (λ (r : List ℕ). take count text ++ r) (sym is_rest))
+    ∙ front_read (take count text) rest left name (omega (arith, length-take-le count text)) all small none note

@@ -8,7 +8,7 @@ ghost use Rattle.dumpi_calls.specs.Seen.{seen};
 ghost use Rattle.dumpi_calls.specs.declared.cutting.TheConstants.{PLACES};
 ghost use Rattle.trace_know.specs.Segment.{alternate, enter_place};
 
-use crate::cutting::{PLACES, cut};
+use crate::cutting::{MOST_EVENTS, PLACES, cut, whole};
 use crate::sink::CallSink;
 use mpi_model::{Call, Event, Exit, Stamp};
 use std::alloc::{AllocError, AllocFailed, Global};
@@ -91,7 +91,12 @@ impl Collect {
         if events.is_empty() {
             return Ok(Vec::new(*events.allocator()));
         }
-        match cut(*events.allocator(), rank, first_call, events) {
+        let segments = if events.len() <= MOST_EVENTS {
+            whole(*events.allocator(), rank, first_call, events)
+        } else {
+            cut(*events.allocator(), rank, first_call, events)
+        };
+        match segments {
             Ok(segments) => Ok(segments),
             Err(_) => Err(SegmentFault::Memory),
         }

@@ -30,6 +30,24 @@ fn segment(rank: u32, first: u64, events: Vec<Event>) -> Segment
     Segment::new(rank, first, events).unwrap()
 }
 
+/// The segment of a rank's events from the Enter of a call on, where they are few enough for one. They aren't moved.
+pub fn whole(
+    alloc: Global,
+    rank: u32,
+    first: u64,
+    events: Vec<Event>,
+) -> Result<Vec<Segment>, AllocError>
+    requires some { 0 < length events.items }
+    requires most { length events.items ≤ MOST_EVENTS }
+    requires halves { alternate true events.items ≡ true }
+    requires places { enter_place first + length events.items ≤ PLACES }
+    ensures { IfOk result (λ segments. AreSegments rank first events.items segments.items) }
+{
+    let mut segments = Vec::new(alloc);
+    segments.push(segment(rank, first, events))?;
+    Ok(segments)
+}
+
 /// The segments of a rank's events from the Enter of a call on, none of no event.
 pub fn cut(
     alloc: Global,

@@ -8,7 +8,7 @@
 //! parameter that is one number takes none. A call that is refused is not handed on, and ends the walk.
 //!
 //! - [`parameter`]: the parameters and why a call is refused for one; [`reading`]: what each says; [`quick`]: numbers as
-//!   dumpi2ascii writes them, in one pass
+//!   dumpi2ascii writes them, in one pass; [`skim`]: so the source of a status
 //! - [`function`]: the functions, by their names; [`envelope`], [`outcome`]: what calls name and bring back;
 //!   [`typing`]: a call by the row of its function
 //! - [`sink`]: the callbacks; [`fault`], [`walking`]: the walk
@@ -29,6 +29,7 @@ mod parameter;
 mod quick;
 mod reading;
 mod sink;
+mod skim;
 mod tally;
 mod typing;
 mod walking;

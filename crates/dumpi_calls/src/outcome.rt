@@ -6,20 +6,22 @@ ghost use Rattle.std.specs.Prelude.{◌≡◌, ◌∷◌, [], IfOk, OnOk, length
 ghost use Rattle.std.specs.Option.{option_copied};
 ghost use Rattle.mpi_model.specs.Ranges.{IsTold};
 ghost use Rattle.dumpi_calls.specs.Readings.{AreThere, Reads};
-ghost use Rattle.dumpi_calls.specs.Outcomes.{brought_by, elements_from, flag, groups_in, index, indices_in, is_done, outcome_in, position_of, posted, several, status, statuses, told_at, told_by, told_of, tolds_from};
+ghost use Rattle.dumpi_calls.specs.Outcomes.{brought_by, elements_from, flag, groups_from, groups_in, index, indices_in, is_done, outcome_in, position_of, posted, several, status, statuses, told_at, told_by, told_of, tolds_from};
+ghost use Rattle.dumpi_text.specs.Value.{value_of};
 ghost use Rattle.dumpi_calls.specs.declared.parameter.Parameter.TheVariants as parameters;
 
 use crate::function::is;
 use crate::parameter::{CallFault, Parameter};
 use crate::reading::{listed, non_negative_of, number, text_in};
+use crate::skim::quick_status;
 use dumpi_text::{
     Field, Group, Groups, Num, NumName, Nums, RawCall, Value, ValueFault, parse_value,
 };
 use mpi_model::{Call, Element, Elements, Outs, Sources, Told};
 use std::alloc::{AllocError, Global};
 
-// the source that a number tells, unless its name says that it is none
-fn told_source(number: Num) -> Option<u32>
+/// The source that a number tells, unless its name says that it is none.
+pub fn told_source(number: Num) -> Option<u32>
     ensures value { result ≡ told_by number.name number.value }
     ensures range { IsTold result }
 {
@@ -51,6 +53,18 @@ fn told_of_place(groups: &[Group], place: usize) -> Told
     }
 }
 
+// the groups that a text says, none where it can't be read
+fn groups_of(alloc: Global, text: &[u8]) -> Result<Groups, AllocError>
+    ensures { IfOk result (λ g. g ≡ groups_from (value_of text.now)) }
+{
+    match parse_value(alloc, text) {
+        Ok(Value::Groups(groups)) => Ok(groups),
+        Ok(_) => Ok(Groups::from_vec(Vec::new(alloc))),
+        Err(ValueFault::BadValue) => Ok(Groups::from_vec(Vec::new(alloc))),
+        Err(ValueFault::Memory) => Err(AllocError),
+    }
+}
+
 // the groups of a parameter, none where it is absent or can't be read
 #[tactic(auto, unfolding(crate::specs::Outcomes::groups_in))]
 fn groups(alloc: Global, raw: &RawCall, parameter: Parameter) -> Result<Groups, AllocError>
@@ -58,21 +72,32 @@ fn groups(alloc: Global, raw: &RawCall, parameter: Parameter) -> Result<Groups, 
 {
     match text_in(raw, parameter) {
         None => Ok(Groups::from_vec(Vec::new(alloc))),
-        Some(text) => match parse_value(alloc, text) {
-            Ok(Value::Groups(groups)) => Ok(groups),
-            Ok(_) => Ok(Groups::from_vec(Vec::new(alloc))),
-            Err(ValueFault::BadValue) => Ok(Groups::from_vec(Vec::new(alloc))),
-            Err(ValueFault::Memory) => Err(AllocError),
-        },
+        Some(text) => groups_of(alloc, text),
+    }
+}
+
+// what a text tells, where it is a status
+fn told_of_text(alloc: Global, text: &[u8]) -> Result<Told, AllocError>
+    ensures { IfOk result (λ t. t ≡ told_at (groups_from (value_of text.now)) 0) }
+{
+    match quick_status(text) {
+        Some(told) => Ok(told),
+        None => {
+            let groups = groups_of(alloc, text)?;
+            Ok(told_of_place(groups.as_slice(), 0))
+        }
     }
 }
 
 // what `status` tells
+#[tactic(auto, unfolding(crate::specs::Outcomes::groups_in))]
 fn told(alloc: Global, raw: &RawCall) -> Result<Told, AllocError>
     ensures { IfOk result (λ t. t ≡ told_at (groups_in parameters.Status raw.now) 0) }
 {
-    let groups = groups(alloc, raw, Parameter::Status)?;
-    Ok(told_of_place(groups.as_slice(), 0))
+    match text_in(raw, Parameter::Status) {
+        None => Ok(Told::new(None).unwrap()),
+        Some(text) => told_of_text(alloc, text),
+    }
 }
 
 // what the groups tell of each request, by its place

@@ -18,9 +18,9 @@ use dumpi_text::{Num, NumName};
 /// 10^17: a number below it can have one digit more.
 const ROOM: u64 = 100_000_000_000_000_000;
 
-// The digits in front of a text, while the number is below 10^17: what they say, and how many they are.
+/// The digits in front of a text, while the number is below 10^17: what they say, and how many they are.
 #[tactic(auto, using(crate::proofs::QuickNumber::number_more, crate::proofs::QuickNumber::digits_more))]
-fn digits_front(text: &[u8]) -> (u64, usize)
+pub fn digits_front(text: &[u8]) -> (u64, usize)
     ensures within { result.1 ≤ length text.now }
     ensures digits { list_all is_digit (take result.1 text.now) ≡ true }
     ensures number { result.0 ≡ number_of (take result.1 text.now) }

@@ -1,4 +1,4 @@
-use Rattle.std.proofs.Common.{◌≡◌, arith}
+use Rattle.std.proofs.Common.{arith}
 use Rattle.std.proofs.lemmas.Grind.{common_steps}
 use Rattle.dumpi_calls.proofs.QuickNumber.{bracketed_value}
 use Rattle.dumpi_calls.proofs.quick.bracketed_number.Goals as goal

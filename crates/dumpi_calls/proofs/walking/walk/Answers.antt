@@ -1,4 +1,4 @@
-use Rattle.std.proofs.Common.{◌≡◌, ◌∙◌, ◌++◌, ◌∷◌, [], ◌+◌, ◌<◌, ◌≤◌, true, zero-le, ap, refl, rules, sym, arith}
+use Rattle.std.proofs.Common.{◌≡◌, ◌∙◌, ◌++◌, ◌∷◌, [], ◌+◌, ◌<◌, ◌≤◌, true, zero-le, refl, rules, sym, arith}
 use Rattle.dumpi_text.specs.Shown.{put_in}
 use Rattle.dumpi_calls.specs.Walks.{Follows, IsRead, Takes}
 use Rattle.dumpi_calls.proofs.Handed.{is_begun, last_unfinished, not_begun, nothing_handed, one_handed}

@@ -1,0 +1,221 @@
+//! A status as dumpi2ascii writes it, `[1] {{word=number, ..}}`, of which the source is read in one pass and in place.
+//! What these functions don't answer for is read as any value is.
+
+ghost use Rattle.std.specs.Prelude.{◌≡◌, ◌∷◌, [], IfSome, None, Some, true};
+ghost use Rattle.std.specs.Option.{option_map};
+ghost use Rattle.dumpi_calls.specs.Outcomes.{groups_from, told_at};
+ghost use Rattle.dumpi_calls.specs.Skims.{source_with, told_with, with_told};
+ghost use Rattle.dumpi_text.specs.Bytes.{closing_brace, equals};
+ghost use Rattle.dumpi_text.specs.Items.{field_item, fields_front, next_front};
+ghost use Rattle.dumpi_text.specs.Number.{note_front, number_front};
+ghost use Rattle.dumpi_text.specs.Tokens.{after_byte, after_spaces, digit_parts, word_front};
+ghost use Rattle.dumpi_text.specs.Value.{value_of};
+ghost use Rattle.dumpi_text.specs.Words.{is_word_byte, word_parts};
+ghost use Rattle.dumpi_text.specs.declared.number.NumName.TheVariants.{Other};
+
+use crate::function::is;
+use crate::outcome::told_source;
+use crate::quick::digits_front;
+use dumpi_text::{Num, NumName};
+use mpi_model::Told;
+
+// the text without the spaces in front
+fn skip_spaces(text: &[u8]) -> &[u8]
+    ensures { result.now ≡ after_spaces text.now }
+{
+    for (at, byte) in text.iter().enumerate() {
+        if *byte != b' ' {
+            return &text[at..];
+        }
+    }
+    &[]
+}
+
+// whether a byte is a letter, a digit or `_`
+fn is_name_byte(byte: u8) -> bool
+    ensures { result ≡ is_word_byte byte }
+{
+    (b'a' <= byte && byte <= b'z')
+        || (b'A' <= byte && byte <= b'Z')
+        || (b'0' <= byte && byte <= b'9')
+        || byte == b'_'
+}
+
+// the longest front of letters, digits and `_`, and what follows it
+fn split_word(text: &[u8]) -> (&[u8], &[u8])
+    ensures word { result.0.now ≡ (word_parts text.now).0 }
+    ensures rest { result.1.now ≡ (word_parts text.now).1 }
+{
+    for (at, byte) in text.iter().enumerate() {
+        if !is_name_byte(*byte) {
+            return (&text[..at], &text[at..]);
+        }
+    }
+    (text, &[])
+}
+
+// one or more letters, digits and `_`, and what follows them
+fn read_word(text: &[u8]) -> Option<(&[u8], &[u8])>
+    ensures { option_map (λ x. (x.0.now, x.1.now)) result ≡ word_front text.now }
+{
+    let (word, rest) = split_word(text);
+    if word.is_empty() {
+        None
+    } else {
+        Some((word, rest))
+    }
+}
+
+// what follows a byte that stands in front
+#[inline(always)]
+fn strip_byte(wanted: u8, text: &[u8]) -> Option<&[u8]>
+    ensures { IfSome result (λ rest. text.now ≡ wanted ∷ rest.now) }
+{
+    match text {
+        [byte, rest @ ..] if *byte == wanted => Some(rest),
+        _ => None,
+    }
+}
+
+// what follows a `=` that stands in front
+fn after_equals(text: &[u8]) -> Option<&[u8]>
+    ensures { IfSome result (λ rest. after_byte equals text.now ≡ Some rest.now) }
+{
+    match text {
+        [b'=', rest @ ..] => Some(rest),
+        _ => None,
+    }
+}
+
+// whether a `,` or a `}` stands in front, which ends a field's number
+fn ends_field(text: &[u8]) -> bool
+    ensures digits { result ≡ true → digit_parts text.now ≡ ([], text.now) }
+    ensures note { result ≡ true → note_front (after_spaces text.now) ≡ Some (Other, text.now) }
+{
+    match text {
+        [b',', ..] => true,
+        [b'}', ..] => true,
+        _ => false,
+    }
+}
+
+// the number in front, where it is digits that end the field, and what follows it
+fn split_number(text: &[u8]) -> Option<(Num, &[u8])>
+    ensures { IfSome result (λ x. number_front (after_spaces text.now) ≡ Some (x.0, x.1.now)) }
+{
+    let (value, count) = digits_front(text);
+    if count == 0 {
+        return None;
+    }
+    let rest = &text[count..];
+    if !ends_field(rest) {
+        return None;
+    }
+    let number = Num {
+        value: value as i64,
+        name: NumName::Other,
+    };
+    Some((number, rest))
+}
+
+// the word and the number of the field in front, and what follows it
+#[tactic(auto, unfolding(dumpi_text::specs::Items::field_item))]
+fn split_field(text: &[u8]) -> Option<(&[u8], Num, &[u8])>
+    ensures { IfSome result (λ x. field_item text.now ≡ Some (record { word = x.0.now; number = x.1 }, x.2.now)) }
+{
+    let (word, rest) = read_word(text)?;
+    let rest = after_equals(rest)?;
+    let (number, rest) = split_number(rest)?;
+    Some((word, number, rest))
+}
+
+// whether another field follows, and what follows its `,` or the group's `}`
+fn split_next(text: &[u8]) -> Option<(bool, &[u8])>
+    ensures { option_map (λ x. (x.0, x.1.now)) result ≡ next_front closing_brace text.now }
+{
+    match text {
+        [b',', rest @ ..] => Some((true, rest)),
+        [b'}', rest @ ..] => Some((false, rest)),
+        _ => None,
+    }
+}
+
+// what was told, with one field more: the first field `source` counts
+fn source_by(source: Option<Told>, word: &[u8], number: Num) -> Option<Told>
+    ensures { result ≡ source_with source (record { word = word.now; number = number }) }
+{
+    match source {
+        Some(told) => Some(told),
+        None => {
+            if is(word, "source") {
+                Some(Told::new(told_source(number)).unwrap())
+            } else {
+                None
+            }
+        }
+    }
+}
+
+// what was told by all fields
+fn told_by_all(source: Option<Told>) -> Told
+    ensures { result ≡ told_with source [] }
+{
+    match source {
+        Some(told) => told,
+        None => Told::new(None).unwrap(),
+    }
+}
+
+// what the fields of a group tell, and what follows its `}`
+#[tactic(auto, using(crate::proofs::FieldByField::one_more, crate::proofs::FieldByField::the_last))]
+fn told_front(text: &[u8]) -> Option<(Told, &[u8])>
+    ensures { IfSome result (λ x. with_told None (fields_front text.now) ≡ Some (x.0, x.1.now)) }
+{
+    let mut source = None;
+    let mut left = text;
+    for _ in 0..text.len() {
+        let (word, number, rest) = split_field(skip_spaces(left))?;
+        source = source_by(source, word, number);
+        match split_next(skip_spaces(rest)) {
+            Some((true, rest)) => left = rest,
+            Some((false, rest)) => return Some((told_by_all(source), rest)),
+            None => return None,
+        }
+    }
+    None
+}
+
+// the fields of a status and what closes it: what follows `[1] {{`
+fn status_fields(text: &[u8]) -> Option<&[u8]>
+    ensures { IfSome result (λ fields. text.now ≡ 91 ∷ 49 ∷ 93 ∷ 32 ∷ 123 ∷ 123 ∷ fields.now) }
+{
+    let text = strip_byte(b'[', text)?;
+    let text = strip_byte(b'1', text)?;
+    let text = strip_byte(b']', text)?;
+    let text = strip_byte(b' ', text)?;
+    let text = strip_byte(b'{', text)?;
+    let fields = strip_byte(b'{', text)?;
+    Some(fields)
+}
+
+// whether a text is the `}` that closes a list, and nothing more
+fn closes_list(text: &[u8]) -> bool
+    ensures { result ≡ true → text.now ≡ closing_brace ∷ [] }
+{
+    match text {
+        [b'}'] => true,
+        _ => false,
+    }
+}
+
+/// What the text of a status tells, where it is one group.
+#[tactic(auto, using(crate::proofs::FieldByField::status_value))]
+pub fn quick_status(text: &[u8]) -> Option<Told>
+    ensures { IfSome result (λ told. told_at (groups_from (value_of text.now)) 0 ≡ told) }
+{
+    let fields = status_fields(text)?;
+    match told_front(fields) {
+        None => None,
+        Some((told, rest)) => { if closes_list(rest) { Some(told) } else { None } }
+    }
+}
