@@ -1,11 +1,12 @@
 -- Each step of a world follows the step of the schedule.
-use Rattle.std.proofs.Common.{◌≡◌, ◌<◌, ℕ, ◌+◌, true, false, Ok, Err, OnOk, IfErr, Result, zero, suc, subst, List, [], ◌∷◌, ◌++◌, length, map, drop, take, get_or, set, refl, sym, ap, ◌∙◌, arith}
+use Rattle.std.proofs.Common.{◌≡◌, ◌<◌, ℕ, ◌+◌, true, false, Some, Ok, Err, OnOk, IfErr, Result, zero, suc, subst, List, [], ◌∷◌, ◌++◌, length, map, drop, take, get_or, set, refl, sym, ap, ◌∙◌, arith}
 use Rattle.std.specs.Prelude.{slice_set, slice_index_or}
 use Rattle.std.specs.List.{flat_map}
 use Rattle.std.specs.FinMap.{empty, entries}
 use Rattle.std.proofs.lemmas.Grind.{flat_map-append}
 use Rattle.std.proofs.lemmas.List.{map-set, map-append, length-map}
 use Rattle.std.proofs.lemmas.List as lists
+use Rattle.std.proofs.lemmas.Option.{slice_get-get_or}
 use Rattle.std.proofs.Math.ListN.{get_or-map}
 use Rattle.trace_know.specs.Segment.{PlacedEvents}
 use Rattle.trace_know.specs.Trace.{Trace, facts_of, view_of}
@@ -15,7 +16,7 @@ use Rattle.trace_wire.specs.Frames.{frame_of, HasFrame}
 use Rattle.trace_world.specs.Schedule.{State, after, after_all, at}
 use Rattle.trace_world.specs.Shows.{knowledge_of, knows, AllFramed, Shows, Follows, WorldState, world_state}
 use Rattle.trace_world.specs.Moves.{joined}
-use Rattle.trace_world.specs.Refusals.{is_done, done, SameNodes}
+use Rattle.trace_world.specs.Refusals.{is_done, done, refusal, IsOutcome, SameNodes, StopsAt}
 use Rattle.trace_world.specs.declared.step.WorldFault.{WorldFault}
 use Rattle.trace_world.specs.declared.step.WorldFault.TheVariants.{NoNode, NoMail, EmptyInbox, Rank, FrameLength, Stale, NodeCount, Memory}
 use Rattle.trace_world.specs.declared.step.Step.{Step}
@@ -143,3 +144,8 @@ stops old mid new steps k x Rank lt is so_far went kept = subst (Follows old (ta
 stops old mid new steps k x FrameLength lt is so_far went kept = subst (Follows old (take k steps)) (sym (kept refl)) so_far
 stops old mid new steps k x NodeCount lt is so_far went kept = subst (Follows old (take k steps)) (sym (kept refl)) so_far
 stops old mid new steps k x Memory lt is so_far went kept = subst (Follows old (take k steps)) (sym (kept refl)) so_far
+
+-- the step at which a run ends
+pub caused : (mid new : WorldState) (steps : List Step) (k : ℕ) (x : Step) (fault : WorldFault) → k < length steps → x ≡ get_or steps k x → IsOutcome (refusal mid x) (Err fault) → (is_done (Err fault) ≡ false → new ≡ mid) → StopsAt new steps (k, fault)
+caused mid new steps k x fault lt is outcome kept =
+    (x, slice_get-get_or steps k x lt ∙ ap Some (sym is), λ undone. subst (λ w. IsOutcome (refusal w x) (Err fault)) (sym (kept undone)) outcome)

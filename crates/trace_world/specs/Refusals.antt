@@ -1,5 +1,6 @@
 -- Why steps are refused, and what is left then.
 use Rattle.std.specs.Prelude.{◌≡◌, ◌⊎◌, ℕ, ◌+◌, ◌<◌, ◌≤◌, Bool, true, false, Result, Ok, Err, Option, Some, None, List, [], ◌∷◌, map, length, nat_lt, slice_index_or, ⊤, if◌then◌else◌}
+use Rattle.std.specs.List.{slice_get}
 use Rattle.std.specs.FinMap.{empty, entries}
 use Rattle.trace_know.specs.Segment.{PlacedEvents}
 use Rattle.trace_know.specs.View.{View}
@@ -77,6 +78,10 @@ done (k, Rank) = k
 done (k, FrameLength) = k
 done (k, NodeCount) = k
 done (k, Memory) = k
+
+-- A run ended at one of its steps. Where that step was not done, the world that is left refuses it so.
+abbrev pub StopsAt : WorldState → List Step → ℕ × WorldFault → Type 0
+StopsAt w steps e = (step : Step) × (slice_get steps e.0 ≡ Some step) × (is_done (Err e.1) ≡ false → IsOutcome (refusal w step) (Err e.1))
 
 -- which nodes have no answer
 abbrev pub stale : List Held → List Bool

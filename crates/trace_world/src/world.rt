@@ -4,10 +4,11 @@ ghost use Rattle.std.specs.Prelude.{◌≡◌, ◌<◌, ◌≤◌, ◌∷◌, �
 ghost use Rattle.std.specs.FinMap.{empty};
 ghost use Rattle.std.specs.List.{slice_get};
 ghost use Rattle.std.specs.Option.{option_map};
-ghost use Rattle.trace_world.specs.Refusals.{refusal, refusal_there, IsOutcome, IsCountFault, is_done, done, stale, NoneStaler, SameNodes};
+ghost use Rattle.trace_world.specs.Refusals.{refusal, refusal_there, IsOutcome, IsCountFault, is_done, done, stale, NoneStaler, SameNodes, StopsAt};
 ghost use Rattle.trace_node.specs.Node.{held};
 ghost use Rattle.trace_world.specs.Schedule.{opening};
 ghost use Rattle.trace_world.specs.Shows.{Shows, Follows, WorldState};
+ghost use Rattle.trace_world.specs.Worlds.{IsWorld};
 
 use crate::inbox::Inbox;
 use crate::mail::Mail;
@@ -105,6 +106,7 @@ impl<'a> World<'a> {
         ensures ok { OnOk result (Follows self.old steps.now self.new) }
         ensures fresh { OnOk result (NoneStaler self.old.nodes self.new.nodes) }
         ensures err { IfErr result (λ e. (e.0 < length steps.now) × Follows self.old (take (done e) steps.now) self.new) }
+        ensures cause { IfErr result (λ e. StopsAt self.new steps.now e) }
         ensures same { SameNodes self.old self.new }
     {
         for k in 0..steps.len() {
@@ -149,6 +151,14 @@ impl<'a> World<'a> {
         ensures { result ≡ length self.now.mails }
     {
         self.mails.len()
+    }
+
+    /// Tells what holds of every world: its nodes are all of its layout, and nothing in an inbox or a
+    /// mail is of a rank that the layout lacks. It does nothing: it is for proofs.
+    pub fn known(&self)
+        ensures { IsWorld self.now.layout self.now.nodes self.now.inboxes self.now.mails }
+    {
+        let _ = &self.layout;
     }
 
     /// Adds a copy of a segment to a node's inbox, whichever worker posts it.

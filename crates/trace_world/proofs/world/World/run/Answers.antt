@@ -1,5 +1,5 @@
 use Rattle.std.proofs.Common.{refl}
-use Rattle.trace_world.proofs.Following.{goes_on, stops, same_then}
+use Rattle.trace_world.proofs.Following.{caused, goes_on, stops, same_then}
 use Rattle.trace_world.proofs.world.World.run.Goals as goal
 
 pub loop-k-preserved : goal.loop-k-preserved
@@ -14,3 +14,6 @@ returns-in-Err-clause-err c = (c.loop-k-test.true, stops _ _ _ _ _ _ _ c.loop-k-
 
 pub returns-in-Err-clause-same : goal.returns-in-Err-clause-same
 returns-in-Err-clause-same c = same_then _ _ _ c.loop-k.invariant.same c.in-Err.ensures.same
+
+pub returns-in-Err-clause-cause : goal.returns-in-Err-clause-cause
+returns-in-Err-clause-cause c = caused _ _ _ _ _ _ c.loop-k-test.true c.index-steps-k.is c.in-Err.ensures.outcome c.in-Err.ensures.undone
