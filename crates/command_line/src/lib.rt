@@ -138,8 +138,8 @@ MANIFEST has the text files of the trace, each with its rank and the number of i
 and for replay also "nodes" and a "schedule": mpimatch help replay says what it may hold.
 Calls of a rank are numbered from 0. Files are named from the folder in which mpimatch runs.
 
-It ends with 0 and what the verb prints, with 2 for a mistake in the words, or with 1 and a line on standard
-error where an input is refused:
+It ends with 0 and what the verb prints, with 2 for a mistake in the words, or with 1 and a line on
+standard error where an input is refused:
   M1 File PATH      it is missing, unreadable, a folder, or has more than 16,777,216 bytes
   M2 Json in PATH   it is no JSON text in UTF-8
   M3 Shape in PATH  a field is missing, of another kind, or out of its range

@@ -1,5 +1,5 @@
 -- The nodes that a world shows, and the text of their answers.
-use Rattle.std.proofs.Common.{◌≡◌, ◌∙◌, ◌+◌, ◌<◌, ◌≤◌, ◌++◌, ◌∷◌, [], ℕ, zero, suc, List, Option, Some, None, Bool, true, false, ap, ap₂, sym, refl, subst, map, length, take, get_or, arith, append_assoc, append-nil, tt}
+use Rattle.std.proofs.Common.{◌≡◌, ◌∙◌, ◌+◌, ◌<◌, ◌≤◌, ◌++◌, ◌∷◌, [], ℕ, zero, suc, List, Option, Some, None, Bool, true, false, ap, ap₂, sym, refl, subst, map, length, take, get_or, arith, append_assoc, append-nil, OnErr, Result, Ok, Err}
 use Rattle.std.specs.Prelude.{replicate, slice_index_or}
 use Rattle.std.specs.Io.KnownBytes.{Appends}
 use Rattle.std.specs.List.{slice_get}
@@ -8,6 +8,7 @@ use Rattle.std.proofs.lemmas.List.{length-append, length-take-le, take_more, tak
 use Rattle.std.proofs.lemmas.Option.{get_or_from_slice_get, slice_get_within}
 use Rattle.mpi_model.specs.Layouts.{Parts}
 use Rattle.trace_know.specs.Segment.{PlacedEvents}
+use Rattle.trace_know.specs.View.{View}
 use Rattle.trace_node.specs.Answer.{Answered, IsAnswer}
 use Rattle.trace_node.specs.Node.{Held, held}
 use Rattle.trace_world.specs.Refusals.{NoneStaler, stale}
@@ -16,6 +17,10 @@ use Rattle.trace_world.specs.Worlds.{layouts}
 use Rattle.command_runs.specs.Replays.{AppendsFront, AreAnswers, IsTextOf, NoneStale, node_text, node_texts, replay_text}
 
 -- ---- what the nodes hold
+
+held_is : (node : Held) (l : Parts) (view : View) → node.layout ≡ l → node.know ≡ view → node.is_stale ≡ false → node ≡ held l view false
+held_is node l view layout know fresh =
+    ap (λ (p : Parts). held p node.know node.is_stale) layout ∙ ap (λ (v : View). held l v node.is_stale) know ∙ ap (λ (b : Bool). held l view b) fresh
 
 -- nodes of one layout that know this, none of them stale
 pub all_held : (l : Parts) (nodes : List Held) (reached : List (List PlacedEvents)) → knows nodes ≡ map knowledge_of reached
@@ -26,9 +31,11 @@ all_held l (n ∷ ns) [] k o f = absurd (cc k)
 all_held l (n ∷ ns) (r ∷ rs) k o f =
     let know : n.know ≡ knowledge_of r = cc k in
     let layout : n.layout ≡ l = cc o in
-    let fresh : n.is_stale ≡ false = f 0 in
-    let first : n ≡ held l (knowledge_of r) false = cc (know, layout, fresh) in
-    ap₂ (λ (h : Held) (hs : List Held). h ∷ hs) first (all_held l ns rs (cc k) (cc o) (λ i. f (suc i)))
+    let knows_more : knows ns ≡ map knowledge_of rs = cc k in
+    let layouts_more : layouts ns ≡ replicate (length ns) l = cc o in
+    let first : n ≡ held l (knowledge_of r) false = held_is n l (knowledge_of r) layout know (f 0) in
+    let rest : ns ≡ map (λ s. held l (knowledge_of s) false) rs = all_held l ns rs knows_more layouts_more (λ i. f (suc i)) in
+    ap₂ (λ (h : Held) (hs : List Held). h ∷ hs) first rest
 
 none_of : (n i : ℕ) → slice_index_or (replicate n false) i false ≡ false
 none_of zero i = refl
@@ -46,7 +53,18 @@ fresh_at [] i node f e = absurd (cc e)
 fresh_at (n ∷ ns) zero node f e = let is : n ≡ node = cc e in subst (λ (h : Held). h.is_stale ≡ false) is (f 0)
 fresh_at (n ∷ ns) (suc i) node f e = fresh_at ns i node (λ k. f (suc k)) e
 
+-- past the last node there is none
+pub at_end : (nodes : List Held) (i : ℕ) → slice_get nodes i ≡ None → take i nodes ≡ nodes
+at_end [] zero e = refl
+at_end [] (suc i) e = refl
+at_end (n ∷ ns) zero e = absurd (cc e)
+at_end (n ∷ ns) (suc i) e = ap (λ (hs : List Held). n ∷ hs) (at_end ns i e)
+
 -- ---- bytes that grow
+
+pub on_err : {T E P : Type 0} (r : Result T E) → P → OnErr r P
+on_err (Ok done) p = tt
+on_err (Err e) p = p
 
 pub appends_both : (a b c : Option (List ℕ)) (xs ys : List ℕ) → Appends a b xs → Appends b c ys → Appends a c (xs ++ ys)
 appends_both None b c xs ys p q = tt

@@ -1,14 +1,16 @@
 -- What is refused before anything is written is no failure of writing.
-use Rattle.std.proofs.Common.{◌≡◌, ◌⊎◌, inl, inr, ℕ, List, Option, Result, Err, Bool, subst}
+use Rattle.std.proofs.Common.{◌≡◌, ◌∙◌, ◌⊎◌, ap, inl, inr, ℕ, List, Option, Result, Err, Bool, subst}
 use Rattle.mpi_model.specs.Layouts.{Parts}
 use Rattle.input_files.specs.declared.fault.InputFault.{InputFault}
 use Rattle.input_files.specs.declared.fault.InputFault.TheVariants as inputs
 use Rattle.trace_know.specs.Segment.{PlacedEvents}
+use Rattle.trace_node.specs.Node.{Held}
+use Rattle.trace_world.specs.declared.step.Step.{Step}
 use Rattle.input_files.specs.Manifests.{ManifestParts, PieceParts, RefusesManifest}
 use Rattle.command_runs.specs.Inputs.{IsFaultOf, RefusesInput, TellsLayout, TellsManifest}
 use Rattle.command_runs.specs.Nodes.{RefusesNode}
 use Rattle.command_runs.specs.Refusals.{RefusesFirst, RefusesPieces, RefusesRun}
-use Rattle.command_runs.specs.Replays.{RefusesNodes, RefusesReplay, RefusesSteps}
+use Rattle.command_runs.specs.Replays.{AreNodesOf, RefusesNodes, RefusesReplay, RefusesSteps, nodes_after}
 use Rattle.command_runs.specs.Schedules.{TellSegments, world_steps}
 use Rattle.command_runs.specs.declared.fault.RunFault.{RunFault}
 use Rattle.command_runs.specs.declared.fault.RunFault.TheVariants.{Memory, Write}
@@ -73,6 +75,20 @@ pub piece_refused : (file : List ℕ → Option (List ℕ)) (l : Parts) (manifes
     → (fault ≡ Memory) ⊎ RefusesFirst file m.pieces fault → RefusesNodes file l manifest fault
 piece_refused file l manifest m fault told (inl e) = inl e
 piece_refused file l manifest m fault told (inr h) = inr (inr (m, told, inl h))
+
+-- the steps of the schedule are refused
+pub steps_refused : (file : List ℕ → Option (List ℕ)) (l : Parts) (manifest : List ℕ) (m : ManifestParts) (lists : List (List PlacedEvents)) (nodes : ℕ) (steps : List Step)
+    (fault : RunFault) → TellsManifest (file manifest) m → TellSegments file m.pieces lists → nodes ≡ m.nodes → steps ≡ world_steps lists m.schedule
+    → RefusesSteps l nodes steps fault → RefusesNodes file l manifest fault
+steps_refused file l manifest m lists nodes steps fault told tell n s h =
+    inr (inr (m, told, inr (lists, tell, subst (λ (ss : List Step). RefusesSteps l m.nodes ss fault) s (subst (λ (count : ℕ). RefusesSteps l count steps fault) n h))))
+
+-- the steps were done
+pub nodes_left : (file : List ℕ → Option (List ℕ)) (l : Parts) (manifest : List ℕ) (m : ManifestParts) (lists : List (List PlacedEvents)) (count : ℕ) (steps : List Step)
+    (nodes : List Held) → TellsManifest (file manifest) m → TellSegments file m.pieces lists → count ≡ m.nodes → steps ≡ world_steps lists m.schedule
+    → nodes ≡ nodes_after l count steps → AreNodesOf file l manifest nodes
+nodes_left file l manifest m lists count steps nodes told tell n s h =
+    (m, lists, told, tell, h ∙ ap (λ (k : ℕ). nodes_after l k steps) n ∙ ap (λ (ss : List Step). nodes_after l m.nodes ss) s)
 
 -- What refuses the node refuses the run.
 pub node_refused : (file : List ℕ → Option (List ℕ)) (l : Parts) (layout manifest : List ℕ) (fault : RunFault) → TellsLayout (file layout) l

@@ -46,7 +46,7 @@ traced all file (p ∷ ps) lists t = (
 
 known_of : SegmentsTellAll → (file : List ℕ → Option (List ℕ)) (pieces : List PieceParts) (lists : List (List PlacedEvents))
     → TellSegments file pieces lists → (view : View) × IsKnown file pieces view
-known_of all file pieces lists t = (view_of (flat_map facts_of_all lists), flat_map facts_of_all lists, traced all file pieces lists t, refl)
+known_of all file pieces lists t = (view_of (flat_map facts_of_all lists), (flat_map facts_of_all lists, traced all file pieces lists t, refl))
 
 -- a piece is refused after others that tell segments
 pub first_refused : SegmentsTellAll → (file : List ℕ → Option (List ℕ)) (pieces : List PieceParts) (i : ℕ) (piece : PieceParts) (lists : List (List PlacedEvents)) (fault : RunFault)

@@ -11,7 +11,7 @@ use Rattle.trace_world.specs.Worlds.{IsWorld, layouts}
 use Rattle.trace_world.specs.declared.step.Step.{Step}
 use Rattle.trace_world.specs.declared.step.WorldFault.{WorldFault}
 use Rattle.trace_world.specs.declared.step.WorldFault.TheVariants.{NoNode, NoMail, EmptyInbox, Rank, FrameLength, Stale, NodeCount, Memory}
-use Rattle.command_runs.specs.Replays.{NoneStale, RefusesStep, nodes_after}
+use Rattle.command_runs.specs.Replays.{NoneStale, RefusesStep, RefusesSteps, nodes_after, stop_of}
 use Rattle.command_runs.proofs.Nodes.{all_held, still_fresh}
 
 -- A new world is refused for its number of nodes, or for want of memory.
@@ -32,7 +32,7 @@ pub record IsNew (l : Parts) (nodes : ℕ) (w : WorldState) : Type 0 where
   pub fresh : stale w.nodes ≡ replicate nodes false
 
 count_of : (l : Parts) (nodes : ℕ) (w : WorldState) → IsNew l nodes w → length w.nodes ≡ nodes
-count_of l nodes w new = sym (length-map (λ (n : Held). n.is_stale) w.nodes) ∙ ap (λ (flags : List Bool). length flags) new.fresh ∙ length-replicate nodes false
+count_of l nodes w new = sym (length-map w.nodes (λ (n : Held). n.is_stale)) ∙ ap (λ (flags : List Bool). length flags) new.fresh ∙ length-replicate nodes false
 
 -- all steps were done
 pub all_done : (l : Parts) (nodes : ℕ) (steps : List Step) (old new : WorldState) → IsNew l nodes old → SameNodes old new
@@ -75,7 +75,7 @@ done_is k NodeCount stale = refl
 done_is k Memory stale = refl
 
 -- a step was refused, for no want of memory
-pub step_refused : (l : Parts) (nodes : ℕ) (steps : List Step) (old new : WorldState) (k : ℕ) (fault : WorldFault) → IsNew l nodes old → SameNodes old new
+step_refused : (l : Parts) (nodes : ℕ) (steps : List Step) (old new : WorldState) (k : ℕ) (fault : WorldFault) → IsNew l nodes old → SameNodes old new
     → IsWorld new.layout new.nodes new.inboxes new.mails → Follows old (take (done (k, fault)) steps) new → StopsAt new steps (k, fault)
     → (fault ≡ Stale → ⊥) → (fault ≡ Memory → ⊥) → RefusesStep l nodes steps k fault
 step_refused l nodes steps old new k fault is same world follows stops stale memory =
@@ -92,3 +92,16 @@ step_refused l nodes steps old new k fault is same world follows stops stale mem
       at = stops.1;
       refuses = refused_for (refusal new stops.0) fault stale memory (stops.2 (undone fault stale));
     }
+
+-- a run ended at a step
+pub stopped : (l : Parts) (nodes : ℕ) (steps : List Step) (old new : WorldState) (k : ℕ) (fault : WorldFault) → IsNew l nodes old → SameNodes old new
+    → IsWorld new.layout new.nodes new.inboxes new.mails → Follows old (take (done (k, fault)) steps) new → StopsAt new steps (k, fault)
+    → RefusesSteps l nodes steps (stop_of fault k)
+stopped l nodes steps old new k Stale is same world follows stops = tt
+stopped l nodes steps old new k Memory is same world follows stops = tt
+stopped l nodes steps old new k NoNode is same world follows stops = step_refused l nodes steps old new k NoNode is same world follows stops (λ e. cc e) (λ e. cc e)
+stopped l nodes steps old new k NoMail is same world follows stops = step_refused l nodes steps old new k NoMail is same world follows stops (λ e. cc e) (λ e. cc e)
+stopped l nodes steps old new k EmptyInbox is same world follows stops = step_refused l nodes steps old new k EmptyInbox is same world follows stops (λ e. cc e) (λ e. cc e)
+stopped l nodes steps old new k Rank is same world follows stops = step_refused l nodes steps old new k Rank is same world follows stops (λ e. cc e) (λ e. cc e)
+stopped l nodes steps old new k FrameLength is same world follows stops = step_refused l nodes steps old new k FrameLength is same world follows stops (λ e. cc e) (λ e. cc e)
+stopped l nodes steps old new k NodeCount is same world follows stops = step_refused l nodes steps old new k NodeCount is same world follows stops (λ e. cc e) (λ e. cc e)

@@ -12,6 +12,7 @@ use Rattle.trace_world.specs.Schedule.{after_all, opening}
 use Rattle.trace_world.specs.Shows.{Shows, WorldState, knowledge_of, most_nodes}
 use Rattle.trace_world.specs.declared.step.Step.{Step}
 use Rattle.trace_world.specs.declared.step.WorldFault.{WorldFault}
+use Rattle.trace_world.specs.declared.step.WorldFault.TheVariants as worlds
 use Rattle.input_files.specs.Layouts.{RefusesLayout}
 use Rattle.input_files.specs.Manifests.{ManifestParts, RefusesManifest}
 use Rattle.command_runs.specs.Inputs.{RefusesInput, TellsLayout, TellsManifest}
@@ -93,6 +94,17 @@ pub record RefusesStep (l : Parts) (nodes : ℕ) (steps : List Step) (k : ℕ) (
   pub shows : Shows world (after_all (take k steps) (opening nodes))
   pub at : slice_get steps k ≡ Some step
   pub refuses : refusal world step ≡ Some fault
+
+-- What the end of a run at a step is to a replay: memory was wanting, for the step or for its node's answer, or the step can't be done.
+abbrev pub stop_of : WorldFault → ℕ → RunFault
+stop_of worlds.Stale k = faults.Memory
+stop_of worlds.Memory k = faults.Memory
+stop_of worlds.NoNode k = faults.Step worlds.NoNode k
+stop_of worlds.NoMail k = faults.Step worlds.NoMail k
+stop_of worlds.EmptyInbox k = faults.Step worlds.EmptyInbox k
+stop_of worlds.Rank k = faults.Step worlds.Rank k
+stop_of worlds.FrameLength k = faults.Step worlds.FrameLength k
+stop_of worlds.NodeCount k = faults.Step worlds.NodeCount k
 
 -- Why so many nodes don't do these steps: they are none or too many, or one step can't be done.
 abbrev pub RefusesSteps : Parts → ℕ → List Step → RunFault → Type 0

@@ -4,7 +4,7 @@ ghost use Rattle.std.specs.Prelude.{◌≡◌, ◌⊎◌, ℕ, true, IfErr, IfOk
 ghost use Rattle.std.specs.Io.KnownBytes.{Appends, Keeps};
 ghost use Rattle.mpi_model.specs.Failures.{CountsFailure, HasFailed};
 ghost use Rattle.trace_node.specs.Node.{Held};
-ghost use Rattle.command_runs.specs.Replays.{AppendsFront, AreNodesOf, IsReplayOf, IsTextOf, NoneStale, RefusesNodes, RefusesReplay, RefusesSteps, node_line, node_text, nodes_after};
+ghost use Rattle.command_runs.specs.Replays.{AppendsFront, AreNodesOf, IsReplayOf, IsTextOf, NoneStale, RefusesNodes, RefusesReplay, RefusesSteps, node_line, node_text, nodes_after, stop_of};
 ghost use Rattle.command_runs.specs.Verbs.{BreaksOff};
 
 use crate::fault::RunFault;
@@ -98,10 +98,17 @@ fn world_after<'a>(
     world.known();
     match ran {
         Ok(()) => Ok(world),
-        Err((_, WorldFault::Memory)) => Err(RunFault::Memory),
-        // (a node loses its answer for want of memory alone)
-        Err((_, WorldFault::Stale)) => Err(RunFault::Memory),
-        Err((step, fault)) => Err(RunFault::Step { fault, step }),
+        Err((step, fault)) => Err(stop_of(fault, step)),
+    }
+}
+
+// What a run that ended at a step is to a replay: a node loses its answer for want of memory alone.
+fn stop_of(fault: WorldFault, step: usize) -> RunFault
+    ensures { result ≡ stop_of fault step }
+{
+    match fault {
+        WorldFault::Memory | WorldFault::Stale => RunFault::Memory,
+        _ => RunFault::Step { fault, step },
     }
 }
 

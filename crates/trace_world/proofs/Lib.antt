@@ -2,3 +2,5 @@ pub mod Following
 pub mod Keeping
 pub mod Equal
 pub mod Moving
+pub mod Mails
+pub mod Answers

@@ -5,3 +5,4 @@ pub mod Worlds
 pub mod Equal
 pub mod Codes
 pub mod Moves
+pub mod Answers

@@ -2,6 +2,7 @@
 
 ghost use Rattle.std.specs.Prelude.{◌≡◌, ◌↔◌, ◌<◌, IfOk, IfErr, IsErrOf, length};
 ghost use Rattle.std.specs.FinMap.{entries};
+ghost use Rattle.trace_wire.specs.declared.fault.WireFault.TheVariants.{Memory};
 ghost use Rattle.trace_wire.specs.Frames.{frame_of, HasFrame, payload, longest};
 ghost use Rattle.trace_world.specs.Refusals.{IsFrameFault};
 
@@ -41,8 +42,10 @@ impl Mail {
         match write_frame(know, &mut frame) {
             Ok(()) => Ok(Mail { frame }),
             Err(WireFault::Length) => Err(WorldFault::FrameLength),
-            // a writer in memory fails where no memory is left
-            Err(_) => Err(WorldFault::Memory),
+            // a writer in memory fails only where no memory is left
+            Err(WireFault::Write) => Err(WorldFault::Memory),
+            // `write_frame` takes no memory and reads nothing
+            Err(_) => unreachable!(),
         }
     }
 
@@ -52,7 +55,17 @@ impl Mail {
     {
         frame_laws();
         let mut letter = Letter::new(self.frame.bytes());
-        // a mail is a frame and a letter doesn't fail, so all that can lack is memory
-        read_frame(alloc, &mut letter).map_err(|_| AllocError)
+        match read_frame(alloc, &mut letter) {
+            Ok(know) => Ok(know),
+            // a mail is a frame, which nothing refuses, and a letter doesn't fail
+            Err(fault) => Err(want_of_memory(fault)),
+        }
     }
+}
+
+/// The fault of a reading that can lack nothing but memory.
+fn want_of_memory(_fault: WireFault) -> AllocError
+    requires { _fault ≡ Memory }
+{
+    AllocError
 }

@@ -4,6 +4,7 @@ ghost use Rattle.std.specs.Prelude.{◌≡◌, ◌<◌, ◌≤◌, ◌∷◌, �
 ghost use Rattle.std.specs.FinMap.{empty};
 ghost use Rattle.std.specs.List.{slice_get};
 ghost use Rattle.std.specs.Option.{option_map};
+ghost use Rattle.trace_world.specs.Answers.{AnswersAfter, AnswersAnew, AnswersMore, AnswersStill, LosesOne};
 ghost use Rattle.trace_world.specs.Refusals.{refusal, refusal_there, IsOutcome, IsCountFault, is_done, done, stale, NoneStaler, SameNodes, StopsAt};
 ghost use Rattle.trace_node.specs.Node.{held};
 ghost use Rattle.trace_world.specs.Schedule.{opening};
@@ -86,6 +87,7 @@ impl<'a> World<'a> {
         ensures undone { is_done result ≡ false → self.new ≡ self.old }
         ensures outcome { IsOutcome (refusal self.old step.now) result }
         ensures fresh { OnOk result (NoneStaler self.old.nodes self.new.nodes) }
+        ensures answers { AnswersAfter step.now result (stale self.old.nodes) (stale self.new.nodes) }
         ensures same { SameNodes self.old self.new }
     {
         let node = step.node();
@@ -107,6 +109,7 @@ impl<'a> World<'a> {
         ensures fresh { OnOk result (NoneStaler self.old.nodes self.new.nodes) }
         ensures err { IfErr result (λ e. (e.0 < length steps.now) × Follows self.old (take (done e) steps.now) self.new) }
         ensures cause { IfErr result (λ e. StopsAt self.new steps.now e) }
+        ensures lost { IfErr result (λ e. LosesOne steps.now e self.old.nodes self.new.nodes) }
         ensures same { SameNodes self.old self.new }
     {
         for k in 0..steps.len() {
@@ -168,6 +171,7 @@ impl<'a> World<'a> {
         ensures undone { is_done result ≡ false → self.new ≡ self.old }
         ensures outcome { IsOutcome (refusal_there self.old (Step.Post 0 node segment.now)) result }
         ensures fresh { self.new.nodes ≡ self.old.nodes }
+        ensures answers { AnswersStill result (stale self.old.nodes) (stale self.new.nodes) }
         ensures layout { self.new.layout ≡ self.old.layout }
     {
         if segment.rank() >= self.layout.ranks() {
@@ -183,6 +187,7 @@ impl<'a> World<'a> {
         ensures undone { is_done result ≡ false → self.new ≡ self.old }
         ensures outcome { IsOutcome (refusal_there self.old (Step.Take node)) result }
         ensures fresh { OnOk result (NoneStaler self.old.nodes self.new.nodes) }
+        ensures answers { AnswersMore node result (stale self.old.nodes) (stale self.new.nodes) }
         ensures same { SameNodes self.old self.new }
     {
         view_laws();
@@ -203,6 +208,7 @@ impl<'a> World<'a> {
         ensures undone { is_done result ≡ false → self.new ≡ self.old }
         ensures outcome { IsOutcome (refusal_there self.old (Step.Ship node)) result }
         ensures fresh { self.new.nodes ≡ self.old.nodes }
+        ensures answers { AnswersStill result (stale self.old.nodes) (stale self.new.nodes) }
         ensures layout { self.new.layout ≡ self.old.layout }
     {
         frame_laws();
@@ -219,6 +225,7 @@ impl<'a> World<'a> {
         ensures undone { is_done result ≡ false → self.new ≡ self.old }
         ensures outcome { IsOutcome (refusal_there self.old (Step.Deliver mail node)) result }
         ensures fresh { OnOk result (NoneStaler self.old.nodes self.new.nodes) }
+        ensures answers { AnswersMore node result (stale self.old.nodes) (stale self.new.nodes) }
         ensures same { SameNodes self.old self.new }
     {
         view_laws();
@@ -239,6 +246,7 @@ impl<'a> World<'a> {
         ensures undone { is_done result ≡ false → self.new ≡ self.old }
         ensures outcome { IsOutcome (refusal_there self.old (Step.Restart node)) result }
         ensures fresh { OnOk result (NoneStaler self.old.nodes self.new.nodes) }
+        ensures answers { AnswersAnew node result (stale self.old.nodes) (stale self.new.nodes) }
         ensures same { SameNodes self.old self.new }
     {
         let Ok(fresh) = Node::new(self.alloc, self.layout) else {

@@ -1,5 +1,6 @@
 use Rattle.std.proofs.Common.{◌<◌, length, slice_set}
 use Rattle.trace_world.specs.Shows.{WorldState}
+use Rattle.trace_world.proofs.Answers.{anew}
 use Rattle.trace_world.proofs.world.World.restart.Goals as goal
 use Rattle.std.proofs.Common.{subst, sym, arith, ap}
 use Rattle.trace_node.specs.Node.{Held}
@@ -17,3 +18,6 @@ returns-clause-done c = λ _. rw (← c.self.view_is) (restarts _ _ _ _ _ _ _ (r
 
 pub returns-clause-fresh : goal.returns-clause-fresh
 returns-clause-fresh c = rw (← c.self.view_is) (renewed_stale _ _ _ _ c.in-Ok.ensures)
+
+pub returns-clause-answers : goal.returns-clause-answers
+returns-clause-answers c = rw (← c.self.view_is) (anew _ _ _ _ c.in-Ok.ensures)

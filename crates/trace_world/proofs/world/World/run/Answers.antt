@@ -1,4 +1,5 @@
 use Rattle.std.proofs.Common.{refl}
+use Rattle.trace_world.proofs.Answers.{loses}
 use Rattle.trace_world.proofs.Following.{caused, goes_on, stops, same_then}
 use Rattle.trace_world.proofs.world.World.run.Goals as goal
 
@@ -17,3 +18,6 @@ returns-in-Err-clause-same c = same_then _ _ _ c.loop-k.invariant.same c.in-Err.
 
 pub returns-in-Err-clause-cause : goal.returns-in-Err-clause-cause
 returns-in-Err-clause-cause c = caused _ _ _ _ _ _ c.loop-k-test.true c.index-steps-k.is c.in-Err.ensures.outcome c.in-Err.ensures.undone
+
+pub returns-in-Err-clause-lost : goal.returns-in-Err-clause-lost
+returns-in-Err-clause-lost c = loses _ _ _ _ _ _ _ c.loop-k-test.true c.index-steps-k.is c.loop-k.invariant.fresh c.in-Err.ensures.answers c.in-Err.ensures.undone

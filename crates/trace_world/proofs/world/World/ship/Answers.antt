@@ -1,8 +1,9 @@
-use Rattle.std.proofs.Common.{◌≡◌, ◌<◌, length, subst, sym, ◌∙◌}
+use Rattle.std.proofs.Common.{◌≡◌, ◌<◌, length, refl, subst, sym, ◌∙◌}
 use Rattle.std.specs.Prelude.{slice_index_or}
 use Rattle.std.specs.FinMap.{empty}
 use Rattle.trace_node.specs.Node.{IsWithin}
 use Rattle.trace_world.specs.Shows.{WorldState, knows}
+use Rattle.trace_world.proofs.Answers.{still}
 use Rattle.trace_world.proofs.Following.{ships, added}
 use Rattle.trace_world.proofs.Keeping.{ship_keeps}
 use Rattle.trace_world.proofs.Moving.{of_layout, know_at}
@@ -20,3 +21,6 @@ returns-clause-done c =
     let there = (subst (λ (w : WorldState). c.args.node < length w.nodes) (sym c.self.view_is) c.requires.there) in
     let known : c.know.result.now ≡ slice_index_or (knows c.self.inside.nodes.items) c.args.node empty = c.know.ensures ∙ know_at _ _ _ there c.index-place.ensures in
     λ went. rw (← c.self.view_is) (ships _ _ _ _ _ _ _ known c.in_ok-mail.ensures.ok.1 (added _ _ _ _ _ c.in_ok-mail.ensures.ok.0 c.add.ensures.ok c.add.ensures.err went))
+
+pub returns-clause-answers : goal.returns-clause-answers
+returns-clause-answers c = rw (← c.self.view_is) (still _ _ _ _ c.add.ensures.err refl)

@@ -1,0 +1,90 @@
+-- Which nodes have an answer after a step.
+use Rattle.std.proofs.Common.{◌≡◌, ◌≢◌, ◌<◌, ℕ, Bool, true, false, Some, Ok, Err, IfErr, Result, List, get_or, set, refl, sym, ap, ◌∙◌, subst}
+use Rattle.std.specs.Prelude.{slice_set, slice_index_or, length}
+use Rattle.std.proofs.lemmas.List.{map-set, set-get_or, get_or-set_other}
+use Rattle.std.proofs.lemmas.Option.{slice_get-get_or}
+use Rattle.std.specs.FinMap.{empty}
+use Rattle.mpi_model.specs.Layouts.{Parts}
+use Rattle.trace_know.specs.View.{View}
+use Rattle.trace_node.specs.Node.{Held, held}
+use Rattle.trace_world.specs.declared.step.Step.{Step}
+use Rattle.trace_world.specs.declared.step.Step.TheVariants.{Post, Take, Ship, Deliver, Restart}
+use Rattle.trace_world.specs.declared.step.WorldFault.{WorldFault}
+use Rattle.trace_world.specs.declared.step.WorldFault.TheVariants.{NoNode, NoMail, EmptyInbox, Rank, FrameLength, Stale, NodeCount, Memory}
+use Rattle.trace_world.specs.Answers.{AnswersMore, AnswersStill, AnswersAfter, LosesOne}
+use Rattle.trace_world.specs.Moves.{Learns}
+use Rattle.trace_world.specs.Refusals.{IsFrameFault, NoneStaler, is_done, node_of, stale}
+use Rattle.trace_world.specs.Shows.{WorldState}
+
+-- a node that had an answer, and has one
+kept : (old : List Bool) (node : ℕ) → slice_index_or old node true ≡ false → slice_set old node false ≡ old
+kept old node had = ap (λ b. set old node b) (sym had) ∙ set-get_or old node true
+
+-- one node was given more
+pub more : (old new : List Held) (node : ℕ) (view : View) (result : Result (Unit {0}) WorldFault) → Learns old node view result new → AnswersMore node result (stale old) (stale new)
+more old new node view (Ok x) h = (h.0, h.1.stale ∙ kept (stale old) node h.0)
+more old new node view (Err Stale) h = h.stale
+more old new node view (Err Memory) h = ap stale h
+more old new node view (Err NoNode) h = absurd h
+more old new node view (Err NoMail) h = absurd h
+more old new node view (Err EmptyInbox) h = absurd h
+more old new node view (Err Rank) h = absurd h
+more old new node view (Err FrameLength) h = absurd h
+more old new node view (Err NodeCount) h = absurd h
+
+-- nodes that are as they were, where all that can lack is memory
+pub still : (P : Type 0) (old new : List Held) (result : Result (Unit {0}) WorldFault) → IfErr result (λ fault. (fault ≡ Memory) × P) → new ≡ old → AnswersStill result (stale old) (stale new)
+still P old new (Ok x) h e = ap stale e
+still P old new (Err fault) h e = subst (λ f. AnswersStill (Err f) (stale old) (stale new)) (sym h.0) (ap stale e)
+
+-- there is no frame of what is known
+pub unframed : (view : View) (fault : WorldFault) (nodes : List Bool) → IsFrameFault view fault → AnswersStill (Err fault) nodes nodes
+unframed view FrameLength nodes h = refl
+unframed view Memory nodes h = refl
+unframed view NoNode nodes h = absurd h
+unframed view NoMail nodes h = absurd h
+unframed view EmptyInbox nodes h = absurd h
+unframed view Rank nodes h = absurd h
+unframed view Stale nodes h = absurd h
+unframed view NodeCount nodes h = absurd h
+
+-- a node that is as new in the place of one
+pub anew : (nodes : List Held) (node : ℕ) (new : Held) (layout : Parts) → new ≡ held layout empty false → stale (slice_set nodes node new) ≡ slice_set (stale nodes) node false
+anew nodes node new layout e = map-set (λ (n : Held). n.is_stale) nodes node new ∙ ap (λ (n : Held). set (stale nodes) node n.is_stale) e
+
+-- a step of a node that isn't there
+pub nowhere : (step : Step) (nodes : List Bool) → AnswersAfter step (Err NoNode) nodes nodes
+nowhere (Post worker node segment) nodes = refl
+nowhere (Take node) nodes = refl
+nowhere (Ship node) nodes = refl
+nowhere (Deliver mail node) nodes = refl
+nowhere (Restart node) nodes = refl
+
+-- what is left of a step that was not done
+same_then : (old : List Held) (mid new : WorldState) → NoneStaler old mid.nodes → new ≡ mid → NoneStaler old new.nodes
+same_then old mid new so_far e = subst (λ (w : WorldState). NoneStaler old w.nodes) (sym e) so_far
+
+-- a node that joined more and has no answer now
+one_lost : (old mid new : List Held) (node : ℕ) → NoneStaler old mid → stale new ≡ slice_set (stale mid) node true → (i : ℕ) → i ≢ node → slice_index_or (stale old) i false ≡ false → slice_index_or (stale new) i false ≡ false
+one_lost old mid new node so_far e i other had = ap (λ l. slice_index_or l i false) e ∙ get_or-set_other (stale mid) node i true false other ∙ so_far i had
+
+-- which answer was lost where a step ended in `Stale`
+lost : (old mid new : List Held) (x : Step) → NoneStaler old mid → AnswersAfter x (Err Stale) (stale mid) (stale new)
+    → (i : ℕ) → i ≢ node_of x → slice_index_or (stale old) i false ≡ false → slice_index_or (stale new) i false ≡ false
+lost old mid new (Post worker node segment) so_far h = absurd h
+lost old mid new (Take node) so_far h = one_lost old mid new node so_far h
+lost old mid new (Ship node) so_far h = absurd h
+lost old mid new (Deliver mail node) so_far h = one_lost old mid new node so_far h
+lost old mid new (Restart node) so_far h = absurd h
+
+-- where a run ends
+pub loses : (old : List Held) (mid new : WorldState) (steps : List Step) (k : ℕ) (x : Step) (fault : WorldFault) → k < length steps → x ≡ get_or steps k x → NoneStaler old mid.nodes
+    → AnswersAfter x (Err fault) (stale mid.nodes) (stale new.nodes) → (is_done (Err fault) ≡ false → new ≡ mid) → LosesOne steps (k, fault) old new.nodes
+loses old mid new steps k x Stale lt is so_far h undone = (x, slice_get-get_or steps k x lt ∙ ap Some (sym is), lost old mid.nodes new.nodes x so_far h)
+loses old mid new steps k x NoNode lt is so_far h undone = same_then old mid new so_far (undone refl)
+loses old mid new steps k x NoMail lt is so_far h undone = same_then old mid new so_far (undone refl)
+loses old mid new steps k x EmptyInbox lt is so_far h undone = same_then old mid new so_far (undone refl)
+loses old mid new steps k x Rank lt is so_far h undone = same_then old mid new so_far (undone refl)
+loses old mid new steps k x FrameLength lt is so_far h undone = same_then old mid new so_far (undone refl)
+loses old mid new steps k x NodeCount lt is so_far h undone = same_then old mid new so_far (undone refl)
+loses old mid new steps k x Memory lt is so_far h undone = same_then old mid new so_far (undone refl)

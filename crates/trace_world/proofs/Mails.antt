@@ -1,0 +1,31 @@
+-- A mail is a frame, so reading it fails only for want of memory.
+use Rattle.std.proofs.Common.{◌≡◌, ℕ, List, [], ◌++◌, Err, Some, refl, sym, ◌∙◌, arith}
+use Rattle.std.specs.FinMap.{entries}
+use Rattle.std.proofs.lemmas.List.{append-nil}
+use Rattle.trace_wire.specs.declared.fault.WireFault.{WireFault}
+use Rattle.trace_wire.specs.declared.fault.WireFault.TheVariants.{Memory, Read, Write, Magic, Version, Length, Short, Order, Content, Rest}
+use Rattle.trace_wire.specs.FirstFault.{frame_at}
+use Rattle.trace_wire.specs.Frames.{Entry, HasFrame, frame}
+use Rattle.trace_wire.specs.Reading.{IsUnread}
+use Rattle.trace_world.specs.Worlds.{IsFrame}
+
+-- where a frame stands in front nothing is refused, as `frame_laws` tells
+abbrev pub NoRefusalLaw : Type 0
+NoRefusalLaw = (bytes rest : List ℕ) (es : List Entry) (fault : WireFault) → HasFrame es → bytes ≡ frame es ++ rest → frame_at bytes ≡ Err fault → ⊥
+
+-- a frame is not refused
+unrefused : NoRefusalLaw → (bytes : List ℕ) (fault : WireFault) → IsFrame bytes → frame_at bytes ≡ Err fault → ⊥
+unrefused law bytes fault is refused = law bytes [] (entries is.0) fault is.2 (is.1 ∙ sym (append-nil (frame (entries is.0)))) refused
+
+-- a frame that could not be read, by a reader that never fails
+pub only_memory : NoRefusalLaw → (bytes : List ℕ) (fault : WireFault) → IsFrame bytes → IsUnread (Some bytes) 0 0 fault → fault ≡ Memory
+only_memory law bytes Memory is h = refl
+only_memory law bytes Read is h = absurd (omega (arith, h))
+only_memory law bytes Write is h = absurd h
+only_memory law bytes Magic is h = absurd (unrefused law bytes Magic is h.1)
+only_memory law bytes Version is h = absurd (unrefused law bytes Version is h.1)
+only_memory law bytes Length is h = absurd (unrefused law bytes Length is h.1)
+only_memory law bytes Short is h = absurd (unrefused law bytes Short is h.1)
+only_memory law bytes Order is h = absurd (unrefused law bytes Order is h.1)
+only_memory law bytes Content is h = absurd (unrefused law bytes Content is h.1)
+only_memory law bytes Rest is h = absurd (unrefused law bytes Rest is h.1)

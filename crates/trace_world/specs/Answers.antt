@@ -1,0 +1,42 @@
+-- Which nodes have an answer after a step, and after a run that ended before its last step.
+use Rattle.std.specs.Prelude.{◌≡◌, ◌≢◌, ℕ, Bool, true, false, Result, Ok, Err, Some, List, slice_index_or, slice_set}
+use Rattle.std.specs.List.{slice_get}
+use Rattle.trace_node.specs.Node.{Held}
+use Rattle.trace_world.specs.declared.step.Step.{Step}
+use Rattle.trace_world.specs.declared.step.Step.TheVariants.{Post, Take, Ship, Deliver, Restart}
+use Rattle.trace_world.specs.declared.step.WorldFault.{WorldFault}
+use Rattle.trace_world.specs.declared.step.WorldFault.TheVariants.{Stale}
+use Rattle.trace_world.specs.Refusals.{NoneStaler, node_of, stale}
+
+-- A node was to join more. Where that was accepted it had an answer, and has one; at `Stale` it has none; and a refusal
+-- leaves it what it had. No other node has gained or lost an answer.
+abbrev pub AnswersMore : ℕ → Result (Unit {0}) WorldFault → List Bool → List Bool → Type 0
+AnswersMore node (Ok done) old new = (slice_index_or old node true ≡ false) × (new ≡ old)
+AnswersMore node (Err Stale) old new = new ≡ slice_set old node true
+AnswersMore node (Err fault) old new = new ≡ old
+
+-- A node was to start anew. Where that was accepted it has an answer.
+abbrev pub AnswersAnew : ℕ → Result (Unit {0}) WorldFault → List Bool → List Bool → Type 0
+AnswersAnew node (Ok done) old new = new ≡ slice_set old node false
+AnswersAnew node (Err Stale) old new = ⊥
+AnswersAnew node (Err fault) old new = new ≡ old
+
+-- No node was to make an answer, and none has gained or lost one.
+abbrev pub AnswersStill : Result (Unit {0}) WorldFault → List Bool → List Bool → Type 0
+AnswersStill (Err Stale) old new = ⊥
+AnswersStill result old new = new ≡ old
+
+-- Of each node, whether it had no answer before a step and whether it has none after it. Only takes and deliveries leave
+-- a node without one.
+abbrev pub AnswersAfter : Step → Result (Unit {0}) WorldFault → List Bool → List Bool → Type 0
+AnswersAfter (Post worker node segment) result old new = AnswersStill result old new
+AnswersAfter (Take node) result old new = AnswersMore node result old new
+AnswersAfter (Ship node) result old new = AnswersStill result old new
+AnswersAfter (Deliver mail node) result old new = AnswersMore node result old new
+AnswersAfter (Restart node) result old new = AnswersAnew node result old new
+
+-- A run ended at one of its steps. No node that had an answer has lost it, but where that step ended in `Stale` its own
+-- node has.
+abbrev pub LosesOne : List Step → ℕ × WorldFault → List Held → List Held → Type 0
+LosesOne steps (k, Stale) old new = (step : Step) × (slice_get steps k ≡ Some step) × ((i : ℕ) → i ≢ node_of step → slice_index_or (stale old) i false ≡ false → slice_index_or (stale new) i false ≡ false)
+LosesOne steps (k, fault) old new = NoneStaler old new
