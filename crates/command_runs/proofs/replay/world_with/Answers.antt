@@ -18,7 +18,7 @@ returns-clause-ok g c =
     let file = g.O.Opener.file c.args.files.now in
     let told : TellSegments file c.in-Ok.manifest.pieces (held_lists c.in-Ok-segments_of_all.lists.items) =
     rw (c.manifest_at.ensures.same, c.pieces.ensures) at c.in-Ok-segments_of_all.ensures.ok in
-    let steps : c.in-Ok-world_steps.steps.items ≡ world_steps (held_lists c.in-Ok-segments_of_all.lists.items) c.in-Ok.manifest.schedule = search rules in
+    let steps : c.deref-2.result.now ≡ world_steps (held_lists c.in-Ok-segments_of_all.lists.items) c.in-Ok.manifest.schedule = search rules in
     IfOk-weaker c.world_after.result _ _ (λ w h. nodes_left file c.args.layout.now c.args.manifest_name.now c.in-Ok.manifest (held_lists c.in-Ok-segments_of_all.lists.items) _ _ _
     c.in-Ok.ensures.ok told c.nodes.ensures steps h) c.world_after.ensures.ok
 
@@ -27,6 +27,6 @@ returns-clause-err g c =
     let file = g.O.Opener.file c.args.files.now in
     let told : TellSegments file c.in-Ok.manifest.pieces (held_lists c.in-Ok-segments_of_all.lists.items) =
     rw (c.manifest_at.ensures.same, c.pieces.ensures) at c.in-Ok-segments_of_all.ensures.ok in
-    let steps : c.in-Ok-world_steps.steps.items ≡ world_steps (held_lists c.in-Ok-segments_of_all.lists.items) c.in-Ok.manifest.schedule = search rules in
+    let steps : c.deref-2.result.now ≡ world_steps (held_lists c.in-Ok-segments_of_all.lists.items) c.in-Ok.manifest.schedule = search rules in
     IfErr-weaker c.world_after.result _ _ (λ fault h. steps_refused file c.args.layout.now c.args.manifest_name.now c.in-Ok.manifest (held_lists c.in-Ok-segments_of_all.lists.items) _ _ fault
     c.in-Ok.ensures.ok told c.nodes.ensures steps h) c.world_after.ensures.err
