@@ -23,6 +23,9 @@ use thiserror::Error;
 pub enum Verb {
     /// Print the report of a trace.
     Report,
+    /// Run a schedule of posts, takes, shipments, deliveries and restarts, and print the report of
+    /// each node.
+    Replay,
 }
 
 /// A verb with the names of its two files, as the words spell them.
@@ -107,6 +110,21 @@ const REPORT_HELP: &str =
 Call n of a rank has the places 2n, where it was entered, and 2n + 1, where it returned.
 "#;
 
+// What the help of `replay` says below its arguments.
+const REPLAY_HELP: &str =
+    r#"It runs the manifest's schedule step by step and prints, for each node N from 0 on, the line node N
+and the report of what that node knows then (mpimatch help report says what its lines mean):
+  ["post",WORKER,NODE,PIECE]   a worker puts the segments of a piece into the node's inbox
+  ["take",NODE]                the node takes the first segment of its inbox
+  ["ship",NODE]                what the node knows becomes the next mail
+  ["deliver",MAIL,NODE]        what a mail holds is joined into what the node knows
+  ["restart",NODE]             the node forgets what it knows, and its inbox is emptied
+Nodes, pieces and mails are numbered from 0, and a worker has a number up to 255.
+"nodes" is the number of nodes, 1 where it is absent, and at most 64.
+A step that can't be done ends the run with 1 and a line such as V3 EmptyInbox at step K, where K
+counts the steps that were run from 0, a post of several segments as several.
+"#;
+
 // What the help says below the verbs.
 const MORE_HELP: &str = r#"Example: mpimatch report layout.json manifest.json
 
@@ -117,13 +135,15 @@ receive, and buffer where it does not.
 
 MANIFEST has the text files of the trace, each with its rank and the number of its first call:
   {"pieces":[{"rank":0,"first":0,"file":"r0.txt"},{"rank":1,"first":0,"file":"r1.txt"}]}
+and for replay also "nodes" and a "schedule": mpimatch help replay says what it may hold.
 Calls of a rank are numbered from 0. Files are named from the folder in which mpimatch runs.
 
-It ends with 0 and the report, with 2 for a mistake in the words, or with 1 and a line on standard
-error where an input is refused:
+It ends with 0 and what the verb prints, with 2 for a mistake in the words, or with 1 and a line on
+standard error where an input is refused:
   M1 File PATH      it is missing, unreadable, a folder, or has more than 16,777,216 bytes
   M2 Json in PATH   it is no JSON text in UTF-8
   M3 Shape in PATH  a field is missing, of another kind, or out of its range
+  M4 Piece in PATH  the schedule posts a piece that is not listed
 Other lines name a rule of layouts, or a file and its line: docs/formats.md has them all.
 "#;
 
@@ -136,12 +156,19 @@ fn program_command<'a>(alloc: Global) -> Result<Command<'a>, AllocError>
         "Prints who received what from whom, and which ranks are stuck",
         REPORT_HELP,
     )?;
+    let replay = verb_command(
+        alloc,
+        "replay",
+        "Runs a schedule of nodes that exchange what they know, and prints the report of each",
+        REPLAY_HELP,
+    )?;
     Command::new(alloc, "mpimatch")
         .about("Tells what the trace of an MPI run says of its ranks, after the run")
         .version("0.1.0")
         .after_help(MORE_HELP)
         .subcommand_required(true)
-        .subcommand(report)
+        .subcommand(report)?
+        .subcommand(replay)
 }
 
 fn verb_command<'a>(
@@ -182,6 +209,8 @@ fn verb_of(name: &str) -> Option<Verb>
 {
     if name == "report" {
         Some(Verb::Report)
+    } else if name == "replay" {
+        Some(Verb::Replay)
     } else {
         None
     }

@@ -4,7 +4,7 @@ use command_line::{CommandFault, Verb, command_of};
 use std::alloc::Global;
 
 /// Words, and the status with which the program ends on them
-static REFUSED: [(&str, &[&str], i32); 12] = [
+static REFUSED: [(&str, &[&str], i32); 15] = [
     ("none", &["mpimatch"], 2),
     ("no files", &["mpimatch", "report"], 2),
     ("one too few", &["mpimatch", "report", "l.json"], 2),
@@ -16,9 +16,15 @@ static REFUSED: [(&str, &[&str], i32); 12] = [
     ("no verb", &["mpimatch", "draw", "l.json", "m.json"], 2),
     (
         "a verb to come",
-        &["mpimatch", "replay", "l.json", "m.json"],
+        &["mpimatch", "cluster", "l.json", "m.json"],
         2,
     ),
+    (
+        "a verb in capitals",
+        &["mpimatch", "Replay", "l.json", "m.json"],
+        2,
+    ),
+    ("replay of one file", &["mpimatch", "replay", "l.json"], 2),
     (
         "an option",
         &["mpimatch", "report", "--fast", "l.json", "m.json"],
@@ -28,21 +34,37 @@ static REFUSED: [(&str, &[&str], i32); 12] = [
     ("short help", &["mpimatch", "-h"], 0),
     ("the word help", &["mpimatch", "help"], 0),
     ("help of a verb", &["mpimatch", "report", "--help"], 0),
+    ("help of replay", &["mpimatch", "help", "replay"], 0),
     ("version", &["mpimatch", "--version"], 0),
 ];
 
-/// Words, and the two files that they name
-static ASKED: [(&str, &[&str], &str, &str); 3] = [
+/// Words, the verb that they ask for, and the two files that they name
+static ASKED: [(&str, &[&str], Verb, &str, &str); 4] = [
     (
         "report",
         &["mpimatch", "report", "l.json", "m.json"],
+        Verb::Report,
         "l.json",
         "m.json",
     ),
-    ("no program name", &["", "report", "a", "b"], "a", "b"),
+    (
+        "replay",
+        &["mpimatch", "replay", "l.json", "m.json"],
+        Verb::Replay,
+        "l.json",
+        "m.json",
+    ),
+    (
+        "no program name",
+        &["", "report", "a", "b"],
+        Verb::Report,
+        "a",
+        "b",
+    ),
     (
         "a file like an option",
         &["mpimatch", "report", "--", "-l", "m"],
+        Verb::Report,
         "-l",
         "m",
     ),
@@ -56,12 +78,13 @@ fn status_of(alloc: Global, words: &'static [&'static str]) -> Option<i32> {
     }
 }
 
-/// The two files that these words name, where they ask for a report.
-fn files_of(alloc: Global, words: &'static [&'static str]) -> Option<(&'static str, &'static str)> {
-    match command_of(alloc, words) {
-        Ok(asked) if asked.verb == Verb::Report => Some((asked.layout, asked.manifest)),
-        _ => None,
-    }
+/// The verb that these words ask for, and the two files that they name.
+fn asked_of(
+    alloc: Global,
+    words: &'static [&'static str],
+) -> Option<(Verb, &'static str, &'static str)> {
+    let asked = command_of(alloc, words).ok()?;
+    Some((asked.verb, asked.layout, asked.manifest))
 }
 
 #[test]
@@ -73,10 +96,10 @@ fn words_that_ask_for_nothing(rt: HostRuntime) {
 }
 
 #[test]
-fn words_that_ask_for_a_report(rt: HostRuntime) {
+fn words_that_ask_for_a_verb(rt: HostRuntime) {
     for row in &ASKED {
-        let (name, words, layout, manifest) = *row;
-        let found = files_of(rt.alloc(), words);
-        assert!(rt; found == Some((layout, manifest)), "{name}");
+        let (name, words, verb, layout, manifest) = *row;
+        let found = asked_of(rt.alloc(), words);
+        assert!(rt; found == Some((verb, layout, manifest)), "{name}");
     }
 }

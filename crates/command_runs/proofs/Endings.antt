@@ -7,14 +7,13 @@ use Rattle.command_line.specs.Program.{Refuses, Request}
 use Rattle.command_line.specs.declared.CommandFault.{CommandFault}
 use Rattle.command_runs.specs.Endings.{Ask, IsEnding, IsEndingFor, Output}
 use Rattle.command_runs.specs.FaultLines.{fault_line_of}
-use Rattle.command_runs.specs.Refusals.{RefusesRun}
-use Rattle.command_runs.specs.Runs.{IsReportOf}
+use Rattle.command_runs.specs.Verbs.{IsOutputOf, RefusesVerb}
 use Rattle.command_runs.specs.declared.fault.RunFault.{RunFault}
 use Rattle.command_runs.specs.declared.fault.RunFault.TheVariants.{Memory, Write}
 
--- the report was written
+-- what was asked for was written
 pub reported : (file : List ℕ → Option (List ℕ)) (words : List Text) (request : Request) (text errors : List ℕ) (old new : Output)
-    → Ask words request → IsReportOf file request.layout request.manifest text → Appends old.bytes new.bytes text → errors ≡ []
+    → Ask words request → IsOutputOf file request.verb request.layout request.manifest text → Appends old.bytes new.bytes text → errors ≡ []
     → IsEnding file words 0 errors old new
 reported file words request text errors old new ask is appends silent = inl (refl, (silent, inl (request, ask, text, is, appends)))
 
@@ -23,10 +22,10 @@ pub wanting : (file : List ℕ → Option (List ℕ)) (words : List Text) (error
     → errors ≡ fault_line_of Memory → Keeps old.bytes new.bytes → IsEnding file words 1 errors old new
 wanting file words errors old new line kept = inr (inl (refl, (Memory, line, inr (kept, inl refl))))
 
--- the run is refused, or its report could not be written
+-- the run is refused, or its output could not be written
 pub not_reported : (file : List ℕ → Option (List ℕ)) (words : List Text) (request : Request) (fault : RunFault) (errors : List ℕ) (old new : Output)
     → Ask words request → errors ≡ fault_line_of fault
-    → (fault ≡ Write) ⊎ RefusesRun file request.layout request.manifest fault → (fault ≡ Write) ⊎ Keeps old.bytes new.bytes
+    → (fault ≡ Write) ⊎ RefusesVerb file request.verb request.layout request.manifest fault → (fault ≡ Write) ⊎ Keeps old.bytes new.bytes
     → (fault ≡ Write → HasFailed old.failures new.failures) → IsEnding file words 1 errors old new
 not_reported file words request fault errors old new ask line (inl writing) kept failed = inr (inl (refl, (fault, line, inl (writing, failed writing))))
 not_reported file words request fault errors old new ask line (inr refused) (inl writing) failed = inr (inl (refl, (fault, line, inl (writing, failed writing))))

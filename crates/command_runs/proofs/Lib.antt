@@ -1,6 +1,9 @@
 pub mod Endings
 pub mod Told
 pub mod Traces
+pub mod Segments
+pub mod Nodes
+pub mod Worlds
 pub mod Within
 pub mod Refusals
 pub mod Reports

@@ -1,12 +1,17 @@
 -- What is refused before anything is written is no failure of writing.
-use Rattle.std.proofs.Common.{◌≡◌, inl, inr, ℕ, List, Option, Result, Err, Bool, subst}
+use Rattle.std.proofs.Common.{◌≡◌, ◌∙◌, ◌⊎◌, ap, inl, inr, ℕ, List, Option, Result, Err, Bool, subst}
 use Rattle.mpi_model.specs.Layouts.{Parts}
 use Rattle.input_files.specs.declared.fault.InputFault.{InputFault}
 use Rattle.input_files.specs.declared.fault.InputFault.TheVariants as inputs
-use Rattle.input_files.specs.Manifests.{PieceParts, RefusesManifest}
-use Rattle.command_runs.specs.Inputs.{IsFaultOf, RefusesInput, TellsLayout}
+use Rattle.trace_know.specs.Segment.{PlacedEvents}
+use Rattle.trace_node.specs.Node.{Held}
+use Rattle.trace_world.specs.declared.step.Step.{Step}
+use Rattle.input_files.specs.Manifests.{ManifestParts, PieceParts, RefusesManifest}
+use Rattle.command_runs.specs.Inputs.{IsFaultOf, RefusesInput, TellsLayout, TellsManifest}
 use Rattle.command_runs.specs.Nodes.{RefusesNode}
-use Rattle.command_runs.specs.Refusals.{RefusesPieces, RefusesRun}
+use Rattle.command_runs.specs.Refusals.{RefusesFirst, RefusesPieces, RefusesRun}
+use Rattle.command_runs.specs.Replays.{AreNodesOf, RefusesNodes, RefusesReplay, RefusesSteps, nodes_after}
+use Rattle.command_runs.specs.Schedules.{TellSegments, world_steps}
 use Rattle.command_runs.specs.declared.fault.RunFault.{RunFault}
 use Rattle.command_runs.specs.declared.fault.RunFault.TheVariants.{Memory, Write}
 
@@ -17,6 +22,7 @@ fault_is_not_writing : (name : List ℕ) (cause : InputFault) → IsFaultOf name
 fault_is_not_writing name inputs.Memory h = memory_is_not_writing h
 fault_is_not_writing name inputs.Json h = h
 fault_is_not_writing name inputs.Shape h = h
+fault_is_not_writing name inputs.Piece h = h
 fault_is_not_writing name (inputs.Layout broken) h = h
 
 input_is_not_writing : (refuses : List ℕ → InputFault → Type 0) (name : List ℕ) (file : Option (List ℕ)) → RefusesInput refuses name file Write → ⊥
@@ -42,6 +48,47 @@ one_fault fault answer is writes = cc (is, writes)
 pub no_writing : (file : List ℕ → Option (List ℕ)) (layout manifest : List ℕ) (fault : RunFault) (answer : Result Bool RunFault) → RefusesRun file layout manifest fault
     → answer ≡ Err fault → answer ≡ Err Write → ⊥
 no_writing file layout manifest fault answer h is writes = run_is_not_writing file layout manifest (subst (RefusesRun file layout manifest) (one_fault fault answer is writes) h)
+
+nodes_are_not_writing : (file : List ℕ → Option (List ℕ)) (l : Parts) (manifest : List ℕ) → RefusesNodes file l manifest Write → ⊥
+nodes_are_not_writing file l manifest (inl e) = memory_is_not_writing e
+nodes_are_not_writing file l manifest (inr (inl h)) = input_is_not_writing RefusesManifest manifest (file manifest) h
+nodes_are_not_writing file l manifest (inr (inr h)) = elim h.2 [
+  | inl first ↦ first.4
+  | inr steps ↦ steps.2
+]
+
+replay_is_not_writing : (file : List ℕ → Option (List ℕ)) (layout manifest : List ℕ) → RefusesReplay file layout manifest Write → ⊥
+replay_is_not_writing file layout manifest (inl e) = memory_is_not_writing e
+replay_is_not_writing file layout manifest (inr (inl h)) = input_is_not_writing _ layout (file layout) h
+replay_is_not_writing file layout manifest (inr (inr h)) = nodes_are_not_writing file h.0 manifest h.2
+
+-- A replay that is refused for this has not failed in writing.
+pub no_writing_yet : (file : List ℕ → Option (List ℕ)) (layout manifest : List ℕ) (fault : RunFault) (answer : Result Bool RunFault) → RefusesReplay file layout manifest fault
+    → answer ≡ Err fault → answer ≡ Err Write → ⊥
+no_writing_yet file layout manifest fault answer h is writes =
+    replay_is_not_writing file layout manifest (subst (RefusesReplay file layout manifest) (one_fault fault answer is writes) h)
+
+-- ---- the parts of a replay
+
+-- a piece is refused, or memory was wanting
+pub piece_refused : (file : List ℕ → Option (List ℕ)) (l : Parts) (manifest : List ℕ) (m : ManifestParts) (fault : RunFault) → TellsManifest (file manifest) m
+    → (fault ≡ Memory) ⊎ RefusesFirst file m.pieces fault → RefusesNodes file l manifest fault
+piece_refused file l manifest m fault told (inl e) = inl e
+piece_refused file l manifest m fault told (inr h) = inr (inr (m, told, inl h))
+
+-- the steps of the schedule are refused
+pub steps_refused : (file : List ℕ → Option (List ℕ)) (l : Parts) (manifest : List ℕ) (m : ManifestParts) (lists : List (List PlacedEvents)) (nodes : ℕ) (steps : List Step)
+    (fault : RunFault) → TellsManifest (file manifest) m → TellSegments file m.pieces lists → nodes ≡ m.nodes → steps ≡ world_steps lists m.schedule
+    → RefusesSteps l nodes steps fault → RefusesNodes file l manifest fault
+steps_refused file l manifest m lists nodes steps fault told tell n s h =
+    inr (inr (m, told, inr (lists, tell, subst (λ (ss : List Step). RefusesSteps l m.nodes ss fault) s (subst (λ (count : ℕ). RefusesSteps l count steps fault) n h))))
+
+-- the steps were done
+pub nodes_left : (file : List ℕ → Option (List ℕ)) (l : Parts) (manifest : List ℕ) (m : ManifestParts) (lists : List (List PlacedEvents)) (count : ℕ) (steps : List Step)
+    (nodes : List Held) → TellsManifest (file manifest) m → TellSegments file m.pieces lists → count ≡ m.nodes → steps ≡ world_steps lists m.schedule
+    → nodes ≡ nodes_after l count steps → AreNodesOf file l manifest nodes
+nodes_left file l manifest m lists count steps nodes told tell n s h =
+    (m, lists, told, tell, h ∙ ap (λ (k : ℕ). nodes_after l k steps) n ∙ ap (λ (ss : List Step). nodes_after l m.nodes ss) s)
 
 -- What refuses the node refuses the run.
 pub node_refused : (file : List ℕ → Option (List ℕ)) (l : Parts) (layout manifest : List ℕ) (fault : RunFault) → TellsLayout (file layout) l

@@ -12,9 +12,9 @@ use Rattle.dumpi_calls.specs.declared.fault.WalkCause.TheVariants as causes
 use Rattle.dumpi_calls.specs.declared.fault.WalkFault.{WalkFault}
 use Rattle.dumpi_calls.specs.declared.walking.Walked.{Walked}
 use Rattle.command_runs.specs.Files.{IsTold}
-use Rattle.command_runs.specs.Pieces.{IsWalkFault, PassesPlaces, RefusesPiece, StopsText, TellsFacts, facts_of_all}
+use Rattle.command_runs.specs.Pieces.{IsWalkFault, PassesPlaces, RefusesPiece, StopsText, TellsFacts, TellsSegments, facts_of_all}
 use Rattle.command_runs.specs.declared.fault.RunFault.{RunFault}
-use Rattle.command_runs.specs.declared.fault.RunFault.TheVariants.{Memory, File, Json, Shape, Layout, Text, Missing, Wrong, Place, Rank, Write}
+use Rattle.command_runs.specs.declared.fault.RunFault.TheVariants.{Memory, File, Json, Shape, Piece, Layout, Text, Missing, Wrong, Place, Rank, NodeCount, Step, Write}
 
 events_told : (file left : Option (List ℕ)) (events : List Event) → IsTold file left → TellsEvents left events → TellsEvents file events
 events_told None left events told h = tt
@@ -26,6 +26,12 @@ pub facts_told : (file left : Option (List ℕ)) (rank first : ℕ) (events : Li
     → TellsFacts file rank first (facts_of_all segments)
 facts_told file left rank first events walked segments tells all told h are =
     (events, events_told file left events told (tells left events walked h), all rank first events segments are)
+
+pub segments_told : (file left : Option (List ℕ)) (rank first : ℕ) (events : List Event) (walked : Walked) (segments : List PlacedEvents)
+    → WalkTellsEvents → IsTold file left → IsWalked collected left [] events walked → AreSegments rank first events segments
+    → TellsSegments file rank first segments
+segments_told file left rank first events walked segments tells told h are =
+    (events, events_told file left events told (tells left events walked h), are)
 
 -- a walk to the end of the text, and events past the last place
 pub places_told : (file left : Option (List ℕ)) (first : ℕ) (events : List Event) (walked : Walked)
@@ -55,7 +61,10 @@ walk_told name first file left old new fault (Wrong parameter path line) told h 
 walk_told name first file left old new fault (File path) told h is = absurd is
 walk_told name first file left old new fault (Json path) told h is = absurd is
 walk_told name first file left old new fault (Shape path) told h is = absurd is
+walk_told name first file left old new fault (Piece path) told h is = absurd is
 walk_told name first file left old new fault (Layout broken path) told h is = absurd is
 walk_told name first file left old new fault (Place path) told h is = absurd is
 walk_told name first file left old new fault (Rank path) told h is = absurd is
+walk_told name first file left old new fault NodeCount told h is = absurd is
+walk_told name first file left old new fault (Step broken step) told h is = absurd is
 walk_told name first file left old new fault Write told h is = absurd is

@@ -6,8 +6,7 @@ use Rattle.clap.specs.Words.{Text, subcommand_of}
 use Rattle.command_line.specs.Program.{Refuses, Request, program, request_in, status_of}
 use Rattle.command_line.specs.declared.CommandFault.{CommandFault}
 use Rattle.command_runs.specs.FaultLines.{fault_line_of}
-use Rattle.command_runs.specs.Refusals.{RefusesRun}
-use Rattle.command_runs.specs.Runs.{IsReportOf}
+use Rattle.command_runs.specs.Verbs.{IsOutputOf, RefusesVerb}
 use Rattle.command_runs.specs.declared.fault.RunFault.{RunFault}
 use Rattle.command_runs.specs.declared.fault.RunFault.TheVariants.{Memory, Write}
 
@@ -19,14 +18,14 @@ Ask words request = request_in (subcommand_of program words) ≡ Some request
 abbrev pub AskNothing : List Text → ℕ → Type 0
 AskNothing words status = (fault : CommandFault) × Refuses words fault × (status ≡ status_of fault)
 
--- The report that the words ask for was written, whole.
+-- What the words ask for was written, whole.
 abbrev pub Reports : (List ℕ → Option (List ℕ)) → List Text → Option (List ℕ) → Option (List ℕ) → Type 0
 Reports file words old new = (request : Request) × Ask words request
-    × (text : List ℕ) × IsReportOf file request.layout request.manifest text × Appends old new text
+    × (text : List ℕ) × IsOutputOf file request.verb request.layout request.manifest text × Appends old new text
 
 -- The run that the words ask for is refused for this.
 abbrev pub IsRefusedRun : (List ℕ → Option (List ℕ)) → List Text → RunFault → Type 0
-IsRefusedRun file words fault = (request : Request) × Ask words request × RefusesRun file request.layout request.manifest fault
+IsRefusedRun file words fault = (request : Request) × Ask words request × RefusesVerb file request.verb request.layout request.manifest fault
 
 -- What the standard output holds, where it tells that, and how often a write to it has failed.
 pub record Output : Type 0 where
@@ -36,7 +35,7 @@ pub record Output : Type 0 where
 abbrev pub output_of : Option (List ℕ) → ℕ → Output
 output_of bytes failures = record { bytes = bytes; failures = failures }
 
--- Status 0: no line was shown, and the report was written, or the words ask for the help or the version, and no write failed.
+-- Status 0: no line was shown, and what the words ask for was written, or the words ask for the help or the version, and no write failed.
 abbrev pub EndsWell : (List ℕ → Option (List ℕ)) → List Text → List ℕ → Output → Output → Type 0
 EndsWell file words errors old new = (errors ≡ [])
     × (Reports file words old.bytes new.bytes ⊎ (AskNothing words 0 × (new.failures ≡ old.failures)))

@@ -8,8 +8,10 @@ use Rattle.dumpi_text.specs.declared.fault.LineFault.TheVariants as lines
 use Rattle.dumpi_text.specs.declared.fault.TextCause.{TextCause}
 use Rattle.dumpi_text.specs.declared.fault.TextCause.TheVariants as causes
 use Rattle.dumpi_calls.specs.Readings.{name_of}
+use Rattle.trace_world.specs.declared.step.WorldFault.{WorldFault}
+use Rattle.trace_world.specs.declared.step.WorldFault.TheVariants as worlds
 use Rattle.command_runs.specs.declared.fault.RunFault.{RunFault}
-use Rattle.command_runs.specs.declared.fault.RunFault.TheVariants.{Memory, File, Json, Shape, Layout, Text, Missing, Wrong, Place, Rank, Write}
+use Rattle.command_runs.specs.declared.fault.RunFault.TheVariants.{Memory, File, Json, Shape, Piece, Layout, Text, Missing, Wrong, Place, Rank, NodeCount, Step, Write}
 
 abbrev pub layout_fault_name : LayoutFault → List ℕ
 layout_fault_name layouts.RankCount = codes "L1 RankCount"
@@ -37,6 +39,16 @@ abbrev pub cause_name : TextCause → List ℕ
 cause_name causes.Read = codes "F1 Read"
 cause_name (causes.Line fault) = line_fault_name fault
 
+abbrev pub world_fault_name : WorldFault → List ℕ
+world_fault_name worlds.NoNode = codes "V1 NoNode"
+world_fault_name worlds.NoMail = codes "V2 NoMail"
+world_fault_name worlds.EmptyInbox = codes "V3 EmptyInbox"
+world_fault_name worlds.Rank = codes "V4 Rank"
+world_fault_name worlds.FrameLength = codes "V5 FrameLength"
+world_fault_name worlds.Stale = codes "V6 Stale"
+world_fault_name worlds.NodeCount = codes "V7 NodeCount"
+world_fault_name worlds.Memory = codes "Memory"
+
 -- a line of a file
 abbrev pub at_line : String Global → ℕ → List ℕ
 at_line path line = codes " at " ++ string_bytes path ++ codes ":" ++ decimal line
@@ -46,12 +58,15 @@ fault_text Memory = codes "Memory"
 fault_text (File path) = codes "M1 File " ++ string_bytes path
 fault_text (Json path) = codes "M2 Json in " ++ string_bytes path
 fault_text (Shape path) = codes "M3 Shape in " ++ string_bytes path
+fault_text (Piece path) = codes "M4 Piece in " ++ string_bytes path
 fault_text (Layout fault path) = layout_fault_name fault ++ codes " in " ++ string_bytes path
 fault_text (Text cause path line) = cause_name cause ++ at_line path line
 fault_text (Missing parameter path line) = codes "C1 Missing " ++ name_of parameter ++ at_line path line
 fault_text (Wrong parameter path line) = codes "C2 Wrong " ++ name_of parameter ++ at_line path line
 fault_text (Place path) = codes "S3 Place in " ++ string_bytes path
 fault_text (Rank path) = codes "N1 Rank in " ++ string_bytes path
+fault_text NodeCount = codes "V7 NodeCount"
+fault_text (Step fault step) = world_fault_name fault ++ codes " at step " ++ decimal step
 fault_text Write = codes "R1 Write"
 
 abbrev pub fault_line_of : RunFault → List ℕ

@@ -5,6 +5,9 @@ pub mod Inputs
 pub mod Nodes
 pub mod Pieces
 pub mod Refusals
+pub mod Replays
 pub mod Runs
+pub mod Schedules
 pub mod Traces
+pub mod Verbs
 pub mod Whole

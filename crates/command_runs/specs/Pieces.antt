@@ -7,7 +7,7 @@ use Rattle.dumpi_text.specs.Call.{TextCall}
 use Rattle.dumpi_text.specs.declared.fault.TextFault.TheVariants.{At}
 use Rattle.trace_know.specs.Segment.{PlacedEvents, enter_place}
 use Rattle.trace_know.specs.Trace.{Trace, facts_from, facts_of}
-use Rattle.dumpi_calls.specs.Collected.{HasPlacesPast}
+use Rattle.dumpi_calls.specs.Collected.{AreSegments, HasPlacesPast}
 use Rattle.dumpi_calls.specs.Seen.{seen_in}
 use Rattle.dumpi_calls.specs.Walks.{StopsWalk}
 use Rattle.dumpi_calls.specs.Whole.{TellsEvents}
@@ -25,6 +25,10 @@ facts_of_all segments = flat_map facts_of segments
 -- The facts of a piece: the events of its text stand from the Enter of its first call on.
 abbrev pub TellsFacts : Option (List ℕ) → ℕ → ℕ → Trace → Type 0
 TellsFacts text rank first facts = (events : List Event) × TellsEvents text events × (facts ≡ facts_from rank (enter_place first) events)
+
+-- The segments of a piece: the events of its text from the Enter of its first call on, cut after each 65,536.
+abbrev pub TellsSegments : Option (List ℕ) → ℕ → ℕ → List PlacedEvents → Type 0
+TellsSegments text rank first segments = (events : List Event) × TellsEvents text events × AreSegments rank first events segments
 
 -- ---- why a piece is refused
 

@@ -1,8 +1,6 @@
 -- What a run reports.
-use Rattle.std.specs.Prelude.{◌≡◌, ◌<◌, ℕ, List, length, take, Option}
-use Rattle.std.specs.Io.KnownBytes.{Appends}
+use Rattle.std.specs.Prelude.{◌≡◌, ℕ, List, Option}
 use Rattle.std.specs.List.{All}
-use Rattle.mpi_model.specs.Failures.{HasFailed}
 use Rattle.mpi_model.specs.Layouts.{Parts}
 use Rattle.trace_know.specs.Trace.{Trace, view_of}
 use Rattle.trace_node.specs.Answer.{Answered, IsAnswer}
@@ -17,8 +15,3 @@ abbrev pub IsReportOf : (List ℕ → Option (List ℕ)) → List ℕ → List �
 IsReportOf file layout manifest text = (l : Parts) × (m : ManifestParts) × (trace : Trace) × (answer : Answered)
     × TellsLayout (file layout) l × TellsManifest (file manifest) m × TellTrace file m.pieces trace × All (IsInside file l.ranks) m.pieces
     × IsAnswer l (view_of trace) answer × (text ≡ report_text answer)
-
--- A report couldn't be written whole: the writer failed, after it had taken a front of the report.
-abbrev pub BreaksOff : (List ℕ → Option (List ℕ)) → List ℕ → List ℕ → Option (List ℕ) → Option (List ℕ) → ℕ → ℕ → Type 0
-BreaksOff file layout manifest old new before now = (text : List ℕ) × (count : ℕ)
-    × IsReportOf file layout manifest text × (count < length text) × Appends old new (take count text) × HasFailed before now

@@ -1,13 +1,14 @@
 //! Why a run is refused, and the line that standard error shows.
 
 ghost use Rattle.std.specs.Prelude.{◌≡◌, IfOk, string_bytes};
-ghost use Rattle.command_runs.specs.FaultLines.{cause_name, fault_line_of, layout_fault_name, line_fault_name};
+ghost use Rattle.command_runs.specs.FaultLines.{cause_name, fault_line_of, layout_fault_name, line_fault_name, world_fault_name};
 
 use dumpi_calls::Parameter;
 use dumpi_text::{LineFault, TextCause};
 use mpi_model::LayoutFault;
 use std::alloc::{AllocError, AllocFailed, Global};
 use std::fmt;
+use trace_world::WorldFault;
 
 /// The first cause that stands in the order in which files are read and refusals are tried. Each
 /// names its file as the words or the manifest spell it, and lines from 1.
@@ -22,6 +23,10 @@ pub enum RunFault {
         path: String,
     },
     Shape {
+        path: String,
+    },
+    /// The schedule posts a piece that the manifest doesn't list.
+    Piece {
         path: String,
     },
     Layout {
@@ -53,7 +58,14 @@ pub enum RunFault {
     Rank {
         path: String,
     },
-    /// The report couldn't be written.
+    /// A replay has 1 to 64 nodes.
+    NodeCount,
+    /// The step of this number, from 0, can't be done.
+    Step {
+        fault: WorldFault,
+        step: usize,
+    },
+    /// The output couldn't be written.
     Write,
 }
 
@@ -98,6 +110,7 @@ impl fmt::Display for RunFault {
             RunFault::File { path } => write!(f, "M1 File {path}"),
             RunFault::Json { path } => write!(f, "M2 Json in {path}"),
             RunFault::Shape { path } => write!(f, "M3 Shape in {path}"),
+            RunFault::Piece { path } => write!(f, "M4 Piece in {path}"),
             RunFault::Layout { fault, path } => {
                 let name = name_of_layout(*fault);
                 write!(f, "{name} in {path}")
@@ -124,6 +137,11 @@ impl fmt::Display for RunFault {
             }
             RunFault::Place { path } => write!(f, "S3 Place in {path}"),
             RunFault::Rank { path } => write!(f, "N1 Rank in {path}"),
+            RunFault::NodeCount => write!(f, "V7 NodeCount"),
+            RunFault::Step { fault, step } => {
+                let name = name_of_world(*fault);
+                write!(f, "{name} at step {step}")
+            }
             RunFault::Write => write!(f, "R1 Write"),
         }
     }
@@ -167,5 +185,20 @@ fn name_of_line(fault: LineFault) -> &'static str
         LineFault::Truncated => "F9 Truncated",
         LineFault::TooManyCalls => "F10 TooManyCalls",
         LineFault::TooManyLines => "F11 TooManyLines",
+    }
+}
+
+fn name_of_world(fault: WorldFault) -> &'static str
+    ensures { result.now ≡ world_fault_name fault }
+{
+    match fault {
+        WorldFault::NoNode => "V1 NoNode",
+        WorldFault::NoMail => "V2 NoMail",
+        WorldFault::EmptyInbox => "V3 EmptyInbox",
+        WorldFault::Rank => "V4 Rank",
+        WorldFault::FrameLength => "V5 FrameLength",
+        WorldFault::Stale => "V6 Stale",
+        WorldFault::NodeCount => "V7 NodeCount",
+        WorldFault::Memory => "Memory",
     }
 }

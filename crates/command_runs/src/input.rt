@@ -76,6 +76,7 @@ fn fault_at(alloc: Global, fault: InputFault, path: &str) -> Result<RunFault, Al
         InputFault::Memory => RunFault::Memory,
         InputFault::Json => RunFault::Json { path },
         InputFault::Shape => RunFault::Shape { path },
+        InputFault::Piece => RunFault::Piece { path },
         InputFault::Layout(fault) => RunFault::Layout { fault, path },
     })
 }

@@ -2,17 +2,21 @@
 //!
 //! `report` reads a layout and the pieces that a manifest names, and writes the report of what they
 //! tell together: they are joined into one knowledge while they are read, a node takes that over, and
-//! its answer is written. Nothing is written before the whole run is good. Files come from an [`Opener`],
-//! so that a run can be proved and tested over files in memory; the program opens those of the
-//! system.
+//! its answer is written. `replay` reads all pieces, runs the manifest's schedule over nodes that
+//! exchange what they know (`trace_world`), and writes the report of each. Nothing is written before
+//! the whole run is good. Files come from an [`Opener`], so that a run can be proved and tested over
+//! files in memory; the program opens those of the system.
 //!
 //! The work is linear in the texts, but for the joins of their segments (`trace_know`) and the answer
-//! (`trace_node`). Memory holds what is known and the events of one piece.
+//! (`trace_node`). Memory holds what is known and the events of one piece; that of a replay also all
+//! pieces' segments, a copy of them for each post, and the mails.
 //!
 //! - [`opener`]: where files come from; [`whole`]: a whole file, within its limit
-//! - [`piece`]: the segments of a piece
+//! - [`piece`]: the segments of a piece; [`pieces`]: those of all pieces
 //! - [`input`]: the layout and the manifest; [`knowing`]: what the pieces tell together
 //! - [`watch`]: who is told how the reading comes along; [`terminal`]: what a person then sees
+//! - [`schedule`]: the steps that a manifest's schedule stands for; [`replay`]: their run, and the reports
+//!   of the nodes
 //! - [`run`]: a verb over its files; [`fault`]: why it is refused, and the line that says so
 //! - [`ending`]: from words to a status and what standard error shows
 //!
@@ -26,7 +30,10 @@ mod input;
 mod knowing;
 mod opener;
 mod piece;
+mod pieces;
+mod replay;
 mod run;
+mod schedule;
 mod terminal;
 mod watch;
 mod whole;

@@ -1,7 +1,7 @@
 //! The segments of a piece: the events of its text's calls, cut after each 65,536.
 
 ghost use Rattle.std.specs.Prelude.{IfErr, IfOk, ◌≡◌};
-ghost use Rattle.command_runs.specs.Pieces.{IsWalkFault, RefusesPiece, TellsFacts, facts_of_all};
+ghost use Rattle.command_runs.specs.Pieces.{IsWalkFault, RefusesPiece, TellsFacts, TellsSegments, facts_of_all};
 
 use crate::fault::RunFault;
 use crate::opener::{OpenFault, Opener};
@@ -13,7 +13,7 @@ use std::alloc::{AllocError, Global};
 use trace_know::{Segment, SegmentFault};
 
 /// The segments of a piece, none of a text without calls.
-#[tactic(auto, using(crate::proofs::Told::facts_told, crate::proofs::Told::places_told, crate::proofs::Told::walk_told))]
+#[tactic(auto, using(crate::proofs::Told::facts_told, crate::proofs::Told::segments_told, crate::proofs::Told::places_told, crate::proofs::Told::walk_told))]
 pub fn segments_of<O: Opener, V: Watcher>(
     alloc: Global,
     piece: &Piece,
@@ -21,6 +21,7 @@ pub fn segments_of<O: Opener, V: Watcher>(
     watcher: &mut V,
 ) -> Result<Vec<Segment>, RunFault>
     ensures ok { IfOk result (λ segments. TellsFacts (O.file files.old piece.now.file) piece.now.rank piece.now.first (facts_of_all segments.items)) }
+    ensures segments { IfOk result (λ segments. TellsSegments (O.file files.old piece.now.file) piece.now.rank piece.now.first segments.items) }
     ensures err { IfErr result (RefusesPiece piece.now.file piece.now.first (O.file files.old piece.now.file)) }
     ensures same { O.file files.new ≡ O.file files.old }
 {

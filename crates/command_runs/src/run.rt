@@ -2,7 +2,8 @@
 
 ghost use Rattle.std.specs.Prelude.{◌≡◌, ◌⊎◌, ℕ, true, IfErr, IfOk, List, OnOk};
 ghost use Rattle.std.specs.Io.KnownBytes.{Appends, Keeps};
-ghost use Rattle.command_runs.specs.Runs.{BreaksOff, IsReportOf};
+ghost use Rattle.command_runs.specs.Runs.{IsReportOf};
+ghost use Rattle.command_runs.specs.Verbs.{BreaksOff, IsOutputOf, RefusesVerb};
 ghost use Rattle.command_runs.specs.Nodes.{IsNodeOf, RefusesNode};
 ghost use Rattle.command_runs.specs.Refusals.{RefusesRun};
 
@@ -10,6 +11,7 @@ use crate::fault::RunFault;
 use crate::input::{layout_at, manifest_at};
 use crate::knowing::know_of;
 use crate::opener::Opener;
+use crate::replay::replay_with;
 use crate::watch::Watcher;
 use command_line::Verb;
 use mpi_model::{Layout, Write};
@@ -28,14 +30,15 @@ pub fn run_with<O: Opener, V: Watcher, W: Write>(
     watcher: &mut V,
     out: &mut W,
 ) -> Result<bool, RunFault>
-    ensures report { OnOk result ((text : List ℕ) × IsReportOf (O.file files.old) layout.now manifest.now text × Appends (W.written out.old) (W.written out.new) text) }
+    ensures output { OnOk result ((text : List ℕ) × IsOutputOf (O.file files.old) verb layout.now manifest.now text × Appends (W.written out.old) (W.written out.new) text) }
     ensures held { IfOk result (λ held. held ≡ true) }
-    ensures refused { IfErr result (λ fault. (fault ≡ RunFault.Write) ⊎ RefusesRun (O.file files.old) layout.now manifest.now fault) }
+    ensures refused { IfErr result (λ fault. (fault ≡ RunFault.Write) ⊎ RefusesVerb (O.file files.old) verb layout.now manifest.now fault) }
     ensures nothing { IfErr result (λ fault. (fault ≡ RunFault.Write) ⊎ Keeps (W.written out.old) (W.written out.new)) }
-    ensures broken_off { result ≡ Err RunFault.Write → BreaksOff (O.file files.old) layout.now manifest.now (W.written out.old) (W.written out.new) (W.failures out.old) (W.failures out.new) }
+    ensures broken_off { result ≡ Err RunFault.Write → BreaksOff (O.file files.old) verb layout.now manifest.now (W.written out.old) (W.written out.new) (W.failures out.old) (W.failures out.new) }
 {
     match verb {
         Verb::Report => report_with(alloc, layout, manifest, files, watcher, out),
+        Verb::Replay => replay_with(alloc, layout, manifest, files, watcher, out),
     }
 }
 
@@ -52,7 +55,7 @@ fn report_with<O: Opener, V: Watcher, W: Write>(
     ensures held { IfOk result (λ held. held ≡ true) }
     ensures refused { IfErr result (λ fault. (fault ≡ RunFault.Write) ⊎ RefusesRun (O.file files.old) layout_name.now manifest_name.now fault) }
     ensures nothing { IfErr result (λ fault. (fault ≡ RunFault.Write) ⊎ Keeps (W.written out.old) (W.written out.new)) }
-    ensures broken_off { result ≡ Err RunFault.Write → BreaksOff (O.file files.old) layout_name.now manifest_name.now (W.written out.old) (W.written out.new) (W.failures out.old) (W.failures out.new) }
+    ensures broken_off { result ≡ Err RunFault.Write → BreaksOff (O.file files.old) Verb.Report layout_name.now manifest_name.now (W.written out.old) (W.written out.new) (W.failures out.old) (W.failures out.new) }
 {
     let layout = match layout_at(alloc, layout_name, files) {
         Ok(layout) => layout,

@@ -56,7 +56,13 @@ MPI_Comm comm=2
 MPI_Barrier returning at walltime 1.75, cputime 0.25 seconds in thread 0.
 ";
 
+// the piece goes to the second of two nodes
+const SCHEDULE: &[u8] =
+    br#"{"pieces":[{"rank":0,"first":0,"file":"r0.txt"}],"nodes":2,"schedule":[["post",0,1,0],["take",1]]}"#;
+
 static REPORT: [&str; 4] = ["mpimatch", "report", "layout.json", "manifest.json"];
+
+static REPLAY: [&str; 4] = ["mpimatch", "replay", "layout.json", "manifest.json"];
 
 fn run_of<'a>(layout: &'a [u8], until_failure: Option<usize>) -> Shelf<'a> {
     Shelf {
@@ -67,11 +73,16 @@ fn run_of<'a>(layout: &'a [u8], until_failure: Option<usize>) -> Shelf<'a> {
     }
 }
 
-// The status of a run, and then what it wrote and what it showed, where the output has room for so
-// many bytes.
-fn ended(alloc: Global, mut files: Shelf<'_>, room: usize) -> Result<String, Fail> {
+// The status of a run of these words, and then what it wrote and what it showed, where the output has
+// room for so many bytes.
+fn ended(
+    alloc: Global,
+    words: &'static [&'static str],
+    mut files: Shelf<'_>,
+    room: usize,
+) -> Result<String, Fail> {
     let mut out = MemoryWriter::new(alloc).failing_after(room);
-    let ending = ending_of(alloc, &REPORT, &mut files, &mut Unwatched, &mut out)?;
+    let ending = ending_of(alloc, words, &mut files, &mut Unwatched, &mut out)?;
     let written = std::str::from_utf8(out.bytes())?;
     let (status, errors) = (ending.status, ending.errors.as_str());
     Ok(format!(in alloc; "{status}: {written}{errors}")?)
@@ -116,7 +127,55 @@ static RUNS: [(&str, Option<usize>, usize, &str); 6] = [
 fn runs_over_files_that_tell_their_bytes(rt: HostRuntime) -> Result<(), Fail> {
     for row in &RUNS {
         let (name, until_failure, room, want) = *row;
-        let found = ended(rt.alloc(), run_of(LAYOUT, until_failure), room)?;
+        let found = ended(rt.alloc(), &REPORT, run_of(LAYOUT, until_failure), room)?;
+        assert_eq!(rt; found.as_str(), want, "{name}");
+    }
+    Ok(())
+}
+
+// as RUNS, of a replay; the text of the first node has 90 bytes
+static REPLAYS: [(&str, Option<usize>, usize, &str); 5] = [
+    (
+        "all is read and written",
+        None,
+        usize::MAX,
+        "0: node 0\nmpimatch report 1\nranks 1 sends wait\nrank 0 prefix 0 free\nstuck none\nforeign 0\nend\nnode 1\nmpimatch report 1\nranks 1 sends wait\nrank 0 prefix 2 free\nround 2:0 barrier complete\nstuck none\nforeign 0\nend\n",
+    ),
+    (
+        "the reader fails at once",
+        Some(0),
+        usize::MAX,
+        "1: mpimatch: F1 Read at r0.txt:1\n",
+    ),
+    ("no room", None, 0, "1: mpimatch: R1 Write\n"),
+    (
+        "room for a number",
+        None,
+        6,
+        "1: node 0mpimatch: R1 Write\n",
+    ),
+    (
+        "room for a node and a word",
+        None,
+        95,
+        "1: node 0\nmpimatch report 1\nranks 1 sends wait\nrank 0 prefix 0 free\nstuck none\nforeign 0\nend\nnode mpimatch: R1 Write\n",
+    ),
+];
+
+fn replay_of(until_failure: Option<usize>) -> Shelf<'static> {
+    Shelf {
+        layout: LAYOUT,
+        manifest: SCHEDULE,
+        piece: PIECE,
+        until_failure,
+    }
+}
+
+#[test]
+fn replays_over_files_that_tell_their_bytes(rt: HostRuntime) -> Result<(), Fail> {
+    for row in &REPLAYS {
+        let (name, until_failure, room, want) = *row;
+        let found = ended(rt.alloc(), &REPLAY, replay_of(until_failure), room)?;
         assert_eq!(rt; found.as_str(), want, "{name}");
     }
     Ok(())
@@ -126,10 +185,10 @@ fn runs_over_files_that_tell_their_bytes(rt: HostRuntime) -> Result<(), Fail> {
 fn the_limit_of_a_layout(rt: HostRuntime) -> Result<(), Fail> {
     let mut layout = LAYOUT.to_vec(rt.alloc())?;
     layout.resize(16_777_216, b' ')?;
-    let found = ended(rt.alloc(), run_of(&layout, None), usize::MAX)?;
+    let found = ended(rt.alloc(), &REPORT, run_of(&layout, None), usize::MAX)?;
     assert_eq!(rt; found.as_str(), RUNS[0].3, "16,777,216 bytes");
     layout.push(b' ')?;
-    let found = ended(rt.alloc(), run_of(&layout, None), usize::MAX)?;
+    let found = ended(rt.alloc(), &REPORT, run_of(&layout, None), usize::MAX)?;
     assert_eq!(rt;
         found.as_str(),
         "1: mpimatch: M1 File layout.json\n",

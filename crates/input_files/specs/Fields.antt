@@ -5,7 +5,7 @@ use Rattle.serde_json.specs.Data.{Data, Items, no_items, item}
 use Rattle.serde_json.specs.Find.{as_number, as_u64}
 use Rattle.serde_json.specs.Read.{read}
 use Rattle.input_files.specs.declared.fault.InputFault.{InputFault}
-use Rattle.input_files.specs.declared.fault.InputFault.TheVariants.{Memory, Json, Shape, Layout}
+use Rattle.input_files.specs.declared.fault.InputFault.TheVariants.{Memory, Json, Shape, Piece, Layout}
 
 -- The text is UTF-8 and JSON, of this value.
 pub record IsJson (text : List ℕ) (value : Data) : Type 0 where
@@ -17,6 +17,7 @@ abbrev pub HasNoValue : List ℕ → InputFault → Type 0
 HasNoValue text Memory = Unit {0}
 HasNoValue text Json = (value : Data) → IsJson text value → ⊥
 HasNoValue text Shape = ⊥
+HasNoValue text Piece = ⊥
 HasNoValue text (Layout fault) = ⊥
 
 -- a whole number from 0 to 2^64 - 1
@@ -30,6 +31,19 @@ below_u32 (Some n) = if nat_lt n 4294967296 then Some n else None
 -- a whole number from 0 to 2^32 - 1
 abbrev pub u32_in : Data → Option ℕ
 u32_in value = below_u32 (u64_in value)
+
+-- 0 or 1
+abbrev pub below_two : Option ℕ → Option ℕ
+below_two None = None
+below_two (Some n) = if nat_lt n 2 then Some n else None
+
+abbrev pub bit_in : Data → Option ℕ
+bit_in value = below_two (u64_in value)
+
+-- what a field holds, or a value for a field that is absent
+abbrev pub or_absent : {A : Type 0} → A → (Data → Option A) → Option Data → Option A
+or_absent absent read None = Some absent
+or_absent absent read (Some value) = read value
 
 abbrev pub with_first : {A : Type 0} → Option A → Option (List A) → Option (List A)
 with_first None rest = None

@@ -9,7 +9,7 @@ use Rattle.mpi_model.specs.Groups.{Group}
 use Rattle.mpi_model.specs.Layouts.{Holds, Parts, fault_of}
 use Rattle.input_files.specs.Fields.{IsJson, u32_in, u32s_in, with_first}
 use Rattle.input_files.specs.declared.fault.InputFault.{InputFault}
-use Rattle.input_files.specs.declared.fault.InputFault.TheVariants.{Memory, Json, Shape, Layout}
+use Rattle.input_files.specs.declared.fault.InputFault.TheVariants.{Memory, Json, Shape, Piece, Layout}
 
 abbrev pub group_from : Option ℕ → Option (List ℕ) → Option Group
 group_from None members = None
@@ -58,5 +58,6 @@ abbrev pub RefusesLayout : List ℕ → InputFault → Type 0
 RefusesLayout text Memory = Unit {0}
 RefusesLayout text Json = (value : Data) → IsJson text value → ⊥
 RefusesLayout text Shape = (value : Data) × IsJson text value × (parts_in value ≡ None)
+RefusesLayout text Piece = ⊥
 RefusesLayout text (Layout fault) = (given : Parts) × TellsParts text given
     × (fault_of given.ranks given.world given.comms ≡ Some fault)

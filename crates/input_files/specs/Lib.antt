@@ -1,3 +1,4 @@
 pub mod Fields
 pub mod Layouts
+pub mod Schedules
 pub mod Manifests

@@ -14,6 +14,9 @@ pub enum InputFault {
     /// A field is missing, of another kind, or out of its range.
     #[error("M3 Shape")]
     Shape,
+    /// The schedule posts a piece that the manifest doesn't list.
+    #[error("M4 Piece")]
+    Piece,
     /// The fields are there, and break a rule of layouts.
     #[error("{0}")]
     Layout(LayoutFault),

@@ -3,10 +3,11 @@
 //! An answer `Result<Option<T>, AllocError>` has want of memory on its outside, and inside whether
 //! the value has the form.
 
-ghost use Rattle.std.specs.Prelude.{◌≡◌, IfErr, IfOk, option_and_then, option_map};
+ghost use Rattle.std.specs.Prelude.{◌≡◌, IfErr, IfOk, MatchOption, Some, option_and_then, option_map};
+ghost use Rattle.serde_json.specs.Data.{item, no_items};
 ghost use Rattle.serde_json.specs.Find.{as_array, as_str, get};
 ghost use Rattle.serde_json.specs.View.{items_view, view};
-ghost use Rattle.input_files.specs.Fields.{HasNoValue, IsJson, u32_in, u32s_in, u64_in};
+ghost use Rattle.input_files.specs.Fields.{HasNoValue, IsJson, bit_in, or_absent, u32_in, u32s_in, u64_in};
 
 use crate::fault::InputFault;
 use serde_json::Value;
@@ -36,6 +37,26 @@ pub(crate) fn u32_at(value: &Value, name: &str) -> Option<u32>
     u32_of(value.get(name)?)
 }
 
+/// A number that may be absent.
+pub(crate) fn usize_or(value: &Value, name: &str, absent: usize) -> Option<usize>
+    ensures { result ≡ or_absent absent u64_in (get name.now (view value.now)) }
+{
+    match value.get(name) {
+        Some(found) => usize_of(found),
+        None => Some(absent),
+    }
+}
+
+/// 0 or 1, and 0 where it is absent.
+pub(crate) fn bit_or_0(value: &Value, name: &str) -> Option<u8>
+    ensures { result ≡ or_absent 0 bit_in (get name.now (view value.now)) }
+{
+    match value.get(name) {
+        Some(found) => bit_of(found),
+        None => Some(0),
+    }
+}
+
 pub(crate) fn str_at<'v>(value: &'v Value, name: &str) -> Option<&'v str>
     ensures { option_map (λ s. s.now) result ≡ option_and_then as_str (get name.now (view value.now)) }
 {
@@ -46,6 +67,13 @@ pub(crate) fn list_at<'v>(value: &'v Value, name: &str) -> Option<&'v [Value]>
     ensures { option_map (λ s. items_view s.now) result ≡ option_and_then as_array (get name.now (view value.now)) }
 {
     Some(value.get(name)?.as_array()?.as_slice())
+}
+
+/// The first of some values, and the rest.
+pub(crate) fn parted<'v>(values: &'v [Value]) -> Option<(&'v Value, &'v [Value])>
+    ensures { MatchOption result (items_view values.now ≡ no_items) (λ p. items_view values.now ≡ item (view p.0.now) (items_view p.1.now)) }
+{
+    values.split_first()
 }
 
 pub(crate) fn u32s_of(alloc: Global, values: &[Value]) -> Result<Option<Vec<u32>>, AllocError>
@@ -66,6 +94,22 @@ fn u32_of(value: &Value) -> Option<u32>
 {
     match value.as_u64() {
         Some(n) if n <= 4_294_967_295 => Some(n as u32),
+        _ => None,
+    }
+}
+
+/// A whole number from 0 to 2^64 - 1.
+pub(crate) fn usize_of(value: &Value) -> Option<usize>
+    ensures { result ≡ u64_in (view value.now) }
+{
+    Some(value.as_u64()? as usize)
+}
+
+fn bit_of(value: &Value) -> Option<u8>
+    ensures { result ≡ bit_in (view value.now) }
+{
+    match value.as_u64() {
+        Some(n) if n < 2 => Some(n as u8),
         _ => None,
     }
 }

@@ -8,7 +8,8 @@
 //! - [`fault`]: why a text is refused
 //! - [`json`]: the value of a text, and its fields
 //! - [`layout`]: ranks, communicators, and how sends complete
-//! - [`manifest`]: the pieces of a trace
+//! - [`schedule`]: the steps of a manifest's schedule
+//! - [`manifest`]: the pieces of a trace, and what nodes are to do with them
 //!
 //! Its tests are in the crate `input_files_tests`.
 #![tactic(auto)]
@@ -17,7 +18,9 @@ mod fault;
 mod json;
 mod layout;
 mod manifest;
+mod schedule;
 
 pub use fault::InputFault;
 pub use layout::layout_of;
 pub use manifest::{Manifest, Piece, manifest_of};
+pub use schedule::PlannedStep;

@@ -29,7 +29,7 @@ returns-in-Err-run_with g c =
     IfOk-weaker c.refused-in-Err-run_with.result (λ (e : Ending). (e.status ≡ 1) × (string_bytes e.errors ≡ fault_line_of c.in-Err-run_with.fault)) _ (λ e h.
     subst (λ (status : ℕ). IsEnding file words status (string_bytes e.errors) old new) (sym h.0)
     (not_reported file words (request_of c.in-Ok.asked) c.in-Err-run_with.fault (string_bytes e.errors) old new c.in-Ok.ensures.asked h.1
-    c.in-Err-run_with.ensures.refused c.in-Err-run_with.ensures.nothing (λ w. (c.in-Err-run_with.ensures.broken_off (ap (λ (f : RunFault). Err f) w)).5)))
+    c.in-Err-run_with.ensures.refused c.in-Err-run_with.ensures.nothing (λ w. (c.in-Err-run_with.ensures.broken_off (ap (λ (f : RunFault). Err f) w)).3)))
     (both (λ (e : Ending). e.status ≡ 1) (λ (e : Ending). string_bytes e.errors ≡ fault_line_of c.in-Err-run_with.fault)
     c.refused-in-Err-run_with.result c.refused-in-Err-run_with.ensures.status c.refused-in-Err-run_with.ensures.errors)
 
@@ -39,6 +39,6 @@ returns-in-Ok-true g c =
     let file = g.O.Opener.file c.args.files.now in
     let old = output_of (g.W.Write.written c.args.out.now) (g.W.Write.failures c.args.out.now) in
     let new = output_of (g.W.Write.written c.run_with.new.out) (g.W.Write.failures c.run_with.new.out) in
-    let report = c.in-Ok-true.ensures.report in
+    let output = c.in-Ok-true.ensures.output in
     subst (λ (status : ℕ). IsEnding file words status (string_bytes c.silent.result.errors) old new) (sym c.silent.ensures.status)
-    (reported file words (request_of c.in-Ok.asked) report.0 (string_bytes c.silent.result.errors) old new c.in-Ok.ensures.asked report.1 report.2 c.silent.ensures.errors)
+    (reported file words (request_of c.in-Ok.asked) output.0 (string_bytes c.silent.result.errors) old new c.in-Ok.ensures.asked output.1 output.2 c.silent.ensures.errors)

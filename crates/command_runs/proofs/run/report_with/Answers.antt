@@ -37,4 +37,4 @@ returns-clause-broken_off g c =
     let is = reported file c.args.layout_name.now c.args.manifest_name.now c.in-Ok.layout c.in-Ok-node_with.node c.in-Ok-answer.answer.now c.in-Ok.ensures.ok of c.in-Ok-answer.ensures.ok in
     let front = c.in-Err-write_report.ensures.err in
     let once = c.in-Err-write_report.ensures.failures.1 in
-    λ _. (report_text c.in-Ok-answer.answer.now, front.0, is, front.1, front.3, omega (arith, once))
+    λ _. (report_text c.in-Ok-answer.answer.now, is, (front.0, front.1, front.3), omega (arith, once))

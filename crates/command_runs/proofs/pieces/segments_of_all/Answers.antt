@@ -1,0 +1,38 @@
+use Rattle.std.proofs.Common.{rules, arith, refl, ◌≡◌, ◌∙◌, ◌+◌, ◌<◌, ◌++◌, ◌∷◌, [], ap, sym, inr, length, take}
+use Rattle.std.proofs.lemmas.List.{take_more}
+use Rattle.input_files.specs.Manifests.{PieceParts}
+use Rattle.command_runs.specs.Pieces.{RefusesPiece, TellsSegments}
+use Rattle.command_runs.specs.Schedules.{held_lists}
+use Rattle.command_runs.proofs.Segments.{first_refused, segments_later}
+use Rattle.command_runs.proofs.pieces.segments_of_all.Goals as goal
+
+pub loop-piece-init : goal.loop-piece-init
+loop-piece-init g c = record { files = refl; told = search rules }
+
+pub loop-piece-preserved : goal.loop-piece-preserved
+loop-piece-preserved g c =
+    let file = g.O.Opener.file c.args.files.now in
+    let below : c.loop-piece.piece-index < length c.args.pieces.now = omega arith in
+    let more : take (c.loop-piece.piece-index + 1) c.args.pieces.now ≡ take c.loop-piece.piece-index c.args.pieces.now ++ c.piece-item.result ∷ [] =
+    take_more c.args.pieces.now c.loop-piece.piece-index c.piece-item.result below
+    ∙ ap (λ (p : PieceParts). take c.loop-piece.piece-index c.args.pieces.now ++ p ∷ []) (sym c.piece-item.is) in
+    let told : TellsSegments (file c.piece-item.result.file) c.piece-item.result.rank c.piece-item.result.first c.in-Ok.segments.items =
+    rw c.loop-piece.invariant.files at c.in-Ok.ensures.segments in
+    let pushed : c.push.new.self.items ≡ c.loop-piece.lists.items ++ c.in-Ok.segments ∷ [] = search rules in
+    record {
+      files = c.segments_of.ensures.same ∙ c.loop-piece.invariant.files;
+      told = segments_later file (take c.loop-piece.piece-index c.args.pieces.now) _ c.piece-item.result c.loop-piece.lists.items _ c.in-Ok.segments
+          more pushed c.loop-piece.invariant.told told;
+    }
+
+pub returns-in-Err-clause-err : goal.returns-in-Err-clause-err
+returns-in-Err-clause-err g c =
+    let file = g.O.Opener.file c.args.files.now in
+    let below : c.loop-piece.piece-index < length c.args.pieces.now = omega arith in
+    let more : take (c.loop-piece.piece-index + 1) c.args.pieces.now ≡ take c.loop-piece.piece-index c.args.pieces.now ++ c.piece-item.result ∷ [] =
+    take_more c.args.pieces.now c.loop-piece.piece-index c.piece-item.result below
+    ∙ ap (λ (p : PieceParts). take c.loop-piece.piece-index c.args.pieces.now ++ p ∷ []) (sym c.piece-item.is) in
+    let refuses : RefusesPiece c.piece-item.result.file c.piece-item.result.first (file c.piece-item.result.file) c.in-Err.fault =
+    rw c.loop-piece.invariant.files at c.in-Err.ensures.err in
+    inr (first_refused c.whole_segments.ensures file c.args.pieces.now c.loop-piece.piece-index c.piece-item.result (held_lists c.loop-piece.lists.items) c.in-Err.fault
+    more c.loop-piece.invariant.told refuses)

@@ -1,0 +1,127 @@
+-- What a replay prints, and why it is refused.
+use Rattle.std.specs.Prelude.{◌≡◌, ◌⊎◌, ◌<◌, ◌≤◌, ◌++◌, ℕ, suc, false, List, [], ◌∷◌, Option, Some, codes, decimal, length, map, take, slice_index_or}
+use Rattle.std.specs.Io.KnownBytes.{Appends}
+use Rattle.std.specs.List.{slice_get}
+use Rattle.mpi_model.specs.Layouts.{Parts}
+use Rattle.trace_know.specs.Segment.{PlacedEvents}
+use Rattle.trace_node.specs.Answer.{Answered, IsAnswer}
+use Rattle.trace_node.specs.Node.{Held, held}
+use Rattle.trace_report.specs.Report.{report_text}
+use Rattle.trace_world.specs.Refusals.{refusal, stale}
+use Rattle.trace_world.specs.Schedule.{after_all, opening}
+use Rattle.trace_world.specs.Shows.{Shows, WorldState, knowledge_of, most_nodes}
+use Rattle.trace_world.specs.declared.step.Step.{Step}
+use Rattle.trace_world.specs.declared.step.WorldFault.{WorldFault}
+use Rattle.trace_world.specs.declared.step.WorldFault.TheVariants as worlds
+use Rattle.input_files.specs.Layouts.{RefusesLayout}
+use Rattle.input_files.specs.Manifests.{ManifestParts, RefusesManifest}
+use Rattle.command_runs.specs.Inputs.{RefusesInput, TellsLayout, TellsManifest}
+use Rattle.command_runs.specs.Refusals.{RefusesFirst}
+use Rattle.command_runs.specs.Schedules.{TellSegments, world_steps}
+use Rattle.command_runs.specs.declared.fault.RunFault.{RunFault}
+use Rattle.command_runs.specs.declared.fault.RunFault.TheVariants as faults
+
+-- ---- nodes
+
+-- What so many nodes hold after these steps: each knows what the segments that reached it tell, and none is without its answer.
+abbrev pub nodes_after : Parts → ℕ → List Step → List Held
+nodes_after l nodes steps = map (λ reached. held l (knowledge_of reached) false) (after_all steps (opening nodes)).reached
+
+-- The nodes hold what the manifest's schedule leaves, of pieces with the texts of their files.
+abbrev pub AreNodesOf : (List ℕ → Option (List ℕ)) → Parts → List ℕ → List Held → Type 0
+AreNodesOf file l manifest nodes = (m : ManifestParts) × (lists : List (List PlacedEvents)) × TellsManifest (file manifest) m × TellSegments file m.pieces lists
+    × (nodes ≡ nodes_after l m.nodes (world_steps lists m.schedule))
+
+-- No node is without its answer.
+abbrev pub NoneStale : List Held → Type 0
+NoneStale nodes = (i : ℕ) → slice_index_or (stale nodes) i false ≡ false
+
+-- the answers of these nodes, in their order
+abbrev pub AreAnswers : List Held → List Answered → Type 0
+AreAnswers [] [] = Unit {0}
+AreAnswers [] (answer ∷ answers) = ⊥
+AreAnswers (node ∷ nodes) [] = ⊥
+AreAnswers (node ∷ nodes) (answer ∷ answers) = IsAnswer node.layout node.know answer × AreAnswers nodes answers
+
+-- ---- what is printed
+
+-- `node N`
+abbrev pub node_line : ℕ → List ℕ
+node_line n = codes "node " ++ decimal n ++ codes "\n"
+
+-- `node N`, and the report of the node
+abbrev pub node_text : ℕ → Answered → List ℕ
+node_text n answer = node_line n ++ report_text answer
+
+-- the nodes from this number on
+abbrev pub node_texts : ℕ → List Answered → List ℕ
+node_texts n [] = []
+node_texts n (answer ∷ answers) = node_text n answer ++ node_texts (suc n) answers
+
+abbrev pub replay_text : List Answered → List ℕ
+replay_text answers = node_texts 0 answers
+
+-- The line and the report of each of these nodes.
+abbrev pub IsTextOf : List Held → List ℕ → Type 0
+IsTextOf nodes text = (answers : List Answered) × AreAnswers nodes answers × (text ≡ replay_text answers)
+
+-- The bytes grew by a text, but for its end.
+abbrev pub AppendsFront : Option (List ℕ) → Option (List ℕ) → List ℕ → Type 0
+AppendsFront old new text = (count : ℕ) × (count < length text) × Appends old new (take count text)
+
+-- What the files tell of a replay: its layout, and the nodes that its schedule leaves.
+abbrev pub IsReplay : (List ℕ → Option (List ℕ)) → List ℕ → List ℕ → List Held → Type 0
+IsReplay file layout manifest nodes = (l : Parts) × TellsLayout (file layout) l × AreNodesOf file l manifest nodes
+
+-- The text of a replay: the line and the report of each node that the schedule leaves.
+abbrev pub IsReplayOf : (List ℕ → Option (List ℕ)) → List ℕ → List ℕ → List ℕ → Type 0
+IsReplayOf file layout manifest text = (nodes : List Held) × IsReplay file layout manifest nodes × IsTextOf nodes text
+
+-- The text of the first nodes of a replay.
+abbrev pub BeginsReplayOf : (List ℕ → Option (List ℕ)) → List ℕ → List ℕ → List ℕ → Type 0
+BeginsReplayOf file layout manifest text = (nodes : List Held) × (count : ℕ) × IsReplay file layout manifest nodes × IsTextOf (take count nodes) text
+
+-- ---- why a replay is refused
+
+-- A step can't be done, for this cause: a world refuses it that shows the state after the steps before it.
+pub record RefusesStep (l : Parts) (nodes : ℕ) (steps : List Step) (k : ℕ) (fault : WorldFault) : Type 0 where
+  pub world : WorldState
+  pub step : Step
+  pub some : 0 < nodes
+  pub few : nodes ≤ most_nodes
+  pub nodes_are : length world.nodes ≡ nodes
+  pub layout_is : world.layout ≡ l
+  pub shows : Shows world (after_all (take k steps) (opening nodes))
+  pub at : slice_get steps k ≡ Some step
+  pub refuses : refusal world step ≡ Some fault
+
+-- What the end of a run at a step is to a replay: memory was wanting, for the step or for its node's answer, or the step can't be done.
+abbrev pub stop_of : WorldFault → ℕ → RunFault
+stop_of worlds.Stale k = faults.Memory
+stop_of worlds.Memory k = faults.Memory
+stop_of worlds.NoNode k = faults.Step worlds.NoNode k
+stop_of worlds.NoMail k = faults.Step worlds.NoMail k
+stop_of worlds.EmptyInbox k = faults.Step worlds.EmptyInbox k
+stop_of worlds.Rank k = faults.Step worlds.Rank k
+stop_of worlds.FrameLength k = faults.Step worlds.FrameLength k
+stop_of worlds.NodeCount k = faults.Step worlds.NodeCount k
+
+-- Why so many nodes don't do these steps: they are none or too many, or one step can't be done.
+abbrev pub RefusesSteps : Parts → ℕ → List Step → RunFault → Type 0
+RefusesSteps l nodes steps faults.Memory = Unit {0}
+RefusesSteps l nodes steps faults.NodeCount = (nodes ≡ 0) ⊎ (most_nodes < nodes)
+RefusesSteps l nodes steps (faults.Step fault k) = RefusesStep l nodes steps k fault
+RefusesSteps l nodes steps _ = ⊥
+
+-- Why there are no such nodes: the manifest is refused; or a piece is, for its file or its text; or, where none is, a step.
+abbrev pub RefusesNodes : (List ℕ → Option (List ℕ)) → Parts → List ℕ → RunFault → Type 0
+RefusesNodes file l manifest fault = (fault ≡ faults.Memory)
+    ⊎ (RefusesInput RefusesManifest manifest (file manifest) fault
+    ⊎ ((m : ManifestParts) × TellsManifest (file manifest) m × (RefusesFirst file m.pieces fault
+    ⊎ ((lists : List (List PlacedEvents)) × TellSegments file m.pieces lists × RefusesSteps l m.nodes (world_steps lists m.schedule) fault))))
+
+-- Why there is no replay: the layout is refused, or, under it, what comes after it.
+abbrev pub RefusesReplay : (List ℕ → Option (List ℕ)) → List ℕ → List ℕ → RunFault → Type 0
+RefusesReplay file layout manifest fault = (fault ≡ faults.Memory)
+    ⊎ (RefusesInput RefusesLayout layout (file layout) fault
+    ⊎ ((l : Parts) × TellsLayout (file layout) l × RefusesNodes file l manifest fault))

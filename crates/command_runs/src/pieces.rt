@@ -1,0 +1,37 @@
+//! The segments of all pieces of a manifest.
+
+ghost use Rattle.std.specs.Prelude.{◌≡◌, ◌⊎◌, IfErr, IfOk};
+ghost use Rattle.command_runs.specs.Refusals.{RefusesFirst};
+ghost use Rattle.command_runs.specs.Schedules.{TellSegments, held_lists};
+
+use crate::fault::RunFault;
+use crate::opener::Opener;
+use crate::piece::segments_of;
+use crate::watch::Watcher;
+use dumpi_calls::whole_segments;
+use input_files::Piece;
+use std::alloc::Global;
+use trace_know::Segment;
+
+/// The segments of each piece, in the order of the pieces.
+pub fn segments_of_all<O: Opener, V: Watcher>(
+    alloc: Global,
+    pieces: &[Piece],
+    files: &mut O,
+    watcher: &mut V,
+) -> Result<Vec<Vec<Segment>>, RunFault>
+    ensures ok { IfOk result (λ lists. TellSegments (O.file files.old) pieces.now (held_lists lists.items)) }
+    ensures err { IfErr result (λ fault. (fault ≡ RunFault.Memory) ⊎ RefusesFirst (O.file files.old) pieces.now fault) }
+{
+    whole_segments();
+    watcher.begin(pieces.len());
+    let mut lists = Vec::new(alloc);
+    for piece in pieces {
+        let segments = match segments_of(alloc, piece, files, watcher) {
+            Ok(segments) => segments,
+            Err(fault) => return Err(fault),
+        };
+        lists.push(segments)?;
+    }
+    Ok(lists)
+}

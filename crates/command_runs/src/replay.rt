@@ -1,0 +1,167 @@
+//! A replay: the manifest's schedule, run step by step, and the reports of its nodes.
+
+ghost use Rattle.std.specs.Prelude.{◌≡◌, ◌⊎◌, ℕ, true, IfErr, IfOk, List, OnErr, OnOk, take};
+ghost use Rattle.std.specs.Io.KnownBytes.{Appends, Keeps};
+ghost use Rattle.mpi_model.specs.Failures.{CountsFailure, HasFailed};
+ghost use Rattle.trace_node.specs.Node.{Held};
+ghost use Rattle.command_runs.specs.Replays.{AppendsFront, AreNodesOf, IsReplayOf, IsTextOf, NoneStale, RefusesNodes, RefusesReplay, RefusesSteps, node_line, node_text, nodes_after, stop_of};
+ghost use Rattle.command_runs.specs.Verbs.{BreaksOff};
+
+use crate::fault::RunFault;
+use crate::input::{layout_at, manifest_at};
+use crate::opener::Opener;
+use crate::pieces::segments_of_all;
+use crate::schedule::world_steps;
+use crate::watch::Watcher;
+use command_line::Verb;
+use itoa::Buffer;
+use mpi_model::{Failed, Layout, Write, write_all};
+use std::alloc::Global;
+use trace_node::Answer;
+use trace_report::write_report;
+use trace_world::{Step, World, WorldFault};
+
+/// Writes, for each node that the schedule leaves, its line and its report.
+pub(crate) fn replay_with<O: Opener, V: Watcher, W: Write>(
+    alloc: Global,
+    layout_name: &str,
+    manifest_name: &str,
+    files: &mut O,
+    watcher: &mut V,
+    out: &mut W,
+) -> Result<bool, RunFault>
+    ensures output { OnOk result ((text : List ℕ) × IsReplayOf (O.file files.old) layout_name.now manifest_name.now text × Appends (W.written out.old) (W.written out.new) text) }
+    ensures held { IfOk result (λ held. held ≡ true) }
+    ensures refused { IfErr result (λ fault. (fault ≡ RunFault.Write) ⊎ RefusesReplay (O.file files.old) layout_name.now manifest_name.now fault) }
+    ensures nothing { IfErr result (λ fault. (fault ≡ RunFault.Write) ⊎ Keeps (W.written out.old) (W.written out.new)) }
+    ensures broken_off { result ≡ Err RunFault.Write → BreaksOff (O.file files.old) Verb.Replay layout_name.now manifest_name.now (W.written out.old) (W.written out.new) (W.failures out.old) (W.failures out.new) }
+{
+    let layout = match layout_at(alloc, layout_name, files) {
+        Ok(layout) => layout,
+        Err(fault) => return Err(fault),
+    };
+    let world = match world_with(alloc, &layout, manifest_name, files, watcher) {
+        Ok(world) => world,
+        Err(fault) => return Err(fault),
+    };
+    match write_nodes(&world, out) {
+        Ok(()) => Ok(true),
+        Err(_) => Err(RunFault::Write),
+    }
+}
+
+// The world of the layout that the manifest's schedule leaves, with the pieces of their files.
+fn world_with<'a, O: Opener, V: Watcher>(
+    alloc: Global,
+    layout: &'a Layout,
+    manifest_name: &str,
+    files: &mut O,
+    watcher: &mut V,
+) -> Result<World<'a>, RunFault>
+    ensures ok { IfOk result (λ world. AreNodesOf (O.file files.old) layout.now manifest_name.now world.nodes) }
+    ensures fresh { IfOk result (λ world. NoneStale world.nodes) }
+    ensures err { IfErr result (λ fault. RefusesNodes (O.file files.old) layout.now manifest_name.now fault) }
+{
+    let manifest = match manifest_at(alloc, manifest_name, files) {
+        Ok(manifest) => manifest,
+        Err(fault) => return Err(fault),
+    };
+    let lists = match segments_of_all(alloc, manifest.pieces(), files, watcher) {
+        Ok(lists) => lists,
+        Err(fault) => return Err(fault),
+    };
+    let Ok(steps) = world_steps(alloc, manifest.schedule(), &lists) else {
+        return Err(RunFault::Memory);
+    };
+    world_after(alloc, layout, manifest.nodes(), &steps)
+}
+
+// So many nodes after these steps.
+fn world_after<'a>(
+    alloc: Global,
+    layout: &'a Layout,
+    nodes: usize,
+    steps: &[Step],
+) -> Result<World<'a>, RunFault>
+    ensures ok { IfOk result (λ world. world.nodes ≡ nodes_after layout.now nodes steps.now) }
+    ensures fresh { IfOk result (λ world. NoneStale world.nodes) }
+    ensures err { IfErr result (λ fault. RefusesSteps layout.now nodes steps.now fault) }
+{
+    let mut world = match World::new(alloc, layout, nodes) {
+        Ok(world) => world,
+        Err(WorldFault::NodeCount) => return Err(RunFault::NodeCount),
+        Err(WorldFault::Memory) => return Err(RunFault::Memory),
+        // (no step was refused yet)
+        Err(_) => unreachable!(),
+    };
+    let ran = world.run(steps);
+    world.known();
+    match ran {
+        Ok(()) => Ok(world),
+        Err((step, fault)) => Err(stop_of(fault, step)),
+    }
+}
+
+// What a run that ended at a step is to a replay: a node loses its answer for want of memory alone.
+fn stop_of(fault: WorldFault, step: usize) -> RunFault
+    ensures { result ≡ stop_of fault step }
+{
+    match fault {
+        WorldFault::Memory | WorldFault::Stale => RunFault::Memory,
+        _ => RunFault::Step { fault, step },
+    }
+}
+
+// Writes the line and the report of each node.
+fn write_nodes<W: Write>(world: &World<'_>, out: &mut W) -> Result<(), Failed>
+    requires fresh { NoneStale world.now.nodes }
+    ensures ok { OnOk result ((text : List ℕ) × IsTextOf world.now.nodes text × Appends (W.written out.old) (W.written out.new) text) }
+    ensures err { OnErr result ((count : ℕ) × (text : List ℕ) × IsTextOf (take count world.now.nodes) text × AppendsFront (W.written out.old) (W.written out.new) text) }
+    ensures failed { OnErr result (HasFailed (W.failures out.old) (W.failures out.new)) }
+{
+    world.known();
+    let mut n = 0;
+    while let Some(node) = world.node(n) {
+        let Ok(answer) = node.answer() else {
+            unreachable!()
+        };
+        write_node(n, answer, out)?;
+        n += 1;
+    }
+    Ok(())
+}
+
+fn write_node<W: Write>(n: usize, answer: &Answer, out: &mut W) -> Result<(), Failed>
+    ensures ok { OnOk result (Appends (W.written out.old) (W.written out.new) (node_text n answer.now)) }
+    ensures err { OnErr result (AppendsFront (W.written out.old) (W.written out.new) (node_text n answer.now)) }
+    ensures failures { CountsFailure (W.failures out.old) (W.failures out.new) result }
+{
+    write_line(n, out)?;
+    match write_report(answer, out) {
+        Ok(_) => Ok(()),
+        Err(_) => Err(Failed),
+    }
+}
+
+// `node N`, in memory of its own: after the first node no memory can be lacking.
+fn write_line<W: Write>(n: usize, out: &mut W) -> Result<(), Failed>
+    ensures ok { OnOk result (Appends (W.written out.old) (W.written out.new) (node_line n)) }
+    ensures err { OnErr result (AppendsFront (W.written out.old) (W.written out.new) (node_line n)) }
+    ensures failures { CountsFailure (W.failures out.old) (W.failures out.new) result }
+{
+    let mut buffer = Buffer::new();
+    write_piece(b"node ", out)?;
+    write_piece(buffer.format(n).as_bytes(), out)?;
+    write_piece(b"\n", out)
+}
+
+fn write_piece<W: Write>(piece: &[u8], out: &mut W) -> Result<(), Failed>
+    ensures ok { OnOk result (Appends (W.written out.old) (W.written out.new) piece.now) }
+    ensures err { OnErr result (AppendsFront (W.written out.old) (W.written out.new) piece.now) }
+    ensures failures { CountsFailure (W.failures out.old) (W.failures out.new) result }
+{
+    match write_all(out, piece) {
+        Ok(()) => Ok(()),
+        Err(_) => Err(Failed),
+    }
+}

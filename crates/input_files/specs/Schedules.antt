@@ -1,0 +1,61 @@
+-- The steps of a manifest's schedule.
+use Rattle.std.specs.Prelude.{ℕ, List, [], ◌∷◌, Bool, false, Option, Some, None, nat_le, nat_lt, if◌then◌else◌, codes, option_and_then, option_map}
+use Rattle.std.specs.Str.{bytes_eq}
+use Rattle.serde_json.specs.Data.{Data, Items, no_items, item}
+use Rattle.serde_json.specs.Find.{as_array, as_str}
+use Rattle.input_files.specs.Fields.{u64_in, with_first}
+use Rattle.input_files.specs.declared.schedule.PlannedStep.{PlannedStep}
+use Rattle.input_files.specs.declared.schedule.PlannedStep.TheVariants.{Post, Take, Ship, Deliver, Restart}
+
+abbrev pub both : {A B : Type 0} → Option A → Option B → Option (A × B)
+both None second = None
+both (Some a) second = option_map (λ b. (a, b)) second
+
+-- exactly one number
+abbrev pub one_in : Items → Option ℕ
+one_in no_items = None
+one_in (item value no_items) = u64_in value
+one_in (item value (item next values)) = None
+
+-- exactly two numbers
+abbrev pub two_in : Items → Option (ℕ × ℕ)
+two_in no_items = None
+two_in (item value values) = both (u64_in value) (one_in values)
+
+-- exactly three numbers
+abbrev pub three_in : Items → Option (ℕ × (ℕ × ℕ))
+three_in no_items = None
+three_in (item value values) = both (u64_in value) (two_in values)
+
+-- a worker's number, a node's and a piece's; a worker is at most 255
+abbrev pub post_from : ℕ × (ℕ × ℕ) → Option PlannedStep
+post_from (worker, (node, piece)) = if nat_lt worker 256 then Some (Post worker node piece) else None
+
+-- a step by its word and its numbers
+abbrev pub step_from : List ℕ → Items → Option PlannedStep
+step_from word numbers = if bytes_eq word (codes "post") then option_and_then post_from (three_in numbers)
+    else if bytes_eq word (codes "take") then option_map (λ node. Take node) (one_in numbers)
+    else if bytes_eq word (codes "ship") then option_map (λ node. Ship node) (one_in numbers)
+    else if bytes_eq word (codes "deliver") then option_map (λ (p : ℕ × ℕ). Deliver p.0 p.1) (two_in numbers)
+    else if bytes_eq word (codes "restart") then option_map (λ node. Restart node) (one_in numbers) else None
+
+-- a word and then its numbers
+abbrev pub step_of : Items → Option PlannedStep
+step_of no_items = None
+step_of (item word numbers) = option_and_then (λ w. step_from w numbers) (as_str word)
+
+abbrev pub step_in : Data → Option PlannedStep
+step_in value = option_and_then step_of (as_array value)
+
+-- the steps of a list, in its order
+abbrev pub steps_in : Items → Option (List PlannedStep)
+steps_in no_items = Some []
+steps_in (item value values) = with_first (step_in value) (steps_in values)
+
+-- a step posts a piece past the last of so many
+abbrev pub posts_past : ℕ → PlannedStep → Bool
+posts_past pieces (Post worker node piece) = nat_le pieces piece
+posts_past pieces (Take node) = false
+posts_past pieces (Ship node) = false
+posts_past pieces (Deliver mail node) = false
+posts_past pieces (Restart node) = false

@@ -1,0 +1,148 @@
+//! The schedule of a manifest: what its nodes are to do, step by step.
+
+ghost use Rattle.std.specs.Prelude.{◌≡◌, IfOk, option_and_then, option_map};
+ghost use Rattle.std.specs.List.{list_any};
+ghost use Rattle.serde_json.specs.View.{items_view, view};
+ghost use Rattle.input_files.specs.Schedules.{one_in, post_from, posts_past, step_from, step_in, steps_in, three_in, two_in};
+
+use crate::json::{parted, usize_of};
+use serde_json::Value;
+use std::alloc::{AllocError, Global};
+
+/// A step as the manifest writes it. All numbers are from 0.
+#[derive(Clone, Copy, Debug, PartialEq, Eq)]
+pub enum PlannedStep {
+    /// A worker posts a piece to a node: each of its segments, in their order.
+    Post {
+        worker: u8,
+        node: usize,
+        /// The number of the piece in the list of pieces.
+        piece: usize,
+    },
+    /// A node takes the front of its inbox.
+    Take {
+        node: usize,
+    },
+    /// What a node knows becomes the next mail.
+    Ship {
+        node: usize,
+    },
+    /// A mail is joined into what a node knows.
+    Deliver {
+        mail: usize,
+        node: usize,
+    },
+    /// A node forgets all.
+    Restart {
+        node: usize,
+    },
+}
+
+/// The steps of a list, in its order.
+pub(crate) fn steps_of(
+    alloc: Global,
+    values: &[Value],
+) -> Result<Option<Vec<PlannedStep>>, AllocError>
+    ensures { IfOk result (λ o. option_map (λ v. v.items) o ≡ steps_in (items_view values.now)) }
+{
+    let mut steps = Vec::new(alloc);
+    for value in values {
+        let Some(step) = step_of(value) else {
+            return Ok(None);
+        };
+        steps.push(step)?;
+    }
+    Ok(Some(steps))
+}
+
+/// Whether a step posts a piece past the last of so many.
+pub(crate) fn posts_past_of(steps: &[PlannedStep], pieces: usize) -> bool
+    ensures { result ≡ list_any (posts_past pieces) steps.now }
+{
+    steps.iter().any(|step| is_past(step, pieces))
+}
+
+fn is_past(step: &PlannedStep, pieces: usize) -> bool
+    ensures { result ≡ posts_past pieces step.now }
+{
+    match step {
+        PlannedStep::Post { piece, .. } => pieces <= *piece,
+        _ => false,
+    }
+}
+
+// a word and its numbers
+fn step_of(value: &Value) -> Option<PlannedStep>
+    ensures { result ≡ step_in (view value.now) }
+{
+    let (word, numbers) = parted(value.as_array()?.as_slice())?;
+    step_named(word.as_str()?, numbers)
+}
+
+fn step_named(word: &str, numbers: &[Value]) -> Option<PlannedStep>
+    ensures { result ≡ step_from word.now (items_view numbers.now) }
+{
+    if word == "post" {
+        post_of(numbers)
+    } else if word == "take" {
+        let node = one_of(numbers)?;
+        Some(PlannedStep::Take { node })
+    } else if word == "ship" {
+        let node = one_of(numbers)?;
+        Some(PlannedStep::Ship { node })
+    } else if word == "deliver" {
+        let (mail, node) = two_of(numbers)?;
+        Some(PlannedStep::Deliver { mail, node })
+    } else if word == "restart" {
+        let node = one_of(numbers)?;
+        Some(PlannedStep::Restart { node })
+    } else {
+        None
+    }
+}
+
+fn post_of(numbers: &[Value]) -> Option<PlannedStep>
+    ensures { result ≡ option_and_then post_from (three_in (items_view numbers.now)) }
+{
+    let (worker, node, piece) = three_of(numbers)?;
+    if worker < 256 {
+        Some(PlannedStep::Post {
+            worker: worker as u8,
+            node,
+            piece,
+        })
+    } else {
+        None
+    }
+}
+
+// a list of just one number
+fn one_of(values: &[Value]) -> Option<usize>
+    ensures { result ≡ one_in (items_view values.now) }
+{
+    let (value, rest) = parted(values)?;
+    match parted(rest) {
+        None => usize_of(value),
+        Some(_) => None,
+    }
+}
+
+// a list of just two numbers
+fn two_of(values: &[Value]) -> Option<(usize, usize)>
+    ensures { result ≡ two_in (items_view values.now) }
+{
+    let (value, rest) = parted(values)?;
+    let first = usize_of(value)?;
+    let second = one_of(rest)?;
+    Some((first, second))
+}
+
+// a list of just three numbers
+fn three_of(values: &[Value]) -> Option<(usize, usize, usize)>
+    ensures { option_map (λ t. (t.0, (t.1, t.2))) result ≡ three_in (items_view values.now) }
+{
+    let (value, rest) = parted(values)?;
+    let first = usize_of(value)?;
+    let (second, third) = two_of(rest)?;
+    Some((first, second, third))
+}
