@@ -92,8 +92,8 @@ impl Messages {
     }
 }
 
-/// The kinds of receives that a set had since it was last empty: by whether the source and the tag
-/// are told. A kind that it never had needs no probe.
+/// The kinds of receives that a set had since it was last cleared: by whether the source is told, and
+/// a tag. A kind that it didn't have needs no probe.
 #[derive(Clone, Copy, Debug, PartialEq, Eq)]
 pub(crate) struct Kinds {
     pub(crate) told: bool,
