@@ -1,11 +1,6 @@
-//! Tests of `trace_world`: schedules, step by step, against what the segments that reached a node
-//! tell.
-//!
-//! - `schedule`: two nodes, each refusal, and how long a frame may be
-//! - `storm`: ten thousand steps over 64 nodes
+//! Tests of `trace_world`: schedules over two nodes, step by step, against what the segments that
+//! reached a node tell.
 #![tactic(auto)]
 
 #[cfg(test)]
 mod schedule;
-#[cfg(test)]
-mod storm;
