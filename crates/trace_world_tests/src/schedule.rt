@@ -1,6 +1,6 @@
 //! Schedules over two nodes, each rank with one call that takes part in no matching.
 
-use mpi_model::{Call, Event, Layout, Outs, Sends, Stamp};
+use mpi_model::{Call, Event, Layout, Outs, Requests, Sends, Stamp};
 use std::alloc::Global;
 use trace_know::Segment;
 use trace_world::{Step, World, WorldFault};
@@ -143,5 +143,83 @@ fn a_world_has_one_to_64_nodes(rt: HostRuntime) {
     ];
     for (nodes, wanted) in rows {
         assert!(rt; count_fault(alloc, nodes) == wanted, "{nodes} nodes");
+    }
+}
+
+/// What both nodes have read after node 0's answer was made anew.
+fn refreshed(alloc: Global, node: usize) -> Option<(Result<(), WorldFault>, (u64, u64))> {
+    let layout = layout(alloc)?;
+    let mut world = shipped(alloc, &layout)?;
+    let done = world.refresh(node);
+    Some((done, prefixes(&world, 0)?))
+}
+
+/// A refreshed node knows what it knew.
+#[test]
+fn refresh(rt: HostRuntime) {
+    let rows = [(0, Ok(())), (1, Ok(())), (2, Err(WorldFault::NoNode))];
+    for (node, wanted) in rows {
+        assert!(rt;
+            refreshed(rt.alloc(), node) == Some((wanted, (2, 2))),
+            "node {node}"
+        );
+    }
+}
+
+/// How many segments wait for the nodes 0, 1 and 2, and how many mails there are.
+fn counts(alloc: Global) -> Option<[Option<usize>; 4]> {
+    let layout = layout(alloc)?;
+    let mut world = shipped(alloc, &layout)?;
+    world.step(&post(alloc, 1, 0)?).ok()?;
+    world.step(&post(alloc, 1, 1)?).ok()?;
+    Some([
+        world.inbox_len(0),
+        world.inbox_len(1),
+        world.inbox_len(2),
+        Some(world.mails()),
+    ])
+}
+
+#[test]
+fn inboxes_and_mails_are_counted(rt: HostRuntime) {
+    assert!(rt; counts(rt.alloc()) == Some([Some(0), Some(2), None, Some(1)]));
+}
+
+/// Call 1 of rank 0, which waits for so many requests.
+fn long_wait(alloc: Global, requests: usize) -> Option<Segment> {
+    let requests = Requests::from_vec(vec![in alloc; 0; requests].ok()?);
+    let enter = Event::Enter(Call::Waitall(requests), Stamp::new(0, 0)?);
+    Segment::new(0, 1, vec![in alloc; enter].ok()?).ok()
+}
+
+/// What a shipment answers of a node that knows of one wait for so many requests.
+fn shipment(alloc: Global, requests: usize) -> Option<Result<(), WorldFault>> {
+    let layout = layout(alloc)?;
+    let mut world = World::new(alloc, &layout, 1).ok()?;
+    let segment = long_wait(alloc, requests)?;
+    let steps = [
+        Step::Post {
+            worker: 0,
+            node: 0,
+            segment,
+        },
+        Step::Take { node: 0 },
+    ];
+    world.run(&steps).ok()?;
+    Some(world.step(&Step::Ship { node: 0 }))
+}
+
+/// The payload of one wait has 38 bytes and 8 for each request, and may have 16,777,216.
+#[test]
+fn a_frame_that_is_too_long(rt: HostRuntime) {
+    let rows = [
+        (2_097_147, Ok(())),
+        (2_097_148, Err(WorldFault::FrameLength)),
+    ];
+    for (requests, wanted) in rows {
+        assert!(rt;
+            shipment(rt.alloc(), requests) == Some(wanted),
+            "{requests} requests"
+        );
     }
 }
