@@ -14,7 +14,7 @@
 //! - [`fault`]: why nothing was put, or nothing newer is shown
 //!
 //! What a call did under the lock no contract can name: that `publish` changes the board, and that
-//! `show` reads it, is shown by the tests in `trace_board_tests`.
+//! `show` reads it, is left to tests.
 #![tactic(auto)]
 
 mod board;

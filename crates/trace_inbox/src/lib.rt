@@ -20,7 +20,7 @@
 //! - [`steps`]: the calls
 //!
 //! Nothing promises that a post arrives or that anyone gets on: the contracts say what was done where
-//! a call returns. Its tests are those of the crew, in `trace_crew_tests`.
+//! a call returns.
 #![tactic(auto)]
 
 mod item;
