@@ -1,6 +1,7 @@
 pub mod Names
 pub mod QuickNumber
 pub mod FieldByField
+pub mod GroupByGroup
 pub mod Missing
 pub mod Tolds
 pub mod NextCall

@@ -26,7 +26,7 @@ both_true : (p q : Bool) → (p && q) ≡ true → (p ≡ true) × (q ≡ true)
 both_true true q h = (refl, h)
 both_true false q h = cc
 
-first_digit : (d : ℕ) (ds : List ℕ) → list_all is_digit (d ∷ ds) ≡ true → is_digit d ≡ true
+pub first_digit : (d : ℕ) (ds : List ℕ) → list_all is_digit (d ∷ ds) ≡ true → is_digit d ≡ true
 first_digit d ds all = (both_true (is_digit d) (list_all is_digit ds) all).0
 
 rest_digits : (d : ℕ) (ds : List ℕ) → list_all is_digit (d ∷ ds) ≡ true → list_all is_digit ds ≡ true
@@ -43,11 +43,11 @@ other_byte : (a b : ℕ) → a ≢ b → eqb a b ≡ false
 other_byte a b h = grind arith
 
 -- a digit is none of the bytes that aren't
-unlike : (d b : ℕ) → is_digit d ≡ true → is_digit b ≡ false → eqb d b ≡ false
+pub unlike : (d b : ℕ) → is_digit d ≡ true → is_digit b ≡ false → eqb d b ≡ false
 unlike d b digit other = elim (cases_eq d b) [ inl same ↦ absurd (false≢true (sym other ∙ ap is_digit (sym same) ∙ digit)) | inr differs ↦ other_byte d b differs ]
 
 -- digits before what begins with none
-digits_before : (digits rest : List ℕ) → list_all is_digit digits ≡ true → digit_parts rest ≡ ([], rest) → digit_parts (digits ++ rest) ≡ (digits, rest)
+pub digits_before : (digits rest : List ℕ) → list_all is_digit digits ≡ true → digit_parts rest ≡ ([], rest) → digit_parts (digits ++ rest) ≡ (digits, rest)
 digits_before [] rest all none = none
 digits_before (d ∷ ds) rest all none = rw (first_digit d ds all, digits_before ds rest (rest_digits d ds all) none) refl
 

@@ -1,5 +1,5 @@
--- What a group tells, field by field: the first of its fields `source` counts.
-use Rattle.std.specs.Prelude.{ℕ, List, Option, Some, None, codes, if◌then◌else◌}
+-- What groups tell, field by field: the first field `source` of a group counts.
+use Rattle.std.specs.Prelude.{ℕ, List, ◌++◌, map, Option, Some, None, codes, if◌then◌else◌}
 use Rattle.std.specs.Str.{bytes_eq}
 use Rattle.dumpi_text.specs.declared.group.Field.{Field}
 use Rattle.dumpi_calls.specs.Outcomes.{told_by, told_of}
@@ -18,3 +18,8 @@ told_with None fields = told_of fields
 abbrev pub with_told : Option (Option ℕ) → Option (List Field × List ℕ) → Option (Option ℕ × List ℕ)
 with_told source None = None
 with_told source (Some (fields, rest)) = Some (told_with source fields, rest)
+
+-- what was told by groups, and what these groups of a list tell, where there is one, and what follows it
+abbrev pub tolds_with : List (Option ℕ) → Option (List (List Field) × List ℕ) → Option (List (Option ℕ) × List ℕ)
+tolds_with tolds None = None
+tolds_with tolds (Some (groups, rest)) = Some (tolds ++ map told_of groups, rest)

@@ -13,7 +13,7 @@ ghost use Rattle.dumpi_calls.specs.declared.parameter.Parameter.TheVariants as p
 use crate::function::is;
 use crate::parameter::{CallFault, Parameter};
 use crate::reading::{listed, non_negative_of, number, text_in};
-use crate::skim::quick_status;
+use crate::skim::{quick_status, quick_statuses};
 use dumpi_text::{
     Field, Group, Groups, Num, NumName, Nums, RawCall, Value, ValueFault, parse_value,
 };
@@ -182,11 +182,40 @@ fn status_in(alloc: Global, raw: &RawCall) -> Result<Outs, AllocError>
     Ok(Outs::Status(told))
 }
 
+// what the groups of a text tell of each request
+fn tolds_of_text(alloc: Global, requests: &[i64], text: &[u8]) -> Result<Sources, AllocError>
+    ensures { IfOk result (λ s. s ≡ tolds_from (groups_from (value_of text.now)) 0 requests.now) }
+{
+    let groups = groups_of(alloc, text)?;
+    tolds(alloc, groups.as_slice(), requests)
+}
+
+// the same, in place where there is one status for each request
+#[tactic(auto, using(crate::proofs::GroupByGroup::whole_list))]
+fn sources_in(alloc: Global, requests: &[i64], text: &[u8]) -> Result<Sources, AllocError>
+    ensures { IfOk result (λ s. s ≡ tolds_from (groups_from (value_of text.now)) 0 requests.now) }
+{
+    match quick_statuses(alloc, text) {
+        Ok(told) => {
+            if told.len() == requests.len() {
+                Ok(Sources::from_vec(told))
+            } else {
+                tolds_of_text(alloc, requests, text)
+            }
+        }
+        Err(ValueFault::BadValue) => tolds_of_text(alloc, requests, text),
+        Err(ValueFault::Memory) => Err(AllocError),
+    }
+}
+
+#[tactic(auto, unfolding(crate::specs::Outcomes::groups_in))]
 fn statuses_in(alloc: Global, requests: &[i64], raw: &RawCall) -> Result<Outs, AllocError>
     ensures { IfOk result (λ o. o ≡ statuses requests.now raw.now) }
 {
-    let groups = groups(alloc, raw, Parameter::Statuses)?;
-    Ok(Outs::Statuses(tolds(alloc, groups.as_slice(), requests)?))
+    match text_in(raw, Parameter::Statuses) {
+        None => Ok(Outs::Statuses(tolds(alloc, &[], requests)?)),
+        Some(text) => Ok(Outs::Statuses(sources_in(alloc, requests, text)?)),
+    }
 }
 
 #[tactic(auto, unfolding(crate::specs::Outcomes::index))]

@@ -1,23 +1,24 @@
-//! A status as dumpi2ascii writes it, `[1] {{word=number, ..}}`, of which the source is read in one pass and in place.
-//! What these functions don't answer for is read as any value is.
+//! Statuses as dumpi2ascii writes them, `[count] {{word=number, ..}, ..}`, of which the sources are read in one pass and in
+//! place. What these functions don't answer for is read as any value is.
 
-ghost use Rattle.std.specs.Prelude.{◌≡◌, ◌∷◌, [], IfSome, None, Some, true};
+ghost use Rattle.std.specs.Prelude.{◌≡◌, ◌∷◌, [], IfOk, IfSome, None, Some, map, true};
 ghost use Rattle.std.specs.Option.{option_map};
-ghost use Rattle.dumpi_calls.specs.Outcomes.{groups_from, told_at};
-ghost use Rattle.dumpi_calls.specs.Skims.{source_with, told_with, with_told};
-ghost use Rattle.dumpi_text.specs.Bytes.{closing_brace, equals};
-ghost use Rattle.dumpi_text.specs.Items.{field_item, fields_front, next_front};
+ghost use Rattle.dumpi_calls.specs.Outcomes.{groups_from, told_at, told_of};
+ghost use Rattle.dumpi_calls.specs.Skims.{source_with, told_with, tolds_with, with_told};
+ghost use Rattle.dumpi_text.specs.Bytes.{closing_brace, equals, opening_bracket};
+ghost use Rattle.dumpi_text.specs.Items.{field_item, fields_front, group_item, items_front, next_front};
 ghost use Rattle.dumpi_text.specs.Number.{note_front, number_front};
 ghost use Rattle.dumpi_text.specs.Tokens.{after_byte, after_spaces, digit_parts, word_front};
-ghost use Rattle.dumpi_text.specs.Value.{value_of};
+ghost use Rattle.dumpi_text.specs.Value.{all_groups, core_front, value_of};
 ghost use Rattle.dumpi_text.specs.Words.{is_word_byte, word_parts};
 ghost use Rattle.dumpi_text.specs.declared.number.NumName.TheVariants.{Other};
 
 use crate::function::is;
 use crate::outcome::told_source;
 use crate::quick::digits_front;
-use dumpi_text::{Num, NumName};
+use dumpi_text::{Num, NumName, ValueFault};
 use mpi_model::Told;
+use std::alloc::Global;
 
 // the text without the spaces in front
 fn skip_spaces(text: &[u8]) -> &[u8]
@@ -217,5 +218,81 @@ pub fn quick_status(text: &[u8]) -> Option<Told>
     match told_front(fields) {
         None => None,
         Some((told, rest)) => { if closes_list(rest) { Some(told) } else { None } }
+    }
+}
+
+// what the group in front tells, and what follows it
+fn told_group(text: &[u8]) -> Option<(Told, &[u8])>
+    ensures { IfSome result (λ x. with_told None (group_item text.now) ≡ Some (x.0, x.1.now)) }
+{
+    match text {
+        [b'{', fields @ ..] => told_front(fields),
+        _ => None,
+    }
+}
+
+// what each group of a list tells, and what follows the list's `}`; `BadValue` is no answer
+#[tactic(auto, using(crate::proofs::GroupByGroup::one_more, crate::proofs::GroupByGroup::the_last))]
+fn tolds_front(alloc: Global, list: &[u8]) -> Result<(Vec<Told>, &[u8]), ValueFault>
+    ensures { IfOk result (λ x. tolds_with [] (items_front group_item closing_brace list.now) ≡ Some (x.0.items, x.1.now)) }
+{
+    let mut tolds = Vec::new(alloc);
+    let mut left = list;
+    for _ in 0..list.len() {
+        match told_group(skip_spaces(left)) {
+            None => return Err(ValueFault::BadValue),
+            Some((told, rest)) => {
+                tolds.push(told)?;
+                match split_next(skip_spaces(rest)) {
+                    Some((true, rest)) => left = rest,
+                    Some((false, rest)) => return Ok((tolds, rest)),
+                    None => return Err(ValueFault::BadValue),
+                }
+            }
+        }
+    }
+    Err(ValueFault::BadValue)
+}
+
+// the list of groups of statuses, by what follows their `[`: what stands after the count, `] {`
+fn counted_groups(text: &[u8]) -> Option<&[u8]>
+    ensures { IfSome result (λ list. core_front (opening_bracket ∷ text.now) ≡ all_groups (items_front group_item closing_brace list.now)) }
+{
+    let (_, count) = digits_front(text);
+    if count == 0 || text.len() - count < 4 {
+        return None;
+    }
+    if text[count] != b']' || text[count + 1] != b' ' {
+        return None;
+    }
+    if text[count + 2] != b'{' || text[count + 3] != b'{' {
+        return None;
+    }
+    Some(&text[count + 3..])
+}
+
+// what each group of a list tells that nothing follows; `BadValue` is no answer
+fn tolds_in(alloc: Global, list: &[u8]) -> Result<Vec<Told>, ValueFault>
+    ensures { IfOk result (λ tolds. tolds_with [] (items_front group_item closing_brace list.now) ≡ Some (tolds.items, [])) }
+{
+    let (tolds, rest) = tolds_front(alloc, list)?;
+    if rest.is_empty() {
+        Ok(tolds)
+    } else {
+        Err(ValueFault::BadValue)
+    }
+}
+
+/// What each group of the text of statuses tells; `BadValue` is no answer.
+#[tactic(auto, using(crate::proofs::GroupByGroup::tolds_value))]
+pub fn quick_statuses(alloc: Global, text: &[u8]) -> Result<Vec<Told>, ValueFault>
+    ensures { IfOk result (λ tolds. map told_of (groups_from (value_of text.now)) ≡ tolds.items) }
+{
+    match strip_byte(b'[', text) {
+        None => Err(ValueFault::BadValue),
+        Some(counted) => match counted_groups(counted) {
+            None => Err(ValueFault::BadValue),
+            Some(list) => tolds_in(alloc, list),
+        },
     }
 }
