@@ -77,6 +77,11 @@ pub(crate) fn frame_of(alloc: Global, node: &Node) -> Option<Vec<u8>> {
     writer.bytes().to_vec(alloc).ok()
 }
 
+/// The frame of a node that has taken a rank's piece.
+pub(crate) fn frame_of_rank(alloc: Global, layout: &Layout, rank: u32) -> Option<Vec<u8>> {
+    frame_of(alloc, &node_of(alloc, layout, rank)?)
+}
+
 /// What the node reports.
 pub(crate) fn report_of(alloc: Global, node: &Node) -> Option<Vec<u8>> {
     report_text(alloc, node.answer().ok()?).ok()

@@ -1,13 +1,12 @@
 //! Both sides of an exchange in memory, fed with each other's bytes.
 
-use crate::fixture::{layout, node_of, reports_all};
+use crate::fixture::{frame_of_rank, layout, node_of, reports_all};
 use crate::pipe::{Pipe, is_stream};
 use mpi_model::{Layout, MemoryReader, MemoryWriter};
 use std::alloc::Global;
 use std::test::Fail;
 use trace_exchange::{ExchangeFault, follow, lead};
 use trace_node::Node;
-use trace_wire::WireFault;
 
 /// What a side of an exchange answers that is given these bytes, and what it wrote.
 fn told(
@@ -29,30 +28,32 @@ fn told(
     Some((answer, stream.writer.bytes().to_vec(alloc).ok()?))
 }
 
-/// The frame of a node, as a leader writes it that nobody answers.
-fn asked(alloc: Global, node: &mut Node) -> Option<Vec<u8>> {
-    match told(alloc, true, &[], node)? {
-        (Err(ExchangeFault::Read(WireFault::Short)), bytes) => Some(bytes),
+/// What a node writes that follows one who knows the other rank's piece, where it reports the whole
+/// run then.
+fn followed(alloc: Global, layout: &Layout, rank: u32, frame: &[u8]) -> Option<Vec<u8>> {
+    let mut node = node_of(alloc, layout, rank)?;
+    match told(alloc, false, frame, &mut node)? {
+        (Ok(()), bytes) if reports_all(alloc, &node) => Some(bytes),
         _ => None,
     }
 }
 
-/// Whether both nodes report the whole run and know the same once the node of rank `first` led and the
-/// other followed, each fed with what the other wrote.
+/// What a node writes that leads one who answers so, where it reports the whole run then.
+fn led(alloc: Global, layout: &Layout, rank: u32, answer: &[u8]) -> Option<Vec<u8>> {
+    let mut node = node_of(alloc, layout, rank)?;
+    match told(alloc, true, answer, &mut node)? {
+        (Ok(()), bytes) if reports_all(alloc, &node) => Some(bytes),
+        _ => None,
+    }
+}
+
+/// Whether both nodes report the whole run once the node of rank `first` led and the other followed,
+/// each fed with what the other wrote.
 fn both_report_all(alloc: Global, layout: &Layout, first: u32) -> Option<bool> {
-    let mut leader = node_of(alloc, layout, first)?;
-    let mut follower = node_of(alloc, layout, 1 - first)?;
-    let frame = asked(alloc, &mut leader)?;
-    let (followed, joined) = told(alloc, false, &frame, &mut follower)?;
-    let (led, again) = told(alloc, true, &joined, &mut leader)?;
-    let both = reports_all(alloc, &leader) && reports_all(alloc, &follower);
-    Some(
-        followed == Ok(())
-            && led == Ok(())
-            && again == frame
-            && both
-            && leader.know().same(follower.know()),
-    )
+    let frame = frame_of_rank(alloc, layout, first)?;
+    let answer = followed(alloc, layout, 1 - first, &frame)?;
+    let written = led(alloc, layout, first, &answer)?;
+    Some(written.as_slice() == frame.as_slice())
 }
 
 #[test]

@@ -27,15 +27,31 @@ fn a_refused_segment_leaves_nothing(rt: HostRuntime) -> Result<(), Fail> {
     Ok(())
 }
 
-/// Whether a node, its copy, and the node after a merge of its own knowledge report the same.
-fn report_alike(alloc: Global, layout: &Layout, rank: u32) -> Option<bool> {
+/// What a node reports that knows a rank's piece.
+fn report_of_rank(alloc: Global, layout: &Layout, rank: u32) -> Option<Vec<u8>> {
+    report_of(alloc, &node_of(alloc, layout, rank)?)
+}
+
+/// What its copy reports.
+fn report_of_a_copy(alloc: Global, layout: &Layout, rank: u32) -> Option<Vec<u8>> {
+    let node = node_of(alloc, layout, rank)?;
+    report_of(alloc, &node.try_clone().ok()?)
+}
+
+/// What it reports after a merge of what it knows.
+fn report_after_itself(alloc: Global, layout: &Layout, rank: u32) -> Option<Vec<u8>> {
     let mut node = node_of(alloc, layout, rank)?;
-    let copy = node.try_clone().ok()?;
-    let before = report_of(alloc, &node)?;
-    node.merge(copy.know()).ok()?;
-    let after = report_of(alloc, &node)?;
-    let copied = report_of(alloc, &copy)?;
-    Some(before.as_slice() == after.as_slice() && before.as_slice() == copied.as_slice())
+    let own = node.know().try_clone().ok()?;
+    node.merge(&own).ok()?;
+    report_of(alloc, &node)
+}
+
+/// Whether all three are the same.
+fn report_alike(alloc: Global, layout: &Layout, rank: u32) -> Option<bool> {
+    let report = report_of_rank(alloc, layout, rank)?;
+    let copied = report_of_a_copy(alloc, layout, rank)?;
+    let merged = report_after_itself(alloc, layout, rank)?;
+    Some(copied.as_slice() == report.as_slice() && merged.as_slice() == report.as_slice())
 }
 
 #[test]

@@ -1,14 +1,13 @@
 //! What is left where a stream fails or ends at each byte, in either direction, and where a merge is
 //! refused.
 
-use crate::fixture::{frame_of, layout, node_of, piece, reports_all};
+use crate::fixture::{frame_of, frame_of_rank, layout, node_of, piece};
 use crate::pipe::Pipe;
 use mpi_model::{Layout, MemoryReader, MemoryWriter};
 use std::alloc::Global;
 use std::test::Fail;
 use trace_exchange::{ExchangeFault, follow, lead};
 use trace_node::Node;
-use trace_wire::read_frame;
 
 /// How a stream stops.
 #[derive(Clone, Copy, PartialEq, Eq)]
@@ -47,57 +46,97 @@ fn text_of(alloc: Global, answer: Result<(), ExchangeFault>) -> Option<String> {
     }
 }
 
-/// Whether the stream still has all of a frame to give.
-fn gives_all(alloc: Global, stream: &mut Pipe<'_>) -> bool {
-    read_frame(alloc, &mut stream.reader).is_ok()
-}
-
-/// Whether a node of rank 0 that leads over such a stream is refused so, is as it was, and has written
-/// this many bytes of its frame; and, where not all of them, has read nothing.
-fn is_led(
-    alloc: Global,
-    layout: &Layout,
-    other: &[u8],
-    stop: (Stop, usize),
-    want: (&str, usize),
-) -> Option<bool> {
-    let mut node = node_of(alloc, layout, 0)?;
-    let own = frame_of(alloc, &node)?;
-    let mut stream = stopping(alloc, other, stop.0, stop.1);
-    let text = text_of(alloc, lead(alloc, &mut stream, &mut node))?;
-    let is_kept = frame_of(alloc, &node)? == own && node.answer().is_ok();
-    let is_front = own.get(..want.1)? == stream.writer.bytes();
-    let is_unread = want.1 == own.len() || gives_all(alloc, &mut stream);
-    Some(text.as_str() == want.0 && is_kept && is_front && is_unread)
-}
-
-/// Whether a node of rank 1 that follows over such a stream is refused so, and has written this many
-/// bytes of the frame of both pieces. Where the writing was refused it knows both, else it is as it
-/// was.
-fn is_followed(
-    alloc: Global,
-    layout: &Layout,
-    other: &[u8],
-    stop: (Stop, usize),
-    want: (&str, usize),
-) -> Option<bool> {
-    let mut node = node_of(alloc, layout, 1)?;
-    let own = frame_of(alloc, &node)?;
-    let mut stream = stopping(alloc, other, stop.0, stop.1);
-    let text = text_of(alloc, follow(alloc, &mut stream, &mut node))?;
-    let now = frame_of(alloc, &node)?;
-    let is_front = now.get(..want.1)? == stream.writer.bytes();
-    let is_kept = if want.0 == "W1 Write" {
-        reports_all(alloc, &node)
+/// What is printed of the answer to one who leads, or follows, over this stream.
+fn answer_of(alloc: Global, leads: bool, stream: &mut Pipe<'_>, node: &mut Node) -> Option<String> {
+    let answer = if leads {
+        lead(alloc, stream, node)
     } else {
-        now == own && node.answer().is_ok()
+        follow(alloc, stream, node)
     };
-    Some(text.as_str() == want.0 && is_kept && is_front)
+    text_of(alloc, answer)
 }
 
-/// The frame that the node of a rank writes.
-fn frame_of_rank(alloc: Global, layout: &Layout, rank: u32) -> Option<Vec<u8>> {
-    frame_of(alloc, &node_of(alloc, layout, rank)?)
+/// What is printed of a refusal, the bytes that were written before it, and the frame of what the node
+/// knows after it. The leader has the piece of rank 0, the follower that of rank 1.
+fn stopped(
+    alloc: Global,
+    layout: &Layout,
+    leads: bool,
+    other: &[u8],
+    stop: (Stop, usize),
+) -> Option<(String, Vec<u8>, Vec<u8>)> {
+    let mut node = node_of(alloc, layout, if leads { 0 } else { 1 })?;
+    let mut stream = stopping(alloc, other, stop.0, stop.1);
+    let text = answer_of(alloc, leads, &mut stream, &mut node)?;
+    let written = stream.writer.bytes().to_vec(alloc).ok()?;
+    Some((text, written, frame_of(alloc, &node)?))
+}
+
+/// What is to be seen after a refusal: its text, what was written, and the frame of what is known.
+type Left<'a> = (&'a str, &'a [u8], &'a [u8]);
+
+/// Whether this is left where the stream stops so.
+fn leaves(
+    alloc: Global,
+    layout: &Layout,
+    leads: bool,
+    other: &[u8],
+    stop: (Stop, usize),
+    want: Left<'_>,
+) -> bool {
+    match stopped(alloc, layout, leads, other, stop) {
+        Some((text, written, known)) => text.as_str() == want.0
+            && written.as_slice() == want.1
+            && known.as_slice() == want.2,
+        None => false,
+    }
+}
+
+/// Whether a leader that reads so many bytes has written its frame and is as it was.
+fn leader_reads(alloc: Global, layout: &Layout, other: &[u8], own: &[u8], count: usize) -> bool {
+    let ends = (Stop::EndsReading, count);
+    let fails = (Stop::FailsReading, count);
+    leaves(alloc, layout, true, other, ends, ("W5 Short", own, own))
+        && leaves(alloc, layout, true, other, fails, ("W1 Read", own, own))
+}
+
+/// Whether a leader that writes so many bytes has written them and is as it was.
+fn leader_writes(alloc: Global, layout: &Layout, other: &[u8], own: &[u8], count: usize) -> bool {
+    let fails = (Stop::FailsWriting, count);
+    match own.get(..count) {
+        Some(front) => leaves(alloc, layout, true, other, fails, ("W1 Write", front, own)),
+        None => false,
+    }
+}
+
+/// Whether a follower that reads so many bytes has written nothing and is as it was.
+fn follower_reads(alloc: Global, layout: &Layout, other: &[u8], own: &[u8], count: usize) -> bool {
+    let ends = (Stop::EndsReading, count);
+    let fails = (Stop::FailsReading, count);
+    leaves(alloc, layout, false, other, ends, ("W5 Short", b"", own))
+        && leaves(alloc, layout, false, other, fails, ("W1 Read", b"", own))
+}
+
+/// Whether a follower that writes so many bytes has written them and knows both pieces.
+fn follower_writes(
+    alloc: Global,
+    layout: &Layout,
+    other: &[u8],
+    both: &[u8],
+    count: usize,
+) -> bool {
+    let fails = (Stop::FailsWriting, count);
+    match both.get(..count) {
+        Some(front) => leaves(
+            alloc,
+            layout,
+            false,
+            other,
+            fails,
+            ("W1 Write", front, both),
+        ),
+        None => false,
+    }
 }
 
 /// The frame of both pieces.
@@ -111,37 +150,19 @@ fn frame_of_both(alloc: Global, layout: &Layout) -> Option<Vec<u8>> {
 fn a_leader_whose_stream_stops(rt: HostRuntime) -> Result<(), Fail> {
     let alloc = rt.alloc();
     let layout = layout(alloc).ok_or("a layout")?;
+    let own = frame_of_rank(alloc, &layout, 0).ok_or("a frame")?;
     let other = frame_of_rank(alloc, &layout, 1).ok_or("a frame")?;
-    let all = frame_of_rank(alloc, &layout, 0).ok_or("a frame")?.len();
     for count in 0..other.len() {
-        let ends = is_led(
-            alloc,
-            &layout,
-            &other,
-            (Stop::EndsReading, count),
-            ("W5 Short", all),
-        );
-        let fails = is_led(
-            alloc,
-            &layout,
-            &other,
-            (Stop::FailsReading, count),
-            ("W1 Read", all),
-        );
         assert!(rt;
-            (ends, fails) == (Some(true), Some(true)),
+            leader_reads(alloc, &layout, &other, &own, count),
             "reading {count} bytes"
         );
     }
-    for count in 0..all {
-        let fails = is_led(
-            alloc,
-            &layout,
-            &other,
-            (Stop::FailsWriting, count),
-            ("W1 Write", count),
+    for count in 0..own.len() {
+        assert!(rt;
+            leader_writes(alloc, &layout, &other, &own, count),
+            "writing {count} bytes"
         );
-        assert!(rt; fails == Some(true), "writing {count} bytes");
     }
     Ok(())
 }
@@ -150,37 +171,20 @@ fn a_leader_whose_stream_stops(rt: HostRuntime) -> Result<(), Fail> {
 fn a_follower_whose_stream_stops(rt: HostRuntime) -> Result<(), Fail> {
     let alloc = rt.alloc();
     let layout = layout(alloc).ok_or("a layout")?;
+    let own = frame_of_rank(alloc, &layout, 1).ok_or("a frame")?;
     let other = frame_of_rank(alloc, &layout, 0).ok_or("a frame")?;
-    let all = frame_of_both(alloc, &layout).ok_or("a frame")?.len();
+    let both = frame_of_both(alloc, &layout).ok_or("a frame")?;
     for count in 0..other.len() {
-        let ends = is_followed(
-            alloc,
-            &layout,
-            &other,
-            (Stop::EndsReading, count),
-            ("W5 Short", 0),
-        );
-        let fails = is_followed(
-            alloc,
-            &layout,
-            &other,
-            (Stop::FailsReading, count),
-            ("W1 Read", 0),
-        );
         assert!(rt;
-            (ends, fails) == (Some(true), Some(true)),
+            follower_reads(alloc, &layout, &other, &own, count),
             "reading {count} bytes"
         );
     }
-    for count in 0..all {
-        let fails = is_followed(
-            alloc,
-            &layout,
-            &other,
-            (Stop::FailsWriting, count),
-            ("W1 Write", count),
+    for count in 0..both.len() {
+        assert!(rt;
+            follower_writes(alloc, &layout, &other, &both, count),
+            "writing {count} bytes"
         );
-        assert!(rt; fails == Some(true), "writing {count} bytes");
     }
     Ok(())
 }
@@ -188,15 +192,30 @@ fn a_follower_whose_stream_stops(rt: HostRuntime) -> Result<(), Fail> {
 /// The frame of a contradiction of a rank that the layout lacks, and nothing else.
 static STRANGER: &[u8] = b"MPTX\0\x01\0\0\0\x11\0\0\0\x01\0\0\0\x02\0\0\0\0\0\0\0\0\x01";
 
+/// Whether one who leads, or follows, refuses what a stranger tells, and is as it was. The leader has
+/// written its frame, the follower nothing.
+fn refuses_a_stranger(alloc: Global, layout: &Layout, leads: bool) -> Option<bool> {
+    let own = frame_of_rank(alloc, layout, if leads { 0 } else { 1 })?;
+    let never = (Stop::FailsWriting, usize::MAX);
+    let written = if leads { own.as_slice() } else { b"" };
+    Some(leaves(
+        alloc,
+        layout,
+        leads,
+        STRANGER,
+        never,
+        ("N1 Rank", written, own.as_slice()),
+    ))
+}
+
 #[test]
 fn a_rank_that_the_layout_lacks(rt: HostRuntime) -> Result<(), Fail> {
-    let alloc = rt.alloc();
-    let layout = layout(alloc).ok_or("a layout")?;
-    let all = frame_of_rank(alloc, &layout, 0).ok_or("a frame")?.len();
-    let never = (Stop::FailsWriting, usize::MAX);
-    let led = is_led(alloc, &layout, STRANGER, never, ("N1 Rank", all));
-    let followed = is_followed(alloc, &layout, STRANGER, never, ("N1 Rank", 0));
-    assert!(rt; led == Some(true), "the leader");
-    assert!(rt; followed == Some(true), "the follower");
+    let layout = layout(rt.alloc()).ok_or("a layout")?;
+    for leads in [true, false] {
+        assert!(rt;
+            refuses_a_stranger(rt.alloc(), &layout, leads) == Some(true),
+            "leads: {leads}"
+        );
+    }
     Ok(())
 }
