@@ -16,8 +16,6 @@
 //! - [`hearing`]: one frame, read and merged
 //! - [`leader`] and [`follower`]: the two sides of an exchange
 //! - [`laws`]: what both nodes know after it, as the contract of a call that does nothing
-//!
-//! Its tests are in the crate `trace_exchange_tests`.
 #![tactic(auto)]
 
 mod fault;
