@@ -5,18 +5,20 @@ use Rattle.crossbeam_channel.specs.Claims.{view}
 use Rattle.mpi_model.specs.Layouts.{Parts}
 use Rattle.trace_know.specs.Segment.{PlacedEvents}
 use Rattle.trace_know.specs.Trace.{view_of}
+use Rattle.trace_node.specs.Node.{Held}
 use Rattle.trace_inbox.specs.declared.item.Item.{Item}
 use Rattle.trace_inbox.specs.declared.item.Worker.{Worker}
 use Rattle.trace_inbox.specs.declared.item.Worker.TheVariants.{First, Second}
 use Rattle.trace_inbox.specs.declared.rule.Standing.TheVariants.{Running}
+use Rattle.trace_inbox.specs.declared.rule.View.{View}
 use Rattle.trace_inbox.specs.declared.rule.View.TheVariants.{Owner}
 use Rattle.trace_inbox.specs.Views.{desk, is_from}
 use Rattle.trace_crew.specs.declared.threads.CrewOut.{CrewOut}
-use Rattle.trace_crew.specs.declared.threads.Ran.{Ran}
+use Rattle.trace_crew.specs.declared.worker.Worked.{Worked}
 use Rattle.trace_crew.specs.declared.piece.Piece.{Piece}
 use Rattle.trace_crew.specs.declared.piece.PieceFault.{PieceFault}
 use Rattle.trace_crew.specs.Pieces.{Gave}
-use Rattle.trace_crew.specs.Taking.{IsFair, Sorted, Taken, joined_in, refused_in}
+use Rattle.trace_crew.specs.Taking.{IsFair, Refusal, Sorted, Taken, joined_in, refused_in}
 use Rattle.trace_crew.specs.Work.{HasEnded}
 
 -- the segments of one worker among those that were taken, in their order
@@ -42,9 +44,9 @@ pub record IsCrewOut (layout : Parts) (first second : List Piece) (out : CrewOut
   pub know : out.node.know ≡ view_of (flat_map joined_in taken)
 
 -- The workers have ended, and the owner has taken some of what they posted.
-pub record HasRun (layout : Parts) (first second : List Piece) (ran : Ran) : Type 0 where
+pub record HasRun (layout : Parts) (first second : List Piece) (owner : View) (node : Held) (refused : List Refusal) (one other : Worked) : Type 0 where
   pub taken : List Item
-  pub owner : view ran.seat ≡ Owner (desk taken Running Running)
-  pub sorted : Sorted layout taken ran.hall.node ran.hall.refused.items
-  pub first_ended : ran.first.stop ≡ None → HasEnded First first (view ran.first.seat) ran.first.faults.items
-  pub second_ended : ran.second.stop ≡ None → HasEnded Second second (view ran.second.seat) ran.second.faults.items
+  pub owner_is : owner ≡ Owner (desk taken Running Running)
+  pub sorted : Sorted layout taken node refused
+  pub first_ended : one.stop ≡ None → HasEnded First first (view one.seat) one.faults.items
+  pub second_ended : other.stop ≡ None → HasEnded Second second (view other.seat) other.faults.items

@@ -119,3 +119,8 @@ counted false = 0
 abbrev pub ends_in : List Item → ℕ
 ends_in [] = 0
 ends_in (item ∷ items) = counted (is_end item) + ends_in items
+
+-- of how many workers an item ends the posts, of which is told which segment it was, where it was one
+abbrev pub ends_told : Option (ℕ × ℕ) → ℕ
+ends_told None = 1
+ends_told (Some segment) = 0

@@ -13,14 +13,15 @@
 //! - [`piece`]: a text of a rank, its segments, and why it gives none
 //! - [`gate`]: where a test may hold a crew
 //! - [`worker`]: reads and posts
-//! - [`owner`]: takes and joins
+//! - [`keeper`]: how the owner takes; [`owner`]: what it keeps
 //! - [`threads`]: the three threads, and what they leave
 //!
 //! No contract promises that a call which waits returns, that anything arrives or that two threads ran
-//! at once: `trace_crew_tests` shows that with gates.
+//! at once.
 #![tactic(auto)]
 
 mod gate;
+mod keeper;
 mod owner;
 mod piece;
 mod threads;

@@ -10,11 +10,13 @@ ghost use Rattle.trace_inbox.specs.declared.item.Worker.TheVariants.{First, Seco
 ghost use Rattle.trace_inbox.specs.declared.rule.Standing.TheVariants.{Running};
 ghost use Rattle.trace_inbox.specs.declared.rule.View.TheVariants.{Owner, Poster};
 ghost use Rattle.trace_crew.specs.Crewed.{HasRun, IsCrewOut};
+ghost use Rattle.trace_crew.specs.Taking.{Sorted};
 ghost use Rattle.trace_crew.specs.Work.{HasEnded};
 ghost use Rattle.trace_crew.specs.declared.piece.Piece.{Piece as PieceValue};
 
 use crate::gate::Gate;
-use crate::owner::{Hall, Station};
+use crate::keeper::{Keeper, drain, own};
+use crate::owner::Hall;
 use crate::piece::{Piece, PieceFault};
 use crate::worker::{Stop, Worked, Working, work};
 use mpi_model::Layout;
@@ -60,10 +62,10 @@ impl From<AllocError> for CrewFault {
 
 /// What the threads of a crew leave.
 #[derive(Drop)]
-struct Ran<'a> {
+struct Ran<H> {
     receiver: InboxReceiver,
     seat: Seat,
-    hall: Hall<'a>,
+    hall: H,
     first: Worked,
     second: Worked,
 }
@@ -88,7 +90,7 @@ pub fn crew<'a, R: Threads + Wait + Sync, G: Gate>(
     let mut seat = seat;
     let first_seat = make_first(&sender, &mut seat);
     let second_seat = make_second(&sender, &mut seat);
-    let station = Station { layout, board };
+    let hall = Hall::new(alloc, layout, board)?;
     let ran = run(
         rt,
         alloc,
@@ -96,40 +98,40 @@ pub fn crew<'a, R: Threads + Wait + Sync, G: Gate>(
         receiver,
         (seat, first_seat, second_seat),
         (first, second),
-        &station,
+        hall,
         gate,
     )?;
-    finish(rt, &sender, ran, &station, gate)
+    finish(rt, &sender, ran, gate)
 }
 
 /// Runs both workers beside the owner, and gives back what they hold.
-fn run<'a, R: Threads + Wait + Sync, G: Gate>(
+fn run<R: Threads + Wait + Sync, G: Gate, H: Keeper>(
     rt: &R,
     alloc: Global,
     sender: &InboxSender,
     receiver: InboxReceiver,
     seats: (Seat, Seat, Seat),
     pieces: (&[Piece], &[Piece]),
-    station: &Station<'_, 'a>,
+    hall: H,
     gate: &G,
-) -> Result<Ran<'a>, CrewFault>
+) -> Result<Ran<H>, CrewFault>
     requires channel { receives_on receiver ≡ sends_on sender.now }
     requires seat { IsSeatAt (sends_on sender.now) seats.0 × (view seats.0 ≡ Owner (desk [] Running Running)) }
     requires first { IsSeatAt (sends_on sender.now) seats.1 × (view seats.1 ≡ Poster First []) }
     requires second { IsSeatAt (sends_on sender.now) seats.2 × (view seats.2 ≡ Poster Second []) }
-    ensures { IfOk result (λ ran. (receives_on ran.receiver ≡ sends_on sender.now) × IsSeatAt (sends_on sender.now) ran.seat × IsSeatAt (sends_on sender.now) ran.first.seat × IsSeatAt (sends_on sender.now) ran.second.seat × HasRun station.now.layout.now pieces.entry.0.now pieces.entry.1.now ran) }
+    ensures { IfOk result (λ ran. (receives_on ran.receiver ≡ sends_on sender.now) × IsSeatAt (sends_on sender.now) ran.seat × IsSeatAt (sends_on sender.now) ran.first.seat × IsSeatAt (sends_on sender.now) ran.second.seat × ((layout : Parts) → Sorted layout [] (H.held hall) (H.listed hall) → HasRun layout pieces.entry.0.now pieces.entry.1.now (view ran.seat) (H.held ran.hall) (H.listed ran.hall) ran.first ran.second)) }
 {
     let (seat, first_seat, second_seat) = seats;
     let (first, second) = pieces;
     thread::scope(
         thread::scope_env(),
         rt,
-        move |scope| -> Result<Ran<'_>, CrewFault>
+        move |scope| -> Result<Ran<H>, CrewFault>
             requires channel { receives_on receiver ≡ sends_on sender.now }
             requires seat { IsSeatAt (sends_on sender.now) seat × (view seat ≡ Owner (desk [] Running Running)) }
             requires first { IsSeatAt (sends_on sender.now) first_seat × (view first_seat ≡ Poster First []) }
             requires second { IsSeatAt (sends_on sender.now) second_seat × (view second_seat ≡ Poster Second []) }
-            ensures { IfOk result (λ ran. (receives_on ran.receiver ≡ sends_on sender.entry.now) × IsSeatAt (sends_on sender.entry.now) ran.seat × IsSeatAt (sends_on sender.entry.now) ran.first.seat × IsSeatAt (sends_on sender.entry.now) ran.second.seat × HasRun station.entry.now.layout.now first.entry.now second.entry.now ran) }
+            ensures { IfOk result (λ ran. (receives_on ran.receiver ≡ sends_on sender.entry.now) × IsSeatAt (sends_on sender.entry.now) ran.seat × IsSeatAt (sends_on sender.entry.now) ran.first.seat × IsSeatAt (sends_on sender.entry.now) ran.second.seat × ((layout : Parts) → Sorted layout [] (H.held hall) (H.listed hall) → HasRun layout first.entry.now second.entry.now (view ran.seat) (H.held ran.hall) (H.listed ran.hall) ran.first ran.second)) }
         {
             let first_promise = Working {
                 inbox: Snapshot::of(sender),
@@ -142,9 +144,7 @@ fn run<'a, R: Threads + Wait + Sync, G: Gate>(
                 pieces: second,
             };
             let mut seat = seat;
-            let Ok(mut hall) = Hall::new(alloc, station) else {
-                return Err(CrewFault::Memory);
-            };
+            let mut hall = hall;
             let Ok(one) = scope.spawn_with(
                 first_promise,
                 move || -> Worked
@@ -165,7 +165,7 @@ fn run<'a, R: Threads + Wait + Sync, G: Gate>(
             ) else {
                 return Err(CrewFault::Worker);
             };
-            hall.own(rt, &receiver, &mut seat, station, gate)?;
+            own(rt, &receiver, &mut seat, &mut hall, gate)?;
             let first = one.join(rt);
             let second = other.join(rt);
             Ok(Ran {
@@ -191,17 +191,16 @@ fn all_ended(first: Option<Stop>, second: Option<Stop>) -> Result<(), CrewFault>
 }
 
 /// Joins the seats of both workers, and takes what is left.
-fn finish<'a, R: Wait, G: Gate>(
+fn finish<'s, 'a, R: Wait, G: Gate>(
     rt: &R,
     sender: &InboxSender,
-    ran: Ran<'a>,
-    station: &Station<'_, 'a>,
+    ran: Ran<Hall<'s, 'a>>,
     gate: &G,
 ) -> Result<CrewOut<'a>, CrewFault>
     requires channel { receives_on ran.receiver ≡ sends_on sender.now }
     requires seats { IsSeatAt (sends_on sender.now) ran.seat × IsSeatAt (sends_on sender.now) ran.first.seat × IsSeatAt (sends_on sender.now) ran.second.seat }
-    requires run { (layout : Parts) × (first : List PieceValue) × (second : List PieceValue) × HasRun layout first second ran }
-    ensures { IfOk result (λ out. (layout : Parts) (first second : List PieceValue) → HasRun layout first second ran.entry → IsCrewOut layout first second out) }
+    requires run { (layout : Parts) × (first : List PieceValue) × (second : List PieceValue) × HasRun layout first second (view ran.seat) ran.hall.node ran.hall.refused.items ran.first ran.second }
+    ensures { IfOk result (λ out. (layout : Parts) (first second : List PieceValue) → HasRun layout first second (view ran.entry.seat) ran.entry.hall.node ran.entry.hall.refused.items ran.entry.first ran.entry.second → IsCrewOut layout first second out) }
 {
     let Ran {
         receiver,
@@ -212,7 +211,7 @@ fn finish<'a, R: Wait, G: Gate>(
     } = ran;
     all_ended(first.stop, second.stop)?;
     join_both(sender, &mut seat, first.seat, second.seat);
-    hall.drain(rt, &receiver, &mut seat, station, gate)?;
+    drain(rt, &receiver, &mut seat, &mut hall, gate)?;
     let faults = both(first.faults, second.faults)?;
     Ok(CrewOut {
         node: hall.node,

@@ -12,5 +12,4 @@ returns g c =
     let other : IsSeatAt (sends_on c.captures.sender.now) c.join-second.result.seat = search rules in
     let ended : c.join-first.result.stop ≡ None → HasEnded First c.captures.first.now (view c.join-first.result.seat) c.join-first.result.faults.items = search rules in
     let ended' : c.join-second.result.stop ≡ None → HasEnded Second c.captures.second.now (view c.join-second.result.seat) c.join-second.result.faults.items = search rules in
-    let t = c.in_ok-own.ensures.ok c.captures.station.now.layout.now c.in-Ok.ensures in
-    (c.requires.channel, seat, one, other, record { taken = t.0; owner = t.1; sorted = t.3; first_ended = ended; second_ended = ended' })
+    (c.requires.channel, seat, one, other, (λ layout h. let t = c.in_ok-own.ensures.ok layout h in record { taken = t.0; owner_is = t.1; sorted = t.3; first_ended = ended; second_ended = ended' }))
