@@ -1,0 +1,16 @@
+use Rattle.std.proofs.Common.{◌≡◌, ◌∙◌}
+use Rattle.crossbeam_channel.specs.Claims.{view}
+use Rattle.trace_inbox.specs.declared.item.Worker.TheVariants.{First, Second}
+use Rattle.trace_inbox.specs.declared.rule.Standing.TheVariants.{Joined}
+use Rattle.trace_inbox.specs.declared.rule.View.TheVariants.{Owner}
+use Rattle.trace_inbox.specs.Views.{after_join, desk, posts_of}
+use Rattle.trace_crew.proofs.Crewing.{crewed}
+use Rattle.trace_crew.proofs.threads.finish.Goals as goal
+
+pub returns : goal.returns
+returns g c layout first second h =
+    let one = h.first_ended c.in_ok-all_ended.ensures.0 in
+    let other = h.second_ended c.in_ok-all_ended.ensures.1 in
+    let owner : view c.join_both.new.owner ≡ Owner (desk h.taken (Joined (posts_of First one.segments)) (Joined (posts_of Second other.segments))) =
+    c.join_both.ensures.joined ∙ (λ i. after_join (after_join (h.owner_is i) (one.posted i)) (other.posted i)) in
+    crewed layout first second _ _ _ one.segments other.segments one.gave other.gave (c.in_ok-drain.ensures layout h.taken _ _ owner h.sorted) c.in_ok-faults.ensures

@@ -1,0 +1,14 @@
+use Rattle.std.proofs.Common.{◌≡◌, take}
+use Rattle.crossbeam_channel.specs.Claims.{view, IsSeatAt}
+use Rattle.crossbeam_channel.specs.Ends.{sends_on}
+use Rattle.trace_inbox.specs.Views.{IsPoster}
+use Rattle.trace_crew.specs.Work.{HasRead}
+use Rattle.trace_crew.proofs.worker.Hand.read_all.Given as goal
+
+abbrev pub invariant-loop-place : goal.invariant-loop-place
+invariant-loop-place g l = record {
+  seat : IsSeatAt (sends_on l.inbox) l.self.seat;
+  worker : l.self.worker ≡ l.fn.self.worker;
+  poster : IsPoster l.fn.self.worker (view l.self.seat);
+  read : HasRead l.fn.self.worker (take l.place l.pieces) (view l.self.seat) l.self.faults.items;
+}

@@ -1,0 +1,52 @@
+-- What a crew leaves.
+use Rattle.std.specs.Prelude.{◌≡◌, ℕ, None, List, ◌++◌, map, All}
+use Rattle.std.specs.List.{filter, flat_map}
+use Rattle.crossbeam_channel.specs.Claims.{view}
+use Rattle.mpi_model.specs.Layouts.{Parts}
+use Rattle.trace_know.specs.Segment.{PlacedEvents}
+use Rattle.trace_know.specs.Trace.{view_of}
+use Rattle.trace_node.specs.Node.{Held}
+use Rattle.trace_inbox.specs.declared.item.Item.{Item}
+use Rattle.trace_inbox.specs.declared.item.Worker.{Worker}
+use Rattle.trace_inbox.specs.declared.item.Worker.TheVariants.{First, Second}
+use Rattle.trace_inbox.specs.declared.rule.Standing.TheVariants.{Running}
+use Rattle.trace_inbox.specs.declared.rule.View.{View}
+use Rattle.trace_inbox.specs.declared.rule.View.TheVariants.{Owner}
+use Rattle.trace_inbox.specs.Views.{desk, is_from}
+use Rattle.trace_crew.specs.declared.threads.CrewOut.{CrewOut}
+use Rattle.trace_crew.specs.declared.worker.Worked.{Worked}
+use Rattle.trace_crew.specs.declared.piece.Piece.{Piece}
+use Rattle.trace_crew.specs.declared.piece.PieceFault.{PieceFault}
+use Rattle.trace_crew.specs.Pieces.{Gave}
+use Rattle.trace_crew.specs.Taking.{IsFair, Refusal, Sorted, Taken, joined_in, refused_in}
+use Rattle.trace_crew.specs.Work.{HasEnded}
+
+-- the segments of one worker among those that were taken, in their order
+abbrev pub segments_by : Worker → List Taken → List PlacedEvents
+segments_by w taken = map (λ t. t.segment) (filter (λ t. is_from w t.from) taken)
+
+-- What a crew leaves of the pieces of its two workers. There is an order of taking, a list of segments, of which:
+-- those of each worker are just those of its texts, whole, each as often as given, and in its order, but for the texts
+-- with a fault, which are listed with it, and each text with a fault is;
+-- the segments that were refused are listed, in their order: as of a rank that isn't the layout's just where that is so,
+-- else for want of memory;
+-- and the node, which is the layout's, knows the facts of the others and nothing else.
+pub record IsCrewOut (layout : Parts) (first second : List Piece) (out : CrewOut) : Type 0 where
+  pub taken : List Taken
+  pub first_faults : List (ℕ × ℕ × PieceFault)
+  pub second_faults : List (ℕ × ℕ × PieceFault)
+  pub first_gave : Gave 0 first (segments_by First taken) first_faults
+  pub second_gave : Gave 1 second (segments_by Second taken) second_faults
+  pub faults : out.faults.items ≡ first_faults ++ second_faults
+  pub fair : All (IsFair layout) taken
+  pub refused : out.refused.items ≡ flat_map refused_in taken
+  pub layout_is : out.node.layout ≡ layout
+  pub know : out.node.know ≡ view_of (flat_map joined_in taken)
+
+-- The workers have ended, and the owner has taken some of what they posted.
+pub record HasRun (layout : Parts) (first second : List Piece) (owner : View) (node : Held) (refused : List Refusal) (one other : Worked) : Type 0 where
+  pub taken : List Item
+  pub owner_is : owner ≡ Owner (desk taken Running Running)
+  pub sorted : Sorted layout taken node refused
+  pub first_ended : one.stop ≡ None → HasEnded First first (view one.seat) one.faults.items
+  pub second_ended : other.stop ≡ None → HasEnded Second second (view other.seat) other.faults.items

@@ -1,0 +1,4 @@
+pub mod Pieces
+pub mod Work
+pub mod Taking
+pub mod Crewed

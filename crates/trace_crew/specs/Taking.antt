@@ -1,0 +1,126 @@
+-- What the owner of a node makes of the items that it takes.
+use Rattle.std.specs.Prelude.{◌≡◌, ℕ, ◌+◌, ◌<◌, ◌≤◌, Bool, true, false, Option, Some, None, List, [], ◌∷◌, ◌++◌, map, All}
+use Rattle.std.specs.List.{filter_map, flat_map}
+use Rattle.mpi_model.specs.Layouts.{Parts}
+use Rattle.trace_know.specs.Segment.{PlacedEvents}
+use Rattle.trace_know.specs.Trace.{Trace, facts_of, view_of}
+use Rattle.trace_know.specs.View.{View, join}
+use Rattle.trace_node.specs.Node.{Held}
+use Rattle.trace_node.specs.declared.fault.NodeFault.{NodeFault}
+use Rattle.trace_node.specs.declared.fault.NodeFault.TheVariants.{Rank, Memory, Stale}
+use Rattle.trace_inbox.specs.declared.item.Item.{Item}
+use Rattle.trace_inbox.specs.declared.item.Post.{Post}
+use Rattle.trace_inbox.specs.declared.item.Post.TheVariants.{Segment, End}
+use Rattle.trace_inbox.specs.declared.item.Worker.{Worker}
+use Rattle.trace_inbox.specs.declared.item.Worker.TheVariants.{First, Second}
+use Rattle.trace_inbox.specs.Views.{is_from, number_of, of}
+
+-- ---- one segment
+
+-- a segment that the owner took: whose it is, and why it was not joined, where it was not
+pub record Taken : Type 0 where
+  pub from : Worker
+  pub segment : PlacedEvents
+  pub fault : Option NodeFault
+
+abbrev pub taken_as : Worker → PlacedEvents → Option NodeFault → Taken
+taken_as from segment fault = record { from = from; segment = segment; fault = fault }
+
+-- A segment is refused where its rank is not the layout's, and else for want of memory alone.
+abbrev pub IsFairFor : Parts → ℕ → Option NodeFault → Type 0
+IsFairFor layout rank None = rank < layout.ranks
+IsFairFor layout rank (Some Rank) = layout.ranks ≤ rank
+IsFairFor layout rank (Some Memory) = rank < layout.ranks
+IsFairFor layout rank (Some Stale) = ⊥
+
+abbrev pub IsFair : Parts → Taken → Type 0
+IsFair layout t = IsFairFor layout t.segment.rank t.fault
+
+-- a segment with its worker's number and its fault
+abbrev pub Refusal : Type 0
+Refusal = ℕ × PlacedEvents × NodeFault
+
+abbrev pub refused_for : Worker → PlacedEvents → Option NodeFault → List Refusal
+refused_for from segment None = []
+refused_for from segment (Some fault) = (number_of from, segment, fault) ∷ []
+
+-- how it is listed, where it was refused
+abbrev pub refused_in : Taken → List Refusal
+refused_in t = refused_for t.from t.segment t.fault
+
+abbrev pub joined_for : PlacedEvents → Option NodeFault → Trace
+joined_for segment None = facts_of segment
+joined_for segment (Some fault) = []
+
+-- its facts, where it was joined
+abbrev pub joined_in : Taken → Trace
+joined_in t = joined_for t.segment t.fault
+
+-- what is known after it
+abbrev pub known_after : View → PlacedEvents → Option NodeFault → View
+known_after know segment None = join know (view_of (facts_of segment))
+known_after know segment (Some fault) = know
+
+-- One segment more was joined, or listed with its fault.
+pub record Handles (from : Worker) (segment : PlacedEvents) (old : Held) (refused : List Refusal) (new : Held) (refusals : List Refusal) : Type 0 where
+  pub fault : Option NodeFault
+  pub fair : IsFairFor old.layout segment.rank fault
+  pub listed : refusals ≡ refused ++ refused_for from segment fault
+  pub layout : new.layout ≡ old.layout
+  pub know : new.know ≡ known_after old.know segment fault
+
+-- ---- all segments
+
+-- the segment of an item, with its worker
+abbrev pub sent_by : Worker → Post → Option (Worker × PlacedEvents)
+sent_by from (Segment segment) = Some (from, segment)
+sent_by from End = None
+
+abbrev pub sent : Item → Option (Worker × PlacedEvents)
+sent item = sent_by item.from item.post
+
+abbrev pub source : Taken → Worker × PlacedEvents
+source t = (t.from, t.segment)
+
+-- These are the segments of the items, in their order: the refused ones are listed, in that order, each for its cause,
+-- and the node, which is the layout's, knows just the facts of the others.
+pub record Sorts (layout : Parts) (items : List Item) (segments : List Taken) (node : Held) (refused : List Refusal) : Type 0 where
+  pub all : map source segments ≡ filter_map sent items
+  pub fair : All (IsFair layout) segments
+  pub listed : refused ≡ flat_map refused_in segments
+  pub layout_is : node.layout ≡ layout
+  pub know : node.know ≡ view_of (flat_map joined_in segments)
+
+abbrev pub Sorted : Parts → List Item → Held → List Refusal → Type 0
+Sorted layout items node refused = (segments : List Taken) × Sorts layout items segments node refused
+
+-- The owner took all that the two workers posted, in an order of its own.
+pub record HasAll (layout : Parts) (first second : List Item) (node : Held) (refused : List Refusal) : Type 0 where
+  pub items : List Item
+  pub first_all : of First items ≡ first
+  pub second_all : of Second items ≡ second
+  pub sorted : Sorted layout items node refused
+
+-- ---- ends
+
+abbrev pub is_end_post : Post → Bool
+is_end_post (Segment segment) = false
+is_end_post End = true
+
+-- the item ends its worker's posts
+abbrev pub is_end : Item → Bool
+is_end item = is_end_post item.post
+
+abbrev pub counted : Bool → ℕ
+counted true = 1
+counted false = 0
+
+-- how many of the items end a worker's posts
+abbrev pub ends_in : List Item → ℕ
+ends_in [] = 0
+ends_in (item ∷ items) = counted (is_end item) + ends_in items
+
+-- of how many workers an item ends the posts, of which is told which segment it was, where it was one
+abbrev pub ends_told : Option (ℕ × ℕ) → ℕ
+ends_told None = 1
+ends_told (Some segment) = 0

@@ -1,0 +1,99 @@
+//! How the owner takes.
+
+ghost use Rattle.std.specs.Prelude.{◌≡◌, ◌≤◌, ◌∷◌, ◌++◌, [], List, IfOk, OnOk};
+ghost use Rattle.crossbeam_channel.specs.Claims.{view, IsSeatAt};
+ghost use Rattle.crossbeam_channel.specs.Ends.{receives_on};
+ghost use Rattle.mpi_model.specs.Layouts.{Parts};
+ghost use Rattle.trace_node.specs.Node.{Held};
+ghost use Rattle.trace_inbox.specs.Views.{desk};
+ghost use Rattle.trace_inbox.specs.declared.item.Item.{Item as ItemValue};
+ghost use Rattle.trace_inbox.specs.declared.rule.Standing.TheVariants.{Joined, Running};
+ghost use Rattle.trace_inbox.specs.declared.rule.View.TheVariants.{Owner};
+ghost use Rattle.trace_crew.specs.Taking.{HasAll, Refusal, Sorted, counted, ends_in, ends_told, is_end};
+
+use crate::gate::Gate;
+use crate::threads::CrewFault;
+use std::alloc::AllocError;
+use std::sync::Wait;
+use trace_inbox::{InboxReceiver, Item, Seat, take, take_now};
+
+/// What keeps the node and the refused segments, as the threads of a crew know it. They know it by
+/// this trait alone, since what is captured beside them can't name the lifetimes inside it.
+pub trait Keeper: Drop {
+    /// What its node holds.
+    ghost held: { Self → Held };
+
+    /// The segments that it refused.
+    ghost listed: { Self → List Refusal };
+
+    /// Takes one item in, and answers which segment of which worker it was: None where it ends its
+    /// worker's posts.
+    fn take_in<R: Wait>(&mut self, rt: &R, item: Item) -> Result<Option<(u8, u64)>, AllocError>
+        ensures end { IfOk result (λ taken. ends_told taken ≡ counted (is_end item)) }
+        ensures sorted { OnOk result ((layout : Parts) (taken : List ItemValue) → Sorted layout taken (held self.old) (listed self.old) → Sorted layout (taken ++ item ∷ []) (held self.new) (listed self.new)) };
+}
+
+/// Tells the gate which segment was taken, where one was, and answers of how many workers the item ends
+/// the posts: one or none.
+fn announce<G: Gate>(gate: &G, taken: Option<(u8, u64)>) -> u8
+    ensures count { result ≡ ends_told taken }
+    ensures one { result ≤ 1 }
+{
+    match taken {
+        Some((worker, nth)) => {
+            gate.after_take(worker, nth);
+            0
+        }
+        None => 1,
+    }
+}
+
+/// Takes until both workers have ended.
+pub fn own<R: Wait, G: Gate, H: Keeper>(
+    rt: &R,
+    inbox: &InboxReceiver,
+    seat: &mut Seat,
+    hall: &mut H,
+    gate: &G,
+) -> Result<(), CrewFault>
+    requires seat { IsSeatAt (receives_on inbox.now) seat.old }
+    requires new { view seat.old ≡ Owner (desk [] Running Running) }
+    ensures seat { IsSeatAt (receives_on inbox.now) seat.new }
+    ensures ok { OnOk result ((layout : Parts) → Sorted layout [] (H.held hall.old) (H.listed hall.old) → (taken : List ItemValue) × (view seat.new ≡ Owner (desk taken Running Running)) × (ends_in taken ≡ 2) × Sorted layout taken (H.held hall.new) (H.listed hall.new)) }
+{
+    let mut ends: u8 = 0;
+    for _ in rt.forever() {
+        if ends == 2 {
+            return Ok(());
+        }
+        let Some(item) = take(rt, inbox, seat) else {
+            return Err(CrewFault::Worker);
+        };
+        let taken = hall.take_in(rt, item)?;
+        let count = announce(gate, taken);
+        ends += count;
+    }
+    unreachable!()
+}
+
+/// Takes what is left after both workers were joined, until the inbox is found empty.
+pub fn drain<R: Wait, G: Gate, H: Keeper>(
+    rt: &R,
+    inbox: &InboxReceiver,
+    seat: &mut Seat,
+    hall: &mut H,
+    gate: &G,
+) -> Result<(), AllocError>
+    requires seat { IsSeatAt (receives_on inbox.now) seat.old }
+    requires joined { (taken : List ItemValue) × (first : List ItemValue) × (second : List ItemValue) × (view seat.old ≡ Owner (desk taken (Joined first) (Joined second))) }
+    ensures { OnOk result ((layout : Parts) (taken : List ItemValue) (first : List ItemValue) (second : List ItemValue) → (view seat.old ≡ Owner (desk taken (Joined first) (Joined second))) → Sorted layout taken (H.held hall.old) (H.listed hall.old) → HasAll layout first second (H.held hall.new) (H.listed hall.new)) }
+{
+    for _ in rt.forever() {
+        let Some(item) = take_now(rt, inbox, seat) else {
+            break;
+        };
+        let taken = hall.take_in(rt, item)?;
+        let _ = announce(gate, taken);
+    }
+    Ok(())
+}

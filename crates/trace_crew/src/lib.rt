@@ -1,0 +1,33 @@
+//! A crew: two workers read texts side by side, and the owner of a node joins their segments.
+//!
+//! Each worker walks its texts in order, posts the segments of each whole text into an inbox of eight
+//! places, and at last that it ends; a text with a fault is listed and none of it is posted. The owner,
+//! in the thread that called [`crew`], takes until both have ended. It alone holds the node: it joins
+//! each segment as it comes, and shows the node on a board after each join that gave an answer. What
+//! was taken is just the segments of each worker's texts in that worker's order, and the node is the
+//! join of them, whatever the order among the workers was.
+//!
+//! Cost: reading goes at the speed of two threads, joining at that of one; a segment is moved, never
+//! copied, and at most eight wait. Each join is followed by one copy of the node for the board.
+//!
+//! - [`piece`]: a text of a rank, its segments, and why it gives none
+//! - [`gate`]: where a test may hold a crew
+//! - [`worker`]: reads and posts
+//! - [`keeper`]: how the owner takes; [`owner`]: what it keeps
+//! - [`threads`]: the three threads, and what they leave
+//!
+//! No contract promises that a call which waits returns, that anything arrives or that two threads ran
+//! at once.
+#![tactic(auto)]
+
+mod gate;
+mod keeper;
+mod owner;
+mod piece;
+mod threads;
+mod worker;
+
+pub use gate::{Gate, OpenGate};
+pub use piece::{Piece, PieceFault};
+pub use threads::{CrewFault, CrewOut, crew};
+pub use trace_board::{Board, PutFault, ShowFault, Shown};

@@ -1,0 +1,131 @@
+//! What the owner keeps: the node, which it alone holds, and the segments that were refused.
+
+ghost use Rattle.std.specs.Prelude.{◌≡◌, ◌∷◌, ◌++◌, [], List, IfOk, OnOk};
+ghost use Rattle.mpi_model.specs.Layouts.{Parts};
+ghost use Rattle.trace_inbox.specs.declared.item.Item.{Item as ItemValue};
+ghost use Rattle.trace_crew.specs.Taking.{Handles, IsFairFor, Sorted, counted, ends_told, is_end, known_after};
+
+use crate::keeper::Keeper;
+use mpi_model::Layout;
+use std::alloc::{AllocError, Global};
+use std::sync::Wait;
+use trace_board::Board;
+use trace_inbox::{Item, Post, Worker};
+use trace_know::{Segment, view_laws};
+use trace_node::{Node, NodeFault};
+
+/// A node, and what was made of the segments that came for it.
+#[derive(Drop)]
+pub struct Hall<'s, 'a> {
+    /// The board on which the node is shown.
+    board: &'s Board<'a>,
+    /// The join of the segments that were not refused.
+    pub node: Node<'a>,
+    /// Those that were refused, with their workers, in the order of taking.
+    pub refused: Vec<(u8, Segment, NodeFault)>,
+    /// How many segments of the first worker were taken.
+    first: u64,
+    /// How many segments of the second worker were taken.
+    second: u64,
+}
+
+impl<'s, 'a> Hall<'s, 'a> {
+    /// Nothing was taken.
+    #[tactic(auto, using(crate::proofs::Sorting::nothing_taken))]
+    pub fn new(
+        alloc: Global,
+        layout: &'a Layout,
+        board: &'s Board<'a>,
+    ) -> Result<Hall<'s, 'a>, AllocError>
+        ensures { IfOk result (λ hall. Sorted layout.now [] hall.node hall.refused.items) }
+    {
+        Ok(Hall {
+            board,
+            node: Node::new(alloc, layout)?,
+            refused: Vec::new(alloc),
+            first: 0,
+            second: 0,
+        })
+    }
+
+    /// Joins a segment, and shows on the board what is known then, where there is an answer to it; or
+    /// answers why it was not joined. A refused publish is passed over: the next one shows it.
+    #[tactic(auto, using(crate::proofs::Sorting::memory_is_fair))]
+    fn offer<R: Wait>(&mut self, rt: &R, segment: &Segment) -> Option<NodeFault>
+        ensures fair { IsFairFor self.old.node.layout segment.now.rank result }
+        ensures layout { self.new.node.layout ≡ self.old.node.layout }
+        ensures know { self.new.node.know ≡ known_after self.old.node.know segment.now result }
+        ensures refused { self.new.refused.items ≡ self.old.refused.items }
+    {
+        match self.node.take(segment) {
+            Ok(()) => {
+                let _ = self.board.publish(rt, &self.node);
+                None
+            }
+            Err(NodeFault::Rank) => Some(NodeFault::Rank),
+            Err(NodeFault::Memory) => Some(NodeFault::Memory),
+            Err(NodeFault::Stale) => None,
+        }
+    }
+
+    /// Joins a segment, or lists it with why it was not joined.
+    fn join<R: Wait>(&mut self, rt: &R, from: Worker, segment: Segment) -> Result<(), AllocError>
+        ensures { OnOk result (Handles from segment self.old.node self.old.refused.items self.new.node self.new.refused.items) }
+    {
+        match self.offer(rt, &segment) {
+            None => Ok(()),
+            Some(fault) => {
+                self.refused.push((from.number(), segment, fault))?;
+                Ok(())
+            }
+        }
+    }
+
+    /// The number of the next segment of a worker, from 0, which counts as taken from now on.
+    fn next_of(&mut self, from: Worker) -> u64
+        ensures node { self.new.node ≡ self.old.node }
+        ensures refused { self.new.refused.items ≡ self.old.refused.items }
+    {
+        match from {
+            Worker::First => {
+                let nth = self.first;
+                self.first = nth.saturating_add(1);
+                nth
+            }
+            Worker::Second => {
+                let nth = self.second;
+                self.second = nth.saturating_add(1);
+                nth
+            }
+        }
+    }
+
+    /// Handles one item, and answers which segment of which worker it was: None where it ends its
+    /// worker's posts.
+    #[tactic(auto, using(crate::proofs::Sorting::sorted_end))]
+    fn handle<R: Wait>(&mut self, rt: &R, item: Item) -> Result<Option<(u8, u64)>, AllocError>
+        ensures end { IfOk result (λ taken. ends_told taken ≡ counted (is_end item)) }
+        ensures sorted { OnOk result ((layout : Parts) (taken : List ItemValue) → Sorted layout taken self.old.node self.old.refused.items → Sorted layout (taken ++ item ∷ []) self.new.node self.new.refused.items) }
+    {
+        view_laws();
+        let from = item.from;
+        match item.post {
+            Post::Segment(segment) => {
+                self.join(rt, from, segment)?;
+                let nth = self.next_of(from);
+                Ok(Some((from.number(), nth)))
+            }
+            Post::End => Ok(None),
+        }
+    }
+}
+
+impl<'s, 'a> Keeper for Hall<'s, 'a> {
+    ghost held = { λ h. h.node };
+
+    ghost listed = { λ h. h.refused.items };
+
+    fn take_in<R: Wait>(&mut self, rt: &R, item: Item) -> Result<Option<(u8, u64)>, AllocError> {
+        self.handle(rt, item)
+    }
+}

@@ -1,0 +1,75 @@
+//! Pieces: texts of ranks, their segments, and why one gives none.
+
+ghost use Rattle.std.specs.Prelude.{◌≡◌, [], List, Some, IfOk, IfErr};
+ghost use Rattle.mpi_model.specs.declared.event.Event.{Event};
+ghost use Rattle.dumpi_calls.specs.Collected.{collected};
+ghost use Rattle.dumpi_calls.specs.Walks.{IsStopped};
+ghost use Rattle.trace_crew.specs.Pieces.{GivesSegments, IsRefusedFor};
+ghost use Rattle.trace_crew.specs.declared.piece.Piece.{Piece as PieceValue};
+
+use dumpi_calls::{Collect, Memory, WalkCause, WalkFault, walk, whole_texts};
+use dumpi_text::{TextCause, TextFault};
+use mpi_model::Device;
+use std::alloc::Global;
+use thiserror::Error;
+use trace_know::{Segment, SegmentFault};
+
+/// The text of a rank's trace, from one of its calls on.
+#[derive(Debug, Drop)]
+pub struct Piece {
+    /// The rank among all ranks of the run.
+    pub rank: u32,
+    /// The number of the rank's call with which the text begins.
+    pub first: u64,
+    pub text: Vec<u8>,
+}
+
+/// Why a piece gives no segments, tried in this order. Want of memory can come at any point.
+#[derive(Debug, Drop, Error)]
+pub enum PieceFault {
+    /// The text stops before its end.
+    #[error(transparent)]
+    Walk(WalkFault<Memory>),
+    /// An event of the text would have a place at 2^40 or past it.
+    #[error(transparent)]
+    Segment(SegmentFault),
+    /// No memory was left for the text's calls, its segments or a fault.
+    #[error("Memory")]
+    Memory,
+}
+
+/// The segments of a piece's whole text, none of one without calls.
+pub(crate) fn segments_of(alloc: Global, piece: &Piece) -> Result<Vec<Segment>, PieceFault>
+    ensures ok { IfOk result (λ segments. GivesSegments piece.now segments.items) }
+    ensures err { IfErr result (λ fault. IsRefusedFor piece.now fault) }
+{
+    whole_texts();
+    let mut collect = Collect::new(alloc);
+    match walk(alloc, Device::new(piece.text.as_slice()), &mut collect) {
+        Ok(_) => {}
+        Err(fault) => return Err(fault_of_walk(fault)),
+    }
+    match collect.into_segments(piece.rank, piece.first) {
+        Ok(segments) => Ok(segments),
+        Err(SegmentFault::Place) => Err(PieceFault::Segment(SegmentFault::Place)),
+        Err(_) => Err(PieceFault::Memory),
+    }
+}
+
+/// The fault of a piece whose walk was stopped. A text in memory has no reader that fails, so what
+/// isn't the text's own fault is want of memory.
+fn fault_of_walk(fault: WalkFault<Memory>) -> PieceFault
+    ensures { (piece : PieceValue) (held : List Event) → IsStopped collected (Some piece.text.items) [] held fault → IsRefusedFor piece result }
+{
+    match &fault.cause {
+        WalkCause::Text(
+            TextFault::At {
+                cause: TextCause::Line(_),
+                ..
+            },
+        )
+        | WalkCause::Missing(_)
+        | WalkCause::Wrong(_) => PieceFault::Walk(fault),
+        _ => PieceFault::Memory,
+    }
+}

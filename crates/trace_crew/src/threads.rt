@@ -1,0 +1,247 @@
+//! A crew: two workers beside the owner of a node.
+
+ghost use Rattle.std.specs.Prelude.{◌≡◌, ◌++◌, [], List, None, IfOk, OnOk};
+ghost use Rattle.crossbeam_channel.specs.Claims.{view, IsSeatAt};
+ghost use Rattle.crossbeam_channel.specs.Ends.{receives_on, sends_on};
+ghost use Rattle.mpi_model.specs.Layouts.{Parts};
+ghost use Rattle.trace_inbox.specs.Views.{IsPoster, after_join, desk};
+ghost use Rattle.trace_inbox.specs.declared.item.Item.{Item as ItemValue};
+ghost use Rattle.trace_inbox.specs.declared.item.Worker.TheVariants.{First, Second};
+ghost use Rattle.trace_inbox.specs.declared.rule.Standing.TheVariants.{Running};
+ghost use Rattle.trace_inbox.specs.declared.rule.View.TheVariants.{Owner, Poster};
+ghost use Rattle.trace_crew.specs.Crewed.{HasRun, IsCrewOut};
+ghost use Rattle.trace_crew.specs.Taking.{Sorted};
+ghost use Rattle.trace_crew.specs.Work.{HasEnded};
+ghost use Rattle.trace_crew.specs.declared.piece.Piece.{Piece as PieceValue};
+
+use crate::gate::Gate;
+use crate::keeper::{Keeper, drain, own};
+use crate::owner::Hall;
+use crate::piece::{Piece, PieceFault};
+use crate::worker::{Stop, Worked, Working, work};
+use mpi_model::Layout;
+use std::alloc::{AllocError, Global};
+use std::snapshot::Snapshot;
+use std::sync::Wait;
+use std::thread;
+use std::thread::Threads;
+use thiserror::Error;
+use trace_board::Board;
+use trace_inbox::{InboxReceiver, InboxSender, Seat, Worker, join, make_first, make_second, open};
+use trace_know::Segment;
+use trace_node::{Node, NodeFault};
+
+/// What a crew leaves.
+#[derive(Drop)]
+pub struct CrewOut<'a> {
+    /// The join of all segments that were taken and not refused.
+    pub node: Node<'a>,
+    /// The pieces that gave no segments, by worker and place in its list.
+    pub faults: Vec<(u8, u64, PieceFault)>,
+    /// The segments that were not joined, with their workers, in the order of taking.
+    pub refused: Vec<(u8, Segment, NodeFault)>,
+}
+
+/// Why a crew leaves nothing.
+#[derive(Clone, Copy, Debug, PartialEq, Eq, Error)]
+pub enum CrewFault {
+    /// A thread couldn't be started, or an end of the inbox was refused.
+    #[error("Y1 Worker")]
+    Worker,
+    /// No memory was left for the inbox, the node, or the list of the faults or of the refused
+    /// segments.
+    #[error("Memory")]
+    Memory,
+}
+
+impl From<AllocError> for CrewFault {
+    fn from(_error: AllocError) -> CrewFault {
+        CrewFault::Memory
+    }
+}
+
+/// What the threads of a crew leave.
+#[derive(Drop)]
+struct Ran<H> {
+    receiver: InboxReceiver,
+    seat: Seat,
+    hall: H,
+    first: Worked,
+    second: Worked,
+}
+
+/// Two workers read their texts side by side and post the segments into an inbox of eight places; the
+/// owner joins what it takes into a new node, and shows it on the board after each. It waits for the
+/// workers, and they wait for it where the inbox is full.
+pub fn crew<'a, R: Threads + Wait + Sync, G: Gate>(
+    rt: &R,
+    alloc: Global,
+    layout: &'a Layout,
+    first: &[Piece],
+    second: &[Piece],
+    board: &Board<'a>,
+    gate: &G,
+) -> Result<CrewOut<'a>, CrewFault>
+    ensures { IfOk result (λ out. IsCrewOut layout.now first.now second.now out) }
+{
+    let Ok((sender, receiver, seat)) = open(alloc) else {
+        return Err(CrewFault::Memory);
+    };
+    let mut seat = seat;
+    let first_seat = make_first(&sender, &mut seat);
+    let second_seat = make_second(&sender, &mut seat);
+    let hall = Hall::new(alloc, layout, board)?;
+    let ran = run(
+        rt,
+        alloc,
+        &sender,
+        receiver,
+        (seat, first_seat, second_seat),
+        (first, second),
+        hall,
+        gate,
+    )?;
+    finish(rt, &sender, ran, gate)
+}
+
+/// Runs both workers beside the owner, and gives back what they hold.
+fn run<R: Threads + Wait + Sync, G: Gate, H: Keeper>(
+    rt: &R,
+    alloc: Global,
+    sender: &InboxSender,
+    receiver: InboxReceiver,
+    seats: (Seat, Seat, Seat),
+    pieces: (&[Piece], &[Piece]),
+    hall: H,
+    gate: &G,
+) -> Result<Ran<H>, CrewFault>
+    requires channel { receives_on receiver ≡ sends_on sender.now }
+    requires seat { IsSeatAt (sends_on sender.now) seats.0 × (view seats.0 ≡ Owner (desk [] Running Running)) }
+    requires first { IsSeatAt (sends_on sender.now) seats.1 × (view seats.1 ≡ Poster First []) }
+    requires second { IsSeatAt (sends_on sender.now) seats.2 × (view seats.2 ≡ Poster Second []) }
+    ensures { IfOk result (λ ran. (receives_on ran.receiver ≡ sends_on sender.now) × IsSeatAt (sends_on sender.now) ran.seat × IsSeatAt (sends_on sender.now) ran.first.seat × IsSeatAt (sends_on sender.now) ran.second.seat × ((layout : Parts) → Sorted layout [] (H.held hall) (H.listed hall) → HasRun layout pieces.entry.0.now pieces.entry.1.now (view ran.seat) (H.held ran.hall) (H.listed ran.hall) ran.first ran.second)) }
+{
+    let (seat, first_seat, second_seat) = seats;
+    let (first, second) = pieces;
+    thread::scope(
+        thread::scope_env(),
+        rt,
+        move |scope| -> Result<Ran<H>, CrewFault>
+            requires channel { receives_on receiver ≡ sends_on sender.now }
+            requires seat { IsSeatAt (sends_on sender.now) seat × (view seat ≡ Owner (desk [] Running Running)) }
+            requires first { IsSeatAt (sends_on sender.now) first_seat × (view first_seat ≡ Poster First []) }
+            requires second { IsSeatAt (sends_on sender.now) second_seat × (view second_seat ≡ Poster Second []) }
+            ensures { IfOk result (λ ran. (receives_on ran.receiver ≡ sends_on sender.entry.now) × IsSeatAt (sends_on sender.entry.now) ran.seat × IsSeatAt (sends_on sender.entry.now) ran.first.seat × IsSeatAt (sends_on sender.entry.now) ran.second.seat × ((layout : Parts) → Sorted layout [] (H.held hall) (H.listed hall) → HasRun layout first.entry.now second.entry.now (view ran.seat) (H.held ran.hall) (H.listed ran.hall) ran.first ran.second)) }
+        {
+            let first_promise = Working {
+                inbox: Snapshot::of(sender),
+                worker: Worker::First,
+                pieces: first,
+            };
+            let second_promise = Working {
+                inbox: Snapshot::of(sender),
+                worker: Worker::Second,
+                pieces: second,
+            };
+            let mut seat = seat;
+            let mut hall = hall;
+            let Ok(one) = scope.spawn_with(
+                first_promise,
+                move || -> Worked
+                    requires { IsSeatAt (sends_on sender.now) first_seat × (view first_seat ≡ Poster First []) }
+                    ensures seat { IsSeatAt (sends_on sender.entry.now) result.seat }
+                    ensures whole { result.stop ≡ None → HasEnded First first.entry.now (view result.seat) result.faults.items }
+                { work(rt, alloc, sender, Worker::First, first_seat, first, gate) },
+            ) else {
+                return Err(CrewFault::Worker);
+            };
+            let Ok(other) = scope.spawn_with(
+                second_promise,
+                move || -> Worked
+                    requires { IsSeatAt (sends_on sender.now) second_seat × (view second_seat ≡ Poster Second []) }
+                    ensures seat { IsSeatAt (sends_on sender.entry.now) result.seat }
+                    ensures whole { result.stop ≡ None → HasEnded Second second.entry.now (view result.seat) result.faults.items }
+                { work(rt, alloc, sender, Worker::Second, second_seat, second, gate) },
+            ) else {
+                return Err(CrewFault::Worker);
+            };
+            own(rt, &receiver, &mut seat, &mut hall, gate)?;
+            let first = one.join(rt);
+            let second = other.join(rt);
+            Ok(Ran {
+                receiver,
+                seat,
+                hall,
+                first,
+                second,
+            })
+        },
+    )
+}
+
+/// Whether both workers have ended; else first whether one found the inbox closed.
+fn all_ended(first: Option<Stop>, second: Option<Stop>) -> Result<(), CrewFault>
+    ensures { OnOk result ((first ≡ None) × (second ≡ None)) }
+{
+    match (first, second) {
+        (None, None) => Ok(()),
+        (Some(Stop::Closed), _) | (_, Some(Stop::Closed)) => Err(CrewFault::Worker),
+        _ => Err(CrewFault::Memory),
+    }
+}
+
+/// Joins the seats of both workers, and takes what is left.
+fn finish<'s, 'a, R: Wait, G: Gate>(
+    rt: &R,
+    sender: &InboxSender,
+    ran: Ran<Hall<'s, 'a>>,
+    gate: &G,
+) -> Result<CrewOut<'a>, CrewFault>
+    requires channel { receives_on ran.receiver ≡ sends_on sender.now }
+    requires seats { IsSeatAt (sends_on sender.now) ran.seat × IsSeatAt (sends_on sender.now) ran.first.seat × IsSeatAt (sends_on sender.now) ran.second.seat }
+    requires run { (layout : Parts) × (first : List PieceValue) × (second : List PieceValue) × HasRun layout first second (view ran.seat) ran.hall.node ran.hall.refused.items ran.first ran.second }
+    ensures { IfOk result (λ out. (layout : Parts) (first second : List PieceValue) → HasRun layout first second (view ran.entry.seat) ran.entry.hall.node ran.entry.hall.refused.items ran.entry.first ran.entry.second → IsCrewOut layout first second out) }
+{
+    let Ran {
+        receiver,
+        mut seat,
+        mut hall,
+        first,
+        second,
+    } = ran;
+    all_ended(first.stop, second.stop)?;
+    join_both(sender, &mut seat, first.seat, second.seat);
+    drain(rt, &receiver, &mut seat, &mut hall, gate)?;
+    let faults = both(first.faults, second.faults)?;
+    Ok(CrewOut {
+        node: hall.node,
+        faults,
+        refused: hall.refused,
+    })
+}
+
+/// Joins the seats of both workers.
+fn join_both(sender: &InboxSender, owner: &mut Seat, first: Seat, second: Seat)
+    requires seat { IsSeatAt (sends_on sender.now) owner.old }
+    requires owner { (taken : List ItemValue) × (view owner.old ≡ Owner (desk taken Running Running)) }
+    requires first { IsSeatAt (sends_on sender.now) first × IsPoster First (view first) }
+    requires second { IsSeatAt (sends_on sender.now) second × IsPoster Second (view second) }
+    ensures seat { IsSeatAt (sends_on sender.now) owner.new }
+    ensures joined { view owner.new ≡ after_join (after_join (view owner.old) (view first)) (view second) }
+{
+    join(sender, owner, first);
+    join(sender, owner, second);
+}
+
+/// The faults of the first worker, and then those of the second.
+fn both(
+    first: Vec<(u8, u64, PieceFault)>,
+    second: Vec<(u8, u64, PieceFault)>,
+) -> Result<Vec<(u8, u64, PieceFault)>, AllocError>
+    ensures { IfOk result (λ all. all.items ≡ first.items ++ second.items) }
+{
+    let mut all = first;
+    let mut more = second;
+    all.append(&mut more)?;
+    Ok(all)
+}

@@ -1,0 +1,208 @@
+//! A worker: it reads its texts in order, and posts the segments of each.
+
+ghost use Rattle.std.specs.Prelude.{◌≡◌, false, [], ◌∷◌, None, OnOk, map};
+ghost use Rattle.crossbeam_channel.specs.Claims.{view, IsSeatAt};
+ghost use Rattle.crossbeam_channel.specs.Ends.{sends_on};
+ghost use Rattle.trace_inbox.specs.Views.{IsPoster, end_item, segment_item};
+ghost use Rattle.trace_inbox.specs.declared.rule.View.TheVariants.{Poster};
+ghost use Rattle.trace_crew.specs.Work.{EndsPosts, HasEnded, HasRead, ReadsOne, after_posts, is_closed};
+
+use crate::gate::Gate;
+use crate::piece::{Piece, PieceFault, segments_of};
+use std::alloc::Global;
+use std::snapshot::Snapshot;
+use std::sync::Wait;
+use std::thread::Promise;
+use trace_inbox::{Closed, InboxSender, Item, Post, Seat, Worker, post};
+use trace_know::Segment;
+
+/// Why a worker stopped before it had read all its texts and posted that it ends.
+#[derive(Clone, Copy, Debug, PartialEq, Eq)]
+pub enum Stop {
+    /// No memory was left to note the fault of a text. It has posted that it ends all the same.
+    Memory,
+    /// The owner has left.
+    Closed,
+}
+
+/// What a worker holds.
+#[derive(Drop)]
+pub struct Hand {
+    worker: Worker,
+    pub seat: Seat,
+    /// How many segments it has posted.
+    posted: u64,
+    /// Its number, the place of a text in its list, and that text's fault.
+    pub faults: Vec<(u8, u64, PieceFault)>,
+}
+
+impl Hand {
+    /// Posts the segments of a text in their order.
+    fn post_text<R: Wait, G: Gate>(
+        &mut self,
+        rt: &R,
+        inbox: &InboxSender,
+        segments: Vec<Segment>,
+        gate: &G,
+    ) -> Result<(), Closed>
+        requires seat { IsSeatAt (sends_on inbox.now) self.old.seat }
+        requires poster { IsPoster self.old.worker (view self.old.seat) }
+        ensures seat { IsSeatAt (sends_on inbox.now) self.new.seat }
+        ensures poster { IsPoster self.old.worker (view self.new.seat) }
+        ensures worker { self.new.worker ≡ self.old.worker }
+        ensures faults { self.new.faults.items ≡ self.old.faults.items }
+        ensures ok { OnOk result (view self.new.seat ≡ after_posts (view self.old.seat) (map (segment_item self.old.worker) segments.items)) }
+    {
+        for segment in segments {
+            gate.before_post(self.worker.number(), self.posted);
+            self.posted = self.posted.saturating_add(1);
+            let item = Item {
+                from: self.worker,
+                post: Post::Segment(segment),
+            };
+            post(rt, inbox, &mut self.seat, item)?;
+        }
+        Ok(())
+    }
+
+    /// Reads one text, and posts its segments or notes its fault.
+    fn read_one<R: Wait, G: Gate>(
+        &mut self,
+        rt: &R,
+        alloc: Global,
+        inbox: &InboxSender,
+        place: u64,
+        piece: &Piece,
+        gate: &G,
+    ) -> Result<(), Stop>
+        requires seat { IsSeatAt (sends_on inbox.now) self.old.seat }
+        requires poster { IsPoster self.old.worker (view self.old.seat) }
+        ensures seat { IsSeatAt (sends_on inbox.now) self.new.seat }
+        ensures poster { IsPoster self.old.worker (view self.new.seat) }
+        ensures worker { self.new.worker ≡ self.old.worker }
+        ensures ok { OnOk result (ReadsOne self.old.worker place piece.now (view self.old.seat) self.old.faults.items (view self.new.seat) self.new.faults.items) }
+    {
+        gate.before_walk(self.worker.number(), place);
+        match segments_of(alloc, piece) {
+            Ok(segments) => match self.post_text(rt, inbox, segments, gate) {
+                Ok(()) => Ok(()),
+                Err(Closed) => Err(Stop::Closed),
+            },
+            Err(fault) => {
+                let number = self.worker.number();
+                match self.faults.push((number, place, fault)) {
+                    Ok(()) => Ok(()),
+                    Err(_) => Err(Stop::Memory),
+                }
+            }
+        }
+    }
+
+    /// Reads all texts in their order.
+    #[tactic(auto, using(crate::proofs::Reading::none_read))]
+    fn read_all<R: Wait, G: Gate>(
+        &mut self,
+        rt: &R,
+        alloc: Global,
+        inbox: &InboxSender,
+        pieces: &[Piece],
+        gate: &G,
+    ) -> Result<(), Stop>
+        requires seat { IsSeatAt (sends_on inbox.now) self.old.seat }
+        requires new { view self.old.seat ≡ Poster self.old.worker [] }
+        requires none { self.old.faults.items ≡ [] }
+        ensures seat { IsSeatAt (sends_on inbox.now) self.new.seat }
+        ensures poster { IsPoster self.old.worker (view self.new.seat) }
+        ensures worker { self.new.worker ≡ self.old.worker }
+        ensures ok { OnOk result (HasRead self.old.worker pieces.now (view self.new.seat) self.new.faults.items) }
+    {
+        for place in 0..pieces.len() {
+            self.read_one(rt, alloc, inbox, place as u64, &pieces[place], gate)?;
+        }
+        Ok(())
+    }
+
+    /// Posts that the worker ends.
+    fn end<R: Wait>(&mut self, rt: &R, inbox: &InboxSender) -> Result<(), Closed>
+        requires seat { IsSeatAt (sends_on inbox.now) self.old.seat }
+        requires poster { IsPoster self.old.worker (view self.old.seat) }
+        ensures seat { IsSeatAt (sends_on inbox.now) self.new.seat }
+        ensures faults { self.new.faults.items ≡ self.old.faults.items }
+        ensures ok { OnOk result (view self.new.seat ≡ after_posts (view self.old.seat) (end_item self.old.worker ∷ [])) }
+    {
+        let item = Item {
+            from: self.worker,
+            post: Post::End,
+        };
+        post(rt, inbox, &mut self.seat, item)
+    }
+}
+
+/// What a worker leaves.
+#[derive(Drop)]
+pub struct Worked {
+    pub seat: Seat,
+    /// Its number, the place of a text in its list, and that text's fault.
+    pub faults: Vec<(u8, u64, PieceFault)>,
+    /// None where it has read all its texts and posted that it ends.
+    pub stop: Option<Stop>,
+}
+
+/// Reads a worker's texts, and then posts that it ends: whatever happened before, or the owner would
+/// wait for ever. Only where the owner has left it posts no more.
+#[tactic(auto, using(crate::proofs::Reading::all_read))]
+pub fn work<R: Wait, G: Gate>(
+    rt: &R,
+    alloc: Global,
+    inbox: &InboxSender,
+    worker: Worker,
+    seat: Seat,
+    pieces: &[Piece],
+    gate: &G,
+) -> Worked
+    requires seat { IsSeatAt (sends_on inbox.now) seat }
+    requires new { view seat ≡ Poster worker [] }
+    ensures seat { IsSeatAt (sends_on inbox.now) result.seat }
+    ensures ended { is_closed result.stop ≡ false → EndsPosts worker (view result.seat) }
+    ensures whole { result.stop ≡ None → HasEnded worker pieces.now (view result.seat) result.faults.items }
+{
+    let mut hand = Hand {
+        worker,
+        seat,
+        posted: 0,
+        faults: Vec::new(alloc),
+    };
+    let stop = match hand.read_all(rt, alloc, inbox, pieces, gate) {
+        Ok(()) => None,
+        Err(stop) => Some(stop),
+    };
+    let stop = match stop {
+        Some(Stop::Closed) => stop,
+        _ => match hand.end(rt, inbox) {
+            Ok(()) => stop,
+            Err(Closed) => Some(Stop::Closed),
+        },
+    };
+    Worked {
+        seat: hand.seat,
+        faults: hand.faults,
+        stop,
+    }
+}
+
+/// That a worker keeps what [`work`] ensures, for the thread that joins it.
+#[derive(Drop)]
+pub struct Working<'a> {
+    pub inbox: Snapshot<InboxSender>,
+    pub worker: Worker,
+    pub pieces: &'a [Piece],
+}
+
+impl<'a> Promise<Worked> for Working<'a> {
+    ghost use Rattle.std.specs.Prelude.{◌≡◌, None};
+    ghost use Rattle.crossbeam_channel.specs.Claims.{view, IsSeatAt};
+    ghost use Rattle.crossbeam_channel.specs.Ends.{sends_on};
+    ghost use Rattle.trace_crew.specs.Work.{HasEnded};
+
+    ghost kept_by = { λ p r. IsSeatAt (sends_on p.inbox.value) r.seat × (r.stop ≡ None → HasEnded p.worker p.pieces.now (view r.seat) r.faults.items) };
+}
