@@ -1,0 +1,175 @@
+//! Crews that are held by gates: each holds one thread until another has come to a place, for at most
+//! 1,000 turns of one millisecond, and notes where the turns ran out.
+
+use crate::pieces::{CALL, layout, pieces};
+use std::alloc::Global;
+use std::rt::Clock;
+use std::sync::{Mutex, Wait};
+use std::thread;
+use std::thread::Threads;
+use std::time::Duration;
+use trace_board::Board;
+use trace_crew::{Gate, Piece, crew};
+
+/// How often something was announced, for threads that wait until it was.
+#[derive(Drop)]
+struct Bell<'a, R: Wait + Clock> {
+    rt: &'a R,
+    count: Mutex<u64>,
+}
+
+impl<'a, R: Wait + Clock> Bell<'a, R> {
+    fn new(rt: &'a R) -> Bell<'a, R> {
+        Bell {
+            rt,
+            count: Mutex::new(0),
+        }
+    }
+
+    fn ring(&self) {
+        let mut count = self.count.lock(self.rt);
+        *count = count.saturating_add(1);
+    }
+
+    /// Waits until it was announced so often, and answers whether it was.
+    fn has_rung(&self, times: u64) -> bool {
+        for _ in 0..1000 {
+            if *self.count.lock(self.rt) >= times {
+                return true;
+            }
+            thread::sleep(self.rt, Duration::from_millis(1));
+        }
+        false
+    }
+}
+
+/// Holds each worker's first walk until the other's was announced, and the first worker's second post
+/// until the second worker's first segment was taken.
+#[derive(Drop)]
+struct Meeting<'a, R: Wait + Clock> {
+    first_walks: Bell<'a, R>,
+    second_walks: Bell<'a, R>,
+    second_taken: Bell<'a, R>,
+    failures: Bell<'a, R>,
+}
+
+impl<'a, R: Wait + Clock + Sync> Gate for Meeting<'a, R> {
+    fn before_walk(&self, worker: u8, piece: u64) {
+        let (mine, other) = match worker {
+            0 => (&self.first_walks, &self.second_walks),
+            _ => (&self.second_walks, &self.first_walks),
+        };
+        mine.ring();
+        if piece == 0 && !other.has_rung(1) {
+            self.failures.ring();
+        }
+    }
+
+    fn before_post(&self, worker: u8, nth: u64) {
+        if worker == 0 && nth == 1 && !self.second_taken.has_rung(1) {
+            self.failures.ring();
+        }
+    }
+
+    fn after_take(&self, worker: u8, _nth: u64) {
+        if worker == 1 {
+            self.second_taken.ring();
+        }
+    }
+}
+
+/// Holds the first take until eight posts were announced in all.
+#[derive(Drop)]
+struct Crowd<'a, R: Wait + Clock> {
+    posts: Bell<'a, R>,
+    takes: Bell<'a, R>,
+    failures: Bell<'a, R>,
+}
+
+impl<'a, R: Wait + Clock + Sync> Gate for Crowd<'a, R> {
+    fn before_walk(&self, _worker: u8, _piece: u64) {}
+
+    fn before_post(&self, _worker: u8, _nth: u64) {
+        self.posts.ring();
+    }
+
+    fn after_take(&self, _worker: u8, _nth: u64) {
+        let is_first = *self.takes.count.lock(self.takes.rt) == 0;
+        self.takes.ring();
+        if is_first && !self.posts.has_rung(8) {
+            self.failures.ring();
+        }
+    }
+}
+
+/// The readable prefixes that a crew leaves where nothing has a fault or is refused, in its node and on
+/// the board alike.
+fn prefixes<R: Threads + Wait + Sync, G: Gate>(
+    rt: &R,
+    alloc: Global,
+    first: &[Piece],
+    second: &[Piece],
+    gate: &G,
+) -> Option<(u64, u64)> {
+    let layout = layout(alloc)?;
+    let board = Board::new(alloc, &layout).ok()?;
+    let out = crew(rt, alloc, &layout, first, second, &board, gate).ok()?;
+    let shown = board.show(rt, None).ok()?;
+    let is_whole = out.faults.is_empty() && out.refused.is_empty();
+    let is_shown = shown.know().same(out.node.know());
+    let prefixes = (out.node.know().prefix(0), out.node.know().prefix(1));
+    (is_whole && is_shown).then_some(prefixes)
+}
+
+/// The prefixes after two pieces beside one, held so that both workers and the owner must run at the
+/// same time; and whether the gate had to let go.
+fn met<R: Threads + Wait + Clock + Sync>(rt: &R, alloc: Global) -> Option<((u64, u64), bool)> {
+    let gate = Meeting {
+        first_walks: Bell::new(rt),
+        second_walks: Bell::new(rt),
+        second_taken: Bell::new(rt),
+        failures: Bell::new(rt),
+    };
+    let first = pieces(alloc, &[(0, 0, CALL), (0, 1, CALL)])?;
+    let second = pieces(alloc, &[(1, 0, CALL)])?;
+    let found = prefixes(rt, alloc, &first, &second, &gate)?;
+    let has_failed = *gate.failures.count.lock(rt) > 0;
+    Some((found, has_failed))
+}
+
+#[test]
+fn workers_and_owner_run_at_once(rt: HostRuntime) {
+    let found = met(&rt, rt.alloc());
+    assert!(rt; found == Some(((4, 2), false)));
+}
+
+/// Twenty calls of a rank, each a piece.
+fn twenty(alloc: Global, rank: u32) -> Option<Vec<Piece>> {
+    let mut all = Vec::new(alloc);
+    for call in 0..20 {
+        let mut one = pieces(alloc, &[(rank, call, CALL)])?;
+        all.append(&mut one).ok()?;
+    }
+    Some(all)
+}
+
+/// The prefixes after twenty pieces of each worker, of which eight are posted while the owner is held;
+/// and whether the gate had to let go.
+fn crowded<R: Threads + Wait + Clock + Sync>(rt: &R, alloc: Global) -> Option<((u64, u64), bool)> {
+    let gate = Crowd {
+        posts: Bell::new(rt),
+        takes: Bell::new(rt),
+        failures: Bell::new(rt),
+    };
+    let first = twenty(alloc, 0)?;
+    let second = twenty(alloc, 1)?;
+    let found = prefixes(rt, alloc, &first, &second, &gate)?;
+    let has_failed = *gate.failures.count.lock(rt) > 0;
+    Some((found, has_failed))
+}
+
+#[test]
+fn workers_fill_the_inbox(rt: HostRuntime) {
+    let found = crowded(&rt, rt.alloc());
+    assert!(rt; found == Some(((40, 40), false)));
+}
