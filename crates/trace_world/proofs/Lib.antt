@@ -4,3 +4,4 @@ pub mod Equal
 pub mod Moving
 pub mod Mails
 pub mod Answers
+pub mod Possible

@@ -6,3 +6,4 @@ pub mod Equal
 pub mod Codes
 pub mod Moves
 pub mod Answers
+pub mod Possible

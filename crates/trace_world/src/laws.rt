@@ -1,13 +1,15 @@
-//! Nodes that the same segments reached are equal, as the contract of a call that does nothing, so
-//! that the check proves it.
+//! Laws of all worlds, as the contracts of calls that do nothing, so that the check proves them.
 
 ghost use Rattle.std.specs.Prelude.{◌≡◌, ℕ};
 ghost use Rattle.trace_node.specs.Answer.{Answered, IsAnswer};
 ghost use Rattle.trace_report.specs.Report.{report_text};
 ghost use Rattle.trace_world.specs.Schedule.{State};
 ghost use Rattle.trace_world.specs.Equal.{ReachedAlike, know_at};
+ghost use Rattle.trace_world.specs.Possible.{world_in};
+ghost use Rattle.trace_world.specs.Refusals.{refusal};
 ghost use Rattle.trace_world.specs.Shows.{Shows, WorldState};
 
+use crate::step::Step;
 use trace_know::view_laws;
 use trace_node::answers_are_one;
 
@@ -21,3 +23,8 @@ pub fn equal_nodes()
     view_laws();
     answers_are_one();
 }
+
+/// Why a step is refused hangs on the state alone that a world of a layout shows.
+pub fn states_refuse()
+    ensures { (w : WorldState) (s : State) (step : Step) → Shows w s → refusal (world_in w.layout s) step ≡ refusal w step }
+{}

@@ -12,7 +12,8 @@
 //! - [`inbox`]: the segments that wait for a node; [`mail`]: a shipped frame; [`letter`]: how it is read
 //! - [`moves`]: what a step does to nodes and inboxes
 //! - [`world`]: nodes with their inboxes, and the mails
-//! - [`laws`]: nodes that the same segments reached are equal, as a contract
+//! - [`laws`]: nodes that the same segments reached are equal, and equal states refuse the same steps, as
+//!   contracts
 //!
 //! Its tests are in the crate `trace_world_tests`.
 #![tactic(auto)]
@@ -25,6 +26,6 @@ mod moves;
 mod step;
 mod world;
 
-pub use laws::equal_nodes;
+pub use laws::{equal_nodes, states_refuse};
 pub use step::{Step, WorldFault};
 pub use world::World;

@@ -5,6 +5,7 @@ ghost use Rattle.std.specs.FinMap.{empty};
 ghost use Rattle.std.specs.List.{slice_get};
 ghost use Rattle.std.specs.Option.{option_map};
 ghost use Rattle.trace_world.specs.Answers.{AnswersAfter, AnswersAnew, AnswersMore, AnswersStill, LosesOne};
+ghost use Rattle.trace_world.specs.Possible.{Allows};
 ghost use Rattle.trace_world.specs.Refusals.{refusal, refusal_there, IsOutcome, IsCountFault, is_done, done, stale, NoneStaler, SameNodes, StopsAt};
 ghost use Rattle.trace_node.specs.Node.{held};
 ghost use Rattle.trace_world.specs.Schedule.{opening};
@@ -106,8 +107,10 @@ impl<'a> World<'a> {
     /// Does the steps in order, up to the first that is refused, which it names.
     pub fn run(&mut self, steps: &[Step]) -> Result<(), (usize, WorldFault)>
         ensures ok { OnOk result (Follows self.old steps.now self.new) }
+        ensures possible { OnOk result (Allows self.old steps.now) }
         ensures fresh { OnOk result (NoneStaler self.old.nodes self.new.nodes) }
         ensures err { IfErr result (λ e. (e.0 < length steps.now) × Follows self.old (take (done e) steps.now) self.new) }
+        ensures possible_before { IfErr result (λ e. Allows self.old (take (done e) steps.now)) }
         ensures cause { IfErr result (λ e. StopsAt self.new steps.now e) }
         ensures lost { IfErr result (λ e. LosesOne steps.now e self.old.nodes self.new.nodes) }
         ensures same { SameNodes self.old self.new }
