@@ -8,9 +8,8 @@ use Rattle.trace_node.specs.Node.{Held}
 use Rattle.trace_world.specs.declared.step.Step.{Step}
 use Rattle.input_files.specs.Manifests.{ManifestParts, PieceParts, RefusesManifest}
 use Rattle.command_runs.specs.Inputs.{IsFaultOf, RefusesInput, TellsLayout, TellsManifest}
-use Rattle.command_runs.specs.Nodes.{RefusesNode}
-use Rattle.command_runs.specs.Refusals.{RefusesFirst, RefusesPieces, RefusesRun}
-use Rattle.command_runs.specs.Replays.{AreNodesOf, RefusesNodes, RefusesReplay, RefusesSteps, nodes_after}
+use Rattle.command_runs.specs.Refusals.{RefusesFirst, RefusesNode, RefusesPieces, RefusesRun}
+use Rattle.command_runs.specs.Replays.{AreNodesOf, CanReplay, RefusesNodes, RefusesReplay, RefusesSteps, nodes_after}
 use Rattle.command_runs.specs.Schedules.{TellSegments, world_steps}
 use Rattle.command_runs.specs.declared.fault.RunFault.{RunFault}
 use Rattle.command_runs.specs.declared.fault.RunFault.TheVariants.{Memory, Write}
@@ -35,11 +34,15 @@ pieces_are_not_writing file ranks pieces (inl e) = memory_is_not_writing e
 pieces_are_not_writing file ranks pieces (inr (inl h)) = h.4
 pieces_are_not_writing file ranks pieces (inr (inr h)) = h
 
+node_is_not_writing : (file : List ℕ → Option (List ℕ)) (l : Parts) (manifest : List ℕ) → RefusesNode file l manifest Write → ⊥
+node_is_not_writing file l manifest (inl e) = memory_is_not_writing e
+node_is_not_writing file l manifest (inr (inl h)) = input_is_not_writing RefusesManifest manifest (file manifest) h
+node_is_not_writing file l manifest (inr (inr h)) = pieces_are_not_writing file l.ranks h.0.pieces h.2
+
 run_is_not_writing : (file : List ℕ → Option (List ℕ)) (layout manifest : List ℕ) → RefusesRun file layout manifest Write → ⊥
 run_is_not_writing file layout manifest (inl e) = memory_is_not_writing e
 run_is_not_writing file layout manifest (inr (inl h)) = input_is_not_writing _ layout (file layout) h
-run_is_not_writing file layout manifest (inr (inr (inl h))) = input_is_not_writing RefusesManifest manifest (file manifest) h
-run_is_not_writing file layout manifest (inr (inr (inr h))) = pieces_are_not_writing file h.0.ranks h.1.pieces h.4
+run_is_not_writing file layout manifest (inr (inr h)) = node_is_not_writing file h.0 manifest h.2
 
 one_fault : (fault : RunFault) (answer : Result Bool RunFault) → answer ≡ Err fault → answer ≡ Err Write → fault ≡ Write
 one_fault fault answer is writes = cc (is, writes)
@@ -86,13 +89,17 @@ steps_refused file l manifest m lists nodes steps fault told tell n s h =
 -- the steps were done
 pub nodes_left : (file : List ℕ → Option (List ℕ)) (l : Parts) (manifest : List ℕ) (m : ManifestParts) (lists : List (List PlacedEvents)) (count : ℕ) (steps : List Step)
     (nodes : List Held) → TellsManifest (file manifest) m → TellSegments file m.pieces lists → count ≡ m.nodes → steps ≡ world_steps lists m.schedule
-    → nodes ≡ nodes_after l count steps → AreNodesOf file l manifest nodes
-nodes_left file l manifest m lists count steps nodes told tell n s h =
-    (m, lists, told, tell, h ∙ ap (λ (k : ℕ). nodes_after l k steps) n ∙ ap (λ (ss : List Step). nodes_after l m.nodes ss) s)
+    → CanReplay l count steps × (nodes ≡ nodes_after l count steps) → AreNodesOf file l manifest nodes
+nodes_left file l manifest m lists count steps nodes told tell n s h = (
+  m,
+  lists,
+  told,
+  tell,
+  subst (λ (ss : List Step). CanReplay l m.nodes ss) s (subst (λ (k : ℕ). CanReplay l k steps) n h.0),
+  h.1 ∙ ap (λ (k : ℕ). nodes_after l k steps) n ∙ ap (λ (ss : List Step). nodes_after l m.nodes ss) s,
+)
 
 -- What refuses the node refuses the run.
 pub node_refused : (file : List ℕ → Option (List ℕ)) (l : Parts) (layout manifest : List ℕ) (fault : RunFault) → TellsLayout (file layout) l
     → RefusesNode file l manifest fault → RefusesRun file layout manifest fault
-node_refused file l layout manifest fault told (inl e) = inl e
-node_refused file l layout manifest fault told (inr (inl h)) = inr (inr (inl h))
-node_refused file l layout manifest fault told (inr (inr h)) = inr (inr (inr (l, h.0, told, h.1, h.2)))
+node_refused file l layout manifest fault told h = inr (inr (l, told, h))

@@ -4,14 +4,15 @@ use Rattle.std.specs.Prelude.{replicate}
 use Rattle.std.proofs.lemmas.List.{length-map, length-replicate}
 use Rattle.mpi_model.specs.Layouts.{Parts}
 use Rattle.trace_node.specs.Node.{Held}
+use Rattle.trace_world.specs.Possible.{Allows, CanDo, world_in}
 use Rattle.trace_world.specs.Refusals.{IsCountFault, IsOutcome, NoneStaler, SameNodes, StopsAt, done, is_done, refusal, stale}
-use Rattle.trace_world.specs.Schedule.{after_all, opening}
+use Rattle.trace_world.specs.Schedule.{State, after_all, opening}
 use Rattle.trace_world.specs.Shows.{Follows, Shows, WorldState, most_nodes}
-use Rattle.trace_world.specs.Worlds.{IsWorld, layouts}
+use Rattle.trace_world.specs.Worlds.{IsWorld}
 use Rattle.trace_world.specs.declared.step.Step.{Step}
 use Rattle.trace_world.specs.declared.step.WorldFault.{WorldFault}
 use Rattle.trace_world.specs.declared.step.WorldFault.TheVariants.{NoNode, NoMail, EmptyInbox, Rank, FrameLength, Stale, NodeCount, Memory}
-use Rattle.command_runs.specs.Replays.{NoneStale, RefusesStep, RefusesSteps, nodes_after, stop_of}
+use Rattle.command_runs.specs.Replays.{CanReplay, NoneStale, RefusesStep, RefusesSteps, nodes_after, stop_of}
 use Rattle.command_runs.proofs.Nodes.{all_held, still_fresh}
 
 -- A new world is refused for its number of nodes, or for want of memory.
@@ -34,14 +35,27 @@ pub record IsNew (l : Parts) (nodes : ℕ) (w : WorldState) : Type 0 where
 count_of : (l : Parts) (nodes : ℕ) (w : WorldState) → IsNew l nodes w → length w.nodes ≡ nodes
 count_of l nodes w new = sym (length-map w.nodes (λ (n : Held). n.is_stale)) ∙ ap (λ (flags : List Bool). length flags) new.fresh ∙ length-replicate nodes false
 
+-- a world of so many nodes that could do these steps
+replayed : (l : Parts) (nodes : ℕ) (steps : List Step) (old new : WorldState) → IsNew l nodes old → SameNodes old new → IsWorld new.layout new.nodes new.inboxes new.mails
+    → Allows old steps → CanReplay l nodes steps
+replayed l nodes steps old new is same world could =
+    let count : length new.nodes ≡ nodes = same.count ∙ count_of l nodes old is in
+    record {
+      some = subst (λ (n : ℕ). 0 < n) count world.some;
+      few = subst (λ (n : ℕ). n ≤ most_nodes) count world.few;
+      each = subst (λ (p : Parts). CanDo p (opening nodes) steps) is.layout (could (opening nodes) is.shows);
+    }
+
 -- all steps were done
 pub all_done : (l : Parts) (nodes : ℕ) (steps : List Step) (old new : WorldState) → IsNew l nodes old → SameNodes old new
-    → layouts new.nodes ≡ replicate (length new.nodes) new.layout → Follows old steps new → NoneStaler old.nodes new.nodes
-    → new.nodes ≡ nodes_after l nodes steps
-all_done l nodes steps old new is same one follows kept =
-    all_held l new.nodes (after_all steps (opening nodes)).reached (follows (opening nodes) is.shows).knowledge
-    (one ∙ ap (λ (p : Parts). replicate (length new.nodes) p) (same.layout ∙ is.layout))
-    (still_fresh old.nodes new.nodes nodes is.fresh kept)
+    → IsWorld new.layout new.nodes new.inboxes new.mails → Follows old steps new → Allows old steps → NoneStaler old.nodes new.nodes
+    → CanReplay l nodes steps × (new.nodes ≡ nodes_after l nodes steps)
+all_done l nodes steps old new is same world follows could kept = (
+  replayed l nodes steps old new is same world could,
+  all_held l new.nodes (after_all steps (opening nodes)).reached (follows (opening nodes) is.shows).knowledge
+      (world.one_layout ∙ ap (λ (p : Parts). replicate (length new.nodes) p) (same.layout ∙ is.layout))
+      (still_fresh old.nodes new.nodes nodes is.fresh kept),
+)
 
 refused_for : (found : Option WorldFault) (fault : WorldFault) → (fault ≡ Stale → ⊥) → (fault ≡ Memory → ⊥) → IsOutcome found (Err fault) → found ≡ Some fault
 refused_for (Some other) fault stale memory h = cc h
@@ -74,34 +88,36 @@ done_is k FrameLength stale = refl
 done_is k NodeCount stale = refl
 done_is k Memory stale = refl
 
+-- Why a step is refused hangs on the state alone, as `states_refuse` tells.
+abbrev pub StateLaw : Type 0
+StateLaw = (w : WorldState) (s : State) (step : Step) → Shows w s → refusal (world_in w.layout s) step ≡ refusal w step
+
 -- a step was refused, for no want of memory
-step_refused : (l : Parts) (nodes : ℕ) (steps : List Step) (old new : WorldState) (k : ℕ) (fault : WorldFault) → IsNew l nodes old → SameNodes old new
-    → IsWorld new.layout new.nodes new.inboxes new.mails → Follows old (take (done (k, fault)) steps) new → StopsAt new steps (k, fault)
+step_refused : StateLaw → (l : Parts) (nodes : ℕ) (steps : List Step) (old new : WorldState) (k : ℕ) (fault : WorldFault) → IsNew l nodes old → SameNodes old new
+    → IsWorld new.layout new.nodes new.inboxes new.mails → Follows old (take (done (k, fault)) steps) new → Allows old (take (done (k, fault)) steps) → StopsAt new steps (k, fault)
     → (fault ≡ Stale → ⊥) → (fault ≡ Memory → ⊥) → RefusesStep l nodes steps k fault
-step_refused l nodes steps old new k fault is same world follows stops stale memory =
-    let count : length new.nodes ≡ nodes = same.count ∙ count_of l nodes old is in
-    let shown : Shows new (after_all (take (done (k, fault)) steps) (opening nodes)) = follows (opening nodes) is.shows in
+step_refused law l nodes steps old new k fault is same world follows could stops stale memory =
+    let s : ℕ → State = λ n. after_all (take n steps) (opening nodes) in
+    let refused : refusal new stops.0 ≡ Some fault = refused_for (refusal new stops.0) fault stale memory (stops.2 (undone fault stale)) in
+    let shown : Shows new (s (done (k, fault))) = follows (opening nodes) is.shows in
+    let in_state : refusal (world_in l (s (done (k, fault)))) stops.0 ≡ Some fault =
+    ap (λ (p : Parts). refusal (world_in p (s (done (k, fault)))) stops.0) (sym (same.layout ∙ is.layout)) ∙ law new (s (done (k, fault))) stops.0 shown ∙ refused in
     record {
-      world = new;
       step = stops.0;
-      some = subst (λ (n : ℕ). 0 < n) count world.some;
-      few = subst (λ (n : ℕ). n ≤ most_nodes) count world.few;
-      nodes_are = count;
-      layout_is = same.layout ∙ is.layout;
-      shows = subst (λ (n : ℕ). Shows new (after_all (take n steps) (opening nodes))) (done_is k fault stale) shown;
       at = stops.1;
-      refuses = refused_for (refusal new stops.0) fault stale memory (stops.2 (undone fault stale));
+      before = subst (λ (n : ℕ). CanReplay l nodes (take n steps)) (done_is k fault stale) (replayed l nodes (take (done (k, fault)) steps) old new is same world could);
+      refuses = subst (λ (n : ℕ). refusal (world_in l (s n)) stops.0 ≡ Some fault) (done_is k fault stale) in_state;
     }
 
 -- a run ended at a step
-pub stopped : (l : Parts) (nodes : ℕ) (steps : List Step) (old new : WorldState) (k : ℕ) (fault : WorldFault) → IsNew l nodes old → SameNodes old new
-    → IsWorld new.layout new.nodes new.inboxes new.mails → Follows old (take (done (k, fault)) steps) new → StopsAt new steps (k, fault)
+pub stopped : StateLaw → (l : Parts) (nodes : ℕ) (steps : List Step) (old new : WorldState) (k : ℕ) (fault : WorldFault) → IsNew l nodes old → SameNodes old new
+    → IsWorld new.layout new.nodes new.inboxes new.mails → Follows old (take (done (k, fault)) steps) new → Allows old (take (done (k, fault)) steps) → StopsAt new steps (k, fault)
     → RefusesSteps l nodes steps (stop_of fault k)
-stopped l nodes steps old new k Stale is same world follows stops = tt
-stopped l nodes steps old new k Memory is same world follows stops = tt
-stopped l nodes steps old new k NoNode is same world follows stops = step_refused l nodes steps old new k NoNode is same world follows stops (λ e. cc e) (λ e. cc e)
-stopped l nodes steps old new k NoMail is same world follows stops = step_refused l nodes steps old new k NoMail is same world follows stops (λ e. cc e) (λ e. cc e)
-stopped l nodes steps old new k EmptyInbox is same world follows stops = step_refused l nodes steps old new k EmptyInbox is same world follows stops (λ e. cc e) (λ e. cc e)
-stopped l nodes steps old new k Rank is same world follows stops = step_refused l nodes steps old new k Rank is same world follows stops (λ e. cc e) (λ e. cc e)
-stopped l nodes steps old new k FrameLength is same world follows stops = step_refused l nodes steps old new k FrameLength is same world follows stops (λ e. cc e) (λ e. cc e)
-stopped l nodes steps old new k NodeCount is same world follows stops = step_refused l nodes steps old new k NodeCount is same world follows stops (λ e. cc e) (λ e. cc e)
+stopped law l nodes steps old new k Stale is same world follows could stops = tt
+stopped law l nodes steps old new k Memory is same world follows could stops = tt
+stopped law l nodes steps old new k NoNode is same world follows could stops = step_refused law l nodes steps old new k NoNode is same world follows could stops (λ e. cc e) (λ e. cc e)
+stopped law l nodes steps old new k NoMail is same world follows could stops = step_refused law l nodes steps old new k NoMail is same world follows could stops (λ e. cc e) (λ e. cc e)
+stopped law l nodes steps old new k EmptyInbox is same world follows could stops = step_refused law l nodes steps old new k EmptyInbox is same world follows could stops (λ e. cc e) (λ e. cc e)
+stopped law l nodes steps old new k Rank is same world follows could stops = step_refused law l nodes steps old new k Rank is same world follows could stops (λ e. cc e) (λ e. cc e)
+stopped law l nodes steps old new k FrameLength is same world follows could stops = step_refused law l nodes steps old new k FrameLength is same world follows could stops (λ e. cc e) (λ e. cc e)
+stopped law l nodes steps old new k NodeCount is same world follows could stops = step_refused law l nodes steps old new k NodeCount is same world follows could stops (λ e. cc e) (λ e. cc e)

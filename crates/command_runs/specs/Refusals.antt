@@ -24,10 +24,14 @@ NamesStranger file ranks pieces _ = ⊥
 abbrev pub RefusesPieces : (List ℕ → Option (List ℕ)) → ℕ → List PieceParts → RunFault → Type 0
 RefusesPieces file ranks pieces fault = (fault ≡ Memory) ⊎ (RefusesFirst file pieces fault ⊎ NamesStranger file ranks pieces fault)
 
--- Why there is no report: the layout is refused, the manifest is, or, under these two, a piece is.
+-- Why there is no node: the manifest is refused, or a piece that it names is.
+abbrev pub RefusesNode : (List ℕ → Option (List ℕ)) → Parts → List ℕ → RunFault → Type 0
+RefusesNode file l manifest fault = (fault ≡ Memory)
+    ⊎ (RefusesInput RefusesManifest manifest (file manifest) fault
+    ⊎ ((m : ManifestParts) × TellsManifest (file manifest) m × RefusesPieces file l.ranks m.pieces fault))
+
+-- Why there is no report: the layout is refused, or, under it, what comes after it.
 abbrev pub RefusesRun : (List ℕ → Option (List ℕ)) → List ℕ → List ℕ → RunFault → Type 0
 RefusesRun file layout manifest fault = (fault ≡ Memory)
     ⊎ (RefusesInput RefusesLayout layout (file layout) fault
-    ⊎ (RefusesInput RefusesManifest manifest (file manifest) fault
-    ⊎ ((l : Parts) × (m : ManifestParts) × TellsLayout (file layout) l × TellsManifest (file manifest) m
-    × RefusesPieces file l.ranks m.pieces fault)))
+    ⊎ ((l : Parts) × TellsLayout (file layout) l × RefusesNode file l manifest fault))

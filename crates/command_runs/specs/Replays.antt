@@ -7,9 +7,10 @@ use Rattle.trace_know.specs.Segment.{PlacedEvents}
 use Rattle.trace_node.specs.Answer.{Answered, IsAnswer}
 use Rattle.trace_node.specs.Node.{Held, held}
 use Rattle.trace_report.specs.Report.{report_text}
+use Rattle.trace_world.specs.Possible.{CanDo, world_in}
 use Rattle.trace_world.specs.Refusals.{refusal, stale}
 use Rattle.trace_world.specs.Schedule.{after_all, opening}
-use Rattle.trace_world.specs.Shows.{Shows, WorldState, knowledge_of, most_nodes}
+use Rattle.trace_world.specs.Shows.{knowledge_of, most_nodes}
 use Rattle.trace_world.specs.declared.step.Step.{Step}
 use Rattle.trace_world.specs.declared.step.WorldFault.{WorldFault}
 use Rattle.trace_world.specs.declared.step.WorldFault.TheVariants as worlds
@@ -27,10 +28,16 @@ use Rattle.command_runs.specs.declared.fault.RunFault.TheVariants as faults
 abbrev pub nodes_after : Parts → ℕ → List Step → List Held
 nodes_after l nodes steps = map (λ reached. held l (knowledge_of reached) false) (after_all steps (opening nodes)).reached
 
--- The nodes hold what the manifest's schedule leaves, of pieces with the texts of their files.
+-- There is a world of so many nodes, and each of these steps can be done in it, in turn.
+pub record CanReplay (l : Parts) (nodes : ℕ) (steps : List Step) : Type 0 where
+  pub some : 0 < nodes
+  pub few : nodes ≤ most_nodes
+  pub each : CanDo l (opening nodes) steps
+
+-- The manifest's schedule can be replayed, of pieces with the texts of their files, and the nodes hold what it leaves.
 abbrev pub AreNodesOf : (List ℕ → Option (List ℕ)) → Parts → List ℕ → List Held → Type 0
 AreNodesOf file l manifest nodes = (m : ManifestParts) × (lists : List (List PlacedEvents)) × TellsManifest (file manifest) m × TellSegments file m.pieces lists
-    × (nodes ≡ nodes_after l m.nodes (world_steps lists m.schedule))
+    × CanReplay l m.nodes (world_steps lists m.schedule) × (nodes ≡ nodes_after l m.nodes (world_steps lists m.schedule))
 
 -- No node is without its answer.
 abbrev pub NoneStale : List Held → Type 0
@@ -83,17 +90,12 @@ BeginsReplayOf file layout manifest text = (nodes : List Held) × (count : ℕ) 
 
 -- ---- why a replay is refused
 
--- A step can't be done, for this cause: a world refuses it that shows the state after the steps before it.
+-- A step is the first that can't be done, and this is why: the state refuses it that the steps before it leave.
 pub record RefusesStep (l : Parts) (nodes : ℕ) (steps : List Step) (k : ℕ) (fault : WorldFault) : Type 0 where
-  pub world : WorldState
   pub step : Step
-  pub some : 0 < nodes
-  pub few : nodes ≤ most_nodes
-  pub nodes_are : length world.nodes ≡ nodes
-  pub layout_is : world.layout ≡ l
-  pub shows : Shows world (after_all (take k steps) (opening nodes))
   pub at : slice_get steps k ≡ Some step
-  pub refuses : refusal world step ≡ Some fault
+  pub before : CanReplay l nodes (take k steps)
+  pub refuses : refusal (world_in l (after_all (take k steps) (opening nodes))) step ≡ Some fault
 
 -- What the end of a run at a step is to a replay: memory was wanting, for the step or for its node's answer, or the step can't be done.
 abbrev pub stop_of : WorldFault → ℕ → RunFault

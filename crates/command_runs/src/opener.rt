@@ -17,7 +17,8 @@ pub enum OpenFault {
 
 /// What opens the files of a run.
 ///
-/// It tells the bytes of its files, or it doesn't (a disk can't: other programs write to it).
+/// It tells the bytes of its files, or it doesn't (a disk can't: other programs write to it). A file
+/// whose bytes it tells can be opened.
 pub trait Opener: Drop {
     /// A file that was opened.
     type R: Read;
@@ -28,6 +29,7 @@ pub trait Opener: Drop {
     /// Opens the file of a name, taken as it stands, at its first byte.
     fn open(&mut self, path: &str) -> Result<Self::R, OpenFault>
         ensures told { IfOk result (λ reader. IsTold (file self.old path.now) (Self.R.left reader)) }
+        ensures absent { result ≡ Err OpenFault.File → file self.old path.now ≡ None }
         ensures same { file self.new ≡ file self.old };
 }
 

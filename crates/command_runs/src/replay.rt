@@ -4,7 +4,7 @@ ghost use Rattle.std.specs.Prelude.{◌≡◌, ◌⊎◌, ℕ, true, IfErr, IfOk
 ghost use Rattle.std.specs.Io.KnownBytes.{Appends, Keeps};
 ghost use Rattle.mpi_model.specs.Failures.{CountsFailure, HasFailed};
 ghost use Rattle.trace_node.specs.Node.{Held};
-ghost use Rattle.command_runs.specs.Replays.{AppendsFront, AreNodesOf, IsReplayOf, IsTextOf, NoneStale, RefusesNodes, RefusesReplay, RefusesSteps, node_line, node_text, nodes_after, stop_of};
+ghost use Rattle.command_runs.specs.Replays.{AppendsFront, AreNodesOf, CanReplay, IsReplayOf, IsTextOf, NoneStale, RefusesNodes, RefusesReplay, RefusesSteps, node_line, node_text, nodes_after, stop_of};
 ghost use Rattle.command_runs.specs.Verbs.{BreaksOff};
 
 use crate::fault::RunFault;
@@ -19,7 +19,7 @@ use mpi_model::{Failed, Layout, Write, write_all};
 use std::alloc::Global;
 use trace_node::Answer;
 use trace_report::write_report;
-use trace_world::{Step, World, WorldFault};
+use trace_world::{Step, World, WorldFault, states_refuse};
 
 /// Writes, for each node that the schedule leaves, its line and its report.
 pub(crate) fn replay_with<O: Opener, V: Watcher, W: Write>(
@@ -83,10 +83,11 @@ fn world_after<'a>(
     nodes: usize,
     steps: &[Step],
 ) -> Result<World<'a>, RunFault>
-    ensures ok { IfOk result (λ world. world.nodes ≡ nodes_after layout.now nodes steps.now) }
+    ensures ok { IfOk result (λ world. CanReplay layout.now nodes steps.now × (world.nodes ≡ nodes_after layout.now nodes steps.now)) }
     ensures fresh { IfOk result (λ world. NoneStale world.nodes) }
     ensures err { IfErr result (λ fault. RefusesSteps layout.now nodes steps.now fault) }
 {
+    states_refuse();
     let mut world = match World::new(alloc, layout, nodes) {
         Ok(world) => world,
         Err(WorldFault::NodeCount) => return Err(RunFault::NodeCount),

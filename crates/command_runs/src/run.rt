@@ -4,8 +4,8 @@ ghost use Rattle.std.specs.Prelude.{◌≡◌, ◌⊎◌, ℕ, true, IfErr, IfOk
 ghost use Rattle.std.specs.Io.KnownBytes.{Appends, Keeps};
 ghost use Rattle.command_runs.specs.Runs.{IsReportOf};
 ghost use Rattle.command_runs.specs.Verbs.{BreaksOff, IsOutputOf, RefusesVerb};
-ghost use Rattle.command_runs.specs.Nodes.{IsNodeOf, RefusesNode};
-ghost use Rattle.command_runs.specs.Refusals.{RefusesRun};
+ghost use Rattle.command_runs.specs.Nodes.{IsNodeOf};
+ghost use Rattle.command_runs.specs.Refusals.{RefusesNode, RefusesRun};
 
 use crate::fault::RunFault;
 use crate::input::{layout_at, manifest_at};

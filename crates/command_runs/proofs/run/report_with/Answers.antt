@@ -1,6 +1,7 @@
 use Rattle.std.proofs.Common.{arith, inl, inr, refl}
 use Rattle.trace_report.specs.Report.{report_text}
-use Rattle.command_runs.specs.Nodes.{IsNodeOf, RefusesNode}
+use Rattle.command_runs.specs.Nodes.{IsNodeOf}
+use Rattle.command_runs.specs.Refusals.{RefusesNode}
 use Rattle.command_runs.proofs.Refusals.{no_writing, node_refused}
 use Rattle.command_runs.proofs.Reports.{reported}
 use Rattle.command_runs.proofs.run.report_with.Goals as goal
