@@ -7,3 +7,4 @@ pub mod Worlds
 pub mod Within
 pub mod Refusals
 pub mod Reports
+pub mod Unreadable
