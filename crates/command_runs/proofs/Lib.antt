@@ -7,4 +7,3 @@ pub mod Worlds
 pub mod Within
 pub mod Refusals
 pub mod Reports
-pub mod Unreadable

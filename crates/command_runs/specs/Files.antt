@@ -4,7 +4,6 @@ use Rattle.std.specs.declared.alloc.Global.{Global}
 use Rattle.mpi_model.specs.Failures.{one_more}
 use Rattle.command_runs.specs.declared.fault.RunFault.{RunFault}
 use Rattle.command_runs.specs.declared.fault.RunFault.TheVariants.{File}
-use Rattle.command_runs.specs.declared.whole.TheConstants.{LONGEST_FILE}
 
 -- A reader stands at the first byte of the file, where its bytes are told.
 abbrev pub IsTold : Option (List ℕ) → Option (List ℕ) → Type 0
@@ -20,11 +19,11 @@ IsFile (Some told) bytes = told ≡ bytes
 abbrev pub Fails : {R : Type 0} → (R → ℕ) → Type 0
 Fails {R = R} failures = (old : R) × (new : R) × (failures new ≡ one_more (failures old))
 
--- Why a file can't be read whole: nothing tells its bytes, as where it is absent; or its reader fails; or it is too long.
-abbrev pub IsUnreadable : Type 0 → Option (List ℕ) → Type 0
-IsUnreadable fails None = Unit {0}
-IsUnreadable fails (Some bytes) = fails ⊎ (LONGEST_FILE < length bytes)
+-- Why a file that may have so many bytes can't be read: nothing tells its bytes, as where it is absent; or its reader fails; or it has more.
+abbrev pub IsUnreadable : ℕ → Type 0 → Option (List ℕ) → Type 0
+IsUnreadable most fails None = Unit {0}
+IsUnreadable most fails (Some bytes) = fails ⊎ (most < length bytes)
 
 -- A fault that says of a file that it can't be read says it of one that can't.
-abbrev pub NamesUnreadable : Type 0 → (List ℕ → Option (List ℕ)) → RunFault → Type 0
-NamesUnreadable fails file fault = (path : String Global) → fault ≡ File path → IsUnreadable fails (file (string_bytes path))
+abbrev pub NamesUnreadable : ℕ → Type 0 → (List ℕ → Option (List ℕ)) → RunFault → Type 0
+NamesUnreadable most fails file fault = (path : String Global) → fault ≡ File path → IsUnreadable most fails (file (string_bytes path))

@@ -4,6 +4,7 @@ ghost use Rattle.std.specs.Prelude.{◌≡◌, IfErr, IfOk};
 ghost use Rattle.input_files.specs.Layouts.{RefusesLayout};
 ghost use Rattle.input_files.specs.Manifests.{RefusesManifest};
 ghost use Rattle.command_runs.specs.Files.{Fails, IsFile, NamesUnreadable};
+ghost use Rattle.command_runs.specs.declared.whole.TheConstants.{LONGEST_FILE};
 ghost use Rattle.command_runs.specs.Inputs.{IsFaultOf, RefusesFile, RefusesInput, TellsLayout, TellsManifest};
 
 use crate::fault::RunFault;
@@ -17,7 +18,7 @@ use std::alloc::{AllocError, Global};
 pub fn layout_at<O: Opener>(alloc: Global, path: &str, files: &mut O) -> Result<Layout, RunFault>
     ensures ok { IfOk result (λ l. TellsLayout (O.file files.old path.now) l) }
     ensures err { IfErr result (RefusesInput RefusesLayout path.now (O.file files.old path.now)) }
-    ensures unread { IfErr result (λ fault. NamesUnreadable (Fails O.R.failures) (O.file files.old) fault) }
+    ensures unread { IfErr result (λ fault. NamesUnreadable LONGEST_FILE (Fails O.R.failures) (O.file files.old) fault) }
     ensures same { O.file files.new ≡ O.file files.old }
 {
     let text = file_at(alloc, path, files)?;
@@ -35,7 +36,7 @@ pub fn manifest_at<O: Opener>(
 ) -> Result<Manifest, RunFault>
     ensures ok { IfOk result (λ m. TellsManifest (O.file files.old path.now) m) }
     ensures err { IfErr result (RefusesInput RefusesManifest path.now (O.file files.old path.now)) }
-    ensures unread { IfErr result (λ fault. NamesUnreadable (Fails O.R.failures) (O.file files.old) fault) }
+    ensures unread { IfErr result (λ fault. NamesUnreadable LONGEST_FILE (Fails O.R.failures) (O.file files.old) fault) }
     ensures same { O.file files.new ≡ O.file files.old }
 {
     let text = file_at(alloc, path, files)?;
@@ -49,7 +50,7 @@ pub fn manifest_at<O: Opener>(
 fn file_at<O: Opener>(alloc: Global, path: &str, files: &mut O) -> Result<Vec<u8>, RunFault>
     ensures ok { IfOk result (λ bytes. IsFile (O.file files.old path.now) bytes.items) }
     ensures err { IfErr result (RefusesFile path.now) }
-    ensures unread { IfErr result (λ fault. NamesUnreadable (Fails O.R.failures) (O.file files.old) fault) }
+    ensures unread { IfErr result (λ fault. NamesUnreadable LONGEST_FILE (Fails O.R.failures) (O.file files.old) fault) }
     ensures same { O.file files.new ≡ O.file files.old }
 {
     let mut reader = match files.open(path) {

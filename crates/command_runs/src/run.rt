@@ -4,6 +4,7 @@ ghost use Rattle.std.specs.Prelude.{◌≡◌, ◌⊎◌, ℕ, true, IfErr, IfOk
 ghost use Rattle.std.specs.Io.KnownBytes.{Appends, Keeps};
 ghost use Rattle.command_runs.specs.Runs.{IsReportOf};
 ghost use Rattle.command_runs.specs.Files.{Fails, NamesUnreadable};
+ghost use Rattle.command_runs.specs.declared.whole.TheConstants.{LONGEST_FILE};
 ghost use Rattle.command_runs.specs.Verbs.{BreaksOff, IsOutputOf, RefusesVerb};
 ghost use Rattle.command_runs.specs.Nodes.{IsNodeOf};
 ghost use Rattle.command_runs.specs.Refusals.{RefusesNode, RefusesRun};
@@ -34,7 +35,7 @@ pub fn run_with<O: Opener, V: Watcher, W: Write>(
     ensures output { OnOk result ((text : List ℕ) × IsOutputOf (O.file files.old) verb layout.now manifest.now text × Appends (W.written out.old) (W.written out.new) text) }
     ensures held { IfOk result (λ held. held ≡ true) }
     ensures refused { IfErr result (λ fault. (fault ≡ RunFault.Write) ⊎ RefusesVerb (O.file files.old) verb layout.now manifest.now fault) }
-    ensures unread { IfErr result (λ fault. NamesUnreadable (Fails O.R.failures) (O.file files.old) fault) }
+    ensures unread { IfErr result (λ fault. NamesUnreadable LONGEST_FILE (Fails O.R.failures) (O.file files.old) fault) }
     ensures nothing { IfErr result (λ fault. (fault ≡ RunFault.Write) ⊎ Keeps (W.written out.old) (W.written out.new)) }
     ensures broken_off { result ≡ Err RunFault.Write → BreaksOff (O.file files.old) verb layout.now manifest.now (W.written out.old) (W.written out.new) (W.failures out.old) (W.failures out.new) }
 {
@@ -56,7 +57,7 @@ fn report_with<O: Opener, V: Watcher, W: Write>(
     ensures report { OnOk result ((text : List ℕ) × IsReportOf (O.file files.old) layout_name.now manifest_name.now text × Appends (W.written out.old) (W.written out.new) text) }
     ensures held { IfOk result (λ held. held ≡ true) }
     ensures refused { IfErr result (λ fault. (fault ≡ RunFault.Write) ⊎ RefusesRun (O.file files.old) layout_name.now manifest_name.now fault) }
-    ensures unread { IfErr result (λ fault. NamesUnreadable (Fails O.R.failures) (O.file files.old) fault) }
+    ensures unread { IfErr result (λ fault. NamesUnreadable LONGEST_FILE (Fails O.R.failures) (O.file files.old) fault) }
     ensures nothing { IfErr result (λ fault. (fault ≡ RunFault.Write) ⊎ Keeps (W.written out.old) (W.written out.new)) }
     ensures broken_off { result ≡ Err RunFault.Write → BreaksOff (O.file files.old) Verb.Report layout_name.now manifest_name.now (W.written out.old) (W.written out.new) (W.failures out.old) (W.failures out.new) }
 {
@@ -89,7 +90,7 @@ fn node_with<'a, O: Opener, V: Watcher>(
 ) -> Result<Node<'a>, RunFault>
     ensures ok { IfOk result (λ node. IsNodeOf (O.file files.old) layout.now manifest_name.now node) }
     ensures err { IfErr result (λ fault. RefusesNode (O.file files.old) layout.now manifest_name.now fault) }
-    ensures unread { IfErr result (λ fault. NamesUnreadable (Fails O.R.failures) (O.file files.old) fault) }
+    ensures unread { IfErr result (λ fault. NamesUnreadable LONGEST_FILE (Fails O.R.failures) (O.file files.old) fault) }
 {
     let manifest = match manifest_at(alloc, manifest_name, files) {
         Ok(manifest) => manifest,
