@@ -1,5 +1,5 @@
 -- The steps that a world has done could be done.
-use Rattle.std.proofs.Common.{◌≡◌, ◌<◌, ℕ, ◌+◌, Bool, true, false, Option, Some, None, Result, Ok, Err, List, [], ◌∷◌, ◌++◌, length, map, take, get_or, refl, sym, ap, ◌∙◌, subst}
+use Rattle.std.proofs.Common.{◌≡◌, ◌<◌, ℕ, ◌+◌, Bool, true, false, Option, Some, None, Ok, Err, List, [], ◌∷◌, ◌++◌, length, map, take, get_or, refl, sym, ap, ◌∙◌, subst}
 use Rattle.std.specs.Prelude.{if◌then◌else◌, nat_lt, slice_index_or}
 use Rattle.std.specs.FinMap.{empty, entries}
 use Rattle.std.proofs.lemmas.List.{length-map, take_more}
@@ -7,13 +7,13 @@ use Rattle.mpi_model.specs.Layouts.{Parts}
 use Rattle.trace_know.specs.Segment.{PlacedEvents}
 use Rattle.trace_node.specs.Node.{Held, held}
 use Rattle.trace_know.specs.View.{View}
-use Rattle.trace_wire.specs.Frames.{frame_of, longest, payload}
+use Rattle.trace_wire.specs.Frames.{longest, payload}
 use Rattle.trace_world.specs.declared.step.Step.{Step}
 use Rattle.trace_world.specs.declared.step.Step.TheVariants.{Post, Take, Ship, Deliver, Restart}
 use Rattle.trace_world.specs.declared.step.WorldFault.{WorldFault}
 use Rattle.trace_world.specs.declared.step.WorldFault.TheVariants.{NoNode, NoMail, EmptyInbox, Rank, FrameLength, Stale, NodeCount, Memory}
 use Rattle.trace_world.specs.Possible.{Allows, CanDo, world_in}
-use Rattle.trace_world.specs.Refusals.{IsOutcome, SameNodes, done, is_done, no_front, refusal, refusal_there, too_long}
+use Rattle.trace_world.specs.Refusals.{IsOutcome, SameNodes, done, no_front, refusal, refusal_there, too_long}
 use Rattle.trace_world.specs.Schedule.{State, after, after_all, at}
 use Rattle.trace_world.specs.Shows.{Follows, Shows, WorldState, knowledge_of, knows}
 
