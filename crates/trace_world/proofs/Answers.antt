@@ -1,5 +1,5 @@
 -- Which nodes have an answer after a step.
-use Rattle.std.proofs.Common.{◌≡◌, ◌≢◌, ◌<◌, ℕ, Bool, true, false, Some, Ok, Err, IfErr, Result, List, get_or, set, refl, sym, ap, ◌∙◌, subst}
+use Rattle.std.proofs.Common.{◌≡◌, ◌≢◌, ◌<◌, ℕ, Bool, true, false, Some, Ok, Err, OnOk, IfErr, Result, List, get_or, set, refl, sym, ap, ◌∙◌, subst}
 use Rattle.std.specs.Prelude.{slice_set, slice_index_or, length}
 use Rattle.std.proofs.lemmas.List.{map-set, set-get_or, get_or-set_other}
 use Rattle.std.proofs.lemmas.Option.{slice_get-get_or}
@@ -11,7 +11,7 @@ use Rattle.trace_world.specs.declared.step.Step.{Step}
 use Rattle.trace_world.specs.declared.step.Step.TheVariants.{Post, Take, Ship, Deliver, Restart}
 use Rattle.trace_world.specs.declared.step.WorldFault.{WorldFault}
 use Rattle.trace_world.specs.declared.step.WorldFault.TheVariants.{NoNode, NoMail, EmptyInbox, Rank, FrameLength, Stale, NodeCount, Memory}
-use Rattle.trace_world.specs.Answers.{AnswersMore, AnswersStill, AnswersAfter, LosesOne}
+use Rattle.trace_world.specs.Answers.{AnswersFresh, AnswersMore, AnswersStill, AnswersAfter, LosesOne}
 use Rattle.trace_world.specs.Moves.{Learns}
 use Rattle.trace_world.specs.Refusals.{IsFrameFault, NoneStaler, is_done, node_of, stale}
 use Rattle.trace_world.specs.Shows.{WorldState}
@@ -51,6 +51,11 @@ unframed view NodeCount nodes h = absurd h
 -- a node that is as new in the place of one
 pub anew : (nodes : List Held) (node : ℕ) (new : Held) (layout : Parts) → new ≡ held layout empty false → stale (slice_set nodes node new) ≡ slice_set (stale nodes) node false
 anew nodes node new layout e = map-set (λ (n : Held). n.is_stale) nodes node new ∙ ap (λ (n : Held). set (stale nodes) node n.is_stale) e
+
+-- a node made its answer, or there was no memory for it
+pub fresh : (node : ℕ) (old new : List Bool) (result : Result (Unit {0}) WorldFault) → OnOk result (new ≡ slice_set old node false) → IfErr result (λ fault. (fault ≡ Memory) × (new ≡ slice_set old node true)) → AnswersFresh node result old new
+fresh node old new (Ok x) ok err = ok
+fresh node old new (Err fault) ok err = subst (λ f. AnswersFresh node (Err f) old new) (sym err.0) err.1
 
 -- a step of a node that isn't there
 pub nowhere : (step : Step) (nodes : List Bool) → AnswersAfter step (Err NoNode) nodes nodes

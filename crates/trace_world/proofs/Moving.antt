@@ -60,12 +60,9 @@ layouts_set layout nodes node new one lt e =
     map-set_same (λ (n : Held). n.layout) nodes node new new (e ∙ sym (of_layout layout nodes node (get_or nodes node new) one lt (lists.get_or_default nodes node new (get_or nodes node new) lt)))
     ∙ one ∙ ap (λ n. replicate n layout) (sym (length-set nodes node new))
 
--- a node that has an answer now in the place of one
-pub answered_at : (nodes : List Held) (node : ℕ) (new : Held) → node < length nodes → new.is_stale ≡ false → slice_get (stale (slice_set nodes node new)) node ≡ Some false
-answered_at nodes node new lt fresh =
-    ap (λ l. slice_get l node) (map-set (λ (n : Held). n.is_stale) nodes node new)
-    ∙ slice_get-get_or (set (stale nodes) node new.is_stale) node true (subst (λ n. node < n) (sym (length-set (stale nodes) node new.is_stale ∙ lists.length-map nodes (λ (n : Held). n.is_stale))) lt)
-    ∙ ap Some (lists.get_or-set_same (stale nodes) node new.is_stale true (subst (λ n. node < n) (sym (lists.length-map nodes (λ (n : Held). n.is_stale))) lt) ∙ fresh)
+-- a node that has an answer, or none, in the place of one
+pub answers_now : (nodes : List Held) (node : ℕ) (new : Held) (is_stale : Bool) → new.is_stale ≡ is_stale → stale (slice_set nodes node new) ≡ slice_set (stale nodes) node is_stale
+answers_now nodes node new is_stale e = map-set (λ (n : Held). n.is_stale) nodes node new ∙ ap (λ b. set (stale nodes) node b) e
 
 -- what a node knows, among the nodes
 pub know_at : (nodes : List Held) (node : ℕ) (old : Held) → node < length nodes → old ≡ get_or nodes node old → old.know ≡ slice_index_or (knows nodes) node empty

@@ -5,7 +5,7 @@ use Rattle.trace_node.specs.Node.{Held}
 use Rattle.trace_world.specs.declared.step.Step.{Step}
 use Rattle.trace_world.specs.declared.step.Step.TheVariants.{Post, Take, Ship, Deliver, Restart}
 use Rattle.trace_world.specs.declared.step.WorldFault.{WorldFault}
-use Rattle.trace_world.specs.declared.step.WorldFault.TheVariants.{Stale}
+use Rattle.trace_world.specs.declared.step.WorldFault.TheVariants.{Memory, NoNode, Stale}
 use Rattle.trace_world.specs.Refusals.{NoneStaler, node_of, stale}
 
 -- A node was to join more. Where that was accepted it had an answer, and has one; at `Stale` it has none; and a refusal
@@ -20,6 +20,13 @@ abbrev pub AnswersAnew : ℕ → Result (Unit {0}) WorldFault → List Bool → 
 AnswersAnew node (Ok done) old new = new ≡ slice_set old node false
 AnswersAnew node (Err Stale) old new = ⊥
 AnswersAnew node (Err fault) old new = new ≡ old
+
+-- A node was to make its answer from what it knows. Where that was accepted it has one; where there was no memory it has none.
+abbrev pub AnswersFresh : ℕ → Result (Unit {0}) WorldFault → List Bool → List Bool → Type 0
+AnswersFresh node (Ok done) old new = new ≡ slice_set old node false
+AnswersFresh node (Err Memory) old new = new ≡ slice_set old node true
+AnswersFresh node (Err NoNode) old new = new ≡ old
+AnswersFresh node (Err fault) old new = ⊥
 
 -- No node was to make an answer, and none has gained or lost one.
 abbrev pub AnswersStill : Result (Unit {0}) WorldFault → List Bool → List Bool → Type 0

@@ -81,8 +81,8 @@ pub(crate) fn refresh<'a>(nodes: &mut Vec<Node<'a>>, node: usize) -> Result<(), 
     ensures knows { knows nodes.new.items ≡ knows nodes.old.items }
     ensures layouts { layouts nodes.new.items ≡ layouts nodes.old.items }
     ensures length { length nodes.new.items ≡ length nodes.old.items }
-    ensures ok { OnOk result (slice_get (stale nodes.new.items) node ≡ Some false) }
-    ensures err { IfErr result (λ fault. fault ≡ WorldFault.Memory) }
+    ensures ok { OnOk result (stale nodes.new.items ≡ slice_set (stale nodes.old.items) node false) }
+    ensures err { IfErr result (λ fault. (fault ≡ WorldFault.Memory) × (stale nodes.new.items ≡ slice_set (stale nodes.old.items) node true)) }
 {
     let place = &mut nodes[node];
     match place.refresh() {

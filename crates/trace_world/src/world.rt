@@ -4,7 +4,7 @@ ghost use Rattle.std.specs.Prelude.{◌≡◌, ◌<◌, ◌≤◌, ◌∷◌, �
 ghost use Rattle.std.specs.FinMap.{empty};
 ghost use Rattle.std.specs.List.{slice_get};
 ghost use Rattle.std.specs.Option.{option_map};
-ghost use Rattle.trace_world.specs.Answers.{AnswersAfter, AnswersAnew, AnswersMore, AnswersStill, LosesOne};
+ghost use Rattle.trace_world.specs.Answers.{AnswersAfter, AnswersAnew, AnswersFresh, AnswersMore, AnswersStill, LosesOne};
 ghost use Rattle.trace_world.specs.Possible.{Allows};
 ghost use Rattle.trace_world.specs.Refusals.{refusal, refusal_there, IsOutcome, IsCountFault, is_done, done, stale, NoneStaler, SameNodes, StopsAt};
 ghost use Rattle.trace_node.specs.Node.{held};
@@ -128,7 +128,7 @@ impl<'a> World<'a> {
     pub fn refresh(&mut self, node: usize) -> Result<(), WorldFault>
         ensures shown { Follows self.old [] self.new }
         ensures ok { OnOk result (node < length self.old.nodes) }
-        ensures answered { OnOk result (slice_get (stale self.new.nodes) node ≡ Some false) }
+        ensures answers { AnswersFresh node result (stale self.old.nodes) (stale self.new.nodes) }
         ensures none { IsErrOf result WorldFault.NoNode ↔ (length self.old.nodes ≤ node) }
         ensures same { SameNodes self.old self.new }
     {
