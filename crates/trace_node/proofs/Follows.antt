@@ -1,18 +1,17 @@
 -- How an index goes on by one rank.
-use Rattle.std.proofs.Common.{◌≡◌, ℕ, suc, ◌+◌, ◌<◌, ◌≤◌, Bool, Option, Some, List, ◌++◌, length, map, get_or, set, refl, sym, ◌∙◌, ap, subst, arith, add-one, zero-add}
+use Rattle.std.proofs.Common.{◌≡◌, ℕ, suc, ◌+◌, ◌<◌, ◌≤◌, Bool, Option, Some, List, length, map, get_or, set, refl, sym, ◌∙◌, ap, subst, arith, add-one, zero-add}
 use Rattle.std.specs.List.{range_with_len, slice_get}
 use Rattle.std.specs.Option.{option_map}
 use Rattle.std.proofs.lemmas.List.FromFn.{length-map-range_with_len, get_or-map-range_with_len, length-range_with_len, get_or-range_with_len}
 use Rattle.std.proofs.lemmas.Option.{slice_get-map, slice_get-get_or}
-use Rattle.mpi_model.specs.declared.event.Event.{Event}
 use Rattle.mpi_model.specs.Layouts.{Parts}
-use Rattle.trace_know.specs.Prefix.{BeginsWith, events_of, prefix_of, is_beyond}
+use Rattle.trace_know.specs.Prefix.{events_of, prefix_of, is_beyond}
 use Rattle.trace_know.specs.View.{View, IsBelow}
-use Rattle.trace_ops.specs.Ops.{Ops, IsOwn, Grows, no_ops}
+use Rattle.trace_ops.specs.Ops.{Ops, no_ops}
 use Rattle.trace_ops.specs.RankOps.{all_ops, ops_by, ops_of}
 use Rattle.trace_node.specs.Answer.{beyond_of, prefixes_of}
 use Rattle.trace_node.specs.Following.{IsFollowing, mixed}
-use Rattle.trace_node.proofs.Mixed.{length-mixed, mixed-all, get_or-mixed, set-mixed, mixed-same}
+use Rattle.trace_node.proofs.Mixed.{length-mixed, mixed-all, set-mixed, mixed-same}
 
 -- what stands at a rank
 rank_at : {X : Type 0} (f : ℕ → X) (n r : ℕ) → r < n → slice_get (map f (range_with_len 0 n)) r ≡ Some (f r)
@@ -38,11 +37,7 @@ module _ (layout : Parts) (know : View) (prefixes : List ℕ) (beyond : List Boo
   pub holds_rank : rank < length held
   holds_rank = let n = ap length f.held_are ∙ length-mixed rank (all_ops layout know) (all_ops layout f.old) alike ∙ wide f.old in omega (arith, n, lt)
 
-  -- the rank's ops are those of the older view
-  pub held_at : get_or held rank no_ops ≡ ops_of layout f.old rank
-  held_at = ap (λ (l : List Ops). get_or l rank no_ops) f.held_are ∙ get_or-mixed rank (all_ops layout know) (all_ops layout f.old) no_ops alike ∙ ops_at f.old
-
-  pub prefix_was : slice_get prefixes rank ≡ Some (prefix_of f.old rank)
+  prefix_was : slice_get prefixes rank ≡ Some (prefix_of f.old rank)
   prefix_was = ap (λ (l : List ℕ). slice_get l rank) f.prefixes_were ∙ rank_at (prefix_of f.old) layout.ranks rank lt
 
   beyond_at : slice_get beyond rank ≡ Some (is_beyond f.old rank)
@@ -73,18 +68,6 @@ module _ (layout : Parts) (know : View) (prefixes : List ℕ) (beyond : List Boo
       let events = unchanged f.old know rank f.below prefix in
       let same : ops_of layout know rank ≡ ops_of layout f.old rank = λ i. ops_by layout rank (more i) (events i) in
       next held (f.held_are ∙ sym (mixed-same rank (all_ops layout know) (all_ops layout f.old) no_ops alike within (ops_at know ∙ same ∙ sym (ops_at f.old))))
-
-  module _ (ops : Ops) (is : ops ≡ ops_of layout know rank)
-      (law : (l : Parts) (r : ℕ) (one other : Bool) (events more : List Event) → Grows (ops_by l r one events) (ops_by l r other (events ++ more))) where
-    pub grows : BeginsWith (events_of know rank) (events_of f.old rank) → Grows (get_or held rank no_ops) ops
-    grows more = subst (λ (o : Ops). Grows o ops) (sym held_at) (subst (λ (o : Ops). Grows (ops_of layout f.old rank) o) (sym is)
-        (subst (λ (events : List Event). Grows (ops_of layout f.old rank) (ops_by layout rank (is_beyond know rank) events)) (sym more.1)
-        (law layout rank (is_beyond f.old rank) (is_beyond know rank) (events_of f.old rank) more.0)))
-
-    pub cuts : BeginsWith (events_of f.old rank) (events_of know rank) → Grows ops (get_or held rank no_ops)
-    cuts more = subst (λ (o : Ops). Grows ops o) (sym held_at) (subst (λ (o : Ops). Grows o (ops_of layout f.old rank)) (sym is)
-        (subst (λ (events : List Event). Grows (ops_of layout know rank) (ops_by layout rank (is_beyond f.old rank) events)) (sym more.1)
-        (law layout rank (is_beyond know rank) (is_beyond f.old rank) (events_of know rank) more.0)))
 
 -- all ranks were followed
 pub all_followed : (layout : Parts) (know : View) (prefixes : List ℕ) (beyond : List Bool) (held : List Ops) →

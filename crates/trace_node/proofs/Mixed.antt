@@ -20,13 +20,6 @@ module _ {X : Type 0} where
   mixed-all (suc done) (x ∷ xs) [] e d = absurd (omega (arith, e))
   mixed-all (suc done) (x ∷ xs) (y ∷ ys) e d = ap (λ (l : List X). x ∷ l) (mixed-all done xs ys (tail_lengths x y xs ys e) (omega (arith, d)))
 
-  -- behind the first ones the other list stands
-  pub get_or-mixed : (done : ℕ) (xs ys : List X) (d : X) → length xs ≡ length ys → get_or (mixed done xs ys) done d ≡ get_or ys done d
-  get_or-mixed zero xs ys d e = refl
-  get_or-mixed (suc done) [] ys d e = refl
-  get_or-mixed (suc done) (x ∷ xs) [] d e = refl
-  get_or-mixed (suc done) (x ∷ xs) (y ∷ ys) d e = get_or-mixed done xs ys d (tail_lengths x y xs ys e)
-
   pub set-mixed : (done : ℕ) (xs ys : List X) (d : X) → length xs ≡ length ys → done < length xs → set (mixed done xs ys) done (get_or xs done d) ≡ mixed (suc done) xs ys
   set-mixed zero [] ys d e lt = absurd (omega (arith, lt))
   set-mixed zero (x ∷ xs) [] d e lt = absurd (omega (arith, e))

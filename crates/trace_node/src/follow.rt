@@ -1,6 +1,6 @@
 //! The index of the pairs, as more is known: ranks whose readable events are as before are passed over.
 
-ghost use Rattle.std.specs.Prelude.{◌≡◌, ◌↔◌, ◌≤◌, ◌<◌, ◌+◌, ℕ, Some, IsTrue, IfOk, OnOk, slice_get};
+ghost use Rattle.std.specs.Prelude.{◌≡◌, ◌<◌, ◌+◌, Some, IsTrue, IfOk, OnOk, slice_get};
 ghost use Rattle.trace_know.specs.Prefix.{is_beyond, prefix_of};
 ghost use Rattle.trace_ops.specs.RankOps.{all_ops};
 ghost use Rattle.trace_node.specs.Following.{IsFollowing};
@@ -10,7 +10,7 @@ use mpi_model::Layout;
 use std::alloc::{AllocError, Global};
 use trace_know::{Knowledge, growth_laws};
 use trace_ops::{all_ops, ops_laws, ops_of};
-use trace_pair::PairIndex;
+use trace_pair::{IndexChange, PairIndex};
 
 /// Whether the rank's readable prefix is as before, and so is whether more is known of it.
 fn is_unchanged(know: &Knowledge, prefixes: &[u64], beyond: &[bool], rank: u32) -> bool
@@ -24,16 +24,6 @@ fn is_unchanged(know: &Knowledge, prefixes: &[u64], beyond: &[bool], rank: u32) 
     }
 }
 
-/// Whether the rank's readable prefix is no shorter than before.
-fn is_longer(know: &Knowledge, prefixes: &[u64], rank: u32) -> bool
-    ensures { (prefix : ℕ) → slice_get prefixes.now rank ≡ Some prefix → IsTrue result ↔ (prefix ≤ prefix_of know.now rank) }
-{
-    match prefixes.get(rank as usize) {
-        Some(prefix) => *prefix <= know.prefix(rank),
-        None => true,
-    }
-}
-
 /// Follows one rank: its calls are added to, or cut back, or left.
 fn follow_rank(
     alloc: Global,
@@ -42,7 +32,7 @@ fn follow_rank(
     prefixes: &[u64],
     beyond: &[bool],
     rank: u32,
-    index: &mut PairIndex,
+    index: &mut IndexChange,
 ) -> Result<(), AllocError>
     requires rank { rank < layout.now.ranks }
     requires follows { IsFollowing layout.now know.now prefixes.now beyond.now rank index.old }
@@ -53,12 +43,7 @@ fn follow_rank(
     if is_unchanged(know, prefixes, beyond, rank) {
         return Ok(());
     }
-    let ops = ops_of(alloc, layout, know, rank)?;
-    if is_longer(know, prefixes, rank) {
-        index.grow(rank, ops)
-    } else {
-        index.cut(rank, ops)
-    }
+    index.set(rank, ops_of(alloc, layout, know, rank)?)
 }
 
 /// The index of all that is known, from that of what was known at an older answer.
@@ -72,7 +57,7 @@ pub(crate) fn followed(
     requires { IsFollowing layout.now know.now before.now.prefixes before.now.beyond 0 index }
     ensures { IfOk result (λ held. held ≡ all_ops layout.now know.now) }
 {
-    let mut index = index;
+    let mut index = index.change();
     for rank in 0..layout.ranks() {
         follow_rank(
             alloc,
@@ -84,7 +69,7 @@ pub(crate) fn followed(
             &mut index,
         )?;
     }
-    Ok(index)
+    index.done()
 }
 
 /// The index of all that is known, from nothing.

@@ -1,5 +1,5 @@
 -- The ops of one rank among those of all.
-use Rattle.std.proofs.Common.{subst, ◌≡◌, ℕ, zero, suc, ◌+◌, ◌<◌, ◌≤◌, List, [], ◌∷◌, ◌++◌, ⊎_elim, sym, refl, ◌∙◌, ap, arith, append_assoc, length, take, drop, get_or, set}
+use Rattle.std.proofs.Common.{subst, ◌≡◌, ℕ, zero, suc, ◌+◌, ◌<◌, ◌≤◌, List, [], ◌∷◌, ◌++◌, ⊎_elim, sym, refl, ◌∙◌, ap, arith, append_assoc, length, take, drop, get_or, set, None}
 use Rattle.std.specs.List.{flat_map}
 use Rattle.std.proofs.lemmas.List.{append-nil, take_more, flat_map_more}
 use Rattle.mpi_model.specs.declared.message.Message.{Message}
@@ -8,7 +8,7 @@ use Rattle.trace_ops.specs.Ops.{Ops, no_ops, IsOwn, AreOwn}
 use Rattle.trace_ops.specs.Order.{Has}
 use Rattle.trace_pair.specs.Calls.{between, IsSequence, IsPosting}
 use Rattle.trace_pair.specs.Followed.{Indexes, Follows}
-use Rattle.trace_pair.specs.Kept.{IsKept}
+use Rattle.trace_pair.specs.Kept.{IsChanging, IsKept}
 use Rattle.trace_pair.specs.Table.{pairs_of, fresh, Table, table_of, postponed_of, sends_of, receives_of}
 use Rattle.trace_pair.specs.declared.matched.Matched.{Matched}
 use Rattle.trace_pair.proofs.Ranks.{has_either}
@@ -99,6 +99,11 @@ kept_fresh held n state table e x t =
       followed = subst (λ (ms : List Message). Indexes ms (receives_of (fresh n)) state) s (subst (λ (qs : List Receive). Indexes [] qs state) r x);
       tabled = t ∙ ap (λ ms. made ms []) s ∙ ap (λ qs. made (sends_of (fresh n)) qs) r;
     })
+
+pub changing_fresh : (held : List Ops) (n : ℕ) (state : Matched) → held ≡ fresh n → Indexes [] [] state → IsChanging held state None
+changing_fresh held n state e x =
+    let kept = kept_fresh held n state (table_of []) e x refl in
+    record { own = kept.own; followed = kept.followed; tabled = tt }
 
 -- the state follows the calls of a rank, wherever they stand among those of the others
 abbrev Moves : Ops → Ops → Matched → Matched → Type 0

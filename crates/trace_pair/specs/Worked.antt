@@ -1,5 +1,5 @@
 -- Worked examples: what the rules say of some small runs. Calls of one communicator 2 unless said otherwise.
-use Rattle.std.specs.Prelude.{◌≡◌, ℕ, Bool, true, false, pos, Option, Some, None, List, [], ◌∷◌}
+use Rattle.std.specs.Prelude.{◌≡◌, ℕ, true, false, pos, Option, Some, None, List, [], ◌∷◌}
 use Rattle.mpi_model.specs.declared.event.OpName.{OpName}
 use Rattle.mpi_model.specs.declared.envelope.Mode.TheVariants.{Standard}
 use Rattle.mpi_model.specs.declared.message.Message.{Message}

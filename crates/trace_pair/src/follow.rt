@@ -1,6 +1,6 @@
 //! The sets of an index, as the calls of one rank become others.
 
-ghost use Rattle.std.specs.Prelude.{◌≡◌, ◌↔◌, ◌≤◌, List, [], OnOk, IsTrue, take, length};
+ghost use Rattle.std.specs.Prelude.{◌≡◌, ◌≢◌, ◌↔◌, ◌≤◌, ◌<◌, List, [], OnOk, IsTrue, take, length, slice_get};
 ghost use Rattle.mpi_model.specs.declared.message.Message.{Message};
 ghost use Rattle.mpi_model.specs.declared.message.Receive.{Receive};
 ghost use Rattle.trace_pair.specs.Calls.{between, IsSequence, IsPosting};
@@ -51,11 +51,12 @@ fn add_messages(state: &mut Matched, held: &[Message], keep: usize) -> Result<()
     Ok(())
 }
 
-/// How many messages the two lists have in common at their front.
+/// How many messages the two lists have in common at their front, and no fewer.
 fn common_messages(a: &[Message], b: &[Message]) -> usize
     ensures first { result ≤ length a.now }
     ensures second { result ≤ length b.now }
     ensures same { take result a.now ≡ take result b.now }
+    ensures longest { result < length a.now → result < length b.now → slice_get a.now result ≢ slice_get b.now result }
 {
     let mut i = 0;
     while i < a.len() && i < b.len() {
@@ -106,11 +107,12 @@ fn add_receives(state: &mut Matched, held: &[Receive], keep: usize) -> Result<()
     Ok(())
 }
 
-/// How many receives the two lists have in common at their front.
+/// How many receives the two lists have in common at their front, and no fewer.
 fn common_receives(a: &[Receive], b: &[Receive]) -> usize
     ensures first { result ≤ length a.now }
     ensures second { result ≤ length b.now }
     ensures same { take result a.now ≡ take result b.now }
+    ensures longest { result < length a.now → result < length b.now → slice_get a.now result ≢ slice_get b.now result }
 {
     let mut i = 0;
     while i < a.len() && i < b.len() {

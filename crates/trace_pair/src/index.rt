@@ -4,6 +4,7 @@ ghost use Rattle.std.specs.Prelude.{◌≡◌, ◌<◌, [], OnOk, OnErr, IfOk, l
 ghost use Rattle.trace_ops.specs.Ops.{IsOwn, AreOwn, Grows, no_ops};
 ghost use Rattle.trace_pair.specs.Certainty.{AreCertain, AreAllTold, AreLegal, AreTheOnlyLegal};
 ghost use Rattle.trace_pair.specs.Followed.{Indexes, Follows};
+ghost use Rattle.trace_pair.specs.Kept.{IsChanging};
 ghost use Rattle.trace_pair.specs.Table.{fresh, table_of};
 
 use crate::follow::{add_rank, set_rank};
@@ -31,6 +32,28 @@ impl Model for PairIndex {
     ghost view = { λ s. s.held.items };
 
     ghost invariant = { λ s. IsKept s.held.items s.state s.table };
+}
+
+/// The pairs of the ops that it holds while several ranks change: their table is made once, at the
+/// end.
+#[derive(Drop)]
+pub struct IndexChange {
+    held: Vec<RankOps>,
+    state: Matched,
+    /// None once a rank has changed.
+    table: Option<PairTable>,
+}
+
+impl Model for IndexChange {
+    ghost use Rattle.std.specs.Prelude.{List};
+    ghost use Rattle.trace_ops.specs.Ops.{Ops};
+    ghost use Rattle.trace_pair.specs.Kept.{IsChanging};
+
+    ghost Value = { List Ops };
+
+    ghost view = { λ s. s.held.items };
+
+    ghost invariant = { λ s. IsChanging s.held.items s.state s.table };
 }
 
 impl PairIndex {
@@ -85,6 +108,18 @@ impl PairIndex {
         self.set(rank, ops)
     }
 
+    /// For changes of several ranks: each costs what is new and one pass over its rank's calls, and
+    /// the table is made once, by [`IndexChange::done`].
+    pub fn change(self) -> IndexChange
+        ensures { result ≡ self }
+    {
+        IndexChange {
+            held: self.held,
+            state: self.state,
+            table: Some(self.table),
+        }
+    }
+
     /// The ops that it holds, those of rank r at place r.
     pub fn ops(&self) -> &[RankOps]
         ensures { result.now ≡ self.now }
@@ -123,6 +158,39 @@ impl PairIndex {
     }
 }
 
+impl IndexChange {
+    /// The rank's ops are these, whatever they were: it did more, or less than was thought. Where
+    /// memory is refused, every rank is without calls.
+    pub fn set(&mut self, rank: u32, ops: RankOps) -> Result<(), AllocError>
+        requires rank { rank < length self.old }
+        requires own { IsOwn rank ops }
+        ensures ok { OnOk result (self.new ≡ slice_set self.old rank ops) }
+        ensures memory { OnErr result (self.new ≡ fresh (length self.old)) }
+    {
+        self.table = None;
+        match set_ops(&mut self.held, &mut self.state, rank, ops) {
+            Ok(()) => Ok(()),
+            Err(error) => {
+                forget(&mut self.held);
+                self.state.clear();
+                Err(error)
+            }
+        }
+    }
+
+    /// The index of the ops that it holds. Where no rank has changed, the table is the old one.
+    pub fn done(self) -> Result<PairIndex, AllocError>
+        ensures { IfOk result (λ index. index ≡ self) }
+    {
+        let table = kept_table(self.table, &self.state, &self.held)?;
+        Ok(PairIndex {
+            held: self.held,
+            state: self.state,
+            table,
+        })
+    }
+}
+
 fn fresh_ops(alloc: Global, ranks: u32) -> Result<Vec<RankOps>, AllocError>
     ensures { IfOk result (λ held. held.items ≡ fresh ranks) }
 {
@@ -145,6 +213,42 @@ fn forget(held: &mut Vec<RankOps>)
     }
 }
 
+/// The table of the held ops, from before or made anew.
+fn kept_table(
+    table: Option<PairTable>,
+    state: &Matched,
+    held: &Vec<RankOps>,
+) -> Result<PairTable, AllocError>
+    requires { IsChanging held.now.items state.now table }
+    ensures { IfOk result (λ t. t ≡ table_of held.now.items) }
+{
+    match table {
+        Some(table) => Ok(table),
+        None => PairTable::of_held(*held.allocator(), state, held),
+    }
+}
+
+/// Makes the rank's ops these, and the state with them.
+fn set_ops(
+    held: &mut Vec<RankOps>,
+    state: &mut Matched,
+    rank: u32,
+    ops: RankOps,
+) -> Result<(), AllocError>
+    requires rank { rank < length held.old.items }
+    requires held { AreOwn 0 held.old.items }
+    requires own { IsOwn rank ops }
+    requires followed { Follows held.old.items state.old }
+    ensures length { length held.new.items ≡ length held.old.items }
+    ensures held { OnOk result (held.new.items ≡ slice_set held.old.items rank ops) }
+    ensures own { OnOk result (AreOwn 0 held.new.items) }
+    ensures state { OnOk result (Follows held.new.items state.new) }
+{
+    set_rank(state, &held[rank as usize], &ops)?;
+    held[rank as usize] = ops;
+    Ok(())
+}
+
 /// Makes the rank's ops these, and the state and the table with them.
 fn follow(
     held: &mut Vec<RankOps>,
@@ -159,12 +263,12 @@ fn follow(
     requires followed { Follows held.old.items state.old }
     ensures length { length held.new.items ≡ length held.old.items }
     ensures held { OnOk result (held.new.items ≡ slice_set held.old.items rank ops) }
+    ensures own { OnOk result (AreOwn 0 held.new.items) }
     ensures state { OnOk result (Follows held.new.items state.new) }
     ensures table { OnOk result (table.new ≡ table_of held.new.items) }
 {
     let alloc = *held.allocator();
-    set_rank(state, &held[rank as usize], &ops)?;
-    held[rank as usize] = ops;
+    set_ops(held, state, rank, ops)?;
     *table = PairTable::empty(alloc);
     *table = PairTable::of_held(alloc, state, held)?;
     Ok(())

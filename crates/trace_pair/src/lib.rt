@@ -8,7 +8,8 @@
 //! [`pair_all`] follows the rules closely and is slow: for large runs take [`PairIndex::of_all`],
 //! which pairs n calls in n log n and whose contract is the same. The index follows the ranks as
 //! they grow and are cut back; one step costs in proportion to what is new, one pass over that
-//! rank's calls, and one over the table.
+//! rank's calls, and one over the table. Where several ranks change, [`PairIndex::change`] takes the
+//! pass over the table once for all of them.
 //!
 //! - [`pair`]: a pair, and the two sides of one
 //! - [`rules`]: the five rules, one by one; [`scratch`]: the pairing straight from them
@@ -33,7 +34,7 @@ mod rules;
 mod scratch;
 mod table;
 
-pub use index::PairIndex;
+pub use index::{IndexChange, PairIndex};
 pub use laws::{pairs_are_certain, pairs_are_the_rules, worked_runs};
 pub use pair::{Pair, Side};
 pub use scratch::pair_all;
