@@ -1,9 +1,9 @@
 //! A sorted set of members for each key, in an ordered map.
-ghost use Rattle.std.specs.Prelude.{◌≡◌, true, false, IfSome, IfNone, OnOk, OnErr, IsTrue, if◌then◌else◌, ◌||◌, ◌&&◌, [], ◌↔◌};
-ghost use Rattle.std.specs.BTreeMap.{IsOrdered};
+ghost use Rattle.std.specs.Prelude.{◌≡◌, true, false, None, IfSome, IfNone, OnOk, OnErr, IsTrue, if◌then◌else◌, ◌||◌, ◌&&◌, [], ◌↔◌};
+ghost use Rattle.std.specs.BTreeMap.{IsOrdered, get};
 ghost use Rattle.std.specs.BTreeSet.{contains};
 ghost use Rattle.std.specs.Ordering.{is_eq, is_gt};
-ghost use Rattle.trace_pair.specs.Groups.{has};
+ghost use Rattle.trace_pair.specs.Groups.{HasMember, has};
 
 use std::alloc::{AllocError, Global};
 use std::collections::{BTreeMap, BTreeSet};
@@ -63,7 +63,8 @@ fn take<T: Ord + Drop>(members: &mut BTreeSet<T>, x: &T)
 
 /// Whether a set has no member.
 fn is_empty<T: Ord + Copy>(members: &BTreeSet<T>) -> bool
-    ensures { IsTrue result → (d : T) → contains T.cmp members.now d ≡ false }
+    ensures none { IsTrue result → (d : T) → contains T.cmp members.now d ≡ false }
+    ensures some { result ≡ false → HasMember T.cmp members.now }
 {
     first_of(members).is_none()
 }
@@ -76,6 +77,7 @@ fn take_from<K: Ord, T: Ord + Copy + Drop>(
 ) -> bool
     ensures dropped { (k : K) (d : T) → has K.cmp T.cmp sets.new k d ≡ (if is_eq (K.cmp key.now k) && is_eq (T.cmp x.now d) then false else has K.cmp T.cmp sets.old k d) }
     ensures none { IsTrue result → (k : K) → is_eq (K.cmp key.now k) ≡ true → (d : T) → has K.cmp T.cmp sets.new k d ≡ false }
+    ensures some { result ≡ false → IfSome (get K.cmp sets.new key.now) (HasMember T.cmp) }
     ensures ordered { IsOrdered K.cmp sets.new }
 {
     match sets.get_mut(key) {
@@ -90,6 +92,7 @@ fn take_from<K: Ord, T: Ord + Copy + Drop>(
 /// Takes out a key, and what stands there.
 fn forget<K: Ord + Drop, T: Ord + Drop>(sets: &mut BTreeMap<K, BTreeSet<T>>, key: &K)
     ensures gone { (k : K) (d : T) → has K.cmp T.cmp sets.new k d ≡ (if is_eq (K.cmp key.now k) then false else has K.cmp T.cmp sets.old k d) }
+    ensures none { get K.cmp sets.new key.now ≡ None }
     ensures ordered { IsOrdered K.cmp sets.new }
 {
     sets.remove(key);
@@ -103,6 +106,7 @@ pub(crate) fn drop_at<K: Ord + Drop, T: Ord + Copy + Drop>(
     x: &T,
 )
     ensures dropped { (k : K) (d : T) → has K.cmp T.cmp sets.new k d ≡ (if is_eq (K.cmp key.now k) && is_eq (T.cmp x.now d) then false else has K.cmp T.cmp sets.old k d) }
+    ensures used { IfSome (get K.cmp sets.new key.now) (HasMember T.cmp) }
     ensures ordered { IsOrdered K.cmp sets.new }
 {
     if !take_from(sets, key, x) {
