@@ -4,8 +4,9 @@ ghost use Rattle.std.specs.Prelude.{◌≡◌, [], List, Some, IfOk, IfErr};
 ghost use Rattle.mpi_model.specs.declared.event.Event.{Event};
 ghost use Rattle.dumpi_calls.specs.Collected.{collected};
 ghost use Rattle.dumpi_calls.specs.Walks.{IsStopped};
-ghost use Rattle.trace_crew.specs.Pieces.{GivesSegments, IsRefusedFor};
+ghost use Rattle.trace_crew.specs.Pieces.{GivesSegments, IsOwn, IsRefusedFor};
 ghost use Rattle.trace_crew.specs.declared.piece.Piece.{Piece as PieceValue};
+ghost use Rattle.trace_crew.specs.declared.piece.PieceFault.TheVariants.{Walk};
 
 use dumpi_calls::{Collect, Memory, WalkCause, WalkFault, walk, whole_texts};
 use dumpi_text::{TextCause, TextFault};
@@ -59,7 +60,8 @@ pub(crate) fn segments_of(alloc: Global, piece: &Piece) -> Result<Vec<Segment>, 
 /// The fault of a piece whose walk was stopped. A text in memory has no reader that fails, so what
 /// isn't the text's own fault is want of memory.
 fn fault_of_walk(fault: WalkFault<Memory>) -> PieceFault
-    ensures { (piece : PieceValue) (held : List Event) → IsStopped collected (Some piece.text.items) [] held fault → IsRefusedFor piece result }
+    ensures own { IsOwn fault.cause → result ≡ Walk fault }
+    ensures cause { (piece : PieceValue) (held : List Event) → IsStopped collected (Some piece.text.items) [] held fault → IsRefusedFor piece result }
 {
     match &fault.cause {
         WalkCause::Text(

@@ -1,6 +1,6 @@
 //! A crew: two workers beside the owner of a node.
 
-ghost use Rattle.std.specs.Prelude.{◌≡◌, ◌++◌, [], List, None, IfOk, OnOk};
+ghost use Rattle.std.specs.Prelude.{◌≡◌, ◌↔◌, ◌⊎◌, ◌++◌, [], List, None, Some, IsTrue, IfOk, OnOk, IsErrOf};
 ghost use Rattle.crossbeam_channel.specs.Claims.{view, IsSeatAt};
 ghost use Rattle.crossbeam_channel.specs.Ends.{receives_on, sends_on};
 ghost use Rattle.mpi_model.specs.Layouts.{Parts};
@@ -11,7 +11,8 @@ ghost use Rattle.trace_inbox.specs.declared.rule.Standing.TheVariants.{Running};
 ghost use Rattle.trace_inbox.specs.declared.rule.View.TheVariants.{Owner, Poster};
 ghost use Rattle.trace_crew.specs.Crewed.{HasRun, IsCrewOut};
 ghost use Rattle.trace_crew.specs.Taking.{Sorted};
-ghost use Rattle.trace_crew.specs.Work.{HasEnded};
+ghost use Rattle.trace_crew.specs.Work.{HasEnded, is_closed};
+ghost use Rattle.trace_crew.specs.declared.threads.CrewFault.TheVariants.{Memory};
 ghost use Rattle.trace_crew.specs.declared.piece.Piece.{Piece as PieceValue};
 
 use crate::gate::Gate;
@@ -55,6 +56,8 @@ pub enum CrewFault {
 }
 
 impl From<AllocError> for CrewFault {
+    ghost from_gives = { λ _ e. e ≡ Memory };
+
     fn from(_error: AllocError) -> CrewFault {
         CrewFault::Memory
     }
@@ -181,7 +184,9 @@ fn run<R: Threads + Wait + Sync, G: Gate, H: Keeper>(
 
 /// Whether both workers have ended; else first whether one found the inbox closed.
 fn all_ended(first: Option<Stop>, second: Option<Stop>) -> Result<(), CrewFault>
-    ensures { OnOk result ((first ≡ None) × (second ≡ None)) }
+    ensures ok { OnOk result ((first ≡ None) × (second ≡ None)) }
+    ensures worker { IsErrOf result CrewFault.Worker ↔ (IsTrue (is_closed first) ⊎ IsTrue (is_closed second)) }
+    ensures memory { IsErrOf result CrewFault.Memory → (first ≡ Some Stop.Memory) ⊎ (second ≡ Some Stop.Memory) }
 {
     match (first, second) {
         (None, None) => Ok(()),

@@ -55,12 +55,12 @@ merge_leaves before after heard Stale why = (heard, why.1)
 pub lead_leaves : (old new : Side) (before after : Held) (r : Result (Unit {0}) ExchangeFault) → Hears old new before after r → LeadLeaves before after r
 lead_leaves old new before after (Ok ok) hears = (hears.0, hears.2)
 lead_leaves old new before after (Err (Merge fault)) hears = merge_leaves before after hears.0 fault hears.2
-lead_leaves old new before after (Err (Read fault)) hears = hears.1
+lead_leaves old new before after (Err (Read fault)) hears = hears.2
 lead_leaves old new before after (Err (Write fault)) hears = absurd hears
 
 pub unheard_leaves : (old new : Side) (before after : Held) (fault : ExchangeFault) → Hears old new before after (Err fault) → FollowLeaves before after (Err fault)
 unheard_leaves old new before after (Merge fault) hears = merge_leaves before after hears.0 fault hears.2
-unheard_leaves old new before after (Read fault) hears = hears.1
+unheard_leaves old new before after (Read fault) hears = hears.2
 unheard_leaves old new before after (Write fault) hears = absurd hears
 
 -- ---- what a node knows grows

@@ -10,7 +10,7 @@ use Rattle.trace_wire.specs.declared.fault.WireFault.{WireFault}
 use Rattle.trace_wire.specs.declared.fault.WireFault.TheVariants as wires
 use Rattle.trace_wire.specs.FirstFault.{frame_at}
 use Rattle.trace_wire.specs.Frames.{frame_of}
-use Rattle.trace_wire.specs.Reading.{IsUnread}
+use Rattle.trace_wire.specs.Reading.{IsUnread, StaysWithin}
 use Rattle.trace_exchange.specs.declared.fault.ExchangeFault.{ExchangeFault}
 use Rattle.trace_exchange.specs.declared.fault.ExchangeFault.TheVariants.{Write, Read, Merge}
 use Rattle.trace_exchange.specs.Exchange.{Wrote, FailsToWrite, Got, Hears}
@@ -107,11 +107,14 @@ unread_after a b now wires.Order leaves why = no_frame_after a b now (blames wir
 unread_after a b now wires.Content leaves why = no_frame_after a b now (blames wires.Content) leaves why
 unread_after a b now wires.Rest leaves why = no_frame_after a b now (blames wires.Rest) leaves why
 
+within_after : (a b c : Side) → LeavesSide a b → StaysWithin b.bytes c.bytes → StaysWithin a.bytes c.bytes
+within_after a b c leaves within = (within.0, within.1, consumes_after a.bytes b.bytes c.bytes within.0 leaves.bytes within.2)
+
 -- What a node heard after a write, it heard of the stream as it was before.
 pub hears_after : (a b c : Side) (before after : Held) (r : Result (Unit {0}) ExchangeFault) → LeavesSide a b → Hears b c before after r → Hears a c before after r
 hears_after a b c before after (Ok ok) leaves hears = (hears.0, got_after a b c hears.0 leaves hears.1, hears.2)
 hears_after a b c before after (Err (Merge fault)) leaves hears = (hears.0, got_after a b c hears.0 leaves hears.1, hears.2)
-hears_after a b c before after (Err (Read fault)) leaves hears = (unread_after a b c.failures fault leaves hears.0, hears.1)
+hears_after a b c before after (Err (Read fault)) leaves hears = (unread_after a b c.failures fault leaves hears.0, within_after a b c leaves hears.1, hears.2)
 hears_after a b c before after (Err (Write fault)) leaves hears = absurd hears
 
 -- ---- both halves

@@ -9,7 +9,7 @@ use Rattle.trace_node.specs.declared.fault.NodeFault.TheVariants.{Rank, Memory, 
 use Rattle.trace_node.specs.Node.{Held, HasStranger, held}
 use Rattle.trace_wire.specs.declared.fault.WireFault.{WireFault}
 use Rattle.trace_wire.specs.Frames.{HasFrame, frame_of}
-use Rattle.trace_wire.specs.Reading.{IsUnread}
+use Rattle.trace_wire.specs.Reading.{IsUnread, StaysWithin}
 use Rattle.trace_wire.specs.Writing.{IsUnwritten}
 use Rattle.trace_exchange.specs.declared.fault.ExchangeFault.{ExchangeFault}
 use Rattle.trace_exchange.specs.declared.fault.ExchangeFault.TheVariants.{Write, Read, Merge}
@@ -51,12 +51,12 @@ IsUnmerged before heard after Stale = (HasStranger before.layout heard → ⊥) 
 
 -- ---- an exchange
 
--- A frame was read, and the node joined what it tells; or the node refused that; or no frame was read, and the node is as
--- it was.
+-- A frame was read, and the node joined what it tells; or the node refused that; or no frame was read and no byte past it,
+-- and the node is as it was.
 abbrev pub Hears : Side → Side → Held → Held → Result (Unit {0}) ExchangeFault → Type 0
 Hears old new before after (Ok ok) = (heard : View) × Got old new heard × Learns before heard after
 Hears old new before after (Err (Merge fault)) = (heard : View) × Got old new heard × IsUnmerged before heard after fault
-Hears old new before after (Err (Read fault)) = IsUnread old.bytes old.failures new.failures fault × (after ≡ before)
+Hears old new before after (Err (Read fault)) = IsUnread old.bytes old.failures new.failures fault × StaysWithin old.bytes new.bytes × (after ≡ before)
 Hears old new before after (Err (Write fault)) = ⊥
 
 -- The leader's frame was written, and then it heard. Where the write was refused, nothing was read, and the node is as it

@@ -2,7 +2,7 @@
 
 ghost use Rattle.std.specs.Prelude.{◌≡◌, [], List, IfOk, IfSome, IfNone, OnOk, OnErr};
 ghost use Rattle.crossbeam_channel.specs.Claims.{view, IsSeatAt};
-ghost use Rattle.crossbeam_channel.specs.Ends.{receives_on, sends_on};
+ghost use Rattle.crossbeam_channel.specs.Ends.{receives_on, ruled_capacity, sends_on};
 ghost use Rattle.trace_inbox.specs.Rule.{Arrived};
 ghost use Rattle.trace_inbox.specs.Views.{IsOwner, IsPoster, IsWithout, after_join, after_make, after_post, after_take, desk};
 ghost use Rattle.trace_inbox.specs.declared.item.Worker.TheVariants.{First, Second};
@@ -28,6 +28,7 @@ pub struct Closed;
 /// An empty inbox, with the owner's seat. No worker is made yet.
 pub fn open(alloc: Global) -> Result<(InboxSender, InboxReceiver, Seat), AllocError>
     ensures channel { IfOk result (λ r. receives_on r.1 ≡ sends_on r.0) }
+    ensures places { IfOk result (λ r. ruled_capacity (sends_on r.0) ≡ 8) }
     ensures seat { IfOk result (λ r. IsSeatAt (sends_on r.0) r.2) }
     ensures owner { IfOk result (λ r. view r.2 ≡ Owner (desk [] Unmade Unmade)) }
 {

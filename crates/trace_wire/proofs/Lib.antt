@@ -9,3 +9,4 @@ pub mod Heads
 pub mod Sending
 pub mod Lengths
 pub mod OwnCells
+pub mod Taking

@@ -3,7 +3,7 @@
 ghost use Rattle.std.specs.Prelude.{◌≡◌, OnOk, IfOk, IfErr};
 ghost use Rattle.std.specs.FinMap.{entries};
 ghost use Rattle.mpi_model.specs.Side.{LeavesSide};
-ghost use Rattle.trace_wire.specs.Reading.{ReadsFrame, IsUnread};
+ghost use Rattle.trace_wire.specs.Reading.{ReadsFrame, IsUnread, StaysWithin};
 
 pub(crate) mod cells;
 pub(crate) mod event;
@@ -27,6 +27,7 @@ pub fn read_frame<R: Read>(alloc: Global, reader: &mut R) -> Result<Knowledge, W
     ensures ok { IfOk result (λ k. ReadsFrame (R.left reader.old) (R.left reader.new) (entries k)) }
     ensures no_failure { OnOk result (R.failures reader.new ≡ R.failures reader.old) }
     ensures err { IfErr result (λ fault. IsUnread (R.left reader.old) (R.failures reader.old) (R.failures reader.new) fault) }
+    ensures taken { StaysWithin (R.left reader.old) (R.left reader.new) }
     ensures beside { LeavesSide (R.write_side reader.old) (R.write_side reader.new) }
 {
     let mut head = [0_u8; 10];

@@ -9,8 +9,8 @@ use Rattle.trace_crew.proofs.threads.finish.Goals as goal
 
 pub returns : goal.returns
 returns g c layout first second h =
-    let one = h.first_ended c.in_ok-all_ended.ensures.0 in
-    let other = h.second_ended c.in_ok-all_ended.ensures.1 in
+    let one = h.first_ended c.in_ok-all_ended.ensures.ok.0 in
+    let other = h.second_ended c.in_ok-all_ended.ensures.ok.1 in
     let owner : view c.join_both.new.owner ≡ Owner (desk h.taken (Joined (posts_of First one.segments)) (Joined (posts_of Second other.segments))) =
     c.join_both.ensures.joined ∙ (λ i. after_join (after_join (h.owner_is i) (one.posted i)) (other.posted i)) in
     crewed layout first second _ _ _ one.segments other.segments one.gave other.gave (c.in_ok-drain.ensures layout h.taken _ _ owner h.sorted) c.in_ok-faults.ensures

@@ -5,6 +5,7 @@ use Rattle.trace_wire.specs.Outcomes.{FailsWith}
 use Rattle.trace_wire.specs.Reading.{IsUnfilled}
 use Rattle.trace_wire.specs.Forms.{IsBytes}
 use Rattle.trace_wire.proofs.Heads.{no_head, bad_head, no_body, bad_body, whole_frame}
+use Rattle.trace_wire.proofs.Taking.{within_frame}
 use Rattle.trace_wire.proofs.read.read_frame.Goals as goal
 
 pub returns-in-Err-clause-err : goal.returns-in-Err-clause-err
@@ -39,3 +40,18 @@ returns-clause-ok g c =
     let bytes : IsBytes items = subst (λ (t : List ℕ). IsBytes t) c.deref.ensures.value c.are_bytes-2.ensures in
     whole_frame _ (g.R.Read.left c.fill.new.reader) (g.R.Read.left c.read_bytes.new.reader) c.fill.new.buffer items c.in-Ok-payload_len.found es len c.are_bytes.ensures bytes c.in-Ok.ensures.ok c.in-Ok-payload_len.ensures.value
     c.in-Ok-read_bytes.ensures.ok.0 c.in-Ok-read_bytes.ensures.ok.1 is
+
+pub returns-in-Err-read_bytes-clause-taken : goal.returns-in-Err-read_bytes-clause-taken
+returns-in-Err-read_bytes-clause-taken g c =
+    let len : length c.fill.new.buffer ≡ 10 = search rules in
+    within_frame _ (g.R.Read.left c.fill.new.reader) _ c.fill.new.buffer c.in-Ok-payload_len.found len c.in-Ok.ensures.ok c.in-Ok-payload_len.ensures.value c.in-Err-read_bytes.ensures.taken
+
+pub returns-in-Err-read_cells-clause-taken : goal.returns-in-Err-read_cells-clause-taken
+returns-in-Err-read_cells-clause-taken g c =
+    let len : length c.fill.new.buffer ≡ 10 = search rules in
+    within_frame _ (g.R.Read.left c.fill.new.reader) _ c.fill.new.buffer c.in-Ok-payload_len.found len c.in-Ok.ensures.ok c.in-Ok-payload_len.ensures.value c.in-Ok-read_bytes.ensures.taken
+
+pub returns-clause-taken : goal.returns-clause-taken
+returns-clause-taken g c =
+    let len : length c.fill.new.buffer ≡ 10 = search rules in
+    within_frame _ (g.R.Read.left c.fill.new.reader) _ c.fill.new.buffer c.in-Ok-payload_len.found len c.in-Ok.ensures.ok c.in-Ok-payload_len.ensures.value c.in-Ok-read_bytes.ensures.taken
