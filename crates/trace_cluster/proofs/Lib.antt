@@ -1,1 +1,5 @@
+pub mod Lists
+pub mod Taking
+pub mod Finding
 pub mod Owning
+pub mod Stopping

@@ -1,7 +1,7 @@
 //! Why a cluster leaves nothing.
 
 ghost use Rattle.std.specs.Prelude.{◌≡◌};
-ghost use Rattle.trace_cluster.specs.Refused.{of_crew};
+ghost use Rattle.trace_cluster.specs.Crews.{of_crew};
 
 use thiserror::Error;
 use trace_crew::{CrewFault, PieceFault};

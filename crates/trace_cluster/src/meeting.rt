@@ -2,7 +2,7 @@
 
 ghost use Rattle.std.specs.Prelude.{◌≡◌, IfOk, IfErr, OnOk, Ok};
 ghost use Rattle.trace_cluster.specs.Meeting.{IsMore};
-ghost use Rattle.trace_cluster.specs.Refused.{IsOfMeeting};
+ghost use Rattle.trace_cluster.specs.Crews.{IsOfMeeting};
 
 use crate::fault::ClusterFault;
 use crate::peer::Peer;

@@ -2,7 +2,8 @@
 
 ghost use Rattle.std.specs.Prelude.{IfOk, IfErr};
 ghost use Rattle.trace_cluster.specs.Clustered.{KnowsOwn};
-ghost use Rattle.trace_cluster.specs.Refused.{IsRefusedFor};
+ghost use Rattle.trace_cluster.specs.Pieces.{all_pieces};
+ghost use Rattle.trace_cluster.specs.Stopped.{IsStopped};
 
 use crate::crews::{crew_of, nodes_of};
 use crate::fault::ClusterFault;
@@ -32,7 +33,7 @@ pub fn cluster<
     second: &Workload,
 ) -> Result<(Node<'a>, Node<'a>), ClusterFault>
     ensures ok { IfOk result (λ nodes. KnowsOwn layout.now first.now nodes.0 × KnowsOwn layout.now second.now nodes.1) }
-    ensures err { IfErr result (λ fault. IsRefusedFor layout.now first.now second.now fault) }
+    ensures err { IfErr result (λ fault. IsStopped layout.now (all_pieces first.now second.now) fault) }
 {
     join_laws();
     view_laws();
