@@ -11,7 +11,8 @@ use Rattle.trace_cluster.specs.Pieces.{IsWhole, Placed, pieces_of, placed, place
 use Rattle.trace_cluster.specs.Stopped.{IsFirstFault}
 use Rattle.trace_cluster.proofs.Lists.{back, contains_first, contains_none, front, same_first}
 
-abbrev Faults : Type 0
+-- the faults of pieces with their workers and places
+abbrev pub Faults : Type 0
 Faults = List (ℕ × ℕ × PieceFault)
 
 -- ---- pieces without a fault
@@ -45,8 +46,8 @@ pub node_found : (P : PlacedEvents → Type 0) (node : ℕ) (load : Workload) (o
     → All (λ (q : Placed). Found P q.piece) (pieces_of node load)
 node_found P node load ones others faults faults' gave gave' none none' h h' =
     All-append (λ (q : Placed). Found P q.piece) (placed_from node 0 0 load.first.items) (placed_from node 1 0 load.second.items)
-        (all_placed (Found P) node 0 0 load.first.items (all_found P 0 load.first.items ones faults gave none h))
-        (all_placed (Found P) node 1 0 load.second.items (all_found P 1 load.second.items others faults' gave' none' h'))
+    (all_placed (Found P) node 0 0 load.first.items (all_found P 0 load.first.items ones faults gave none h))
+    (all_placed (Found P) node 1 0 load.second.items (all_found P 1 load.second.items others faults' gave' none' h'))
 
 abbrev Any : PlacedEvents → Type 0
 Any s = Unit {0}
@@ -61,13 +62,13 @@ AreWhole all = All (λ (q : Placed). IsWhole q.piece) all
 worker_whole : (node worker : ℕ) (pieces : List Piece) (segments : List PlacedEvents) (faults : Faults) → Gave worker pieces segments faults → faults ≡ [] → AreWhole (placed_from node worker 0 pieces)
 worker_whole node worker pieces segments faults gave none =
     All-weaker (λ (q : Placed). Found Any q.piece) (λ (q : Placed). IsWhole q.piece) (λ q h. (h.0, h.1)) (placed_from node worker 0 pieces)
-        (all_placed (Found Any) node worker 0 pieces (all_found Any worker pieces segments faults gave none (any segments)))
+    (all_placed (Found Any) node worker 0 pieces (all_found Any worker pieces segments faults gave none (any segments)))
 
 pub node_whole : (node : ℕ) (load : Workload) (ones others : List PlacedEvents) (faults faults' : Faults) → Gave 0 load.first.items ones faults → Gave 1 load.second.items others faults'
     → faults ≡ [] → faults' ≡ [] → AreWhole (pieces_of node load)
 node_whole node load ones others faults faults' gave gave' none none' =
     All-append (λ (q : Placed). IsWhole q.piece) (placed_from node 0 0 load.first.items) (placed_from node 1 0 load.second.items)
-        (worker_whole node 0 load.first.items ones faults gave none) (worker_whole node 1 load.second.items others faults' gave' none')
+    (worker_whole node 0 load.first.items ones faults gave none) (worker_whole node 1 load.second.items others faults' gave' none')
 
 -- ---- the first fault
 
@@ -102,18 +103,18 @@ first_from node worker place [] (o ∷ os) f rest are e = absurd are
 first_from node worker place (p ∷ ps) [] f rest are e = absurd are
 first_from node worker place (p ∷ ps) (Ok s ∷ os) f rest are e =
     behind (placed node worker place p ∷ []) (placed_from node worker (place + 1) ps) node f.0 f.1 f.2
-        (All-cons (λ (q : Placed). IsWhole q.piece) (placed node worker place p) [] (s, are.0) (All-nil (λ (q : Placed). IsWhole q.piece)))
-        (first_from node worker (place + 1) ps os f rest are.1 e)
+    (All-cons (λ (q : Placed). IsWhole q.piece) (placed node worker place p) [] (s, are.0) (All-nil (λ (q : Placed). IsWhole q.piece)))
+    (first_from node worker (place + 1) ps os f rest are.1 e)
 first_from node worker place (p ∷ ps) (Err g ∷ os) f rest are e =
     subst (λ (q : ℕ × ℕ × PieceFault). IsFirstFault (placed_from node worker place (p ∷ ps)) node q.0 q.1 q.2) (same_first (worker, place, g) f (faults_from worker (place + 1) os) rest e)
-        (record {
-          before = [];
-          piece = p;
-          after = placed_from node worker (place + 1) ps;
-          all_are = refl;
-          whole = All-nil (λ (q : Placed). IsWhole q.piece);
-          why = are.0;
-        })
+    (record {
+      before = [];
+      piece = p;
+      after = placed_from node worker (place + 1) ps;
+      all_are = refl;
+      whole = All-nil (λ (q : Placed). IsWhole q.piece);
+      why = are.0;
+    })
 
 first_of_worker : (node worker : ℕ) (pieces : List Piece) (segments : List PlacedEvents) (faults : Faults) (f : ℕ × ℕ × PieceFault) (rest : Faults) → Gave worker pieces segments faults → faults ≡ f ∷ rest
     → IsFirstFault (placed_from node worker 0 pieces) node f.0 f.1 f.2
@@ -124,11 +125,11 @@ pub first_of_node : (node : ℕ) (load : Workload) (ones others : List PlacedEve
     → Gave 0 load.first.items ones faults → Gave 1 load.second.items others faults' → faults ++ faults' ≡ f ∷ rest → IsFirstFault (pieces_of node load) node f.0 f.1 f.2
 first_of_node node load ones others [] faults' f rest gave gave' e =
     behind (placed_from node 0 0 load.first.items) (placed_from node 1 0 load.second.items) node f.0 f.1 f.2
-        (worker_whole node 0 load.first.items ones [] gave refl) (first_of_worker node 1 load.second.items others faults' f rest gave' e)
+    (worker_whole node 0 load.first.items ones [] gave refl) (first_of_worker node 1 load.second.items others faults' f rest gave' e)
 first_of_node node load ones others (g ∷ gs) faults' f rest gave gave' e =
     ahead (placed_from node 0 0 load.first.items) (placed_from node 1 0 load.second.items) node f.0 f.1 f.2
-        (subst (λ (q : ℕ × ℕ × PieceFault). IsFirstFault (placed_from node 0 0 load.first.items) node q.0 q.1 q.2) (same_first g f (gs ++ faults') rest e)
-            (first_of_worker node 0 load.first.items ones (g ∷ gs) g gs gave refl))
+    (subst (λ (q : ℕ × ℕ × PieceFault). IsFirstFault (placed_from node 0 0 load.first.items) node q.0 q.1 q.2) (same_first g f (gs ++ faults') rest e)
+    (first_of_worker node 0 load.first.items ones (g ∷ gs) g gs gave refl))
 
 -- ---- the piece of a segment
 
@@ -146,10 +147,10 @@ of_piece_from node worker place (p ∷ ps) (Err f ∷ os) s are h =
     (r.0, Contains-append_right (placed node worker place p ∷ []) (placed_from node worker (place + 1) ps) r.0 r.1, r.2)
 of_piece_from node worker place (p ∷ ps) (Ok g ∷ os) s are h =
     ⊎_elim (λ (x : Contains g s). (placed node worker place p, contains_first (placed node worker place p) (placed_from node worker (place + 1) ps), (g, are.0, x)))
-        (λ (x : Contains (flat_map segments_in os) s).
-            let r = of_piece_from node worker (place + 1) ps os s are.1 x in
-            (r.0, Contains-append_right (placed node worker place p ∷ []) (placed_from node worker (place + 1) ps) r.0 r.1, r.2))
-        (Contains-append_cases g (flat_map segments_in os) s h)
+    (λ (x : Contains (flat_map segments_in os) s).
+    let r = of_piece_from node worker (place + 1) ps os s are.1 x in
+    (r.0, Contains-append_right (placed node worker place p ∷ []) (placed_from node worker (place + 1) ps) r.0 r.1, r.2))
+    (Contains-append_cases g (flat_map segments_in os) s h)
 
 of_worker : (node worker : ℕ) (pieces : List Piece) (segments : List PlacedEvents) (faults : Faults) (s : PlacedEvents) → Gave worker pieces segments faults → Contains segments s
     → IsOfPiece (placed_from node worker 0 pieces) s

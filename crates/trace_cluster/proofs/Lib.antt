@@ -3,3 +3,4 @@ pub mod Taking
 pub mod Finding
 pub mod Owning
 pub mod Stopping
+pub mod Ending

@@ -1,5 +1,5 @@
 -- Lists: what holds of each element, and what stands in front.
-use Rattle.std.proofs.Common.{◌≡◌, ◌≤◌, ◌<◌, ℕ, zero, suc, List, [], ◌∷◌, ◌++◌, length, refl, arith}
+use Rattle.std.proofs.Common.{◌≡◌, ◌≤◌, ◌<◌, ℕ, zero, suc, Result, Ok, Err, IfOk, IfErr, List, [], ◌∷◌, ◌++◌, length, refl, arith}
 use Rattle.std.specs.List.{AllByRecursion, Contains}
 
 pub nil_first : {T : Type 0} (xs ys : List T) → xs ++ ys ≡ [] → xs ≡ []
@@ -27,3 +27,14 @@ contains_first x xs = (0, omega arith, refl)
 
 pub contains_none : {T : Type 0} (x : T) → Contains [] x → ⊥
 contains_none x c = absurd (omega (arith, c.1))
+
+-- ---- answers
+
+-- what holds of an answer, where something follows from it
+pub given : {T E : Type 0} {P Q : T → Type 0} (r : Result T E) → ((x : T) → P x → Q x) → IfOk r P → IfOk r Q
+given (Ok x) f h = f x h
+given (Err e) f h = tt
+
+pub given_not : {T E : Type 0} {P Q : E → Type 0} (r : Result T E) → ((e : E) → P e → Q e) → IfErr r P → IfErr r Q
+given_not (Ok x) f h = tt
+given_not (Err e) f h = f e h

@@ -33,14 +33,13 @@ abbrev IsKnown : View → PlacedEvents → Type 0
 IsKnown know segment = IsBelow (view_of (facts_of segment)) know
 
 module _
-  (associative : (a b c : View) → join (join a b) c ≡ join a (join b c))
-  (unit : (a : View) → join a empty ≡ a)
-  (above_one : (a b : View) → IsBelow a (join a b))
-  (above_other : (a b : View) → IsBelow b (join a b))
-  (least : (a b c : View) → IsBelow a c → IsBelow b c → IsBelow (join a b) c)
-  (below : (a b : View) → IsBelow b a → join a b ≡ a)
-  (union : (a b : Trace) → view_of (a ++ b) ≡ join (view_of a) (view_of b)) where
-
+    (associative : (a b c : View) → join (join a b) c ≡ join a (join b c))
+    (unit : (a : View) → join a empty ≡ a)
+    (above_one : (a b : View) → IsBelow a (join a b))
+    (above_other : (a b : View) → IsBelow b (join a b))
+    (least : (a b c : View) → IsBelow a c → IsBelow b c → IsBelow (join a b) c)
+    (below : (a b : View) → IsBelow b a → join a b ≡ a)
+    (union : (a b : Trace) → view_of (a ++ b) ≡ join (view_of a) (view_of b)) where
   below_both : (a b c : View) → IsBelow a b → IsBelow b c → IsBelow a c
   below_both a b c h h' =
       let e : join c a ≡ c = ap (λ (v : View). join v a) (sym (below c b h')) ∙ associative c b a ∙ ap (λ (v : View). join c v) (below b a h) ∙ below c b h' in
@@ -73,7 +72,7 @@ module _
       → All (KnowsPiece know) pieces
   worker_known know worker pieces segments faults gave none h =
       All-weaker (Found (IsKnown know)) (KnowsPiece know) (λ p f. (f.0, f.1, all_known f.0 know f.2)) pieces
-          (All-from_recursion (Found (IsKnown know)) pieces (all_found (IsKnown know) worker pieces segments faults gave none h))
+      (All-from_recursion (Found (IsKnown know)) pieces (all_found (IsKnown know) worker pieces segments faults gave none h))
 
   -- A node knows its own pieces, where its crew left no fault and no refused segment, and it has kept what it knew.
   pub knows_own : (layout : Parts) (load : Workload) (out : CrewOut) (node : Held) → IsCrewOut layout load.first.items load.second.items out → out.faults.items ≡ [] → out.refused.items ≡ [] → IsMore out.node node

@@ -1,5 +1,5 @@
 -- What stops a cluster among what its crews leave, as of its pieces.
-use Rattle.std.proofs.Common.{◌≡◌, ◌≤◌, ◌<◌, ℕ, List, [], ◌∷◌, ◌++◌, Some, refl, sym, ap, ◌∙◌, subst, ⊎_elim}
+use Rattle.std.proofs.Common.{◌≡◌, ◌≤◌, ◌<◌, ℕ, List, [], ◌∷◌, ◌++◌, Some, refl, sym, ap, ◌∙◌, subst, ⊎_elim, inl, inr}
 use Rattle.std.specs.Prelude.{◌⊎◌}
 use Rattle.std.specs.List.{All, AllByRecursion, Contains, flat_map}
 use Rattle.std.proofs.lemmas.List.Elements.{All-append, All-from_recursion, All-weaker, Contains-append_left, Contains-append_right, recursion_from_All}
@@ -16,7 +16,8 @@ use Rattle.trace_crew.specs.declared.threads.CrewOut.{CrewOut}
 use Rattle.trace_crew.specs.Crewed.{IsCrewOut, segments_by}
 use Rattle.trace_crew.specs.Taking.{IsFair, IsFairFor, Refusal, refused_in}
 use Rattle.trace_cluster.specs.declared.fault.ClusterFault.{ClusterFault}
-use Rattle.trace_cluster.specs.declared.fault.ClusterFault.TheVariants.{Worker, Memory, Piece, Node, Net, Lead, Follow}
+use Rattle.trace_cluster.specs.declared.fault.ClusterFault.TheVariants.{Memory, Piece, Node, Net, Lead, Follow}
+use Rattle.trace_cluster.specs.declared.fault.ClusterFault.TheVariants as causes
 use Rattle.trace_cluster.specs.declared.workload.Workload.{Workload}
 use Rattle.trace_cluster.specs.Crews.{AreClean, AreFaultless, IsFirstPiece, IsFirstRefusal, IsOfMeeting, StopsAt, of_crew}
 use Rattle.trace_cluster.specs.Pieces.{IsForeign, IsWhole, IsWithin, Placed, all_pieces, pieces_of}
@@ -35,7 +36,7 @@ whole : (layout : Parts) (node : ℕ) (load : Workload) (out : CrewOut) → Left
 whole layout node load out is none =
     let e : is.first_faults ++ is.second_faults ≡ [] = sym is.faults ∙ none in
     node_whole node load (segments_by First is.taken) (segments_by Second is.taken) is.first_faults is.second_faults is.first_gave is.second_gave
-        (nil_first is.first_faults is.second_faults e) (nil_rest is.first_faults is.second_faults e)
+    (nil_first is.first_faults is.second_faults e) (nil_rest is.first_faults is.second_faults e)
 
 first_fault : (layout : Parts) (node : ℕ) (load : Workload) (out : CrewOut) (f : ℕ × ℕ × PieceFault) (rest : Faults) → Left layout load out → out.faults.items ≡ f ∷ rest
     → IsFirstFault (pieces_of node load) node f.0 f.1 f.2
@@ -52,8 +53,8 @@ within layout node load out is none joined =
     let P : PlacedEvents → Type 0 = λ s. s.rank < layout.ranks in
     let ranks = all_in_ranks layout is.taken (recursion_from_All (IsFair layout) is.taken is.fair) (sym is.refused ∙ joined) in
     All-weaker (λ (q : Placed). Found P q.piece) (λ (q : Placed). IsWithin layout q.piece) (λ q h. (h.0, h.1, All-from_recursion P h.0 h.2)) (pieces_of node load)
-        (node_found P node load (segments_by First is.taken) (segments_by Second is.taken) is.first_faults is.second_faults is.first_gave is.second_gave
-            (nil_first is.first_faults is.second_faults e) (nil_rest is.first_faults is.second_faults e) (by_worker P First is.taken ranks) (by_worker P Second is.taken ranks))
+    (node_found P node load (segments_by First is.taken) (segments_by Second is.taken) is.first_faults is.second_faults is.first_gave is.second_gave
+    (nil_first is.first_faults is.second_faults e) (nil_rest is.first_faults is.second_faults e) (by_worker P First is.taken ranks) (by_worker P Second is.taken ranks))
 
 -- one of these pieces gave a segment of a rank that the layout lacks
 abbrev HasForeign : Parts → List Placed → Type 0
@@ -95,7 +96,7 @@ refusal_of layout first second one other [] others r rest is is' e e' at =
     refusal_right layout (pieces_of 0 first) (pieces_of 1 second) r.2 (first_refusal layout 1 second other r rest is' (e' ∙ at))
 refusal_of layout first second one other (q ∷ qs) others r rest is is' e e' at =
     refusal_left layout (pieces_of 0 first) (pieces_of 1 second) r.2
-        (subst (λ (x : Refusal). IsRefusal layout (pieces_of 0 first) x.2) (same_first q r (qs ++ others) rest at) (first_refusal layout 0 first one q qs is e))
+    (subst (λ (x : Refusal). IsRefusal layout (pieces_of 0 first) x.2) (same_first q r (qs ++ others) rest at) (first_refusal layout 0 first one q qs is e))
 
 all_whole : (layout : Parts) (first second : Workload) (one other : CrewOut) → Left layout first one → Left layout second other → one.faults.items ≡ [] → other.faults.items ≡ [] → AreWhole (all_pieces first second)
 all_whole layout first second one other is is' none none' =
@@ -108,24 +109,24 @@ stopped layout first second one other fault is is' stops =
     let all = all_pieces first second in
     let P : ClusterFault → Type 0 = λ f. IsStopped layout all f in
     ⊎_elim
-        (λ (h : IsFirstPiece 0 one.faults.items fault).
-            subst P (sym h.3) (ahead (pieces_of 0 first) (pieces_of 1 second) 0 h.0.0 h.0.1 h.0.2 (first_fault layout 0 first one h.0 h.1 is h.2)))
-        (λ (later : ((one.faults.items ≡ []) × IsFirstPiece 1 other.faults.items fault) ⊎ (AreFaultless one other × IsFirstRefusal (one.refused.items ++ other.refused.items) fault)).
-            ⊎_elim
-                (λ (h : (one.faults.items ≡ []) × IsFirstPiece 1 other.faults.items fault).
-                    let f = h.1 in
-                    subst P (sym f.3) (behind (pieces_of 0 first) (pieces_of 1 second) 1 f.0.0 f.0.1 f.0.2 (whole layout 0 first one is h.0) (first_fault layout 1 second other f.0 f.1 is' f.2)))
-                (λ (h : AreFaultless one other × IsFirstRefusal (one.refused.items ++ other.refused.items) fault).
-                    let f = h.1 in
-                    subst P (sym f.3) (
-                      all_whole layout first second one other is is' h.0.0 h.0.1,
-                      refusal_of layout first second one other one.refused.items other.refused.items f.0 f.1 is is' refl refl f.2,
-                    ))
-                later)
-        stops
+    (λ (h : IsFirstPiece 0 one.faults.items fault).
+    subst P (sym h.3) (ahead (pieces_of 0 first) (pieces_of 1 second) 0 h.0.0 h.0.1 h.0.2 (first_fault layout 0 first one h.0 h.1 is h.2)))
+    (λ (later : ((one.faults.items ≡ []) × IsFirstPiece 1 other.faults.items fault) ⊎ (AreFaultless one other × IsFirstRefusal (one.refused.items ++ other.refused.items) fault)).
+    ⊎_elim
+    (λ (h : (one.faults.items ≡ []) × IsFirstPiece 1 other.faults.items fault).
+    let f = h.1 in
+    subst P (sym f.3) (behind (pieces_of 0 first) (pieces_of 1 second) 1 f.0.0 f.0.1 f.0.2 (whole layout 0 first one is h.0) (first_fault layout 1 second other f.0 f.1 is' f.2)))
+    (λ (h : AreFaultless one other × IsFirstRefusal (one.refused.items ++ other.refused.items) fault).
+    let f = h.1 in
+    subst P (sym f.3) (
+      all_whole layout first second one other is is' h.0.0 h.0.1,
+      refusal_of layout first second one other one.refused.items other.refused.items f.0 f.1 is is' refl refl f.2,
+    ))
+    later)
+    stops
 
 unmet_for : (layout : Parts) (all : List Placed) (fault : ClusterFault) → AreWithin layout all → IsOfMeeting fault → IsStopped layout all fault
-unmet_for layout all Worker h of = tt
+unmet_for layout all causes.Worker h of = tt
 unmet_for layout all Memory h of = tt
 unmet_for layout all (Piece node worker place fault) h of = absurd of
 unmet_for layout all (Node fault) h of = absurd of
@@ -138,11 +139,27 @@ pub unmet : (layout : Parts) (first second : Workload) (one other : CrewOut) (fa
     → IsCrewOut layout second.first.items second.second.items other → AreClean one other → IsOfMeeting fault → IsStopped layout (all_pieces first second) fault
 unmet layout first second one other fault is is' clean of =
     unmet_for layout (all_pieces first second) fault
-        (All-append (λ (q : Placed). IsWithin layout q.piece) (pieces_of 0 first) (pieces_of 1 second)
-            (within layout 0 first one is clean.0.0 clean.1) (within layout 1 second other is' clean.0.1 clean.2))
-        of
+    (All-append (λ (q : Placed). IsWithin layout q.piece) (pieces_of 0 first) (pieces_of 1 second)
+    (within layout 0 first one is clean.0.0 clean.1) (within layout 1 second other is' clean.0.1 clean.2))
+    of
 
 -- What stops it where a crew left nothing.
 pub uncrewed : (layout : Parts) (all : List Placed) (fault : ClusterFault) (cause : CrewFault) → fault ≡ of_crew cause → IsStopped layout all fault
 uncrewed layout all fault crews.Worker e = subst (λ (f : ClusterFault). IsStopped layout all f) (sym e) tt
 uncrewed layout all fault crews.Memory e = subst (λ (f : ClusterFault). IsStopped layout all f) (sym e) tt
+
+-- ---- the first of what both crews leave
+
+pub stops_first : (one other : CrewOut) (fault : ClusterFault) → IsFirstPiece 0 one.faults.items fault → StopsAt one other fault
+stops_first one other fault h = inl h
+
+pub stops_second : (one other : CrewOut) (fault : ClusterFault) → one.faults.items ≡ [] → IsFirstPiece 1 other.faults.items fault → StopsAt one other fault
+stops_second one other fault none h = inr (inl (none, h))
+
+pub stops_refused : (one other : CrewOut) (fault : ClusterFault) → one.faults.items ≡ [] → other.faults.items ≡ [] → IsFirstRefusal one.refused.items fault → StopsAt one other fault
+stops_refused one other fault none none' h =
+    inr (inr ((none, none'), (h.0, h.1 ++ other.refused.items, ap (λ (l : List Refusal). l ++ other.refused.items) h.2, h.3)))
+
+pub stops_refused_later : (one other : CrewOut) (fault : ClusterFault) → one.faults.items ≡ [] → other.faults.items ≡ [] → one.refused.items ≡ [] → IsFirstRefusal other.refused.items fault → StopsAt one other fault
+stops_refused_later one other fault none none' joined h =
+    inr (inr ((none, none'), (h.0, h.1, ap (λ (l : List Refusal). l ++ other.refused.items) joined ∙ h.2, h.3)))

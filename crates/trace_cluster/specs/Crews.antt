@@ -1,5 +1,9 @@
 -- What stops a cluster among what two crews leave.
-use Rattle.std.specs.Prelude.{◌≡◌, ℕ, List, [], ◌∷◌, ◌++◌, ⊤}
+use Rattle.std.specs.Prelude.{◌≡◌, ℕ, Result, Ok, Err, List, [], ◌∷◌, ◌++◌, ◌⊎◌, ⊤}
+use Rattle.trace_know.specs.View.{View}
+use Rattle.trace_node.specs.declared.fault.NodeFault.{NodeFault}
+use Rattle.trace_exchange.specs.declared.fault.ExchangeFault.TheVariants.{Merge}
+use Rattle.trace_exchange.specs.declared.fault.ExchangeFault.{ExchangeFault}
 use Rattle.trace_crew.specs.declared.piece.PieceFault.{PieceFault}
 use Rattle.trace_crew.specs.declared.threads.CrewFault.{CrewFault}
 use Rattle.trace_crew.specs.declared.threads.CrewFault.TheVariants as crews
@@ -36,8 +40,23 @@ StopsAt one other fault = IsFirstPiece 0 one.faults.items fault
 abbrev pub AreClean : CrewOut → CrewOut → Type 0
 AreClean one other = AreFaultless one other × (one.refused.items ≡ []) × (other.refused.items ≡ [])
 
+-- The first node did not join what its leading has learned.
+abbrev pub IsUnmerged : ClusterFault → Type 0
+IsUnmerged fault = (cause : NodeFault) × (fault ≡ Lead (Merge cause))
+
+-- It is why the follower's side of an exchange was refused.
+abbrev pub IsFollowers : Result (Unit {0}) ExchangeFault → ClusterFault → Type 0
+IsFollowers followed fault = (cause : ExchangeFault) × (followed ≡ Err cause) × (fault ≡ Follow cause)
+
+-- It is why the leader's side of an exchange was refused, or, where that was not, why the first node did not join what
+-- that has learned, or the follower's.
+abbrev pub IsFirstEnd : Result View ExchangeFault → Result (Unit {0}) ExchangeFault → ClusterFault → Type 0
+IsFirstEnd (Err led) followed fault = fault ≡ Lead led
+IsFirstEnd (Ok known) followed fault = IsUnmerged fault ⊎ IsFollowers followed fault
+
 -- It comes of the exchange, and not of a crew.
 abbrev pub IsOfMeeting : ClusterFault → Type 0
+IsOfMeeting Memory = ⊤
 IsOfMeeting Net = ⊤
 IsOfMeeting (Lead fault) = ⊤
 IsOfMeeting (Follow fault) = ⊤

@@ -36,10 +36,7 @@ pub(crate) fn crew_of<'a, R: Threads + Wait + Sync>(
 }
 
 /// That a node's pieces have no fault, or the first fault of them.
-fn without_faults(
-    node: u8,
-    faults: Vec<(u8, u64, PieceFault)>,
-) -> Result<(), ClusterFault>
+fn without_faults(node: u8, faults: Vec<(u8, u64, PieceFault)>) -> Result<(), ClusterFault>
     ensures ok { OnOk result (faults.items ≡ []) }
     ensures err { IfErr result (λ fault. IsFirstPiece node faults.items fault) }
 {
@@ -66,6 +63,7 @@ fn without_refusals(refused: &Vec<(u8, Segment, NodeFault)>) -> Result<(), Clust
 }
 
 /// Both nodes, where no piece of either has a fault and neither refused a segment.
+#[tactic(auto, using(crate::proofs::Stopping::stops_first, crate::proofs::Stopping::stops_second, crate::proofs::Stopping::stops_refused, crate::proofs::Stopping::stops_refused_later))]
 pub(crate) fn nodes_of<'a>(
     one: CrewOut<'a>,
     other: CrewOut<'a>,

@@ -22,10 +22,7 @@ use trace_node::Node;
 ///
 /// Both nodes have an answer then. Over a socket that passes on what is written they know the same:
 /// the join of all pieces.
-pub fn cluster<
-    'a,
-    R: Net<Listener = TcpListener, Stream = TcpStream> + Threads + Wait + Sync,
->(
+pub fn cluster<'a, R: Net<Listener = TcpListener, Stream = TcpStream> + Threads + Wait + Sync>(
     rt: &R,
     alloc: Global,
     layout: &'a Layout,
@@ -39,6 +36,6 @@ pub fn cluster<
     view_laws();
     let one = crew_of(rt, alloc, layout, first)?;
     let other = crew_of(rt, alloc, layout, second)?;
-    let (one, other) = nodes_of(one, other)?;
-    exchange(rt, alloc, one, other)
+    let (leader, follower) = nodes_of(one, other)?;
+    exchange(rt, alloc, leader, follower)
 }
