@@ -4,7 +4,6 @@ use Rattle.trace_know.specs.View.{View}
 use Rattle.trace_node.specs.declared.fault.NodeFault.{NodeFault}
 use Rattle.trace_exchange.specs.declared.fault.ExchangeFault.{ExchangeFault}
 use Rattle.trace_exchange.specs.declared.fault.ExchangeFault.TheVariants.{Merge}
-use Rattle.trace_cluster.specs.declared.fault.ClusterFault.{ClusterFault}
 use Rattle.trace_cluster.specs.declared.fault.ClusterFault.TheVariants.{Lead, Follow}
 use Rattle.trace_cluster.specs.Crews.{IsFirstEnd}
 

@@ -1,7 +1,7 @@
 -- What each piece of a worker gave.
 use Rattle.std.proofs.Common.{◌≡◌, ℕ, ◌+◌, Ok, Err, List, [], ◌∷◌, ◌++◌, refl, sym, ap, ◌∙◌, subst, append_assoc, ⊎_elim}
 use Rattle.std.specs.List.{All, AllByRecursion, Contains, flat_map}
-use Rattle.std.proofs.lemmas.List.Elements.{All-append, All-from_recursion, All-nil, All-cons, All-weaker, Contains-append_cases, Contains-append_left, Contains-append_right}
+use Rattle.std.proofs.lemmas.List.Elements.{All-append, All-nil, All-cons, All-weaker, Contains-append_cases, Contains-append_left, Contains-append_right}
 use Rattle.trace_know.specs.Segment.{PlacedEvents}
 use Rattle.trace_crew.specs.declared.piece.Piece.{Piece}
 use Rattle.trace_crew.specs.declared.piece.PieceFault.{PieceFault}
@@ -9,7 +9,7 @@ use Rattle.trace_crew.specs.Pieces.{AreOutcomes, Gave, GivesSegments, Outcome, f
 use Rattle.trace_cluster.specs.declared.workload.Workload.{Workload}
 use Rattle.trace_cluster.specs.Pieces.{IsWhole, Placed, pieces_of, placed, placed_from}
 use Rattle.trace_cluster.specs.Stopped.{IsFirstFault}
-use Rattle.trace_cluster.proofs.Lists.{back, contains_first, contains_none, front, same_first}
+use Rattle.trace_cluster.proofs.Lists.{back, contains_first, contains_none, front, no_element, same_first}
 
 -- the faults of pieces with their workers and places
 abbrev pub Faults : Type 0
@@ -27,7 +27,7 @@ each_found P worker place [] outcomes are none h = tt
 each_found P worker place (p ∷ ps) [] are none h = absurd are
 each_found P worker place (p ∷ ps) (Ok s ∷ os) are none h =
     ((s, are.0, front P s (flat_map segments_in os) h), each_found P worker (place + 1) ps os are.1 none (back P s (flat_map segments_in os) h))
-each_found P worker place (p ∷ ps) (Err f ∷ os) are none h = absurd (let z = none in cc)
+each_found P worker place (p ∷ ps) (Err f ∷ os) are none h = absurd (no_element (worker, place, f) (faults_from worker (place + 1) os) none)
 
 -- Where no piece has a fault, the segments of each were found.
 pub all_found : (P : PlacedEvents → Type 0) (worker : ℕ) (pieces : List Piece) (segments : List PlacedEvents) (faults : Faults) → Gave worker pieces segments faults → faults ≡ [] → AllByRecursion P segments
@@ -49,20 +49,20 @@ node_found P node load ones others faults faults' gave gave' none none' h h' =
     (all_placed (Found P) node 0 0 load.first.items (all_found P 0 load.first.items ones faults gave none h))
     (all_placed (Found P) node 1 0 load.second.items (all_found P 1 load.second.items others faults' gave' none' h'))
 
-abbrev Any : PlacedEvents → Type 0
-Any s = Unit {0}
+abbrev Anything : PlacedEvents → Type 0
+Anything s = Unit {0}
 
-any : (segments : List PlacedEvents) → AllByRecursion Any segments
-any [] = tt
-any (s ∷ ss) = (tt, any ss)
+all_are_something : (segments : List PlacedEvents) → AllByRecursion Anything segments
+all_are_something [] = tt
+all_are_something (s ∷ ss) = (tt, all_are_something ss)
 
 abbrev pub AreWhole : List Placed → Type 0
 AreWhole all = All (λ (q : Placed). IsWhole q.piece) all
 
 worker_whole : (node worker : ℕ) (pieces : List Piece) (segments : List PlacedEvents) (faults : Faults) → Gave worker pieces segments faults → faults ≡ [] → AreWhole (placed_from node worker 0 pieces)
 worker_whole node worker pieces segments faults gave none =
-    All-weaker (λ (q : Placed). Found Any q.piece) (λ (q : Placed). IsWhole q.piece) (λ q h. (h.0, h.1)) (placed_from node worker 0 pieces)
-    (all_placed (Found Any) node worker 0 pieces (all_found Any worker pieces segments faults gave none (any segments)))
+    All-weaker (λ (q : Placed). Found Anything q.piece) (λ (q : Placed). IsWhole q.piece) (λ q h. (h.0, h.1)) (placed_from node worker 0 pieces)
+    (all_placed (Found Anything) node worker 0 pieces (all_found Anything worker pieces segments faults gave none (all_are_something segments)))
 
 pub node_whole : (node : ℕ) (load : Workload) (ones others : List PlacedEvents) (faults faults' : Faults) → Gave 0 load.first.items ones faults → Gave 1 load.second.items others faults'
     → faults ≡ [] → faults' ≡ [] → AreWhole (pieces_of node load)
@@ -98,7 +98,7 @@ ahead all more node worker place fault f =
 
 first_from : (node worker place : ℕ) (pieces : List Piece) (outcomes : List Outcome) (f : ℕ × ℕ × PieceFault) (rest : Faults) → AreOutcomes pieces outcomes → faults_from worker place outcomes ≡ f ∷ rest
     → IsFirstFault (placed_from node worker place pieces) node f.0 f.1 f.2
-first_from node worker place [] [] f rest are e = absurd (let z = e in cc)
+first_from node worker place [] [] f rest are e = absurd (no_element f rest (sym e))
 first_from node worker place [] (o ∷ os) f rest are e = absurd are
 first_from node worker place (p ∷ ps) [] f rest are e = absurd are
 first_from node worker place (p ∷ ps) (Ok s ∷ os) f rest are e =
@@ -133,9 +133,13 @@ first_of_node node load ones others (g ∷ gs) faults' f rest gave gave' e =
 
 -- ---- the piece of a segment
 
--- a piece of these gave this segment
+-- the piece gave this segment among others
+abbrev pub IsGivenBy : Piece → PlacedEvents → Type 0
+IsGivenBy piece s = (segments : List PlacedEvents) × GivesSegments piece segments × Contains segments s
+
+-- a piece of these did
 abbrev pub IsOfPiece : List Placed → PlacedEvents → Type 0
-IsOfPiece all s = (one : Placed) × Contains all one × ((segments : List PlacedEvents) × GivesSegments one.piece segments × Contains segments s)
+IsOfPiece all s = (one : Placed) × Contains all one × IsGivenBy one.piece s
 
 of_piece_from : (node worker place : ℕ) (pieces : List Piece) (outcomes : List Outcome) (s : PlacedEvents) → AreOutcomes pieces outcomes → Contains (flat_map segments_in outcomes) s
     → IsOfPiece (placed_from node worker place pieces) s

@@ -11,6 +11,7 @@ use Rattle.trace_node.specs.Node.{Held}
 use Rattle.trace_node.specs.declared.fault.NodeFault.{NodeFault}
 use Rattle.trace_inbox.specs.declared.item.Worker.{Worker}
 use Rattle.trace_inbox.specs.declared.item.Worker.TheVariants.{First, Second}
+use Rattle.trace_inbox.specs.Views.{number_of}
 use Rattle.trace_crew.specs.declared.piece.Piece.{Piece}
 use Rattle.trace_crew.specs.declared.threads.CrewOut.{CrewOut}
 use Rattle.trace_crew.specs.Crewed.{IsCrewOut, segments_by}
@@ -20,13 +21,13 @@ use Rattle.trace_cluster.specs.declared.workload.Workload.{Workload}
 use Rattle.trace_cluster.specs.Clustered.{KnowsOwn, KnowsPiece}
 use Rattle.trace_cluster.specs.Meeting.{IsMore}
 use Rattle.trace_cluster.proofs.Finding.{Faults, Found, all_found}
-use Rattle.trace_cluster.proofs.Lists.{nil_first, nil_rest}
+use Rattle.trace_cluster.proofs.Lists.{nil_first, nil_rest, no_element}
 use Rattle.trace_cluster.proofs.Taking.{by_worker}
 
 -- a segment that isn't listed was joined
 all_joined : (from : Worker) (segment : PlacedEvents) (fault : Option NodeFault) → refused_for from segment fault ≡ [] → joined_for segment fault ≡ facts_of segment
 all_joined from segment None e = refl
-all_joined from segment (Some fault) e = absurd (let z = e in cc)
+all_joined from segment (Some fault) e = absurd (no_element (number_of from, segment, fault) [] e)
 
 -- the facts of a segment are known
 abbrev IsKnown : View → PlacedEvents → Type 0

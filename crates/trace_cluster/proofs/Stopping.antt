@@ -1,7 +1,7 @@
 -- What stops a cluster among what its crews leave, as of its pieces.
-use Rattle.std.proofs.Common.{◌≡◌, ◌≤◌, ◌<◌, ℕ, List, [], ◌∷◌, ◌++◌, Some, refl, sym, ap, ◌∙◌, subst, ⊎_elim, inl, inr}
+use Rattle.std.proofs.Common.{◌≡◌, ◌≤◌, ◌<◌, ℕ, List, [], ◌∷◌, ◌++◌, refl, sym, ap, ◌∙◌, subst, ⊎_elim, inl, inr}
 use Rattle.std.specs.Prelude.{◌⊎◌}
-use Rattle.std.specs.List.{All, AllByRecursion, Contains, flat_map}
+use Rattle.std.specs.List.{All, Contains}
 use Rattle.std.proofs.lemmas.List.Elements.{All-append, All-from_recursion, All-weaker, Contains-append_left, Contains-append_right, recursion_from_All}
 use Rattle.mpi_model.specs.Layouts.{Parts}
 use Rattle.trace_know.specs.Segment.{PlacedEvents}
@@ -10,16 +10,14 @@ use Rattle.trace_node.specs.declared.fault.NodeFault.TheVariants as nodes
 use Rattle.trace_inbox.specs.declared.item.Worker.{Worker}
 use Rattle.trace_inbox.specs.declared.item.Worker.TheVariants.{First, Second}
 use Rattle.trace_crew.specs.declared.piece.PieceFault.{PieceFault}
-use Rattle.trace_crew.specs.declared.threads.CrewFault.{CrewFault}
-use Rattle.trace_crew.specs.declared.threads.CrewFault.TheVariants as crews
 use Rattle.trace_crew.specs.declared.threads.CrewOut.{CrewOut}
 use Rattle.trace_crew.specs.Crewed.{IsCrewOut, segments_by}
-use Rattle.trace_crew.specs.Taking.{IsFair, IsFairFor, Refusal, refused_in}
+use Rattle.trace_crew.specs.Taking.{IsFair, Refusal}
 use Rattle.trace_cluster.specs.declared.fault.ClusterFault.{ClusterFault}
 use Rattle.trace_cluster.specs.declared.fault.ClusterFault.TheVariants.{Memory, Piece, Node, Net, Lead, Follow}
 use Rattle.trace_cluster.specs.declared.fault.ClusterFault.TheVariants as causes
 use Rattle.trace_cluster.specs.declared.workload.Workload.{Workload}
-use Rattle.trace_cluster.specs.Crews.{AreClean, AreFaultless, IsFirstPiece, IsFirstRefusal, IsOfMeeting, StopsAt, of_crew}
+use Rattle.trace_cluster.specs.Crews.{AreClean, AreFaultless, IsFirstPiece, IsFirstRefusal, IsOfMeeting, StopsAt}
 use Rattle.trace_cluster.specs.Pieces.{IsForeign, IsWhole, IsWithin, Placed, all_pieces, pieces_of}
 use Rattle.trace_cluster.specs.Stopped.{IsFirstFault, IsRefusal, IsStopped}
 use Rattle.trace_cluster.proofs.Finding.{AreWhole, Faults, Found, IsOfPiece, ahead, behind, first_of_node, node_found, node_whole, of_first, of_second}
@@ -142,11 +140,6 @@ unmet layout first second one other fault is is' clean of =
     (All-append (λ (q : Placed). IsWithin layout q.piece) (pieces_of 0 first) (pieces_of 1 second)
     (within layout 0 first one is clean.0.0 clean.1) (within layout 1 second other is' clean.0.1 clean.2))
     of
-
--- What stops it where a crew left nothing.
-pub uncrewed : (layout : Parts) (all : List Placed) (fault : ClusterFault) (cause : CrewFault) → fault ≡ of_crew cause → IsStopped layout all fault
-uncrewed layout all fault crews.Worker e = subst (λ (f : ClusterFault). IsStopped layout all f) (sym e) tt
-uncrewed layout all fault crews.Memory e = subst (λ (f : ClusterFault). IsStopped layout all f) (sym e) tt
 
 -- ---- the first of what both crews leave
 

@@ -1,5 +1,5 @@
 -- What a crew took: where it refused nothing, and where it refused a segment.
-use Rattle.std.proofs.Common.{◌≡◌, ◌≤◌, ◌<◌, ℕ, Bool, true, false, cond, List, [], ◌∷◌, ◌++◌, map, Option, Some, None, refl, sym, subst}
+use Rattle.std.proofs.Common.{◌≡◌, ◌<◌, Bool, true, false, cond, List, [], ◌∷◌, ◌++◌, map, Option, Some, None, sym, subst}
 use Rattle.std.specs.List.{AllByRecursion, Contains, filter, flat_map}
 use Rattle.std.proofs.lemmas.List.Elements.{Contains-append_right}
 use Rattle.mpi_model.specs.Layouts.{Parts}
@@ -10,7 +10,7 @@ use Rattle.trace_inbox.specs.declared.item.Worker.TheVariants.{First, Second}
 use Rattle.trace_inbox.specs.Views.{is_from, number_of}
 use Rattle.trace_crew.specs.Crewed.{segments_by}
 use Rattle.trace_crew.specs.Taking.{IsFair, IsFairFor, Refusal, Taken, refused_for, refused_in, taken_as}
-use Rattle.trace_cluster.proofs.Lists.{contains_first, nil_first, nil_rest, same_first}
+use Rattle.trace_cluster.proofs.Lists.{contains_first, nil_first, nil_rest, no_element, same_first}
 
 -- the segments of what was taken
 abbrev segments : List Taken → List PlacedEvents
@@ -31,7 +31,7 @@ by_worker P w (t ∷ ts) h = one_more P (is_from w t.from) t (filter (λ (u : Ta
 
 in_ranks : (layout : Parts) (from : Worker) (segment : PlacedEvents) (fault : Option NodeFault) → IsFairFor layout segment.rank fault → refused_for from segment fault ≡ [] → segment.rank < layout.ranks
 in_ranks layout from segment None fair e = fair
-in_ranks layout from segment (Some fault) fair e = absurd (let z = e in cc)
+in_ranks layout from segment (Some fault) fair e = absurd (no_element (number_of from, segment, fault) [] e)
 
 -- Where no segment was refused, all are of the layout's ranks.
 pub all_in_ranks : (layout : Parts) (taken : List Taken) → AllByRecursion (IsFair layout) taken → flat_map refused_in taken ≡ [] → AllByRecursion (λ (t : Taken). t.segment.rank < layout.ranks) taken
@@ -64,5 +64,5 @@ this_or_later layout from segment (Some fault) ts r rest fair e later =
 
 -- Of the segments that were taken there is one that was refused as the first of the list is.
 pub first_refused : (layout : Parts) (taken : List Taken) (r : Refusal) (rest : List Refusal) → AllByRecursion (IsFair layout) taken → flat_map refused_in taken ≡ r ∷ rest → IsRefusedAmong layout taken r.2
-first_refused layout [] r rest fair e = absurd (let z = e in cc)
+first_refused layout [] r rest fair e = absurd (no_element r rest (sym e))
 first_refused layout (t ∷ ts) r rest fair e = this_or_later layout t.from t.segment t.fault ts r rest fair.0 e (first_refused layout ts r rest fair.1)

@@ -60,17 +60,18 @@ fn both_report<R: Net<Listener = TcpListener, Stream = TcpStream> + Threads + Wa
 fn both_nodes_report_the_run(rt: HostRuntime) {
     let send: &[Row] = &[(0, 0, SEND)];
     let receive: &[Row] = &[(1, 0, RECEIVE)];
-    let apart = both_report(&rt, rt.alloc(), (send, &[]), (receive, &[]), PINGPONG);
-    let turned = both_report(&rt, rt.alloc(), (&[], receive), (&[], send), PINGPONG);
-    let alone = both_report(&rt, rt.alloc(), (send, receive), (&[], &[]), PINGPONG);
+    let none: &[Row] = &[];
+    let apart = both_report(&rt, rt.alloc(), (send, none), (receive, none), PINGPONG);
+    let turned = both_report(&rt, rt.alloc(), (none, receive), (none, send), PINGPONG);
+    let alone = both_report(&rt, rt.alloc(), (send, receive), (none, none), PINGPONG);
     let twice = both_report(&rt, rt.alloc(), (send, receive), (send, receive), PINGPONG);
-    let none = both_report(&rt, rt.alloc(), (&[], &[]), (&[], &[]), NOTHING);
+    let nothing = both_report(&rt, rt.alloc(), (none, none), (none, none), NOTHING);
     let rows = [
         ("one piece a node", apart),
         ("the receive leads", turned),
         ("all pieces at the first node", alone),
         ("all pieces at both nodes", twice),
-        ("no pieces", none),
+        ("no pieces", nothing),
     ];
     for (name, found) in rows {
         assert!(rt; found == Some(true), "{name}");
@@ -82,22 +83,20 @@ fn both_nodes_report_the_run(rt: HostRuntime) {
 fn prefixes<R: Net<Listener = TcpListener, Stream = TcpStream> + Threads + Wait + Sync>(
     rt: &R,
     alloc: Global,
-) -> Option<[u64; 4]> {
+) -> Option<((u64, u64), (u64, u64))> {
     let layout = layout(alloc)?;
     let first = five_hundred(alloc, 0)?;
     let second = five_hundred(alloc, 1)?;
     let (one, other) = cluster(rt, alloc, &layout, &first, &second).ok()?;
     let (one, other) = (one.know(), other.know());
-    Some([
-        one.prefix(0),
-        one.prefix(1),
-        other.prefix(0),
-        other.prefix(1),
-    ])
+    Some((
+        (one.prefix(0), one.prefix(1)),
+        (other.prefix(0), other.prefix(1)),
+    ))
 }
 
 #[test]
 fn a_thousand_pieces(rt: HostRuntime) {
     let found = prefixes(&rt, rt.alloc());
-    assert!(rt; found == Some([1000; 4]));
+    assert!(rt; found == Some(((1000, 1000), (1000, 1000))));
 }

@@ -17,14 +17,14 @@ enum Told {
 }
 
 /// What a fault tells.
-fn told(fault: ClusterFault) -> Told {
+fn told(fault: &ClusterFault) -> Told {
     match fault {
         ClusterFault::Piece {
             node,
             worker,
             piece,
             ..
-        } => Told::Piece(node, worker, piece),
+        } => Told::Piece(*node, *worker, *piece),
         ClusterFault::Node(NodeFault::Rank) => Told::Rank,
         _ => Told::Other,
     }
@@ -41,7 +41,7 @@ fn refused<R: Net<Listener = TcpListener, Stream = TcpStream> + Threads + Wait +
     let first = workload(alloc, first.0, first.1)?;
     let second = workload(alloc, second.0, second.1)?;
     let fault = cluster(rt, alloc, &layout, &first, &second).err()?;
-    Some(told(fault))
+    Some(told(&fault))
 }
 
 #[test]
@@ -50,11 +50,12 @@ fn the_first_refusal_is_named(rt: HostRuntime) {
     let cut_off: &[Row] = &[(0, 0, CUT_OFF)];
     let later: &[Row] = &[(1, 0, CALL), (1, 1, CUT_OFF)];
     let foreign: &[Row] = &[(9, 0, CALL)];
+    let none: &[Row] = &[];
     let last = refused(&rt, rt.alloc(), (whole, whole), (whole, later));
-    let nodes = refused(&rt, rt.alloc(), (whole, later), (cut_off, &[]));
-    let workers = refused(&rt, rt.alloc(), (later, cut_off), (whole, &[]));
-    let ranks = refused(&rt, rt.alloc(), (foreign, &[]), (whole, cut_off));
-    let rank = refused(&rt, rt.alloc(), (whole, &[]), (&[], foreign));
+    let nodes = refused(&rt, rt.alloc(), (whole, later), (cut_off, none));
+    let workers = refused(&rt, rt.alloc(), (later, cut_off), (whole, none));
+    let ranks = refused(&rt, rt.alloc(), (foreign, none), (whole, cut_off));
+    let rank = refused(&rt, rt.alloc(), (whole, none), (none, foreign));
     let rows = [
         (
             "the second text of the second worker",
