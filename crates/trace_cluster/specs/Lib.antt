@@ -1,0 +1,5 @@
+pub mod Meeting
+pub mod Pieces
+pub mod Clustered
+pub mod Stopped
+pub mod Crews

@@ -1,0 +1,147 @@
+//! Two nodes that meet: the socket, and the exchange over it.
+
+ghost use Rattle.std.specs.Prelude.{◌≡◌, Ok, IfSome, IfOk, IfErr, OnOk};
+ghost use Rattle.trace_cluster.specs.Crews.{IsFirstEnd, IsOfMeeting};
+ghost use Rattle.trace_cluster.specs.Meeting.{IsMore};
+
+use crate::fault::ClusterFault;
+use crate::peer::Peer;
+use mpi_model::{Device, Layout};
+use std::alloc::Global;
+use std::net::{Net, TcpListener, TcpStream};
+use std::sync::Wait;
+use std::thread::Threads;
+use std::{io, thread};
+use trace_exchange::{ExchangeFault, lead};
+use trace_know::{Knowledge, join_laws};
+use trace_node::{Node, NodeFault};
+
+/// Listens on 127.0.0.1 at a port that the system gives, connects to it and accepts, in this order:
+/// both ends of one connection.
+fn connected<R: Net<Listener = TcpListener, Stream = TcpStream>>(
+    rt: &R,
+) -> io::Result<(TcpStream, TcpStream)> {
+    let listener = TcpListener::bind(rt, "127.0.0.1:0")?;
+    let one = TcpStream::connect(rt, listener.local_addr()?)?;
+    let (other, _) = listener.accept()?;
+    Ok((one, other))
+}
+
+/// Leads an exchange for a node that knows this, and answers all that it knows then. Only knowledge
+/// crosses to the thread and back: a node has an answer, whose conditions no thread can be given.
+fn led(
+    alloc: Global,
+    layout: &Layout,
+    know: Knowledge,
+    stream: TcpStream,
+) -> Result<Knowledge, ExchangeFault> {
+    let mut node = match Node::of(alloc, layout, know) {
+        Ok(node) => node,
+        Err(fault) => return Err(ExchangeFault::Merge(fault)),
+    };
+    match lead(alloc, &mut Device::new(stream), &mut node) {
+        Ok(()) => {}
+        Err(fault) => return Err(fault),
+    }
+    match node.know().try_clone() {
+        Ok(know) => Ok(know),
+        Err(_) => Err(ExchangeFault::Merge(NodeFault::Memory)),
+    }
+}
+
+/// A node after it has followed in an exchange, and whether that was refused.
+#[derive(Drop)]
+struct Met<N> {
+    node: N,
+    end: Result<(), ExchangeFault>,
+}
+
+/// Follows in an exchange.
+fn followed<N: Peer>(alloc: Global, stream: TcpStream, node: N) -> Met<N>
+    ensures { OnOk result.end (IsMore (N.held node) (N.held result.node)) }
+{
+    let mut node = node;
+    let end = node.follow_over(alloc, stream);
+    Met { node, end }
+}
+
+/// One leads on a thread of its own, with what the first node knows, beside the second node, which
+/// follows: what the first knows then, and the second. Nothing where no thread could be started.
+fn meet<R: Threads + Wait + Sync, N: Peer>(
+    rt: &R,
+    alloc: Global,
+    layout: &Layout,
+    know: Knowledge,
+    ends: (TcpStream, TcpStream),
+    follower: N,
+) -> Option<(Result<Knowledge, ExchangeFault>, Met<N>)>
+    ensures { IfSome result (λ met. OnOk met.1.end (IsMore (N.held follower) (N.held met.1.node))) }
+{
+    let (one, other) = ends;
+    thread::scope(
+        thread::scope_env(),
+        rt,
+        move |scope| -> Option<(Result<Knowledge, ExchangeFault>, Met<N>)>
+            ensures { IfSome result (λ met. OnOk met.1.end (IsMore (N.held follower) (N.held met.1.node))) }
+        {
+            let Ok(leading) = scope.spawn(move || led(alloc, layout, know, one)) else {
+                return None;
+            };
+            let met = followed(alloc, other, follower);
+            Some((leading.join(rt), met))
+        },
+    )
+}
+
+/// Both nodes, the first with what its leading has learned; or why the leader was refused, else why the
+/// follower was.
+#[tactic(auto, using(crate::proofs::Ending::unmerged_end, crate::proofs::Ending::followed_end))]
+fn both<'a>(
+    leader: Node<'a>,
+    led: Result<Knowledge, ExchangeFault>,
+    follower: Met<Node<'a>>,
+) -> Result<(Node<'a>, Node<'a>), ClusterFault>
+    ensures first { IfOk result (λ nodes. IsMore leader.entry nodes.0) }
+    ensures second { IfOk result (λ nodes. (nodes.1 ≡ follower.entry.node) × (follower.entry.end ≡ Ok tt)) }
+    ensures err { IfErr result (λ fault. IsFirstEnd led follower.entry.end fault) }
+{
+    join_laws();
+    let mut leader = leader;
+    let known = match led {
+        Ok(known) => known,
+        Err(fault) => return Err(ClusterFault::Lead(fault)),
+    };
+    match leader.merge(&known) {
+        Ok(()) => {}
+        Err(fault) => return Err(ClusterFault::Lead(ExchangeFault::Merge(fault))),
+    }
+    match follower.end {
+        Ok(()) => Ok((leader, follower.node)),
+        Err(fault) => Err(ClusterFault::Follow(fault)),
+    }
+}
+
+/// An exchange between two nodes over a socket of this machine: the first leads it.
+pub(crate) fn exchange<
+    'a,
+    R: Net<Listener = TcpListener, Stream = TcpStream> + Threads + Wait + Sync,
+>(
+    rt: &R,
+    alloc: Global,
+    leader: Node<'a>,
+    follower: Node<'a>,
+) -> Result<(Node<'a>, Node<'a>), ClusterFault>
+    ensures ok { IfOk result (λ nodes. IsMore leader.entry nodes.0 × IsMore follower.entry nodes.1) }
+    ensures err { IfErr result (λ fault. IsOfMeeting fault) }
+{
+    let Ok(know) = leader.know().try_clone() else {
+        return Err(ClusterFault::Memory);
+    };
+    let Ok(ends) = connected(rt) else {
+        return Err(ClusterFault::Net);
+    };
+    let Some((led, followed)) = meet(rt, alloc, leader.layout(), know, ends, follower) else {
+        return Err(ClusterFault::Net);
+    };
+    both(leader, led, followed)
+}
