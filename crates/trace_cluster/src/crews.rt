@@ -1,0 +1,83 @@
+//! What both crews leave, and the first fault or refused segment among it.
+
+ghost use Rattle.std.specs.Prelude.{◌≡◌, ◌++◌, [], map, IfOk, IfErr, OnOk};
+ghost use Rattle.trace_crew.specs.Crewed.{IsCrewOut};
+ghost use Rattle.trace_cluster.specs.Refused.{BeginsWith, faults_of, named};
+ghost use Rattle.trace_cluster.specs.declared.fault.ClusterFault.TheVariants as faults;
+
+use crate::fault::ClusterFault;
+use crate::workload::Workload;
+use mpi_model::Layout;
+use std::alloc::Global;
+use std::sync::Wait;
+use std::thread::Threads;
+use trace_crew::{Board, CrewFault, CrewOut, OpenGate, PieceFault, crew};
+use trace_know::Segment;
+use trace_node::{Node, NodeFault};
+
+/// Runs the crew of a node, on a board of its own.
+pub(crate) fn crew_of<'a, R: Threads + Wait + Sync>(
+    rt: &R,
+    alloc: Global,
+    layout: &'a Layout,
+    load: &Workload,
+) -> Result<CrewOut<'a>, CrewFault>
+    ensures { IfOk result (λ out. IsCrewOut layout.now load.now.first.items load.now.second.items out) }
+{
+    let board = Board::new(alloc, layout)?;
+    crew(
+        rt,
+        alloc,
+        layout,
+        load.first.as_slice(),
+        load.second.as_slice(),
+        &board,
+        &OpenGate,
+    )
+}
+
+/// That a node's pieces have no fault, or the first fault of them.
+fn without_faults(
+    node: u8,
+    faults: Vec<(u8, u64, PieceFault)>,
+) -> Result<(), ClusterFault>
+    ensures ok { OnOk result (faults.items ≡ []) }
+    ensures err { IfErr result (λ fault. BeginsWith (named node faults.items) fault) }
+{
+    match faults.into_iter().next() {
+        Some((worker, piece, fault)) => Err(ClusterFault::Piece {
+            node,
+            worker,
+            piece,
+            fault,
+        }),
+        None => Ok(()),
+    }
+}
+
+/// That a node refused no segment, or why it refused the first.
+fn without_refusals(refused: &Vec<(u8, Segment, NodeFault)>) -> Result<(), ClusterFault>
+    ensures ok { OnOk result (refused.now.items ≡ []) }
+    ensures err { IfErr result (λ fault. BeginsWith (map (λ r. faults.Node r.2) refused.now.items) fault) }
+{
+    match refused.first() {
+        Some((_, _, fault)) => Err(ClusterFault::Node(*fault)),
+        None => Ok(()),
+    }
+}
+
+/// Both nodes, where no piece of either has a fault and neither refused a segment.
+pub(crate) fn nodes_of<'a>(
+    one: CrewOut<'a>,
+    other: CrewOut<'a>,
+) -> Result<(Node<'a>, Node<'a>), ClusterFault>
+    ensures nodes { IfOk result (λ nodes. (nodes.0 ≡ one.entry.node) × (nodes.1 ≡ other.entry.node)) }
+    ensures none { OnOk result (faults_of one.entry other.entry ≡ []) }
+    ensures err { IfErr result (λ fault. BeginsWith (faults_of one.entry other.entry) fault) }
+{
+    without_faults(0, one.faults)?;
+    without_faults(1, other.faults)?;
+    without_refusals(&one.refused)?;
+    without_refusals(&other.refused)?;
+    Ok((one.node, other.node))
+}

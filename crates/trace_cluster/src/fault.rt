@@ -1,0 +1,51 @@
+//! Why a cluster leaves nothing.
+
+ghost use Rattle.std.specs.Prelude.{◌≡◌};
+ghost use Rattle.trace_cluster.specs.Refused.{of_crew};
+
+use thiserror::Error;
+use trace_crew::{CrewFault, PieceFault};
+use trace_exchange::ExchangeFault;
+use trace_node::NodeFault;
+
+/// Why a cluster leaves nothing, tried in this order.
+#[derive(Debug, Drop, Error)]
+pub enum ClusterFault {
+    /// A worker's thread couldn't be started, or an end of an inbox was refused.
+    #[error("Y1 Worker")]
+    Worker,
+    /// No memory was left for a crew.
+    #[error("Memory")]
+    Memory,
+    /// A piece gave no segments: the first such by node, worker and place in that worker's list.
+    #[error("{fault}")]
+    Piece {
+        node: u8,
+        worker: u8,
+        piece: u64,
+        fault: PieceFault,
+    },
+    /// A node refused a segment: the first such by node, and then in the order of taking.
+    #[error(transparent)]
+    Node(NodeFault),
+    /// There was no port to listen at, no connection, or no thread for the first node.
+    #[error("Y3 Net")]
+    Net,
+    /// The exchange was refused to the first node, which leads it.
+    #[error(transparent)]
+    Lead(ExchangeFault),
+    /// The exchange was refused to the second node, which follows, and not to the first.
+    #[error(transparent)]
+    Follow(ExchangeFault),
+}
+
+impl From<CrewFault> for ClusterFault {
+    ghost from_gives = { λ fault e. e ≡ of_crew fault };
+
+    fn from(fault: CrewFault) -> ClusterFault {
+        match fault {
+            CrewFault::Worker => ClusterFault::Worker,
+            CrewFault::Memory => ClusterFault::Memory,
+        }
+    }
+}

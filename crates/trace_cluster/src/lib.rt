@@ -1,0 +1,31 @@
+//! Two nodes of one run: a crew for each, and then one exchange over a socket of this machine.
+//!
+//! [`cluster`] runs the crews one after the other, each on a board of its own. Where all pieces gave
+//! their segments, and all of these were joined, it listens on 127.0.0.1 at a port that the system
+//! gives, connects and accepts; the first node leads the exchange on a thread of its own, and the
+//! second follows. Each node keeps what its own pieces tell, and learns what the other sends.
+//!
+//! Cost: both crews, a frame each way over the socket, and one merge in each node. A node crosses to
+//! its thread and back without a copy.
+//!
+//! - [`workload`]: the pieces of a node's workers
+//! - [`fault`]: why a cluster leaves nothing
+//! - [`crews`]: what both crews leave, and the first fault or refused segment
+//! - [`peer`]: a node as the threads of an exchange know it
+//! - [`meeting`]: the socket, and the exchange over it
+//! - [`nodes`]: one after the other
+//!
+//! A socket tells no bytes, so no contract says that both nodes know the same at the end; nor that a
+//! call which waits returns.
+#![tactic(auto)]
+
+mod crews;
+mod fault;
+mod meeting;
+mod nodes;
+mod peer;
+mod workload;
+
+pub use fault::ClusterFault;
+pub use nodes::cluster;
+pub use workload::Workload;
