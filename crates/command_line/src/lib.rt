@@ -187,7 +187,7 @@ fn program_command<'a>(alloc: Global) -> Result<Command<'a>, AllocError>
     let cluster = verb_command(
         alloc,
         "cluster",
-        "Reads the pieces of two nodes side by side, lets both exchange what they know, and prints both reports",
+        "Reads the pieces of two nodes, which exchange what they know, and prints the report of each",
         CLUSTER_HELP,
     )?;
     Command::new(alloc, "mpimatch")

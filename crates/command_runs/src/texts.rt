@@ -9,20 +9,14 @@ use crate::opener::Opener;
 use crate::whole::LONGEST_PIECE;
 use input_files::Piece;
 use std::alloc::{AllocError, Global};
+use trace_cluster::Workload;
 use trace_crew::Piece as TextPiece;
 
-/// The texts of the two workers of a node.
-#[derive(Drop)]
-pub struct NodeTexts {
-    pub first: Vec<TextPiece>,
-    pub second: Vec<TextPiece>,
-}
-
-/// The texts of two nodes.
+/// The texts of two nodes, of each by the worker who reads them.
 #[derive(Drop)]
 pub struct AllTexts {
-    pub first: NodeTexts,
-    pub second: NodeTexts,
+    pub first: Workload,
+    pub second: Workload,
 }
 
 impl AllTexts {
@@ -30,11 +24,11 @@ impl AllTexts {
         ensures { (of_first by_first : Bool) → share_in result of_first by_first ≡ [] }
     {
         AllTexts {
-            first: NodeTexts {
+            first: Workload {
                 first: Vec::new(alloc),
                 second: Vec::new(alloc),
             },
-            second: NodeTexts {
+            second: Workload {
                 first: Vec::new(alloc),
                 second: Vec::new(alloc),
             },
