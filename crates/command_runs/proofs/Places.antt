@@ -38,6 +38,7 @@ at_both file all [] more (p ∷ ps) others a b = absurd a
 at_both file all (t ∷ ts) more [] others a b = absurd a
 at_both file all (t ∷ ts) more (p ∷ ps) others a b = (a.0, at_both file all ts more ps others a.1 b)
 
+-- what stands behind a front
 get_at : {X : Type 0} (front : List X) (x : X) (back : List X) → slice_get (front ++ x ∷ back) (length front) ≡ Some x
 get_at [] x back = refl
 get_at (y ∷ ys) x back = get_at ys x back

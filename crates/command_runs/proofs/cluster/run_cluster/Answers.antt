@@ -13,11 +13,11 @@ returns-in-Ok-write_both-clause-output g c =
     let file = g.O.Opener.file c.args.files.now in
     let of : AreClusterNodes file c.in-Ok.layout c.args.manifest_name.now c.in-Ok-nodes_with.nodes.0 c.in-Ok-nodes_with.nodes.1 = rw c.layout_at.ensures.same at c.in-Ok-nodes_with.ensures.ok in
     let wrote = c.in-Ok-write_both.ensures.ok in
-    (wrote.0, (c.in-Ok.layout, _, _, _, _, c.in-Ok.ensures.ok, of, c.in-Ok-answer.ensures.ok, c.in-Ok-answer-2.ensures.ok, wrote.1), wrote.2)
+    (wrote.0, (c.in-Ok.layout, c.in-Ok-nodes_with.nodes.0, c.in-Ok-nodes_with.nodes.1, _, _, c.in-Ok.ensures.ok, of, c.in-Ok-answer.ensures.ok, c.in-Ok-answer-2.ensures.ok, wrote.1), wrote.2)
 
 pub returns-clause-broken_off : goal.returns-clause-broken_off
 returns-clause-broken_off g c =
     let file = g.O.Opener.file c.args.files.now in
     let of : AreClusterNodes file c.in-Ok.layout c.args.manifest_name.now c.in-Ok-nodes_with.nodes.0 c.in-Ok-nodes_with.nodes.1 = rw c.layout_at.ensures.same at c.in-Ok-nodes_with.ensures.ok in
     let wrote = c.in-Err-write_both.ensures.err in
-    λ _. (wrote.0, (c.in-Ok.layout, _, _, _, _, c.in-Ok.ensures.ok, of, c.in-Ok-answer.ensures.ok, c.in-Ok-answer-2.ensures.ok, wrote.1), wrote.2, c.in-Err-write_both.ensures.failed)
+    λ _. (wrote.0, (c.in-Ok.layout, c.in-Ok-nodes_with.nodes.0, c.in-Ok-nodes_with.nodes.1, _, _, c.in-Ok.ensures.ok, of, c.in-Ok-answer.ensures.ok, c.in-Ok-answer-2.ensures.ok, wrote.1), wrote.2, c.in-Err-write_both.ensures.failed)
