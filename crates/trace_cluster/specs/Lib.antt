@@ -1,3 +1,5 @@
 pub mod Meeting
-pub mod Refused
+pub mod Pieces
 pub mod Clustered
+pub mod Stopped
+pub mod Crews

@@ -1,9 +1,8 @@
 //! What both crews leave, and the first fault or refused segment among it.
 
-ghost use Rattle.std.specs.Prelude.{◌≡◌, ◌++◌, [], map, IfOk, IfErr, OnOk};
+ghost use Rattle.std.specs.Prelude.{◌≡◌, [], IfOk, IfErr, OnOk};
 ghost use Rattle.trace_crew.specs.Crewed.{IsCrewOut};
-ghost use Rattle.trace_cluster.specs.Refused.{BeginsWith, faults_of, named};
-ghost use Rattle.trace_cluster.specs.declared.fault.ClusterFault.TheVariants as faults;
+ghost use Rattle.trace_cluster.specs.Crews.{AreClean, IsFirstPiece, IsFirstRefusal, StopsAt};
 
 use crate::fault::ClusterFault;
 use crate::workload::Workload;
@@ -37,12 +36,9 @@ pub(crate) fn crew_of<'a, R: Threads + Wait + Sync>(
 }
 
 /// That a node's pieces have no fault, or the first fault of them.
-fn without_faults(
-    node: u8,
-    faults: Vec<(u8, u64, PieceFault)>,
-) -> Result<(), ClusterFault>
+fn without_faults(node: u8, faults: Vec<(u8, u64, PieceFault)>) -> Result<(), ClusterFault>
     ensures ok { OnOk result (faults.items ≡ []) }
-    ensures err { IfErr result (λ fault. BeginsWith (named node faults.items) fault) }
+    ensures err { IfErr result (λ fault. IsFirstPiece node faults.items fault) }
 {
     match faults.into_iter().next() {
         Some((worker, piece, fault)) => Err(ClusterFault::Piece {
@@ -58,7 +54,7 @@ fn without_faults(
 /// That a node refused no segment, or why it refused the first.
 fn without_refusals(refused: &Vec<(u8, Segment, NodeFault)>) -> Result<(), ClusterFault>
     ensures ok { OnOk result (refused.now.items ≡ []) }
-    ensures err { IfErr result (λ fault. BeginsWith (map (λ r. faults.Node r.2) refused.now.items) fault) }
+    ensures err { IfErr result (λ fault. IsFirstRefusal refused.now.items fault) }
 {
     match refused.first() {
         Some((_, _, fault)) => Err(ClusterFault::Node(*fault)),
@@ -67,13 +63,14 @@ fn without_refusals(refused: &Vec<(u8, Segment, NodeFault)>) -> Result<(), Clust
 }
 
 /// Both nodes, where no piece of either has a fault and neither refused a segment.
+#[tactic(auto, using(crate::proofs::Stopping::stops_first, crate::proofs::Stopping::stops_second, crate::proofs::Stopping::stops_refused, crate::proofs::Stopping::stops_refused_later))]
 pub(crate) fn nodes_of<'a>(
     one: CrewOut<'a>,
     other: CrewOut<'a>,
 ) -> Result<(Node<'a>, Node<'a>), ClusterFault>
     ensures nodes { IfOk result (λ nodes. (nodes.0 ≡ one.entry.node) × (nodes.1 ≡ other.entry.node)) }
-    ensures none { OnOk result (faults_of one.entry other.entry ≡ []) }
-    ensures err { IfErr result (λ fault. BeginsWith (faults_of one.entry other.entry) fault) }
+    ensures clean { OnOk result (AreClean one.entry other.entry) }
+    ensures err { IfErr result (λ fault. StopsAt one.entry other.entry fault) }
 {
     without_faults(0, one.faults)?;
     without_faults(1, other.faults)?;

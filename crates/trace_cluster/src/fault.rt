@@ -1,7 +1,7 @@
 //! Why a cluster leaves nothing.
 
 ghost use Rattle.std.specs.Prelude.{◌≡◌};
-ghost use Rattle.trace_cluster.specs.Refused.{of_crew};
+ghost use Rattle.trace_cluster.specs.Crews.{of_crew};
 
 use thiserror::Error;
 use trace_crew::{CrewFault, PieceFault};
@@ -14,7 +14,7 @@ pub enum ClusterFault {
     /// A worker's thread couldn't be started, or an end of an inbox was refused.
     #[error("Y1 Worker")]
     Worker,
-    /// No memory was left for a crew.
+    /// No memory was left for a crew, or for a copy of what the first node knows.
     #[error("Memory")]
     Memory,
     /// A piece gave no segments: the first such by node, worker and place in that worker's list.

@@ -5,13 +5,13 @@
 //! gives, connects and accepts; the first node leads the exchange on a thread of its own, and the
 //! second follows. Each node keeps what its own pieces tell, and learns what the other sends.
 //!
-//! Cost: both crews, a frame each way over the socket, and one merge in each node. A node crosses to
-//! its thread and back without a copy.
+//! Cost: both crews, a frame each way over the socket, and a merge in each node. What the first node
+//! knows is copied for its thread and back, and the thread makes an answer of its own.
 //!
 //! - [`workload`]: the pieces of a node's workers
 //! - [`fault`]: why a cluster leaves nothing
 //! - [`crews`]: what both crews leave, and the first fault or refused segment
-//! - [`peer`]: a node as the threads of an exchange know it
+//! - [`peer`]: a node as a scope of threads knows it
 //! - [`meeting`]: the socket, and the exchange over it
 //! - [`nodes`]: one after the other
 //!

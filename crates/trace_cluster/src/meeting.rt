@@ -1,18 +1,20 @@
 //! Two nodes that meet: the socket, and the exchange over it.
 
-ghost use Rattle.std.specs.Prelude.{◌≡◌, IfOk, IfErr, OnOk, Ok};
+ghost use Rattle.std.specs.Prelude.{◌≡◌, Ok, IfSome, IfOk, IfErr, OnOk};
+ghost use Rattle.trace_cluster.specs.Crews.{IsFirstEnd, IsOfMeeting};
 ghost use Rattle.trace_cluster.specs.Meeting.{IsMore};
-ghost use Rattle.trace_cluster.specs.Refused.{IsOfMeeting};
 
 use crate::fault::ClusterFault;
 use crate::peer::Peer;
+use mpi_model::{Device, Layout};
 use std::alloc::Global;
 use std::net::{Net, TcpListener, TcpStream};
-use std::snapshot::Snapshot;
 use std::sync::Wait;
-use std::thread::{Promise, Threads};
+use std::thread::Threads;
 use std::{io, thread};
-use trace_exchange::ExchangeFault;
+use trace_exchange::{ExchangeFault, lead};
+use trace_know::{Knowledge, join_laws};
+use trace_node::{Node, NodeFault};
 
 /// Listens on 127.0.0.1 at a port that the system gives, connects to it and accepts, in this order:
 /// both ends of one connection.
@@ -25,33 +27,33 @@ fn connected<R: Net<Listener = TcpListener, Stream = TcpStream>>(
     Ok((one, other))
 }
 
-/// A node after its side of an exchange, and whether that was refused.
+/// Leads an exchange for a node that knows this, and answers all that it knows then. Only knowledge
+/// crosses to the thread and back: a node has an answer, whose conditions no thread can be given.
+fn led(
+    alloc: Global,
+    layout: &Layout,
+    know: Knowledge,
+    stream: TcpStream,
+) -> Result<Knowledge, ExchangeFault> {
+    let mut node = match Node::of(alloc, layout, know) {
+        Ok(node) => node,
+        Err(fault) => return Err(ExchangeFault::Merge(fault)),
+    };
+    match lead(alloc, &mut Device::new(stream), &mut node) {
+        Ok(()) => {}
+        Err(fault) => return Err(fault),
+    }
+    match node.know().try_clone() {
+        Ok(know) => Ok(know),
+        Err(_) => Err(ExchangeFault::Merge(NodeFault::Memory)),
+    }
+}
+
+/// A node after it has followed in an exchange, and whether that was refused.
 #[derive(Drop)]
 struct Met<N> {
     node: N,
     end: Result<(), ExchangeFault>,
-}
-
-/// That a node keeps what it knew, for the thread that joins the one in which it leads.
-#[derive(Drop)]
-struct Leading<N> {
-    node: Snapshot<N>,
-}
-
-impl<N: Peer> Promise<Met<N>> for Leading<N> {
-    ghost use Rattle.std.specs.Prelude.{OnOk};
-    ghost use Rattle.trace_cluster.specs.Meeting.{IsMore};
-
-    ghost kept_by = { λ p r. OnOk r.end (IsMore (N.held p.node.value) (N.held r.node)) };
-}
-
-/// Leads an exchange.
-fn led<N: Peer>(alloc: Global, stream: TcpStream, node: N) -> Met<N>
-    ensures { OnOk result.end (IsMore (N.held node) (N.held result.node)) }
-{
-    let mut node = node;
-    let end = node.lead_over(alloc, stream);
-    Met { node, end }
 }
 
 /// Follows in an exchange.
@@ -63,59 +65,83 @@ fn followed<N: Peer>(alloc: Global, stream: TcpStream, node: N) -> Met<N>
     Met { node, end }
 }
 
-/// Both nodes; or why the leader was refused, else why the follower was.
-fn both<N: Peer>(leader: Met<N>, follower: Met<N>) -> Result<(N, N), ClusterFault>
-    ensures ended { OnOk result ((leader.end ≡ Ok tt) × (follower.end ≡ Ok tt)) }
-    ensures nodes { IfOk result (λ nodes. (nodes.0 ≡ leader.node) × (nodes.1 ≡ follower.node)) }
-    ensures err { IfErr result (λ fault. IsOfMeeting fault) }
-{
-    match leader.end {
-        Ok(()) => {}
-        Err(fault) => return Err(ClusterFault::Lead(fault)),
-    }
-    match follower.end {
-        Ok(()) => {}
-        Err(fault) => return Err(ClusterFault::Follow(fault)),
-    }
-    Ok((leader.node, follower.node))
-}
-
-/// An exchange between two nodes: the first leads it on a thread of its own, beside the second.
-pub(crate) fn exchange<
-    R: Net<Listener = TcpListener, Stream = TcpStream> + Threads + Wait + Sync,
-    N: Peer,
->(
+/// One leads on a thread of its own, with what the first node knows, beside the second node, which
+/// follows: what the first knows then, and the second. Nothing where no thread could be started.
+fn meet<R: Threads + Wait + Sync, N: Peer>(
     rt: &R,
     alloc: Global,
-    leader: N,
+    layout: &Layout,
+    know: Knowledge,
+    ends: (TcpStream, TcpStream),
     follower: N,
-) -> Result<(N, N), ClusterFault>
-    ensures ok { IfOk result (λ nodes. IsMore (N.held leader) (N.held nodes.0) × IsMore (N.held follower) (N.held nodes.1)) }
-    ensures err { IfErr result (λ fault. IsOfMeeting fault) }
+) -> Option<(Result<Knowledge, ExchangeFault>, Met<N>)>
+    ensures { IfSome result (λ met. OnOk met.1.end (IsMore (N.held follower) (N.held met.1.node))) }
 {
-    let Ok((one, other)) = connected(rt) else {
-        return Err(ClusterFault::Net);
-    };
+    let (one, other) = ends;
     thread::scope(
         thread::scope_env(),
         rt,
-        move |scope| -> Result<(N, N), ClusterFault>
-            ensures ok { IfOk result (λ nodes. IsMore (N.held leader) (N.held nodes.0) × IsMore (N.held follower) (N.held nodes.1)) }
-            ensures err { IfErr result (λ fault. IsOfMeeting fault) }
+        move |scope| -> Option<(Result<Knowledge, ExchangeFault>, Met<N>)>
+            ensures { IfSome result (λ met. OnOk met.1.end (IsMore (N.held follower) (N.held met.1.node))) }
         {
-            let promise = Leading {
-                node: Snapshot::of(&leader),
+            let Ok(leading) = scope.spawn(move || led(alloc, layout, know, one)) else {
+                return None;
             };
-            let Ok(leading) = scope.spawn_with(
-                promise,
-                move || -> Met<N>
-                    ensures { OnOk result.end (IsMore (N.held leader) (N.held result.node)) }
-                { led(alloc, one, leader) },
-            ) else {
-                return Err(ClusterFault::Net);
-            };
-            let follower = followed(alloc, other, follower);
-            both(leading.join(rt), follower)
+            let met = followed(alloc, other, follower);
+            Some((leading.join(rt), met))
         },
     )
+}
+
+/// Both nodes, the first with what its leading has learned; or why the leader was refused, else why the
+/// follower was.
+#[tactic(auto, using(crate::proofs::Ending::unmerged_end, crate::proofs::Ending::followed_end))]
+fn both<'a>(
+    leader: Node<'a>,
+    led: Result<Knowledge, ExchangeFault>,
+    follower: Met<Node<'a>>,
+) -> Result<(Node<'a>, Node<'a>), ClusterFault>
+    ensures first { IfOk result (λ nodes. IsMore leader.entry nodes.0) }
+    ensures second { IfOk result (λ nodes. (nodes.1 ≡ follower.entry.node) × (follower.entry.end ≡ Ok tt)) }
+    ensures err { IfErr result (λ fault. IsFirstEnd led follower.entry.end fault) }
+{
+    join_laws();
+    let mut leader = leader;
+    let known = match led {
+        Ok(known) => known,
+        Err(fault) => return Err(ClusterFault::Lead(fault)),
+    };
+    match leader.merge(&known) {
+        Ok(()) => {}
+        Err(fault) => return Err(ClusterFault::Lead(ExchangeFault::Merge(fault))),
+    }
+    match follower.end {
+        Ok(()) => Ok((leader, follower.node)),
+        Err(fault) => Err(ClusterFault::Follow(fault)),
+    }
+}
+
+/// An exchange between two nodes over a socket of this machine: the first leads it.
+pub(crate) fn exchange<
+    'a,
+    R: Net<Listener = TcpListener, Stream = TcpStream> + Threads + Wait + Sync,
+>(
+    rt: &R,
+    alloc: Global,
+    leader: Node<'a>,
+    follower: Node<'a>,
+) -> Result<(Node<'a>, Node<'a>), ClusterFault>
+    ensures ok { IfOk result (λ nodes. IsMore leader.entry nodes.0 × IsMore follower.entry nodes.1) }
+    ensures err { IfErr result (λ fault. IsOfMeeting fault) }
+{
+    let Ok(know) = leader.know().try_clone() else {
+        return Err(ClusterFault::Memory);
+    };
+    let Ok(ends) = connected(rt) else {
+        return Err(ClusterFault::Net);
+    };
+    let Some((led, followed)) = meet(rt, alloc, leader.layout(), know, ends, follower) else {
+        return Err(ClusterFault::Net);
+    };
+    both(leader, led, followed)
 }

@@ -2,7 +2,8 @@
 
 ghost use Rattle.std.specs.Prelude.{IfOk, IfErr};
 ghost use Rattle.trace_cluster.specs.Clustered.{KnowsOwn};
-ghost use Rattle.trace_cluster.specs.Refused.{IsRefusedFor};
+ghost use Rattle.trace_cluster.specs.Pieces.{all_pieces};
+ghost use Rattle.trace_cluster.specs.Stopped.{IsStopped};
 
 use crate::crews::{crew_of, nodes_of};
 use crate::fault::ClusterFault;
@@ -21,10 +22,7 @@ use trace_node::Node;
 ///
 /// Both nodes have an answer then. Over a socket that passes on what is written they know the same:
 /// the join of all pieces.
-pub fn cluster<
-    'a,
-    R: Net<Listener = TcpListener, Stream = TcpStream> + Threads + Wait + Sync,
->(
+pub fn cluster<'a, R: Net<Listener = TcpListener, Stream = TcpStream> + Threads + Wait + Sync>(
     rt: &R,
     alloc: Global,
     layout: &'a Layout,
@@ -32,12 +30,12 @@ pub fn cluster<
     second: &Workload,
 ) -> Result<(Node<'a>, Node<'a>), ClusterFault>
     ensures ok { IfOk result (λ nodes. KnowsOwn layout.now first.now nodes.0 × KnowsOwn layout.now second.now nodes.1) }
-    ensures err { IfErr result (λ fault. IsRefusedFor layout.now first.now second.now fault) }
+    ensures err { IfErr result (λ fault. IsStopped layout.now (all_pieces first.now second.now) fault) }
 {
     join_laws();
     view_laws();
     let one = crew_of(rt, alloc, layout, first)?;
     let other = crew_of(rt, alloc, layout, second)?;
-    let (one, other) = nodes_of(one, other)?;
-    exchange(rt, alloc, one, other)
+    let (leader, follower) = nodes_of(one, other)?;
+    exchange(rt, alloc, leader, follower)
 }

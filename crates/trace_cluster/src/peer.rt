@@ -1,4 +1,4 @@
-//! A node as the threads of an exchange know it.
+//! A node as a scope of threads knows it.
 
 ghost use Rattle.std.specs.Prelude.{OnOk};
 ghost use Rattle.trace_node.specs.Node.{Held};
@@ -6,20 +6,15 @@ ghost use Rattle.trace_cluster.specs.Meeting.{IsMore};
 
 use mpi_model::Device;
 use std::alloc::Global;
-use std::marker::Send;
 use std::net::TcpStream;
-use trace_exchange::{ExchangeFault, follow, lead};
+use trace_exchange::{ExchangeFault, follow};
 use trace_node::Node;
 
-/// One who takes part in an exchange. Threads know a node by this trait alone, since what a thread
-/// captures can't name the lifetime inside it.
-pub trait Peer: Send + Drop {
+/// One who takes part in an exchange. A scope of threads knows a node by this trait alone, since what
+/// its closure captures can't name the lifetime inside it.
+pub trait Peer: Drop {
     /// What its node holds.
     ghost held: { Self → Held };
-
-    /// Leads an exchange over a connection, and closes it.
-    fn lead_over(&mut self, alloc: Global, stream: TcpStream) -> Result<(), ExchangeFault>
-        ensures { OnOk result (IsMore (held self.old) (held self.new)) };
 
     /// Follows in an exchange over a connection, and closes it.
     fn follow_over(&mut self, alloc: Global, stream: TcpStream) -> Result<(), ExchangeFault>
@@ -28,10 +23,6 @@ pub trait Peer: Send + Drop {
 
 impl<'a> Peer for Node<'a> {
     ghost held = { λ n. n };
-
-    fn lead_over(&mut self, alloc: Global, stream: TcpStream) -> Result<(), ExchangeFault> {
-        lead(alloc, &mut Device::new(stream), self)
-    }
 
     fn follow_over(&mut self, alloc: Global, stream: TcpStream) -> Result<(), ExchangeFault> {
         follow(alloc, &mut Device::new(stream), self)

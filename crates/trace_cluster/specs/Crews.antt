@@ -1,0 +1,63 @@
+-- What stops a cluster among what two crews leave.
+use Rattle.std.specs.Prelude.{◌≡◌, ℕ, Result, Ok, Err, List, [], ◌∷◌, ◌++◌, ◌⊎◌, ⊤}
+use Rattle.trace_know.specs.View.{View}
+use Rattle.trace_node.specs.declared.fault.NodeFault.{NodeFault}
+use Rattle.trace_exchange.specs.declared.fault.ExchangeFault.TheVariants.{Merge}
+use Rattle.trace_exchange.specs.declared.fault.ExchangeFault.{ExchangeFault}
+use Rattle.trace_crew.specs.declared.piece.PieceFault.{PieceFault}
+use Rattle.trace_crew.specs.declared.threads.CrewFault.{CrewFault}
+use Rattle.trace_crew.specs.declared.threads.CrewFault.TheVariants as crews
+use Rattle.trace_crew.specs.declared.threads.CrewOut.{CrewOut}
+use Rattle.trace_crew.specs.Taking.{Refusal}
+use Rattle.trace_cluster.specs.declared.fault.ClusterFault.{ClusterFault}
+use Rattle.trace_cluster.specs.declared.fault.ClusterFault.TheVariants.{Worker, Memory, Piece, Node, Net, Lead, Follow}
+
+-- the fault of a crew as one of the cluster
+abbrev pub of_crew : CrewFault → ClusterFault
+of_crew crews.Worker = Worker
+of_crew crews.Memory = Memory
+
+-- It is the first of a node's faulty pieces.
+abbrev pub IsFirstPiece : ℕ → List (ℕ × ℕ × PieceFault) → ClusterFault → Type 0
+IsFirstPiece node faults fault = (first : ℕ × ℕ × PieceFault) × (rest : List (ℕ × ℕ × PieceFault)) × (faults ≡ first ∷ rest) × (fault ≡ Piece node first.0 first.1 first.2)
+
+-- It is why the first of these segments was refused.
+abbrev pub IsFirstRefusal : List Refusal → ClusterFault → Type 0
+IsFirstRefusal refused fault = (first : Refusal) × (rest : List Refusal) × (refused ≡ first ∷ rest) × (fault ≡ Node first.2)
+
+-- no piece of two crews has a fault
+abbrev pub AreFaultless : CrewOut → CrewOut → Type 0
+AreFaultless one other = (one.faults.items ≡ []) × (other.faults.items ≡ [])
+
+-- Of what two crews leave it is the first that stops the cluster: a piece by node, worker and place, and where all pieces
+-- are whole a refused segment by node and in the order of taking.
+abbrev pub StopsAt : CrewOut → CrewOut → ClusterFault → Type 0
+StopsAt one other fault = IsFirstPiece 0 one.faults.items fault
+    ⊎ ((one.faults.items ≡ []) × IsFirstPiece 1 other.faults.items fault)
+    ⊎ (AreFaultless one other × IsFirstRefusal (one.refused.items ++ other.refused.items) fault)
+
+-- Nothing among it stops the cluster.
+abbrev pub AreClean : CrewOut → CrewOut → Type 0
+AreClean one other = AreFaultless one other × (one.refused.items ≡ []) × (other.refused.items ≡ [])
+
+-- The first node did not join what its leading has learned.
+abbrev pub IsUnmerged : ClusterFault → Type 0
+IsUnmerged fault = (cause : NodeFault) × (fault ≡ Lead (Merge cause))
+
+-- It is why the follower's side of an exchange was refused.
+abbrev pub IsFollowers : Result (Unit {0}) ExchangeFault → ClusterFault → Type 0
+IsFollowers followed fault = (cause : ExchangeFault) × (followed ≡ Err cause) × (fault ≡ Follow cause)
+
+-- It is why the leader's side of an exchange was refused, or, where that was not, why the first node did not join what
+-- that has learned, or the follower's.
+abbrev pub IsFirstEnd : Result View ExchangeFault → Result (Unit {0}) ExchangeFault → ClusterFault → Type 0
+IsFirstEnd (Err led) followed fault = fault ≡ Lead led
+IsFirstEnd (Ok known) followed fault = IsUnmerged fault ⊎ IsFollowers followed fault
+
+-- It comes of the exchange, and not of a crew.
+abbrev pub IsOfMeeting : ClusterFault → Type 0
+IsOfMeeting Memory = ⊤
+IsOfMeeting Net = ⊤
+IsOfMeeting (Lead fault) = ⊤
+IsOfMeeting (Follow fault) = ⊤
+IsOfMeeting fault = ⊥

@@ -1,0 +1,60 @@
+//! A network that gives no port, or no connection.
+
+use crate::pieces::{CALL, layout, workload};
+use std::alloc::Global;
+use std::io;
+use std::net::{Net, SocketAddr, TcpListener, TcpStream};
+use std::sync::Wait;
+use std::thread::Threads;
+use trace_cluster::{ClusterFault, cluster};
+
+/// A runtime whose network gives ports where it is told so, and no connection.
+#[derive(Drop)]
+struct Unplugged<'a, R> {
+    rt: &'a R,
+    has_ports: bool,
+}
+
+impl<'a, R: Threads> Threads for Unplugged<'a, R> {}
+
+impl<'a, R: Wait> Wait for Unplugged<'a, R> {}
+
+impl<'a, R: Net<Listener = TcpListener, Stream = TcpStream>> Net for Unplugged<'a, R> {
+    type Stream = TcpStream;
+
+    type Listener = TcpListener;
+
+    fn bind(&self, addr: SocketAddr) -> io::Result<TcpListener> {
+        if self.has_ports {
+            self.rt.bind(addr)
+        } else {
+            Err(io::Error::from(io::ErrorKind::AddrInUse))
+        }
+    }
+
+    fn connect(&self, _addr: SocketAddr) -> io::Result<TcpStream> {
+        Err(io::Error::from(io::ErrorKind::ConnectionRefused))
+    }
+}
+
+/// Whether a cluster over such a network says that there is none, after both crews.
+fn is_unmet<R: Net<Listener = TcpListener, Stream = TcpStream> + Threads + Wait + Sync>(
+    rt: &R,
+    alloc: Global,
+    has_ports: bool,
+) -> Option<bool> {
+    let layout = layout(alloc)?;
+    let first = workload(alloc, &[(0, 0, CALL)], &[])?;
+    let second = workload(alloc, &[], &[(1, 0, CALL)])?;
+    let unplugged = Unplugged { rt, has_ports };
+    let fault = cluster(&unplugged, alloc, &layout, &first, &second).err()?;
+    Some(matches!(&fault, ClusterFault::Net))
+}
+
+#[test]
+fn no_port_and_no_connection(rt: HostRuntime) {
+    let no_port = is_unmet(&rt, rt.alloc(), false);
+    let no_connection = is_unmet(&rt, rt.alloc(), true);
+    assert!(rt; no_port == Some(true), "no port");
+    assert!(rt; no_connection == Some(true), "no connection");
+}
