@@ -1,13 +1,15 @@
 #!/usr/bin/env python3
 """Times the built program on traces of given sizes: run.py [--megabytes 10 50 100] [--ranks R] [--piece CALLS]
-[--shuffle] [--twice SHARE] [--parts].
+[--shuffle] [--twice SHARE] [--parts] [--cluster].
 
 For each size it makes a trace in a temporary folder, runs crates/mpimatch/out/mpimatch on it once
 to warm the file cache and then three times, and prints a row of the best run: text, calls, pieces,
 seconds, MB/s of text, calls/s, processor seconds, and peak memory. The pieces are those of the
 manifest. With --parts (which needs strace) a further line says how the time of one run parts: until
 the last piece was read, joined while it is; until the first byte of the report was written, which is
-the answer; and until the last. The first is longer than without strace, the others are not. Where
+the answer; and until the last. The first is longer than without strace, the others are not. With
+--cluster further lines say what `cluster` takes on the same trace, with its pieces spread in turn over
+the workers of both nodes, and with all of them for the two workers of one node. Where
 the program isn't built or fails, or a number
 makes no trace, it ends with a sentence that says so.
 """
@@ -24,18 +26,27 @@ PROGRAM = os.path.join(TOP, "crates", "mpimatch", "out", "mpimatch")
 MAKER = os.path.join(TOP, "bench", "make_trace.py")
 
 
-def timed(folder):
+def timed(folder, verb="report", manifest="manifest.json", end=b"end\n"):
     """The seconds, the processor seconds and the peak bytes of one run."""
     begin = time.perf_counter()
-    process = subprocess.Popen(
-        [PROGRAM, "report", "layout.json", "manifest.json"], cwd=folder, stdout=subprocess.PIPE
-    )
+    process = subprocess.Popen([PROGRAM, verb, "layout.json", manifest], cwd=folder, stdout=subprocess.PIPE)
     report = process.stdout.read()
     _, status, usage = os.wait4(process.pid, 0)
     seconds = time.perf_counter() - begin
-    if status != 0 or not report.endswith(b"end\n"):
+    if status != 0 or not report.endswith(end):
         sys.exit(f"bench: the program failed on a trace, with status {os.waitstatus_to_exitcode(status)}")
     return seconds, usage.ru_utime + usage.ru_stime, usage.ru_maxrss * 1024
+
+
+def cluster(folder, nodes):
+    """The best of three runs of `cluster` with the pieces of the manifest spread over so many nodes."""
+    with open(os.path.join(folder, "manifest.json")) as file:
+        manifest = json.load(file)
+    for n, piece in enumerate(manifest["pieces"]):
+        piece["node"], piece["worker"] = n % nodes, n // nodes % 2
+    with open(os.path.join(folder, "cluster.json"), "w") as file:
+        json.dump(manifest, file)
+    return min(timed(folder, "cluster", "cluster.json", b"end\nequal yes\n") for _ in range(3))
 
 
 def parts(folder):
@@ -62,6 +73,7 @@ def main():
     parser.add_argument("--shuffle", action="store_true")
     parser.add_argument("--twice", type=float, default=0)
     parser.add_argument("--parts", action="store_true")
+    parser.add_argument("--cluster", action="store_true")
     arguments = parser.parse_args()
     if not os.access(PROGRAM, os.X_OK):
         sys.exit("bench: the program is not built: run ./mpimatch --version once, or ./check")
@@ -81,6 +93,10 @@ def main():
             seconds, processor, peak = min(timed(folder) for _ in range(3))
             row = (size / 1e6, calls, pieces, seconds, size / 1e6 / seconds, calls / seconds, processor, peak / 1e6)
             print("| %8.1f | %9d | %6d | %7.2f | %5.1f | %9.0f | %5.2f | %7.0f |" % row, flush=True)
+            for nodes in (2, 1) if arguments.cluster else ():
+                took = cluster(folder, nodes)
+                of = (nodes, "s" if nodes > 1 else "", took[0], took[0] / seconds, took[1], took[2] / 1e6)
+                print("cluster, pieces for %d node%s: %.2f s, %.2f of report's, CPU %.2f s, peak %.0f MB" % of, flush=True)
             if arguments.parts:
                 print("read %.2f s (traced), answer %.2f s, written %.2f s" % parts(folder), flush=True)
 

@@ -26,6 +26,9 @@ pub enum Verb {
     /// Run a schedule of posts, takes, shipments, deliveries and restarts, and print the report of
     /// each node.
     Replay,
+    /// Read the pieces of two nodes by two workers each, let the nodes exchange what they know, and
+    /// print the report of each and whether both say the same.
+    Cluster,
 }
 
 /// A verb with the names of its two files, as the words spell them.
@@ -125,6 +128,24 @@ A step that can't be done ends the run with 1 and a line such as V3 EmptyInbox a
 counts the steps that were run from 0, a post of several segments as several.
 "#;
 
+// What the help of `cluster` says below its arguments.
+const CLUSTER_HELP: &str =
+    r#"Each piece goes to the node and the worker that it names in the manifest, 0 or 1, or 0 where it
+names none:
+  {"pieces":[{"rank":0,"first":0,"file":"r0.txt","node":0,"worker":0},
+             {"rank":1,"first":0,"file":"r1.txt","node":1,"worker":0}]}
+All files are read first. Then two workers of each node go through its texts side by side, and both
+nodes send each other what they know over a socket of this machine. It prints
+  node 0                       and the report of what the first node knows then
+  node 1                       and that of the second (mpimatch help report says what the lines mean)
+  equal yes                    both reports tell the same; or equal no
+A file of a piece may have 1,073,741,824 bytes. A run that can't be done ends with 1 and a line:
+  Y1 Worker                    a thread could not be started
+  Y3 Net                       no connection could be made
+  W4 Length                    a node knows too much to send, above 16,777,216 bytes
+  N1 Rank                      a piece has calls of a rank that the layout doesn't have
+"#;
+
 // What the help says below the verbs.
 const MORE_HELP: &str = r#"Example: mpimatch report layout.json manifest.json
 
@@ -135,7 +156,8 @@ receive, and buffer where it does not.
 
 MANIFEST has the text files of the trace, each with its rank and the number of its first call:
   {"pieces":[{"rank":0,"first":0,"file":"r0.txt"},{"rank":1,"first":0,"file":"r1.txt"}]}
-and for replay also "nodes" and a "schedule": mpimatch help replay says what it may hold.
+and for replay also "nodes" and a "schedule", for cluster a "node" and a "worker" of each piece:
+mpimatch help replay and mpimatch help cluster say what they may hold.
 Calls of a rank are numbered from 0. Files are named from the folder in which mpimatch runs.
 
 It ends with 0 and what the verb prints, with 2 for a mistake in the words, or with 1 and a line on
@@ -162,13 +184,20 @@ fn program_command<'a>(alloc: Global) -> Result<Command<'a>, AllocError>
         "Runs a schedule of nodes that exchange what they know, and prints the report of each",
         REPLAY_HELP,
     )?;
+    let cluster = verb_command(
+        alloc,
+        "cluster",
+        "Reads the pieces of two nodes, which exchange what they know, and prints the report of each",
+        CLUSTER_HELP,
+    )?;
     Command::new(alloc, "mpimatch")
         .about("Tells what the trace of an MPI run says of its ranks, after the run")
         .version("0.1.0")
         .after_help(MORE_HELP)
         .subcommand_required(true)
         .subcommand(report)?
-        .subcommand(replay)
+        .subcommand(replay)?
+        .subcommand(cluster)
 }
 
 fn verb_command<'a>(
@@ -211,6 +240,8 @@ fn verb_of(name: &str) -> Option<Verb>
         Some(Verb::Report)
     } else if name == "replay" {
         Some(Verb::Replay)
+    } else if name == "cluster" {
+        Some(Verb::Cluster)
     } else {
         None
     }

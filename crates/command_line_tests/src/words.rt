@@ -4,7 +4,7 @@ use command_line::{CommandFault, Verb, command_of};
 use std::alloc::Global;
 
 /// Words, and the status with which the program ends on them
-static REFUSED: [(&str, &[&str], i32); 15] = [
+static REFUSED: [(&str, &[&str], i32); 17] = [
     ("none", &["mpimatch"], 2),
     ("no files", &["mpimatch", "report"], 2),
     ("one too few", &["mpimatch", "report", "l.json"], 2),
@@ -16,7 +16,7 @@ static REFUSED: [(&str, &[&str], i32); 15] = [
     ("no verb", &["mpimatch", "draw", "l.json", "m.json"], 2),
     (
         "a verb to come",
-        &["mpimatch", "cluster", "l.json", "m.json"],
+        &["mpimatch", "check", "l.json", "m.json"],
         2,
     ),
     (
@@ -25,6 +25,7 @@ static REFUSED: [(&str, &[&str], i32); 15] = [
         2,
     ),
     ("replay of one file", &["mpimatch", "replay", "l.json"], 2),
+    ("cluster of one file", &["mpimatch", "cluster", "l.json"], 2),
     (
         "an option",
         &["mpimatch", "report", "--fast", "l.json", "m.json"],
@@ -35,11 +36,12 @@ static REFUSED: [(&str, &[&str], i32); 15] = [
     ("the word help", &["mpimatch", "help"], 0),
     ("help of a verb", &["mpimatch", "report", "--help"], 0),
     ("help of replay", &["mpimatch", "help", "replay"], 0),
+    ("help of cluster", &["mpimatch", "help", "cluster"], 0),
     ("version", &["mpimatch", "--version"], 0),
 ];
 
 /// Words, the verb that they ask for, and the two files that they name
-static ASKED: [(&str, &[&str], Verb, &str, &str); 4] = [
+static ASKED: [(&str, &[&str], Verb, &str, &str); 5] = [
     (
         "report",
         &["mpimatch", "report", "l.json", "m.json"],
@@ -51,6 +53,13 @@ static ASKED: [(&str, &[&str], Verb, &str, &str); 4] = [
         "replay",
         &["mpimatch", "replay", "l.json", "m.json"],
         Verb::Replay,
+        "l.json",
+        "m.json",
+    ),
+    (
+        "cluster",
+        &["mpimatch", "cluster", "l.json", "m.json"],
+        Verb::Cluster,
         "l.json",
         "m.json",
     ),

@@ -1,13 +1,13 @@
 -- How the program ends, outcome by outcome.
-use Rattle.std.proofs.Common.{◌≡◌, ◌⊎◌, ℕ, List, [], Option, refl, inl, inr}
+use Rattle.std.proofs.Common.{◌≡◌, ◌⊎◌, ℕ, List, [], Option, Bool, true, false, Result, Ok, Err, IfErr, IfOk, OnOk, ap, sym, subst, refl, inl, inr}
 use Rattle.std.specs.Io.KnownBytes.{Appends, Keeps}
 use Rattle.clap.specs.Words.{Text}
 use Rattle.mpi_model.specs.Failures.{HasFailed}
 use Rattle.command_line.specs.Program.{Refuses, Request}
 use Rattle.command_line.specs.declared.CommandFault.{CommandFault}
-use Rattle.command_runs.specs.Endings.{Ask, IsEnding, IsEndingFor, Output}
+use Rattle.command_runs.specs.Endings.{Ask, IsEndedBy, IsEnding, IsEndingFor, Output}
 use Rattle.command_runs.specs.FaultLines.{fault_line_of}
-use Rattle.command_runs.specs.Verbs.{IsOutputOf, RefusesVerb}
+use Rattle.command_runs.specs.Verbs.{BreaksOff, IsOutputOf, RefusesVerb}
 use Rattle.command_runs.specs.declared.fault.RunFault.{RunFault}
 use Rattle.command_runs.specs.declared.fault.RunFault.TheVariants.{Memory, Write}
 
@@ -30,6 +30,23 @@ pub not_reported : (file : List ℕ → Option (List ℕ)) (words : List Text) (
 not_reported file words request fault errors old new ask line (inl writing) kept failed = inr (inl (refl, (fault, line, inl (writing, failed writing))))
 not_reported file words request fault errors old new ask line (inr refused) (inl writing) failed = inr (inl (refl, (fault, line, inl (writing, failed writing))))
 not_reported file words request fault errors old new ask line (inr refused) (inr kept) failed = inr (inl (refl, (fault, line, inr (kept, inr (request, ask, refused)))))
+
+-- the run of what the words ask for has answered
+pub ended : (file : List ℕ → Option (List ℕ)) (words : List Text) (request : Request) (ran : Result Bool RunFault) (status : ℕ) (errors : List ℕ) (old new : Output)
+    → Ask words request
+    → OnOk ran ((text : List ℕ) × IsOutputOf file request.verb request.layout request.manifest text × Appends old.bytes new.bytes text)
+    → IfOk ran (λ held. held ≡ true)
+    → IfErr ran (λ fault. (fault ≡ Write) ⊎ RefusesVerb file request.verb request.layout request.manifest fault)
+    → IfErr ran (λ fault. (fault ≡ Write) ⊎ Keeps old.bytes new.bytes)
+    → (ran ≡ Err Write → BreaksOff file request.verb request.layout request.manifest old.bytes new.bytes old.failures new.failures)
+    → IsEndedBy ran status errors → IsEnding file words status errors old new
+ended file words request (Ok true) status errors old new ask output held refused nothing broken is =
+    subst (λ (s : ℕ). IsEnding file words s errors old new) (sym is.0)
+    (reported file words request output.0 errors old new ask output.1 output.2 is.1)
+ended file words request (Ok false) status errors old new ask output held refused nothing broken is = absurd (cc held)
+ended file words request (Err fault) status errors old new ask output held refused nothing broken is =
+    subst (λ (s : ℕ). IsEnding file words s errors old new) (sym is.0)
+    (not_reported file words request fault errors old new ask is.1 refused nothing (λ w. (broken (ap (λ (f : RunFault). Err f) w)).3))
 
 -- the words ask for nothing
 pub unasked : (file : List ℕ → Option (List ℕ)) (words : List Text) (fault : CommandFault) (status : ℕ) (errors : List ℕ) (old new : Output)

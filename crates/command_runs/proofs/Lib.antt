@@ -7,3 +7,8 @@ pub mod Worlds
 pub mod Within
 pub mod Refusals
 pub mod Reports
+pub mod Sharing
+pub mod GivenFacts
+pub mod OwnPieces
+pub mod Places
+pub mod Stops

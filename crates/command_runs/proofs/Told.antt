@@ -14,7 +14,7 @@ use Rattle.dumpi_calls.specs.declared.walking.Walked.{Walked}
 use Rattle.command_runs.specs.Files.{IsTold}
 use Rattle.command_runs.specs.Pieces.{IsWalkFault, PassesPlaces, RefusesPiece, StopsText, TellsFacts, TellsSegments, facts_of_all}
 use Rattle.command_runs.specs.declared.fault.RunFault.{RunFault}
-use Rattle.command_runs.specs.declared.fault.RunFault.TheVariants.{Memory, File, Json, Shape, Piece, Layout, Text, Missing, Wrong, Place, Rank, NodeCount, Step, Write}
+use Rattle.command_runs.specs.declared.fault.RunFault.TheVariants.{Memory, File, Json, Shape, Piece, Layout, Text, Missing, Wrong, Place, Rank, Outside, NodeCount, Step, Worker, Net, Frame, Write}
 
 events_told : (file left : Option (List ℕ)) (events : List Event) → IsTold file left → TellsEvents left events → TellsEvents file events
 events_told None left events told h = tt
@@ -65,6 +65,10 @@ walk_told name first file left old new fault (Piece path) told h is = absurd is
 walk_told name first file left old new fault (Layout broken path) told h is = absurd is
 walk_told name first file left old new fault (Place path) told h is = absurd is
 walk_told name first file left old new fault (Rank path) told h is = absurd is
+walk_told name first file left old new fault Outside told h is = absurd is
 walk_told name first file left old new fault NodeCount told h is = absurd is
 walk_told name first file left old new fault (Step broken step) told h is = absurd is
+walk_told name first file left old new fault Worker told h is = absurd is
+walk_told name first file left old new fault Net told h is = absurd is
+walk_told name first file left old new fault (Frame broken) told h is = absurd is
 walk_told name first file left old new fault Write told h is = absurd is

@@ -1,12 +1,15 @@
 -- How the program ends: its status, what it wrote, and the line that it showed.
-use Rattle.std.specs.Prelude.{◌≡◌, ◌<◌, ◌⊎◌, ℕ, List, [], Option, Some}
+use Rattle.std.specs.Prelude.{◌≡◌, ◌<◌, ◌⊎◌, ℕ, Bool, true, false, List, [], Option, Some, Result, Ok, Err, string_bytes}
 use Rattle.std.specs.Io.KnownBytes.{Appends, Keeps}
 use Rattle.mpi_model.specs.Failures.{HasFailed}
 use Rattle.clap.specs.Words.{Text, subcommand_of}
 use Rattle.command_line.specs.Program.{Refuses, Request, program, request_in, status_of}
 use Rattle.command_line.specs.declared.CommandFault.{CommandFault}
+use Rattle.command_line.specs.declared.Verb.TheVariants as verbs
 use Rattle.command_runs.specs.FaultLines.{fault_line_of}
 use Rattle.command_runs.specs.Verbs.{IsOutputOf, RefusesVerb}
+use Rattle.command_runs.specs.declared.ending.Turn.{Turn}
+use Rattle.command_runs.specs.declared.ending.Turn.TheVariants as turns
 use Rattle.command_runs.specs.declared.fault.RunFault.{RunFault}
 use Rattle.command_runs.specs.declared.fault.RunFault.TheVariants.{Memory, Write}
 
@@ -59,3 +62,18 @@ abbrev pub IsEndingFor : CommandFault → ℕ → List ℕ → Output → Output
 IsEndingFor fault status errors old new = ((status ≡ 0) × (errors ≡ []) × (0 ≡ status_of fault) × (new.failures ≡ old.failures))
     ⊎ (((status ≡ 1) × (errors ≡ fault_line_of Write) × HasFailed old.failures new.failures)
     ⊎ ((0 < status) × (status ≡ status_of fault) × Keeps old.bytes new.bytes))
+
+-- The status after a run that answered so, and the line that is shown: that of its fault.
+abbrev pub IsEndedBy : Result Bool RunFault → ℕ → List ℕ → Type 0
+IsEndedBy (Ok true) status errors = (status ≡ 0) × (errors ≡ [])
+IsEndedBy (Ok false) status errors = (status ≡ 1) × (errors ≡ [])
+IsEndedBy (Err fault) status errors = (status ≡ 1) × (errors ≡ fault_line_of fault)
+
+-- the request of a cluster of these two files
+abbrev pub of_cluster : List ℕ → List ℕ → Request
+of_cluster layout manifest = record { verb = verbs.Cluster; layout = layout; manifest = manifest }
+
+-- The program has ended so on these words; or they ask for a cluster, and nothing was done.
+abbrev pub IsTurn : (List ℕ → Option (List ℕ)) → List Text → Turn → Output → Output → Type 0
+IsTurn file words (turns.Ended e) old new = IsEnding file words e.status (string_bytes e.errors) old new
+IsTurn file words (turns.Cluster layout manifest) old new = Ask words (of_cluster layout.now manifest.now) × (new ≡ old)

@@ -8,10 +8,12 @@ use Rattle.dumpi_text.specs.declared.fault.LineFault.TheVariants as lines
 use Rattle.dumpi_text.specs.declared.fault.TextCause.{TextCause}
 use Rattle.dumpi_text.specs.declared.fault.TextCause.TheVariants as causes
 use Rattle.dumpi_calls.specs.Readings.{name_of}
+use Rattle.trace_wire.specs.declared.fault.WireFault.{WireFault}
+use Rattle.trace_wire.specs.declared.fault.WireFault.TheVariants as wires
 use Rattle.trace_world.specs.declared.step.WorldFault.{WorldFault}
 use Rattle.trace_world.specs.declared.step.WorldFault.TheVariants as worlds
 use Rattle.command_runs.specs.declared.fault.RunFault.{RunFault}
-use Rattle.command_runs.specs.declared.fault.RunFault.TheVariants.{Memory, File, Json, Shape, Piece, Layout, Text, Missing, Wrong, Place, Rank, NodeCount, Step, Write}
+use Rattle.command_runs.specs.declared.fault.RunFault.TheVariants.{Memory, File, Json, Shape, Piece, Layout, Text, Missing, Wrong, Place, Rank, Outside, NodeCount, Step, Worker, Net, Frame, Write}
 
 abbrev pub layout_fault_name : LayoutFault → List ℕ
 layout_fault_name layouts.RankCount = codes "L1 RankCount"
@@ -49,6 +51,18 @@ world_fault_name worlds.Stale = codes "V6 Stale"
 world_fault_name worlds.NodeCount = codes "V7 NodeCount"
 world_fault_name worlds.Memory = codes "Memory"
 
+abbrev pub wire_fault_name : WireFault → List ℕ
+wire_fault_name wires.Memory = codes "Memory"
+wire_fault_name wires.Read = codes "W1 Read"
+wire_fault_name wires.Write = codes "W1 Write"
+wire_fault_name wires.Magic = codes "W2 Magic"
+wire_fault_name wires.Version = codes "W3 Version"
+wire_fault_name wires.Length = codes "W4 Length"
+wire_fault_name wires.Short = codes "W5 Short"
+wire_fault_name wires.Order = codes "W6 Order"
+wire_fault_name wires.Content = codes "W7 Content"
+wire_fault_name wires.Rest = codes "W8 Rest"
+
 -- a line of a file
 abbrev pub at_line : String Global → ℕ → List ℕ
 at_line path line = codes " at " ++ string_bytes path ++ codes ":" ++ decimal line
@@ -65,8 +79,12 @@ fault_text (Missing parameter path line) = codes "C1 Missing " ++ name_of parame
 fault_text (Wrong parameter path line) = codes "C2 Wrong " ++ name_of parameter ++ at_line path line
 fault_text (Place path) = codes "S3 Place in " ++ string_bytes path
 fault_text (Rank path) = codes "N1 Rank in " ++ string_bytes path
+fault_text Outside = codes "N1 Rank"
 fault_text NodeCount = codes "V7 NodeCount"
 fault_text (Step fault step) = world_fault_name fault ++ codes " at step " ++ decimal step
+fault_text Worker = codes "Y1 Worker"
+fault_text Net = codes "Y3 Net"
+fault_text (Frame fault) = wire_fault_name fault
 fault_text Write = codes "R1 Write"
 
 abbrev pub fault_line_of : RunFault → List ℕ

@@ -1,3 +1,4 @@
+pub mod Clusters
 pub mod Endings
 pub mod FaultLines
 pub mod Files
@@ -8,6 +9,7 @@ pub mod Refusals
 pub mod Replays
 pub mod Runs
 pub mod Schedules
+pub mod Texts
 pub mod Traces
 pub mod Verbs
 pub mod Whole

@@ -1,16 +1,21 @@
 //! How the program ends: from words to a status and what standard error shows.
 
-ghost use Rattle.std.specs.Prelude.{◌≡◌, [], IfOk, map, string_bytes};
-ghost use Rattle.command_runs.specs.Endings.{IsEnding, IsEndingFor, output_of};
+ghost use Rattle.std.specs.Prelude.{◌≡◌, [], IfOk, List, map, string_bytes};
+ghost use Rattle.clap.specs.Words.{Text};
+ghost use Rattle.command_runs.specs.Endings.{Ask, IsEndedBy, IsEnding, IsEndingFor, IsTurn, of_cluster, output_of};
 ghost use Rattle.command_runs.specs.FaultLines.{fault_line_of};
 
+use crate::cluster::run_cluster;
 use crate::fault::{RunFault, fault_line};
 use crate::opener::Opener;
 use crate::run::run_with;
 use crate::watch::Watcher;
-use command_line::{CommandFault, command_of};
+use command_line::{CommandFault, Verb, command_of};
 use mpi_model::{Write, write_all};
 use std::alloc::{AllocError, Global};
+use std::net::{Net, TcpListener, TcpStream};
+use std::sync::Wait;
+use std::thread::Threads;
 
 /// The status of the program, and what standard error shows.
 #[derive(Debug, Drop)]
@@ -19,25 +24,64 @@ pub struct Ending {
     pub errors: String,
 }
 
+/// What the words leave to do.
+#[derive(Debug, Drop)]
+pub enum Turn<'a> {
+    /// Nothing: the program ends so.
+    Ended(Ending),
+    /// A cluster of these two files, for which [`ending_of_cluster`] takes threads and a socket.
+    Cluster { layout: &'a str, manifest: &'a str },
+}
+
 /// Does what the words ask for, the first being the program's name: 0 where the run was good or
 /// help or the version was asked for, 1 for a refused input, with its fault line, and 2 for a
-/// mistake in the words.
+/// mistake in the words. A cluster is left to do.
 pub fn ending_of<'a, O: Opener, V: Watcher, W: Write>(
     alloc: Global,
     words: &'a [&'a str],
     files: &mut O,
     watcher: &mut V,
     out: &mut W,
-) -> Result<Ending, AllocError>
-    ensures { IfOk result (λ e. IsEnding (O.file files.old) (map (λ w. w.now) words.entry.now) e.status (string_bytes e.errors) (output_of (W.written out.old) (W.failures out.old)) (output_of (W.written out.new) (W.failures out.new))) }
+) -> Result<Turn<'a>, AllocError>
+    ensures { IfOk result (λ turn. IsTurn (O.file files.old) (map (λ w. w.now) words.entry.now) turn (output_of (W.written out.old) (W.failures out.old)) (output_of (W.written out.new) (W.failures out.new))) }
 {
     let asked = match command_of(alloc, words) {
         Ok(asked) => asked,
-        Err(CommandFault::Memory) => return refused(alloc, &RunFault::Memory),
-        Err(fault) => return shown(alloc, &fault, out),
+        Err(CommandFault::Memory) => return Ok(Turn::Ended(refused(alloc, &RunFault::Memory)?)),
+        Err(fault) => return Ok(Turn::Ended(shown(alloc, &fault, out)?)),
     };
     let (layout, manifest) = (asked.layout, asked.manifest);
-    match run_with(alloc, asked.verb, layout, manifest, files, watcher, out) {
+    let ran = match asked.verb {
+        Verb::Cluster => return Ok(Turn::Cluster { layout, manifest }),
+        verb => run_with(alloc, verb, layout, manifest, files, watcher, out),
+    };
+    Ok(Turn::Ended(ending_after(alloc, ran)?))
+}
+
+/// Runs the cluster that the words ask for.
+pub fn ending_of_cluster<
+    R: Net<Listener = TcpListener, Stream = TcpStream> + Threads + Wait + Sync,
+    O: Opener,
+    W: Write,
+>(
+    rt: &R,
+    alloc: Global,
+    layout: &str,
+    manifest: &str,
+    files: &mut O,
+    out: &mut W,
+) -> Result<Ending, AllocError>
+    ensures { IfOk result (λ e. (words : List Text) → Ask words (of_cluster layout.now manifest.now) → IsEnding (O.file files.old) words e.status (string_bytes e.errors) (output_of (W.written out.old) (W.failures out.old)) (output_of (W.written out.new) (W.failures out.new))) }
+{
+    let ran = run_cluster(rt, alloc, layout, manifest, files, out);
+    ending_after(alloc, ran)
+}
+
+// The ending after such a run.
+fn ending_after(alloc: Global, ran: Result<bool, RunFault>) -> Result<Ending, AllocError>
+    ensures { IfOk result (λ e. IsEndedBy ran e.status (string_bytes e.errors)) }
+{
+    match ran {
         Ok(true) => Ok(silent(alloc, 0)),
         Ok(false) => Ok(silent(alloc, 1)),
         Err(fault) => refused(alloc, &fault),

@@ -1,13 +1,14 @@
 //! Why a run is refused, and the line that standard error shows.
 
 ghost use Rattle.std.specs.Prelude.{◌≡◌, IfOk, string_bytes};
-ghost use Rattle.command_runs.specs.FaultLines.{cause_name, fault_line_of, layout_fault_name, line_fault_name, world_fault_name};
+ghost use Rattle.command_runs.specs.FaultLines.{cause_name, fault_line_of, layout_fault_name, line_fault_name, wire_fault_name, world_fault_name};
 
 use dumpi_calls::Parameter;
 use dumpi_text::{LineFault, TextCause};
 use mpi_model::LayoutFault;
 use std::alloc::{AllocError, AllocFailed, Global};
 use std::fmt;
+use trace_wire::WireFault;
 use trace_world::WorldFault;
 
 /// The first cause that stands in the order in which files are read and refusals are tried. Each
@@ -58,12 +59,22 @@ pub enum RunFault {
     Rank {
         path: String,
     },
+    /// A piece has calls of a rank that the layout doesn't have, where it isn't told which piece.
+    Outside,
     /// A replay has 1 to 64 nodes.
     NodeCount,
     /// The step of this number, from 0, can't be done.
     Step {
         fault: WorldFault,
         step: usize,
+    },
+    /// A worker of a node couldn't be started, or it found its way to the node closed.
+    Worker,
+    /// Two nodes couldn't be connected.
+    Net,
+    /// A node couldn't send what it knows, or read what the other sent.
+    Frame {
+        fault: WireFault,
     },
     /// The output couldn't be written.
     Write,
@@ -137,10 +148,17 @@ impl fmt::Display for RunFault {
             }
             RunFault::Place { path } => write!(f, "S3 Place in {path}"),
             RunFault::Rank { path } => write!(f, "N1 Rank in {path}"),
+            RunFault::Outside => write!(f, "N1 Rank"),
             RunFault::NodeCount => write!(f, "V7 NodeCount"),
             RunFault::Step { fault, step } => {
                 let name = name_of_world(*fault);
                 write!(f, "{name} at step {step}")
+            }
+            RunFault::Worker => write!(f, "Y1 Worker"),
+            RunFault::Net => write!(f, "Y3 Net"),
+            RunFault::Frame { fault } => {
+                let name = name_of_wire(*fault);
+                write!(f, "{name}")
             }
             RunFault::Write => write!(f, "R1 Write"),
         }
@@ -200,5 +218,22 @@ fn name_of_world(fault: WorldFault) -> &'static str
         WorldFault::Stale => "V6 Stale",
         WorldFault::NodeCount => "V7 NodeCount",
         WorldFault::Memory => "Memory",
+    }
+}
+
+fn name_of_wire(fault: WireFault) -> &'static str
+    ensures { result.now ≡ wire_fault_name fault }
+{
+    match fault {
+        WireFault::Memory => "Memory",
+        WireFault::Read => "W1 Read",
+        WireFault::Write => "W1 Write",
+        WireFault::Magic => "W2 Magic",
+        WireFault::Version => "W3 Version",
+        WireFault::Length => "W4 Length",
+        WireFault::Short => "W5 Short",
+        WireFault::Order => "W6 Order",
+        WireFault::Content => "W7 Content",
+        WireFault::Rest => "W8 Rest",
     }
 }

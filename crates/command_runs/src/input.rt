@@ -1,6 +1,6 @@
 //! The layout and the manifest of a run, from their files.
 
-ghost use Rattle.std.specs.Prelude.{◌≡◌, IfErr, IfOk};
+ghost use Rattle.std.specs.Prelude.{◌≡◌, ◌≤◌, IfErr, IfOk, length};
 ghost use Rattle.input_files.specs.Layouts.{RefusesLayout};
 ghost use Rattle.input_files.specs.Manifests.{RefusesManifest};
 ghost use Rattle.command_runs.specs.Files.{Fails, IsFile, NamesUnreadable};
@@ -9,7 +9,7 @@ ghost use Rattle.command_runs.specs.Inputs.{IsFaultOf, RefusesFile, RefusesInput
 
 use crate::fault::RunFault;
 use crate::opener::{OpenFault, Opener};
-use crate::whole::{WholeFault, read_whole};
+use crate::whole::{LONGEST_FILE, WholeFault, read_whole};
 use input_files::{InputFault, Manifest, layout_of, manifest_of};
 use mpi_model::Layout;
 use std::alloc::{AllocError, Global};
@@ -21,7 +21,7 @@ pub fn layout_at<O: Opener>(alloc: Global, path: &str, files: &mut O) -> Result<
     ensures unread { IfErr result (λ fault. NamesUnreadable LONGEST_FILE (Fails O.R.failures) (O.file files.old) fault) }
     ensures same { O.file files.new ≡ O.file files.old }
 {
-    let text = file_at(alloc, path, files)?;
+    let text = file_at(alloc, path, files, LONGEST_FILE)?;
     match layout_of(alloc, &text) {
         Ok(layout) => Ok(layout),
         Err(fault) => Err(fault_at(alloc, fault, path)?),
@@ -39,16 +39,22 @@ pub fn manifest_at<O: Opener>(
     ensures unread { IfErr result (λ fault. NamesUnreadable LONGEST_FILE (Fails O.R.failures) (O.file files.old) fault) }
     ensures same { O.file files.new ≡ O.file files.old }
 {
-    let text = file_at(alloc, path, files)?;
+    let text = file_at(alloc, path, files, LONGEST_FILE)?;
     match manifest_of(alloc, &text) {
         Ok(manifest) => Ok(manifest),
         Err(fault) => Err(fault_at(alloc, fault, path)?),
     }
 }
 
-// the bytes of a file
-fn file_at<O: Opener>(alloc: Global, path: &str, files: &mut O) -> Result<Vec<u8>, RunFault>
+/// The bytes of a file, where they are at most so many.
+pub fn file_at<O: Opener>(
+    alloc: Global,
+    path: &str,
+    files: &mut O,
+    most: usize,
+) -> Result<Vec<u8>, RunFault>
     ensures ok { IfOk result (λ bytes. IsFile (O.file files.old path.now) bytes.items) }
+    ensures limit { IfOk result (λ bytes. length bytes.items ≤ most) }
     ensures err { IfErr result (RefusesFile path.now) }
     ensures unread { IfErr result (λ fault. NamesUnreadable LONGEST_FILE (Fails O.R.failures) (O.file files.old) fault) }
     ensures same { O.file files.new ≡ O.file files.old }
@@ -62,7 +68,7 @@ fn file_at<O: Opener>(alloc: Global, path: &str, files: &mut O) -> Result<Vec<u8
             });
         }
     };
-    match read_whole(alloc, &mut reader) {
+    match read_whole(alloc, &mut reader, most) {
         Ok(bytes) => Ok(bytes),
         Err(WholeFault::Memory) => Err(RunFault::Memory),
         Err(_) => Err(RunFault::File {

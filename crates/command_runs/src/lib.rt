@@ -3,13 +3,16 @@
 //! `report` reads a layout and the pieces that a manifest names, and writes the report of what they
 //! tell together: they are joined into one knowledge while they are read, a node takes that over, and
 //! its answer is written. `replay` reads all pieces, runs the manifest's schedule over nodes that
-//! exchange what they know (`trace_world`), and writes the report of each. Nothing is written before
-//! the whole run is good. Files come from an [`Opener`], so that a run can be proved and tested over
+//! exchange what they know (`trace_world`), and writes the report of each. `cluster` reads all files,
+//! lets the workers of two nodes read their texts side by side and both nodes exchange what they know
+//! over a socket (`trace_cluster`), and writes both reports. Nothing is written before the whole run is
+//! good. Files come from an [`Opener`], so that a run can be proved and tested over
 //! files in memory; the program opens those of the system.
 //!
 //! The work is linear in the texts, but for the joins of their segments (`trace_know`) and the answer
 //! (`trace_node`). Memory holds what is known and the events of one piece; that of a replay also all
-//! pieces' segments, a copy of them for each post, and the mails.
+//! pieces' segments, a copy of them for each post, and the mails, and that of a cluster the bytes of all
+//! files and a copy of each node.
 //!
 //! - [`opener`]: where files come from; [`whole`]: a whole file, within its limit
 //! - [`piece`]: the segments of a piece; [`pieces`]: those of all pieces
@@ -17,6 +20,7 @@
 //! - [`watch`]: who is told how the reading comes along; [`terminal`]: what a person then sees
 //! - [`schedule`]: the steps that a manifest's schedule stands for; [`replay`]: their run, and the reports
 //!   of the nodes
+//! - [`texts`]: the texts of a cluster; [`cluster`]: its run, and the reports of both nodes
 //! - [`run`]: a verb over its files; [`fault`]: why it is refused, and the line that says so
 //! - [`ending`]: from words to a status and what standard error shows
 //!
@@ -24,6 +28,7 @@
 //! program runs.
 #![tactic(auto)]
 
+mod cluster;
 mod ending;
 mod fault;
 mod input;
@@ -35,10 +40,12 @@ mod replay;
 mod run;
 mod schedule;
 mod terminal;
+mod texts;
 mod watch;
 mod whole;
 
-pub use ending::{Ending, ending_of, ending_without_words};
+pub use cluster::run_cluster;
+pub use ending::{Ending, Turn, ending_of, ending_of_cluster, ending_without_words};
 pub use fault::{RunFault, fault_line};
 pub use opener::{Disk, OpenFault, Opener};
 pub use run::run_with;

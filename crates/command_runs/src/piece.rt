@@ -51,8 +51,12 @@ pub fn segments_of<O: Opener, V: Watcher>(
     }
 }
 
-// the fault of a run whose walk was stopped, which names the file
-fn refusal(alloc: Global, path: &str, fault: WalkFault<Memory>) -> Result<RunFault, AllocError>
+/// The fault of a run whose walk was stopped, which names the file.
+pub(crate) fn refusal(
+    alloc: Global,
+    path: &str,
+    fault: WalkFault<Memory>,
+) -> Result<RunFault, AllocError>
     ensures { IfOk result (IsWalkFault path.now fault) }
 {
     let line = fault.line;

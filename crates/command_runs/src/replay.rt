@@ -136,7 +136,8 @@ fn write_nodes<W: Write>(world: &World<'_>, out: &mut W) -> Result<(), Failed>
     Ok(())
 }
 
-fn write_node<W: Write>(n: usize, answer: &Answer, out: &mut W) -> Result<(), Failed>
+// Writes the line and the report of one node.
+pub(crate) fn write_node<W: Write>(n: usize, answer: &Answer, out: &mut W) -> Result<(), Failed>
     ensures ok { OnOk result (Appends (W.written out.old) (W.written out.new) (node_text n answer.now)) }
     ensures err { OnErr result (AppendsFront (W.written out.old) (W.written out.new) (node_text n answer.now)) }
     ensures failures { CountsFailure (W.failures out.old) (W.failures out.new) result }
@@ -160,7 +161,7 @@ fn write_line<W: Write>(n: usize, out: &mut W) -> Result<(), Failed>
     write_piece(b"\n", out)
 }
 
-fn write_piece<W: Write>(piece: &[u8], out: &mut W) -> Result<(), Failed>
+pub(crate) fn write_piece<W: Write>(piece: &[u8], out: &mut W) -> Result<(), Failed>
     ensures ok { OnOk result (Appends (W.written out.old) (W.written out.new) piece.now) }
     ensures err { OnErr result (AppendsFront (W.written out.old) (W.written out.new) piece.now) }
     ensures failures { CountsFailure (W.failures out.old) (W.failures out.new) result }

@@ -1,6 +1,6 @@
 //! A run of a verb over the files that it names.
 
-ghost use Rattle.std.specs.Prelude.{◌≡◌, ◌⊎◌, ℕ, true, IfErr, IfOk, List, OnOk};
+ghost use Rattle.std.specs.Prelude.{◌≡◌, ◌≢◌, ◌⊎◌, ℕ, true, IfErr, IfOk, List, OnOk};
 ghost use Rattle.std.specs.Io.KnownBytes.{Appends, Keeps};
 ghost use Rattle.command_runs.specs.Runs.{IsReportOf};
 ghost use Rattle.command_runs.specs.Files.{Fails, NamesUnreadable};
@@ -22,7 +22,8 @@ use trace_node::{Node, NodeFault};
 use trace_report::write_report;
 
 /// Runs a verb over a layout and a manifest, which it names by their files. Nothing is written
-/// before the whole run is good. The answer is whether all that was checked held.
+/// before the whole run is good. The answer is whether all that was checked held. A cluster, which
+/// takes threads, is run by [`run_cluster`](crate::run_cluster).
 pub fn run_with<O: Opener, V: Watcher, W: Write>(
     alloc: Global,
     verb: Verb,
@@ -32,6 +33,7 @@ pub fn run_with<O: Opener, V: Watcher, W: Write>(
     watcher: &mut V,
     out: &mut W,
 ) -> Result<bool, RunFault>
+    requires alone { verb ≢ Verb.Cluster }
     ensures output { OnOk result ((text : List ℕ) × IsOutputOf (O.file files.old) verb layout.now manifest.now text × Appends (W.written out.old) (W.written out.new) text) }
     ensures held { IfOk result (λ held. held ≡ true) }
     ensures refused { IfErr result (λ fault. (fault ≡ RunFault.Write) ⊎ RefusesVerb (O.file files.old) verb layout.now manifest.now fault) }
@@ -42,6 +44,7 @@ pub fn run_with<O: Opener, V: Watcher, W: Write>(
     match verb {
         Verb::Report => report_with(alloc, layout, manifest, files, watcher, out),
         Verb::Replay => replay_with(alloc, layout, manifest, files, watcher, out),
+        Verb::Cluster => unreachable!(),
     }
 }
 

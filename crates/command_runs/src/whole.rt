@@ -1,9 +1,8 @@
-//! A whole file at once: a layout or a manifest.
+//! A whole file at once: a layout, a manifest, or the text of a piece that is read before it is walked.
 
 ghost use Rattle.std.specs.Prelude.{◌≡◌, ◌≤◌, IfErr, IfOk, length};
 ghost use Rattle.std.specs.Io.KnownBytes.{Consumes, IsAtEnd};
 ghost use Rattle.command_runs.specs.Whole.{IsRefusedFor};
-ghost use Rattle.command_runs.specs.declared.whole.TheConstants.{LONGEST_FILE};
 
 use mpi_model::{Read, ReadFault, read_exactly};
 use std::alloc::{AllocError, AllocFailed, Global};
@@ -11,13 +10,16 @@ use std::alloc::{AllocError, AllocFailed, Global};
 /// The most bytes of a layout or a manifest.
 pub const LONGEST_FILE: usize = 16_777_216;
 
+/// The most bytes of a piece that is read whole.
+pub const LONGEST_PIECE: usize = 1_073_741_824;
+
 /// Why a file is not read whole.
 #[derive(Clone, Copy, Debug, PartialEq, Eq)]
 pub enum WholeFault {
     Memory,
     /// The reader failed.
     Failed,
-    /// The file has more than [`LONGEST_FILE`] bytes.
+    /// The file has more bytes than it may have.
     TooLong,
 }
 
@@ -43,22 +45,26 @@ impl From<AllocError> for WholeFault {
     }
 }
 
-/// All bytes that the reader has, up to its end.
-pub fn read_whole<R: Read>(alloc: Global, reader: &mut R) -> Result<Vec<u8>, WholeFault>
+/// All bytes that the reader has, up to its end, where they are at most so many.
+pub fn read_whole<R: Read>(
+    alloc: Global,
+    reader: &mut R,
+    most: usize,
+) -> Result<Vec<u8>, WholeFault>
     ensures bytes { IfOk result (λ bytes. Consumes (R.left reader.old) (R.left reader.new) bytes.items) }
     ensures end { IfOk result (λ bytes. IsAtEnd (R.left reader.new)) }
-    ensures limit { IfOk result (λ bytes. length bytes.items ≤ LONGEST_FILE) }
-    ensures err { IfErr result (IsRefusedFor (R.left reader.old) (R.left reader.new) (R.failures reader.old) (R.failures reader.new)) }
+    ensures limit { IfOk result (λ bytes. length bytes.items ≤ most) }
+    ensures err { IfErr result (IsRefusedFor most (R.left reader.old) (R.left reader.new) (R.failures reader.old) (R.failures reader.new)) }
 {
     let mut bytes = Vec::new(alloc);
     let mut chunk = [0; 4096];
-    while bytes.len() <= LONGEST_FILE {
+    while bytes.len() <= most {
         match read_exactly(reader, &mut chunk) {
             Ok(()) => bytes.extend_from_slice(&chunk)?,
             Err(ReadFault::Failed { .. }) => return Err(WholeFault::Failed),
             Err(ReadFault::Short { taken }) => {
                 bytes.extend_from_slice(&chunk[..taken])?;
-                return if bytes.len() <= LONGEST_FILE {
+                return if bytes.len() <= most {
                     Ok(bytes)
                 } else {
                     Err(WholeFault::TooLong)

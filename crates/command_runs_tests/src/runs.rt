@@ -5,10 +5,15 @@
 ghost use Rattle.std.specs.Prelude.{Some, None, codes, if◌then◌else◌};
 ghost use Rattle.std.specs.Str.{bytes_eq};
 
-use command_runs::{OpenFault, Opener, Unwatched, ending_of, ending_without_words};
+use command_runs::{
+    Ending, OpenFault, Opener, Turn, Unwatched, ending_of, ending_of_cluster, ending_without_words,
+};
 use mpi_model::{MemoryReader, MemoryWriter};
 use std::alloc::Global;
+use std::net::{Net, TcpListener, TcpStream};
+use std::sync::Wait;
 use std::test::Fail;
+use std::thread::Threads;
 
 // The files of a run of one piece, and how many bytes of the piece are read before its reader
 // fails. It tells their bytes.
@@ -62,6 +67,8 @@ const SCHEDULE: &[u8] =
 
 static REPORT: [&str; 4] = ["mpimatch", "report", "layout.json", "manifest.json"];
 
+static CLUSTER: [&str; 4] = ["mpimatch", "cluster", "layout.json", "manifest.json"];
+
 static REPLAY: [&str; 4] = ["mpimatch", "replay", "layout.json", "manifest.json"];
 
 fn run_of<'a>(layout: &'a [u8], until_failure: Option<usize>) -> Shelf<'a> {
@@ -82,10 +89,34 @@ fn ended(
     room: usize,
 ) -> Result<String, Fail> {
     let mut out = MemoryWriter::new(alloc).failing_after(room);
-    let ending = ending_of(alloc, words, &mut files, &mut Unwatched, &mut out)?;
-    let written = std::str::from_utf8(out.bytes())?;
+    match ending_of(alloc, words, &mut files, &mut Unwatched, &mut out)? {
+        Turn::Ended(ending) => shown(alloc, &ending, out.bytes()),
+        Turn::Cluster { .. } => Err("a cluster is left to do".into()),
+    }
+}
+
+// A status, and then what was written and shown.
+fn shown(alloc: Global, ending: &Ending, written: &[u8]) -> Result<String, Fail> {
+    let written = std::str::from_utf8(written)?;
     let (status, errors) = (ending.status, ending.errors.as_str());
     Ok(format!(in alloc; "{status}: {written}{errors}")?)
+}
+
+// The same of a cluster, which the words leave to do.
+fn clustered<R: Net<Listener = TcpListener, Stream = TcpStream> + Threads + Wait + Sync>(
+    rt: &R,
+    alloc: Global,
+    mut files: Shelf<'_>,
+    room: usize,
+) -> Result<String, Fail> {
+    let mut out = MemoryWriter::new(alloc).failing_after(room);
+    match ending_of(alloc, &CLUSTER, &mut files, &mut Unwatched, &mut out)? {
+        Turn::Ended(ending) => shown(alloc, &ending, out.bytes()),
+        Turn::Cluster { layout, manifest } => {
+            let ending = ending_of_cluster(rt, alloc, layout, manifest, &mut files, &mut out)?;
+            shown(alloc, &ending, out.bytes())
+        }
+    }
 }
 
 // a name, the bytes of the piece before its reader fails, the room of the output, and the ending
@@ -176,6 +207,51 @@ fn replays_over_files_that_tell_their_bytes(rt: HostRuntime) -> Result<(), Fail>
     for row in &REPLAYS {
         let (name, until_failure, room, want) = *row;
         let found = ended(rt.alloc(), &REPLAY, replay_of(until_failure), room)?;
+        assert_eq!(rt; found.as_str(), want, "{name}");
+    }
+    Ok(())
+}
+
+// as RUNS, of a cluster whose first node has the piece; the text of that node has 117 bytes
+static CLUSTERS: [(&str, Option<usize>, usize, &str); 6] = [
+    (
+        "all is read and written",
+        None,
+        usize::MAX,
+        "0: node 0\nmpimatch report 1\nranks 1 sends wait\nrank 0 prefix 2 free\nround 2:0 barrier complete\nstuck none\nforeign 0\nend\nnode 1\nmpimatch report 1\nranks 1 sends wait\nrank 0 prefix 2 free\nround 2:0 barrier complete\nstuck none\nforeign 0\nend\nequal yes\n",
+    ),
+    (
+        "the reader fails at once",
+        Some(0),
+        usize::MAX,
+        "1: mpimatch: M1 File r0.txt\n",
+    ),
+    (
+        "the reader fails after the last line",
+        Some(PIECE.len()),
+        usize::MAX,
+        "1: mpimatch: M1 File r0.txt\n",
+    ),
+    ("no room", None, 0, "1: mpimatch: R1 Write\n"),
+    (
+        "room for a number",
+        None,
+        6,
+        "1: node 0mpimatch: R1 Write\n",
+    ),
+    (
+        "room for a node and a word",
+        None,
+        122,
+        "1: node 0\nmpimatch report 1\nranks 1 sends wait\nrank 0 prefix 2 free\nround 2:0 barrier complete\nstuck none\nforeign 0\nend\nnode mpimatch: R1 Write\n",
+    ),
+];
+
+#[test]
+fn clusters_over_files_that_tell_their_bytes(rt: HostRuntime) -> Result<(), Fail> {
+    for row in &CLUSTERS {
+        let (name, until_failure, room, want) = *row;
+        let found = clustered(&rt, rt.alloc(), run_of(LAYOUT, until_failure), room)?;
         assert_eq!(rt; found.as_str(), want, "{name}");
     }
     Ok(())

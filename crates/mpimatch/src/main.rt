@@ -1,10 +1,11 @@
 //! mpimatch: who received what from whom, and which ranks are stuck, by the trace texts of an MPI run.
 //!
-//! The program hands its words, the files of the system and standard output to `command_runs`, and
-//! ends with the status that comes of them. `crates/command_runs` has the rest.
+//! The program hands its words, the files of the system and standard output to `command_runs`, and to
+//! a cluster also the threads and sockets of the system, and ends with the status that comes of them.
+//! `crates/command_runs` has the rest.
 #![tactic(auto)]
 
-use command_runs::{Disk, Terminal, ending_of, ending_without_words};
+use command_runs::{Disk, Terminal, Turn, ending_of, ending_of_cluster, ending_without_words};
 use mpi_model::Device;
 use std::alloc::AllocError;
 use std::io::{self, IsTerminal};
@@ -22,7 +23,13 @@ fn main(rt: HostRuntime) -> anyhow::Result<ExitCode> {
             let mut files = Disk::new(&rt);
             let mut watcher = Terminal::new(&rt, rt.stderr().is_terminal());
             let mut out = Device::new(io::writer(&rt));
-            ending_of(alloc, texts.as_slice(), &mut files, &mut watcher, &mut out)
+            match ending_of(alloc, texts.as_slice(), &mut files, &mut watcher, &mut out) {
+                Ok(Turn::Ended(ending)) => Ok(ending),
+                Ok(Turn::Cluster { layout, manifest }) => {
+                    ending_of_cluster(&rt, alloc, layout, manifest, &mut files, &mut out)
+                }
+                Err(error) => Err(error),
+            }
         }
         Err(error) if error.kind() == io::ErrorKind::OutOfMemory => Err(AllocError),
         Err(_) => ending_without_words(alloc),

@@ -17,5 +17,7 @@ returns c =
     ap app_of_fields c.subcommand_required.ensures ∙ ap (on_top (λ s. record s { subcommand_required = true })) after in
     let reports : app_of c.in_ok-subcommand.field-0 ≡ with_verb bare (codes "report") =
     c.in_ok-subcommand.ensures.shape c.in_ok-report.ensures.local ∙ ap₂ with_subcommand bare_is (ap (λ (a : App). a.top) c.in_ok-report.ensures.shape) in
-    IfOk-weaker c.subcommand-2.result _ _ (λ r h.
-    h.shape c.in_ok-replay.ensures.local ∙ ap₂ with_subcommand reports (ap (λ (a : App). a.top) c.in_ok-replay.ensures.shape)) c.subcommand-2.ensures
+    let replays : app_of c.in_ok-subcommand-2.field-0 ≡ with_verb (with_verb bare (codes "report")) (codes "replay") =
+    c.in_ok-subcommand-2.ensures.shape c.in_ok-replay.ensures.local ∙ ap₂ with_subcommand reports (ap (λ (a : App). a.top) c.in_ok-replay.ensures.shape) in
+    IfOk-weaker c.subcommand-3.result _ _ (λ r h.
+    h.shape c.in_ok-cluster.ensures.local ∙ ap₂ with_subcommand replays (ap (λ (a : App). a.top) c.in_ok-cluster.ensures.shape)) c.subcommand-3.ensures

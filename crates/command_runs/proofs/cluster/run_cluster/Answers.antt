@@ -1,0 +1,23 @@
+use Rattle.std.proofs.Common.{rules, inr}
+use Rattle.command_runs.specs.Clusters.{AreClusterNodes, RefusesClusterNodes}
+use Rattle.command_runs.proofs.cluster.run_cluster.Goals as goal
+
+pub returns-in-Err-nodes_with-clause-refused : goal.returns-in-Err-nodes_with-clause-refused
+returns-in-Err-nodes_with-clause-refused g c =
+    let file = g.O.Opener.file c.args.files.now in
+    let refuses : RefusesClusterNodes file c.in-Ok.layout c.args.manifest_name.now c.in-Err-nodes_with.fault = rw c.layout_at.ensures.same at c.in-Err-nodes_with.ensures.err in
+    inr (inr (inr (c.in-Ok.layout, c.in-Ok.ensures.ok, refuses)))
+
+pub returns-in-Ok-write_both-clause-output : goal.returns-in-Ok-write_both-clause-output
+returns-in-Ok-write_both-clause-output g c =
+    let file = g.O.Opener.file c.args.files.now in
+    let of : AreClusterNodes file c.in-Ok.layout c.args.manifest_name.now c.in-Ok-nodes_with.nodes.0 c.in-Ok-nodes_with.nodes.1 = rw c.layout_at.ensures.same at c.in-Ok-nodes_with.ensures.ok in
+    let wrote = c.in-Ok-write_both.ensures.ok in
+    (wrote.0, (c.in-Ok.layout, c.in-Ok-nodes_with.nodes.0, c.in-Ok-nodes_with.nodes.1, _, _, c.in-Ok.ensures.ok, of, c.in-Ok-answer.ensures.ok, c.in-Ok-answer-2.ensures.ok, wrote.1), wrote.2)
+
+pub returns-clause-broken_off : goal.returns-clause-broken_off
+returns-clause-broken_off g c =
+    let file = g.O.Opener.file c.args.files.now in
+    let of : AreClusterNodes file c.in-Ok.layout c.args.manifest_name.now c.in-Ok-nodes_with.nodes.0 c.in-Ok-nodes_with.nodes.1 = rw c.layout_at.ensures.same at c.in-Ok-nodes_with.ensures.ok in
+    let wrote = c.in-Err-write_both.ensures.err in
+    λ _. (wrote.0, (c.in-Ok.layout, c.in-Ok-nodes_with.nodes.0, c.in-Ok-nodes_with.nodes.1, _, _, c.in-Ok.ensures.ok, of, c.in-Ok-answer.ensures.ok, c.in-Ok-answer-2.ensures.ok, wrote.1), wrote.2, c.in-Err-write_both.ensures.failed)

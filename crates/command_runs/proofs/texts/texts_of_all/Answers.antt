@@ -1,0 +1,34 @@
+use Rattle.std.proofs.Common.{rules, arith, ◌≡◌, ◌∙◌, ◌+◌, ◌<◌, ◌++◌, ◌∷◌, [], ap, sym, inr, length, take}
+use Rattle.std.proofs.lemmas.List.{take_more}
+use Rattle.trace_crew.specs.declared.piece.Piece.{Piece}
+use Rattle.input_files.specs.Manifests.{PieceParts}
+use Rattle.command_runs.specs.Files.{IsFile}
+use Rattle.command_runs.specs.Inputs.{RefusesFile}
+use Rattle.command_runs.proofs.Sharing.{Adds, shares_more}
+use Rattle.command_runs.proofs.Traces.{begins}
+use Rattle.command_runs.proofs.texts.texts_of_all.Goals as goal
+
+pub loop-piece-preserved : goal.loop-piece-preserved
+loop-piece-preserved g c =
+    let file = g.O.Opener.file c.args.files.now in
+    let below : c.loop-piece.piece-index < length c.args.pieces.now = omega arith in
+    let more : take (c.loop-piece.piece-index + 1) c.args.pieces.now ≡ take c.loop-piece.piece-index c.args.pieces.now ++ c.piece-item.result ∷ [] =
+    take_more c.args.pieces.now c.loop-piece.piece-index c.piece-item.result below
+    ∙ ap (λ (p : PieceParts). take c.loop-piece.piece-index c.args.pieces.now ++ p ∷ []) (sym c.piece-item.is) in
+    let text : Piece = record { rank = c.rank-rank.result; first = c.first-first.result; text = c.in-Ok.text } in
+    let bytes : IsFile (file c.piece-item.result.file) c.in-Ok.text.items = rw (c.file.ensures, c.loop-piece.invariant.files) at c.in-Ok.ensures.ok in
+    let adds : Adds c.piece-item.result text c.loop-piece.texts c.add.new.self = rw (c.node.ensures, c.worker.ensures) at c.in_ok-add.ensures in
+    record {
+      files = c.file_at.ensures.same ∙ c.loop-piece.invariant.files;
+      shares = shares_more file (take c.loop-piece.piece-index c.args.pieces.now) (take (c.loop-piece.piece-index + 1) c.args.pieces.now) c.piece-item.result
+          c.loop-piece.texts c.add.new.self text more c.loop-piece.invariant.shares (c.rank-rank.ensures, c.first-first.ensures, bytes) adds;
+    }
+
+pub returns-in-Err-clause-err : goal.returns-in-Err-clause-err
+returns-in-Err-clause-err g c =
+    let below : c.loop-piece.piece-index < length c.args.pieces.now = omega arith in
+    let more : take (c.loop-piece.piece-index + 1) c.args.pieces.now ≡ take c.loop-piece.piece-index c.args.pieces.now ++ c.piece-item.result ∷ [] =
+    take_more c.args.pieces.now c.loop-piece.piece-index c.piece-item.result below
+    ∙ ap (λ (p : PieceParts). take c.loop-piece.piece-index c.args.pieces.now ++ p ∷ []) (sym c.piece-item.is) in
+    let refuses : RefusesFile c.piece-item.result.file c.in-Err.fault = rw c.file.ensures at c.in-Err.ensures.err in
+    inr (take c.loop-piece.piece-index c.args.pieces.now, c.piece-item.result, begins c.args.pieces.now c.loop-piece.piece-index c.piece-item.result more, refuses)

@@ -1,0 +1,217 @@
+//! A cluster: two nodes of one run, each with the pieces that name it, which exchange what they know;
+//! and the reports of both.
+
+ghost use Rattle.std.specs.Prelude.{◌≡◌, ◌⊎◌, ◌==◌, ℕ, false, true, IfErr, IfOk, List, OnErr, OnOk, option_map};
+ghost use Rattle.std.specs.Io.KnownBytes.{Appends, Keeps};
+ghost use Rattle.mpi_model.specs.Failures.{HasFailed};
+ghost use Rattle.command_runs.specs.Clusters.{AreClusterNodes, IsBothText, IsClusterOf, IsEqualLine, IsFaultFor, IsTextFault, NamesOne, RefusesCluster, RefusesClusterNodes, of_exchange, of_node, of_wire, piece_at};
+ghost use Rattle.command_runs.specs.Replays.{AppendsFront};
+ghost use Rattle.command_runs.specs.Texts.{is_share};
+ghost use Rattle.command_runs.specs.Verbs.{BreaksOff};
+
+use crate::fault::RunFault;
+use crate::input::{layout_at, manifest_at};
+use crate::opener::Opener;
+use crate::piece::refusal;
+use crate::replay::{write_node, write_piece};
+use crate::texts::texts_of_all;
+use command_line::Verb;
+use dumpi_calls::whole_segments;
+use input_files::Piece;
+use mpi_model::{Failed, Layout, Write};
+use std::alloc::{AllocError, Global};
+use std::net::{Net, TcpListener, TcpStream};
+use std::sync::Wait;
+use std::thread::Threads;
+use trace_cluster::{ClusterFault, cluster};
+use trace_crew::PieceFault;
+use trace_exchange::ExchangeFault;
+use trace_node::{Answer, Node, NodeFault};
+use trace_wire::WireFault;
+
+/// Gives each piece of a manifest to the node and the worker that it names, lets both nodes exchange
+/// what they know over a socket of this machine, and writes the line and the report of each, and then
+/// whether both say the same. Nothing is written before the whole run is good. It waits for threads
+/// and for the socket.
+pub fn run_cluster<
+    R: Net<Listener = TcpListener, Stream = TcpStream> + Threads + Wait + Sync,
+    O: Opener,
+    W: Write,
+>(
+    rt: &R,
+    alloc: Global,
+    layout_name: &str,
+    manifest_name: &str,
+    files: &mut O,
+    out: &mut W,
+) -> Result<bool, RunFault>
+    ensures output { OnOk result ((text : List ℕ) × IsClusterOf (O.file files.old) layout_name.now manifest_name.now text × Appends (W.written out.old) (W.written out.new) text) }
+    ensures held { IfOk result (λ held. held ≡ true) }
+    ensures refused { IfErr result (λ fault. (fault ≡ RunFault.Write) ⊎ RefusesCluster (O.file files.old) layout_name.now manifest_name.now fault) }
+    ensures nothing { IfErr result (λ fault. (fault ≡ RunFault.Write) ⊎ Keeps (W.written out.old) (W.written out.new)) }
+    ensures broken_off { result ≡ Err RunFault.Write → BreaksOff (O.file files.old) Verb.Cluster layout_name.now manifest_name.now (W.written out.old) (W.written out.new) (W.failures out.old) (W.failures out.new) }
+{
+    let layout = match layout_at(alloc, layout_name, files) {
+        Ok(layout) => layout,
+        Err(fault) => return Err(fault),
+    };
+    let (one, other) = match nodes_with(rt, alloc, &layout, manifest_name, files) {
+        Ok(nodes) => nodes,
+        Err(fault) => return Err(fault),
+    };
+    // (a node that comes of an exchange has its answer)
+    let Ok(first) = one.answer() else {
+        unreachable!()
+    };
+    let Ok(second) = other.answer() else {
+        unreachable!()
+    };
+    match write_both(first, second, out) {
+        Ok(()) => Ok(true),
+        Err(_) => Err(RunFault::Write),
+    }
+}
+
+// The two nodes of the layout that have their own pieces and what the other sent.
+fn nodes_with<
+    'a,
+    R: Net<Listener = TcpListener, Stream = TcpStream> + Threads + Wait + Sync,
+    O: Opener,
+>(
+    rt: &R,
+    alloc: Global,
+    layout: &'a Layout,
+    manifest_name: &str,
+    files: &mut O,
+) -> Result<(Node<'a>, Node<'a>), RunFault>
+    ensures ok { IfOk result (λ nodes. AreClusterNodes (O.file files.old) layout.now manifest_name.now nodes.0 nodes.1) }
+    ensures fresh { IfOk result (λ nodes. (nodes.0.is_stale ≡ false) × (nodes.1.is_stale ≡ false)) }
+    ensures err { IfErr result (λ fault. RefusesClusterNodes (O.file files.old) layout.now manifest_name.now fault) }
+{
+    whole_segments();
+    let manifest = match manifest_at(alloc, manifest_name, files) {
+        Ok(manifest) => manifest,
+        Err(fault) => return Err(fault),
+    };
+    let texts = match texts_of_all(alloc, manifest.pieces(), files) {
+        Ok(texts) => texts,
+        Err(fault) => return Err(fault),
+    };
+    match cluster(rt, alloc, layout, &texts.first, &texts.second) {
+        Ok(nodes) => Ok(nodes),
+        Err(fault) => Err(fault_of(alloc, manifest.pieces(), fault)?),
+    }
+}
+
+// The fault of a run that stands for that of a cluster of these pieces.
+fn fault_of(alloc: Global, pieces: &[Piece], fault: ClusterFault) -> Result<RunFault, AllocError>
+    requires named { NamesOne pieces.now fault }
+    ensures { IfOk result (IsFaultFor pieces.now fault) }
+{
+    match fault {
+        ClusterFault::Memory => Ok(RunFault::Memory),
+        ClusterFault::Worker => Ok(RunFault::Worker),
+        ClusterFault::Net => Ok(RunFault::Net),
+        ClusterFault::Node(fault) => Ok(of_node(fault)),
+        ClusterFault::Lead(fault) => Ok(of_exchange(fault)),
+        ClusterFault::Follow(fault) => Ok(of_exchange(fault)),
+        ClusterFault::Piece {
+            node,
+            worker,
+            piece,
+            fault,
+        } => match piece_at(pieces, node == 0, worker == 0, piece) {
+            Some(piece) => of_text(alloc, piece.file(), fault),
+            None => unreachable!(),
+        },
+    }
+}
+
+// The piece at a place among those of a worker of a node.
+fn piece_at<'a>(
+    pieces: &'a [Piece],
+    of_first: bool,
+    by_first: bool,
+    place: u64,
+) -> Option<&'a Piece>
+    ensures { option_map (λ piece. piece.now) result ≡ piece_at pieces.entry.now of_first by_first place }
+{
+    let mut left = place;
+    for piece in pieces {
+        if is_share(piece, of_first, by_first) {
+            if left == 0 {
+                return Some(piece);
+            }
+            left -= 1;
+        }
+    }
+    None
+}
+
+fn is_share(piece: &Piece, of_first: bool, by_first: bool) -> bool
+    ensures { result ≡ is_share of_first by_first piece.now }
+{
+    (piece.node() == 0) == of_first && (piece.worker() == 0) == by_first
+}
+
+// The fault of a text of this file.
+fn of_text(alloc: Global, path: &str, fault: PieceFault) -> Result<RunFault, AllocError>
+    ensures { IfOk result (IsTextFault path.now fault) }
+{
+    match fault {
+        PieceFault::Walk(fault) => refusal(alloc, path, fault),
+        PieceFault::Segment(_) => Ok(RunFault::Place {
+            path: path.to_string(alloc)?,
+        }),
+        PieceFault::Memory => Ok(RunFault::Memory),
+    }
+}
+
+fn of_node(fault: NodeFault) -> RunFault
+    ensures { result ≡ of_node fault }
+{
+    match fault {
+        NodeFault::Rank => RunFault::Outside,
+        NodeFault::Memory | NodeFault::Stale => RunFault::Memory,
+    }
+}
+
+fn of_exchange(fault: ExchangeFault) -> RunFault
+    ensures { result ≡ of_exchange fault }
+{
+    match fault {
+        ExchangeFault::Write(fault) | ExchangeFault::Read(fault) => of_wire(fault),
+        ExchangeFault::Merge(fault) => of_node(fault),
+    }
+}
+
+fn of_wire(fault: WireFault) -> RunFault
+    ensures { result ≡ of_wire fault }
+{
+    match fault {
+        WireFault::Memory => RunFault::Memory,
+        _ => RunFault::Frame { fault },
+    }
+}
+
+// Writes the line and the report of both nodes, and whether both say the same.
+fn write_both<W: Write>(one: &Answer, other: &Answer, out: &mut W) -> Result<(), Failed>
+    ensures ok { OnOk result ((text : List ℕ) × IsBothText one.now other.now text × Appends (W.written out.old) (W.written out.new) text) }
+    ensures err { OnErr result ((text : List ℕ) × IsBothText one.now other.now text × AppendsFront (W.written out.old) (W.written out.new) text) }
+    ensures failed { OnErr result (HasFailed (W.failures out.old) (W.failures out.new)) }
+{
+    let line = equal_line(one, other);
+    write_node(0, one, out)?;
+    write_node(1, other, out)?;
+    write_piece(line, out)
+}
+
+fn equal_line(one: &Answer, other: &Answer) -> &'static [u8]
+    ensures { IsEqualLine one.now other.now result.now }
+{
+    if one.same(other) {
+        b"equal yes\n"
+    } else {
+        b"equal no\n"
+    }
+}
