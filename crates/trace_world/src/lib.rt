@@ -14,7 +14,7 @@
 //! - [`world`]: nodes with their inboxes, and the mails
 //! - [`laws`]: nodes that the same segments reached are equal, as a contract
 //!
-//! Its tests are in the crate `trace_world_tests`.
+//! Its tests are in `crates/node_tests/src/world.rt`.
 #![tactic(auto)]
 
 mod inbox;
