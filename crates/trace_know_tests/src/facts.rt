@@ -206,10 +206,15 @@ fn played(alloc: Global, start: u64) -> Result<(Option<u64>, usize, usize), Fail
 
 #[test]
 fn knowledge_is_what_plain_lists_say(rt: HostRuntime) -> Result<(), Fail> {
+    let mut all: usize = 0;
+    let mut contradictions: usize = 0;
     for seed in 0..20 {
         let (differs, count, conflicts) = played(rt.alloc(), seed)?;
-        let makes_both = 2 < conflicts && conflicts < count;
-        assert_eq!(rt; (differs, makes_both), (None, true), "start {seed}");
+        assert_eq!(rt; differs, None, "start {seed}");
+        all = all.saturating_add(count);
+        contradictions = contradictions.saturating_add(conflicts);
     }
+    let makes_both = 10 < contradictions && contradictions < all;
+    assert!(rt; makes_both, "the generator makes both");
     Ok(())
 }
