@@ -15,6 +15,8 @@
 //!
 //! What a call did under the lock no contract can name: that `publish` changes the board, and that
 //! `show` reads it, is left to tests.
+//!
+//! Its tests are in `crates/node_tests/src/board.rt`.
 #![tactic(auto)]
 
 mod board;

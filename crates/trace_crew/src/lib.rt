@@ -18,6 +18,8 @@
 //!
 //! No contract promises that a call which waits returns, that anything arrives or that two threads ran
 //! at once.
+//!
+//! Its tests are in `crates/node_tests/src/crew.rt` and `gates.rt`.
 #![tactic(auto)]
 
 mod gate;

@@ -16,6 +16,8 @@
 //! - [`hearing`]: one frame, read and merged
 //! - [`leader`] and [`follower`]: the two sides of an exchange
 //! - [`laws`]: what both nodes know after it, as the contract of a call that does nothing
+//!
+//! Its tests are in `crates/node_tests/src/exchange.rt` and `socket.rt`.
 #![tactic(auto)]
 
 mod fault;

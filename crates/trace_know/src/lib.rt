@@ -20,7 +20,7 @@
 //! - [`knowledge`]: all that is known
 //! - [`laws`]: what holds of joins and views, as contracts of calls that do nothing
 //!
-//! Its tests are in the crates `trace_know_tests` and `knowledge_tests`.
+//! Its tests are in the crate `trace_know_tests`.
 #![tactic(auto)]
 
 mod cell;

@@ -1,11 +1,12 @@
 //! Takes, joins and copies of a generator against plain lists of facts. A failure names its round.
 
-use crate::fixture::{event, segment};
+use crate::fixture::{Saying, segment, told_by};
 use std::alloc::Global;
 use std::test::Fail;
-use trace_know::{Cell, Knowledge};
+use trace_know::Knowledge;
 
-const RANKS: u32 = 3;
+/// Pieces are of the first three; of the last nothing is ever told.
+const RANKS: u32 = 4;
 
 const PLACES: u64 = 60;
 
@@ -17,14 +18,7 @@ struct Fact {
     late: u64,
 }
 
-/// What a list says of a place: nothing, one event by how late it is, or two.
-#[derive(Clone, Copy, PartialEq, Eq)]
-enum Saying {
-    Nothing,
-    Once(u64),
-    Twice,
-}
-
+/// What a list says of a place.
 fn said(facts: &[Fact], rank: u32, place: u64) -> Saying {
     let mut said = Saying::Nothing;
     for fact in facts {
@@ -82,35 +76,66 @@ fn join(both: &mut Both, other: &Both) -> Result<(), Fail> {
     Ok(())
 }
 
-/// Whether a cell is what the list says.
-fn agrees(cell: Cell<'_>, said: Saying, place: u64) -> Result<bool, Fail> {
-    Ok(match (cell, said) {
-        (Cell::Nothing, Saying::Nothing) => true,
-        (Cell::One(found), Saying::Once(late)) => found.same(&event(place, late)?),
-        (Cell::Contradiction, Saying::Twice) => true,
-        _ => false,
-    })
-}
-
-/// The first place of a rank whose cell isn't what the list says.
-fn differs(both: &Both, rank: u32) -> Result<Option<u64>, Fail> {
+/// Whether each cell of a rank, its prefix and what is beyond are as the list says.
+fn is_said(both: &Both, rank: u32) -> bool {
+    let mut prefix: u64 = 0;
+    let mut is_beyond = false;
     for place in 0..PLACES {
         let said = said(&both.facts, rank, place);
-        if !agrees(both.know.cell(rank, place), said, place)? {
-            return Ok(Some(place));
+        if told_by(both.know.cell(rank, place), place) != said {
+            return false;
+        }
+        if prefix == place && matches!(said, Saying::Once(_)) {
+            prefix = place.saturating_add(1);
+        } else if said != Saying::Nothing {
+            is_beyond = true;
         }
     }
-    Ok(None)
+    both.know.prefix(rank) == prefix && both.know.beyond(rank) == is_beyond
 }
 
-/// Whether each cell is what the list says.
-fn is_said(both: &Both) -> Result<bool, Fail> {
+/// Whether the cell of this number is that of a place, and says so.
+fn is_cell(know: &Knowledge, number: usize, rank: u32, place: u64, said: Saying) -> bool {
+    match know.cell_at(number) {
+        Some((r, p, cell)) => r == rank && p == place && told_by(cell, place) == said,
+        None => false,
+    }
+}
+
+/// Whether the cells and the contradictions by number are the list's, in rising order, and no more.
+fn is_listed(both: &Both) -> bool {
+    let know = &both.know;
+    let mut cells: usize = 0;
+    let mut conflicts: usize = 0;
     for rank in 0..RANKS {
-        if differs(both, rank)?.is_some() {
-            return Ok(false);
+        for place in 0..PLACES {
+            let said = said(&both.facts, rank, place);
+            if said == Saying::Nothing {
+                continue;
+            }
+            if !is_cell(know, cells, rank, place, said) {
+                return false;
+            }
+            cells = cells.saturating_add(1);
+            if said == Saying::Twice {
+                if know.conflict(conflicts) != Some((rank, place)) {
+                    return false;
+                }
+                conflicts = conflicts.saturating_add(1);
+            }
         }
     }
-    Ok(true)
+    know.count() == cells && know.conflicts() == conflicts
+}
+
+/// Whether all readers tell what the list says.
+fn is_as_listed(both: &Both) -> bool {
+    for rank in 0..RANKS {
+        if !is_said(both, rank) {
+            return false;
+        }
+    }
+    is_listed(both)
 }
 
 /// Whether the first list says of each place no less than the other.
@@ -138,7 +163,13 @@ fn empty(alloc: Global) -> Both {
     }
 }
 
-/// One round: both take, and now and then one joins the other.
+/// The one becomes a copy of itself.
+fn copy(both: &mut Both) -> Result<(), Fail> {
+    both.know = both.know.try_clone()?;
+    Ok(())
+}
+
+/// One round: both take, and now and then one joins the other or is copied.
 fn play(
     alloc: Global,
     one: &mut Both,
@@ -149,31 +180,41 @@ fn play(
     take_some(alloc, one, seed)?;
     take_some(alloc, two, seed)?;
     match round % 6 {
+        1 => copy(one),
         2 => join(one, two),
         5 => join(two, one),
         _ => Ok(()),
     }
 }
 
-/// The first round after which one of the two tells something else than its list.
-fn first_difference(alloc: Global, start: u64) -> Result<Option<u64>, Fail> {
+/// The first round after which one of the two tells something else than its list, or one contains the
+/// other where the lists don't say so; and how much is known at last, with how many contradictions.
+fn played(alloc: Global, start: u64) -> Result<(Option<u64>, usize, usize), Fail> {
     let mut seed = start;
     let mut one = empty(alloc);
     let mut two = empty(alloc);
+    let mut differs = None;
     for round in 0..18 {
         play(alloc, &mut one, &mut two, round, &mut seed)?;
-        if !is_said(&one)? || !is_said(&two)? || !is_contained(&one, &two) {
-            return Ok(Some(round));
+        let is_so = is_as_listed(&one) && is_as_listed(&two) && is_contained(&one, &two);
+        if !is_so && differs.is_none() {
+            differs = Some(round);
         }
     }
-    Ok(None)
+    Ok((differs, two.know.count(), two.know.conflicts()))
 }
 
 #[test]
 fn knowledge_is_what_plain_lists_say(rt: HostRuntime) -> Result<(), Fail> {
+    let mut all: usize = 0;
+    let mut contradictions: usize = 0;
     for seed in 0..20 {
-        let found = first_difference(rt.alloc(), seed)?;
-        assert_eq!(rt; found, None, "start {seed}");
+        let (differs, count, conflicts) = played(rt.alloc(), seed)?;
+        assert_eq!(rt; differs, None, "start {seed}");
+        all = all.saturating_add(count);
+        contradictions = contradictions.saturating_add(conflicts);
     }
+    let makes_both = 10 < contradictions && contradictions < all;
+    assert!(rt; makes_both, "the generator makes both");
     Ok(())
 }

@@ -21,7 +21,7 @@ pub fn event(place: u64, late: u64) -> Result<Event, Fail> {
 }
 
 /// So many events from a place on.
-fn events(alloc: Global, start: u64, count: u64, late: u64) -> Result<Vec<Event>, Fail> {
+pub fn events(alloc: Global, start: u64, count: u64, late: u64) -> Result<Vec<Event>, Fail> {
     let mut events = Vec::new(alloc);
     for place in start..start.saturating_add(count) {
         events.push(event(place, late)?)?;
@@ -42,6 +42,39 @@ pub fn known(alloc: Global, pieces: &[Piece]) -> Result<Knowledge, Fail> {
         know.take(&segment(alloc, *piece)?)?;
     }
     Ok(know)
+}
+
+/// What a place tells: nothing, one event by how late it is, or two contents.
+#[derive(Clone, Copy, PartialEq, Eq)]
+pub enum Saying {
+    Nothing,
+    Once(u64),
+    Twice,
+    /// An event that no piece has at this place.
+    Other,
+}
+
+/// What an event tells that stands at a place.
+pub fn said_by(event: &Event, place: u64) -> Saying {
+    let (stamp, is_enter) = match event {
+        Event::Enter(Call::Local, stamp) => (stamp, true),
+        Event::Return(Outs::Nothing, stamp) => (stamp, false),
+        _ => return Saying::Other,
+    };
+    if is_enter == (place % 2 == 0) && stamp.cpu() == 0 && stamp.wall() >= place {
+        Saying::Once(stamp.wall().saturating_sub(place))
+    } else {
+        Saying::Other
+    }
+}
+
+/// What a cell tells that stands at a place.
+pub fn told_by(cell: Cell<'_>, place: u64) -> Saying {
+    match cell {
+        Cell::Nothing => Saying::Nothing,
+        Cell::One(event) => said_by(event, place),
+        Cell::Contradiction => Saying::Twice,
+    }
 }
 
 /// Each run of cells as its rank, its first place and a sign a cell: `.` for an event, `x` for a contradiction.

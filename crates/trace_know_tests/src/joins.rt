@@ -6,11 +6,11 @@ use std::alloc::Global;
 use std::test::Fail;
 use trace_know::Knowledge;
 
-/// What the pieces tell, the last taken first and each as a segment of its own.
+/// What the pieces tell, the last taken first and each as a copy of its segment.
 fn taken_back(alloc: Global, pieces: &[Piece]) -> Result<Knowledge, Fail> {
     let mut know = Knowledge::new(alloc);
     for piece in pieces.iter().rev() {
-        know.take_owned(segment(alloc, *piece)?)?;
+        know.take_owned(segment(alloc, *piece)?.try_clone()?)?;
     }
     Ok(know)
 }
@@ -39,7 +39,8 @@ fn told(alloc: Global, pieces: &[Piece], way: u8) -> Result<String, Fail> {
         0 => known(alloc, pieces)?,
         1 => taken_back(alloc, pieces)?,
         2 => joined(alloc, pieces)?,
-        _ => joined_back(alloc, pieces)?,
+        3 => joined_back(alloc, pieces)?,
+        _ => known(alloc, pieces)?.try_clone()?,
     };
     show(alloc, &know)
 }
@@ -203,7 +204,7 @@ static ROWS: [Row; 29] = [
 #[test]
 fn pieces_tell_the_same_in_whatever_way_they_come(rt: HostRuntime) -> Result<(), Fail> {
     for (name, pieces, wanted) in &ROWS {
-        for way in 0..4 {
+        for way in 0..5 {
             let found = told(rt.alloc(), pieces, way)?;
             assert_eq!(rt; found.as_str(), *wanted, "{name}, way {way}");
         }
@@ -211,102 +212,87 @@ fn pieces_tell_the_same_in_whatever_way_they_come(rt: HostRuntime) -> Result<(),
     Ok(())
 }
 
-/// Prefix of rank 0, whether something is beyond, how many contradictions there are, and the first.
-type Summary = (u64, bool, usize, Option<(u32, u64)>);
-
-fn summary(alloc: Global, pieces: &[Piece]) -> Result<Summary, Fail> {
-    let know = known(alloc, pieces)?;
-    Ok((
-        know.prefix(0),
-        know.beyond(0),
-        know.conflicts(),
-        know.conflict(0),
-    ))
-}
-
-static PREFIXES_AND_CONTRADICTIONS: [(&str, &[Piece], Summary); 7] = [
-    ("calls 4 to 7", &[(0, 4, 8, 0)], (0, true, 0, None)),
-    (
-        "calls 4 to 7, then 0 to 3",
-        &[(0, 4, 8, 0), (0, 0, 8, 0)],
-        (16, false, 0, None),
-    ),
-    ("three calls", &[(0, 0, 6, 0)], (6, false, 0, None)),
-    (
-        "three calls, the second entered twice",
-        &[(0, 0, 6, 0), (0, 1, 1, 1)],
-        (2, true, 1, Some((0, 2))),
-    ),
-    (
-        "an open call, entered twice at the end",
-        &[(0, 0, 5, 0), (0, 2, 1, 1)],
-        (4, true, 1, Some((0, 4))),
-    ),
-    ("from place 2 on", &[(0, 1, 2, 0)], (0, true, 0, None)),
-    ("another rank alone", &[(1, 0, 2, 0)], (0, false, 0, None)),
-];
-
-#[test]
-fn prefixes_and_contradictions(rt: HostRuntime) -> Result<(), Fail> {
-    for (name, pieces, wanted) in &PREFIXES_AND_CONTRADICTIONS {
-        let found = summary(rt.alloc(), pieces)?;
-        assert_eq!(rt; found, *wanted, "{name}");
-    }
-    Ok(())
-}
-
-/// Whether the one contains the other, and the other the one.
-fn contained(alloc: Global, one: &[Piece], other: &[Piece]) -> Result<(bool, bool), Fail> {
+/// Whether the one contains the other, the other the one, and whether they are the same.
+fn compared(alloc: Global, one: &[Piece], other: &[Piece]) -> Result<(bool, bool, bool), Fail> {
     let one = known(alloc, one)?;
     let other = known(alloc, other)?;
-    Ok((one.contains(&other), other.contains(&one)))
+    Ok((one.contains(&other), other.contains(&one), one.same(&other)))
 }
 
-static WHAT_CONTAINS_WHAT: [(&str, &[Piece], &[Piece], (bool, bool)); 8] = [
-    ("nothing and nothing", &[], &[], (true, true)),
-    ("something and nothing", &[(0, 0, 1, 0)], &[], (true, false)),
+static WHAT_CONTAINS_WHAT: [(&str, &[Piece], &[Piece], (bool, bool, bool)); 11] = [
+    ("nothing and nothing", &[], &[], (true, true, true)),
+    (
+        "something and nothing",
+        &[(0, 0, 1, 0)],
+        &[],
+        (true, false, false),
+    ),
+    (
+        "another order, and twice",
+        &[(0, 0, 1, 0), (0, 0, 1, 1), (1, 0, 1, 0)],
+        &[
+            (1, 0, 1, 0),
+            (0, 0, 1, 1),
+            (0, 0, 1, 1),
+            (0, 0, 1, 0),
+            (0, 0, 1, 1),
+        ],
+        (true, true, true),
+    ),
+    (
+        "one is missing",
+        &[(0, 0, 1, 0), (0, 0, 1, 1), (1, 0, 1, 0)],
+        &[(0, 0, 1, 0), (1, 0, 1, 0)],
+        (true, false, false),
+    ),
+    (
+        "another time",
+        &[(0, 0, 1, 0)],
+        &[(0, 0, 1, 1)],
+        (false, false, false),
+    ),
     (
         "more events",
         &[(0, 0, 4, 0)],
         &[(0, 1, 2, 0)],
-        (true, false),
+        (true, false, false),
     ),
     (
         "a contradiction and one content",
         &[(0, 0, 2, 0), (0, 0, 1, 1)],
         &[(0, 0, 2, 0)],
-        (true, false),
+        (true, false, false),
     ),
     (
         "two contents",
         &[(0, 0, 2, 0)],
         &[(0, 0, 2, 1)],
-        (false, false),
+        (false, false, false),
     ),
     (
         "one place past the last run",
         &[(0, 0, 2, 0)],
         &[(0, 0, 3, 0)],
-        (false, true),
+        (false, true, false),
     ),
     (
         "a rank past the last",
         &[(0, 0, 2, 0)],
         &[(0, 0, 2, 0), (1, 0, 1, 0)],
-        (false, true),
+        (false, true, false),
     ),
     (
         "a gap",
         &[(0, 0, 2, 0), (0, 2, 2, 0)],
         &[(0, 0, 6, 0)],
-        (false, true),
+        (false, true, false),
     ),
 ];
 
 #[test]
 fn what_contains_what(rt: HostRuntime) -> Result<(), Fail> {
     for (name, one, other, wanted) in &WHAT_CONTAINS_WHAT {
-        let found = contained(rt.alloc(), one, other)?;
+        let found = compared(rt.alloc(), one, other)?;
         assert_eq!(rt; found, *wanted, "{name}");
     }
     Ok(())

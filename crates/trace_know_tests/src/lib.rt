@@ -5,6 +5,8 @@
 //! | File | Tests |
 //! |---|---|
 //! | `fixture` | segments and knowledge for the rows, and what is known in a short text |
+//! | `segments` | which events are a segment |
+//! | `readers` | prefixes, counts, contradictions and readable events |
 //! | `joins` | takes and joins where pieces touch, cover or contradict each other |
 //! | `pieces` | many pieces in several orders, and many ranks |
 //! | `put` | cells that are put one by one |
@@ -23,4 +25,8 @@ mod pieces;
 #[cfg(test)]
 mod put;
 #[cfg(test)]
+mod readers;
+#[cfg(test)]
 mod refused;
+#[cfg(test)]
+mod segments;

@@ -19,6 +19,8 @@
 //! - [`follow`]: the index of the pairs, as more is known
 //! - [`node`]: knowledge with its answer
 //! - [`laws`]: that there is one answer, as the contract of a call that does nothing
+//!
+//! Its tests are in `crates/node_tests/src/node.rt`.
 #![tactic(auto)]
 
 mod answer;

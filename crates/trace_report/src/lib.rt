@@ -14,7 +14,7 @@
 //! - [`waits`]: what a stuck rank waits for; [`seconds`]: times; [`words`]: words and numbers
 //! - [`sink`]: where lines go; [`paged`]: page by page; [`direct`]: to the device; [`fault`]: why a report is not whole
 //!
-//! Its tests stand in `crates/report_tests`.
+//! Its tests are in `crates/node_tests/src/report.rt`.
 #![tactic(auto)]
 
 mod direct;

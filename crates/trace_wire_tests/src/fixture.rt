@@ -1,60 +1,57 @@
 //! Knowledge of a few events, and frames in memory.
+//!
+//! Each helper stops the test where a value is missing (`expect`), so that it has one way out.
 
 use mpi_model::{Call, Event, MemoryReader, MemoryWriter, Outs, Stamp};
 use std::alloc::Global;
-use std::test::Fail;
+use std::process::Abort;
 use trace_know::{Knowledge, Segment};
 use trace_wire::{WireFault, read_frame, write_frame};
 
 /// The frame of A, B and C: of rank 0 two contents of place 0, and of rank 1 the Enter of `MPI_Finalize` there.
-pub(crate) fn worked(alloc: Global) -> Result<Vec<u8>, Fail> {
-    let mut bytes = b"MPTX\0\x01\0\0\0\x2F\0\0\0\x02".to_vec(alloc)?;
-    bytes.extend_from_slice(b"\0\0\0\0\0\0\0\0\0\0\0\0\x01")?;
-    bytes.extend_from_slice(b"\0\0\0\x01\0\0\0\0\0\0\0\0\0")?;
-    bytes.extend_from_slice(b"\x01\0\0\0\0\0\0\0\x01\0\0\0\0\0\0\0\x02")?;
-    Ok(bytes)
-}
+pub(crate) const WORKED: &[u8] =
+    b"MPTX\0\x01\0\0\0\x2F\0\0\0\x02\0\0\0\0\0\0\0\0\0\0\0\0\x01\0\0\0\x01\0\0\0\0\0\0\0\0\0\x01\0\0\0\0\0\0\0\x01\0\0\0\0\0\0\0\x02";
 
 /// The latest time that a trace can tell.
 pub(crate) const LATEST: u64 = 9_999_999_999_999_999_999;
 
 /// What a call does that was entered and left at the latest time.
-pub(crate) fn both(alloc: Global, call: Call, outs: Outs) -> Result<Segment, Fail> {
-    let stamp = Stamp::new(LATEST, 0).ok_or("a time")?;
-    let events = vec![in alloc; Event::Enter(call, stamp), Event::Return(outs, stamp)]?;
-    Ok(Segment::new(0, 0, events)?)
-}
-
-/// One call that was entered.
-fn entered(alloc: Global, rank: u32, call: Call, wall: u64, cpu: u64) -> Result<Segment, Fail> {
-    let stamp = Stamp::new(wall, cpu).ok_or("a time")?;
-    let events = vec![in alloc; Event::Enter(call, stamp)]?;
-    Ok(Segment::new(rank, 0, events)?)
+pub(crate) fn both<R: Abort>(rt: &R, alloc: Global, call: Call, outs: Outs) -> Segment {
+    let stamp = Stamp::new(LATEST, 0).expect(rt, "a time");
+    let mut events = Vec::new(alloc);
+    events.push(Event::Enter(call, stamp)).expect(rt, "memory");
+    events.push(Event::Return(outs, stamp)).expect(rt, "memory");
+    Segment::new(0, 0, events).expect(rt, "a segment")
 }
 
 /// The segments A and B, which tell two contents of place 0 of rank 0, and C, of rank 1.
-fn segment_named(alloc: Global, name: u8) -> Result<Segment, Fail> {
-    match name {
-        b'A' => entered(alloc, 0, Call::Local, 0, 0),
-        b'B' => entered(alloc, 0, Call::Local, 1, 0),
-        _ => entered(alloc, 1, Call::Finalize, 1, 2),
-    }
+fn segment_named<R: Abort>(rt: &R, alloc: Global, name: u8) -> Segment {
+    let (rank, call, wall, cpu) = match name {
+        b'A' => (0, Call::Local, 0, 0),
+        b'B' => (0, Call::Local, 1, 0),
+        _ => (1, Call::Finalize, 1, 2),
+    };
+    let stamp = Stamp::new(wall, cpu).expect(rt, "a time");
+    let mut events = Vec::new(alloc);
+    events.push(Event::Enter(call, stamp)).expect(rt, "memory");
+    Segment::new(rank, 0, events).expect(rt, "a segment")
 }
 
 /// What these segments tell together, taken in this order.
-pub(crate) fn taken(alloc: Global, names: &str) -> Result<Knowledge, Fail> {
+pub(crate) fn taken<R: Abort>(rt: &R, alloc: Global, names: &str) -> Knowledge {
     let mut know = Knowledge::new(alloc);
     for name in names.bytes() {
-        know.take(&segment_named(alloc, name)?)?;
+        know.take(&segment_named(rt, alloc, name))
+            .expect(rt, "memory");
     }
-    Ok(know)
+    know
 }
 
 /// The frame of the knowledge.
-pub(crate) fn frame(alloc: Global, know: &Knowledge) -> Result<Vec<u8>, Fail> {
+pub(crate) fn frame<R: Abort>(rt: &R, alloc: Global, know: &Knowledge) -> Vec<u8> {
     let mut writer = MemoryWriter::new(alloc);
-    write_frame(know, &mut writer)?;
-    Ok(writer.bytes().to_vec(alloc)?)
+    write_frame(know, &mut writer).expect(rt, "a frame");
+    writer.bytes().to_vec(alloc).expect(rt, "memory")
 }
 
 /// The knowledge whose frame stands in front of the bytes, or why there is none.

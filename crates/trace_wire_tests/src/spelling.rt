@@ -1,346 +1,355 @@
 //! The bytes of each kind of call and outcome, with the least and the greatest values, there and back.
 
-use crate::fixture::{LATEST, both, frame, read, taken, worked};
+use crate::fixture::{LATEST, WORKED, both, frame, read, taken};
 use mpi_model::{
     Call, Collective, CommRef, Element, Elements, Envelope, Exchange, Kind, Mode, Outs, Peer,
     ReceiveEnvelope, Requests, SendEnvelope, Sources, Told,
 };
 use std::alloc::Global;
-use std::test::Fail;
+use std::process::Abort;
 use trace_know::Knowledge;
 use trace_wire::frame_len;
 
 /// The greatest number of a rank, a tag, a communicator or a count.
 const MOST: u32 = 0x7FFF_FFFF;
 
-/// Whether a call is spelled by these bytes, from the code of its kind on, and read back.
-fn enters(alloc: Global, call: Call, code: u8, fields: &[u8]) -> Result<bool, Fail> {
-    row(alloc, call, Outs::Nothing, (code, fields), (0, b""))
+/// The code of a kind, and the fields behind the times.
+type Spelled<'a> = (u8, &'a [u8]);
+
+/// Whether a call is spelled so, and read back.
+fn enters<R: Abort>(rt: &R, alloc: Global, call: Call, spelled: Spelled<'_>) -> bool {
+    is_row(rt, alloc, call, Outs::Nothing, spelled, (0, b""))
 }
 
-/// Whether an outcome is spelled by these bytes, from the code of its kind on, and read back.
-fn returns(alloc: Global, outs: Outs, code: u8, fields: &[u8]) -> Result<bool, Fail> {
-    row(alloc, Call::Local, outs, (0, b""), (code, fields))
+/// Whether an outcome is spelled so, and read back.
+fn returns<R: Abort>(rt: &R, alloc: Global, outs: Outs, spelled: Spelled<'_>) -> bool {
+    is_row(rt, alloc, Call::Local, outs, (0, b""), spelled)
 }
 
-fn row(
+fn is_row<R: Abort>(
+    rt: &R,
     alloc: Global,
     call: Call,
     outs: Outs,
-    enter: (u8, &[u8]),
-    leave: (u8, &[u8]),
-) -> Result<bool, Fail> {
+    enter: Spelled<'_>,
+    leave: Spelled<'_>,
+) -> bool {
     let mut know = Knowledge::new(alloc);
-    know.take(&both(alloc, call, outs)?)?;
-    is_spelled(alloc, &know, &wanted(alloc, enter, leave)?)
+    know.take_owned(both(rt, alloc, call, outs))
+        .expect(rt, "memory");
+    is_spelled(rt, alloc, &know, &wanted(rt, alloc, enter, leave))
 }
 
 /// Whether the frame of what is known has these bytes, and is read back.
-fn is_spelled(alloc: Global, know: &Knowledge, wanted: &[u8]) -> Result<bool, Fail> {
-    let bytes = frame(alloc, know)?;
-    let again = read(alloc, &bytes)?;
-    Ok(bytes.as_slice() == wanted && again.same(know) && frame_len(know) == wanted.len() as u64)
+fn is_spelled<R: Abort>(rt: &R, alloc: Global, know: &Knowledge, wanted: &[u8]) -> bool {
+    let bytes = frame(rt, alloc, know);
+    let again = read(alloc, &bytes).expect(rt, "a frame");
+    bytes.as_slice() == wanted && again.same(know) && frame_len(know) == wanted.len() as u64
+}
+
+fn add<R: Abort>(rt: &R, bytes: &mut Vec<u8>, more: &[u8]) {
+    bytes.extend_from_slice(more).expect(rt, "memory");
 }
 
 /// The frame of two events of rank 0, entered and left at the latest time.
-fn wanted(alloc: Global, enter: (u8, &[u8]), leave: (u8, &[u8])) -> Result<Vec<u8>, Fail> {
-    let mut payload = b"\0\0\0\x02".to_vec(alloc)?;
-    add_cell(&mut payload, 0, enter)?;
-    add_cell(&mut payload, 1, leave)?;
-    let mut bytes = b"MPTX\0\x01".to_vec(alloc)?;
-    let len = u32::try_from(payload.len()).ok().ok_or("a length")?;
-    bytes.extend_from_slice(&len.to_be_bytes())?;
-    bytes.extend_from_slice(&payload)?;
-    Ok(bytes)
+fn wanted<R: Abort>(rt: &R, alloc: Global, enter: Spelled<'_>, leave: Spelled<'_>) -> Vec<u8> {
+    let fields = enter.1.len().saturating_add(leave.1.len());
+    let len = u32::try_from(fields.saturating_add(64))
+        .ok()
+        .expect(rt, "a length");
+    let mut bytes = Vec::new(alloc);
+    add(rt, &mut bytes, b"MPTX\0\x01");
+    add(rt, &mut bytes, &len.to_be_bytes());
+    add(rt, &mut bytes, b"\0\0\0\x02");
+    add_cell(rt, &mut bytes, 0, enter);
+    add_cell(rt, &mut bytes, 1, leave);
+    bytes
 }
 
-/// A cell of rank 0: its place, its event's kind and times, and what stands behind them.
-fn add_cell(bytes: &mut Vec<u8>, place: u8, event: (u8, &[u8])) -> Result<(), Fail> {
-    bytes.extend_from_slice(&[0, 0, 0, 0, 0, 0, 0, 0, 0, 0, 0, place, 0, event.0])?;
-    bytes.extend_from_slice(&LATEST.to_be_bytes())?;
-    bytes.extend_from_slice(&[0; 8])?;
-    bytes.extend_from_slice(event.1)?;
-    Ok(())
+/// A cell of rank 0, of 30 bytes and its fields: its place, its event's kind and times, and what stands
+/// behind them.
+fn add_cell<R: Abort>(rt: &R, bytes: &mut Vec<u8>, place: u8, event: Spelled<'_>) {
+    add(rt, bytes, b"\0\0\0\0\0\0\0\0\0\0\0");
+    add(rt, bytes, &[place, 0, event.0]);
+    add(rt, bytes, &LATEST.to_be_bytes());
+    add(rt, bytes, b"\0\0\0\0\0\0\0\0");
+    add(rt, bytes, event.1);
 }
 
-/// The envelope of a send of one element.
-fn sent(peer: Peer, tag: u32, comm: CommRef, datatype: i64) -> Result<SendEnvelope, Fail> {
+#[test]
+fn calls_without_fields(rt: HostRuntime) {
+    assert!(rt; enters(&rt, rt.alloc(), Call::Local, (0, b"")));
+    assert!(rt; enters(&rt, rt.alloc(), Call::Finalize, (1, b"")));
+}
+
+/// Of a send of one element: its mode, peer, tag, communicator and datatype.
+type Sent = (Mode, Peer, u32, CommRef, i64);
+
+fn sent<R: Abort>(rt: &R, row: &Sent) -> SendEnvelope {
     let envelope = Envelope {
-        peer,
-        tag: Some(tag),
-        comm,
+        peer: row.1,
+        tag: Some(row.2),
+        comm: row.3,
         count: 1,
-        datatype,
+        datatype: row.4,
     };
-    Ok(SendEnvelope::new(envelope).ok_or("a send")?)
+    SendEnvelope::new(envelope).expect(rt, "a send")
 }
 
-/// The envelope of a receive of as many elements as there can be.
-fn received(peer: Peer, tag: Option<u32>, comm: CommRef) -> Result<ReceiveEnvelope, Fail> {
+/// The least and the greatest numbers, and each mode.
+static SENDS: [(&str, u8, Sent, &[u8]); 6] = [
+    (
+        "to nobody",
+        2,
+        (Mode::Standard, Peer::Null, 0, CommRef::World, -1),
+        b"\0\xFF\xFF\xFF\xFE\0\0\0\0\xFF\xFF\xFF\xFF\0\0\0\x01\xFF\xFF\xFF\xFF\xFF\xFF\xFF\xFF",
+    ),
+    (
+        "the greatest numbers",
+        3,
+        (
+            Mode::Ready,
+            Peer::Rank(MOST),
+            MOST,
+            CommRef::Id(MOST),
+            i64::MAX,
+        ),
+        b"\x03\x7F\xFF\xFF\xFF\x7F\xFF\xFF\xFF\x7F\xFF\xFF\xFF\0\0\0\x01\x7F\xFF\xFF\xFF\xFF\xFF\xFF\xFF",
+    ),
+    (
+        "standard",
+        2,
+        (Mode::Standard, Peer::Rank(1), 7, CommRef::Id(2), 11),
+        b"\0\0\0\0\x01\0\0\0\x07\0\0\0\x02\0\0\0\x01\0\0\0\0\0\0\0\x0B",
+    ),
+    (
+        "synchronous",
+        2,
+        (Mode::Synchronous, Peer::Rank(1), 7, CommRef::Id(2), 11),
+        b"\x01\0\0\0\x01\0\0\0\x07\0\0\0\x02\0\0\0\x01\0\0\0\0\0\0\0\x0B",
+    ),
+    (
+        "buffered",
+        2,
+        (Mode::Buffered, Peer::Rank(1), 7, CommRef::Id(2), 11),
+        b"\x02\0\0\0\x01\0\0\0\x07\0\0\0\x02\0\0\0\x01\0\0\0\0\0\0\0\x0B",
+    ),
+    (
+        "ready",
+        2,
+        (Mode::Ready, Peer::Rank(1), 7, CommRef::Id(2), 11),
+        b"\x03\0\0\0\x01\0\0\0\x07\0\0\0\x02\0\0\0\x01\0\0\0\0\0\0\0\x0B",
+    ),
+];
+
+fn send_call<R: Abort>(rt: &R, code: u8, row: &Sent) -> Call {
+    match code {
+        2 => Call::Send(row.0, sent(rt, row)),
+        _ => Call::Isend(row.0, sent(rt, row)),
+    }
+}
+
+#[test]
+fn sends(rt: HostRuntime) {
+    for (name, code, row, fields) in &SENDS {
+        let call = send_call(&rt, *code, row);
+        let is_so = enters(&rt, rt.alloc(), call, (*code, fields));
+        assert!(rt; is_so, "{name}");
+    }
+}
+
+/// Of a receive of as many elements as there can be: its peer, tag and communicator.
+type Received = (Peer, Option<u32>, CommRef);
+
+fn received<R: Abort>(rt: &R, row: &Received) -> ReceiveEnvelope {
     let envelope = Envelope {
-        peer,
-        tag,
-        comm,
+        peer: row.0,
+        tag: row.1,
+        comm: row.2,
         count: MOST,
         datatype: i64::MIN,
     };
-    Ok(ReceiveEnvelope::new(envelope).ok_or("a receive")?)
+    ReceiveEnvelope::new(envelope).expect(rt, "a receive")
 }
 
-fn told(rank: Option<u32>) -> Result<Told, Fail> {
-    Ok(Told::new(rank).ok_or("a source")?)
-}
+/// From any source and of any tag, and from the null process.
+static RECEIVES: [(u8, Received, &[u8]); 2] = [
+    (
+        4,
+        (Peer::Any, None, CommRef::Id(0)),
+        b"\xFF\xFF\xFF\xFF\xFF\xFF\xFF\xFF\0\0\0\0\x7F\xFF\xFF\xFF\x80\0\0\0\0\0\0\0",
+    ),
+    (
+        5,
+        (Peer::Null, Some(MOST), CommRef::World),
+        b"\xFF\xFF\xFF\xFE\x7F\xFF\xFF\xFF\xFF\xFF\xFF\xFF\x7F\xFF\xFF\xFF\x80\0\0\0\0\0\0\0",
+    ),
+];
 
-fn requests(alloc: Global, numbers: &[i64]) -> Result<Requests, Fail> {
-    Ok(Requests::from_vec(numbers.to_vec(alloc)?))
-}
-
-#[test]
-fn calls_without_fields(rt: HostRuntime) -> Result<(), Fail> {
-    assert!(rt; enters(rt.alloc(), Call::Local, 0, b"")?);
-    assert!(rt; enters(rt.alloc(), Call::Finalize, 1, b"")?);
-    Ok(())
-}
-
-/// A send of standard mode to the null process.
-#[test]
-fn send(rt: HostRuntime) -> Result<(), Fail> {
-    let call = Call::Send(Mode::Standard, sent(Peer::Null, 0, CommRef::World, -1)?);
-    let fields =
-        b"\0\xFF\xFF\xFF\xFE\0\0\0\0\xFF\xFF\xFF\xFF\0\0\0\x01\xFF\xFF\xFF\xFF\xFF\xFF\xFF\xFF";
-    assert!(rt; enters(rt.alloc(), call, 2, fields)?);
-    Ok(())
-}
-
-/// A send of ready mode, with the greatest numbers.
-#[test]
-fn isend(rt: HostRuntime) -> Result<(), Fail> {
-    let most = sent(Peer::Rank(MOST), MOST, CommRef::Id(MOST), i64::MAX)?;
-    let fields =
-        b"\x03\x7F\xFF\xFF\xFF\x7F\xFF\xFF\xFF\x7F\xFF\xFF\xFF\0\0\0\x01\x7F\xFF\xFF\xFF\xFF\xFF\xFF\xFF";
-    assert!(rt; enters(rt.alloc(), Call::Isend(Mode::Ready, most), 3, fields)?);
-    Ok(())
-}
-
-fn mode(code: u8) -> Mode {
+fn receive_call<R: Abort>(rt: &R, code: u8, row: &Received) -> Call {
     match code {
-        0 => Mode::Standard,
-        1 => Mode::Synchronous,
-        2 => Mode::Buffered,
-        _ => Mode::Ready,
+        4 => Call::Recv(received(rt, row)),
+        _ => Call::Irecv(received(rt, row)),
     }
 }
 
 #[test]
-fn modes(rt: HostRuntime) -> Result<(), Fail> {
-    for code in 0..4_u8 {
-        let call = Call::Send(mode(code), sent(Peer::Rank(1), 7, CommRef::Id(2), 11)?);
-        let fields = [
-            code, 0, 0, 0, 1, 0, 0, 0, 7, 0, 0, 0, 2, 0, 0, 0, 1, 0, 0, 0, 0, 0, 0, 0, 11,
-        ];
-        assert!(rt; enters(rt.alloc(), call, 2, &fields)?, "{code}");
+fn receives(rt: HostRuntime) {
+    for (code, row, fields) in &RECEIVES {
+        let call = receive_call(&rt, *code, row);
+        let is_so = enters(&rt, rt.alloc(), call, (*code, fields));
+        assert!(rt; is_so, "{code}");
     }
-    Ok(())
-}
-
-/// A receive from any source, of any tag.
-#[test]
-fn recv(rt: HostRuntime) -> Result<(), Fail> {
-    let call = Call::Recv(received(Peer::Any, None, CommRef::Id(0))?);
-    let fields = b"\xFF\xFF\xFF\xFF\xFF\xFF\xFF\xFF\0\0\0\0\x7F\xFF\xFF\xFF\x80\0\0\0\0\0\0\0";
-    assert!(rt; enters(rt.alloc(), call, 4, fields)?);
-    Ok(())
-}
-
-/// A receive from the null process.
-#[test]
-fn irecv(rt: HostRuntime) -> Result<(), Fail> {
-    let call = Call::Irecv(received(Peer::Null, Some(MOST), CommRef::World)?);
-    let fields =
-        b"\xFF\xFF\xFF\xFE\x7F\xFF\xFF\xFF\xFF\xFF\xFF\xFF\x7F\xFF\xFF\xFF\x80\0\0\0\0\0\0\0";
-    assert!(rt; enters(rt.alloc(), call, 5, fields)?);
-    Ok(())
 }
 
 #[test]
-fn sendrecv(rt: HostRuntime) -> Result<(), Fail> {
-    let send = sent(Peer::Rank(1), 7, CommRef::World, 11)?;
-    let receive = received(Peer::Any, Some(8), CommRef::World)?;
-    let both = Exchange::new(send, receive).ok_or("one communicator")?;
+fn sendrecv(rt: HostRuntime) {
+    let send = sent(&rt, &(Mode::Standard, Peer::Rank(1), 7, CommRef::World, 11));
+    let receive = received(&rt, &(Peer::Any, Some(8), CommRef::World));
+    let both = Exchange::new(send, receive).expect(&rt, "one communicator");
     let fields =
         b"\0\0\0\x01\0\0\0\x07\xFF\xFF\xFF\xFF\0\0\0\x01\0\0\0\0\0\0\0\x0B\xFF\xFF\xFF\xFF\0\0\0\x08\xFF\xFF\xFF\xFF\x7F\xFF\xFF\xFF\x80\0\0\0\0\0\0\0";
-    assert!(rt; enters(rt.alloc(), Call::Sendrecv(both), 6, fields)?);
-    Ok(())
+    assert!(rt; enters(&rt, rt.alloc(), Call::Sendrecv(both), (6, fields)));
 }
 
-#[test]
-fn wait_and_test(rt: HostRuntime) -> Result<(), Fail> {
-    assert!(rt;
-        enters(
-            rt.alloc(),
-            Call::Wait(-1),
-            7,
-            b"\xFF\xFF\xFF\xFF\xFF\xFF\xFF\xFF"
-        )?
-    );
-    assert!(rt; enters(rt.alloc(), Call::Test(i64::MIN), 11, b"\x80\0\0\0\0\0\0\0")?);
-    Ok(())
-}
+/// Requests that a call names.
+static WAITS: [(u8, &[i64], &[u8]); 5] = [
+    (7, &[-1], b"\xFF\xFF\xFF\xFF\xFF\xFF\xFF\xFF"),
+    (11, &[i64::MIN], b"\x80\0\0\0\0\0\0\0"),
+    (8, &[], b"\0\0\0\0"),
+    (
+        9,
+        &[1, -2],
+        b"\0\0\0\x02\0\0\0\0\0\0\0\x01\xFF\xFF\xFF\xFF\xFF\xFF\xFF\xFE",
+    ),
+    (
+        10,
+        &[i64::MAX],
+        b"\0\0\0\x01\x7F\xFF\xFF\xFF\xFF\xFF\xFF\xFF",
+    ),
+];
 
-#[test]
-fn waitall_of_nothing(rt: HostRuntime) -> Result<(), Fail> {
-    let call = Call::Waitall(requests(rt.alloc(), &[])?);
-    assert!(rt; enters(rt.alloc(), call, 8, b"\0\0\0\0")?);
-    Ok(())
-}
-
-#[test]
-fn waitany(rt: HostRuntime) -> Result<(), Fail> {
-    let call = Call::Waitany(requests(rt.alloc(), &[1, -2])?);
-    let fields = b"\0\0\0\x02\0\0\0\0\0\0\0\x01\xFF\xFF\xFF\xFF\xFF\xFF\xFF\xFE";
-    assert!(rt; enters(rt.alloc(), call, 9, fields)?);
-    Ok(())
-}
-
-#[test]
-fn waitsome(rt: HostRuntime) -> Result<(), Fail> {
-    let call = Call::Waitsome(requests(rt.alloc(), &[i64::MAX])?);
-    assert!(rt;
-        enters(
-            rt.alloc(),
-            call,
-            10,
-            b"\0\0\0\x01\x7F\xFF\xFF\xFF\xFF\xFF\xFF\xFF"
-        )?
-    );
-    Ok(())
-}
-
-/// The kind of a collective call by its code, and its root.
-fn kind(code: u8) -> (Kind, Option<u32>) {
+fn wait_call<R: Abort>(rt: &R, alloc: Global, code: u8, numbers: &[i64]) -> Call {
+    let first = match numbers.get(0) {
+        Some(number) => *number,
+        None => 0,
+    };
+    let all = Requests::from_vec(numbers.to_vec(alloc).expect(rt, "memory"));
     match code {
-        0 => (Kind::Barrier, None),
-        1 => (Kind::Bcast, Some(0)),
-        2 => (Kind::Scatter, Some(1)),
-        3 => (Kind::Gather, Some(MOST)),
-        4 => (Kind::Reduce, Some(2)),
-        5 => (Kind::Allreduce, None),
-        6 => (Kind::Allgather, None),
-        _ => (Kind::Alltoall, None),
+        7 => Call::Wait(first),
+        8 => Call::Waitall(all),
+        9 => Call::Waitany(all),
+        10 => Call::Waitsome(all),
+        _ => Call::Test(first),
     }
 }
 
 #[test]
-fn collective_calls(rt: HostRuntime) -> Result<(), Fail> {
-    for code in 0..8_u8 {
-        let (kind, root) = kind(code);
-        let call = Collective::new(kind, root, CommRef::Id(5)).ok_or("a call")?;
+fn waits(rt: HostRuntime) {
+    for (code, numbers, fields) in &WAITS {
+        let call = wait_call(&rt, rt.alloc(), *code, numbers);
+        let is_so = enters(&rt, rt.alloc(), call, (*code, fields));
+        assert!(rt; is_so, "{code}");
+    }
+}
+
+/// The kinds of collective calls in the order of their codes, each with its root.
+static KINDS: [(Kind, Option<u32>); 8] = [
+    (Kind::Barrier, None),
+    (Kind::Bcast, Some(0)),
+    (Kind::Scatter, Some(1)),
+    (Kind::Gather, Some(MOST)),
+    (Kind::Reduce, Some(2)),
+    (Kind::Allreduce, None),
+    (Kind::Allgather, None),
+    (Kind::Alltoall, None),
+];
+
+#[test]
+fn collective_calls(rt: HostRuntime) {
+    let mut code: u8 = 0;
+    for (kind, root) in KINDS {
+        let call = Collective::new(kind, root, CommRef::Id(5)).expect(&rt, "a call");
         let [a, b, c, d] = root.unwrap_or(u32::MAX).to_be_bytes();
         let fields = [code, a, b, c, d, 0, 0, 0, 5];
-        assert!(rt;
-            enters(rt.alloc(), Call::Collective(call), 12, &fields)?,
-            "{code}"
-        );
+        let is_so = enters(&rt, rt.alloc(), Call::Collective(call), (12, &fields));
+        assert!(rt; is_so, "{code}");
+        code = code.saturating_add(1);
     }
-    Ok(())
 }
 
-#[test]
-fn posted(rt: HostRuntime) -> Result<(), Fail> {
-    assert!(rt; returns(rt.alloc(), Outs::Posted(i64::MIN), 1, b"\x80\0\0\0\0\0\0\0")?);
-    Ok(())
+fn told<R: Abort>(rt: &R, rank: Option<u32>) -> Told {
+    Told::new(rank).expect(rt, "a source")
 }
 
-#[test]
-fn status(rt: HostRuntime) -> Result<(), Fail> {
-    assert!(rt;
-        returns(
-            rt.alloc(),
-            Outs::Status(told(None)?),
-            2,
-            b"\xFF\xFF\xFF\xFF"
-        )?
-    );
-    assert!(rt;
-        returns(
-            rt.alloc(),
-            Outs::Status(told(Some(MOST))?),
-            2,
-            b"\x7F\xFF\xFF\xFF"
-        )?
-    );
-    Ok(())
+/// No source, and rank 0.
+fn statuses<R: Abort>(rt: &R, alloc: Global) -> Outs {
+    let mut two = Vec::new(alloc);
+    two.push(told(rt, None)).expect(rt, "memory");
+    two.push(told(rt, Some(0))).expect(rt, "memory");
+    Outs::Statuses(Sources::from_vec(two))
 }
 
-#[test]
-fn statuses(rt: HostRuntime) -> Result<(), Fail> {
-    let none = told(None)?;
-    let some = told(Some(0))?;
-    let two = Sources::from_vec(vec![in rt.alloc(); none, some]?);
-    assert!(rt;
-        returns(
-            rt.alloc(),
-            Outs::Statuses(two),
-            3,
-            b"\0\0\0\x02\xFF\xFF\xFF\xFF\0\0\0\0"
-        )?
-    );
-    Ok(())
+fn element<R: Abort>(rt: &R, position: u32, source: Option<u32>) -> Element {
+    Element {
+        position,
+        told: told(rt, source),
+    }
 }
 
-#[test]
-fn index(rt: HostRuntime) -> Result<(), Fail> {
-    let none = Outs::Index(None, told(None)?);
-    assert!(rt; returns(rt.alloc(), none, 4, b"\0\xFF\xFF\xFF\xFF")?);
-    let most = Outs::Index(Some(u32::MAX), told(Some(0))?);
-    assert!(rt; returns(rt.alloc(), most, 4, b"\x01\xFF\xFF\xFF\xFF\0\0\0\0")?);
-    Ok(())
+fn several<R: Abort>(rt: &R, alloc: Global) -> Outs {
+    let mut two = Vec::new(alloc);
+    two.push(element(rt, u32::MAX, None)).expect(rt, "memory");
+    two.push(element(rt, 0, Some(MOST))).expect(rt, "memory");
+    Outs::Several(Elements::from_vec(two))
 }
 
-#[test]
-fn several(rt: HostRuntime) -> Result<(), Fail> {
-    let first = Element {
-        position: u32::MAX,
-        told: told(None)?,
-    };
-    let second = Element {
-        position: 0,
-        told: told(Some(MOST))?,
-    };
-    let two = Elements::from_vec(vec![in rt.alloc(); first, second]?);
-    let wanted = b"\0\0\0\x02\xFF\xFF\xFF\xFF\xFF\xFF\xFF\xFF\0\0\0\0\x7F\xFF\xFF\xFF";
-    assert!(rt; returns(rt.alloc(), Outs::Several(two), 5, wanted)?);
-    Ok(())
+/// The outcome of a row of the table.
+fn outs_of<R: Abort>(rt: &R, alloc: Global, row: u8) -> Outs {
+    match row {
+        0 => Outs::Posted(i64::MIN),
+        1 => Outs::Status(told(rt, None)),
+        2 => Outs::Status(told(rt, Some(MOST))),
+        3 => statuses(rt, alloc),
+        4 => Outs::Index(None, told(rt, None)),
+        5 => Outs::Index(Some(u32::MAX), told(rt, Some(0))),
+        6 => several(rt, alloc),
+        7 => Outs::Flag(false, told(rt, None)),
+        _ => Outs::Flag(true, told(rt, Some(1))),
+    }
 }
 
+static OUTCOMES: [(u8, &[u8]); 9] = [
+    (1, b"\x80\0\0\0\0\0\0\0"),
+    (2, b"\xFF\xFF\xFF\xFF"),
+    (2, b"\x7F\xFF\xFF\xFF"),
+    (3, b"\0\0\0\x02\xFF\xFF\xFF\xFF\0\0\0\0"),
+    (4, b"\0\xFF\xFF\xFF\xFF"),
+    (4, b"\x01\xFF\xFF\xFF\xFF\0\0\0\0"),
+    (
+        5,
+        b"\0\0\0\x02\xFF\xFF\xFF\xFF\xFF\xFF\xFF\xFF\0\0\0\0\x7F\xFF\xFF\xFF",
+    ),
+    (6, b"\0\xFF\xFF\xFF\xFF"),
+    (6, b"\x01\0\0\0\x01"),
+];
+
 #[test]
-fn flag(rt: HostRuntime) -> Result<(), Fail> {
-    assert!(rt;
-        returns(
-            rt.alloc(),
-            Outs::Flag(false, told(None)?),
-            6,
-            b"\0\xFF\xFF\xFF\xFF"
-        )?
-    );
-    assert!(rt;
-        returns(
-            rt.alloc(),
-            Outs::Flag(true, told(Some(1))?),
-            6,
-            b"\x01\0\0\0\x01"
-        )?
-    );
-    Ok(())
+fn outcomes(rt: HostRuntime) {
+    let mut row: u8 = 0;
+    for (code, fields) in OUTCOMES {
+        let outs = outs_of(&rt, rt.alloc(), row);
+        let is_so = returns(&rt, rt.alloc(), outs, (code, fields));
+        assert!(rt; is_so, "row {row}");
+        row = row.saturating_add(1);
+    }
 }
 
 /// The segments A, B and C, in several orders and more than once.
 #[test]
-fn one_frame_for_each_order_of_the_same_segments(rt: HostRuntime) -> Result<(), Fail> {
-    let worked = worked(rt.alloc())?;
+fn one_frame_for_each_order_of_the_same_segments(rt: HostRuntime) {
     for names in ["ABC", "BCA", "CBBAB"] {
-        let know = taken(rt.alloc(), names)?;
-        assert!(rt; is_spelled(rt.alloc(), &know, &worked)?, "{names}");
+        let know = taken(&rt, rt.alloc(), names);
+        assert!(rt; is_spelled(&rt, rt.alloc(), &know, WORKED), "{names}");
     }
-    Ok(())
 }

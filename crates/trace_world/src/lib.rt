@@ -15,7 +15,7 @@
 //! - [`laws`]: nodes that the same segments reached are equal, and equal states refuse the same steps, as
 //!   contracts
 //!
-//! Its tests are in the crate `trace_world_tests`.
+//! Its tests are in `crates/node_tests/src/world.rt`.
 #![tactic(auto)]
 
 mod inbox;

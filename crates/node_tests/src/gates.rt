@@ -1,8 +1,10 @@
 //! Crews that are held by gates: each holds one thread until another has come to a place, for at most
 //! 1,000 turns of one millisecond, and notes where the turns ran out.
 
-use crate::pieces::{CALL, layout, pieces};
+use crate::crew::{CALL, piece, pieces};
+use crate::fixture::layout;
 use std::alloc::Global;
+use std::process::Abort;
 use std::rt::Clock;
 use std::sync::{Mutex, Wait};
 use std::thread;
@@ -104,72 +106,72 @@ impl<'a, R: Wait + Clock + Sync> Gate for Crowd<'a, R> {
 
 /// The readable prefixes that a crew leaves where nothing has a fault or is refused, in its node and on
 /// the board alike.
-fn prefixes<R: Threads + Wait + Sync, G: Gate>(
+fn prefixes<R: Threads + Wait + Sync + Abort, G: Gate>(
     rt: &R,
     alloc: Global,
     first: &[Piece],
     second: &[Piece],
     gate: &G,
 ) -> Option<(u64, u64)> {
-    let layout = layout(alloc)?;
-    let board = Board::new(alloc, &layout).ok()?;
-    let out = crew(rt, alloc, &layout, first, second, &board, gate).ok()?;
-    let shown = board.show(rt, None).ok()?;
-    let is_whole = out.faults.is_empty() && out.refused.is_empty();
-    let is_shown = shown.know().same(out.node.know());
-    let prefixes = (out.node.know().prefix(0), out.node.know().prefix(1));
-    (is_whole && is_shown).then_some(prefixes)
+    let layout = layout(rt, alloc);
+    let board = Board::new(alloc, &layout).expect(rt, "memory");
+    let out = crew(rt, alloc, &layout, first, second, &board, gate).expect(rt, "a crew");
+    let shown = board.show(rt, None).ok().expect(rt, "memory");
+    let know = out.node.know();
+    let is_so = out.faults.is_empty() && out.refused.is_empty() && shown.know().same(know);
+    is_so.then_some((know.prefix(0), know.prefix(1)))
 }
 
-/// The prefixes after two pieces beside one, held so that both workers and the owner must run at the
-/// same time; and whether the gate had to let go.
-fn met<R: Threads + Wait + Clock + Sync>(rt: &R, alloc: Global) -> Option<((u64, u64), bool)> {
+/// The prefixes, and whether the gate had to let go.
+type Held = (Option<(u64, u64)>, bool);
+
+/// After two pieces beside one, held so that both workers and the owner must run at the same time.
+fn met<R: Threads + Wait + Clock + Sync + Abort>(rt: &R, alloc: Global) -> Held {
     let gate = Meeting {
         first_walks: Bell::new(rt),
         second_walks: Bell::new(rt),
         second_taken: Bell::new(rt),
         failures: Bell::new(rt),
     };
-    let first = pieces(alloc, &[(0, 0, CALL), (0, 1, CALL)])?;
-    let second = pieces(alloc, &[(1, 0, CALL)])?;
-    let found = prefixes(rt, alloc, &first, &second, &gate)?;
+    let first = pieces(rt, alloc, &[(0, 0, CALL), (0, 1, CALL)]);
+    let second = pieces(rt, alloc, &[(1, 0, CALL)]);
+    let found = prefixes(rt, alloc, &first, &second, &gate);
     let has_failed = *gate.failures.count.lock(rt) > 0;
-    Some((found, has_failed))
+    (found, has_failed)
 }
 
 #[test]
 fn workers_and_owner_run_at_once(rt: HostRuntime) {
     let found = met(&rt, rt.alloc());
-    assert!(rt; found == Some(((4, 2), false)));
+    assert!(rt; found == (Some((4, 2)), false));
 }
 
 /// Twenty calls of a rank, each a piece.
-fn twenty(alloc: Global, rank: u32) -> Option<Vec<Piece>> {
+fn twenty<R: Abort>(rt: &R, alloc: Global, rank: u32) -> Vec<Piece> {
     let mut all = Vec::new(alloc);
     for call in 0..20 {
-        let mut one = pieces(alloc, &[(rank, call, CALL)])?;
-        all.append(&mut one).ok()?;
+        all.push(piece(rt, alloc, &(rank, call, CALL)))
+            .expect(rt, "memory");
     }
-    Some(all)
+    all
 }
 
-/// The prefixes after twenty pieces of each worker, of which eight are posted while the owner is held;
-/// and whether the gate had to let go.
-fn crowded<R: Threads + Wait + Clock + Sync>(rt: &R, alloc: Global) -> Option<((u64, u64), bool)> {
+/// After twenty pieces of each worker, of which eight are posted while the owner is held.
+fn crowded<R: Threads + Wait + Clock + Sync + Abort>(rt: &R, alloc: Global) -> Held {
     let gate = Crowd {
         posts: Bell::new(rt),
         takes: Bell::new(rt),
         failures: Bell::new(rt),
     };
-    let first = twenty(alloc, 0)?;
-    let second = twenty(alloc, 1)?;
-    let found = prefixes(rt, alloc, &first, &second, &gate)?;
+    let first = twenty(rt, alloc, 0);
+    let second = twenty(rt, alloc, 1);
+    let found = prefixes(rt, alloc, &first, &second, &gate);
     let has_failed = *gate.failures.count.lock(rt) > 0;
-    Some((found, has_failed))
+    (found, has_failed)
 }
 
 #[test]
 fn workers_fill_the_inbox(rt: HostRuntime) {
     let found = crowded(&rt, rt.alloc());
-    assert!(rt; found == Some(((40, 40), false)));
+    assert!(rt; found == (Some((40, 40)), false));
 }

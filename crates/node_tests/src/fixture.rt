@@ -1,0 +1,134 @@
+//! Two ranks, what they do, and nodes that were told of it.
+//!
+//! Each helper stops the test where a value is missing (`expect`), so that it has one way out.
+
+use mpi_model::*;
+use std::alloc::Global;
+use std::process::Abort;
+use trace_know::{Knowledge, Segment};
+use trace_node::Node;
+use trace_report::report_text;
+use trace_wire::write_frame;
+
+/// What a call does: nothing that takes part in a matching; or it sends a message of four elements to
+/// the other rank, or receives one from it, or waits for one to receive, with this tag.
+#[derive(Clone, Copy)]
+pub(crate) enum Does {
+    Nothing,
+    Send(u32),
+    Receive(u32),
+    Await(u32),
+}
+
+/// Calls of a rank, from one of them on.
+pub(crate) type Piece = (u32, u64, &'static [Does]);
+
+/// A send of rank 0, which rank 1 receives.
+pub(crate) const PIECES: &[Piece] = &[(0, 0, &[Does::Send(7)]), (1, 0, &[Does::Receive(7)])];
+
+/// What is reported of both pieces together.
+pub(crate) const PINGPONG: &[u8] = b"mpimatch report 1
+ranks 2 sends wait
+rank 0 prefix 2 free
+rank 1 prefix 2 free
+pair 0:0 1:0
+stuck none
+foreign 0
+end
+";
+
+/// Two ranks and one communicator that is the world.
+pub(crate) fn layout<R: Abort>(rt: &R, alloc: Global) -> Layout {
+    let mut members = Vec::new(alloc);
+    members.push(0).expect(rt, "memory");
+    members.push(1).expect(rt, "memory");
+    let mut comms = Vec::new(alloc);
+    comms.push((2, members)).expect(rt, "memory");
+    Layout::new(alloc, 2, 2, comms, Sends::Wait).expect(rt, "a layout")
+}
+
+fn envelope(peer: u32, tag: u32) -> Envelope {
+    Envelope {
+        peer: Peer::Rank(peer),
+        tag: Some(tag),
+        comm: CommRef::Id(2),
+        count: 4,
+        datatype: 11,
+    }
+}
+
+/// The call, if its peer is this rank.
+fn call<R: Abort>(rt: &R, peer: u32, does: Does) -> Call {
+    match does {
+        Does::Nothing => Call::Local,
+        Does::Send(tag) => Call::Send(
+            Mode::Standard,
+            SendEnvelope::new(envelope(peer, tag)).expect(rt, "a send"),
+        ),
+        Does::Receive(tag) | Does::Await(tag) => {
+            Call::Recv(ReceiveEnvelope::new(envelope(peer, tag)).expect(rt, "a receive"))
+        }
+    }
+}
+
+/// What the call tells at its end, where it has one: of a receive from which rank it received.
+fn outs<R: Abort>(rt: &R, peer: u32, does: Does) -> Option<Outs> {
+    match does {
+        Does::Nothing | Does::Send(_) => Some(Outs::Nothing),
+        Does::Receive(_) => Some(Outs::Status(Told::new(Some(peer)).expect(rt, "a source"))),
+        Does::Await(_) => None,
+    }
+}
+
+/// Adds a call that begins at as many seconds as its number says and takes half of one.
+fn add_call<R: Abort>(rt: &R, events: &mut Vec<Event>, peer: u32, number: u64, does: Does) {
+    let start = number.saturating_mul(1_000_000_000);
+    let enter = Stamp::new(start, 0).expect(rt, "a time");
+    let leave = Stamp::new(start.saturating_add(500_000_000), 0).expect(rt, "a time");
+    events
+        .push(Event::Enter(call(rt, peer, does), enter))
+        .expect(rt, "memory");
+    if let Some(outs) = outs(rt, peer, does) {
+        events.push(Event::Return(outs, leave)).expect(rt, "memory");
+    }
+}
+
+/// The segment of a piece.
+pub(crate) fn segment<R: Abort>(rt: &R, alloc: Global, piece: &Piece) -> Segment {
+    let (rank, first, calls) = *piece;
+    let peer = if rank == 0 { 1 } else { 0 };
+    let mut events = Vec::new(alloc);
+    let mut number = first;
+    for does in calls {
+        add_call(rt, &mut events, peer, number, *does);
+        number = number.saturating_add(1);
+    }
+    Segment::new(rank, first, events).expect(rt, "a segment")
+}
+
+/// A node that took these pieces in their order.
+pub(crate) fn node_of<'a, R: Abort>(
+    rt: &R,
+    alloc: Global,
+    layout: &'a Layout,
+    pieces: &[Piece],
+) -> Node<'a> {
+    let mut node = Node::new(alloc, layout).expect(rt, "memory");
+    for piece in pieces {
+        node.take(&segment(rt, alloc, piece)).expect(rt, "a take");
+    }
+    node
+}
+
+/// The frame of what is known.
+pub(crate) fn frame_of<R: Abort>(rt: &R, alloc: Global, know: &Knowledge) -> Vec<u8> {
+    let mut writer = MemoryWriter::new(alloc);
+    write_frame(know, &mut writer).expect(rt, "a frame");
+    writer.bytes().to_vec(alloc).expect(rt, "memory")
+}
+
+/// What the node reports.
+pub(crate) fn report_of<R: Abort>(rt: &R, alloc: Global, node: &Node) -> Vec<u8> {
+    let answer = node.answer().expect(rt, "an answer");
+    report_text(alloc, answer).expect(rt, "memory")
+}
