@@ -17,7 +17,7 @@ enum Told {
 }
 
 /// What a fault tells.
-fn told(fault: &ClusterFault) -> Told {
+fn named_by(fault: &ClusterFault) -> Told {
     match fault {
         ClusterFault::Piece {
             node,
@@ -41,7 +41,7 @@ fn refused<R: Net<Listener = TcpListener, Stream = TcpStream> + Threads + Wait +
     let first = workload(alloc, first.0, first.1)?;
     let second = workload(alloc, second.0, second.1)?;
     let fault = cluster(rt, alloc, &layout, &first, &second).err()?;
-    Some(told(&fault))
+    Some(named_by(&fault))
 }
 
 #[test]
