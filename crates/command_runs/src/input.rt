@@ -56,7 +56,7 @@ pub fn file_at<O: Opener>(
     ensures ok { IfOk result (λ bytes. IsFile (O.file files.old path.now) bytes.items) }
     ensures limit { IfOk result (λ bytes. length bytes.items ≤ most) }
     ensures err { IfErr result (RefusesFile path.now) }
-    ensures unread { IfErr result (λ fault. NamesUnreadable LONGEST_FILE (Fails O.R.failures) (O.file files.old) fault) }
+    ensures unread { IfErr result (λ fault. NamesUnreadable most (Fails O.R.failures) (O.file files.old) fault) }
     ensures same { O.file files.new ≡ O.file files.old }
 {
     let mut reader = match files.open(path) {
