@@ -53,4 +53,5 @@ pub unasked : (file : List ℕ → Option (List ℕ)) (words : List Text) (fault
     → Refuses words fault → IsEndingFor fault status errors old new → IsEnding file words status errors old new
 unasked file words fault status errors old new refused (inl h) = inl (h.0, (h.1, inr ((fault, refused, h.2), h.3)))
 unasked file words fault status errors old new refused (inr (inl h)) = inr (inl (h.0, (Write, h.1, inl (refl, h.2))))
-unasked file words fault status errors old new refused (inr (inr h)) = inr (inr (h.0, (fault, refused, h.1), h.2))
+unasked file words fault status errors old new refused (inr (inr (inl h))) = inr (inl (h.0, (Memory, h.1, inr (h.2, inl refl))))
+unasked file words fault status errors old new refused (inr (inr (inr h))) = inr (inr (h.0, (fault, refused, h.1), h.2))

@@ -1,5 +1,5 @@
 -- How the program ends: its status, what it wrote, and the line that it showed.
-use Rattle.std.specs.Prelude.{◌≡◌, ◌<◌, ◌⊎◌, ℕ, Bool, true, false, List, [], Option, Some, Result, Ok, Err, string_bytes}
+use Rattle.std.specs.Prelude.{◌≡◌, ◌⊎◌, ℕ, Bool, true, false, List, [], Option, Some, Result, Ok, Err, string_bytes}
 use Rattle.std.specs.Io.KnownBytes.{Appends, Keeps}
 use Rattle.mpi_model.specs.Failures.{HasFailed}
 use Rattle.clap.specs.Words.{Text, subcommand_of}
@@ -48,20 +48,21 @@ abbrev pub EndsRefused : (List ℕ → Option (List ℕ)) → List Text → List
 EndsRefused file words errors old new = (fault : RunFault) × (errors ≡ fault_line_of fault)
     × (((fault ≡ Write) × HasFailed old.failures new.failures) ⊎ (Keeps old.bytes new.bytes × ((fault ≡ Memory) ⊎ IsRefusedRun file words fault)))
 
--- Another status: it is that of the words' mistake, and nothing was written.
+-- Status 2: the words are mistaken, and nothing was written.
 abbrev pub EndsMistaken : List Text → ℕ → Output → Output → Type 0
-EndsMistaken words status old new = (0 < status) × AskNothing words status × Keeps old.bytes new.bytes
+EndsMistaken words status old new = (status ≡ 2) × AskNothing words 2 × Keeps old.bytes new.bytes
 
 -- The program ends with this status on these words, over these files.
 abbrev pub IsEnding : (List ℕ → Option (List ℕ)) → List Text → ℕ → List ℕ → Output → Output → Type 0
 IsEnding file words status errors old new = ((status ≡ 0) × EndsWell file words errors old new)
     ⊎ (((status ≡ 1) × EndsRefused file words errors old new) ⊎ EndsMistaken words status old new)
 
--- The program ends so where the words ask for nothing for this cause: its text was shown or written, or a write failed.
+-- The program ends so where the words ask for nothing for this cause: its text was written, or a write failed; or memory was wanting; or its text was shown.
 abbrev pub IsEndingFor : CommandFault → ℕ → List ℕ → Output → Output → Type 0
 IsEndingFor fault status errors old new = ((status ≡ 0) × (errors ≡ []) × (0 ≡ status_of fault) × (new.failures ≡ old.failures))
     ⊎ (((status ≡ 1) × (errors ≡ fault_line_of Write) × HasFailed old.failures new.failures)
-    ⊎ ((0 < status) × (status ≡ status_of fault) × Keeps old.bytes new.bytes))
+    ⊎ (((status ≡ 1) × (errors ≡ fault_line_of Memory) × Keeps old.bytes new.bytes)
+    ⊎ ((status ≡ 2) × (2 ≡ status_of fault) × Keeps old.bytes new.bytes)))
 
 -- The status after a run that answered so, and the line that is shown: that of its fault.
 abbrev pub IsEndedBy : Result Bool RunFault → ℕ → List ℕ → Type 0

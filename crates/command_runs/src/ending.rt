@@ -124,14 +124,16 @@ fn shown<W: Write>(alloc: Global, fault: &CommandFault, out: &mut W) -> Result<E
 {
     let text = format!(in alloc; "{fault}")?;
     let status = fault.status();
-    if status > 0 {
-        return Ok(Ending {
+    match status {
+        0 => match write_all(out, text.as_str().as_bytes()) {
+            Ok(()) => Ok(silent(alloc, 0)),
+            Err(_) => refused(alloc, &RunFault::Write),
+        },
+        2 => Ok(Ending {
             status,
             errors: text,
-        });
-    }
-    match write_all(out, text.as_str().as_bytes()) {
-        Ok(()) => Ok(silent(alloc, 0)),
-        Err(_) => refused(alloc, &RunFault::Write),
+        }),
+        // (memory was wanting)
+        _ => refused(alloc, &RunFault::Memory),
     }
 }
