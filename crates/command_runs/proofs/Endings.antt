@@ -1,13 +1,16 @@
 -- How the program ends, outcome by outcome.
-use Rattle.std.proofs.Common.{◌≡◌, ◌⊎◌, ℕ, List, [], Option, Bool, true, false, Result, Ok, Err, IfErr, IfOk, OnOk, ap, sym, subst, refl, inl, inr}
+use Rattle.std.proofs.Common.{◌≡◌, ◌⊎◌, ℕ, List, [], Option, Bool, true, false, Result, Ok, Err, IfErr, IfOk, OnOk, ap, sym, subst, refl, inl, inr, string_bytes}
+use Rattle.std.proofs.KnownBytes.{Keeps-refl}
 use Rattle.std.specs.Io.KnownBytes.{Appends, Keeps}
 use Rattle.clap.specs.Words.{Text}
 use Rattle.mpi_model.specs.Failures.{HasFailed}
 use Rattle.command_line.specs.Program.{Refuses, Request}
 use Rattle.command_line.specs.declared.CommandFault.{CommandFault}
-use Rattle.command_runs.specs.Endings.{Ask, IsEndedBy, IsEnding, IsEndingFor, Output}
+use Rattle.command_line.specs.declared.Verb.TheVariants.{Cluster}
+use Rattle.command_runs.specs.Endings.{Ask, IsEndedBy, IsEnding, IsEndingFor, Output, of_cluster}
 use Rattle.command_runs.specs.FaultLines.{fault_line_of}
 use Rattle.command_runs.specs.Verbs.{BreaksOff, IsOutputOf, RefusesVerb}
+use Rattle.command_runs.specs.declared.ending.Ending.{Ending}
 use Rattle.command_runs.specs.declared.fault.RunFault.{RunFault}
 use Rattle.command_runs.specs.declared.fault.RunFault.TheVariants.{Memory, Write}
 
@@ -17,10 +20,10 @@ pub reported : (file : List ℕ → Option (List ℕ)) (words : List Text) (requ
     → IsEnding file words 0 errors old new
 reported file words request text errors old new ask is appends silent = inl (refl, (silent, inl (request, ask, text, is, appends)))
 
--- memory was wanting before the words were read
-pub wanting : (file : List ℕ → Option (List ℕ)) (words : List Text) (errors : List ℕ) (old new : Output)
-    → errors ≡ fault_line_of Memory → Keeps old.bytes new.bytes → IsEnding file words 1 errors old new
-wanting file words errors old new line kept = inr (inl (refl, (Memory, line, inr (kept, inl refl))))
+-- memory was wanting before the words were read, and nothing was done
+pub wanting : (file : List ℕ → Option (List ℕ)) (words : List Text) (status : ℕ) (errors : List ℕ) (now : Output)
+    → status ≡ 1 → errors ≡ fault_line_of Memory → IsEnding file words status errors now now
+wanting file words status errors now one line = inr (inl (one, (Memory, line, inr (Keeps-refl now.bytes, inl refl))))
 
 -- the run is refused, or its output could not be written
 pub not_reported : (file : List ℕ → Option (List ℕ)) (words : List Text) (request : Request) (fault : RunFault) (errors : List ℕ) (old new : Output)
@@ -47,6 +50,19 @@ ended file words request (Ok false) status errors old new ask output held refuse
 ended file words request (Err fault) status errors old new ask output held refused nothing broken is =
     subst (λ (s : ℕ). IsEnding file words s errors old new) (sym is.0)
     (not_reported file words request fault errors old new ask is.1 refused nothing (λ w. (broken (ap (λ (f : RunFault). Err f) w)).3))
+
+-- the same of an answer after the run of a cluster
+pub ended_cluster : {E : Type 0} (file : List ℕ → Option (List ℕ)) (layout manifest : List ℕ) (ran : Result Bool RunFault) (ending : Result Ending E) (old new : Output)
+    → OnOk ran ((text : List ℕ) × IsOutputOf file Cluster layout manifest text × Appends old.bytes new.bytes text)
+    → IfOk ran (λ held. held ≡ true)
+    → IfErr ran (λ fault. (fault ≡ Write) ⊎ RefusesVerb file Cluster layout manifest fault)
+    → IfErr ran (λ fault. (fault ≡ Write) ⊎ Keeps old.bytes new.bytes)
+    → (ran ≡ Err Write → BreaksOff file Cluster layout manifest old.bytes new.bytes old.failures new.failures)
+    → IfOk ending (λ e. IsEndedBy ran e.status (string_bytes e.errors))
+    → IfOk ending (λ e. (words : List Text) → Ask words (of_cluster layout manifest) → IsEnding file words e.status (string_bytes e.errors) old new)
+ended_cluster file layout manifest ran (Ok e) old new output held refused nothing broken is =
+    λ words ask. ended file words (of_cluster layout manifest) ran e.status (string_bytes e.errors) old new ask output held refused nothing broken is
+ended_cluster file layout manifest ran (Err error) old new output held refused nothing broken is = tt
 
 -- the words ask for nothing
 pub unasked : (file : List ℕ → Option (List ℕ)) (words : List Text) (fault : CommandFault) (status : ℕ) (errors : List ℕ) (old new : Output)
