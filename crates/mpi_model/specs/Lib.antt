@@ -8,3 +8,4 @@ pub mod Layouts
 pub mod Devices
 pub mod Fit
 pub mod Events
+pub mod Packing

@@ -15,6 +15,8 @@ pub enum Event {
     Return(Outs, Stamp),
 }
 
+const _: () = prove!(size_of::<Event>() <= 80);
+
 impl Event {
     pub fn try_clone(&self) -> Result<Event, AllocError>
         ensures { IfOk result (λ e. e ≡ self.now) }

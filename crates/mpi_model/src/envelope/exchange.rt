@@ -4,14 +4,15 @@ ghost use Rattle.std.specs.Prelude.{◌≡◌, ◌↔◌, IsTrue, SomeIff};
 ghost use Rattle.mpi_model.specs.Ranges.{IsReceive, IsSend};
 ghost use Rattle.mpi_model.specs.Events.{IsExchanged};
 
+use crate::envelope::packed::Packed;
 use crate::envelope::{Envelope, ReceiveEnvelope, SendEnvelope};
 use std::marker::Model;
 
 /// The two envelopes of an `MPI_Sendrecv`, which name one communicator (MPI 4.0, 3.10).
 #[derive(Clone, Copy, Debug, PartialEq, Eq)]
 pub struct Exchange {
-    send: Envelope,
-    receive: Envelope,
+    send: Packed,
+    receive: Packed,
 }
 
 impl Model for Exchange {
@@ -34,7 +35,10 @@ impl Exchange {
         let send = send.envelope();
         let receive = receive.envelope();
         if send.comm == receive.comm {
-            Some(Exchange { send, receive })
+            Some(Exchange {
+                send: Packed::pack(send),
+                receive: Packed::pack(receive),
+            })
         } else {
             None
         }
@@ -44,27 +48,28 @@ impl Exchange {
     pub fn known(self)
         ensures { IsExchanged self }
     {
-        let _send = self.send;
+        let _send = self.send.unpack();
+        let _receive = self.receive.unpack();
     }
 
     pub fn send(self) -> Envelope
         ensures value { result ≡ self.send }
         ensures range { IsSend result }
     {
-        self.send
+        self.send.unpack()
     }
 
     pub fn receive(self) -> Envelope
         ensures value { result ≡ self.receive }
         ensures range { IsReceive result }
     {
-        self.receive
+        self.receive.unpack()
     }
 
     /// Whether the two exchanges are equal in both envelopes.
     pub fn same(self, other: Exchange) -> bool
         ensures { IsTrue result ↔ (self ≡ other) }
     {
-        self.send.same(other.send) && self.receive.same(other.receive)
+        self.send().same(other.send()) && self.receive().same(other.receive())
     }
 }

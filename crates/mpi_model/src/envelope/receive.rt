@@ -4,13 +4,14 @@ ghost use Rattle.std.specs.Prelude.{◌≡◌, ◌↔◌, IsTrue, SomeIff};
 ghost use Rattle.mpi_model.specs.Ranges.{IsReceive};
 ghost use Rattle.mpi_model.specs.Events.{IsReceived};
 
+use crate::envelope::packed::Packed;
 use crate::envelope::{CommRef, Envelope, Peer};
 use std::marker::Model;
 
 /// The envelope of a receive: it may name any source and any tag, and no number is above 2^31 - 1.
 #[derive(Clone, Copy, Debug, PartialEq, Eq)]
 pub struct ReceiveEnvelope {
-    inner: Envelope,
+    inner: Packed,
 }
 
 impl Model for ReceiveEnvelope {
@@ -32,7 +33,9 @@ impl ReceiveEnvelope {
         ensures { SomeIff result (IsReceive inner) inner }
     {
         if can_be_received(inner) {
-            Some(ReceiveEnvelope { inner })
+            Some(ReceiveEnvelope {
+                inner: Packed::pack(inner),
+            })
         } else {
             None
         }
@@ -42,14 +45,14 @@ impl ReceiveEnvelope {
     pub fn known(self)
         ensures { IsReceived self }
     {
-        let _inner = self.inner;
+        let _inner = self.inner.unpack();
     }
 
     pub fn envelope(self) -> Envelope
         ensures value { result ≡ self }
         ensures range { IsReceive result }
     {
-        self.inner
+        self.inner.unpack()
     }
 }
 

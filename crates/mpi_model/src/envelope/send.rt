@@ -4,13 +4,14 @@ ghost use Rattle.std.specs.Prelude.{◌≡◌, ◌↔◌, IsTrue, SomeIff};
 ghost use Rattle.mpi_model.specs.Ranges.{IsSend};
 ghost use Rattle.mpi_model.specs.Events.{IsSent};
 
+use crate::envelope::packed::Packed;
 use crate::envelope::{CommRef, Envelope, Peer};
 use std::marker::Model;
 
 /// The envelope of a send: it names its peer and its tag, and no number is above 2^31 - 1.
 #[derive(Clone, Copy, Debug, PartialEq, Eq)]
 pub struct SendEnvelope {
-    inner: Envelope,
+    inner: Packed,
 }
 
 impl Model for SendEnvelope {
@@ -32,7 +33,9 @@ impl SendEnvelope {
         ensures { SomeIff result (IsSend inner) inner }
     {
         if can_be_sent(inner) {
-            Some(SendEnvelope { inner })
+            Some(SendEnvelope {
+                inner: Packed::pack(inner),
+            })
         } else {
             None
         }
@@ -42,14 +45,14 @@ impl SendEnvelope {
     pub fn known(self)
         ensures { IsSent self }
     {
-        let _inner = self.inner;
+        let _inner = self.inner.unpack();
     }
 
     pub fn envelope(self) -> Envelope
         ensures value { result ≡ self }
         ensures range { IsSend result }
     {
-        self.inner
+        self.inner.unpack()
     }
 }
 
