@@ -9,6 +9,7 @@
 //! | `devices` | devices over readers and writers of std |
 //! | `layouts` | layouts: the first rule that each breaks, and what one tells |
 //! | `memory` | readers and writers in memory |
+//! | `packing` | envelopes at the ends of their ranges, there and back through events |
 //! | `ranges` | values at the ends of their ranges |
 //! | `whole` | whole pieces, and how far they came |
 #![tactic(auto)]
@@ -21,6 +22,8 @@ mod devices;
 mod layouts;
 #[cfg(test)]
 mod memory;
+#[cfg(test)]
+mod packing;
 #[cfg(test)]
 mod ranges;
 #[cfg(test)]
