@@ -18,8 +18,8 @@ use crate::readers::{
     any_from, cell_in, conflict_in, conflict_places_in, count_cells, count_conflicts, known_in,
     prefix_in, readable_in,
 };
-use crate::run::{Run, run_from, run_of, run_of_one};
-use crate::runs::take_run;
+use crate::run::{Run, run_from, run_of};
+use crate::runs::{take_cell, take_run};
 use crate::segment::Segment;
 use crate::walk::Walk;
 use mpi_model::Event;
@@ -123,8 +123,10 @@ impl Knowledge {
         ensures ok { OnOk result (self.new ≡ insert self.old (rank, place) (put_known event)) }
         ensures err { OnErr result (self.new ≡ self.old) }
     {
-        let piece = run_of_one(self.alloc, rank, place, known_of(event))?;
-        self.join_run(piece)
+        let most = self.most_with(1)?;
+        take_cell(self.alloc, &mut self.runs, rank, place, known_of(event))?;
+        self.most = most;
+        Ok(())
     }
 
     /// All places that something is known of, in rising order of rank and place: the rank, the

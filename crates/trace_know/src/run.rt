@@ -125,6 +125,21 @@ fn add_back(run: &mut Run, known: Known)
     run.cells.push_back_reserved(known);
 }
 
+/// Gives the run room for one cell more, and adds what is known of the place after the last. At `Err` the run has what
+/// it had.
+pub(crate) fn extend(run: &mut Run, known: Known) -> Result<(), AllocError>
+    requires counted { IsCounted run.old }
+    ensures ok { OnOk result (of_run run.new ≡ join (of_run run.old) (single run.old.rank (run.old.first + length run.old.cells.items) known)) }
+    ensures len { OnOk result (length run.new.cells.items ≡ length run.old.cells.items + 1) }
+    ensures same { (run.new.rank ≡ run.old.rank) × (run.new.first ≡ run.old.first) }
+    ensures counted { IsCounted run.new }
+    ensures err { OnErr result (IsAlike run.new run.old) }
+{
+    run.cells.reserve(1)?;
+    add_back(run, known);
+    Ok(())
+}
+
 /// Adds what is known of the place before the first.
 fn add_front(run: &mut Run, known: Known)
     requires room { deque_len run.old.cells < deque_capacity run.old.cells }
