@@ -31,6 +31,12 @@ pub trait Opener: Drop {
         ensures told { IfOk result (λ reader. IsTold (file self.old path.now) (Self.R.left reader)) }
         ensures absent { result ≡ Err OpenFault.File → file self.old path.now ≡ None }
         ensures same { file self.new ≡ file self.old };
+
+    /// How many bytes the file of a name has now, where that can be told: a pipe has no length. It is
+    /// for who watches a run, and nothing that a run answers hangs on it.
+    fn length(&self, _path: &str) -> Option<u64> {
+        None
+    }
 }
 
 /// The files of the system.
@@ -53,6 +59,15 @@ impl<'a, F: Files> Opener for Disk<'a, F> {
             Ok(file) => Ok(Device::new(file)),
             Err(error) if error.kind() == io::ErrorKind::OutOfMemory => Err(OpenFault::Memory),
             Err(_) => Err(OpenFault::File),
+        }
+    }
+
+    fn length(&self, path: &str) -> Option<u64> {
+        let metadata = std::fs::metadata(self.rt, path).ok()?;
+        if metadata.is_file() {
+            Some(metadata.len())
+        } else {
+            None
         }
     }
 }

@@ -50,6 +50,10 @@ abbrev pub StopsAfter : Option (List ℕ) → List TextCall → TextCause → �
 StopsAfter text calls causes.Read line = Begins text calls
 StopsAfter text calls (causes.Line fault) line = (at : Position) × MeansAll text calls (Stopped fault at) × (line ≡ at.line)
 
+-- A fault that says that the text's reader failed.
+abbrev pub IsReadFault : TextFault → Type 0
+IsReadFault fault = (line : ℕ) × (fault ≡ faults.At line causes.Read)
+
 -- There is no next call after these.
 abbrev pub RefusesNext : Option (List ℕ) → List TextCall → TextFault → ℕ → Type 0
 RefusesNext text calls faults.Memory line = BeginsTo text calls line
@@ -86,6 +90,10 @@ RefusesCall raw (Sink fault) line = (line ≡ raw.line) × IsOk (typed raw)
 RefusesCall raw Memory line = line ≡ raw.line
 
 -- ---- walks
+
+-- A walk stops since the text's reader failed.
+abbrev pub IsReadStop : {F : Type 0} → WalkCause F → Type 0
+IsReadStop {F = F} cause = (fault : TextFault) × (cause ≡ Text fault) × IsReadFault fault
 
 -- These calls were handed to the sink, in order, and are counted.
 pub record HandedOn {S : Type 0} (step : S → Seen → S) (calls : List TextCall) (old new : S) (count : ℕ) : Type 0 where
