@@ -6,9 +6,9 @@ use Rattle.command_runs.specs.declared.fault.RunFault.{RunFault}
 use Rattle.command_runs.specs.declared.fault.RunFault.TheVariants.{File, Text}
 
 -- A reader stands at the first byte of the file, where its bytes are told.
-abbrev pub IsTold : Option (List ℕ) → Option (List ℕ) → Type 0
-IsTold None left = Unit {0}
-IsTold (Some bytes) left = left ≡ Some bytes
+abbrev pub StandsAtFirst : Option (List ℕ) → Option (List ℕ) → Type 0
+StandsAtFirst None left = Unit {0}
+StandsAtFirst (Some bytes) left = left ≡ Some bytes
 
 -- These are the bytes of the file, where they are told.
 abbrev pub IsFile : Option (List ℕ) → List ℕ → Type 0

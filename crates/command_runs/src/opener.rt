@@ -1,7 +1,7 @@
 //! Where the files of a run come from.
 
 ghost use Rattle.std.specs.Prelude.{◌≡◌, ℕ, IfOk, List, None, Option};
-ghost use Rattle.command_runs.specs.Files.{IsTold};
+ghost use Rattle.command_runs.specs.Files.{StandsAtFirst};
 
 use mpi_model::{Device, Read};
 use std::fs::Files;
@@ -28,7 +28,7 @@ pub trait Opener: Drop {
 
     /// Opens the file of a name, taken as it stands, at its first byte.
     fn open(&mut self, path: &str) -> Result<Self::R, OpenFault>
-        ensures told { IfOk result (λ reader. IsTold (file self.old path.now) (Self.R.left reader)) }
+        ensures told { IfOk result (λ reader. StandsAtFirst (file self.old path.now) (Self.R.left reader)) }
         ensures absent { result ≡ Err OpenFault.File → file self.old path.now ≡ None }
         ensures same { file self.new ≡ file self.old };
 

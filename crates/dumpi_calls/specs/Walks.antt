@@ -6,7 +6,7 @@ use Rattle.dumpi_text.specs.Call.{TextCall}
 use Rattle.dumpi_text.specs.Grammar.{Complete, Stopped}
 use Rattle.dumpi_text.specs.Reading.{HasRead, MeansAll}
 use Rattle.dumpi_text.specs.Source.{rest_of}
-use Rattle.dumpi_text.specs.Standing.{View}
+use Rattle.dumpi_text.specs.Standing.{TextState}
 use Rattle.dumpi_text.specs.declared.standing.Standing.TheVariants.{Reading, Finished}
 use Rattle.dumpi_text.specs.declared.fault.LineFault.TheVariants.{Truncated}
 use Rattle.dumpi_text.specs.declared.fault.TextCause.{TextCause}
@@ -27,13 +27,13 @@ use Rattle.dumpi_calls.specs.declared.walking.Walked.{Walked}
 -- ---- a text that is read
 
 -- These calls were read of a text, and it is read on, or nothing is left of it; the line that it tells is the last one's.
-pub record IsRead (text : Option (List ℕ)) (calls : List TextCall) (view : View) : Type 0 where
+pub record IsRead (text : Option (List ℕ)) (calls : List TextCall) (view : TextState) : Type 0 where
   pub read : HasRead text calls view.at (rest_of view.rest)
   pub stands : (view.standing ≡ Reading) ⊎ ((view.standing ≡ Finished) × IsAtEnd (rest_of view.rest))
   pub told : view.told ≡ view.at
 
 -- One call more was read, or the text was over.
-abbrev pub Follows : Option (List ℕ) → List TextCall → Option TextCall → View → Type 0
+abbrev pub Follows : Option (List ℕ) → List TextCall → Option TextCall → TextState → Type 0
 Follows text calls (Some call) view = IsRead text (calls ++ call ∷ []) view
 Follows text calls None view = MeansAll text calls (Complete view.told)
 
