@@ -1,6 +1,6 @@
 //! A walk over the calls of a text.
 
-ghost use Rattle.std.specs.Prelude.{¬◌, ◌≡◌, ◌<◌, ◌≤◌, ℕ, List, Option, Err, Ok, Some, None, IfErr, IfOk, OnErr, true};
+ghost use Rattle.std.specs.Prelude.{◌≡◌, ◌<◌, ◌≤◌, ℕ, List, Option, Err, Ok, Some, None, IfErr, IfOk, OnErr, true};
 ghost use Rattle.dumpi_text.specs.Call.{TextCall};
 ghost use Rattle.dumpi_text.specs.Failing.{Fails};
 ghost use Rattle.dumpi_text.specs.Shown.{put_in};
@@ -111,9 +111,12 @@ fn next_of<R: Read>(texts: &mut Texts<R>, raw: &mut RawCall) -> Result<bool, Tex
 {
     reading_call_by_call();
     texts.known();
-    let next = texts.next_into(raw);
+    let read = texts.next_into(raw);
     texts.known();
-    next
+    match read {
+        Ok(next) => Ok(next),
+        Err(fault) => Err(fault),
+    }
 }
 
 // why a text has no next call
