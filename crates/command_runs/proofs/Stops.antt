@@ -20,7 +20,7 @@ use Rattle.trace_cluster.specs.Pieces.{IsWhole, Placed, all_pieces, placed}
 use Rattle.trace_cluster.specs.Stopped.{IsFirstFault, IsRefusal, IsStopped}
 use Rattle.input_files.specs.Manifests.{PieceParts}
 use Rattle.command_runs.specs.Clusters.{AreSound, IsFaultFor, IsTextFault, NamesOne, RefusesCrews, by_node, of_exchange, of_node, of_wire, piece_at}
-use Rattle.command_runs.specs.Files.{IsFile, IsTold}
+use Rattle.command_runs.specs.Files.{IsFile, StandsAtFirst}
 use Rattle.command_runs.specs.Pieces.{PassesPlaces, RefusesPiece}
 use Rattle.command_runs.specs.Refusals.{RefusesFirst}
 use Rattle.command_runs.specs.Texts.{AreShares, IsTextOf}
@@ -32,7 +32,7 @@ use Rattle.command_runs.proofs.GivenFacts.{events_told}
 use Rattle.command_runs.proofs.Places.{AreAt, Stands, all_at, sound, stands_in, stranger, traced}
 use Rattle.command_runs.proofs.Told.{walk_told}
 
-bytes_told : (file : Option (List ℕ)) (bytes : List ℕ) → IsFile file bytes → IsTold file (Some bytes)
+bytes_told : (file : Option (List ℕ)) (bytes : List ℕ) → IsFile file bytes → StandsAtFirst file (Some bytes)
 bytes_told None bytes is = tt
 bytes_told (Some told) bytes is = ap (λ (t : List ℕ). Some t) (sym is)
 

@@ -11,45 +11,45 @@ use Rattle.dumpi_calls.specs.declared.fault.WalkCause.{WalkCause}
 use Rattle.dumpi_calls.specs.declared.fault.WalkCause.TheVariants as causes
 use Rattle.dumpi_calls.specs.declared.fault.WalkFault.{WalkFault}
 use Rattle.dumpi_calls.specs.declared.walking.Walked.{Walked}
-use Rattle.command_runs.specs.Files.{IsTold}
+use Rattle.command_runs.specs.Files.{StandsAtFirst}
 use Rattle.command_runs.specs.Pieces.{IsWalkFault, PassesPlaces, RefusesPiece, StopsText, TellsFacts, TellsSegments, facts_of_all}
 use Rattle.command_runs.specs.declared.fault.RunFault.{RunFault}
 use Rattle.command_runs.specs.declared.fault.RunFault.TheVariants.{Memory, File, Json, Shape, Piece, Layout, Text, Missing, Wrong, Place, Rank, Outside, NodeCount, Step, Worker, Net, Frame, Write}
 
-events_told : (file left : Option (List ℕ)) (events : List Event) → IsTold file left → TellsEvents left events → TellsEvents file events
+events_told : (file left : Option (List ℕ)) (events : List Event) → StandsAtFirst file left → TellsEvents left events → TellsEvents file events
 events_told None left events told h = tt
 events_told (Some bytes) left events told h = subst (λ (t : Option (List ℕ)). TellsEvents t events) told h
 
 -- a walk to the end of the text, and the segments of its events
 pub facts_told : (file left : Option (List ℕ)) (rank first : ℕ) (events : List Event) (walked : Walked) (segments : List PlacedEvents)
-    → WalkTellsEvents → SegmentsTellAll → IsTold file left → IsWalked collected left [] events walked → AreSegments rank first events segments
+    → WalkTellsEvents → SegmentsTellAll → StandsAtFirst file left → IsWalked collected left [] events walked → AreSegments rank first events segments
     → TellsFacts file rank first (facts_of_all segments)
 facts_told file left rank first events walked segments tells all told h are =
     (events, events_told file left events told (tells left events walked h), all rank first events segments are)
 
 pub segments_told : (file left : Option (List ℕ)) (rank first : ℕ) (events : List Event) (walked : Walked) (segments : List PlacedEvents)
-    → WalkTellsEvents → IsTold file left → IsWalked collected left [] events walked → AreSegments rank first events segments
+    → WalkTellsEvents → StandsAtFirst file left → IsWalked collected left [] events walked → AreSegments rank first events segments
     → TellsSegments file rank first segments
 segments_told file left rank first events walked segments tells told h are =
     (events, events_told file left events told (tells left events walked h), are)
 
 -- a walk to the end of the text, and events past the last place
 pub places_told : (file left : Option (List ℕ)) (first : ℕ) (events : List Event) (walked : Walked)
-    → WalkTellsEvents → IsTold file left → IsWalked collected left [] events walked → HasPlacesPast first events → PassesPlaces first file
+    → WalkTellsEvents → StandsAtFirst file left → IsWalked collected left [] events walked → HasPlacesPast first events → PassesPlaces first file
 places_told file left first events walked tells told h past = (events, events_told file left events told (tells left events walked h), past)
 
 some_seen : (found : Option (List Seen)) (seen : List Seen) → found ≡ Some seen → IsSome found
 some_seen None seen e = cc
 some_seen (Some calls) seen e = refl
 
-stops_told : (file left : Option (List ℕ)) (old new : List Event) (fault : WalkFault NoMemory) → IsTold file left
+stops_told : (file left : Option (List ℕ)) (old new : List Event) (fault : WalkFault NoMemory) → StandsAtFirst file left
     → IsStopped {S = List Event} {F = NoMemory} collected left old new fault → StopsText file fault.cause fault.line
 stops_told None left old new fault told h = tt
 stops_told (Some bytes) left old new fault told h =
     (h.calls, some_seen (seen_in h.calls) h.handed.seen h.handed.typed_as, subst (λ (t : Option (List ℕ)). StopsWalk {F = NoMemory} t h.calls fault.cause fault.line) told h.stops)
 
 -- a walk that was stopped
-pub walk_told : (name : List ℕ) (first : ℕ) (file left : Option (List ℕ)) (old new : List Event) (fault : WalkFault NoMemory) (run : RunFault) → IsTold file left
+pub walk_told : (name : List ℕ) (first : ℕ) (file left : Option (List ℕ)) (old new : List Event) (fault : WalkFault NoMemory) (run : RunFault) → StandsAtFirst file left
     → IsStopped {S = List Event} {F = NoMemory} collected left old new fault → IsWalkFault name fault run → RefusesPiece name first file run
 walk_told name first file left old new fault Memory told h is = tt
 walk_told name first file left old new fault (Text cause path line) told h is =

@@ -1,23 +1,19 @@
 -- The files of a run.
 use Rattle.std.specs.Prelude.{◌≡◌, ◌<◌, ◌⊎◌, ℕ, List, Option, Some, None, String, length, string_bytes}
 use Rattle.std.specs.declared.alloc.Global.{Global}
-use Rattle.mpi_model.specs.Failures.{one_more}
+use Rattle.dumpi_text.specs.declared.fault.TextCause.TheVariants.{Read}
 use Rattle.command_runs.specs.declared.fault.RunFault.{RunFault}
-use Rattle.command_runs.specs.declared.fault.RunFault.TheVariants.{File}
+use Rattle.command_runs.specs.declared.fault.RunFault.TheVariants.{File, Text}
 
 -- A reader stands at the first byte of the file, where its bytes are told.
-abbrev pub IsTold : Option (List ℕ) → Option (List ℕ) → Type 0
-IsTold None left = Unit {0}
-IsTold (Some bytes) left = left ≡ Some bytes
+abbrev pub StandsAtFirst : Option (List ℕ) → Option (List ℕ) → Type 0
+StandsAtFirst None left = Unit {0}
+StandsAtFirst (Some bytes) left = left ≡ Some bytes
 
 -- These are the bytes of the file, where they are told.
 abbrev pub IsFile : Option (List ℕ) → List ℕ → Type 0
 IsFile None bytes = Unit {0}
 IsFile (Some told) bytes = told ≡ bytes
-
--- A reader of this kind has failed, once.
-abbrev pub Fails : {R : Type 0} → (R → ℕ) → Type 0
-Fails {R = R} failures = (old : R) × (new : R) × (failures new ≡ one_more (failures old))
 
 -- Why a file that may have so many bytes can't be read: nothing tells its bytes, as where it is absent; or its reader fails; or it has more.
 abbrev pub IsUnreadable : ℕ → Type 0 → Option (List ℕ) → Type 0
@@ -27,3 +23,7 @@ IsUnreadable most fails (Some bytes) = fails ⊎ (most < length bytes)
 -- A fault that says of a file that it can't be read says it of one that can't.
 abbrev pub NamesUnreadable : ℕ → Type 0 → (List ℕ → Option (List ℕ)) → RunFault → Type 0
 NamesUnreadable most fails file fault = (path : String Global) → fault ≡ File path → IsUnreadable most fails (file (string_bytes path))
+
+-- A fault that says that a text's reader failed is answered only of a reader that fails.
+abbrev pub NamesFailed : Type 0 → RunFault → Type 0
+NamesFailed fails fault = (path : String Global) (line : ℕ) → fault ≡ Text Read path line → fails

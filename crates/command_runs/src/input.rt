@@ -3,7 +3,8 @@
 ghost use Rattle.std.specs.Prelude.{◌≡◌, ◌≤◌, IfErr, IfOk, length};
 ghost use Rattle.input_files.specs.Layouts.{RefusesLayout};
 ghost use Rattle.input_files.specs.Manifests.{RefusesManifest};
-ghost use Rattle.command_runs.specs.Files.{Fails, IsFile, NamesUnreadable};
+ghost use Rattle.dumpi_text.specs.Failing.{Fails};
+ghost use Rattle.command_runs.specs.Files.{IsFile, NamesFailed, NamesUnreadable};
 ghost use Rattle.command_runs.specs.declared.whole.TheConstants.{LONGEST_FILE};
 ghost use Rattle.command_runs.specs.Inputs.{IsFaultOf, RefusesFile, RefusesInput, TellsLayout, TellsManifest};
 
@@ -19,6 +20,7 @@ pub fn layout_at<O: Opener>(alloc: Global, path: &str, files: &mut O) -> Result<
     ensures ok { IfOk result (λ l. TellsLayout (O.file files.old path.now) l) }
     ensures err { IfErr result (RefusesInput RefusesLayout path.now (O.file files.old path.now)) }
     ensures unread { IfErr result (λ fault. NamesUnreadable LONGEST_FILE (Fails O.R.failures) (O.file files.old) fault) }
+    ensures failed { IfErr result (NamesFailed (Fails O.R.failures)) }
     ensures same { O.file files.new ≡ O.file files.old }
 {
     let text = file_at(alloc, path, files, LONGEST_FILE)?;
@@ -37,6 +39,7 @@ pub fn manifest_at<O: Opener>(
     ensures ok { IfOk result (λ m. TellsManifest (O.file files.old path.now) m) }
     ensures err { IfErr result (RefusesInput RefusesManifest path.now (O.file files.old path.now)) }
     ensures unread { IfErr result (λ fault. NamesUnreadable LONGEST_FILE (Fails O.R.failures) (O.file files.old) fault) }
+    ensures failed { IfErr result (NamesFailed (Fails O.R.failures)) }
     ensures same { O.file files.new ≡ O.file files.old }
 {
     let text = file_at(alloc, path, files, LONGEST_FILE)?;

@@ -2,6 +2,8 @@
 
 ghost use Rattle.std.specs.Prelude.{◌≡◌, ◌≢◌, [], IfErr, IfOk, OnOk, false, true};
 ghost use Rattle.std.specs.List.{All};
+ghost use Rattle.dumpi_text.specs.Failing.{Fails};
+ghost use Rattle.command_runs.specs.Files.{NamesFailed};
 ghost use Rattle.command_runs.specs.Pieces.{facts_of_all};
 ghost use Rattle.command_runs.specs.Refusals.{RefusesPieces};
 ghost use Rattle.command_runs.specs.Traces.{IsInside, IsKnown, KeepsFirst};
@@ -12,7 +14,7 @@ ghost use Rattle.trace_node.specs.Node.{IsWithin};
 use crate::fault::RunFault;
 use crate::opener::Opener;
 use crate::piece::segments_of;
-use crate::watch::Watcher;
+use crate::watch::{Watcher, announce};
 use input_files::Piece;
 use mpi_model::Layout;
 use std::alloc::{AllocError, Global};
@@ -31,10 +33,11 @@ pub fn know_of<O: Opener, V: Watcher>(
     ensures inside { IfOk result (λ know. All (IsInside (O.file files.old) layout.now.ranks) pieces.now) }
     ensures within { IfOk result (λ know. IsWithin layout.now know) }
     ensures err { IfErr result (RefusesPieces (O.file files.old) layout.now.ranks pieces.now) }
+    ensures failed { IfErr result (NamesFailed (Fails O.R.failures)) }
 {
     join_laws();
     view_laws();
-    watcher.begin(pieces.len());
+    announce(pieces, files, watcher);
     let mut know = Knowledge::new(alloc);
     let mut stranger = None;
     for piece in pieces {

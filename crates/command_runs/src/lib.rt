@@ -17,7 +17,8 @@
 //! - [`opener`]: where files come from; [`whole`]: a whole file, within its limit
 //! - [`piece`]: the segments of a piece; [`pieces`]: those of all pieces
 //! - [`input`]: the layout and the manifest; [`knowing`]: what the pieces tell together
-//! - [`watch`]: who is told how the reading comes along; [`terminal`]: what a person then sees
+//! - [`watch`]: who is told how the reading comes along; [`watched`]: a reader that tells it;
+//!   [`terminal`]: what a person then sees
 //! - [`schedule`]: the steps that a manifest's schedule stands for; [`replay`]: their run, and the reports
 //!   of the nodes
 //! - [`texts`]: the texts of a cluster; [`cluster`]: its run, and the reports of both nodes
@@ -42,6 +43,7 @@ mod schedule;
 mod terminal;
 mod texts;
 mod watch;
+mod watched;
 mod whole;
 
 pub use cluster::run_cluster;

@@ -1,7 +1,7 @@
 //! Where the files of a run come from.
 
 ghost use Rattle.std.specs.Prelude.{◌≡◌, ℕ, IfOk, List, None, Option};
-ghost use Rattle.command_runs.specs.Files.{IsTold};
+ghost use Rattle.command_runs.specs.Files.{StandsAtFirst};
 
 use mpi_model::{Device, Read};
 use std::fs::Files;
@@ -28,9 +28,15 @@ pub trait Opener: Drop {
 
     /// Opens the file of a name, taken as it stands, at its first byte.
     fn open(&mut self, path: &str) -> Result<Self::R, OpenFault>
-        ensures told { IfOk result (λ reader. IsTold (file self.old path.now) (Self.R.left reader)) }
+        ensures told { IfOk result (λ reader. StandsAtFirst (file self.old path.now) (Self.R.left reader)) }
         ensures absent { result ≡ Err OpenFault.File → file self.old path.now ≡ None }
         ensures same { file self.new ≡ file self.old };
+
+    /// How many bytes the file of a name has now, where that can be told: a pipe has no length. It is
+    /// for who watches a run, and nothing that a run answers hangs on it.
+    fn length(&self, _path: &str) -> Option<u64> {
+        None
+    }
 }
 
 /// The files of the system.
@@ -53,6 +59,15 @@ impl<'a, F: Files> Opener for Disk<'a, F> {
             Ok(file) => Ok(Device::new(file)),
             Err(error) if error.kind() == io::ErrorKind::OutOfMemory => Err(OpenFault::Memory),
             Err(_) => Err(OpenFault::File),
+        }
+    }
+
+    fn length(&self, path: &str) -> Option<u64> {
+        let metadata = std::fs::metadata(self.rt, path).ok()?;
+        if metadata.is_file() {
+            Some(metadata.len())
+        } else {
+            None
         }
     }
 }

@@ -1,11 +1,15 @@
 //! The segments of a piece: the events of its text's calls, cut after each 65,536.
 
 ghost use Rattle.std.specs.Prelude.{IfErr, IfOk, ◌≡◌};
+ghost use Rattle.dumpi_calls.specs.Walks.{IsReadStop};
+ghost use Rattle.dumpi_text.specs.Failing.{Fails};
+ghost use Rattle.command_runs.specs.Files.{NamesFailed};
 ghost use Rattle.command_runs.specs.Pieces.{IsWalkFault, RefusesPiece, TellsFacts, TellsSegments, facts_of_all};
 
 use crate::fault::RunFault;
 use crate::opener::{OpenFault, Opener};
 use crate::watch::Watcher;
+use crate::watched::Watched;
 use dumpi_calls::{Collect, Memory, WalkCause, WalkFault, walk, whole_segments, whole_texts};
 use dumpi_text::TextFault;
 use input_files::Piece;
@@ -23,6 +27,7 @@ pub fn segments_of<O: Opener, V: Watcher>(
     ensures ok { IfOk result (λ segments. TellsFacts (O.file files.old piece.now.file) piece.now.rank piece.now.first (facts_of_all segments.items)) }
     ensures segments { IfOk result (λ segments. TellsSegments (O.file files.old piece.now.file) piece.now.rank piece.now.first segments.items) }
     ensures err { IfErr result (RefusesPiece piece.now.file piece.now.first (O.file files.old piece.now.file)) }
+    ensures failed { IfErr result (NamesFailed (Fails O.R.failures)) }
     ensures same { O.file files.new ≡ O.file files.old }
 {
     whole_texts();
@@ -38,10 +43,11 @@ pub fn segments_of<O: Opener, V: Watcher>(
         }
     };
     let mut collect = Collect::new(alloc);
-    match walk(alloc, reader, &mut collect) {
-        Ok(walked) => watcher.has_read(path, &walked),
+    let walked = match walk(alloc, Watched::new(reader, watcher), &mut collect) {
+        Ok(walked) => walked,
         Err(fault) => return Err(refusal(alloc, path, fault)?),
-    }
+    };
+    watcher.has_read(path, &walked);
     match collect.into_segments(piece.rank(), piece.first()) {
         Ok(segments) => Ok(segments),
         Err(SegmentFault::Place) => Err(RunFault::Place {
@@ -57,7 +63,8 @@ pub(crate) fn refusal(
     path: &str,
     fault: WalkFault<Memory>,
 ) -> Result<RunFault, AllocError>
-    ensures { IfOk result (IsWalkFault path.now fault) }
+    ensures fault { IfOk result (IsWalkFault path.now fault) }
+    ensures failed { IfOk result (NamesFailed (IsReadStop fault.cause)) }
 {
     let line = fault.line;
     match fault.cause {

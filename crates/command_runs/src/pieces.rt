@@ -1,13 +1,15 @@
 //! The segments of all pieces of a manifest.
 
 ghost use Rattle.std.specs.Prelude.{◌≡◌, ◌⊎◌, IfErr, IfOk};
+ghost use Rattle.dumpi_text.specs.Failing.{Fails};
+ghost use Rattle.command_runs.specs.Files.{NamesFailed};
 ghost use Rattle.command_runs.specs.Refusals.{RefusesFirst};
 ghost use Rattle.command_runs.specs.Schedules.{TellSegments, held_lists};
 
 use crate::fault::RunFault;
 use crate::opener::Opener;
 use crate::piece::segments_of;
-use crate::watch::Watcher;
+use crate::watch::{Watcher, announce};
 use dumpi_calls::whole_segments;
 use input_files::Piece;
 use std::alloc::Global;
@@ -22,9 +24,10 @@ pub fn segments_of_all<O: Opener, V: Watcher>(
 ) -> Result<Vec<Vec<Segment>>, RunFault>
     ensures ok { IfOk result (λ lists. TellSegments (O.file files.old) pieces.now (held_lists lists.items)) }
     ensures err { IfErr result (λ fault. (fault ≡ RunFault.Memory) ⊎ RefusesFirst (O.file files.old) pieces.now fault) }
+    ensures failed { IfErr result (NamesFailed (Fails O.R.failures)) }
 {
     whole_segments();
-    watcher.begin(pieces.len());
+    announce(pieces, files, watcher);
     let mut lists = Vec::new(alloc);
     for piece in pieces {
         let segments = match segments_of(alloc, piece, files, watcher) {

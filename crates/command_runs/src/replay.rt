@@ -4,7 +4,8 @@ ghost use Rattle.std.specs.Prelude.{◌≡◌, ◌⊎◌, ℕ, true, IfErr, IfOk
 ghost use Rattle.std.specs.Io.KnownBytes.{Appends, Keeps};
 ghost use Rattle.mpi_model.specs.Failures.{CountsFailure, HasFailed};
 ghost use Rattle.trace_node.specs.Node.{Held};
-ghost use Rattle.command_runs.specs.Files.{Fails, NamesUnreadable};
+ghost use Rattle.dumpi_text.specs.Failing.{Fails};
+ghost use Rattle.command_runs.specs.Files.{NamesFailed, NamesUnreadable};
 ghost use Rattle.command_runs.specs.declared.whole.TheConstants.{LONGEST_FILE};
 ghost use Rattle.command_runs.specs.Replays.{AppendsFront, AreNodesOf, CanReplay, IsReplayOf, IsTextOf, NoneStale, RefusesNodes, RefusesReplay, RefusesSteps, node_line, node_text, nodes_after, stop_of};
 ghost use Rattle.command_runs.specs.Verbs.{BreaksOff};
@@ -36,6 +37,7 @@ pub(crate) fn replay_with<O: Opener, V: Watcher, W: Write>(
     ensures held { IfOk result (λ held. held ≡ true) }
     ensures refused { IfErr result (λ fault. (fault ≡ RunFault.Write) ⊎ RefusesReplay (O.file files.old) layout_name.now manifest_name.now fault) }
     ensures unread { IfErr result (λ fault. NamesUnreadable LONGEST_FILE (Fails O.R.failures) (O.file files.old) fault) }
+    ensures failed { IfErr result (NamesFailed (Fails O.R.failures)) }
     ensures nothing { IfErr result (λ fault. (fault ≡ RunFault.Write) ⊎ Keeps (W.written out.old) (W.written out.new)) }
     ensures broken_off { result ≡ Err RunFault.Write → BreaksOff (O.file files.old) Verb.Replay layout_name.now manifest_name.now (W.written out.old) (W.written out.new) (W.failures out.old) (W.failures out.new) }
 {
@@ -65,6 +67,7 @@ fn world_with<'a, O: Opener, V: Watcher>(
     ensures fresh { IfOk result (λ world. NoneStale world.nodes) }
     ensures err { IfErr result (λ fault. RefusesNodes (O.file files.old) layout.now manifest_name.now fault) }
     ensures unread { IfErr result (λ fault. NamesUnreadable LONGEST_FILE (Fails O.R.failures) (O.file files.old) fault) }
+    ensures failed { IfErr result (NamesFailed (Fails O.R.failures)) }
 {
     let manifest = match manifest_at(alloc, manifest_name, files) {
         Ok(manifest) => manifest,

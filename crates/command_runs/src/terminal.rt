@@ -9,9 +9,9 @@ use std::time::{Clock, Instant};
 /// lines.
 const PATIENCE: u64 = 2;
 
-/// Shows on standard error how many pieces were read, where that takes long, and each text that has
-/// lines and no call: a file in another encoding looks so. Where standard error is no terminal it
-/// shows nothing. That a line can't be shown changes nothing.
+/// Shows on standard error how many pieces and bytes were read, where that takes long, and each text
+/// that has lines and no call: a file in another encoding looks so. Where standard error is no terminal
+/// it shows nothing. That a line can't be shown changes nothing.
 #[derive(Drop)]
 pub struct Terminal<'a, R: Eprint + Clock> {
     rt: &'a R,
@@ -19,7 +19,10 @@ pub struct Terminal<'a, R: Eprint + Clock> {
     /// When the last line was shown, or the run began.
     shown: Option<Instant>,
     pieces: usize,
-    read: usize,
+    pieces_read: usize,
+    /// The bytes of all pieces, where each file tells its length.
+    bytes: Option<u64>,
+    bytes_read: u64,
 }
 
 impl<'a, R: Eprint + Clock> Terminal<'a, R> {
@@ -29,7 +32,9 @@ impl<'a, R: Eprint + Clock> Terminal<'a, R> {
             is_terminal,
             shown: None,
             pieces: 0,
-            read: 0,
+            pieces_read: 0,
+            bytes: None,
+            bytes_read: 0,
         }
     }
 
@@ -43,30 +48,52 @@ impl<'a, R: Eprint + Clock> Terminal<'a, R> {
             Err(_) => false,
         }
     }
+
+    // Shows how far the run is, where that is due.
+    fn show(&mut self) {
+        if !self.is_due() {
+            return;
+        }
+        let (pieces, pieces_read) = (self.pieces, self.pieces_read);
+        let bytes_read = self.bytes_read;
+        let _ = match self.bytes {
+            Some(bytes) => {
+                eprint!(self.rt; "mpimatch: {pieces_read} of {pieces} pieces and {bytes_read} of {bytes} bytes read\n")
+            }
+            None => {
+                eprint!(self.rt; "mpimatch: {pieces_read} of {pieces} pieces and {bytes_read} bytes read\n")
+            }
+        };
+        self.shown = Instant::now(self.rt).ok();
+    }
 }
 
 impl<'a, R: Eprint + Clock> Watcher for Terminal<'a, R> {
-    fn begin(&mut self, pieces: usize) {
+    fn is_watching(&self) -> bool {
+        self.is_terminal
+    }
+
+    fn begin(&mut self, pieces: usize, bytes: Option<u64>) {
         self.pieces = pieces;
-        self.read = 0;
+        self.pieces_read = 0;
+        self.bytes = bytes;
+        self.bytes_read = 0;
         if self.is_terminal {
             self.shown = Instant::now(self.rt).ok();
         }
     }
 
+    fn has_taken(&mut self, bytes: usize) {
+        self.bytes_read = self.bytes_read.saturating_add(bytes as u64);
+        self.show();
+    }
+
     fn has_read(&mut self, path: &str, walked: &Walked) {
-        self.read = self.read.saturating_add(1);
-        if !self.is_terminal {
-            return;
-        }
-        if walked.calls == 0 && walked.skipped > 0 {
+        self.pieces_read = self.pieces_read.saturating_add(1);
+        if self.is_terminal && walked.calls == 0 && walked.skipped > 0 {
             let lines = walked.skipped;
             let _ = eprint!(self.rt; "note: {path} has no call in its {lines} lines\n");
         }
-        if self.is_due() {
-            let (read, pieces) = (self.read, self.pieces);
-            let _ = eprint!(self.rt; "mpimatch: {read} of {pieces} pieces read\n");
-            self.shown = Instant::now(self.rt).ok();
-        }
+        self.show();
     }
 }

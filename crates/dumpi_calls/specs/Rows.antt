@@ -114,8 +114,8 @@ abbrev pub sendrecv_parameters : List Parameter
 sendrecv_parameters = SendCount ∷ SendType ∷ Dest ∷ SendTag ∷ RecvCount ∷ RecvType ∷ Source ∷ RecvTag ∷ Comm ∷ []
 
 -- what a send says apart from its communicator
-unfoldable pub sent_part : Parameter → Parameter → Parameter → TextCall → Result Part CallFault
-sent_part count datatype tag call = do
+unfoldable pub send_part : Parameter → Parameter → Parameter → TextCall → Result Part CallFault
+send_part count datatype tag call = do
   elements ← non_negative_in count call
   element ← number_in datatype call
   peer ← dest_in call
@@ -123,8 +123,8 @@ sent_part count datatype tag call = do
   Ok (record { count = elements; datatype = element.value; peer = peer; tag = Some tag })
 
 -- what a receive asks for apart from its communicator
-unfoldable pub asked_part : Parameter → Parameter → Parameter → TextCall → Result Part CallFault
-asked_part count datatype tag call = do
+unfoldable pub receive_part : Parameter → Parameter → Parameter → TextCall → Result Part CallFault
+receive_part count datatype tag call = do
   elements ← non_negative_in count call
   element ← number_in datatype call
   peer ← source_in call
@@ -136,16 +136,16 @@ abbrev pub envelope_of : Part → CommRef → Envelope
 envelope_of part comm = record { peer = part.peer; tag = part.tag; comm = comm; count = part.count; datatype = part.datatype }
 
 -- the envelope of a send
-unfoldable pub sent : TextCall → Result Envelope CallFault
-sent call = do
-  part ← sent_part Count Datatype Tag call
+unfoldable pub envelope_of_send : TextCall → Result Envelope CallFault
+envelope_of_send call = do
+  part ← send_part Count Datatype Tag call
   comm ← comm_in call
   Ok (envelope_of part comm)
 
 -- the envelope of a receive
-unfoldable pub asked : TextCall → Result Envelope CallFault
-asked call = do
-  part ← asked_part Count Datatype Tag call
+unfoldable pub envelope_of_receive : TextCall → Result Envelope CallFault
+envelope_of_receive call = do
+  part ← receive_part Count Datatype Tag call
   comm ← comm_in call
   Ok (envelope_of part comm)
 
@@ -153,28 +153,28 @@ asked call = do
 
 unfoldable pub send_call : Mode → TextCall → Result Call CallFault
 send_call mode call = do
-  envelope ← sent call
+  envelope ← envelope_of_send call
   Ok (calls.Send mode envelope)
 
 unfoldable pub isend_call : Mode → TextCall → Result Call CallFault
 isend_call mode call = do
-  envelope ← sent call
+  envelope ← envelope_of_send call
   Ok (calls.Isend mode envelope)
 
 unfoldable pub recv_call : TextCall → Result Call CallFault
 recv_call call = do
-  envelope ← asked call
+  envelope ← envelope_of_receive call
   Ok (calls.Recv envelope)
 
 unfoldable pub irecv_call : TextCall → Result Call CallFault
 irecv_call call = do
-  envelope ← asked call
+  envelope ← envelope_of_receive call
   Ok (calls.Irecv envelope)
 
 unfoldable pub sendrecv_call : TextCall → Result Call CallFault
 sendrecv_call call = do
-  send ← sent_part SendCount SendType SendTag call
-  receive ← asked_part RecvCount RecvType RecvTag call
+  send ← send_part SendCount SendType SendTag call
+  receive ← receive_part RecvCount RecvType RecvTag call
   comm ← comm_in call
   Ok (calls.Sendrecv (record { send = envelope_of send comm; receive = envelope_of receive comm }))
 

@@ -6,7 +6,7 @@ use Rattle.dumpi_text.specs.Call.{TextCall}
 use Rattle.dumpi_text.specs.Grammar.{Complete, Stopped}
 use Rattle.dumpi_text.specs.Reading.{HasRead, MeansAll}
 use Rattle.dumpi_text.specs.Source.{rest_of}
-use Rattle.dumpi_text.specs.Standing.{View}
+use Rattle.dumpi_text.specs.Standing.{TextState}
 use Rattle.dumpi_text.specs.declared.standing.Standing.TheVariants.{Reading, Finished}
 use Rattle.dumpi_text.specs.declared.fault.LineFault.TheVariants.{Truncated}
 use Rattle.dumpi_text.specs.declared.fault.TextCause.{TextCause}
@@ -27,13 +27,13 @@ use Rattle.dumpi_calls.specs.declared.walking.Walked.{Walked}
 -- ---- a text that is read
 
 -- These calls were read of a text, and it is read on, or nothing is left of it; the line that it tells is the last one's.
-pub record IsRead (text : Option (List ℕ)) (calls : List TextCall) (view : View) : Type 0 where
+pub record IsRead (text : Option (List ℕ)) (calls : List TextCall) (view : TextState) : Type 0 where
   pub read : HasRead text calls view.at (rest_of view.rest)
   pub stands : (view.standing ≡ Reading) ⊎ ((view.standing ≡ Finished) × IsAtEnd (rest_of view.rest))
   pub told : view.told ≡ view.at
 
 -- One call more was read, or the text was over.
-abbrev pub Follows : Option (List ℕ) → List TextCall → Option TextCall → View → Type 0
+abbrev pub Follows : Option (List ℕ) → List TextCall → Option TextCall → TextState → Type 0
 Follows text calls (Some call) view = IsRead text (calls ++ call ∷ []) view
 Follows text calls None view = MeansAll text calls (Complete view.told)
 
@@ -49,6 +49,10 @@ BeginsTo text calls line = (at : Position) × (rest : Option (List ℕ)) × HasR
 abbrev pub StopsAfter : Option (List ℕ) → List TextCall → TextCause → ℕ → Type 0
 StopsAfter text calls causes.Read line = Begins text calls
 StopsAfter text calls (causes.Line fault) line = (at : Position) × MeansAll text calls (Stopped fault at) × (line ≡ at.line)
+
+-- A fault that says that the text's reader failed.
+abbrev pub IsReadFault : TextFault → Type 0
+IsReadFault fault = (line : ℕ) × (fault ≡ faults.At line causes.Read)
 
 -- There is no next call after these.
 abbrev pub RefusesNext : Option (List ℕ) → List TextCall → TextFault → ℕ → Type 0
@@ -86,6 +90,10 @@ RefusesCall raw (Sink fault) line = (line ≡ raw.line) × IsOk (typed raw)
 RefusesCall raw Memory line = line ≡ raw.line
 
 -- ---- walks
+
+-- A walk stops since the text's reader failed.
+abbrev pub IsReadStop : {F : Type 0} → WalkCause F → Type 0
+IsReadStop {F = F} cause = (fault : TextFault) × (cause ≡ Text fault) × IsReadFault fault
 
 -- These calls were handed to the sink, in order, and are counted.
 pub record HandedOn {S : Type 0} (step : S → Seen → S) (calls : List TextCall) (old new : S) (count : ℕ) : Type 0 where

@@ -5,16 +5,16 @@ ghost use Rattle.std.specs.Option.{option_copied};
 ghost use Rattle.dumpi_calls.specs.Collected.{AreSegments, collected, ends_open, placed};
 ghost use Rattle.dumpi_calls.specs.Rows.{OnCollective};
 ghost use Rattle.dumpi_calls.specs.Seen.{seen};
-ghost use Rattle.dumpi_calls.specs.declared.cutting.TheConstants.{PLACES};
 ghost use Rattle.trace_know.specs.Segment.{alternate, enter_place};
+ghost use Rattle.trace_know.specs.declared.segment.TheConstants.{PLACES};
 
-use crate::cutting::{MOST_EVENTS, PLACES, cut, whole};
+use crate::cutting::{cut, whole};
 use crate::sink::CallSink;
 use mpi_model::{Call, Event, Exit, Stamp};
 use std::alloc::{AllocError, AllocFailed, Global};
 use std::marker::Model;
 use thiserror::Error;
-use trace_know::{Segment, SegmentFault};
+use trace_know::{MOST_EVENTS, PLACES, Segment, SegmentFault};
 
 /// No memory was left for a call's events.
 #[derive(Clone, Copy, Debug, PartialEq, Eq, Error)]

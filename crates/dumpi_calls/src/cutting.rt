@@ -2,21 +2,15 @@
 
 ghost use Rattle.std.specs.Prelude.{◌≡◌, ◌+◌, ◌<◌, ◌≤◌, IfOk, length, true};
 ghost use Rattle.dumpi_calls.specs.Collected.{AreSegments, placed};
-ghost use Rattle.dumpi_calls.specs.declared.cutting.TheConstants.{MOST_EVENTS, PLACES};
 ghost use Rattle.trace_know.specs.Segment.{alternate, enter_place};
+ghost use Rattle.trace_know.specs.declared.segment.TheConstants.{MOST_EVENTS, PLACES};
 
 use mpi_model::Event;
 use std::alloc::{AllocError, Global};
 use std::mem;
-use trace_know::Segment;
+use trace_know::{MOST_EVENTS, PLACES, Segment};
 
-/// Places are below this one, 2^40.
-pub const PLACES: u64 = 1_099_511_627_776;
-
-/// The most events of a segment: an Enter and a Return of each of [`MOST_CALLS`].
-pub const MOST_EVENTS: usize = 65_536;
-
-/// The calls of a full segment.
+/// The calls of a full segment, each with an Enter and a Return: half of [`MOST_EVENTS`].
 pub const MOST_CALLS: u64 = 32_768;
 
 // the segment of events that are one

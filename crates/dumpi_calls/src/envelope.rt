@@ -4,7 +4,7 @@ ghost use Rattle.std.specs.Prelude.{◌≡◌, ◌∷◌, ◌<◌, ◌^◌, [], 
 ghost use Rattle.mpi_model.specs.Ranges.{IsAskedTag, IsComm, IsNamed, IsSource, IsTarget};
 ghost use Rattle.dumpi_calls.specs.Outcomes.{brought_by};
 ghost use Rattle.dumpi_calls.specs.Readings.{AreThere, Reads};
-ghost use Rattle.dumpi_calls.specs.Rows.{asked, asked_part, receive_parameters, send_parameters, sendrecv_parameters, envelope_of, sent, sent_part, sendrecv_call};
+ghost use Rattle.dumpi_calls.specs.Rows.{envelope_of, envelope_of_receive, envelope_of_send, receive_parameters, receive_part, send_parameters, send_part, sendrecv_call, sendrecv_parameters};
 
 use crate::parameter::{CallFault, Parameter};
 use crate::reading::{asked_tag, comm, dest, non_negative, number, source};
@@ -35,15 +35,15 @@ fn envelope(part: Part, comm: CommRef) -> Envelope
 }
 
 // what a send says, by these parameters and `dest`
-#[tactic(auto, unfolding(crate::specs::Rows::sent_part))]
-fn part_sent(
+#[tactic(auto, unfolding(crate::specs::Rows::send_part))]
+fn part_of_send(
     alloc: Global,
     raw: &RawCall,
     count: Parameter,
     datatype: Parameter,
     tag: Parameter,
 ) -> Result<Part, CallFault>
-    ensures means { Reads result (sent_part count datatype tag raw.now) }
+    ensures means { Reads result (send_part count datatype tag raw.now) }
     ensures there { OnOk result (AreThere (count ∷ datatype ∷ Parameter.Dest ∷ tag ∷ []) raw.now) }
     ensures range { IfOk result (λ p. IsTarget p.peer × IsNamed p.tag × (p.count < 2 ^ 31)) }
 {
@@ -60,15 +60,15 @@ fn part_sent(
 }
 
 // what a receive asks for, by these parameters and `source`
-#[tactic(auto, unfolding(crate::specs::Rows::asked_part))]
-fn part_asked(
+#[tactic(auto, unfolding(crate::specs::Rows::receive_part))]
+fn part_of_receive(
     alloc: Global,
     raw: &RawCall,
     count: Parameter,
     datatype: Parameter,
     tag: Parameter,
 ) -> Result<Part, CallFault>
-    ensures means { Reads result (asked_part count datatype tag raw.now) }
+    ensures means { Reads result (receive_part count datatype tag raw.now) }
     ensures there { OnOk result (AreThere (count ∷ datatype ∷ Parameter.Source ∷ tag ∷ []) raw.now) }
     ensures range { IfOk result (λ p. IsSource p.peer × IsAskedTag p.tag × (p.count < 2 ^ 31)) }
 {
@@ -101,12 +101,12 @@ fn receive_envelope(part: Part, comm: CommRef) -> ReceiveEnvelope
 }
 
 /// The envelope of a send.
-#[tactic(auto, unfolding(crate::specs::Rows::sent))]
-pub fn sent_in(alloc: Global, raw: &RawCall) -> Result<SendEnvelope, CallFault>
-    ensures means { Reads result (sent raw.now) }
+#[tactic(auto, unfolding(crate::specs::Rows::envelope_of_send))]
+pub fn send_envelope_in(alloc: Global, raw: &RawCall) -> Result<SendEnvelope, CallFault>
+    ensures means { Reads result (envelope_of_send raw.now) }
     ensures there { OnOk result (AreThere send_parameters raw.now) }
 {
-    let part = part_sent(
+    let part = part_of_send(
         alloc,
         raw,
         Parameter::Count,
@@ -118,12 +118,12 @@ pub fn sent_in(alloc: Global, raw: &RawCall) -> Result<SendEnvelope, CallFault>
 }
 
 /// The envelope of a receive.
-#[tactic(auto, unfolding(crate::specs::Rows::asked))]
-pub fn asked_in(alloc: Global, raw: &RawCall) -> Result<ReceiveEnvelope, CallFault>
-    ensures means { Reads result (asked raw.now) }
+#[tactic(auto, unfolding(crate::specs::Rows::envelope_of_receive))]
+pub fn receive_envelope_in(alloc: Global, raw: &RawCall) -> Result<ReceiveEnvelope, CallFault>
+    ensures means { Reads result (envelope_of_receive raw.now) }
     ensures there { OnOk result (AreThere receive_parameters raw.now) }
 {
-    let part = part_asked(
+    let part = part_of_receive(
         alloc,
         raw,
         Parameter::Count,
@@ -141,14 +141,14 @@ pub fn sendrecv_in(alloc: Global, raw: &RawCall) -> Result<Call, CallFault>
     ensures there { OnOk result (AreThere sendrecv_parameters raw.now) }
     ensures brings { IfOk result (λ c. brought_by c ≡ []) }
 {
-    let send = part_sent(
+    let send = part_of_send(
         alloc,
         raw,
         Parameter::SendCount,
         Parameter::SendType,
         Parameter::SendTag,
     )?;
-    let receive = part_asked(
+    let receive = part_of_receive(
         alloc,
         raw,
         Parameter::RecvCount,

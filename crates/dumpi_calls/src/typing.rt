@@ -10,7 +10,7 @@ ghost use Rattle.dumpi_calls.specs.Readings.{AreThere, Reads};
 ghost use Rattle.dumpi_calls.specs.Rows.{HasItsKind, exit_in, first_missing, group_call, isend_call, irecv_call, missing_in, read_by, receive_parameters, recv_call, returned, rooted_call, row, send_call, send_parameters, test_call, typed_by, wait_call, waitall_call, waitany_call, waitsome_call};
 ghost use Rattle.mpi_model.specs.Ranges.{HasRoot};
 
-use crate::envelope::{asked_in, sendrecv_in, sent_in};
+use crate::envelope::{receive_envelope_in, sendrecv_in, send_envelope_in};
 use crate::function::Function;
 use crate::outcome::outcome;
 use crate::parameter::{CallFault, Parameter};
@@ -122,7 +122,7 @@ fn send(alloc: Global, mode: Mode, raw: &RawCall) -> Result<Call, CallFault>
     ensures there { OnOk result (AreThere send_parameters raw.now) }
     ensures brings { IfOk result (λ c. brought_by c ≡ []) }
 {
-    let envelope = sent_in(alloc, raw)?;
+    let envelope = send_envelope_in(alloc, raw)?;
     Ok(Call::Send(mode, envelope))
 }
 
@@ -132,7 +132,7 @@ fn isend(alloc: Global, mode: Mode, raw: &RawCall) -> Result<Call, CallFault>
     ensures there { OnOk result (AreThere send_parameters raw.now) }
     ensures brings { IfOk result (λ c. brought_by c ≡ Parameter.Request ∷ []) }
 {
-    let envelope = sent_in(alloc, raw)?;
+    let envelope = send_envelope_in(alloc, raw)?;
     Ok(Call::Isend(mode, envelope))
 }
 
@@ -142,7 +142,7 @@ fn recv(alloc: Global, raw: &RawCall) -> Result<Call, CallFault>
     ensures there { OnOk result (AreThere receive_parameters raw.now) }
     ensures brings { IfOk result (λ c. brought_by c ≡ []) }
 {
-    let envelope = asked_in(alloc, raw)?;
+    let envelope = receive_envelope_in(alloc, raw)?;
     Ok(Call::Recv(envelope))
 }
 
@@ -152,7 +152,7 @@ fn irecv(alloc: Global, raw: &RawCall) -> Result<Call, CallFault>
     ensures there { OnOk result (AreThere receive_parameters raw.now) }
     ensures brings { IfOk result (λ c. brought_by c ≡ Parameter.Request ∷ []) }
 {
-    let envelope = asked_in(alloc, raw)?;
+    let envelope = receive_envelope_in(alloc, raw)?;
     Ok(Call::Irecv(envelope))
 }
 

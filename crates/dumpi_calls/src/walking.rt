@@ -2,10 +2,11 @@
 
 ghost use Rattle.std.specs.Prelude.{◌≡◌, ◌<◌, ◌≤◌, ℕ, List, Option, Err, Ok, Some, None, IfErr, IfOk, OnErr, true};
 ghost use Rattle.dumpi_text.specs.Call.{TextCall};
+ghost use Rattle.dumpi_text.specs.Failing.{Fails};
 ghost use Rattle.dumpi_text.specs.Shown.{put_in};
 ghost use Rattle.dumpi_text.specs.declared.step.TheConstants.{MOST_LINES};
 ghost use Rattle.dumpi_calls.specs.Rows.{row_of, typed, typed_by, row, HasItsKind};
-ghost use Rattle.dumpi_calls.specs.Walks.{Follows, IsRead, IsStopped, IsWalked, LacksNext, RefusesCall, RefusesNext, StopsWalk, Takes, lacks_exit};
+ghost use Rattle.dumpi_calls.specs.Walks.{Follows, IsRead, IsReadFault, IsReadStop, IsStopped, IsWalked, LacksNext, RefusesCall, RefusesNext, StopsWalk, Takes, lacks_exit};
 
 use crate::fault::{WalkCause, WalkFault};
 use crate::function::function_of;
@@ -31,6 +32,7 @@ pub struct Walked {
 fn refusal<F: Drop>(raw: &RawCall, fault: CallFault, calls: u64) -> WalkFault<F>
     ensures cause { typed raw.now ≡ Err fault → RefusesCall raw.now result.cause result.line }
     ensures memory { fault ≡ CallFault.Memory → RefusesCall raw.now result.cause result.line }
+    ensures whole { ¬ IsReadStop result.cause }
     ensures calls { result.calls ≡ calls }
 {
     match fault {
@@ -71,6 +73,7 @@ fn take<S: CallSink>(
 ) -> Result<(), WalkFault<S::Fault>>
     ensures ok { IfOk result (λ done. Takes S.step raw.now sink.old sink.new) }
     ensures err { IfErr result (λ fault. RefusesCall raw.now fault.cause fault.line) }
+    ensures whole { IfErr result (λ fault. ¬ IsReadStop fault.cause) }
     ensures calls { IfErr result (λ fault. fault.calls ≡ calls) }
     ensures unchanged { OnErr result (sink.new ≡ sink.old) }
 {
@@ -102,11 +105,15 @@ fn is_open(raw: &RawCall) -> bool
 fn next_of<R: Read>(texts: &mut Texts<R>, raw: &mut RawCall) -> Result<bool, TextFault>
     ensures goes_on { (text : Option (List ℕ)) (calls : List TextCall) → IsRead text calls texts.old → IfOk result (λ found. Follows text calls (put_in found raw.new) texts.new) }
     ensures stops { (text : Option (List ℕ)) (calls : List TextCall) → IsRead text calls texts.old → IfErr result (λ fault. RefusesNext text calls fault texts.new.told.line) }
+    ensures failed { IfErr result (λ fault. IsReadFault fault → Fails R.failures) }
     ensures progress { result ≡ Ok true → texts.old.at.line < texts.new.at.line }
     ensures lines { texts.new.at.line ≤ MOST_LINES }
 {
     reading_call_by_call();
-    match texts.next_into(raw) {
+    texts.known();
+    let read = texts.next_into(raw);
+    texts.known();
+    match read {
         Ok(next) => Ok(next),
         Err(fault) => Err(fault),
     }
@@ -115,6 +122,7 @@ fn next_of<R: Read>(texts: &mut Texts<R>, raw: &mut RawCall) -> Result<bool, Tex
 // why a text has no next call
 fn lack<F: Drop>(fault: TextFault, line: u64, calls: u64) -> WalkFault<F>
     ensures cause { (text : Option (List ℕ)) (before : List TextCall) → RefusesNext text before fault line → LacksNext text before result.cause result.line }
+    ensures failed { IsReadStop result.cause → IsReadFault fault }
     ensures calls { result.calls ≡ calls }
 {
     match fault {
@@ -140,6 +148,7 @@ pub fn walk<R: Read, S: CallSink>(
 ) -> Result<Walked, WalkFault<S::Fault>>
     ensures ok { IfOk result (λ walked. IsWalked S.step (R.left reader) sink.old sink.new walked) }
     ensures err { IfErr result (λ fault. IsStopped S.step (R.left reader) sink.old sink.new fault) }
+    ensures failed { IfErr result (λ fault. IsReadStop fault.cause → Fails R.failures) }
 {
     reading_call_by_call();
     let mut calls: u64 = 0;

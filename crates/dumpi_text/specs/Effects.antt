@@ -86,19 +86,19 @@ within_limit (Stays current, at) = if nat_lt MOST_LINES at.line then (Refuses To
 within_limit (Gives call, at) = if nat_lt MOST_LINES at.line then (Refuses TooManyLines, at) else (Gives call, at)
 
 -- the place of the line that follows
-abbrev pub next_line : Position → Position
-next_line at = record at { line = at.line + 1 }
+abbrev pub count_line : Position → Position
+count_line at = record at { line = at.line + 1 }
 
 -- one line that ends with a line feed: one carriage return before it is dropped, then the blanks at both ends
 unfoldable pub step : Position → Option Opening → List ℕ → Taken × Position
 step at current line =
     if nat_lt LONGEST_LINE (length line)
-    then (Refuses LineTooLong, next_line at)
-    else within_limit (by_kind (next_line at) current (kind_of (trimmed (without_last carriage_return line))))
+    then (Refuses LineTooLong, count_line at)
+    else within_limit (by_kind (count_line at) current (kind_of (trimmed (without_last carriage_return line))))
 
 -- a last line without a line feed
 unfoldable pub last_step : Position → Option Opening → List ℕ → Taken × Position
 last_step at current line =
     if nat_lt LONGEST_LINE (length line)
-    then (Refuses LineTooLong, next_line at)
-    else within_limit (last_by_kind (next_line at) current (kind_of (trimmed line)))
+    then (Refuses LineTooLong, count_line at)
+    else within_limit (last_by_kind (count_line at) current (kind_of (trimmed line)))

@@ -37,5 +37,5 @@ mod walk;
 pub use cell::{Cell, Known};
 pub use knowledge::Knowledge;
 pub use laws::{growth_laws, join_laws, listing_laws, prefix_laws, view_laws};
-pub use segment::{Segment, SegmentFault};
+pub use segment::{MOST_EVENTS, PLACES, Segment, SegmentFault};
 pub use walk::Walk;

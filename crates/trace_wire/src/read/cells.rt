@@ -14,10 +14,7 @@ use crate::read::event::event_of;
 use crate::read::field::{FieldFault, byte_of, u32_of, u64_of};
 use mpi_model::Event;
 use std::alloc::Global;
-use trace_know::{Knowledge, Known};
-
-/// Places are below this, 2^40.
-const PLACES: u64 = 1_099_511_627_776;
+use trace_know::{Knowledge, Known, PLACES};
 
 /// The fault of a frame that a field's fault is.
 fn fault_of(fault: FieldFault) -> WireFault

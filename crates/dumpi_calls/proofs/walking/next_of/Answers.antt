@@ -7,6 +7,6 @@ pub returns-in-Ok-clause-goes_on : goal.returns-in-Ok-clause-goes_on
 returns-in-Ok-clause-goes_on g c =
     let e = c.in-Ok.ensures in
     let laws = c.reading_call_by_call.ensures in
-    let call = c.next_into.new.call in
-    λ text calls. goes_on laws.goes_on laws.ends laws.ends_after_the_last text calls (put_in c.in-Ok.next call) c.args.texts.now c.next_into.new.self
+    let call = c.next_into-read.new.call in
+    λ text calls. goes_on laws.goes_on laws.ends laws.ends_after_the_last text calls (put_in c.in-Ok.next call) c.args.texts.now c.next_into-read.new.self
     e.found e.told e.ok e.over (λ finished. let f = e.finished finished in let none : c.in-Ok.next ≡ false = cc in nothing_put c.in-Ok.next call none) (λ finished. (e.finished finished).1)
