@@ -46,6 +46,10 @@ walk-left runs run rest at d is h =
 pub walk-turned : (runs : List Run) (run : Run) (rest : List Run) (at : ℕ) → runs ≡ run ∷ rest → at + 1 ≡ length run.cells.items → drop (at + 1) (listed runs) ≡ listed rest
 walk-turned runs run rest at is h = ap (λ (rs : List Run). drop (at + 1) (listed rs)) is ∙ drop-placed run.rank run.first run.cells.items (listed rest) (at + 1) h
 
+-- the same cell, its parts read one by one
+pub read_apart : (rank rank' first first' at : ℕ) (k k' : Known) (es : Entries) → rank' ≡ rank → first' ≡ first → k' ≡ k → ((rank, first + at), k) ∷ es ≡ ((rank', first' + at), k') ∷ es
+read_apart rank rank' first first' at k k' es r f e = λ i. ((sym r i, sym f i + at), sym e i) ∷ es
+
 pub within_first : (runs : List Run) (run : Run) (rest : List Run) (at : ℕ) → runs ≡ run ∷ rest → IsWalk at runs → at < length run.cells.items
 within_first runs run rest at is h = (subst (λ (rs : List Run). IsWalk at rs) is h).0
 

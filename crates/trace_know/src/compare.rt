@@ -6,9 +6,9 @@ ghost use Rattle.trace_know.specs.Cell.{IsAtMost};
 ghost use Rattle.trace_know.specs.declared.cell.Known.{Known as KnownValue};
 ghost use Rattle.trace_know.specs.Runs.{Above, AllHeld, of_runs};
 
+use crate::boxed::BoxedRun;
 use crate::cell::Known;
 use crate::readers::known_in;
-use crate::run::Run;
 use crate::walk::Walk;
 
 /// Whether both walks have the same cells.
@@ -48,7 +48,7 @@ fn is_held(held: Option<&Known>, known: &Known) -> bool
 }
 
 /// Whether runs hold all cells of a walk.
-pub(crate) fn holds_all(runs: &[Run], others: Walk<'_>) -> bool
+pub(crate) fn holds_all(runs: &[BoxedRun], others: Walk<'_>) -> bool
     requires { Above 0 runs.now }
     ensures { IsTrue result ↔ AllHeld others.entry (of_runs runs.now) }
 {

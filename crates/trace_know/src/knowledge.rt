@@ -11,6 +11,7 @@ ghost use Rattle.trace_know.specs.Runs.{of_run, IsFilled};
 ghost use Rattle.trace_know.specs.Trace.{facts_of, view_of};
 ghost use Rattle.trace_know.specs.View.{IsBelow, cell, join};
 
+use crate::boxed::BoxedRun;
 use crate::cell::{Cell, Known, cell_of, known_of};
 use crate::compare::{holds_all, same_cells};
 use crate::copies::{copies_of, join_each};
@@ -30,7 +31,7 @@ use std::marker::Model;
 #[derive(Debug, Drop)]
 pub struct Knowledge {
     alloc: Global,
-    runs: Vec<Run>,
+    runs: Vec<BoxedRun>,
     /// No fewer than there are cells.
     most: usize,
 }
@@ -250,7 +251,8 @@ impl Knowledge {
         ensures err { OnErr result (self.new ≡ self.old) }
     {
         let most = self.most_with(piece.cells.len())?;
-        take_run(&mut self.runs, piece)?;
+        let boxed = BoxedRun::new(self.alloc, piece)?;
+        take_run(&mut self.runs, boxed)?;
         self.most = most;
         Ok(())
     }

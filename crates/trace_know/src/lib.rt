@@ -8,14 +8,15 @@
 //! The cells are kept as runs, stretches of places of a rank without a gap. Taking a segment finds
 //! by halving the runs that it touches, and moves its cells into the longest of them, or that one's
 //! into it: at a run's end it costs its own cells, and in any order of the segments a cell moves as
-//! often as the logarithm of their number. A new run among others moves the later ones, though
-//! not their cells. Joining other knowledge costs a copy of all cells, but where it knows nothing
+//! often as the logarithm of their number. A new run among others moves a pointer for each later
+//! one. Joining other knowledge costs a copy of all cells, but where it knows nothing
 //! more. The readable prefix of a rank is one halving, and so is a cell. A walk over all cells
 //! takes no memory.
 //!
 //! - [`cell`]: what is known of one place
 //! - [`segment`]: events of one rank at consecutive places
-//! - [`run`]: cells of one rank without a gap; [`runs`]: runs in their order; [`copies`]: of runs
+//! - [`run`]: cells of one rank without a gap; [`boxed`]: a run in memory of its own; [`runs`]: such
+//!   runs in their order; [`copies`]: of runs
 //! - [`readers`]: what runs tell; [`walk`]: their cells one after another; [`compare`]: by walks
 //! - [`knowledge`]: all that is known
 //! - [`laws`]: what holds of joins and views, as contracts of calls that do nothing
@@ -23,6 +24,7 @@
 //! Its tests are in the crate `trace_know_tests`.
 #![tactic(auto)]
 
+mod boxed;
 mod cell;
 mod compare;
 mod copies;

@@ -1,6 +1,6 @@
 //! What runs tell: their cells in order, their counts, and what is readable of a rank.
 
-ghost use Rattle.std.specs.Prelude.{◌≡◌, ◌↔◌, ◌+◌, ◌++◌, ◌^◌, ◌<◌, ◌≤◌, ℕ, IsTrue, IfOk, OnOk, IsSome, length, slice_get, map, MatchOption, None};
+ghost use Rattle.std.specs.Prelude.{◌≡◌, ◌↔◌, ◌+◌, ◌++◌, ◌^◌, ◌<◌, ◌≤◌, ℕ, IsTrue, IfOk, OnOk, IsSome, length, slice_get, slice_index_or, map, MatchOption, None};
 ghost use Rattle.std.specs.Option.{option_map};
 ghost use Rattle.std.specs.VecDeque.{deque_len};
 ghost use Rattle.std.specs.Option.{option_copied};
@@ -9,6 +9,7 @@ ghost use Rattle.trace_know.specs.Listing.{conflicts_in};
 ghost use Rattle.trace_know.specs.Prefix.{IsBeyond, event_of, events_of, prefix_of};
 ghost use Rattle.trace_know.specs.Runs.{Above, IsFilled, IsFront, listed, of_runs, placed_cells};
 
+use crate::boxed::BoxedRun;
 use crate::cell::Known;
 use crate::run::Run;
 use crate::runs::{first_at, known_at};
@@ -17,34 +18,34 @@ use mpi_model::Event;
 use std::alloc::{AllocError, Global};
 
 /// How many cells there are.
-pub(crate) fn count_cells(runs: &[Run]) -> usize
+pub(crate) fn count_cells(runs: &[BoxedRun]) -> usize
     requires { length (listed runs.now) < 2 ^ 64 }
     ensures { result ≡ length (listed runs.now) }
 {
     let mut count = 0;
     for run in runs {
-        count += run.cells.len();
+        count += run.len();
     }
     count
 }
 
 /// The `i`-th cell, with its rank and place.
-pub(crate) fn cell_in(runs: &[Run], i: usize) -> Option<(u32, u64, &Known)>
+pub(crate) fn cell_in(runs: &[BoxedRun], i: usize) -> Option<(u32, u64, &Known)>
     requires { Above 0 runs.now }
     ensures { option_map (λ e. ((e.0, e.1), e.2.now)) result ≡ slice_get (listed runs.now) i }
 {
     let mut left = i;
     for run in runs {
-        if left < run.cells.len() {
-            return Some((run.rank, run.first + left as u64, &run.cells[left]));
+        if left < run.len() {
+            return Some((run.rank(), run.first() + left as u64, run.cell(left)));
         }
-        left -= run.cells.len();
+        left -= run.len();
     }
     None
 }
 
 /// What is known of a place, its run found by halving.
-pub(crate) fn known_in(runs: &[Run], rank: u32, place: u64) -> Option<&Known>
+pub(crate) fn known_in(runs: &[BoxedRun], rank: u32, place: u64) -> Option<&Known>
     requires { Above 0 runs.now }
     ensures { option_copied result ≡ get (of_runs runs.now) (rank, place) }
 {
@@ -55,7 +56,7 @@ pub(crate) fn known_in(runs: &[Run], rank: u32, place: u64) -> Option<&Known>
 }
 
 /// The run of a rank that begins at place 0.
-fn front_run(runs: &[Run], rank: u32) -> Option<&Run>
+fn front_run(runs: &[BoxedRun], rank: u32) -> Option<&BoxedRun>
     requires { Above 0 runs.now }
     ensures { MatchOption result (get (of_runs runs.now) (rank, 0) ≡ None) (λ run. IsFront runs.now rank run.now) }
 {
@@ -64,46 +65,50 @@ fn front_run(runs: &[Run], rank: u32) -> Option<&Run>
         return None;
     }
     let run = &runs[at];
-    if run.rank != rank {
+    if run.rank() != rank {
         return None;
     }
-    if run.first != 0 {
+    if run.first() != 0 {
         return None;
     }
     Some(run)
 }
 
 /// The readable prefix of a rank.
-pub(crate) fn prefix_in(runs: &[Run], rank: u32) -> u64
+pub(crate) fn prefix_in(runs: &[BoxedRun], rank: u32) -> u64
     requires { Above 0 runs.now }
     ensures { result ≡ prefix_of (of_runs runs.now) rank }
 {
     match front_run(runs, rank) {
-        Some(run) => run.sound as u64,
+        Some(run) => run.sound() as u64,
         None => 0,
     }
 }
 
 /// The event of the cell at an index, if it has one.
-fn event_in(run: &Run, i: usize) -> Option<&Event>
+fn event_in(run: &BoxedRun, i: usize) -> Option<&Event>
     ensures event { option_copied result ≡ event_of (slice_get run.now.cells.items i) }
     ensures range { IsSome result → i < deque_len run.now.cells }
 {
-    match run.cells.get(i) {
+    match run.get().cells.get(i) {
         Some(Known::One(event)) => Some(event),
         _ => None,
     }
 }
 
 /// The events below the readable prefix of a rank.
-pub(crate) fn readable_in(alloc: Global, runs: &[Run], rank: u32) -> Result<Vec<&Event>, AllocError>
+pub(crate) fn readable_in(
+    alloc: Global,
+    runs: &[BoxedRun],
+    rank: u32,
+) -> Result<Vec<&Event>, AllocError>
     requires { Above 0 runs.now }
     ensures { IfOk result (λ events. map (λ e. e.now) events.items ≡ events_of (of_runs runs.now) rank) }
 {
     let Some(run) = front_run(runs, rank) else {
         return Ok(Vec::new(alloc));
     };
-    let mut events = Vec::with_capacity(alloc, run.sound)?;
+    let mut events = Vec::with_capacity(alloc, run.sound())?;
     while let Some(event) = event_in(run, events.len()) {
         events.push(event)?;
     }
@@ -111,7 +116,7 @@ pub(crate) fn readable_in(alloc: Global, runs: &[Run], rank: u32) -> Result<Vec<
 }
 
 /// Whether something is known of the rank at the place or past it.
-pub(crate) fn any_from(runs: &[Run], rank: u32, place: u64) -> bool
+pub(crate) fn any_from(runs: &[BoxedRun], rank: u32, place: u64) -> bool
     requires { Above 0 runs.now }
     ensures { IsTrue result ↔ IsBeyond (of_runs runs.now) rank place }
 {
@@ -123,21 +128,21 @@ pub(crate) fn any_from(runs: &[Run], rank: u32, place: u64) -> bool
         return false;
     }
     let run = &runs[at];
-    if run.rank != rank {
+    if run.rank() != rank {
         return false;
     }
     true
 }
 
 /// How many cells are contradictions.
-pub(crate) fn count_conflicts(runs: &[Run]) -> usize
+pub(crate) fn count_conflicts(runs: &[BoxedRun]) -> usize
     requires above { Above 0 runs.now }
     requires few { length (listed runs.now) < 2 ^ 64 }
     ensures { result ≡ length (conflicts_in (listed runs.now)) }
 {
     let mut count = 0;
     for run in runs {
-        count += run.conflicts;
+        count += run.conflicts();
     }
     count
 }
@@ -159,42 +164,53 @@ fn conflict_of(run: &Run, i: usize) -> Option<(u32, u64)>
     None
 }
 
+/// The place of the `i`-th contradiction of a run in a list.
+fn conflict_in_run(run: &BoxedRun, i: usize) -> Option<(u32, u64)>
+    requires { IsFilled run.now }
+    ensures { result ≡ slice_get (conflicts_in (placed_cells run.now.rank run.now.first run.now.cells.items)) i }
+{
+    conflict_of(run.get(), i)
+}
+
 /// The place of the `i`-th contradiction.
-pub(crate) fn conflict_in(runs: &[Run], i: usize) -> Option<(u32, u64)>
+pub(crate) fn conflict_in(runs: &[BoxedRun], i: usize) -> Option<(u32, u64)>
     requires { Above 0 runs.now }
     ensures { result ≡ slice_get (conflicts_in (listed runs.now)) i }
 {
     let mut left = i;
     for run in runs {
-        if left < run.conflicts {
-            return conflict_of(run, left);
+        if left < run.conflicts() {
+            return conflict_in_run(run, left);
         }
-        left -= run.conflicts;
+        left -= run.conflicts();
     }
     None
 }
 
 /// Adds the places of a run's contradictions to a list.
-fn add_conflicts(places: &mut Vec<(u32, u64)>, run: &Run) -> Result<(), AllocError>
+fn add_conflicts(places: &mut Vec<(u32, u64)>, run: &BoxedRun) -> Result<(), AllocError>
     requires { IsFilled run.now }
     ensures { OnOk result (places.new.items ≡ places.old.items ++ conflicts_in (placed_cells run.now.rank run.now.first run.now.cells.items)) }
 {
-    for at in 0..run.cells.len() {
-        if run.cells[at].is_contradiction() {
-            places.push((run.rank, run.first + at as u64))?;
+    for at in 0..run.len() {
+        if run.cell(at).is_contradiction() {
+            places.push((run.rank(), run.first() + at as u64))?;
         }
     }
     Ok(())
 }
 
 /// The places of all contradictions.
-pub(crate) fn conflict_places_in(alloc: Global, runs: &[Run]) -> Result<Vec<(u32, u64)>, AllocError>
+pub(crate) fn conflict_places_in(
+    alloc: Global,
+    runs: &[BoxedRun],
+) -> Result<Vec<(u32, u64)>, AllocError>
     requires { Above 0 runs.now }
     ensures { IfOk result (λ places. places.items ≡ conflicts_in (listed runs.now)) }
 {
     let mut places = Vec::new(alloc);
     for run in runs {
-        if run.conflicts == 0 {
+        if run.conflicts() == 0 {
             continue;
         }
         add_conflicts(&mut places, run)?;

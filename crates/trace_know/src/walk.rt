@@ -4,15 +4,15 @@ ghost use Rattle.std.specs.Prelude.{◌≡◌, ℕ};
 ghost use Rattle.std.specs.Iterator.{YieldsFirstBy, item_count};
 ghost use Rattle.trace_know.specs.Runs.{Above, listed};
 
+use crate::boxed::BoxedRun;
 use crate::cell::Known;
-use crate::run::Run;
 use std::marker::Model;
 
 /// The cells that a walk has left, in rising order of rank and place: the rank, the place, and
 /// what is known there. Each step costs the same, and none takes memory.
 #[derive(Debug, Drop)]
 pub struct Walk<'a> {
-    runs: &'a [Run],
+    runs: &'a [BoxedRun],
     /// The index of the next cell in the first run.
     at: usize,
 }
@@ -35,7 +35,7 @@ impl<'a> Model for Walk<'a> {
 
 impl<'a> Walk<'a> {
     /// A walk over the cells of runs.
-    pub(crate) fn new(runs: &'a [Run]) -> Walk<'a>
+    pub(crate) fn new(runs: &'a [BoxedRun]) -> Walk<'a>
         requires { Above 0 runs.now }
         ensures { result ≡ listed runs.now }
     {
@@ -52,14 +52,14 @@ impl<'a> Iterator for Walk<'a> {
 
     fn next(&mut self) -> Option<(u32, u64, &'a Known)> {
         let (run, rest) = self.runs.split_first()?;
-        let known = &run.cells[self.at];
-        let place = run.first + self.at as u64;
-        if self.at + 1 < run.cells.len() {
+        let known = run.cell(self.at);
+        let place = run.first() + self.at as u64;
+        if self.at + 1 < run.len() {
             self.at += 1;
-            return Some((run.rank, place, known));
+            return Some((run.rank(), place, known));
         }
         self.runs = rest;
         self.at = 0;
-        Some((run.rank, place, known))
+        Some((run.rank(), place, known))
     }
 }

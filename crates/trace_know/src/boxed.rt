@@ -1,0 +1,151 @@
+//! A run as it stands in a list: in memory of its own, so that what moves is a pointer.
+
+ghost use Rattle.std.specs.Prelude.{◌≡◌, ◌+◌, ◌<◌, ◌≤◌, length, min, max, slice_index_or, IfOk, OnOk, OnErr};
+ghost use Rattle.std.specs.VecDeque.{deque_capacity};
+ghost use Rattle.trace_know.specs.declared.segment.TheConstants.{PLACES};
+ghost use Rattle.trace_know.specs.View.{join};
+ghost use Rattle.trace_know.specs.Rows.{single};
+ghost use Rattle.trace_know.specs.Runs.{of_run, IsAlike, IsCounted};
+
+use crate::cell::Known;
+use crate::run::{self, Run};
+use std::alloc::{AllocError, Global};
+use std::marker::Model;
+
+/// A run in memory of its own. In a contract it is the run.
+#[derive(Debug, Drop)]
+pub(crate) struct BoxedRun {
+    run: Box<Run>,
+}
+
+impl Model for BoxedRun {
+    ghost use Rattle.trace_know.specs.declared.run.Run.{Run};
+    ghost use Rattle.trace_know.specs.contracts.run.Run as flat;
+
+    ghost Value = { Run };
+
+    ghost coded = { flat.the_row.coded };
+
+    ghost view = { λ b. b.run.value };
+}
+
+impl BoxedRun {
+    pub(crate) fn new(alloc: Global, run: Run) -> Result<BoxedRun, AllocError>
+        ensures { IfOk result (λ boxed. boxed ≡ run) }
+    {
+        let run = Box::new(alloc, run)?;
+        Ok(BoxedRun { run })
+    }
+
+    pub(crate) fn get(&self) -> &Run
+        ensures { result.now ≡ self.now }
+    {
+        &self.run
+    }
+
+    /// The run, moved out of its memory.
+    fn into_run(self) -> Run
+        ensures { result ≡ self }
+    {
+        Box::into_inner(self.run)
+    }
+
+    pub(crate) fn rank(&self) -> u32
+        ensures { result ≡ self.now.rank }
+    {
+        self.run.rank
+    }
+
+    pub(crate) fn first(&self) -> u64
+        ensures { result ≡ self.now.first }
+    {
+        self.run.first
+    }
+
+    /// How many cells the run has.
+    pub(crate) fn len(&self) -> usize
+        ensures { result ≡ length self.now.cells.items }
+    {
+        self.run.cells.len()
+    }
+
+    /// How many cells stand before the first contradiction.
+    pub(crate) fn sound(&self) -> usize
+        ensures { result ≡ self.now.sound }
+    {
+        self.run.sound
+    }
+
+    /// How many cells are contradictions.
+    pub(crate) fn conflicts(&self) -> usize
+        ensures { result ≡ self.now.conflicts }
+    {
+        self.run.conflicts
+    }
+
+    /// The cell at an index.
+    pub(crate) fn cell(&self, i: usize) -> &Known
+        requires { i < length self.now.cells.items }
+        ensures { result.now ≡ slice_index_or self.now.cells.items i result.now }
+    {
+        &self.run.cells[i]
+    }
+
+    /// Gives the run room for so many more cells.
+    pub(crate) fn reserve(&mut self, more: usize) -> Result<(), AllocError>
+        ensures same { IsAlike self.new self.old }
+        ensures room { OnOk result (length self.old.cells.items + more ≤ deque_capacity self.new.cells) }
+    {
+        self.run.cells.reserve(more)
+    }
+}
+
+/// Takes all that another piece of the same rank has. The piece is no longer than the run, and
+/// touches or overlaps it.
+pub(crate) fn absorb(run: &mut BoxedRun, piece: BoxedRun)
+    requires rank { piece.rank ≡ run.old.rank }
+    requires touches { (piece.first ≤ run.old.first + length run.old.cells.items) × (run.old.first ≤ piece.first + length piece.cells.items) }
+    requires shorter { length piece.cells.items ≤ length run.old.cells.items }
+    requires room { (piece.first + length piece.cells.items ≤ run.old.first + deque_capacity run.old.cells) × (run.old.first + length run.old.cells.items ≤ piece.first + deque_capacity run.old.cells) }
+    requires ends { (run.old.first + length run.old.cells.items ≤ PLACES) × (piece.first + length piece.cells.items ≤ PLACES) }
+    requires counted { IsCounted run.old }
+    ensures view { of_run run.new ≡ join (of_run run.old) (of_run piece) }
+    ensures rank { run.new.rank ≡ run.old.rank }
+    ensures first { run.new.first ≡ min run.old.first piece.first }
+    ensures end { run.new.first + length run.new.cells.items ≡ max (run.old.first + length run.old.cells.items) (piece.first + length piece.cells.items) }
+    ensures capacity { deque_capacity run.new.cells ≡ deque_capacity run.old.cells }
+    ensures counted { IsCounted run.new }
+{
+    run::absorb(&mut run.run, piece.into_run())
+}
+
+/// Gives the run room for a piece that it touches, and takes all that the piece has. At `Err` the
+/// run has what it had.
+pub(crate) fn grow_by(run: &mut BoxedRun, piece: BoxedRun) -> Result<(), AllocError>
+    requires rank { piece.rank ≡ run.old.rank }
+    requires touches { (piece.first ≤ run.old.first + length run.old.cells.items) × (run.old.first ≤ piece.first + length piece.cells.items) }
+    requires shorter { length piece.cells.items ≤ length run.old.cells.items }
+    requires ends { (run.old.first + length run.old.cells.items ≤ PLACES) × (piece.first + length piece.cells.items ≤ PLACES) }
+    requires counted { IsCounted run.old }
+    ensures ok { OnOk result (of_run run.new ≡ join (of_run run.old) (of_run piece)) }
+    ensures rank { run.new.rank ≡ run.old.rank }
+    ensures first { OnOk result (run.new.first ≡ min run.old.first piece.first) }
+    ensures end { OnOk result (run.new.first + length run.new.cells.items ≡ max (run.old.first + length run.old.cells.items) (piece.first + length piece.cells.items)) }
+    ensures counted { IsCounted run.new }
+    ensures err { OnErr result (IsAlike run.new run.old) }
+{
+    run::grow_by(&mut run.run, piece.into_run())
+}
+
+/// Gives the run room for one cell more, and adds what is known of the place after the last. At `Err` the run has what
+/// it had.
+pub(crate) fn extend(run: &mut BoxedRun, known: Known) -> Result<(), AllocError>
+    requires counted { IsCounted run.old }
+    ensures ok { OnOk result (of_run run.new ≡ join (of_run run.old) (single run.old.rank (run.old.first + length run.old.cells.items) known)) }
+    ensures len { OnOk result (length run.new.cells.items ≡ length run.old.cells.items + 1) }
+    ensures same { (run.new.rank ≡ run.old.rank) × (run.new.first ≡ run.old.first) }
+    ensures counted { IsCounted run.new }
+    ensures err { OnErr result (IsAlike run.new run.old) }
+{
+    run::extend(&mut run.run, known)
+}
