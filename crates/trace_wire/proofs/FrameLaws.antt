@@ -114,6 +114,11 @@ below_true m n h = grind (arith, nat_tests)
 pub cell_read : (before : Option (ℕ × ℕ)) (bytes : List ℕ) (x : Entry × List ℕ) → IsBytes bytes → cell_at before bytes ≡ Ok x → (is_past before x.0.0 ≡ true) × IsPlaced x.0.0.0 x.0.0.1 x.0.1
 cell_read before bytes x fits e = let t = cell_takes before bytes x fits e in (t.1, (cell_there x.0 t.2).0)
 
+pub cell_made : (before : Option (ℕ × ℕ)) (bytes : List ℕ) (here : ℕ × ℕ) (rest : List ℕ) (k : Known) (after : List ℕ) → place_form.read bytes ≡ Some (here, rest) → is_past before here ≡ true → here.1 < 2 ^ 40 → known_at here.1 rest ≡ Some (k, after)
+    → cell_at before bytes ≡ Ok ((here, k), after)
+cell_made before bytes here rest k after place past below known =
+    ap (λ (r : Option ((ℕ × ℕ) × List ℕ)). or_fault Content r >=> cell_after before) place ∙ rw (past, below_true here.1 (2 ^ 40) below, known) refl
+
 cell_again : (before : Option (ℕ × ℕ)) (e : Entry) (rest : List ℕ) → is_past before e.0 ≡ true → CellFits e → length (cell_bytes e) < 2 ^ 32 → cell_at before (cell_bytes e ++ rest) ≡ Ok (e, rest)
 cell_again before e rest past fits short =
     let there : length (known_bytes e.1) < 2 ^ 32 = omega (arith, length-append (place_form.spell e.0) (known_bytes e.1), short) in

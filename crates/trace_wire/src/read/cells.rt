@@ -1,11 +1,12 @@
 //! Cells, read from the bytes of a payload.
 
-ghost use Rattle.std.specs.Prelude.{◌≡◌, None, IfOk, IfErr, true};
-ghost use Rattle.std.specs.FinMap.{entries};
+ghost use Rattle.std.specs.Prelude.{◌≡◌, ℕ, None, Ok, IfOk, IfErr, true};
+ghost use Rattle.std.specs.FinMap.{entries, insert};
 ghost use Rattle.trace_know.specs.Cell.{put_known};
-ghost use Rattle.trace_know.specs.Placed.{IsPlaced};
+ghost use Rattle.trace_know.specs.Placed.{IsPast};
+ghost use Rattle.trace_know.specs.declared.cell.Known.{Known as KnownValue};
 ghost use Rattle.trace_wire.specs.Forms.{IsBytes};
-ghost use Rattle.trace_wire.specs.Outcomes.{Reads, Gives, wire_of, IsOfBytes};
+ghost use Rattle.trace_wire.specs.Outcomes.{Reads, Gives, FailsWith, wire_of, IsOfBytes};
 ghost use Rattle.trace_wire.specs.Frames.{place_form, is_past};
 ghost use Rattle.trace_wire.specs.FirstFault.{known_at, cell_at, cells_at, payload_of};
 
@@ -14,7 +15,7 @@ use crate::read::event::event_of;
 use crate::read::field::{FieldFault, byte_of, u32_of, u64_of};
 use mpi_model::Event;
 use std::alloc::Global;
-use trace_know::{Knowledge, Known, PLACES};
+use trace_know::{Knowledge, PLACES};
 
 /// The fault of a frame that a field's fault is.
 fn fault_of(fault: FieldFault) -> WireFault
@@ -27,17 +28,17 @@ fn fault_of(fault: FieldFault) -> WireFault
     }
 }
 
-/// What stands at a place.
-fn known_of(alloc: Global, place: u64, bytes: &[u8]) -> Result<(Known, &[u8]), FieldFault>
-    ensures { Reads (λ x. (x.0, x.1.now)) result (known_at place bytes.now) }
+/// What stands at a place, as knowledge takes it: an event, or none for a contradiction.
+fn known_of(alloc: Global, place: u64, bytes: &[u8]) -> Result<(Option<Event>, &[u8]), FieldFault>
+    ensures { Reads (λ x. (put_known x.0, x.1.now)) result (known_at place bytes.now) }
 {
     match bytes {
         [] => Err(FieldFault::Content),
         [0, rest @ ..] => {
             let (event, rest) = field!(event_of(alloc, place, rest));
-            Ok((Known::One(event), rest))
+            Ok((Some(event), rest))
         }
-        [1, rest @ ..] => Ok((Known::Contradiction, rest)),
+        [1, rest @ ..] => Ok((None, rest)),
         [_, ..] => Err(FieldFault::Content),
     }
 }
@@ -61,15 +62,17 @@ fn is_past(before: Option<(u32, u64)>, here: (u32, u64)) -> bool
     }
 }
 
-/// A cell that follows another.
-fn cell_of(
+/// Reads a cell that follows another, and puts it into the knowledge, which knows nothing past that other one.
+fn put_cell<'a>(
     alloc: Global,
+    knowledge: &mut Knowledge,
     before: Option<(u32, u64)>,
-    bytes: &[u8],
-) -> Result<(((u32, u64), Known), &[u8]), WireFault>
-    ensures value { Gives (λ x. (x.0, x.1.now)) result (cell_at before bytes.now) }
-    ensures past { IfOk result (λ x. is_past before x.0.0 ≡ true) }
-    ensures placed { IfOk result (λ x. IsPlaced x.0.0.0 x.0.0.1 x.0.1) }
+    bytes: &'a [u8],
+) -> Result<((u32, u64), &'a [u8]), WireFault>
+    requires { (rank place : ℕ) → is_past before (rank, place) ≡ true → IsPast knowledge.old rank place }
+    ensures ok { IfOk result (λ x. (known : KnownValue) × (cell_at before bytes.now ≡ Ok ((x.0, known), x.1.now)) × (knowledge.new ≡ insert knowledge.old x.0 known)) }
+    ensures past { IfOk result (λ x. is_past before x.0 ≡ true) }
+    ensures err { IfErr result (λ fault. FailsWith fault (cell_at before bytes.now)) }
     ensures cause { IfErr result IsOfBytes }
 {
     are_bytes(bytes);
@@ -83,19 +86,13 @@ fn cell_of(
     if here.1 >= PLACES {
         return Err(WireFault::Content);
     }
-    match known_of(alloc, here.1, rest) {
-        Ok((known, rest)) => Ok(((here, known), rest)),
-        Err(fault) => Err(fault_of(fault)),
-    }
-}
-
-/// What stands at a place, as the knowledge takes it.
-fn event_in(known: Known) -> Option<Event>
-    ensures { put_known result ≡ known }
-{
-    match known {
-        Known::One(event) => Some(event),
-        Known::Contradiction => None,
+    let (event, rest) = match known_of(alloc, here.1, rest) {
+        Ok(known) => known,
+        Err(fault) => return Err(fault_of(fault)),
+    };
+    match knowledge.put_last(here.0, here.1, event) {
+        Ok(()) => Ok((here, rest)),
+        Err(_) => Err(WireFault::Memory),
     }
 }
 
@@ -109,11 +106,7 @@ fn cells_of(alloc: Global, count: u32, bytes: &[u8]) -> Result<(Knowledge, &[u8]
     let mut last = None;
     let mut rest = bytes;
     for _ in 0..count {
-        let ((here, known), after) = field!(cell_of(alloc, last, rest));
-        match knowledge.put_last(here.0, here.1, event_in(known)) {
-            Ok(()) => {}
-            Err(_) => return Err(WireFault::Memory),
-        }
+        let (here, after) = field!(put_cell(alloc, &mut knowledge, last, rest));
         last = Some(here);
         rest = after;
     }

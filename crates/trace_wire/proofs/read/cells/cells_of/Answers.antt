@@ -1,7 +1,5 @@
 use Rattle.std.proofs.Common.{◌≡◌, ◌-◌, ◌+◌, ℕ, List, [], ◌∷◌, ◌++◌, Some, None, sym, ap, subst, ◌∙◌, arith}
 use Rattle.std.specs.FinMap.{entries}
-use Rattle.trace_know.specs.declared.cell.Known.{Known}
-use Rattle.trace_know.specs.Placed.{IsPlaced}
 use Rattle.trace_wire.specs.Frames.{Entry}
 use Rattle.trace_wire.specs.FirstFault.{cells_at}
 use Rattle.trace_wire.proofs.CellLoop.{cells_after, goes_on, is_done}
@@ -17,24 +15,19 @@ loop-init c =
       up_to = subst (λ (es : List Entry). AllUpTo None es) (sym none) tt;
     }
 
-pub put_last-requires-clause-placed : goal.put_last-requires-clause-placed
-put_last-requires-clause-placed c =
-    subst (λ (k : Known). IsPlaced c.in-Ok.found.0.0.0 c.in-Ok.found.0.0.1 k) (sym c.event_in.ensures) c.in-Ok.ensures.placed
-
-pub put_last-requires-clause-last : goal.put_last-requires-clause-last
-put_last-requires-clause-last c =
-    past_all c.loop.knowledge c.in-Ok.found.0.0.0 c.in-Ok.found.0.0.1 (up_to_before c.loop.last c.in-Ok.found.0.0 (entries c.loop.knowledge) c.in-Ok.ensures.past c.loop.invariant.up_to)
+pub put_cell-requires : goal.put_cell-requires
+put_cell-requires c = λ rank place past. past_all c.loop.knowledge rank place (up_to_before c.loop.last (rank, place) (entries c.loop.knowledge) past c.loop.invariant.up_to)
 
 pub loop-preserved : goal.loop-preserved
 loop-preserved c =
-    let before = up_to_before c.loop.last c.in-Ok.found.0.0 (entries c.loop.knowledge) c.in-Ok.ensures.past c.loop.invariant.up_to in
-    let now : entries c.put_last.new.self ≡ entries c.loop.knowledge ++ c.in-Ok.found.0 ∷ [] =
-    ap entries c.in-Ok-put_last.ensures.ok ∙ insert-last c.loop.knowledge c.in-Ok.found.0.0 _ before
-    ∙ ap (λ (k : Known). entries c.loop.knowledge ++ (c.in-Ok.found.0.0, k) ∷ []) c.event_in.ensures in
-    let next = goes_on (entries c.loop.knowledge) c.args.count c.loop.counter c.loop.last c.loop.rest.now c.in-Ok.found.0 c.in-Ok.found.1.now (cells_at c.args.count None c.args.bytes.now) c.loop-test.true c.in-Ok.ensures.value c.loop.invariant.so_far in
+    let here = c.in-Ok.found.0 in
+    let known = c.in-Ok.ensures.ok.0 in
+    let before = up_to_before c.loop.last here (entries c.loop.knowledge) c.in-Ok.ensures.past c.loop.invariant.up_to in
+    let now : entries c.put_cell.new.knowledge ≡ entries c.loop.knowledge ++ (here, known) ∷ [] = ap entries c.in-Ok.ensures.ok.2 ∙ insert-last c.loop.knowledge here known before in
+    let next = goes_on (entries c.loop.knowledge) c.args.count c.loop.counter c.loop.last c.loop.rest.now (here, known) c.in-Ok.found.1.now (cells_at c.args.count None c.args.bytes.now) c.loop-test.true c.in-Ok.ensures.ok.1 c.loop.invariant.so_far in
     record {
-      so_far = subst (λ (es : List Entry). cells_after es (cells_at (c.args.count - (c.loop.counter + 1)) (Some c.in-Ok.found.0.0) c.in-Ok.found.1.now) ≡ cells_at c.args.count None c.args.bytes.now) (sym now) next;
-      up_to = subst (λ (es : List Entry). AllUpTo (Some c.in-Ok.found.0.0) es) (sym now) (before_up_to c.in-Ok.found.0.0 c.in-Ok.found.0.1 (entries c.loop.knowledge) before);
+      so_far = subst (λ (es : List Entry). cells_after es (cells_at (c.args.count - (c.loop.counter + 1)) (Some here) c.in-Ok.found.1.now) ≡ cells_at c.args.count None c.args.bytes.now) (sym now) next;
+      up_to = subst (λ (es : List Entry). AllUpTo (Some here) es) (sym now) (before_up_to here known (entries c.loop.knowledge) before);
     }
 
 pub returns-clause-value : goal.returns-clause-value
