@@ -1,5 +1,6 @@
-use Rattle.std.proofs.Common.{◌≡◌, ◌∙◌, ◌++◌, ◌∷◌, [], ◌+◌, ◌<◌, ◌≤◌, true, zero-le, refl, rules, sym, arith}
+use Rattle.std.proofs.Common.{◌≡◌, ◌∙◌, ◌++◌, ◌∷◌, [], ◌+◌, ◌<◌, ◌≤◌, true, inr, zero-le, refl, rules, sym, arith}
 use Rattle.dumpi_text.specs.Shown.{put_in}
+use Rattle.dumpi_text.specs.Source.{rest_of}
 use Rattle.dumpi_calls.specs.Walks.{Follows, IsRead, Takes}
 use Rattle.dumpi_calls.proofs.Handed.{is_begun, last_unfinished, not_begun, nothing_handed, one_handed}
 use Rattle.dumpi_calls.proofs.walking.walk.Goals as goal
@@ -26,4 +27,20 @@ loop-raw-preserved g c =
     record {
       far = far;
       done = (inv.0 ++ raw ∷ [], read, one_handed g.S.CallSink.step inv.0 raw c.args.sink.now c.loop-raw.sink c.take.new.sink c.loop-raw.calls inv.2 takes, c.is_open-unfinished.ensures ∙ sym (last_unfinished inv.0 raw));
+    }
+
+pub returns-in-Err-take-clause-err : goal.returns-in-Err-take-clause-err
+returns-in-Err-take-clause-err g c =
+    let text = g.R.Read.left c.args.reader in
+    let inv = c.loop-raw.invariant.done in
+    let raw = c.next_of.new.raw in
+    let texts = c.next_of.new.texts in
+    let found : Follows text inv.0 (put_in c.in-Ok-true.field-0 raw) texts = c.in-Ok-true.ensures.goes_on text inv.0 inv.1 in
+    let is_true : c.in-Ok-true.field-0 ≡ true = c.in-Ok-true.field-0-test in
+    let read : IsRead text (inv.0 ++ raw ∷ []) texts = rw is_true at found in
+    let refused = c.in-Err-take.ensures in
+    record {
+      calls = inv.0;
+      handed = record { seen = inv.2.seen; typed_as = inv.2.typed_as; state = refused.unchanged ∙ inv.2.state; counted = refused.calls ∙ inv.2.counted };
+      stops = inr (raw, (texts.at, rest_of texts.rest, read.read), refused.err);
     }
