@@ -21,3 +21,4 @@ pub mod Sure
 pub mod Names
 pub mod Owned
 pub mod Searched
+pub mod Since

@@ -100,10 +100,10 @@ kept_fresh held n state table e x t =
       tabled = t ∙ ap (λ ms. made ms []) s ∙ ap (λ qs. made (sends_of (fresh n)) qs) r;
     })
 
-pub changing_fresh : (held : List Ops) (n : ℕ) (state : Matched) → held ≡ fresh n → Indexes [] [] state → IsChanging held state None
-changing_fresh held n state e x =
-    let kept = kept_fresh held n state (table_of []) e x refl in
-    record { own = kept.own; followed = kept.followed; tabled = tt }
+pub changing_fresh : (held : List Ops) (n : ℕ) (state : Matched) (table : Table) → held ≡ fresh n → Indexes [] [] state → table ≡ table_of [] → IsChanging held state table None
+changing_fresh held n state table e x t =
+    let kept = kept_fresh held n state table e x t in
+    record { own = kept.own; followed = kept.followed; tabled = kept.tabled; marked = tt }
 
 -- the state follows the calls of a rank, wherever they stand among those of the others
 abbrev Moves : Ops → Ops → Matched → Matched → Type 0

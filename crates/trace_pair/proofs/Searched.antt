@@ -1,5 +1,5 @@
 -- Pairs and their calls, found by halving.
-use Rattle.std.proofs.Common.{subst, ◌≡◌, ℕ, zero, suc, ◌+◌, ◌<◌, true, false, List, [], ◌∷◌, ◌++◌, inl, inr, sym, refl, ◌∙◌, ap, arith, length, get_or, Option, Some, None}
+use Rattle.std.proofs.Common.{subst, ◌≡◌, ◌≢◌, ◌⊎◌, ℕ, zero, suc, ◌+◌, ◌<◌, true, false, List, [], ◌∷◌, ◌++◌, inl, inr, sym, refl, ◌∙◌, ap, arith, length, get_or, Option, Some, None}
 use Rattle.std.specs.declared.cmp.Ordering.{Ordering}
 use Rattle.std.specs.declared.cmp.Ordering.TheVariants.{Less, Equal, Greater}
 use Rattle.std.specs.Prelude.{slice_get}
@@ -21,6 +21,7 @@ use Rattle.trace_pair.specs.KeyOrders.{name_cmp}
 use Rattle.trace_pair.specs.Pairing.{Paired, receive_of}
 use Rattle.trace_pair.specs.Scratch.{AreRising}
 use Rattle.trace_pair.specs.Searched.{ArePairs, AreByReceive, IsSearchable, receive_at, message_at}
+use Rattle.trace_pair.specs.Since.{pair_named}
 use Rattle.trace_pair.specs.Table.{pair_of, pairs_of, sends_of, receives_of, table_of, Table, same_name as names_agree, taken_by, given_by}
 use Rattle.trace_pair.specs.declared.pair.Pair.{Pair}
 use Rattle.trace_pair.proofs.Certain.{the_one_message}
@@ -33,13 +34,13 @@ use Rattle.trace_pair.proofs.Ranks.{has_left, has_right}
 use Rattle.trace_pair.proofs.Sure.{pair_has}
 
 -- what is there is found, where nothing else has its name
-find_is : (k : Pair → OpName) (pairs : List Pair) → ((p r : Pair) → Has pairs p → Has pairs r → k p ≡ k r → p ≡ r) → (name : OpName) (p : Pair) → Has pairs p → k p ≡ name → find (λ r. names_agree (k r) name) pairs ≡ Some p
+pub find_is : (k : Pair → OpName) (pairs : List Pair) → ((p r : Pair) → Has pairs p → Has pairs r → k p ≡ k r → p ≡ r) → (name : OpName) (p : Pair) → Has pairs p → k p ≡ name → find (λ r. names_agree (k r) name) pairs ≡ Some p
 find_is k pairs one name p i e =
     let w = finds (λ r. names_agree (k r) name) pairs p i (agrees (k p) name e) in
     let u = found (λ r. names_agree (k r) name) pairs w.0 w.1 in
     w.1 ∙ ap (λ (r : Pair). Some r) (one w.0 p u.0 i (agree (k w.0) name u.1 ∙ sym e))
 
-find_none : (k : Pair → OpName) (pairs : List Pair) (name : OpName) → ((p : Pair) → Has pairs p → k p ≡ name → ⊥) → find (λ r. names_agree (k r) name) pairs ≡ None
+pub find_none : (k : Pair → OpName) (pairs : List Pair) (name : OpName) → ((p : Pair) → Has pairs p → k p ≡ name → ⊥) → find (λ r. names_agree (k r) name) pairs ≡ None
 find_none k pairs name none =
     elim (find (λ r. names_agree (k r) name) pairs) as (λ o. find (λ r. names_agree (k r) name) pairs ≡ o → o ≡ None) [
       | None ↦ λ e. refl
@@ -47,7 +48,7 @@ find_none k pairs name none =
     ] refl
 
 -- where the search ends between what is less and what is greater, nothing is equal
-absent : {X : Type 0} (ord : X → Ordering) (xs : List X) (i : ℕ) → IsPartitionPoint (λ y. ord y ≡ Less) (λ y. ord y ≡ Greater) xs i → (x : X) → Has xs x → ord x ≡ Equal → ⊥
+pub absent : {X : Type 0} (ord : X → Ordering) (xs : List X) (i : ℕ) → IsPartitionPoint (λ y. ord y ≡ Less) (λ y. ord y ≡ Greater) xs i → (x : X) → Has xs x → ord x ≡ Equal → ⊥
 absent ord xs i split x h e =
     let c = contains_has xs x h in
     elim (cases_lt c.0 i) [
@@ -55,40 +56,50 @@ absent ord xs i split x h e =
       | inr le ↦ let l : ord (get_or xs c.0 x) ≡ Greater = split.1 c.0 x le c.1 in let f = ap ord c.2 in absurd (cc)
     ]
 
-tied : (a b : OpName) → a ≡ b → name_cmp a b ≡ Equal
+pub tied : (a b : OpName) → a ≡ b → name_cmp a b ≡ Equal
 tied a b e = ap (λ (x : OpName). name_cmp a x) (sym e) ∙ tied_itself name_total a
 
 -- the element at a place
-stands : {X : Type 0} (xs : List X) (i : ℕ) (x : X) → slice_get xs i ≡ Some x → Has xs x
+pub stands : {X : Type 0} (xs : List X) (i : ℕ) (x : X) → slice_get xs i ≡ Some x → Has xs x
 stands [] i x e = absurd (cc)
 stands (y ∷ ys) zero x e = inl (cc)
 stands (y ∷ ys) (suc i) x e = inr (stands ys i x e)
 
-got : {X : Type 0} (xs : List X) (i : ℕ) (d : X) → i < length xs → slice_get xs i ≡ Some (get_or xs i d)
+pub got : {X : Type 0} (xs : List X) (i : ℕ) (d : X) → i < length xs → slice_get xs i ≡ Some (get_or xs i d)
 got [] i d lt = absurd (omega arith)
 got (x ∷ xs) zero d lt = refl
 got (x ∷ xs) (suc i) d lt = got xs i d (omega arith)
 
-in_reach : {X : Type 0} (xs : List X) (i : ℕ) → i < length xs → slice_get xs i ≡ None → ⊥
+pub in_reach : {X : Type 0} (xs : List X) (i : ℕ) → i < length xs → slice_get xs i ≡ None → ⊥
 in_reach [] i lt e = absurd (omega arith)
 in_reach (x ∷ xs) zero lt e = absurd (cc)
 in_reach (x ∷ xs) (suc i) lt e = in_reach xs i (omega arith) e
 
 module _ (pairs : List Pair) (are : ArePairs pairs) (name : OpName) where
-  pub sent_found : (place : ℕ) → place < length pairs → HoldsAt (λ y. name_cmp y.message name ≡ Equal) pairs place → receive_at pairs place ≡ taken_by pairs name
-  sent_found place lt holds =
-      elim (slice_get pairs place) as (λ o. slice_get pairs place ≡ o → option_map (λ (r : Pair). r.receive) o ≡ taken_by pairs name) [
+  -- the pair at a place, where it has that name
+  pub pair_stands : (place : ℕ) (p : Pair) → slice_get pairs place ≡ Some p → names_agree p.message name ≡ true → Some p ≡ pair_named pairs name
+  pair_stands place p g h = sym (find_is (λ r. r.message) pairs are.one_message name p (stands pairs place p g) (agree p.message name h))
+
+  pub pair_at_place : (place : ℕ) → place < length pairs → HoldsAt (λ y. name_cmp y.message name ≡ Equal) pairs place → slice_get pairs place ≡ pair_named pairs name
+  pair_at_place place lt holds =
+      elim (slice_get pairs place) as (λ o. slice_get pairs place ≡ o → o ≡ pair_named pairs name) [
         | None ↦ λ g. absurd (in_reach pairs place lt g)
         | Some p ↦ λ g.
             let e : get_or pairs place p ≡ p = let f : Some p ≡ Some (get_or pairs place p) = sym g ∙ got pairs place p lt in cc in
             let k : p.message ≡ name = exact_names p.message name (ap (λ (x : Pair). name_cmp x.message name) (sym e) ∙ holds p) in
-            sym (ap (option_map (λ (r : Pair). r.receive)) (find_is (λ r. r.message) pairs are.one_message name p (stands pairs place p g) k))
+            sym (find_is (λ r. r.message) pairs are.one_message name p (stands pairs place p g) k)
       ] refl
 
-  pub sent_missed : (at : ℕ) → (IsNonDecreasingBy (λ y. ordering_index (name_cmp y.message name)) pairs → IsPartitionPoint (λ y. name_cmp y.message name ≡ Less) (λ y. name_cmp y.message name ≡ Greater) pairs at) → None ≡ taken_by pairs name
-  sent_missed at split =
+  pub pair_missed : (at : ℕ) → (IsNonDecreasingBy (λ y. ordering_index (name_cmp y.message name)) pairs → IsPartitionPoint (λ y. name_cmp y.message name ≡ Less) (λ y. name_cmp y.message name ≡ Greater) pairs at) → None ≡ pair_named pairs name
+  pair_missed at split =
       let s = split (searchable_from_sorted name_total (λ (p : Pair). p.message) pairs name are.rise) in
-      sym (ap (option_map (λ (r : Pair). r.receive)) (find_none (λ r. r.message) pairs name (λ p i e. absent (λ (y : Pair). name_cmp y.message name) pairs at s p i (tied p.message name e))))
+      sym (find_none (λ r. r.message) pairs name (λ p i e. absent (λ (y : Pair). name_cmp y.message name) pairs at s p i (tied p.message name e)))
+
+  pub sent_found : (place : ℕ) → place < length pairs → HoldsAt (λ y. name_cmp y.message name ≡ Equal) pairs place → receive_at pairs place ≡ taken_by pairs name
+  sent_found place lt holds = ap (option_map (λ (r : Pair). r.receive)) (pair_at_place place lt holds)
+
+  pub sent_missed : (at : ℕ) → (IsNonDecreasingBy (λ y. ordering_index (name_cmp y.message name)) pairs → IsPartitionPoint (λ y. name_cmp y.message name ≡ Less) (λ y. name_cmp y.message name ≡ Greater) pairs at) → None ≡ taken_by pairs name
+  sent_missed at split = ap (option_map (λ (r : Pair). r.receive)) (pair_missed at split)
 
 some_equal : (o : Option OpName) (name : OpName) → option_cmp name_cmp o (Some name) ≡ Equal → o ≡ Some name
 some_equal None name h = absurd (cc)
@@ -134,12 +145,22 @@ searchable_of pairs seen places e are sorted all = record {
   all = subst (λ (l : List Pair). (i : ℕ) → i < length l → Has places i) e all;
 }
 
--- one place more
-pub one_more_place : (places : List ℕ) (n : ℕ) → ((i : ℕ) → i < n → Has places i) → (i : ℕ) → i < n + 1 → Has (places ++ n ∷ []) i
-one_more_place places n all i lt =
+pub same_or_other : (a b : ℕ) → (a ≡ b) ⊎ (a ≢ b)
+same_or_other a b =
+    elim (cases_lt a b) [
+      | inl lt ↦ inr (λ e. omega arith)
+      | inr le ↦ elim (cases_lt b a) [
+        | inl lt ↦ inr (λ e. omega arith)
+        | inr ge ↦ inl (omega arith)
+      ]
+    ]
+
+-- one place more, whose places are still there
+pub more_there : (old new : List ℕ) (n : ℕ) → ((i : ℕ) → Has old i → Has new i) → Has new n → ((i : ℕ) → i < n → Has old i) → (i : ℕ) → i < n + 1 → Has new i
+more_there old new n kept there all i lt =
     elim (cases_lt i n) [
-      | inl below ↦ has_left places (n ∷ []) i (all i below)
-      | inr le ↦ has_right places (n ∷ []) i (inl (omega (arith, lt, le)))
+      | inl below ↦ kept i (all i below)
+      | inr le ↦ let e : n ≡ i = omega arith in subst (λ (j : ℕ). Has new j) e there
     ]
 
 -- the pairs of the ops are so

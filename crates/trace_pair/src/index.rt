@@ -1,10 +1,11 @@
 //! An index of the pairs that follows the ops of the ranks as they grow and are cut back.
 
-ghost use Rattle.std.specs.Prelude.{◌≡◌, ◌<◌, [], OnOk, OnErr, IfOk, length, slice_set, slice_index_or};
+ghost use Rattle.std.specs.Prelude.{◌≡◌, ◌≢◌, ◌<◌, ℕ, false, [], OnOk, OnErr, IfOk, IfSome, length, slice_set, slice_index_or};
 ghost use Rattle.trace_ops.specs.Ops.{IsOwn, AreOwn, Grows, no_ops};
 ghost use Rattle.trace_pair.specs.Certainty.{AreCertain, AreAllTold, AreLegal, AreTheOnlyLegal};
 ghost use Rattle.trace_pair.specs.Followed.{Indexes, Follows};
 ghost use Rattle.trace_pair.specs.Kept.{IsChanging};
+ghost use Rattle.trace_pair.specs.Since.{WerePairs, is_marked};
 ghost use Rattle.trace_pair.specs.Table.{fresh, table_of};
 
 use crate::follow::{add_rank, set_rank};
@@ -40,8 +41,10 @@ impl Model for PairIndex {
 pub struct IndexChange {
     held: Vec<RankOps>,
     state: Matched,
-    /// None once a rank has changed.
-    table: Option<PairTable>,
+    /// The table from before.
+    table: PairTable,
+    /// The ranks that have changed since, where one has.
+    marks: Option<Vec<bool>>,
 }
 
 impl Model for IndexChange {
@@ -53,7 +56,7 @@ impl Model for IndexChange {
 
     ghost view = { λ s. s.held.items };
 
-    ghost invariant = { λ s. IsChanging s.held.items s.state s.table };
+    ghost invariant = { λ s. IsChanging s.held.items s.state s.table s.marks };
 }
 
 impl PairIndex {
@@ -76,7 +79,7 @@ impl PairIndex {
     {
         let mut state = Matched::empty(alloc);
         add_ranks(&mut state, &ops)?;
-        let table = PairTable::of_held(alloc, &state, &ops)?;
+        let table = PairTable::of_held(alloc, &state, &ops, &PairTable::empty(alloc), &[])?;
         Ok(PairIndex {
             held: ops,
             state,
@@ -116,7 +119,8 @@ impl PairIndex {
         IndexChange {
             held: self.held,
             state: self.state,
-            table: Some(self.table),
+            table: self.table,
+            marks: None,
         }
     }
 
@@ -167,12 +171,25 @@ impl IndexChange {
         ensures ok { OnOk result (self.new ≡ slice_set self.old rank ops) }
         ensures memory { OnErr result (self.new ≡ fresh (length self.old)) }
     {
-        self.table = None;
-        match set_ops(&mut self.held, &mut self.state, rank, ops) {
-            Ok(()) => Ok(()),
+        let alloc = *self.held.allocator();
+        let marks = self.marks.take();
+        match set_marked(
+            &mut self.held,
+            &mut self.state,
+            &self.table,
+            marks,
+            rank,
+            ops,
+        ) {
+            Ok(marks) => {
+                self.marks = Some(marks);
+                Ok(())
+            }
             Err(error) => {
                 forget(&mut self.held);
                 self.state.clear();
+                self.table = PairTable::empty(alloc);
+                self.marks = None;
                 Err(error)
             }
         }
@@ -182,7 +199,7 @@ impl IndexChange {
     pub fn done(self) -> Result<PairIndex, AllocError>
         ensures { IfOk result (λ index. index ≡ self) }
     {
-        let table = kept_table(self.table, &self.state, &self.held)?;
+        let table = kept_table(self.table, self.marks, &self.state, &self.held)?;
         Ok(PairIndex {
             held: self.held,
             state: self.state,
@@ -213,19 +230,71 @@ fn forget(held: &mut Vec<RankOps>)
     }
 }
 
-/// The table of the held ops, from before or made anew.
+/// The table of the held ops: that of before, or made anew where ranks are marked.
 fn kept_table(
-    table: Option<PairTable>,
+    table: PairTable,
+    marks: Option<Vec<bool>>,
     state: &Matched,
     held: &Vec<RankOps>,
 ) -> Result<PairTable, AllocError>
-    requires { IsChanging held.now.items state.now table }
+    requires { IsChanging held.now.items state.now table marks }
     ensures { IfOk result (λ t. t ≡ table_of held.now.items) }
 {
-    match table {
-        Some(table) => Ok(table),
-        None => PairTable::of_held(*held.allocator(), state, held),
+    match marks {
+        None => Ok(table),
+        Some(marks) => {
+            let made = PairTable::of_held(*held.allocator(), state, held, &table, &marks)?;
+            Ok(made)
+        }
     }
+}
+
+/// The marks that there are, or else a mark of no rank.
+fn marks_or_none(
+    alloc: Global,
+    marks: Option<Vec<bool>>,
+    ranks: usize,
+) -> Result<Vec<bool>, AllocError>
+    ensures { IfOk result (λ new. IfSome marks (λ old. new.items ≡ old.items)) }
+{
+    match marks {
+        Some(marks) => Ok(marks),
+        None => Vec::from_elem(alloc, false, ranks),
+    }
+}
+
+/// Marks the rank.
+fn mark(marks: &mut Vec<bool>, rank: u32)
+    ensures { (r : ℕ) → is_marked marks.new.items r ≡ false → (r ≢ rank) × (is_marked marks.old.items r ≡ false) }
+{
+    if (rank as usize) < marks.len() {
+        marks[rank as usize] = true;
+    }
+}
+
+/// Makes the rank's ops these, and the state with them, and marks the rank beside those that have
+/// changed since the table was made.
+fn set_marked(
+    held: &mut Vec<RankOps>,
+    state: &mut Matched,
+    table: &PairTable,
+    marks: Option<Vec<bool>>,
+    rank: u32,
+    ops: RankOps,
+) -> Result<Vec<bool>, AllocError>
+    requires rank { rank < length held.old.items }
+    requires own { IsOwn rank ops }
+    requires changing { IsChanging held.old.items state.old table.now marks }
+    ensures length { length held.new.items ≡ length held.old.items }
+    ensures held { OnOk result (held.new.items ≡ slice_set held.old.items rank ops) }
+    ensures own { OnOk result (AreOwn 0 held.new.items) }
+    ensures state { OnOk result (Follows held.new.items state.new) }
+    ensures marked { IfOk result (λ new. WerePairs new.items table.now.pairs held.new.items) }
+{
+    let mut marks = marks_or_none(*held.allocator(), marks, held.len())?;
+    mark(&mut marks, rank);
+    set_ops(held, state, rank, ops)?;
+    Ok(marks)
 }
 
 /// Makes the rank's ops these, and the state with them.
@@ -261,16 +330,15 @@ fn follow(
     requires held { AreOwn 0 held.old.items }
     requires own { IsOwn rank ops }
     requires followed { Follows held.old.items state.old }
+    requires tabled { table.old ≡ table_of held.old.items }
     ensures length { length held.new.items ≡ length held.old.items }
     ensures held { OnOk result (held.new.items ≡ slice_set held.old.items rank ops) }
     ensures own { OnOk result (AreOwn 0 held.new.items) }
     ensures state { OnOk result (Follows held.new.items state.new) }
     ensures table { OnOk result (table.new ≡ table_of held.new.items) }
 {
-    let alloc = *held.allocator();
-    set_ops(held, state, rank, ops)?;
-    *table = PairTable::empty(alloc);
-    *table = PairTable::of_held(alloc, state, held)?;
+    let marks = set_marked(held, state, table, None, rank, ops)?;
+    *table = PairTable::of_held(*held.allocator(), state, held, table, &marks)?;
     Ok(())
 }
 

@@ -8,8 +8,9 @@
 //! [`pair_all`] follows the rules closely and is slow: for large runs take [`PairIndex::of_all`],
 //! which pairs n calls in n log n and whose contract is the same. The index follows the ranks as
 //! they grow and are cut back; one step costs in proportion to what is new, one pass over that
-//! rank's calls, and one over the table. Where several ranks change, [`PairIndex::change`] takes the
-//! pass over the table once for all of them.
+//! rank's calls, and one over all messages, which takes over the pairs of the other ranks and looks
+//! only for those of that rank. Where several ranks change, [`PairIndex::change`] takes that pass
+//! once for all of them.
 //!
 //! - [`pair`]: a pair, and the two sides of one
 //! - [`rules`]: the five rules, one by one; [`scratch`]: the pairing straight from them

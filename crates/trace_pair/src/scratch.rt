@@ -30,7 +30,7 @@ pub fn pair_all(alloc: Global, ops: &[RankOps]) -> Result<PairTable, AllocError>
     let messages = all_sends(alloc, ops)?;
     let receives = all_receives(alloc, ops)?;
     let rows = rows_of(alloc, &messages, &receives)?;
-    let table = PairTable::of_rows(alloc, rows)?;
+    let table = PairTable::of_rows(alloc, rows, Vec::new(alloc))?;
     Ok(table)
 }
 

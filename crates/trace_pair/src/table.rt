@@ -1,15 +1,16 @@
 //! A table: the pairs and the postponed messages, in order of the message.
 
-ghost use Rattle.std.specs.Prelude.{◌≡◌, ◌<◌, ◌++◌, ◌∷◌, [], OnOk, IfOk, ℕ, length};
+ghost use Rattle.std.specs.Prelude.{◌≡◌, ◌≢◌, ◌<◌, true, false, [], OnOk, IfOk, ℕ, length, slice_index_or};
 ghost use Rattle.trace_ops.specs.Ops.{AreOwn};
 ghost use Rattle.trace_ops.specs.Order.{Has};
 ghost use Rattle.trace_pair.specs.Followed.{Follows};
 ghost use Rattle.trace_pair.specs.Searched.{ArePairs, AreByReceive, IsSearchable, receive_at, message_at};
+ghost use Rattle.trace_pair.specs.Since.{WerePairs};
 ghost use Rattle.trace_pair.specs.Table.{table_of, partner_in, taken_by, given_by};
 
 use crate::matched::Matched;
 use crate::pair::{Pair, Side};
-use crate::rows::Rows;
+use crate::rows::{Rows, place_near};
 use mpi_model::OpName;
 use std::alloc::{AllocError, Global};
 use std::marker::Model;
@@ -44,27 +45,38 @@ impl PairTable {
         }
     }
 
-    /// The table of these rows.
-    pub(crate) fn of_rows(alloc: Global, rows: Rows) -> Result<PairTable, AllocError>
+    /// The table of these rows. The more of `near` is places in order of the receive, the sooner it
+    /// is made.
+    pub(crate) fn of_rows(
+        alloc: Global,
+        rows: Rows,
+        near: Vec<usize>,
+    ) -> Result<PairTable, AllocError>
         requires { ArePairs rows.pairs }
         ensures { IfOk result (λ table. table ≡ rows) }
     {
-        let by_receive = places_by_receive(alloc, &rows.pairs)?;
+        let by_receive = places_by_receive(alloc, &rows.pairs, near)?;
         Ok(PairTable { rows, by_receive })
     }
 
-    /// The table of the held ops.
+    /// The table of the held ops, from one of before: it looks only for the pairs of marked ranks.
     pub(crate) fn of_held(
         alloc: Global,
         state: &Matched,
         held: &[RankOps],
+        before: &PairTable,
+        marks: &[bool],
     ) -> Result<PairTable, AllocError>
         requires own { AreOwn 0 held.now }
         requires followed { Follows held.now state.now }
+        requires before { WerePairs marks.now before.now.pairs held.now }
         ensures { IfOk result (λ table. table ≡ table_of held.now) }
     {
-        let rows = Rows::of_held(alloc, state, held)?;
-        PairTable::of_rows(alloc, rows)
+        let rows = Rows::of_held(alloc, state, held, before.pairs(), marks)?;
+        let moved = moved_places(alloc, before.pairs(), &rows.pairs)?;
+        let near = places_in_order(alloc, &before.by_receive, &moved)?;
+        let table = PairTable::of_rows(alloc, rows, near)?;
+        Ok(table)
     }
 
     /// In order of the message: by rank, then by call.
@@ -106,33 +118,94 @@ fn message_at(pairs: &[Pair], place: usize) -> Option<OpName>
     pairs.get(place).map(|p| p.message)
 }
 
-fn put_place(places: &mut Vec<usize>, place: usize) -> Result<(), AllocError>
-    ensures { OnOk result (places.new.items ≡ places.old.items ++ place ∷ []) }
+/// Where the pairs stand that have the messages of the old ones.
+fn moved_places(
+    alloc: Global,
+    old: &[Pair],
+    pairs: &[Pair],
+) -> Result<Vec<Option<usize>>, AllocError>
+    requires { ArePairs pairs.now }
 {
+    let mut moved = Vec::with_capacity(alloc, old.len())?;
+    let mut hint = 0;
+    for pair in old {
+        moved.push(place_near(pairs, &mut hint, &pair.message))?;
+    }
+    Ok(moved)
+}
+
+/// Where they stand now, in the old order.
+fn places_in_order(
+    alloc: Global,
+    order: &[usize],
+    moved: &[Option<usize>],
+) -> Result<Vec<usize>, AllocError> {
+    let mut places = Vec::with_capacity(alloc, order.len())?;
+    for old in order {
+        if let Some(Some(place)) = moved.get(*old) {
+            places.push(*place)?;
+        }
+    }
+    Ok(places)
+}
+
+/// Marks a place as seen, where it is one of those that are asked for.
+fn see_place(seen: &mut Vec<bool>, place: usize)
+    ensures { (i : ℕ) → i ≢ place → slice_index_or seen.new.items i false ≡ slice_index_or seen.old.items i false }
+{
+    if place < seen.len() {
+        seen[place] = true;
+    }
+}
+
+/// Which of so many places are among these.
+fn seen_places(alloc: Global, places: &[usize], count: usize) -> Result<Vec<bool>, AllocError>
+    ensures { IfOk result (λ seen. (i : ℕ) → slice_index_or seen.items i false ≡ true → Has places.now i) }
+{
+    let mut seen = Vec::from_elem(alloc, false, count)?;
+    for place in places {
+        see_place(&mut seen, *place);
+    }
+    Ok(seen)
+}
+
+/// Puts the place behind the others, if it isn't seen among them.
+fn put_unseen(places: &mut Vec<usize>, seen: &[bool], place: usize) -> Result<(), AllocError>
+    ensures kept { OnOk result ((i : ℕ) → Has places.old.items i → Has places.new.items i) }
+    ensures there { OnOk result ((slice_index_or seen.now place false ≡ true → Has places.old.items place) → Has places.new.items place) }
+{
+    if seen.get(place).copied().unwrap_or(false) {
+        return Ok(());
+    }
     places.push(place)?;
     Ok(())
 }
 
-/// The places of the pairs, as they stand.
-fn all_places(alloc: Global, pairs: &[Pair]) -> Result<Vec<usize>, AllocError>
+/// All places of the pairs, those of `near` first.
+fn all_places(alloc: Global, pairs: &[Pair], near: Vec<usize>) -> Result<Vec<usize>, AllocError>
     ensures { IfOk result (λ places. (i : ℕ) → i < length pairs.now → Has places.items i) }
 {
-    let mut places = Vec::with_capacity(alloc, pairs.len())?;
+    let seen = seen_places(alloc, &near, pairs.len())?;
+    let mut places = near;
     let mut next = 0;
     while next < pairs.len() {
-        put_place(&mut places, next)?;
+        put_unseen(&mut places, &seen, next)?;
         next += 1;
     }
     Ok(places)
 }
 
 /// The places of the pairs, in order of the receive.
-fn places_by_receive(alloc: Global, pairs: &[Pair]) -> Result<Vec<usize>, AllocError>
+fn places_by_receive(
+    alloc: Global,
+    pairs: &[Pair],
+    near: Vec<usize>,
+) -> Result<Vec<usize>, AllocError>
     ensures sorted { IfOk result (λ places. AreByReceive pairs.now places.items) }
     ensures all { IfOk result (λ places. (i : ℕ) → i < length pairs.now → Has places.items i) }
 {
-    let mut places = all_places(alloc, pairs)?;
-    places.sort_unstable_by_key(|place| receive_at(pairs, *place));
+    let mut places = all_places(alloc, pairs, near)?;
+    places.sort_by_key(|place| receive_at(pairs, *place))?;
     Ok(places)
 }
 
