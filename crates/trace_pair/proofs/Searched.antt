@@ -1,5 +1,5 @@
 -- Pairs and their calls, found by halving.
-use Rattle.std.proofs.Common.{subst, ◌≡◌, ◌≢◌, ◌⊎◌, ℕ, zero, suc, ◌+◌, ◌<◌, true, false, List, [], ◌∷◌, ◌++◌, inl, inr, sym, refl, ◌∙◌, ap, arith, length, get_or, Option, Some, None}
+use Rattle.std.proofs.Common.{subst, ◌≡◌, ◌≢◌, ◌⊎◌, ℕ, zero, suc, ◌+◌, ◌<◌, true, false, List, [], ◌∷◌, inl, inr, sym, refl, ◌∙◌, ap, arith, length, get_or, Option, Some, None}
 use Rattle.std.specs.declared.cmp.Ordering.{Ordering}
 use Rattle.std.specs.declared.cmp.Ordering.TheVariants.{Less, Equal, Greater}
 use Rattle.std.specs.Prelude.{slice_get}
@@ -30,7 +30,6 @@ use Rattle.trace_pair.proofs.Members.{contains_has}
 use Rattle.trace_pair.proofs.Names.{placed_receive}
 use Rattle.trace_pair.proofs.Orders.{name_total, exact_names, later_name}
 use Rattle.trace_pair.proofs.Owned.{own_calls, all_sends_rise}
-use Rattle.trace_pair.proofs.Ranks.{has_left, has_right}
 use Rattle.trace_pair.proofs.Sure.{pair_has}
 
 -- what is there is found, where nothing else has its name

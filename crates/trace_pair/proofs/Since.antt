@@ -1,5 +1,5 @@
 -- What ranks without a mark still have of the pairs from before.
-use Rattle.std.proofs.Common.{subst, ◌≡◌, ℕ, suc, ◌+◌, ◌<◌, Bool, true, false, List, [], ◌++◌, ⊎_elim, sym, refl, ◌∙◌, ap, arith, length, take, drop, get_or, set, Option, Some, None}
+use Rattle.std.proofs.Common.{subst, ◌≡◌, ℕ, suc, ◌<◌, Bool, false, List, [], ◌++◌, ⊎_elim, sym, refl, ◌∙◌, ap, arith, length, take, drop, get_or, set, Option, Some, None}
 use Rattle.std.specs.Prelude.{IfSome, Vec, is_none}
 use Rattle.std.specs.declared.alloc.Global.{Global}
 use Rattle.std.specs.List.{flat_map}
@@ -7,10 +7,10 @@ use Rattle.std.specs.Option.{option_map}
 use Rattle.mpi_model.specs.declared.message.Message.{Message}
 use Rattle.mpi_model.specs.declared.message.Receive.{Receive}
 use Rattle.trace_ops.specs.Ops.{Ops, no_ops, IsOwn, AreOwn}
-use Rattle.trace_ops.specs.Order.{Has, sent_before, posted_before}
+use Rattle.trace_ops.specs.Order.{Has}
 use Rattle.trace_pair.specs.Kept.{IsChanging}
 use Rattle.trace_pair.specs.declared.matched.Matched.{Matched}
-use Rattle.trace_pair.specs.Pairing.{paired, Paired, receive_of}
+use Rattle.trace_pair.specs.Pairing.{paired, receive_of}
 use Rattle.trace_pair.specs.Searched.{ArePairs}
 use Rattle.trace_pair.specs.Since.{is_marked, pair_named, StillPaired, WerePairs}
 use Rattle.trace_pair.specs.Table.{pair_of, pairs_of, sends_of, receives_of, Table, table_of}

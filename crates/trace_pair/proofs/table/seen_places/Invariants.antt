@@ -1,4 +1,4 @@
-use Rattle.std.proofs.Common.{◌≡◌, ℕ, true, false, take}
+use Rattle.std.proofs.Common.{◌≡◌, ℕ, true, false}
 use Rattle.std.specs.Prelude.{slice_index_or}
 use Rattle.trace_ops.specs.Order.{Has}
 use Rattle.trace_pair.proofs.table.seen_places.Given as goal
