@@ -58,10 +58,14 @@ impl<'a, R: Eprint + Clock> Terminal<'a, R> {
         let bytes_read = self.bytes_read;
         let _ = match self.bytes {
             Some(bytes) => {
-                eprint!(self.rt; "mpimatch: {pieces_read} of {pieces} pieces and {bytes_read} of {bytes} bytes read\n")
+                eprint!(self.rt;
+                    "mpimatch: {pieces_read} of {pieces} pieces and {bytes_read} of {bytes} bytes read\n"
+                )
             }
             None => {
-                eprint!(self.rt; "mpimatch: {pieces_read} of {pieces} pieces and {bytes_read} bytes read\n")
+                eprint!(self.rt;
+                    "mpimatch: {pieces_read} of {pieces} pieces and {bytes_read} bytes read\n"
+                )
             }
         };
         self.shown = Instant::now(self.rt).ok();

@@ -10,7 +10,7 @@ ghost use Rattle.dumpi_calls.specs.Readings.{AreThere, Reads};
 ghost use Rattle.dumpi_calls.specs.Rows.{HasItsKind, exit_in, first_missing, group_call, isend_call, irecv_call, missing_in, read_by, receive_parameters, recv_call, returned, rooted_call, row, send_call, send_parameters, test_call, typed_by, wait_call, waitall_call, waitany_call, waitsome_call};
 ghost use Rattle.mpi_model.specs.Ranges.{HasRoot};
 
-use crate::envelope::{receive_envelope_in, sendrecv_in, send_envelope_in};
+use crate::envelope::{receive_envelope_in, send_envelope_in, sendrecv_in};
 use crate::function::Function;
 use crate::outcome::outcome;
 use crate::parameter::{CallFault, Parameter};
