@@ -11,12 +11,14 @@
 //! - [`workload`]: the pieces of a node's workers
 //! - [`fault`]: why a cluster leaves nothing
 //! - [`crews`]: what both crews leave, and the first fault or refused segment
-//! - [`peer`]: a node as a scope of threads knows it
+//! - [`peer`]: a node as those know it who let two of them meet
 //! - [`meeting`]: the socket, and the exchange over it
 //! - [`nodes`]: one after the other
 //!
 //! A socket tells no bytes, so no contract says that both nodes know the same at the end; nor that a
 //! call which waits returns.
+//!
+//! Its tests are in `crates/node_tests/src/cluster.rt` and `unplugged.rt`.
 #![tactic(auto)]
 
 mod crews;

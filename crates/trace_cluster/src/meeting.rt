@@ -13,7 +13,7 @@ use std::sync::Wait;
 use std::thread::Threads;
 use std::{io, thread};
 use trace_exchange::{ExchangeFault, lead};
-use trace_know::{Knowledge, join_laws};
+use trace_know::Knowledge;
 use trace_node::{Node, NodeFault};
 
 /// Listens on 127.0.0.1 at a port that the system gives, connects to it and accepts, in this order:
@@ -96,22 +96,21 @@ fn meet<R: Threads + Wait + Sync, N: Peer>(
 /// Both nodes, the first with what its leading has learned; or why the leader was refused, else why the
 /// follower was.
 #[tactic(auto, using(crate::proofs::Ending::unmerged_end, crate::proofs::Ending::followed_end))]
-fn both<'a>(
-    leader: Node<'a>,
+fn both<N: Peer>(
+    leader: N,
     led: Result<Knowledge, ExchangeFault>,
-    follower: Met<Node<'a>>,
-) -> Result<(Node<'a>, Node<'a>), ClusterFault>
-    ensures first { IfOk result (λ nodes. IsMore leader.entry nodes.0) }
-    ensures second { IfOk result (λ nodes. (nodes.1 ≡ follower.entry.node) × (follower.entry.end ≡ Ok tt)) }
-    ensures err { IfErr result (λ fault. IsFirstEnd led follower.entry.end fault) }
+    follower: Met<N>,
+) -> Result<(N, N), ClusterFault>
+    ensures first { IfOk result (λ nodes. IsMore (N.held leader) (N.held nodes.0)) }
+    ensures second { IfOk result (λ nodes. (nodes.1 ≡ follower.node) × (follower.end ≡ Ok tt)) }
+    ensures err { IfErr result (λ fault. IsFirstEnd led follower.end fault) }
 {
-    join_laws();
     let mut leader = leader;
     let known = match led {
         Ok(known) => known,
         Err(fault) => return Err(ClusterFault::Lead(fault)),
     };
-    match leader.merge(&known) {
+    match leader.learn(&known) {
         Ok(()) => {}
         Err(fault) => return Err(ClusterFault::Lead(ExchangeFault::Merge(fault))),
     }
@@ -121,26 +120,21 @@ fn both<'a>(
     }
 }
 
-/// An exchange between two nodes over a socket of this machine: the first leads it.
+/// An exchange between two nodes of a layout over a socket of this machine: the first leads it.
 pub(crate) fn exchange<
-    'a,
     R: Net<Listener = TcpListener, Stream = TcpStream> + Threads + Wait + Sync,
->(
-    rt: &R,
-    alloc: Global,
-    leader: Node<'a>,
-    follower: Node<'a>,
-) -> Result<(Node<'a>, Node<'a>), ClusterFault>
-    ensures ok { IfOk result (λ nodes. IsMore leader.entry nodes.0 × IsMore follower.entry nodes.1) }
+    N: Peer,
+>(rt: &R, alloc: Global, layout: &Layout, leader: N, follower: N) -> Result<(N, N), ClusterFault>
+    ensures ok { IfOk result (λ nodes. IsMore (N.held leader) (N.held nodes.0) × IsMore (N.held follower) (N.held nodes.1)) }
     ensures err { IfErr result (λ fault. IsOfMeeting fault) }
 {
-    let Ok(know) = leader.know().try_clone() else {
+    let Ok(know) = leader.copy_know() else {
         return Err(ClusterFault::Memory);
     };
     let Ok(ends) = connected(rt) else {
         return Err(ClusterFault::Net);
     };
-    let Some((led, followed)) = meet(rt, alloc, leader.layout(), know, ends, follower) else {
+    let Some((led, followed)) = meet(rt, alloc, layout, know, ends, follower) else {
         return Err(ClusterFault::Net);
     };
     both(leader, led, followed)

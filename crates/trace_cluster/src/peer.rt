@@ -1,20 +1,29 @@
-//! A node as a scope of threads knows it.
+//! A node as those know it who let two of them meet.
 
 ghost use Rattle.std.specs.Prelude.{OnOk};
 ghost use Rattle.trace_node.specs.Node.{Held};
 ghost use Rattle.trace_cluster.specs.Meeting.{IsMore};
 
 use mpi_model::Device;
-use std::alloc::Global;
+use std::alloc::{AllocError, Global};
 use std::net::TcpStream;
 use trace_exchange::{ExchangeFault, follow};
-use trace_node::Node;
+use trace_know::{Knowledge, join_laws};
+use trace_node::{Node, NodeFault};
 
-/// One who takes part in an exchange. A scope of threads knows a node by this trait alone, since what
-/// its closure captures can't name the lifetime inside it.
+/// One who takes part in an exchange. Whoever lets two meet knows a node by this trait alone: what a
+/// closure of a scope captures can't name the lifetime inside a node, and a function that owns nodes
+/// is proved over all that a node holds.
 pub trait Peer: Drop {
     /// What its node holds.
     ghost held: { Self → Held };
+
+    /// A copy of all that its node knows.
+    fn copy_know(&self) -> Result<Knowledge, AllocError>;
+
+    /// Joins what its leading has learned.
+    fn learn(&mut self, know: &Knowledge) -> Result<(), NodeFault>
+        ensures { OnOk result (IsMore (held self.old) (held self.new)) };
 
     /// Follows in an exchange over a connection, and closes it.
     fn follow_over(&mut self, alloc: Global, stream: TcpStream) -> Result<(), ExchangeFault>
@@ -23,6 +32,15 @@ pub trait Peer: Drop {
 
 impl<'a> Peer for Node<'a> {
     ghost held = { λ n. n };
+
+    fn copy_know(&self) -> Result<Knowledge, AllocError> {
+        self.know().try_clone()
+    }
+
+    fn learn(&mut self, know: &Knowledge) -> Result<(), NodeFault> {
+        join_laws();
+        self.merge(know)
+    }
 
     fn follow_over(&mut self, alloc: Global, stream: TcpStream) -> Result<(), ExchangeFault> {
         follow(alloc, &mut Device::new(stream), self)

@@ -10,3 +10,4 @@ pub mod Round
 pub mod RankState
 pub mod RankOps
 pub mod Touched
+pub mod Gathered
