@@ -60,6 +60,34 @@ fn four_pieces_in_every_order(rt: HostRuntime) {
     }
 }
 
+/// What is reported of the four pieces, held in this order, with an answer after the first of them,
+/// wherever it stands, and at the end; nothing where a node that holds has an answer.
+fn held<R: Abort>(rt: &R, alloc: Global, order: &str) -> Vec<u8> {
+    let layout = layout(rt, alloc);
+    let mut node = Node::new(alloc, &layout).expect(rt, "memory");
+    for name in order.bytes() {
+        let place = usize::from(name.wrapping_sub(b'0'));
+        let piece = DISAGREEING.get(place).expect(rt, "a piece");
+        node.hold(&segment(rt, alloc, piece)).expect(rt, "a hold");
+        if node.answer().is_ok() {
+            return Vec::new(alloc);
+        }
+        if place == 0 {
+            node.catch_up().expect(rt, "memory");
+        }
+    }
+    node.catch_up().expect(rt, "memory");
+    report_of(rt, alloc, &node)
+}
+
+#[test]
+fn four_pieces_are_held_in_every_order(rt: HostRuntime) {
+    for order in ORDERS {
+        let report = held(&rt, rt.alloc(), order);
+        assert!(rt; report.as_slice() == DISAGREED, "{order}");
+    }
+}
+
 /// Both ranks wait for a message that never comes.
 const WAITING: &[Piece] = &[(0, 0, &[Does::Await(8)]), (1, 0, &[Does::Await(9)])];
 
@@ -130,6 +158,7 @@ fn refuses_a_stranger<R: Abort>(rt: &R, alloc: Global, node: &mut Node, report: 
     let mut know = Knowledge::new(alloc);
     know.take(&strange).expect(rt, "memory");
     let is_refused = node.take(&strange) == Err(NodeFault::Rank)
+        && node.hold(&strange) == Err(NodeFault::Rank)
         && node.merge(&know) == Err(NodeFault::Rank);
     is_refused
         && frame_of(rt, alloc, node.know()).as_slice() == frame.as_slice()

@@ -1,5 +1,5 @@
 -- How an index of pairs follows what is known, rank by rank.
-use Rattle.std.specs.Prelude.{◌≡◌, ℕ, zero, suc, Bool, Option, IfSome, List, [], ◌∷◌}
+use Rattle.std.specs.Prelude.{◌≡◌, ℕ, zero, suc, Bool, false, Option, Some, IfSome, List, [], ◌∷◌}
 use Rattle.mpi_model.specs.Layouts.{Parts}
 use Rattle.trace_know.specs.View.{View, IsBelow}
 use Rattle.trace_ops.specs.Ops.{Ops}
@@ -30,9 +30,9 @@ pub record WereTold (layout : Parts) (know : View) (index : Option (List Ops)) (
   pub index_was : IfSome index (λ held. held ≡ all_ops layout old)
   pub answer_was : IfSome before (λ a. IsAnswer layout old a)
 
--- What holds in every node: it knows of the layout's ranks alone, and its index and its answer, where there are any, are
--- those of all that it knows.
-pub record IsNode (layout : Parts) (know : View) (index : Option (List Ops)) (answer : Option Answered) : Type 0 where
+-- What holds in every node: it knows of the layout's ranks alone; its index and its answer, where there are any, are those
+-- of an older view; and where it isn't stale, the answer is there, and to all that it knows.
+pub record IsNode (layout : Parts) (know : View) (index : Option (List Ops)) (answer : Option Answered) (is_stale : Bool) : Type 0 where
   pub within : IsWithin layout know
-  pub index_is : IfSome index (λ held. held ≡ all_ops layout know)
-  pub answer_is : IfSome answer (λ a. IsAnswer layout know a)
+  pub told : WereTold layout know index answer
+  pub answers : is_stale ≡ false → (a : Answered) × (answer ≡ Some a) × IsAnswer layout know a

@@ -3,3 +3,4 @@ pub mod Stopped
 pub mod Node
 pub mod Codes
 pub mod Following
+pub mod Schedule

@@ -10,8 +10,12 @@
 //! their events once and the index of pairs for what is new; and for the answer one pass over all
 //! messages, receives, collective calls and pairs.
 //!
+//! Who takes many segments can have them held without an answer ([`Node::hold`]), and ask for one when
+//! it is wanted ([`Node::catch_up`]): then the ranks that changed since the last answer cost their events
+//! once, and the answer its one pass.
+//!
 //! Where there is no memory for an answer, the knowledge is kept and the node is stale until
-//! [`Node::refresh`]: it loses no fact.
+//! [`Node::catch_up`] or [`Node::refresh`]: it loses no fact.
 //!
 //! - [`fault`]: why a segment, other knowledge or a question is refused
 //! - [`stuck`]: a stuck rank; [`answer`]: what is told; `answer::gather`: the way there

@@ -1,6 +1,6 @@
 //! A node: knowledge with its answer.
 
-ghost use Rattle.std.specs.Prelude.{◌≡◌, ◌≢◌, ◌↔◌, ◌≤◌, true, false, IsTrue, Some, IsSome, IfOk, OnOk, OnErr, IfErr, IsErr, IsErrOf};
+ghost use Rattle.std.specs.Prelude.{◌≡◌, ◌≢◌, ◌↔◌, ◌≤◌, true, false, IsTrue, IfOk, OnOk, OnErr, IfErr, IsErr, IsErrOf};
 ghost use Rattle.std.specs.FinMap.{empty};
 ghost use Rattle.trace_know.specs.Trace.{facts_of, view_of};
 ghost use Rattle.trace_know.specs.View.{join};
@@ -20,8 +20,9 @@ use trace_know::{Knowledge, Segment, join_laws, view_laws};
 use trace_ops::ops_laws;
 use trace_pair::PairIndex;
 
-/// All that is known of the run of a layout, with the answer to it. A stale node has dropped its
-/// answer, for want of memory, until [`refresh`](Self::refresh); its knowledge is whole.
+/// All that is known of the run of a layout, with the answer to it. A stale node has no answer to what
+/// it knows: there was no memory for it, or what came was only held. It has one again after
+/// [`catch_up`](Self::catch_up) or [`refresh`](Self::refresh); its knowledge is whole.
 ///
 /// In a contract a node is seen as its layout, its knowledge, and whether it is stale.
 #[derive(Drop)]
@@ -29,14 +30,15 @@ pub struct Node<'a> {
     alloc: Global,
     layout: &'a Layout,
     know: Knowledge,
-    /// The pairs of all that is known, where they are kept.
+    /// The pairs of all that was known at the last answer, where they are kept.
     index: Option<PairIndex>,
-    /// None where the node is stale.
+    /// The last answer, where it is kept.
     answer: Option<Answer>,
+    /// Whether it is not the answer to all that is known.
+    is_stale: bool,
 }
 
 impl<'a> Model for Node<'a> {
-    ghost use Rattle.std.specs.Prelude.{is_none};
     ghost use Rattle.trace_node.specs.Codes.{coded_held};
     ghost use Rattle.trace_node.specs.Following.{IsNode};
     ghost use Rattle.trace_node.specs.Node.{Held};
@@ -45,9 +47,9 @@ impl<'a> Model for Node<'a> {
 
     ghost coded = { coded_held };
 
-    ghost view = { λ n. record { layout = n.layout.now; know = n.know; is_stale = is_none n.answer } };
+    ghost view = { λ n. record { layout = n.layout.now; know = n.know; is_stale = n.is_stale } };
 
-    ghost invariant = { λ n. IsNode n.layout.now n.know n.index n.answer };
+    ghost invariant = { λ n. IsNode n.layout.now n.know n.index n.answer n.is_stale };
 }
 
 impl<'a> Node<'a> {
@@ -61,8 +63,9 @@ impl<'a> Node<'a> {
             know: Knowledge::new(alloc),
             index: None,
             answer: None,
+            is_stale: true,
         };
-        node.refresh()?;
+        node.catch_up()?;
         Ok(node)
     }
 
@@ -82,8 +85,9 @@ impl<'a> Node<'a> {
             know,
             index: None,
             answer: None,
+            is_stale: true,
         };
-        if node.refresh().is_err() {
+        if node.catch_up().is_err() {
             return Err(NodeFault::Memory);
         }
         Ok(node)
@@ -100,6 +104,18 @@ impl<'a> Node<'a> {
         ensures memory { IsErrOf result NodeFault.Memory → self.new ≡ self.old }
         ensures stale { IsErrOf result NodeFault.Stale → self.new ≡ held self.old.layout (join self.old.know (view_of (facts_of segment.now))) true }
     {
+        let was_stale = self.is_stale;
+        self.hold(segment)?;
+        self.answer_again(was_stale)
+    }
+
+    /// Joins the facts of the segment, and makes no answer: the node is stale then. So many segments
+    /// can be held, and then answered at once, by [`catch_up`](Self::catch_up).
+    pub fn hold(&mut self, segment: &Segment) -> Result<(), NodeFault>
+        ensures ok { OnOk result (self.new ≡ held self.old.layout (join self.old.know (view_of (facts_of segment.now))) true) }
+        ensures rank { IsErrOf result NodeFault.Rank ↔ (self.old.layout.ranks ≤ segment.now.rank) }
+        ensures err { IfErr result (λ fault. (fault ≢ NodeFault.Stale) × (self.new ≡ self.old)) }
+    {
         join_laws();
         view_laws();
         if segment.rank() >= self.layout.ranks() {
@@ -108,9 +124,8 @@ impl<'a> Node<'a> {
         if self.know.take(segment).is_err() {
             return Err(NodeFault::Memory);
         }
-        let index = self.index.take();
-        let before = self.answer.take();
-        self.catch_up(index, before)
+        self.is_stale = true;
+        Ok(())
     }
 
     /// Joins all that the other knows, and makes the answer to all that is known then. A stale node
@@ -124,6 +139,17 @@ impl<'a> Node<'a> {
         ensures memory { IsErrOf result NodeFault.Memory → self.new ≡ self.old }
         ensures stale { IsErrOf result NodeFault.Stale → self.new ≡ held self.old.layout (join self.old.know other.now) true }
     {
+        let was_stale = self.is_stale;
+        self.hold_all(other)?;
+        self.answer_again(was_stale)
+    }
+
+    /// Joins all that the other knows, and makes no answer.
+    fn hold_all(&mut self, other: &Knowledge) -> Result<(), NodeFault>
+        ensures ok { OnOk result (self.new ≡ held self.old.layout (join self.old.know other.now) true) }
+        ensures rank { IsErrOf result NodeFault.Rank ↔ HasStranger self.old.layout other.now }
+        ensures err { IfErr result (λ fault. (fault ≢ NodeFault.Stale) × (self.new ≡ self.old)) }
+    {
         join_laws();
         if has_stranger(self.layout, other) {
             return Err(NodeFault::Rank);
@@ -131,9 +157,42 @@ impl<'a> Node<'a> {
         if self.know.join(other).is_err() {
             return Err(NodeFault::Memory);
         }
+        self.is_stale = true;
+        Ok(())
+    }
+
+    /// Makes the answer, where there was one before more was known: else the node stays stale.
+    fn answer_again(&mut self, was_stale: bool) -> Result<(), NodeFault>
+        requires stale { self.old.is_stale ≡ true }
+        ensures ok { OnOk result (self.new ≡ held self.old.layout self.old.know false) }
+        ensures fresh { OnOk result (was_stale ≡ false) }
+        ensures stale { IfErr result (λ fault. (fault ≡ NodeFault.Stale) × (self.new ≡ self.old)) }
+    {
+        if was_stale || self.catch_up().is_err() {
+            return Err(NodeFault::Stale);
+        }
+        Ok(())
+    }
+
+    /// Makes the answer to all that is known, from the last one where it is kept: ranks whose
+    /// readable events are as they were then cost nothing but their part of the answer. Where there
+    /// is no memory for it, the node is stale, and the last answer isn't kept.
+    #[tactic(auto, using(crate::proofs::Nodes::were_told))]
+    pub fn catch_up(&mut self) -> Result<(), AllocError>
+        ensures ok { OnOk result (self.new ≡ held self.old.layout self.old.know false) }
+        ensures err { OnErr result (self.new ≡ held self.old.layout self.old.know true) }
+    {
+        if !self.is_stale {
+            return Ok(());
+        }
         let index = self.index.take();
         let before = self.answer.take();
-        self.catch_up(index, before)
+        let index = index_after(self.alloc, self.layout, &self.know, index, before)?;
+        let answer = answer_to(self.alloc, self.layout, &self.know, &index)?;
+        self.index = Some(index);
+        self.answer = Some(answer);
+        self.is_stale = false;
+        Ok(())
     }
 
     /// Makes the answer anew, from all that is known. Where there is no memory for it, the node is
@@ -144,15 +203,19 @@ impl<'a> Node<'a> {
     {
         self.index = None;
         self.answer = None;
-        let index = index_of(self.alloc, self.layout, &self.know)?;
-        self.tell(index)
+        self.is_stale = true;
+        self.catch_up()
     }
 
     /// The answer to all that is known.
+    #[tactic(auto, using(crate::proofs::Nodes::answer_of_fresh, crate::proofs::Nodes::fresh_has))]
     pub fn answer(&self) -> Result<&Answer, Stale>
         ensures ok { IfOk result (λ a. IsAnswer self.now.layout self.now.know a.now) }
         ensures stale { IsErr result ↔ IsTrue self.now.is_stale }
     {
+        if self.is_stale {
+            return Err(Stale);
+        }
         match &self.answer {
             Some(answer) => Ok(answer),
             None => Err(Stale),
@@ -176,54 +239,26 @@ impl<'a> Node<'a> {
     pub fn try_clone(&self) -> Result<Node<'a>, AllocError>
         ensures { IfOk result (λ copy. copy ≡ self.now) }
     {
-        let answer = match &self.answer {
-            Some(answer) => Some(answer.try_clone()?),
-            None => None,
+        let know = self.know.try_clone()?;
+        let Ok(answer) = self.answer() else {
+            return Ok(Node {
+                alloc: self.alloc,
+                layout: self.layout,
+                know,
+                index: None,
+                answer: None,
+                is_stale: true,
+            });
         };
+        let copy = answer.try_clone()?;
         Ok(Node {
             alloc: self.alloc,
             layout: self.layout,
-            know: self.know.try_clone()?,
+            know,
             index: None,
-            answer,
+            answer: Some(copy),
+            is_stale: false,
         })
-    }
-
-    /// Makes the answer, where there was one before more was known: else the node stays stale.
-    fn catch_up(
-        &mut self,
-        index: Option<PairIndex>,
-        before: Option<Answer>,
-    ) -> Result<(), NodeFault>
-        requires stale { self.old.is_stale ≡ true }
-        requires told { WereTold self.old.layout self.old.know index before }
-        ensures ok { OnOk result (self.new ≡ held self.old.layout self.old.know false) }
-        ensures fresh { OnOk result (IsSome before) }
-        ensures stale { IfErr result (λ fault. (fault ≡ NodeFault.Stale) × (self.new ≡ self.old)) }
-    {
-        let Some(before) = before else {
-            return Err(NodeFault::Stale);
-        };
-        let Ok(index) = index_after(self.alloc, self.layout, &self.know, index, &before) else {
-            return Err(NodeFault::Stale);
-        };
-        if self.tell(index).is_err() {
-            return Err(NodeFault::Stale);
-        }
-        Ok(())
-    }
-
-    /// Makes the answer to all that is known, and keeps its index.
-    fn tell(&mut self, index: PairIndex) -> Result<(), AllocError>
-        requires stale { self.old.is_stale ≡ true }
-        requires index { index ≡ all_ops self.old.layout self.old.know }
-        ensures ok { OnOk result (self.new ≡ held self.old.layout self.old.know false) }
-        ensures err { OnErr result (self.new ≡ self.old) }
-    {
-        let answer = answer_to(self.alloc, self.layout, &self.know, &index)?;
-        self.index = Some(index);
-        self.answer = Some(answer);
-        Ok(())
     }
 
     /// Tells what holds of every node. It does nothing: it is for proofs.
@@ -249,19 +284,22 @@ fn answer_to(
     answer_of(alloc, layout, know, index.ops(), index.pairs())
 }
 
-/// The index of all that is known, from an older one where there is one.
+/// The index of all that is known, from an older one where there is one with its answer.
 fn index_after(
     alloc: Global,
     layout: &Layout,
     know: &Knowledge,
     index: Option<PairIndex>,
-    before: &Answer,
+    before: Option<Answer>,
 ) -> Result<PairIndex, AllocError>
-    requires { WereTold layout.now know.now index (Some before.now) }
+    requires { WereTold layout.now know.now index before }
     ensures { IfOk result (λ held. held ≡ all_ops layout.now know.now) }
 {
-    match index {
-        Some(index) => followed(alloc, layout, know, before, index),
-        None => index_of(alloc, layout, know),
-    }
+    let Some(before) = before else {
+        return index_of(alloc, layout, know);
+    };
+    let Some(index) = index else {
+        return index_of(alloc, layout, know);
+    };
+    followed(alloc, layout, know, &before, index)
 }
