@@ -14,7 +14,7 @@ use Rattle.trace_crew.specs.declared.piece.Piece.{Piece}
 use Rattle.trace_crew.specs.declared.piece.PieceFault.{PieceFault}
 use Rattle.trace_crew.specs.declared.threads.CrewOut.{CrewOut}
 use Rattle.trace_crew.specs.Pieces.{Gave}
-use Rattle.trace_crew.specs.Taking.{HasAll, Taken, sent, sent_by, source}
+use Rattle.trace_crew.specs.Taking.{HasAll, Refusal, Taken, sent, sent_by, source}
 use Rattle.trace_crew.specs.Crewed.{IsCrewOut, segments_by}
 
 -- the segments of one worker among segments with their workers
@@ -67,6 +67,17 @@ all_of w taken items segments are all = by_sources w taken ∙ ap (by w) are ∙
 pub given : {T E : Type 0} {P Q : T → Type 0} (r : Result T E) → ((x : T) → P x → Q x) → IfOk r P → IfOk r Q
 given (Ok x) f h = f x h
 given (Err e) f h = tt
+
+-- A node that knows the same since has all still.
+pub settled : (layout : Parts) (ones others : List Item) (node later : Held) (refused still : List Refusal) → HasAll layout ones others node refused
+    → later.layout ≡ node.layout → later.know ≡ node.know → still ≡ refused → HasAll layout ones others later still
+settled layout ones others node later refused still all same_layout same_know same =
+    let s = all.sorted.1 in record {
+      items = all.items;
+      first_all = all.first_all;
+      second_all = all.second_all;
+      sorted = (all.sorted.0, record { all = s.all; fair = s.fair; listed = same ∙ s.listed; layout_is = same_layout ∙ s.layout_is; know = same_know ∙ s.know });
+    }
 
 -- Where the owner took all that the workers posted, the crew leaves what it promises.
 pub crewed : (layout : Parts) (first second : List Piece) (out : CrewOut) (first_faults second_faults : List (ℕ × ℕ × PieceFault)) (ones others : List PlacedEvents)

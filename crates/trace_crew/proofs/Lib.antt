@@ -1,3 +1,4 @@
 pub mod Reading
 pub mod Sorting
 pub mod Crewing
+pub mod Scheduling

@@ -9,7 +9,8 @@ pub trait Gate: Sync {
     /// A worker is about to post its `nth` segment, from 0.
     fn before_post(&self, worker: u8, nth: u64);
 
-    /// The owner has joined or refused a worker's `nth` segment, from 0, and has published.
+    /// The owner has joined or refused a worker's `nth` segment, from 0, and has published where it
+    /// made an answer.
     fn after_take(&self, worker: u8, nth: u64);
 }
 

@@ -27,6 +27,10 @@ pub struct Hall<'s, 'a> {
     first: u64,
     /// How many segments of the second worker were taken.
     second: u64,
+    /// How many events there were in the segments that were joined before the last answer.
+    answered: u64,
+    /// How many there were in those that were joined since.
+    unanswered: u64,
 }
 
 impl<'s, 'a> Hall<'s, 'a> {
@@ -45,11 +49,43 @@ impl<'s, 'a> Hall<'s, 'a> {
             refused: Vec::new(alloc),
             first: 0,
             second: 0,
+            answered: 0,
+            unanswered: 0,
         })
     }
 
-    /// Joins a segment, and shows on the board what is known then, where there is an answer to it; or
-    /// answers why it was not joined. A refused publish is passed over: the next one shows it.
+    /// Makes the answer to all that was joined, and shows it on the board. Where there is no memory for
+    /// it the node stays stale, and a refused publish is passed over: the next answer shows it all.
+    pub fn answer<R: Wait>(&mut self, rt: &R)
+        ensures layout { self.new.node.layout ≡ self.old.node.layout }
+        ensures know { self.new.node.know ≡ self.old.node.know }
+        ensures refused { self.new.refused.items ≡ self.old.refused.items }
+    {
+        self.answered = self.answered.saturating_add(self.unanswered);
+        self.unanswered = 0;
+        if self.node.catch_up().is_ok() {
+            let _ = self.board.publish(rt, &self.node);
+        }
+    }
+
+    /// Makes the answer to all that was joined, where it isn't made yet.
+    pub fn settle<R: Wait>(&mut self, rt: &R)
+        ensures layout { self.new.node.layout ≡ self.old.node.layout }
+        ensures know { self.new.node.know ≡ self.old.node.know }
+        ensures refused { self.new.refused.items ≡ self.old.refused.items }
+    {
+        if self.node.answer().is_err() {
+            self.answer(rt);
+        }
+    }
+
+    /// Whether as many events were joined since the last answer as before it. So all answers together
+    /// cost about twice what the last of them does.
+    fn is_due(&self) -> bool {
+        self.unanswered >= self.answered
+    }
+
+    /// Joins a segment, and makes an answer if one is due; or answers why it was not joined.
     #[tactic(auto, using(crate::proofs::Sorting::memory_is_fair))]
     fn offer<R: Wait>(&mut self, rt: &R, segment: &Segment) -> Option<NodeFault>
         ensures fair { IsFairFor self.old.node.layout segment.now.rank result }
@@ -57,15 +93,19 @@ impl<'s, 'a> Hall<'s, 'a> {
         ensures know { self.new.node.know ≡ known_after self.old.node.know segment.now result }
         ensures refused { self.new.refused.items ≡ self.old.refused.items }
     {
-        match self.node.take(segment) {
-            Ok(()) => {
-                let _ = self.board.publish(rt, &self.node);
-                None
-            }
-            Err(NodeFault::Rank) => Some(NodeFault::Rank),
-            Err(NodeFault::Memory) => Some(NodeFault::Memory),
-            Err(NodeFault::Stale) => None,
+        match self.node.hold(segment) {
+            Ok(()) => {}
+            Err(NodeFault::Rank) => return Some(NodeFault::Rank),
+            Err(NodeFault::Memory) => return Some(NodeFault::Memory),
+            // (what is only held asks for no answer)
+            Err(NodeFault::Stale) => unreachable!(),
         }
+        let count = segment.events().len() as u64;
+        self.unanswered = self.unanswered.saturating_add(count);
+        if self.is_due() {
+            self.answer(rt);
+        }
+        None
     }
 
     /// Joins a segment, or lists it with why it was not joined.

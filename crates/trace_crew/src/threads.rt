@@ -74,8 +74,8 @@ struct Ran<H> {
 }
 
 /// Two workers read their texts side by side and post the segments into an inbox of eight places; the
-/// owner joins what it takes into a new node, and shows it on the board after each. It waits for the
-/// workers, and they wait for it where the inbox is full.
+/// owner joins what it takes into a new node, and shows each answer on the board: some while it takes,
+/// and the last. It waits for the workers, and they wait for it where the inbox is full.
 pub fn crew<'a, R: Threads + Wait + Sync, G: Gate>(
     rt: &R,
     alloc: Global,
@@ -217,6 +217,7 @@ fn finish<'s, 'a, R: Wait, G: Gate>(
     all_ended(first.stop, second.stop)?;
     join_both(sender, &mut seat, first.seat, second.seat);
     drain(rt, &receiver, &mut seat, &mut hall, gate)?;
+    hall.settle(rt);
     let faults = both(first.faults, second.faults)?;
     Ok(CrewOut {
         node: hall.node,
