@@ -28,7 +28,7 @@ fn connected<R: Net<Listener = TcpListener, Stream = TcpStream>>(
 }
 
 /// Leads an exchange for a node that knows this, and answers all that it knows then. Only knowledge
-/// crosses to the thread and back: a node has an answer, whose conditions no thread can be given.
+/// crosses to the thread and back: that a node may cross is not found by itself.
 fn led(
     alloc: Global,
     layout: &Layout,
