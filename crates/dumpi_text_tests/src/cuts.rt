@@ -1,6 +1,7 @@
 //! Texts that are cut off, and readers that fail, after each byte.
 
-use crate::fakes::{failing, in_pieces, told};
+use crate::fakes::{InTwo, failing, in_pieces, told};
+use crate::parts::{put_name, put_params, put_times};
 use dumpi_text::Texts;
 use mpi_model::Read;
 use std::alloc::Global;
@@ -97,6 +98,46 @@ fn fronts_of_a_text_say_what_their_lines_say(rt: HostRuntime) -> Result<(), Fail
             (sender, receiver) == (None, None),
             "in pieces of {piece}: {sender:?} {receiver:?}"
         );
+    }
+    Ok(())
+}
+
+/// The texts, and all that their call tells.
+static WHOLE: [(&str, &str); 2] = [
+    (
+        SENDER,
+        "MPI_Send on 1 to 7 at 1500000000 250000000 to 1750000000 250000000 count=<4> datatype=<11> dest=<1> tag=<7> comm=<2 (MPI_COMM_WORLD)> end, 7 lines",
+    ),
+    (
+        RECEIVER,
+        "MPI_Recv on 1 to 8 at 1250000000 500000000 to 1750000000 500000000 count=<4> datatype=<11> source=<0> tag=<7> comm=<2 (MPI_COMM_WORLD)> status=<[1] {{bytes=32, source=0, tag=7}}> end, 8 lines",
+    ),
+];
+
+/// All that the call of a text tells whose first chunk is this front.
+fn told_in_two(alloc: Global, front: &[u8], rest: &[u8]) -> Result<String, Fail> {
+    let mut told = String::new(alloc);
+    let mut texts = Texts::new(alloc, InTwo { front, rest })?;
+    if let Some(call) = texts.next_raw()? {
+        put_name(&mut told, &call)?;
+        put_times(&mut told, &call)?;
+        put_params(&mut told, &call)?;
+    }
+    if texts.next_raw()?.is_none() {
+        write!(told, ", {} lines", texts.line())?;
+    }
+    Ok(told)
+}
+
+#[test]
+fn each_byte_may_be_the_last_of_a_chunk(rt: HostRuntime) -> Result<(), Fail> {
+    for row in &WHOLE {
+        let (text, want) = *row;
+        let bytes = text.as_bytes();
+        for cut in 0..bytes.len() + 1 {
+            let found = told_in_two(rt.alloc(), &bytes[..cut], &bytes[cut..])?;
+            assert!(rt; found.as_str() == want, "cut at {cut}: {found}");
+        }
     }
     Ok(())
 }

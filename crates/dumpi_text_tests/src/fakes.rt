@@ -30,6 +30,33 @@ impl<'a> Read for Pieces<'a> {
     }
 }
 
+/// Gives the front in its first call, and then the rest.
+#[derive(Drop)]
+pub struct InTwo<'a> {
+    pub front: &'a [u8],
+    pub rest: &'a [u8],
+}
+
+impl<'a> Read for InTwo<'a> {
+    ghost failures = { λ _. 0 };
+
+    fn read(&mut self, buffer: &mut [u8]) -> Result<usize, Failed> {
+        let part = if self.front.is_empty() {
+            self.rest
+        } else {
+            self.front
+        };
+        let count = part.len().min(buffer.len());
+        buffer[..count].copy_from_slice(&part[..count]);
+        if self.front.is_empty() {
+            self.rest = &part[count..];
+        } else {
+            self.front = &part[count..];
+        }
+        Ok(count)
+    }
+}
+
 /// Gives one byte over and over, and never ends.
 #[derive(Drop)]
 pub struct Endless {

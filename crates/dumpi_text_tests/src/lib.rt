@@ -9,6 +9,7 @@
 //! | `fakes` | readers for the tests, and what a text says |
 //! | `limits` | lines up to the greatest length |
 //! | `parts` | what a call tells |
+//! | `quick` | lines that are nearly as dumpi2ascii writes them |
 //! | `texts` | texts, line by line |
 //! | `times` | times |
 //! | `values` | values of parameters |
@@ -22,6 +23,8 @@ mod fakes;
 mod limits;
 #[cfg(test)]
 mod parts;
+#[cfg(test)]
+mod quick;
 #[cfg(test)]
 mod texts;
 #[cfg(test)]

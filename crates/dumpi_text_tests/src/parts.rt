@@ -7,14 +7,14 @@ use std::fmt::Write;
 use std::test::Fail;
 
 /// The name and the lines of a call.
-fn put_name(told: &mut String, call: &RawCall) -> Result<(), Fail> {
+pub fn put_name(told: &mut String, call: &RawCall) -> Result<(), Fail> {
     let name = std::str::from_utf8(call.name())?;
     write!(told, "{name} on {} to {}", call.line(), call.last_line())?;
     Ok(())
 }
 
 /// When it was entered, and when it returned.
-fn put_times(told: &mut String, call: &RawCall) -> Result<(), Fail> {
+pub fn put_times(told: &mut String, call: &RawCall) -> Result<(), Fail> {
     let enter = call.enter();
     write!(told, " at {} {}", enter.wall(), enter.cpu())?;
     if let Some(exit) = call.exit() {
@@ -31,7 +31,7 @@ fn put_value(told: &mut String, name: &[u8], value: &[u8]) -> Result<(), Fail> {
 }
 
 /// The parameters in their order, and what stands past the last.
-fn put_params(told: &mut String, call: &RawCall) -> Result<(), Fail> {
+pub fn put_params(told: &mut String, call: &RawCall) -> Result<(), Fail> {
     for place in 0..call.params_len() {
         if let Some((name, value)) = call.param_at(place) {
             put_value(told, name, value)?;
