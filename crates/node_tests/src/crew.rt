@@ -18,7 +18,8 @@ MPI_Nothing returning at walltime 0.5, cputime 0.0 seconds in thread 0.
 ";
 
 /// A whole MPI_Send, and then the first two lines of another, which is cut off.
-const CUT_OFF: &str = "MPI_Send entering at walltime 1.5, cputime 0.25 seconds in thread 0.
+pub(crate) const CUT_OFF: &str =
+    "MPI_Send entering at walltime 1.5, cputime 0.25 seconds in thread 0.
 int count=4
 MPI_Datatype datatype=11
 int dest=1

@@ -18,7 +18,7 @@
 //! A socket tells no bytes, so no contract says that both nodes know the same at the end; nor that a
 //! call which waits returns.
 //!
-//! Its tests are in the crate `trace_cluster_tests`.
+//! Its tests are in `crates/node_tests/src/cluster.rt` and `unplugged.rt`.
 #![tactic(auto)]
 
 mod crews;

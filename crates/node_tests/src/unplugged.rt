@@ -1,9 +1,12 @@
 //! A network that gives no port, or no connection.
 
-use crate::pieces::{CALL, layout, workload};
+use crate::cluster::workload;
+use crate::crew::CALL;
+use crate::fixture::layout;
 use std::alloc::Global;
 use std::io;
 use std::net::{Net, SocketAddr, TcpListener, TcpStream};
+use std::process::Abort;
 use std::sync::Wait;
 use std::thread::Threads;
 use trace_cluster::{ClusterFault, cluster};
@@ -38,23 +41,25 @@ impl<'a, R: Net<Listener = TcpListener, Stream = TcpStream>> Net for Unplugged<'
 }
 
 /// Whether a cluster over such a network says that there is none, after both crews.
-fn is_unmet<R: Net<Listener = TcpListener, Stream = TcpStream> + Threads + Wait + Sync>(
+fn is_unmet<R: Net<Listener = TcpListener, Stream = TcpStream> + Threads + Wait + Sync + Abort>(
     rt: &R,
     alloc: Global,
     has_ports: bool,
-) -> Option<bool> {
-    let layout = layout(alloc)?;
-    let first = workload(alloc, &[(0, 0, CALL)], &[])?;
-    let second = workload(alloc, &[], &[(1, 0, CALL)])?;
+) -> bool {
+    let layout = layout(rt, alloc);
+    let first = workload(rt, alloc, (&[(0, 0, CALL)], &[]));
+    let second = workload(rt, alloc, (&[], &[(1, 0, CALL)]));
     let unplugged = Unplugged { rt, has_ports };
-    let fault = cluster(&unplugged, alloc, &layout, &first, &second).err()?;
-    Some(matches!(&fault, ClusterFault::Net))
+    matches!(
+        &cluster(&unplugged, alloc, &layout, &first, &second),
+        Err(ClusterFault::Net)
+    )
 }
 
 #[test]
 fn no_port_and_no_connection(rt: HostRuntime) {
     let no_port = is_unmet(&rt, rt.alloc(), false);
     let no_connection = is_unmet(&rt, rt.alloc(), true);
-    assert!(rt; no_port == Some(true), "no port");
-    assert!(rt; no_connection == Some(true), "no connection");
+    assert!(rt; no_port, "no port");
+    assert!(rt; no_connection, "no connection");
 }
