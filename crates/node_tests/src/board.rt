@@ -1,11 +1,12 @@
 //! A board of two ranks: that a publish changes it, that a show reads it, and that one who has seen more
-//! is told so.
+//! is told so, and no one else.
 
 use crate::fixture::{Does, Piece, layout, segment};
 use mpi_model::Layout;
 use std::alloc::Global;
 use std::process::Abort;
 use std::sync::Wait;
+use std::thread::{Threads, join};
 use trace_board::{Board, ShowFault, Shown};
 use trace_node::Node;
 
@@ -76,4 +77,74 @@ fn shown_in_turn<R: Wait + Abort>(rt: &R, alloc: Global) -> InTurn {
 fn what_is_published_is_shown(rt: HostRuntime) {
     let shown = shown_in_turn(&rt, rt.alloc());
     assert!(rt; shown == [Some((0, 0)), Some((4, 2)), Some((0, 0))]);
+}
+
+/// Ten calls of one rank, each in a segment of its own.
+static TEN: [Piece; 10] = [
+    (0, 0, &[Does::Nothing]),
+    (0, 1, &[Does::Nothing]),
+    (0, 2, &[Does::Nothing]),
+    (0, 3, &[Does::Nothing]),
+    (0, 4, &[Does::Nothing]),
+    (0, 5, &[Does::Nothing]),
+    (0, 6, &[Does::Nothing]),
+    (0, 7, &[Does::Nothing]),
+    (0, 8, &[Does::Nothing]),
+    (0, 9, &[Does::Nothing]),
+];
+
+/// Asks twenty times, each time with what was shown last: how often that was not contained in what was
+/// shown then.
+fn count_older<'a, R: Wait + Abort>(rt: &R, board: &Board<'a>) -> u64 {
+    let mut older: u64 = 0;
+    let mut seen = shown_after(rt, board, None);
+    for _ in 0..20 {
+        seen = match board.show(rt, Some(&seen)) {
+            Ok(found) => found,
+            Err(ShowFault::Older(found)) => {
+                older = older.saturating_add(1);
+                found
+            }
+            Err(ShowFault::Memory) => None.expect(rt, "memory"),
+        };
+    }
+    older
+}
+
+/// How often each of two threads that ask beside each other is shown something older.
+fn two_readers<'a, R: Threads + Wait + Sync + Abort>(rt: &R, board: &Board<'a>) -> (u64, u64) {
+    join(rt, || count_older(rt, board), || count_older(rt, board))
+}
+
+/// One thread publishes ten nodes, each with one segment more, beside two that ask: how often each of
+/// these was shown something older.
+fn older_beside<'a, R: Threads + Wait + Sync + Abort>(
+    rt: &R,
+    alloc: Global,
+    layout: &'a Layout,
+    board: &Board<'a>,
+) -> (u64, u64) {
+    join(
+        rt,
+        || publish_calls(rt, alloc, layout, board, &TEN),
+        || two_readers(rt, board),
+    )
+    .1
+}
+
+/// How often each reader was shown something older, and the prefixes shown in the end.
+fn shown_beside<R: Threads + Wait + Sync + Abort>(
+    rt: &R,
+    alloc: Global,
+) -> ((u64, u64), Option<(u64, u64)>) {
+    let layout = layout(rt, alloc);
+    let board = Board::new(alloc, &layout).expect(rt, "memory");
+    let older = older_beside(rt, alloc, &layout, &board);
+    (older, prefixes(&shown_after(rt, &board, None)))
+}
+
+#[test]
+fn nothing_older_is_shown(rt: HostRuntime) {
+    let found = shown_beside(&rt, rt.alloc());
+    assert!(rt; found == ((0, 0), Some((20, 0))));
 }
