@@ -11,7 +11,7 @@
 ghost use Rattle.std.specs.Prelude.{◌≡◌, [], IfErr, IfOk, OnOk, Some, codes, false, map, option_map};
 ghost use Rattle.clap.specs.Words.{app_of, fault_of, rule_of, subcommand_of, subcommand_rows_of};
 ghost use Rattle.clap.specs.declared.builder.command.Command.TheViews.{out-Command};
-ghost use Rattle.command_line.specs.Program.{Refuses, file_rule, program, request_in, request_of, shown_status_of, verb_app, verb_named};
+ghost use Rattle.command_line.specs.Program.{Refuses, bare, file_rule, program, request_in, request_of, shown_status_of, verb_app, verb_named, with_verb as and_verb};
 
 use clap::error::ErrorKind;
 use clap::{Arg, ArgMatches, Command};
@@ -169,35 +169,56 @@ standard error where an input is refused:
 Other lines name a rule of layouts, or a file and its line: docs/formats.md has them all.
 "#;
 
+/// The program's command line, as clap's builders make it.
 fn program_command<'a>(alloc: Global) -> Result<Command<'a>, AllocError>
     ensures { IfOk result (λ c. app_of c ≡ program) }
 {
-    let report = verb_command(
+    let command = with_verb(
+        bare_command(alloc),
         alloc,
         "report",
         "Prints who received what from whom, and which ranks are stuck",
         REPORT_HELP,
     )?;
-    let replay = verb_command(
+    let command = with_verb(
+        command,
         alloc,
         "replay",
         "Runs a schedule of nodes that exchange what they know, and prints the report of each",
         REPLAY_HELP,
     )?;
-    let cluster = verb_command(
+    with_verb(
+        command,
         alloc,
         "cluster",
         "Reads the pieces of two nodes, which exchange what they know, and prints the report of each",
         CLUSTER_HELP,
-    )?;
+    )
+}
+
+/// The program without its verbs.
+fn bare_command<'a>(alloc: Global) -> Command<'a>
+    ensures { app_of result ≡ bare }
+{
     Command::new(alloc, "mpimatch")
         .about("Tells what the trace of an MPI run says of its ranks, after the run")
         .version("0.1.0")
         .after_help(MORE_HELP)
         .subcommand_required(true)
-        .subcommand(report)?
-        .subcommand(replay)?
-        .subcommand(cluster)
+}
+
+/// Adds a verb with its two files.
+fn with_verb<'a>(
+    command: Command<'a>,
+    alloc: Global,
+    name: &'a str,
+    about: &'a str,
+    more: &'a str,
+) -> Result<Command<'a>, AllocError>
+    ensures { IfOk result (λ c. app_of c ≡ and_verb (app_of command.entry) name.now) }
+{
+    let verb = verb_command(alloc, name, about, more)?;
+    command.subcommand(verb)
 }
 
 fn verb_command<'a>(
