@@ -5,31 +5,31 @@ use Rattle.serde_json.specs.Data.{Data, Items, no_items, item}
 use Rattle.serde_json.specs.Find.{as_array, as_str, get}
 use Rattle.mpi_model.specs.declared.layout.Sends.{Sends}
 use Rattle.mpi_model.specs.declared.layout.Sends.TheVariants.{Wait, Buffer}
-use Rattle.mpi_model.specs.Groups.{Group}
+use Rattle.mpi_model.specs.Communicators.{Communicator}
 use Rattle.mpi_model.specs.Layouts.{Holds, Parts, fault_of}
 use Rattle.input_files.specs.Fields.{IsJson, u32_in, u32s_in, with_first}
 use Rattle.input_files.specs.declared.fault.InputFault.{InputFault}
 use Rattle.input_files.specs.declared.fault.InputFault.TheVariants.{Memory, Json, Shape, Piece, Layout}
 
-abbrev pub group_from : Option ℕ → Option (List ℕ) → Option Group
-group_from None members = None
-group_from (Some comm) members = option_map (λ ms. record { comm = comm; members = ms }) members
+abbrev pub communicator_from : Option ℕ → Option (List ℕ) → Option Communicator
+communicator_from None members = None
+communicator_from (Some comm) members = option_map (λ ms. record { comm = comm; members = ms }) members
 
 -- a communicator: its number and its members
-abbrev pub group_in : Data → Option Group
-group_in value = group_from (option_and_then u32_in (get (codes "id") value))
+abbrev pub communicator_in : Data → Option Communicator
+communicator_in value = communicator_from (option_and_then u32_in (get (codes "id") value))
     (option_and_then u32s_in (option_and_then as_array (get (codes "members") value)))
 
 -- the communicators of a list, in its order
-abbrev pub groups_in : Items → Option (List Group)
-groups_in no_items = Some []
-groups_in (item value values) = with_first (group_in value) (groups_in values)
+abbrev pub communicators_in : Items → Option (List Communicator)
+communicators_in no_items = Some []
+communicators_in (item value values) = with_first (communicator_in value) (communicators_in values)
 
 abbrev pub sends_named : List ℕ → Option Sends
 sends_named word = if bytes_eq word (codes "wait") then Some Wait
     else if bytes_eq word (codes "buffer") then Some Buffer else None
 
-abbrev pub parts_from : Option ℕ → Option ℕ → Option Sends → Option (List Group) → Option Parts
+abbrev pub parts_from : Option ℕ → Option ℕ → Option Sends → Option (List Communicator) → Option Parts
 parts_from None world sends comms = None
 parts_from (Some ranks) None sends comms = None
 parts_from (Some ranks) (Some world) None comms = None
@@ -41,7 +41,7 @@ abbrev pub parts_in : Data → Option Parts
 parts_in value = parts_from (option_and_then u32_in (get (codes "ranks") value))
     (option_and_then u32_in (get (codes "world") value))
     (option_and_then sends_named (option_and_then as_str (get (codes "sends") value)))
-    (option_and_then groups_in (option_and_then as_array (get (codes "comms") value)))
+    (option_and_then communicators_in (option_and_then as_array (get (codes "comms") value)))
 
 -- The text tells these fields.
 abbrev pub TellsParts : List ℕ → Parts → Type 0

@@ -3,8 +3,8 @@
 ghost use Rattle.std.specs.Prelude.{◌≡◌, IfErr, IfOk, option_and_then, option_map};
 ghost use Rattle.serde_json.specs.Find.{as_str, get};
 ghost use Rattle.serde_json.specs.View.{items_view, view};
-ghost use Rattle.mpi_model.specs.Groups.{groups};
-ghost use Rattle.input_files.specs.Layouts.{IsLayoutOf, RefusesLayout, group_in, groups_in, parts_in, sends_named};
+ghost use Rattle.mpi_model.specs.Communicators.{communicators};
+ghost use Rattle.input_files.specs.Layouts.{IsLayoutOf, RefusesLayout, communicator_in, communicators_in, parts_in, sends_named};
 
 use crate::fault::InputFault;
 use crate::json::{list_at, str_at, u32_at, u32s_of, value_of};
@@ -44,7 +44,7 @@ struct Given {
 }
 
 fn given_in(alloc: Global, value: &Value) -> Result<Option<Given>, AllocError>
-    ensures { IfOk result (λ o. option_map (λ g. record { ranks = g.ranks; world = g.world; sends = g.sends; comms = groups g.comms.items }) o ≡ parts_in (view value.now)) }
+    ensures { IfOk result (λ o. option_map (λ g. record { ranks = g.ranks; world = g.world; sends = g.sends; comms = communicators g.comms.items }) o ≡ parts_in (view value.now)) }
 {
     let Some(ranks) = u32_at(value, "ranks") else {
         return Ok(None);
@@ -58,7 +58,7 @@ fn given_in(alloc: Global, value: &Value) -> Result<Option<Given>, AllocError>
     let Some(values) = list_at(value, "comms") else {
         return Ok(None);
     };
-    match groups_of(alloc, values)? {
+    match communicators_of(alloc, values)? {
         Some(comms) => Ok(Some(Given {
             ranks,
             world,
@@ -82,21 +82,24 @@ fn sends_at(value: &Value, name: &str) -> Option<Sends>
     }
 }
 
-fn groups_of(alloc: Global, values: &[Value]) -> Result<Option<Vec<(u32, Vec<u32>)>>, AllocError>
-    ensures { IfOk result (λ o. option_map (λ v. groups v.items) o ≡ groups_in (items_view values.now)) }
+fn communicators_of(
+    alloc: Global,
+    values: &[Value],
+) -> Result<Option<Vec<(u32, Vec<u32>)>>, AllocError>
+    ensures { IfOk result (λ o. option_map (λ v. communicators v.items) o ≡ communicators_in (items_view values.now)) }
 {
     let mut found = Vec::new(alloc);
     for value in values {
-        match group_of(alloc, value)? {
-            Some(group) => found.push(group)?,
+        match communicator_of(alloc, value)? {
+            Some(communicator) => found.push(communicator)?,
             None => return Ok(None),
         }
     }
     Ok(Some(found))
 }
 
-fn group_of(alloc: Global, value: &Value) -> Result<Option<(u32, Vec<u32>)>, AllocError>
-    ensures { IfOk result (λ o. option_map (λ g. record { comm = g.0; members = g.1.items }) o ≡ group_in (view value.now)) }
+fn communicator_of(alloc: Global, value: &Value) -> Result<Option<(u32, Vec<u32>)>, AllocError>
+    ensures { IfOk result (λ o. option_map (λ g. record { comm = g.0; members = g.1.items }) o ≡ communicator_in (view value.now)) }
 {
     let Some(id) = u32_at(value, "id") else {
         return Ok(None);

@@ -4,7 +4,7 @@ use Rattle.std.proofs.Math.ListN.{set, length-set}
 use Rattle.std.proofs.lemmas.List.{get_or-replicate}
 use Rattle.std.proofs.lemmas.Grind.{common_steps}
 use Rattle.std.specs.List.{list_any}
-use Rattle.mpi_model.specs.Groups.{has_double}
+use Rattle.mpi_model.specs.Communicators.{has_double}
 
 -- some number of the list is marked when it is reached, each one being marked in its turn
 abbrev pub doubles : List Bool → List ℕ → Bool

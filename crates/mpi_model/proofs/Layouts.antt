@@ -9,30 +9,30 @@ use Rattle.std.specs.List.Sorted.{IsNonDecreasing, IsNonDecreasingBy, IsStrictly
 use Rattle.std.specs.declared.alloc.Global.{Global}
 use Rattle.mpi_model.specs.declared.layout.Sends.{Sends}
 use Rattle.mpi_model.specs.declared.layout.fault.LayoutFault.TheVariants.{CommCount}
-use Rattle.mpi_model.specs.Groups.{Group, InOrder, groups, has_double, members_of, numbers}
+use Rattle.mpi_model.specs.Communicators.{Communicator, InOrder, communicators, has_double, members_of, numbers}
 use Rattle.mpi_model.specs.Layouts.{IsGroup, IsLayout, comm_fault, fault_of, has_double_member, has_stranger, has_world, is_empty_group}
-use Rattle.mpi_model.proofs.Groups.{all_groups, distinct, whole_world}
+use Rattle.mpi_model.proofs.Communicators.{all_groups, distinct, whole_world}
 
-pub length-groups : (cs : List (ℕ × Vec ℕ Global)) → length (groups cs) ≡ length cs
-length-groups [] = refl
-length-groups (c ∷ cs) = ap suc (length-groups cs)
+pub length-communicators : (cs : List (ℕ × Vec ℕ Global)) → length (communicators cs) ≡ length cs
+length-communicators [] = refl
+length-communicators (c ∷ cs) = ap suc (length-communicators cs)
 
 -- the numbers of ranks and of communicators are allowed
-pub within : (ranks world : ℕ) (gs : List Group) → 0 < ranks → ranks ≤ 1024 → length gs ≤ 256 → fault_of ranks world gs ≡ comm_fault ranks world gs
+pub within : (ranks world : ℕ) (gs : List Communicator) → 0 < ranks → ranks ≤ 1024 → length gs ≤ 256 → fault_of ranks world gs ≡ comm_fault ranks world gs
 within ranks world gs some few short =
     let a : (ranks == 0) ≡ false = grind (arith, common_steps) in
     let b : nat_lt 1024 ranks ≡ false = grind (arith, common_steps) in
     let d : nat_lt 256 (length gs) ≡ false = grind (arith, common_steps) in
     rw (a, b, d) refl
 
-pub too_many : (ranks world : ℕ) (gs : List Group) → 0 < ranks → ranks ≤ 1024 → 256 < length gs → fault_of ranks world gs ≡ Some CommCount
+pub too_many : (ranks world : ℕ) (gs : List Communicator) → 0 < ranks → ranks ≤ 1024 → 256 < length gs → fault_of ranks world gs ≡ Some CommCount
 too_many ranks world gs some few long =
     let a : (ranks == 0) ≡ false = grind (arith, common_steps) in
     let b : nat_lt 1024 ranks ≡ false = grind (arith, common_steps) in
     let d : nat_lt 256 (length gs) ≡ true = grind (arith, common_steps) in
     rw (a, b, d) refl
 
-record Passes (ranks world : ℕ) (gs : List Group) : Type 0 where
+record Passes (ranks world : ℕ) (gs : List Communicator) : Type 0 where
   pub single : has_double (numbers gs) ≡ false
   pub full : list_any is_empty_group gs ≡ false
   pub in_range : list_any (λ g. has_stranger ranks g.members) gs ≡ false
@@ -49,7 +49,7 @@ passes_by false false false true e f g h i j n = cc
 passes_by false false false false true f g h i j n = (refl, refl, refl, refl, refl)
 passes_by false false false false false f g h i j n = cc
 
-passes : (ranks world : ℕ) (gs : List Group) → comm_fault ranks world gs ≡ None → Passes ranks world gs
+passes : (ranks world : ℕ) (gs : List Communicator) → comm_fault ranks world gs ≡ None → Passes ranks world gs
 passes ranks world gs n =
     let all = passes_by (has_double (numbers gs)) (list_any is_empty_group gs) (list_any (λ g. has_stranger ranks g.members) gs) (list_any has_double_member gs) (has_world ranks world gs) _ _ _ _ _ n in
     record { single = all.0; full = all.1; in_range = all.2; no_double = all.3; world_there = all.4 }
@@ -57,18 +57,18 @@ passes ranks world gs n =
 flips : (x y : ℕ) → eqb x y ≡ eqb y x
 flips x y = grind (arith, common_steps)
 
-never_falls : (gs : List Group) → IsNonDecreasingBy (λ g. g.comm) gs → IsNonDecreasing (numbers gs)
+never_falls : (gs : List Communicator) → IsNonDecreasingBy (λ g. g.comm) gs → IsNonDecreasing (numbers gs)
 never_falls gs up i j d le lt =
-    let none : Group = record { comm = 0; members = [] } in
+    let none : Communicator = record { comm = 0; members = [] } in
     let in_list : j < length gs = grind (arith, common_steps, lt) in
-    rw (get_or-map (λ (g : Group). g.comm) gs i none d (omega (arith, le, in_list)), get_or-map (λ (g : Group). g.comm) gs j none d in_list) (up i j none le in_list)
+    rw (get_or-map (λ (g : Communicator). g.comm) gs i none d (omega (arith, le, in_list)), get_or-map (λ (g : Communicator). g.comm) gs j none d in_list) (up i j none le in_list)
 
-rising : (given sorted : List Group) → InOrder given sorted → has_double (numbers given) ≡ false → IsStrictlyIncreasing (numbers sorted)
+rising : (given sorted : List Communicator) → InOrder given sorted → has_double (numbers given) ≡ false → IsStrictlyIncreasing (numbers sorted)
 rising given sorted o single =
     IsStrictlyIncreasing-from_distinct (numbers sorted) (never_falls sorted o.rising)
-    (IsDistinct-IsPermutation eqb flips (numbers given) (numbers sorted) (IsPermutation-map (λ (g : Group). g.comm) given sorted o.same) (distinct (numbers given) single))
+    (IsDistinct-IsPermutation eqb flips (numbers given) (numbers sorted) (IsPermutation-map (λ (g : Communicator). g.comm) given sorted o.same) (distinct (numbers given) single))
 
-pub layout_known : (ranks world : ℕ) (sends : Sends) (given sorted : List Group) → 0 < ranks → ranks ≤ 1024 → length given ≤ 256
+pub layout_known : (ranks world : ℕ) (sends : Sends) (given sorted : List Communicator) → 0 < ranks → ranks ≤ 1024 → length given ≤ 256
     → comm_fault ranks world given ≡ None → InOrder given sorted → IsLayout (record { ranks = ranks; world = world; sends = sends; comms = sorted })
 layout_known ranks world sends given sorted some few short n o =
     let p = passes ranks world given n in

@@ -1,5 +1,5 @@
 mod Doubles
-mod Groups
+mod Communicators
 mod Known
 mod Layouts
 mod Orders

@@ -5,20 +5,20 @@ use Rattle.std.proofs.lemmas.Bool.Decides.{nat_tests}
 use Rattle.std.specs.List.{filter}
 use Rattle.std.specs.List.Sorted.{IsStableByKey, ties}
 use Rattle.std.specs.Ordering.{is_lt, nat_cmp}
-use Rattle.mpi_model.specs.Groups.{Group, members_of}
+use Rattle.mpi_model.specs.Communicators.{Communicator, members_of}
 
 -- the sort's own test of one number
-abbrev has_number : ℕ → Group → Bool
+abbrev has_number : ℕ → Communicator → Bool
 has_number n = ties (λ g h. is_lt (nat_cmp g.comm h.comm)) (record { comm = n; members = [] })
 
-abbrev first_members : List Group → Option (List ℕ)
+abbrev first_members : List Communicator → Option (List ℕ)
 first_members [] = None
 first_members (g ∷ gs) = Some g.members
 
 tie_is : (m n : ℕ) → (not (is_lt (nat_cmp m n)) && not (is_lt (nat_cmp n m))) ≡ (n == m)
 tie_is m n = grind (arith, nat_tests, common_steps)
 
-members_first : (n : ℕ) (gs : List Group) → members_of gs n ≡ first_members (filter (has_number n) gs)
+members_first : (n : ℕ) (gs : List Communicator) → members_of gs n ≡ first_members (filter (has_number n) gs)
 members_first n [] = refl
 members_first n (g ∷ gs) = step (g.comm == n) refl (members_first n gs)
   where
@@ -27,6 +27,6 @@ members_first n (g ∷ gs) = step (g.comm == n) refl (members_first n gs)
     step true e rest = rw (tie_is n g.comm, e) refl
     step false e rest = rw (tie_is n g.comm, e) rest
 
-pub members_stay : (given sorted : List Group) → IsStableByKey (λ g. g.comm) nat_cmp given sorted → (n : ℕ) → members_of sorted n ≡ members_of given n
+pub members_stay : (given sorted : List Communicator) → IsStableByKey (λ g. g.comm) nat_cmp given sorted → (n : ℕ) → members_of sorted n ≡ members_of given n
 members_stay given sorted stable n =
     members_first n sorted ∙ ap first_members (stable (record { comm = n; members = [] })) ∙ sym (members_first n given)

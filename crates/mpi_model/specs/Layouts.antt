@@ -5,14 +5,14 @@ use Rattle.std.specs.List.Sorted.{IsStrictlyIncreasing}
 use Rattle.mpi_model.specs.declared.layout.Sends.{Sends}
 use Rattle.mpi_model.specs.declared.layout.fault.LayoutFault.{LayoutFault}
 use Rattle.mpi_model.specs.declared.layout.fault.LayoutFault.TheVariants.{RankCount, CommCount, DoubleComm, EmptyComm, MemberRange, DoubleMember, World}
-use Rattle.mpi_model.specs.Groups.{Group, has_double, members_of, numbers}
+use Rattle.mpi_model.specs.Communicators.{Communicator, has_double, members_of, numbers}
 
 -- what a layout holds
 pub record Parts : Type 0 where
   pub ranks : ℕ
   pub world : ℕ
   pub sends : Sends
-  pub comms : List Group
+  pub comms : List Communicator
 
 -- A group: an ordered set of ranks of the run, with at least one (MPI 4.0, 7.2.1).
 pub record IsGroup (ranks : ℕ) (members : List ℕ) : Type 0 where
@@ -30,20 +30,20 @@ pub record IsLayout (l : Parts) : Type 0 where
   pub world : members_of l.comms l.world ≡ Some (range_with_len 0 l.ranks)
 
 -- The layout holds what was given: each number names the members that it named there.
-pub record Holds (ranks world : ℕ) (sends : Sends) (given : List Group) (l : Parts) : Type 0 where
+pub record Holds (ranks world : ℕ) (sends : Sends) (given : List Communicator) (l : Parts) : Type 0 where
   pub same_ranks : l.ranks ≡ ranks
   pub same_world : l.world ≡ world
   pub same_sends : l.sends ≡ sends
   pub members : (comm : ℕ) → members_of l.comms comm ≡ members_of given comm
 
-abbrev pub is_empty_group : Group → Bool
+abbrev pub is_empty_group : Communicator → Bool
 is_empty_group g = length g.members == 0
 
 -- some member is no rank of the run
 abbrev pub has_stranger : ℕ → List ℕ → Bool
 has_stranger ranks members = list_any (λ r. nat_le ranks r) members
 
-abbrev pub has_double_member : Group → Bool
+abbrev pub has_double_member : Communicator → Bool
 has_double_member g = has_double g.members
 
 -- the numbers are first, first + 1, and so on
@@ -60,11 +60,11 @@ is_some_whole ranks None = false
 is_some_whole ranks (Some members) = is_whole ranks members
 
 -- the world is there, and has all ranks in order
-abbrev pub has_world : ℕ → ℕ → List Group → Bool
+abbrev pub has_world : ℕ → ℕ → List Communicator → Bool
 has_world ranks world gs = is_some_whole ranks (members_of gs world)
 
 -- the first fault of these communicators, where they are not too many
-abbrev pub comm_fault : ℕ → ℕ → List Group → Option LayoutFault
+abbrev pub comm_fault : ℕ → ℕ → List Communicator → Option LayoutFault
 comm_fault ranks world gs =
     if has_double (numbers gs) then Some DoubleComm
     else if list_any is_empty_group gs then Some EmptyComm
@@ -74,7 +74,7 @@ comm_fault ranks world gs =
     else Some World
 
 -- The first fault of a layout of these communicators, in the order of the numbers.
-abbrev pub fault_of : ℕ → ℕ → List Group → Option LayoutFault
+abbrev pub fault_of : ℕ → ℕ → List Communicator → Option LayoutFault
 fault_of ranks world gs =
     if (ranks == 0) || nat_lt 1024 ranks then Some RankCount
     else if nat_lt 256 (length gs) then Some CommCount

@@ -3,7 +3,7 @@ pub mod Side
 pub mod Times
 pub mod Ranges
 pub mod Whole
-pub mod Groups
+pub mod Communicators
 pub mod Layouts
 pub mod Devices
 pub mod Fit

@@ -2,7 +2,7 @@
 
 ghost use Rattle.std.specs.Prelude.{◌≡◌, ◌≢◌, ◌==◌, ◌<◌, ◌≤◌, IfOk, IfErr, IfSome, OnOk, Some, None, option_and_then, option_map, slice_get};
 ghost use Rattle.std.specs.List.{position_from};
-ghost use Rattle.mpi_model.specs.Groups.{groups, members_of};
+ghost use Rattle.mpi_model.specs.Communicators.{communicators, members_of};
 ghost use Rattle.mpi_model.specs.Layouts.{Holds, IsGroup, IsLayout, fault_of};
 ghost use Rattle.mpi_model.specs.declared.layout.fault.LayoutFault.TheVariants.{Memory};
 
@@ -61,10 +61,10 @@ impl Layout {
         comms: Vec<(u32, Vec<u32>)>,
         sends: Sends,
     ) -> Result<Layout, LayoutFault>
-        ensures ok { IfOk result (λ l. Holds ranks world sends (groups comms.items) l) }
+        ensures ok { IfOk result (λ l. Holds ranks world sends (communicators comms.items) l) }
         ensures rules { IfOk result (λ l. IsLayout l) }
-        ensures none { OnOk result (fault_of ranks world (groups comms.items) ≡ None) }
-        ensures fault { IfErr result (λ e. e ≢ Memory → fault_of ranks world (groups comms.items) ≡ Some e) }
+        ensures none { OnOk result (fault_of ranks world (communicators comms.items) ≡ None) }
+        ensures fault { IfErr result (λ e. e ≢ Memory → fault_of ranks world (communicators comms.items) ≡ Some e) }
     {
         if ranks == 0 || ranks > MOST_RANKS {
             return Err(LayoutFault::RankCount);

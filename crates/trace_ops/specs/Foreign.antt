@@ -8,7 +8,7 @@ use Rattle.mpi_model.specs.declared.envelope.CommRef.TheVariants as comms
 use Rattle.mpi_model.specs.declared.envelope.Envelope.{Envelope}
 use Rattle.mpi_model.specs.declared.call.Call.{Call}
 use Rattle.mpi_model.specs.declared.call.Call.TheVariants as calls
-use Rattle.mpi_model.specs.Groups.{members_of}
+use Rattle.mpi_model.specs.Communicators.{members_of}
 use Rattle.mpi_model.specs.Layouts.{Parts}
 
 -- the number of the communicator that a call names

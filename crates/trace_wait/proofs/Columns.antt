@@ -8,7 +8,7 @@ use Rattle.std.proofs.lemmas.List.{take_more, length-map, length-take-le}
 use Rattle.std.proofs.lemmas.Map.Steps.{length-le_from_distinct_below}
 use Rattle.std.proofs.lemmas.Bool.Decides.{nat_tests}
 use Rattle.mpi_model.specs.Layouts.{IsGroup}
-use Rattle.mpi_model.specs.Groups.{Group}
+use Rattle.mpi_model.specs.Communicators.{Communicator}
 use Rattle.trace_ops.specs.declared.entered.Entered.{Entered}
 use Rattle.trace_wait.specs.declared.round.Round.{Round}
 use Rattle.trace_wait.specs.declared.round.Standing.{Standing}
@@ -137,7 +137,7 @@ emitted c members col short first (t ∷ ts) h =
     along : (first j : ℕ) → first + suc j ≡ first + 1 + j
     along first j = omega arith
 
-pub rounds_are : (comms : List Group) (ops : List Ops) (c : ℕ) → length (group comms c) ≤ 1024 →
+pub rounds_are : (comms : List Communicator) (ops : List Ops) (c : ℕ) → length (group comms c) ≤ 1024 →
     rounds_from c (length (group comms c)) 0 (tallied ops c (group comms c)) ≡ rounds_on comms ops c
 rounds_are comms ops c few =
     let members = group comms c in
@@ -177,10 +177,10 @@ rounds_from_more c members first (t ∷ ts) (suc i) k d e lt =
     rw n (ap (λ (l : List Round). record { comm = c; k = first; standing = stands members t } ∷ l) (rounds_from_more c members (first + 1) ts i k d (omega (arith, e)) (omega (arith, lt))))
 
 module _ (f : ℕ → List Round) where
-  abbrev of_comms : List Group → List Round
+  abbrev of_comms : List Communicator → List Round
   of_comms comms = flat_map (λ g. f g.comm) comms
 
-  pub comm_more : (comms : List Group) (i c : ℕ) → option_map (λ g. g.comm) (slice_get comms i) ≡ Some c →
+  pub comm_more : (comms : List Communicator) (i c : ℕ) → option_map (λ g. g.comm) (slice_get comms i) ≡ Some c →
       (i < length comms) × (of_comms (take (i + 1) comms) ≡ of_comms (take i comms) ++ f c)
   comm_more [] i c h = absurd (cc)
   comm_more (g ∷ comms) zero c h = let e : g.comm ≡ c = cc in (omega arith, append-nil (f g.comm) ∙ ap f e)
@@ -189,7 +189,7 @@ module _ (f : ℕ → List Round) where
       let n : suc i + 1 ≡ suc (i + 1) = omega arith in
       (omega (arith, p.0), rw n (ap (λ (l : List Round). f g.comm ++ l) p.1 ∙ sym (append_assoc (f g.comm) (of_comms (take i comms)) (f c))))
 
-  pub comm_end : (comms : List Group) (i : ℕ) → option_map (λ g. g.comm) (slice_get comms i) ≡ None → of_comms (take i comms) ≡ of_comms comms
+  pub comm_end : (comms : List Communicator) (i : ℕ) → option_map (λ g. g.comm) (slice_get comms i) ≡ None → of_comms (take i comms) ≡ of_comms comms
   comm_end [] zero h = refl
   comm_end [] (suc i) h = refl
   comm_end (g ∷ comms) zero h = absurd (cc)

@@ -4,7 +4,7 @@ use Rattle.std.specs.Prelude.{slice_get, ◌==◌, eqb, cond, unwrap_or, slice_i
 use Rattle.std.specs.List.{find}
 use Rattle.std.specs.Option.{option_map}
 use Rattle.std.proofs.lemmas.Bool.Decides.{nat_tests}
-use Rattle.mpi_model.specs.Groups.{Group, members_of}
+use Rattle.mpi_model.specs.Communicators.{Communicator, members_of}
 use Rattle.trace_ops.specs.Ops.{Ops}
 use Rattle.trace_wait.specs.Calls.{CallsOn, calls_of, counts, table, row_of}
 
@@ -19,20 +19,20 @@ abbrev in_row : Option CallsOn → List ℕ
 in_row (Some t) = t.calls
 in_row None = []
 
-module _ (comms : List Group) (ops : List Ops) where
-  no_row : (gs : List Group) (c : ℕ) → members_of gs c ≡ None → row_of (table comms ops gs) c ≡ []
+module _ (comms : List Communicator) (ops : List Ops) where
+  no_row : (gs : List Communicator) (c : ℕ) → members_of gs c ≡ None → row_of (table comms ops gs) c ≡ []
   no_row [] c h = refl
   no_row (g ∷ gs) c h =
       ⊎_elim
       (λ (e : eqb g.comm c ≡ true).
-      let k : option_map (λ (g : Group). g.members) (cond true (Some g) (find (λ g. g.comm == c) gs)) ≡ None =
-      subst (λ (b : Bool). option_map (λ (g : Group). g.members) (cond b (Some g) (find (λ g. g.comm == c) gs)) ≡ None) e h in absurd (cc))
+      let k : option_map (λ (g : Communicator). g.members) (cond true (Some g) (find (λ g. g.comm == c) gs)) ≡ None =
+      subst (λ (b : Bool). option_map (λ (g : Communicator). g.members) (cond b (Some g) (find (λ g. g.comm == c) gs)) ≡ None) e h in absurd (cc))
       (λ (e : eqb g.comm c ≡ false).
-      let k : members_of gs c ≡ None = subst (λ (b : Bool). option_map (λ (g : Group). g.members) (cond b (Some g) (find (λ g. g.comm == c) gs)) ≡ None) e h in
+      let k : members_of gs c ≡ None = subst (λ (b : Bool). option_map (λ (g : Communicator). g.members) (cond b (Some g) (find (λ g. g.comm == c) gs)) ≡ None) e h in
       subst (λ (b : Bool). in_row (cond b (Some (record { comm = g.comm; calls = counts comms ops g.comm })) (find (λ t. t.comm == c) (table comms ops gs))) ≡ []) (sym e) (no_row gs c k))
       (two_cases (eqb g.comm c))
 
-  some_row : (gs : List Group) (c : ℕ) (m : List ℕ) → members_of gs c ≡ Some m → row_of (table comms ops gs) c ≡ counts comms ops c
+  some_row : (gs : List Communicator) (c : ℕ) (m : List ℕ) → members_of gs c ≡ Some m → row_of (table comms ops gs) c ≡ counts comms ops c
   some_row [] c m h = absurd (cc)
   some_row (g ∷ gs) c m h =
       ⊎_elim
@@ -40,7 +40,7 @@ module _ (comms : List Group) (ops : List Ops) where
       subst (λ (b : Bool). in_row (cond b (Some (record { comm = g.comm; calls = counts comms ops g.comm })) (find (λ t. t.comm == c) (table comms ops gs))) ≡ counts comms ops c) (sym e)
       (ap (counts comms ops) (same_comm g.comm c e)))
       (λ (e : eqb g.comm c ≡ false).
-      let k : members_of gs c ≡ Some m = subst (λ (b : Bool). option_map (λ (g : Group). g.members) (cond b (Some g) (find (λ g. g.comm == c) gs)) ≡ Some m) e h in
+      let k : members_of gs c ≡ Some m = subst (λ (b : Bool). option_map (λ (g : Communicator). g.members) (cond b (Some g) (find (λ g. g.comm == c) gs)) ≡ Some m) e h in
       subst (λ (b : Bool). in_row (cond b (Some (record { comm = g.comm; calls = counts comms ops g.comm })) (find (λ t. t.comm == c) (table comms ops gs))) ≡ counts comms ops c) (sym e) (some_row gs c m k))
       (two_cases (eqb g.comm c))
 
@@ -52,7 +52,7 @@ module _ (comms : List Group) (ops : List Ops) where
       by None e = no_row comms c e ∙ sym (ap (λ (o : Option (List ℕ)). map (calls_of ops c) (unwrap_or o [])) e)
 
   -- one communicator more
-  pub table_more : (gs : List Group) (i c : ℕ) → option_map (λ g. g.comm) (slice_get gs i) ≡ Some c →
+  pub table_more : (gs : List Communicator) (i c : ℕ) → option_map (λ g. g.comm) (slice_get gs i) ≡ Some c →
       (i < length gs) × (table comms ops (take (i + 1) gs) ≡ table comms ops (take i gs) ++ record { comm = c; calls = counts comms ops c } ∷ [])
   table_more [] i c h = absurd (cc)
   table_more (g ∷ gs) zero c h = let e : g.comm ≡ c = cc in (omega arith, ap (λ (n : ℕ). record { comm = n; calls = counts comms ops n } ∷ []) e)
@@ -61,7 +61,7 @@ module _ (comms : List Group) (ops : List Ops) where
       let n : suc i + 1 ≡ suc (i + 1) = omega arith in
       (omega (arith, p.0), rw n (ap (λ (l : List CallsOn). record { comm = g.comm; calls = counts comms ops g.comm } ∷ l) p.1))
 
-  pub table_end : (gs : List Group) (i : ℕ) → option_map (λ g. g.comm) (slice_get gs i) ≡ None → table comms ops (take i gs) ≡ table comms ops gs
+  pub table_end : (gs : List Communicator) (i : ℕ) → option_map (λ g. g.comm) (slice_get gs i) ≡ None → table comms ops (take i gs) ≡ table comms ops gs
   table_end [] zero h = refl
   table_end [] (suc i) h = refl
   table_end (g ∷ gs) zero h = absurd (cc)

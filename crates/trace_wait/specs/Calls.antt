@@ -1,7 +1,7 @@
 -- How many calls on a communicator each of its members has entered.
 use Rattle.std.specs.Prelude.{ℕ, ◌==◌, Option, Some, None, List, [], ◌∷◌, map, count_by}
 use Rattle.std.specs.List.{find}
-use Rattle.mpi_model.specs.Groups.{Group}
+use Rattle.mpi_model.specs.Communicators.{Communicator}
 use Rattle.trace_ops.specs.Ops.{Ops}
 use Rattle.trace_wait.specs.Ranks.{ops_of}
 use Rattle.trace_wait.specs.Rounds.{group}
@@ -14,10 +14,10 @@ pub record CallsOn : Type 0 where
 abbrev pub calls_of : List Ops → ℕ → ℕ → ℕ
 calls_of ops c r = count_by (λ e. e.comm == c) (ops_of ops r).rounds
 
-abbrev pub counts : List Group → List Ops → ℕ → List ℕ
+abbrev pub counts : List Communicator → List Ops → ℕ → List ℕ
 counts comms ops c = map (calls_of ops c) (group comms c)
 
-abbrev pub table : List Group → List Ops → List Group → List CallsOn
+abbrev pub table : List Communicator → List Ops → List Communicator → List CallsOn
 table comms ops [] = []
 table comms ops (g ∷ gs) = record { comm = g.comm; calls = counts comms ops g.comm } ∷ table comms ops gs
 

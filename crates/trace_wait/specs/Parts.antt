@@ -4,7 +4,7 @@ use Rattle.std.specs.List.{list_any, find, filter_map}
 use Rattle.std.specs.Option.{option_map}
 use Rattle.std.specs.Ordering.{int_eq}
 use Rattle.mpi_model.specs.Layouts.{Parts}
-use Rattle.mpi_model.specs.Groups.{members_of}
+use Rattle.mpi_model.specs.Communicators.{members_of}
 use Rattle.mpi_model.specs.declared.layout.Sends.{Sends}
 use Rattle.mpi_model.specs.declared.layout.Sends.TheVariants as sends
 use Rattle.mpi_model.specs.declared.envelope.Mode.{Mode}

@@ -1,7 +1,7 @@
 -- The collective rounds of a communicator (MPI 4.0, 6.1: the members call in one order).
 use Rattle.std.specs.Prelude.{ℕ, ◌+◌, Bool, true, false, ◌==◌, ◌&&◌, not, Option, Some, None, List, [], ◌∷◌, filter, map, length, slice_get, if◌then◌else◌, max, unwrap_or}
 use Rattle.std.specs.List.{list_all, flat_map, filter_map, range_with_len}
-use Rattle.mpi_model.specs.Groups.{Group, members_of}
+use Rattle.mpi_model.specs.Communicators.{Communicator, members_of}
 use Rattle.mpi_model.specs.declared.collective.Kind.{Kind}
 use Rattle.mpi_model.specs.declared.collective.Kind.TheVariants.{Barrier, Bcast, Scatter, Gather, Reduce, Allreduce, Allgather, Alltoall}
 use Rattle.trace_ops.specs.declared.entered.Entered.{Entered}
@@ -33,7 +33,7 @@ abbrev pub alike : Entered → Entered → Bool
 alike a b = (kind_number a.kind == kind_number b.kind) && same_root a.root b.root
 
 -- the members of a communicator, in group order
-abbrev pub group : List Group → ℕ → List ℕ
+abbrev pub group : List Communicator → ℕ → List ℕ
 group comms c = unwrap_or (members_of comms c) []
 
 -- the collective calls of one rank on a communicator, in their order
@@ -66,10 +66,10 @@ depth [] = 0
 depth (row ∷ calls) = max (length row) (depth calls)
 
 -- the rounds of a communicator, by k
-abbrev pub rounds_on : List Group → List Ops → ℕ → List Round
+abbrev pub rounds_on : List Communicator → List Ops → ℕ → List Round
 rounds_on comms ops c = let members = group comms c in let calls = rows ops c members in
     filter_map (λ k. round_of c (length members) k (column k calls)) (range_with_len 0 (depth calls))
 
 -- the rounds of all communicators, by communicator and k
-abbrev pub rounds_of : List Group → List Ops → List Round
+abbrev pub rounds_of : List Communicator → List Ops → List Round
 rounds_of comms ops = flat_map (λ g. rounds_on comms ops g.comm) comms

@@ -2,7 +2,7 @@
 
 ghost use Rattle.std.specs.Prelude.{◌≡◌, ◌==◌, ◌<◌, ◌^◌, IfOk, length, option_map};
 ghost use Rattle.std.specs.List.{position_from};
-ghost use Rattle.mpi_model.specs.Groups.{InOrder, groups, members_of};
+ghost use Rattle.mpi_model.specs.Communicators.{InOrder, communicators, members_of};
 
 use std::alloc::{AllocError, Global};
 use std::marker::Model;
@@ -15,9 +15,9 @@ pub(crate) struct Comm {
 }
 
 impl Model for Comm {
-    ghost use Rattle.mpi_model.specs.Groups.{Group};
+    ghost use Rattle.mpi_model.specs.Communicators.{Communicator};
 
-    ghost Value = { Group };
+    ghost Value = { Communicator };
 
     ghost view = { λ c. record { comm = c.number; members = c.members.items } };
 }
@@ -44,7 +44,7 @@ impl Comm {
 
 /// The communicators as they were given.
 pub(crate) fn comms_of(alloc: Global, given: Vec<(u32, Vec<u32>)>) -> Result<Vec<Comm>, AllocError>
-    ensures { IfOk result (λ v. v.items ≡ groups given.items) }
+    ensures { IfOk result (λ v. v.items ≡ communicators given.items) }
 {
     let mut comms = Vec::with_capacity(alloc, given.len())?;
     for (number, members) in given {

@@ -2,7 +2,7 @@
 
 ghost use Rattle.std.specs.Prelude.{◌≡◌, ◌==◌, IfOk, false};
 ghost use Rattle.std.specs.List.{list_any};
-ghost use Rattle.mpi_model.specs.Groups.{has_double, numbers};
+ghost use Rattle.mpi_model.specs.Communicators.{has_double, numbers};
 ghost use Rattle.mpi_model.specs.Layouts.{comm_fault, has_double_member, has_stranger, has_world, is_empty_group, is_whole};
 
 use crate::layout::comm::{Comm, members_in};

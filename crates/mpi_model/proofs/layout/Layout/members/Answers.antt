@@ -1,7 +1,7 @@
 use Rattle.std.proofs.Common.{◌≡◌, option_map, rules}
-use Rattle.mpi_model.specs.Groups.{members_of}
+use Rattle.mpi_model.specs.Communicators.{members_of}
 use Rattle.mpi_model.specs.Layouts.{IsGroup}
-use Rattle.mpi_model.proofs.Groups.{named_group, under_map}
+use Rattle.mpi_model.proofs.Communicators.{named_group, under_map}
 use Rattle.mpi_model.proofs.layout.Layout.members.Goals as goal
 
 pub returns-clause-group : goal.returns-clause-group

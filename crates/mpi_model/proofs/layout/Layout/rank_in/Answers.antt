@@ -1,7 +1,7 @@
 use Rattle.std.proofs.Common.{◌≡◌, arith, rules, Some, IfSome, subst}
-use Rattle.mpi_model.specs.Groups.{members_of}
+use Rattle.mpi_model.specs.Communicators.{members_of}
 use Rattle.mpi_model.specs.Layouts.{IsGroup}
-use Rattle.mpi_model.proofs.Groups.{named_group, small_group}
+use Rattle.mpi_model.proofs.Communicators.{named_group, small_group}
 use Rattle.mpi_model.proofs.layout.Layout.rank_in.Goals as goal
 
 pub place_of-requires : goal.place_of-requires

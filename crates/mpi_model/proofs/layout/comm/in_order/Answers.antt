@@ -1,6 +1,6 @@
 use Rattle.std.proofs.Common.{rules}
 use Rattle.std.proofs.lemmas.List.Sorted.{IsNonDecreasingBy-from_sort_by_key, answers_always}
-use Rattle.mpi_model.specs.Groups.{Group}
+use Rattle.mpi_model.specs.Communicators.{Communicator}
 use Rattle.mpi_model.proofs.Orders.{members_stay}
 use Rattle.mpi_model.proofs.layout.comm.in_order.Goals as goal
 
@@ -8,6 +8,6 @@ pub returns : goal.returns
 returns c =
     record {
       same = c.sort_by_key.ensures.permutation;
-      rising = IsNonDecreasingBy-from_sort_by_key (λ (g : Group). g.comm) _ c.in_ok-sort_by_key.ensures.sorted (λ a r q k. search rules);
-      members = members_stay _ _ (c.sort_by_key.ensures.stable (λ (g : Group). g.comm) (answers_always _ _ _ (λ a r q k. search rules)));
+      rising = IsNonDecreasingBy-from_sort_by_key (λ (g : Communicator). g.comm) _ c.in_ok-sort_by_key.ensures.sorted (λ a r q k. search rules);
+      members = members_stay _ _ (c.sort_by_key.ensures.stable (λ (g : Communicator). g.comm) (answers_always _ _ _ (λ a r q k. search rules)));
     }

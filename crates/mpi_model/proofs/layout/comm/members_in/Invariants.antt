@@ -1,5 +1,5 @@
 use Rattle.std.proofs.Common.{◌≡◌, drop}
-use Rattle.mpi_model.specs.Groups.{members_of}
+use Rattle.mpi_model.specs.Communicators.{members_of}
 use Rattle.mpi_model.proofs.layout.comm.members_in.Given as goal
 
 abbrev pub invariant-loop-candidate : goal.invariant-loop-candidate

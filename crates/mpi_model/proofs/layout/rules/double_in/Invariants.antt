@@ -1,6 +1,6 @@
 use Rattle.std.proofs.Common.{◌≡◌, drop, false, length}
 use Rattle.mpi_model.proofs.Doubles.{doubles}
-use Rattle.mpi_model.specs.Groups.{has_double}
+use Rattle.mpi_model.specs.Communicators.{has_double}
 use Rattle.mpi_model.specs.Layouts.{has_stranger}
 use Rattle.mpi_model.proofs.layout.rules.double_in.Given as goal
 

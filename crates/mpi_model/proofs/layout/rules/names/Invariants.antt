@@ -1,6 +1,6 @@
 use Rattle.std.proofs.Common.{◌≡◌, ◌==◌, drop}
 use Rattle.std.specs.List.{list_any}
-use Rattle.mpi_model.specs.Groups.{numbers}
+use Rattle.mpi_model.specs.Communicators.{numbers}
 use Rattle.mpi_model.proofs.layout.rules.names.Given as goal
 
 abbrev pub invariant-loop-comm : goal.invariant-loop-comm

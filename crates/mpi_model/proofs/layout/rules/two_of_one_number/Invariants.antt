@@ -1,5 +1,5 @@
 use Rattle.std.proofs.Common.{◌≡◌, drop}
-use Rattle.mpi_model.specs.Groups.{has_double, numbers}
+use Rattle.mpi_model.specs.Communicators.{has_double, numbers}
 use Rattle.mpi_model.proofs.layout.rules.two_of_one_number.Given as goal
 
 abbrev pub invariant-loop-i : goal.invariant-loop-i

@@ -5,7 +5,7 @@ use Rattle.std.proofs.lemmas.List.Elements.{All-from_recursion, All-head, All-ta
 use Rattle.std.proofs.lemmas.Map.Keys.{IsDistinct-cons}
 use Rattle.std.proofs.lemmas.Map.Steps.{length-le_from_distinct_below}
 use Rattle.std.specs.List.{All, AllByRecursion, IsDistinct, list_any, range_with_len}
-use Rattle.mpi_model.specs.Groups.{Group, has_double, members_of}
+use Rattle.mpi_model.specs.Communicators.{Communicator, has_double, members_of}
 use Rattle.mpi_model.specs.Layouts.{IsGroup, counts_from, has_double_member, has_stranger, is_empty_group, is_some_whole, is_whole}
 
 pub or_false : (a b : Bool) → (a || b) ≡ false → (a ≡ false) × (b ≡ false)
@@ -39,7 +39,7 @@ each_below n (x ∷ xs) h =
     let first : x < n = grind (arith, common_steps) in
     (first, each_below n xs parts.1)
 
-group_of : (ranks : ℕ) (g : Group) → is_empty_group g ≡ false → has_stranger ranks g.members ≡ false → has_double_member g ≡ false → IsGroup ranks g.members
+group_of : (ranks : ℕ) (g : Communicator) → is_empty_group g ≡ false → has_stranger ranks g.members ≡ false → has_double_member g ≡ false → IsGroup ranks g.members
 group_of ranks g full range single =
     record {
       some = grind (arith, common_steps, full);
@@ -47,7 +47,7 @@ group_of ranks g full range single =
       distinct = distinct g.members single;
     }
 
-each_group : (ranks : ℕ) (gs : List Group) → list_any is_empty_group gs ≡ false → list_any (λ g. has_stranger ranks g.members) gs ≡ false
+each_group : (ranks : ℕ) (gs : List Communicator) → list_any is_empty_group gs ≡ false → list_any (λ g. has_stranger ranks g.members) gs ≡ false
     → list_any has_double_member gs ≡ false → AllByRecursion (λ g. IsGroup ranks g.members) gs
 each_group ranks [] full range single = search rules
 each_group ranks (g ∷ gs) full range single =
@@ -56,12 +56,12 @@ each_group ranks (g ∷ gs) full range single =
     let c = or_false (has_double_member g) (list_any has_double_member gs) single in
     (group_of ranks g a.0 b.0 c.0, each_group ranks gs a.1 b.1 c.1)
 
-pub all_groups : (ranks : ℕ) (gs : List Group) → list_any is_empty_group gs ≡ false → list_any (λ g. has_stranger ranks g.members) gs ≡ false
+pub all_groups : (ranks : ℕ) (gs : List Communicator) → list_any is_empty_group gs ≡ false → list_any (λ g. has_stranger ranks g.members) gs ≡ false
     → list_any has_double_member gs ≡ false → All (λ g. IsGroup ranks g.members) gs
 all_groups ranks gs full range single = All-from_recursion (λ g. IsGroup ranks g.members) gs (each_group ranks gs full range single)
 
 -- what a number names is a group
-pub named_group : (ranks : ℕ) (gs : List Group) (n : ℕ) → All (λ g. IsGroup ranks g.members) gs → IfSome (members_of gs n) (IsGroup ranks)
+pub named_group : (ranks : ℕ) (gs : List Communicator) (n : ℕ) → All (λ g. IsGroup ranks g.members) gs → IfSome (members_of gs n) (IsGroup ranks)
 named_group ranks [] n all = search rules
 named_group ranks (g ∷ gs) n all =
     step (g.comm == n) refl (All-head (λ g. IsGroup ranks g.members) g gs all) (named_group ranks gs n (All-tail (λ g. IsGroup ranks g.members) g gs all))
