@@ -46,7 +46,7 @@ pub fn know_of<O: Opener, V: Watcher>(
             Err(fault) => return Err(fault),
         };
         stranger = with_stranger(alloc, stranger, layout, piece, &segments)?;
-        take_all(&mut know, &segments)?;
+        take_all(&mut know, segments)?;
     }
     match stranger {
         Some(path) => Err(RunFault::Rank { path }),
@@ -85,13 +85,14 @@ fn have_calls(segments: &[Segment]) -> bool
     true
 }
 
-fn take_all(know: &mut Knowledge, segments: &[Segment]) -> Result<(), AllocError>
-    ensures { OnOk result (know.new ≡ join know.old (view_of (facts_of_all segments.now))) }
+// Takes segments that are not needed any more, with their events.
+fn take_all(know: &mut Knowledge, segments: Vec<Segment>) -> Result<(), AllocError>
+    ensures { OnOk result (know.new ≡ join know.old (view_of (facts_of_all segments.items))) }
 {
     join_laws();
     view_laws();
     for segment in segments {
-        know.take(segment)?;
+        know.take_owned(segment)?;
     }
     Ok(())
 }

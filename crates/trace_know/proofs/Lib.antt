@@ -20,3 +20,4 @@ pub mod Fronts
 pub mod Alike
 pub mod Below
 pub mod Beyond
+pub mod Covering

@@ -8,3 +8,4 @@ pub mod Placed
 pub mod Listing
 pub mod Rows
 pub mod Runs
+pub mod Patches

@@ -4,7 +4,8 @@ ghost use Rattle.std.specs.Prelude.{◌≡◌, ◌↔◌, ℕ, Some, IsTrue};
 ghost use Rattle.std.specs.Option.{option_map, option_copied};
 ghost use Rattle.trace_know.specs.Cell.{IsAtMost};
 ghost use Rattle.trace_know.specs.declared.cell.Known.{Known as KnownValue};
-ghost use Rattle.trace_know.specs.Runs.{Above, AllHeld, of_runs};
+ghost use Rattle.trace_know.specs.Runs.{Above, AllHeld, IsFilled, of_run, of_runs};
+ghost use Rattle.trace_know.specs.View.{join};
 
 use crate::boxed::BoxedRun;
 use crate::cell::Known;
@@ -55,6 +56,21 @@ pub(crate) fn holds_all(runs: &[BoxedRun], others: Walk<'_>) -> bool
     let mut others = others;
     while let Some((rank, place, known)) = others.next() {
         if !is_held(known_in(runs, rank, place), known) {
+            return false;
+        }
+    }
+    true
+}
+
+/// Whether runs hold all cells of another.
+pub(crate) fn holds_run(runs: &[BoxedRun], other: &BoxedRun) -> bool
+    requires above { Above 0 runs.now }
+    requires filled { IsFilled other.now }
+    ensures { IsTrue result → join (of_runs runs.now) (of_run other.now) ≡ of_runs runs.now }
+{
+    for i in 0..other.len() {
+        let place = other.first() + i as u64;
+        if !is_held(known_in(runs, other.rank(), place), other.cell(i)) {
             return false;
         }
     }

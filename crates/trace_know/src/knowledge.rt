@@ -14,7 +14,8 @@ ghost use Rattle.trace_know.specs.View.{IsBelow, cell, join};
 use crate::boxed::BoxedRun;
 use crate::cell::{Cell, Known, cell_of, known_of};
 use crate::compare::{holds_all, same_cells};
-use crate::copies::{copies_of, join_each};
+use crate::copies::copies_of;
+use crate::patches::join_runs;
 use crate::readers::{
     any_from, cell_in, conflict_in, conflict_places_in, count_cells, count_conflicts, known_in,
     prefix_in, readable_in,
@@ -94,19 +95,14 @@ impl Knowledge {
         self.join_run(piece)
     }
 
-    /// Joins all that the other knows. Without memory nothing changes. Works on a copy, but where
-    /// the other knows nothing more.
+    /// Joins all that the other knows. Without memory nothing changes. It costs what the runs of the
+    /// other have and those of ours that touch one which tells more; of all others a pointer moves.
     pub fn join(&mut self, other: &Knowledge) -> Result<(), AllocError>
         ensures ok { OnOk result (self.new ≡ join self.old other.now) }
         ensures err { OnErr result (self.new ≡ self.old) }
     {
-        if self.contains(other) {
-            return Ok(());
-        }
         let most = self.most_with(other.count())?;
-        let mut runs = copies_of(self.alloc, &self.runs)?;
-        join_each(self.alloc, &mut runs, &other.runs)?;
-        self.runs = runs;
+        join_runs(self.alloc, &mut self.runs, &other.runs)?;
         self.most = most;
         Ok(())
     }

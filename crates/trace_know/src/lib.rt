@@ -9,14 +9,14 @@
 //! by halving the runs that it touches, and moves its cells into the longest of them, or that one's
 //! into it: at a run's end it costs its own cells, and in any order of the segments a cell moves as
 //! often as the logarithm of their number. A new run among others moves a pointer for each later
-//! one. Joining other knowledge costs a copy of all cells, but where it knows nothing
-//! more. The readable prefix of a rank is one halving, and so is a cell. A walk over all cells
-//! takes no memory.
+//! one. Joining other knowledge costs its cells, and of ours those of the runs that it touches with
+//! something new; of all others a pointer is moved. The readable prefix of a rank is one halving, and
+//! so is a cell. A walk over all cells takes no memory.
 //!
 //! - [`cell`]: what is known of one place
 //! - [`segment`]: events of one rank at consecutive places
 //! - [`run`]: cells of one rank without a gap; [`boxed`]: a run in memory of its own; [`runs`]: such
-//!   runs in their order; [`copies`]: of runs
+//!   runs in their order; [`copies`]: of runs; [`patches`]: joins of whole lists of runs
 //! - [`readers`]: what runs tell; [`walk`]: their cells one after another; [`compare`]: by walks
 //! - [`knowledge`]: all that is known
 //! - [`laws`]: what holds of joins and views, as contracts of calls that do nothing
@@ -30,6 +30,7 @@ mod compare;
 mod copies;
 mod knowledge;
 mod laws;
+mod patches;
 mod readers;
 mod run;
 mod runs;

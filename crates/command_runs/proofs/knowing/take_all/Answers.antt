@@ -1,6 +1,8 @@
-use Rattle.std.proofs.Common.{rules, arith, ◌≡◌, ◌∙◌, ◌+◌, ◌<◌, ◌++◌, ◌∷◌, [], ℕ, List, ap, sym, length, take, get_or}
-use Rattle.std.proofs.lemmas.List.{take_more, append-nil}
+use Rattle.std.proofs.Common.{rules, ◌≡◌, ◌∙◌, ◌++◌, ◌∷◌, [], List, ap, sym, subst}
+use Rattle.std.proofs.lemmas.List.{append-nil, map-id}
 use Rattle.std.proofs.lemmas.Grind.{flat_map-append}
+use Rattle.std.proofs.lemmas.Iterator.Adapters.{YieldsList-from_vec}
+use Rattle.std.proofs.lemmas.Iterator.Consumers.{YieldsList-end}
 use Rattle.trace_know.specs.Segment.{PlacedEvents}
 use Rattle.trace_know.specs.Trace.{Trace, facts_of, view_of}
 use Rattle.trace_know.specs.View.{View, join}
@@ -8,23 +10,28 @@ use Rattle.command_runs.specs.Pieces.{facts_of_all}
 use Rattle.command_runs.proofs.Traces.{Unites}
 use Rattle.command_runs.proofs.knowing.take_all.Goals as goal
 
--- a view with the facts of the first segments, and those of one more
-one_more : ((a b c : View) → join (join a b) c ≡ join a (join b c)) → Unites → (view : View) (segments : List PlacedEvents) (i : ℕ) (segment : PlacedEvents) → i < length segments → segment ≡ get_or segments i segment
-    → join (join view (view_of (facts_of_all (take i segments)))) (view_of (facts_of segment)) ≡ join view (view_of (facts_of_all (take (i + 1) segments)))
-one_more associative unites view segments i segment below is =
-    let more : take (i + 1) segments ≡ take i segments ++ segment ∷ [] =
-    take_more segments i segment below ∙ ap (λ (s : PlacedEvents). take i segments ++ s ∷ []) (sym is) in
-    let facts : facts_of_all (take (i + 1) segments) ≡ facts_of_all (take i segments) ++ facts_of segment =
-    ap facts_of_all more ∙ flat_map-append facts_of (take i segments) (segment ∷ []) ∙ ap (λ (t : Trace). facts_of_all (take i segments) ++ t) (append-nil (facts_of segment)) in
-    associative view (view_of (facts_of_all (take i segments))) (view_of (facts_of segment))
-    ∙ ap (join view) (sym (unites (facts_of_all (take i segments)) (facts_of segment)) ∙ ap view_of (sym facts))
+-- a view with the facts of segments, and those of one more
+one_more : ((a b c : View) → join (join a b) c ≡ join a (join b c)) → Unites → (view : View) (segments : List PlacedEvents) (segment : PlacedEvents)
+    → join (join view (view_of (facts_of_all segments))) (view_of (facts_of segment)) ≡ join view (view_of (facts_of_all (segments ++ segment ∷ [])))
+one_more associative unites view segments segment =
+    let facts : facts_of_all (segments ++ segment ∷ []) ≡ facts_of_all segments ++ facts_of segment =
+    flat_map-append facts_of segments (segment ∷ []) ∙ ap (λ (t : Trace). facts_of_all segments ++ t) (append-nil (facts_of segment)) in
+    associative view (view_of (facts_of_all segments)) (view_of (facts_of segment))
+    ∙ ap (join view) (sym (unites (facts_of_all segments) (facts_of segment)) ∙ ap view_of (sym facts))
 
 pub loop-segment-init : goal.loop-segment-init
 loop-segment-init c = sym (c.join_laws.ensures.unit c.args.know.now)
 
 pub loop-segment-preserved : goal.loop-segment-preserved
 loop-segment-preserved c =
-    let below : c.loop-segment.segment-index < length c.args.segments.now = omega arith in
-    let taken : c.take.new.self ≡ join c.loop-segment.know (view_of (facts_of c.segment-item.result)) = search rules in
-    taken ∙ ap (λ (v : View). join v (view_of (facts_of c.segment-item.result))) c.loop-segment.invariant
-    ∙ one_more c.join_laws.ensures.associative c.view_laws.ensures.union c.args.know.now c.args.segments.now c.loop-segment.segment-index c.segment-item.result below c.segment-item.is
+    let taken : c.take_owned.new.self ≡ join c.loop-segment.know (view_of (facts_of c.in-Some.segment)) = search rules in
+    taken ∙ ap (λ (v : View). join v (view_of (facts_of c.in-Some.segment))) c.loop-segment.invariant
+    ∙ one_more c.join_laws.ensures.associative c.view_laws.ensures.union c.args.know.now c.loop-segment.yielded c.in-Some.segment
+
+pub returns : goal.returns
+returns c =
+    let b = c.into_iter-segment-iterator.ensures.into_iter_gives in
+    let road = YieldsList-from_vec {s = c.into_iter-segment-iterator.result} c.args.segments.items b.0 (b.1 ∙ c.args.segments.ok.0) in
+    let all = YieldsList-end road c.loop-segment.yielded _ c.loop-segment.yielded_by _ c.next.new.self c.in-None.is c.next.ensures.steps in
+    let same : c.loop-segment.yielded ≡ c.args.segments.items = sym (map-id c.loop-segment.yielded) ∙ all.0 in
+    subst (λ (ss : List PlacedEvents). c.loop-segment.know ≡ join c.args.know.now (view_of (facts_of_all ss))) same c.loop-segment.invariant

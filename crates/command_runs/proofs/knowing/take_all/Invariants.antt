@@ -1,8 +1,8 @@
-use Rattle.std.proofs.Common.{◌≡◌, take}
+use Rattle.std.proofs.Common.{◌≡◌}
 use Rattle.command_runs.specs.Pieces.{facts_of_all}
 use Rattle.trace_know.specs.Trace.{view_of}
 use Rattle.trace_know.specs.View.{join}
 use Rattle.command_runs.proofs.knowing.take_all.Given as goal
 
 abbrev pub invariant-loop-segment : goal.invariant-loop-segment
-invariant-loop-segment l = l.know ≡ join l.initial.know (view_of (facts_of_all (take l.segment-index l.segments)))
+invariant-loop-segment l = l.know ≡ join l.initial.know (view_of (facts_of_all l.yielded))

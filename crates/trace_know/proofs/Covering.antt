@@ -1,0 +1,336 @@
+-- Runs, and a patch that takes the place of those that it touches.
+use Rattle.std.proofs.Common.{◌⊎◌, inl, inr, ◌≡◌, ℕ, ◌+◌, ◌-◌, ◌^◌, ◌<◌, ◌≤◌, max, suc, zero, Bool, cond, Option, Some, None, List, [], ◌∷◌, ◌++◌, length, take, drop, reverse, slice_index_or, refl, sym, ap, subst, ◌∙◌, arith}
+use Rattle.std.proofs.lemmas.Bool.{cases_lt}
+use Rattle.std.proofs.lemmas.List.{get_or_default, reverse-append, take_more}
+use Rattle.std.specs.Ordering.{eq_by_cmp}
+use Rattle.std.specs.FinMap.{empty, get}
+use Rattle.trace_know.specs.declared.cell.Known.{Known}
+use Rattle.trace_know.specs.declared.cell.Known.TheVariants.{Contradiction}
+use Rattle.trace_know.specs.declared.run.Run.{Run}
+use Rattle.trace_know.specs.Cell.{IsAtMost}
+use Rattle.trace_know.specs.Patches.{Covers, IsClear, IsSettled, last_of}
+use Rattle.trace_know.specs.Rows.{single, row}
+use Rattle.trace_know.specs.Runs.{of_run, of_runs, spot, start_of, end_of, IsFilled, Above, last_end}
+use Rattle.trace_know.specs.View.{View, IsBelow, place_cmp, cell, join}
+use Rattle.trace_know.proofs.Fronts.{between, runs-past}
+use Rattle.trace_know.proofs.Joins.{exact_places, equal, get-join, join-assoc, join-comm, join-idem, join-empty, empty-join, join-below, above_other, least_above}
+use Rattle.trace_know.proofs.Lookups.{nothing, row-in, run-out, runs-found}
+use Rattle.trace_know.proofs.Order.{filled, lower, rises, runs-remove, taken_below, last_end-next}
+use Rattle.trace_know.proofs.Rows.{get-single, join-swap}
+use Rattle.trace_know.proofs.SameEvents.{false_or_true}
+
+-- ---- a run below a view, cell by cell
+
+single-below : (rank place : ℕ) (k : Known) (v : View) → IsAtMost (Some k) (get v (rank, place)) → IsBelow (single rank place k) v
+single-below rank place k v h r p = elim (false_or_true (eq_by_cmp place_cmp (r, p) (rank, place))) [
+  | inl t ↦
+      let at : (rank, place) ≡ (r, p) = sym (exact_places (r, p) (rank, place) (equal _ t)) in
+      let is : get (single rank place k) (r, p) ≡ Some k = get-single rank place k (r, p) ∙ ap (λ (b : Bool). cond b (Some k) None) t in
+      subst (λ (c : Option Known). IsAtMost c (get v (r, p))) (sym is) (subst (λ (q : ℕ × ℕ). IsAtMost (Some k) (get v q)) at h)
+  | inr f ↦
+      let is : get (single rank place k) (r, p) ≡ None = get-single rank place k (r, p) ∙ ap (λ (b : Bool). cond b (Some k) None) f in
+      subst (λ (c : Option Known). IsAtMost c (get v (r, p))) (sym is) tt
+]
+
+row-below : (rank place : ℕ) (ks : List Known) (v : View) → ((i : ℕ) (d : Known) → i < length ks → IsAtMost (Some (slice_index_or ks i d)) (get v (rank, place + i))) → IsBelow (row rank place ks) v
+row-below rank place [] v h = λ r p. subst (λ (c : Option Known). IsAtMost c (get v (r, p))) (sym (nothing (r, p))) tt
+row-below rank place (k ∷ ks) v h =
+    let here : place + 0 ≡ place = omega arith in
+    least_above (single rank place k) (row rank (place + 1) ks) v
+    (single-below rank place k v (subst (λ (p : ℕ). IsAtMost (Some k) (get v (rank, p))) here (h 0 k (omega arith))))
+    (row-below rank (place + 1) ks v (λ i d l. let next : place + suc i ≡ place + 1 + i = omega arith in
+    subst (λ (p : ℕ). IsAtMost (Some (slice_index_or ks i d)) (get v (rank, p))) next (h (suc i) d (omega arith))))
+
+pub run-held : (r : Run) (v : View) → ((i : ℕ) (d : Known) → i < length r.cells.items → IsAtMost (Some (slice_index_or r.cells.items i d)) (get v (r.rank, r.first + i))) → join v (of_run r) ≡ v
+run-held r v h = join-below v (of_run r) (row-below r.rank r.first r.cells.items v h)
+
+-- ---- a view that has a run, or nothing that touches it
+
+pub held-more : (v w : View) (r : Run) → join v (of_run r) ≡ v → join (join v w) (of_run r) ≡ join v w
+held-more v w r h = join-swap v w (of_run r) ∙ ap (λ (x : View). join x w) h
+
+pub held-now : (v : View) (r : Run) → join (join v (of_run r)) (of_run r) ≡ join v (of_run r)
+held-now v r = join-assoc v (of_run r) (of_run r) ∙ ap (join v) (join-idem (of_run r))
+
+-- runs have each of their runs
+pub member : (rs : List Run) (i : ℕ) (r : Run) → i < length rs → r ≡ slice_index_or rs i r → join (of_runs rs) (of_run r) ≡ of_runs rs
+member rs i r h is =
+    let split = runs-remove rs i r h is in
+    ap (λ (v : View). join v (of_run r)) (sym split) ∙ held-now (of_runs (take i rs ++ drop (suc i) rs)) r ∙ split
+
+clear-join : (r : Run) (v w : View) → IsClear r v → IsClear r w → IsClear r (join v w)
+clear-join r v w a b = λ p l m. rw (get-join v w (r.rank, p), a p l m, b p l m) refl
+
+-- nothing touches a run between two that follow each other
+pub clear-between : (rs : List Run) (at : ℕ) (r : Run) → Above 0 rs → IsFilled r → at ≤ length rs → last_end 0 (take at rs) < start_of r
+    → ((d : Run) → at < length rs → end_of r < start_of (slice_index_or rs at d)) → IsClear r (of_runs rs)
+clear-between rs at r a f bound before after = λ p l m. elim (cases_lt p (2 ^ 40)) [
+  | inl low ↦ between 0 at rs r.rank p a bound low (omega arith) (λ d h. let next = after d h in omega arith)
+  | inr high ↦ runs-past 0 rs r.rank p a high
+]
+
+clear-alone : (r x : Run) → IsFilled r → IsFilled x → IsClear r (of_runs (x ∷ [])) → IsClear r (of_run x)
+clear-alone r x f g h = subst (IsClear r) (join-empty (of_run x)) h
+
+-- a run that ends before another begins touches nothing of it
+clear-before : (r x : Run) → IsFilled r → IsFilled x → end_of r < start_of x → IsClear r (of_run x)
+clear-before r x f g h = clear-alone r x f g (clear-between (x ∷ []) 0 r (omega arith, g, tt) f (omega arith) (omega arith) (λ d l. h))
+
+-- one run more is joined to the view
+pub settled-more : (rs : List Run) (k i : ℕ) (d x : Run) (v : View) → Above 0 rs → k < i → i < length rs → x ≡ slice_index_or rs i x → IsSettled (slice_index_or rs k d) v → IsSettled (slice_index_or rs k d) (join v (of_run x))
+settled-more rs k i d x v a h l is s = elim s [
+  | inl held ↦ inl (held-more v (of_run x) (slice_index_or rs k d) held)
+  | inr clear ↦
+      let r = slice_index_or rs k d in
+      let f = filled 0 k rs d a (omega arith) in
+      let g = subst IsFilled (sym is) (filled 0 i rs x a l) in
+      let there : slice_index_or rs i d ≡ x = get_or_default rs i d x l ∙ sym is in
+      let gap = subst (λ (y : Run). end_of r < start_of y) there (rises 0 k i rs d a h l) in
+      inr (clear-join r v (of_run x) clear (clear-before r x f g gap))
+]
+
+-- ---- a patch covers what it touches
+
+known_not : (k : Known) (c : Option Known) → c ≡ None → IsAtMost (Some k) c → ⊥
+known_not k None e h = h
+known_not k (Some x) e h = absurd cc
+
+not_both : (k : Known) (c : Option Known) → c ≡ None → c ≡ Some k → ⊥
+not_both k None e h = absurd cc
+not_both k (Some x) e h = absurd cc
+
+-- a place of a run of the patch
+at-run : (patch : List Run) (j : ℕ) (p : Run) (place : ℕ) → Above 0 patch → j < length patch → p ≡ slice_index_or patch j p → p.first ≤ place → place < p.first + length p.cells.items
+    → get (of_runs patch) (p.rank, place) ≡ get (of_run p) (p.rank, place)
+at-run patch j p place a h is low high =
+    let f = subst IsFilled (sym is) (filled 0 j patch p a h) in
+    let places = f.places in
+    let before = subst (λ (x : Run). last_end 0 (take j patch) < start_of x) (sym is) (taken_below 0 j patch p a h) in
+    runs-found patch j p p.rank place a h (omega arith) (omega arith) (subst (λ (x : Run). spot p.rank (place + 1) ≤ end_of x) is (omega arith)) is
+
+-- nothing stands right before a run of the patch
+gap-before : (patch : List Run) (j : ℕ) (p : Run) (place : ℕ) → Above 0 patch → j < length patch → p ≡ slice_index_or patch j p → place + 1 ≡ p.first → get (of_runs patch) (p.rank, place) ≡ None
+gap-before patch j p place a h is next =
+    let f = subst IsFilled (sym is) (filled 0 j patch p a h) in
+    let places = f.places in
+    let before = subst (λ (x : Run). last_end 0 (take j patch) < start_of x) (sym is) (taken_below 0 j patch p a h) in
+    between 0 j patch p.rank place a (omega arith) (omega arith) (omega arith)
+    (λ d l. subst (λ (x : Run). spot p.rank place < start_of x) (is ∙ get_or_default patch j p d l) (omega arith))
+
+-- nothing stands right behind it
+gap-behind : (patch : List Run) (j : ℕ) (p : Run) (place : ℕ) → Above 0 patch → j < length patch → p ≡ slice_index_or patch j p → place ≡ p.first + length p.cells.items → place < 2 ^ 40 → get (of_runs patch) (p.rank, place) ≡ None
+gap-behind patch j p place a h is next low =
+    let end : last_end 0 (take (j + 1) patch) ≡ end_of p = last_end-next 0 j patch p h ∙ ap end_of (sym is) in
+    between 0 (j + 1) patch p.rank place a (omega arith) low (omega arith)
+    (λ d l. let here : slice_index_or patch j d ≡ p = get_or_default patch j d p h ∙ sym is in
+    let later = subst (λ (x : Run). end_of x < start_of (slice_index_or patch (j + 1) d)) here (rises 0 j (j + 1) patch d a (omega arith) l) in omega arith)
+
+-- a cell of a run stands in each view that has the run
+cell-held : (r : Run) (v : View) (place : ℕ) (d : Known) → join v (of_run r) ≡ v → r.first ≤ place → place < r.first + length r.cells.items
+    → IsAtMost (Some (slice_index_or r.cells.items (place - r.first) d)) (get v (r.rank, place))
+cell-held r v place d held low high =
+    let i = place - r.first in
+    let at : r.first + i ≡ place = omega arith in
+    let below : IsBelow (of_run r) v = subst (λ (x : View). IsBelow (of_run r) x) held (above_other v (of_run r)) in
+    let is : get (of_run r) (r.rank, place) ≡ Some (slice_index_or r.cells.items i d) = ap (λ (p : ℕ). get (of_run r) (r.rank, p)) (sym at) ∙ row-in r.rank r.first i r.cells.items d (omega arith) in
+    subst (λ (c : Option Known). IsAtMost c (get v (r.rank, place))) is (below r.rank place)
+
+same-rank : (r p : Run) → IsFilled r → IsFilled p → start_of r ≤ end_of p → start_of p ≤ end_of r → r.rank ≡ p.rank
+same-rank r p f g s t = let a = f.places in let b = g.places in omega arith
+
+-- what is held of the patch and touches one of its runs lies within that
+covered : (patch : List Run) (j : ℕ) (p r : Run) → Above 0 patch → j < length patch → p ≡ slice_index_or patch j p → IsFilled r → start_of r ≤ end_of p → start_of p ≤ end_of r
+    → join (of_runs patch) (of_run r) ≡ of_runs patch → join (of_run p) (of_run r) ≡ of_run p
+covered patch j p r a h is f s t held =
+    let g : IsFilled p = subst IsFilled (sym is) (filled 0 j patch p a h) in
+    let rank : r.rank ≡ p.rank = same-rank r p f g s t in
+    let some = g.some in
+    let places = f.places in
+    let first : p.first ≤ r.first = elim (cases_lt r.first p.first) [
+      | inl lt ↦
+          let place = p.first - 1 in
+          let none = gap-before patch j p place a h is (omega arith) in
+          absurd (known_not _ (get (of_runs patch) (r.rank, place)) (ap (λ (n : ℕ). get (of_runs patch) (n, place)) rank ∙ none) (cell-held r (of_runs patch) place (slice_index_or r.cells.items 0 Contradiction) held (omega arith) (omega arith)))
+      | inr le ↦ le
+    ] in
+    let end : r.first + length r.cells.items ≤ p.first + length p.cells.items = elim (cases_lt (p.first + length p.cells.items) (r.first + length r.cells.items)) [
+      | inl lt ↦
+          let place = p.first + length p.cells.items in
+          let none = gap-behind patch j p place a h is refl (omega arith) in
+          absurd (known_not _ (get (of_runs patch) (r.rank, place)) (ap (λ (n : ℕ). get (of_runs patch) (n, place)) rank ∙ none) (cell-held r (of_runs patch) place (slice_index_or r.cells.items 0 Contradiction) held (omega arith) (omega arith)))
+      | inr le ↦ le
+    ] in
+    run-held r (of_run p) (λ i d l.
+    let place = r.first + i in
+    let at : place - r.first ≡ i = omega arith in
+    let there : get (of_runs patch) (r.rank, place) ≡ get (of_run p) (r.rank, place) =
+    ap (λ (n : ℕ). get (of_runs patch) (n, place)) rank ∙ at-run patch j p place a h is (omega arith) (omega arith) ∙ ap (λ (n : ℕ). get (of_run p) (n, place)) (sym rank) in
+    subst (λ (c : Option Known). IsAtMost (Some (slice_index_or r.cells.items i d)) c) there
+    (subst (λ (n : ℕ). IsAtMost (Some (slice_index_or r.cells.items n d)) (get (of_runs patch) (r.rank, place))) at
+    (cell-held r (of_runs patch) place d held (omega arith) (omega arith))))
+
+-- what touches nothing of the patch touches none of its runs
+not-touched : (patch : List Run) (j : ℕ) (p r : Run) → Above 0 patch → j < length patch → p ≡ slice_index_or patch j p → IsFilled r → start_of r ≤ end_of p → start_of p ≤ end_of r → IsClear r (of_runs patch) → ⊥
+not-touched patch j p r a h is f s t clear =
+    let g : IsFilled p = subst IsFilled (sym is) (filled 0 j patch p a h) in
+    let rank : r.rank ≡ p.rank = same-rank r p f g s t in
+    let some = g.some in
+    let place = max p.first (r.first - 1) in
+    let i = place - p.first in
+    let at : p.first + i ≡ place = omega arith in
+    let d = slice_index_or p.cells.items i Contradiction in
+    let found : get (of_runs patch) (p.rank, place) ≡ Some (slice_index_or p.cells.items i d) =
+    at-run patch j p place a h is (omega arith) (omega arith) ∙ ap (λ (n : ℕ). get (of_run p) (p.rank, n)) (sym at) ∙ row-in p.rank p.first i p.cells.items d (omega arith) in
+    not_both (slice_index_or p.cells.items i d) (get (of_runs patch) (p.rank, place)) (ap (λ (n : ℕ). get (of_runs patch) (n, place)) (sym rank) ∙ clear place (omega arith) (omega arith)) found
+
+pub settled-covers : (patch runs : List Run) → Above 0 patch → Above 0 runs → ((k : ℕ) (d : Run) → k < length runs → IsSettled (slice_index_or runs k d) (of_runs patch)) → Covers patch runs
+settled-covers patch runs a b settled = λ i j d e k h s t.
+    let r = slice_index_or runs i d in
+    let p = slice_index_or patch j e in
+    let is : p ≡ slice_index_or patch j p = sym (get_or_default patch j p e h) in
+    let f = filled 0 i runs d b k in
+    elim (settled i d k) [
+      | inl held ↦ covered patch j p r a h is f s t held
+      | inr clear ↦ absurd (not-touched patch j p r a h is f s t clear)
+    ]
+
+-- ---- one run more at the end
+
+pub of-last : (rs : List Run) (x : Run) → of_runs (rs ++ x ∷ []) ≡ join (of_runs rs) (of_run x)
+of-last [] x = join-comm (of_run x) empty
+of-last (r ∷ rs) x = ap (join (of_run r)) (of-last rs x) ∙ sym (join-assoc (of_run r) (of_runs rs) (of_run x))
+
+pub last_end-last : (low : ℕ) (rs : List Run) (x : Run) → last_end low (rs ++ x ∷ []) ≡ end_of x
+last_end-last low [] x = refl
+last_end-last low (r ∷ rs) x = last_end-last (end_of r) rs x
+
+pub above-last : (low : ℕ) (rs : List Run) (x : Run) → Above low rs → last_end low rs < start_of x → IsFilled x → Above low (rs ++ x ∷ [])
+above-last low [] x a b f = (b, f, tt)
+above-last low (r ∷ rs) x a b f = (a.0, a.1, above-last (end_of r) rs x a.2 b f)
+
+-- ---- the last run of a list moved, or dropped
+
+last-run : (rs : List Run) (n : ℕ) (d : Run) → suc n ≡ length rs → rs ≡ take n rs ++ slice_index_or rs n d ∷ []
+last-run [] n d h = absurd (omega arith)
+last-run (r ∷ []) zero d h = refl
+last-run (r ∷ []) (suc n) d h = absurd (omega arith)
+last-run (r ∷ s ∷ rs) zero d h = absurd (omega arith)
+last-run (r ∷ s ∷ rs) (suc n) d h = ap (λ (xs : List Run). r ∷ xs) (last-run (s ∷ rs) n d (omega arith))
+
+pub split-last : (rs : List Run) (d : Run) → 0 < length rs → of_runs rs ≡ join (of_runs (take (length rs - 1) rs)) (of_run (last_of rs d))
+split-last rs d h = ap of_runs (last-run rs (length rs - 1) d (omega arith)) ∙ of-last (take (length rs - 1) rs) (last_of rs d)
+
+pub end-last : (rs : List Run) (d : Run) → 0 < length rs → last_end 0 rs ≡ end_of (last_of rs d)
+end-last rs d h = ap (last_end 0) (last-run rs (length rs - 1) d (omega arith)) ∙ last_end-last 0 (take (length rs - 1) rs) (last_of rs d)
+
+pub above-take : (low i : ℕ) (rs : List Run) → Above low rs → Above low (take i rs)
+above-take low zero rs a = tt
+above-take low (suc i) [] a = tt
+above-take low (suc i) (r ∷ rs) a = (a.0, a.1, above-take (end_of r) i rs a.2)
+
+pub take-at : (rs : List Run) (n i : ℕ) (d : Run) → i < n → slice_index_or (take n rs) i d ≡ slice_index_or rs i d
+take-at rs zero i d h = absurd (omega arith)
+take-at [] (suc n) i d h = refl
+take-at (r ∷ rs) (suc n) zero d h = refl
+take-at (r ∷ rs) (suc n) (suc i) d h = take-at rs n i d (omega arith)
+
+shorter : (n : ℕ) (rs : List Run) → length (take n rs) ≤ n
+shorter zero rs = omega arith
+shorter (suc n) [] = omega arith
+shorter (suc n) (r ∷ rs) = let rest = shorter n rs in omega arith
+
+pub reverse-last : (falling : List Run) (x : Run) → reverse (falling ++ x ∷ []) ≡ x ∷ reverse falling
+reverse-last falling x = reverse-append falling (x ∷ [])
+
+-- the first view is that of runs without the last, which is put before those that were moved
+pub moved : (a other x up : View) → join (join a other) (join x up) ≡ join (join (join a x) other) up
+moved a other x up = sym (join-assoc (join a other) x up) ∙ ap (λ (v : View). join v up) (join-swap a other x)
+
+-- what is dropped is in the last of the patch
+pub dropped : (a x rest p up : View) → join p x ≡ p → join (join a (join rest p)) up ≡ join (join (join a x) (join rest p)) up
+dropped a x rest p up has =
+    let grown : join (join rest p) x ≡ join rest p = join-assoc rest p x ∙ ap (join rest) has in
+    ap (λ (v : View). join v up) (ap (join a) (sym grown) ∙ sym (join-assoc a (join rest p) x) ∙ join-swap a (join rest p) x)
+
+-- ---- the first runs of a list, and one more
+
+pub taken-next : (rs : List Run) (i : ℕ) (r : Run) → i < length rs → r ≡ slice_index_or rs i r → of_runs (take (i + 1) rs) ≡ join (of_runs (take i rs)) (of_run r)
+taken-next rs i r h is = ap of_runs (take_more rs i r h) ∙ of-last (take i rs) (slice_index_or rs i r) ∙ ap (λ (x : Run). join (of_runs (take i rs)) (of_run x)) (sym is)
+
+pub ends-later : (rs : List Run) (i : ℕ) (r : Run) → Above 0 rs → i < length rs → r ≡ slice_index_or rs i r → last_end 0 (take i rs) ≤ last_end 0 (take (i + 1) rs)
+ends-later rs i r a h is =
+    let below = taken_below 0 i rs r a h in
+    let last = last_end-next 0 i rs r h in
+    omega arith
+
+-- one that is held is passed over
+pub passed : (held patch taken x : View) → join held patch ≡ join held taken → join held x ≡ held → join held patch ≡ join held (join taken x)
+passed held patch taken x so_far has = so_far ∙ ap (λ (v : View). join v taken) (sym has) ∙ join-swap held x taken ∙ join-assoc held taken x
+
+-- one that is not is put into the patch
+pub added : (held patch taken x : View) → join held patch ≡ join held taken → join held (join patch x) ≡ join held (join taken x)
+added held patch taken x so_far = sym (join-assoc held patch x) ∙ ap (λ (v : View). join v x) so_far ∙ join-assoc held taken x
+
+-- one of the runs that are held is put into the patch
+pub touched : (held patch before x : View) → join held patch ≡ join held before → join held x ≡ held → join held (join patch x) ≡ join held before
+touched held patch before x so_far has = sym (join-assoc held patch x) ∙ join-swap held patch x ∙ ap (λ (v : View). join v patch) has ∙ so_far
+
+-- ---- a step of the walk from behind over runs and a patch
+
+-- the last of some runs, behind all others, is put before those that were moved
+pub moved-runs : (rs other up : List Run) (d : Run) → Above 0 rs → 0 < length rs → last_end 0 other < start_of (last_of rs d) → Above (last_end 0 rs) up
+    → Above (last_end 0 (take (length rs - 1) rs)) (last_of rs d ∷ up) × Above (last_end 0 other) (last_of rs d ∷ up)
+moved-runs rs other up d a h before behind =
+    let f = filled 0 (length rs - 1) rs d a (omega arith) in
+    let below = taken_below 0 (length rs - 1) rs d a (omega arith) in
+    let rest = subst (λ (n : ℕ). Above n up) (end-last rs d h) behind in
+    ((below, f, rest), (before, f, rest))
+
+pub moved-view : (rs other up : List Run) (d : Run) → 0 < length rs → join (join (of_runs (take (length rs - 1) rs)) (of_runs other)) (of_runs (last_of rs d ∷ up)) ≡ join (join (of_runs rs) (of_runs other)) (of_runs up)
+moved-view rs other up d h = moved (of_runs (take (length rs - 1) rs)) (of_runs other) (of_run (last_of rs d)) (of_runs up)
+    ∙ ap (λ (v : View). join (join v (of_runs other)) (of_runs up)) (sym (split-last rs d h))
+
+-- the same of the patch
+pub moved-patch : (rs patch up : List Run) (d : Run) → 0 < length patch → join (join (of_runs rs) (of_runs (take (length patch - 1) patch))) (of_runs (last_of patch d ∷ up)) ≡ join (join (of_runs rs) (of_runs patch)) (of_runs up)
+moved-patch rs patch up d h =
+    ap (λ (v : View). join v (of_runs (last_of patch d ∷ up))) (join-comm (of_runs rs) (of_runs (take (length patch - 1) patch)))
+    ∙ moved-view patch rs up d h ∙ ap (λ (v : View). join v (of_runs up)) (join-comm (of_runs patch) (of_runs rs))
+
+-- the last of the runs is dropped, since the last of the patch covers it
+pub dropped-view : (rs patch up : List Run) (d e : Run) → 0 < length rs → 0 < length patch → join (of_run (last_of patch e)) (of_run (last_of rs d)) ≡ of_run (last_of patch e)
+    → join (join (of_runs (take (length rs - 1) rs)) (of_runs patch)) (of_runs up) ≡ join (join (of_runs rs) (of_runs patch)) (of_runs up)
+dropped-view rs patch up d e h k has =
+    let a = of_runs (take (length rs - 1) rs) in
+    let rest = of_runs (take (length patch - 1) patch) in
+    ap (λ (v : View). join (join a v) (of_runs up)) (split-last patch e k)
+    ∙ dropped a (of_run (last_of rs d)) rest (of_run (last_of patch e)) (of_runs up) has
+    ∙ ap (λ (v : View). join (join v (join rest (of_run (last_of patch e)))) (of_runs up)) (sym (split-last rs d h))
+    ∙ ap (λ (v : View). join (join (of_runs rs) v) (of_runs up)) (sym (split-last patch e k))
+
+pub less-behind : (rs up : List Run) (d : Run) → Above 0 rs → 0 < length rs → Above (last_end 0 rs) up → Above (last_end 0 (take (length rs - 1) rs)) up
+less-behind rs up d a h behind =
+    let below = taken_below 0 (length rs - 1) rs d a (omega arith) in
+    let end = end-last rs d h in
+    lower (last_end 0 rs) (last_end 0 (take (length rs - 1) rs)) up (omega arith) behind
+
+-- fewer runs on either side
+pub covers-fewer : (patch runs : List Run) → Covers patch runs → 0 < length runs → Covers patch (take (length runs - 1) runs)
+covers-fewer patch runs c h = λ i j d e k l s t.
+    let n = length runs - 1 in
+    let size : length (take n runs) ≤ n = shorter n runs in
+    let same : slice_index_or (take n runs) i d ≡ slice_index_or runs i d = take-at runs n i d (omega arith) in
+    subst (λ (r : Run). join (of_run (slice_index_or patch j e)) (of_run r) ≡ of_run (slice_index_or patch j e)) (sym same)
+    (c i j d e (omega arith) l (subst (λ (r : Run). start_of r ≤ end_of (slice_index_or patch j e)) same s) (subst (λ (r : Run). start_of (slice_index_or patch j e) ≤ end_of r) same t))
+
+pub covers-less : (patch runs : List Run) → Covers patch runs → 0 < length patch → Covers (take (length patch - 1) patch) runs
+covers-less patch runs c h = λ i j d e k l s t.
+    let n = length patch - 1 in
+    let size : length (take n patch) ≤ n = shorter n patch in
+    let same : slice_index_or (take n patch) j e ≡ slice_index_or patch j e = take-at patch n j e (omega arith) in
+    subst (λ (p : Run). join (of_run p) (of_run (slice_index_or runs i d)) ≡ of_run p) (sym same)
+    (c i j d e k (omega arith) (subst (λ (p : Run). start_of (slice_index_or runs i d) ≤ end_of p) same s) (subst (λ (p : Run). start_of p ≤ end_of (slice_index_or runs i d)) same t))
+
+-- a list that is not empty has a run
+pub some-run : {P : Type 0} → (rs : List Run) → 0 < length rs → ((d : Run) → P) → P
+some-run [] h f = absurd (omega arith)
+some-run (r ∷ rs) h f = f r

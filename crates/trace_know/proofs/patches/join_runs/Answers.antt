@@ -1,0 +1,39 @@
+use Rattle.std.proofs.Common.{◌≡◌, ◌<◌, ℕ, List, [], ◌∷◌, length, slice_index_or, refl, sym, subst, ap, ◌∙◌, arith, rules}
+use Rattle.trace_know.specs.declared.run.Run.{Run}
+use Rattle.trace_know.specs.Patches.{Covers, IsSettled}
+use Rattle.trace_know.specs.Runs.{of_runs}
+use Rattle.trace_know.specs.View.{View, join}
+use Rattle.trace_know.proofs.Covering.{settled-covers}
+use Rattle.trace_know.proofs.Joins.{join-empty}
+use Rattle.trace_know.proofs.patches.join_runs.Goals as goal
+
+-- an empty patch: all is held
+all_held : (rs patch : List Run) (v : View) → length patch ≡ 0 → join (of_runs rs) (of_runs patch) ≡ v → of_runs rs ≡ v
+all_held rs [] v h is = sym (join-empty (of_runs rs)) ∙ is
+all_held rs (p ∷ patch) v h is = absurd (omega arith)
+
+pub returns-then-is_empty-clause-ok : goal.returns-then-is_empty-clause-ok
+returns-then-is_empty-clause-ok c =
+    let patch = c.in_ok-patch.patch.items in
+    let others = c.args.others.now in
+    let none : length patch ≡ 0 = search rules in
+    all_held c.args.runs.now.items patch (join (of_runs c.args.runs.now.items) (of_runs others)) none
+    (subst (λ (rs : List Run). join (of_runs rs) (of_runs patch) ≡ join (of_runs rs) (of_runs others)) c.deref.ensures.value c.in_ok-patch.ensures.view)
+
+pub patched-requires-clause-covers : goal.patched-requires-clause-covers
+patched-requires-clause-covers c =
+    let patch = c.take_touched.new.patch.items in
+    let runs = c.args.runs.now.items in
+    let settled : (k : ℕ) (d : Run) → k < length runs → IsSettled (slice_index_or runs k d) (of_runs patch) =
+    subst (λ (rs : List Run). (k : ℕ) (d : Run) → k < length rs → IsSettled (slice_index_or rs k d) (of_runs patch)) c.deref-2.ensures.value c.in_ok-take_touched.ensures.settled in
+    subst (λ v. Covers patch v.items) (sym c.replace-ours.ensures.value) (settled-covers patch runs c.take_touched.ensures.above c.requires.above settled)
+
+pub returns-clause-ok : goal.returns-clause-ok
+returns-clause-ok c =
+    let patch = c.in_ok-patch.patch.items in
+    let others = c.args.others.now in
+    let runs = c.args.runs.now.items in
+    c.patched.ensures.view
+    ∙ ap (λ v. join (of_runs v.items) (of_runs c.take_touched.new.patch.items)) c.replace-ours.ensures.value
+    ∙ subst (λ (rs : List Run). join (of_runs rs) (of_runs c.take_touched.new.patch.items) ≡ join (of_runs rs) (of_runs patch)) c.deref-2.ensures.value c.in_ok-take_touched.ensures.view
+    ∙ subst (λ (rs : List Run). join (of_runs rs) (of_runs patch) ≡ join (of_runs rs) (of_runs others)) c.deref.ensures.value c.in_ok-patch.ensures.view

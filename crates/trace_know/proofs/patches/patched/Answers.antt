@@ -1,0 +1,148 @@
+use Rattle.std.proofs.Common.{◌≡◌, ◌+◌, ◌-◌, ◌<◌, ◌≤◌, ℕ, List, [], ◌∷◌, ◌++◌, length, take, reverse, refl, sym, subst, ap, ◌∙◌, arith}
+use Rattle.trace_know.specs.declared.run.Run.{Run}
+use Rattle.trace_know.specs.Patches.{Covers, last_of}
+use Rattle.trace_know.specs.Runs.{Above, of_runs, start_of, end_of, last_end}
+use Rattle.trace_know.specs.View.{View, join}
+use Rattle.std.specs.FinMap.{empty}
+use Rattle.trace_know.proofs.Joins.{empty-join, join-empty}
+use Rattle.trace_know.proofs.Order.{lower}
+use Rattle.trace_know.proofs.Covering.{above-take, covers-fewer, covers-less, dropped-view, less-behind, moved-patch, moved-runs, moved-view, reverse-last, some-run}
+use Rattle.trace_know.proofs.patches.patched.Goals as goal
+
+pub loop-runs-init : goal.loop-runs-init
+loop-runs-init c = record {
+  room = let none : length c.args.room.items ≡ 0 = ap length c.requires.empty in let room = c.requires.room in omega arith;
+  runs = c.requires.above;
+  patch = c.requires.patch;
+  behind_runs = subst (λ (rs : List Run). Above (last_end 0 c.args.runs.items) (reverse rs)) (sym c.requires.empty) tt;
+  behind_patch = subst (λ (rs : List Run). Above (last_end 0 c.args.patch.items) (reverse rs)) (sym c.requires.empty) tt;
+  covers = c.requires.covers;
+  view = ap (λ (rs : List Run). join (join (of_runs c.args.runs.items) (of_runs c.args.patch.items)) (of_runs (reverse rs))) c.requires.empty ∙ join-empty (join (of_runs c.args.runs.items) (of_runs c.args.patch.items));
+}
+
+-- what the list has that runs are moved to, read from behind
+risen : (fs new : List Run) (x : Run) → new ≡ fs ++ x ∷ [] → reverse new ≡ x ∷ reverse fs
+risen fs new x is = ap (λ (rs : List Run). reverse rs) is ∙ reverse-last fs x
+
+pub move_last-requires-clause-some : goal.move_last-requires-clause-some
+move_last-requires-clause-some c = subst (λ (rs : List Run). 0 < length rs) c.deref.ensures.value (c.is_behind.ensures.some c.if-is_behind.true)
+
+pub loop-runs-preserved-then-is_behind : goal.loop-runs-preserved-then-is_behind
+loop-runs-preserved-then-is_behind c =
+    let rs = c.loop-runs.runs.items in
+    let ps = c.loop-runs.patch.items in
+    let fs = c.loop-runs.falling.items in
+    let so_far = c.loop-runs.invariant in
+    let some : 0 < length rs = subst (λ (xs : List Run). 0 < length xs) c.deref.ensures.value (c.is_behind.ensures.some c.if-is_behind.true) in
+    some-run rs some (λ d.
+    let behind : last_end 0 ps < start_of (last_of rs d) =
+    subst (λ (xs : List Run). last_end 0 xs < start_of (last_of rs d)) c.deref-in-loop-runs.ensures.value
+    (subst (λ (xs : List Run). last_end 0 c.deref-in-loop-runs.result.now < start_of (last_of xs d)) c.deref.ensures.value (c.is_behind.ensures.behind d c.if-is_behind.true)) in
+    let up : reverse c.move_last.new.falling.items ≡ last_of rs d ∷ reverse fs = risen fs c.move_last.new.falling.items (last_of rs d) (c.move_last.ensures.falling d) in
+    let rise = moved-runs rs ps (reverse fs) d so_far.runs some behind so_far.behind_runs in
+    let fewer = c.move_last.ensures.runs in
+    let room = so_far.room in
+    record {
+      room = omega arith;
+      runs = subst (λ (xs : List Run). Above 0 xs) (sym fewer) (above-take 0 (length rs - 1) rs so_far.runs);
+      patch = so_far.patch;
+      behind_runs = subst (λ (xs : List Run). Above (last_end 0 c.move_last.new.runs.items) xs) (sym up) (subst (λ (xs : List Run). Above (last_end 0 xs) (last_of rs d ∷ reverse fs)) (sym fewer) rise.0);
+      behind_patch = subst (λ (xs : List Run). Above (last_end 0 ps) xs) (sym up) rise.1;
+      covers = subst (λ (xs : List Run). Covers ps xs) (sym fewer) (covers-fewer ps rs so_far.covers some);
+      view = (λ i. join (join (of_runs (fewer i)) (of_runs ps)) (of_runs (up i))) ∙ moved-view rs ps (reverse fs) d some ∙ so_far.view;
+    })
+
+pub move_last-requires-then-is_behind-2-clause-some : goal.move_last-requires-then-is_behind-2-clause-some
+move_last-requires-then-is_behind-2-clause-some c = subst (λ (ps : List Run). 0 < length ps) c.deref-in-loop-runs-2.ensures.value (c.is_behind-in-loop-runs.ensures.some c.if-is_behind-2.true)
+
+pub loop-runs-preserved-then-is_behind-2 : goal.loop-runs-preserved-then-is_behind-2
+loop-runs-preserved-then-is_behind-2 c =
+    let rs = c.loop-runs.runs.items in
+    let ps = c.loop-runs.patch.items in
+    let fs = c.loop-runs.falling.items in
+    let so_far = c.loop-runs.invariant in
+    let some : 0 < length ps = subst (λ (xs : List Run). 0 < length xs) c.deref-in-loop-runs-2.ensures.value (c.is_behind-in-loop-runs.ensures.some c.if-is_behind-2.true) in
+    some-run ps some (λ d.
+    let behind : last_end 0 rs < start_of (last_of ps d) =
+    subst (λ (xs : List Run). last_end 0 xs < start_of (last_of ps d)) c.deref-in-loop-runs-3.ensures.value
+    (subst (λ (xs : List Run). last_end 0 c.deref-in-loop-runs-3.result.now < start_of (last_of xs d)) c.deref-in-loop-runs-2.ensures.value (c.is_behind-in-loop-runs.ensures.behind d c.if-is_behind-2.true)) in
+    let step = c.move_last-then-is_behind-2 in
+    let up : reverse step.new.falling.items ≡ last_of ps d ∷ reverse fs = risen fs step.new.falling.items (last_of ps d) (step.ensures.falling d) in
+    let rise = moved-runs ps rs (reverse fs) d so_far.patch some behind so_far.behind_patch in
+    let fewer = step.ensures.runs in
+    let room = so_far.room in
+    record {
+      room = omega arith;
+      runs = so_far.runs;
+      patch = subst (λ (xs : List Run). Above 0 xs) (sym fewer) (above-take 0 (length ps - 1) ps so_far.patch);
+      behind_runs = subst (λ (xs : List Run). Above (last_end 0 rs) xs) (sym up) rise.1;
+      behind_patch = subst (λ (xs : List Run). Above (last_end 0 step.new.runs.items) xs) (sym up) (subst (λ (xs : List Run). Above (last_end 0 xs) (last_of ps d ∷ reverse fs)) (sym fewer) rise.0);
+      covers = subst (λ (xs : List Run). Covers xs rs) (sym fewer) (covers-less ps rs so_far.covers some);
+      view = (λ i. join (join (of_runs rs) (of_runs (fewer i))) (of_runs (up i))) ∙ moved-patch rs ps (reverse fs) d some ∙ so_far.view;
+    })
+
+-- where neither last run is behind the other list, both lists have one
+both_some : (rs ps : List Run) → 0 < length rs + length ps → (0 < length rs → 0 < length ps) → (0 < length ps → 0 < length rs) → (0 < length rs) × (0 < length ps)
+both_some [] [] h f g = absurd (omega arith)
+both_some [] (p ∷ ps) h f g = absurd (omega (arith, g (omega arith)))
+both_some (r ∷ rs) ps h f g = (omega arith, f (omega arith))
+
+pub drop_last-requires : goal.drop_last-requires
+drop_last-requires c =
+    let rs = c.loop-runs.runs.items in
+    let ps = c.loop-runs.patch.items in
+    let one : 0 < length rs → 0 < length ps =
+    subst (λ (xs : List Run). 0 < length rs → 0 < length xs) c.deref-in-loop-runs.ensures.value (subst (λ (xs : List Run). 0 < length xs → 0 < length c.deref-in-loop-runs.result.now) c.deref.ensures.value (c.is_behind.ensures.others c.if-is_behind.false)) in
+    let other : 0 < length ps → 0 < length rs =
+    subst (λ (xs : List Run). 0 < length ps → 0 < length xs) c.deref-in-loop-runs-3.ensures.value (subst (λ (xs : List Run). 0 < length xs → 0 < length c.deref-in-loop-runs-3.result.now) c.deref-in-loop-runs-2.ensures.value (c.is_behind-in-loop-runs.ensures.others c.if-is_behind-2.false)) in
+    record { some = (both_some rs ps (omega arith) one other).0 }
+
+pub loop-runs-preserved : goal.loop-runs-preserved
+loop-runs-preserved c =
+    let rs = c.loop-runs.runs.items in
+    let ps = c.loop-runs.patch.items in
+    let fs = c.loop-runs.falling.items in
+    let so_far = c.loop-runs.invariant in
+    let one : 0 < length rs → 0 < length ps =
+    subst (λ (xs : List Run). 0 < length rs → 0 < length xs) c.deref-in-loop-runs.ensures.value (subst (λ (xs : List Run). 0 < length xs → 0 < length c.deref-in-loop-runs.result.now) c.deref.ensures.value (c.is_behind.ensures.others c.if-is_behind.false)) in
+    let other : 0 < length ps → 0 < length rs =
+    subst (λ (xs : List Run). 0 < length ps → 0 < length xs) c.deref-in-loop-runs-3.ensures.value (subst (λ (xs : List Run). 0 < length xs → 0 < length c.deref-in-loop-runs-3.result.now) c.deref-in-loop-runs-2.ensures.value (c.is_behind-in-loop-runs.ensures.others c.if-is_behind-2.false)) in
+    let some = both_some rs ps (omega arith) one other in
+    some-run rs some.0 (λ d.
+    let begins : start_of (last_of rs d) ≤ end_of (last_of ps d) =
+    subst (λ (xs : List Run). start_of (last_of rs d) ≤ end_of (last_of xs d)) c.deref-in-loop-runs.ensures.value
+    (subst (λ (xs : List Run). 0 < length xs → start_of (last_of xs d) ≤ end_of (last_of c.deref-in-loop-runs.result.now d)) c.deref.ensures.value (c.is_behind.ensures.touching d d c.if-is_behind.false) some.0) in
+    let ends : start_of (last_of ps d) ≤ end_of (last_of rs d) =
+    subst (λ (xs : List Run). start_of (last_of ps d) ≤ end_of (last_of xs d)) c.deref-in-loop-runs-3.ensures.value
+    (subst (λ (xs : List Run). 0 < length xs → start_of (last_of xs d) ≤ end_of (last_of c.deref-in-loop-runs-3.result.now d)) c.deref-in-loop-runs-2.ensures.value (c.is_behind-in-loop-runs.ensures.touching d d c.if-is_behind-2.false) some.1) in
+    let has = so_far.covers (length rs - 1) (length ps - 1) d d (omega (arith, some.0)) (omega (arith, some.1)) begins ends in
+    let fewer = c.drop_last.ensures.runs in
+    let room = so_far.room in
+    record {
+      room = omega arith;
+      runs = subst (λ (xs : List Run). Above 0 xs) (sym fewer) (above-take 0 (length rs - 1) rs so_far.runs);
+      patch = so_far.patch;
+      behind_runs = subst (λ (xs : List Run). Above (last_end 0 xs) (reverse fs)) (sym fewer) (less-behind rs (reverse fs) d so_far.runs some.0 so_far.behind_runs);
+      behind_patch = so_far.behind_patch;
+      covers = subst (λ (xs : List Run). Covers ps xs) (sym fewer) (covers-fewer ps rs so_far.covers some.0);
+      view = ap (λ (xs : List Run). join (join (of_runs xs) (of_runs ps)) (of_runs (reverse fs))) fewer ∙ dropped-view rs ps (reverse fs) d d some.0 some.1 has ∙ so_far.view;
+    })
+
+no_runs : (rs : List Run) → length rs ≡ 0 → rs ≡ []
+no_runs [] h = refl
+no_runs (r ∷ rs) h = absurd (omega arith)
+
+all_moved : (rs ps up : List Run) (v : View) → rs ≡ [] → ps ≡ [] → join (join (of_runs rs) (of_runs ps)) (of_runs up) ≡ v → of_runs up ≡ v
+all_moved rs ps up v none nothing is =
+    sym (empty-join (of_runs up)) ∙ ap (λ (w : View). join w (of_runs up)) (sym (join-empty empty)) ∙ sym (λ i. join (join (of_runs (none i)) (of_runs (nothing i))) (of_runs up)) ∙ is
+
+pub returns-clause-view : goal.returns-clause-view
+returns-clause-view c =
+    let rs = c.loop-runs.runs.items in
+    let ps = c.loop-runs.patch.items in
+    ap of_runs c.reverse.ensures.items
+    ∙ all_moved rs ps (reverse c.loop-runs.falling.items) (join (of_runs c.args.runs.items) (of_runs c.args.patch.items)) (no_runs rs (omega arith)) (no_runs ps (omega arith)) c.loop-runs.invariant.view
+
+pub returns-clause-above : goal.returns-clause-above
+returns-clause-above c = subst (λ (xs : List Run). Above 0 xs) (sym c.reverse.ensures.items)
+    (lower (last_end 0 c.loop-runs.runs.items) 0 (reverse c.loop-runs.falling.items) (omega arith) c.loop-runs.invariant.behind_runs)
