@@ -54,6 +54,10 @@ IsEqualLine one other text = ((one ≡ other) × (text ≡ codes "equal yes\n"))
 abbrev pub IsBothText : Answered → Answered → List ℕ → Type 0
 IsBothText one other text = (line : List ℕ) × IsEqualLine one other line × (text ≡ node_text 0 one ++ (node_text 1 other ++ line))
 
+-- what two nodes print by their answers
+abbrev pub SayBoth : Held → Held → List ℕ → Type 0
+SayBoth one other text = (a b : Answered) × IsAnswer one.layout one.know a × IsAnswer other.layout other.know b × IsBothText a b text
+
 -- The text of a cluster: that of the answers of two nodes of its layout, each of which knows its own pieces.
 abbrev pub IsClusterOf : (List ℕ → Option (List ℕ)) → List ℕ → List ℕ → List ℕ → Type 0
 IsClusterOf file layout manifest text = (l : Parts) × (one other : Held) × (a b : Answered)

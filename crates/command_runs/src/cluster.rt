@@ -4,7 +4,7 @@
 ghost use Rattle.std.specs.Prelude.{◌≡◌, ◌⊎◌, ◌==◌, ℕ, false, true, IfErr, IfOk, List, OnErr, OnOk, option_map};
 ghost use Rattle.std.specs.Io.KnownBytes.{Appends, Keeps};
 ghost use Rattle.mpi_model.specs.Failures.{HasFailed};
-ghost use Rattle.command_runs.specs.Clusters.{AreClusterNodes, IsBothText, IsClusterOf, IsEqualLine, IsFaultFor, IsTextFault, NamesOne, RefusesCluster, RefusesClusterNodes, of_exchange, of_node, of_wire, piece_at};
+ghost use Rattle.command_runs.specs.Clusters.{AreClusterNodes, IsBothText, IsClusterOf, IsEqualLine, IsFaultFor, IsTextFault, NamesOne, RefusesCluster, RefusesClusterNodes, SayBoth, of_exchange, of_node, of_wire, piece_at};
 ghost use Rattle.command_runs.specs.Replays.{AppendsFront};
 ghost use Rattle.command_runs.specs.Texts.{is_share};
 ghost use Rattle.command_runs.specs.Verbs.{BreaksOff};
@@ -59,14 +59,7 @@ pub fn run_cluster<
         Ok(nodes) => nodes,
         Err(fault) => return Err(fault),
     };
-    // (a node that comes of an exchange has its answer)
-    let Ok(first) = one.answer() else {
-        unreachable!()
-    };
-    let Ok(second) = other.answer() else {
-        unreachable!()
-    };
-    match write_both(first, second, out) {
+    match write_nodes(&one, &other, out) {
         Ok(()) => Ok(true),
         Err(_) => Err(RunFault::Write),
     }
@@ -192,6 +185,24 @@ fn of_wire(fault: WireFault) -> RunFault
         WireFault::Memory => RunFault::Memory,
         _ => RunFault::Frame { fault },
     }
+}
+
+// Writes what two nodes with their answers say.
+fn write_nodes<W: Write>(one: &Node, other: &Node, out: &mut W) -> Result<(), Failed>
+    requires one { one.now.is_stale ≡ false }
+    requires other { other.now.is_stale ≡ false }
+    ensures ok { OnOk result ((text : List ℕ) × SayBoth one.now other.now text × Appends (W.written out.old) (W.written out.new) text) }
+    ensures err { OnErr result ((text : List ℕ) × SayBoth one.now other.now text × AppendsFront (W.written out.old) (W.written out.new) text) }
+    ensures failed { OnErr result (HasFailed (W.failures out.old) (W.failures out.new)) }
+{
+    // (a node that comes of an exchange has its answer)
+    let Ok(first) = one.answer() else {
+        unreachable!()
+    };
+    let Ok(second) = other.answer() else {
+        unreachable!()
+    };
+    write_both(first, second, out)
 }
 
 // Writes the line and the report of both nodes, and whether both say the same.

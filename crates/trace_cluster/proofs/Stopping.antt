@@ -17,7 +17,7 @@ use Rattle.trace_cluster.specs.declared.fault.ClusterFault.{ClusterFault}
 use Rattle.trace_cluster.specs.declared.fault.ClusterFault.TheVariants.{Memory, Piece, Node, Net, Lead, Follow}
 use Rattle.trace_cluster.specs.declared.fault.ClusterFault.TheVariants as causes
 use Rattle.trace_cluster.specs.declared.workload.Workload.{Workload}
-use Rattle.trace_cluster.specs.Crews.{AreClean, AreFaultless, IsFirstPiece, IsFirstRefusal, IsOfMeeting, StopsAt}
+use Rattle.trace_cluster.specs.Crews.{AreClean, AreFaultless, IsFirstPiece, IsFirstRefusal, IsOfMeeting, Stops, StopsAt}
 use Rattle.trace_cluster.specs.Pieces.{IsForeign, IsWhole, IsWithin, Placed, all_pieces, pieces_of}
 use Rattle.trace_cluster.specs.Stopped.{IsFirstFault, IsRefusal, IsStopped}
 use Rattle.trace_cluster.proofs.Finding.{AreWhole, Faults, Found, IsOfPiece, ahead, behind, first_of_node, node_found, node_whole, of_first, of_second}
@@ -143,16 +143,16 @@ unmet layout first second one other fault is is' clean of =
 
 -- ---- the first of what both crews leave
 
-pub stops_first : (one other : CrewOut) (fault : ClusterFault) → IsFirstPiece 0 one.faults.items fault → StopsAt one other fault
-stops_first one other fault h = inl h
+pub stops_first : (faults others : Faults) (refused later : List Refusal) (fault : ClusterFault) → IsFirstPiece 0 faults fault → Stops faults others refused later fault
+stops_first faults others refused later fault h = inl h
 
-pub stops_second : (one other : CrewOut) (fault : ClusterFault) → one.faults.items ≡ [] → IsFirstPiece 1 other.faults.items fault → StopsAt one other fault
-stops_second one other fault none h = inr (inl (none, h))
+pub stops_second : (faults others : Faults) (refused later : List Refusal) (fault : ClusterFault) → faults ≡ [] → IsFirstPiece 1 others fault → Stops faults others refused later fault
+stops_second faults others refused later fault none h = inr (inl (none, h))
 
-pub stops_refused : (one other : CrewOut) (fault : ClusterFault) → one.faults.items ≡ [] → other.faults.items ≡ [] → IsFirstRefusal one.refused.items fault → StopsAt one other fault
-stops_refused one other fault none none' h =
-    inr (inr ((none, none'), (h.0, h.1 ++ other.refused.items, ap (λ (l : List Refusal). l ++ other.refused.items) h.2, h.3)))
+pub stops_refused : (faults others : Faults) (refused later : List Refusal) (fault : ClusterFault) → faults ≡ [] → others ≡ [] → IsFirstRefusal refused fault → Stops faults others refused later fault
+stops_refused faults others refused later fault none none' h =
+    inr (inr ((none, none'), (h.0, h.1 ++ later, ap (λ (l : List Refusal). l ++ later) h.2, h.3)))
 
-pub stops_refused_later : (one other : CrewOut) (fault : ClusterFault) → one.faults.items ≡ [] → other.faults.items ≡ [] → one.refused.items ≡ [] → IsFirstRefusal other.refused.items fault → StopsAt one other fault
-stops_refused_later one other fault none none' joined h =
-    inr (inr ((none, none'), (h.0, h.1, ap (λ (l : List Refusal). l ++ other.refused.items) joined ∙ h.2, h.3)))
+pub stops_refused_later : (faults others : Faults) (refused later : List Refusal) (fault : ClusterFault) → faults ≡ [] → others ≡ [] → refused ≡ [] → IsFirstRefusal later fault → Stops faults others refused later fault
+stops_refused_later faults others refused later fault none none' joined h =
+    inr (inr ((none, none'), (h.0, h.1, ap (λ (l : List Refusal). l ++ later) joined ∙ h.2, h.3)))

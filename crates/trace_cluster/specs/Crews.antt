@@ -25,20 +25,28 @@ IsFirstPiece node faults fault = (first : ℕ × ℕ × PieceFault) × (rest : L
 abbrev pub IsFirstRefusal : List Refusal → ClusterFault → Type 0
 IsFirstRefusal refused fault = (first : Refusal) × (rest : List Refusal) × (refused ≡ first ∷ rest) × (fault ≡ Node first.2)
 
+-- Of the faulty pieces and the refused segments of two nodes it is the first that stops a cluster: a piece by node,
+-- worker and place, and where all pieces are whole a refused segment by node and in the order of taking.
+abbrev pub Stops : List (ℕ × ℕ × PieceFault) → List (ℕ × ℕ × PieceFault) → List Refusal → List Refusal → ClusterFault → Type 0
+Stops faults others refused later fault = IsFirstPiece 0 faults fault
+    ⊎ ((faults ≡ []) × IsFirstPiece 1 others fault)
+    ⊎ (((faults ≡ []) × (others ≡ [])) × IsFirstRefusal (refused ++ later) fault)
+
+-- There are none of them.
+abbrev pub IsClean : List (ℕ × ℕ × PieceFault) → List (ℕ × ℕ × PieceFault) → List Refusal → List Refusal → Type 0
+IsClean faults others refused later = ((faults ≡ []) × (others ≡ [])) × (refused ≡ []) × (later ≡ [])
+
 -- no piece of two crews has a fault
 abbrev pub AreFaultless : CrewOut → CrewOut → Type 0
 AreFaultless one other = (one.faults.items ≡ []) × (other.faults.items ≡ [])
 
--- Of what two crews leave it is the first that stops the cluster: a piece by node, worker and place, and where all pieces
--- are whole a refused segment by node and in the order of taking.
+-- It is what first stops a cluster of what two crews leave.
 abbrev pub StopsAt : CrewOut → CrewOut → ClusterFault → Type 0
-StopsAt one other fault = IsFirstPiece 0 one.faults.items fault
-    ⊎ ((one.faults.items ≡ []) × IsFirstPiece 1 other.faults.items fault)
-    ⊎ (AreFaultless one other × IsFirstRefusal (one.refused.items ++ other.refused.items) fault)
+StopsAt one other fault = Stops one.faults.items other.faults.items one.refused.items other.refused.items fault
 
--- Nothing among it stops the cluster.
+-- Nothing of it stops the cluster.
 abbrev pub AreClean : CrewOut → CrewOut → Type 0
-AreClean one other = AreFaultless one other × (one.refused.items ≡ []) × (other.refused.items ≡ [])
+AreClean one other = IsClean one.faults.items other.faults.items one.refused.items other.refused.items
 
 -- The first node did not join what its leading has learned.
 abbrev pub IsUnmerged : ClusterFault → Type 0

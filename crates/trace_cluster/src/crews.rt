@@ -1,8 +1,8 @@
 //! What both crews leave, and the first fault or refused segment among it.
 
-ghost use Rattle.std.specs.Prelude.{◌≡◌, [], IfOk, IfErr, OnOk};
+ghost use Rattle.std.specs.Prelude.{◌≡◌, [], Err, IfOk, IfErr, IsOk, OnOk};
 ghost use Rattle.trace_crew.specs.Crewed.{IsCrewOut};
-ghost use Rattle.trace_cluster.specs.Crews.{AreClean, IsFirstPiece, IsFirstRefusal, StopsAt};
+ghost use Rattle.trace_cluster.specs.Crews.{AreClean, IsClean, IsFirstPiece, IsFirstRefusal, Stops, StopsAt};
 
 use crate::fault::ClusterFault;
 use crate::workload::Workload;
@@ -62,8 +62,39 @@ fn without_refusals(refused: &Vec<(u8, Segment, NodeFault)>) -> Result<(), Clust
     }
 }
 
-/// Both nodes, where no piece of either has a fault and neither refused a segment.
+/// That nothing of what two crews leave beside their nodes stops a cluster, or what does first.
 #[tactic(auto, using(crate::proofs::Stopping::stops_first, crate::proofs::Stopping::stops_second, crate::proofs::Stopping::stops_refused, crate::proofs::Stopping::stops_refused_later))]
+fn none_stops(
+    faults: Vec<(u8, u64, PieceFault)>,
+    others: Vec<(u8, u64, PieceFault)>,
+    refused: &Vec<(u8, Segment, NodeFault)>,
+    refused_later: &Vec<(u8, Segment, NodeFault)>,
+) -> Result<(), ClusterFault>
+    ensures clean { OnOk result (IsClean faults.items others.items refused.now.items refused_later.now.items) }
+    ensures err { IfErr result (λ fault. Stops faults.items others.items refused.now.items refused_later.now.items fault) }
+{
+    without_faults(0, faults)?;
+    without_faults(1, others)?;
+    without_refusals(refused)?;
+    without_refusals(refused_later)
+}
+
+/// Both of a kind, where nothing stops them.
+fn both_unless<N: Drop>(
+    one: N,
+    other: N,
+    stopped: Result<(), ClusterFault>,
+) -> Result<(N, N), ClusterFault>
+    ensures ok { IfOk result (λ nodes. (nodes.0 ≡ one) × (nodes.1 ≡ other) × IsOk stopped) }
+    ensures err { IfErr result (λ fault. stopped ≡ Err fault) }
+{
+    match stopped {
+        Ok(()) => Ok((one, other)),
+        Err(fault) => Err(fault),
+    }
+}
+
+/// Both nodes, where no piece of either has a fault and neither refused a segment.
 pub(crate) fn nodes_of<'a>(
     one: CrewOut<'a>,
     other: CrewOut<'a>,
@@ -72,9 +103,6 @@ pub(crate) fn nodes_of<'a>(
     ensures clean { OnOk result (AreClean one.entry other.entry) }
     ensures err { IfErr result (λ fault. StopsAt one.entry other.entry fault) }
 {
-    without_faults(0, one.faults)?;
-    without_faults(1, other.faults)?;
-    without_refusals(&one.refused)?;
-    without_refusals(&other.refused)?;
-    Ok((one.node, other.node))
+    let stopped = none_stops(one.faults, other.faults, &one.refused, &other.refused);
+    both_unless(one.node, other.node, stopped)
 }

@@ -1,5 +1,5 @@
 -- Runs, and a patch that takes the place of those that it touches.
-use Rattle.std.proofs.Common.{◌⊎◌, inl, inr, ◌≡◌, ℕ, ◌+◌, ◌-◌, ◌^◌, ◌<◌, ◌≤◌, max, suc, zero, Bool, cond, Option, Some, None, List, [], ◌∷◌, ◌++◌, length, take, drop, reverse, slice_index_or, refl, sym, ap, subst, ◌∙◌, arith}
+use Rattle.std.proofs.Common.{inl, inr, ◌≡◌, ℕ, ◌+◌, ◌-◌, ◌^◌, ◌<◌, ◌≤◌, max, suc, zero, Bool, cond, Option, Some, None, List, [], ◌∷◌, ◌++◌, length, take, drop, reverse, slice_index_or, refl, sym, ap, subst, ◌∙◌, arith}
 use Rattle.std.proofs.lemmas.Bool.{cases_lt}
 use Rattle.std.proofs.lemmas.List.{get_or_default, reverse-append, take_more}
 use Rattle.std.specs.Ordering.{eq_by_cmp}
@@ -11,10 +11,10 @@ use Rattle.trace_know.specs.Cell.{IsAtMost}
 use Rattle.trace_know.specs.Patches.{Covers, IsClear, IsSettled, last_of}
 use Rattle.trace_know.specs.Rows.{single, row}
 use Rattle.trace_know.specs.Runs.{of_run, of_runs, spot, start_of, end_of, IsFilled, Above, last_end}
-use Rattle.trace_know.specs.View.{View, IsBelow, place_cmp, cell, join}
+use Rattle.trace_know.specs.View.{View, IsBelow, place_cmp, join}
 use Rattle.trace_know.proofs.Fronts.{between, runs-past}
-use Rattle.trace_know.proofs.Joins.{exact_places, equal, get-join, join-assoc, join-comm, join-idem, join-empty, empty-join, join-below, above_other, least_above}
-use Rattle.trace_know.proofs.Lookups.{nothing, row-in, run-out, runs-found}
+use Rattle.trace_know.proofs.Joins.{exact_places, equal, get-join, join-assoc, join-comm, join-idem, join-empty, join-below, above_other, least_above}
+use Rattle.trace_know.proofs.Lookups.{nothing, row-in, runs-found}
 use Rattle.trace_know.proofs.Order.{filled, lower, rises, runs-remove, taken_below, last_end-next}
 use Rattle.trace_know.proofs.Rows.{get-single, join-swap}
 use Rattle.trace_know.proofs.SameEvents.{false_or_true}

@@ -48,7 +48,7 @@ fn told(alloc: Global, pieces: &[Piece], way: u8) -> Result<String, Fail> {
 /// A name, pieces, and what they tell in whatever way they come.
 type Row = (&'static str, &'static [Piece], &'static str);
 
-static ROWS: [Row; 29] = [
+static ROWS: [Row; 31] = [
     // pieces that touch
     ("nothing", &[], ""),
     ("one event", &[(0, 3, 1, 0)], " 0@6 ."),
@@ -119,7 +119,33 @@ static ROWS: [Row; 29] = [
         ],
         " 0@0 . 0@2 . 0@4 . 0@6 . 0@8 . 0@10 .",
     ),
+    (
+        "over a gap of two runs, beside others that nothing touches",
+        &[
+            (0, 0, 2, 0),
+            (0, 4, 2, 0),
+            (0, 8, 2, 0),
+            (1, 3, 2, 0),
+            (0, 5, 6, 0),
+            (0, 20, 2, 0),
+            (1, 3, 2, 0),
+            (2, 1, 2, 0),
+        ],
+        " 0@0 .. 0@8 .......... 0@40 .. 1@6 .. 2@2 ..",
+    ),
     // pieces that contradict
+    (
+        "in the midst of a run, beside others that nothing touches",
+        &[
+            (0, 0, 2, 0),
+            (0, 4, 8, 0),
+            (0, 10, 2, 0),
+            (0, 5, 2, 1),
+            (0, 12, 2, 0),
+            (3, 0, 1, 0),
+        ],
+        " 0@0 .. 0@8 ..xx.... 0@20 .. 0@24 .. 3@0 .",
+    ),
     (
         "an Enter in the midst",
         &[(0, 0, 6, 0), (0, 1, 1, 1)],

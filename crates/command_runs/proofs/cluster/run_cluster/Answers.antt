@@ -8,16 +8,18 @@ returns-in-Err-nodes_with-clause-refused g c =
     let refuses : RefusesClusterNodes file c.in-Ok.layout c.args.manifest_name.now c.in-Err-nodes_with.fault = rw c.layout_at.ensures.same at c.in-Err-nodes_with.ensures.err in
     inr (inr (inr (c.in-Ok.layout, c.in-Ok.ensures.ok, refuses)))
 
-pub returns-in-Ok-write_both-clause-output : goal.returns-in-Ok-write_both-clause-output
-returns-in-Ok-write_both-clause-output g c =
+pub returns-in-Ok-write_nodes-clause-output : goal.returns-in-Ok-write_nodes-clause-output
+returns-in-Ok-write_nodes-clause-output g c =
     let file = g.O.Opener.file c.args.files.now in
     let of : AreClusterNodes file c.in-Ok.layout c.args.manifest_name.now c.in-Ok-nodes_with.nodes.0 c.in-Ok-nodes_with.nodes.1 = rw c.layout_at.ensures.same at c.in-Ok-nodes_with.ensures.ok in
-    let wrote = c.in-Ok-write_both.ensures.ok in
-    (wrote.0, (c.in-Ok.layout, c.in-Ok-nodes_with.nodes.0, c.in-Ok-nodes_with.nodes.1, _, _, c.in-Ok.ensures.ok, of, c.in-Ok-answer.ensures.ok, c.in-Ok-answer-2.ensures.ok, wrote.1), wrote.2)
+    let wrote = c.in-Ok-write_nodes.ensures.ok in
+    let say = wrote.1 in
+    (wrote.0, (c.in-Ok.layout, c.in-Ok-nodes_with.nodes.0, c.in-Ok-nodes_with.nodes.1, say.0, say.1, c.in-Ok.ensures.ok, of, say.2, say.3, say.4), wrote.2)
 
 pub returns-clause-broken_off : goal.returns-clause-broken_off
 returns-clause-broken_off g c =
     let file = g.O.Opener.file c.args.files.now in
     let of : AreClusterNodes file c.in-Ok.layout c.args.manifest_name.now c.in-Ok-nodes_with.nodes.0 c.in-Ok-nodes_with.nodes.1 = rw c.layout_at.ensures.same at c.in-Ok-nodes_with.ensures.ok in
-    let wrote = c.in-Err-write_both.ensures.err in
-    λ _. (wrote.0, (c.in-Ok.layout, c.in-Ok-nodes_with.nodes.0, c.in-Ok-nodes_with.nodes.1, _, _, c.in-Ok.ensures.ok, of, c.in-Ok-answer.ensures.ok, c.in-Ok-answer-2.ensures.ok, wrote.1), wrote.2, c.in-Err-write_both.ensures.failed)
+    let wrote = c.in-Err-write_nodes.ensures.err in
+    let say = wrote.1 in
+    λ _. (wrote.0, (c.in-Ok.layout, c.in-Ok-nodes_with.nodes.0, c.in-Ok-nodes_with.nodes.1, say.0, say.1, c.in-Ok.ensures.ok, of, say.2, say.3, say.4), wrote.2, c.in-Err-write_nodes.ensures.failed)

@@ -1,4 +1,4 @@
-use Rattle.std.proofs.Common.{◌≡◌, ◌+◌, ◌-◌, ◌<◌, ◌≤◌, ℕ, List, [], ◌∷◌, ◌++◌, length, take, reverse, refl, sym, subst, ap, ◌∙◌, arith}
+use Rattle.std.proofs.Common.{◌≡◌, ◌+◌, ◌-◌, ◌<◌, ◌≤◌, List, [], ◌∷◌, ◌++◌, length, reverse, refl, sym, subst, ap, ◌∙◌, arith}
 use Rattle.trace_know.specs.declared.run.Run.{Run}
 use Rattle.trace_know.specs.Patches.{Covers, last_of}
 use Rattle.trace_know.specs.Runs.{Above, of_runs, start_of, end_of, last_end}

@@ -1,9 +1,9 @@
-use Rattle.std.proofs.Common.{inl, inr, ◌≡◌, ◌+◌, ◌<◌, ◌≤◌, ℕ, List, length, take, slice_index_or, sym, ap, subst, ◌∙◌, arith}
+use Rattle.std.proofs.Common.{inl, inr, ◌≡◌, ◌+◌, ◌<◌, ℕ, List, length, slice_index_or, sym, ap, subst, ◌∙◌, arith}
 use Rattle.std.proofs.lemmas.Bool.{cases_lt}
 use Rattle.std.proofs.lemmas.List.{get_or_default}
 use Rattle.trace_know.specs.declared.run.Run.{Run}
 use Rattle.trace_know.specs.Patches.{IsClear, IsSettled}
-use Rattle.trace_know.specs.Runs.{of_runs, of_run, Above, IsAlike, IsFilled}
+use Rattle.trace_know.specs.Runs.{of_runs, of_run, IsFilled}
 use Rattle.trace_know.specs.View.{View, join}
 use Rattle.trace_know.proofs.Order.{filled, filled-alike, view-alike}
 use Rattle.trace_know.proofs.Covering.{held-now, member, settled-more, touched}

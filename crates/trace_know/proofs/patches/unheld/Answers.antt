@@ -1,7 +1,7 @@
-use Rattle.std.proofs.Common.{◌≡◌, ◌+◌, ◌<◌, ◌≤◌, ℕ, List, [], ◌∷◌, ◌++◌, length, take, sym, ap, subst, ◌∙◌, arith}
+use Rattle.std.proofs.Common.{◌≡◌, ◌+◌, ◌<◌, List, [], ◌∷◌, ◌++◌, length, take, sym, ap, subst, ◌∙◌, arith}
 use Rattle.trace_know.specs.declared.run.Run.{Run}
 use Rattle.trace_know.specs.Runs.{of_runs, of_run, Above, IsAlike, IsFilled, start_of, end_of, last_end}
-use Rattle.trace_know.specs.View.{View, join}
+use Rattle.trace_know.specs.View.{join}
 use Rattle.trace_know.proofs.Order.{filled, filled-alike, end-alike, view-alike, taken_below, last_end-next}
 use Rattle.trace_know.proofs.Covering.{above-last, added, ends-later, last_end-last, of-last, passed, taken-next}
 use Rattle.trace_know.proofs.patches.unheld.Goals as goal

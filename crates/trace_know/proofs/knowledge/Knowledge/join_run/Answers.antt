@@ -1,4 +1,4 @@
-use Rattle.std.proofs.Common.{◌≡◌, length, refl, sym, ap, subst, ◌∙◌, arith}
+use Rattle.std.proofs.Common.{◌≡◌, refl, sym, ap, subst, ◌∙◌, arith}
 use Rattle.std.specs.FinMap.{len}
 use Rattle.trace_know.specs.View.{View, join}
 use Rattle.trace_know.specs.Runs.{of_run, of_runs, IsFilled}

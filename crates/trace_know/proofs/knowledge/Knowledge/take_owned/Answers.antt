@@ -5,8 +5,6 @@ use Rattle.trace_know.specs.declared.cell.Known.{Known}
 use Rattle.trace_know.specs.declared.cell.Known.TheVariants.{One}
 use Rattle.trace_know.specs.Placed.{IsKnowledge}
 use Rattle.trace_know.specs.View.{View, join}
-use Rattle.trace_know.specs.Trace.{view_of, facts_of}
-use Rattle.trace_know.specs.Runs.{of_run}
 use Rattle.trace_know.proofs.Rows.{run-facts}
 use Rattle.trace_know.proofs.Placed.{segment-IsKnowledge}
 use Rattle.trace_know.proofs.knowledge.Knowledge.take_owned.Goals as goal
