@@ -4,7 +4,7 @@
 ghost use Rattle.std.specs.Prelude.{◌≡◌, ◌<◌, ◌≤◌, ◌∷◌, [], IfOk, IfSome, None, Some, length, map, true};
 ghost use Rattle.std.specs.List.{list_all};
 ghost use Rattle.std.specs.Option.{option_map};
-ghost use Rattle.dumpi_calls.specs.Outcomes.{groups_from, told_at, told_of};
+ghost use Rattle.dumpi_calls.specs.Outcomes.{groups_from, told_at, told_by, told_of};
 ghost use Rattle.dumpi_calls.specs.Skims.{source_with, told_with, tolds_with, with_told};
 ghost use Rattle.dumpi_text.specs.Bytes.{closing_brace, equals, opening_bracket};
 ghost use Rattle.dumpi_text.specs.Items.{field_item, fields_front, group_item, items_front, next_front};
@@ -156,8 +156,10 @@ fn field_named<'a>(word: &[u8], text: &'a [u8]) -> Option<(Num, &'a [u8])>
     ensures field { IfSome result (λ x. field_item (after_spaces text.now) ≡ Some (record { word = word.now; number = x.0 }, x.1.now)) }
     ensures there { IfSome result (λ x. length word.now ≤ length text.now) }
 {
-    let rest = strip_byte(b'=', strip(word, text)?)?;
-    split_number(rest)
+    let rest = strip(word, text)?;
+    let after = strip_byte(b'=', rest)?;
+    let (number, rest) = split_number(after)?;
+    Some((number, rest))
 }
 
 // what follows a `,` and a space that stand in front
@@ -169,7 +171,6 @@ fn after_comma(text: &[u8]) -> Option<&[u8]>
 }
 
 // what the fields of a group tell, where they are those that dumpi2ascii writes, and what follows its `}`
-#[tactic(auto, using(crate::proofs::FieldByField::usual_fields))]
 fn usual_front(text: &[u8]) -> Option<(Told, &[u8])>
     ensures { IfSome result (λ x. with_told None (fields_front text.now) ≡ Some (x.0, x.1.now)) }
 {
@@ -179,7 +180,7 @@ fn usual_front(text: &[u8]) -> Option<(Told, &[u8])>
     let (_, rest) = field_named(b"tag", after_comma(rest)?)?;
     let (_, rest) = field_named(b"error", after_comma(rest)?)?;
     let rest = strip_byte(b'}', rest)?;
-    Some((Told::new(told_source(source)).unwrap(), rest))
+    Some((told_number(source), rest))
 }
 
 // whether another field follows, and what follows its `,` or the group's `}`
@@ -193,6 +194,13 @@ fn split_next(text: &[u8]) -> Option<(bool, &[u8])>
     }
 }
 
+// what the number of a field `source` tells
+fn told_number(number: Num) -> Told
+    ensures { result ≡ told_by number.name number.value }
+{
+    Told::new(told_source(number)).unwrap()
+}
+
 // what was told, with one field more: the first field `source` counts
 fn source_by(source: Option<Told>, word: &[u8], number: Num) -> Option<Told>
     ensures { result ≡ source_with source (record { word = word.now; number = number }) }
@@ -201,7 +209,7 @@ fn source_by(source: Option<Told>, word: &[u8], number: Num) -> Option<Told>
         Some(told) => Some(told),
         None => {
             if is(word, "source") {
-                Some(Told::new(told_source(number)).unwrap())
+                Some(told_number(number))
             } else {
                 None
             }
