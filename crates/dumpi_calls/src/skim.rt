@@ -149,7 +149,7 @@ fn strip<'a>(front: &[u8], text: &'a [u8]) -> Option<&'a [u8]>
 
 // the number of the field in front, where its word is this one, and what follows it
 #[inline(always)]
-#[tactic(auto, using(crate::proofs::FieldByField::field_of_word, crate::proofs::FieldByField::word_there))]
+#[tactic(auto, using(crate::proofs::FieldByField::field_of_word))]
 fn field_named<'a>(word: &[u8], text: &'a [u8]) -> Option<(Num, &'a [u8])>
     requires some { 0 < length word.now }
     requires word { list_all is_word_byte word.now ≡ true }
