@@ -1,14 +1,20 @@
 -- What a group tells, field by field.
-use Rattle.std.proofs.Common.{◌≡◌, ◌∙◌, ℕ, suc, ◌+◌, ◌-◌, ◌<◌, List, [], ◌∷◌, Option, Some, None, Bool, true, false, ap, refl, cond, codes, arith}
+use Rattle.std.proofs.Common.{◌≡◌, ◌∙◌, ◌&&◌, ℕ, suc, ◌+◌, ◌-◌, ◌<◌, ◌≤◌, List, [], ◌∷◌, ◌++◌, Option, Some, None, Bool, true, false, eqb, ap, sym, refl, cond, codes, length, length-append, eq-eqb, arith, inl, inr}
 use Rattle.std.specs.Prelude.{if◌then◌else◌}
+use Rattle.std.specs.List.{list_all}
 use Rattle.std.specs.Str.{bytes_eq}
+use Rattle.std.proofs.lemmas.Bool.{cases_eq, false≢true}
 use Rattle.dumpi_calls.specs.Outcomes.{groups_from, told_at, told_by, told_of}
 use Rattle.dumpi_calls.specs.Skims.{source_with, told_with, with_told}
 use Rattle.dumpi_text.specs.Items.{field_item, fields_front, many_front, next_front, with_first}
 use Rattle.dumpi_text.specs.Stamps.{◌>>=◌}
 use Rattle.dumpi_text.specs.Tokens.{after_spaces}
 use Rattle.dumpi_text.specs.Value.{after_count, field_begins, value_of}
+use Rattle.dumpi_text.specs.Number.{number_front}
+use Rattle.dumpi_text.specs.Words.{after_front, is_word_byte, word_parts}
 use Rattle.dumpi_text.specs.declared.group.Field.{Field}
+use Rattle.dumpi_text.specs.declared.number.Num.{Num}
+use Rattle.dumpi_calls.proofs.QuickNumber.{both_true, other_byte}
 
 -- what follows a field, by what comes next
 abbrev pub by_next : ℕ → Field → Option (Bool × List ℕ) → Option (List Field × List ℕ)
@@ -68,3 +74,71 @@ pub status_value : (text fields rest : List ℕ) (told : Option ℕ) → text �
 status_value text fields rest told parts tells closes =
     let end : List ℕ → Option (Option ℕ × List ℕ) = λ r. Some (told, r) in
     ap (λ (t : List ℕ). told_at (groups_from (value_of t)) 0) parts ∙ status_by fields told (fields_front fields) refl (tells ∙ ap end closes)
+
+first_of_word : (b : ℕ) (bs : List ℕ) → list_all is_word_byte (b ∷ bs) ≡ true → is_word_byte b ≡ true
+first_of_word b bs all = (both_true (is_word_byte b) (list_all is_word_byte bs) all).0
+
+rest_of_word : (b : ℕ) (bs : List ℕ) → list_all is_word_byte (b ∷ bs) ≡ true → list_all is_word_byte bs ≡ true
+rest_of_word b bs all = (both_true (is_word_byte b) (list_all is_word_byte bs) all).1
+
+no_space : (b : ℕ) → is_word_byte b ≡ true → eqb b 32 ≡ false
+no_space b word = elim (cases_eq b 32) [ inl same ↦ absurd (false≢true (ap is_word_byte (sym same) ∙ word)) | inr differs ↦ other_byte b 32 differs ]
+
+word_before : (word rest : List ℕ) → list_all is_word_byte word ≡ true → word_parts (word ++ 61 ∷ rest) ≡ (word, 61 ∷ rest)
+word_before [] rest all = refl
+word_before (b ∷ bs) rest all = rw (first_of_word b bs all, word_before bs rest (rest_of_word b bs all)) refl
+
+field_read : (word text rest : List ℕ) (number : Num) → 0 < length word → list_all is_word_byte word ≡ true → number_front (after_spaces text) ≡ Some (number, rest)
+    → field_item (after_spaces (word ++ 61 ∷ text)) ≡ Some (record { word = word; number = number }, rest)
+unfolding field_item
+field_read [] text rest number some all e = absurd (omega arith)
+field_read (b ∷ bs) text rest number some all e = rw (no_space b (first_of_word b bs all), word_before (b ∷ bs) text all, e) refl
+
+front_whole : (front text rest : List ℕ) → after_front front text ≡ Some rest → text ≡ front ++ rest
+front_whole [] text rest e = cc
+front_whole (f ∷ fs) [] rest e = cc
+front_whole (f ∷ fs) (t ∷ ts) rest e =
+    elim (cases_eq t f) [
+      | inl same ↦ (let it : eqb t f ≡ true = eq-eqb t f same in let found : after_front fs ts ≡ Some rest = rw it at e in ap (λ (b : ℕ). b ∷ ts) same ∙ ap (λ (r : List ℕ). f ∷ r) (front_whole fs ts rest found))
+      | inr other ↦ (let it : eqb t f ≡ false = other_byte t f other in let found : ◌≡◌ {A = Option (List ℕ)} None (Some rest) = rw it at e in cc)
+    ]
+
+pub word_there : (word text rest : List ℕ) → after_front word text ≡ Some rest → length word ≤ length text
+word_there word text rest e = omega (arith, ap (λ (t : List ℕ). length t) (front_whole word text rest e), length-append word rest)
+
+-- a field by its word, its `=` and its number
+pub field_of_word : (word text equals after rest : List ℕ) (number : Num) → 0 < length word → list_all is_word_byte word ≡ true → after_front word text ≡ Some equals → equals ≡ 61 ∷ after
+    → number_front (after_spaces after) ≡ Some (number, rest) → field_item (after_spaces text) ≡ Some (record { word = word; number = number }, rest)
+field_of_word word text equals after rest number some all there equal e =
+    let parts : text ≡ word ++ 61 ∷ after = front_whole word text equals there ∙ ap (λ (r : List ℕ). word ++ r) equal in
+    ap (λ (t : List ℕ). field_item (after_spaces t)) parts ∙ field_read word after rest number some all e
+
+-- after a field a `,` and a space stand, and then the next field
+comma_follows : (rest next : List ℕ) → rest ≡ 44 ∷ 32 ∷ next → next_front 125 (after_spaces rest) ≡ Some (true, 32 ∷ next)
+comma_follows rest next e = ap (λ (r : List ℕ). next_front 125 (after_spaces r)) e
+
+brace_follows : (rest more : List ℕ) → rest ≡ 125 ∷ more → next_front 125 (after_spaces rest) ≡ Some (false, more)
+brace_follows rest more e = ap (λ (r : List ℕ). next_front 125 (after_spaces r)) e
+
+whole_count : (text : List ℕ) → fields_front text ≡ many_front field_item 125 (length text - 0) text
+whole_count text =
+    let same : length text ≡ length text - 0 = omega arith in
+    ap (λ (n : ℕ). many_front field_item 125 n text) same
+
+-- the five fields that dumpi2ascii writes, of which the third tells
+pub usual_fields : (text a0 t1 a1 t2 a2 t3 a3 t4 a4 more : List ℕ) (n0 n1 n2 n3 n4 : Num) → 5 ≤ length text
+    → field_item (after_spaces text) ≡ Some (record { word = codes "bytes"; number = n0 }, a0) → a0 ≡ 44 ∷ 32 ∷ t1
+    → field_item (after_spaces t1) ≡ Some (record { word = codes "cancelled"; number = n1 }, a1) → a1 ≡ 44 ∷ 32 ∷ t2
+    → field_item (after_spaces t2) ≡ Some (record { word = codes "source"; number = n2 }, a2) → a2 ≡ 44 ∷ 32 ∷ t3
+    → field_item (after_spaces t3) ≡ Some (record { word = codes "tag"; number = n3 }, a3) → a3 ≡ 44 ∷ 32 ∷ t4
+    → field_item (after_spaces t4) ≡ Some (record { word = codes "error"; number = n4 }, a4) → a4 ≡ 125 ∷ more
+    → with_told None (fields_front text) ≡ Some (told_by n2.name n2.value, more)
+usual_fields text a0 t1 a1 t2 a2 t3 a3 t4 a4 more n0 n1 n2 n3 n4 long e0 c0 e1 c1 e2 c2 e3 c3 e4 closes =
+    let count = length text in
+    let told = told_by n2.name n2.value in
+    ap (with_told None) (whole_count text)
+    ∙ one_more count 0 text None None (record { word = codes "bytes"; number = n0 }) a0 (32 ∷ t1) (omega arith) e0 (comma_follows a0 t1 c0) refl
+    ∙ one_more count 1 (32 ∷ t1) None None (record { word = codes "cancelled"; number = n1 }) a1 (32 ∷ t2) (omega arith) e1 (comma_follows a1 t2 c1) refl
+    ∙ one_more count 2 (32 ∷ t2) None (Some told) (record { word = codes "source"; number = n2 }) a2 (32 ∷ t3) (omega arith) e2 (comma_follows a2 t3 c2) refl
+    ∙ one_more count 3 (32 ∷ t3) (Some told) (Some told) (record { word = codes "tag"; number = n3 }) a3 (32 ∷ t4) (omega arith) e3 (comma_follows a3 t4 c3) refl
+    ∙ the_last count 4 (32 ∷ t4) (Some told) (Some told) (record { word = codes "error"; number = n4 }) a4 more (omega arith) e4 (brace_follows a4 more closes) refl

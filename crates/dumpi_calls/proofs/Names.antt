@@ -1,7 +1,10 @@
 -- Names, byte by byte.
-use Rattle.std.proofs.Common.{◌≡◌, ◌≢◌, ◌&&◌, ℕ, suc, Bool, true, false, List, [], ◌∷◌, length, ap, refl, nat_eq}
+use Rattle.std.proofs.Common.{◌≡◌, ◌≢◌, ◌&&◌, ℕ, suc, Bool, true, false, List, [], ◌∷◌, length, Option, Some, ap, refl, nat_eq, ◌∙◌}
 use Rattle.std.specs.Str.{bytes_eq}
+use Rattle.std.proofs.lemmas.Slice.Eq.{bytes_eq-Decides}
 use Rattle.dumpi_text.specs.Call.{same_bytes}
+use Rattle.dumpi_text.specs.Number.{note_front}
+use Rattle.dumpi_text.specs.declared.number.NumName.{NumName}
 
 -- byte strings of different lengths differ
 pub not_as_long : (xs ys : List ℕ) → length xs ≢ length ys → bytes_eq xs ys ≡ false
@@ -17,3 +20,7 @@ same_test [] [] = refl
 same_test [] (y ∷ ys) = refl
 same_test (x ∷ xs) [] = refl
 same_test (x ∷ xs) (y ∷ ys) = ap (λ (others : Bool). nat_eq x y && others) (same_test xs ys)
+
+-- a note that is all of a known text
+pub noted : (rest word : List ℕ) (name : NumName) → bytes_eq rest word ≡ true → note_front (40 ∷ word) ≡ Some (name, []) → note_front (40 ∷ rest) ≡ Some (name, [])
+noted rest word name same is = ap (λ (t : List ℕ). note_front (40 ∷ t)) ((bytes_eq-Decides rest word).0 same) ∙ is

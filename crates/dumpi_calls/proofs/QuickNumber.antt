@@ -22,7 +22,7 @@ number_end n (x ∷ xs) d = number_end (10 * n + (x - 48)) xs d
 pub number_more : (n : ℕ) (digits : List ℕ) (i : ℕ) → i < length digits → number_after n (take (i + 1) digits) ≡ 10 * number_after n (take i digits) + (get_or digits i 0 - 48)
 number_more n digits i h = rw (take_more digits i 0 h) (number_end n (take i digits) (get_or digits i 0))
 
-both_true : (p q : Bool) → (p && q) ≡ true → (p ≡ true) × (q ≡ true)
+pub both_true : (p q : Bool) → (p && q) ≡ true → (p ≡ true) × (q ≡ true)
 both_true true q h = (refl, h)
 both_true false q h = cc
 
@@ -39,7 +39,7 @@ digits_end (x ∷ xs) d all h = rw (first_digit x xs all) (digits_end xs d (rest
 pub digits_more : (digits : List ℕ) (i : ℕ) → i < length digits → list_all is_digit (take i digits) ≡ true → 48 ≤ get_or digits i 0 → get_or digits i 0 ≤ 57 → list_all is_digit (take (i + 1) digits) ≡ true
 digits_more digits i h all low high = rw (take_more digits i 0 h) (digits_end (take i digits) (get_or digits i 0) all (grind (arith, common_steps)))
 
-other_byte : (a b : ℕ) → a ≢ b → eqb a b ≡ false
+pub other_byte : (a b : ℕ) → a ≢ b → eqb a b ≡ false
 other_byte a b h = grind arith
 
 -- a digit is none of the bytes that aren't

@@ -33,6 +33,7 @@ pub enum Parameter {
 
 impl Parameter {
     /// The name, as a trace text spells it.
+    #[inline(always)]
     pub fn name(self) -> &'static str
         ensures { result.now ≡ name_of self }
     {

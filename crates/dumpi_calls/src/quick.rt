@@ -3,7 +3,7 @@
 
 ghost use Rattle.std.specs.Prelude.{◌≡◌, ◌∷◌, ◌<◌, ◌≤◌, [], IfSome, Some, false, length, take, true};
 ghost use Rattle.std.specs.List.{list_all, list_any};
-ghost use Rattle.dumpi_text.specs.Bytes.{closing_parenthesis, opening_bracket};
+ghost use Rattle.dumpi_text.specs.Bytes.{closing_parenthesis, opening_bracket, opening_parenthesis};
 ghost use Rattle.dumpi_text.specs.Call.{same_bytes};
 ghost use Rattle.dumpi_text.specs.Number.{is_opening, name_of, note_front};
 ghost use Rattle.dumpi_text.specs.Time.{is_digit, number_of};
@@ -31,7 +31,7 @@ pub fn digits_front(text: &[u8]) -> (u64, usize)
         if *byte < b'0' || b'9' < *byte || number >= ROOM {
             return (number, at);
         }
-        number = 10 * number + u64::from(*byte - b'0');
+        number = 10 * number + (u64::from(*byte) - 48);
     }
     (number, text.len())
 }
@@ -83,6 +83,39 @@ fn name_by(note: &[u8]) -> NumName
     }
 }
 
+// The name that a note gives its number, where it is one of those that stand in most lines, by all that follows its `(`.
+#[tactic(auto, using(crate::proofs::Names::noted), unfolding(dumpi_text::specs::Number::name_of))]
+fn usual_note(rest: &[u8]) -> Option<NumName>
+    ensures { IfSome result (λ name. note_front (opening_parenthesis ∷ rest.now) ≡ Some (name, [])) }
+{
+    if is(rest, "MPI_COMM_WORLD)") {
+        Some(NumName::CommWorld)
+    } else if is(rest, "MPI_ANY_SOURCE)") {
+        Some(NumName::AnySource)
+    } else if is(rest, "MPI_ANY_TAG)") {
+        Some(NumName::AnyTag)
+    } else if is(rest, "MPI_DOUBLE)") {
+        Some(NumName::Other)
+    } else if is(rest, "MPI_INT)") {
+        Some(NumName::Other)
+    } else {
+        None
+    }
+}
+
+// The name that a note gives its number, by all that follows its `(`.
+fn note_after(rest: &[u8]) -> Option<NumName>
+    ensures { IfSome result (λ name. note_front (opening_parenthesis ∷ rest.now) ≡ Some (name, [])) }
+{
+    match usual_note(rest) {
+        Some(name) => Some(name),
+        None => {
+            let note = before_closing(rest)?;
+            Some(name_by(note))
+        }
+    }
+}
+
 // The name of a number by what follows its digits: nothing, or a space and a note.
 fn name_after(text: &[u8]) -> Option<NumName>
     ensures digits { IfSome result (λ name. digit_parts text.now ≡ ([], text.now)) }
@@ -90,10 +123,7 @@ fn name_after(text: &[u8]) -> Option<NumName>
 {
     match text {
         [] => Some(NumName::Other),
-        [b' ', b'(', rest @ ..] => {
-            let note = before_closing(rest)?;
-            Some(name_by(note))
-        }
+        [b' ', b'(', rest @ ..] => note_after(rest),
         _ => None,
     }
 }

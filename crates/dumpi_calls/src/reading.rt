@@ -16,6 +16,7 @@ use mpi_model::{CommRef, Peer, Requests};
 use std::alloc::{AllocError, Global};
 
 /// The text of a parameter.
+#[inline(always)]
 #[tactic(auto, unfolding(crate::specs::Readings::text_of))]
 pub fn text_in(raw: &RawCall, parameter: Parameter) -> Option<&[u8]>
     ensures { option_copied result ≡ text_of parameter raw.now }
@@ -60,6 +61,7 @@ fn one(value: Value) -> Option<Num>
 }
 
 /// The number that a parameter is.
+#[inline(always)]
 #[tactic(auto, unfolding(crate::specs::Readings::number_in))]
 pub fn number(alloc: Global, raw: &RawCall, parameter: Parameter) -> Result<Num, CallFault>
     ensures means { Reads result (number_in parameter raw.now) }

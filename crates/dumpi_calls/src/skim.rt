@@ -1,16 +1,17 @@
 //! Statuses as dumpi2ascii writes them, `[count] {{word=number, ..}, ..}`, of which the sources are read in one pass and in
 //! place. What these functions don't answer for is read as any value is.
 
-ghost use Rattle.std.specs.Prelude.{◌≡◌, ◌∷◌, [], IfOk, IfSome, None, Some, map, true};
+ghost use Rattle.std.specs.Prelude.{◌≡◌, ◌<◌, ◌≤◌, ◌∷◌, [], IfOk, IfSome, None, Some, length, map, true};
+ghost use Rattle.std.specs.List.{list_all};
 ghost use Rattle.std.specs.Option.{option_map};
-ghost use Rattle.dumpi_calls.specs.Outcomes.{groups_from, told_at, told_of};
+ghost use Rattle.dumpi_calls.specs.Outcomes.{groups_from, told_at, told_by, told_of};
 ghost use Rattle.dumpi_calls.specs.Skims.{source_with, told_with, tolds_with, with_told};
 ghost use Rattle.dumpi_text.specs.Bytes.{closing_brace, equals, opening_bracket};
 ghost use Rattle.dumpi_text.specs.Items.{field_item, fields_front, group_item, items_front, next_front};
 ghost use Rattle.dumpi_text.specs.Number.{note_front, number_front};
 ghost use Rattle.dumpi_text.specs.Tokens.{after_byte, after_spaces, digit_parts, word_front};
 ghost use Rattle.dumpi_text.specs.Value.{all_groups, core_front, value_of};
-ghost use Rattle.dumpi_text.specs.Words.{is_word_byte, word_parts};
+ghost use Rattle.dumpi_text.specs.Words.{after_front, is_word_byte, word_parts};
 ghost use Rattle.dumpi_text.specs.declared.number.NumName.TheVariants.{Other};
 
 use crate::function::is;
@@ -130,6 +131,58 @@ fn split_field(text: &[u8]) -> Option<(&[u8], Num, &[u8])>
     Some((word, number, rest))
 }
 
+// what follows a front of the text
+#[inline(always)]
+fn strip<'a>(front: &[u8], text: &'a [u8]) -> Option<&'a [u8]>
+    ensures { IfSome result (λ rest. after_front front.now text.now ≡ Some rest.now) }
+{
+    if text.len() < front.len() {
+        return None;
+    }
+    for (at, byte) in front.iter().enumerate() {
+        if text[at] != *byte {
+            return None;
+        }
+    }
+    Some(&text[front.len()..])
+}
+
+// the number of the field in front, where its word is this one, and what follows it
+#[inline(always)]
+#[tactic(auto, using(crate::proofs::FieldByField::field_of_word))]
+fn field_named<'a>(word: &[u8], text: &'a [u8]) -> Option<(Num, &'a [u8])>
+    requires some { 0 < length word.now }
+    requires word { list_all is_word_byte word.now ≡ true }
+    ensures field { IfSome result (λ x. field_item (after_spaces text.now) ≡ Some (record { word = word.now; number = x.0 }, x.1.now)) }
+    ensures there { IfSome result (λ x. length word.now ≤ length text.now) }
+{
+    let rest = strip(word, text)?;
+    let after = strip_byte(b'=', rest)?;
+    let (number, rest) = split_number(after)?;
+    Some((number, rest))
+}
+
+// what follows a `,` and a space that stand in front
+#[inline(always)]
+fn after_comma(text: &[u8]) -> Option<&[u8]>
+    ensures { IfSome result (λ rest. text.now ≡ 44 ∷ 32 ∷ rest.now) }
+{
+    strip_byte(b' ', strip_byte(b',', text)?)
+}
+
+// what the fields of a group tell, where they are those that dumpi2ascii writes, and what follows its `}`
+fn usual_front(text: &[u8]) -> Option<(Told, &[u8])>
+    ensures { IfSome result (λ x. with_told None (fields_front text.now) ≡ Some (x.0, x.1.now)) }
+{
+    let (_, rest) = field_named(b"bytes", text)?;
+    let (_, rest) = field_named(b"cancelled", after_comma(rest)?)?;
+    let (source, rest) = field_named(b"source", after_comma(rest)?)?;
+    let (_, rest) = field_named(b"tag", after_comma(rest)?)?;
+    let (_, rest) = field_named(b"error", after_comma(rest)?)?;
+    let rest = strip_byte(b'}', rest)?;
+    Some((told_number(source), rest))
+}
+
 // whether another field follows, and what follows its `,` or the group's `}`
 fn split_next(text: &[u8]) -> Option<(bool, &[u8])>
     ensures { option_map (λ x. (x.0, x.1.now)) result ≡ next_front closing_brace text.now }
@@ -141,6 +194,13 @@ fn split_next(text: &[u8]) -> Option<(bool, &[u8])>
     }
 }
 
+// what the number of a field `source` tells
+fn told_number(number: Num) -> Told
+    ensures { result ≡ told_by number.name number.value }
+{
+    Told::new(told_source(number)).unwrap()
+}
+
 // what was told, with one field more: the first field `source` counts
 fn source_by(source: Option<Told>, word: &[u8], number: Num) -> Option<Told>
     ensures { result ≡ source_with source (record { word = word.now; number = number }) }
@@ -149,7 +209,7 @@ fn source_by(source: Option<Told>, word: &[u8], number: Num) -> Option<Told>
         Some(told) => Some(told),
         None => {
             if is(word, "source") {
-                Some(Told::new(told_source(number)).unwrap())
+                Some(told_number(number))
             } else {
                 None
             }
@@ -168,8 +228,18 @@ fn told_by_all(source: Option<Told>) -> Told
 }
 
 // what the fields of a group tell, and what follows its `}`
-#[tactic(auto, using(crate::proofs::FieldByField::one_more, crate::proofs::FieldByField::the_last))]
 fn told_front(text: &[u8]) -> Option<(Told, &[u8])>
+    ensures { IfSome result (λ x. with_told None (fields_front text.now) ≡ Some (x.0, x.1.now)) }
+{
+    match usual_front(text) {
+        Some(usual) => Some(usual),
+        None => any_front(text),
+    }
+}
+
+// the same of any fields, one by one
+#[tactic(auto, using(crate::proofs::FieldByField::one_more, crate::proofs::FieldByField::the_last))]
+fn any_front(text: &[u8]) -> Option<(Told, &[u8])>
     ensures { IfSome result (λ x. with_told None (fields_front text.now) ≡ Some (x.0, x.1.now)) }
 {
     let mut source = None;

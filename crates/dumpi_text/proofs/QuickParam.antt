@@ -1,5 +1,5 @@
 -- Parameter lines as dumpi2ascii writes them: `type name=value`.
-use Rattle.std.proofs.Common.{◌≡◌, ◌||◌, ℕ, ◌<◌, true, false, eqb, cond, codes, Option, Some, None, List, [], ◌∷◌, ◌++◌, length, arith, ap, sym, refl, ◌∙◌, inl, inr, eq-eqb}
+use Rattle.std.proofs.Common.{◌≡◌, ◌||◌, ℕ, ◌<◌, true, false, eqb, cond, codes, Option, Some, None, List, [], ◌∷◌, ◌++◌, length, take, arith, ap, sym, refl, ◌∙◌, inl, inr, eq-eqb}
 use Rattle.std.specs.List.{list_all, list_any}
 use Rattle.std.proofs.lemmas.List.{append-nil}
 use Rattle.dumpi_text.specs.Parameter.{parameter_from, parameter_name, parameter_of}
@@ -143,3 +143,39 @@ no_stamp_line line named value n v some more whole returns =
     let rest : (word_parts line).1 ≡ 32 ∷ ((word_parts named).0 ++ 61 ∷ value) =
     follows 32 (word_parts line).1 named n ∙ ap (λ (r : List ℕ). 32 ∷ r) (words_whole named ∙ ap (λ (r : List ℕ). (word_parts named).0 ++ r) (follows 61 (word_parts named).1 value v)) in
     ap kind_of same ∙ is_other line some (ap stamp_word rest ∙ no_stamp (word_parts named).0 value (words_front named))
+
+front_whole : (front text rest : List ℕ) → after_front front text ≡ Some rest → text ≡ front ++ rest
+front_whole [] text rest e = cc
+front_whole (f ∷ fs) [] rest e = cc
+front_whole (f ∷ fs) (t ∷ ts) rest e =
+    elim (cases_eq t f) [
+      | inl same ↦ (let it : eqb t f ≡ true = eq-eqb t f same in let found : after_front fs ts ≡ Some rest = rw it at e in ap (λ (b : ℕ). b ∷ ts) same ∙ ap (λ (r : List ℕ). f ∷ r) (front_whole fs ts rest found))
+      | inr other ↦ (let it : eqb t f ≡ false = other_byte t f other in let found : ◌≡◌ {A = Option (List ℕ)} None (Some rest) = rw it at e in cc)
+    ]
+
+text_whole : (front text rest : List ℕ) → after_text front text ≡ Some rest → text ≡ front ++ rest
+unfolding after_text
+text_whole front text rest e = front_whole front text rest e
+
+word_before : (word : List ℕ) (stop : ℕ) (more : List ℕ) → list_all is_word_byte word ≡ true → is_word_byte stop ≡ false → word_parts (word ++ stop ∷ more) ≡ (word, stop ∷ more)
+word_before [] stop more all stops = rw stops refl
+word_before (b ∷ bs) stop more all stops = rw (first_passes is_word_byte b bs all, word_before bs stop more (rest_passes is_word_byte b bs all) stops) refl
+
+take_front : (front rest : List ℕ) → take (length front) (front ++ rest) ≡ front
+take_front [] rest = refl
+take_front (b ∷ bs) rest = ap (λ (r : List ℕ). b ∷ r) (take_front bs rest)
+
+-- a front that is there is no longer than its text
+pub known_there : (front text rest : List ℕ) → after_text front text ≡ Some rest → length front ≡ length (take (length front) text)
+known_there front text rest e =
+    let taken : take (length front) text ≡ front = ap (λ (t : List ℕ). take (length front) t) (text_whole front text rest e) ∙ take_front front rest in
+    sym (ap (λ (t : List ℕ). length t) taken)
+
+-- the word in front, where it is known and a byte follows that no word has
+pub known_parts : (word text rest more : List ℕ) (stop : ℕ) → list_all is_word_byte word ≡ true → is_word_byte stop ≡ false → after_text word text ≡ Some rest → byte_front stop rest ≡ Some more
+    → word_parts text ≡ (take (length word) text, rest)
+known_parts word text rest more stop all stops e next =
+    let after : rest ≡ stop ∷ more = follows stop rest more next in
+    let whole : text ≡ word ++ stop ∷ more = text_whole word text rest e ∙ ap (λ (r : List ℕ). word ++ r) after in
+    let taken : take (length word) text ≡ word = ap (λ (t : List ℕ). take (length word) t) whole ∙ take_front word (stop ∷ more) in
+    rw (taken, after) (ap word_parts whole ∙ word_before word stop more all stops)
