@@ -6,7 +6,7 @@ ghost use Rattle.mpi_model.specs.declared.message.Receive.{Receive};
 ghost use Rattle.trace_pair.specs.Calls.{between, IsSequence, IsPosting};
 ghost use Rattle.trace_pair.specs.Followed.{Indexes};
 
-use crate::matched::{Matched, pop_message, pop_receive, push_message, push_receive};
+use crate::matched::{Matched, add_message, add_receive, pop_message, pop_receive};
 use mpi_model::{Message, Receive};
 use std::alloc::AllocError;
 use trace_ops::RankOps;
@@ -45,7 +45,7 @@ fn add_messages(state: &mut Matched, held: &[Message], keep: usize) -> Result<()
 {
     let mut next = keep;
     while next < held.len() {
-        push_message(state, held[next])?;
+        add_message(state, held[next])?;
         next += 1;
     }
     Ok(())
@@ -101,7 +101,7 @@ fn add_receives(state: &mut Matched, held: &[Receive], keep: usize) -> Result<()
 {
     let mut next = keep;
     while next < held.len() {
-        push_receive(state, held[next])?;
+        add_receive(state, held[next])?;
         next += 1;
     }
     Ok(())

@@ -103,7 +103,7 @@ fn taken_by(state: &Matched, q: &Receive) -> Option<Message>
     Some(m)
 }
 
-pub(crate) fn push_message(state: &mut Matched, m: Message) -> Result<(), AllocError>
+fn push_message(state: &mut Matched, m: Message) -> Result<(), AllocError>
     ensures { OnOk result ((ms more : List Message) (qs : List Receive) → AddsMessage ms more m → Indexes ms qs state.old → Indexes more qs state.new) }
 {
     match taker_for(state, &m) {
@@ -119,7 +119,7 @@ pub(crate) fn push_message(state: &mut Matched, m: Message) -> Result<(), AllocE
     Ok(())
 }
 
-pub(crate) fn push_receive(state: &mut Matched, q: Receive) -> Result<(), AllocError>
+fn push_receive(state: &mut Matched, q: Receive) -> Result<(), AllocError>
     ensures { OnOk result ((ms : List Message) (qs more : List Receive) → AddsReceive qs more q → Indexes ms qs state.old → Indexes ms more state.new) }
 {
     if q.source.is_none() {
@@ -172,5 +172,34 @@ pub(crate) fn pop_receive(state: &mut Matched, q: &Receive) -> Result<(), AllocE
         }
         None => state.opened.remove(q),
     }
+    Ok(())
+}
+
+/// Puts a message behind those of its sender, with room for its receive.
+pub(crate) fn add_message(state: &mut Matched, m: Message) -> Result<(), AllocError>
+    ensures { OnOk result ((ms more : List Message) (qs : List Receive) → AddsMessage ms more m → Indexes ms qs state.old → Indexes more qs state.new) }
+{
+    state.couples.expect_message(&m)?;
+    push_message(state, m)?;
+    Ok(())
+}
+
+/// Makes room for the message of a receive, if its source is told.
+fn expect_told(state: &mut Matched, q: &Receive) -> Result<(), AllocError>
+    ensures { (ms : List Message) (qs : List Receive) → Indexes ms qs state.old → Indexes ms qs state.new }
+{
+    if q.source.is_none() {
+        return Ok(());
+    }
+    state.couples.expect_receive(q)?;
+    Ok(())
+}
+
+/// Puts a receive behind those of its rank, with room for its message.
+pub(crate) fn add_receive(state: &mut Matched, q: Receive) -> Result<(), AllocError>
+    ensures { OnOk result ((ms : List Message) (qs more : List Receive) → AddsReceive qs more q → Indexes ms qs state.old → Indexes ms more state.new) }
+{
+    expect_told(state, &q)?;
+    push_receive(state, q)?;
     Ok(())
 }
