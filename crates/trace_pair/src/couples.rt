@@ -7,7 +7,7 @@ ghost use Rattle.trace_pair.specs.Coupled.{taker_of, receive_by, IsNew, IsOneMes
 ghost use Rattle.trace_pair.specs.Sets.{AddsTo, DropsFrom, IsSameSet};
 
 use crate::pair::{Couple, Taker};
-use crate::slots::{Slot, expect, put_new, take_at, value_at};
+use crate::slots::{Slot, expect, put_new, reserve, take_at, value_at};
 use mpi_model::{Message, OpName, Receive};
 use std::alloc::{AllocError, Global};
 use std::marker::Model;
@@ -114,6 +114,20 @@ impl Couples {
             }
             None => (),
         }
+    }
+
+    /// Makes room for the couples of so many messages of a rank.
+    pub(crate) fn reserve_messages(&mut self, rank: u32, more: usize) -> Result<(), AllocError>
+        ensures { IsSameSet self.old self.new }
+    {
+        reserve(&mut self.takers, rank, more)
+    }
+
+    /// Makes room for the couples of so many receives of a rank.
+    pub(crate) fn reserve_receives(&mut self, rank: u32, more: usize) -> Result<(), AllocError>
+        ensures { IsSameSet self.old self.new }
+    {
+        reserve(&mut self.taken, rank, more)
     }
 
     /// Makes room for the message's receive.

@@ -48,6 +48,20 @@ impl Matched {
         self.couples.clear();
     }
 
+    /// Makes room for the couples of so many messages and receives of a rank.
+    pub(crate) fn reserve(
+        &mut self,
+        rank: u32,
+        sends: usize,
+        receives: usize,
+    ) -> Result<(), AllocError>
+        ensures { (ms : List Message) (qs : List Receive) → Indexes ms qs self.old → Indexes ms qs self.new }
+    {
+        self.couples.reserve_messages(rank, sends)?;
+        self.couples.reserve_receives(rank, receives)?;
+        Ok(())
+    }
+
     /// The receive that takes the held message.
     pub(crate) fn partner_of(&self, m: &Message) -> Option<Receive>
         ensures { (ms : List Message) (qs : List Receive) → Indexes ms qs self.now → Has ms m.now → result ≡ receive_of ms qs m.now }

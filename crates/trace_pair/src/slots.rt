@@ -57,6 +57,15 @@ fn make_room<V: Copy>(row: &mut Vec<Slot<V>>) -> Result<(), AllocError>
     Ok(())
 }
 
+/// Makes room for so many slots more, and no other. A list that is asked for whole isn't moved as it
+/// grows, and the system has no holes to keep between its moves.
+fn reserve_in<V: Copy>(row: &mut Vec<Slot<V>>, more: usize) -> Result<(), AllocError>
+    ensures { row.new.items ≡ row.old.items }
+{
+    row.reserve_exact(more)?;
+    Ok(())
+}
+
 /// Puts the slot of a call that has none where it belongs.
 fn put_slot<V: Copy>(row: &mut Vec<Slot<V>>, place: usize, slot: Slot<V>) -> Result<(), AllocError>
     requires rises { Rises row.old.items }
@@ -217,5 +226,20 @@ pub(crate) fn expect<V: Copy>(rows: &mut Vec<Vec<Slot<V>>>, name: &OpName) -> Re
 {
     reach(rows, name.rank)?;
     expect_in(&mut rows[name.rank as usize], name.call)?;
+    Ok(())
+}
+
+/// Makes room for so many slots more of a rank.
+pub(crate) fn reserve<V: Copy>(
+    rows: &mut Vec<Vec<Slot<V>>>,
+    rank: u32,
+    more: usize,
+) -> Result<(), AllocError>
+    requires { AreSlots rows.old.items }
+    ensures slots { AreSlots rows.new.items }
+    ensures same { (n : OpName) → value_of rows.new.items n ≡ value_of rows.old.items n }
+{
+    reach(rows, rank)?;
+    reserve_in(&mut rows[rank as usize], more)?;
     Ok(())
 }
