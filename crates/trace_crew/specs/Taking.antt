@@ -69,6 +69,11 @@ pub record Handles (from : Worker) (segment : PlacedEvents) (old : Held) (refuse
   pub layout : new.layout ≡ old.layout
   pub know : new.know ≡ known_after old.know segment fault
 
+-- The node is the same layout's, and knows the same. It may have its answer now.
+pub record IsKept (old new : Held) : Type 0 where
+  pub layout : new.layout ≡ old.layout
+  pub know : new.know ≡ old.know
+
 -- ---- all segments
 
 -- the segment of an item, with its worker
