@@ -10,13 +10,15 @@
 //!
 //! Cost: reading goes at the speed of two threads, joining at that of one; a segment is moved, never
 //! copied, and at most eight wait. An answer takes over what the one before it found, so the last one,
-//! for which all wait, costs what is new to it and one pass over all messages. A copy for the board
-//! costs as much as all that is known, but those before the last together at most twice that.
+//! for which all wait, costs what is new to it and one pass over all messages. What is shown at the
+//! end is joined beside the node, segment by segment, so no copy is made then; a copy before costs as
+//! much as all that is known, all of them together at most twice that.
 //!
 //! - [`piece`]: a text of a rank, its segments, and why it gives none
 //! - [`gate`]: where a test may hold a crew
 //! - [`worker`]: reads and posts
-//! - [`keeper`]: how the owner takes; [`owner`]: what it keeps
+//! - [`keeper`]: how the owner takes; [`owner`]: what it keeps; [`twin`]: its node, and what that knows a
+//!   second time
 //! - [`threads`]: the three threads, and what they leave
 //! - [`laws`]: that a crew follows a schedule of one node, as the contract of a call that does nothing
 //!
@@ -32,6 +34,7 @@ mod laws;
 mod owner;
 mod piece;
 mod threads;
+mod twin;
 mod worker;
 
 pub use gate::{Gate, OpenGate};

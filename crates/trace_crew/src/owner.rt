@@ -3,16 +3,17 @@
 ghost use Rattle.std.specs.Prelude.{◌≡◌, ◌∷◌, ◌++◌, [], List, false, IfOk, OnOk};
 ghost use Rattle.mpi_model.specs.Layouts.{Parts};
 ghost use Rattle.trace_inbox.specs.declared.item.Item.{Item as ItemValue};
-ghost use Rattle.trace_crew.specs.Taking.{Handles, IsFairFor, IsKept, Sorted, counted, ends_told, is_end, known_after};
+ghost use Rattle.trace_crew.specs.Taking.{Handles, IsKept, Sorted, counted, ends_told, is_end};
 
 use crate::keeper::Keeper;
+use crate::twin::Twin;
 use mpi_model::Layout;
 use std::alloc::{AllocError, Global};
 use std::sync::Wait;
 use trace_board::Board;
 use trace_inbox::{Item, Post, Worker};
 use trace_know::{Segment, view_laws};
-use trace_node::{Node, NodeFault};
+use trace_node::NodeFault;
 
 /// A node, and what was made of the segments that came for it.
 #[derive(Drop)]
@@ -20,7 +21,7 @@ pub struct Hall<'s, 'a> {
     /// The board on which the node is shown.
     board: &'s Board<'a>,
     /// The join of the segments that were not refused.
-    pub node: Node<'a>,
+    pub node: Twin<'a>,
     /// Those that were refused, with their workers, in the order of taking.
     pub refused: Vec<(u8, Segment, NodeFault)>,
     /// How many segments of the first worker were taken.
@@ -45,7 +46,7 @@ impl<'s, 'a> Hall<'s, 'a> {
     {
         Ok(Hall {
             board,
-            node: Node::new(alloc, layout)?,
+            node: Twin::new(alloc, layout)?,
             refused: Vec::new(alloc),
             first: 0,
             second: 0,
@@ -54,66 +55,38 @@ impl<'s, 'a> Hall<'s, 'a> {
         })
     }
 
-    /// Shows the node on the board, with its answer. A refused publish is passed over: the next one
-    /// shows all that this would have shown.
-    fn show<R: Wait>(&mut self, rt: &R)
-        ensures node { self.new.node ≡ self.old.node }
-        ensures refused { self.new.refused.items ≡ self.old.refused.items }
-    {
-        if self.board.publish(rt, &self.node).is_ok() {
-            self.shown = self.joined;
-        }
-    }
-
     /// Makes the answer to all that was joined, where it isn't made yet, and shows it. Without memory for
-    /// it the node stays stale.
+    /// it the node stays stale. A refused publish is passed over.
     pub fn settle<R: Wait>(&mut self, rt: &R) -> Result<(), AllocError>
         ensures kept { IsKept self.old.node self.new.node }
         ensures refused { self.new.refused.items ≡ self.old.refused.items }
         ensures fresh { OnOk result (self.new.node.is_stale ≡ false) }
     {
         self.node.catch_up()?;
-        if self.shown < self.joined {
-            self.show(rt);
+        if self.shown < self.joined && self.node.publish_last(rt, self.board).is_ok() {
+            self.shown = self.joined;
         }
         Ok(())
     }
 
-    /// Whether so much was joined since the node was shown that showing it again is worth its time: as
-    /// much as before. So all showings but the last together cost at most about twice what that does.
+    /// Whether so much was joined since the node was shown that a copy for the board is worth its time:
+    /// as much as before. So these copies together cost at most about twice what the last of them does.
     fn is_due(&self) -> bool {
         self.joined / 2 >= self.shown && self.joined > 0
     }
 
-    /// Makes the answer to all that was joined. So the last answer, for which all wait, has less that is
-    /// new to it.
+    /// Makes the answer to all that was joined, and shows it where that is due. So the last answer, for
+    /// which all wait, has less that is new to it. A refused publish is passed over: the next one shows
+    /// all that this would have shown.
     pub fn rest<R: Wait>(&mut self, rt: &R)
         ensures kept { IsKept self.old.node self.new.node }
         ensures refused { self.new.refused.items ≡ self.old.refused.items }
     {
-        if self.node.catch_up().is_ok() && self.is_due() {
-            self.show(rt);
+        if self.node.catch_up().is_err() || !self.is_due() {
+            return;
         }
-    }
-
-    /// Joins a segment, or answers why it was not joined.
-    #[tactic(auto, using(crate::proofs::Sorting::memory_is_fair))]
-    fn offer(&mut self, segment: &Segment) -> Option<NodeFault>
-        ensures fair { IsFairFor self.old.node.layout segment.now.rank result }
-        ensures layout { self.new.node.layout ≡ self.old.node.layout }
-        ensures know { self.new.node.know ≡ known_after self.old.node.know segment.now result }
-        ensures refused { self.new.refused.items ≡ self.old.refused.items }
-    {
-        match self.node.hold(segment) {
-            Ok(()) => {
-                let count = segment.events().len() as u64;
-                self.joined = self.joined.saturating_add(count);
-                None
-            }
-            Err(NodeFault::Rank) => Some(NodeFault::Rank),
-            Err(NodeFault::Memory) => Some(NodeFault::Memory),
-            // (what is only held asks for no answer)
-            Err(NodeFault::Stale) => unreachable!(),
+        if self.node.publish(rt, self.board).is_ok() {
+            self.shown = self.joined;
         }
     }
 
@@ -121,9 +94,13 @@ impl<'s, 'a> Hall<'s, 'a> {
     fn join(&mut self, from: Worker, segment: Segment) -> Result<(), AllocError>
         ensures { OnOk result (Handles from segment self.old.node self.old.refused.items self.new.node self.new.refused.items) }
     {
-        match self.offer(&segment) {
-            None => Ok(()),
-            Some(fault) => {
+        let count = segment.events().len() as u64;
+        match self.node.hold(segment) {
+            None => {
+                self.joined = self.joined.saturating_add(count);
+                Ok(())
+            }
+            Some((segment, fault)) => {
                 self.refused.push((from.number(), segment, fault))?;
                 Ok(())
             }
