@@ -74,6 +74,25 @@ impl<'a> Shown<'a> {
         })
     }
 
+    /// What a node knows, of which the caller has a copy, with a copy of its answer.
+    pub fn with(node: &Node<'a>, know: Knowledge) -> Result<Shown<'a>, PutFault>
+        requires same { know ≡ node.now.know }
+        ensures ok { IfOk result (λ s. IsOf node.now s) }
+        ensures stale { IsErrOf result PutFault.Stale ↔ IsTrue node.now.is_stale }
+    {
+        let Ok(answer) = node.answer() else {
+            return Err(PutFault::Stale);
+        };
+        match answer.try_clone() {
+            Ok(answer) => Ok(Shown {
+                layout: node.layout(),
+                know,
+                answer,
+            }),
+            Err(_) => Err(PutFault::Memory),
+        }
+    }
+
     /// Puts a node's layout, knowledge and answer in the place of what is shown. A refusal changes
     /// nothing.
     pub fn put(&mut self, node: &Node<'a>) -> Result<(), PutFault>
@@ -82,6 +101,17 @@ impl<'a> Shown<'a> {
         ensures err { OnErr result (self.new ≡ self.old) }
     {
         *self = Shown::of(node)?;
+        Ok(())
+    }
+
+    /// As [`put`](Self::put), with the caller's copy of what the node knows.
+    pub fn put_with(&mut self, node: &Node<'a>, know: Knowledge) -> Result<(), PutFault>
+        requires same { know ≡ node.now.know }
+        ensures ok { OnOk result (IsOf node.now self.new) }
+        ensures stale { IsErrOf result PutFault.Stale ↔ IsTrue node.now.is_stale }
+        ensures err { OnErr result (self.new ≡ self.old) }
+    {
+        *self = Shown::with(node, know)?;
         Ok(())
     }
 

@@ -1,6 +1,7 @@
 //! A node as those know it who let two of them meet.
 
-ghost use Rattle.std.specs.Prelude.{OnOk};
+ghost use Rattle.std.specs.Prelude.{◌≡◌, IfOk, OnOk};
+ghost use Rattle.trace_know.specs.View.{join};
 ghost use Rattle.trace_node.specs.Node.{Held};
 ghost use Rattle.trace_cluster.specs.Meeting.{IsMore};
 
@@ -19,11 +20,13 @@ pub trait Peer: Drop {
     ghost held: { Self → Held };
 
     /// A copy of all that its node knows.
-    fn copy_know(&self) -> Result<Knowledge, AllocError>;
+    fn copy_know(&self) -> Result<Knowledge, AllocError>
+        ensures { IfOk result (λ know. know ≡ (held self.now).know) };
 
     /// Joins what its leading has learned.
     fn learn(&mut self, know: &Knowledge) -> Result<(), NodeFault>
-        ensures { OnOk result (IsMore (held self.old) (held self.new)) };
+        ensures more { OnOk result (IsMore (held self.old) (held self.new)) }
+        ensures learned { OnOk result ((held self.new).know ≡ join (held self.old).know know.now) };
 
     /// Follows in an exchange over a connection, and closes it.
     fn follow_over(&mut self, alloc: Global, stream: TcpStream) -> Result<(), ExchangeFault>

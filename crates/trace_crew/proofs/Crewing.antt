@@ -14,8 +14,9 @@ use Rattle.trace_crew.specs.declared.piece.Piece.{Piece}
 use Rattle.trace_crew.specs.declared.piece.PieceFault.{PieceFault}
 use Rattle.trace_crew.specs.declared.threads.CrewOut.{CrewOut}
 use Rattle.trace_crew.specs.Pieces.{Gave}
-use Rattle.trace_crew.specs.Taking.{HasAll, Refusal, Taken, sent, sent_by, source}
-use Rattle.trace_crew.specs.Crewed.{IsCrewOut, segments_by}
+use Rattle.trace_crew.specs.Taking.{HasAll, IsKept, Refusal, Taken, sent, sent_by, source}
+use Rattle.trace_crew.proofs.Sorting.{sorted_kept}
+use Rattle.trace_crew.specs.Crewed.{HasGathered, IsCrewOut, segments_by}
 
 -- the segments of one worker among segments with their workers
 abbrev by : Worker → List (Worker × PlacedEvents) → List PlacedEvents
@@ -68,33 +69,27 @@ pub given : {T E : Type 0} {P Q : T → Type 0} (r : Result T E) → ((x : T) �
 given (Ok x) f h = f x h
 given (Err e) f h = tt
 
--- A node that knows the same since has all still.
-pub settled : (layout : Parts) (ones others : List Item) (node later : Held) (refused still : List Refusal) → HasAll layout ones others node refused
-    → later.layout ≡ node.layout → later.know ≡ node.know → still ≡ refused → HasAll layout ones others later still
-settled layout ones others node later refused still all same_layout same_know same =
-    let s = all.sorted.1 in record {
-      items = all.items;
-      first_all = all.first_all;
-      second_all = all.second_all;
-      sorted = (all.sorted.0, record { all = s.all; fair = s.fair; listed = same ∙ s.listed; layout_is = same_layout ∙ s.layout_is; know = same_know ∙ s.know });
-    }
+-- A node that is kept has all still.
+pub settled : (layout : Parts) (ones others : List Item) (node later : Held) (refused still : List Refusal) → HasAll layout ones others node refused → IsKept node later → still ≡ refused
+    → HasAll layout ones others later still
+settled layout ones others node later refused still all kept same =
+    record { items = all.items; first_all = all.first_all; second_all = all.second_all; sorted = sorted_kept layout all.items node later refused still kept same all.sorted }
 
 -- Where the owner took all that the workers posted, the crew leaves what it promises.
-pub crewed : (layout : Parts) (first second : List Piece) (out : CrewOut) (first_faults second_faults : List (ℕ × ℕ × PieceFault)) (ones others : List PlacedEvents)
-    → Gave 0 first ones first_faults → Gave 1 second others second_faults → HasAll layout (posts_of First ones) (posts_of Second others) out.node out.refused.items
-    → out.faults.items ≡ first_faults ++ second_faults → IsCrewOut layout first second out
-crewed layout first second out first_faults second_faults ones others gave gave' all faults =
-    let s = all.sorted.1 in
-    let taken = all.sorted.0 in
+pub crewed : (layout : Parts) (first second : List Piece) (out : CrewOut) (node : Held) (refused : List Refusal) (faults : List (ℕ × ℕ × PieceFault))
+    → out.node ≡ node → out.refused.items ≡ refused → out.faults.items ≡ faults → HasGathered layout first second node refused faults → IsCrewOut layout first second out
+crewed layout first second out node refused faults is_node is_refused is_faults h =
+    let s = h.all.sorted.1 in
+    let taken = h.all.sorted.0 in
     record {
       taken = taken;
-      first_faults = first_faults;
-      second_faults = second_faults;
-      first_gave = subst (λ (l : List PlacedEvents). Gave 0 first l first_faults) (sym (all_of First taken all.items ones s.all all.first_all)) gave;
-      second_gave = subst (λ (l : List PlacedEvents). Gave 1 second l second_faults) (sym (all_of Second taken all.items others s.all all.second_all)) gave';
-      faults = faults;
+      first_faults = h.first_faults;
+      second_faults = h.second_faults;
+      first_gave = subst (λ (l : List PlacedEvents). Gave 0 first l h.first_faults) (sym (all_of First taken h.all.items h.ones s.all h.all.first_all)) h.first_gave;
+      second_gave = subst (λ (l : List PlacedEvents). Gave 1 second l h.second_faults) (sym (all_of Second taken h.all.items h.others s.all h.all.second_all)) h.second_gave;
+      faults = is_faults ∙ h.faults_are;
       fair = s.fair;
-      refused = s.listed;
-      layout_is = s.layout_is;
-      know = s.know;
+      refused = is_refused ∙ s.listed;
+      layout_is = ap (λ (n : Held). n.layout) is_node ∙ s.layout_is;
+      know = ap (λ (n : Held). n.know) is_node ∙ s.know;
     }

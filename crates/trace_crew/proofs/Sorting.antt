@@ -15,7 +15,7 @@ use Rattle.trace_node.specs.declared.fault.NodeFault.{NodeFault}
 use Rattle.trace_node.specs.declared.fault.NodeFault.TheVariants.{Rank, Memory}
 use Rattle.trace_inbox.specs.declared.item.Item.{Item}
 use Rattle.trace_inbox.specs.declared.item.Post.TheVariants.{Segment, End}
-use Rattle.trace_crew.specs.Taking.{Handles, IsFair, IsFairFor, Refusal, Sorted, Taken, counted, ends_in, is_end, joined_for, joined_in, known_after, refused_in, sent, sent_by, source, taken_as}
+use Rattle.trace_crew.specs.Taking.{Handles, IsFair, IsFairFor, IsKept, Refusal, Sorted, Taken, counted, ends_in, is_end, joined_for, joined_in, known_after, refused_in, sent, sent_by, source, taken_as}
 
 -- Nothing was taken, and nothing is known.
 pub nothing_taken : (layout : Parts) (node : Held) (refused : List Refusal) → node ≡ held layout empty false → refused ≡ [] → Sorted layout [] node refused
@@ -60,6 +60,15 @@ pub sorted_next : ((a b : Trace) → view_of (a ++ b) ≡ join (view_of a) (view
     → Sorted layout (items ++ item ∷ []) later still
 sorted_next union item segment old new later refused refusals still is how same same' layout items h =
     subst (λ (p : Held × List Refusal). Sorted layout (items ++ item ∷ []) p.0 p.1) (λ i. (sym same i, sym same' i)) (sorted_segment union item segment old new refused refusals is how layout items h)
+
+-- A node is kept as it is.
+pub kept_as_it_is : (node : Held) → IsKept node node
+kept_as_it_is node = record { layout = refl; know = refl }
+
+-- The same was taken, and the node is kept.
+pub sorted_kept : (layout : Parts) (items : List Item) (node later : Held) (refused still : List Refusal) → IsKept node later → still ≡ refused → Sorted layout items node refused → Sorted layout items later still
+sorted_kept layout items node later refused still kept same h =
+    let s = h.1 in (h.0, record { all = s.all; fair = s.fair; listed = same ∙ s.listed; layout_is = kept.layout ∙ s.layout_is; know = kept.know ∙ s.know })
 
 -- What is refused for want of memory is of a rank of the layout.
 pub memory_is_fair : (result : Result (Unit {0}) NodeFault) (ranks rank : ℕ) → result ≡ Err Memory → (result ≡ Err Rank) ↔ (ranks ≤ rank) → rank < ranks

@@ -12,13 +12,13 @@ use Rattle.trace_inbox.specs.declared.item.Worker.TheVariants.{First, Second}
 use Rattle.trace_inbox.specs.declared.rule.Standing.TheVariants.{Running}
 use Rattle.trace_inbox.specs.declared.rule.View.{View}
 use Rattle.trace_inbox.specs.declared.rule.View.TheVariants.{Owner}
-use Rattle.trace_inbox.specs.Views.{desk, is_from}
+use Rattle.trace_inbox.specs.Views.{desk, is_from, posts_of}
 use Rattle.trace_crew.specs.declared.threads.CrewOut.{CrewOut}
 use Rattle.trace_crew.specs.declared.worker.Worked.{Worked}
 use Rattle.trace_crew.specs.declared.piece.Piece.{Piece}
 use Rattle.trace_crew.specs.declared.piece.PieceFault.{PieceFault}
 use Rattle.trace_crew.specs.Pieces.{Gave}
-use Rattle.trace_crew.specs.Taking.{IsFair, Refusal, Sorted, Taken, joined_in, refused_in}
+use Rattle.trace_crew.specs.Taking.{HasAll, IsFair, Refusal, Sorted, Taken, joined_in, refused_in}
 use Rattle.trace_crew.specs.Work.{HasEnded}
 
 -- the segments of one worker among those that were taken, in their order
@@ -42,6 +42,18 @@ pub record IsCrewOut (layout : Parts) (first second : List Piece) (out : CrewOut
   pub refused : out.refused.items ≡ flat_map refused_in taken
   pub layout_is : out.node.layout ≡ layout
   pub know : out.node.know ≡ view_of (flat_map joined_in taken)
+
+-- The owner has taken all that both workers posted: the segments of their texts, but for the texts with a fault, which
+-- are listed.
+pub record HasGathered (layout : Parts) (first second : List Piece) (node : Held) (refused : List Refusal) (faults : List (ℕ × ℕ × PieceFault)) : Type 0 where
+  pub ones : List PlacedEvents
+  pub others : List PlacedEvents
+  pub first_faults : List (ℕ × ℕ × PieceFault)
+  pub second_faults : List (ℕ × ℕ × PieceFault)
+  pub first_gave : Gave 0 first ones first_faults
+  pub second_gave : Gave 1 second others second_faults
+  pub faults_are : faults ≡ first_faults ++ second_faults
+  pub all : HasAll layout (posts_of First ones) (posts_of Second others) node refused
 
 -- The workers have ended, and the owner has taken some of what they posted.
 pub record HasRun (layout : Parts) (first second : List Piece) (owner : View) (node : Held) (refused : List Refusal) (one other : Worked) : Type 0 where

@@ -36,6 +36,11 @@ IsFairFor layout rank (Some Stale) = ⊥
 abbrev pub IsFair : Parts → Taken → Type 0
 IsFair layout t = IsFairFor layout t.segment.rank t.fault
 
+-- why a segment was given back, where one was
+abbrev pub fault_in : Option (PlacedEvents × NodeFault) → Option NodeFault
+fault_in None = None
+fault_in (Some refused) = Some refused.1
+
 -- a segment with its worker's number and its fault
 abbrev pub Refusal : Type 0
 Refusal = ℕ × PlacedEvents × NodeFault
@@ -68,6 +73,11 @@ pub record Handles (from : Worker) (segment : PlacedEvents) (old : Held) (refuse
   pub listed : refusals ≡ refused ++ refused_for from segment fault
   pub layout : new.layout ≡ old.layout
   pub know : new.know ≡ known_after old.know segment fault
+
+-- The node is the same layout's, and knows the same. It may have its answer now.
+pub record IsKept (old new : Held) : Type 0 where
+  pub layout : new.layout ≡ old.layout
+  pub know : new.know ≡ old.know
 
 -- ---- all segments
 

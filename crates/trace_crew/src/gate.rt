@@ -9,8 +9,7 @@ pub trait Gate: Sync {
     /// A worker is about to post its `nth` segment, from 0.
     fn before_post(&self, worker: u8, nth: u64);
 
-    /// The owner has joined or refused a worker's `nth` segment, from 0, and has published where it
-    /// made an answer.
+    /// The owner has joined or refused a worker's `nth` segment, from 0.
     fn after_take(&self, worker: u8, nth: u64);
 }
 

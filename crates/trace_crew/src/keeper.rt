@@ -1,15 +1,15 @@
 //! How the owner takes.
 
-ghost use Rattle.std.specs.Prelude.{◌≡◌, ◌≤◌, ◌∷◌, ◌++◌, [], List, IfOk, OnOk};
+ghost use Rattle.std.specs.Prelude.{◌≡◌, ◌≤◌, ◌∷◌, ◌++◌, [], List, false, IfOk, IfSome, OnOk};
 ghost use Rattle.crossbeam_channel.specs.Claims.{view, IsSeatAt};
 ghost use Rattle.crossbeam_channel.specs.Ends.{receives_on};
 ghost use Rattle.mpi_model.specs.Layouts.{Parts};
 ghost use Rattle.trace_node.specs.Node.{Held};
-ghost use Rattle.trace_inbox.specs.Views.{desk};
+ghost use Rattle.trace_inbox.specs.Views.{IsOwner, after_take, desk};
 ghost use Rattle.trace_inbox.specs.declared.item.Item.{Item as ItemValue};
 ghost use Rattle.trace_inbox.specs.declared.rule.Standing.TheVariants.{Joined, Running};
 ghost use Rattle.trace_inbox.specs.declared.rule.View.TheVariants.{Owner};
-ghost use Rattle.trace_crew.specs.Taking.{HasAll, Refusal, Sorted, counted, ends_in, ends_told, is_end};
+ghost use Rattle.trace_crew.specs.Taking.{HasAll, IsKept, Refusal, Sorted, counted, ends_in, ends_told, is_end};
 
 use crate::gate::Gate;
 use crate::threads::CrewFault;
@@ -28,9 +28,21 @@ pub trait Keeper: Drop {
 
     /// Takes one item in, and answers which segment of which worker it was: None where it ends its
     /// worker's posts.
-    fn take_in<R: Wait>(&mut self, rt: &R, item: Item) -> Result<Option<(u8, u64)>, AllocError>
+    fn take_in(&mut self, item: Item) -> Result<Option<(u8, u64)>, AllocError>
         ensures end { IfOk result (λ taken. ends_told taken ≡ counted (is_end item)) }
         ensures sorted { OnOk result ((layout : Parts) (taken : List ItemValue) → Sorted layout taken (held self.old) (listed self.old) → Sorted layout (taken ++ item ∷ []) (held self.new) (listed self.new)) };
+
+    /// Makes the answer to all that was joined, where it isn't made yet, and shows it. Without memory for
+    /// it the node stays stale.
+    fn settle<R: Wait>(&mut self, rt: &R) -> Result<(), AllocError>
+        ensures kept { IsKept (held self.old) (held self.new) }
+        ensures listed { listed self.new ≡ listed self.old }
+        ensures fresh { OnOk result ((held self.new).is_stale ≡ false) };
+
+    /// Nothing waits to be taken: makes an answer, where it is worth its time.
+    fn rest<R: Wait>(&mut self, rt: &R)
+        ensures kept { IsKept (held self.old) (held self.new) }
+        ensures listed { listed self.new ≡ listed self.old };
 }
 
 /// Tells the gate which segment was taken, where one was, and answers of how many workers the item ends
@@ -46,6 +58,28 @@ fn announce<G: Gate>(gate: &G, taken: Option<(u8, u64)>) -> u8
         }
         None => 1,
     }
+}
+
+/// Takes the oldest item, once there is one. While there is none the owner has time for an answer.
+#[tactic(auto, using(crate::proofs::Sorting::kept_as_it_is))]
+fn next_item<R: Wait, H: Keeper>(
+    rt: &R,
+    inbox: &InboxReceiver,
+    seat: &mut Seat,
+    hall: &mut H,
+) -> Option<Item>
+    requires seat { IsSeatAt (receives_on inbox.now) seat.old }
+    requires owner { IsOwner (view seat.old) }
+    ensures seat { IsSeatAt (receives_on inbox.now) seat.new }
+    ensures some { IfSome result (λ item. view seat.new ≡ after_take (view seat.old) item) }
+    ensures kept { IsKept (H.held hall.old) (H.held hall.new) }
+    ensures listed { H.listed hall.new ≡ H.listed hall.old }
+{
+    if let Some(item) = take_now(rt, inbox, seat) {
+        return Some(item);
+    }
+    hall.rest(rt);
+    take(rt, inbox, seat)
 }
 
 /// Takes until both workers have ended.
@@ -66,10 +100,10 @@ pub fn own<R: Wait, G: Gate, H: Keeper>(
         if ends == 2 {
             return Ok(());
         }
-        let Some(item) = take(rt, inbox, seat) else {
+        let Some(item) = next_item(rt, inbox, seat, hall) else {
             return Err(CrewFault::Worker);
         };
-        let taken = hall.take_in(rt, item)?;
+        let taken = hall.take_in(item)?;
         let count = announce(gate, taken);
         ends += count;
     }
@@ -92,7 +126,7 @@ pub fn drain<R: Wait, G: Gate, H: Keeper>(
         let Some(item) = take_now(rt, inbox, seat) else {
             break;
         };
-        let taken = hall.take_in(rt, item)?;
+        let taken = hall.take_in(item)?;
         let _ = announce(gate, taken);
     }
     Ok(())

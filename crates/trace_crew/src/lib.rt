@@ -3,19 +3,22 @@
 //! Each worker walks its texts in order, posts the segments of each whole text into an inbox of eight
 //! places, and at last that it ends; a text with a fault is listed and none of it is posted. The owner,
 //! in the thread that called [`crew`], takes until both have ended. It alone holds the node: it joins
-//! each segment as it comes, makes an answer where as many events were joined since the last one as
-//! before it, and at the end, and shows each answer on a board. What
-//! was taken is just the segments of each worker's texts in that worker's order, and the node is the
-//! join of them, whatever the order among the workers was.
+//! each segment as it comes, makes an answer where it finds the inbox empty, and at the end. It shows
+//! an answer on a board where at least as much was joined since the last showing as before it, and the
+//! last one. What was taken is just the segments of each worker's texts in that worker's order, and the
+//! node is the join of them, whatever the order among the workers was.
 //!
 //! Cost: reading goes at the speed of two threads, joining at that of one; a segment is moved, never
-//! copied, and at most eight wait. An answer and its copy for the board cost as much as all that is
-//! known, but those before the last together at most about twice the greatest of them.
+//! copied, and at most eight wait. An answer takes over what the one before it found, so the last one,
+//! for which all wait, costs what is new to it and one pass over all messages. What is shown at the
+//! end is joined beside the node, segment by segment, so no copy is made then; a copy before costs as
+//! much as all that is known, all of them together at most twice that.
 //!
 //! - [`piece`]: a text of a rank, its segments, and why it gives none
 //! - [`gate`]: where a test may hold a crew
 //! - [`worker`]: reads and posts
-//! - [`keeper`]: how the owner takes; [`owner`]: what it keeps
+//! - [`keeper`]: how the owner takes; [`owner`]: what it keeps; [`twin`]: its node, and what that knows a
+//!   second time
 //! - [`threads`]: the three threads, and what they leave
 //! - [`laws`]: that a crew follows a schedule of one node, as the contract of a call that does nothing
 //!
@@ -31,6 +34,7 @@ mod laws;
 mod owner;
 mod piece;
 mod threads;
+mod twin;
 mod worker;
 
 pub use gate::{Gate, OpenGate};

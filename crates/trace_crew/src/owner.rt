@@ -1,18 +1,19 @@
 //! What the owner keeps: the node, which it alone holds, and the segments that were refused.
 
-ghost use Rattle.std.specs.Prelude.{◌≡◌, ◌∷◌, ◌++◌, [], List, IfOk, OnOk};
+ghost use Rattle.std.specs.Prelude.{◌≡◌, ◌∷◌, ◌++◌, [], List, false, IfOk, OnOk};
 ghost use Rattle.mpi_model.specs.Layouts.{Parts};
 ghost use Rattle.trace_inbox.specs.declared.item.Item.{Item as ItemValue};
-ghost use Rattle.trace_crew.specs.Taking.{Handles, IsFairFor, Sorted, counted, ends_told, is_end, known_after};
+ghost use Rattle.trace_crew.specs.Taking.{Handles, IsKept, Sorted, counted, ends_told, is_end};
 
 use crate::keeper::Keeper;
+use crate::twin::Twin;
 use mpi_model::Layout;
 use std::alloc::{AllocError, Global};
 use std::sync::Wait;
 use trace_board::Board;
 use trace_inbox::{Item, Post, Worker};
 use trace_know::{Segment, view_laws};
-use trace_node::{Node, NodeFault};
+use trace_node::NodeFault;
 
 /// A node, and what was made of the segments that came for it.
 #[derive(Drop)]
@@ -20,17 +21,17 @@ pub struct Hall<'s, 'a> {
     /// The board on which the node is shown.
     board: &'s Board<'a>,
     /// The join of the segments that were not refused.
-    pub node: Node<'a>,
+    pub node: Twin<'a>,
     /// Those that were refused, with their workers, in the order of taking.
     pub refused: Vec<(u8, Segment, NodeFault)>,
     /// How many segments of the first worker were taken.
     first: u64,
     /// How many segments of the second worker were taken.
     second: u64,
-    /// How many events there were in the segments that were joined before the last answer.
-    answered: u64,
-    /// How many there were in those that were joined since.
-    unanswered: u64,
+    /// How many events there were in the segments that were joined.
+    joined: u64,
+    /// How many of them had been joined when the node was last shown.
+    shown: u64,
 }
 
 impl<'s, 'a> Hall<'s, 'a> {
@@ -45,76 +46,61 @@ impl<'s, 'a> Hall<'s, 'a> {
     {
         Ok(Hall {
             board,
-            node: Node::new(alloc, layout)?,
+            node: Twin::new(alloc, layout)?,
             refused: Vec::new(alloc),
             first: 0,
             second: 0,
-            answered: 0,
-            unanswered: 0,
+            joined: 0,
+            shown: 0,
         })
     }
 
-    /// Makes the answer to all that was joined, and shows it on the board. Where there is no memory for
-    /// it the node stays stale, and a refused publish is passed over: the next answer shows it all.
-    pub fn answer<R: Wait>(&mut self, rt: &R)
-        ensures layout { self.new.node.layout ≡ self.old.node.layout }
-        ensures know { self.new.node.know ≡ self.old.node.know }
+    /// Makes the answer to all that was joined, where it isn't made yet, and shows it. Without memory for
+    /// it the node stays stale. A refused publish is passed over.
+    pub fn settle<R: Wait>(&mut self, rt: &R) -> Result<(), AllocError>
+        ensures kept { IsKept self.old.node self.new.node }
         ensures refused { self.new.refused.items ≡ self.old.refused.items }
+        ensures fresh { OnOk result (self.new.node.is_stale ≡ false) }
     {
-        self.answered = self.answered.saturating_add(self.unanswered);
-        self.unanswered = 0;
-        if self.node.catch_up().is_ok() {
-            let _ = self.board.publish(rt, &self.node);
+        self.node.catch_up()?;
+        if self.shown < self.joined && self.node.publish_last(rt, self.board).is_ok() {
+            self.shown = self.joined;
         }
+        Ok(())
     }
 
-    /// Makes the answer to all that was joined, where it isn't made yet.
-    pub fn settle<R: Wait>(&mut self, rt: &R)
-        ensures layout { self.new.node.layout ≡ self.old.node.layout }
-        ensures know { self.new.node.know ≡ self.old.node.know }
-        ensures refused { self.new.refused.items ≡ self.old.refused.items }
-    {
-        if self.node.answer().is_err() {
-            self.answer(rt);
-        }
-    }
-
-    /// Whether as many events were joined since the last answer as before it. So all answers together
-    /// cost about twice what the last of them does.
+    /// Whether so much was joined since the node was shown that a copy for the board is worth its time:
+    /// as much as before. So these copies together cost at most about twice what the last of them does.
     fn is_due(&self) -> bool {
-        self.unanswered >= self.answered
+        self.joined / 2 >= self.shown && self.joined > 0
     }
 
-    /// Joins a segment, and makes an answer if one is due; or answers why it was not joined.
-    #[tactic(auto, using(crate::proofs::Sorting::memory_is_fair))]
-    fn offer<R: Wait>(&mut self, rt: &R, segment: &Segment) -> Option<NodeFault>
-        ensures fair { IsFairFor self.old.node.layout segment.now.rank result }
-        ensures layout { self.new.node.layout ≡ self.old.node.layout }
-        ensures know { self.new.node.know ≡ known_after self.old.node.know segment.now result }
+    /// Makes the answer to all that was joined, and shows it where that is due. So the last answer, for
+    /// which all wait, has less that is new to it. A refused publish is passed over: the next one shows
+    /// all that this would have shown.
+    pub fn rest<R: Wait>(&mut self, rt: &R)
+        ensures kept { IsKept self.old.node self.new.node }
         ensures refused { self.new.refused.items ≡ self.old.refused.items }
     {
-        match self.node.hold(segment) {
-            Ok(()) => {}
-            Err(NodeFault::Rank) => return Some(NodeFault::Rank),
-            Err(NodeFault::Memory) => return Some(NodeFault::Memory),
-            // (what is only held asks for no answer)
-            Err(NodeFault::Stale) => unreachable!(),
+        if self.node.catch_up().is_err() || !self.is_due() {
+            return;
         }
-        let count = segment.events().len() as u64;
-        self.unanswered = self.unanswered.saturating_add(count);
-        if self.is_due() {
-            self.answer(rt);
+        if self.node.publish(rt, self.board).is_ok() {
+            self.shown = self.joined;
         }
-        None
     }
 
     /// Joins a segment, or lists it with why it was not joined.
-    fn join<R: Wait>(&mut self, rt: &R, from: Worker, segment: Segment) -> Result<(), AllocError>
+    fn join(&mut self, from: Worker, segment: Segment) -> Result<(), AllocError>
         ensures { OnOk result (Handles from segment self.old.node self.old.refused.items self.new.node self.new.refused.items) }
     {
-        match self.offer(rt, &segment) {
-            None => Ok(()),
-            Some(fault) => {
+        let count = segment.events().len() as u64;
+        match self.node.hold(segment) {
+            None => {
+                self.joined = self.joined.saturating_add(count);
+                Ok(())
+            }
+            Some((segment, fault)) => {
                 self.refused.push((from.number(), segment, fault))?;
                 Ok(())
             }
@@ -143,7 +129,7 @@ impl<'s, 'a> Hall<'s, 'a> {
     /// Handles one item, and answers which segment of which worker it was: None where it ends its
     /// worker's posts.
     #[tactic(auto, using(crate::proofs::Sorting::sorted_end))]
-    fn handle<R: Wait>(&mut self, rt: &R, item: Item) -> Result<Option<(u8, u64)>, AllocError>
+    fn handle(&mut self, item: Item) -> Result<Option<(u8, u64)>, AllocError>
         ensures end { IfOk result (λ taken. ends_told taken ≡ counted (is_end item)) }
         ensures sorted { OnOk result ((layout : Parts) (taken : List ItemValue) → Sorted layout taken self.old.node self.old.refused.items → Sorted layout (taken ++ item ∷ []) self.new.node self.new.refused.items) }
     {
@@ -151,7 +137,7 @@ impl<'s, 'a> Hall<'s, 'a> {
         let from = item.from;
         match item.post {
             Post::Segment(segment) => {
-                self.join(rt, from, segment)?;
+                self.join(from, segment)?;
                 let nth = self.next_of(from);
                 Ok(Some((from.number(), nth)))
             }
@@ -165,7 +151,15 @@ impl<'s, 'a> Keeper for Hall<'s, 'a> {
 
     ghost listed = { λ h. h.refused.items };
 
-    fn take_in<R: Wait>(&mut self, rt: &R, item: Item) -> Result<Option<(u8, u64)>, AllocError> {
-        self.handle(rt, item)
+    fn take_in(&mut self, item: Item) -> Result<Option<(u8, u64)>, AllocError> {
+        self.handle(item)
+    }
+
+    fn settle<R: Wait>(&mut self, rt: &R) -> Result<(), AllocError> {
+        self.settle(rt)
+    }
+
+    fn rest<R: Wait>(&mut self, rt: &R) {
+        self.rest(rt)
     }
 }

@@ -9,7 +9,7 @@ ghost use Rattle.trace_inbox.specs.declared.item.Item.{Item as ItemValue};
 ghost use Rattle.trace_inbox.specs.declared.item.Worker.TheVariants.{First, Second};
 ghost use Rattle.trace_inbox.specs.declared.rule.Standing.TheVariants.{Running};
 ghost use Rattle.trace_inbox.specs.declared.rule.View.TheVariants.{Owner, Poster};
-ghost use Rattle.trace_crew.specs.Crewed.{HasRun, IsCrewOut};
+ghost use Rattle.trace_crew.specs.Crewed.{HasGathered, HasRun, IsCrewOut};
 ghost use Rattle.trace_crew.specs.Taking.{Sorted};
 ghost use Rattle.trace_crew.specs.Work.{HasEnded, is_closed};
 ghost use Rattle.trace_crew.specs.declared.threads.CrewFault.TheVariants.{Memory};
@@ -25,7 +25,7 @@ use std::alloc::{AllocError, Global};
 use std::snapshot::Snapshot;
 use std::sync::Wait;
 use std::thread;
-use std::thread::Threads;
+use std::thread::{PromisedHandle, Scope, Threads};
 use thiserror::Error;
 use trace_board::Board;
 use trace_inbox::{InboxReceiver, InboxSender, Seat, Worker, join, make_first, make_second, open};
@@ -73,6 +73,13 @@ struct Ran<H> {
     second: Worked,
 }
 
+/// What the owner keeps once it has all, and the faults of both workers.
+#[derive(Drop)]
+struct Left<H> {
+    hall: H,
+    faults: Vec<(u8, u64, PieceFault)>,
+}
+
 /// Two workers read their texts side by side and post the segments into an inbox of eight places; the
 /// owner joins what it takes into a new node, and shows each answer on the board: some while it takes,
 /// and the last. It waits for the workers, and they wait for it where the inbox is full.
@@ -87,23 +94,43 @@ pub fn crew<'a, R: Threads + Wait + Sync, G: Gate>(
 ) -> Result<CrewOut<'a>, CrewFault>
     ensures { IfOk result (λ out. IsCrewOut layout.now first.now second.now out) }
 {
+    let hall = Hall::new(alloc, layout, board)?;
+    let left = gathered(rt, alloc, (first, second), hall, gate)?;
+    Ok(out_of(left.hall, left.faults))
+}
+
+/// What a crew's owner and its workers leave, as the crew's caller gets it.
+fn out_of<'s, 'a>(hall: Hall<'s, 'a>, faults: Vec<(u8, u64, PieceFault)>) -> CrewOut<'a>
+    ensures node { result.node ≡ hall.entry.node }
+    ensures faults { result.faults.items ≡ faults.items }
+    ensures refused { result.refused.items ≡ hall.entry.refused.items }
+{
+    CrewOut {
+        node: hall.node.into_node(),
+        faults,
+        refused: hall.refused,
+    }
+}
+
+/// Opens an inbox, runs both workers beside the owner, and takes what is left in it.
+fn gathered<R: Threads + Wait + Sync, G: Gate, H: Keeper>(
+    rt: &R,
+    alloc: Global,
+    pieces: (&[Piece], &[Piece]),
+    hall: H,
+    gate: &G,
+) -> Result<Left<H>, CrewFault>
+    requires new { (layout : Parts) × Sorted layout [] (H.held hall) (H.listed hall) }
+    ensures { IfOk result (λ left. (layout : Parts) → Sorted layout [] (H.held hall) (H.listed hall) → HasGathered layout pieces.entry.0.now pieces.entry.1.now (H.held left.hall) (H.listed left.hall) left.faults.items) }
+{
     let Ok((sender, receiver, seat)) = open(alloc) else {
         return Err(CrewFault::Memory);
     };
     let mut seat = seat;
     let first_seat = make_first(&sender, &mut seat);
     let second_seat = make_second(&sender, &mut seat);
-    let hall = Hall::new(alloc, layout, board)?;
-    let ran = run(
-        rt,
-        alloc,
-        &sender,
-        receiver,
-        (seat, first_seat, second_seat),
-        (first, second),
-        hall,
-        gate,
-    )?;
+    let seats = (seat, first_seat, second_seat);
+    let ran = run(rt, alloc, &sender, receiver, seats, pieces, hall, gate)?;
     finish(rt, &sender, ran, gate)
 }
 
@@ -124,7 +151,7 @@ fn run<R: Threads + Wait + Sync, G: Gate, H: Keeper>(
     requires second { IsSeatAt (sends_on sender.now) seats.2 × (view seats.2 ≡ Poster Second []) }
     ensures { IfOk result (λ ran. (receives_on ran.receiver ≡ sends_on sender.now) × IsSeatAt (sends_on sender.now) ran.seat × IsSeatAt (sends_on sender.now) ran.first.seat × IsSeatAt (sends_on sender.now) ran.second.seat × ((layout : Parts) → Sorted layout [] (H.held hall) (H.listed hall) → HasRun layout pieces.entry.0.now pieces.entry.1.now (view ran.seat) (H.held ran.hall) (H.listed ran.hall) ran.first ran.second)) }
 {
-    let (seat, first_seat, second_seat) = seats;
+    let (seat, one, two) = seats;
     let (first, second) = pieces;
     thread::scope(
         thread::scope_env(),
@@ -132,44 +159,16 @@ fn run<R: Threads + Wait + Sync, G: Gate, H: Keeper>(
         move |scope| -> Result<Ran<H>, CrewFault>
             requires channel { receives_on receiver ≡ sends_on sender.now }
             requires seat { IsSeatAt (sends_on sender.now) seat × (view seat ≡ Owner (desk [] Running Running)) }
-            requires first { IsSeatAt (sends_on sender.now) first_seat × (view first_seat ≡ Poster First []) }
-            requires second { IsSeatAt (sends_on sender.now) second_seat × (view second_seat ≡ Poster Second []) }
+            requires first { IsSeatAt (sends_on sender.now) one × (view one ≡ Poster First []) }
+            requires second { IsSeatAt (sends_on sender.now) two × (view two ≡ Poster Second []) }
             ensures { IfOk result (λ ran. (receives_on ran.receiver ≡ sends_on sender.entry.now) × IsSeatAt (sends_on sender.entry.now) ran.seat × IsSeatAt (sends_on sender.entry.now) ran.first.seat × IsSeatAt (sends_on sender.entry.now) ran.second.seat × ((layout : Parts) → Sorted layout [] (H.held hall) (H.listed hall) → HasRun layout first.entry.now second.entry.now (view ran.seat) (H.held ran.hall) (H.listed ran.hall) ran.first ran.second)) }
         {
-            let first_promise = Working {
-                inbox: Snapshot::of(sender),
-                worker: Worker::First,
-                pieces: first,
-            };
-            let second_promise = Working {
-                inbox: Snapshot::of(sender),
-                worker: Worker::Second,
-                pieces: second,
-            };
             let mut seat = seat;
             let mut hall = hall;
-            let Ok(one) = scope.spawn_with(
-                first_promise,
-                move || -> Worked
-                    requires { IsSeatAt (sends_on sender.now) first_seat × (view first_seat ≡ Poster First []) }
-                    ensures seat { IsSeatAt (sends_on sender.entry.now) result.seat }
-                    ensures whole { result.stop ≡ None → HasEnded First first.entry.now (view result.seat) result.faults.items }
-                { work(rt, alloc, sender, Worker::First, first_seat, first, gate) },
-            ) else {
-                return Err(CrewFault::Worker);
-            };
-            let Ok(other) = scope.spawn_with(
-                second_promise,
-                move || -> Worked
-                    requires { IsSeatAt (sends_on sender.now) second_seat × (view second_seat ≡ Poster Second []) }
-                    ensures seat { IsSeatAt (sends_on sender.entry.now) result.seat }
-                    ensures whole { result.stop ≡ None → HasEnded Second second.entry.now (view result.seat) result.faults.items }
-                { work(rt, alloc, sender, Worker::Second, second_seat, second, gate) },
-            ) else {
-                return Err(CrewFault::Worker);
-            };
+            let started = start(scope, rt, alloc, sender, Worker::First, one, first, gate)?;
+            let other = start(scope, rt, alloc, sender, Worker::Second, two, second, gate)?;
             own(rt, &receiver, &mut seat, &mut hall, gate)?;
-            let first = one.join(rt);
+            let first = started.join(rt);
             let second = other.join(rt);
             Ok(Ran {
                 receiver,
@@ -180,6 +179,41 @@ fn run<R: Threads + Wait + Sync, G: Gate, H: Keeper>(
             })
         },
     )
+}
+
+/// Starts a worker on a thread of the scope.
+fn start<'s, E, R: Wait + Sync, G: Gate>(
+    scope: &Scope<'s, E>,
+    rt: &'s R,
+    alloc: Global,
+    sender: &'s InboxSender,
+    worker: Worker,
+    seat: Seat,
+    pieces: &'s [Piece],
+    gate: &'s G,
+) -> Result<PromisedHandle<Worked, Working<'s>>, CrewFault>
+    requires seat { IsSeatAt (sends_on sender.now) seat }
+    requires new { view seat ≡ Poster worker [] }
+    ensures inbox { IfOk result (λ handle. handle.promise.inbox.value ≡ sender.now) }
+    ensures worker { IfOk result (λ handle. handle.promise.worker ≡ worker) }
+    ensures pieces { IfOk result (λ handle. handle.promise.pieces.now ≡ pieces.now) }
+{
+    let promise = Working {
+        inbox: Snapshot::of(sender),
+        worker,
+        pieces,
+    };
+    match scope.spawn_with(
+        promise,
+        move || -> Worked
+            requires { IsSeatAt (sends_on sender.now) seat × (view seat ≡ Poster worker []) }
+            ensures seat { IsSeatAt (sends_on sender.entry.now) result.seat }
+            ensures whole { result.stop ≡ None → HasEnded worker pieces.entry.now (view result.seat) result.faults.items }
+        { work(rt, alloc, sender, worker, seat, pieces, gate) },
+    ) {
+        Ok(handle) => Ok(handle),
+        Err(_) => Err(CrewFault::Worker),
+    }
 }
 
 /// Whether both workers have ended; else first whether one found the inbox closed.
@@ -196,16 +230,16 @@ fn all_ended(first: Option<Stop>, second: Option<Stop>) -> Result<(), CrewFault>
 }
 
 /// Joins the seats of both workers, and takes what is left.
-fn finish<'s, 'a, R: Wait, G: Gate>(
+fn finish<R: Wait, G: Gate, H: Keeper>(
     rt: &R,
     sender: &InboxSender,
-    ran: Ran<Hall<'s, 'a>>,
+    ran: Ran<H>,
     gate: &G,
-) -> Result<CrewOut<'a>, CrewFault>
+) -> Result<Left<H>, CrewFault>
     requires channel { receives_on ran.receiver ≡ sends_on sender.now }
     requires seats { IsSeatAt (sends_on sender.now) ran.seat × IsSeatAt (sends_on sender.now) ran.first.seat × IsSeatAt (sends_on sender.now) ran.second.seat }
-    requires run { (layout : Parts) × (first : List PieceValue) × (second : List PieceValue) × HasRun layout first second (view ran.seat) ran.hall.node ran.hall.refused.items ran.first ran.second }
-    ensures { IfOk result (λ out. (layout : Parts) (first second : List PieceValue) → HasRun layout first second (view ran.entry.seat) ran.entry.hall.node ran.entry.hall.refused.items ran.entry.first ran.entry.second → IsCrewOut layout first second out) }
+    requires run { (layout : Parts) × (first : List PieceValue) × (second : List PieceValue) × HasRun layout first second (view ran.seat) (H.held ran.hall) (H.listed ran.hall) ran.first ran.second }
+    ensures { IfOk result (λ left. (layout : Parts) (first second : List PieceValue) → HasRun layout first second (view ran.seat) (H.held ran.hall) (H.listed ran.hall) ran.first ran.second → HasGathered layout first second (H.held left.hall) (H.listed left.hall) left.faults.items) }
 {
     let Ran {
         receiver,
@@ -217,13 +251,10 @@ fn finish<'s, 'a, R: Wait, G: Gate>(
     all_ended(first.stop, second.stop)?;
     join_both(sender, &mut seat, first.seat, second.seat);
     drain(rt, &receiver, &mut seat, &mut hall, gate)?;
-    hall.settle(rt);
+    // (a node that stays stale for want of memory is what the crew leaves then)
+    let _ = hall.settle(rt);
     let faults = both(first.faults, second.faults)?;
-    Ok(CrewOut {
-        node: hall.node,
-        faults,
-        refused: hall.refused,
-    })
+    Ok(Left { hall, faults })
 }
 
 /// Joins the seats of both workers.

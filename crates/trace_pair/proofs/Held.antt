@@ -7,10 +7,11 @@ use Rattle.mpi_model.specs.declared.message.Message.{Message}
 use Rattle.mpi_model.specs.declared.message.Receive.{Receive}
 use Rattle.mpi_model.specs.Fit.{fits}
 use Rattle.trace_ops.specs.Order.{sent_before, posted_before, Has}
-use Rattle.trace_pair.specs.Indexed.{IsIndexed, TakesMessage, TakesReceive, IsFirstMessage, IsFirstReceive}
+use Rattle.trace_pair.specs.Indexed.{IsIndexed, couple_of, TakesMessage, TakesReceive, IsFirstMessage, IsFirstReceive}
 use Rattle.trace_pair.specs.Places.{sent_at, posted_at}
 use Rattle.trace_pair.specs.Calls.{IsOwnReceive}
 use Rattle.trace_pair.specs.Pairing.{paired, Paired}
+use Rattle.trace_pair.specs.Sets.{IsSameSet}
 use Rattle.trace_pair.specs.declared.pair.Couple.{Couple}
 use Rattle.trace_pair.proofs.Obeyed.{any_found, any_of}
 use Rattle.trace_pair.proofs.Certain.{posted_along, fits_at, in_order}
@@ -28,6 +29,23 @@ any_or_none {X = X} p xs =
 pub told_apart : (o : Option ℕ) → is_none o ≡ true → is_some o ≡ true → ⊥
 told_apart None h g = cc
 told_apart (Some s) h g = cc
+
+-- the couples stand in another list
+pub couples_kept : (ms : List Message) (qs : List Receive) (waiting : List Message) (opened untold : List Receive) (old new : List Couple) → IsIndexed ms qs waiting opened untold old → IsSameSet old new → IsIndexed ms qs waiting opened untold new
+couples_kept ms qs waiting opened untold old new held same = record {
+  senders = held.senders;
+  receivers = held.receivers;
+  messages_apart = held.messages_apart;
+  receives_apart = held.receives_apart;
+  waits = held.waits;
+  waits_all = held.waits_all;
+  opens = held.opens;
+  opens_all = held.opens_all;
+  untolds = held.untolds;
+  untolds_all = held.untolds_all;
+  coupled = λ c i. held.coupled c (same.was c i);
+  coupled_all = λ m q i j h. same.keeps (couple_of m q) (held.coupled_all m q i j h);
+}
 
 module _ (ms : List Message) (qs : List Receive) (waiting : List Message) (opened untold : List Receive) (couples : List Couple) (held : IsIndexed ms qs waiting opened untold couples) where
   -- a message that does not wait has a receive

@@ -14,6 +14,7 @@ pub mod Members
 pub mod Orders
 pub mod Queued
 pub mod Twice
+pub mod Slotted
 pub mod Mutual
 pub mod Known
 pub mod Continued

@@ -1,14 +1,13 @@
--- Couples that stand in two maps by the names of their calls. A call is in one of them at most.
+-- Couples that stand by the names of both of their calls. A call is in one of them at most.
 use Rattle.std.specs.Prelude.{◌≡◌, cond, Option, Some, None, is_none, List}
 use Rattle.std.specs.List.{filter_map}
 use Rattle.std.specs.Option.{option_map}
-use Rattle.std.specs.BTreeMap.{BTreeMap, get, IsOrdered}
 use Rattle.mpi_model.specs.declared.event.OpName.{OpName}
 use Rattle.mpi_model.specs.declared.message.Message.{Message}
 use Rattle.mpi_model.specs.declared.message.Receive.{Receive}
 use Rattle.trace_ops.specs.Order.{Has}
 use Rattle.trace_pair.specs.Indexed.{couple_of}
-use Rattle.trace_pair.specs.KeyOrders.{name_cmp}
+use Rattle.trace_pair.specs.Slots.{Slots, AreSlots, value_of, entries_of}
 use Rattle.trace_pair.specs.declared.pair.Couple.{Couple}
 use Rattle.trace_pair.specs.declared.pair.Taker.{Taker}
 
@@ -25,20 +24,20 @@ abbrev pub receive_by : Message → Taker → Receive
 receive_by m t = record { name = taker_name m t; comm = m.comm; at = m.to; source = Some m.from; tag = cond t.any_tag None (Some m.tag); count = t.count; datatype = t.datatype }
 
 -- the couple of a message that some receive took
-abbrev pub couple_by : BTreeMap OpName Taker → Message → Option Couple
-couple_by takers m = option_map (λ t. couple_of m (receive_by m t)) (get name_cmp takers m.name)
+abbrev pub couple_by : Slots Taker → Message → Option Couple
+couple_by takers m = option_map (λ t. couple_of m (receive_by m t)) (value_of takers m.name)
 
 -- the couples, in order of the receive
-abbrev pub couples_in : BTreeMap OpName Taker → BTreeMap OpName Message → List Couple
-couples_in takers taken = filter_map (λ e. couple_by takers e.1) taken.entries
+abbrev pub couples_in : Slots Taker → Slots Message → List Couple
+couples_in takers taken = filter_map (λ e. couple_by takers e.1) (entries_of taken)
 
--- Takers stand at the message's name, taken messages at the receive's, and each couple in both maps.
-pub record AreMutual (takers : BTreeMap OpName Taker) (taken : BTreeMap OpName Message) : Type 0 where
-  pub takers_ordered : IsOrdered name_cmp takers
-  pub taken_ordered : IsOrdered name_cmp taken
-  pub there : (n : OpName) (t : Taker) → get name_cmp takers n ≡ Some t → (m : Message) × (m.name ≡ n) × (get name_cmp taken (taker_name m t) ≡ Some m)
-  pub back : (r : OpName) (m : Message) → get name_cmp taken r ≡ Some m → (t : Taker) × (get name_cmp takers m.name ≡ Some t) × (r ≡ taker_name m t)
-  pub once : (r s : OpName) (m n : Message) → get name_cmp taken r ≡ Some m → get name_cmp taken s ≡ Some n → m.name ≡ n.name → r ≡ s
+-- Takers stand at the message's name, taken messages at the receive's, and each couple at both.
+pub record AreMutual (takers : Slots Taker) (taken : Slots Message) : Type 0 where
+  pub takers_rise : AreSlots takers
+  pub taken_rise : AreSlots taken
+  pub there : (n : OpName) (t : Taker) → value_of takers n ≡ Some t → (m : Message) × (m.name ≡ n) × (value_of taken (taker_name m t) ≡ Some m)
+  pub back : (r : OpName) (m : Message) → value_of taken r ≡ Some m → (t : Taker) × (value_of takers m.name ≡ Some t) × (r ≡ taker_name m t)
+  pub once : (r s : OpName) (m n : Message) → value_of taken r ≡ Some m → value_of taken s ≡ Some n → m.name ≡ n.name → r ≡ s
 
 -- The couple fits, and neither of its calls is in another.
 pub record IsNew (couples : List Couple) (c : Couple) : Type 0 where

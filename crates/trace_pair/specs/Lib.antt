@@ -9,6 +9,7 @@ pub mod Scratch
 pub mod Sets
 pub mod Calls
 pub mod Indexed
+pub mod Slots
 pub mod Coupled
 pub mod Followed
 pub mod Kept

@@ -13,3 +13,8 @@ pub record DropsFrom {X : Type 0} (old new : List X) (x : X) : Type 0 where
   pub keeps : (y : X) → Has old y → Has new y ⊎ (y ≡ x)
   pub dropped : Has new x → ⊥
   pub was : (y : X) → Has new y → Has old y
+
+-- the elements of `new` are those of `old`
+pub record IsSameSet {X : Type 0} (old new : List X) : Type 0 where
+  pub keeps : (y : X) → Has old y → Has new y
+  pub was : (y : X) → Has new y → Has old y

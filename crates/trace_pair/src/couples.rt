@@ -1,26 +1,23 @@
 //! The couples of an index, found by the name of either call.
 
-ghost use Rattle.std.specs.Prelude.{◌≡◌, [], List, Some, None, IfOk, OnOk, OnErr, IfSome, IfNone, IsTrue, if◌then◌else◌, false};
-ghost use Rattle.std.specs.BTreeMap.{get, IsOrdered};
-ghost use Rattle.std.specs.Ordering.{is_eq};
+ghost use Rattle.std.specs.Prelude.{◌≡◌, [], IfSome, IfNone, OnOk};
 ghost use Rattle.trace_ops.specs.Order.{Has};
 ghost use Rattle.trace_pair.specs.Indexed.{couple_of};
 ghost use Rattle.trace_pair.specs.Coupled.{taker_of, receive_by, IsNew, IsOneMessage, IsOneReceive};
-ghost use Rattle.trace_pair.specs.Sets.{AddsTo, DropsFrom};
+ghost use Rattle.trace_pair.specs.Sets.{AddsTo, DropsFrom, IsSameSet};
 
 use crate::pair::{Couple, Taker};
+use crate::slots::{Slot, expect, put_new, reserve, take_at, value_at};
 use mpi_model::{Message, OpName, Receive};
 use std::alloc::{AllocError, Global};
-use std::collections::BTreeMap;
-use std::collections::btree_map::Entry;
 use std::marker::Model;
 
 /// A set of couples in which no call is twice. Of the receive it keeps only what its message
-/// doesn't tell, so a couple takes two places of 40 and 64 bytes.
+/// doesn't tell, so a couple takes two slots of 40 and 64 bytes.
 #[derive(Drop)]
 pub(crate) struct Couples {
-    takers: BTreeMap<OpName, Taker>,
-    taken: BTreeMap<OpName, Message>,
+    takers: Vec<Vec<Slot<Taker>>>,
+    taken: Vec<Vec<Slot<Message>>>,
 }
 
 impl Model for Couples {
@@ -30,48 +27,9 @@ impl Model for Couples {
 
     ghost Value = { List Couple };
 
-    ghost view = { λ s. couples_in s.takers s.taken };
+    ghost view = { λ s. couples_in s.takers.items s.taken.items };
 
-    ghost invariant = { λ s. AreMutual s.takers s.taken };
-}
-
-fn value_at<K: Ord, V: Copy>(map: &BTreeMap<K, V>, key: &K) -> Option<V>
-    ensures { result ≡ get K.cmp map.now key.now }
-{
-    map.get(key).copied()
-}
-
-/// Puts the value at a key that has none, and tells whether it did.
-fn put_new<K: Ord + Drop, V: Drop>(
-    map: &mut BTreeMap<K, V>,
-    key: K,
-    value: V,
-) -> Result<bool, AllocError>
-    ensures free { IfOk result (λ put. IsTrue put → get K.cmp map.old key ≡ None) }
-    ensures put { IfOk result (λ put. IsTrue put → (k : K) → get K.cmp map.new k ≡ (if is_eq (K.cmp key k) then Some value else get K.cmp map.old k)) }
-    ensures there { IfOk result (λ put. put ≡ false → get K.cmp map.old key ≡ None → ⊥) }
-    ensures kept { IfOk result (λ put. put ≡ false → (k : K) → get K.cmp map.new k ≡ (if is_eq (K.cmp key k) then get K.cmp map.old key else get K.cmp map.old k)) }
-    ensures err { OnErr result ((k : K) → get K.cmp map.new k ≡ get K.cmp map.old k) }
-    ensures ordered { IsOrdered K.cmp map.new }
-{
-    match map.entry(key)? {
-        Entry::Vacant(place) => {
-            place.insert(value);
-            Ok(true)
-        }
-        Entry::Occupied(place) => {
-            place.into_mut();
-            Ok(false)
-        }
-    }
-}
-
-fn take_at<K: Ord + Drop, V: Drop>(map: &mut BTreeMap<K, V>, key: &K) -> Option<V>
-    ensures taken { result ≡ get K.cmp map.old key.now }
-    ensures left { (k : K) → get K.cmp map.new k ≡ (if is_eq (K.cmp key.now k) then None else get K.cmp map.old k) }
-    ensures ordered { IsOrdered K.cmp map.new }
-{
-    map.remove(key)
+    ghost invariant = { λ s. AreMutual s.takers.items s.taken.items };
 }
 
 /// What the receive tells beside its message.
@@ -109,8 +67,8 @@ impl Couples {
         ensures { result ≡ [] }
     {
         Couples {
-            takers: BTreeMap::new(alloc),
-            taken: BTreeMap::new(alloc),
+            takers: Vec::new(alloc),
+            taken: Vec::new(alloc),
         }
     }
 
@@ -156,6 +114,34 @@ impl Couples {
             }
             None => (),
         }
+    }
+
+    /// Makes room for the couples of so many messages of a rank.
+    pub(crate) fn reserve_messages(&mut self, rank: u32, more: usize) -> Result<(), AllocError>
+        ensures { IsSameSet self.old self.new }
+    {
+        reserve(&mut self.takers, rank, more)
+    }
+
+    /// Makes room for the couples of so many receives of a rank.
+    pub(crate) fn reserve_receives(&mut self, rank: u32, more: usize) -> Result<(), AllocError>
+        ensures { IsSameSet self.old self.new }
+    {
+        reserve(&mut self.taken, rank, more)
+    }
+
+    /// Makes room for the message's receive.
+    pub(crate) fn expect_message(&mut self, m: &Message) -> Result<(), AllocError>
+        ensures { IsSameSet self.old self.new }
+    {
+        expect(&mut self.takers, &m.name)
+    }
+
+    /// Makes room for the message of a receive.
+    pub(crate) fn expect_receive(&mut self, q: &Receive) -> Result<(), AllocError>
+        ensures { IsSameSet self.old self.new }
+    {
+        expect(&mut self.taken, &q.name)
     }
 
     /// The receive that takes the message.

@@ -6,7 +6,7 @@ ghost use Rattle.mpi_model.specs.declared.message.Receive.{Receive};
 ghost use Rattle.trace_pair.specs.Calls.{between, IsSequence, IsPosting};
 ghost use Rattle.trace_pair.specs.Followed.{Indexes};
 
-use crate::matched::{Matched, pop_message, pop_receive, push_message, push_receive};
+use crate::matched::{Matched, add_message, add_receive, pop_message, pop_receive};
 use mpi_model::{Message, Receive};
 use std::alloc::AllocError;
 use trace_ops::RankOps;
@@ -45,7 +45,7 @@ fn add_messages(state: &mut Matched, held: &[Message], keep: usize) -> Result<()
 {
     let mut next = keep;
     while next < held.len() {
-        push_message(state, held[next])?;
+        add_message(state, held[next])?;
         next += 1;
     }
     Ok(())
@@ -101,7 +101,7 @@ fn add_receives(state: &mut Matched, held: &[Receive], keep: usize) -> Result<()
 {
     let mut next = keep;
     while next < held.len() {
-        push_receive(state, held[next])?;
+        add_receive(state, held[next])?;
         next += 1;
     }
     Ok(())
@@ -147,12 +147,34 @@ pub(crate) fn set_rank(state: &mut Matched, held: &RankOps, new: &RankOps) -> Re
     Ok(())
 }
 
+/// The rank whose calls these are, if there are any.
+fn rank_of(ops: &RankOps) -> Option<u32> {
+    if let Some(m) = ops.sends().first() {
+        return Some(m.name.rank);
+    }
+    match ops.receives().first() {
+        Some(q) => Some(q.name.rank),
+        None => None,
+    }
+}
+
+/// Makes room for the couples of a rank's calls.
+fn reserve_rank(state: &mut Matched, new: &RankOps) -> Result<(), AllocError>
+    ensures { (ms : List Message) (qs : List Receive) → Indexes ms qs state.old → Indexes ms qs state.new }
+{
+    let Some(rank) = rank_of(new) else {
+        return Ok(());
+    };
+    state.reserve(rank, new.sends().len(), new.receives().len())
+}
+
 /// Adds the calls of a rank that has none.
 pub(crate) fn add_rank(state: &mut Matched, new: &RankOps) -> Result<(), AllocError>
     ensures { OnOk result ((before after : List Message) (above below : List Receive) → IsSequence before after new.now.sends → IsPosting above below new.now.receives
         → Indexes (between before [] after) (between above [] below) state.old
         → Indexes (between before new.now.sends after) (between above new.now.receives below) state.new) }
 {
+    reserve_rank(state, new)?;
     add_messages(state, new.sends(), 0)?;
     add_receives(state, new.receives(), 0)?;
     Ok(())

@@ -33,6 +33,7 @@ mod queues;
 mod rows;
 mod rules;
 mod scratch;
+mod slots;
 mod table;
 
 pub use index::{IndexChange, PairIndex};

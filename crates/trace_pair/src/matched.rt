@@ -48,6 +48,20 @@ impl Matched {
         self.couples.clear();
     }
 
+    /// Makes room for the couples of so many messages and receives of a rank.
+    pub(crate) fn reserve(
+        &mut self,
+        rank: u32,
+        sends: usize,
+        receives: usize,
+    ) -> Result<(), AllocError>
+        ensures { (ms : List Message) (qs : List Receive) → Indexes ms qs self.old → Indexes ms qs self.new }
+    {
+        self.couples.reserve_messages(rank, sends)?;
+        self.couples.reserve_receives(rank, receives)?;
+        Ok(())
+    }
+
     /// The receive that takes the held message.
     pub(crate) fn partner_of(&self, m: &Message) -> Option<Receive>
         ensures { (ms : List Message) (qs : List Receive) → Indexes ms qs self.now → Has ms m.now → result ≡ receive_of ms qs m.now }
@@ -103,7 +117,7 @@ fn taken_by(state: &Matched, q: &Receive) -> Option<Message>
     Some(m)
 }
 
-pub(crate) fn push_message(state: &mut Matched, m: Message) -> Result<(), AllocError>
+fn push_message(state: &mut Matched, m: Message) -> Result<(), AllocError>
     ensures { OnOk result ((ms more : List Message) (qs : List Receive) → AddsMessage ms more m → Indexes ms qs state.old → Indexes more qs state.new) }
 {
     match taker_for(state, &m) {
@@ -119,7 +133,7 @@ pub(crate) fn push_message(state: &mut Matched, m: Message) -> Result<(), AllocE
     Ok(())
 }
 
-pub(crate) fn push_receive(state: &mut Matched, q: Receive) -> Result<(), AllocError>
+fn push_receive(state: &mut Matched, q: Receive) -> Result<(), AllocError>
     ensures { OnOk result ((ms : List Message) (qs more : List Receive) → AddsReceive qs more q → Indexes ms qs state.old → Indexes ms more state.new) }
 {
     if q.source.is_none() {
@@ -172,5 +186,34 @@ pub(crate) fn pop_receive(state: &mut Matched, q: &Receive) -> Result<(), AllocE
         }
         None => state.opened.remove(q),
     }
+    Ok(())
+}
+
+/// Puts a message behind those of its sender, with room for its receive.
+pub(crate) fn add_message(state: &mut Matched, m: Message) -> Result<(), AllocError>
+    ensures { OnOk result ((ms more : List Message) (qs : List Receive) → AddsMessage ms more m → Indexes ms qs state.old → Indexes more qs state.new) }
+{
+    state.couples.expect_message(&m)?;
+    push_message(state, m)?;
+    Ok(())
+}
+
+/// Makes room for the message of a receive, if its source is told.
+fn expect_told(state: &mut Matched, q: &Receive) -> Result<(), AllocError>
+    ensures { (ms : List Message) (qs : List Receive) → Indexes ms qs state.old → Indexes ms qs state.new }
+{
+    if q.source.is_none() {
+        return Ok(());
+    }
+    state.couples.expect_receive(q)?;
+    Ok(())
+}
+
+/// Puts a receive behind those of its rank, with room for its message.
+pub(crate) fn add_receive(state: &mut Matched, q: Receive) -> Result<(), AllocError>
+    ensures { OnOk result ((ms : List Message) (qs more : List Receive) → AddsReceive qs more q → Indexes ms qs state.old → Indexes ms more state.new) }
+{
+    expect_told(state, &q)?;
+    push_receive(state, q)?;
     Ok(())
 }

@@ -45,6 +45,16 @@ impl Rows {
         }
     }
 
+    /// The same, with room for so many pairs.
+    fn with_room(alloc: Global, pairs: usize) -> Result<Rows, AllocError>
+        ensures { IfOk result (λ rows. rows ≡ table_of []) }
+    {
+        Ok(Rows {
+            pairs: Vec::with_capacity(alloc, pairs)?,
+            postponed: Vec::new(alloc),
+        })
+    }
+
     pub(crate) fn put(&mut self, pair: Pair) -> Result<(), AllocError>
         ensures pairs { OnOk result (self.new.pairs ≡ self.old.pairs ++ pair ∷ []) }
         ensures postponed { self.new.postponed ≡ self.old.postponed }
@@ -119,13 +129,22 @@ impl Rows {
         requires { ArePairs before.now }
         ensures { IfOk result (λ rows. Follows held.now state.now → StillPaired marks.now before.now (sends_of held.now) (receives_of held.now) → rows ≡ table_of held.now) }
     {
-        let mut rows = Rows::empty(alloc);
+        let mut rows = Rows::with_room(alloc, count_sends(held))?;
         let mut next = 0;
         for ops in held {
             rows.add_all(state, before, marks, &mut next, ops.sends())?;
         }
         Ok(rows)
     }
+}
+
+/// How many messages there are.
+fn count_sends(held: &[RankOps]) -> usize {
+    let mut count: usize = 0;
+    for ops in held {
+        count = count.saturating_add(ops.sends().len());
+    }
+    count
 }
 
 /// Whether the rank may have other ops than before.

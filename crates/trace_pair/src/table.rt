@@ -74,7 +74,7 @@ impl PairTable {
     {
         let rows = Rows::of_held(alloc, state, held, before.pairs(), marks)?;
         let moved = moved_places(alloc, before.pairs(), &rows.pairs)?;
-        let near = places_in_order(alloc, &before.by_receive, &moved)?;
+        let near = places_in_order(alloc, &before.by_receive, &moved, rows.pairs.len())?;
         let table = PairTable::of_rows(alloc, rows, near)?;
         Ok(table)
     }
@@ -134,13 +134,14 @@ fn moved_places(
     Ok(moved)
 }
 
-/// Where they stand now, in the old order.
+/// Where they stand now, in the old order, with room for so many places.
 fn places_in_order(
     alloc: Global,
     order: &[usize],
     moved: &[Option<usize>],
+    room: usize,
 ) -> Result<Vec<usize>, AllocError> {
-    let mut places = Vec::with_capacity(alloc, order.len())?;
+    let mut places = Vec::with_capacity(alloc, order.len().max(room))?;
     for old in order {
         if let Some(Some(place)) = moved.get(*old) {
             places.push(*place)?;

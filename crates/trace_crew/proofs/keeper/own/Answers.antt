@@ -1,20 +1,20 @@
 use Rattle.std.proofs.Common.{◌≡◌, ◌∙◌, ◌+◌, ◌++◌, ◌∷◌, [], ap, sym, arith}
 use Rattle.trace_inbox.specs.Views.{after_take}
 use Rattle.trace_crew.specs.Taking.{counted, is_end}
-use Rattle.trace_crew.proofs.Sorting.{ends_more}
+use Rattle.trace_crew.proofs.Sorting.{ends_more, sorted_kept}
 use Rattle.trace_crew.proofs.keeper.own.Goals as goal
 
 pub loop-preserved : goal.loop-preserved
 loop-preserved g c =
     let t = c.loop.invariant.taken in
-    let item = c.in-Some-take.item in
+    let item = c.in-Some-next_item.item in
     record {
-      seat = c.take.ensures.seat;
+      seat = c.next_item.ensures.seat;
       few = omega (arith, c.loop.invariant.few, c.announce-count.ensures.one);
       taken = (
         t.0 ++ item ∷ [],
-        c.in-Some-take.ensures.some ∙ ap (λ v. after_take v item) t.1,
+        c.in-Some-next_item.ensures.some ∙ ap (λ v. after_take v item) t.1,
         ends_more t.0 item ∙ ap (λ n. n + counted (is_end item)) t.2 ∙ ap (λ n. c.loop.ends + n) (sym (c.announce-count.ensures.count ∙ c.in_ok-taken.ensures.end)),
-        (λ layout h. c.in_ok-taken.ensures.sorted layout t.0 (t.3 layout h)),
+        (λ layout h. c.in_ok-taken.ensures.sorted layout t.0 (sorted_kept layout t.0 _ _ _ _ c.next_item.ensures.kept c.next_item.ensures.listed (t.3 layout h))),
       );
     }

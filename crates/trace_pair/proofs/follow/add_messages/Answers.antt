@@ -12,7 +12,7 @@ loop-next-preserved c =
     record {
       high = omega arith;
       state = λ before after qs s x.
-          c.in_ok-push_message.ensures (between before (take i c.args.held.now) after) (between before (take (i + 1) c.args.held.now) after) qs
+          c.in_ok-add_message.ensures (between before (take i c.args.held.now) after) (between before (take (i + 1) c.args.held.now) after) qs
           (adds_at before after c.args.held.now i _ (omega arith) s)
           (c.loop-next.invariant.state before after qs s x);
     }

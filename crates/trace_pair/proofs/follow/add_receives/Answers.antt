@@ -12,7 +12,7 @@ loop-next-preserved c =
     record {
       high = omega arith;
       state = λ before after ms s x.
-          c.in_ok-push_receive.ensures ms (between before (take i c.args.held.now) after) (between before (take (i + 1) c.args.held.now) after)
+          c.in_ok-add_receive.ensures ms (between before (take i c.args.held.now) after) (between before (take (i + 1) c.args.held.now) after)
           (adds_at before after c.args.held.now i _ (omega arith) s)
           (c.loop-next.invariant.state before after ms s x);
     }

@@ -12,8 +12,8 @@ returns-in-Some-clause-some c = λ one.
     let o = subst (λ (l : List Couple). IsOneMessage l c.args.m.now) (sym c.self.view_is) one in
     subst (λ (q : Receive). Has c.args.self.now (couple_of c.args.m.now q)) (sym c.receive_by.ensures)
     (subst (λ (l : List Couple). Has l (couple_of c.args.m.now (receive_by c.args.m.now c.in-Some.taker))) c.self.view_is
-    (taker_some c.self.inside.takers c.self.inside.taken c.self.invariant c.args.m.now c.in-Some.taker (sym c.in-Some.ensures) o))
+    (taker_some c.self.inside.takers.items c.self.inside.taken.items c.self.invariant c.args.m.now c.in-Some.taker (sym c.in-Some.ensures) o))
 
 pub returns-in-None-clause-none : goal.returns-in-None-clause-none
 returns-in-None-clause-none c = λ q i.
-    taker_none c.self.inside.takers c.self.inside.taken c.self.invariant c.args.m.now (sym c.in-None.ensures) q (subst (λ (l : List Couple). Has l (couple_of c.args.m.now q)) (sym c.self.view_is) i)
+    taker_none c.self.inside.takers.items c.self.inside.taken.items c.self.invariant c.args.m.now (sym c.in-None.ensures) q (subst (λ (l : List Couple). Has l (couple_of c.args.m.now q)) (sym c.self.view_is) i)

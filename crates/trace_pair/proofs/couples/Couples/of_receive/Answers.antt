@@ -11,9 +11,9 @@ use Rattle.trace_pair.proofs.couples.Couples.of_receive.Goals as goal
 pub returns-clause-some : goal.returns-clause-some
 returns-clause-some c =
     subst (λ (l : List Couple). IfSome c.value_at.result (λ m. IsOneReceive l c.args.q.now → Has l (couple_of m c.args.q.now))) c.self.view_is
-    (taken_if_some c.self.inside.takers c.self.inside.taken c.self.invariant c.args.q.now c.value_at.result c.value_at.ensures)
+    (taken_if_some c.self.inside.takers.items c.self.inside.taken.items c.self.invariant c.args.q.now c.value_at.result c.value_at.ensures)
 
 pub returns-clause-none : goal.returns-clause-none
 returns-clause-none c =
     subst (λ (l : List Couple). IfNone c.value_at.result ((m : Message) → Has l (couple_of m c.args.q.now) → ⊥)) c.self.view_is
-    (taken_if_none c.self.inside.takers c.self.inside.taken c.self.invariant c.args.q.now c.value_at.result c.value_at.ensures)
+    (taken_if_none c.self.inside.takers.items c.self.inside.taken.items c.self.invariant c.args.q.now c.value_at.result c.value_at.ensures)

@@ -1,0 +1,13 @@
+use Rattle.std.proofs.Common.{subst, refl, List}
+use Rattle.trace_pair.specs.Coupled.{couples_in}
+use Rattle.trace_pair.specs.Sets.{IsSameSet}
+use Rattle.trace_pair.specs.declared.pair.Couple.{Couple}
+use Rattle.trace_pair.proofs.Mutual.{mutual_same, couples_same}
+use Rattle.trace_pair.proofs.couples.Couples.expect_message.Goals as goal
+
+pub invariant_of-self : goal.invariant_of-self
+invariant_of-self c = mutual_same c.self.inside.takers.items c.expect.new.rows.items c.self.inside.taken.items c.self.inside.taken.items c.self.invariant c.expect.ensures.slots c.self.invariant.taken_rise c.expect.ensures.same (λ k. refl)
+
+pub returns : goal.returns
+returns c = subst (λ (l : List Couple). IsSameSet l (couples_in c.expect.new.rows.items c.self.inside.taken.items)) c.self.view_is
+    (couples_same c.self.inside.takers.items c.expect.new.rows.items c.self.inside.taken.items c.self.inside.taken.items c.self.invariant c.expect.ensures.slots c.self.invariant.taken_rise c.expect.ensures.same (λ k. refl))
