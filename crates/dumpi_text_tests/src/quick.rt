@@ -8,7 +8,7 @@ use std::fmt::Write;
 use std::test::Fail;
 
 /// A line inside a call, and the parameters of the call with the lines that were skipped, or the fault.
-static INSIDE: [(&str, &str); 23] = [
+static INSIDE: [(&str, &str); 32] = [
     ("int count=4", " count=<4> end, 0 skipped"),
     ("int count=4\r", " count=<4> end, 0 skipped"),
     ("int count=4\r\r", " count=<4\r> end, 0 skipped"),
@@ -28,6 +28,21 @@ static INSIDE: [(&str, &str); 23] = [
     ("int =4", " int=<4> end, 0 skipped"),
     ("int count-4", " end, 1 skipped"),
     ("char* *text=a = b", " *text=<a = b> end, 0 skipped"),
+    ("int tag=4", " tag=<4> end, 0 skipped"),
+    ("int tags=4", " tags=<4> end, 0 skipped"),
+    ("int tag", " end, 1 skipped"),
+    ("ints tag=4", " tag=<4> end, 0 skipped"),
+    ("int destination=4", " destination=<4> end, 0 skipped"),
+    (
+        "MPI_Comm comm=2 (MPI_COMM_WORLD)",
+        " comm=<2 (MPI_COMM_WORLD)> end, 0 skipped",
+    ),
+    ("MPI_Comms comm=2", " comm=<2> end, 0 skipped"),
+    ("MPI_Datatype datatype[1]=2", " datatype=<2> end, 0 skipped"),
+    (
+        "MPI_Request requests=[1] {3}",
+        " requests=<[1] {3}> end, 0 skipped",
+    ),
     ("A entering=4", " entering=<4> end, 0 skipped"),
     ("A entering at=4", " at=<4> end, 0 skipped"),
     ("A entering at =4", "F3 BadStamp at line 2"),
