@@ -3,7 +3,7 @@
 use crate::show::{Row, check};
 use std::test::Fail;
 
-static OUTCOMES: [Row; 46] = [
+static OUTCOMES: [Row; 52] = [
     // a status tells its first source
     ("MPI_Wait", "request=4", "on_wait: 4 -> status -"),
     (
@@ -23,6 +23,36 @@ static OUTCOMES: [Row; 46] = [
         "MPI_Wait",
         "request=4;status=[1] {{bytes=32, source=0, tag=7}}",
         "on_wait: 4 -> status 0",
+    ),
+    (
+        "MPI_Wait",
+        "request=4;status=[1] {{bytes=32, cancelled=0, source=3, tag=7, error=0}}",
+        "on_wait: 4 -> status 3",
+    ),
+    (
+        "MPI_Wait",
+        "request=4;status=[1] {{bytes=32,cancelled=0, source=3, tag=7, error=0}}",
+        "on_wait: 4 -> status 3",
+    ),
+    (
+        "MPI_Wait",
+        "request=4;status=[1] {{bytes=32, cancelled=0, source=-1, tag=7, error=0}}",
+        "on_wait: 4 -> status -",
+    ),
+    (
+        "MPI_Wait",
+        "request=4;status=[1] {{bytes=32, cancelled=0, sources=3, tag=7, error=0}}",
+        "on_wait: 4 -> status -",
+    ),
+    (
+        "MPI_Wait",
+        "request=4;status=[1] {{bytes=32, cancelled=0, source=3, tag=7, error=0, source=5}}",
+        "on_wait: 4 -> status 3",
+    ),
+    (
+        "MPI_Wait",
+        "request=4;status=[1] {{source=5, cancelled=0, source=3, tag=7, error=0}}",
+        "on_wait: 4 -> status 5",
     ),
     (
         "MPI_Wait",
