@@ -3,6 +3,6 @@ pub mod Columns
 pub mod Steps
 pub mod Keys
 pub mod Searches
-pub mod Names
+pub mod Fronts
 pub mod Rows
 pub mod Posted

@@ -1,10 +1,9 @@
--- The keys of the ordered sets in which things are looked up: what a receive names of a message, rounds, names. No public clause speaks of it.
+-- The keys of the ordered sets in which things are looked up: what a receive names of a message, and rounds. No public clause speaks of it.
 use Rattle.std.specs.Prelude.{ℕ, Bool, true, false, ◌==◌, ◌&&◌, Option, Some, None}
 use Rattle.std.specs.declared.cmp.Ordering.{Ordering}
 use Rattle.std.specs.Ordering.{nat_cmp, ordering_then}
 use Rattle.std.specs.Option.{option_cmp}
 use Rattle.mpi_model.specs.Fit.{admits}
-use Rattle.mpi_model.specs.declared.event.OpName.{OpName}
 use Rattle.mpi_model.specs.declared.message.Message.{Message}
 use Rattle.mpi_model.specs.declared.message.Receive.{Receive}
 
@@ -38,13 +37,9 @@ suits m p = (m.comm == p.0) && (m.to == p.1) && admits p.2 m.from && admits p.3 
 abbrev pub asks : Receive → Pattern → Bool
 asks q p = same_pattern (pattern_of q) p
 
--- a round, or the name of an operation, as a key
+-- a round as a key: its communicator and its number
 abbrev pub Place : Type 0
 Place = ℕ × ℕ
 
 abbrev pub place_cmp : Place → Place → Ordering
 place_cmp a b = ordering_then (nat_cmp a.0 b.0) (nat_cmp a.1 b.1)
-
--- the name is of this rank and call
-abbrev pub is_name : ℕ → ℕ → OpName → Bool
-is_name r c name = (name.rank == r) && (name.call == c)

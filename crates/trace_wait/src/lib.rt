@@ -5,9 +5,10 @@
 //! partners: see `docs/definitions.md`. Which ranks are stuck then is told by [`trace_stuck`],
 //! whose public names this crate passes on.
 //!
-//! Cost: rounds go once through all collective calls, and conditions once through all messages and
-//! receives, with a few look-ups in an ordered set or map for each; a part of a condition costs
-//! some look-ups more.
+//! Cost: rounds go once through all collective calls, with a look-up in an ordered map for each.
+//! Conditions go once through all messages and receives, each looked for in the table of pairs by
+//! halving, and keep only what those in no pair name; a part of a condition costs some look-ups
+//! more.
 //!
 //! - [`entries`]: collective calls by communicator; [`counts`]: how many each member has entered
 //! - [`round`]: how a round stands; [`tally`]: the rounds of all communicators

@@ -11,14 +11,14 @@ ghost use Rattle.trace_wait.specs.Calls.{counts};
 ghost use Rattle.trace_wait.specs.Conditions.{is_mismatched, round_number};
 
 use crate::counts::{CommCalls, row_of};
-use crate::paired::Paired;
+use crate::paired::{is_given, is_taken};
 use crate::round::Round;
 use crate::unpaired::Pattern;
 use mpi_model::{Layout, Message, Receive};
 use std::collections::BTreeSet;
 use std::marker::Model;
 use trace_ops::{Entered, RankOps};
-use trace_pair::Pair;
+use trace_pair::PairTable;
 
 /// The whole run, and what was gathered of it to be looked up: which messages and receives are in
 /// no pair, which rounds are mismatched, and how many calls each member has entered.
@@ -26,8 +26,7 @@ use trace_pair::Pair;
 pub(crate) struct Overview<'a> {
     pub layout: &'a Layout,
     pub ops: &'a [RankOps],
-    pub pairs: &'a [Pair],
-    pub paired: &'a Paired<'a>,
+    pub pairs: &'a PairTable,
     pub rounds: &'a [Round],
     pub offered: &'a BTreeSet<Pattern>,
     pub asked: &'a BTreeSet<Pattern>,
@@ -47,14 +46,13 @@ impl<'a> Model for Overview<'a> {
 
     ghost Value = { Run };
 
-    ghost view = { λ s. record { layout = s.layout.now; ops = s.ops.now; pairs = s.pairs.now; rounds = s.rounds.now } };
+    ghost view = { λ s. record { layout = s.layout.now; ops = s.ops.now; pairs = s.pairs.now.pairs; rounds = s.rounds.now } };
 
     ghost invariant = { λ s.
-        ((p : Named) → contains pattern_cmp s.offered.now p ≡ list_any (λ m. suits m p) (unpaired_messages s.ops.now s.paired.now))
-        × ((p : Named) → contains pattern_cmp s.asked.now p ≡ list_any (λ q. asks q p) (unpaired_receives s.ops.now s.paired.now))
+        ((p : Named) → contains pattern_cmp s.offered.now p ≡ list_any (λ m. suits m p) (unpaired_messages s.ops.now s.pairs.now.pairs))
+        × ((p : Named) → contains pattern_cmp s.asked.now p ≡ list_any (λ q. asks q p) (unpaired_receives s.ops.now s.pairs.now.pairs))
         × ((c k : ℕ) → contains place_cmp s.mismatched.now (c, k) ≡ list_any (is_mismatched_at c k) s.rounds.now)
-        × (s.calls.now ≡ table s.layout.now.comms s.ops.now s.layout.now.comms)
-        × (s.paired.now ≡ s.pairs.now) };
+        × (s.calls.now ≡ table s.layout.now.comms s.ops.now s.layout.now.comms) };
 }
 
 impl<'a> Overview<'a> {
@@ -79,14 +77,14 @@ impl<'a> Overview<'a> {
     pub fn is_taken(&self, m: &Message) -> bool
         ensures { result ≡ is_some (taken_by self.now.pairs m.now.name) }
     {
-        self.paired.is_taken(m)
+        is_taken(self.pairs, m)
     }
 
     /// Whether the receive is in a pair.
     pub fn is_given(&self, q: &Receive) -> bool
         ensures { result ≡ is_some (given_by self.now.pairs q.now.name) }
     {
-        self.paired.is_given(q)
+        is_given(self.pairs, q)
     }
 
     /// Whether some unpaired receive names just this.

@@ -10,12 +10,13 @@ ghost use Rattle.std.specs.BTreeSet.{contains};
 ghost use Rattle.trace_wait.specs.Matching.{is_unpaired_message, is_unpaired_receive, unpaired_messages, unpaired_receives};
 ghost use Rattle.trace_wait.specs.Patterns.{Pattern as Named, pattern_cmp, suits, asks};
 
-use crate::paired::Paired;
+use crate::paired::{is_given, is_taken};
 use crate::sets::note;
 use mpi_model::{Message, Receive};
 use std::alloc::{AllocError, Global};
 use std::collections::BTreeSet;
 use trace_ops::RankOps;
+use trace_pair::PairTable;
 
 /// Communicator, receiver, source and tag, as a receive names them.
 pub(crate) type Pattern = (u32, u32, Option<u32>, Option<u32>);
@@ -32,13 +33,13 @@ fn offer(m: &Message, set: &mut BTreeSet<Pattern>) -> Result<(), AllocError>
 }
 
 fn offer_unpaired(
-    paired: &Paired,
+    pairs: &PairTable,
     m: &Message,
     set: &mut BTreeSet<Pattern>,
 ) -> Result<(), AllocError>
-    ensures { OnOk result ((p : Named) → contains pattern_cmp set.new p ≡ ((is_unpaired_message paired.now m.now && suits m.now p) || contains pattern_cmp set.old p)) }
+    ensures { OnOk result ((p : Named) → contains pattern_cmp set.new p ≡ ((is_unpaired_message pairs.now.pairs m.now && suits m.now p) || contains pattern_cmp set.old p)) }
 {
-    if paired.is_taken(m) {
+    if is_taken(pairs, m) {
         return Ok(());
     }
     offer(m, set)?;
@@ -46,14 +47,14 @@ fn offer_unpaired(
 }
 
 fn offer_all(
-    paired: &Paired,
+    pairs: &PairTable,
     sends: &[Message],
     set: &mut BTreeSet<Pattern>,
 ) -> Result<(), AllocError>
-    ensures { OnOk result ((p : Named) → contains pattern_cmp set.new p ≡ (list_any (λ m. suits m p) (filter (is_unpaired_message paired.now) sends.now) || contains pattern_cmp set.old p)) }
+    ensures { OnOk result ((p : Named) → contains pattern_cmp set.new p ≡ (list_any (λ m. suits m p) (filter (is_unpaired_message pairs.now.pairs) sends.now) || contains pattern_cmp set.old p)) }
 {
     for m in sends {
-        offer_unpaired(paired, m, set)?;
+        offer_unpaired(pairs, m, set)?;
     }
     Ok(())
 }
@@ -62,13 +63,13 @@ fn offer_all(
 pub(crate) fn patterns_offered(
     alloc: Global,
     ops: &[RankOps],
-    paired: &Paired,
+    pairs: &PairTable,
 ) -> Result<BTreeSet<Pattern>, AllocError>
-    ensures { IfOk result (λ s. (p : Named) → contains pattern_cmp s p ≡ list_any (λ m. suits m p) (unpaired_messages ops.now paired.now)) }
+    ensures { IfOk result (λ s. (p : Named) → contains pattern_cmp s p ≡ list_any (λ m. suits m p) (unpaired_messages ops.now pairs.now.pairs)) }
 {
     let mut set = BTreeSet::new(alloc);
     for o in ops {
-        offer_all(paired, o.sends(), &mut set)?;
+        offer_all(pairs, o.sends(), &mut set)?;
     }
     Ok(set)
 }
@@ -81,10 +82,14 @@ fn ask(q: &Receive, set: &mut BTreeSet<Pattern>) -> Result<(), AllocError>
     Ok(())
 }
 
-fn ask_unpaired(paired: &Paired, q: &Receive, set: &mut BTreeSet<Pattern>) -> Result<(), AllocError>
-    ensures { OnOk result ((p : Named) → contains pattern_cmp set.new p ≡ ((is_unpaired_receive paired.now q.now && asks q.now p) || contains pattern_cmp set.old p)) }
+fn ask_unpaired(
+    pairs: &PairTable,
+    q: &Receive,
+    set: &mut BTreeSet<Pattern>,
+) -> Result<(), AllocError>
+    ensures { OnOk result ((p : Named) → contains pattern_cmp set.new p ≡ ((is_unpaired_receive pairs.now.pairs q.now && asks q.now p) || contains pattern_cmp set.old p)) }
 {
-    if paired.is_given(q) {
+    if is_given(pairs, q) {
         return Ok(());
     }
     ask(q, set)?;
@@ -92,14 +97,14 @@ fn ask_unpaired(paired: &Paired, q: &Receive, set: &mut BTreeSet<Pattern>) -> Re
 }
 
 fn ask_all(
-    paired: &Paired,
+    pairs: &PairTable,
     receives: &[Receive],
     set: &mut BTreeSet<Pattern>,
 ) -> Result<(), AllocError>
-    ensures { OnOk result ((p : Named) → contains pattern_cmp set.new p ≡ (list_any (λ q. asks q p) (filter (is_unpaired_receive paired.now) receives.now) || contains pattern_cmp set.old p)) }
+    ensures { OnOk result ((p : Named) → contains pattern_cmp set.new p ≡ (list_any (λ q. asks q p) (filter (is_unpaired_receive pairs.now.pairs) receives.now) || contains pattern_cmp set.old p)) }
 {
     for q in receives {
-        ask_unpaired(paired, q, set)?;
+        ask_unpaired(pairs, q, set)?;
     }
     Ok(())
 }
@@ -108,13 +113,13 @@ fn ask_all(
 pub(crate) fn patterns_asked(
     alloc: Global,
     ops: &[RankOps],
-    paired: &Paired,
+    pairs: &PairTable,
 ) -> Result<BTreeSet<Pattern>, AllocError>
-    ensures { IfOk result (λ s. (p : Named) → contains pattern_cmp s p ≡ list_any (λ q. asks q p) (unpaired_receives ops.now paired.now)) }
+    ensures { IfOk result (λ s. (p : Named) → contains pattern_cmp s p ≡ list_any (λ q. asks q p) (unpaired_receives ops.now pairs.now.pairs)) }
 {
     let mut set = BTreeSet::new(alloc);
     for o in ops {
-        ask_all(paired, o.receives(), &mut set)?;
+        ask_all(pairs, o.receives(), &mut set)?;
     }
     Ok(set)
 }

@@ -11,14 +11,13 @@ use crate::collective::collective_of_call;
 use crate::counts::all_calls;
 use crate::mismatch::mismatched_rounds;
 use crate::overview::Overview;
-use crate::paired::paired_by;
 use crate::parts::{post_part, posted_by, receive_of_call, requests, send_of_call};
 use crate::round::Round;
 use crate::unpaired::{patterns_asked, patterns_offered};
 use mpi_model::{Call, Layout};
 use std::alloc::{AllocError, Global};
 use trace_ops::RankOps;
-use trace_pair::{Pair, PairTable};
+use trace_pair::PairTable;
 use trace_stuck::Condition;
 
 fn both(alloc: Global, first: Condition, second: Condition) -> Result<Condition, AllocError>
@@ -100,41 +99,6 @@ fn condition_of(
     }
 }
 
-/// The conditions under these pairs.
-fn conditions_under(
-    alloc: Global,
-    layout: &Layout,
-    ops: &[RankOps],
-    pairs: &[Pair],
-    rounds: &[Round],
-) -> Result<Vec<Option<Condition>>, AllocError>
-    requires few { length ops.now < 2 ^ 32 }
-    requires own { AreOwn 0 ops.now }
-    ensures { IfOk result (λ v. map (option_map shape) v.items ≡ conditions_from (record { layout = layout.now; ops = ops.now; pairs = pairs.now; rounds = rounds.now }) 0 ops.now) }
-{
-    let paired = paired_by(alloc, pairs)?;
-    let offered = patterns_offered(alloc, ops, &paired)?;
-    let asked = patterns_asked(alloc, ops, &paired)?;
-    let mismatched = mismatched_rounds(alloc, rounds)?;
-    let calls = all_calls(alloc, layout, ops)?;
-    let run = Overview {
-        layout,
-        ops,
-        pairs,
-        paired: &paired,
-        rounds,
-        offered: &offered,
-        asked: &asked,
-        mismatched: &mismatched,
-        calls: &calls,
-    };
-    let mut out = Vec::new(alloc);
-    for (r, o) in ops.iter().enumerate() {
-        out.push(condition_of(alloc, &run, r as u32, o)?)?;
-    }
-    Ok(out)
-}
-
 /// The condition of each rank, none where it isn't waiting.
 ///
 /// The ops of rank r stand at place r; the pairs and the rounds are those of these ops.
@@ -149,5 +113,23 @@ pub fn conditions(
     requires own { AreOwn 0 ops.now }
     ensures { IfOk result (λ v. map (option_map shape) v.items ≡ conditions_from (record { layout = layout.now; ops = ops.now; pairs = pairs.now.pairs; rounds = rounds.now }) 0 ops.now) }
 {
-    conditions_under(alloc, layout, ops, pairs.pairs(), rounds)
+    let offered = patterns_offered(alloc, ops, pairs)?;
+    let asked = patterns_asked(alloc, ops, pairs)?;
+    let mismatched = mismatched_rounds(alloc, rounds)?;
+    let calls = all_calls(alloc, layout, ops)?;
+    let run = Overview {
+        layout,
+        ops,
+        pairs,
+        rounds,
+        offered: &offered,
+        asked: &asked,
+        mismatched: &mismatched,
+        calls: &calls,
+    };
+    let mut out = Vec::new(alloc);
+    for (r, o) in ops.iter().enumerate() {
+        out.push(condition_of(alloc, &run, r as u32, o)?)?;
+    }
+    Ok(out)
 }

@@ -1,5 +1,5 @@
 use Rattle.trace_wait.specs.Conditions.{is_mismatched_at}
-use Rattle.trace_wait.proofs.Names.{any_more}
+use Rattle.trace_wait.proofs.Fronts.{any_more}
 use Rattle.trace_wait.proofs.mismatch.mismatched_rounds.Goals as goal
 
 pub loop-round-preserved : goal.loop-round-preserved

@@ -5,4 +5,4 @@ use Rattle.trace_wait.proofs.unpaired.ask_all.Goals as goal
 
 pub loop-q-preserved : goal.loop-q-preserved
 loop-q-preserved c = λ p.
-    noted_more (is_unpaired_receive c.args.paired.now) (λ x. asks x p) c.args.receives.now c.loop-q.q-index _ _ _ _ c.loop-q-test.true (c.loop-q.invariant p) (c.in_ok-ask_unpaired.ensures p)
+    noted_more (is_unpaired_receive c.args.pairs.now.pairs) (λ x. asks x p) c.args.receives.now c.loop-q.q-index _ _ _ _ c.loop-q-test.true (c.loop-q.invariant p) (c.in_ok-ask_unpaired.ensures p)

@@ -6,4 +6,4 @@ use Rattle.trace_wait.specs.Patterns.{Pattern, pattern_cmp, suits}
 use Rattle.trace_wait.proofs.unpaired.patterns_offered.Given as goal
 
 abbrev pub invariant-loop-o : goal.invariant-loop-o
-invariant-loop-o l = (p : Pattern) → contains pattern_cmp l.set p ≡ list_any (λ x. suits x p) (unpaired_messages (take l.o-index l.ops) l.paired)
+invariant-loop-o l = (p : Pattern) → contains pattern_cmp l.set p ≡ list_any (λ x. suits x p) (unpaired_messages (take l.o-index l.ops) l.pairs.pairs)

@@ -1,11 +1,23 @@
-use Rattle.std.proofs.Common.{◌≡◌, IfOk, List, map, subst}
+use Rattle.std.proofs.Common.{map, ◌∙◌, ap, sym, subst}
+use Rattle.trace_ops.specs.Ops.{Ops}
+use Rattle.trace_ops.specs.Order.{AreInOrder, ArePosted}
+use Rattle.trace_wait.proofs.Searches.{own_at}
 use Rattle.std.specs.Option.{option_map}
 use Rattle.trace_stuck.specs.Shape.{shape}
-use Rattle.trace_pair.specs.declared.pair.Pair.{Pair}
-use Rattle.trace_wait.specs.Conditions.{conditions_from}
+use Rattle.trace_wait.specs.Parts.{Run}
+use Rattle.trace_wait.proofs.Steps.{conditions_step}
 use Rattle.trace_wait.proofs.waiting.conditions.Goals as goal
 
-pub returns : goal.returns
-returns c =
-    subst (λ (l : List Pair). IfOk c.conditions_under.result (λ v. map (option_map shape) v.items ≡ conditions_from (record { layout = c.args.layout.now; ops = c.args.ops.now; pairs = l; rounds = c.args.rounds.now }) 0 c.args.ops.now))
-    c.pairs.ensures c.conditions_under.ensures
+pub loop-r-preserved : goal.loop-r-preserved
+loop-r-preserved c =
+    let s : Run = record { layout = c.args.layout.now; ops = c.args.ops.now; pairs = c.args.pairs.now.pairs; rounds = c.args.rounds.now } in
+    ap (map (option_map shape)) c.in_ok-push.ensures.items
+    ∙ conditions_step s c.args.ops.now c.loop-r.r c.index-ops-r.result c.loop-r.out.items c.in_ok-condition_of.field-0 c.loop-r-test.true c.index-ops-r.is c.loop-r.invariant c.in_ok-condition_of.ensures
+
+pub condition_of-requires-clause-sends : goal.condition_of-requires-clause-sends
+condition_of-requires-clause-sends c =
+    subst (λ (o : Ops). AreInOrder o.sends) (sym c.index-ops-r.is) (own_at 0 c.args.ops.now c.loop-r.r c.index-ops-r.result c.requires.own c.loop-r-test.true).0
+
+pub condition_of-requires-clause-receives : goal.condition_of-requires-clause-receives
+condition_of-requires-clause-receives c =
+    subst (λ (o : Ops). ArePosted o.receives) (sym c.index-ops-r.is) (own_at 0 c.args.ops.now c.loop-r.r c.index-ops-r.result c.requires.own c.loop-r-test.true).1

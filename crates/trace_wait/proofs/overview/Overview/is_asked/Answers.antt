@@ -1,6 +1,5 @@
-use Rattle.std.proofs.Common.{◌∙◌, ap, List}
+use Rattle.std.proofs.Common.{◌∙◌, ap}
 use Rattle.std.specs.List.{list_any}
-use Rattle.trace_pair.specs.declared.pair.Pair.{Pair}
 use Rattle.trace_wait.specs.Parts.{Run}
 use Rattle.trace_wait.specs.Matching.{unpaired_receives}
 use Rattle.trace_wait.specs.Patterns.{asks}
@@ -9,5 +8,4 @@ use Rattle.trace_wait.proofs.overview.Overview.is_asked.Goals as goal
 pub returns : goal.returns
 returns c =
     c.contains.ensures ∙ c.self.invariant.1 c.args.pattern
-    ∙ ap (λ (l : List Pair). list_any (λ q. asks q c.args.pattern) (unpaired_receives c.self.inside.ops.now l)) c.self.invariant.4
     ∙ ap (λ (s : Run). list_any (λ q. asks q c.args.pattern) (unpaired_receives s.ops s.pairs)) c.self.view_is

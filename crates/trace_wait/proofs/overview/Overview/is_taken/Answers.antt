@@ -1,9 +1,8 @@
-use Rattle.std.proofs.Common.{◌∙◌, ap, is_some, List}
-use Rattle.trace_pair.specs.declared.pair.Pair.{Pair}
+use Rattle.std.proofs.Common.{◌∙◌, ap, is_some}
 use Rattle.trace_wait.specs.Parts.{Run}
 use Rattle.trace_pair.specs.Table.{taken_by}
 use Rattle.trace_wait.proofs.overview.Overview.is_taken.Goals as goal
 
 pub returns : goal.returns
 returns c =
-    c.is_taken.ensures ∙ ap (λ (l : List Pair). is_some (taken_by l c.args.m.now.name)) (c.self.invariant.4 ∙ ap (λ (s : Run). s.pairs) c.self.view_is)
+    c.is_taken.ensures ∙ ap (λ (s : Run). is_some (taken_by s.pairs c.args.m.now.name)) c.self.view_is
