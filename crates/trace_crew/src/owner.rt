@@ -70,9 +70,10 @@ impl<'s, 'a> Hall<'s, 'a> {
     }
 
     /// Whether so much was joined since the node was shown that a copy for the board is worth its time:
-    /// as much as before. So these copies together cost at most about twice what the last of them does.
+    /// three times as much as before. So these copies together cost at most a third more than the last
+    /// of them.
     fn is_due(&self) -> bool {
-        self.joined / 2 >= self.shown && self.joined > 0
+        self.joined / 4 >= self.shown && self.joined > 0
     }
 
     /// Makes the answer to all that was joined, and shows it where that is due. So the last answer, for
