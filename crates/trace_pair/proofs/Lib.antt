@@ -11,6 +11,7 @@ pub mod Partners
 pub mod Ranked
 pub mod Tabled
 pub mod Members
+pub mod FirstPut
 pub mod Orders
 pub mod Queued
 pub mod Twice

@@ -2,7 +2,6 @@
 use Rattle.std.proofs.Common.{subst, ◌≡◌, true, false, [], inl, inr, ⊎_elim, sym, refl, ◌∙◌, ap, ◌⊎◌, cond, Option, Some, None}
 use Rattle.std.specs.Option.{option_map}
 use Rattle.std.specs.Prelude.{IfSome, IfNone}
-use Rattle.std.specs.List.{filter_map}
 use Rattle.mpi_model.specs.declared.event.OpName.{OpName}
 use Rattle.mpi_model.specs.declared.message.Message.{Message}
 use Rattle.mpi_model.specs.declared.message.Receive.{Receive}

@@ -17,7 +17,7 @@ use Rattle.mpi_model.specs.declared.event.OpName.{OpName}
 use Rattle.mpi_model.specs.declared.message.Message.{Message}
 use Rattle.mpi_model.specs.declared.message.Receive.{Receive}
 use Rattle.trace_pair.specs.Indexed.{name_lt}
-use Rattle.trace_pair.specs.KeyOrders.{name_cmp, message_cmp, receive_cmp, Queue, queue_cmp, Lane, lane_cmp, Group, group_cmp, mode_cmp}
+use Rattle.trace_pair.specs.KeyOrders.{name_cmp, message_cmp, receive_cmp, Queue, queue_cmp, Lane, lane_cmp, ReceiveKey, receive_key_cmp, mode_cmp}
 
 then_equal : (a b : Ordering) → ordering_then a b ≡ Equal → (a ≡ Equal) × (b ≡ Equal)
 then_equal Less b h = absurd (cc)
@@ -69,8 +69,8 @@ queues_total = then_total (then_total (then_total (on_total (λ (x : Queue). x.0
 pub lanes_total : IsTotalOrder lane_cmp
 lanes_total = then_total (then_total (on_total (λ (x : Lane). x.0) nat_cmp_total) (on_total (λ (x : Lane). x.1) nat_cmp_total)) (on_total (λ (x : Lane). x.2) nat_cmp_total)
 
-pub groups_total : IsTotalOrder group_cmp
-groups_total = then_total (then_total (then_total (on_total (λ (x : Group). x.0) nat_cmp_total) (on_total (λ (x : Group). x.1) nat_cmp_total)) (on_total (λ (x : Group). x.2) (options_total nat_cmp_total))) (on_total (λ (x : Group). x.3) (options_total nat_cmp_total))
+pub receive_keys_total : IsTotalOrder receive_key_cmp
+receive_keys_total = then_total (then_total (then_total (on_total (λ (x : ReceiveKey). x.0) nat_cmp_total) (on_total (λ (x : ReceiveKey). x.1) nat_cmp_total)) (on_total (λ (x : ReceiveKey). x.2) (options_total nat_cmp_total))) (on_total (λ (x : ReceiveKey). x.3) (options_total nat_cmp_total))
 
 abbrev name : ℕ → ℕ → OpName
 name r c = record { rank = r; call = c }
@@ -87,8 +87,8 @@ queue a b c d = (a, b, c, d)
 abbrev lane : ℕ → ℕ → ℕ → Lane
 lane a b c = (a, b, c)
 
-abbrev group : ℕ → ℕ → Option ℕ → Option ℕ → Group
-group a b c d = (a, b, c, d)
+abbrev receive_key : ℕ → ℕ → Option ℕ → Option ℕ → ReceiveKey
+receive_key a b c d = (a, b, c, d)
 
 pub exact_names : CmpEqualImpliesEq name_cmp
 exact_names a b h =
@@ -148,15 +148,15 @@ exact_lanes a b h =
     ∙ ap (λ x. lane b.0 x a.2) (exact_nats a.1 b.1 h1.1)
     ∙ ap (λ x. lane b.0 b.1 x) (exact_nats a.2 b.2 h2.1)
 
-pub exact_groups : CmpEqualImpliesEq group_cmp
-exact_groups a b h =
+pub exact_receive_keys : CmpEqualImpliesEq receive_key_cmp
+exact_receive_keys a b h =
     let h3 = then_equal (ordering_then (ordering_then (nat_cmp a.0 b.0) (nat_cmp a.1 b.1)) (option_cmp nat_cmp a.2 b.2)) (option_cmp nat_cmp a.3 b.3) h in
     let h2 = then_equal (ordering_then (nat_cmp a.0 b.0) (nat_cmp a.1 b.1)) (option_cmp nat_cmp a.2 b.2) h3.0 in
     let h1 = then_equal (nat_cmp a.0 b.0) (nat_cmp a.1 b.1) h2.0 in
-    ap (λ x. group x a.1 a.2 a.3) (exact_nats a.0 b.0 h1.0)
-    ∙ ap (λ x. group b.0 x a.2 a.3) (exact_nats a.1 b.1 h1.1)
-    ∙ ap (λ x. group b.0 b.1 x a.3) (exact_options a.2 b.2 h2.1)
-    ∙ ap (λ x. group b.0 b.1 b.2 x) (exact_options a.3 b.3 h3.1)
+    ap (λ x. receive_key x a.1 a.2 a.3) (exact_nats a.0 b.0 h1.0)
+    ∙ ap (λ x. receive_key b.0 x a.2 a.3) (exact_nats a.1 b.1 h1.1)
+    ∙ ap (λ x. receive_key b.0 b.1 x a.3) (exact_options a.2 b.2 h2.1)
+    ∙ ap (λ x. receive_key b.0 b.1 b.2 x) (exact_options a.3 b.3 h3.1)
 
 -- the later name is above
 above_name : (a b : OpName) (rest : Ordering) → name_lt a b ≡ true → is_gt (ordering_then (name_cmp b a) rest) ≡ true

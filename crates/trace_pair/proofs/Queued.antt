@@ -11,13 +11,13 @@ use Rattle.mpi_model.specs.Fit.{fits, admits}
 use Rattle.trace_ops.specs.Order.{Has}
 use Rattle.trace_pair.specs.Groups.{has, members}
 use Rattle.trace_pair.specs.Indexed.{IsFirstMessage, IsFirstReceive, name_lt}
-use Rattle.trace_pair.specs.KeyOrders.{message_cmp, receive_cmp, Queue, queue_cmp, queue_of, Lane, lane_cmp, lane_of, Group, group_cmp, group_of}
+use Rattle.trace_pair.specs.KeyOrders.{message_cmp, receive_cmp, Queue, queue_cmp, queue_of, Lane, lane_cmp, lane_of, ReceiveKey, receive_key_cmp, receive_key_of}
 use Rattle.trace_pair.specs.Queues.{AreQueued, AreGrouped, alike, of_kind, had, kinds_with, IsBestAmong}
 use Rattle.trace_pair.specs.declared.queues.Kinds.{Kinds}
 use Rattle.trace_pair.proofs.Obeyed.{both, and_true}
 use Rattle.trace_pair.proofs.Names.{name_along, name_not_later}
 use Rattle.trace_pair.proofs.Members.{has_member, same_members, stands, adds, drops, placed_more, placed_less}
-use Rattle.trace_pair.proofs.Orders.{messages_total, receives_total, queues_total, groups_total, exact_messages, exact_receives, exact_queues, exact_groups, later_message, later_receive}
+use Rattle.trace_pair.proofs.Orders.{messages_total, receives_total, queues_total, receive_keys_total, exact_messages, exact_receives, exact_queues, exact_receive_keys, later_message, later_receive}
 
 nat_says : (a b : ℕ) → eqb a b ≡ true → a ≡ b
 nat_says a b h = grind (arith, nat_tests)
@@ -49,8 +49,8 @@ queue a b c d = (a, b, c, d)
 abbrev lane : ℕ → ℕ → ℕ → Lane
 lane a b c = (a, b, c)
 
-abbrev group : ℕ → ℕ → Option ℕ → Option ℕ → Group
-group a b c d = (a, b, c, d)
+abbrev receive_key : ℕ → ℕ → Option ℕ → Option ℕ → ReceiveKey
+receive_key a b c d = (a, b, c, d)
 
 module _ (tagged : BTreeMap Queue (BTreeSet Message)) (lanes : BTreeMap Lane (BTreeSet Message)) (inv : AreQueued tagged lanes) where
   pub in_queue : (m : Message) → has queue_cmp message_cmp tagged (queue_of m) m ≡ true → Has (members tagged) m
@@ -171,13 +171,13 @@ had_alike k (Some s) (Some t) None b h = absurd (cc)
 had_alike k (Some s) (Some t) (Some a) None h = absurd (cc)
 had_alike k (Some s) (Some t) (Some a) (Some b) h = refl
 
-module _ (kinds : Kinds) (groups : BTreeMap Group (BTreeSet Receive)) (inv : AreGrouped kinds groups) where
+module _ (kinds : Kinds) (groups : BTreeMap ReceiveKey (BTreeSet Receive)) (inv : AreGrouped kinds groups) where
   -- a kind that no receive had
   pub kind_none : (m : Message) (source tag : Option ℕ) → had kinds source tag ≡ false → IsBestAmong (members groups) m (of_kind source tag) None
   kind_none m source tag none r i g f = not_least (had kinds r.source r.tag) (inv.marked r i) (had_alike kinds source tag r.source r.tag g ∙ none)
 
-  at_group : (r : Receive) → Has (members groups) r → has group_cmp receive_cmp groups (group_of r) r ≡ true
-  at_group r i = stands groups_total exact_groups receives_total exact_receives group_of groups inv.ordered inv.placed r i
+  at_receive_key : (r : Receive) → Has (members groups) r → has receive_key_cmp receive_cmp groups (receive_key_of r) r ≡ true
+  at_receive_key r i = stands receive_keys_total exact_receive_keys receives_total exact_receives receive_key_of groups inv.ordered inv.placed r i
 
   told_alike : (a b : Option ℕ) (x : ℕ) → alike a b ≡ true → admits a x ≡ true → admits b x ≡ true → a ≡ b
   told_alike None None x h f g = refl
@@ -185,60 +185,60 @@ module _ (kinds : Kinds) (groups : BTreeMap Group (BTreeSet Receive)) (inv : Are
   told_alike (Some a) None x h f g = absurd (cc)
   told_alike (Some a) (Some b) x h f g = ap (λ (y : ℕ). Some y) (admits_says a x f ∙ sym (admits_says b x g))
 
-  group_fits : (m : Message) (source tag : Option ℕ) (r : Receive) → admits source m.from ≡ true → admits tag m.tag ≡ true → of_kind source tag r ≡ true → fits m r ≡ true → group m.comm m.to source tag ≡ group_of r
-  group_fits m source tag r a b k h =
+  receive_key_fits : (m : Message) (source tag : Option ℕ) (r : Receive) → admits source m.from ≡ true → admits tag m.tag ≡ true → of_kind source tag r ≡ true → fits m r ≡ true → receive_key m.comm m.to source tag ≡ receive_key_of r
+  receive_key_fits m source tag r a b k h =
       let p = fit_parts m r h in
       let t = both (alike source r.source) (alike tag r.tag) k in
       let x = told_alike source r.source m.from t.0 a p.2 in
       let y = told_alike tag r.tag m.tag t.1 b p.3 in
-      ap (λ c. group c m.to source tag) p.0 ∙ ap (λ c. group r.comm c source tag) p.1 ∙ ap (λ c. group r.comm r.at c tag) x ∙ ap (λ c. group r.comm r.at r.source c) y
+      ap (λ c. receive_key c m.to source tag) p.0 ∙ ap (λ c. receive_key r.comm c source tag) p.1 ∙ ap (λ c. receive_key r.comm r.at c tag) x ∙ ap (λ c. receive_key r.comm r.at r.source c) y
 
-  pub group_first : (m : Message) (source tag : Option ℕ) (q : Receive) → admits source m.from ≡ true → admits tag m.tag ≡ true → has group_cmp receive_cmp groups (group m.comm m.to source tag) q ≡ true →
-      ((d : Receive) → has group_cmp receive_cmp groups (group m.comm m.to source tag) d ≡ true → is_gt (receive_cmp q d) ≡ false) → IsBestAmong (members groups) m (of_kind source tag) (Some q)
-  group_first m source tag q a b h least =
-      let k : group m.comm m.to source tag ≡ group_of q = inv.placed (group m.comm m.to source tag) q h in (
-        has_member groups_total exact_groups receives_total exact_receives groups inv.ordered (group m.comm m.to source tag) q h,
-        fit_from m q (ap (λ (x : Group). x.0) k) (ap (λ (x : Group). x.1) k)
-            (ap (λ (o : Option ℕ). admits o m.from) (sym (ap (λ (x : Group). x.2) k)) ∙ a) (ap (λ (o : Option ℕ). admits o m.tag) (sym (ap (λ (x : Group). x.3) k)) ∙ b),
+  pub receive_key_first : (m : Message) (source tag : Option ℕ) (q : Receive) → admits source m.from ≡ true → admits tag m.tag ≡ true → has receive_key_cmp receive_cmp groups (receive_key m.comm m.to source tag) q ≡ true →
+      ((d : Receive) → has receive_key_cmp receive_cmp groups (receive_key m.comm m.to source tag) d ≡ true → is_gt (receive_cmp q d) ≡ false) → IsBestAmong (members groups) m (of_kind source tag) (Some q)
+  receive_key_first m source tag q a b h least =
+      let k : receive_key m.comm m.to source tag ≡ receive_key_of q = inv.placed (receive_key m.comm m.to source tag) q h in (
+        has_member receive_keys_total exact_receive_keys receives_total exact_receives groups inv.ordered (receive_key m.comm m.to source tag) q h,
+        fit_from m q (ap (λ (x : ReceiveKey). x.0) k) (ap (λ (x : ReceiveKey). x.1) k)
+            (ap (λ (o : Option ℕ). admits o m.from) (sym (ap (λ (x : ReceiveKey). x.2) k)) ∙ a) (ap (λ (o : Option ℕ). admits o m.tag) (sym (ap (λ (x : ReceiveKey). x.3) k)) ∙ b),
         λ r i g f p. not_least (is_gt (receive_cmp q r)) (later_receive r q p)
-            (least r (ap (λ (x : Group). has group_cmp receive_cmp groups x r) (group_fits m source tag r a b g f) ∙ at_group r i)),
+            (least r (ap (λ (x : ReceiveKey). has receive_key_cmp receive_cmp groups x r) (receive_key_fits m source tag r a b g f) ∙ at_receive_key r i)),
       )
 
-  pub group_none : (m : Message) (source tag : Option ℕ) → admits source m.from ≡ true → admits tag m.tag ≡ true → ((d : Receive) → has group_cmp receive_cmp groups (group m.comm m.to source tag) d ≡ false) →
+  pub receive_key_none : (m : Message) (source tag : Option ℕ) → admits source m.from ≡ true → admits tag m.tag ≡ true → ((d : Receive) → has receive_key_cmp receive_cmp groups (receive_key m.comm m.to source tag) d ≡ false) →
       IsBestAmong (members groups) m (of_kind source tag) None
-  group_none m source tag a b none r i g f =
-      not_least (has group_cmp receive_cmp groups (group m.comm m.to source tag) r) (ap (λ (x : Group). has group_cmp receive_cmp groups x r) (group_fits m source tag r a b g f) ∙ at_group r i) (none r)
+  receive_key_none m source tag a b none r i g f =
+      not_least (has receive_key_cmp receive_cmp groups (receive_key m.comm m.to source tag) r) (ap (λ (x : ReceiveKey). has receive_key_cmp receive_cmp groups x r) (receive_key_fits m source tag r a b g f) ∙ at_receive_key r i) (none r)
 
-  pub group_if : (m : Message) (source tag : Option ℕ) (o : Option Receive) → admits source m.from ≡ true → admits tag m.tag ≡ true →
-      IfSome o (λ q. (has group_cmp receive_cmp groups (group m.comm m.to source tag) q ≡ true) × ((d : Receive) → has group_cmp receive_cmp groups (group m.comm m.to source tag) d ≡ true → is_gt (receive_cmp q d) ≡ false)) →
-      IfNone o ((d : Receive) → has group_cmp receive_cmp groups (group m.comm m.to source tag) d ≡ false) → IsBestAmong (members groups) m (of_kind source tag) o
-  group_if m source tag None a b h g = group_none m source tag a b g
-  group_if m source tag (Some q) a b h g = group_first m source tag q a b h.0 h.1
+  pub receive_key_if : (m : Message) (source tag : Option ℕ) (o : Option Receive) → admits source m.from ≡ true → admits tag m.tag ≡ true →
+      IfSome o (λ q. (has receive_key_cmp receive_cmp groups (receive_key m.comm m.to source tag) q ≡ true) × ((d : Receive) → has receive_key_cmp receive_cmp groups (receive_key m.comm m.to source tag) d ≡ true → is_gt (receive_cmp q d) ≡ false)) →
+      IfNone o ((d : Receive) → has receive_key_cmp receive_cmp groups (receive_key m.comm m.to source tag) d ≡ false) → IsBestAmong (members groups) m (of_kind source tag) o
+  receive_key_if m source tag None a b h g = receive_key_none m source tag a b g
+  receive_key_if m source tag (Some q) a b h g = receive_key_first m source tag q a b h.0 h.1
 
 -- the groups, as a receive comes or goes
-module _ (kinds : Kinds) (old new : BTreeMap Group (BTreeSet Receive)) (inv : AreGrouped kinds old) (o : IsOrdered group_cmp new) where
-  pub grouped_same : (s t : Option ℕ) → ((k : Group) (d : Receive) → has group_cmp receive_cmp new k d ≡ has group_cmp receive_cmp old k d) → AreGrouped (kinds_with kinds s t) new
+module _ (kinds : Kinds) (old new : BTreeMap ReceiveKey (BTreeSet Receive)) (inv : AreGrouped kinds old) (o : IsOrdered receive_key_cmp new) where
+  pub grouped_same : (s t : Option ℕ) → ((k : ReceiveKey) (d : Receive) → has receive_key_cmp receive_cmp new k d ≡ has receive_key_cmp receive_cmp old k d) → AreGrouped (kinds_with kinds s t) new
   grouped_same s t law = record {
     ordered = o;
     placed = λ k d h. inv.placed k d (sym (law k d) ∙ h);
-    marked = λ r i. had_still kinds s t r.source r.tag (inv.marked r (same_members groups_total exact_groups receives_total exact_receives old new inv.ordered o law r i));
+    marked = λ r i. had_still kinds s t r.source r.tag (inv.marked r (same_members receive_keys_total exact_receive_keys receives_total exact_receives old new inv.ordered o law r i));
   }
 
-  pub grouped_more : (q : Receive) → ((k : Group) (d : Receive) → has group_cmp receive_cmp new k d ≡ ((is_eq (group_cmp (group_of q) k) && is_eq (receive_cmp q d)) || has group_cmp receive_cmp old k d)) → AreGrouped (kinds_with kinds q.source q.tag) new
+  pub grouped_more : (q : Receive) → ((k : ReceiveKey) (d : Receive) → has receive_key_cmp receive_cmp new k d ≡ ((is_eq (receive_key_cmp (receive_key_of q) k) && is_eq (receive_cmp q d)) || has receive_key_cmp receive_cmp old k d)) → AreGrouped (kinds_with kinds q.source q.tag) new
   grouped_more q law = record {
     ordered = o;
-    placed = placed_more groups_total exact_groups receives_total exact_receives group_of old new inv.placed q law;
+    placed = placed_more receive_keys_total exact_receive_keys receives_total exact_receives receive_key_of old new inv.placed q law;
     marked = λ r i. ⊎_elim
         (λ (j : Has (members old) r). had_still kinds q.source q.tag r.source r.tag (inv.marked r j))
         (λ (e : r ≡ q). subst (λ (x : Receive). had (kinds_with kinds q.source q.tag) x.source x.tag ≡ true) (sym e) (had_with kinds q.source q.tag))
-        ((adds groups_total exact_groups receives_total exact_receives old new inv.ordered o (group_of q) q law).cases r i);
+        ((adds receive_keys_total exact_receive_keys receives_total exact_receives old new inv.ordered o (receive_key_of q) q law).cases r i);
   }
 
-  pub grouped_less : (q : Receive) → ((k : Group) (d : Receive) → has group_cmp receive_cmp new k d ≡ cond (is_eq (group_cmp (group_of q) k) && is_eq (receive_cmp q d)) false (has group_cmp receive_cmp old k d)) → AreGrouped kinds new
+  pub grouped_less : (q : Receive) → ((k : ReceiveKey) (d : Receive) → has receive_key_cmp receive_cmp new k d ≡ cond (is_eq (receive_key_cmp (receive_key_of q) k) && is_eq (receive_cmp q d)) false (has receive_key_cmp receive_cmp old k d)) → AreGrouped kinds new
   grouped_less q law = record {
     ordered = o;
-    placed = placed_less groups_total exact_groups receives_total exact_receives group_of old new inv.placed (group_of q) q law;
-    marked = λ r i. inv.marked r ((drops groups_total exact_groups receives_total exact_receives group_of old new inv.ordered o inv.placed q law).was r i);
+    placed = placed_less receive_keys_total exact_receive_keys receives_total exact_receives receive_key_of old new inv.placed (receive_key_of q) q law;
+    marked = λ r i. inv.marked r ((drops receive_keys_total exact_receive_keys receives_total exact_receives receive_key_of old new inv.ordered o inv.placed q law).was r i);
   }
 
 -- the earlier of two

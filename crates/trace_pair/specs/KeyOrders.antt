@@ -42,11 +42,11 @@ abbrev pub lane_of : Message → Lane
 lane_of m = (m.comm, m.from, m.to)
 
 -- communicator, receiver, source and tag
-abbrev pub Group : Type 0
-Group = ℕ × ℕ × Option ℕ × Option ℕ
+abbrev pub ReceiveKey : Type 0
+ReceiveKey = ℕ × ℕ × Option ℕ × Option ℕ
 
-abbrev pub group_cmp : Group → Group → Ordering
-group_cmp a b = ordering_then (ordering_then (ordering_then (nat_cmp a.0 b.0) (nat_cmp a.1 b.1)) (option_cmp nat_cmp a.2 b.2)) (option_cmp nat_cmp a.3 b.3)
+abbrev pub receive_key_cmp : ReceiveKey → ReceiveKey → Ordering
+receive_key_cmp a b = ordering_then (ordering_then (ordering_then (nat_cmp a.0 b.0) (nat_cmp a.1 b.1)) (option_cmp nat_cmp a.2 b.2)) (option_cmp nat_cmp a.3 b.3)
 
-abbrev pub group_of : Receive → Group
-group_of q = (q.comm, q.at, q.source, q.tag)
+abbrev pub receive_key_of : Receive → ReceiveKey
+receive_key_of q = (q.comm, q.at, q.source, q.tag)

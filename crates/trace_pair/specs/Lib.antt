@@ -13,6 +13,7 @@ pub mod Slots
 pub mod Coupled
 pub mod Followed
 pub mod Kept
+pub mod OneOrMany
 pub mod Groups
 pub mod KeyOrders
 pub mod Queues

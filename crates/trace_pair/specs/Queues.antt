@@ -7,7 +7,7 @@ use Rattle.mpi_model.specs.declared.message.Receive.{Receive}
 use Rattle.trace_ops.specs.Order.{Has}
 use Rattle.trace_pair.specs.Groups.{ArePlaced, StandTwice, members}
 use Rattle.trace_pair.specs.Indexed.{name_lt}
-use Rattle.trace_pair.specs.KeyOrders.{message_cmp, receive_cmp, Queue, queue_cmp, queue_of, Lane, lane_cmp, lane_of, Group, group_cmp, group_of}
+use Rattle.trace_pair.specs.KeyOrders.{message_cmp, receive_cmp, Queue, queue_cmp, queue_of, Lane, lane_cmp, lane_of, ReceiveKey, receive_key_cmp, receive_key_of}
 use Rattle.mpi_model.specs.Fit.{fits}
 use Rattle.trace_pair.specs.declared.queues.Kinds.{Kinds}
 
@@ -28,10 +28,10 @@ kinds_with kinds source tag = record {
   untold_any_tag = kinds.untold_any_tag || (is_none source && is_none tag);
 }
 
--- receives by group, each of a kind that is marked
-pub record AreGrouped (kinds : Kinds) (groups : BTreeMap Group (BTreeSet Receive)) : Type 0 where
-  pub ordered : IsOrdered group_cmp groups
-  pub placed : ArePlaced group_cmp receive_cmp group_of groups
+-- receives by their keys, each of a kind that is marked
+pub record AreGrouped (kinds : Kinds) (groups : BTreeMap ReceiveKey (BTreeSet Receive)) : Type 0 where
+  pub ordered : IsOrdered receive_key_cmp groups
+  pub placed : ArePlaced receive_key_cmp receive_cmp receive_key_of groups
   pub marked : (r : Receive) → Has (members groups) r → had kinds r.source r.tag ≡ true
 
 -- both are told, or neither is

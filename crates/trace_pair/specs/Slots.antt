@@ -1,5 +1,5 @@
 -- Values by the names of calls, in a list of slots for each rank.
-use Rattle.std.specs.Prelude.{◌≡◌, ◌<◌, ◌≤◌, ◌==◌, ◌++◌, ℕ, zero, suc, cond, Option, Some, None, List, [], ◌∷◌, length, slice_index_or, Vec}
+use Rattle.std.specs.Prelude.{◌≡◌, ◌<◌, ◌≤◌, ◌==◌, ◌++◌, ℕ, zero, suc, cond, Option, None, List, [], ◌∷◌, length, slice_index_or, Vec}
 use Rattle.std.specs.List.{filter_map}
 use Rattle.std.specs.Option.{option_map}
 use Rattle.std.specs.declared.alloc.Global.{Global}

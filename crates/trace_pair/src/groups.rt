@@ -1,43 +1,43 @@
 //! A sorted set of members for each key, in an ordered map.
 ghost use Rattle.std.specs.Prelude.{◌≡◌, true, false, None, IfSome, IfNone, OnOk, OnErr, IsTrue, if◌then◌else◌, ◌||◌, ◌&&◌, [], ◌↔◌};
 ghost use Rattle.std.specs.BTreeMap.{IsOrdered, get};
-ghost use Rattle.std.specs.BTreeSet.{contains};
 ghost use Rattle.std.specs.Ordering.{is_eq, is_gt};
 ghost use Rattle.trace_pair.specs.Groups.{HasMember, has};
 
+use crate::one_or_many::Members;
 use std::alloc::{AllocError, Global};
-use std::collections::{BTreeMap, BTreeSet};
-
-fn first_of<T: Ord + Copy>(members: &BTreeSet<T>) -> Option<T>
-    ensures some { IfSome result (λ c. IsTrue (contains T.cmp members.now c) × ((d : T) → contains T.cmp members.now d ≡ true → is_gt (T.cmp c d) ≡ false)) }
-    ensures none { IfNone result ((d : T) → contains T.cmp members.now d ≡ false) }
-{
-    members.first().copied()
-}
+use std::collections::BTreeMap;
 
 /// The first member at a key.
-pub(crate) fn first_at<K: Ord, T: Ord + Copy>(sets: &BTreeMap<K, BTreeSet<T>>, key: &K) -> Option<T>
+pub(crate) fn first_at<K: Ord, T: Ord + Copy>(sets: &BTreeMap<K, Members<T>>, key: &K) -> Option<T>
     ensures some { IfSome result (λ c. IsTrue (has K.cmp T.cmp sets.now key.now c) × ((d : T) → has K.cmp T.cmp sets.now key.now d ≡ true → is_gt (T.cmp c d) ≡ false)) }
     ensures none { IfNone result ((d : T) → has K.cmp T.cmp sets.now key.now d ≡ false) }
 {
     match sets.get(key) {
-        Some(members) => first_of(members),
+        Some(members) => members.first(),
         None => None,
     }
 }
 
-fn put<T: Ord + Drop>(members: &mut BTreeSet<T>, x: T) -> Result<(), AllocError>
-    ensures ok { OnOk result ((d : T) → contains T.cmp members.new d ≡ (is_eq (T.cmp x d) || contains T.cmp members.old d)) }
-    ensures err { OnErr result ((d : T) → contains T.cmp members.new d ≡ contains T.cmp members.old d) }
+/// Puts a member at a key where none stands.
+fn put_first<K: Ord + Drop, T: Ord + Drop>(
+    sets: &mut BTreeMap<K, Members<T>>,
+    key: K,
+    x: T,
+) -> Result<(), AllocError>
+    requires { get K.cmp sets.old key ≡ None }
+    ensures ok { OnOk result ((k : K) (d : T) → has K.cmp T.cmp sets.new k d ≡ ((is_eq (K.cmp key k) && is_eq (T.cmp x d)) || has K.cmp T.cmp sets.old k d)) }
+    ensures err { OnErr result ((k : K) (d : T) → has K.cmp T.cmp sets.new k d ≡ has K.cmp T.cmp sets.old k d) }
+    ensures ordered { IsOrdered K.cmp sets.new }
 {
-    members.insert(x)?;
+    sets.insert(key, Members::one(x))?;
     Ok(())
 }
 
 /// Adds a member at a key.
-pub(crate) fn add<K: Ord + Drop, T: Ord + Drop>(
+pub(crate) fn add<K: Ord + Drop, T: Ord + Copy + Drop>(
     alloc: Global,
-    sets: &mut BTreeMap<K, BTreeSet<T>>,
+    sets: &mut BTreeMap<K, Members<T>>,
     key: K,
     x: T,
 ) -> Result<(), AllocError>
@@ -46,32 +46,16 @@ pub(crate) fn add<K: Ord + Drop, T: Ord + Drop>(
     ensures ordered { IsOrdered K.cmp sets.new }
 {
     if let Some(members) = sets.get_mut(&key) {
-        put(members, x)?;
+        members.insert(alloc, x)?;
         return Ok(());
     }
-    let mut members = BTreeSet::new(alloc);
-    put(&mut members, x)?;
-    sets.insert(key, members)?;
-    Ok(())
-}
-
-fn take<T: Ord + Drop>(members: &mut BTreeSet<T>, x: &T)
-    ensures { (d : T) → contains T.cmp members.new d ≡ (if is_eq (T.cmp x.now d) then false else contains T.cmp members.old d) }
-{
-    members.remove(x);
-}
-
-/// Whether a set has no member.
-fn is_empty<T: Ord + Copy>(members: &BTreeSet<T>) -> bool
-    ensures none { IsTrue result → (d : T) → contains T.cmp members.now d ≡ false }
-    ensures some { result ≡ false → HasMember T.cmp members.now }
-{
-    first_of(members).is_none()
+    put_first(sets, key, x)
 }
 
 /// Takes a member from a key, and tells whether it left none there.
 fn take_from<K: Ord, T: Ord + Copy + Drop>(
-    sets: &mut BTreeMap<K, BTreeSet<T>>,
+    alloc: Global,
+    sets: &mut BTreeMap<K, Members<T>>,
     key: &K,
     x: &T,
 ) -> bool
@@ -82,15 +66,15 @@ fn take_from<K: Ord, T: Ord + Copy + Drop>(
 {
     match sets.get_mut(key) {
         Some(members) => {
-            take(members, x);
-            is_empty(members)
+            members.remove(alloc, x);
+            members.is_empty()
         }
         None => false,
     }
 }
 
 /// Takes out a key, and what stands there.
-fn forget<K: Ord + Drop, T: Ord + Drop>(sets: &mut BTreeMap<K, BTreeSet<T>>, key: &K)
+fn forget<K: Ord + Drop, T: Ord + Drop>(sets: &mut BTreeMap<K, Members<T>>, key: &K)
     ensures gone { (k : K) (d : T) → has K.cmp T.cmp sets.new k d ≡ (if is_eq (K.cmp key.now k) then false else has K.cmp T.cmp sets.old k d) }
     ensures none { get K.cmp sets.new key.now ≡ None }
     ensures ordered { IsOrdered K.cmp sets.new }
@@ -98,10 +82,11 @@ fn forget<K: Ord + Drop, T: Ord + Drop>(sets: &mut BTreeMap<K, BTreeSet<T>>, key
     sets.remove(key);
 }
 
-/// Takes a member from a key. A key whose last member goes, goes with it: a set of one takes a whole
-/// tree node, and keeps it when it is empty.
+/// Takes a member from a key. A key whose last member goes, goes with it: tags that never come back
+/// would all stay.
 pub(crate) fn drop_at<K: Ord + Drop, T: Ord + Copy + Drop>(
-    sets: &mut BTreeMap<K, BTreeSet<T>>,
+    alloc: Global,
+    sets: &mut BTreeMap<K, Members<T>>,
     key: &K,
     x: &T,
 )
@@ -109,7 +94,7 @@ pub(crate) fn drop_at<K: Ord + Drop, T: Ord + Copy + Drop>(
     ensures used { IfSome (get K.cmp sets.new key.now) (HasMember T.cmp) }
     ensures ordered { IsOrdered K.cmp sets.new }
 {
-    if !take_from(sets, key, x) {
+    if !take_from(alloc, sets, key, x) {
         return;
     }
     forget(sets, key);

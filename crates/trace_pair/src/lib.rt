@@ -15,8 +15,9 @@
 //! - [`pair`]: a pair, and the two sides of one
 //! - [`rules`]: the five rules, one by one; [`scratch`]: the pairing straight from them
 //! - [`rows`], [`table`]: the pairs and the postponed messages, and the other end of each
-//! - [`groups`], [`queues`]: sets of calls, found by a few probes of an ordered map; [`couples`]: the
-//!   pairs by either name
+//! - [`one_or_many`]: a set that has no tree of its own while it has one member; [`groups`],
+//!   [`queues`]: sets of calls, found by a few probes of an ordered map; [`couples`]: the pairs by
+//!   either name
 //! - [`matched`]: the sets of an index, as one call comes or goes; [`follow`]: as a rank's calls do
 //! - [`index`]: the index
 //! - [`laws`]: what makes the rules easy to believe, as contracts of calls that do nothing
@@ -28,6 +29,7 @@ mod groups;
 mod index;
 mod laws;
 mod matched;
+mod one_or_many;
 mod pair;
 mod queues;
 mod rows;

@@ -7,17 +7,18 @@ ghost use Rattle.trace_pair.specs.Indexed.{IsFirstMessage, IsFirstReceive, name_
 ghost use Rattle.trace_pair.specs.Queues.{IsBestAmong, of_kind, had, kinds_with};
 
 use crate::groups::{add, drop_at, first_at};
+use crate::one_or_many::Members;
 use mpi_model::{Message, OpName, Receive};
 use std::alloc::{AllocError, Global};
-use std::collections::{BTreeMap, BTreeSet};
+use std::collections::BTreeMap;
 use std::marker::Model;
 
 /// A set of messages, by communicator, sender, receiver and tag; and the same ones without the tag, for a receive of any.
 #[derive(Drop)]
 pub(crate) struct Messages {
     alloc: Global,
-    tagged: BTreeMap<(u32, u32, u32, u32), BTreeSet<Message>>,
-    lanes: BTreeMap<(u32, u32, u32), BTreeSet<Message>>,
+    tagged: BTreeMap<(u32, u32, u32, u32), Members<Message>>,
+    lanes: BTreeMap<(u32, u32, u32), Members<Message>>,
 }
 
 impl Model for Messages {
@@ -63,8 +64,13 @@ impl Messages {
         match add(self.alloc, &mut self.lanes, (m.comm, m.from, m.to), m) {
             Ok(()) => Ok(()),
             Err(error) => {
-                drop_at(&mut self.tagged, &(m.comm, m.from, m.to, m.tag), &m);
-                drop_at(&mut self.lanes, &(m.comm, m.from, m.to), &m);
+                drop_at(
+                    self.alloc,
+                    &mut self.tagged,
+                    &(m.comm, m.from, m.to, m.tag),
+                    &m,
+                );
+                drop_at(self.alloc, &mut self.lanes, &(m.comm, m.from, m.to), &m);
                 Err(error)
             }
         }
@@ -73,8 +79,13 @@ impl Messages {
     pub(crate) fn remove(&mut self, m: &Message)
         ensures { DropsFrom self.old self.new m.now }
     {
-        drop_at(&mut self.tagged, &(m.comm, m.from, m.to, m.tag), m);
-        drop_at(&mut self.lanes, &(m.comm, m.from, m.to), m);
+        drop_at(
+            self.alloc,
+            &mut self.tagged,
+            &(m.comm, m.from, m.to, m.tag),
+            m,
+        );
+        drop_at(self.alloc, &mut self.lanes, &(m.comm, m.from, m.to), m);
     }
 
     /// The first message that fits a receive whose source is told.
@@ -144,7 +155,7 @@ impl Kinds {
 pub(crate) struct Receives {
     alloc: Global,
     kinds: Kinds,
-    groups: BTreeMap<(u32, u32, Option<u32>, Option<u32>), BTreeSet<Receive>>,
+    groups: BTreeMap<(u32, u32, Option<u32>, Option<u32>), Members<Receive>>,
 }
 
 impl Model for Receives {
@@ -194,7 +205,12 @@ impl Receives {
     pub(crate) fn remove(&mut self, q: &Receive)
         ensures { DropsFrom self.old self.new q.now }
     {
-        drop_at(&mut self.groups, &(q.comm, q.at, q.source, q.tag), q);
+        drop_at(
+            self.alloc,
+            &mut self.groups,
+            &(q.comm, q.at, q.source, q.tag),
+            q,
+        );
     }
 
     /// The first of the receives with this source and tag that fits the message.

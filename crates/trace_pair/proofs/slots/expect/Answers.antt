@@ -1,4 +1,4 @@
-use Rattle.std.proofs.Common.{sym, ap, ◌∙◌}
+use Rattle.std.proofs.Common.{◌∙◌}
 use Rattle.trace_pair.proofs.Slotted.{are_same, value_reached, row_rises, new_slots, new_kept}
 use Rattle.trace_pair.proofs.slots.expect.Goals as goal
 

@@ -1,4 +1,4 @@
-use Rattle.std.proofs.Common.{◌≡◌, Some, None, sym, ◌∙◌}
+use Rattle.std.proofs.Common.{sym, ◌∙◌}
 use Rattle.trace_pair.proofs.Slotted.{seen_value}
 use Rattle.trace_pair.proofs.slots.fill_slot.Goals as goal
 

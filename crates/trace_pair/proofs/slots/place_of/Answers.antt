@@ -1,6 +1,5 @@
 use Rattle.std.proofs.Common.{rules}
 use Rattle.std.proofs.lemmas.List.Sorted.{answers_always}
-use Rattle.trace_pair.specs.declared.slots.Slot.{Slot}
 use Rattle.trace_pair.proofs.Slotted.{search_found, search_missed}
 use Rattle.trace_pair.proofs.slots.place_of.Goals as goal
 

@@ -1,4 +1,4 @@
-use Rattle.std.proofs.Common.{sym, ap, ◌∙◌, cond, Some, List}
+use Rattle.std.proofs.Common.{sym, ap, ◌∙◌, cond, Some}
 use Rattle.std.specs.Prelude.{slice_set}
 use Rattle.trace_pair.proofs.Slotted.{are_same, value_reached, row_rises, row_value, new_slots, new_value, new_kept, err_kept}
 use Rattle.trace_pair.specs.Slots.{value_in}

@@ -1,11 +1,11 @@
 use Rattle.std.proofs.Common.{sym, subst, List}
 use Rattle.mpi_model.specs.declared.message.Receive.{Receive}
 use Rattle.trace_pair.specs.Groups.{members}
-use Rattle.trace_pair.specs.KeyOrders.{group_of}
+use Rattle.trace_pair.specs.KeyOrders.{receive_key_of}
 use Rattle.trace_pair.specs.Queues.{AreGrouped}
 use Rattle.trace_pair.specs.Sets.{AddsTo}
 use Rattle.trace_pair.specs.declared.queues.Kinds.{Kinds}
-use Rattle.trace_pair.proofs.Orders.{groups_total, exact_groups, receives_total, exact_receives}
+use Rattle.trace_pair.proofs.Orders.{receive_keys_total, exact_receive_keys, receives_total, exact_receives}
 use Rattle.trace_pair.proofs.Members.{adds}
 use Rattle.trace_pair.proofs.Queued.{grouped_same, grouped_more}
 use Rattle.trace_pair.proofs.queues.Receives.insert.Goals as goal
@@ -20,4 +20,4 @@ invariant_of-self-2 c = subst (λ (k : Kinds). AreGrouped k c.add.new.sets) (sym
 
 pub returns : goal.returns
 returns c = subst (λ (l : List Receive). AddsTo l (members c.add.new.sets) c.args.q) c.self.view_is
-    (adds groups_total exact_groups receives_total exact_receives c.self.inside.groups c.add.new.sets c.self.invariant.ordered c.add.ensures.ordered (group_of c.args.q) c.args.q c.in_ok-add.ensures.ok)
+    (adds receive_keys_total exact_receive_keys receives_total exact_receives c.self.inside.groups c.add.new.sets c.self.invariant.ordered c.add.ensures.ordered (receive_key_of c.args.q) c.args.q c.in_ok-add.ensures.ok)

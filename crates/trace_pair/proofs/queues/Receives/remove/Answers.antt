@@ -1,9 +1,9 @@
 use Rattle.std.proofs.Common.{subst, List}
 use Rattle.mpi_model.specs.declared.message.Receive.{Receive}
 use Rattle.trace_pair.specs.Groups.{members}
-use Rattle.trace_pair.specs.KeyOrders.{group_of}
+use Rattle.trace_pair.specs.KeyOrders.{receive_key_of}
 use Rattle.trace_pair.specs.Sets.{DropsFrom}
-use Rattle.trace_pair.proofs.Orders.{groups_total, exact_groups, receives_total, exact_receives}
+use Rattle.trace_pair.proofs.Orders.{receive_keys_total, exact_receive_keys, receives_total, exact_receives}
 use Rattle.trace_pair.proofs.Members.{drops}
 use Rattle.trace_pair.proofs.Queued.{grouped_less}
 use Rattle.trace_pair.proofs.queues.Receives.remove.Goals as goal
@@ -13,4 +13,4 @@ invariant_of-self c = grouped_less c.self.inside.kinds c.self.inside.groups c.dr
 
 pub returns : goal.returns
 returns c = subst (λ (l : List Receive). DropsFrom l (members c.drop_at.new.sets) c.args.q.now) c.self.view_is
-    (drops groups_total exact_groups receives_total exact_receives group_of c.self.inside.groups c.drop_at.new.sets c.self.invariant.ordered c.drop_at.ensures.ordered c.self.invariant.placed c.args.q.now c.drop_at.ensures.dropped)
+    (drops receive_keys_total exact_receive_keys receives_total exact_receives receive_key_of c.self.inside.groups c.drop_at.new.sets c.self.invariant.ordered c.drop_at.ensures.ordered c.self.invariant.placed c.args.q.now c.drop_at.ensures.dropped)
