@@ -1,5 +1,5 @@
 -- Events that alternate.
-use Rattle.std.proofs.Common.{◌≡◌, ◌∙◌, List, [], ◌∷◌, ◌++◌, Bool, true, false, not, refl, ap, sym, append_assoc}
+use Rattle.std.proofs.Common.{◌≡◌, ◌∙◌, List, [], ◌∷◌, ◌++◌, ◌%◌, Bool, true, false, not, refl, ap, sym, length, arith}
 use Rattle.mpi_model.specs.Times.{Times}
 use Rattle.mpi_model.specs.declared.call.Call.{Call}
 use Rattle.mpi_model.specs.declared.outcome.Outs.{Outs}
@@ -31,10 +31,17 @@ enter_more events new call stamp a o e = (
 
 -- one call more that has returned
 pub both_more : (events new : List Event) (call : Call) (enter : Times) (outs : Outs) (exit : Times) → alternate true events ≡ true → ends_open events ≡ false
-    → new ≡ (events ++ Enter call enter ∷ []) ++ Return outs exit ∷ []
+    → new ≡ events ++ Enter call enter ∷ Return outs exit ∷ []
     → (alternate true new ≡ true) × (false ≡ ends_open new)
-both_more events new call enter outs exit a o e =
-    let both : new ≡ events ++ Enter call enter ∷ Return outs exit ∷ [] = e ∙ append_assoc events (Enter call enter ∷ []) (Return outs exit ∷ []) in (
-      ap (alternate true) both ∙ alternate_more false events (Enter call enter ∷ Return outs exit ∷ []) a (ap (λ (b : Bool). alternate (not b) (Enter call enter ∷ Return outs exit ∷ [])) o),
-      sym (ap ends_open both ∙ open_more false events (Enter call enter ∷ Return outs exit ∷ [])),
-    )
+both_more events new call enter outs exit a o e = (
+  ap (alternate true) e ∙ alternate_more false events (Enter call enter ∷ Return outs exit ∷ []) a (ap (λ (b : Bool). alternate (not b) (Enter call enter ∷ Return outs exit ∷ [])) o),
+  sym (ap ends_open e ∙ open_more false events (Enter call enter ∷ Return outs exit ∷ [])),
+)
+
+-- events of which each call has returned are pairs
+pub closed_even : (events : List Event) → alternate true events ≡ true → ends_open events ≡ false → length events % 2 ≡ 0
+closed_even [] a o = refl
+closed_even (Enter c s ∷ []) a o = cc
+closed_even (Enter c s ∷ Return d t ∷ events) a o = omega (arith, closed_even events a o)
+closed_even (Enter c s ∷ Enter d t ∷ events) a o = cc
+closed_even (Return d t ∷ events) a o = cc

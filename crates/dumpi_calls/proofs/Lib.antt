@@ -7,6 +7,6 @@ pub mod Tolds
 pub mod NextCall
 pub mod Handed
 pub mod Alternating
-pub mod Cuts
+pub mod Joined
 pub mod Whole
 pub mod Facts

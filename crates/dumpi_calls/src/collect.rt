@@ -8,13 +8,13 @@ ghost use Rattle.dumpi_calls.specs.Seen.{seen};
 ghost use Rattle.trace_know.specs.Segment.{alternate, enter_place};
 ghost use Rattle.trace_know.specs.declared.segment.TheConstants.{PLACES};
 
-use crate::cutting::{cut, whole};
+use crate::parts::Parts;
 use crate::sink::CallSink;
 use mpi_model::{Call, Event, Exit, Stamp};
 use std::alloc::{AllocError, AllocFailed, Global};
 use std::marker::Model;
 use thiserror::Error;
-use trace_know::{MOST_EVENTS, PLACES, Segment, SegmentFault};
+use trace_know::{PLACES, Segment, SegmentFault};
 
 /// No memory was left for a call's events.
 #[derive(Clone, Copy, Debug, PartialEq, Eq, Error)]
@@ -36,7 +36,7 @@ impl<T: Drop> From<AllocFailed<T>> for Memory {
 /// The events of calls, in their order. They alternate: a call that comes after one that has not returned is left out.
 #[derive(Debug, Drop)]
 pub struct Collect {
-    events: Vec<Event>,
+    parts: Parts,
     is_open: bool,
 }
 
@@ -45,19 +45,20 @@ impl Model for Collect {
     ghost use Rattle.mpi_model.specs.declared.event.Event.{Event};
     ghost use Rattle.trace_know.specs.Segment.{alternate};
     ghost use Rattle.dumpi_calls.specs.Collected.{ends_open};
+    ghost use Rattle.dumpi_calls.specs.Parts.{AreParts, events_in};
 
     ghost Value = { List Event };
 
-    ghost view = { λ c. c.events.items };
+    ghost view = { λ c. events_in c.parts };
 
-    ghost invariant = { λ c. (alternate true c.events.items ≡ true) × (c.is_open ≡ ends_open c.events.items) };
+    ghost invariant = { λ c. AreParts c.parts × (alternate true (events_in c.parts) ≡ true) × (c.is_open ≡ ends_open (events_in c.parts)) };
 }
 
 // whether so many events, from a call on, have a place past the last
-fn has_places_past(first_call: u64, count: usize) -> bool
+fn has_places_past(first_call: u64, count: u64) -> bool
     ensures { IsTrue result ↔ (PLACES < enter_place first_call + count) }
 {
-    first_call.saturating_mul(2).saturating_add(count as u64) > PLACES
+    first_call.saturating_mul(2).saturating_add(count) > PLACES
 }
 
 impl Collect {
@@ -72,7 +73,7 @@ impl Collect {
         ensures { result ≡ [] }
     {
         Collect {
-            events: Vec::new(alloc),
+            parts: Parts::new(alloc),
             is_open: false,
         }
     }
@@ -84,19 +85,15 @@ impl Collect {
         ensures place { result ≡ Err Place ↔ HasPlacesPast first_call self }
         ensures err { IfErr result (λ fault. fault ≢ Place → fault ≡ NoMemory) }
     {
-        let Collect { events, .. } = self;
-        if !events.is_empty() && has_places_past(first_call, events.len()) {
+        let Collect { parts, .. } = self;
+        let count = parts.count();
+        if count == 0 {
+            return Ok(Vec::new(*parts.last.allocator()));
+        }
+        if has_places_past(first_call, count) {
             return Err(SegmentFault::Place);
         }
-        if events.is_empty() {
-            return Ok(Vec::new(*events.allocator()));
-        }
-        let segments = if events.len() <= MOST_EVENTS {
-            whole(*events.allocator(), rank, first_call, events)
-        } else {
-            cut(*events.allocator(), rank, first_call, events)
-        };
-        match segments {
+        match parts.into_segments(rank, first_call) {
             Ok(segments) => Ok(segments),
             Err(_) => Err(SegmentFault::Memory),
         }
@@ -113,14 +110,13 @@ impl Collect {
         let call = call.try_clone()?;
         match exit {
             None => {
-                self.events.push(Event::Enter(call, enter))?;
+                self.parts.push(Event::Enter(call, enter))?;
                 self.is_open = true;
             }
             Some(exit) => {
                 let outs = exit.outs.try_clone()?;
-                self.events.reserve(2)?;
-                self.events.push(Event::Enter(call, enter))?;
-                self.events.push(Event::Return(outs, exit.stamp))?;
+                self.parts
+                    .push_both(Event::Enter(call, enter), Event::Return(outs, exit.stamp))?;
             }
         }
         Ok(())

@@ -12,20 +12,20 @@
 //! - [`function`]: the functions, by their names; [`envelope`], [`outcome`]: what calls name and bring back;
 //!   [`typing`]: a call by the row of its function
 //! - [`sink`]: the callbacks; [`fault`], [`walking`]: the walk
-//! - [`collect`], [`cutting`], [`tally`]: two sinks; [`laws`]: what holds of walks over whole texts
+//! - [`collect`], over events in [`parts`], and [`tally`]: two sinks; [`laws`]: what holds of walks over whole texts
 //!
 //! Its tests are in the crate `dumpi_calls_tests`; calls that are refused, by each parameter of each function, are in
 //! `tests/functions.txt`.
 #![tactic(auto)]
 
 mod collect;
-mod cutting;
 mod envelope;
 mod fault;
 mod function;
 mod laws;
 mod outcome;
 mod parameter;
+mod parts;
 mod quick;
 mod reading;
 mod sink;

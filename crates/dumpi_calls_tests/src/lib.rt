@@ -10,6 +10,7 @@
 //! | `typing` | what each function's call says, by its parameters |
 //! | `outcomes` | what returned calls bring back |
 //! | `large` | ten thousand requests in one list |
+//! | `segments` | segments of many calls |
 //! | `show` | calls and outcomes in a short text, for the rows |
 #![tactic(auto)]
 
@@ -17,6 +18,8 @@
 mod large;
 #[cfg(test)]
 mod outcomes;
+#[cfg(test)]
+mod segments;
 #[cfg(test)]
 mod show;
 #[cfg(test)]
