@@ -5,6 +5,7 @@ use Rattle.mpi_model.specs.declared.event.Event.{Event}
 use Rattle.mpi_model.specs.declared.event.Event.TheVariants.{Enter, Return}
 use Rattle.mpi_model.specs.declared.event.Exit.{Exit}
 use Rattle.trace_know.specs.Segment.{PlacedEvents, enter_place}
+use Rattle.trace_know.specs.declared.segment.TheConstants.{MOST_EVENTS}
 use Rattle.dumpi_calls.specs.Rows.{Callback, OnSend, OnIsend, OnRecv, OnIrecv, OnSendrecv, OnWait, OnWaitall, OnWaitany, OnWaitsome, OnTest, OnCollective, OnOther}
 use Rattle.dumpi_calls.specs.Seen.{Seen}
 use Rattle.dumpi_calls.specs.declared.tally.Tally.{Tally}
@@ -43,8 +44,8 @@ placed rank first events = record { rank = rank; first_place = enter_place first
 -- A part that is cut off: it has an event, and 65,536 of them where more follow.
 pub record IsPart (part rest : List Event) : Type 0 where
   pub some : 0 < length part
-  pub most : length part ≤ 65536
-  pub full : 0 < length rest → length part ≡ 65536
+  pub most : length part ≤ MOST_EVENTS
+  pub full : 0 < length rest → length part ≡ MOST_EVENTS
 
 -- The segments of events from the Enter of a call on, cut after each 65,536: that is, after 32,768 calls.
 abbrev pub AreSegments : ℕ → ℕ → List Event → List PlacedEvents → Type 0

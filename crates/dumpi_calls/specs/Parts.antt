@@ -2,6 +2,7 @@
 use Rattle.std.specs.Prelude.{◌≡◌, ◌≤◌, ◌++◌, List, [], ◌∷◌, Vec, length}
 use Rattle.std.specs.declared.alloc.Global.{Global}
 use Rattle.mpi_model.specs.declared.event.Event.{Event}
+use Rattle.trace_know.specs.declared.segment.TheConstants.{MOST_EVENTS}
 use Rattle.dumpi_calls.specs.declared.parts.Parts.{Parts}
 
 -- the events of full parts, one after another, and then those of the last
@@ -15,9 +16,9 @@ events_in parts = joined parts.full.items parts.last.items
 -- each has the events of a full segment
 abbrev pub AreAllFull : List (Vec Event Global) → Type 0
 AreAllFull [] = Unit {0}
-AreAllFull (part ∷ full) = (length part.items ≡ 65536) × AreAllFull full
+AreAllFull (part ∷ full) = (length part.items ≡ MOST_EVENTS) × AreAllFull full
 
 -- Parts of which each can be a segment, and only the last isn't full.
 pub record AreParts (parts : Parts) : Type 0 where
   pub full : AreAllFull parts.full.items
-  pub most : length parts.last.items ≤ 65536
+  pub most : length parts.last.items ≤ MOST_EVENTS
