@@ -88,12 +88,16 @@ follows wanted (b ∷ bs) rest e =
       | inr other ↦ (let it : eqb b wanted ≡ false = other_byte b wanted other in let found : ◌≡◌ {A = Option (List ℕ)} None (Some rest) = rw it at e in cc)
     ]
 
+-- the name and the value with the byte between them
+pub its_pair : (named value : List ℕ) → byte_front 61 (word_parts named).1 ≡ Some value → named ≡ (word_parts named).0 ++ 61 ∷ value
+its_pair named value v = words_whole named ∙ ap (λ (r : List ℕ). (word_parts named).0 ++ r) (follows 61 (word_parts named).1 value v)
+
 -- the line by its parts
 line_parts : (line named value : List ℕ) → byte_front 32 (word_parts line).1 ≡ Some named → byte_front 61 (word_parts named).1 ≡ Some value
     → line ≡ (word_parts line).0 ++ (32 ∷ ((word_parts named).0 ++ 61 ∷ value))
 line_parts line named value n v =
     words_whole line ∙ ap (λ (r : List ℕ). (word_parts line).0 ++ r) (follows 32 (word_parts line).1 named n
-    ∙ ap (λ (r : List ℕ). 32 ∷ r) (words_whole named ∙ ap (λ (r : List ℕ). (word_parts named).0 ++ r) (follows 61 (word_parts named).1 value v)))
+    ∙ ap (λ (r : List ℕ). 32 ∷ r) (its_pair named value v))
 
 by_parts : (front name value : List ℕ) → list_all is_word_byte front ≡ true → list_all is_word_byte name ≡ true → 0 < length name → trimmed value ≡ value
     → parameter_of (front ++ (32 ∷ (name ++ 61 ∷ value))) ≡ Some (name, value)

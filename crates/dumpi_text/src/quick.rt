@@ -1,8 +1,8 @@
 //! Lines as dumpi2ascii writes them, each read in one pass. What these functions don't answer for is read as any line is.
 
-ghost use Rattle.std.specs.Prelude.{◌≡◌, IfSome, Some, false, true};
+ghost use Rattle.std.specs.Prelude.{◌≡◌, ◌++◌, ◌∷◌, IfSome, Some, false, true};
 ghost use Rattle.std.specs.List.{list_all};
-ghost use Rattle.dumpi_text.specs.Bytes.{carriage_return};
+ghost use Rattle.dumpi_text.specs.Bytes.{carriage_return, equals};
 ghost use Rattle.dumpi_text.specs.Parameter.{parameter_of};
 ghost use Rattle.dumpi_text.specs.Stamps.{Other, kind_of};
 ghost use Rattle.dumpi_text.specs.Words.{is_word_byte, trimmed, without_last, word_parts};
@@ -77,10 +77,11 @@ fn split_name(named: &[u8]) -> (&[u8], &[u8])
 }
 
 /// The name and the value of the parameter on a line `type name=value`, where type and name are words and nothing is to
-/// be cut off at the ends of the value.
-pub fn quick_param(line: &[u8]) -> Option<(&[u8], &[u8])>
+/// be cut off at the ends of the value, and what stands there: both with the `=` between them.
+pub fn quick_param(line: &[u8]) -> Option<(&[u8], &[u8], &[u8])>
     ensures kind { IfSome result (λ x. kind_of (trimmed (without_last carriage_return line.now)) ≡ Other line.now) }
     ensures param { IfSome result (λ x. parameter_of line.now ≡ Some (x.0.now, x.1.now)) }
+    ensures pair { IfSome result (λ x. x.2.now ≡ x.0.now ++ equals ∷ x.1.now) }
 {
     let (front, rest) = split_type(line);
     let named = strip_byte(b' ', rest)?;
@@ -90,7 +91,7 @@ pub fn quick_param(line: &[u8]) -> Option<(&[u8], &[u8])>
         return None;
     }
     if is_bare(value) {
-        Some((name, value))
+        Some((name, value, named))
     } else {
         None
     }

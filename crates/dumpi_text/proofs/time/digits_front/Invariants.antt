@@ -1,7 +1,7 @@
 use Rattle.std.proofs.Common.{◌≡◌, ◌≤◌, take, true}
 use Rattle.std.specs.List.{list_all}
 use Rattle.dumpi_text.specs.Time.{is_digit, number_of}
-use Rattle.dumpi_text.proofs.time.seconds_front.Given as goal
+use Rattle.dumpi_text.proofs.time.digits_front.Given as goal
 
 abbrev pub invariant-loop-at : goal.invariant-loop-at
 invariant-loop-at l = record {
