@@ -11,7 +11,7 @@ pub mod Partners
 pub mod Ranked
 pub mod Tabled
 pub mod Members
-pub mod FirstPut
+pub mod PutAt
 pub mod Orders
 pub mod Queued
 pub mod Twice
