@@ -7,11 +7,6 @@ invariant_of-self c =
     let stale : c.self.inside.is_stale ≡ true = search rules in
     stale_node c.self.inside.layout.now c.self.inside.know c.take-index.new.self c.take-before.new.self c.self.inside.is_stale c.self.invariant.within c.take-index.ensures.after c.take-before.ensures.after stale
 
-pub invariant_of-self-in_err-answer : goal.invariant_of-self-in_err-answer
-invariant_of-self-in_err-answer c =
-    let stale : c.self.inside.is_stale ≡ true = search rules in
-    stale_node c.self.inside.layout.now c.self.inside.know c.take-index.new.self c.take-before.new.self c.self.inside.is_stale c.self.invariant.within c.take-index.ensures.after c.take-before.ensures.after stale
-
 pub invariant_of-self-2 : goal.invariant_of-self-2
 invariant_of-self-2 c =
-    fresh_node c.self.inside.layout.now c.self.inside.know (Some c.in_ok-index.index) (Some c.in_ok-answer.answer) false c.in_ok-answer.answer c.self.invariant.within c.in_ok-index.ensures refl c.in_ok-answer.ensures
+    fresh_node c.self.inside.layout.now c.self.inside.know (Some c.in_ok-told.told.index) (Some c.in_ok-told.told.answer) false c.in_ok-told.told.answer c.self.invariant.within c.in_ok-told.ensures.index refl c.in_ok-told.ensures.answer
