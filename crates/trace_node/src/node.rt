@@ -187,8 +187,8 @@ impl<'a> Node<'a> {
         let index = self.index.take();
         let before = self.answer.take();
         let told = told_after(self.alloc, self.layout, &self.know, index, before)?;
-        self.index = Some(told.index);
-        self.answer = Some(told.answer);
+        put(&mut self.index, Some(told.index));
+        put(&mut self.answer, Some(told.answer));
         self.is_stale = false;
         Ok(())
     }
@@ -199,8 +199,8 @@ impl<'a> Node<'a> {
         ensures ok { OnOk result (self.new ≡ held self.old.layout self.old.know false) }
         ensures err { OnErr result (self.new ≡ held self.old.layout self.old.know true) }
     {
-        self.index = None;
-        self.answer = None;
+        put(&mut self.index, None);
+        put(&mut self.answer, None);
         self.is_stale = true;
         self.catch_up()
     }
@@ -265,6 +265,14 @@ impl<'a> Node<'a> {
     {
         let _ = &self.know;
     }
+}
+
+/// Puts this in place of what was kept, and lets go of that. It takes several steps, and in a node's own
+/// functions each step would name all that a node holds.
+fn put<T: Drop>(kept: &mut Option<T>, value: Option<T>)
+    ensures { kept.new ≡ value }
+{
+    *kept = value;
 }
 
 /// The index of all that is known, and the answer by it. Both are made before a node is touched: a
