@@ -6,13 +6,13 @@ ghost use Rattle.trace_cluster.specs.Meeting.{IsMore};
 
 use crate::fault::ClusterFault;
 use crate::peer::Peer;
-use mpi_model::{Device, Layout};
+use mpi_model::Layout;
 use std::alloc::Global;
 use std::net::{Net, TcpListener, TcpStream};
 use std::sync::Wait;
 use std::thread::Threads;
 use std::{io, thread};
-use trace_exchange::{ExchangeFault, lead};
+use trace_exchange::ExchangeFault;
 use trace_know::Knowledge;
 use trace_node::{Node, NodeFault};
 
@@ -35,15 +35,20 @@ fn led(
     know: Knowledge,
     stream: TcpStream,
 ) -> Result<Knowledge, ExchangeFault> {
-    let mut node = match Node::of(alloc, layout, know) {
-        Ok(node) => node,
-        Err(fault) => return Err(ExchangeFault::Merge(fault)),
-    };
-    match lead(alloc, &mut Device::new(stream), &mut node) {
+    match Node::of(alloc, layout, know) {
+        Ok(node) => led_by(alloc, stream, node),
+        Err(fault) => Err(ExchangeFault::Merge(fault)),
+    }
+}
+
+/// Leads in an exchange, and answers all that is known then.
+fn led_by<N: Peer>(alloc: Global, stream: TcpStream, node: N) -> Result<Knowledge, ExchangeFault> {
+    let mut node = node;
+    match node.lead_over(alloc, stream) {
         Ok(()) => {}
         Err(fault) => return Err(fault),
     }
-    match node.know().try_clone() {
+    match node.copy_know() {
         Ok(know) => Ok(know),
         Err(_) => Err(ExchangeFault::Merge(NodeFault::Memory)),
     }

@@ -8,7 +8,7 @@ ghost use Rattle.trace_cluster.specs.Meeting.{IsMore};
 use mpi_model::Device;
 use std::alloc::{AllocError, Global};
 use std::net::TcpStream;
-use trace_exchange::{ExchangeFault, follow};
+use trace_exchange::{ExchangeFault, follow, lead};
 use trace_know::{Knowledge, join_laws};
 use trace_node::{Node, NodeFault};
 
@@ -28,6 +28,10 @@ pub trait Peer: Drop {
         ensures more { OnOk result (IsMore (held self.old) (held self.new)) }
         ensures learned { OnOk result ((held self.new).know ≡ join (held self.old).know know.now) };
 
+    /// Leads in an exchange over a connection, and closes it.
+    fn lead_over(&mut self, alloc: Global, stream: TcpStream) -> Result<(), ExchangeFault>
+        ensures { OnOk result (IsMore (held self.old) (held self.new)) };
+
     /// Follows in an exchange over a connection, and closes it.
     fn follow_over(&mut self, alloc: Global, stream: TcpStream) -> Result<(), ExchangeFault>
         ensures { OnOk result (IsMore (held self.old) (held self.new)) };
@@ -43,6 +47,10 @@ impl<'a> Peer for Node<'a> {
     fn learn(&mut self, know: &Knowledge) -> Result<(), NodeFault> {
         join_laws();
         self.merge(know)
+    }
+
+    fn lead_over(&mut self, alloc: Global, stream: TcpStream) -> Result<(), ExchangeFault> {
+        lead(alloc, &mut Device::new(stream), self)
     }
 
     fn follow_over(&mut self, alloc: Global, stream: TcpStream) -> Result<(), ExchangeFault> {

@@ -40,7 +40,7 @@ further_below old know more above associative commutative below is =
     let both : join old know ≡ know = commutative old know ∙ below know old is in
     subst (λ (v : View). IsBelow old v) (sym (associative old know more) ∙ ap (λ v. join v more) both) (above old (join know more))
 
-nothing_told : (layout : Parts) (know : View) (index : Option (List Ops)) (answer : Option Answered) → index ≡ None → answer ≡ None → WereTold layout know index answer
+pub nothing_told : (layout : Parts) (know : View) (index : Option (List Ops)) (answer : Option Answered) → index ≡ None → answer ≡ None → WereTold layout know index answer
 nothing_told layout know index answer no_index no_answer = record {
   old = know;
   below = below_itself know;

@@ -3,16 +3,18 @@
 ghost use Rattle.std.specs.Prelude.{◌≡◌, ◌↔◌, IsTrue, IfOk, map};
 ghost use Rattle.trace_node.specs.Stopped.{stopped};
 
+use crate::answer::parts::{Matching, Reading, Waiting};
 use crate::answer::same::{has_same_calls, has_same_places, has_same_ranks};
 use crate::stuck::Stuck;
 use mpi_model::{OpName, Sends};
-use std::alloc::{AllocError, Global};
+use std::alloc::AllocError;
 use std::marker::Model;
 use trace_ops::State;
 use trace_pair::Pair;
 use trace_wait::Round;
 
 mod gather;
+mod parts;
 mod same;
 
 pub(crate) use gather::answer_of;
@@ -22,14 +24,9 @@ pub(crate) use gather::answer_of;
 pub struct Answer {
     ranks: u32,
     sends: Sends,
-    prefixes: Vec<u64>,
-    beyond: Vec<bool>,
-    conflicts: Vec<(u32, u64)>,
-    pairs: Vec<Pair>,
-    postponed: Vec<OpName>,
-    rounds: Vec<Round>,
-    states: Vec<State>,
-    stuck: Vec<Stuck>,
+    reading: Reading,
+    matching: Matching,
+    waiting: Waiting,
     foreign: u64,
 }
 
@@ -47,14 +44,14 @@ impl Model for Answer {
     ghost view = { λ a. record {
       ranks = a.ranks;
       sends = a.sends;
-      prefixes = a.prefixes.items;
-      beyond = a.beyond.items;
-      conflicts = a.conflicts.items;
-      pairs = a.pairs.items;
-      postponed = a.postponed.items;
-      rounds = a.rounds.items;
-      states = a.states.items;
-      stuck = map stopped a.stuck.items;
+      prefixes = a.reading.prefixes.items;
+      beyond = a.reading.beyond.items;
+      conflicts = a.reading.conflicts.items;
+      pairs = a.matching.pairs.items;
+      postponed = a.matching.postponed.items;
+      rounds = a.waiting.rounds.items;
+      states = a.waiting.states.items;
+      stuck = map stopped a.waiting.stuck.items;
       foreign = a.foreign;
     } };
 }
@@ -78,56 +75,56 @@ impl Answer {
     pub fn prefixes(&self) -> &[u64]
         ensures { result.now ≡ self.now.prefixes }
     {
-        &self.prefixes
+        &self.reading.prefixes
     }
 
     /// Of each rank, whether something is known past its readable prefix.
     pub fn beyond(&self) -> &[bool]
         ensures { result.now ≡ self.now.beyond }
     {
-        &self.beyond
+        &self.reading.beyond
     }
 
     /// The rank and place of each contradiction, in rising order.
     pub fn conflicts(&self) -> &[(u32, u64)]
         ensures { result.now ≡ self.now.conflicts }
     {
-        &self.conflicts
+        &self.reading.conflicts
     }
 
     /// The messages with the receives that take them, in order of the message (MPI 4.0, 3.5).
     pub fn pairs(&self) -> &[Pair]
         ensures { result.now ≡ self.now.pairs }
     {
-        &self.pairs
+        &self.matching.pairs
     }
 
     /// The messages in no pair that an untold receive fits, in their order.
     pub fn postponed(&self) -> &[OpName]
         ensures { result.now ≡ self.now.postponed }
     {
-        &self.postponed
+        &self.matching.postponed
     }
 
     /// The rounds of collective calls (MPI 4.0, 6.1), by communicator and number.
     pub fn rounds(&self) -> &[Round]
         ensures { result.now ≡ self.now.rounds }
     {
-        &self.rounds
+        &self.waiting.rounds
     }
 
     /// How each rank stands.
     pub fn states(&self) -> &[State]
         ensures { result.now ≡ self.now.states }
     {
-        &self.states
+        &self.waiting.states
     }
 
     /// The ranks that wait for ever, in rising order.
     pub fn stuck(&self) -> &[Stuck]
         ensures { map stopped result.now ≡ self.now.stuck }
     {
-        &self.stuck
+        &self.waiting.stuck
     }
 
     /// How many calls were entered that the layout doesn't know. The count stays at `u64::MAX`.
@@ -143,14 +140,9 @@ impl Answer {
         Ok(Answer {
             ranks: self.ranks,
             sends: self.sends,
-            prefixes: self.prefixes.clone()?,
-            beyond: self.beyond.clone()?,
-            conflicts: self.conflicts.clone()?,
-            pairs: self.pairs.clone()?,
-            postponed: self.postponed.clone()?,
-            rounds: self.rounds.clone()?,
-            states: self.states.clone()?,
-            stuck: copies_of(*self.stuck.allocator(), &self.stuck)?,
+            reading: self.reading.try_clone()?,
+            matching: self.matching.try_clone()?,
+            waiting: self.waiting.try_clone()?,
             foreign: self.foreign,
         })
     }
@@ -161,14 +153,4 @@ impl Answer {
     {
         has_same_ranks(self, other) && has_same_places(self, other) && has_same_calls(self, other)
     }
-}
-
-fn copies_of(alloc: Global, stuck: &[Stuck]) -> Result<Vec<Stuck>, AllocError>
-    ensures { IfOk result (λ copies. map stopped copies.items ≡ map stopped stuck.now) }
-{
-    let mut copies = Vec::with_capacity(alloc, stuck.len())?;
-    for s in stuck {
-        copies.push(s.try_clone(alloc)?)?;
-    }
-    Ok(copies)
 }

@@ -18,7 +18,8 @@
 //! [`Node::catch_up`] or [`Node::refresh`]: it loses no fact.
 //!
 //! - [`fault`]: why a segment, other knowledge or a question is refused
-//! - [`stuck`]: a stuck rank; [`answer`]: what is told; `answer::gather`: the way there
+//! - [`stuck`]: a stuck rank; [`answer`]: what is told; `answer::parts`: its parts; `answer::gather`:
+//!   the way there
 //! - [`strangers`]: whether something is known of a rank that the layout doesn't have
 //! - [`follow`]: the index of the pairs, as more is known
 //! - [`node`]: knowledge with its answer

@@ -57,16 +57,7 @@ impl<'a> Node<'a> {
     pub fn new(alloc: Global, layout: &'a Layout) -> Result<Node<'a>, AllocError>
         ensures { IfOk result (λ n. n ≡ held layout.now empty false) }
     {
-        let mut node = Node {
-            alloc,
-            layout,
-            know: Knowledge::new(alloc),
-            index: None,
-            answer: None,
-            is_stale: true,
-        };
-        node.catch_up()?;
-        Ok(node)
+        Node::knowing(alloc, layout, Knowledge::new(alloc))
     }
 
     /// A node that knows what was gathered, as one that is new and merges it, but without a copy.
@@ -79,18 +70,26 @@ impl<'a> Node<'a> {
         if has_stranger(layout, &know) {
             return Err(NodeFault::Rank);
         }
-        let mut node = Node {
+        match Node::knowing(alloc, layout, know) {
+            Ok(node) => Ok(node),
+            Err(_) => Err(NodeFault::Memory),
+        }
+    }
+
+    /// A node that knows this, with the answer to it.
+    fn knowing(alloc: Global, layout: &'a Layout, know: Knowledge) -> Result<Node<'a>, AllocError>
+        requires { IsWithin layout.now know }
+        ensures { IfOk result (λ n. n ≡ held layout.now know false) }
+    {
+        let told = told_after(alloc, layout, &know, None, None)?;
+        Ok(Node {
             alloc,
             layout,
             know,
-            index: None,
-            answer: None,
-            is_stale: true,
-        };
-        if node.catch_up().is_err() {
-            return Err(NodeFault::Memory);
-        }
-        Ok(node)
+            index: Some(told.index),
+            answer: Some(told.answer),
+            is_stale: false,
+        })
     }
 
     /// Joins the facts of the segment, and makes the answer to all that is known then. A stale node
@@ -187,10 +186,9 @@ impl<'a> Node<'a> {
         }
         let index = self.index.take();
         let before = self.answer.take();
-        let index = index_after(self.alloc, self.layout, &self.know, index, before)?;
-        let answer = answer_to(self.alloc, self.layout, &self.know, &index)?;
-        self.index = Some(index);
-        self.answer = Some(answer);
+        let told = told_after(self.alloc, self.layout, &self.know, index, before)?;
+        put(&mut self.index, Some(told.index));
+        put(&mut self.answer, Some(told.answer));
         self.is_stale = false;
         Ok(())
     }
@@ -201,8 +199,8 @@ impl<'a> Node<'a> {
         ensures ok { OnOk result (self.new ≡ held self.old.layout self.old.know false) }
         ensures err { OnErr result (self.new ≡ held self.old.layout self.old.know true) }
     {
-        self.index = None;
-        self.answer = None;
+        put(&mut self.index, None);
+        put(&mut self.answer, None);
         self.is_stale = true;
         self.catch_up()
     }
@@ -267,6 +265,39 @@ impl<'a> Node<'a> {
     {
         let _ = &self.know;
     }
+}
+
+/// Puts this in place of what was kept, and lets go of that. It takes several steps, and in a node's own
+/// functions each step would name all that a node holds.
+fn put<T: Drop>(kept: &mut Option<T>, value: Option<T>)
+    ensures { kept.new ≡ value }
+{
+    *kept = value;
+}
+
+/// The index of all that is known, and the answer by it. Both are made before a node is touched: a
+/// function is proved over all that it holds at each of its ways out, and a node holds much.
+#[derive(Drop)]
+struct Told {
+    index: PairIndex,
+    answer: Answer,
+}
+
+/// What is told of all that is known, from what was told before, where that was kept.
+fn told_after(
+    alloc: Global,
+    layout: &Layout,
+    know: &Knowledge,
+    index: Option<PairIndex>,
+    before: Option<Answer>,
+) -> Result<Told, AllocError>
+    requires { WereTold layout.now know.now index before }
+    ensures index { IfOk result (λ told. told.index ≡ all_ops layout.now know.now) }
+    ensures answer { IfOk result (λ told. IsAnswer layout.now know.now told.answer) }
+{
+    let index = index_after(alloc, layout, know, index, before)?;
+    let answer = answer_to(alloc, layout, know, &index)?;
+    Ok(Told { index, answer })
 }
 
 /// The answer to all that is known, of the index of its ops.

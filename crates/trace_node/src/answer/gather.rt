@@ -1,22 +1,25 @@
 //! From what is known to what is told of it.
 
-ghost use Rattle.std.specs.Prelude.{◌≡◌, ◌<◌, ◌^◌, IfOk, length, map};
+ghost use Rattle.std.specs.Prelude.{◌≡◌, ◌<◌, ◌^◌, ℕ, List, IfOk, length, map};
 ghost use Rattle.std.specs.Option.{option_copied, option_map};
+ghost use Rattle.trace_know.specs.Listing.{conflicts_of};
 ghost use Rattle.trace_know.specs.Prefix.{event_at};
 ghost use Rattle.trace_ops.specs.Ops.{AreOwn};
 ghost use Rattle.trace_pair.specs.Table.{table_of};
 ghost use Rattle.trace_stuck.specs.Shape.{shape};
 ghost use Rattle.trace_wait.specs.Ranks.{ops_of};
-ghost use Rattle.trace_node.specs.Answer.{IsAnswerBy, beyond_of, call_of, entry_of, foreign_of, prefixes_of, states_of, stopped_at, wait_at, wall_of};
+ghost use Rattle.trace_wait.specs.Rounds.{rounds_of};
+ghost use Rattle.trace_node.specs.Answer.{AreStuck, IsAnswerBy, beyond_of, call_of, entry_of, foreign_of, prefixes_of, states_of, stopped_at, wait_at, waits_of, wall_of};
 ghost use Rattle.trace_node.specs.Stopped.{stopped};
 
 use crate::answer::Answer;
+use crate::answer::parts::{Matching, Reading, Waiting};
 use crate::stuck::Stuck;
-use mpi_model::{Event, Layout, OpName};
+use mpi_model::{Event, Layout};
 use std::alloc::{AllocError, Global};
 use trace_know::{Cell, Knowledge};
 use trace_ops::{RankOps, State};
-use trace_pair::{Pair, PairTable};
+use trace_pair::PairTable;
 use trace_wait::{Condition, conditions, rounds, stuck};
 
 /// The readable prefix of each rank.
@@ -144,16 +147,55 @@ fn stuck_of(
     Ok(all)
 }
 
-fn pairs_of(alloc: Global, table: &PairTable) -> Result<Vec<Pair>, AllocError>
-    ensures { IfOk result (λ v. v.items ≡ table.now.pairs) }
+/// Which messages were received, and which may still be.
+fn matching_of(alloc: Global, table: &PairTable) -> Result<Matching, AllocError>
+    ensures pairs { IfOk result (λ m. m.pairs.items ≡ table.now.pairs) }
+    ensures postponed { IfOk result (λ m. m.postponed.items ≡ table.now.postponed) }
 {
-    table.pairs().to_vec(alloc)
+    Ok(Matching {
+        pairs: table.pairs().to_vec(alloc)?,
+        postponed: table.postponed().to_vec(alloc)?,
+    })
 }
 
-fn postponed_of(alloc: Global, table: &PairTable) -> Result<Vec<OpName>, AllocError>
-    ensures { IfOk result (λ v. v.items ≡ table.now.postponed) }
+/// How far the ranks can be read, and where they are contradicted.
+fn reading_of(alloc: Global, layout: &Layout, know: &Knowledge) -> Result<Reading, AllocError>
+    ensures prefixes { IfOk result (λ r. r.prefixes.items ≡ prefixes_of layout.now know.now) }
+    ensures beyond { IfOk result (λ r. r.beyond.items ≡ beyond_of layout.now know.now) }
+    ensures conflicts { IfOk result (λ r. r.conflicts.items ≡ conflicts_of know.now) }
 {
-    table.postponed().to_vec(alloc)
+    Ok(Reading {
+        prefixes: prefixes_of(alloc, layout, know)?,
+        beyond: beyond_of(alloc, layout, know)?,
+        conflicts: know.conflict_places(alloc)?,
+    })
+}
+
+/// The rounds of collective calls, how each rank stands, and which ranks wait for ever.
+fn waiting_of(
+    alloc: Global,
+    layout: &Layout,
+    know: &Knowledge,
+    ops: &[RankOps],
+    table: &PairTable,
+) -> Result<Waiting, AllocError>
+    requires few { length ops.now < 2 ^ 32 }
+    requires own { AreOwn 0 ops.now }
+    requires table { table.now ≡ table_of ops.now }
+    ensures rounds { IfOk result (λ s. s.rounds.items ≡ rounds_of layout.now.comms ops.now) }
+    ensures states { IfOk result (λ s. s.states.items ≡ states_of ops.now) }
+    ensures stuck { IfOk result (λ s. (ranks : List ℕ) × AreStuck (states_of ops.now) (waits_of layout.now ops.now) ranks × (map stopped s.stuck.items ≡ map (stopped_at know.now ops.now (waits_of layout.now ops.now)) ranks)) }
+{
+    let rounds = rounds(alloc, layout, ops)?;
+    let conditions = conditions(alloc, layout, ops, table, &rounds)?;
+    let states = states_of(alloc, ops)?;
+    let verdict = stuck(alloc, &states, &conditions)?;
+    let stuck = stuck_of(alloc, know, ops, &conditions, &verdict.stuck)?;
+    Ok(Waiting {
+        rounds,
+        states,
+        stuck,
+    })
 }
 
 /// What is told of all that is known, by the ops of the ranks and their pairs.
@@ -169,21 +211,12 @@ pub(crate) fn answer_of(
     requires table { table.now ≡ table_of ops.now }
     ensures { IfOk result (λ a. IsAnswerBy layout.now know.now ops.now a) }
 {
-    let rounds = rounds(alloc, layout, ops)?;
-    let conditions = conditions(alloc, layout, ops, table, &rounds)?;
-    let states = states_of(alloc, ops)?;
-    let verdict = stuck(alloc, &states, &conditions)?;
     Ok(Answer {
         ranks: layout.ranks(),
         sends: layout.sends(),
-        prefixes: prefixes_of(alloc, layout, know)?,
-        beyond: beyond_of(alloc, layout, know)?,
-        conflicts: know.conflict_places(alloc)?,
-        pairs: pairs_of(alloc, table)?,
-        postponed: postponed_of(alloc, table)?,
-        rounds,
-        states,
-        stuck: stuck_of(alloc, know, ops, &conditions, &verdict.stuck)?,
+        reading: reading_of(alloc, layout, know)?,
+        matching: matching_of(alloc, table)?,
+        waiting: waiting_of(alloc, layout, know, ops, table)?,
         foreign: foreign_of(ops),
     })
 }

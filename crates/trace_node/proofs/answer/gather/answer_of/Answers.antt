@@ -1,34 +1,19 @@
-use Rattle.std.proofs.Common.{◌≡◌, ◌∙◌, List, Option, map, ap, sym}
-use Rattle.std.specs.Option.{option_map}
-use Rattle.trace_stuck.specs.Shape.{Wait, shape}
+use Rattle.std.proofs.Common.{◌∙◌, ap}
 use Rattle.trace_pair.specs.Table.{Table}
-use Rattle.trace_wait.specs.Conditions.{conditions_from}
-use Rattle.trace_node.specs.Answer.{states_of, stopped_at, waits_of}
-use Rattle.trace_node.proofs.Waits.{are_stuck, shapes}
 use Rattle.trace_node.proofs.answer.gather.answer_of.Goals as goal
 
 pub returns : goal.returns
 returns c =
-    let rounds = c.deref.ensures.value ∙ c.in_ok-rounds.ensures in
-    let waits : shapes c.in_ok-conditions.conditions.items ≡ waits_of c.args.layout.now c.args.ops.now =
-    c.in_ok-conditions.ensures ∙ (λ i. conditions_from (record { layout = c.args.layout.now; ops = c.args.ops.now; pairs = (c.requires.table i).pairs; rounds = rounds i }) 0 c.args.ops.now) in
-    let conditions = ap shapes c.deref-3.ensures.value ∙ waits in
-    let told = ap shapes c.deref-4.ensures.value ∙ waits in
     record {
       ranks = c.ranks.ensures.value;
       sends = c.sends.ensures;
-      prefixes = c.in_ok-prefixes_of.ensures;
-      beyond = c.in_ok-beyond_of.ensures;
-      conflicts = c.in_ok-conflict_places.ensures;
-      pairs = c.in_ok-pairs_of.ensures ∙ ap (λ (t : Table). t.pairs) c.requires.table;
-      postponed = c.in_ok-postponed_of.ensures ∙ ap (λ (t : Table). t.postponed) c.requires.table;
-      rounds = c.in_ok-rounds.ensures;
-      states = c.in_ok-states.ensures;
-      stuck = (
-        c.in_ok-verdict.verdict.stuck.items,
-        are_stuck c.in_ok-verdict.verdict.stuck.items (states_of c.args.ops.now) c.deref-2.result.now c.deref-3.result.now (waits_of c.args.layout.now c.args.ops.now)
-            (c.deref-2.ensures.value ∙ c.in_ok-states.ensures) conditions c.in_ok-verdict.ensures.rising c.in_ok-verdict.ensures.stuck,
-        c.in_ok-stuck_of.ensures ∙ (λ i. map (stopped_at c.args.know.now c.args.ops.now (told i)) (c.deref-5.ensures.value i)),
-      );
+      prefixes = c.in_ok-reading_of.ensures.prefixes;
+      beyond = c.in_ok-reading_of.ensures.beyond;
+      conflicts = c.in_ok-reading_of.ensures.conflicts;
+      pairs = c.in_ok-matching_of.ensures.pairs ∙ ap (λ (t : Table). t.pairs) c.requires.table;
+      postponed = c.in_ok-matching_of.ensures.postponed ∙ ap (λ (t : Table). t.postponed) c.requires.table;
+      rounds = c.in_ok-waiting_of.ensures.rounds;
+      states = c.in_ok-waiting_of.ensures.states;
+      stuck = c.in_ok-waiting_of.ensures.stuck;
       foreign = c.foreign_of.ensures;
     }

@@ -1,0 +1,87 @@
+//! The parts of an answer.
+//!
+//! A function that makes or copies an answer lets go, at each of its ways out, of all that it has made
+//! until then, and is proved over that: so an answer is made, copied and kept in parts.
+
+ghost use Rattle.std.specs.Prelude.{◌≡◌, IfOk, map};
+ghost use Rattle.trace_node.specs.Stopped.{stopped};
+
+use crate::stuck::Stuck;
+use mpi_model::OpName;
+use std::alloc::{AllocError, Global};
+use trace_ops::State;
+use trace_pair::Pair;
+use trace_wait::Round;
+
+/// How far the ranks can be read, and where they are contradicted.
+#[derive(Debug, Drop)]
+pub(crate) struct Reading {
+    pub prefixes: Vec<u64>,
+    pub beyond: Vec<bool>,
+    pub conflicts: Vec<(u32, u64)>,
+}
+
+impl Reading {
+    pub(crate) fn try_clone(&self) -> Result<Reading, AllocError>
+        ensures prefixes { IfOk result (λ copy. copy.prefixes.items ≡ self.now.prefixes.items) }
+        ensures beyond { IfOk result (λ copy. copy.beyond.items ≡ self.now.beyond.items) }
+        ensures conflicts { IfOk result (λ copy. copy.conflicts.items ≡ self.now.conflicts.items) }
+    {
+        Ok(Reading {
+            prefixes: self.prefixes.clone()?,
+            beyond: self.beyond.clone()?,
+            conflicts: self.conflicts.clone()?,
+        })
+    }
+}
+
+/// Which messages were received, and which may still be.
+#[derive(Debug, Drop)]
+pub(crate) struct Matching {
+    pub pairs: Vec<Pair>,
+    pub postponed: Vec<OpName>,
+}
+
+impl Matching {
+    pub(crate) fn try_clone(&self) -> Result<Matching, AllocError>
+        ensures pairs { IfOk result (λ copy. copy.pairs.items ≡ self.now.pairs.items) }
+        ensures postponed { IfOk result (λ copy. copy.postponed.items ≡ self.now.postponed.items) }
+    {
+        Ok(Matching {
+            pairs: self.pairs.clone()?,
+            postponed: self.postponed.clone()?,
+        })
+    }
+}
+
+/// The rounds of collective calls, how each rank stands, and which ranks wait for ever.
+#[derive(Debug, Drop)]
+pub(crate) struct Waiting {
+    pub rounds: Vec<Round>,
+    pub states: Vec<State>,
+    pub stuck: Vec<Stuck>,
+}
+
+impl Waiting {
+    pub(crate) fn try_clone(&self) -> Result<Waiting, AllocError>
+        ensures rounds { IfOk result (λ copy. copy.rounds.items ≡ self.now.rounds.items) }
+        ensures states { IfOk result (λ copy. copy.states.items ≡ self.now.states.items) }
+        ensures stuck { IfOk result (λ copy. map stopped copy.stuck.items ≡ map stopped self.now.stuck.items) }
+    {
+        Ok(Waiting {
+            rounds: self.rounds.clone()?,
+            states: self.states.clone()?,
+            stuck: copies_of(*self.stuck.allocator(), &self.stuck)?,
+        })
+    }
+}
+
+fn copies_of(alloc: Global, stuck: &[Stuck]) -> Result<Vec<Stuck>, AllocError>
+    ensures { IfOk result (λ copies. map stopped copies.items ≡ map stopped stuck.now) }
+{
+    let mut copies = Vec::with_capacity(alloc, stuck.len())?;
+    for s in stuck {
+        copies.push(s.try_clone(alloc)?)?;
+    }
+    Ok(copies)
+}
