@@ -9,6 +9,7 @@ ghost use Rattle.command_runs.specs.Replays.{AppendsFront};
 ghost use Rattle.command_runs.specs.Texts.{is_share};
 ghost use Rattle.command_runs.specs.Verbs.{BreaksOff};
 
+use crate::answerer::Answerer;
 use crate::fault::RunFault;
 use crate::input::{layout_at, manifest_at};
 use crate::opener::Opener;
@@ -55,11 +56,11 @@ pub fn run_cluster<
         Ok(layout) => layout,
         Err(fault) => return Err(fault),
     };
-    let (one, other) = match nodes_with(rt, alloc, &layout, manifest_name, files) {
+    let nodes = match nodes_with(rt, alloc, &layout, manifest_name, files) {
         Ok(nodes) => nodes,
         Err(fault) => return Err(fault),
     };
-    match write_nodes(&one, &other, out) {
+    match write_nodes(nodes, out) {
         Ok(()) => Ok(true),
         Err(_) => Err(RunFault::Write),
     }
@@ -187,19 +188,20 @@ fn of_wire(fault: WireFault) -> RunFault
     }
 }
 
-// Writes what two nodes with their answers say.
-fn write_nodes<W: Write>(one: &Node, other: &Node, out: &mut W) -> Result<(), Failed>
-    requires one { one.now.is_stale ≡ false }
-    requires other { other.now.is_stale ≡ false }
-    ensures ok { OnOk result ((text : List ℕ) × SayBoth one.now other.now text × Appends (W.written out.old) (W.written out.new) text) }
-    ensures err { OnErr result ((text : List ℕ) × SayBoth one.now other.now text × AppendsFront (W.written out.old) (W.written out.new) text) }
+// Writes what two nodes with their answers say, and lets go of them.
+fn write_nodes<N: Answerer, W: Write>(nodes: (N, N), out: &mut W) -> Result<(), Failed>
+    requires one { (N.held nodes.0).is_stale ≡ false }
+    requires other { (N.held nodes.1).is_stale ≡ false }
+    ensures ok { OnOk result ((text : List ℕ) × SayBoth (N.held nodes.0) (N.held nodes.1) text × Appends (W.written out.old) (W.written out.new) text) }
+    ensures err { OnErr result ((text : List ℕ) × SayBoth (N.held nodes.0) (N.held nodes.1) text × AppendsFront (W.written out.old) (W.written out.new) text) }
     ensures failed { OnErr result (HasFailed (W.failures out.old) (W.failures out.new)) }
 {
+    let (one, other) = nodes;
     // (a node that comes of an exchange has its answer)
-    let Ok(first) = one.answer() else {
+    let Ok(first) = one.told() else {
         unreachable!()
     };
-    let Ok(second) = other.answer() else {
+    let Ok(second) = other.told() else {
         unreachable!()
     };
     write_both(first, second, out)

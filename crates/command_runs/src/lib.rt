@@ -21,6 +21,7 @@
 //!   [`terminal`]: what a person then sees
 //! - [`schedule`]: the steps that a manifest's schedule stands for; [`replay`]: their run, and the reports
 //!   of the nodes
+//! - [`answerer`]: a node as those know it who write what it tells
 //! - [`texts`]: the texts of a cluster; [`cluster`]: its run, and the reports of both nodes
 //! - [`run`]: a verb over its files; [`fault`]: why it is refused, and the line that says so
 //! - [`ending`]: from words to a status and what standard error shows
@@ -29,6 +30,7 @@
 //! program runs.
 #![tactic(auto)]
 
+mod answerer;
 mod cluster;
 mod ending;
 mod fault;

@@ -1,7 +1,11 @@
 //! A run of a verb over the files that it names.
 
-ghost use Rattle.std.specs.Prelude.{◌≡◌, ◌≢◌, ◌⊎◌, ℕ, true, IfErr, IfOk, List, OnOk};
+ghost use Rattle.std.specs.Prelude.{◌≡◌, ◌≢◌, ◌⊎◌, ℕ, false, true, IfErr, IfOk, List, OnErr, OnOk};
 ghost use Rattle.std.specs.Io.KnownBytes.{Appends, Keeps};
+ghost use Rattle.mpi_model.specs.Failures.{HasFailed};
+ghost use Rattle.trace_node.specs.Answer.{Answered, IsAnswer};
+ghost use Rattle.trace_report.specs.Report.{report_text};
+ghost use Rattle.command_runs.specs.Replays.{AppendsFront};
 ghost use Rattle.command_runs.specs.Runs.{IsReportOf};
 ghost use Rattle.dumpi_text.specs.Failing.{Fails};
 ghost use Rattle.command_runs.specs.Files.{NamesFailed, NamesUnreadable};
@@ -10,6 +14,7 @@ ghost use Rattle.command_runs.specs.Verbs.{BreaksOff, IsOutputOf, RefusesVerb};
 ghost use Rattle.command_runs.specs.Nodes.{IsNodeOf};
 ghost use Rattle.command_runs.specs.Refusals.{RefusesNode, RefusesRun};
 
+use crate::answerer::Answerer;
 use crate::fault::RunFault;
 use crate::input::{layout_at, manifest_at};
 use crate::knowing::know_of;
@@ -17,7 +22,7 @@ use crate::opener::Opener;
 use crate::replay::replay_with;
 use crate::watch::Watcher;
 use command_line::Verb;
-use mpi_model::{Layout, Write};
+use mpi_model::{Failed, Layout, Write};
 use std::alloc::Global;
 use trace_node::{Node, NodeFault};
 use trace_report::write_report;
@@ -75,13 +80,26 @@ fn report_with<O: Opener, V: Watcher, W: Write>(
         Ok(node) => node,
         Err(fault) => return Err(fault),
     };
+    match write_told(node, out) {
+        Ok(()) => Ok(true),
+        Err(_) => Err(RunFault::Write),
+    }
+}
+
+// Writes the report of a node with its answer, and lets go of it.
+fn write_told<N: Answerer, W: Write>(node: N, out: &mut W) -> Result<(), Failed>
+    requires fresh { (N.held node).is_stale ≡ false }
+    ensures ok { OnOk result ((answer : Answered) × IsAnswer (N.held node).layout (N.held node).know answer × Appends (W.written out.old) (W.written out.new) (report_text answer)) }
+    ensures err { OnErr result ((answer : Answered) × IsAnswer (N.held node).layout (N.held node).know answer × AppendsFront (W.written out.old) (W.written out.new) (report_text answer)) }
+    ensures failed { OnErr result (HasFailed (W.failures out.old) (W.failures out.new)) }
+{
     // (a new node isn't stale)
-    let Ok(answer) = node.answer() else {
+    let Ok(answer) = node.told() else {
         unreachable!()
     };
     match write_report(answer, out) {
-        Ok(_) => Ok(true),
-        Err(_) => Err(RunFault::Write),
+        Ok(_) => Ok(()),
+        Err(_) => Err(Failed),
     }
 }
 

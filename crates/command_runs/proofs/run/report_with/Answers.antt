@@ -1,4 +1,4 @@
-use Rattle.std.proofs.Common.{arith, inl, inr, refl}
+use Rattle.std.proofs.Common.{inl, inr, refl}
 use Rattle.trace_report.specs.Report.{report_text}
 use Rattle.command_runs.specs.Nodes.{IsNodeOf}
 use Rattle.command_runs.specs.Refusals.{RefusesNode}
@@ -24,18 +24,18 @@ returns-in-Err-node_with-clause-broken_off g c =
     λ e. absurd (no_writing file c.args.layout_name.now c.args.manifest_name.now c.in-Err-node_with.fault _
     (node_refused file c.in-Ok.layout c.args.layout_name.now c.args.manifest_name.now c.in-Err-node_with.fault c.in-Ok.ensures.ok refuses) refl e)
 
-pub returns-in-Ok-write_report-clause-report : goal.returns-in-Ok-write_report-clause-report
-returns-in-Ok-write_report-clause-report g c =
+pub returns-in-Ok-write_told-clause-report : goal.returns-in-Ok-write_told-clause-report
+returns-in-Ok-write_told-clause-report g c =
     let file = g.O.Opener.file c.args.files.now in
     let of : IsNodeOf file c.in-Ok.layout c.args.manifest_name.now c.in-Ok-node_with.node = rw c.layout_at.ensures.same at c.in-Ok-node_with.ensures.ok in
-    let is = reported file c.args.layout_name.now c.args.manifest_name.now c.in-Ok.layout c.in-Ok-node_with.node c.in-Ok-answer.answer.now c.in-Ok.ensures.ok of c.in-Ok-answer.ensures.ok in
-    (report_text c.in-Ok-answer.answer.now, is, c.in-Ok-write_report.ensures.ok)
+    let wrote = c.in-Ok-write_told.ensures.ok in
+    let is = reported file c.args.layout_name.now c.args.manifest_name.now c.in-Ok.layout c.in-Ok-node_with.node wrote.0 c.in-Ok.ensures.ok of wrote.1 in
+    (report_text wrote.0, is, wrote.2)
 
 pub returns-clause-broken_off : goal.returns-clause-broken_off
 returns-clause-broken_off g c =
     let file = g.O.Opener.file c.args.files.now in
     let of : IsNodeOf file c.in-Ok.layout c.args.manifest_name.now c.in-Ok-node_with.node = rw c.layout_at.ensures.same at c.in-Ok-node_with.ensures.ok in
-    let is = reported file c.args.layout_name.now c.args.manifest_name.now c.in-Ok.layout c.in-Ok-node_with.node c.in-Ok-answer.answer.now c.in-Ok.ensures.ok of c.in-Ok-answer.ensures.ok in
-    let front = c.in-Err-write_report.ensures.err in
-    let once = c.in-Err-write_report.ensures.failures.1 in
-    λ _. (report_text c.in-Ok-answer.answer.now, is, (front.0, front.1, front.3), omega (arith, once))
+    let wrote = c.in-Err-write_told.ensures.err in
+    let is = reported file c.args.layout_name.now c.args.manifest_name.now c.in-Ok.layout c.in-Ok-node_with.node wrote.0 c.in-Ok.ensures.ok of wrote.1 in
+    λ _. (report_text wrote.0, is, wrote.2, c.in-Err-write_told.ensures.failed)

@@ -1,0 +1,28 @@
+//! A node as those know it who write what it tells.
+
+ghost use Rattle.std.specs.Prelude.{◌↔◌, IsTrue, IfOk, IsErr};
+ghost use Rattle.trace_node.specs.Answer.{IsAnswer};
+ghost use Rattle.trace_node.specs.Node.{Held};
+
+use trace_node::{Answer, Node, Stale};
+
+/// One who may have an answer. Whoever lets go of a node once its answer is written knows it by this
+/// trait alone: a function that owns nodes is proved over all that a node holds, at each of its ways
+/// out.
+pub(crate) trait Answerer: Drop {
+    /// What its node holds.
+    ghost held: { Self → Held };
+
+    /// The answer to all that its node knows.
+    fn told(&self) -> Result<&Answer, Stale>
+        ensures ok { IfOk result (λ a. IsAnswer (held self.now).layout (held self.now).know a.now) }
+        ensures stale { IsErr result ↔ IsTrue (held self.now).is_stale };
+}
+
+impl<'a> Answerer for Node<'a> {
+    ghost held = { λ n. n };
+
+    fn told(&self) -> Result<&Answer, Stale> {
+        self.answer()
+    }
+}
