@@ -1,5 +1,5 @@
 -- The ops of one rank among those of all.
-use Rattle.std.proofs.Common.{subst, ◌≡◌, ℕ, zero, suc, ◌+◌, ◌<◌, ◌≤◌, List, [], ◌∷◌, ◌++◌, ⊎_elim, sym, refl, ◌∙◌, ap, arith, append_assoc, length, take, drop, get_or, set, None}
+use Rattle.std.proofs.Common.{subst, ◌≡◌, ℕ, zero, suc, ◌+◌, ◌<◌, ◌≤◌, List, [], ◌∷◌, ◌++◌, ⊎_elim, sym, refl, ◌∙◌, ap, arith, append_assoc, length, take, drop, get_or, set}
 use Rattle.std.specs.List.{flat_map}
 use Rattle.std.proofs.lemmas.List.{append-nil, take_more, flat_map_more}
 use Rattle.mpi_model.specs.declared.message.Message.{Message}
@@ -8,8 +8,8 @@ use Rattle.trace_ops.specs.Ops.{Ops, no_ops, IsOwn, AreOwn}
 use Rattle.trace_ops.specs.Order.{Has}
 use Rattle.trace_pair.specs.Calls.{between, IsSequence, IsPosting}
 use Rattle.trace_pair.specs.Followed.{Indexes, Follows}
-use Rattle.trace_pair.specs.Kept.{IsChanging, IsKept}
-use Rattle.trace_pair.specs.Table.{pairs_of, fresh, Table, table_of, postponed_of, sends_of, receives_of}
+use Rattle.trace_pair.specs.Kept.{IsKept}
+use Rattle.trace_pair.specs.Table.{fresh, sends_of, receives_of}
 use Rattle.trace_pair.specs.declared.matched.Matched.{Matched}
 use Rattle.trace_pair.proofs.Ranks.{has_either}
 
@@ -85,25 +85,15 @@ is_posting os i n a o = record {
   apart_after = λ m k h j e. let x = above (λ o. o.receives) (λ m. m.at) (λ r o m w. w.posted_at m) os 0 i m a h in let y = o.posted_at k j in omega arith;
 }
 
-abbrev made : List Message → List Receive → Table
-made ms qs = record { pairs = pairs_of ms qs; postponed = postponed_of ms qs }
-
 -- ranks without calls
-pub kept_fresh : (held : List Ops) (n : ℕ) (state : Matched) (table : Table) → held ≡ fresh n → Indexes [] [] state → table ≡ table_of [] → IsKept held state table
-kept_fresh held n state table e x t =
+pub kept_fresh : (held : List Ops) (n : ℕ) (state : Matched) → held ≡ fresh n → Indexes [] [] state → IsKept held state
+kept_fresh held n state e x =
     let s : [] ≡ sends_of (fresh n) = sym (fresh_part (λ o. o.sends) refl n) in
     let r : [] ≡ receives_of (fresh n) = sym (fresh_part (λ o. o.receives) refl n) in
-    let empty : IsKept [] state table = record { own = tt; followed = x; tabled = t } in
-    subst (λ (h : List Ops). IsKept h state table) (sym e) (record {
+    subst (λ (h : List Ops). IsKept h state) (sym e) (record {
       own = own_fresh n 0;
       followed = subst (λ (ms : List Message). Indexes ms (receives_of (fresh n)) state) s (subst (λ (qs : List Receive). Indexes [] qs state) r x);
-      tabled = t ∙ ap (λ ms. made ms []) s ∙ ap (λ qs. made (sends_of (fresh n)) qs) r;
     })
-
-pub changing_fresh : (held : List Ops) (n : ℕ) (state : Matched) (table : Table) → held ≡ fresh n → Indexes [] [] state → table ≡ table_of [] → IsChanging held state table None
-changing_fresh held n state table e x t =
-    let kept = kept_fresh held n state table e x t in
-    record { own = kept.own; followed = kept.followed; tabled = kept.tabled; marked = tt }
 
 -- the state follows the calls of a rank, wherever they stand among those of the others
 abbrev Moves : Ops → Ops → Matched → Matched → Type 0

@@ -1,15 +1,11 @@
 -- What ranks without a mark still have of the pairs from before.
-use Rattle.std.proofs.Common.{subst, ◌≡◌, ℕ, suc, ◌<◌, Bool, false, List, [], ◌++◌, ⊎_elim, sym, refl, ◌∙◌, ap, arith, length, take, drop, get_or, set, Option, Some, None}
-use Rattle.std.specs.Prelude.{IfSome, Vec, is_none}
-use Rattle.std.specs.declared.alloc.Global.{Global}
-use Rattle.std.specs.List.{flat_map}
+use Rattle.std.proofs.Common.{subst, ◌≡◌, ℕ, Bool, false, List, [], sym, refl, ◌∙◌, ap, Option, Some, None}
+use Rattle.std.specs.Prelude.{is_none}
 use Rattle.std.specs.Option.{option_map}
 use Rattle.mpi_model.specs.declared.message.Message.{Message}
 use Rattle.mpi_model.specs.declared.message.Receive.{Receive}
-use Rattle.trace_ops.specs.Ops.{Ops, no_ops, IsOwn, AreOwn}
+use Rattle.trace_ops.specs.Ops.{Ops, AreOwn}
 use Rattle.trace_ops.specs.Order.{Has}
-use Rattle.trace_pair.specs.Kept.{IsChanging}
-use Rattle.trace_pair.specs.declared.matched.Matched.{Matched}
 use Rattle.trace_pair.specs.Pairing.{paired, receive_of}
 use Rattle.trace_pair.specs.Searched.{ArePairs}
 use Rattle.trace_pair.specs.Since.{is_marked, pair_named, StillPaired, WerePairs}
@@ -21,8 +17,6 @@ use Rattle.trace_pair.proofs.Local.{SameBefore, one_rank, pairs_are_local}
 use Rattle.trace_pair.proofs.Obeyed.{pair_obeys}
 use Rattle.trace_pair.proofs.Owned.{own_calls, all_sends_rise}
 use Rattle.trace_pair.proofs.Partners.{receive_is_of}
-use Rattle.trace_pair.proofs.Ranked.{split, split_set, own_at}
-use Rattle.trace_pair.proofs.Ranks.{has_left, has_right, has_either}
 use Rattle.trace_pair.proofs.Searched.{find_is, find_none, pairs_are}
 use Rattle.trace_pair.proofs.Steps.{one_sender_rank}
 
@@ -100,67 +94,6 @@ none_were t held e = record {
   receives = λ q u i. absurd i;
   receives_back = λ q u i. absurd (cc);
 }
-
--- the pairs of the held ops themselves
-pub pairs_were : (marks : List Bool) (t : Table) (held : List Ops) → AreOwn 0 held → t ≡ table_of held → WerePairs marks t.pairs held
-pairs_were marks t held own e = record {
-  before = held;
-  own = own;
-  were = ap (λ (x : Table). x.pairs) e;
-  sends = λ m u i. i;
-  sends_back = λ m u i. i;
-  receives = λ q u i. i;
-  receives_back = λ q u i. i;
-}
-
--- a rank's ops are new ones: the calls of the others stay
-module _ {X : Type 0} (part : Ops → List X) (rank : X → ℕ) (owned : (r : ℕ) (o : Ops) (x : X) → IsOwn r o → Has (part o) x → rank x ≡ r) where
-  stays_there : (os : List Ops) (i : ℕ) (n : Ops) → i < length os → AreOwn 0 os → (x : X) → (rank x ≡ i → ⊥) → Has (flat_map part os) x → Has (flat_map part (set os i n)) x
-  stays_there os i n lt own x other h =
-      let a = flat_map part (take i os) in
-      let b = flat_map part (drop (suc i) os) in
-      let d = get_or os i no_ops in
-      subst (λ (l : List X). Has l x) (sym (split_set part os i n lt))
-      (⊎_elim
-      (λ (j : Has (a ++ part d) x). has_left (a ++ part n) b x (⊎_elim (λ (k : Has a x). has_left a (part n) x k)
-      (λ (k : Has (part d) x). absurd (other (owned i d x (subst (λ (r : ℕ). IsOwn r d) (omega arith) (own_at os 0 i no_ops lt own)) k))) (has_either a (part d) x j)))
-      (λ (j : Has b x). has_right (a ++ part n) b x j)
-      (has_either (a ++ part d) b x (subst (λ (l : List X). Has l x) (split part os i no_ops lt) h)))
-
-  was_there : (os : List Ops) (i : ℕ) (n : Ops) → i < length os → IsOwn i n → (x : X) → (rank x ≡ i → ⊥) → Has (flat_map part (set os i n)) x → Has (flat_map part os) x
-  was_there os i n lt own x other h =
-      let a = flat_map part (take i os) in
-      let b = flat_map part (drop (suc i) os) in
-      let d = get_or os i no_ops in
-      subst (λ (l : List X). Has l x) (sym (split part os i no_ops lt))
-      (⊎_elim
-      (λ (j : Has (a ++ part n) x). has_left (a ++ part d) b x (⊎_elim (λ (k : Has a x). has_left a (part d) x k)
-      (λ (k : Has (part n) x). absurd (other (owned i n x own k))) (has_either a (part n) x j)))
-      (λ (j : Has b x). has_right (a ++ part d) b x j)
-      (has_either (a ++ part n) b x (subst (λ (l : List X). Has l x) (split_set part os i n lt) h)))
-
--- Marks that spare only ranks that others spared, and not this one.
-abbrev pub Spares : List Bool → List Bool → ℕ → Type 0
-Spares new old rank = (r : ℕ) → is_marked new r ≡ false → (r ≡ rank → ⊥) × (is_marked old r ≡ false)
-
-pub were_set : (old new : List Bool) (pairs : List Pair) (held : List Ops) (rank : ℕ) (n : Ops) → rank < length held → AreOwn 0 held → IsOwn rank n → Spares new old rank → WerePairs old pairs held → WerePairs new pairs (set held rank n)
-were_set old new pairs held rank n lt own own_new spares w = record {
-  before = w.before;
-  own = w.own;
-  were = w.were;
-  sends = λ m u i. let s = spares m.from u in stays_there (λ o. o.sends) (λ m. m.from) (λ r o m x. x.sent_from m) held rank n lt own m s.0 (w.sends m s.1 i);
-  sends_back = λ m u i. let s = spares m.from u in w.sends_back m s.1 (was_there (λ o. o.sends) (λ m. m.from) (λ r o m x. x.sent_from m) held rank n lt own_new m s.0 i);
-  receives = λ q u i. let s = spares q.at u in stays_there (λ o. o.receives) (λ q. q.at) (λ r o q x. x.posted_at q) held rank n lt own q s.0 (w.receives q s.1 i);
-  receives_back = λ q u i. let s = spares q.at u in w.receives_back q s.1 (was_there (λ o. o.receives) (λ q. q.at) (λ r o q x. x.posted_at q) held rank n lt own_new q s.0 i);
-}
-
--- once more ranks are marked, the table is of ops that differ at those
-pub marked_set : (marks : Option (Vec Bool Global)) (kept new : List Bool) (held : List Ops) (state : Matched) (table : Table) (rank : ℕ) (n : Ops) → rank < length held → IsOwn rank n →
-    IsChanging held state table marks → IfSome marks (λ old. kept ≡ old.items) → Spares new kept rank → WerePairs new table.pairs (set held rank n)
-marked_set None kept new held state table rank n lt own c e spares =
-    were_set kept new table.pairs held rank n lt c.own own spares (pairs_were kept table held c.own c.tabled)
-marked_set (Some old) kept new held state table rank n lt own c e spares =
-    were_set kept new table.pairs held rank n lt c.own own spares (subst (λ (l : List Bool). WerePairs l table.pairs held) (sym e) c.marked)
 
 -- what a row says of the receive
 pub no_receive : (m : Message) (o : Option Receive) → None ≡ option_map (pair_of m) o → None ≡ o

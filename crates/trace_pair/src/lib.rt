@@ -6,11 +6,10 @@
 //! and of [`PairIndex::pairs`].
 //!
 //! [`pair_all`] follows the rules closely and is slow: for large runs take [`PairIndex::of_all`],
-//! which pairs n calls in n log n and whose contract is the same. The index follows the ranks as
-//! they grow and are cut back; one step costs in proportion to what is new, one pass over that
-//! rank's calls, and one over all messages, which takes over the pairs of the other ranks and looks
-//! only for those of that rank. Where several ranks change, [`PairIndex::change`] takes that pass
-//! once for all of them.
+//! which takes n calls in n log n; its [`PairIndex::pairs`] has the same contract. The index follows
+//! the ranks as they grow and are cut back; one step costs in proportion to what is new, and one pass
+//! over that rank's calls. It keeps no table: each call of `pairs` makes one, by a pass over all
+//! messages.
 //!
 //! - [`pair`]: a pair, and the two sides of one
 //! - [`rules`]: the five rules, one by one; [`scratch`]: the pairing straight from them
@@ -38,7 +37,7 @@ mod scratch;
 mod slots;
 mod table;
 
-pub use index::{IndexChange, PairIndex};
+pub use index::PairIndex;
 pub use laws::{pairs_are_certain, pairs_are_the_rules, worked_runs};
 pub use pair::{Pair, Side};
 pub use scratch::pair_all;

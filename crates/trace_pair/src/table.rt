@@ -93,6 +93,14 @@ impl PairTable {
         &self.rows.postponed
     }
 
+    /// The pairs and the postponed messages, moved out.
+    pub fn into_rows(self) -> (Vec<Pair>, Vec<OpName>)
+        ensures pairs { result.0.items ≡ self.pairs }
+        ensures postponed { result.1.items ≡ self.postponed }
+    {
+        (self.rows.pairs, self.rows.postponed)
+    }
+
     /// The other end of the pair of a send, or of a receive, if it is in one; found by halving.
     pub fn partner(&self, name: OpName, side: Side) -> Option<OpName>
         ensures { result ≡ partner_in side self.now.pairs name }
