@@ -23,4 +23,3 @@ pub mod Sure
 pub mod Names
 pub mod Owned
 pub mod Searched
-pub mod Since

@@ -2,7 +2,6 @@ pub mod Places
 pub mod Pairing
 pub mod Matching
 pub mod Table
-pub mod Since
 pub mod Searched
 pub mod Certainty
 pub mod Scratch

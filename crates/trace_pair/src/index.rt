@@ -93,13 +93,7 @@ impl PairIndex {
         ensures only { AreAllTold self.now → IfOk result (λ t. AreTheOnlyLegal self.now t.pairs) }
     {
         let alloc = *self.held.allocator();
-        let table = PairTable::of_held(
-            alloc,
-            &self.state,
-            &self.held,
-            &PairTable::empty(alloc),
-            &[],
-        )?;
+        let table = PairTable::of_held(alloc, &self.state, &self.held)?;
         Ok(table)
     }
 

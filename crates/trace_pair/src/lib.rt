@@ -13,7 +13,8 @@
 //!
 //! - [`pair`]: a pair, and the two sides of one
 //! - [`rules`]: the five rules, one by one; [`scratch`]: the pairing straight from them
-//! - [`rows`], [`table`]: the pairs and the postponed messages, and the other end of each
+//! - [`rows`], [`near`], [`table`]: the pairs and the postponed messages, their order by the receive,
+//!   and the other end of each
 //! - [`one_or_many`]: a set that has no tree of its own while it has one member; [`groups`],
 //!   [`queues`]: sets of calls, found by a few probes of an ordered map; [`couples`]: the pairs by
 //!   either name
@@ -28,6 +29,7 @@ mod groups;
 mod index;
 mod laws;
 mod matched;
+mod near;
 mod one_or_many;
 mod pair;
 mod queues;

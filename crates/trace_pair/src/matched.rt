@@ -62,14 +62,20 @@ impl Matched {
         Ok(())
     }
 
-    /// The receive that takes the held message.
-    pub(crate) fn partner_of(&self, m: &Message) -> Option<Receive>
+    /// The receive that takes the held message. The next message of its sender is found without a
+    /// search if it is asked for with the same `next`.
+    pub(crate) fn partner_of(&self, next: &mut usize, m: &Message) -> Option<Receive>
         ensures { (ms : List Message) (qs : List Receive) → Indexes ms qs self.now → Has ms m.now → result ≡ receive_of ms qs m.now }
     {
-        match self.couples.of_message(m) {
+        match self.couples.of_message(next, m) {
             Some(q) => Some(q),
             None => None,
         }
+    }
+
+    /// The message that the receive takes, if it is held; `next` likewise for the receives of its rank.
+    pub(crate) fn message_of(&self, next: &mut usize, q: &Receive) -> Option<Message> {
+        self.couples.of_receive(next, q)
     }
 
     /// Whether an untold receive fits the message.
@@ -156,7 +162,8 @@ fn push_receive(state: &mut Matched, q: Receive) -> Result<(), AllocError>
 pub(crate) fn pop_message(state: &mut Matched, m: &Message) -> Result<(), AllocError>
     ensures { OnOk result ((ms more : List Message) (qs : List Receive) → AddsMessage ms more m.now → Indexes more qs state.old → Indexes ms qs state.new) }
 {
-    match state.couples.of_message(m) {
+    let mut anywhere = 0;
+    match state.couples.of_message(&mut anywhere, m) {
         Some(q) => {
             state.couples.remove(&Couple {
                 message: *m,
@@ -176,7 +183,8 @@ pub(crate) fn pop_receive(state: &mut Matched, q: &Receive) -> Result<(), AllocE
         state.untold.remove(q);
         return Ok(());
     }
-    match state.couples.of_receive(q) {
+    let mut anywhere = 0;
+    match state.couples.of_receive(&mut anywhere, q) {
         Some(m) => {
             state.couples.remove(&Couple {
                 message: m,
