@@ -124,8 +124,8 @@ fn begin(alloc: Global) -> Result<Run, Fail> {
     })
 }
 
-/// One step, and whether the table of the index is that of the slow pairing then.
-fn step(alloc: Global, draw: &mut Draw, run: &mut Run) -> Result<bool, Fail> {
+/// One step: the table of the index then, and whether it is that of the slow pairing.
+fn step(alloc: Global, draw: &mut Draw, run: &mut Run) -> Result<(PairTable, bool), Fail> {
     let rank = draw.below(4);
     if let Some(own) = run.calls.get_mut(rank as usize) {
         change(draw, own)?;
@@ -133,7 +133,9 @@ fn step(alloc: Global, draw: &mut Draw, run: &mut Run) -> Result<bool, Fail> {
     let know = known(alloc, &run.calls)?;
     follow(alloc, &run.layout, &know, rank, &mut run.index)?;
     let slow = by_rules(alloc, &run.layout, &know)?;
-    Ok(are_equal(&slow, run.index.pairs()))
+    let table = run.index.pairs()?;
+    let is_same = are_equal(&slow, &table);
+    Ok((table, is_same))
 }
 
 /// Pairs and postponed messages over all steps, and the steps after which the two tables differ.
@@ -142,11 +144,13 @@ fn steps(alloc: Global, count: u32) -> Result<(usize, usize, u32), Fail> {
     let mut run = begin(alloc)?;
     let (mut pairs, mut postponed, mut differing): (usize, usize, u32) = (0, 0, 0);
     for _ in 0..count {
-        if !step(alloc, &mut draw, &mut run)? {
+        let (table, is_same) = step(alloc, &mut draw, &mut run)?;
+        if !is_same {
             differing = differing.saturating_add(1);
         }
-        pairs = pairs.saturating_add(run.index.pairs().pairs().len());
-        postponed = postponed.saturating_add(run.index.pairs().postponed().len());
+        let (now_paired, now_postponed) = table.into_rows();
+        pairs = pairs.saturating_add(now_paired.len());
+        postponed = postponed.saturating_add(now_postponed.len());
     }
     Ok((pairs, postponed, differing))
 }
