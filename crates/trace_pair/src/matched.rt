@@ -6,8 +6,8 @@ ghost use Rattle.mpi_model.specs.declared.message.Receive.{Receive};
 ghost use Rattle.trace_ops.specs.Order.{Has};
 ghost use Rattle.trace_pair.specs.Calls.{AddsMessage, AddsReceive};
 ghost use Rattle.trace_pair.specs.Followed.{Indexes};
-ghost use Rattle.trace_pair.specs.Indexed.{TakesMessage, TakesReceive};
-ghost use Rattle.trace_pair.specs.Pairing.{receive_of};
+ghost use Rattle.trace_pair.specs.Indexed.{IsOpen, TakesMessage, TakesReceive};
+ghost use Rattle.trace_pair.specs.Pairing.{Paired, receive_of};
 ghost use Rattle.trace_pair.specs.Table.{fits_untold};
 
 use crate::couples::Couples;
@@ -73,9 +73,15 @@ impl Matched {
         }
     }
 
-    /// The message that the receive takes, if it is held; `next` likewise for the receives of its rank.
-    pub(crate) fn message_of(&self, next: &mut usize, q: &Receive) -> Option<Message> {
-        self.couples.of_receive(next, q)
+    /// The message that the held receive takes; `next` likewise for the receives of its rank.
+    pub(crate) fn message_of(&self, next: &mut usize, q: &Receive) -> Option<Message>
+        ensures some { IfSome result (λ m. (ms : List Message) (qs : List Receive) → Indexes ms qs self.now → Has qs q.now → Has ms m × Paired ms qs m q.now) }
+        ensures none { IfNone result ((ms : List Message) (qs : List Receive) → Indexes ms qs self.now → Has qs q.now → IsOpen ms qs q.now) }
+    {
+        match self.couples.of_receive(next, q) {
+            Some(m) => Some(m),
+            None => None,
+        }
     }
 
     /// Whether an untold receive fits the message.

@@ -1,6 +1,9 @@
 //! The places of the pairs, as the receives that take them come in their ranks: a start from which
-//! the sort by the receive has little left to do. What stands there is proved of the sort alone, which
+//! the sort by the receive has little left to do. Nothing is claimed of the order here, since the sort
 //! is right whatever it starts from.
+//!
+//! No message costs a search where its sender goes round the same ranks in every step of a program, or
+//! sends to one alone: its pair stands where the guess is. Where a guess is wrong the pairs are halved.
 
 ghost use Rattle.std.specs.Prelude.{◌≡◌, None, IfSome, IfNone, slice_get};
 ghost use Rattle.trace_pair.specs.Searched.{ArePairs, pair_named};
@@ -12,18 +15,19 @@ use mpi_model::{Message, OpName, Receive};
 use std::alloc::{AllocError, Global};
 use trace_ops::RankOps;
 
-/// Where a sender's pairs with one rank have come to: the place of the last one, and the place where
-/// the next one is looked for first.
+/// Where a sender's last pair was found, and where its next one with the same rank is looked for
+/// first.
 #[derive(Clone, Copy)]
-struct Reached {
+struct Guess {
     last: usize,
     next: usize,
 }
 
-/// A sender that goes round several ranks has its next message to this one as far on again.
-fn reach(from: Reached, place: usize) -> Reached {
-    let step = place.saturating_sub(from.last).max(1);
-    Reached {
+/// The guess after a pair at this place: a sender that goes round several ranks has its next message
+/// to this one as far on again.
+fn guess_behind(guess: Guess, place: usize) -> Guess {
+    let step = place.saturating_sub(guess.last).max(1);
+    Guess {
         last: place,
         next: place.saturating_add(step),
     }
@@ -52,24 +56,24 @@ fn place_near(pairs: &[Pair], next: usize, name: &OpName) -> Option<usize>
     }
 }
 
-/// The place of the message's pair, looked for from where its sender's pairs have come to.
-fn place_from(pairs: &[Pair], reached: &mut Vec<Reached>, m: &Message) -> Option<usize>
+/// The place of the message's pair, looked for first where its sender's guess is.
+fn guessed_place(pairs: &[Pair], guesses: &mut Vec<Guess>, m: &Message) -> Option<usize>
     requires { ArePairs pairs.now }
 {
     let sender = m.from as usize;
-    if sender >= reached.len() {
+    if sender >= guesses.len() {
         return None;
     }
-    let from = reached[sender];
-    let place = place_near(pairs, from.next, &m.name)?;
-    reached[sender] = reach(from, place);
+    let guess = guesses[sender];
+    let place = place_near(pairs, guess.next, &m.name)?;
+    guesses[sender] = guess_behind(guess, place);
     Some(place)
 }
 
 /// Puts the places of the pairs of a rank's receives behind the others.
 fn put_places(
     places: &mut Vec<usize>,
-    reached: &mut Vec<Reached>,
+    guesses: &mut Vec<Guess>,
     state: &Matched,
     pairs: &[Pair],
     receives: &[Receive],
@@ -79,7 +83,7 @@ fn put_places(
     let mut next = 0;
     for q in receives {
         if let Some(m) = state.message_of(&mut next, q) {
-            if let Some(place) = place_from(pairs, reached, &m) {
+            if let Some(place) = guessed_place(pairs, guesses, &m) {
                 places.push(place)?;
             }
         }
@@ -97,9 +101,9 @@ pub(crate) fn places_near(
     requires { ArePairs pairs.now }
 {
     let mut places = Vec::with_capacity(alloc, pairs.len())?;
-    let mut reached = Vec::from_elem(alloc, Reached { last: 0, next: 0 }, held.len())?;
+    let mut guesses = Vec::from_elem(alloc, Guess { last: 0, next: 0 }, held.len())?;
     for ops in held {
-        put_places(&mut places, &mut reached, state, pairs, ops.receives())?;
+        put_places(&mut places, &mut guesses, state, pairs, ops.receives())?;
     }
     Ok(places)
 }
