@@ -24,3 +24,4 @@ pub mod Names
 pub mod Owned
 pub mod Searched
 pub mod Since
+pub mod Parts
