@@ -1,13 +1,12 @@
 -- The ops of one rank among those of all.
 use Rattle.std.proofs.Common.{subst, ◌≡◌, ℕ, zero, suc, ◌+◌, ◌<◌, ◌≤◌, List, [], ◌∷◌, ◌++◌, ⊎_elim, sym, refl, ◌∙◌, ap, arith, append_assoc, length, take, drop, get_or, set}
 use Rattle.std.specs.List.{flat_map}
-use Rattle.std.proofs.lemmas.List.{append-nil, take_more, flat_map_more}
 use Rattle.mpi_model.specs.declared.message.Message.{Message}
 use Rattle.mpi_model.specs.declared.message.Receive.{Receive}
 use Rattle.trace_ops.specs.Ops.{Ops, no_ops, IsOwn, AreOwn}
 use Rattle.trace_ops.specs.Order.{Has}
 use Rattle.trace_pair.specs.Calls.{between, IsSequence, IsPosting}
-use Rattle.trace_pair.specs.Followed.{Indexes, Follows}
+use Rattle.trace_pair.specs.Followed.{Indexes, Follows, Moves}
 use Rattle.trace_pair.specs.Kept.{IsKept}
 use Rattle.trace_pair.specs.Table.{fresh, sends_of, receives_of}
 use Rattle.trace_pair.specs.declared.matched.Matched.{Matched}
@@ -95,10 +94,6 @@ kept_fresh held n state e x =
       followed = subst (λ (ms : List Message). Indexes ms (receives_of (fresh n)) state) s (subst (λ (qs : List Receive). Indexes [] qs state) r x);
     })
 
--- the state follows the calls of a rank, wherever they stand among those of the others
-abbrev Moves : Ops → Ops → Matched → Matched → Type 0
-Moves o n old new = (before after : List Message) (above below : List Receive) → IsSequence before after o.sends → IsSequence before after n.sends → IsPosting above below o.receives → IsPosting above below n.receives
-    → Indexes (between before o.sends after) (between above o.receives below) old → Indexes (between before n.sends after) (between above n.receives below) new
 
 -- a rank's ops are new ones
 pub moved : (held : List Ops) (i : ℕ) (d n : Ops) (old new : Matched) → i < length held → AreOwn 0 held → IsOwn i n → d ≡ get_or held i d → Moves d n old new → Follows held old → Follows (set held i n) new
@@ -116,31 +111,3 @@ moved held i d n old new lt a o e law x =
 
 pub own_moved : (held : List Ops) (i : ℕ) (n : Ops) → AreOwn 0 held → IsOwn i n → AreOwn 0 (set held i n)
 own_moved held i n a o = own_set held 0 i n a (subst (λ (r : ℕ). IsOwn r n) (omega arith) o)
-
--- the state gets the calls of a rank, wherever they stand among those of the others
-abbrev Adds : Ops → Matched → Matched → Type 0
-Adds n old new = (before after : List Message) (above below : List Receive) → IsSequence before after n.sends → IsPosting above below n.receives
-    → Indexes (between before [] after) (between above [] below) old → Indexes (between before n.sends after) (between above n.receives below) new
-
--- with nothing behind it
-bare : {X : Type 0} (xs : List X) → between xs [] [] ≡ xs
-bare {X = X} xs = ap (λ (l : List X). l ++ []) (append-nil xs) ∙ append-nil xs
-
-module _ {X : Type 0} (part : Ops → List X) where
-  one_more : (os : List Ops) (i : ℕ) (d : Ops) → i < length os → between (flat_map part (take i os)) (part (get_or os i d)) [] ≡ flat_map part (take (i + 1) os)
-  one_more os i d lt = append-nil (flat_map part (take i os) ++ part (get_or os i d)) ∙ flat_map_more part [] (take i os) (get_or os i d) ∙ ap (flat_map part) (sym (take_more os i d lt))
-
--- the calls of one rank more
-pub next_rank : (os : List Ops) (i : ℕ) (d : Ops) (old new : Matched) → i < length os → AreOwn 0 os → d ≡ get_or os i d → Adds d old new → Follows (take i os) old → Follows (take (i + 1) os) new
-next_rank os i d old new lt a e law x =
-    let w : IsOwn i (get_or os i d) = subst (λ (r : ℕ). IsOwn r (get_or os i d)) (omega arith) (own_at os 0 i d lt a) in
-    let s = is_sequence os i (get_or os i d) a w in
-    let p = is_posting os i (get_or os i d) a w in
-    let y : Indexes (between (sends_of (take i os)) [] []) (between (receives_of (take i os)) [] []) old =
-    subst (λ (ms : List Message). Indexes ms (between (receives_of (take i os)) [] []) old) (sym (bare (sends_of (take i os))))
-    (subst (λ (qs : List Receive). Indexes (sends_of (take i os)) qs old) (sym (bare (receives_of (take i os)))) x) in
-    let z = (subst (λ (g : Ops). Adds g old new) e law) (sends_of (take i os)) [] (receives_of (take i os)) []
-    (record { own = s.own; order = s.order; apart_before = s.apart_before; apart_after = λ n m h. absurd h })
-    (record { own = p.own; order = p.order; apart_before = p.apart_before; apart_after = λ r q h. absurd h }) y in
-    subst (λ (ms : List Message). Indexes ms (receives_of (take (i + 1) os)) new) (one_more (λ o. o.sends) os i d lt)
-    (subst (λ (qs : List Receive). Indexes (between (sends_of (take i os)) (get_or os i d).sends []) qs new) (one_more (λ o. o.receives) os i d lt) z)

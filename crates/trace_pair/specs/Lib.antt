@@ -11,6 +11,7 @@ pub mod Indexed
 pub mod Slots
 pub mod Coupled
 pub mod Followed
+pub mod Parts
 pub mod Kept
 pub mod OneOrMany
 pub mod Groups

@@ -1,14 +1,15 @@
 //! An index of the pairs that follows the ops of the ranks as they grow and are cut back.
 
-ghost use Rattle.std.specs.Prelude.{◌≡◌, ◌<◌, [], OnOk, OnErr, IfOk, length, slice_set, slice_index_or};
+ghost use Rattle.std.specs.Prelude.{◌≡◌, ◌<◌, OnOk, OnErr, IfOk, length, slice_set, slice_index_or};
 ghost use Rattle.trace_ops.specs.Ops.{IsOwn, AreOwn, Grows, no_ops};
 ghost use Rattle.trace_pair.specs.Certainty.{AreCertain, AreAllTold, AreLegal, AreTheOnlyLegal};
-ghost use Rattle.trace_pair.specs.Followed.{Indexes, Follows};
+ghost use Rattle.trace_pair.specs.Followed.{Follows};
 ghost use Rattle.trace_pair.specs.Table.{fresh, table_of};
 
-use crate::follow::{add_rank, set_rank};
+use crate::follow::set_rank;
 use crate::matched::Matched;
 use crate::table::PairTable;
+use crate::together::add_ranks;
 use std::alloc::{AllocError, Global};
 use std::marker::Model;
 use trace_ops::RankOps;
@@ -156,15 +157,5 @@ fn set_ops(
 {
     set_rank(state, &held[rank as usize], &ops)?;
     held[rank as usize] = ops;
-    Ok(())
-}
-
-/// Adds the calls of all ranks to a state without calls.
-fn add_ranks(state: &mut Matched, ops: &[RankOps]) -> Result<(), AllocError>
-    ensures { OnOk result (AreOwn 0 ops.now → Indexes [] [] state.old → Follows ops.now state.new) }
-{
-    for own in ops {
-        add_rank(state, own)?;
-    }
     Ok(())
 }

@@ -18,7 +18,8 @@
 //! - [`one_or_many`]: a set that has no tree of its own while it has one member; [`groups`],
 //!   [`queues`]: sets of calls, found by a few probes of an ordered map; [`couples`]: the pairs by
 //!   either name
-//! - [`matched`]: the sets of an index, as one call comes or goes; [`follow`]: as a rank's calls do
+//! - [`matched`]: the sets of an index, as one call comes or goes; [`follow`]: as a rank's calls do;
+//!   [`together`]: as those of all ranks come
 //! - [`index`]: the index
 //! - [`laws`]: what makes the rules easy to believe, as contracts of calls that do nothing
 #![tactic(auto)]
@@ -38,6 +39,7 @@ mod rules;
 mod scratch;
 mod slots;
 mod table;
+mod together;
 
 pub use index::PairIndex;
 pub use laws::{pairs_are_certain, pairs_are_the_rules, worked_runs};
