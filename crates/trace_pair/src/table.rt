@@ -36,15 +36,6 @@ impl Model for PairTable {
 }
 
 impl PairTable {
-    pub(crate) fn empty(alloc: Global) -> PairTable
-        ensures { result ≡ table_of [] }
-    {
-        PairTable {
-            rows: Rows::empty(alloc),
-            by_receive: Vec::new(alloc),
-        }
-    }
-
     /// The table of these rows. The more of `near` is places in order of the receive, the sooner it
     /// is made.
     pub(crate) fn of_rows(
