@@ -1,6 +1,6 @@
 //! A table: the pairs and the postponed messages, in order of the message.
 
-ghost use Rattle.std.specs.Prelude.{◌≡◌, ◌≢◌, ◌<◌, true, false, [], OnOk, IfOk, ℕ, length, slice_index_or};
+ghost use Rattle.std.specs.Prelude.{◌≡◌, ◌≢◌, ◌<◌, true, false, OnOk, IfOk, ℕ, length, slice_index_or};
 ghost use Rattle.trace_ops.specs.Ops.{AreOwn};
 ghost use Rattle.trace_ops.specs.Order.{Has};
 ghost use Rattle.trace_pair.specs.Followed.{Follows};
