@@ -126,16 +126,6 @@ module _ (pairs : List Pair) (places : List ℕ) (search : IsSearchable pairs pl
       let g : receive_at pairs c.0 ≡ Some name = ap (option_map (λ (r : Pair). r.receive)) (got pairs c.0 p c.1 ∙ ap (λ (x : Pair). Some x) c.2) ∙ ap (λ (x : OpName). Some x) e in
       absent (by_place pairs name) places at s c.0 (search.all c.0 c.1) (ap (λ o. option_cmp name_cmp o (Some name)) g ∙ tied name name refl))))
 
-searchable_none : (places : List ℕ) → IsSearchable [] places
-searchable_none places = record {
-  pairs_are = record { rise = λ k d l h. absurd (omega arith); one_message = λ p r i. absurd i; one_receive = λ p r i. absurd i };
-  by_receive = λ k d l h. refl;
-  all = λ i h. absurd (omega arith);
-}
-
-pub searchable_empty : (t : Table) (places : List ℕ) → t ≡ table_of [] → IsSearchable t.pairs places
-searchable_empty t places e = subst (λ (x : Table). IsSearchable x.pairs places) (sym e) (searchable_none places)
-
 pub searchable_of : (pairs seen : List Pair) (places : List ℕ) → seen ≡ pairs → ArePairs pairs → AreByReceive seen places → ((i : ℕ) → i < length seen → Has places i) → IsSearchable pairs places
 searchable_of pairs seen places e are sorted all = record {
   pairs_are = are;

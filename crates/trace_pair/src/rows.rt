@@ -8,7 +8,7 @@ ghost use Rattle.mpi_model.specs.declared.message.Receive.{Receive};
 ghost use Rattle.trace_ops.specs.Order.{Has};
 ghost use Rattle.trace_pair.specs.Followed.{Indexes, Follows};
 ghost use Rattle.trace_pair.specs.Pairing.{receive_of};
-ghost use Rattle.trace_pair.specs.Table.{pair_of, postponed_name, table_of, sends_of, receives_of};
+ghost use Rattle.trace_pair.specs.Table.{pair_of, postponed_name, table_of};
 
 use crate::matched::Matched;
 use crate::pair::{Pair, make_pair};

@@ -1,6 +1,6 @@
 //! A table: the pairs and the postponed messages, in order of the message.
 
-ghost use Rattle.std.specs.Prelude.{◌≡◌, ◌≢◌, ◌<◌, true, false, [], OnOk, IfOk, ℕ, length, slice_index_or};
+ghost use Rattle.std.specs.Prelude.{◌≡◌, ◌≢◌, ◌<◌, true, false, OnOk, IfOk, ℕ, length, slice_index_or};
 ghost use Rattle.trace_ops.specs.Ops.{AreOwn};
 ghost use Rattle.trace_ops.specs.Order.{Has};
 ghost use Rattle.trace_pair.specs.Followed.{Follows};
@@ -36,15 +36,6 @@ impl Model for PairTable {
 }
 
 impl PairTable {
-    pub(crate) fn empty(alloc: Global) -> PairTable
-        ensures { result ≡ table_of [] }
-    {
-        PairTable {
-            rows: Rows::empty(alloc),
-            by_receive: Vec::new(alloc),
-        }
-    }
-
     /// The table of these rows. The more of `near` is places in order of the receive, the sooner it
     /// is made.
     pub(crate) fn of_rows(
