@@ -76,17 +76,20 @@ impl<'s, 'a> Hall<'s, 'a> {
         self.joined / 4 >= self.shown && self.joined > 0
     }
 
-    /// Makes the answer to all that was joined, and shows it where that is due. So the last answer, for
-    /// which all wait, has less that is new to it. A refused publish is passed over: the next one shows
-    /// all that this would have shown.
+    /// While nothing waits to be taken: makes the answer to all that was joined, and shows it, where that
+    /// is due. Else only the index of the pairs takes in what was joined, so the last answer, for which
+    /// all wait, has less that is new to it. A refused publish is passed over: the next one shows all that
+    /// this would have shown.
     pub fn rest<R: Wait>(&mut self, rt: &R)
         ensures kept { IsKept self.old.node self.new.node }
         ensures refused { self.new.refused.items ≡ self.old.refused.items }
     {
-        if self.node.catch_up().is_err() || !self.is_due() {
+        if !self.is_due() {
+            // (without memory for it now, the next answer takes it in)
+            let _ = self.node.prepare();
             return;
         }
-        if self.node.publish(rt, self.board).is_ok() {
+        if self.node.catch_up().is_ok() && self.node.publish(rt, self.board).is_ok() {
             self.shown = self.joined;
         }
     }
