@@ -94,7 +94,6 @@ kept_fresh held n state e x =
       followed = subst (λ (ms : List Message). Indexes ms (receives_of (fresh n)) state) s (subst (λ (qs : List Receive). Indexes [] qs state) r x);
     })
 
-
 -- a rank's ops are new ones
 pub moved : (held : List Ops) (i : ℕ) (d n : Ops) (old new : Matched) → i < length held → AreOwn 0 held → IsOwn i n → d ≡ get_or held i d → Moves d n old new → Follows held old → Follows (set held i n) new
 moved held i d n old new lt a o e law x =
