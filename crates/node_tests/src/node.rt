@@ -60,8 +60,9 @@ fn four_pieces_in_every_order(rt: HostRuntime) {
     }
 }
 
-/// What is reported of the four pieces, held in this order, with an answer after the first of them,
-/// wherever it stands, and at the end; nothing where a node that holds has an answer.
+/// What is reported of the four pieces, held in this order and prepared for after each, with an answer
+/// after the first of them, wherever it stands, and at the end; nothing where a node that holds has an
+/// answer.
 fn held<R: Abort>(rt: &R, alloc: Global, order: &str) -> Vec<u8> {
     let layout = layout(rt, alloc);
     let mut node = Node::new(alloc, &layout).expect(rt, "memory");
@@ -69,6 +70,7 @@ fn held<R: Abort>(rt: &R, alloc: Global, order: &str) -> Vec<u8> {
         let place = usize::from(name.wrapping_sub(b'0'));
         let piece = DISAGREEING.get(place).expect(rt, "a piece");
         node.hold(&segment(rt, alloc, piece)).expect(rt, "a hold");
+        node.prepare().expect(rt, "memory");
         if node.answer().is_ok() {
             return Vec::new(alloc);
         }
