@@ -54,7 +54,7 @@ module _ {X : Type 0} (part : Ops → List X) where
     above (o ∷ os) first zero x a h = let e = at_least os (first + 1) x a.1 h in omega arith
     above (o ∷ os) first (suc i) x a h = let e = above os (first + 1) i x a.1 h in omega arith
 
-own_at : (os : List Ops) (first i : ℕ) (d : Ops) → i < length os → AreOwn first os → IsOwn (first + i) (get_or os i d)
+pub own_at : (os : List Ops) (first i : ℕ) (d : Ops) → i < length os → AreOwn first os → IsOwn (first + i) (get_or os i d)
 own_at [] first i d lt a = absurd (omega arith)
 own_at (o ∷ os) first zero d lt a = subst (λ (r : ℕ). IsOwn r o) (omega arith) a.0
 own_at (o ∷ os) first (suc i) d lt a = subst (λ (r : ℕ). IsOwn r (get_or os i d)) (omega arith) (own_at os (first + 1) i d (omega arith) a.1)
