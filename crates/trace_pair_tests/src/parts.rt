@@ -67,9 +67,10 @@ fn ranks_of_more_calls_than_a_part(rt: HostRuntime) -> Result<(), Fail> {
     follow(alloc, &layout, &know, 0, &mut by_rank)?;
     follow(alloc, &layout, &know, 1, &mut by_rank)?;
     let index = PairIndex::of_all(alloc, ops_in(alloc, &layout, &know)?)?;
-    let (pairs, postponed) = (index.pairs().pairs().len(), index.pairs().postponed().len());
+    let table = index.pairs()?;
+    let (pairs, postponed) = (table.pairs().len(), table.postponed().len());
     assert!(rt;
-        are_equal(by_rank.pairs(), index.pairs()) && pairs > 1500 && postponed > 20,
+        are_equal(&by_rank.pairs()?, &table) && pairs > 1500 && postponed > 20,
         "{pairs} pairs, {postponed} postponed"
     );
     Ok(())
