@@ -11,7 +11,7 @@ use std::alloc::Global;
 use std::test::Fail;
 use trace_know::Knowledge;
 use trace_ops::{RankOps, all_ops, ops_laws};
-use trace_pair::PairIndex;
+use trace_pair::{PairIndex, PairTable};
 
 /// Two ranks, both in communicator 2, which is the world.
 fn two(alloc: Global) -> Result<Layout, Fail> {
@@ -58,19 +58,38 @@ fn ops_in(alloc: Global, layout: &Layout, know: &Knowledge) -> Result<Vec<RankOp
     Ok(all_ops(alloc, layout, know)?)
 }
 
-#[test]
-fn ranks_of_more_calls_than_a_part(rt: HostRuntime) -> Result<(), Fail> {
-    let alloc = rt.alloc();
+/// The table of an index that gets the ranks one after the other.
+fn by_rank(alloc: Global, layout: &Layout, know: &Knowledge) -> Result<PairTable, Fail> {
+    let mut index = PairIndex::new(alloc, 2)?;
+    follow(alloc, layout, know, 0, &mut index)?;
+    follow(alloc, layout, know, 1, &mut index)?;
+    Ok(index.pairs()?)
+}
+
+/// The table of an index that gets all ranks at once.
+fn at_once(alloc: Global, layout: &Layout, know: &Knowledge) -> Result<PairTable, Fail> {
+    let index = PairIndex::of_all(alloc, ops_in(alloc, layout, know)?)?;
+    Ok(index.pairs()?)
+}
+
+/// Whether both tables are equal, and how many pairs and postponed messages they have.
+fn compared(alloc: Global) -> Result<(bool, usize, usize), Fail> {
     let layout = two(alloc)?;
     let know = known(alloc, &calls(alloc)?)?;
-    let mut by_rank = PairIndex::new(alloc, 2)?;
-    follow(alloc, &layout, &know, 0, &mut by_rank)?;
-    follow(alloc, &layout, &know, 1, &mut by_rank)?;
-    let index = PairIndex::of_all(alloc, ops_in(alloc, &layout, &know)?)?;
-    let table = index.pairs()?;
-    let (pairs, postponed) = (table.pairs().len(), table.postponed().len());
+    let one = by_rank(alloc, &layout, &know)?;
+    let other = at_once(alloc, &layout, &know)?;
+    Ok((
+        are_equal(&one, &other),
+        other.pairs().len(),
+        other.postponed().len(),
+    ))
+}
+
+#[test]
+fn ranks_of_more_calls_than_a_part(rt: HostRuntime) -> Result<(), Fail> {
+    let (is_equal, pairs, postponed) = compared(rt.alloc())?;
     assert!(rt;
-        are_equal(&by_rank.pairs()?, &table) && pairs > 1500 && postponed > 20,
+        is_equal && pairs > 1500 && postponed > 20,
         "{pairs} pairs, {postponed} postponed"
     );
     Ok(())
