@@ -7,7 +7,7 @@ use mpi_model::{Layout, MemoryReader, MemoryWriter};
 use std::alloc::Global;
 use std::process::Abort;
 use std::test::Fail;
-use trace_exchange::{ExchangeFault, follow, lead};
+use trace_exchange::{ExchangeFault, exchange_frames, follow, lead};
 use trace_node::{Node, NodeFault};
 use trace_wire::WireFault;
 
@@ -138,6 +138,23 @@ fn all_frames<R: Abort>(rt: &R, alloc: Global, layout: &Layout) -> Frames {
         follower: frame_of_pieces(rt, alloc, layout, &PIECES[1..]),
         both: frame_of_pieces(rt, alloc, layout, PIECES),
     }
+}
+
+/// Whether frames are exchanged with no node at hand: one's own is written, and the other's is read.
+fn are_exchanged<R: Abort>(rt: &R, alloc: Global) -> bool {
+    let layout = layout(rt, alloc);
+    let node = node_of(rt, alloc, &layout, &PIECES[..1]);
+    let frames = all_frames(rt, alloc, &layout);
+    let mut stream = stopping(alloc, &frames.follower, Stop::Never, 0);
+    is_stream(&stream);
+    let heard = exchange_frames(alloc, &mut stream, node.know()).expect(rt, "a frame");
+    frame_of(rt, alloc, &heard).as_slice() == frames.follower.as_slice()
+        && stream.writer.bytes() == frames.leader.as_slice()
+}
+
+#[test]
+fn frames_without_a_node(rt: HostRuntime) {
+    assert!(rt; are_exchanged(&rt, rt.alloc()));
 }
 
 /// What is to be seen after a refusal: why, what was written, and the frame of what is known.

@@ -60,8 +60,9 @@ fn four_pieces_in_every_order(rt: HostRuntime) {
     }
 }
 
-/// What is reported of the four pieces, held in this order, with an answer after the first of them,
-/// wherever it stands, and at the end; nothing where a node that holds has an answer.
+/// What is reported of the four pieces, held in this order and prepared for after each, with an answer
+/// after the first of them, wherever it stands, and at the end; nothing where a node that holds has an
+/// answer.
 fn held<R: Abort>(rt: &R, alloc: Global, order: &str) -> Vec<u8> {
     let layout = layout(rt, alloc);
     let mut node = Node::new(alloc, &layout).expect(rt, "memory");
@@ -69,6 +70,7 @@ fn held<R: Abort>(rt: &R, alloc: Global, order: &str) -> Vec<u8> {
         let place = usize::from(name.wrapping_sub(b'0'));
         let piece = DISAGREEING.get(place).expect(rt, "a piece");
         node.hold(&segment(rt, alloc, piece)).expect(rt, "a hold");
+        node.prepare().expect(rt, "memory");
         if node.answer().is_ok() {
             return Vec::new(alloc);
         }
@@ -118,10 +120,12 @@ static ROWS: [(&str, &[Piece], &[u8]); 4] = [
     ("a contradiction", DISAGREEING, DISAGREED),
 ];
 
-/// Whether a copy knows the same and reports so.
+/// Whether a copy knows the same and reports so, also once it is prepared.
 fn is_copied<R: Abort>(rt: &R, alloc: Global, node: &Node, report: &[u8]) -> bool {
-    let copy = node.try_clone().expect(rt, "memory");
-    copy.know().same(node.know()) && report_of(rt, alloc, &copy).as_slice() == report
+    let mut copy = node.try_clone().expect(rt, "memory");
+    let is_same = report_of(rt, alloc, &copy).as_slice() == report;
+    copy.prepare().expect(rt, "memory");
+    is_same && copy.know().same(node.know()) && report_of(rt, alloc, &copy).as_slice() == report
 }
 
 /// Whether a copy of the answer is the same, and is reported so.
@@ -139,11 +143,13 @@ fn is_made_at_once<R: Abort>(rt: &R, alloc: Global, node: &Node, report: &[u8]) 
     report_of(rt, alloc, &made).as_slice() == report
 }
 
-/// Whether it reports so after a merge of what it knows, and after a refreshment.
+/// Whether it reports so once it is prepared, after a merge of what it knows, and after a refreshment.
 fn stays<R: Abort>(rt: &R, alloc: Global, node: &mut Node, report: &[u8]) -> bool {
     let own = node.know().try_clone().expect(rt, "memory");
+    node.prepare().expect(rt, "memory");
+    let is_prepared = report_of(rt, alloc, node).as_slice() == report;
     node.merge(&own).expect(rt, "a merge");
-    let is_merged = report_of(rt, alloc, node).as_slice() == report;
+    let is_merged = is_prepared && report_of(rt, alloc, node).as_slice() == report;
     node.refresh().expect(rt, "memory");
     is_merged && report_of(rt, alloc, node).as_slice() == report && node.know().same(&own)
 }
@@ -180,7 +186,7 @@ fn fails<R: Abort>(rt: &R, alloc: Global, pieces: &[Piece], report: &[u8]) -> &'
     } else if !refuses_a_stranger(rt, alloc, &mut node, report) {
         "after a stranger"
     } else if !stays(rt, alloc, &mut node, report) {
-        "after a merge of itself"
+        "prepared, or after a merge of itself"
     } else {
         ""
     }

@@ -48,7 +48,7 @@ StopsAt one other fault = Stops one.faults.items other.faults.items one.refused.
 abbrev pub AreClean : CrewOut → CrewOut → Type 0
 AreClean one other = IsClean one.faults.items other.faults.items one.refused.items other.refused.items
 
--- The first node did not join what its leading has learned.
+-- The first node did not join what its side of an exchange heard.
 abbrev pub IsUnmerged : ClusterFault → Type 0
 IsUnmerged fault = (cause : NodeFault) × (fault ≡ Lead (Merge cause))
 
@@ -57,14 +57,13 @@ abbrev pub IsFollowers : Result (Unit {0}) ExchangeFault → ClusterFault → Ty
 IsFollowers followed fault = (cause : ExchangeFault) × (followed ≡ Err cause) × (fault ≡ Follow cause)
 
 -- It is why the leader's side of an exchange was refused, or, where that was not, why the first node did not join what
--- that has learned, or the follower's.
+-- that heard, or why the follower's side was refused.
 abbrev pub IsFirstEnd : Result View ExchangeFault → Result (Unit {0}) ExchangeFault → ClusterFault → Type 0
 IsFirstEnd (Err led) followed fault = fault ≡ Lead led
 IsFirstEnd (Ok known) followed fault = IsUnmerged fault ⊎ IsFollowers followed fault
 
 -- It comes of the exchange, and not of a crew.
 abbrev pub IsOfMeeting : ClusterFault → Type 0
-IsOfMeeting Memory = ⊤
 IsOfMeeting Net = ⊤
 IsOfMeeting (Lead fault) = ⊤
 IsOfMeeting (Follow fault) = ⊤

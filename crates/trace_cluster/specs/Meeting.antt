@@ -1,10 +1,15 @@
 -- What an exchange leaves of a node.
-use Rattle.std.specs.Prelude.{◌≡◌, false}
-use Rattle.trace_know.specs.View.{IsBelow}
+use Rattle.std.specs.Prelude.{◌≡◌, false, Result, Ok}
+use Rattle.trace_know.specs.View.{View, IsBelow, join}
 use Rattle.trace_node.specs.Node.{Held}
+use Rattle.trace_exchange.specs.declared.fault.ExchangeFault.{ExchangeFault}
 
 -- The node knows all that it knew, for the same layout, and has an answer to all that it knows.
 pub record IsMore (before after : Held) : Type 0 where
   pub layout_is : after.layout ≡ before.layout
   pub fresh : after.is_stale ≡ false
   pub keeps : IsBelow before.know after.know
+
+-- Its side of the exchange heard something, and just that was joined to what the node knew.
+abbrev pub HasJoined : Held → Result View ExchangeFault → Held → Type 0
+HasJoined before led after = (heard : View) × (led ≡ Ok heard) × (after.know ≡ join before.know heard)

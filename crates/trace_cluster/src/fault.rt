@@ -14,7 +14,7 @@ pub enum ClusterFault {
     /// A worker's thread couldn't be started, or an end of an inbox was refused.
     #[error("Y1 Worker")]
     Worker,
-    /// No memory was left for a crew, or for a copy of what the first node knows.
+    /// No memory was left for a crew.
     #[error("Memory")]
     Memory,
     /// A piece gave no segments: the first such by node, worker and place in that worker's list.

@@ -2,11 +2,12 @@
 //!
 //! [`cluster`] runs the crews one after the other, each on a board of its own. Where all pieces gave
 //! their segments, and all of these were joined, it listens on 127.0.0.1 at a port that the system
-//! gives, connects and accepts; the first node leads the exchange on a thread of its own, and the
-//! second follows. Each node keeps what its own pieces tell, and learns what the other sends.
+//! gives, connects and accepts; a thread exchanges frames for the first node, which leads, while the
+//! second follows. Each node keeps what its own pieces tell, and joins what the other sends.
 //!
-//! Cost: both crews, a frame each way over the socket, and a merge in each node. What the first node
-//! knows is copied for its thread and back, and the thread makes an answer of its own.
+//! Cost: both crews, a frame each way over the socket, and a merge with its answer in each node. The
+//! thread reads what the first node knows and makes no answer; what it hears is held beside both nodes
+//! until the first has joined it.
 //!
 //! - [`workload`]: the pieces of a node's workers
 //! - [`fault`]: why a cluster leaves nothing

@@ -1,20 +1,20 @@
 //! Two nodes that meet: the socket, and the exchange over it.
 
 ghost use Rattle.std.specs.Prelude.{◌≡◌, Ok, IfSome, IfOk, IfErr, OnOk};
+ghost use Rattle.trace_exchange.specs.Exchange.{HaveFrames};
 ghost use Rattle.trace_cluster.specs.Crews.{IsFirstEnd, IsOfMeeting};
-ghost use Rattle.trace_cluster.specs.Meeting.{IsMore};
+ghost use Rattle.trace_cluster.specs.Meeting.{HasJoined, IsMore};
 
 use crate::fault::ClusterFault;
 use crate::peer::Peer;
-use mpi_model::Layout;
+use mpi_model::Device;
 use std::alloc::Global;
 use std::net::{Net, TcpListener, TcpStream};
 use std::sync::Wait;
 use std::thread::Threads;
 use std::{io, thread};
-use trace_exchange::ExchangeFault;
+use trace_exchange::{ExchangeFault, exchange_frames};
 use trace_know::Knowledge;
-use trace_node::{Node, NodeFault};
 
 /// Listens on 127.0.0.1 at a port that the system gives, connects to it and accepts, in this order:
 /// both ends of one connection.
@@ -27,31 +27,12 @@ fn connected<R: Net<Listener = TcpListener, Stream = TcpStream>>(
     Ok((one, other))
 }
 
-/// Leads an exchange for a node that knows this, and answers all that it knows then. Only knowledge
-/// crosses to the thread and back: that a node may cross is not found by itself.
-fn led(
-    alloc: Global,
-    layout: &Layout,
-    know: Knowledge,
-    stream: TcpStream,
-) -> Result<Knowledge, ExchangeFault> {
-    match Node::of(alloc, layout, know) {
-        Ok(node) => led_by(alloc, stream, node),
-        Err(fault) => Err(ExchangeFault::Merge(fault)),
-    }
-}
-
-/// Leads in an exchange, and answers all that is known then.
-fn led_by<N: Peer>(alloc: Global, stream: TcpStream, node: N) -> Result<Knowledge, ExchangeFault> {
-    let mut node = node;
-    match node.lead_over(alloc, stream) {
-        Ok(()) => {}
-        Err(fault) => return Err(fault),
-    }
-    match node.copy_know() {
-        Ok(know) => Ok(know),
-        Err(_) => Err(ExchangeFault::Merge(NodeFault::Memory)),
-    }
+/// Exchanges frames over a connection for one who knows this, and closes it: what was heard. Only
+/// knowledge crosses to the thread and back: that a node may cross is not found by itself.
+fn led(alloc: Global, know: &Knowledge, stream: TcpStream) -> Result<Knowledge, ExchangeFault>
+    ensures { IfOk result (λ heard. HaveFrames know.now heard) }
+{
+    exchange_frames(alloc, &mut Device::new(stream), know)
 }
 
 /// A node after it has followed in an exchange, and whether that was refused.
@@ -70,13 +51,12 @@ fn followed<N: Peer>(alloc: Global, stream: TcpStream, node: N) -> Met<N>
     Met { node, end }
 }
 
-/// One leads on a thread of its own, with what the first node knows, beside the second node, which
-/// follows: what the first knows then, and the second. Nothing where no thread could be started.
+/// The leader's side on a thread of its own, for one who knows this, beside the second node, which
+/// follows: what the first side heard, and the second node. Nothing where no thread could be started.
 fn meet<R: Threads + Wait + Sync, N: Peer>(
     rt: &R,
     alloc: Global,
-    layout: &Layout,
-    know: Knowledge,
+    know: &Knowledge,
     ends: (TcpStream, TcpStream),
     follower: N,
 ) -> Option<(Result<Knowledge, ExchangeFault>, Met<N>)>
@@ -89,7 +69,7 @@ fn meet<R: Threads + Wait + Sync, N: Peer>(
         move |scope| -> Option<(Result<Knowledge, ExchangeFault>, Met<N>)>
             ensures { IfSome result (λ met. OnOk met.1.end (IsMore (N.held follower) (N.held met.1.node))) }
         {
-            let Ok(leading) = scope.spawn(move || led(alloc, layout, know, one)) else {
+            let Ok(leading) = scope.spawn(move || led(alloc, know, one)) else {
                 return None;
             };
             let met = followed(alloc, other, follower);
@@ -98,8 +78,8 @@ fn meet<R: Threads + Wait + Sync, N: Peer>(
     )
 }
 
-/// Both nodes, the first with what its leading has learned; or why the leader was refused, else why the
-/// follower was.
+/// Both nodes, the first with what its side heard; or why that was refused, else why the first node
+/// did not join it, else why the follower was refused.
 #[tactic(auto, using(crate::proofs::Ending::unmerged_end, crate::proofs::Ending::followed_end))]
 fn both<N: Peer>(
     leader: N,
@@ -107,6 +87,7 @@ fn both<N: Peer>(
     follower: Met<N>,
 ) -> Result<(N, N), ClusterFault>
     ensures first { IfOk result (λ nodes. IsMore (N.held leader) (N.held nodes.0)) }
+    ensures joined { IfOk result (λ nodes. HasJoined (N.held leader) led (N.held nodes.0)) }
     ensures second { IfOk result (λ nodes. (nodes.1 ≡ follower.node) × (follower.end ≡ Ok tt)) }
     ensures err { IfErr result (λ fault. IsFirstEnd led follower.end fault) }
 {
@@ -125,21 +106,18 @@ fn both<N: Peer>(
     }
 }
 
-/// An exchange between two nodes of a layout over a socket of this machine: the first leads it.
+/// An exchange between two nodes over a socket of this machine: the first leads it.
 pub(crate) fn exchange<
     R: Net<Listener = TcpListener, Stream = TcpStream> + Threads + Wait + Sync,
     N: Peer,
->(rt: &R, alloc: Global, layout: &Layout, leader: N, follower: N) -> Result<(N, N), ClusterFault>
+>(rt: &R, alloc: Global, leader: N, follower: N) -> Result<(N, N), ClusterFault>
     ensures ok { IfOk result (λ nodes. IsMore (N.held leader) (N.held nodes.0) × IsMore (N.held follower) (N.held nodes.1)) }
     ensures err { IfErr result (λ fault. IsOfMeeting fault) }
 {
-    let Ok(know) = leader.copy_know() else {
-        return Err(ClusterFault::Memory);
-    };
     let Ok(ends) = connected(rt) else {
         return Err(ClusterFault::Net);
     };
-    let Some((led, followed)) = meet(rt, alloc, layout, know, ends, follower) else {
+    let Some((led, followed)) = meet(rt, alloc, leader.knowledge(), ends, follower) else {
         return Err(ClusterFault::Net);
     };
     both(leader, led, followed)

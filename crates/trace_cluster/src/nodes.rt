@@ -37,5 +37,5 @@ pub fn cluster<'a, R: Net<Listener = TcpListener, Stream = TcpStream> + Threads 
     let one = crew_of(rt, alloc, layout, first)?;
     let other = crew_of(rt, alloc, layout, second)?;
     let (leader, follower) = nodes_of(one, other)?;
-    exchange(rt, alloc, layout, leader, follower)
+    exchange(rt, alloc, leader, follower)
 }

@@ -1,14 +1,14 @@
 //! A node as those know it who let two of them meet.
 
-ghost use Rattle.std.specs.Prelude.{◌≡◌, IfOk, OnOk};
+ghost use Rattle.std.specs.Prelude.{◌≡◌, OnOk};
 ghost use Rattle.trace_know.specs.View.{join};
 ghost use Rattle.trace_node.specs.Node.{Held};
 ghost use Rattle.trace_cluster.specs.Meeting.{IsMore};
 
 use mpi_model::Device;
-use std::alloc::{AllocError, Global};
+use std::alloc::Global;
 use std::net::TcpStream;
-use trace_exchange::{ExchangeFault, follow, lead};
+use trace_exchange::{ExchangeFault, follow};
 use trace_know::{Knowledge, join_laws};
 use trace_node::{Node, NodeFault};
 
@@ -19,18 +19,14 @@ pub trait Peer: Drop {
     /// What its node holds.
     ghost held: { Self → Held };
 
-    /// A copy of all that its node knows.
-    fn copy_know(&self) -> Result<Knowledge, AllocError>
-        ensures { IfOk result (λ know. know ≡ (held self.now).know) };
+    /// All that its node knows.
+    fn knowledge(&self) -> &Knowledge
+        ensures { result.now ≡ (held self.now).know };
 
-    /// Joins what its leading has learned.
+    /// Joins what its side of an exchange heard.
     fn learn(&mut self, know: &Knowledge) -> Result<(), NodeFault>
         ensures more { OnOk result (IsMore (held self.old) (held self.new)) }
         ensures learned { OnOk result ((held self.new).know ≡ join (held self.old).know know.now) };
-
-    /// Leads in an exchange over a connection, and closes it.
-    fn lead_over(&mut self, alloc: Global, stream: TcpStream) -> Result<(), ExchangeFault>
-        ensures { OnOk result (IsMore (held self.old) (held self.new)) };
 
     /// Follows in an exchange over a connection, and closes it.
     fn follow_over(&mut self, alloc: Global, stream: TcpStream) -> Result<(), ExchangeFault>
@@ -40,17 +36,13 @@ pub trait Peer: Drop {
 impl<'a> Peer for Node<'a> {
     ghost held = { λ n. n };
 
-    fn copy_know(&self) -> Result<Knowledge, AllocError> {
-        self.know().try_clone()
+    fn knowledge(&self) -> &Knowledge {
+        self.know()
     }
 
     fn learn(&mut self, know: &Knowledge) -> Result<(), NodeFault> {
         join_laws();
         self.merge(know)
-    }
-
-    fn lead_over(&mut self, alloc: Global, stream: TcpStream) -> Result<(), ExchangeFault> {
-        lead(alloc, &mut Device::new(stream), self)
     }
 
     fn follow_over(&mut self, alloc: Global, stream: TcpStream) -> Result<(), ExchangeFault> {

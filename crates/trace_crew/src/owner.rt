@@ -15,6 +15,10 @@ use trace_inbox::{Item, Post, Worker};
 use trace_know::{Segment, view_laws};
 use trace_node::NodeFault;
 
+/// How many events are joined before the node is shown on the way for the first time: the workers read
+/// them in less than a second, so who asks the board earlier would hardly see it.
+const FIRST_SHOWN: u64 = 1_000_000;
+
 /// A node, and what was made of the segments that came for it.
 #[derive(Drop)]
 pub struct Hall<'s, 'a> {
@@ -69,24 +73,27 @@ impl<'s, 'a> Hall<'s, 'a> {
         Ok(())
     }
 
-    /// Whether so much was joined since the node was shown that a copy for the board is worth its time:
-    /// three times as much as before. So these copies together cost at most a third more than the last
-    /// of them.
+    /// Whether so much was joined since the node was shown that an answer and a copy for the board are
+    /// worth their time: three times as much as before, and a million events to begin with. So these
+    /// together cost at most a third more than the last of them.
     fn is_due(&self) -> bool {
-        self.joined / 4 >= self.shown && self.joined > 0
+        self.joined >= FIRST_SHOWN && self.joined / 4 >= self.shown
     }
 
-    /// Makes the answer to all that was joined, and shows it where that is due. So the last answer, for
-    /// which all wait, has less that is new to it. A refused publish is passed over: the next one shows
-    /// all that this would have shown.
+    /// While nothing waits to be taken: makes the answer to all that was joined, and shows it, where that
+    /// is due. Else only the index of the pairs takes in what was joined, so the last answer, for which
+    /// all wait, has less that is new to it. A refused publish is passed over: the next one shows all that
+    /// this would have shown.
     pub fn rest<R: Wait>(&mut self, rt: &R)
         ensures kept { IsKept self.old.node self.new.node }
         ensures refused { self.new.refused.items ≡ self.old.refused.items }
     {
-        if self.node.catch_up().is_err() || !self.is_due() {
+        if !self.is_due() {
+            // (without memory for it now, the next answer takes it in)
+            let _ = self.node.prepare();
             return;
         }
-        if self.node.publish(rt, self.board).is_ok() {
+        if self.node.catch_up().is_ok() && self.node.publish(rt, self.board).is_ok() {
             self.shown = self.joined;
         }
     }

@@ -72,6 +72,14 @@ impl<'a> Twin<'a> {
         }
     }
 
+    /// Brings the index of the pairs up to what is known, and makes no answer. Without memory for it the
+    /// next answer makes it anew.
+    pub fn prepare(&mut self) -> Result<(), AllocError>
+        ensures { self.new ≡ self.old }
+    {
+        self.node.prepare()
+    }
+
     /// Makes the answer to all that is known, where it isn't made yet. Without memory for it the node is
     /// stale.
     pub fn catch_up(&mut self) -> Result<(), AllocError>

@@ -1,5 +1,5 @@
 -- What the two sides of an exchange do and leave, put together of their steps.
-use Rattle.std.proofs.Common.{◌≡◌, Result, Ok, Err, sym, subst}
+use Rattle.std.proofs.Common.{◌≡◌, Result, Ok, Err, refl, sym, subst}
 use Rattle.mpi_model.specs.Side.{Side, LeavesSide}
 use Rattle.trace_know.specs.View.{View, IsBelow, join}
 use Rattle.trace_node.specs.declared.fault.NodeFault.{NodeFault}
@@ -8,22 +8,43 @@ use Rattle.trace_node.specs.Node.{Held}
 use Rattle.trace_wire.specs.declared.fault.WireFault.{WireFault}
 use Rattle.trace_exchange.specs.declared.fault.ExchangeFault.{ExchangeFault}
 use Rattle.trace_exchange.specs.declared.fault.ExchangeFault.TheVariants.{Write, Read, Merge}
-use Rattle.trace_exchange.specs.Exchange.{Wrote, FailsToWrite, Got, Hears, Learns, IsUnmerged, Leads, Follows, MergeLeaves, LeadLeaves, FollowLeaves}
-use Rattle.trace_exchange.specs.Stream.{halves}
-use Rattle.trace_exchange.proofs.Passing.{wrote_then, wrote_after, unwritten_after, got_then, hears_after}
+use Rattle.trace_exchange.specs.Exchange.{Wrote, FailsToWrite, Got, GetsFrame, ExchangesFrames, Learns, IsUnmerged, Merges, Hears, Leads, Follows, MergeLeaves, LeadLeaves, FollowLeaves}
+use Rattle.trace_exchange.specs.Stream.{Stream, halves}
+use Rattle.trace_exchange.proofs.Passing.{wrote_then, wrote_after, unwritten_after, got_then, gets_after}
 
 -- ---- over a stream
 
--- a frame was written, and then the node heard
-pub led : (r0 r1 r2 w0 w1 w2 : Side) (before after : Held) (r : Result (Unit {0}) ExchangeFault) →
-    Wrote w0 w1 before.know → LeavesSide r0 r1 → Hears r1 r2 before after r → LeavesSide w1 w2 → Leads (halves r0 w0) (halves r2 w2) before after r
-led r0 r1 r2 w0 w1 w2 before after (Ok ok) wrote reads hears writes =
-    (wrote_then w0 w1 w2 before.know wrote writes, hears_after r0 r1 r2 before after (Ok ok) reads hears)
-led r0 r1 r2 w0 w1 w2 before after (Err (Merge fault)) wrote reads hears writes =
-    (wrote_then w0 w1 w2 before.know wrote writes, hears_after r0 r1 r2 before after (Err (Merge fault)) reads hears)
-led r0 r1 r2 w0 w1 w2 before after (Err (Read fault)) wrote reads hears writes =
-    (wrote_then w0 w1 w2 before.know wrote writes, hears_after r0 r1 r2 before after (Err (Read fault)) reads hears)
-led r0 r1 r2 w0 w1 w2 before after (Err (Write fault)) wrote reads hears writes = absurd hears
+-- a frame was written, and then one was read or none
+pub exchanged : (r0 r1 r2 w0 w1 w2 : Side) (know : View) (r : Result View ExchangeFault) →
+    Wrote w0 w1 know → LeavesSide r0 r1 → GetsFrame r1 r2 r → LeavesSide w1 w2 → ExchangesFrames (halves r0 w0) (halves r2 w2) know r
+exchanged r0 r1 r2 w0 w1 w2 know (Ok heard) wrote reads gets writes =
+    (wrote_then w0 w1 w2 know wrote writes, gets_after r0 r1 r2 (Ok heard) reads gets)
+exchanged r0 r1 r2 w0 w1 w2 know (Err (Read fault)) wrote reads gets writes =
+    (wrote_then w0 w1 w2 know wrote writes, gets_after r0 r1 r2 (Err (Read fault)) reads gets)
+exchanged r0 r1 r2 w0 w1 w2 know (Err (Write fault)) wrote reads gets writes = absurd gets
+exchanged r0 r1 r2 w0 w1 w2 know (Err (Merge fault)) wrote reads gets writes = absurd gets
+
+-- frames were exchanged, and then the node merged what it heard
+pub led : (old new : Stream) (before after : Held) (heard : View) (r : Result (Unit {0}) ExchangeFault) →
+    ExchangesFrames old new before.know (Ok heard) → Merges before heard after r → Leads old new before after r
+led old new before after heard (Ok ok) frames merges = (frames.0, (heard, frames.1, merges))
+led old new before after heard (Err (Merge fault)) frames merges = (frames.0, (heard, frames.1, merges))
+led old new before after heard (Err (Read fault)) frames merges = absurd merges
+led old new before after heard (Err (Write fault)) frames merges = absurd merges
+
+-- they were not
+pub unled : (old new : Stream) (node : Held) (fault : ExchangeFault) → ExchangesFrames old new node.know (Err fault) → Leads old new node node (Err fault)
+unled old new node (Write fault) frames = (frames.0, frames.1, refl)
+unled old new node (Read fault) frames = (frames.0, (frames.1, refl))
+unled old new node (Merge fault) frames = absurd frames.1
+
+-- a frame was read, and then the node merged what it tells
+pub heard_one : (old new : Side) (before after : Held) (heard : View) (r : Result (Unit {0}) ExchangeFault) →
+    Got old new heard → Merges before heard after r → Hears old new before after r
+heard_one old new before after heard (Ok ok) got merges = (heard, got, merges)
+heard_one old new before after heard (Err (Merge fault)) got merges = (heard, got, merges)
+heard_one old new before after heard (Err (Read fault)) got merges = absurd merges
+heard_one old new before after heard (Err (Write fault)) got merges = absurd merges
 
 -- the node heard nothing, or refused to merge it
 pub unheard : (r0 r1 w0 w1 : Side) (before after : Held) (fault : ExchangeFault) →
@@ -52,15 +73,15 @@ merge_leaves before after heard Rank why = why.1
 merge_leaves before after heard Memory why = why.1
 merge_leaves before after heard Stale why = (heard, why.1)
 
-pub lead_leaves : (old new : Side) (before after : Held) (r : Result (Unit {0}) ExchangeFault) → Hears old new before after r → LeadLeaves before after r
-lead_leaves old new before after (Ok ok) hears = (hears.0, hears.2)
-lead_leaves old new before after (Err (Merge fault)) hears = merge_leaves before after hears.0 fault hears.2
-lead_leaves old new before after (Err (Read fault)) hears = hears.2
-lead_leaves old new before after (Err (Write fault)) hears = absurd hears
+pub lead_leaves : (before after : Held) (heard : View) (r : Result (Unit {0}) ExchangeFault) → Merges before heard after r → LeadLeaves before after r
+lead_leaves before after heard (Ok ok) merges = (heard, merges)
+lead_leaves before after heard (Err (Merge fault)) merges = merge_leaves before after heard fault merges
+lead_leaves before after heard (Err (Read fault)) merges = absurd merges
+lead_leaves before after heard (Err (Write fault)) merges = absurd merges
 
 pub unheard_leaves : (old new : Side) (before after : Held) (fault : ExchangeFault) → Hears old new before after (Err fault) → FollowLeaves before after (Err fault)
 unheard_leaves old new before after (Merge fault) hears = merge_leaves before after hears.0 fault hears.2
-unheard_leaves old new before after (Read fault) hears = hears.2
+unheard_leaves old new before after (Read fault) hears = hears.1
 unheard_leaves old new before after (Write fault) hears = absurd hears
 
 -- ---- what a node knows grows
@@ -83,12 +104,6 @@ module _ (above : (a b : View) → IsBelow a (join a b)) (same : (a : View) → 
 
   learned : (before after : Held) (heard : View) → Learns before heard after → IsBelow before.know after.know
   learned before after heard learns = subst (λ (h : Held). IsBelow before.know h.know) (sym learns.1) (above before.know heard)
-
-  pub leader_grows : (before after : Held) (r : Result (Unit {0}) ExchangeFault) → LeadLeaves before after r → IsBelow before.know after.know
-  leader_grows before after (Ok ok) left = learned before after left.0 left.1
-  leader_grows before after (Err (Merge fault)) left = merged before after fault left
-  leader_grows before after (Err (Read fault)) left = unchanged before after left
-  leader_grows before after (Err (Write fault)) left = unchanged before after left
 
   pub follower_grows : (before after : Held) (r : Result (Unit {0}) ExchangeFault) → FollowLeaves before after r → IsBelow before.know after.know
   follower_grows before after (Ok ok) left = learned before after left.0 left.1

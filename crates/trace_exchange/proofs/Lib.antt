@@ -1,4 +1,3 @@
-pub mod Merging
 pub mod Passing
 pub mod Leaving
 pub mod Meeting

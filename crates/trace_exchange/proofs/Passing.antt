@@ -5,7 +5,6 @@ use Rattle.std.specs.Io.KnownBytes.{Appends, Consumes, Keeps}
 use Rattle.mpi_model.specs.Failures.{one_more}
 use Rattle.mpi_model.specs.Side.{Side, LeavesSide}
 use Rattle.trace_know.specs.View.{View}
-use Rattle.trace_node.specs.Node.{Held}
 use Rattle.trace_wire.specs.declared.fault.WireFault.{WireFault}
 use Rattle.trace_wire.specs.declared.fault.WireFault.TheVariants as wires
 use Rattle.trace_wire.specs.FirstFault.{frame_at}
@@ -13,7 +12,7 @@ use Rattle.trace_wire.specs.Frames.{frame_of}
 use Rattle.trace_wire.specs.Reading.{IsUnread, StaysWithin}
 use Rattle.trace_exchange.specs.declared.fault.ExchangeFault.{ExchangeFault}
 use Rattle.trace_exchange.specs.declared.fault.ExchangeFault.TheVariants.{Write, Read, Merge}
-use Rattle.trace_exchange.specs.Exchange.{Wrote, FailsToWrite, Got, Hears}
+use Rattle.trace_exchange.specs.Exchange.{Wrote, FailsToWrite, Got, GetsFrame}
 
 -- ---- bytes that are kept before or after
 
@@ -110,12 +109,12 @@ unread_after a b now wires.Rest leaves why = no_frame_after a b now (blames wire
 within_after : (a b c : Side) → LeavesSide a b → StaysWithin b.bytes c.bytes → StaysWithin a.bytes c.bytes
 within_after a b c leaves within = (within.0, within.1, consumes_after a.bytes b.bytes c.bytes within.0 leaves.bytes within.2)
 
--- What a node heard after a write, it heard of the stream as it was before.
-pub hears_after : (a b c : Side) (before after : Held) (r : Result (Unit {0}) ExchangeFault) → LeavesSide a b → Hears b c before after r → Hears a c before after r
-hears_after a b c before after (Ok ok) leaves hears = (hears.0, got_after a b c hears.0 leaves hears.1, hears.2)
-hears_after a b c before after (Err (Merge fault)) leaves hears = (hears.0, got_after a b c hears.0 leaves hears.1, hears.2)
-hears_after a b c before after (Err (Read fault)) leaves hears = (unread_after a b c.failures fault leaves hears.0, within_after a b c leaves hears.1, hears.2)
-hears_after a b c before after (Err (Write fault)) leaves hears = absurd hears
+-- What was read after a write was read of the stream as it was before.
+pub gets_after : (a b c : Side) (r : Result View ExchangeFault) → LeavesSide a b → GetsFrame b c r → GetsFrame a c r
+gets_after a b c (Ok heard) leaves gets = got_after a b c heard leaves gets
+gets_after a b c (Err (Read fault)) leaves gets = (unread_after a b c.failures fault leaves gets.0, within_after a b c leaves gets.1)
+gets_after a b c (Err (Write fault)) leaves gets = absurd gets
+gets_after a b c (Err (Merge fault)) leaves gets = absurd gets
 
 -- ---- both halves
 

@@ -1,5 +1,5 @@
 -- What an exchange does to a stream and a node, and what it leaves where it is refused.
-use Rattle.std.specs.Prelude.{◌≡◌, false, true, Result, Ok, Err}
+use Rattle.std.specs.Prelude.{◌≡◌, false, true, Result, Ok, Err, ⊤}
 use Rattle.std.specs.FinMap.{entries}
 use Rattle.std.specs.Io.KnownBytes.{Appends, Consumes}
 use Rattle.mpi_model.specs.Side.{Side, LeavesSide}
@@ -29,6 +29,32 @@ FailsToWrite old new know fault = IsUnwritten (entries know) old.bytes new.bytes
 abbrev pub Got : Side → Side → View → Type 0
 Got old new heard = HasFrame (entries heard) × Consumes old.bytes new.bytes (frame_of heard) × (new.failures ≡ old.failures)
 
+-- None was, for this cause, and no byte past it.
+abbrev pub FailsToRead : Side → Side → WireFault → Type 0
+FailsToRead old new fault = IsUnread old.bytes old.failures new.failures fault × StaysWithin old.bytes new.bytes
+
+-- One was read, or none.
+abbrev pub GetsFrame : Side → Side → Result View ExchangeFault → Type 0
+GetsFrame old new (Ok heard) = Got old new heard
+GetsFrame old new (Err (Read fault)) = FailsToRead old new fault
+GetsFrame old new (Err fault) = ⊥
+
+-- ---- one frame each way
+
+-- The frame of what is known was written, and then one was read. Where the write was refused, nothing was read.
+abbrev pub ExchangesFrames : Stream → Stream → View → Result View ExchangeFault → Type 0
+ExchangesFrames old new know (Err (Write fault)) = FailsToWrite old.writes new.writes know fault × LeavesSide old.reads new.reads
+ExchangesFrames old new know result = Wrote old.writes new.writes know × GetsFrame old.reads new.reads result
+
+-- What is known has a frame, and what was heard.
+abbrev pub HaveFrames : View → View → Type 0
+HaveFrames know heard = HasFrame (entries know) × HasFrame (entries heard)
+
+-- It is why a frame was not written or not read, and not why a merge was refused.
+abbrev pub IsOfFrame : ExchangeFault → Type 0
+IsOfFrame (Merge fault) = ⊥
+IsOfFrame fault = ⊤
+
 -- ---- a node
 
 -- a node that has joined more: with an answer to all of it, or without
@@ -49,6 +75,12 @@ IsUnmerged before heard after Rank = HasStranger before.layout heard × (after �
 IsUnmerged before heard after Memory = (HasStranger before.layout heard → ⊥) × (after ≡ before)
 IsUnmerged before heard after Stale = (HasStranger before.layout heard → ⊥) × (after ≡ stale_with_more before heard)
 
+-- A node joined what was heard, or refused that.
+abbrev pub Merges : Held → View → Held → Result (Unit {0}) ExchangeFault → Type 0
+Merges before heard after (Ok ok) = Learns before heard after
+Merges before heard after (Err (Merge fault)) = IsUnmerged before heard after fault
+Merges before heard after (Err fault) = ⊥
+
 -- ---- an exchange
 
 -- A frame was read, and the node joined what it tells; or the node refused that; or no frame was read and no byte past it,
@@ -56,7 +88,7 @@ IsUnmerged before heard after Stale = (HasStranger before.layout heard → ⊥) 
 abbrev pub Hears : Side → Side → Held → Held → Result (Unit {0}) ExchangeFault → Type 0
 Hears old new before after (Ok ok) = (heard : View) × Got old new heard × Learns before heard after
 Hears old new before after (Err (Merge fault)) = (heard : View) × Got old new heard × IsUnmerged before heard after fault
-Hears old new before after (Err (Read fault)) = IsUnread old.bytes old.failures new.failures fault × StaysWithin old.bytes new.bytes × (after ≡ before)
+Hears old new before after (Err (Read fault)) = FailsToRead old new fault × (after ≡ before)
 Hears old new before after (Err (Write fault)) = ⊥
 
 -- The leader's frame was written, and then it heard. Where the write was refused, nothing was read, and the node is as it

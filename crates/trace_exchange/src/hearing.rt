@@ -1,14 +1,25 @@
-//! One frame, read and merged: what both sides of an exchange do.
+//! A frame that a node hears: it is read, and what it tells is merged.
 
 ghost use Rattle.mpi_model.specs.Side.{LeavesSide};
-ghost use Rattle.trace_exchange.specs.Exchange.{Hears};
+ghost use Rattle.trace_exchange.specs.Exchange.{Hears, Merges};
 ghost use Rattle.trace_exchange.specs.Stream.{side};
 
 use crate::fault::ExchangeFault;
+use crate::frames::heard_frame;
 use mpi_model::Read;
 use std::alloc::Global;
+use trace_know::Knowledge;
 use trace_node::Node;
-use trace_wire::read_frame;
+
+/// Merges what a frame told: what both sides of an exchange do with it.
+pub(crate) fn merge_heard<'a>(node: &mut Node<'a>, heard: &Knowledge) -> Result<(), ExchangeFault>
+    ensures { Merges node.old heard.now node.new result }
+{
+    match node.merge(heard) {
+        Ok(()) => Ok(()),
+        Err(fault) => Err(ExchangeFault::Merge(fault)),
+    }
+}
 
 /// Reads one frame, and merges what it tells.
 pub(crate) fn hear<'a, R: Read>(
@@ -19,12 +30,8 @@ pub(crate) fn hear<'a, R: Read>(
     ensures value { Hears (side (R.left reader.old) (R.failures reader.old)) (side (R.left reader.new) (R.failures reader.new)) node.old node.new result }
     ensures beside { LeavesSide (R.write_side reader.old) (R.write_side reader.new) }
 {
-    let heard = match read_frame(alloc, reader) {
-        Ok(heard) => heard,
-        Err(fault) => return Err(ExchangeFault::Read(fault)),
-    };
-    match node.merge(&heard) {
-        Ok(()) => Ok(()),
-        Err(fault) => Err(ExchangeFault::Merge(fault)),
+    match heard_frame(alloc, reader) {
+        Ok(heard) => merge_heard(node, &heard),
+        Err(fault) => Err(fault),
     }
 }

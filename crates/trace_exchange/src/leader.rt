@@ -6,12 +6,12 @@ ghost use Rattle.trace_exchange.specs.Exchange.{Leads, LeadLeaves};
 ghost use Rattle.trace_exchange.specs.Stream.{IsStream, halves, side};
 
 use crate::fault::ExchangeFault;
-use crate::hearing::hear;
+use crate::frames::exchange_frames;
+use crate::hearing::merge_heard;
 use mpi_model::{Read, Write};
 use std::alloc::Global;
 use trace_know::join_laws;
 use trace_node::Node;
-use trace_wire::write_frame;
 
 /// Writes the frame of all that the node knows, then reads one frame and merges it.
 ///
@@ -32,8 +32,8 @@ pub fn lead<'a, S: Read + Write>(
     ensures grows { IsBelow node.old.know node.new.know }
 {
     join_laws();
-    match write_frame(node.know(), stream) {
-        Ok(()) => hear(alloc, stream, node),
-        Err(fault) => Err(ExchangeFault::Write(fault)),
+    match exchange_frames(alloc, stream, node.know()) {
+        Ok(heard) => merge_heard(node, &heard),
+        Err(fault) => Err(fault),
     }
 }

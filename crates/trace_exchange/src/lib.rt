@@ -3,7 +3,8 @@
 //! One node leads and the other follows. [`lead`] sends the frame of its node's knowledge, then
 //! reads one frame and merges it; [`follow`] reads one frame and merges it, then sends the frame of
 //! all that its node knows by then. Fed with each other's bytes both nodes know the join of the two:
-//! what goes back is what came joined with what was there.
+//! what goes back is what came joined with what was there. [`exchange_frames`] is what a leader does
+//! before it merges, for one who has knowledge and no node at hand.
 //!
 //! Where an exchange is refused, [`ExchangeFault`] tells which of its three steps failed, and so
 //! what was done before: the steps are tried in the order of the call, none is tried after a refused
@@ -13,7 +14,8 @@
 //! waits for the other side.
 //!
 //! - [`fault`]: why an exchange is refused
-//! - [`hearing`]: one frame, read and merged
+//! - [`frames`]: one frame read, and one each way
+//! - [`hearing`]: what a frame tells, merged into a node
 //! - [`leader`] and [`follower`]: the two sides of an exchange
 //! - [`laws`]: what both nodes know after it, as the contract of a call that does nothing
 //!
@@ -22,11 +24,13 @@
 
 mod fault;
 mod follower;
+mod frames;
 mod hearing;
 mod laws;
 mod leader;
 
 pub use fault::ExchangeFault;
 pub use follower::follow;
+pub use frames::exchange_frames;
 pub use laws::exchange_laws;
 pub use leader::lead;

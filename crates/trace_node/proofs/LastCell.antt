@@ -1,5 +1,5 @@
 -- Whether something is known of a rank that the layout doesn't have, told by the last cell.
-use Rattle.std.proofs.Common.{◌≡◌, ◌↔◌, ℕ, suc, ◌+◌, ◌-◌, ◌<◌, ◌≤◌, Option, Some, None, List, map, length, get_or, refl, sym, ◌∙◌, ap, subst, arith, ⊎_elim, IsSome, IsTrue, Bool, ◌⊎◌, inl, inr}
+use Rattle.std.proofs.Common.{◌≡◌, ◌↔◌, ℕ, ◌+◌, ◌<◌, ◌≤◌, Option, Some, List, map, length, get_or, refl, sym, ◌∙◌, ap, subst, arith, ⊎_elim, IsSome, IsTrue, Bool, ◌⊎◌, inl, inr}
 use Rattle.std.specs.Prelude.{Contains}
 use Rattle.std.specs.List.{slice_get}
 use Rattle.std.specs.List.Sorted.{IsStrictlySortedBy}

@@ -5,6 +5,6 @@ pub mod Within
 pub mod Walls
 pub mod One
 pub mod Same
-pub mod Mixed
+pub mod Below
 pub mod Follows
 pub mod Nodes

@@ -1,5 +1,5 @@
 -- There is one answer.
-use Rattle.std.proofs.Common.{◌≡◌, ◌↔◌, ℕ, true, List, Option, map, sym, ◌∙◌, ap}
+use Rattle.std.proofs.Common.{◌≡◌, ℕ, List, Option, map, sym, ◌∙◌, ap}
 use Rattle.mpi_model.specs.Layouts.{Parts}
 use Rattle.trace_know.specs.View.{View}
 use Rattle.trace_ops.specs.Ops.{Ops}

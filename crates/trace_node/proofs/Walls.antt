@@ -1,7 +1,6 @@
 -- Past the places of a trace nothing is known.
 use Rattle.std.proofs.Common.{◌≡◌, ℕ, ◌*◌, ◌-◌, ◌^◌, ◌<◌, ◌≤◌, min, Option, Some, None, refl, sym, ◌∙◌, ap, arith, ⊎_elim}
 use Rattle.std.proofs.lemmas.Bool.{cases_order}
-use Rattle.mpi_model.specs.declared.event.Event.{Event}
 use Rattle.trace_know.specs.declared.cell.Known.{Known}
 use Rattle.trace_know.specs.Placed.{IsKnowledge}
 use Rattle.trace_know.specs.Prefix.{event_of, event_at}

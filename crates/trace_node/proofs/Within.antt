@@ -1,16 +1,15 @@
 -- Knowledge stays within the ranks of the layout.
-use Rattle.std.proofs.Common.{◌≡◌, ◌↔◌, ℕ, zero, suc, ◌+◌, ◌<◌, ◌≤◌, Bool, false, Option, Some, None, List, [], ◌∷◌, length, refl, sym, ◌∙◌, ap, subst, arith, ⊎_elim, ◌⊎◌, inl, inr, IsSome, IsTrue}
-use Rattle.std.specs.Prelude.{Contains, All}
+use Rattle.std.proofs.Common.{◌≡◌, ℕ, zero, suc, ◌+◌, ◌<◌, Option, Some, None, List, [], ◌∷◌, refl, sym, ap, subst, arith, ⊎_elim, ◌⊎◌, inl, inr, IsSome}
+use Rattle.std.specs.Prelude.{Contains}
 use Rattle.std.specs.FinMap.{empty, get-empty}
 use Rattle.std.proofs.lemmas.Bool.{cases_order}
-use Rattle.std.proofs.lemmas.List.Elements.{All-contains}
 use Rattle.mpi_model.specs.Layouts.{Parts}
 use Rattle.mpi_model.specs.declared.event.Event.{Event}
 use Rattle.trace_know.specs.declared.cell.Known.{Known}
 use Rattle.trace_know.specs.declared.cell.Known.TheVariants.{One, Contradiction}
 use Rattle.trace_know.specs.Cell.{join_cell}
 use Rattle.trace_know.specs.Segment.{PlacedEvents}
-use Rattle.trace_know.specs.Trace.{Fact, Trace, IsCellOf, facts_from, facts_of, view_of}
+use Rattle.trace_know.specs.Trace.{Fact, IsCellOf, facts_from, facts_of, view_of}
 use Rattle.trace_know.specs.View.{View, cell, join, place_cmp}
 use Rattle.trace_node.specs.Node.{HasStranger, IsWithin}
 

@@ -1,85 +1,190 @@
-//! The index of the pairs, as more is known: ranks whose readable events are as before are passed over.
+//! The index of the pairs, as more is known: it is followed rank by rank, and a rank can be left as it
+//! was known before.
 
-ghost use Rattle.std.specs.Prelude.{◌≡◌, ◌<◌, ◌+◌, Some, IsTrue, IfOk, OnOk, slice_get};
-ghost use Rattle.trace_know.specs.Prefix.{is_beyond, prefix_of};
+ghost use Rattle.std.specs.Prelude.{◌≡◌, ◌<◌, ◌+◌, Some, IsTrue, IfOk, IfSome, OnOk, slice_get, slice_set};
 ghost use Rattle.trace_ops.specs.RankOps.{all_ops};
-ghost use Rattle.trace_node.specs.Following.{IsFollowing};
+ghost use Rattle.trace_node.specs.Following.{IsFollowing, IsFollowedTo, reach_of, reaches_of};
 
-use crate::answer::Answer;
 use mpi_model::Layout;
 use std::alloc::{AllocError, Global};
 use trace_know::{Knowledge, growth_laws};
 use trace_ops::{all_ops, ops_laws, ops_of};
-use trace_pair::{IndexChange, PairIndex};
+use trace_pair::PairIndex;
 
-/// Whether the rank's readable prefix is as before, and so is whether more is known of it.
-fn is_unchanged(know: &Knowledge, prefixes: &[u64], beyond: &[bool], rank: u32) -> bool
-    ensures prefix { IsTrue result → slice_get prefixes.now rank ≡ Some (prefix_of know.now rank) }
-    ensures beyond { IsTrue result → slice_get beyond.now rank ≡ Some (is_beyond know.now rank) }
+/// How far a rank is known: its readable prefix, and whether more is known past it.
+#[derive(Clone, Copy)]
+pub(crate) struct Reach {
+    pub prefix: u64,
+    pub beyond: bool,
+}
+
+/// The index of the pairs, and how far each rank was known when its calls came in.
+#[derive(Drop)]
+pub(crate) struct Followed {
+    pub index: PairIndex,
+    pub reaches: Vec<Reach>,
+}
+
+fn reach_of(know: &Knowledge, rank: u32) -> Reach
+    ensures { result ≡ reach_of know.now rank }
 {
-    match (prefixes.get(rank as usize), beyond.get(rank as usize)) {
-        (Some(prefix), Some(beyond)) => *prefix == know.prefix(rank)
-            && *beyond == know.beyond(rank),
-        _ => false,
+    Reach {
+        prefix: know.prefix(rank),
+        beyond: know.beyond(rank),
     }
 }
 
-/// Follows one rank: its calls are added to, or cut back, or left.
-fn follow_rank(
-    alloc: Global,
-    layout: &Layout,
-    know: &Knowledge,
-    prefixes: &[u64],
-    beyond: &[bool],
-    rank: u32,
-    index: &mut IndexChange,
-) -> Result<(), AllocError>
-    requires rank { rank < layout.now.ranks }
-    requires follows { IsFollowing layout.now know.now prefixes.now beyond.now rank index.old }
-    ensures { OnOk result (IsFollowing layout.now know.now prefixes.now beyond.now (rank + 1) index.new) }
+/// How far each rank is known.
+fn reaches_of(alloc: Global, layout: &Layout, know: &Knowledge) -> Result<Vec<Reach>, AllocError>
+    ensures { IfOk result (λ v. v.items ≡ reaches_of layout.now know.now) }
 {
-    ops_laws();
-    growth_laws();
-    if is_unchanged(know, prefixes, beyond, rank) {
-        return Ok(());
-    }
-    index.set(rank, ops_of(alloc, layout, know, rank)?)
-}
-
-/// The index of all that is known, from that of what was known at an older answer.
-pub(crate) fn followed(
-    alloc: Global,
-    layout: &Layout,
-    know: &Knowledge,
-    before: &Answer,
-    index: PairIndex,
-) -> Result<PairIndex, AllocError>
-    requires { IsFollowing layout.now know.now before.now.prefixes before.now.beyond 0 index }
-    ensures { IfOk result (λ held. held ≡ all_ops layout.now know.now) }
-{
-    let mut index = index.change();
+    let mut reaches = Vec::new(alloc);
     for rank in 0..layout.ranks() {
-        follow_rank(
-            alloc,
-            layout,
-            know,
-            before.prefixes(),
-            before.beyond(),
-            rank,
-            &mut index,
-        )?;
+        reaches.push(reach_of(know, rank))?;
     }
-    index.done()
+    Ok(reaches)
 }
 
-/// The index of all that is known, from nothing.
-pub(crate) fn index_of(
+/// Whether the rank is known as far as it was.
+fn is_unchanged(know: &Knowledge, reaches: &[Reach], rank: u32) -> bool
+    ensures { IsTrue result → slice_get reaches.now rank ≡ Some (reach_of know.now rank) }
+{
+    match reaches.get(rank as usize) {
+        Some(reach) => reach.prefix == know.prefix(rank) && reach.beyond == know.beyond(rank),
+        None => false,
+    }
+}
+
+/// Whether the rank's readable prefix is longer or shorter by more than a quarter than it was. Whatever
+/// is said here, the index is right. As more is known a prefix only grows, until a place below it is
+/// contradicted, and then it only shrinks: so of the passes over a rank's calls that are made for this,
+/// all that grow cost five times the longest at most, and all that shrink three times.
+fn is_far(know: &Knowledge, reaches: &[Reach], rank: u32) -> bool {
+    match reaches.get(rank as usize) {
+        Some(reach) => reach.prefix.abs_diff(know.prefix(rank)) > reach.prefix / 4,
+        None => true,
+    }
+}
+
+impl Followed {
+    /// All that is known, from nothing.
+    fn of_all(alloc: Global, layout: &Layout, know: &Knowledge) -> Result<Followed, AllocError>
+        ensures follows { IfOk result (λ f. IsFollowing layout.now know.now f) }
+        ensures index { IfOk result (λ f. f.index ≡ all_ops layout.now know.now) }
+    {
+        ops_laws();
+        let reaches = reaches_of(alloc, layout, know)?;
+        let index = PairIndex::of_all(alloc, all_ops(alloc, layout, know)?)?;
+        Ok(Followed { index, reaches })
+    }
+
+    /// Follows one rank: its calls are added to, or cut back. Where memory is refused, no call of any
+    /// rank is left in the index.
+    fn follow_rank(
+        &mut self,
+        alloc: Global,
+        layout: &Layout,
+        know: &Knowledge,
+        rank: u32,
+    ) -> Result<(), AllocError>
+        requires rank { rank < layout.now.ranks }
+        requires follows { IsFollowing layout.now know.now self.old }
+        ensures follows { OnOk result (IsFollowing layout.now know.now self.new) }
+        ensures reaches { OnOk result (self.new.reaches.items ≡ slice_set self.old.reaches.items rank (reach_of know.now rank)) }
+    {
+        ops_laws();
+        self.index.set(rank, ops_of(alloc, layout, know, rank)?)?;
+        self.reaches[rank as usize] = reach_of(know, rank);
+        Ok(())
+    }
+
+    /// Follows the next rank, where it isn't known as far as it was.
+    fn follow_next(
+        &mut self,
+        alloc: Global,
+        layout: &Layout,
+        know: &Knowledge,
+        rank: u32,
+    ) -> Result<(), AllocError>
+        requires rank { rank < layout.now.ranks }
+        requires followed { IsFollowedTo layout.now know.now rank self.old }
+        ensures { OnOk result (IsFollowedTo layout.now know.now (rank + 1) self.new) }
+    {
+        if is_unchanged(know, &self.reaches, rank) {
+            return Ok(());
+        }
+        self.follow_rank(alloc, layout, know, rank)
+    }
+
+    /// Follows the ranks that aren't known as far as they were.
+    fn follow_all(
+        &mut self,
+        alloc: Global,
+        layout: &Layout,
+        know: &Knowledge,
+    ) -> Result<(), AllocError>
+        requires { IsFollowing layout.now know.now self.old }
+        ensures follows { OnOk result (IsFollowing layout.now know.now self.new) }
+        ensures index { OnOk result (self.new.index ≡ all_ops layout.now know.now) }
+    {
+        growth_laws();
+        for rank in 0..layout.ranks() {
+            self.follow_next(alloc, layout, know, rank)?;
+        }
+        Ok(())
+    }
+
+    /// Follows the ranks of which much has changed, and leaves the others as they are.
+    fn follow_far(
+        &mut self,
+        alloc: Global,
+        layout: &Layout,
+        know: &Knowledge,
+    ) -> Result<(), AllocError>
+        requires { IsFollowing layout.now know.now self.old }
+        ensures { OnOk result (IsFollowing layout.now know.now self.new) }
+    {
+        for rank in 0..layout.ranks() {
+            if is_far(know, &self.reaches, rank) {
+                self.follow_rank(alloc, layout, know, rank)?;
+            }
+        }
+        Ok(())
+    }
+}
+
+/// The index of all that is known, from an older one, where it is kept.
+pub(crate) fn caught_up(
     alloc: Global,
     layout: &Layout,
     know: &Knowledge,
-) -> Result<PairIndex, AllocError>
-    ensures { IfOk result (λ held. held ≡ all_ops layout.now know.now) }
+    before: Option<Followed>,
+) -> Result<Followed, AllocError>
+    requires { IfSome before (IsFollowing layout.now know.now) }
+    ensures follows { IfOk result (λ f. IsFollowing layout.now know.now f) }
+    ensures index { IfOk result (λ f. f.index ≡ all_ops layout.now know.now) }
 {
-    ops_laws();
-    PairIndex::of_all(alloc, all_ops(alloc, layout, know)?)
+    let Some(mut followed) = before else {
+        return Followed::of_all(alloc, layout, know);
+    };
+    followed.follow_all(alloc, layout, know)?;
+    Ok(followed)
+}
+
+/// An index for when all that is known is asked for: an older one, where it is kept, that follows the
+/// ranks of which much has changed; else that of all that is known.
+pub(crate) fn prepared(
+    alloc: Global,
+    layout: &Layout,
+    know: &Knowledge,
+    before: Option<Followed>,
+) -> Result<Followed, AllocError>
+    requires { IfSome before (IsFollowing layout.now know.now) }
+    ensures { IfOk result (λ f. IsFollowing layout.now know.now f) }
+{
+    let Some(mut followed) = before else {
+        return Followed::of_all(alloc, layout, know);
+    };
+    followed.follow_far(alloc, layout, know)?;
+    Ok(followed)
 }

@@ -11,8 +11,9 @@
 //! messages, receives, collective calls and pairs.
 //!
 //! Who takes many segments can have them held without an answer ([`Node::hold`]), and ask for one when
-//! it is wanted ([`Node::catch_up`]): then the ranks that changed since the last answer cost their events
-//! once, and the answer its one pass.
+//! it is wanted ([`Node::catch_up`]): then the ranks that changed since they were followed cost their
+//! events once, and the answer its one pass. [`Node::prepare`] follows them before: called as segments
+//! come, it leaves less for then, and costs no more than some eight such passes over a rank's events.
 //!
 //! Where there is no memory for an answer, the knowledge is kept and the node is stale until
 //! [`Node::catch_up`] or [`Node::refresh`]: it loses no fact.
@@ -21,7 +22,7 @@
 //! - [`stuck`]: a stuck rank; [`answer`]: what is told; `answer::parts`: its parts; `answer::gather`:
 //!   the way there
 //! - [`strangers`]: whether something is known of a rank that the layout doesn't have
-//! - [`follow`]: the index of the pairs, as more is known
+//! - [`follow`]: the index of the pairs, as more is known, and how far each rank was known in it
 //! - [`node`]: knowledge with its answer
 //! - [`laws`]: that there is one answer, as the contract of a call that does nothing
 //!

@@ -1,17 +1,17 @@
 //! A node: knowledge with its answer.
 
-ghost use Rattle.std.specs.Prelude.{◌≡◌, ◌≢◌, ◌↔◌, ◌≤◌, true, false, IsTrue, IfOk, OnOk, OnErr, IfErr, IsErr, IsErrOf};
+ghost use Rattle.std.specs.Prelude.{◌≡◌, ◌≢◌, ◌↔◌, ◌≤◌, true, false, IsTrue, IfOk, IfSome, OnOk, OnErr, IfErr, IsErr, IsErrOf};
 ghost use Rattle.std.specs.FinMap.{empty};
 ghost use Rattle.trace_know.specs.Trace.{facts_of, view_of};
 ghost use Rattle.trace_know.specs.View.{join};
 ghost use Rattle.trace_ops.specs.RankOps.{all_ops};
 ghost use Rattle.trace_node.specs.Answer.{IsAnswer};
-ghost use Rattle.trace_node.specs.Following.{WereTold};
+ghost use Rattle.trace_node.specs.Following.{IsFollowing};
 ghost use Rattle.trace_node.specs.Node.{HasStranger, IsWithin, held};
 
 use crate::answer::{Answer, answer_of};
 use crate::fault::{NodeFault, Stale};
-use crate::follow::{followed, index_of};
+use crate::follow::{Followed, caught_up, prepared};
 use crate::strangers::has_stranger;
 use mpi_model::Layout;
 use std::alloc::{AllocError, Global};
@@ -20,8 +20,8 @@ use trace_know::{Knowledge, Segment, join_laws, view_laws};
 use trace_ops::ops_laws;
 use trace_pair::PairIndex;
 
-/// All that is known of the run of a layout, with the answer to it. A stale node has no answer to what
-/// it knows: there was no memory for it, or what came was only held. It has one again after
+/// All that is known of the run of a layout, with the answer to it. A stale node has no answer: there
+/// was no memory for it, or what came was only held. It has one again after
 /// [`catch_up`](Self::catch_up) or [`refresh`](Self::refresh); its knowledge is whole.
 ///
 /// In a contract a node is seen as its layout, its knowledge, and whether it is stale.
@@ -30,15 +30,14 @@ pub struct Node<'a> {
     alloc: Global,
     layout: &'a Layout,
     know: Knowledge,
-    /// The pairs of all that was known at the last answer, where they are kept.
-    index: Option<PairIndex>,
-    /// The last answer, where it is kept.
+    /// The index of the pairs, where it is kept: of each rank by what was known when it was followed.
+    followed: Option<Followed>,
+    /// The answer to all that is known, unless the node is stale.
     answer: Option<Answer>,
-    /// Whether it is not the answer to all that is known.
-    is_stale: bool,
 }
 
 impl<'a> Model for Node<'a> {
+    ghost use Rattle.std.specs.Prelude.{is_none};
     ghost use Rattle.trace_node.specs.Codes.{coded_held};
     ghost use Rattle.trace_node.specs.Following.{IsNode};
     ghost use Rattle.trace_node.specs.Node.{Held};
@@ -47,9 +46,9 @@ impl<'a> Model for Node<'a> {
 
     ghost coded = { coded_held };
 
-    ghost view = { λ n. record { layout = n.layout.now; know = n.know; is_stale = n.is_stale } };
+    ghost view = { λ n. record { layout = n.layout.now; know = n.know; is_stale = is_none n.answer } };
 
-    ghost invariant = { λ n. IsNode n.layout.now n.know n.index n.answer n.is_stale };
+    ghost invariant = { λ n. IsNode n.layout.now n.know n.followed n.answer };
 }
 
 impl<'a> Node<'a> {
@@ -81,14 +80,13 @@ impl<'a> Node<'a> {
         requires { IsWithin layout.now know }
         ensures { IfOk result (λ n. n ≡ held layout.now know false) }
     {
-        let told = told_after(alloc, layout, &know, None, None)?;
+        let told = told_after(alloc, layout, &know, None)?;
         Ok(Node {
             alloc,
             layout,
             know,
-            index: Some(told.index),
+            followed: Some(told.followed),
             answer: Some(told.answer),
-            is_stale: false,
         })
     }
 
@@ -103,7 +101,7 @@ impl<'a> Node<'a> {
         ensures memory { IsErrOf result NodeFault.Memory → self.new ≡ self.old }
         ensures stale { IsErrOf result NodeFault.Stale → self.new ≡ held self.old.layout (join self.old.know (view_of (facts_of segment.now))) true }
     {
-        let was_stale = self.is_stale;
+        let was_stale = self.answer.is_none();
         self.hold(segment)?;
         self.answer_again(was_stale)
     }
@@ -123,7 +121,7 @@ impl<'a> Node<'a> {
         if self.know.take(segment).is_err() {
             return Err(NodeFault::Memory);
         }
-        self.is_stale = true;
+        put(&mut self.answer, None);
         Ok(())
     }
 
@@ -138,7 +136,7 @@ impl<'a> Node<'a> {
         ensures memory { IsErrOf result NodeFault.Memory → self.new ≡ self.old }
         ensures stale { IsErrOf result NodeFault.Stale → self.new ≡ held self.old.layout (join self.old.know other.now) true }
     {
-        let was_stale = self.is_stale;
+        let was_stale = self.answer.is_none();
         self.hold_all(other)?;
         self.answer_again(was_stale)
     }
@@ -156,7 +154,7 @@ impl<'a> Node<'a> {
         if self.know.join(other).is_err() {
             return Err(NodeFault::Memory);
         }
-        self.is_stale = true;
+        put(&mut self.answer, None);
         Ok(())
     }
 
@@ -173,23 +171,34 @@ impl<'a> Node<'a> {
         Ok(())
     }
 
-    /// Makes the answer to all that is known, from the last one where it is kept: ranks whose
-    /// readable events are as they were then cost nothing but their part of the answer. Where there
-    /// is no memory for it, the node is stale, and the last answer isn't kept.
-    #[tactic(auto, using(crate::proofs::Nodes::were_told))]
+    /// Brings the index of the pairs up to what is known, and makes no answer: who holds many segments
+    /// and calls this as they come has less to do when the answer is asked for. It costs little when
+    /// there is little new: a rank is followed only where its readable prefix has changed by more than a
+    /// quarter since it was, so that all the passes over its calls cost no more than some eight times the
+    /// longest, however often this is called. Where there is no memory for it, the index isn't kept.
+    pub fn prepare(&mut self) -> Result<(), AllocError>
+        ensures { self.new ≡ self.old }
+    {
+        let before = self.followed.take();
+        let followed = prepared(self.alloc, self.layout, &self.know, before)?;
+        put(&mut self.followed, Some(followed));
+        Ok(())
+    }
+
+    /// Makes the answer to all that is known, from the index of the pairs where it is kept: ranks whose
+    /// readable events are as they were when they were followed cost nothing but their part of the
+    /// answer. Where there is no memory for it, the node is stale, and the index isn't kept.
     pub fn catch_up(&mut self) -> Result<(), AllocError>
         ensures ok { OnOk result (self.new ≡ held self.old.layout self.old.know false) }
         ensures err { OnErr result (self.new ≡ held self.old.layout self.old.know true) }
     {
-        if !self.is_stale {
+        if self.answer.is_some() {
             return Ok(());
         }
-        let index = self.index.take();
-        let before = self.answer.take();
-        let told = told_after(self.alloc, self.layout, &self.know, index, before)?;
-        put(&mut self.index, Some(told.index));
+        let before = self.followed.take();
+        let told = told_after(self.alloc, self.layout, &self.know, before)?;
+        put(&mut self.followed, Some(told.followed));
         put(&mut self.answer, Some(told.answer));
-        self.is_stale = false;
         Ok(())
     }
 
@@ -199,21 +208,16 @@ impl<'a> Node<'a> {
         ensures ok { OnOk result (self.new ≡ held self.old.layout self.old.know false) }
         ensures err { OnErr result (self.new ≡ held self.old.layout self.old.know true) }
     {
-        put(&mut self.index, None);
+        put(&mut self.followed, None);
         put(&mut self.answer, None);
-        self.is_stale = true;
         self.catch_up()
     }
 
     /// The answer to all that is known.
-    #[tactic(auto, using(crate::proofs::Nodes::answer_of_fresh, crate::proofs::Nodes::fresh_has))]
     pub fn answer(&self) -> Result<&Answer, Stale>
         ensures ok { IfOk result (λ a. IsAnswer self.now.layout self.now.know a.now) }
         ensures stale { IsErr result ↔ IsTrue self.now.is_stale }
     {
-        if self.is_stale {
-            return Err(Stale);
-        }
         match &self.answer {
             Some(answer) => Ok(answer),
             None => Err(Stale),
@@ -243,9 +247,8 @@ impl<'a> Node<'a> {
                 alloc: self.alloc,
                 layout: self.layout,
                 know,
-                index: None,
+                followed: None,
                 answer: None,
-                is_stale: true,
             });
         };
         let copy = answer.try_clone()?;
@@ -253,9 +256,8 @@ impl<'a> Node<'a> {
             alloc: self.alloc,
             layout: self.layout,
             know,
-            index: None,
+            followed: None,
             answer: Some(copy),
-            is_stale: false,
         })
     }
 
@@ -279,25 +281,24 @@ fn put<T: Drop>(kept: &mut Option<T>, value: Option<T>)
 /// function is proved over all that it holds at each of its ways out, and a node holds much.
 #[derive(Drop)]
 struct Told {
-    index: PairIndex,
+    followed: Followed,
     answer: Answer,
 }
 
-/// What is told of all that is known, from what was told before, where that was kept.
+/// What is told of all that is known, from an older index, where it is kept.
 fn told_after(
     alloc: Global,
     layout: &Layout,
     know: &Knowledge,
-    index: Option<PairIndex>,
-    before: Option<Answer>,
+    before: Option<Followed>,
 ) -> Result<Told, AllocError>
-    requires { WereTold layout.now know.now index before }
-    ensures index { IfOk result (λ told. told.index ≡ all_ops layout.now know.now) }
+    requires { IfSome before (IsFollowing layout.now know.now) }
+    ensures follows { IfOk result (λ told. IsFollowing layout.now know.now told.followed) }
     ensures answer { IfOk result (λ told. IsAnswer layout.now know.now told.answer) }
 {
-    let index = index_after(alloc, layout, know, index, before)?;
-    let answer = answer_to(alloc, layout, know, &index)?;
-    Ok(Told { index, answer })
+    let followed = caught_up(alloc, layout, know, before)?;
+    let answer = answer_to(alloc, layout, know, &followed.index)?;
+    Ok(Told { followed, answer })
 }
 
 /// The answer to all that is known, of the index of its ops.
@@ -312,25 +313,5 @@ fn answer_to(
 {
     layout.known();
     ops_laws();
-    answer_of(alloc, layout, know, index.ops(), index.pairs())
-}
-
-/// The index of all that is known, from an older one where there is one with its answer.
-fn index_after(
-    alloc: Global,
-    layout: &Layout,
-    know: &Knowledge,
-    index: Option<PairIndex>,
-    before: Option<Answer>,
-) -> Result<PairIndex, AllocError>
-    requires { WereTold layout.now know.now index before }
-    ensures { IfOk result (λ held. held ≡ all_ops layout.now know.now) }
-{
-    let Some(before) = before else {
-        return index_of(alloc, layout, know);
-    };
-    let Some(index) = index else {
-        return index_of(alloc, layout, know);
-    };
-    followed(alloc, layout, know, &before, index)
+    answer_of(alloc, layout, know, index.ops(), index.pairs()?)
 }

@@ -23,4 +23,4 @@ pub mod Sure
 pub mod Names
 pub mod Owned
 pub mod Searched
-pub mod Since
+pub mod Parts

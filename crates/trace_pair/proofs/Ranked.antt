@@ -1,15 +1,14 @@
 -- The ops of one rank among those of all.
-use Rattle.std.proofs.Common.{subst, ◌≡◌, ℕ, zero, suc, ◌+◌, ◌<◌, ◌≤◌, List, [], ◌∷◌, ◌++◌, ⊎_elim, sym, refl, ◌∙◌, ap, arith, append_assoc, length, take, drop, get_or, set, None}
+use Rattle.std.proofs.Common.{subst, ◌≡◌, ℕ, zero, suc, ◌+◌, ◌<◌, ◌≤◌, List, [], ◌∷◌, ◌++◌, ⊎_elim, sym, refl, ◌∙◌, ap, arith, append_assoc, length, take, drop, get_or, set}
 use Rattle.std.specs.List.{flat_map}
-use Rattle.std.proofs.lemmas.List.{append-nil, take_more, flat_map_more}
 use Rattle.mpi_model.specs.declared.message.Message.{Message}
 use Rattle.mpi_model.specs.declared.message.Receive.{Receive}
 use Rattle.trace_ops.specs.Ops.{Ops, no_ops, IsOwn, AreOwn}
 use Rattle.trace_ops.specs.Order.{Has}
 use Rattle.trace_pair.specs.Calls.{between, IsSequence, IsPosting}
-use Rattle.trace_pair.specs.Followed.{Indexes, Follows}
-use Rattle.trace_pair.specs.Kept.{IsChanging, IsKept}
-use Rattle.trace_pair.specs.Table.{pairs_of, fresh, Table, table_of, postponed_of, sends_of, receives_of}
+use Rattle.trace_pair.specs.Followed.{Indexes, Follows, Moves}
+use Rattle.trace_pair.specs.Kept.{IsKept}
+use Rattle.trace_pair.specs.Table.{fresh, sends_of, receives_of}
 use Rattle.trace_pair.specs.declared.matched.Matched.{Matched}
 use Rattle.trace_pair.proofs.Ranks.{has_either}
 
@@ -85,30 +84,15 @@ is_posting os i n a o = record {
   apart_after = λ m k h j e. let x = above (λ o. o.receives) (λ m. m.at) (λ r o m w. w.posted_at m) os 0 i m a h in let y = o.posted_at k j in omega arith;
 }
 
-abbrev made : List Message → List Receive → Table
-made ms qs = record { pairs = pairs_of ms qs; postponed = postponed_of ms qs }
-
 -- ranks without calls
-pub kept_fresh : (held : List Ops) (n : ℕ) (state : Matched) (table : Table) → held ≡ fresh n → Indexes [] [] state → table ≡ table_of [] → IsKept held state table
-kept_fresh held n state table e x t =
+pub kept_fresh : (held : List Ops) (n : ℕ) (state : Matched) → held ≡ fresh n → Indexes [] [] state → IsKept held state
+kept_fresh held n state e x =
     let s : [] ≡ sends_of (fresh n) = sym (fresh_part (λ o. o.sends) refl n) in
     let r : [] ≡ receives_of (fresh n) = sym (fresh_part (λ o. o.receives) refl n) in
-    let empty : IsKept [] state table = record { own = tt; followed = x; tabled = t } in
-    subst (λ (h : List Ops). IsKept h state table) (sym e) (record {
+    subst (λ (h : List Ops). IsKept h state) (sym e) (record {
       own = own_fresh n 0;
       followed = subst (λ (ms : List Message). Indexes ms (receives_of (fresh n)) state) s (subst (λ (qs : List Receive). Indexes [] qs state) r x);
-      tabled = t ∙ ap (λ ms. made ms []) s ∙ ap (λ qs. made (sends_of (fresh n)) qs) r;
     })
-
-pub changing_fresh : (held : List Ops) (n : ℕ) (state : Matched) (table : Table) → held ≡ fresh n → Indexes [] [] state → table ≡ table_of [] → IsChanging held state table None
-changing_fresh held n state table e x t =
-    let kept = kept_fresh held n state table e x t in
-    record { own = kept.own; followed = kept.followed; tabled = kept.tabled; marked = tt }
-
--- the state follows the calls of a rank, wherever they stand among those of the others
-abbrev Moves : Ops → Ops → Matched → Matched → Type 0
-Moves o n old new = (before after : List Message) (above below : List Receive) → IsSequence before after o.sends → IsSequence before after n.sends → IsPosting above below o.receives → IsPosting above below n.receives
-    → Indexes (between before o.sends after) (between above o.receives below) old → Indexes (between before n.sends after) (between above n.receives below) new
 
 -- a rank's ops are new ones
 pub moved : (held : List Ops) (i : ℕ) (d n : Ops) (old new : Matched) → i < length held → AreOwn 0 held → IsOwn i n → d ≡ get_or held i d → Moves d n old new → Follows held old → Follows (set held i n) new
@@ -126,31 +110,3 @@ moved held i d n old new lt a o e law x =
 
 pub own_moved : (held : List Ops) (i : ℕ) (n : Ops) → AreOwn 0 held → IsOwn i n → AreOwn 0 (set held i n)
 own_moved held i n a o = own_set held 0 i n a (subst (λ (r : ℕ). IsOwn r n) (omega arith) o)
-
--- the state gets the calls of a rank, wherever they stand among those of the others
-abbrev Adds : Ops → Matched → Matched → Type 0
-Adds n old new = (before after : List Message) (above below : List Receive) → IsSequence before after n.sends → IsPosting above below n.receives
-    → Indexes (between before [] after) (between above [] below) old → Indexes (between before n.sends after) (between above n.receives below) new
-
--- with nothing behind it
-bare : {X : Type 0} (xs : List X) → between xs [] [] ≡ xs
-bare {X = X} xs = ap (λ (l : List X). l ++ []) (append-nil xs) ∙ append-nil xs
-
-module _ {X : Type 0} (part : Ops → List X) where
-  one_more : (os : List Ops) (i : ℕ) (d : Ops) → i < length os → between (flat_map part (take i os)) (part (get_or os i d)) [] ≡ flat_map part (take (i + 1) os)
-  one_more os i d lt = append-nil (flat_map part (take i os) ++ part (get_or os i d)) ∙ flat_map_more part [] (take i os) (get_or os i d) ∙ ap (flat_map part) (sym (take_more os i d lt))
-
--- the calls of one rank more
-pub next_rank : (os : List Ops) (i : ℕ) (d : Ops) (old new : Matched) → i < length os → AreOwn 0 os → d ≡ get_or os i d → Adds d old new → Follows (take i os) old → Follows (take (i + 1) os) new
-next_rank os i d old new lt a e law x =
-    let w : IsOwn i (get_or os i d) = subst (λ (r : ℕ). IsOwn r (get_or os i d)) (omega arith) (own_at os 0 i d lt a) in
-    let s = is_sequence os i (get_or os i d) a w in
-    let p = is_posting os i (get_or os i d) a w in
-    let y : Indexes (between (sends_of (take i os)) [] []) (between (receives_of (take i os)) [] []) old =
-    subst (λ (ms : List Message). Indexes ms (between (receives_of (take i os)) [] []) old) (sym (bare (sends_of (take i os))))
-    (subst (λ (qs : List Receive). Indexes (sends_of (take i os)) qs old) (sym (bare (receives_of (take i os)))) x) in
-    let z = (subst (λ (g : Ops). Adds g old new) e law) (sends_of (take i os)) [] (receives_of (take i os)) []
-    (record { own = s.own; order = s.order; apart_before = s.apart_before; apart_after = λ n m h. absurd h })
-    (record { own = p.own; order = p.order; apart_before = p.apart_before; apart_after = λ r q h. absurd h }) y in
-    subst (λ (ms : List Message). Indexes ms (receives_of (take (i + 1) os)) new) (one_more (λ o. o.sends) os i d lt)
-    (subst (λ (qs : List Receive). Indexes (between (sends_of (take i os)) (get_or os i d).sends []) qs new) (one_more (λ o. o.receives) os i d lt) z)

@@ -22,7 +22,7 @@ order_before [] ys m n o i = absurd i
 order_before (x ∷ xs) ys m n o i =
     ⊎_elim (λ (e : n ≡ x). subst (λ (z : Message). sent_before z m ≡ true) (sym e) (o.0 m (has_right xs (m ∷ ys) m (inl refl)))) (λ j. order_before xs ys m n o.1 j) i
 
-order_front : (xs ys : List Message) → AreInOrder (xs ++ ys) → AreInOrder xs
+pub order_front : (xs ys : List Message) → AreInOrder (xs ++ ys) → AreInOrder xs
 order_front [] ys o = tt
 order_front (x ∷ xs) ys o = (λ n i. o.0 n (has_left xs ys n i), order_front xs ys o.1)
 

@@ -20,8 +20,7 @@ use Rattle.trace_pair.specs.Indexed.{name_lt}
 use Rattle.trace_pair.specs.KeyOrders.{name_cmp}
 use Rattle.trace_pair.specs.Pairing.{Paired, receive_of}
 use Rattle.trace_pair.specs.Scratch.{AreRising}
-use Rattle.trace_pair.specs.Searched.{ArePairs, AreByReceive, IsSearchable, receive_at, message_at}
-use Rattle.trace_pair.specs.Since.{pair_named}
+use Rattle.trace_pair.specs.Searched.{ArePairs, AreByReceive, IsSearchable, receive_at, message_at, pair_named}
 use Rattle.trace_pair.specs.Table.{pair_of, pairs_of, sends_of, receives_of, table_of, Table, same_name as names_agree, taken_by, given_by}
 use Rattle.trace_pair.specs.declared.pair.Pair.{Pair}
 use Rattle.trace_pair.proofs.Certain.{the_one_message}
@@ -126,16 +125,6 @@ module _ (pairs : List Pair) (places : List ℕ) (search : IsSearchable pairs pl
       let c = contains_has pairs p i in
       let g : receive_at pairs c.0 ≡ Some name = ap (option_map (λ (r : Pair). r.receive)) (got pairs c.0 p c.1 ∙ ap (λ (x : Pair). Some x) c.2) ∙ ap (λ (x : OpName). Some x) e in
       absent (by_place pairs name) places at s c.0 (search.all c.0 c.1) (ap (λ o. option_cmp name_cmp o (Some name)) g ∙ tied name name refl))))
-
-searchable_none : (places : List ℕ) → IsSearchable [] places
-searchable_none places = record {
-  pairs_are = record { rise = λ k d l h. absurd (omega arith); one_message = λ p r i. absurd i; one_receive = λ p r i. absurd i };
-  by_receive = λ k d l h. refl;
-  all = λ i h. absurd (omega arith);
-}
-
-pub searchable_empty : (t : Table) (places : List ℕ) → t ≡ table_of [] → IsSearchable t.pairs places
-searchable_empty t places e = subst (λ (x : Table). IsSearchable x.pairs places) (sym e) (searchable_none places)
 
 pub searchable_of : (pairs seen : List Pair) (places : List ℕ) → seen ≡ pairs → ArePairs pairs → AreByReceive seen places → ((i : ℕ) → i < length seen → Has places i) → IsSearchable pairs places
 searchable_of pairs seen places e are sorted all = record {

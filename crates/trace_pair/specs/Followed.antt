@@ -3,6 +3,7 @@ use Rattle.std.specs.Prelude.{List}
 use Rattle.mpi_model.specs.declared.message.Message.{Message}
 use Rattle.mpi_model.specs.declared.message.Receive.{Receive}
 use Rattle.trace_ops.specs.Ops.{Ops}
+use Rattle.trace_pair.specs.Calls.{between, IsSequence, IsPosting}
 use Rattle.trace_pair.specs.Indexed.{IsIndexed}
 use Rattle.trace_pair.specs.Table.{sends_of, receives_of}
 use Rattle.trace_pair.specs.declared.matched.Matched.{Matched}
@@ -13,3 +14,11 @@ Indexes ms qs s = IsIndexed ms qs s.waiting s.opened s.untold s.couples
 -- the state stands for the calls of all ranks
 abbrev pub Follows : List Ops → Matched → Type 0
 Follows held state = Indexes (sends_of held) (receives_of held) state
+
+-- the state follows the calls of a rank from the old ones to the new ones, wherever they stand among those of the others
+abbrev pub Moves : Ops → Ops → Matched → Matched → Type 0
+Moves o n old new = (before after : List Message) (above below : List Receive)
+    → IsSequence before after o.sends → IsSequence before after n.sends
+    → IsPosting above below o.receives → IsPosting above below n.receives
+    → Indexes (between before o.sends after) (between above o.receives below) old
+    → Indexes (between before n.sends after) (between above n.receives below) new

@@ -2,7 +2,6 @@ pub mod Places
 pub mod Pairing
 pub mod Matching
 pub mod Table
-pub mod Since
 pub mod Searched
 pub mod Certainty
 pub mod Scratch
@@ -12,6 +11,7 @@ pub mod Indexed
 pub mod Slots
 pub mod Coupled
 pub mod Followed
+pub mod Parts
 pub mod Kept
 pub mod OneOrMany
 pub mod Groups

@@ -144,22 +144,23 @@ impl Couples {
         expect(&mut self.taken, &q.name)
     }
 
-    /// The receive that takes the message.
-    pub(crate) fn of_message(&self, m: &Message) -> Option<Receive>
+    /// The receive that takes the message. It is looked for first at the place `next` among those of
+    /// the sender, which is left behind it.
+    pub(crate) fn of_message(&self, next: &mut usize, m: &Message) -> Option<Receive>
         ensures some { IfSome result (λ q. IsOneMessage self.now m.now → Has self.now (couple_of m.now q)) }
         ensures none { IfNone result ((q : Receive) → Has self.now (couple_of m.now q) → ⊥) }
     {
-        match value_at(&self.takers, &m.name) {
+        match value_at(&self.takers, next, &m.name) {
             Some(taker) => Some(receive_by(m, taker)),
             None => None,
         }
     }
 
-    /// The message that the receive takes.
-    pub(crate) fn of_receive(&self, q: &Receive) -> Option<Message>
+    /// The message that the receive takes, looked for likewise among those of its rank.
+    pub(crate) fn of_receive(&self, next: &mut usize, q: &Receive) -> Option<Message>
         ensures some { IfSome result (λ m. IsOneReceive self.now q.now → Has self.now (couple_of m q.now)) }
         ensures none { IfNone result ((m : Message) → Has self.now (couple_of m q.now) → ⊥) }
     {
-        value_at(&self.taken, &q.name)
+        value_at(&self.taken, next, &q.name)
     }
 }

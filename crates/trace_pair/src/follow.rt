@@ -1,10 +1,10 @@
 //! The sets of an index, as the calls of one rank become others.
 
-ghost use Rattle.std.specs.Prelude.{◌≡◌, ◌≢◌, ◌↔◌, ◌≤◌, ◌<◌, List, [], OnOk, IsTrue, take, length, slice_get};
+ghost use Rattle.std.specs.Prelude.{◌≡◌, ◌≢◌, ◌↔◌, ◌≤◌, ◌<◌, List, OnOk, IsTrue, take, length, slice_get};
 ghost use Rattle.mpi_model.specs.declared.message.Message.{Message};
 ghost use Rattle.mpi_model.specs.declared.message.Receive.{Receive};
 ghost use Rattle.trace_pair.specs.Calls.{between, IsSequence, IsPosting};
-ghost use Rattle.trace_pair.specs.Followed.{Indexes};
+ghost use Rattle.trace_pair.specs.Followed.{Indexes, Moves};
 
 use crate::matched::{Matched, add_message, add_receive, pop_message, pop_receive};
 use mpi_model::{Message, Receive};
@@ -38,7 +38,11 @@ fn drop_messages(state: &mut Matched, held: &[Message], keep: usize) -> Result<(
 }
 
 /// Adds the messages of a rank behind the first `keep`.
-fn add_messages(state: &mut Matched, held: &[Message], keep: usize) -> Result<(), AllocError>
+pub(crate) fn add_messages(
+    state: &mut Matched,
+    held: &[Message],
+    keep: usize,
+) -> Result<(), AllocError>
     requires { keep ≤ length held.now }
     ensures { OnOk result ((before after : List Message) (qs : List Receive) → IsSequence before after held.now
         → Indexes (between before (take keep held.now) after) qs state.old → Indexes (between before held.now after) qs state.new) }
@@ -94,7 +98,11 @@ fn drop_receives(state: &mut Matched, held: &[Receive], keep: usize) -> Result<(
 }
 
 /// Adds the receives of a rank behind the first `keep`.
-fn add_receives(state: &mut Matched, held: &[Receive], keep: usize) -> Result<(), AllocError>
+pub(crate) fn add_receives(
+    state: &mut Matched,
+    held: &[Receive],
+    keep: usize,
+) -> Result<(), AllocError>
     requires { keep ≤ length held.now }
     ensures { OnOk result ((before after : List Receive) (ms : List Message) → IsPosting before after held.now
         → Indexes ms (between before (take keep held.now) after) state.old → Indexes ms (between before held.now after) state.new) }
@@ -137,45 +145,9 @@ fn set_receives(state: &mut Matched, held: &[Receive], new: &[Receive]) -> Resul
 
 /// Makes the calls of a rank those of the new ops, whatever they were.
 pub(crate) fn set_rank(state: &mut Matched, held: &RankOps, new: &RankOps) -> Result<(), AllocError>
-    ensures { OnOk result ((before after : List Message) (above below : List Receive) → IsSequence before after held.now.sends → IsSequence before after new.now.sends
-        → IsPosting above below held.now.receives → IsPosting above below new.now.receives
-        → Indexes (between before held.now.sends after) (between above held.now.receives below) state.old
-        → Indexes (between before new.now.sends after) (between above new.now.receives below) state.new) }
+    ensures { OnOk result (Moves held.now new.now state.old state.new) }
 {
     set_messages(state, held.sends(), new.sends())?;
     set_receives(state, held.receives(), new.receives())?;
-    Ok(())
-}
-
-/// The rank whose calls these are, if there are any.
-fn rank_of(ops: &RankOps) -> Option<u32> {
-    if let Some(m) = ops.sends().first() {
-        return Some(m.name.rank);
-    }
-    match ops.receives().first() {
-        Some(q) => Some(q.name.rank),
-        None => None,
-    }
-}
-
-/// Makes room for the couples of a rank's calls.
-fn reserve_rank(state: &mut Matched, new: &RankOps) -> Result<(), AllocError>
-    ensures { (ms : List Message) (qs : List Receive) → Indexes ms qs state.old → Indexes ms qs state.new }
-{
-    let Some(rank) = rank_of(new) else {
-        return Ok(());
-    };
-    state.reserve(rank, new.sends().len(), new.receives().len())
-}
-
-/// Adds the calls of a rank that has none.
-pub(crate) fn add_rank(state: &mut Matched, new: &RankOps) -> Result<(), AllocError>
-    ensures { OnOk result ((before after : List Message) (above below : List Receive) → IsSequence before after new.now.sends → IsPosting above below new.now.receives
-        → Indexes (between before [] after) (between above [] below) state.old
-        → Indexes (between before new.now.sends after) (between above new.now.receives below) state.new) }
-{
-    reserve_rank(state, new)?;
-    add_messages(state, new.sends(), 0)?;
-    add_receives(state, new.receives(), 0)?;
     Ok(())
 }

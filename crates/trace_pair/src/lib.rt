@@ -6,19 +6,20 @@
 //! and of [`PairIndex::pairs`].
 //!
 //! [`pair_all`] follows the rules closely and is slow: for large runs take [`PairIndex::of_all`],
-//! which pairs n calls in n log n and whose contract is the same. The index follows the ranks as
-//! they grow and are cut back; one step costs in proportion to what is new, one pass over that
-//! rank's calls, and one over all messages, which takes over the pairs of the other ranks and looks
-//! only for those of that rank. Where several ranks change, [`PairIndex::change`] takes that pass
-//! once for all of them.
+//! which takes n calls in n log n; its [`PairIndex::pairs`] has the same contract. The index follows
+//! the ranks as they grow and are cut back; one step costs in proportion to what is new, and one pass
+//! over that rank's calls. It keeps no table: each call of `pairs` makes one, by a pass over all
+//! messages.
 //!
 //! - [`pair`]: a pair, and the two sides of one
 //! - [`rules`]: the five rules, one by one; [`scratch`]: the pairing straight from them
-//! - [`rows`], [`table`]: the pairs and the postponed messages, and the other end of each
+//! - [`rows`], [`near`], [`table`]: the pairs and the postponed messages, their order by the receive,
+//!   and the other end of each
 //! - [`one_or_many`]: a set that has no tree of its own while it has one member; [`groups`],
 //!   [`queues`]: sets of calls, found by a few probes of an ordered map; [`couples`]: the pairs by
 //!   either name
-//! - [`matched`]: the sets of an index, as one call comes or goes; [`follow`]: as a rank's calls do
+//! - [`matched`]: the sets of an index, as one call comes or goes; [`follow`]: as a rank's calls do;
+//!   [`together`]: as those of all ranks come
 //! - [`index`]: the index
 //! - [`laws`]: what makes the rules easy to believe, as contracts of calls that do nothing
 #![tactic(auto)]
@@ -29,6 +30,7 @@ mod groups;
 mod index;
 mod laws;
 mod matched;
+mod near;
 mod one_or_many;
 mod pair;
 mod queues;
@@ -37,8 +39,9 @@ mod rules;
 mod scratch;
 mod slots;
 mod table;
+mod together;
 
-pub use index::{IndexChange, PairIndex};
+pub use index::PairIndex;
 pub use laws::{pairs_are_certain, pairs_are_the_rules, worked_runs};
 pub use pair::{Pair, Side};
 pub use scratch::pair_all;

@@ -6,8 +6,8 @@ ghost use Rattle.mpi_model.specs.declared.message.Receive.{Receive};
 ghost use Rattle.trace_ops.specs.Order.{Has};
 ghost use Rattle.trace_pair.specs.Calls.{AddsMessage, AddsReceive};
 ghost use Rattle.trace_pair.specs.Followed.{Indexes};
-ghost use Rattle.trace_pair.specs.Indexed.{TakesMessage, TakesReceive};
-ghost use Rattle.trace_pair.specs.Pairing.{receive_of};
+ghost use Rattle.trace_pair.specs.Indexed.{IsOpen, TakesMessage, TakesReceive};
+ghost use Rattle.trace_pair.specs.Pairing.{Paired, receive_of};
 ghost use Rattle.trace_pair.specs.Table.{fits_untold};
 
 use crate::couples::Couples;
@@ -62,12 +62,24 @@ impl Matched {
         Ok(())
     }
 
-    /// The receive that takes the held message.
-    pub(crate) fn partner_of(&self, m: &Message) -> Option<Receive>
+    /// The receive that takes the held message. The next message of its sender is found without a
+    /// search if it is asked for with the same `next`.
+    pub(crate) fn partner_of(&self, next: &mut usize, m: &Message) -> Option<Receive>
         ensures { (ms : List Message) (qs : List Receive) → Indexes ms qs self.now → Has ms m.now → result ≡ receive_of ms qs m.now }
     {
-        match self.couples.of_message(m) {
+        match self.couples.of_message(next, m) {
             Some(q) => Some(q),
+            None => None,
+        }
+    }
+
+    /// The message that the held receive takes; `next` likewise for the receives of its rank.
+    pub(crate) fn message_of(&self, next: &mut usize, q: &Receive) -> Option<Message>
+        ensures some { IfSome result (λ m. (ms : List Message) (qs : List Receive) → Indexes ms qs self.now → Has qs q.now → Has ms m × Paired ms qs m q.now) }
+        ensures none { IfNone result ((ms : List Message) (qs : List Receive) → Indexes ms qs self.now → Has qs q.now → IsOpen ms qs q.now) }
+    {
+        match self.couples.of_receive(next, q) {
+            Some(m) => Some(m),
             None => None,
         }
     }
@@ -156,7 +168,8 @@ fn push_receive(state: &mut Matched, q: Receive) -> Result<(), AllocError>
 pub(crate) fn pop_message(state: &mut Matched, m: &Message) -> Result<(), AllocError>
     ensures { OnOk result ((ms more : List Message) (qs : List Receive) → AddsMessage ms more m.now → Indexes more qs state.old → Indexes ms qs state.new) }
 {
-    match state.couples.of_message(m) {
+    let mut anywhere = 0;
+    match state.couples.of_message(&mut anywhere, m) {
         Some(q) => {
             state.couples.remove(&Couple {
                 message: *m,
@@ -176,7 +189,8 @@ pub(crate) fn pop_receive(state: &mut Matched, q: &Receive) -> Result<(), AllocE
         state.untold.remove(q);
         return Ok(());
     }
-    match state.couples.of_receive(q) {
+    let mut anywhere = 0;
+    match state.couples.of_receive(&mut anywhere, q) {
         Some(m) => {
             state.couples.remove(&Couple {
                 message: m,

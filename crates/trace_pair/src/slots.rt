@@ -28,6 +28,37 @@ fn place_of<V: Copy>(row: &[Slot<V>], call: u64) -> Result<usize, usize>
     row.binary_search_by_key(&call, |slot| slot.call)
 }
 
+/// Whether the call's slot stands at the place.
+fn is_slot_at<V: Copy>(row: &[Slot<V>], place: usize, call: u64) -> bool
+    ensures { IsTrue result → IsSlotAt row.now place call }
+{
+    place < row.len() && row[place].call == call
+}
+
+/// The place of the call's slot, or else the place where it would stand. It is looked for at `next`
+/// first, which is left behind it: calls that are asked for in order cost no search.
+fn place_near<V: Copy>(row: &[Slot<V>], next: &mut usize, call: u64) -> Result<usize, usize>
+    requires { Rises row.now }
+    ensures found { IfOk result (λ i. IsSlotAt row.now i call) }
+    ensures missed { IfErr result (λ i. IsGapAt row.now i call) }
+{
+    let place = *next;
+    if is_slot_at(row, place, call) {
+        *next = place.saturating_add(1);
+        return Ok(place);
+    }
+    match place_of(row, call) {
+        Ok(found) => {
+            *next = found.saturating_add(1);
+            Ok(found)
+        }
+        Err(behind) => {
+            *next = behind;
+            Err(behind)
+        }
+    }
+}
+
 /// The value at a place.
 fn value_there<V: Copy>(row: &[Slot<V>], place: usize) -> Option<V>
     requires { place < length row.now }
@@ -79,12 +110,12 @@ fn put_slot<V: Copy>(row: &mut Vec<Slot<V>>, place: usize, slot: Slot<V>) -> Res
     Ok(())
 }
 
-/// The value of the call.
-fn get_in<V: Copy>(row: &[Slot<V>], call: u64) -> Option<V>
+/// The value of the call, looked for at `next` first.
+fn get_in<V: Copy>(row: &[Slot<V>], next: &mut usize, call: u64) -> Option<V>
     requires { Rises row.now }
     ensures { result ≡ value_in row.now call }
 {
-    match place_of(row, call) {
+    match place_near(row, next, call) {
         Ok(place) => value_there(row, place),
         Err(_) => None,
     }
@@ -176,14 +207,20 @@ fn reach<V: Copy>(rows: &mut Vec<Vec<Slot<V>>>, rank: u32) -> Result<(), AllocEr
     Ok(())
 }
 
-pub(crate) fn value_at<V: Copy>(rows: &Vec<Vec<Slot<V>>>, name: &OpName) -> Option<V>
+/// The value at a name, looked for first at the place `next` among those of its rank. That is left
+/// behind the name.
+pub(crate) fn value_at<V: Copy>(
+    rows: &Vec<Vec<Slot<V>>>,
+    next: &mut usize,
+    name: &OpName,
+) -> Option<V>
     requires { AreSlots rows.now.items }
     ensures { result ≡ value_of rows.now.items name.now }
 {
     if name.rank as usize >= rows.len() {
         return None;
     }
-    get_in(&rows[name.rank as usize], name.call)
+    get_in(&rows[name.rank as usize], next, name.call)
 }
 
 /// Puts the value at a name that has none, and tells whether it did.

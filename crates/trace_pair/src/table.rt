@@ -1,16 +1,16 @@
 //! A table: the pairs and the postponed messages, in order of the message.
 
-ghost use Rattle.std.specs.Prelude.{◌≡◌, ◌≢◌, ◌<◌, true, false, [], OnOk, IfOk, ℕ, length, slice_index_or};
+ghost use Rattle.std.specs.Prelude.{◌≡◌, ◌≢◌, ◌<◌, true, false, OnOk, IfOk, ℕ, length, slice_index_or};
 ghost use Rattle.trace_ops.specs.Ops.{AreOwn};
 ghost use Rattle.trace_ops.specs.Order.{Has};
 ghost use Rattle.trace_pair.specs.Followed.{Follows};
 ghost use Rattle.trace_pair.specs.Searched.{ArePairs, AreByReceive, IsSearchable, receive_at, message_at};
-ghost use Rattle.trace_pair.specs.Since.{WerePairs};
 ghost use Rattle.trace_pair.specs.Table.{table_of, partner_in, taken_by, given_by};
 
 use crate::matched::Matched;
+use crate::near::places_near;
 use crate::pair::{Pair, Side};
-use crate::rows::{Rows, place_near};
+use crate::rows::Rows;
 use mpi_model::OpName;
 use std::alloc::{AllocError, Global};
 use std::marker::Model;
@@ -36,15 +36,6 @@ impl Model for PairTable {
 }
 
 impl PairTable {
-    pub(crate) fn empty(alloc: Global) -> PairTable
-        ensures { result ≡ table_of [] }
-    {
-        PairTable {
-            rows: Rows::empty(alloc),
-            by_receive: Vec::new(alloc),
-        }
-    }
-
     /// The table of these rows. The more of `near` is places in order of the receive, the sooner it
     /// is made.
     pub(crate) fn of_rows(
@@ -59,22 +50,18 @@ impl PairTable {
         Ok(PairTable { rows, by_receive })
     }
 
-    /// The table of the held ops, from one of before: it looks only for the pairs of marked ranks.
+    /// The table of the held ops, for which the state stands.
     pub(crate) fn of_held(
         alloc: Global,
         state: &Matched,
         held: &[RankOps],
-        before: &PairTable,
-        marks: &[bool],
     ) -> Result<PairTable, AllocError>
         requires own { AreOwn 0 held.now }
         requires followed { Follows held.now state.now }
-        requires before { WerePairs marks.now before.now.pairs held.now }
         ensures { IfOk result (λ table. table ≡ table_of held.now) }
     {
-        let rows = Rows::of_held(alloc, state, held, before.pairs(), marks)?;
-        let moved = moved_places(alloc, before.pairs(), &rows.pairs)?;
-        let near = places_in_order(alloc, &before.by_receive, &moved, rows.pairs.len())?;
+        let rows = Rows::of_held(alloc, state, held)?;
+        let near = places_near(alloc, state, held, &rows.pairs)?;
         let table = PairTable::of_rows(alloc, rows, near)?;
         Ok(table)
     }
@@ -91,6 +78,14 @@ impl PairTable {
         ensures { result.now ≡ self.now.postponed }
     {
         &self.rows.postponed
+    }
+
+    /// The pairs and the postponed messages, moved out.
+    pub fn into_rows(self) -> (Vec<Pair>, Vec<OpName>)
+        ensures pairs { result.0.items ≡ self.pairs }
+        ensures postponed { result.1.items ≡ self.postponed }
+    {
+        (self.rows.pairs, self.rows.postponed)
     }
 
     /// The other end of the pair of a send, or of a receive, if it is in one; found by halving.
@@ -116,38 +111,6 @@ fn message_at(pairs: &[Pair], place: usize) -> Option<OpName>
     ensures { result ≡ message_at pairs.now place }
 {
     pairs.get(place).map(|p| p.message)
-}
-
-/// Where the pairs stand that have the messages of the old ones.
-fn moved_places(
-    alloc: Global,
-    old: &[Pair],
-    pairs: &[Pair],
-) -> Result<Vec<Option<usize>>, AllocError>
-    requires { ArePairs pairs.now }
-{
-    let mut moved = Vec::with_capacity(alloc, old.len())?;
-    let mut hint = 0;
-    for pair in old {
-        moved.push(place_near(pairs, &mut hint, &pair.message))?;
-    }
-    Ok(moved)
-}
-
-/// Where they stand now, in the old order, with room for so many places.
-fn places_in_order(
-    alloc: Global,
-    order: &[usize],
-    moved: &[Option<usize>],
-    room: usize,
-) -> Result<Vec<usize>, AllocError> {
-    let mut places = Vec::with_capacity(alloc, order.len().max(room))?;
-    for old in order {
-        if let Some(Some(place)) = moved.get(*old) {
-            places.push(*place)?;
-        }
-    }
-    Ok(places)
 }
 
 /// Marks a place as seen, where it is one of those that are asked for.

@@ -6,6 +6,8 @@
 #[cfg(test)]
 mod made;
 #[cfg(test)]
+mod parts;
+#[cfg(test)]
 mod rows;
 #[cfg(test)]
 mod steps;

@@ -200,5 +200,5 @@ pub(crate) fn by_rules(alloc: Global, runs: &[Run]) -> Result<String, Fail> {
 pub(crate) fn by_index(alloc: Global, runs: &[Run]) -> Result<String, Fail> {
     let ops = ops_in(alloc, runs)?;
     let index = PairIndex::of_all(alloc, ops)?;
-    Ok(shown(alloc, index.pairs())?)
+    Ok(shown(alloc, &index.pairs()?)?)
 }

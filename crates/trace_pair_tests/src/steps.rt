@@ -10,20 +10,20 @@ use trace_pair::{PairIndex, PairTable, pair_all};
 
 /// Numbers that look random, the same ones each time.
 #[derive(Drop)]
-struct Draw {
-    state: u64,
+pub(crate) struct Draw {
+    pub(crate) state: u64,
 }
 
 impl Draw {
     /// A number below `most`, which is one at least.
-    fn below(&mut self, most: u64) -> u32 {
+    pub(crate) fn below(&mut self, most: u64) -> u32 {
         self.state = self.state.wrapping_mul(6_364_136_223_846_793_005);
         self.state = self.state.wrapping_add(1_442_695_040_888_963_407);
         let drawn = (self.state >> 33).checked_rem(most).unwrap_or(0);
         u32::try_from(drawn).unwrap_or(0)
     }
 
-    fn tag(&mut self) -> u32 {
+    pub(crate) fn tag(&mut self) -> u32 {
         if self.below(2) == 0 { 5 } else { 6 }
     }
 
@@ -56,7 +56,7 @@ fn four(alloc: Global) -> Result<Layout, Fail> {
     Ok(Layout::new(alloc, 4, 2, comms, Sends::Wait)?)
 }
 
-fn known(alloc: Global, calls: &[Vec<Did>]) -> Result<Knowledge, Fail> {
+pub(crate) fn known(alloc: Global, calls: &[Vec<Did>]) -> Result<Knowledge, Fail> {
     let mut know = Knowledge::new(alloc);
     let mut rank: u32 = 0;
     for own in calls {
@@ -73,7 +73,7 @@ fn by_rules(alloc: Global, layout: &Layout, know: &Knowledge) -> Result<PairTabl
 }
 
 /// Brings the index to what the rank did by now.
-fn follow(
+pub(crate) fn follow(
     alloc: Global,
     layout: &Layout,
     know: &Knowledge,
@@ -100,7 +100,7 @@ fn change(draw: &mut Draw, own: &mut Vec<Did>) -> Result<(), Fail> {
 }
 
 /// Whether two tables are equal.
-fn are_equal(a: &PairTable, b: &PairTable) -> bool {
+pub(crate) fn are_equal(a: &PairTable, b: &PairTable) -> bool {
     a.pairs() == b.pairs() && a.postponed() == b.postponed()
 }
 
@@ -124,8 +124,8 @@ fn begin(alloc: Global) -> Result<Run, Fail> {
     })
 }
 
-/// One step, and whether the table of the index is that of the slow pairing then.
-fn step(alloc: Global, draw: &mut Draw, run: &mut Run) -> Result<bool, Fail> {
+/// One step: the table of the index then, and whether it is that of the slow pairing.
+fn step(alloc: Global, draw: &mut Draw, run: &mut Run) -> Result<(PairTable, bool), Fail> {
     let rank = draw.below(4);
     if let Some(own) = run.calls.get_mut(rank as usize) {
         change(draw, own)?;
@@ -133,7 +133,9 @@ fn step(alloc: Global, draw: &mut Draw, run: &mut Run) -> Result<bool, Fail> {
     let know = known(alloc, &run.calls)?;
     follow(alloc, &run.layout, &know, rank, &mut run.index)?;
     let slow = by_rules(alloc, &run.layout, &know)?;
-    Ok(are_equal(&slow, run.index.pairs()))
+    let table = run.index.pairs()?;
+    let is_same = are_equal(&slow, &table);
+    Ok((table, is_same))
 }
 
 /// Pairs and postponed messages over all steps, and the steps after which the two tables differ.
@@ -142,11 +144,13 @@ fn steps(alloc: Global, count: u32) -> Result<(usize, usize, u32), Fail> {
     let mut run = begin(alloc)?;
     let (mut pairs, mut postponed, mut differing): (usize, usize, u32) = (0, 0, 0);
     for _ in 0..count {
-        if !step(alloc, &mut draw, &mut run)? {
+        let (table, is_same) = step(alloc, &mut draw, &mut run)?;
+        if !is_same {
             differing = differing.saturating_add(1);
         }
-        pairs = pairs.saturating_add(run.index.pairs().pairs().len());
-        postponed = postponed.saturating_add(run.index.pairs().postponed().len());
+        let (now_paired, now_postponed) = table.into_rows();
+        pairs = pairs.saturating_add(now_paired.len());
+        postponed = postponed.saturating_add(now_postponed.len());
     }
     Ok((pairs, postponed, differing))
 }

@@ -147,15 +147,13 @@ fn stuck_of(
     Ok(all)
 }
 
-/// Which messages were received, and which may still be.
-fn matching_of(alloc: Global, table: &PairTable) -> Result<Matching, AllocError>
-    ensures pairs { IfOk result (λ m. m.pairs.items ≡ table.now.pairs) }
-    ensures postponed { IfOk result (λ m. m.postponed.items ≡ table.now.postponed) }
+/// Which messages were received, and which may still be. The rows of the table are moved.
+fn matching_of(table: PairTable) -> Matching
+    ensures pairs { result.pairs.items ≡ table.pairs }
+    ensures postponed { result.postponed.items ≡ table.postponed }
 {
-    Ok(Matching {
-        pairs: table.pairs().to_vec(alloc)?,
-        postponed: table.postponed().to_vec(alloc)?,
-    })
+    let (pairs, postponed) = table.into_rows();
+    Matching { pairs, postponed }
 }
 
 /// How far the ranks can be read, and where they are contradicted.
@@ -204,19 +202,21 @@ pub(crate) fn answer_of(
     layout: &Layout,
     know: &Knowledge,
     ops: &[RankOps],
-    table: &PairTable,
+    table: PairTable,
 ) -> Result<Answer, AllocError>
     requires few { length ops.now < 2 ^ 32 }
     requires own { AreOwn 0 ops.now }
-    requires table { table.now ≡ table_of ops.now }
+    requires table { table ≡ table_of ops.now }
     ensures { IfOk result (λ a. IsAnswerBy layout.now know.now ops.now a) }
 {
+    let reading = reading_of(alloc, layout, know)?;
+    let waiting = waiting_of(alloc, layout, know, ops, &table)?;
     Ok(Answer {
         ranks: layout.ranks(),
         sends: layout.sends(),
-        reading: reading_of(alloc, layout, know)?,
-        matching: matching_of(alloc, table)?,
-        waiting: waiting_of(alloc, layout, know, ops, table)?,
+        reading,
+        matching: matching_of(table),
+        waiting,
         foreign: foreign_of(ops),
     })
 }

@@ -1,4 +1,4 @@
-use Rattle.std.proofs.Common.{◌≡◌, ◌↔◌, ℕ, ◌-◌, ◌≤◌, Bool, false, true, Some, None, IsTrue, ◌∙◌, ap, arith, sym, length, get_or, leb}
+use Rattle.std.proofs.Common.{◌≡◌, ◌↔◌, ℕ, ◌-◌, ◌≤◌, false, true, None, IsTrue, ◌∙◌, arith, sym, length, leb}
 use Rattle.std.specs.FinMap.{len, len-entries, entries}
 use Rattle.std.proofs.lemmas.Bool.Decides.{nat_tests}
 use Rattle.std.proofs.lemmas.List.{length-map}

@@ -20,8 +20,8 @@ loop-ops-preserved c =
     let e : c.sends.result.now ≡ (get_or held i d).sends = c.sends.ensures ∙ ap (λ (o : Ops). o.sends) c.ops-item.is in
     let member : (m : Message) → Has c.sends.result.now m → Has ms m = λ m h. has_part (λ o. o.sends) held i d m lt (subst (λ (l : List Message). Has l m) e h) in
     record {
-      pairs = λ x k. rows_more (λ o. o.sends) (λ m. option_map (pair_of m) (receive_of ms qs m)) c.loop-ops.rows.pairs c.add_all.new.self.pairs held i d lt (c.loop-ops.invariant.pairs x k)
-          (c.in_ok-add_all.ensures.pairs ms qs x k member ∙ ap (λ (l : List Message). c.loop-ops.rows.pairs ++ filter_map (λ m. option_map (pair_of m) (receive_of ms qs m)) l) e);
-      postponed = λ x k. rows_more (λ o. o.sends) (postponed_name ms qs) c.loop-ops.rows.postponed c.add_all.new.self.postponed held i d lt (c.loop-ops.invariant.postponed x k)
-          (c.in_ok-add_all.ensures.postponed ms qs x k member ∙ ap (λ (l : List Message). c.loop-ops.rows.postponed ++ filter_map (postponed_name ms qs) l) e);
+      pairs = λ x. rows_more (λ o. o.sends) (λ m. option_map (pair_of m) (receive_of ms qs m)) c.loop-ops.rows.pairs c.add_all.new.self.pairs held i d lt (c.loop-ops.invariant.pairs x)
+          (c.in_ok-add_all.ensures.pairs ms qs x member ∙ ap (λ (l : List Message). c.loop-ops.rows.pairs ++ filter_map (λ m. option_map (pair_of m) (receive_of ms qs m)) l) e);
+      postponed = λ x. rows_more (λ o. o.sends) (postponed_name ms qs) c.loop-ops.rows.postponed c.add_all.new.self.postponed held i d lt (c.loop-ops.invariant.postponed x)
+          (c.in_ok-add_all.ensures.postponed ms qs x member ∙ ap (λ (l : List Message). c.loop-ops.rows.postponed ++ filter_map (postponed_name ms qs) l) e);
     }
