@@ -39,7 +39,7 @@ pub trait Keeper: Drop {
         ensures listed { listed self.new ≡ listed self.old }
         ensures fresh { OnOk result ((held self.new).is_stale ≡ false) };
 
-    /// Nothing waits to be taken: makes an answer, where it is worth its time.
+    /// Nothing waits to be taken: prepares for the next answer, or makes one, where it is worth its time.
     fn rest<R: Wait>(&mut self, rt: &R)
         ensures kept { IsKept (held self.old) (held self.new) }
         ensures listed { listed self.new ≡ listed self.old };
@@ -60,7 +60,7 @@ fn announce<G: Gate>(gate: &G, taken: Option<(u8, u64)>) -> u8
     }
 }
 
-/// Takes the oldest item, once there is one. While there is none the owner has time for an answer.
+/// Takes the oldest item, once there is one. While there is none the owner has time for what is new.
 #[tactic(auto, using(crate::proofs::Sorting::kept_as_it_is))]
 fn next_item<R: Wait, H: Keeper>(
     rt: &R,

@@ -3,16 +3,17 @@
 //! Each worker walks its texts in order, posts the segments of each whole text into an inbox of eight
 //! places, and at last that it ends; a text with a fault is listed and none of it is posted. The owner,
 //! in the thread that called [`crew`], takes until both have ended. It alone holds the node: it joins
-//! each segment as it comes, makes an answer where it finds the inbox empty, and at the end. It shows
-//! an answer on a board where at least as much was joined since the last showing as before it, and the
-//! last one. What was taken is just the segments of each worker's texts in that worker's order, and the
-//! node is the join of them, whatever the order among the workers was.
+//! each segment as it comes. Where it finds the inbox empty it brings the index of the pairs up to what
+//! was joined; it makes an answer at the end, and on the way where it shows one on the board: once a
+//! million events are joined, and then where three times as much was joined since the last showing as
+//! before it. What was taken is just the segments of each worker's texts in that worker's order, and
+//! the node is the join of them, whatever the order among the workers was.
 //!
 //! Cost: reading goes at the speed of two threads, joining at that of one; a segment is moved, never
-//! copied, and at most eight wait. An answer takes over what the one before it found, so the last one,
-//! for which all wait, costs what is new to it and one pass over all messages. What is shown at the
-//! end is joined beside the node, segment by segment, so no copy is made then; a copy before costs as
-//! much as all that is known, all of them together at most twice that.
+//! copied, and at most eight wait. The last answer, for which all wait, costs what is new to the index
+//! and one pass over all messages. What is shown at the end is joined beside the node, segment by
+//! segment, so no copy is made then; an answer and a copy before cost as much as all that is known, all
+//! of them together at most a third more than the last of them.
 //!
 //! - [`piece`]: a text of a rank, its segments, and why it gives none
 //! - [`gate`]: where a test may hold a crew

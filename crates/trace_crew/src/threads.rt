@@ -81,8 +81,8 @@ struct Left<H> {
 }
 
 /// Two workers read their texts side by side and post the segments into an inbox of eight places; the
-/// owner joins what it takes into a new node, and shows each answer on the board: some while it takes,
-/// and the last. It waits for the workers, and they wait for it where the inbox is full.
+/// owner joins what it takes into a new node, and shows answers on the board: of much that it takes some
+/// on the way, and the last. It waits for the workers, and they wait for it where the inbox is full.
 pub fn crew<'a, R: Threads + Wait + Sync, G: Gate>(
     rt: &R,
     alloc: Global,
