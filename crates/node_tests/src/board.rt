@@ -79,6 +79,27 @@ fn what_is_published_is_shown(rt: HostRuntime) {
     assert!(rt; shown == [Some((0, 0)), Some((4, 2)), Some((0, 0))]);
 }
 
+/// The prefixes shown after a node was published and then took three calls, and after it was published
+/// once more.
+fn shown_around<R: Wait + Abort>(rt: &R, alloc: Global) -> [Option<(u64, u64)>; 2] {
+    let layout = layout(rt, alloc);
+    let board = Board::new(alloc, &layout).expect(rt, "memory");
+    let mut node = Node::new(alloc, &layout).expect(rt, "memory");
+    board.publish(rt, &node).expect(rt, "a publish");
+    for piece in &CALLS {
+        node.take(&segment(rt, alloc, piece)).expect(rt, "a take");
+    }
+    let before = prefixes(&shown_after(rt, &board, None));
+    board.publish(rt, &node).expect(rt, "a publish");
+    [before, prefixes(&shown_after(rt, &board, None))]
+}
+
+#[test]
+fn what_is_shown_stays_while_the_node_knows_more(rt: HostRuntime) {
+    let shown = shown_around(&rt, rt.alloc());
+    assert!(rt; shown == [Some((0, 0)), Some((4, 2))]);
+}
+
 /// Ten calls of one rank, each in a segment of its own.
 static TEN: [Piece; 10] = [
     (0, 0, &[Does::Nothing]),

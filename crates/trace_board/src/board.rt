@@ -8,13 +8,11 @@ use crate::shown::Shown;
 use mpi_model::Layout;
 use std::alloc::{AllocError, Global};
 use std::sync::{Mutex, Wait};
-use trace_know::Knowledge;
 use trace_node::Node;
 
 /// What is shown to any number of threads. It begins with empty knowledge.
 ///
-/// Under the lock it changes by [`Shown::put`] and [`Shown::put_with`] and is read by
-/// [`Shown::try_clone`], and by nothing else.
+/// Under the lock it changes by [`Shown::put`] and is read by [`Shown::try_clone`], and by nothing else.
 #[derive(Drop)]
 pub struct Board<'a> {
     shown: Mutex<Shown<'a>>,
@@ -31,29 +29,15 @@ impl<'a> Board<'a> {
     }
 
     /// Shows a node of the board's layout from now on. After a refusal the board shows what it
-    /// showed. Waits for the lock, which others hold for one copy.
+    /// showed. Waits for the lock, under which nothing is copied.
     pub fn publish<R: Wait>(&self, rt: &R, node: &Node<'a>) -> Result<(), PutFault>
         ensures { IsErrOf result PutFault.Stale ↔ IsTrue node.now.is_stale }
     {
         self.shown.lock(rt).put(node)
     }
 
-    /// As [`publish`](Self::publish), with the caller's copy of what the node knows, which is gone where
-    /// it is refused. Others hold the lock for one copy, this call for one of the answer.
-    pub fn publish_with<R: Wait>(
-        &self,
-        rt: &R,
-        node: &Node<'a>,
-        know: Knowledge,
-    ) -> Result<(), PutFault>
-        requires same { know ≡ node.now.know }
-        ensures { IsErrOf result PutFault.Stale ↔ IsTrue node.now.is_stale }
-    {
-        self.shown.lock(rt).put_with(node, know)
-    }
-
-    /// A copy of what is shown. Where it doesn't contain what the reader saw last (`seen`), it is
-    /// answered as [`ShowFault::Older`]. Waits for the lock, which others hold for one copy.
+    /// What is shown. Where it doesn't contain what the reader saw last (`seen`), it is
+    /// answered as [`ShowFault::Older`]. Waits for the lock, under which nothing is copied.
     pub fn show<R: Wait>(
         &self,
         rt: &R,

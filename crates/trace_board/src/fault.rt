@@ -9,7 +9,7 @@ pub enum PutFault {
     /// The node is stale: it has no answer.
     #[error("N2 Stale")]
     Stale,
-    /// No memory was left for a copy of the node's answer or of its knowledge.
+    /// The node's answer or its knowledge is shared by as many as can be counted.
     #[error("Memory")]
     Memory,
 }
@@ -19,6 +19,6 @@ pub enum PutFault {
 pub enum ShowFault<'a> {
     /// Y2: what is shown doesn't contain all that the reader has seen. It comes along.
     Older(Shown<'a>),
-    /// No memory was left for a copy of what is shown.
+    /// What is shown is shared by as many as can be counted.
     Memory,
 }

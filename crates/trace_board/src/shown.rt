@@ -10,7 +10,7 @@ use mpi_model::Layout;
 use std::alloc::{AllocError, Global};
 use std::marker::Model;
 use trace_know::Knowledge;
-use trace_node::{Answer, Node};
+use trace_node::{Answer, Node, SharedAnswer, SharedKnowledge};
 
 /// What was known of the run of a layout, with the answer to it.
 ///
@@ -19,8 +19,8 @@ use trace_node::{Answer, Node};
 #[derive(Drop)]
 pub struct Shown<'a> {
     layout: &'a Layout,
-    know: Knowledge,
-    answer: Answer,
+    know: SharedKnowledge,
+    answer: SharedAnswer,
 }
 
 impl<'a> Model for Shown<'a> {
@@ -53,18 +53,18 @@ impl<'a> Shown<'a> {
         }
     }
 
-    /// A copy of what a node knows, with its answer.
+    /// What a node knows, with its answer, shared with the node until it knows more.
     pub fn of(node: &Node<'a>) -> Result<Shown<'a>, PutFault>
         ensures ok { IfOk result (λ s. IsOf node.now s) }
         ensures stale { IsErrOf result PutFault.Stale ↔ IsTrue node.now.is_stale }
     {
-        let Ok(answer) = node.answer() else {
+        let Ok(answer) = node.shared_answer() else {
             return Err(PutFault::Stale);
         };
         let Ok(answer) = answer.try_clone() else {
             return Err(PutFault::Memory);
         };
-        let Ok(know) = node.know().try_clone() else {
+        let Ok(know) = node.shared_know().try_clone() else {
             return Err(PutFault::Memory);
         };
         Ok(Shown {
@@ -72,25 +72,6 @@ impl<'a> Shown<'a> {
             know,
             answer,
         })
-    }
-
-    /// What a node knows, of which the caller has a copy, with a copy of its answer.
-    pub fn with(node: &Node<'a>, know: Knowledge) -> Result<Shown<'a>, PutFault>
-        requires same { know ≡ node.now.know }
-        ensures ok { IfOk result (λ s. IsOf node.now s) }
-        ensures stale { IsErrOf result PutFault.Stale ↔ IsTrue node.now.is_stale }
-    {
-        let Ok(answer) = node.answer() else {
-            return Err(PutFault::Stale);
-        };
-        match answer.try_clone() {
-            Ok(answer) => Ok(Shown {
-                layout: node.layout(),
-                know,
-                answer,
-            }),
-            Err(_) => Err(PutFault::Memory),
-        }
     }
 
     /// Puts a node's layout, knowledge and answer in the place of what is shown. A refusal changes
@@ -104,18 +85,7 @@ impl<'a> Shown<'a> {
         Ok(())
     }
 
-    /// As [`put`](Self::put), with the caller's copy of what the node knows.
-    pub fn put_with(&mut self, node: &Node<'a>, know: Knowledge) -> Result<(), PutFault>
-        requires same { know ≡ node.now.know }
-        ensures ok { OnOk result (IsOf node.now self.new) }
-        ensures stale { IsErrOf result PutFault.Stale ↔ IsTrue node.now.is_stale }
-        ensures err { OnErr result (self.new ≡ self.old) }
-    {
-        *self = Shown::with(node, know)?;
-        Ok(())
-    }
-
-    /// A copy of all three, to which nothing of the board is lent.
+    /// The same once more: knowledge and answer are shared, and neither ever changes what another sees.
     pub fn try_clone(&self) -> Result<Shown<'a>, AllocError>
         ensures { IfOk result (λ copy. copy ≡ self.now) }
     {
@@ -137,7 +107,7 @@ impl<'a> Shown<'a> {
     pub fn know(&self) -> &Knowledge
         ensures { result.now ≡ self.now.know }
     {
-        &self.know
+        self.know.get()
     }
 
     /// The answer to all that was known.
@@ -145,6 +115,6 @@ impl<'a> Shown<'a> {
         ensures same { result.now ≡ self.now.answer }
         ensures answer { IsAnswer self.now.layout self.now.know result.now }
     {
-        &self.answer
+        self.answer.get()
     }
 }

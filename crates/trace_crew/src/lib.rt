@@ -11,15 +11,14 @@
 //!
 //! Cost: reading goes at the speed of two threads, joining at that of one; a segment is moved, never
 //! copied, and at most eight wait. The last answer, for which all wait, costs what is new to the index
-//! and one pass over all messages. What is shown at the end is joined beside the node, segment by
-//! segment, so no copy is made then; an answer and a copy before cost as much as all that is known, all
-//! of them together at most a third more than the last of them.
+//! and one pass over all messages. The board shares what the node knows and its answer, so showing them
+//! costs nothing at the end. Before it costs an answer, and a copy of all that is known, which the next
+//! segment takes: all of these together at most a third more than the last of them.
 //!
 //! - [`piece`]: a text of a rank, its segments, and why it gives none
 //! - [`gate`]: where a test may hold a crew
 //! - [`worker`]: reads and posts
-//! - [`keeper`]: how the owner takes; [`owner`]: what it keeps; [`twin`]: its node, and what that knows a
-//!   second time
+//! - [`keeper`]: how the owner takes; [`owner`]: what it keeps; [`hold`]: how its node takes a segment
 //! - [`threads`]: the three threads, and what they leave
 //! - [`laws`]: that a crew follows a schedule of one node, as the contract of a call that does nothing
 //!
@@ -30,12 +29,12 @@
 #![tactic(auto)]
 
 mod gate;
+mod hold;
 mod keeper;
 mod laws;
 mod owner;
 mod piece;
 mod threads;
-mod twin;
 mod worker;
 
 pub use gate::{Gate, OpenGate};

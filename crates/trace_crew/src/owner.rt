@@ -5,15 +5,15 @@ ghost use Rattle.mpi_model.specs.Layouts.{Parts};
 ghost use Rattle.trace_inbox.specs.declared.item.Item.{Item as ItemValue};
 ghost use Rattle.trace_crew.specs.Taking.{Handles, IsKept, Sorted, counted, ends_told, is_end};
 
+use crate::hold::hold;
 use crate::keeper::Keeper;
-use crate::twin::Twin;
 use mpi_model::Layout;
 use std::alloc::{AllocError, Global};
 use std::sync::Wait;
 use trace_board::Board;
 use trace_inbox::{Item, Post, Worker};
 use trace_know::{Segment, view_laws};
-use trace_node::NodeFault;
+use trace_node::{Node, NodeFault};
 
 /// How many events are joined before the node is shown on the way for the first time: the workers read
 /// them in less than a second, so who asks the board earlier would hardly see it.
@@ -25,7 +25,7 @@ pub struct Hall<'s, 'a> {
     /// The board on which the node is shown.
     board: &'s Board<'a>,
     /// The join of the segments that were not refused.
-    pub node: Twin<'a>,
+    pub node: Node<'a>,
     /// Those that were refused, with their workers, in the order of taking.
     pub refused: Vec<(u8, Segment, NodeFault)>,
     /// How many segments of the first worker were taken.
@@ -50,7 +50,7 @@ impl<'s, 'a> Hall<'s, 'a> {
     {
         Ok(Hall {
             board,
-            node: Twin::new(alloc, layout)?,
+            node: Node::new(alloc, layout)?,
             refused: Vec::new(alloc),
             first: 0,
             second: 0,
@@ -67,15 +67,15 @@ impl<'s, 'a> Hall<'s, 'a> {
         ensures fresh { OnOk result (self.new.node.is_stale ≡ false) }
     {
         self.node.catch_up()?;
-        if self.shown < self.joined && self.node.publish_last(rt, self.board).is_ok() {
+        if self.shown < self.joined && self.board.publish(rt, &self.node).is_ok() {
             self.shown = self.joined;
         }
         Ok(())
     }
 
-    /// Whether so much was joined since the node was shown that an answer and a copy for the board are
-    /// worth their time: three times as much as before, and a million events to begin with. So these
-    /// together cost at most a third more than the last of them.
+    /// Whether so much was joined since the node was shown that an answer, and the copy of what is known
+    /// that the next segment then takes, are worth their time: three times as much as before, and a million
+    /// events to begin with. So these together cost at most a third more than the last of them.
     fn is_due(&self) -> bool {
         self.joined >= FIRST_SHOWN && self.joined / 4 >= self.shown
     }
@@ -93,7 +93,7 @@ impl<'s, 'a> Hall<'s, 'a> {
             let _ = self.node.prepare();
             return;
         }
-        if self.node.catch_up().is_ok() && self.node.publish(rt, self.board).is_ok() {
+        if self.node.catch_up().is_ok() && self.board.publish(rt, &self.node).is_ok() {
             self.shown = self.joined;
         }
     }
@@ -103,7 +103,7 @@ impl<'s, 'a> Hall<'s, 'a> {
         ensures { OnOk result (Handles from segment self.old.node self.old.refused.items self.new.node self.new.refused.items) }
     {
         let count = segment.events().len() as u64;
-        match self.node.hold(segment) {
+        match hold(&mut self.node, segment) {
             None => {
                 self.joined = self.joined.saturating_add(count);
                 Ok(())

@@ -106,7 +106,7 @@ fn out_of<'s, 'a>(hall: Hall<'s, 'a>, faults: Vec<(u8, u64, PieceFault)>) -> Cre
     ensures refused { result.refused.items ≡ hall.entry.refused.items }
 {
     CrewOut {
-        node: hall.node.into_node(),
+        node: hall.node,
         faults,
         refused: hall.refused,
     }

@@ -23,6 +23,7 @@
 //!   the way there
 //! - [`strangers`]: whether something is known of a rank that the layout doesn't have
 //! - [`follow`]: the index of the pairs, as more is known, and how far each rank was known in it
+//! - [`shared`]: what is known, and an answer, each by one owner or more
 //! - [`node`]: knowledge with its answer
 //! - [`laws`]: that there is one answer, as the contract of a call that does nothing
 //!
@@ -34,6 +35,7 @@ mod fault;
 mod follow;
 mod laws;
 mod node;
+mod shared;
 mod strangers;
 mod stuck;
 
@@ -41,4 +43,5 @@ pub use answer::Answer;
 pub use fault::{NodeFault, Stale};
 pub use laws::answers_are_one;
 pub use node::Node;
+pub use shared::{SharedAnswer, SharedKnowledge};
 pub use stuck::Stuck;

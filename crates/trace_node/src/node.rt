@@ -12,6 +12,7 @@ ghost use Rattle.trace_node.specs.Node.{HasStranger, IsWithin, held};
 use crate::answer::{Answer, answer_of};
 use crate::fault::{NodeFault, Stale};
 use crate::follow::{Followed, caught_up, prepared};
+use crate::shared::{SharedAnswer, SharedKnowledge};
 use crate::strangers::has_stranger;
 use mpi_model::Layout;
 use std::alloc::{AllocError, Global};
@@ -29,11 +30,11 @@ use trace_pair::PairIndex;
 pub struct Node<'a> {
     alloc: Global,
     layout: &'a Layout,
-    know: Knowledge,
+    know: SharedKnowledge,
     /// The index of the pairs, where it is kept: of each rank by what was known when it was followed.
     followed: Option<Followed>,
     /// The answer to all that is known, unless the node is stale.
-    answer: Option<Answer>,
+    answer: Option<SharedAnswer>,
 }
 
 impl<'a> Model for Node<'a> {
@@ -81,6 +82,7 @@ impl<'a> Node<'a> {
         ensures { IfOk result (λ n. n ≡ held layout.now know false) }
     {
         let told = told_after(alloc, layout, &know, None)?;
+        let know = SharedKnowledge::new(alloc, know)?;
         Ok(Node {
             alloc,
             layout,
@@ -180,7 +182,7 @@ impl<'a> Node<'a> {
         ensures { self.new ≡ self.old }
     {
         let before = self.followed.take();
-        let followed = prepared(self.alloc, self.layout, &self.know, before)?;
+        let followed = prepared(self.alloc, self.layout, self.know.get(), before)?;
         put(&mut self.followed, Some(followed));
         Ok(())
     }
@@ -196,7 +198,7 @@ impl<'a> Node<'a> {
             return Ok(());
         }
         let before = self.followed.take();
-        let told = told_after(self.alloc, self.layout, &self.know, before)?;
+        let told = told_after(self.alloc, self.layout, self.know.get(), before)?;
         put(&mut self.followed, Some(told.followed));
         put(&mut self.answer, Some(told.answer));
         Ok(())
@@ -219,13 +221,31 @@ impl<'a> Node<'a> {
         ensures stale { IsErr result ↔ IsTrue self.now.is_stale }
     {
         match &self.answer {
-            Some(answer) => Ok(answer),
+            Some(answer) => Ok(answer.get()),
             None => Err(Stale),
         }
     }
 
     /// All that is known.
     pub fn know(&self) -> &Knowledge
+        ensures { result.now ≡ self.now.know }
+    {
+        self.know.get()
+    }
+
+    /// The answer to all that is known, to be shared.
+    pub fn shared_answer(&self) -> Result<&SharedAnswer, Stale>
+        ensures ok { IfOk result (λ a. IsAnswer self.now.layout self.now.know a.now) }
+        ensures stale { IsErr result ↔ IsTrue self.now.is_stale }
+    {
+        match &self.answer {
+            Some(answer) => Ok(answer),
+            None => Err(Stale),
+        }
+    }
+
+    /// All that is known, to be shared.
+    pub fn shared_know(&self) -> &SharedKnowledge
         ensures { result.now ≡ self.now.know }
     {
         &self.know
@@ -237,12 +257,13 @@ impl<'a> Node<'a> {
         self.layout
     }
 
-    /// A copy of all that is known, with its answer; a stale node gives a stale copy.
+    /// A node that knows the same and shares it, with the answer, until one of both knows more; a stale
+    /// node gives a stale one.
     pub fn try_clone(&self) -> Result<Node<'a>, AllocError>
         ensures { IfOk result (λ copy. copy ≡ self.now) }
     {
         let know = self.know.try_clone()?;
-        let Ok(answer) = self.answer() else {
+        let Ok(answer) = self.shared_answer() else {
             return Ok(Node {
                 alloc: self.alloc,
                 layout: self.layout,
@@ -282,7 +303,7 @@ fn put<T: Drop>(kept: &mut Option<T>, value: Option<T>)
 #[derive(Drop)]
 struct Told {
     followed: Followed,
-    answer: Answer,
+    answer: SharedAnswer,
 }
 
 /// What is told of all that is known, from an older index, where it is kept.
@@ -298,6 +319,7 @@ fn told_after(
 {
     let followed = caught_up(alloc, layout, know, before)?;
     let answer = answer_to(alloc, layout, know, &followed.index)?;
+    let answer = SharedAnswer::new(alloc, answer)?;
     Ok(Told { followed, answer })
 }
 
