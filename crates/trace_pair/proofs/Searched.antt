@@ -2,7 +2,7 @@
 use Rattle.std.proofs.Common.{subst, ◌≡◌, ◌≢◌, ◌⊎◌, ℕ, zero, suc, ◌+◌, ◌<◌, true, false, List, [], ◌∷◌, inl, inr, sym, refl, ◌∙◌, ap, arith, length, get_or, Option, Some, None}
 use Rattle.std.specs.declared.cmp.Ordering.{Ordering}
 use Rattle.std.specs.declared.cmp.Ordering.TheVariants.{Less, Equal, Greater}
-use Rattle.std.specs.Prelude.{slice_get}
+use Rattle.std.specs.Prelude.{slice_get, IfSome}
 use Rattle.std.specs.List.{find, filter_map, cons_option, HoldsAt}
 use Rattle.std.specs.List.Sorted.{IsSortedBy, IsPartitionPoint, IsNonDecreasingBy}
 use Rattle.std.specs.Option.{option_map, option_cmp}
@@ -63,6 +63,10 @@ stands [] i x e = absurd (cc)
 stands (y ∷ ys) zero x e = inl (cc)
 stands (y ∷ ys) (suc i) x e = inr (stands ys i x e)
 
+pub stands_there : {X : Type 0} (xs : List X) (i : ℕ) (o : Option X) → o ≡ slice_get xs i → IfSome o (λ x. Has xs x)
+stands_there xs i None e = tt
+stands_there xs i (Some x) e = stands xs i x (sym e)
+
 pub got : {X : Type 0} (xs : List X) (i : ℕ) (d : X) → i < length xs → slice_get xs i ≡ Some (get_or xs i d)
 got [] i d lt = absurd (omega arith)
 got (x ∷ xs) zero d lt = refl
@@ -78,6 +82,10 @@ module _ (pairs : List Pair) (are : ArePairs pairs) (name : OpName) where
   pub pair_stands : (place : ℕ) (p : Pair) → slice_get pairs place ≡ Some p → names_agree p.message name ≡ true → Some p ≡ pair_named pairs name
   pair_stands place p g h = sym (find_is (λ r. r.message) pairs are.one_message name p (stands pairs place p g) (agree p.message name h))
 
+  -- the same of the pair of a receive
+  pub given_stands : (p : Pair) → Has pairs p → names_agree p.receive name ≡ true → Some p.message ≡ given_by pairs name
+  given_stands p i h = ap (option_map (λ (r : Pair). r.message)) (sym (find_is (λ r. r.receive) pairs are.one_receive name p i (agree p.receive name h)))
+
   pub pair_at_place : (place : ℕ) → place < length pairs → HoldsAt (λ y. name_cmp y.message name ≡ Equal) pairs place → slice_get pairs place ≡ pair_named pairs name
   pair_at_place place lt holds =
       elim (slice_get pairs place) as (λ o. slice_get pairs place ≡ o → o ≡ pair_named pairs name) [
@@ -92,12 +100,6 @@ module _ (pairs : List Pair) (are : ArePairs pairs) (name : OpName) where
   pair_missed at split =
       let s = split (searchable_from_sorted name_total (λ (p : Pair). p.message) pairs name are.rise) in
       sym (find_none (λ r. r.message) pairs name (λ p i e. absent (λ (y : Pair). name_cmp y.message name) pairs at s p i (tied p.message name e)))
-
-  pub sent_found : (place : ℕ) → place < length pairs → HoldsAt (λ y. name_cmp y.message name ≡ Equal) pairs place → receive_at pairs place ≡ taken_by pairs name
-  sent_found place lt holds = ap (option_map (λ (r : Pair). r.receive)) (pair_at_place place lt holds)
-
-  pub sent_missed : (at : ℕ) → (IsNonDecreasingBy (λ y. ordering_index (name_cmp y.message name)) pairs → IsPartitionPoint (λ y. name_cmp y.message name ≡ Less) (λ y. name_cmp y.message name ≡ Greater) pairs at) → None ≡ taken_by pairs name
-  sent_missed at split = ap (option_map (λ (r : Pair). r.receive)) (pair_missed at split)
 
 some_equal : (o : Option OpName) (name : OpName) → option_cmp name_cmp o (Some name) ≡ Equal → o ≡ Some name
 some_equal None name h = absurd (cc)

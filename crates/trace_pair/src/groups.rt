@@ -1,5 +1,5 @@
 //! A sorted set of members for each key, in an ordered map.
-ghost use Rattle.std.specs.Prelude.{◌≡◌, true, false, None, IfSome, IfNone, OnOk, OnErr, IsTrue, if◌then◌else◌, ◌||◌, ◌&&◌, [], ◌↔◌};
+ghost use Rattle.std.specs.Prelude.{◌≡◌, true, false, None, IfSome, IfNone, OnOk, OnErr, IsTrue, if◌then◌else◌, ◌||◌, ◌&&◌};
 ghost use Rattle.std.specs.BTreeMap.{IsOrdered, get};
 ghost use Rattle.std.specs.Ordering.{is_eq, is_gt};
 ghost use Rattle.trace_pair.specs.Groups.{HasMember, has};

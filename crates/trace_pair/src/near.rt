@@ -1,6 +1,6 @@
-//! The places of the pairs, as the receives that take them come in their ranks: a start from which
-//! the sort by the receive has little left to do. Nothing is claimed of the order here, since the sort
-//! is right whatever it starts from.
+//! Pairs that are looked for where they are likely to stand, and so the places of the pairs, as the
+//! receives that take them come in their ranks: a start from which the sort by the receive has little
+//! left to do. Nothing is claimed of that order here, since the sort is right whatever it starts from.
 //!
 //! No message costs a search where its sender goes round the same ranks in every step of a program, or
 //! sends to one alone: its pair stands where the guess is. Where a guess is wrong the pairs are halved.
@@ -33,14 +33,15 @@ fn guess_behind(guess: Guess, place: usize) -> Guess {
     }
 }
 
-fn pair_at(pairs: &[Pair], place: usize) -> Option<Pair>
+/// The pair at a place, if one stands there.
+pub(crate) fn pair_at(pairs: &[Pair], place: usize) -> Option<Pair>
     ensures { result ≡ slice_get pairs.now place }
 {
     pairs.get(place).copied()
 }
 
 /// The place of the pair of the message of that name, looked for at `next` first.
-fn place_near(pairs: &[Pair], next: usize, name: &OpName) -> Option<usize>
+pub(crate) fn place_near(pairs: &[Pair], next: usize, name: &OpName) -> Option<usize>
     requires { ArePairs pairs.now }
     ensures some { IfSome result (λ place. slice_get pairs.now place ≡ pair_named pairs.now name.now) }
     ensures none { IfNone result (None ≡ pair_named pairs.now name.now) }

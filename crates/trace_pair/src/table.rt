@@ -1,6 +1,6 @@
 //! A table: the pairs and the postponed messages, in order of the message.
 
-ghost use Rattle.std.specs.Prelude.{◌≡◌, ◌≢◌, ◌<◌, true, false, OnOk, IfOk, ℕ, length, slice_index_or};
+ghost use Rattle.std.specs.Prelude.{◌≡◌, ◌≢◌, ◌<◌, true, false, OnOk, IfOk, IfSome, ℕ, length, slice_index_or};
 ghost use Rattle.trace_ops.specs.Ops.{AreOwn};
 ghost use Rattle.trace_ops.specs.Order.{Has};
 ghost use Rattle.trace_pair.specs.Followed.{Follows};
@@ -8,9 +8,10 @@ ghost use Rattle.trace_pair.specs.Searched.{ArePairs, AreByReceive, IsSearchable
 ghost use Rattle.trace_pair.specs.Table.{table_of, partner_in, taken_by, given_by};
 
 use crate::matched::Matched;
-use crate::near::places_near;
+use crate::near::{pair_at, place_near, places_near};
 use crate::pair::{Pair, Side};
 use crate::rows::Rows;
+use crate::rules::is_same_name;
 use mpi_model::OpName;
 use std::alloc::{AllocError, Global};
 use std::marker::Model;
@@ -92,9 +93,19 @@ impl PairTable {
     pub fn partner(&self, name: OpName, side: Side) -> Option<OpName>
         ensures { result ≡ partner_in side self.now.pairs name }
     {
+        let mut nowhere = usize::MAX;
+        self.partner_near(name, side, &mut nowhere)
+    }
+
+    /// As [`partner`](Self::partner), but looked for at a place first, which is then set behind the one
+    /// where the pair was found. So who asks for calls in their order, with one place for all of them,
+    /// halves only at the first and at those that are in no pair.
+    pub fn partner_near(&self, name: OpName, side: Side, place: &mut usize) -> Option<OpName>
+        ensures { result ≡ partner_in side self.now.pairs name }
+    {
         match side {
-            Side::Sent => taken_by(&self.rows.pairs, &name),
-            Side::Received => given_by(&self.rows.pairs, &self.by_receive, &name),
+            Side::Sent => taken_near(&self.rows.pairs, place, &name),
+            Side::Received => given_near(&self.rows.pairs, &self.by_receive, place, &name),
         }
     }
 }
@@ -173,24 +184,41 @@ fn places_by_receive(
     Ok(places)
 }
 
-/// The receive that takes the message of that name.
-fn taken_by(pairs: &[Pair], name: &OpName) -> Option<OpName>
+/// The receive that takes the message of that name, looked for at the place first.
+fn taken_near(pairs: &[Pair], place: &mut usize, name: &OpName) -> Option<OpName>
     requires { ArePairs pairs.now }
     ensures { result ≡ taken_by pairs.now name.now }
 {
-    match pairs.binary_search_by_key(name, |p| p.message) {
-        Ok(place) => receive_at(pairs, place),
+    let found = place_near(pairs, *place, name)?;
+    *place = found.saturating_add(1);
+    receive_at(pairs, found)
+}
+
+/// The message that the receive of that name takes, looked for first at the place among those in order
+/// of the receive.
+fn given_near(pairs: &[Pair], places: &[usize], place: &mut usize, name: &OpName) -> Option<OpName>
+    requires { IsSearchable pairs.now places.now }
+    ensures { result ≡ given_by pairs.now name.now }
+{
+    if let Some(pair) = pair_listed(pairs, places, *place) {
+        if is_same_name(&pair.receive, name) {
+            *place = place.saturating_add(1);
+            return Some(pair.message);
+        }
+    }
+    match places.binary_search_by_key(&Some(*name), |place| receive_at(pairs, *place)) {
+        Ok(found) => {
+            *place = found.saturating_add(1);
+            message_at(pairs, places[found])
+        }
         Err(_) => None,
     }
 }
 
-/// The message that the receive of that name takes.
-fn given_by(pairs: &[Pair], places: &[usize], name: &OpName) -> Option<OpName>
-    requires { IsSearchable pairs.now places.now }
-    ensures { result ≡ given_by pairs.now name.now }
+/// The pair at a place among those in order of the receive.
+fn pair_listed(pairs: &[Pair], places: &[usize], place: usize) -> Option<Pair>
+    ensures { IfSome result (λ pair. Has pairs.now pair) }
 {
-    match places.binary_search_by_key(&Some(*name), |place| receive_at(pairs, *place)) {
-        Ok(at) => message_at(pairs, places[at]),
-        Err(_) => None,
-    }
+    let listed = places.get(place)?;
+    pair_at(pairs, *listed)
 }

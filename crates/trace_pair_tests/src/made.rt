@@ -9,7 +9,7 @@ use std::alloc::Global;
 use std::test::Fail;
 use trace_know::{Knowledge, Segment};
 use trace_ops::{RankOps, all_ops, ops_laws};
-use trace_pair::{PairIndex, PairTable, Side, pair_all};
+use trace_pair::{Pair, PairIndex, PairTable, Side, pair_all};
 
 /// A call that returned: of one element of datatype 11 on communicator 2, unless it says otherwise.
 #[derive(Clone, Copy)]
@@ -169,6 +169,35 @@ fn ops_in(alloc: Global, runs: &[Run]) -> Result<Vec<RankOps>, Fail>
     Ok(all_ops(alloc, &layout, &know)?)
 }
 
+/// Whether each end of the pair tells the other, looked for at this place first.
+fn is_told_at(table: &PairTable, p: &Pair, place: usize) -> bool {
+    let (mut sent, mut received) = (place, place);
+    table.partner_near(p.message, Side::Sent, &mut sent) == Some(p.receive)
+        && table.partner_near(p.receive, Side::Received, &mut received) == Some(p.message)
+}
+
+/// Whether each end of the pair tells the other, wherever it is looked for first.
+fn is_told(table: &PairTable, p: &Pair) -> bool {
+    for place in 0..table.pairs().len() {
+        if !is_told_at(table, p, place) {
+            return false;
+        }
+    }
+    table.partner(p.message, Side::Sent) == Some(p.receive)
+        && table.partner(p.receive, Side::Received) == Some(p.message)
+}
+
+/// Whether the message is in no pair, wherever it is looked for first.
+fn is_untaken(table: &PairTable, name: OpName) -> bool {
+    for place in 0..table.pairs().len() {
+        let mut place = place;
+        if table.partner_near(name, Side::Sent, &mut place).is_some() {
+            return false;
+        }
+    }
+    table.partner(name, Side::Sent).is_none()
+}
+
 /// Its pairs and postponed messages, as `0:1>2:3` and `0:1?`; where a pair isn't told by its ends, `!`.
 fn shown(alloc: Global, table: &PairTable) -> Result<String, Fail> {
     let mut text = String::new(alloc);
@@ -177,13 +206,13 @@ fn shown(alloc: Global, table: &PairTable) -> Result<String, Fail> {
         let (m, q) = (p.message, p.receive);
         let pair = format!(in alloc; " {}:{}>{}:{}{sign}", m.rank, m.call, q.rank, q.call)?;
         text.push_str(pair.as_str())?;
-        if table.partner(m, Side::Sent) != Some(q) || table.partner(q, Side::Received) != Some(m) {
+        if !is_told(table, p) {
             text.push_str("!")?;
         }
     }
     for name in table.postponed() {
         text.push_str(format!(in alloc; " {}:{}?", name.rank, name.call)?.as_str())?;
-        if table.partner(*name, Side::Sent).is_some() {
+        if !is_untaken(table, *name) {
             text.push_str("!")?;
         }
     }

@@ -11,14 +11,13 @@ ghost use Rattle.trace_wait.specs.Calls.{counts};
 ghost use Rattle.trace_wait.specs.Conditions.{is_mismatched, round_number};
 
 use crate::counts::{CommCalls, row_of};
-use crate::paired::{is_given, is_taken};
 use crate::round::Round;
 use crate::unpaired::Pattern;
 use mpi_model::{Layout, Message, Receive};
 use std::collections::BTreeSet;
 use std::marker::Model;
 use trace_ops::{Entered, RankOps};
-use trace_pair::PairTable;
+use trace_pair::{PairTable, Side};
 
 /// The whole run, and what was gathered of it to be looked up: which messages and receives are in
 /// no pair, which rounds are mismatched, and how many calls each member has entered.
@@ -77,14 +76,14 @@ impl<'a> Overview<'a> {
     pub fn is_taken(&self, m: &Message) -> bool
         ensures { result ≡ is_some (taken_by self.now.pairs m.now.name) }
     {
-        is_taken(self.pairs, m)
+        self.pairs.partner(m.name, Side::Sent).is_some()
     }
 
     /// Whether the receive is in a pair.
     pub fn is_given(&self, q: &Receive) -> bool
         ensures { result ≡ is_some (given_by self.now.pairs q.now.name) }
     {
-        is_given(self.pairs, q)
+        self.pairs.partner(q.name, Side::Received).is_some()
     }
 
     /// Whether some unpaired receive names just this.

@@ -1,4 +1,5 @@
-//! Whether a message or a receive is in a pair, found by halving in the table of pairs.
+//! Whether a message or a receive is in a pair, for who asks for those of each rank in their order: it
+//! is looked for first behind the one that was found before.
 
 ghost use Rattle.std.specs.Prelude.{◌≡◌, is_some};
 ghost use Rattle.trace_pair.specs.Table.{taken_by, given_by};
@@ -6,16 +7,16 @@ ghost use Rattle.trace_pair.specs.Table.{taken_by, given_by};
 use mpi_model::{Message, Receive};
 use trace_pair::{PairTable, Side};
 
-/// Whether the message is in a pair.
-pub(crate) fn is_taken(pairs: &PairTable, m: &Message) -> bool
+/// Whether the message is in a pair, looked for at the place first.
+pub(crate) fn is_taken(pairs: &PairTable, m: &Message, place: &mut usize) -> bool
     ensures { result ≡ is_some (taken_by pairs.now.pairs m.now.name) }
 {
-    pairs.partner(m.name, Side::Sent).is_some()
+    pairs.partner_near(m.name, Side::Sent, place).is_some()
 }
 
-/// Whether the receive is in a pair.
-pub(crate) fn is_given(pairs: &PairTable, q: &Receive) -> bool
+/// Whether the receive is in a pair, looked for at the place first.
+pub(crate) fn is_given(pairs: &PairTable, q: &Receive, place: &mut usize) -> bool
     ensures { result ≡ is_some (given_by pairs.now.pairs q.now.name) }
 {
-    pairs.partner(q.name, Side::Received).is_some()
+    pairs.partner_near(q.name, Side::Received, place).is_some()
 }

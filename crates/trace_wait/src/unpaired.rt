@@ -35,11 +35,12 @@ fn offer(m: &Message, set: &mut BTreeSet<Pattern>) -> Result<(), AllocError>
 fn offer_unpaired(
     pairs: &PairTable,
     m: &Message,
+    place: &mut usize,
     set: &mut BTreeSet<Pattern>,
 ) -> Result<(), AllocError>
     ensures { OnOk result ((p : Named) → contains pattern_cmp set.new p ≡ ((is_unpaired_message pairs.now.pairs m.now && suits m.now p) || contains pattern_cmp set.old p)) }
 {
-    if is_taken(pairs, m) {
+    if is_taken(pairs, m, place) {
         return Ok(());
     }
     offer(m, set)?;
@@ -49,12 +50,13 @@ fn offer_unpaired(
 fn offer_all(
     pairs: &PairTable,
     sends: &[Message],
+    place: &mut usize,
     set: &mut BTreeSet<Pattern>,
 ) -> Result<(), AllocError>
     ensures { OnOk result ((p : Named) → contains pattern_cmp set.new p ≡ (list_any (λ m. suits m p) (filter (is_unpaired_message pairs.now.pairs) sends.now) || contains pattern_cmp set.old p)) }
 {
     for m in sends {
-        offer_unpaired(pairs, m, set)?;
+        offer_unpaired(pairs, m, place, set)?;
     }
     Ok(())
 }
@@ -68,8 +70,9 @@ pub(crate) fn patterns_offered(
     ensures { IfOk result (λ s. (p : Named) → contains pattern_cmp s p ≡ list_any (λ m. suits m p) (unpaired_messages ops.now pairs.now.pairs)) }
 {
     let mut set = BTreeSet::new(alloc);
+    let mut place = 0;
     for o in ops {
-        offer_all(pairs, o.sends(), &mut set)?;
+        offer_all(pairs, o.sends(), &mut place, &mut set)?;
     }
     Ok(set)
 }
@@ -85,11 +88,12 @@ fn ask(q: &Receive, set: &mut BTreeSet<Pattern>) -> Result<(), AllocError>
 fn ask_unpaired(
     pairs: &PairTable,
     q: &Receive,
+    place: &mut usize,
     set: &mut BTreeSet<Pattern>,
 ) -> Result<(), AllocError>
     ensures { OnOk result ((p : Named) → contains pattern_cmp set.new p ≡ ((is_unpaired_receive pairs.now.pairs q.now && asks q.now p) || contains pattern_cmp set.old p)) }
 {
-    if is_given(pairs, q) {
+    if is_given(pairs, q, place) {
         return Ok(());
     }
     ask(q, set)?;
@@ -99,12 +103,13 @@ fn ask_unpaired(
 fn ask_all(
     pairs: &PairTable,
     receives: &[Receive],
+    place: &mut usize,
     set: &mut BTreeSet<Pattern>,
 ) -> Result<(), AllocError>
     ensures { OnOk result ((p : Named) → contains pattern_cmp set.new p ≡ (list_any (λ q. asks q p) (filter (is_unpaired_receive pairs.now.pairs) receives.now) || contains pattern_cmp set.old p)) }
 {
     for q in receives {
-        ask_unpaired(pairs, q, set)?;
+        ask_unpaired(pairs, q, place, set)?;
     }
     Ok(())
 }
@@ -118,8 +123,9 @@ pub(crate) fn patterns_asked(
     ensures { IfOk result (λ s. (p : Named) → contains pattern_cmp s p ≡ list_any (λ q. asks q p) (unpaired_receives ops.now pairs.now.pairs)) }
 {
     let mut set = BTreeSet::new(alloc);
+    let mut place = 0;
     for o in ops {
-        ask_all(pairs, o.receives(), &mut set)?;
+        ask_all(pairs, o.receives(), &mut place, &mut set)?;
     }
     Ok(set)
 }

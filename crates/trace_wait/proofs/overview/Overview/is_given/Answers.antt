@@ -5,4 +5,4 @@ use Rattle.trace_wait.proofs.overview.Overview.is_given.Goals as goal
 
 pub returns : goal.returns
 returns c =
-    c.is_given.ensures ∙ ap (λ (s : Run). is_some (given_by s.pairs c.args.q.now.name)) c.self.view_is
+    c.is_some.ensures ∙ ap is_some c.partner.ensures ∙ ap (λ (s : Run). is_some (given_by s.pairs c.args.q.now.name)) c.self.view_is

@@ -1,13 +1,17 @@
-use Rattle.std.proofs.Common.{rules, ◌∙◌}
+use Rattle.std.proofs.Common.{rules, ◌∙◌, sym}
 use Rattle.std.proofs.lemmas.Fn.{always_returns_same}
 use Rattle.trace_pair.specs.Searched.{receive_at}
-use Rattle.trace_pair.proofs.Searched.{given_found, given_missed}
-use Rattle.trace_pair.proofs.table.given_by.Goals as goal
+use Rattle.trace_pair.proofs.Searched.{given_found, given_missed, given_stands}
+use Rattle.trace_pair.proofs.table.given_near.Goals as goal
+
+pub returns-then-is_same_name : goal.returns-then-is_same_name
+returns-then-is_same_name c =
+    given_stands c.args.pairs.now c.requires.pairs_are c.args.name.now c.in-Some.pair c.in-Some.ensures (sym c.if-is_same_name.ensures)
 
 pub returns-in-Ok : goal.returns-in-Ok
 returns-in-Ok c =
     c.message_at.ensures
-    ∙ given_found c.args.pairs.now c.args.places.now c.requires c.args.name.now c.in-Ok.at _
+    ∙ given_found c.args.pairs.now c.args.places.now c.requires c.args.name.now c.in-Ok.found _
     (c.in-Ok.ensures.position (receive_at c.args.pairs.now) (always_returns_same _ _ _ (λ a r f' h. (search rules, search rules))))
 
 pub returns-in-Err : goal.returns-in-Err
