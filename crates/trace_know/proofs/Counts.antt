@@ -103,3 +103,18 @@ pub events-counted : (es : List Event) (ks : List Known) → ks ≡ map (λ e. O
 events-counted es ks is =
     let lengths : length ks ≡ length es = ap length is ∙ length-ones es in
     (ap before_conflict is ∙ before-events es ∙ sym lengths, ap conflicts_among is ∙ conflicts-events es)
+
+-- an event moved from the end of a list to the front of the cells
+pub event_moved : (es : List Event) (e : Event) (ks : List Known) → map (λ e. One e) es ++ One e ∷ ks ≡ map (λ e. One e) (es ++ e ∷ []) ++ ks
+event_moved [] e ks = refl
+event_moved (f ∷ es) e ks = ap (λ xs. One f ∷ xs) (event_moved es e ks)
+
+-- cells tell which events they are of
+pub same_events : (es fs : List Event) → map {B = Known} (λ e. One e) es ≡ map (λ e. One e) fs → es ≡ fs
+same_events [] [] is = refl
+same_events [] (f ∷ fs) is = absurd cc
+same_events (e ∷ es) [] is = absurd cc
+same_events (e ∷ es) (f ∷ fs) is =
+    let rest : map {B = Known} (λ e. One e) es ≡ map (λ e. One e) fs = cc in
+    let same = same_events es fs rest in
+    cc

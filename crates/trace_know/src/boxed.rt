@@ -1,14 +1,16 @@
 //! A run as it stands in a list: in memory of its own, so that what moves is a pointer.
 
-ghost use Rattle.std.specs.Prelude.{◌≡◌, ◌+◌, ◌<◌, ◌≤◌, length, min, max, slice_index_or, IfOk, OnOk, OnErr};
+ghost use Rattle.std.specs.Prelude.{◌≡◌, ◌+◌, ◌<◌, ◌≤◌, length, min, max, slice_index_or, map, [], IfOk, IfErr, OnOk, OnErr, vec_len, vec_capacity};
 ghost use Rattle.std.specs.VecDeque.{deque_capacity};
 ghost use Rattle.trace_know.specs.declared.segment.TheConstants.{PLACES};
 ghost use Rattle.trace_know.specs.View.{join};
 ghost use Rattle.trace_know.specs.Rows.{single};
-ghost use Rattle.trace_know.specs.Runs.{of_run, IsAlike, IsCounted};
+ghost use Rattle.trace_know.specs.Runs.{of_run, IsAlike, IsCounted, conflicts_among};
+ghost use Rattle.trace_know.specs.declared.cell.Known.TheVariants.{One};
 
 use crate::cell::Known;
 use crate::run::{self, Run};
+use mpi_model::Event;
 use std::alloc::{AllocError, Global};
 use std::marker::Model;
 
@@ -98,6 +100,30 @@ impl BoxedRun {
     {
         self.run.cells.reserve(more)
     }
+
+    /// Moves the events to the run, which has no cell yet, and room for them. The list keeps its memory.
+    pub(crate) fn fill(&mut self, events: &mut Vec<Event>)
+        requires none { self.old.cells.items ≡ [] }
+        requires room { vec_len events.old ≤ deque_capacity self.old.cells }
+        ensures same { (self.new.rank ≡ self.old.rank) × (self.new.first ≡ self.old.first) }
+        ensures cells { self.new.cells.items ≡ map (λ e. One e) events.old.items }
+        ensures counted { IsCounted self.new }
+        ensures events { events.new.items ≡ [] }
+        ensures capacity { vec_capacity events.new ≡ vec_capacity events.old }
+        ensures fits { length events.old.items ≤ vec_capacity events.new }
+    {
+        run::fill(&mut self.run, events)
+    }
+
+    /// Moves the events of the run, which has no contradiction, back to a list that has room for them, and no event.
+    pub(crate) fn give_back(self, events: &mut Vec<Event>)
+        requires none { events.old.items ≡ [] }
+        requires room { length self.cells.items ≤ vec_capacity events.old }
+        requires sound { conflicts_among self.cells.items ≡ 0 }
+        ensures { map (λ e. One e) events.new.items ≡ self.cells.items }
+    {
+        run::give_back(self.into_run(), events)
+    }
 }
 
 /// Takes all that another piece of the same rank has. The piece is no longer than the run, and
@@ -120,8 +146,8 @@ pub(crate) fn absorb(run: &mut BoxedRun, piece: BoxedRun)
 }
 
 /// Gives the run room for a piece that it touches, and takes all that the piece has. At `Err` the
-/// run has what it had.
-pub(crate) fn grow_by(run: &mut BoxedRun, piece: BoxedRun) -> Result<(), AllocError>
+/// run has what it had, and the piece comes back.
+pub(crate) fn grow_by(run: &mut BoxedRun, piece: BoxedRun) -> Result<(), BoxedRun>
     requires rank { piece.rank ≡ run.old.rank }
     requires touches { (piece.first ≤ run.old.first + length run.old.cells.items) × (run.old.first ≤ piece.first + length piece.cells.items) }
     requires shorter { length piece.cells.items ≤ length run.old.cells.items }
@@ -133,8 +159,13 @@ pub(crate) fn grow_by(run: &mut BoxedRun, piece: BoxedRun) -> Result<(), AllocEr
     ensures end { OnOk result (run.new.first + length run.new.cells.items ≡ max (run.old.first + length run.old.cells.items) (piece.first + length piece.cells.items)) }
     ensures counted { IsCounted run.new }
     ensures err { OnErr result (IsAlike run.new run.old) }
+    ensures back { IfErr result (λ b. b ≡ piece) }
 {
-    run::grow_by(&mut run.run, piece.into_run())
+    if run::make_room(&mut run.run, &piece.run).is_err() {
+        return Err(piece);
+    }
+    absorb(run, piece);
+    Ok(())
 }
 
 /// Gives the run room for one cell more, and adds what is known of the place after the last. At `Err` the run has what

@@ -1,6 +1,6 @@
 //! Knowledge: the join of the segments that were taken.
 
-ghost use Rattle.std.specs.Prelude.{◌≡◌, ◌↔◌, ◌+◌, ◌^◌, ◌<◌, ◌≤◌, IsTrue, OnOk, OnErr, IfOk, IsSome, length, map, slice_get};
+ghost use Rattle.std.specs.Prelude.{◌≡◌, ◌↔◌, ◌+◌, ◌^◌, ◌<◌, ◌≤◌, IsTrue, OnOk, OnErr, IfOk, IfErr, IsSome, length, map, slice_get};
 ghost use Rattle.std.specs.FinMap.{empty, insert, entries, len};
 ghost use Rattle.std.specs.Option.{option_map, option_copied};
 ghost use Rattle.trace_know.specs.Cell.{shown, put_known};
@@ -8,6 +8,7 @@ ghost use Rattle.trace_know.specs.Placed.{IsPast, IsPlaced, IsKnowledge};
 ghost use Rattle.trace_know.specs.Listing.{cells_of, conflicts_of};
 ghost use Rattle.trace_know.specs.Prefix.{events_of, prefix_of, is_beyond};
 ghost use Rattle.trace_know.specs.Runs.{of_run, IsFilled};
+ghost use Rattle.trace_know.specs.Segment.{IsSegment};
 ghost use Rattle.trace_know.specs.Trace.{facts_of, view_of};
 ghost use Rattle.trace_know.specs.View.{IsBelow, cell, join};
 
@@ -20,12 +21,12 @@ use crate::readers::{
     any_from, cell_in, conflict_in, conflict_places_in, count_cells, count_conflicts, known_in,
     prefix_in, readable_in,
 };
-use crate::run::{Run, run_from, run_of};
-use crate::runs::{take_cell, take_run};
+use crate::run::{Run, run_of, run_with_room};
+use crate::runs::{take_cell, take_or_return, take_run};
 use crate::segment::Segment;
 use crate::walk::Walk;
 use mpi_model::Event;
-use std::alloc::{AllocError, Global};
+use std::alloc::{AllocError, AllocFailed, Global};
 use std::marker::Model;
 
 /// What is known of each place of each rank. Empty knowledge takes no memory; a copy takes its own.
@@ -83,16 +84,48 @@ impl Knowledge {
     }
 
     /// Joins the facts of a segment that is not needed any more: its events are moved, where
-    /// [`take`](Self::take) copies them. Without memory nothing changes, and the segment is gone.
-    pub fn take_owned(&mut self, segment: Segment) -> Result<(), AllocError>
+    /// [`take`](Self::take) copies them. Without memory nothing changes, and the segment comes back.
+    pub fn take_owned(&mut self, segment: Segment) -> Result<(), AllocFailed<Segment>>
         ensures ok { OnOk result (self.new ≡ join self.old (view_of (facts_of segment))) }
         ensures err { OnErr result (self.new ≡ self.old) }
+        ensures back { IfErr result (λ refused. refused.value ≡ segment) }
     {
         segment.known();
-        let rank = segment.rank();
-        let first = segment.first_place();
-        let piece = run_from(self.alloc, rank, first, segment.into_events())?;
-        self.join_run(piece)
+        let (rank, first_place, mut events) = segment.into_parts();
+        match self.take_events(rank, first_place, &mut events) {
+            Ok(()) => Ok(()),
+            Err(_) => Err(AllocFailed {
+                value: Segment::of_parts(rank, first_place, events),
+            }),
+        }
+    }
+
+    /// Joins the events of a segment, and moves them. At `Err` nothing changes, and the events stay in the list.
+    fn take_events(
+        &mut self,
+        rank: u32,
+        first_place: u64,
+        events: &mut Vec<Event>,
+    ) -> Result<(), AllocError>
+        requires { IsSegment (record { rank = rank; first_place = first_place; events = events.old.items }) }
+        ensures ok { OnOk result (self.new ≡ join self.old (view_of (facts_of (record { rank = rank; first_place = first_place; events = events.old.items })))) }
+        ensures err { OnErr result (self.new ≡ self.old) }
+        ensures back { OnErr result (events.new.items ≡ events.old.items) }
+    {
+        let most = self.most_with(events.len())?;
+        let room = run_with_room(self.alloc, rank, first_place, events.len())?;
+        let mut piece = BoxedRun::new(self.alloc, room)?;
+        piece.fill(events);
+        match take_or_return(&mut self.runs, piece) {
+            Ok(()) => {
+                self.most = most;
+                Ok(())
+            }
+            Err(piece) => {
+                piece.give_back(events);
+                Err(AllocError)
+            }
+        }
     }
 
     /// Joins all that the other knows. Without memory nothing changes. It costs what the runs of the

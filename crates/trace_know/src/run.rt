@@ -1,6 +1,6 @@
 //! A run: cells of one rank without a gap, and how it takes in another.
 
-ghost use Rattle.std.specs.Prelude.{◌≡◌, ◌+◌, ◌-◌, ◌<◌, ◌≤◌, ◌^◌, ◌++◌, length, min, max, ℕ, true, false, if◌then◌else◌, IfOk, OnOk, OnErr, IsTrue, IsFalse, slice_set, slice_index_or, map, [], ◌∷◌};
+ghost use Rattle.std.specs.Prelude.{◌≡◌, ◌+◌, ◌-◌, ◌<◌, ◌≤◌, ◌^◌, ◌++◌, length, min, max, ℕ, true, false, if◌then◌else◌, IfOk, OnOk, OnErr, IsTrue, IsFalse, slice_set, slice_index_or, map, [], ◌∷◌, vec_len, vec_capacity};
 ghost use Rattle.std.specs.VecDeque.{deque_len, deque_capacity};
 ghost use Rattle.trace_know.specs.declared.cell.Known.{Known as KnownValue};
 ghost use Rattle.trace_know.specs.declared.cell.Known.TheVariants.{Contradiction, One};
@@ -199,28 +199,18 @@ pub(crate) fn absorb(run: &mut Run, piece: Run)
     }
 }
 
-/// Gives the run room for a piece that it touches, and takes all that the piece has. At `Err` the
-/// run has what it had.
-pub(crate) fn grow_by(run: &mut Run, piece: Run) -> Result<(), AllocError>
-    requires rank { piece.rank ≡ run.old.rank }
-    requires touches { (piece.first ≤ run.old.first + length run.old.cells.items) × (run.old.first ≤ piece.first + length piece.cells.items) }
-    requires shorter { length piece.cells.items ≤ length run.old.cells.items }
-    requires ends { (run.old.first + length run.old.cells.items ≤ PLACES) × (piece.first + length piece.cells.items ≤ PLACES) }
-    requires counted { IsCounted run.old }
-    ensures ok { OnOk result (of_run run.new ≡ join (of_run run.old) (of_run piece)) }
-    ensures rank { run.new.rank ≡ run.old.rank }
-    ensures first { OnOk result (run.new.first ≡ min run.old.first piece.first) }
-    ensures end { OnOk result (run.new.first + length run.new.cells.items ≡ max (run.old.first + length run.old.cells.items) (piece.first + length piece.cells.items)) }
-    ensures counted { IsCounted run.new }
-    ensures err { OnErr result (IsAlike run.new run.old) }
+/// Gives the run room for a piece that it touches. It has what it had.
+pub(crate) fn make_room(run: &mut Run, piece: &Run) -> Result<(), AllocError>
+    requires touches { (piece.now.first ≤ run.old.first + length run.old.cells.items) × (run.old.first ≤ piece.now.first + length piece.now.cells.items) }
+    requires ends { (run.old.first + length run.old.cells.items ≤ PLACES) × (piece.now.first + length piece.now.cells.items ≤ PLACES) }
+    ensures same { IsAlike run.new run.old }
+    ensures room { OnOk result ((piece.now.first + length piece.now.cells.items ≤ run.old.first + deque_capacity run.new.cells) × (run.old.first + length run.old.cells.items ≤ piece.now.first + deque_capacity run.new.cells)) }
 {
     let from = run.first.min(piece.first);
     let held = run.cells.len();
     let end = run.first + held as u64;
     let to = end.max(piece.first + piece.cells.len() as u64);
-    run.cells.reserve((to - from) as usize - held)?;
-    absorb(run, piece);
-    Ok(())
+    run.cells.reserve((to - from) as usize - held)
 }
 
 fn absorb_back(run: &mut Run, piece: Run)
@@ -296,37 +286,75 @@ pub(crate) fn run_of(
     })
 }
 
-/// The events of a rank, each moved, as a run of their own.
-pub(crate) fn run_from(
+/// A run of a rank from a place on that has no cell yet, and room for so many.
+pub(crate) fn run_with_room(
     alloc: Global,
     rank: u32,
     first: u64,
-    events: Vec<Event>,
+    count: usize,
 ) -> Result<Run, AllocError>
-    ensures rank { IfOk result (λ r. r.rank ≡ rank) }
-    ensures first { IfOk result (λ r. r.first ≡ first) }
-    ensures cells { IfOk result (λ r. r.cells.items ≡ map (λ e. One e) events.items) }
-    ensures counted { IfOk result (λ r. IsCounted r) }
+    ensures place { IfOk result (λ r. (r.rank ≡ rank) × (r.first ≡ first)) }
+    ensures none { IfOk result (λ r. r.cells.items ≡ []) }
+    ensures room { IfOk result (λ r. count ≤ deque_capacity r.cells) }
 {
-    let cells = cells_from(alloc, events)?;
-    let sound = cells.len();
     Ok(Run {
         rank,
         first,
-        cells,
-        sound,
+        cells: VecDeque::with_capacity(alloc, count)?,
+        sound: 0,
         conflicts: 0,
     })
 }
 
-/// The events, each as what is known of its place.
-fn cells_from(alloc: Global, events: Vec<Event>) -> Result<VecDeque<Known>, AllocError>
-    ensures { IfOk result (λ cells. cells.items ≡ map (λ e. One e) events.items) }
+/// Moves the events to cells that have room for them, of which there are none yet: the last event first, so that the
+/// list keeps its memory.
+#[tactic(auto, using(crate::proofs::Counts::event_moved))]
+fn move_in(cells: &mut VecDeque<Known>, events: &mut Vec<Event>)
+    requires none { cells.old.items ≡ [] }
+    requires room { vec_len events.old ≤ deque_capacity cells.old }
+    ensures cells { cells.new.items ≡ map (λ e. One e) events.old.items }
+    ensures events { events.new.items ≡ [] }
+    ensures capacity { vec_capacity events.new ≡ vec_capacity events.old }
+    ensures fits { length events.old.items ≤ vec_capacity events.new }
 {
-    events
-        .into_iter()
-        .map(|event| Known::One(event))
-        .collect(alloc)
+    while let Some(event) = events.pop() {
+        cells.push_front_reserved(Known::One(event));
+    }
+}
+
+/// Moves the events to a run that has no cell yet, and room for them. The list keeps its memory.
+pub(crate) fn fill(run: &mut Run, events: &mut Vec<Event>)
+    requires none { run.old.cells.items ≡ [] }
+    requires room { vec_len events.old ≤ deque_capacity run.old.cells }
+    ensures same { (run.new.rank ≡ run.old.rank) × (run.new.first ≡ run.old.first) }
+    ensures cells { run.new.cells.items ≡ map (λ e. One e) events.old.items }
+    ensures counted { IsCounted run.new }
+    ensures events { events.new.items ≡ [] }
+    ensures capacity { vec_capacity events.new ≡ vec_capacity events.old }
+    ensures fits { length events.old.items ≤ vec_capacity events.new }
+{
+    run.sound = events.len();
+    run.conflicts = 0;
+    move_in(&mut run.cells, events);
+}
+
+/// Moves the events of a run back to a list that has room for them, of which there are none yet. The run has no
+/// contradiction.
+#[tactic(auto, using(crate::proofs::Counts::event_moved))]
+pub(crate) fn give_back(run: Run, events: &mut Vec<Event>)
+    requires none { events.old.items ≡ [] }
+    requires room { length run.cells.items ≤ vec_capacity events.old }
+    requires sound { conflicts_among run.cells.items ≡ 0 }
+    ensures { map (λ e. One e) events.new.items ≡ run.cells.items }
+{
+    let mut cells = run.cells;
+    while let Some(known) = cells.pop_front() {
+        if let Known::One(event) = known {
+            let Ok(()) = events.push(event) else {
+                unreachable!();
+            };
+        }
+    }
 }
 
 /// A run of one cell.
