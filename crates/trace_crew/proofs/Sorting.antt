@@ -1,5 +1,5 @@
 -- What was taken grows by one item.
-use Rattle.std.proofs.Common.{◌≡◌, ◌↔◌, ◌<◌, ◌≤◌, ◌+◌, ℕ, zero, suc, false, Result, Err, ⊎_elim, Option, Some, None, List, [], ◌∷◌, ◌++◌, map, refl, sym, ap, ◌∙◌, subst, arith}
+use Rattle.std.proofs.Common.{◌≡◌, ◌≢◌, ◌↔◌, ◌<◌, ◌≤◌, ◌+◌, ℕ, zero, suc, false, ⊎_elim, Option, Some, None, List, [], ◌∷◌, ◌++◌, map, refl, sym, ap, ◌∙◌, subst, arith}
 use Rattle.std.specs.List.{All, filter_map, flat_map}
 use Rattle.std.specs.FinMap.{empty}
 use Rattle.std.proofs.lemmas.Grind.{flat_map-append}
@@ -12,7 +12,7 @@ use Rattle.trace_know.specs.View.{join}
 use Rattle.trace_node.specs.Node.{Held, held}
 use Rattle.std.proofs.lemmas.Bool.{cases_lt}
 use Rattle.trace_node.specs.declared.fault.NodeFault.{NodeFault}
-use Rattle.trace_node.specs.declared.fault.NodeFault.TheVariants.{Rank, Memory}
+use Rattle.trace_node.specs.declared.fault.NodeFault.TheVariants.{Rank, Memory, Stale}
 use Rattle.trace_inbox.specs.declared.item.Item.{Item}
 use Rattle.trace_inbox.specs.declared.item.Post.TheVariants.{Segment, End}
 use Rattle.trace_crew.specs.Taking.{Handles, IsFair, IsFairFor, IsKept, Refusal, Sorted, Taken, counted, ends_in, is_end, joined_for, joined_in, known_after, refused_in, sent, sent_by, source, taken_as}
@@ -70,9 +70,11 @@ pub sorted_kept : (layout : Parts) (items : List Item) (node later : Held) (refu
 sorted_kept layout items node later refused still kept same h =
     let s = h.1 in (h.0, record { all = s.all; fair = s.fair; listed = same ∙ s.listed; layout_is = kept.layout ∙ s.layout_is; know = kept.know ∙ s.know })
 
--- What is refused for want of memory is of a rank of the layout.
-pub memory_is_fair : (result : Result (Unit {0}) NodeFault) (ranks rank : ℕ) → result ≡ Err Memory → (result ≡ Err Rank) ↔ (ranks ≤ rank) → rank < ranks
-memory_is_fair result ranks rank is only = ⊎_elim (λ lt. lt) (λ (le : ranks ≤ rank). absurd (let e = only.1 le in cc)) (cases_lt rank ranks)
+-- A node refuses a segment for its rank, or else for want of memory.
+pub fault_is_fair : (layout : Parts) (fault : NodeFault) (rank : ℕ) → (fault ≢ Stale) → (fault ≡ Rank) ↔ (layout.ranks ≤ rank) → IsFairFor layout rank (Some fault)
+fault_is_fair layout Rank rank whole only = only.0 refl
+fault_is_fair layout Memory rank whole only = ⊎_elim (λ lt. lt) (λ (le : layout.ranks ≤ rank). absurd (let e = only.1 le in cc)) (cases_lt rank layout.ranks)
+fault_is_fair layout Stale rank whole only = absurd (whole refl)
 
 -- one item more that ends a worker's posts, or doesn't
 pub ends_more : (items : List Item) (item : Item) → ends_in (items ++ item ∷ []) ≡ ends_in items + counted (is_end item)

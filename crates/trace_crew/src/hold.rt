@@ -7,18 +7,15 @@ use trace_know::Segment;
 use trace_node::{Node, NodeFault};
 
 /// Joins a segment to a node, and makes no answer; or gives it back with why it was not joined.
-#[tactic(auto, using(crate::proofs::Sorting::memory_is_fair))]
+#[tactic(auto, using(crate::proofs::Sorting::fault_is_fair))]
 pub fn hold(node: &mut Node<'_>, segment: Segment) -> Option<(Segment, NodeFault)>
     ensures fair { IsFairFor node.old.layout segment.rank (fault_in result) }
     ensures layout { node.new.layout ≡ node.old.layout }
     ensures know { node.new.know ≡ known_after node.old.know segment (fault_in result) }
     ensures back { IfSome result (λ refused. refused.0 ≡ segment) }
 {
-    match node.hold(&segment) {
+    match node.hold_owned(segment) {
         Ok(()) => None,
-        Err(NodeFault::Rank) => Some((segment, NodeFault::Rank)),
-        Err(NodeFault::Memory) => Some((segment, NodeFault::Memory)),
-        // (what is only held asks for no answer)
-        Err(NodeFault::Stale) => unreachable!(),
+        Err(refused) => Some(refused),
     }
 }

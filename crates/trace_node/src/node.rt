@@ -1,6 +1,6 @@
 //! A node: knowledge with its answer.
 
-ghost use Rattle.std.specs.Prelude.{◌≡◌, ◌≢◌, ◌↔◌, ◌≤◌, true, false, IsTrue, IfOk, IfSome, OnOk, OnErr, IfErr, IsErr, IsErrOf};
+ghost use Rattle.std.specs.Prelude.{◌≡◌, ◌≢◌, ◌↔◌, ◌<◌, ◌≤◌, true, false, IsTrue, IfOk, IfSome, OnOk, OnErr, IfErr, IsErr, IsErrOf};
 ghost use Rattle.std.specs.FinMap.{empty};
 ghost use Rattle.trace_know.specs.Trace.{facts_of, view_of};
 ghost use Rattle.trace_know.specs.View.{join};
@@ -125,6 +125,32 @@ impl<'a> Node<'a> {
         }
         put(&mut self.answer, None);
         Ok(())
+    }
+
+    /// Joins the facts of a segment that is not needed any more, as [`hold`](Self::hold) does: its
+    /// events are moved, where `hold` copies them. Where it is refused nothing changes, and the
+    /// segment comes back with why.
+    pub fn hold_owned(&mut self, segment: Segment) -> Result<(), (Segment, NodeFault)>
+        ensures ok { OnOk result (self.new ≡ held self.old.layout (join self.old.know (view_of (facts_of segment))) true) }
+        ensures inside { OnOk result (segment.rank < self.old.layout.ranks) }
+        ensures err { OnErr result (self.new ≡ self.old) }
+        ensures back { IfErr result (λ refused. refused.0 ≡ segment) }
+        ensures rank { IfErr result (λ refused. (refused.1 ≡ NodeFault.Rank) ↔ (self.old.layout.ranks ≤ segment.rank)) }
+        ensures whole { IfErr result (λ refused. refused.1 ≢ NodeFault.Stale) }
+    {
+        join_laws();
+        view_laws();
+        let rank = segment.rank();
+        if rank >= self.layout.ranks() {
+            return Err((segment, NodeFault::Rank));
+        }
+        match self.know.take_owned(segment) {
+            Ok(()) => {
+                put(&mut self.answer, None);
+                Ok(())
+            }
+            Err(refused) => Err((refused.value, NodeFault::Memory)),
+        }
     }
 
     /// Joins all that the other knows, and makes the answer to all that is known then. A stale node

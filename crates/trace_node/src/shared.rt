@@ -3,12 +3,12 @@
 //! Sharing costs no copy. Who changes what is known and isn't its only owner gets a copy of its own
 //! first, so nobody else sees the change.
 
-ghost use Rattle.std.specs.Prelude.{◌≡◌, IfOk, OnOk, OnErr};
+ghost use Rattle.std.specs.Prelude.{◌≡◌, IfOk, IfErr, OnOk, OnErr};
 ghost use Rattle.trace_know.specs.Trace.{facts_of, view_of};
 ghost use Rattle.trace_know.specs.View.{join};
 
 use crate::answer::Answer;
-use std::alloc::{AllocError, Global};
+use std::alloc::{AllocError, AllocFailed, Global};
 use std::marker::Model;
 use std::sync::Arc;
 use trace_know::{Knowledge, Segment};
@@ -69,6 +69,22 @@ impl SharedKnowledge {
         copy.take(segment)?;
         self.know = Arc::new(self.alloc, copy)?;
         Ok(())
+    }
+
+    /// Joins the facts of a segment that is not needed any more: with one owner its events are moved.
+    /// Without memory nothing changes, and the segment comes back.
+    pub(crate) fn take_owned(&mut self, segment: Segment) -> Result<(), AllocFailed<Segment>>
+        ensures ok { OnOk result (self.new ≡ join self.old (view_of (facts_of segment))) }
+        ensures err { OnErr result (self.new ≡ self.old) }
+        ensures back { IfErr result (λ refused. refused.value ≡ segment) }
+    {
+        if let Some(know) = Arc::get_mut(&mut self.know) {
+            return know.take_owned(segment);
+        }
+        match self.take(&segment) {
+            Ok(()) => Ok(()),
+            Err(_) => Err(AllocFailed { value: segment }),
+        }
     }
 
     /// Joins all that the other knows. Without memory nothing changes.
