@@ -7,7 +7,7 @@ use crate::fixture::{
 use mpi_model::Layout;
 use std::alloc::Global;
 use std::process::Abort;
-use trace_know::Knowledge;
+use trace_know::{Knowledge, Segment};
 use trace_node::{Node, NodeFault};
 use trace_report::report_text;
 
@@ -60,18 +60,28 @@ fn four_pieces_in_every_order(rt: HostRuntime) {
     }
 }
 
+/// Whether the node takes the piece: every second one is moved to it, and the others are copied.
+fn is_held<R: Abort>(rt: &R, alloc: Global, node: &mut Node, place: usize) -> bool {
+    let piece = DISAGREEING.get(place).expect(rt, "a piece");
+    let segment = segment(rt, alloc, piece);
+    if place % 2 == 0 {
+        node.hold(&segment).is_ok()
+    } else {
+        node.hold_owned(segment).is_ok()
+    }
+}
+
 /// What is reported of the four pieces, held in this order and prepared for after each, with an answer
-/// after the first of them, wherever it stands, and at the end; nothing where a node that holds has an
-/// answer.
+/// after the first of them, wherever it stands, and at the end; nothing where a piece is refused or a
+/// node that holds has an answer.
 fn held<R: Abort>(rt: &R, alloc: Global, order: &str) -> Vec<u8> {
     let layout = layout(rt, alloc);
     let mut node = Node::new(alloc, &layout).expect(rt, "memory");
     for name in order.bytes() {
         let place = usize::from(name.wrapping_sub(b'0'));
-        let piece = DISAGREEING.get(place).expect(rt, "a piece");
-        node.hold(&segment(rt, alloc, piece)).expect(rt, "a hold");
+        let is_held = is_held(rt, alloc, &mut node, place);
         node.prepare().expect(rt, "memory");
-        if node.answer().is_ok() {
+        if !is_held || node.answer().is_ok() {
             return Vec::new(alloc);
         }
         if place == 0 {
@@ -157,6 +167,15 @@ fn stays<R: Abort>(rt: &R, alloc: Global, node: &mut Node, report: &[u8]) -> boo
 /// A segment of a rank that the layout lacks.
 static STRANGER: Piece = (2, 0, &[Does::Nothing]);
 
+/// Whether the node gives back a segment that it was to hold, with a fault.
+fn gives_back(node: &mut Node, segment: Segment, wanted: NodeFault) -> bool {
+    let rank = segment.rank();
+    match node.hold_owned(segment) {
+        Err((back, fault)) => fault == wanted && back.rank() == rank,
+        Ok(()) => false,
+    }
+}
+
 /// Whether it refuses what is told of a stranger, and knows and reports what it did.
 fn refuses_a_stranger<R: Abort>(rt: &R, alloc: Global, node: &mut Node, report: &[u8]) -> bool {
     let frame = frame_of(rt, alloc, node.know());
@@ -165,6 +184,7 @@ fn refuses_a_stranger<R: Abort>(rt: &R, alloc: Global, node: &mut Node, report: 
     know.take(&strange).expect(rt, "memory");
     let is_refused = node.take(&strange) == Err(NodeFault::Rank)
         && node.hold(&strange) == Err(NodeFault::Rank)
+        && gives_back(node, strange, NodeFault::Rank)
         && node.merge(&know) == Err(NodeFault::Rank);
     is_refused
         && frame_of(rt, alloc, node.know()).as_slice() == frame.as_slice()
