@@ -57,6 +57,29 @@ fn take(
     Ok(())
 }
 
+/// Takes a segment with its events. A refusal leaves what was known, and gives the segment back.
+fn take_owned(
+    rt: &impl Abort,
+    know: &mut Knowledge,
+    piece: Segment,
+    expected: (usize, usize, u64, bool),
+) -> Result<(), Fail> {
+    let before = summary(know);
+    let told = (piece.first_place(), piece.events().len());
+    if let Err(refused) = know.take_owned(piece) {
+        let back = refused.value;
+        assert_eq!(rt; summary(know), before, "a refused take");
+        assert_eq!(rt;
+            (back.first_place(), back.events().len()),
+            told,
+            "what comes back"
+        );
+        know.take_owned(back)?;
+    }
+    assert_eq!(rt; summary(know), expected, "a take of its own");
+    Ok(())
+}
+
 /// Joins the other. A refusal leaves what was known.
 fn join(
     rt: &impl Abort,
@@ -90,12 +113,18 @@ static OTHER_STEPS: [Step; 2] = [(6, 6, 1, (6, 0, 0, true)), (20, 2, 1, (8, 0, 0
 fn after(rt: &impl Abort, alloc: Global, steps: &[Step]) -> Result<Knowledge, Fail> {
     let mut know = Knowledge::new(alloc);
     for (first, count, late, expected) in steps {
-        take(
-            rt,
-            &mut know,
-            segment(alloc, *first, *count, *late)?,
-            *expected,
-        )?;
+        let piece = segment(alloc, *first, *count, *late)?;
+        take(rt, &mut know, piece, *expected)?;
+    }
+    Ok(know)
+}
+
+/// What these steps lead to, with segments that are not needed any more.
+fn after_owned(rt: &impl Abort, alloc: Global, steps: &[Step]) -> Result<Knowledge, Fail> {
+    let mut know = Knowledge::new(alloc);
+    for (first, count, late, expected) in steps {
+        let piece = segment(alloc, *first, *count, *late)?;
+        take_owned(rt, &mut know, piece, *expected)?;
     }
     Ok(know)
 }
@@ -106,4 +135,12 @@ fn refusals_leave_what_was_known(rt: HostRuntime) -> Result<(), Fail> {
     let mut know = after(&rt, rt.alloc(), &STEPS)?;
     join(&rt, &mut know, &other, (20, 4, 4, true))?;
     join(&rt, &mut know, &other, (20, 4, 4, true))
+}
+
+#[test]
+fn refused_segments_come_back(rt: HostRuntime) -> Result<(), Fail> {
+    let copied = after(&rt, rt.alloc(), &STEPS)?;
+    let moved = after_owned(&rt, rt.alloc(), &STEPS)?;
+    assert!(rt; moved.same(&copied));
+    Ok(())
 }

@@ -1,4 +1,4 @@
-use Rattle.std.proofs.Common.{◌∙◌, sym, subst, arith}
+use Rattle.std.proofs.Common.{sym, subst, arith}
 use Rattle.trace_know.specs.Trace.{facts_of, view_of}
 use Rattle.trace_know.specs.View.{View}
 use Rattle.trace_node.specs.Node.{IsWithin}
@@ -7,8 +7,8 @@ use Rattle.trace_node.proofs.Nodes.{follows_join, stale_node}
 use Rattle.trace_node.proofs.Within.{within_join, within_segment}
 use Rattle.trace_node.proofs.node.Node.hold_owned.Goals as goal
 
-pub invariant_of-self-2 : goal.invariant_of-self-2
-invariant_of-self-2 c =
+pub invariant_of-self : goal.invariant_of-self
+invariant_of-self c =
     let layout = c.self.inside.layout.now in
     let know = c.self.inside.know in
     let more = view_of (facts_of c.args.segment) in
