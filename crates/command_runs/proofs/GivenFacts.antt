@@ -1,5 +1,5 @@
 -- What the segments of a text tell of the piece of a manifest whose text it is.
-use Rattle.std.proofs.Common.{◌≡◌, ◌∙◌, ℕ, List, Option, Some, None, ap₂, sym, subst}
+use Rattle.std.proofs.Common.{◌∙◌, ℕ, List, Option, Some, None, ap₂, sym, subst}
 use Rattle.mpi_model.specs.declared.event.Event.{Event}
 use Rattle.dumpi_calls.specs.Whole.{AreEvents, SegmentsTellAll, TellsEvents}
 use Rattle.trace_know.specs.Segment.{PlacedEvents, enter_place}

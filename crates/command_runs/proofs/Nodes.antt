@@ -1,5 +1,5 @@
 -- The nodes that a world shows, and the text of their answers.
-use Rattle.std.proofs.Common.{◌≡◌, ◌∙◌, ◌+◌, ◌<◌, ◌≤◌, ◌++◌, ◌∷◌, [], ℕ, zero, suc, List, Option, Some, None, Bool, true, false, ap, ap₂, sym, refl, subst, map, length, take, get_or, arith, append_assoc, append-nil, OnErr, Result, Ok, Err}
+use Rattle.std.proofs.Common.{◌≡◌, ◌∙◌, ◌+◌, ◌<◌, ◌≤◌, ◌++◌, ◌∷◌, [], ℕ, zero, suc, List, Option, Some, None, Bool, false, ap, ap₂, sym, refl, subst, map, length, take, arith, append_assoc, append-nil, OnErr, Result, Ok, Err}
 use Rattle.std.specs.Prelude.{replicate, slice_index_or}
 use Rattle.std.specs.Io.KnownBytes.{Appends}
 use Rattle.std.specs.List.{slice_get}
@@ -14,7 +14,7 @@ use Rattle.trace_node.specs.Node.{Held, held}
 use Rattle.trace_world.specs.Refusals.{NoneStaler, stale}
 use Rattle.trace_world.specs.Shows.{knowledge_of, knows}
 use Rattle.trace_world.specs.Worlds.{layouts}
-use Rattle.command_runs.specs.Replays.{AppendsFront, AreAnswers, IsTextOf, NoneStale, node_text, node_texts, replay_text}
+use Rattle.command_runs.specs.Replays.{AppendsFront, AreAnswers, IsTextOf, NoneStale, node_text, node_texts}
 
 -- ---- what the nodes hold
 

@@ -1,5 +1,5 @@
 -- The pieces of a manifest by node, worker and place, and the texts that stand there.
-use Rattle.std.proofs.Common.{◌≡◌, ◌∙◌, ◌++◌, ◌∷◌, [], ◌==◌, ◌+◌, ◌≤◌, ◌<◌, ◌⊎◌, ◌≢◌, inl, inr, arith, ℕ, zero, suc, List, Option, Some, Bool, true, false, ap, ap₂, sym, refl, subst, length, append_assoc, get_or}
+use Rattle.std.proofs.Common.{◌≡◌, ◌∙◌, ◌++◌, ◌∷◌, [], ◌==◌, ◌+◌, ◌≤◌, ◌<◌, ◌≢◌, inl, inr, arith, ℕ, zero, suc, List, Option, Some, true, false, ap, ap₂, sym, refl, subst, length, append_assoc, get_or}
 use Rattle.std.specs.Prelude.{Contains}
 use Rattle.std.specs.List.{All, slice_get}
 use Rattle.std.proofs.lemmas.List.{length-append}
@@ -14,7 +14,7 @@ use Rattle.trace_crew.specs.declared.piece.Piece.{Piece}
 use Rattle.trace_cluster.specs.Pieces.{IsForeign, IsWhole, IsWithin, Placed, all_pieces, placed_from}
 use Rattle.input_files.specs.Manifests.{PieceParts}
 use Rattle.command_runs.specs.Clusters.{AreSound, AreWhole, HaveStranger, IsOutside, by_node, piece_at}
-use Rattle.command_runs.specs.Pieces.{TellsFacts, facts_of_all}
+use Rattle.command_runs.specs.Pieces.{facts_of_all}
 use Rattle.command_runs.specs.Texts.{AreShares, AreTextsOf, IsTextOf, share_of}
 use Rattle.command_runs.specs.Traces.{IsInside, TellTrace}
 use Rattle.command_runs.specs.declared.texts.AllTexts.{AllTexts}

@@ -1,10 +1,8 @@
 -- Why the first piece is refused, and what else stops a cluster.
-use Rattle.std.proofs.Common.{◌≡◌, ◌∙◌, ◌==◌, ◌++◌, ◌∷◌, [], ◌⊎◌, inl, inr, ℕ, List, Option, Some, None, ap, sym, refl, subst}
-use Rattle.std.specs.List.{All}
+use Rattle.std.proofs.Common.{◌≡◌, ◌==◌, [], inl, inr, ℕ, List, Option, Some, None, ap, sym, refl, subst}
 use Rattle.dumpi_calls.specs.Whole.{SegmentsTellAll}
 use Rattle.mpi_model.specs.Layouts.{Parts}
 use Rattle.trace_know.specs.Trace.{view_of}
-use Rattle.trace_node.specs.declared.fault.NodeFault.{NodeFault}
 use Rattle.trace_node.specs.declared.fault.NodeFault.TheVariants as nodes
 use Rattle.trace_exchange.specs.declared.fault.ExchangeFault.{ExchangeFault}
 use Rattle.trace_exchange.specs.declared.fault.ExchangeFault.TheVariants as exchanges
@@ -16,10 +14,10 @@ use Rattle.trace_crew.specs.declared.piece.PieceFault.TheVariants as causes
 use Rattle.trace_crew.specs.Pieces.{IsRefusedFor}
 use Rattle.trace_cluster.specs.declared.fault.ClusterFault.{ClusterFault}
 use Rattle.trace_cluster.specs.declared.fault.ClusterFault.TheVariants as clusters
-use Rattle.trace_cluster.specs.Pieces.{IsWhole, Placed, all_pieces, placed}
-use Rattle.trace_cluster.specs.Stopped.{IsFirstFault, IsRefusal, IsStopped}
+use Rattle.trace_cluster.specs.Pieces.{Placed, all_pieces, placed}
+use Rattle.trace_cluster.specs.Stopped.{IsFirstFault, IsStopped}
 use Rattle.input_files.specs.Manifests.{PieceParts}
-use Rattle.command_runs.specs.Clusters.{AreSound, IsFaultFor, IsTextFault, NamesOne, RefusesCrews, by_node, of_exchange, of_node, of_wire, piece_at}
+use Rattle.command_runs.specs.Clusters.{AreSound, IsFaultFor, IsTextFault, NamesOne, RefusesCrews, by_node, of_exchange, of_wire, piece_at}
 use Rattle.command_runs.specs.Files.{IsFile, StandsAtFirst}
 use Rattle.command_runs.specs.Pieces.{PassesPlaces, RefusesPiece}
 use Rattle.command_runs.specs.Refusals.{RefusesFirst}

@@ -12,7 +12,7 @@ use Rattle.trace_world.specs.Worlds.{IsWorld}
 use Rattle.trace_world.specs.declared.step.Step.{Step}
 use Rattle.trace_world.specs.declared.step.WorldFault.{WorldFault}
 use Rattle.trace_world.specs.declared.step.WorldFault.TheVariants.{NoNode, NoMail, EmptyInbox, Rank, FrameLength, Stale, NodeCount, Memory}
-use Rattle.command_runs.specs.Replays.{CanReplay, NoneStale, RefusesStep, RefusesSteps, nodes_after, stop_of}
+use Rattle.command_runs.specs.Replays.{CanReplay, RefusesStep, RefusesSteps, nodes_after, stop_of}
 use Rattle.command_runs.proofs.Nodes.{all_held, still_fresh}
 
 -- A new world is refused for its number of nodes, or for want of memory.

@@ -1,4 +1,4 @@
-use Rattle.std.proofs.Common.{rules, inl, inr}
+use Rattle.std.proofs.Common.{inr}
 use Rattle.command_runs.specs.Clusters.{IsFaultFor}
 use Rattle.command_runs.specs.Texts.{AreShares}
 use Rattle.command_runs.proofs.OwnPieces.{own_known}

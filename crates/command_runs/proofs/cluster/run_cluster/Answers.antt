@@ -1,4 +1,4 @@
-use Rattle.std.proofs.Common.{rules, inr}
+use Rattle.std.proofs.Common.{inr}
 use Rattle.command_runs.specs.Clusters.{AreClusterNodes, RefusesClusterNodes}
 use Rattle.command_runs.proofs.cluster.run_cluster.Goals as goal
 

@@ -1,4 +1,4 @@
-use Rattle.std.proofs.Common.{rules, arith, inl, inr, refl}
+use Rattle.std.proofs.Common.{inl, inr, refl}
 use Rattle.command_runs.specs.Replays.{AreNodesOf, RefusesNodes}
 use Rattle.command_runs.proofs.Refusals.{no_writing_yet}
 use Rattle.command_runs.proofs.replay.replay_with.Goals as goal

@@ -1,5 +1,4 @@
-use Rattle.std.proofs.Common.{rules}
-use Rattle.command_runs.proofs.Worlds.{IsNew, all_done, count_or_memory, stopped}
+use Rattle.command_runs.proofs.Worlds.{IsNew, all_done, stopped}
 use Rattle.command_runs.proofs.replay.world_after.Goals as goal
 
 pub returns-in-Ok-ran-clause-ok : goal.returns-in-Ok-ran-clause-ok

@@ -1,4 +1,4 @@
-use Rattle.std.proofs.Common.{rules, arith, ◌≡◌, ◌∙◌, ◌+◌, ◌<◌, ◌++◌, ◌∷◌, [], ap, sym, inr, length, take}
+use Rattle.std.proofs.Common.{arith, ◌≡◌, ◌∙◌, ◌+◌, ◌<◌, ◌++◌, ◌∷◌, [], ap, sym, inr, length, take}
 use Rattle.std.proofs.lemmas.List.{take_more}
 use Rattle.trace_crew.specs.declared.piece.Piece.{Piece}
 use Rattle.input_files.specs.Manifests.{PieceParts}
