@@ -1,5 +1,5 @@
 -- The steps of a manifest's schedule.
-use Rattle.std.specs.Prelude.{ℕ, List, [], ◌∷◌, Bool, false, Option, Some, None, nat_le, nat_lt, if◌then◌else◌, codes, option_and_then, option_map}
+use Rattle.std.specs.Prelude.{ℕ, List, [], Bool, false, Option, Some, None, nat_le, nat_lt, if◌then◌else◌, codes, option_and_then, option_map}
 use Rattle.std.specs.Str.{bytes_eq}
 use Rattle.serde_json.specs.Data.{Data, Items, no_items, item}
 use Rattle.serde_json.specs.Find.{as_array, as_str}

@@ -14,7 +14,7 @@ use Rattle.trace_ops.specs.declared.touched.Touch.{Touch}
 use Rattle.trace_ops.specs.Calls.{Entry}
 use Rattle.trace_ops.specs.Request.{post_of, completions, posted_by, completed_by, touches, is_completed, is_posted}
 use Rattle.trace_ops.specs.Source.{told_in, told_at, told_by, source_in}
-use Rattle.trace_ops.specs.Touched.{Follows, tells_of, touch_at, with_tellings, completed_at, told_from}
+use Rattle.trace_ops.specs.Touched.{Follows, tells_of, touch_at, with_tellings, told_from}
 
 -- a call that posts completes nothing
 pub quiet : (call : Call) (outs : Option Outs) (x : ℤ) → post_of call outs ≡ Some x → completions call outs ≡ []

@@ -1,24 +1,21 @@
 -- What becomes of the ops of a rank whose readable events get longer.
-use Rattle.std.proofs.Common.{◌≡◌, ℕ, zero, suc, ◌+◌, Bool, true, false, List, [], ◌∷◌, ◌++◌, ◌⊎◌, inl, inr, ⊎_elim, length, take, refl, sym, ◌∙◌, ap, subst}
-use Rattle.std.specs.Prelude.{ℤ, Option, Some, None, is_some, if◌then◌else◌, slice_get}
+use Rattle.std.proofs.Common.{◌≡◌, ℕ, ◌+◌, Bool, true, false, List, [], ◌∷◌, ◌++◌, ◌⊎◌, inl, inr, length, take, refl, sym, ◌∙◌, ap, subst}
+use Rattle.std.specs.Prelude.{ℤ, Option, Some, None, is_some, if◌then◌else◌}
 use Rattle.std.specs.List.{AllZip, filter_map, cons_option}
 use Rattle.mpi_model.specs.declared.event.Event.{Event}
-use Rattle.mpi_model.specs.declared.event.Event.TheVariants.{Enter, Return}
 use Rattle.mpi_model.specs.declared.envelope.Envelope.{Envelope}
 use Rattle.mpi_model.specs.declared.envelope.Peer.{Peer}
 use Rattle.mpi_model.specs.declared.envelope.Peer.TheVariants.{Any, Null, Rank}
 use Rattle.mpi_model.specs.declared.call.Call.{Call}
 use Rattle.mpi_model.specs.declared.call.Call.TheVariants.{Recv, Irecv, Isend, Sendrecv, Wait, Waitall, Waitany, Waitsome, Test}
 use Rattle.mpi_model.specs.declared.outcome.Outs.{Outs}
-use Rattle.mpi_model.specs.declared.message.Message.{Message}
 use Rattle.mpi_model.specs.declared.message.Receive.{Receive}
 use Rattle.mpi_model.specs.Layouts.{Parts}
-use Rattle.trace_ops.specs.Calls.{Entry, Numbered, call_of, outs_of, calls_of, numbered}
+use Rattle.trace_ops.specs.Calls.{Entry, calls_of, numbered}
 use Rattle.trace_ops.specs.Foreign.{is_foreign, group}
 use Rattle.trace_ops.specs.Request.{post_of, completions, posted_by, completed_by, touches}
 use Rattle.trace_ops.specs.Source.{told_in, told_by, told_of_own, told_of_post}
-use Rattle.trace_ops.specs.Message.{message_of, sends_of}
-use Rattle.trace_ops.specs.Receive.{receive_of, receives_of, taken_by, taken_from, taken_with}
+use Rattle.trace_ops.specs.Receive.{receive_of, receives_of, taken_by, taken_from}
 use Rattle.trace_ops.specs.Ops.{TellsMore}
 
 -- The new calls begin with the old ones, of which the last may have returned.

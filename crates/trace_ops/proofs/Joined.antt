@@ -1,5 +1,5 @@
 -- Readable events that begin with others, and the ops of both.
-use Rattle.std.proofs.Common.{◌≡◌, ℕ, zero, suc, ◌+◌, ◌≤◌, ◌++◌, Bool, List, ◌⊎◌, inl, inr, ⊎_elim, subst, sym, arith}
+use Rattle.std.proofs.Common.{ℕ, zero, suc, ◌≤◌, ◌++◌, Bool, List, ◌⊎◌, inl, inr, ⊎_elim, subst, sym, arith}
 use Rattle.mpi_model.specs.declared.event.Event.{Event}
 use Rattle.trace_know.specs.Prefix.{BeginsWith}
 use Rattle.mpi_model.specs.Layouts.{Parts}

@@ -1,5 +1,5 @@
 -- The messages and receives of a rank are its own, and stand in order.
-use Rattle.std.proofs.Common.{◌≡◌, ℕ, zero, suc, map, ◌+◌, ◌<◌, ◌≤◌, Bool, true, false, ◌&&◌, List, [], ◌∷◌, ◌⊎◌, inl, inr, ⊎_elim, refl, sym, ◌∙◌, ap, subst, arith}
+use Rattle.std.proofs.Common.{◌≡◌, ℕ, zero, suc, map, ◌+◌, ◌<◌, ◌≤◌, Bool, true, false, ◌&&◌, List, [], ◌∷◌, inl, inr, refl, sym, ◌∙◌, ap, arith}
 use Rattle.std.specs.Prelude.{Option, Some, None, ◌==◌, nat_lt, if◌then◌else◌, slice_get}
 use Rattle.std.specs.List.{filter_map, cons_option, range_with_len}
 use Rattle.std.specs.Option.{option_map, option_and_then}
@@ -23,8 +23,8 @@ use Rattle.trace_ops.specs.Calls.{Entry, Numbered, numbered, calls_of}
 use Rattle.trace_ops.specs.Foreign.{is_foreign, group, named}
 use Rattle.trace_ops.specs.Request.{posted_by}
 use Rattle.trace_ops.specs.Source.{told_of_own, told_of_post}
-use Rattle.trace_ops.specs.Message.{message_of, message_to, sent_with, sent_by, sends_of}
-use Rattle.trace_ops.specs.Receive.{receive_of, receives_of, taken_by, taken_from, taken_with}
+use Rattle.trace_ops.specs.Message.{message_of, message_to, sent_by, sends_of}
+use Rattle.trace_ops.specs.Receive.{receive_of, receives_of, taken_by, taken_from}
 use Rattle.trace_ops.specs.Order.{Has, AreInOrder, ArePosted}
 
 -- an operation, where there is one, is of the rank and of the call

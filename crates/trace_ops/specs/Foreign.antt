@@ -1,5 +1,5 @@
 -- The groups that calls name, and the calls that the layout doesn't know.
-use Rattle.std.specs.Prelude.{ℕ, Bool, true, false, ◌&&◌, ◌==◌, not, nat_lt, Option, Some, None, List, [], length, slice_get}
+use Rattle.std.specs.Prelude.{ℕ, Bool, true, false, ◌&&◌, ◌==◌, not, nat_lt, Option, Some, None, List, [], length}
 use Rattle.std.specs.List.{list_any}
 use Rattle.mpi_model.specs.declared.envelope.Peer.{Peer}
 use Rattle.mpi_model.specs.declared.envelope.Peer.TheVariants as peers

@@ -9,7 +9,7 @@ use Rattle.mpi_model.specs.declared.call.Call.{Call}
 use Rattle.mpi_model.specs.declared.call.Call.TheVariants.{Send, Isend, Sendrecv}
 use Rattle.mpi_model.specs.declared.message.Message.{Message}
 use Rattle.mpi_model.specs.Layouts.{Parts}
-use Rattle.trace_ops.specs.Calls.{Entry, Numbered, numbered}
+use Rattle.trace_ops.specs.Calls.{Entry, numbered}
 use Rattle.trace_ops.specs.Foreign.{number_of, group, named, is_foreign}
 
 -- the tag of a send, which always names one

@@ -5,7 +5,7 @@ use Rattle.mpi_model.specs.declared.call.Call.{Call}
 use Rattle.mpi_model.specs.declared.call.Call.TheVariants.{Collective}
 use Rattle.mpi_model.specs.Layouts.{Parts}
 use Rattle.trace_ops.specs.declared.entered.Entered.{Entered}
-use Rattle.trace_ops.specs.Calls.{Entry, Numbered, numbered}
+use Rattle.trace_ops.specs.Calls.{Entry, numbered}
 use Rattle.trace_ops.specs.Foreign.{number_of, is_foreign}
 
 -- the entry of a call, were it not foreign

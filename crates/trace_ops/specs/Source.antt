@@ -1,10 +1,9 @@
 -- The source of a receive that names none: what the outcome that completes it tells (MPI 4.0, 3.2.4 and 3.2.5).
-use Rattle.std.specs.Prelude.{ℕ, ℤ, Bool, if◌then◌else◌, Option, Some, None, List, [], ◌∷◌, slice_get}
-use Rattle.std.specs.List.{list_any}
+use Rattle.std.specs.Prelude.{ℕ, ℤ, if◌then◌else◌, Option, Some, None, List, [], ◌∷◌, slice_get}
 use Rattle.std.specs.Option.{option_or, option_and_then}
 use Rattle.std.specs.Ordering.{int_eq}
 use Rattle.mpi_model.specs.declared.outcome.Outs.{Outs}
-use Rattle.mpi_model.specs.declared.outcome.Outs.TheVariants.{Posted, Status}
+use Rattle.mpi_model.specs.declared.outcome.Outs.TheVariants.{Status}
 use Rattle.trace_ops.specs.declared.completed.Completed.{Completed}
 use Rattle.trace_ops.specs.Calls.{Entry}
 use Rattle.trace_ops.specs.Request.{completed_by, touches}

@@ -1,4 +1,3 @@
-use Rattle.std.proofs.Common.{◌∙◌}
 use Rattle.trace_ops.proofs.Taken.{calls_go}
 use Rattle.trace_ops.proofs.called.calls_of.Goals as goal
 

@@ -1,10 +1,6 @@
-use Rattle.std.proofs.Common.{◌≡◌, ℕ, ◌≤◌, ◌++◌, Bool, List, ◌⊎◌, inl, inr, ⊎_elim, subst, sym}
-use Rattle.mpi_model.specs.declared.event.Event.{Event}
-use Rattle.trace_know.specs.View.{View, join}
-use Rattle.trace_know.specs.Prefix.{BeginsWith, events_of, prefix_of, is_beyond}
-use Rattle.mpi_model.specs.Layouts.{Parts}
-use Rattle.trace_ops.specs.Ops.{Grows}
-use Rattle.trace_ops.specs.RankOps.{ops_by, ops_of}
+use Rattle.std.proofs.Common.{◌≤◌, inl, inr, ⊎_elim}
+use Rattle.trace_know.specs.View.{join}
+use Rattle.trace_know.specs.Prefix.{events_of, prefix_of, is_beyond}
 use Rattle.trace_ops.proofs.Joined.{grown_by, le_or_ge}
 use Rattle.trace_ops.proofs.laws.join_law.Goals as goal
 

@@ -1,4 +1,4 @@
-use Rattle.std.proofs.Common.{ℕ, List, ◌++◌}
+use Rattle.std.proofs.Common.{◌++◌}
 use Rattle.trace_ops.specs.Calls.{calls_of}
 use Rattle.trace_ops.specs.Message.{message_of}
 use Rattle.trace_ops.specs.RankOps.{ops_by}

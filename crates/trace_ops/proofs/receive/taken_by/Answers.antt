@@ -1,7 +1,4 @@
-use Rattle.std.proofs.Common.{◌∙◌, ap, sym, List}
-use Rattle.std.specs.Prelude.{Option}
-use Rattle.mpi_model.specs.declared.outcome.Outs.{Outs}
-use Rattle.trace_ops.specs.Source.{told_of_own, told_of_post}
+use Rattle.std.proofs.Common.{◌∙◌, sym}
 use Rattle.trace_ops.proofs.Cases.{of_recv, of_both, of_irecv}
 use Rattle.trace_ops.proofs.receive.taken_by.Goals as goal
 

@@ -1,12 +1,9 @@
-use Rattle.std.proofs.Common.{◌≡◌, ℕ, ◌+◌, List, ◌∷◌, drop, subst, sym, ◌∙◌, ap, cond, rules, w64, to_z, of_z}
+use Rattle.std.proofs.Common.{◌≡◌, ◌+◌, drop, sym, ◌∙◌, ap, cond, rules, w64, to_z, of_z}
 use Rattle.std.specs.Prelude.{ℤ, Some}
 use Rattle.std.proofs.lemmas.Int.{to_z-of_z}
 use Rattle.std.specs.Ordering.{int_eq}
-use Rattle.std.proofs.lemmas.List.{drop_more}
-use Rattle.std.proofs.lemmas.Option.{slice_get_read}
 use Rattle.indexmap.specs.IndexMap.{get}
-use Rattle.trace_ops.specs.Calls.{Entry}
-use Rattle.trace_ops.specs.Touched.{Follows, touch_at}
+use Rattle.trace_ops.specs.Touched.{touch_at}
 use Rattle.trace_ops.proofs.Behind.{follows_at, follows_posted, follows_completed}
 use Rattle.trace_ops.proofs.touched.note.Goals as goal
 

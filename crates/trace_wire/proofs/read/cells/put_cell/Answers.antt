@@ -1,7 +1,6 @@
-use Rattle.std.proofs.Common.{◌≡◌, ◌<◌, ◌^◌, true, Ok, rules, arith}
+use Rattle.std.proofs.Common.{◌≡◌, ◌<◌, ◌^◌, true, rules, arith}
 use Rattle.trace_know.specs.Cell.{put_known}
 use Rattle.trace_wire.specs.Frames.{is_past}
-use Rattle.trace_wire.specs.FirstFault.{cell_at}
 use Rattle.trace_wire.proofs.FrameLaws.{cell_made, cell_read}
 use Rattle.trace_wire.proofs.read.cells.put_cell.Goals as goal
 
