@@ -1,9 +1,8 @@
 -- A worker reads one text more.
-use Rattle.std.proofs.Common.{◌≡◌, ℕ, ◌+◌, ◌<◌, zero, suc, subst, take, get_or, List, [], ◌∷◌, ◌++◌, map, length, refl, sym, ap, ◌∙◌, arith, append_assoc}
+use Rattle.std.proofs.Common.{◌≡◌, ℕ, ◌+◌, ◌<◌, suc, subst, take, get_or, List, [], ◌∷◌, ◌++◌, map, length, refl, sym, ap, ◌∙◌, arith, append_assoc}
 use Rattle.std.specs.List.{flat_map}
 use Rattle.std.proofs.lemmas.Grind.{flat_map-append}
 use Rattle.std.proofs.lemmas.List.{append-nil, length-take, map-append, take_more}
-use Rattle.trace_know.specs.Segment.{PlacedEvents}
 use Rattle.trace_inbox.specs.declared.item.Item.{Item}
 use Rattle.trace_inbox.specs.declared.item.Worker.{Worker}
 use Rattle.trace_inbox.specs.declared.rule.View.{View}
@@ -11,7 +10,7 @@ use Rattle.trace_inbox.specs.declared.rule.View.TheVariants.{Poster}
 use Rattle.trace_inbox.specs.Views.{end_item, number_of, segment_item}
 use Rattle.trace_crew.specs.declared.piece.Piece.{Piece}
 use Rattle.trace_crew.specs.declared.piece.PieceFault.{PieceFault}
-use Rattle.trace_crew.specs.Pieces.{AreOutcomes, Gave, IsOutcome, Outcome, faults_from, faults_in, segments_in}
+use Rattle.trace_crew.specs.Pieces.{AreOutcomes, IsOutcome, Outcome, faults_from, faults_in, segments_in}
 use Rattle.trace_crew.specs.Work.{HasEnded, HasRead, ReadsOne, after_posts}
 
 -- one outcome more

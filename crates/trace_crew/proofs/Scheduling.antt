@@ -1,5 +1,5 @@
 -- A crew follows the schedule of one node.
-use Rattle.std.proofs.Common.{◌≡◌, ℕ, ◌<◌, ◌≤◌, Bool, Option, Some, None, List, [], ◌∷◌, ◌++◌, refl, sym, ap, ◌∙◌, subst, append_assoc, ◌⊎◌, inl, inr, ⊎_elim}
+use Rattle.std.proofs.Common.{◌≡◌, ◌<◌, ◌≤◌, Bool, Option, Some, None, List, [], ◌∷◌, ◌++◌, refl, sym, ap, ◌∙◌, subst, append_assoc, ◌⊎◌, inl, inr, ⊎_elim}
 use Rattle.std.specs.Prelude.{drop, take, if◌then◌else◌}
 use Rattle.std.specs.List.{flat_map}
 use Rattle.std.proofs.lemmas.Bool.{le-ltb, lt-ltb}
@@ -7,12 +7,11 @@ use Rattle.std.proofs.lemmas.Grind.{flat_map-append}
 use Rattle.std.proofs.lemmas.List.{append-nil}
 use Rattle.mpi_model.specs.Layouts.{Parts}
 use Rattle.trace_know.specs.Segment.{PlacedEvents}
-use Rattle.trace_know.specs.Trace.{Trace, facts_of}
+use Rattle.trace_know.specs.Trace.{facts_of}
 use Rattle.trace_node.specs.Schedule.{NodeState, node_state, with_post, with_take}
 use Rattle.trace_node.specs.declared.fault.NodeFault.{NodeFault}
 use Rattle.trace_node.specs.declared.fault.NodeFault.TheVariants.{Rank, Memory}
 use Rattle.trace_inbox.specs.declared.item.Item.{Item}
-use Rattle.trace_inbox.specs.declared.item.Post.{Post}
 use Rattle.trace_inbox.specs.declared.item.Post.TheVariants.{Segment, End}
 use Rattle.trace_crew.specs.Taking.{Taken, joined_in, joined_for, taken_as}
 use Rattle.trace_crew.specs.Scheduled.{CanMove, FollowsSchedule, LeadsTo, Move, Posts, Takes, Without, after_all, reached_for, state_of, waiting_in}

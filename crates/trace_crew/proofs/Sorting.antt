@@ -1,5 +1,5 @@
 -- What was taken grows by one item.
-use Rattle.std.proofs.Common.{◌≡◌, ◌≢◌, ◌↔◌, ◌≤◌, ◌+◌, ℕ, zero, suc, false, ⊎_elim, Option, Some, None, List, [], ◌∷◌, ◌++◌, map, refl, sym, ap, ◌∙◌, subst, arith}
+use Rattle.std.proofs.Common.{◌≡◌, ◌≢◌, ◌↔◌, ◌≤◌, ◌+◌, ℕ, zero, suc, false, ⊎_elim, Option, Some, None, List, [], ◌∷◌, ◌++◌, refl, sym, ap, ◌∙◌, subst, arith}
 use Rattle.std.specs.List.{All, filter_map, flat_map}
 use Rattle.std.specs.FinMap.{empty}
 use Rattle.std.proofs.lemmas.Grind.{flat_map-append}
@@ -15,7 +15,7 @@ use Rattle.trace_node.specs.declared.fault.NodeFault.{NodeFault}
 use Rattle.trace_node.specs.declared.fault.NodeFault.TheVariants.{Rank, Memory, Stale}
 use Rattle.trace_inbox.specs.declared.item.Item.{Item}
 use Rattle.trace_inbox.specs.declared.item.Post.TheVariants.{Segment, End}
-use Rattle.trace_crew.specs.Taking.{Handles, IsFair, IsFairFor, IsKept, Refusal, Sorted, Taken, counted, ends_in, is_end, joined_for, joined_in, known_after, refused_in, sent, sent_by, source, taken_as}
+use Rattle.trace_crew.specs.Taking.{Handles, IsFair, IsFairFor, IsKept, Refusal, Sorted, Taken, counted, ends_in, is_end, joined_for, joined_in, known_after, refused_in, sent, source, taken_as}
 
 -- Nothing was taken, and nothing is known.
 pub nothing_taken : (layout : Parts) (node : Held) (refused : List Refusal) → node ≡ held layout empty false → refused ≡ [] → Sorted layout [] node refused

@@ -7,7 +7,6 @@ use Rattle.dumpi_text.specs.declared.fault.TextCause.TheVariants as causes
 use Rattle.dumpi_text.specs.declared.fault.TextFault.{TextFault}
 use Rattle.dumpi_text.specs.declared.fault.TextFault.TheVariants as faults
 use Rattle.trace_know.specs.Segment.{PlacedEvents}
-use Rattle.trace_know.specs.declared.segment.SegmentFault.{SegmentFault}
 use Rattle.trace_know.specs.declared.segment.SegmentFault.TheVariants.{Place}
 use Rattle.dumpi_calls.specs.Collected.{AreSegments, HasPlacesPast, collected}
 use Rattle.dumpi_calls.specs.Walks.{IsStopped}

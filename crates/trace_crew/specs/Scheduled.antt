@@ -1,5 +1,5 @@
 -- A crew as a schedule of one node.
-use Rattle.std.specs.Prelude.{◌≡◌, ℕ, ◌<◌, ◌≤◌, Option, Some, None, List, [], ◌∷◌, ◌++◌, drop, if◌then◌else◌, nat_lt, ⊤}
+use Rattle.std.specs.Prelude.{◌≡◌, ◌<◌, ◌≤◌, Option, Some, None, List, [], ◌∷◌, ◌++◌, if◌then◌else◌, nat_lt, ⊤}
 use Rattle.std.specs.List.{flat_map}
 use Rattle.mpi_model.specs.Layouts.{Parts}
 use Rattle.trace_know.specs.Segment.{PlacedEvents}

@@ -13,7 +13,7 @@ use Rattle.trace_inbox.specs.declared.item.Post.{Post}
 use Rattle.trace_inbox.specs.declared.item.Post.TheVariants.{Segment, End}
 use Rattle.trace_inbox.specs.declared.item.Worker.{Worker}
 use Rattle.trace_inbox.specs.declared.item.Worker.TheVariants.{First, Second}
-use Rattle.trace_inbox.specs.Views.{is_from, number_of, of}
+use Rattle.trace_inbox.specs.Views.{number_of, of}
 
 -- ---- one segment
 

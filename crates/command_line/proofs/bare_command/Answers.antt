@@ -1,7 +1,6 @@
 use Rattle.std.proofs.Common.{◌≡◌, ◌∙◌, ap, codes, true}
 use Rattle.clap.specs.Words.{app_of, new_app}
 use Rattle.clap.specs.Simple.{app_of_fields, on_top}
-use Rattle.command_line.specs.Program.{bare}
 use Rattle.command_line.proofs.bare_command.Goals as goal
 
 -- texts for the user leave the command's meaning as it is

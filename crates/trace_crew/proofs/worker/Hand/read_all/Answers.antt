@@ -1,4 +1,4 @@
-use Rattle.std.proofs.Common.{rules, ◌≡◌, ◌∙◌, ap}
+use Rattle.std.proofs.Common.{rules, ◌∙◌, ap}
 use Rattle.trace_inbox.specs.declared.rule.View.TheVariants.{Poster}
 use Rattle.trace_crew.proofs.Reading.{read_further}
 use Rattle.trace_crew.proofs.worker.Hand.read_all.Goals as goal

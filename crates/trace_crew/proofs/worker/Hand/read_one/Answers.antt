@@ -1,4 +1,4 @@
-use Rattle.std.proofs.Common.{rules, ◌≡◌, ◌∙◌, Ok, Err, sym}
+use Rattle.std.proofs.Common.{rules, ◌∙◌, Ok, Err, sym}
 use Rattle.std.proofs.lemmas.List.{append-nil}
 use Rattle.trace_crew.proofs.Reading.{none_more}
 use Rattle.trace_crew.proofs.worker.Hand.read_one.Goals as goal
