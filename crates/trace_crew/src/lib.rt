@@ -10,11 +10,11 @@
 //! the node is the join of them, whatever the order among the workers was.
 //!
 //! Cost: reading goes at the speed of two threads, joining at that of one; a segment is moved through
-//! the inbox, in which at most eight wait, and its events are moved into what the node knows: no event
-//! is copied. The last answer, for which all wait, costs what is new to the index and one pass over all
-//! messages. The board shares what the node knows and its answer, so showing them costs nothing at the
-//! end. Before it costs an answer, and a copy of all that is known, which the next segment takes: all of
-//! these together at most a third more than the last of them.
+//! the inbox, in which at most eight wait, and its events are moved into what the node knows, unless a
+//! board shows that (below). The last answer, for which all wait, costs what is new to the index and one
+//! pass over all messages. The board shares what the node knows and its answer, so showing them costs
+//! nothing at the end. Before it costs an answer, and a copy of all that is known, which the next segment
+//! takes: all of these together at most a third more than the last of them.
 //!
 //! - [`piece`]: a text of a rank, its segments, and why it gives none
 //! - [`gate`]: where a test may hold a crew

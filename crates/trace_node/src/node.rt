@@ -128,8 +128,8 @@ impl<'a> Node<'a> {
     }
 
     /// Joins the facts of a segment that is not needed any more, as [`hold`](Self::hold) does: its
-    /// events are moved, where `hold` copies them. Where it is refused nothing changes, and the
-    /// segment comes back with why.
+    /// events are moved, where `hold` copies them, unless what is known is shown to others. Where it
+    /// is refused nothing changes, and the segment comes back with why.
     pub fn hold_owned(&mut self, segment: Segment) -> Result<(), (Segment, NodeFault)>
         ensures ok { OnOk result (self.new ≡ held self.old.layout (join self.old.know (view_of (facts_of segment))) true) }
         ensures inside { OnOk result (segment.rank < self.old.layout.ranks) }
