@@ -12,7 +12,7 @@ use std::alloc::{AllocError, Global};
 use std::sync::Wait;
 use trace_board::Board;
 use trace_inbox::{Item, Post, Worker};
-use trace_know::{Segment, view_laws};
+use trace_know::{ReadySegment, Segment, view_laws};
 use trace_node::{Node, NodeFault};
 
 /// How many events are joined before the node is shown on the way for the first time: the workers read
@@ -22,6 +22,7 @@ const FIRST_SHOWN: u64 = 1_000_000;
 /// A node, and what was made of the segments that came for it.
 #[derive(Drop)]
 pub struct Hall<'s, 'a> {
+    alloc: Global,
     /// The board on which the node is shown.
     board: &'s Board<'a>,
     /// The join of the segments that were not refused.
@@ -49,6 +50,7 @@ impl<'s, 'a> Hall<'s, 'a> {
         ensures { IfOk result (λ hall. Sorted layout.now [] hall.node hall.refused.items) }
     {
         Ok(Hall {
+            alloc,
             board,
             node: Node::new(alloc, layout)?,
             refused: Vec::new(alloc),
@@ -99,16 +101,19 @@ impl<'s, 'a> Hall<'s, 'a> {
     }
 
     /// Joins a segment, or lists it with why it was not joined.
-    fn join(&mut self, from: Worker, segment: Segment) -> Result<(), AllocError>
+    fn join(&mut self, from: Worker, segment: ReadySegment) -> Result<(), AllocError>
         ensures { OnOk result (Handles from segment self.old.node self.old.refused.items self.new.node self.new.refused.items) }
     {
-        let count = segment.events().len() as u64;
+        let count = segment.count() as u64;
         match hold(&mut self.node, segment) {
             None => {
                 self.joined = self.joined.saturating_add(count);
                 Ok(())
             }
             Some((segment, fault)) => {
+                let Ok(segment) = segment.into_segment(self.alloc) else {
+                    return Err(AllocError);
+                };
                 self.refused.push((from.number(), segment, fault))?;
                 Ok(())
             }

@@ -13,7 +13,7 @@ use dumpi_text::{TextCause, TextFault};
 use mpi_model::Device;
 use std::alloc::Global;
 use thiserror::Error;
-use trace_know::{Segment, SegmentFault};
+use trace_know::{ReadySegment, Segment, SegmentFault};
 
 /// The text of a rank's trace, from one of its calls on.
 #[derive(Debug, Drop)]
@@ -40,7 +40,7 @@ pub enum PieceFault {
 }
 
 /// The segments of a piece's whole text, none of one without calls.
-pub(crate) fn segments_of(alloc: Global, piece: &Piece) -> Result<Vec<Segment>, PieceFault>
+pub(crate) fn segments_of(alloc: Global, piece: &Piece) -> Result<Vec<ReadySegment>, PieceFault>
     ensures ok { IfOk result (λ segments. GivesSegments piece.now segments.items) }
     ensures err { IfErr result (λ fault. IsRefusedFor piece.now fault) }
 {
@@ -51,10 +51,27 @@ pub(crate) fn segments_of(alloc: Global, piece: &Piece) -> Result<Vec<Segment>, 
         Err(fault) => return Err(fault_of_walk(fault)),
     }
     match collect.into_segments(piece.rank, piece.first) {
-        Ok(segments) => Ok(segments),
+        Ok(segments) => ready(alloc, segments),
         Err(SegmentFault::Place) => Err(PieceFault::Segment(SegmentFault::Place)),
         Err(_) => Err(PieceFault::Memory),
     }
+}
+
+/// The segments, each with its events as cells.
+fn ready(alloc: Global, segments: Vec<Segment>) -> Result<Vec<ReadySegment>, PieceFault>
+{
+    let Ok(mut all) = Vec::with_capacity(alloc, segments.len()) else {
+        return Err(PieceFault::Memory);
+    };
+    for segment in segments {
+        let Ok(segment) = ReadySegment::new(alloc, segment) else {
+            return Err(PieceFault::Memory);
+        };
+        let Ok(()) = all.push(segment) else {
+            return Err(PieceFault::Memory);
+        };
+    }
+    Ok(all)
 }
 
 /// The fault of a piece whose walk was stopped. A text in memory has no reader that fails, so what

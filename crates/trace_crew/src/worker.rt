@@ -14,7 +14,7 @@ use std::snapshot::Snapshot;
 use std::sync::Wait;
 use std::thread::Promise;
 use trace_inbox::{Closed, InboxSender, Item, Post, Seat, Worker, post};
-use trace_know::Segment;
+use trace_know::ReadySegment;
 
 /// Why a worker stopped before it had read all its texts and posted that it ends.
 #[derive(Clone, Copy, Debug, PartialEq, Eq)]
@@ -42,7 +42,7 @@ impl Hand {
         &mut self,
         rt: &R,
         inbox: &InboxSender,
-        segments: Vec<Segment>,
+        segments: Vec<ReadySegment>,
         gate: &G,
     ) -> Result<(), Closed>
         requires seat { IsSeatAt (sends_on inbox.now) self.old.seat }

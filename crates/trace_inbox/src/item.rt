@@ -3,7 +3,7 @@
 ghost use Rattle.std.specs.Prelude.{◌≡◌};
 ghost use Rattle.trace_inbox.specs.Views.{number_of};
 
-use trace_know::Segment;
+use trace_know::ReadySegment;
 
 /// A worker of a crew.
 #[derive(Clone, Copy, Debug, PartialEq, Eq)]
@@ -27,7 +27,7 @@ impl Worker {
 /// What is posted: a segment, or that its worker posts no more.
 #[derive(Debug, Drop)]
 pub enum Post {
-    Segment(Segment),
+    Segment(ReadySegment),
     End,
 }
 

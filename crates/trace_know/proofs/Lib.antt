@@ -10,6 +10,7 @@ pub mod Readable
 pub mod Growth
 pub mod Counts
 pub mod Rows
+pub mod Pieces
 pub mod Order
 pub mod Lookups
 pub mod Entries

@@ -9,3 +9,4 @@ pub mod Listing
 pub mod Rows
 pub mod Runs
 pub mod Patches
+pub mod Ready

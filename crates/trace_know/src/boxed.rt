@@ -52,6 +52,11 @@ impl BoxedRun {
         Box::into_inner(self.run)
     }
 
+    /// Whose memory it stands in.
+    pub(crate) fn allocator(&self) -> Global {
+        *Box::allocator(&self.run)
+    }
+
     pub(crate) fn rank(&self) -> u32
         ensures { result ≡ self.now.rank }
     {

@@ -7,7 +7,7 @@ ghost use Rattle.trace_know.specs.Cell.{shown, put_known};
 ghost use Rattle.trace_know.specs.Placed.{IsPast, IsPlaced, IsKnowledge};
 ghost use Rattle.trace_know.specs.Listing.{cells_of, conflicts_of};
 ghost use Rattle.trace_know.specs.Prefix.{events_of, prefix_of, is_beyond};
-ghost use Rattle.trace_know.specs.Runs.{of_run, IsFilled};
+ghost use Rattle.trace_know.specs.Runs.{of_run, IsAlike, IsFilled};
 ghost use Rattle.trace_know.specs.Segment.{IsSegment};
 ghost use Rattle.trace_know.specs.Trace.{facts_of, view_of};
 ghost use Rattle.trace_know.specs.View.{IsBelow, cell, join};
@@ -21,8 +21,9 @@ use crate::readers::{
     any_from, cell_in, conflict_in, conflict_places_in, count_cells, count_conflicts, known_in,
     prefix_in, readable_in,
 };
-use crate::run::{Run, run_of, run_with_room};
-use crate::runs::{take_cell, take_or_return, take_run};
+use crate::ready::{ReadySegment, piece_of};
+use crate::run::run_of;
+use crate::runs::{take_cell, take_or_return};
 use crate::segment::Segment;
 use crate::walk::Walk;
 use mpi_model::Event;
@@ -74,13 +75,17 @@ impl Knowledge {
         ensures err { OnErr result (self.new ≡ self.old) }
     {
         segment.known();
-        let piece = run_of(
+        let copy = run_of(
             self.alloc,
             segment.rank(),
             segment.first_place(),
             segment.events(),
         )?;
-        self.join_run(piece)
+        let piece = BoxedRun::new(self.alloc, copy)?;
+        let Ok(()) = self.join_piece(piece) else {
+            return Err(AllocError);
+        };
+        Ok(())
     }
 
     /// Joins the facts of a segment that is not needed any more: its events are moved, where
@@ -100,6 +105,21 @@ impl Knowledge {
         }
     }
 
+    /// Joins the facts of a segment that stands ready, by [`ReadySegment::new`]: it takes no memory for
+    /// the events themselves. Without memory nothing changes, and the segment comes back.
+    pub fn take_ready(&mut self, segment: ReadySegment) -> Result<(), AllocFailed<ReadySegment>>
+        ensures ok { OnOk result (self.new ≡ join self.old (view_of (facts_of segment))) }
+        ensures err { OnErr result (self.new ≡ self.old) }
+        ensures back { IfErr result (λ refused. refused.value ≡ segment) }
+    {
+        match self.join_piece(segment.into_piece()) {
+            Ok(()) => Ok(()),
+            Err(piece) => Err(AllocFailed {
+                value: ReadySegment::of_piece(piece),
+            }),
+        }
+    }
+
     /// Joins the events of a segment, and moves them. At `Err` nothing changes, and the events stay in the list.
     fn take_events(
         &mut self,
@@ -112,15 +132,9 @@ impl Knowledge {
         ensures err { OnErr result (self.new ≡ self.old) }
         ensures back { OnErr result (events.new.items ≡ events.old.items) }
     {
-        let most = self.most_with(events.len())?;
-        let room = run_with_room(self.alloc, rank, first_place, events.len())?;
-        let mut piece = BoxedRun::new(self.alloc, room)?;
-        piece.fill(events);
-        match take_or_return(&mut self.runs, piece) {
-            Ok(()) => {
-                self.most = most;
-                Ok(())
-            }
+        let piece = piece_of(self.alloc, rank, first_place, events)?;
+        match self.join_piece(piece) {
+            Ok(()) => Ok(()),
             Err(piece) => {
                 piece.give_back(events);
                 Err(AllocError)
@@ -272,18 +286,24 @@ impl Knowledge {
         known_in(&self.runs, rank, place)
     }
 
-    /// Joins the cells of a run. Without memory nothing changes.
-    fn join_run(&mut self, piece: Run) -> Result<(), AllocError>
+    /// Joins the cells of a run. Without memory nothing changes, and the run comes back.
+    fn join_piece(&mut self, piece: BoxedRun) -> Result<(), BoxedRun>
         requires filled { IsFilled piece }
         requires placed { IsKnowledge (of_run piece) }
         ensures ok { OnOk result (self.new ≡ join self.old (of_run piece)) }
         ensures err { OnErr result (self.new ≡ self.old) }
+        ensures back { IfErr result (λ b. IsAlike b piece) }
     {
-        let most = self.most_with(piece.cells.len())?;
-        let boxed = BoxedRun::new(self.alloc, piece)?;
-        take_run(&mut self.runs, boxed)?;
-        self.most = most;
-        Ok(())
+        let Ok(most) = self.most_with(piece.len()) else {
+            return Err(piece);
+        };
+        match take_or_return(&mut self.runs, piece) {
+            Ok(()) => {
+                self.most = most;
+                Ok(())
+            }
+            Err(piece) => Err(piece),
+        }
     }
 
     /// No fewer than there are cells after so many more, if that fits: else there is no memory for

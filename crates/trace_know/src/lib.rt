@@ -14,7 +14,7 @@
 //! so is a cell. A walk over all cells takes no memory.
 //!
 //! - [`cell`]: what is known of one place
-//! - [`segment`]: events of one rank at consecutive places
+//! - [`segment`]: events of one rank at consecutive places; [`ready`]: such whose events stand as cells
 //! - [`run`]: cells of one rank without a gap; [`boxed`]: a run in memory of its own; [`runs`]: such
 //!   runs in their order; [`copies`]: of runs; [`patches`]: joins of whole lists of runs
 //! - [`readers`]: what runs tell; [`walk`]: their cells one after another; [`compare`]: by walks
@@ -32,6 +32,7 @@ mod knowledge;
 mod laws;
 mod patches;
 mod readers;
+mod ready;
 mod run;
 mod runs;
 mod segment;
@@ -40,5 +41,6 @@ mod walk;
 pub use cell::{Cell, Known};
 pub use knowledge::Knowledge;
 pub use laws::{growth_laws, join_laws, listing_laws, prefix_laws, view_laws};
+pub use ready::ReadySegment;
 pub use segment::{MOST_EVENTS, PLACES, Segment, SegmentFault};
 pub use walk::Walk;

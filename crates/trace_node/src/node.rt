@@ -17,7 +17,7 @@ use crate::strangers::has_stranger;
 use mpi_model::Layout;
 use std::alloc::{AllocError, Global};
 use std::marker::Model;
-use trace_know::{Knowledge, Segment, join_laws, view_laws};
+use trace_know::{Knowledge, ReadySegment, Segment, join_laws, view_laws};
 use trace_ops::ops_laws;
 use trace_pair::PairIndex;
 
@@ -130,7 +130,7 @@ impl<'a> Node<'a> {
     /// Joins the facts of a segment that is not needed any more, as [`hold`](Self::hold) does: its
     /// events are moved, where `hold` copies them, unless what is known is shown to others. Where it
     /// is refused nothing changes, and the segment comes back with why.
-    pub fn hold_owned(&mut self, segment: Segment) -> Result<(), (Segment, NodeFault)>
+    pub fn hold_ready(&mut self, segment: ReadySegment) -> Result<(), (ReadySegment, NodeFault)>
         ensures ok { OnOk result (self.new ≡ held self.old.layout (join self.old.know (view_of (facts_of segment))) true) }
         ensures inside { OnOk result (segment.rank < self.old.layout.ranks) }
         ensures err { OnErr result (self.new ≡ self.old) }
@@ -144,7 +144,7 @@ impl<'a> Node<'a> {
         if rank >= self.layout.ranks() {
             return Err((segment, NodeFault::Rank));
         }
-        match self.know.take_owned(segment) {
+        match self.know.take_ready(segment) {
             Ok(()) => {
                 put(&mut self.answer, None);
                 Ok(())

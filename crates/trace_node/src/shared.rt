@@ -11,7 +11,7 @@ use crate::answer::Answer;
 use std::alloc::{AllocError, AllocFailed, Global};
 use std::marker::Model;
 use std::sync::Arc;
-use trace_know::{Knowledge, Segment};
+use trace_know::{Knowledge, ReadySegment, Segment};
 
 /// All that is known, by one or more owners. In a contract it is what is known.
 #[derive(Drop)]
@@ -71,20 +71,17 @@ impl SharedKnowledge {
         Ok(())
     }
 
-    /// Joins the facts of a segment that is not needed any more: with one owner its events are moved.
-    /// Without memory nothing changes, and the segment comes back.
-    pub(crate) fn take_owned(&mut self, segment: Segment) -> Result<(), AllocFailed<Segment>>
+    /// Joins the facts of a segment that stands ready. Without memory nothing changes, and the segment
+    /// comes back.
+    pub(crate) fn take_ready(&mut self, segment: ReadySegment) -> Result<(), AllocFailed<ReadySegment>>
         ensures ok { OnOk result (self.new ≡ join self.old (view_of (facts_of segment))) }
         ensures err { OnErr result (self.new ≡ self.old) }
         ensures back { IfErr result (λ refused. refused.value ≡ segment) }
     {
         if let Some(know) = Arc::get_mut(&mut self.know) {
-            return know.take_owned(segment);
+            return know.take_ready(segment);
         }
-        match self.take(&segment) {
-            Ok(()) => Ok(()),
-            Err(_) => Err(AllocFailed { value: segment }),
-        }
+        Err(AllocFailed { value: segment })
     }
 
     /// Joins all that the other knows. Without memory nothing changes.

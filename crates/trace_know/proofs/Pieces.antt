@@ -1,0 +1,56 @@
+-- Runs of the events of a segment.
+use Rattle.std.proofs.Common.{◌≡◌, List, [], ◌∷◌, length, map, refl, sym, ap, subst, ◌∙◌, arith}
+use Rattle.mpi_model.specs.declared.event.Event.{Event}
+use Rattle.trace_know.specs.declared.cell.Known.{Known}
+use Rattle.trace_know.specs.declared.cell.Known.TheVariants.{One}
+use Rattle.trace_know.specs.declared.run.Run.{Run}
+use Rattle.trace_know.specs.Placed.{IsKnowledge}
+use Rattle.trace_know.specs.Ready.{IsReady, events_among, segment_in}
+use Rattle.trace_know.specs.Runs.{of_run, IsAlike, IsCounted, IsFilled, conflicts_among}
+use Rattle.trace_know.specs.Segment.{PlacedEvents, IsSegment}
+use Rattle.trace_know.specs.Trace.{facts_of, view_of}
+use Rattle.trace_know.proofs.Counts.{conflicts-events, length-ones}
+use Rattle.trace_know.proofs.Order.{counted-alike}
+use Rattle.trace_know.proofs.Placed.{segment-IsKnowledge}
+use Rattle.trace_know.proofs.Rows.{run-facts}
+
+-- cells that are all one event have just these events
+pub events-ones : (es : List Event) → events_among (map (λ e. One e) es) ≡ es
+events-ones [] = refl
+events-ones (e ∷ es) = ap (λ (fs : List Event). e ∷ fs) (events-ones es)
+
+pub segment-of-run : (run : Run) (segment : PlacedEvents) → run.rank ≡ segment.rank → run.first ≡ segment.first_place → run.cells.items ≡ map (λ e. One e) segment.events → segment_in run ≡ segment
+segment-of-run run segment rank first cells =
+    let events : events_among run.cells.items ≡ segment.events = ap events_among cells ∙ events-ones segment.events in
+    λ i. record { rank = rank i; first_place = first i; events = events i }
+
+-- a run of the events of a segment is ready
+pub run-ready : (run : Run) (segment : PlacedEvents) → IsSegment segment → run.rank ≡ segment.rank → run.first ≡ segment.first_place → run.cells.items ≡ map (λ e. One e) segment.events → IsCounted run → IsReady run
+run-ready run segment is rank first cells counted =
+    let same = segment-of-run run segment rank first cells in
+    let events : segment.events ≡ events_among run.cells.items = sym (ap events_among cells ∙ events-ones segment.events) in
+    record {
+      whole = cells ∙ ap (λ (es : List Event). map {B = Known} (λ e. One e) es) events;
+      counted = counted;
+      segment = subst IsSegment (sym same) is;
+    }
+
+pub ready-filled : (run : Run) → IsReady run → IsFilled run
+ready-filled run ready =
+    let lengths : length run.cells.items ≡ length (events_among run.cells.items) = ap length ready.whole ∙ length-ones (events_among run.cells.items) in
+    record { some = omega (arith, ready.segment.some); places = omega (arith, ready.segment.places); counted = ready.counted }
+
+pub ready-facts : (run : Run) → IsReady run → of_run run ≡ view_of (facts_of (segment_in run))
+ready-facts run ready = run-facts run (segment_in run) refl refl ready.whole
+
+pub ready-placed : (run : Run) → IsReady run → IsKnowledge (of_run run)
+ready-placed run ready = subst IsKnowledge (sym (ready-facts run ready)) (segment-IsKnowledge (segment_in run) ready.segment)
+
+pub ready-sound : (run : Run) → IsReady run → conflicts_among run.cells.items ≡ 0
+ready-sound run ready = ap conflicts_among ready.whole ∙ conflicts-events (events_among run.cells.items)
+
+pub alike-segment : (a b : Run) → IsAlike a b → segment_in a ≡ segment_in b
+alike-segment a b same = λ i. record { rank = same.rank i; first_place = same.first i; events = events_among (same.cells i) }
+
+pub alike-ready : (a b : Run) → IsAlike a b → IsReady b → IsReady a
+alike-ready a b same ready = run-ready a (segment_in b) ready.segment same.rank same.first (same.cells ∙ ready.whole) (counted-alike a b same ready.counted)

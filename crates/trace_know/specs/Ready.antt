@@ -1,0 +1,24 @@
+-- Segments whose events stand as cells.
+use Rattle.std.specs.Prelude.{◌≡◌, List, [], ◌∷◌, map}
+use Rattle.mpi_model.specs.declared.event.Event.{Event}
+use Rattle.trace_know.specs.declared.cell.Known.{Known}
+use Rattle.trace_know.specs.declared.cell.Known.TheVariants.{One, Contradiction}
+use Rattle.trace_know.specs.declared.run.Run.{Run}
+use Rattle.trace_know.specs.Runs.{IsCounted}
+use Rattle.trace_know.specs.Segment.{PlacedEvents, IsSegment}
+
+-- the events of those cells that have one
+abbrev pub events_among : List Known → List Event
+events_among [] = []
+events_among (One event ∷ cells) = event ∷ events_among cells
+events_among (Contradiction ∷ cells) = events_among cells
+
+-- the segment whose events the run's cells are
+abbrev pub segment_in : Run → PlacedEvents
+segment_in run = record { rank = run.rank; first_place = run.first; events = events_among run.cells.items }
+
+-- the cells are the events of a segment
+pub record IsReady (run : Run) : Type 0 where
+  pub whole : run.cells.items ≡ map (λ e. One e) (events_among run.cells.items)
+  pub counted : IsCounted run
+  pub segment : IsSegment (segment_in run)
