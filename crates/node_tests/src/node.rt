@@ -7,7 +7,7 @@ use crate::fixture::{
 use mpi_model::Layout;
 use std::alloc::Global;
 use std::process::Abort;
-use trace_know::{Knowledge, Segment};
+use trace_know::{Knowledge, ReadySegment, Segment};
 use trace_node::{Node, NodeFault};
 use trace_report::report_text;
 
@@ -60,14 +60,16 @@ fn four_pieces_in_every_order(rt: HostRuntime) {
     }
 }
 
-/// Whether the node takes the piece: every second one is moved to it, and the others are copied.
+/// Whether the node takes the piece: every second one is made ready and moved to it, and the others are
+/// copied.
 fn is_held<R: Abort>(rt: &R, alloc: Global, node: &mut Node, place: usize) -> bool {
     let piece = DISAGREEING.get(place).expect(rt, "a piece");
     let segment = segment(rt, alloc, piece);
     if place % 2 == 0 {
         node.hold(&segment).is_ok()
     } else {
-        node.hold_owned(segment).is_ok()
+        let ready = ReadySegment::new(alloc, segment).expect(rt, "memory");
+        node.hold_ready(ready).is_ok()
     }
 }
 
@@ -167,11 +169,19 @@ fn stays<R: Abort>(rt: &R, alloc: Global, node: &mut Node, report: &[u8]) -> boo
 /// A segment of a rank that the layout lacks.
 static STRANGER: Piece = (2, 0, &[Does::Nothing]);
 
-/// Whether the node gives back a segment that it was to hold, with a fault.
-fn gives_back(node: &mut Node, segment: Segment, wanted: NodeFault) -> bool {
+/// Whether the node gives back a segment that it was to hold, as it was, with a fault.
+fn gives_back<R: Abort>(
+    rt: &R,
+    alloc: Global,
+    node: &mut Node,
+    segment: Segment,
+    wanted: NodeFault,
+) -> bool {
     let rank = segment.rank();
-    match node.hold_owned(segment) {
-        Err((back, fault)) => fault == wanted && back.rank() == rank,
+    let count = segment.events().len();
+    let ready = ReadySegment::new(alloc, segment).expect(rt, "memory");
+    match node.hold_ready(ready) {
+        Err((back, fault)) => fault == wanted && back.rank() == rank && back.count() == count,
         Ok(()) => false,
     }
 }
@@ -184,7 +194,7 @@ fn refuses_a_stranger<R: Abort>(rt: &R, alloc: Global, node: &mut Node, report: 
     know.take(&strange).expect(rt, "memory");
     let is_refused = node.take(&strange) == Err(NodeFault::Rank)
         && node.hold(&strange) == Err(NodeFault::Rank)
-        && gives_back(node, strange, NodeFault::Rank)
+        && gives_back(rt, alloc, node, strange, NodeFault::Rank)
         && node.merge(&know) == Err(NodeFault::Rank);
     is_refused
         && frame_of(rt, alloc, node.know()).as_slice() == frame.as_slice()

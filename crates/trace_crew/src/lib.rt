@@ -9,9 +9,10 @@
 //! before it. What was taken is just the segments of each worker's texts in that worker's order, and
 //! the node is the join of them, whatever the order among the workers was.
 //!
-//! Cost: reading goes at the speed of two threads, joining at that of one; a segment is moved through
-//! the inbox, in which at most eight wait, and its events are moved into what the node knows, unless a
-//! board shows that (below). The last answer, for which all wait, costs what is new to the index and one
+//! Cost: reading goes at the speed of two threads, joining at that of one. The workers move the events
+//! of each segment to where they stand in what a node knows, so the owner moves no more than a pointer
+//! for a segment that none before it touches, unless a board shows what the node knows (below); at most
+//! eight wait in the inbox. The last answer, for which all wait, costs what is new to the index and one
 //! pass over all messages. The board shares what the node knows and its answer, so showing them costs
 //! nothing at the end. Before it costs an answer, and a copy of all that is known, which the next segment
 //! takes: all of these together at most a third more than the last of them.

@@ -22,7 +22,6 @@ const FIRST_SHOWN: u64 = 1_000_000;
 /// A node, and what was made of the segments that came for it.
 #[derive(Drop)]
 pub struct Hall<'s, 'a> {
-    alloc: Global,
     /// The board on which the node is shown.
     board: &'s Board<'a>,
     /// The join of the segments that were not refused.
@@ -50,7 +49,6 @@ impl<'s, 'a> Hall<'s, 'a> {
         ensures { IfOk result (λ hall. Sorted layout.now [] hall.node hall.refused.items) }
     {
         Ok(Hall {
-            alloc,
             board,
             node: Node::new(alloc, layout)?,
             refused: Vec::new(alloc),
@@ -111,9 +109,7 @@ impl<'s, 'a> Hall<'s, 'a> {
                 Ok(())
             }
             Some((segment, fault)) => {
-                let Ok(segment) = segment.into_segment(self.alloc) else {
-                    return Err(AllocError);
-                };
+                let segment = segment.into_segment(*self.refused.allocator())?;
                 self.refused.push((from.number(), segment, fault))?;
                 Ok(())
             }

@@ -11,7 +11,7 @@ ghost use Rattle.trace_crew.specs.declared.piece.PieceFault.TheVariants.{Walk};
 use dumpi_calls::{Collect, Memory, WalkCause, WalkFault, walk, whole_texts};
 use dumpi_text::{TextCause, TextFault};
 use mpi_model::Device;
-use std::alloc::Global;
+use std::alloc::{AllocError, Global};
 use thiserror::Error;
 use trace_know::{ReadySegment, Segment, SegmentFault};
 
@@ -39,8 +39,12 @@ pub enum PieceFault {
     Memory,
 }
 
-/// The segments of a piece's whole text, none of one without calls.
-pub(crate) fn segments_of(alloc: Global, piece: &Piece) -> Result<Vec<ReadySegment>, PieceFault>
+/// The segments of a piece's whole text, ready to be joined, none of one without calls. The worker
+/// makes them ready, so that the owner, for whom both workers wait at last, has less to do.
+pub(crate) fn segments_of(
+    alloc: Global,
+    piece: &Piece,
+) -> Result<Vec<ReadySegment>, PieceFault>
     ensures ok { IfOk result (λ segments. GivesSegments piece.now segments.items) }
     ensures err { IfErr result (λ fault. IsRefusedFor piece.now fault) }
 {
@@ -51,27 +55,24 @@ pub(crate) fn segments_of(alloc: Global, piece: &Piece) -> Result<Vec<ReadySegme
         Err(fault) => return Err(fault_of_walk(fault)),
     }
     match collect.into_segments(piece.rank, piece.first) {
-        Ok(segments) => ready(alloc, segments),
+        Ok(segments) => match all_ready(alloc, segments) {
+            Ok(segments) => Ok(segments),
+            Err(_) => Err(PieceFault::Memory),
+        },
         Err(SegmentFault::Place) => Err(PieceFault::Segment(SegmentFault::Place)),
         Err(_) => Err(PieceFault::Memory),
     }
 }
 
-/// The segments, each with its events as cells.
-fn ready(alloc: Global, segments: Vec<Segment>) -> Result<Vec<ReadySegment>, PieceFault>
+/// The segments in their order, each made ready.
+fn all_ready(alloc: Global, segments: Vec<Segment>) -> Result<Vec<ReadySegment>, AllocError>
+    ensures { IfOk result (λ ready. ready.items ≡ segments.items) }
 {
-    let Ok(mut all) = Vec::with_capacity(alloc, segments.len()) else {
-        return Err(PieceFault::Memory);
-    };
+    let mut ready = Vec::with_capacity(alloc, segments.len())?;
     for segment in segments {
-        let Ok(segment) = ReadySegment::new(alloc, segment) else {
-            return Err(PieceFault::Memory);
-        };
-        let Ok(()) = all.push(segment) else {
-            return Err(PieceFault::Memory);
-        };
+        ready.push(ReadySegment::new(alloc, segment)?)?;
     }
-    Ok(all)
+    Ok(ready)
 }
 
 /// The fault of a piece whose walk was stopped. A text in memory has no reader that fails, so what

@@ -4,13 +4,25 @@
 use crate::fixture::{Piece, known, segment, show};
 use std::alloc::Global;
 use std::test::Fail;
-use trace_know::Knowledge;
+use trace_know::{Knowledge, ReadySegment};
 
 /// What the pieces tell, the last taken first and each as a copy of its segment.
 fn taken_back(alloc: Global, pieces: &[Piece]) -> Result<Knowledge, Fail> {
     let mut know = Knowledge::new(alloc);
     for piece in pieces.iter().rev() {
         know.take_owned(segment(alloc, *piece)?.try_clone()?)?;
+    }
+    Ok(know)
+}
+
+/// What the pieces tell, each made ready, and a copy of it once more as the segment that it was.
+fn taken_ready(alloc: Global, pieces: &[Piece]) -> Result<Knowledge, Fail> {
+    let mut know = Knowledge::new(alloc);
+    for piece in pieces {
+        let ready = ReadySegment::new(alloc, segment(alloc, *piece)?)?;
+        let back = ready.try_clone()?.into_segment(alloc)?;
+        know.take_ready(ready)?;
+        know.take(&back)?;
     }
     Ok(know)
 }
@@ -40,6 +52,7 @@ fn told(alloc: Global, pieces: &[Piece], way: u8) -> Result<String, Fail> {
         1 => taken_back(alloc, pieces)?,
         2 => joined(alloc, pieces)?,
         3 => joined_back(alloc, pieces)?,
+        4 => taken_ready(alloc, pieces)?,
         _ => known(alloc, pieces)?.try_clone()?,
     };
     show(alloc, &know)
@@ -230,7 +243,7 @@ static ROWS: [Row; 31] = [
 #[test]
 fn pieces_tell_the_same_in_whatever_way_they_come(rt: HostRuntime) -> Result<(), Fail> {
     for (name, pieces, wanted) in &ROWS {
-        for way in 0..5 {
+        for way in 0..6 {
             let found = told(rt.alloc(), pieces, way)?;
             assert_eq!(rt; found.as_str(), *wanted, "{name}, way {way}");
         }

@@ -5,7 +5,7 @@ use mpi_model::{Call, Event, Outs, Stamp};
 use std::alloc::Global;
 use std::process::Abort;
 use std::test::Fail;
-use trace_know::{Knowledge, Segment};
+use trace_know::{Knowledge, ReadySegment, Segment};
 
 /// Events of local calls from an Enter on, whose times are this late.
 fn events(alloc: Global, count: u64, late: u64) -> Option<Vec<Event>> {
@@ -80,6 +80,36 @@ fn take_owned(
     Ok(())
 }
 
+/// Makes a segment ready. A refusal gives it back.
+fn ready(rt: &impl Abort, alloc: Global, piece: Segment) -> Result<ReadySegment, Fail> {
+    let told = (piece.rank(), piece.events().len());
+    let ready = match ReadySegment::new(alloc, piece) {
+        Ok(ready) => ready,
+        Err(refused) => ReadySegment::new(alloc, refused.value)?,
+    };
+    assert_eq!(rt; (ready.rank(), ready.count()), told, "a segment made ready");
+    Ok(ready)
+}
+
+/// Takes a segment that stands ready. A refusal leaves what was known, and gives it back.
+fn take_ready(
+    rt: &impl Abort,
+    know: &mut Knowledge,
+    piece: ReadySegment,
+    expected: (usize, usize, u64, bool),
+) -> Result<(), Fail> {
+    let before = summary(know);
+    let told = (piece.rank(), piece.count());
+    if let Err(refused) = know.take_ready(piece) {
+        let back = refused.value;
+        assert_eq!(rt; summary(know), before, "a refused take");
+        assert_eq!(rt; (back.rank(), back.count()), told, "what comes back");
+        know.take_ready(back)?;
+    }
+    assert_eq!(rt; summary(know), expected, "a take of a ready one");
+    Ok(())
+}
+
 /// Joins the other. A refusal leaves what was known.
 fn join(
     rt: &impl Abort,
@@ -129,6 +159,16 @@ fn after_owned(rt: &impl Abort, alloc: Global, steps: &[Step]) -> Result<Knowled
     Ok(know)
 }
 
+/// What these steps lead to, with segments that are made ready first.
+fn after_ready(rt: &impl Abort, alloc: Global, steps: &[Step]) -> Result<Knowledge, Fail> {
+    let mut know = Knowledge::new(alloc);
+    for (first, count, late, expected) in steps {
+        let piece = ready(rt, alloc, segment(alloc, *first, *count, *late)?)?;
+        take_ready(rt, &mut know, piece, *expected)?;
+    }
+    Ok(know)
+}
+
 #[test]
 fn refusals_leave_what_was_known(rt: HostRuntime) -> Result<(), Fail> {
     let other = after(&rt, rt.alloc(), &OTHER_STEPS)?;
@@ -142,5 +182,7 @@ fn refused_segments_come_back(rt: HostRuntime) -> Result<(), Fail> {
     let copied = after(&rt, rt.alloc(), &STEPS)?;
     let moved = after_owned(&rt, rt.alloc(), &STEPS)?;
     assert!(rt; moved.same(&copied));
+    let taken_ready = after_ready(&rt, rt.alloc(), &STEPS)?;
+    assert!(rt; taken_ready.same(&copied));
     Ok(())
 }

@@ -1,13 +1,15 @@
 -- What holds of a node as more is known, and its answer is made anew.
-use Rattle.std.proofs.Common.{◌≡◌, ◌↔◌, Bool, false, IsTrue, Result, Ok, Err, OnOk, Option, Some, None, sym, subst}
+use Rattle.std.proofs.Common.{◌≡◌, ◌↔◌, ℕ, Bool, false, IsTrue, Result, Ok, Err, OnOk, Option, Some, None, sym, subst}
 use Rattle.std.specs.Prelude.{IfSome, is_err}
 use Rattle.mpi_model.specs.Layouts.{Parts}
-use Rattle.trace_know.specs.View.{View, IsBelow, join}
+use Rattle.trace_know.specs.Cell.{join_cell}
+use Rattle.trace_know.specs.View.{View, IsBelow, cell, join}
 use Rattle.trace_node.specs.Answer.{Answered, IsAnswer}
 use Rattle.trace_node.specs.Following.{IsFollowing, IsNode}
 use Rattle.trace_node.specs.Node.{IsWithin}
 use Rattle.trace_node.specs.declared.follow.Followed.{Followed}
 use Rattle.trace_node.proofs.Follows.{follows_further}
+use Rattle.trace_node.proofs.Within.{within_join}
 
 -- what holds on Ok, where the answer is no error
 pub on_ok : {X E : Type 0} (P : Type 0) (r : Result X E) → is_err r ≡ false → OnOk r P → P
@@ -32,3 +34,12 @@ stale_node layout know followed answer within follows none = record {
   follows = follows;
   answers = subst (λ (o : Option Answered). IfSome o (IsAnswer layout know)) (sym none) tt;
 }
+
+-- a node without an answer once more was joined, that lies within its layout too
+pub joined_node : (layout : Parts) (know more later : View) (followed : Option Followed) (answer : Option Answered) →
+    ((old : View) → IsBelow old know → IsBelow old (join know more)) →
+    ((rank place : ℕ) → cell (join know more) rank place ≡ join_cell (cell know rank place) (cell more rank place)) →
+    IsWithin layout know → IfSome followed (IsFollowing layout know) → IsWithin layout more → later ≡ join know more → answer ≡ None → IsNode layout later followed answer
+joined_node layout know more later followed answer further cells within follows piece new none =
+    let joined = within_join layout know more cells within piece in
+    stale_node layout later followed answer (subst (λ (v : View). IsWithin layout v) (sym new) joined) (follows_join layout know more later followed further new follows) none

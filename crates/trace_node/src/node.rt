@@ -127,9 +127,9 @@ impl<'a> Node<'a> {
         Ok(())
     }
 
-    /// Joins the facts of a segment that is not needed any more, as [`hold`](Self::hold) does: its
-    /// events are moved, where `hold` copies them, unless what is known is shown to others. Where it
-    /// is refused nothing changes, and the segment comes back with why.
+    /// Joins the facts of a segment that stands ready, as [`hold`](Self::hold) does, which copies its
+    /// events: here they are copied only where what is known is shown to others. Where it is refused
+    /// nothing changes, and the segment comes back with why.
     pub fn hold_ready(&mut self, segment: ReadySegment) -> Result<(), (ReadySegment, NodeFault)>
         ensures ok { OnOk result (self.new ≡ held self.old.layout (join self.old.know (view_of (facts_of segment))) true) }
         ensures inside { OnOk result (segment.rank < self.old.layout.ranks) }

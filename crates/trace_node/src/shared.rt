@@ -73,7 +73,10 @@ impl SharedKnowledge {
 
     /// Joins the facts of a segment that stands ready. Without memory nothing changes, and the segment
     /// comes back.
-    pub(crate) fn take_ready(&mut self, segment: ReadySegment) -> Result<(), AllocFailed<ReadySegment>>
+    pub(crate) fn take_ready(
+        &mut self,
+        segment: ReadySegment,
+    ) -> Result<(), AllocFailed<ReadySegment>>
         ensures ok { OnOk result (self.new ≡ join self.old (view_of (facts_of segment))) }
         ensures err { OnErr result (self.new ≡ self.old) }
         ensures back { IfErr result (λ refused. refused.value ≡ segment) }
@@ -81,7 +84,22 @@ impl SharedKnowledge {
         if let Some(know) = Arc::get_mut(&mut self.know) {
             return know.take_ready(segment);
         }
-        Err(AllocFailed { value: segment })
+        match self.take_copy(&segment) {
+            Ok(()) => Ok(()),
+            Err(_) => Err(AllocFailed { value: segment }),
+        }
+    }
+
+    /// Joins a copy of a segment that stands ready to a copy of what is known, of which this is the only
+    /// owner from then on. Without memory nothing changes.
+    fn take_copy(&mut self, segment: &ReadySegment) -> Result<(), AllocError>
+        ensures ok { OnOk result (self.new ≡ join self.old (view_of (facts_of segment.now))) }
+        ensures err { OnErr result (self.new ≡ self.old) }
+    {
+        let mut copy = self.know.try_clone()?;
+        copy.take_ready(segment.try_clone()?)?;
+        self.know = Arc::new(self.alloc, copy)?;
+        Ok(())
     }
 
     /// Joins all that the other knows. Without memory nothing changes.
