@@ -41,10 +41,7 @@ pub enum PieceFault {
 
 /// The segments of a piece's whole text, ready to be joined, none of one without calls. The worker
 /// makes them ready, so that the owner, for whom both workers wait at last, has less to do.
-pub(crate) fn segments_of(
-    alloc: Global,
-    piece: &Piece,
-) -> Result<Vec<ReadySegment>, PieceFault>
+pub(crate) fn segments_of(alloc: Global, piece: &Piece) -> Result<Vec<ReadySegment>, PieceFault>
     ensures ok { IfOk result (λ segments. GivesSegments piece.now segments.items) }
     ensures err { IfErr result (λ fault. IsRefusedFor piece.now fault) }
 {
