@@ -1,8 +1,8 @@
 //! A node as those know it who let two of them meet.
 
-ghost use Rattle.std.specs.Prelude.{◌≡◌, OnOk};
+ghost use Rattle.std.specs.Prelude.{◌≡◌, ◌≢◌, ◌↔◌, IfErr, IsErrOf, OnOk};
 ghost use Rattle.trace_know.specs.View.{join};
-ghost use Rattle.trace_node.specs.Node.{Held};
+ghost use Rattle.trace_node.specs.Node.{HasStranger, Held};
 ghost use Rattle.trace_cluster.specs.Meeting.{IsMore};
 
 use mpi_model::Device;
@@ -23,10 +23,14 @@ pub trait Peer: Drop {
     fn knowledge(&self) -> &Knowledge
         ensures { result.now ≡ (held self.now).know };
 
-    /// Joins what its side of an exchange heard.
+    /// Joins what its side of an exchange heard. `Rank` comes exactly for facts of a rank that the layout
+    /// lacks. After a refusal the node is as it was, but where it is stale: then it has joined them.
     fn learn(&mut self, know: &Knowledge) -> Result<(), NodeFault>
         ensures more { OnOk result (IsMore (held self.old) (held self.new)) }
-        ensures learned { OnOk result ((held self.new).know ≡ join (held self.old).know know.now) };
+        ensures learned { OnOk result ((held self.new).know ≡ join (held self.old).know know.now) }
+        ensures rank { IsErrOf result NodeFault.Rank ↔ HasStranger (held self.old).layout know.now }
+        ensures unchanged { IfErr result (λ fault. fault ≢ NodeFault.Stale → held self.new ≡ held self.old) }
+        ensures stale { IsErrOf result NodeFault.Stale → (held self.new).know ≡ join (held self.old).know know.now };
 
     /// Follows in an exchange over a connection, and closes it.
     fn follow_over(&mut self, alloc: Global, stream: TcpStream) -> Result<(), ExchangeFault>
