@@ -1,0 +1,56 @@
+"""What the scripts of tests/ share: the built program, runs of it, texts of calls, and the count of checks."""
+import json
+import os
+import pathlib
+import subprocess
+import sys
+
+TESTS = pathlib.Path(__file__).resolve().parent
+TOP = TESTS.parent
+BUILT = TOP / "crates" / "mpimatch" / "out" / "mpimatch"
+SECONDS = 300
+NOBODY = 65534
+
+
+class Checks:
+    """Counts checks, shows each that fails, and ends a script with the line `N passed, M failed`."""
+
+    def __init__(self):
+        self.passed = self.failed = 0
+
+    def told(self, name, ok, why=""):
+        self.passed, self.failed = (self.passed + 1, self.failed) if ok else (self.passed, self.failed + 1)
+        if not ok:
+            print(f"FAILED: {name}: {why[:2000]}")
+
+    def end(self):
+        """Prints the counts, and gives the status of the script: it fails where a check failed or none ran."""
+        print(f"{self.passed} passed, {self.failed} failed")
+        return 0 if self.passed and not self.failed else 1
+
+
+def program_of(words):
+    """The program that is the first of these words (without one the built one), and the other words; None where it can't be run."""
+    program = pathlib.Path(words[0]).resolve() if words else BUILT
+    if not os.access(program, os.X_OK):
+        print(f"{program} is not built: run ./mpimatch --prove")
+        program = None
+    return program, words[1:]
+
+
+def run(program, room, *words, manifest=None, **how):
+    """The status of the program in a folder, and its two streams; with a manifest, that is written first, and named last."""
+    if manifest is not None:
+        (room / "manifest.json").write_text(json.dumps(manifest))
+        words = [*words, "layout.json", "manifest.json"]
+    done = subprocess.run([program, *words], cwd=room, stdin=subprocess.DEVNULL, capture_output=True, timeout=SECONDS, **how)
+    return done.returncode, done.stdout.decode(), done.stderr.decode()
+
+
+def call(name, at, *parameters, shift=0, returns=True):
+    """The text of a call, the one of this number of its rank: it was entered at that second, and returned half a second later."""
+    lines = [f"{name} entering at walltime {at + shift}.0, cputime 0.0 seconds in thread 0."]
+    lines += [f"int {it}" for it in parameters]
+    if returns:
+        lines.append(f"{name} returning at walltime {at + shift}.5, cputime 0.0 seconds in thread 0.")
+    return "\n".join([*lines, ""])
