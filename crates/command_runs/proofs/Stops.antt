@@ -4,8 +4,8 @@ use Rattle.dumpi_calls.specs.Whole.{SegmentsTellAll}
 use Rattle.mpi_model.specs.Layouts.{Parts}
 use Rattle.trace_know.specs.Trace.{view_of}
 use Rattle.trace_node.specs.declared.fault.NodeFault.TheVariants as nodes
-use Rattle.trace_exchange.specs.declared.fault.ExchangeFault.{ExchangeFault}
-use Rattle.trace_exchange.specs.declared.fault.ExchangeFault.TheVariants as exchanges
+use Rattle.trace_cluster.specs.declared.exchange.fault.ExchangeFault.{ExchangeFault}
+use Rattle.trace_cluster.specs.declared.exchange.fault.ExchangeFault.TheVariants as exchanges
 use Rattle.trace_wire.specs.declared.fault.WireFault.{WireFault}
 use Rattle.trace_wire.specs.declared.fault.WireFault.TheVariants as wires
 use Rattle.trace_crew.specs.declared.piece.Piece.{Piece}

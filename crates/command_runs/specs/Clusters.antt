@@ -8,8 +8,8 @@ use Rattle.trace_node.specs.Answer.{Answered, IsAnswer}
 use Rattle.trace_node.specs.Node.{Held}
 use Rattle.trace_node.specs.declared.fault.NodeFault.{NodeFault}
 use Rattle.trace_node.specs.declared.fault.NodeFault.TheVariants as nodes
-use Rattle.trace_exchange.specs.declared.fault.ExchangeFault.{ExchangeFault}
-use Rattle.trace_exchange.specs.declared.fault.ExchangeFault.TheVariants as exchanges
+use Rattle.trace_cluster.specs.declared.exchange.fault.ExchangeFault.{ExchangeFault}
+use Rattle.trace_cluster.specs.declared.exchange.fault.ExchangeFault.TheVariants as exchanges
 use Rattle.trace_wire.specs.declared.fault.WireFault.{WireFault}
 use Rattle.trace_wire.specs.declared.fault.WireFault.TheVariants as wires
 use Rattle.trace_crew.specs.declared.piece.PieceFault.{PieceFault}

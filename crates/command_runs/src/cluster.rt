@@ -24,9 +24,8 @@ use std::alloc::{AllocError, Global};
 use std::net::{Net, TcpListener, TcpStream};
 use std::sync::Wait;
 use std::thread::Threads;
-use trace_cluster::{ClusterFault, cluster};
+use trace_cluster::{ClusterFault, ExchangeFault, cluster};
 use trace_crew::PieceFault;
-use trace_exchange::ExchangeFault;
 use trace_node::{Answer, Node, NodeFault};
 use trace_wire::WireFault;
 

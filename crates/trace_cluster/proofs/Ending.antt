@@ -2,8 +2,8 @@
 use Rattle.std.proofs.Common.{◌≡◌, Result, Ok, Err, refl, sym, subst, inl, inr}
 use Rattle.trace_know.specs.View.{View}
 use Rattle.trace_node.specs.declared.fault.NodeFault.{NodeFault}
-use Rattle.trace_exchange.specs.declared.fault.ExchangeFault.{ExchangeFault}
-use Rattle.trace_exchange.specs.declared.fault.ExchangeFault.TheVariants.{Merge}
+use Rattle.trace_cluster.specs.declared.exchange.fault.ExchangeFault.{ExchangeFault}
+use Rattle.trace_cluster.specs.declared.exchange.fault.ExchangeFault.TheVariants.{Merge}
 use Rattle.trace_cluster.specs.declared.fault.ClusterFault.TheVariants.{Lead, Follow}
 use Rattle.trace_cluster.specs.Crews.{IsFirstEnd}
 

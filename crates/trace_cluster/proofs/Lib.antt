@@ -1,3 +1,6 @@
+pub mod Passing
+pub mod Leaving
+pub mod Feeding
 pub mod Lists
 pub mod Taking
 pub mod Finding

@@ -9,9 +9,9 @@ use Rattle.trace_know.specs.Trace.{Trace, facts_of, view_of}
 use Rattle.trace_know.specs.View.{View, IsBelow, join}
 use Rattle.trace_node.specs.Node.{Held}
 use Rattle.trace_node.specs.declared.fault.NodeFault.{NodeFault}
-use Rattle.trace_inbox.specs.declared.item.Worker.{Worker}
-use Rattle.trace_inbox.specs.declared.item.Worker.TheVariants.{First, Second}
-use Rattle.trace_inbox.specs.Views.{number_of}
+use Rattle.trace_crew.specs.declared.inbox.item.Worker.{Worker}
+use Rattle.trace_crew.specs.declared.inbox.item.Worker.TheVariants.{First, Second}
+use Rattle.trace_crew.specs.Views.{number_of}
 use Rattle.trace_crew.specs.declared.piece.Piece.{Piece}
 use Rattle.trace_crew.specs.declared.threads.CrewOut.{CrewOut}
 use Rattle.trace_crew.specs.Crewed.{IsCrewOut, segments_by}

@@ -7,8 +7,8 @@ use Rattle.mpi_model.specs.Layouts.{Parts}
 use Rattle.trace_know.specs.Segment.{PlacedEvents}
 use Rattle.trace_node.specs.declared.fault.NodeFault.{NodeFault}
 use Rattle.trace_node.specs.declared.fault.NodeFault.TheVariants as nodes
-use Rattle.trace_inbox.specs.declared.item.Worker.{Worker}
-use Rattle.trace_inbox.specs.declared.item.Worker.TheVariants.{First, Second}
+use Rattle.trace_crew.specs.declared.inbox.item.Worker.{Worker}
+use Rattle.trace_crew.specs.declared.inbox.item.Worker.TheVariants.{First, Second}
 use Rattle.trace_crew.specs.declared.piece.PieceFault.{PieceFault}
 use Rattle.trace_crew.specs.declared.threads.CrewOut.{CrewOut}
 use Rattle.trace_crew.specs.Crewed.{IsCrewOut, segments_by}

@@ -5,9 +5,9 @@ use Rattle.std.proofs.lemmas.List.Elements.{Contains-append_right}
 use Rattle.mpi_model.specs.Layouts.{Parts}
 use Rattle.trace_know.specs.Segment.{PlacedEvents}
 use Rattle.trace_node.specs.declared.fault.NodeFault.{NodeFault}
-use Rattle.trace_inbox.specs.declared.item.Worker.{Worker}
-use Rattle.trace_inbox.specs.declared.item.Worker.TheVariants.{First, Second}
-use Rattle.trace_inbox.specs.Views.{is_from, number_of}
+use Rattle.trace_crew.specs.declared.inbox.item.Worker.{Worker}
+use Rattle.trace_crew.specs.declared.inbox.item.Worker.TheVariants.{First, Second}
+use Rattle.trace_crew.specs.Views.{is_from, number_of}
 use Rattle.trace_crew.specs.Crewed.{segments_by}
 use Rattle.trace_crew.specs.Taking.{IsFair, IsFairFor, Refusal, Taken, refused_for, refused_in, taken_as}
 use Rattle.trace_cluster.proofs.Lists.{contains_first, nil_first, nil_rest, no_element, same_first}

@@ -2,8 +2,8 @@
 use Rattle.std.specs.Prelude.{◌≡◌, ℕ, Result, Ok, Err, List, [], ◌∷◌, ◌++◌, ◌⊎◌, ⊤}
 use Rattle.trace_know.specs.View.{View}
 use Rattle.trace_node.specs.declared.fault.NodeFault.{NodeFault}
-use Rattle.trace_exchange.specs.declared.fault.ExchangeFault.TheVariants.{Merge}
-use Rattle.trace_exchange.specs.declared.fault.ExchangeFault.{ExchangeFault}
+use Rattle.trace_cluster.specs.declared.exchange.fault.ExchangeFault.TheVariants.{Merge}
+use Rattle.trace_cluster.specs.declared.exchange.fault.ExchangeFault.{ExchangeFault}
 use Rattle.trace_crew.specs.declared.piece.PieceFault.{PieceFault}
 use Rattle.trace_crew.specs.declared.threads.CrewFault.{CrewFault}
 use Rattle.trace_crew.specs.declared.threads.CrewFault.TheVariants as crews
@@ -48,9 +48,9 @@ StopsAt one other fault = Stops one.faults.items other.faults.items one.refused.
 abbrev pub AreClean : CrewOut → CrewOut → Type 0
 AreClean one other = IsClean one.faults.items other.faults.items one.refused.items other.refused.items
 
--- The first node did not join what its side of an exchange heard.
-abbrev pub IsUnmerged : ClusterFault → Type 0
-IsUnmerged fault = (cause : NodeFault) × (fault ≡ Lead (Merge cause))
+-- It is why the first node did not join what its side of an exchange heard.
+abbrev pub IsLeadersMerge : ClusterFault → Type 0
+IsLeadersMerge fault = (cause : NodeFault) × (fault ≡ Lead (Merge cause))
 
 -- It is why the follower's side of an exchange was refused.
 abbrev pub IsFollowers : Result (Unit {0}) ExchangeFault → ClusterFault → Type 0
@@ -60,7 +60,7 @@ IsFollowers followed fault = (cause : ExchangeFault) × (followed ≡ Err cause)
 -- that heard, or why the follower's side was refused.
 abbrev pub IsFirstEnd : Result View ExchangeFault → Result (Unit {0}) ExchangeFault → ClusterFault → Type 0
 IsFirstEnd (Err led) followed fault = fault ≡ Lead led
-IsFirstEnd (Ok known) followed fault = IsUnmerged fault ⊎ IsFollowers followed fault
+IsFirstEnd (Ok known) followed fault = IsLeadersMerge fault ⊎ IsFollowers followed fault
 
 -- It comes of the exchange, and not of a crew.
 abbrev pub IsOfMeeting : ClusterFault → Type 0

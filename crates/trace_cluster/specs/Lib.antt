@@ -1,3 +1,5 @@
+pub mod Stream
+pub mod Exchange
 pub mod Meeting
 pub mod Pieces
 pub mod Clustered

@@ -2,7 +2,7 @@
 use Rattle.std.specs.Prelude.{◌≡◌, false, Result, Ok}
 use Rattle.trace_know.specs.View.{View, IsBelow, join}
 use Rattle.trace_node.specs.Node.{Held}
-use Rattle.trace_exchange.specs.declared.fault.ExchangeFault.{ExchangeFault}
+use Rattle.trace_cluster.specs.declared.exchange.fault.ExchangeFault.{ExchangeFault}
 
 -- The node knows all that it knew, for the same layout, and has an answer to all that it knows.
 pub record IsMore (before after : Held) : Type 0 where

@@ -3,9 +3,9 @@
 ghost use Rattle.std.specs.Prelude.{◌≡◌};
 ghost use Rattle.trace_cluster.specs.Crews.{of_crew};
 
+use crate::exchange::ExchangeFault;
 use thiserror::Error;
 use trace_crew::{CrewFault, PieceFault};
-use trace_exchange::ExchangeFault;
 use trace_node::NodeFault;
 
 /// Why a cluster leaves nothing, tried in this order.

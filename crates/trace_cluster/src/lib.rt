@@ -12,6 +12,7 @@
 //! - [`workload`]: the pieces of a node's workers
 //! - [`fault`]: why a cluster leaves nothing
 //! - [`crews`]: what both crews leave, and the first fault or refused segment
+//! - [`exchange`]: two nodes that send each other what they know over a stream
 //! - [`peer`]: a node as those know it who let two of them meet
 //! - [`meeting`]: the socket, and the exchange over it
 //! - [`nodes`]: one after the other
@@ -19,16 +20,18 @@
 //! A socket tells no bytes, so no contract says that both nodes know the same at the end; nor that a
 //! call which waits returns.
 //!
-//! Its tests are in `crates/node_tests/src/cluster.rt` and `unplugged.rt`.
+//! Its tests are in `crates/node_tests/src/cluster.rt`, `exchange.rt`, `socket.rt` and `unplugged.rt`.
 #![tactic(auto)]
 
 mod crews;
+mod exchange;
 mod fault;
 mod meeting;
 mod nodes;
 mod peer;
 mod workload;
 
+pub use exchange::{ExchangeFault, exchange_frames, exchange_laws, follow, lead};
 pub use fault::ClusterFault;
 pub use nodes::cluster;
 pub use workload::Workload;

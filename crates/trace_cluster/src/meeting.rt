@@ -1,10 +1,11 @@
 //! Two nodes that meet: the socket, and the exchange over it.
 
 ghost use Rattle.std.specs.Prelude.{◌≡◌, Ok, IfSome, IfOk, IfErr, OnOk};
-ghost use Rattle.trace_exchange.specs.Exchange.{HaveFrames};
+ghost use Rattle.trace_cluster.specs.Exchange.{HaveFrames};
 ghost use Rattle.trace_cluster.specs.Crews.{IsFirstEnd, IsOfMeeting};
 ghost use Rattle.trace_cluster.specs.Meeting.{HasJoined, IsMore};
 
+use crate::exchange::{ExchangeFault, exchange_frames};
 use crate::fault::ClusterFault;
 use crate::peer::Peer;
 use mpi_model::Device;
@@ -13,7 +14,6 @@ use std::net::{Net, TcpListener, TcpStream};
 use std::sync::Wait;
 use std::thread::Threads;
 use std::{io, thread};
-use trace_exchange::{ExchangeFault, exchange_frames};
 use trace_know::Knowledge;
 
 /// Listens on 127.0.0.1 at a port that the system gives, connects to it and accepts, in this order:

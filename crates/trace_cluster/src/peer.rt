@@ -5,10 +5,10 @@ ghost use Rattle.trace_know.specs.View.{join};
 ghost use Rattle.trace_node.specs.Node.{HasStranger, Held};
 ghost use Rattle.trace_cluster.specs.Meeting.{IsMore};
 
+use crate::exchange::{ExchangeFault, follow};
 use mpi_model::Device;
 use std::alloc::Global;
 use std::net::TcpStream;
-use trace_exchange::{ExchangeFault, follow};
 use trace_know::{Knowledge, join_laws};
 use trace_node::{Node, NodeFault};
 

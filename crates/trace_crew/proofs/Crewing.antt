@@ -4,12 +4,12 @@ use Rattle.std.specs.List.{cons_option, filter, filter_map}
 use Rattle.mpi_model.specs.Layouts.{Parts}
 use Rattle.trace_know.specs.Segment.{PlacedEvents}
 use Rattle.trace_node.specs.Node.{Held}
-use Rattle.trace_inbox.specs.declared.item.Item.{Item}
-use Rattle.trace_inbox.specs.declared.item.Post.{Post}
-use Rattle.trace_inbox.specs.declared.item.Post.TheVariants.{Segment, End}
-use Rattle.trace_inbox.specs.declared.item.Worker.{Worker}
-use Rattle.trace_inbox.specs.declared.item.Worker.TheVariants.{First, Second}
-use Rattle.trace_inbox.specs.Views.{is_from, of, posts_of}
+use Rattle.trace_crew.specs.declared.inbox.item.Item.{Item}
+use Rattle.trace_crew.specs.declared.inbox.item.Post.{Post}
+use Rattle.trace_crew.specs.declared.inbox.item.Post.TheVariants.{Segment, End}
+use Rattle.trace_crew.specs.declared.inbox.item.Worker.{Worker}
+use Rattle.trace_crew.specs.declared.inbox.item.Worker.TheVariants.{First, Second}
+use Rattle.trace_crew.specs.Views.{is_from, of, posts_of}
 use Rattle.trace_crew.specs.declared.piece.Piece.{Piece}
 use Rattle.trace_crew.specs.declared.piece.PieceFault.{PieceFault}
 use Rattle.trace_crew.specs.declared.threads.CrewOut.{CrewOut}

@@ -1,3 +1,4 @@
+mod Keeping
 pub mod Reading
 pub mod Sorting
 pub mod Crewing

@@ -3,11 +3,11 @@ use Rattle.std.proofs.Common.{◌≡◌, ℕ, ◌+◌, ◌<◌, suc, subst, take
 use Rattle.std.specs.List.{flat_map}
 use Rattle.std.proofs.lemmas.Grind.{flat_map-append}
 use Rattle.std.proofs.lemmas.List.{append-nil, length-take, map-append, take_more}
-use Rattle.trace_inbox.specs.declared.item.Item.{Item}
-use Rattle.trace_inbox.specs.declared.item.Worker.{Worker}
-use Rattle.trace_inbox.specs.declared.rule.View.{View}
-use Rattle.trace_inbox.specs.declared.rule.View.TheVariants.{Poster}
-use Rattle.trace_inbox.specs.Views.{end_item, number_of, segment_item}
+use Rattle.trace_crew.specs.declared.inbox.item.Item.{Item}
+use Rattle.trace_crew.specs.declared.inbox.item.Worker.{Worker}
+use Rattle.trace_crew.specs.declared.inbox.rule.View.{View}
+use Rattle.trace_crew.specs.declared.inbox.rule.View.TheVariants.{Poster}
+use Rattle.trace_crew.specs.Views.{end_item, number_of, segment_item}
 use Rattle.trace_crew.specs.declared.piece.Piece.{Piece}
 use Rattle.trace_crew.specs.declared.piece.PieceFault.{PieceFault}
 use Rattle.trace_crew.specs.Pieces.{AreOutcomes, IsOutcome, Outcome, faults_from, faults_in, segments_in}

@@ -6,13 +6,13 @@ use Rattle.mpi_model.specs.Layouts.{Parts}
 use Rattle.trace_know.specs.Segment.{PlacedEvents}
 use Rattle.trace_know.specs.Trace.{view_of}
 use Rattle.trace_node.specs.Node.{Held}
-use Rattle.trace_inbox.specs.declared.item.Item.{Item}
-use Rattle.trace_inbox.specs.declared.item.Worker.{Worker}
-use Rattle.trace_inbox.specs.declared.item.Worker.TheVariants.{First, Second}
-use Rattle.trace_inbox.specs.declared.rule.Standing.TheVariants.{Running}
-use Rattle.trace_inbox.specs.declared.rule.View.{View}
-use Rattle.trace_inbox.specs.declared.rule.View.TheVariants.{Owner}
-use Rattle.trace_inbox.specs.Views.{desk, is_from, posts_of}
+use Rattle.trace_crew.specs.declared.inbox.item.Item.{Item}
+use Rattle.trace_crew.specs.declared.inbox.item.Worker.{Worker}
+use Rattle.trace_crew.specs.declared.inbox.item.Worker.TheVariants.{First, Second}
+use Rattle.trace_crew.specs.declared.inbox.rule.Standing.TheVariants.{Running}
+use Rattle.trace_crew.specs.declared.inbox.rule.View.{View}
+use Rattle.trace_crew.specs.declared.inbox.rule.View.TheVariants.{Owner}
+use Rattle.trace_crew.specs.Views.{desk, is_from, posts_of}
 use Rattle.trace_crew.specs.declared.threads.CrewOut.{CrewOut}
 use Rattle.trace_crew.specs.declared.worker.Worked.{Worked}
 use Rattle.trace_crew.specs.declared.piece.Piece.{Piece}

@@ -1,3 +1,8 @@
+pub mod Views
+pub mod Rule
+pub mod Showing
+pub mod Codes
+pub mod Older
 pub mod Pieces
 pub mod Work
 pub mod Taking

@@ -7,9 +7,9 @@ use Rattle.trace_know.specs.Trace.{facts_of}
 use Rattle.trace_node.specs.Schedule.{NodeState, node_state, with_post, with_take}
 use Rattle.trace_node.specs.declared.fault.NodeFault.{NodeFault}
 use Rattle.trace_node.specs.declared.fault.NodeFault.TheVariants.{Rank, Memory}
-use Rattle.trace_inbox.specs.declared.item.Item.{Item}
-use Rattle.trace_inbox.specs.declared.item.Post.{Post}
-use Rattle.trace_inbox.specs.declared.item.Post.TheVariants.{Segment, End}
+use Rattle.trace_crew.specs.declared.inbox.item.Item.{Item}
+use Rattle.trace_crew.specs.declared.inbox.item.Post.{Post}
+use Rattle.trace_crew.specs.declared.inbox.item.Post.TheVariants.{Segment, End}
 use Rattle.trace_crew.specs.Taking.{Taken, joined_in, taken_as}
 
 -- ---- schedules of one node

@@ -8,12 +8,12 @@ use Rattle.trace_know.specs.View.{View, join}
 use Rattle.trace_node.specs.Node.{Held}
 use Rattle.trace_node.specs.declared.fault.NodeFault.{NodeFault}
 use Rattle.trace_node.specs.declared.fault.NodeFault.TheVariants.{Rank, Memory, Stale}
-use Rattle.trace_inbox.specs.declared.item.Item.{Item}
-use Rattle.trace_inbox.specs.declared.item.Post.{Post}
-use Rattle.trace_inbox.specs.declared.item.Post.TheVariants.{Segment, End}
-use Rattle.trace_inbox.specs.declared.item.Worker.{Worker}
-use Rattle.trace_inbox.specs.declared.item.Worker.TheVariants.{First, Second}
-use Rattle.trace_inbox.specs.Views.{number_of, of}
+use Rattle.trace_crew.specs.declared.inbox.item.Item.{Item}
+use Rattle.trace_crew.specs.declared.inbox.item.Post.{Post}
+use Rattle.trace_crew.specs.declared.inbox.item.Post.TheVariants.{Segment, End}
+use Rattle.trace_crew.specs.declared.inbox.item.Worker.{Worker}
+use Rattle.trace_crew.specs.declared.inbox.item.Worker.TheVariants.{First, Second}
+use Rattle.trace_crew.specs.Views.{number_of, of}
 
 -- ---- one segment
 

@@ -1,11 +1,11 @@
 -- What a worker has read and posted.
 use Rattle.std.specs.Prelude.{◌≡◌, ℕ, Bool, true, false, Option, Some, None, List, [], ◌∷◌, ◌++◌, map}
 use Rattle.trace_know.specs.Segment.{PlacedEvents}
-use Rattle.trace_inbox.specs.declared.item.Item.{Item}
-use Rattle.trace_inbox.specs.declared.item.Worker.{Worker}
-use Rattle.trace_inbox.specs.declared.rule.View.{View}
-use Rattle.trace_inbox.specs.declared.rule.View.TheVariants.{Owner, Poster, Spent}
-use Rattle.trace_inbox.specs.Views.{end_item, number_of, posts_of, segment_item}
+use Rattle.trace_crew.specs.declared.inbox.item.Item.{Item}
+use Rattle.trace_crew.specs.declared.inbox.item.Worker.{Worker}
+use Rattle.trace_crew.specs.declared.inbox.rule.View.{View}
+use Rattle.trace_crew.specs.declared.inbox.rule.View.TheVariants.{Owner, Poster, Spent}
+use Rattle.trace_crew.specs.Views.{end_item, number_of, posts_of, segment_item}
 use Rattle.trace_crew.specs.declared.piece.Piece.{Piece}
 use Rattle.trace_crew.specs.declared.piece.PieceFault.{PieceFault}
 use Rattle.trace_crew.specs.declared.worker.Stop.{Stop}

@@ -5,17 +5,17 @@ ghost use Rattle.crossbeam_channel.specs.Claims.{view, IsSeatAt};
 ghost use Rattle.crossbeam_channel.specs.Ends.{receives_on};
 ghost use Rattle.mpi_model.specs.Layouts.{Parts};
 ghost use Rattle.trace_node.specs.Node.{Held};
-ghost use Rattle.trace_inbox.specs.Views.{IsOwner, after_take, desk};
-ghost use Rattle.trace_inbox.specs.declared.item.Item.{Item as ItemValue};
-ghost use Rattle.trace_inbox.specs.declared.rule.Standing.TheVariants.{Joined, Running};
-ghost use Rattle.trace_inbox.specs.declared.rule.View.TheVariants.{Owner};
+ghost use Rattle.trace_crew.specs.Views.{IsOwner, after_take, desk};
+ghost use Rattle.trace_crew.specs.declared.inbox.item.Item.{Item as ItemValue};
+ghost use Rattle.trace_crew.specs.declared.inbox.rule.Standing.TheVariants.{Joined, Running};
+ghost use Rattle.trace_crew.specs.declared.inbox.rule.View.TheVariants.{Owner};
 ghost use Rattle.trace_crew.specs.Taking.{HasAll, IsKept, Refusal, Sorted, counted, ends_in, ends_told, is_end};
 
 use crate::gate::Gate;
+use crate::inbox::{InboxReceiver, Item, Seat, take, take_now};
 use crate::threads::CrewFault;
 use std::alloc::AllocError;
 use std::sync::Wait;
-use trace_inbox::{InboxReceiver, Item, Seat, take, take_now};
 
 /// What keeps the node and the refused segments, as the threads of a crew know it. They know it by
 /// this trait alone, since what is captured beside them can't name the lifetimes inside it.

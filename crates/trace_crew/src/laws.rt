@@ -2,7 +2,7 @@
 
 ghost use Rattle.std.specs.Prelude.{List};
 ghost use Rattle.mpi_model.specs.Layouts.{Parts};
-ghost use Rattle.trace_inbox.specs.declared.item.Item.{Item};
+ghost use Rattle.trace_crew.specs.declared.inbox.item.Item.{Item};
 ghost use Rattle.trace_crew.specs.Scheduled.{FollowsSchedule};
 ghost use Rattle.trace_crew.specs.Taking.{Taken};
 

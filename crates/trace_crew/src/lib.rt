@@ -17,6 +17,8 @@
 //! nothing at the end. Before it costs an answer, and a copy of all that is known, which the next segment
 //! takes: all of these together at most a third more than the last of them.
 //!
+//! - [`inbox`]: the queue between the workers and the owner, and the rule that each of its steps keeps
+//! - [`board`]: the newest published answer, for any number of threads
 //! - [`piece`]: a text of a rank, its segments, and why it gives none
 //! - [`gate`]: where a test may hold a crew
 //! - [`worker`]: reads and posts
@@ -27,11 +29,13 @@
 //! No contract promises that a call which waits returns, that anything arrives or that two threads ran
 //! at once.
 //!
-//! Its tests are in `crates/node_tests/src/crew.rt` and `gates.rt`.
+//! Its tests are in `crates/node_tests/src/crew.rt`, `gates.rt` and `board.rt`.
 #![tactic(auto)]
 
+mod board;
 mod gate;
 mod hold;
+pub mod inbox;
 mod keeper;
 mod laws;
 mod owner;
@@ -39,8 +43,9 @@ mod piece;
 mod threads;
 mod worker;
 
+pub use board::{Board, PutFault, ShowFault, Shown};
 pub use gate::{Gate, OpenGate};
+pub use inbox::Worker;
 pub use laws::crews_follow;
 pub use piece::{Piece, PieceFault};
 pub use threads::{CrewFault, CrewOut, crew};
-pub use trace_board::{Board, PutFault, ShowFault, Shown};

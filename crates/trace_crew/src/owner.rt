@@ -2,16 +2,16 @@
 
 ghost use Rattle.std.specs.Prelude.{◌≡◌, ◌∷◌, ◌++◌, [], List, false, IfOk, OnOk};
 ghost use Rattle.mpi_model.specs.Layouts.{Parts};
-ghost use Rattle.trace_inbox.specs.declared.item.Item.{Item as ItemValue};
+ghost use Rattle.trace_crew.specs.declared.inbox.item.Item.{Item as ItemValue};
 ghost use Rattle.trace_crew.specs.Taking.{Handles, IsKept, Sorted, counted, ends_told, is_end};
 
+use crate::board::Board;
 use crate::hold::hold;
+use crate::inbox::{Item, Post, Worker};
 use crate::keeper::Keeper;
 use mpi_model::Layout;
 use std::alloc::{AllocError, Global};
 use std::sync::Wait;
-use trace_board::Board;
-use trace_inbox::{Item, Post, Worker};
 use trace_know::{ReadySegment, Segment, view_laws};
 use trace_node::{Node, NodeFault};
 

@@ -4,18 +4,20 @@ ghost use Rattle.std.specs.Prelude.{◌≡◌, ◌↔◌, ◌⊎◌, ◌++◌, [
 ghost use Rattle.crossbeam_channel.specs.Claims.{view, IsSeatAt};
 ghost use Rattle.crossbeam_channel.specs.Ends.{receives_on, sends_on};
 ghost use Rattle.mpi_model.specs.Layouts.{Parts};
-ghost use Rattle.trace_inbox.specs.Views.{IsPoster, after_join, desk};
-ghost use Rattle.trace_inbox.specs.declared.item.Item.{Item as ItemValue};
-ghost use Rattle.trace_inbox.specs.declared.item.Worker.TheVariants.{First, Second};
-ghost use Rattle.trace_inbox.specs.declared.rule.Standing.TheVariants.{Running};
-ghost use Rattle.trace_inbox.specs.declared.rule.View.TheVariants.{Owner, Poster};
+ghost use Rattle.trace_crew.specs.Views.{IsPoster, after_join, desk};
+ghost use Rattle.trace_crew.specs.declared.inbox.item.Item.{Item as ItemValue};
+ghost use Rattle.trace_crew.specs.declared.inbox.item.Worker.TheVariants.{First, Second};
+ghost use Rattle.trace_crew.specs.declared.inbox.rule.Standing.TheVariants.{Running};
+ghost use Rattle.trace_crew.specs.declared.inbox.rule.View.TheVariants.{Owner, Poster};
 ghost use Rattle.trace_crew.specs.Crewed.{HasGathered, HasRun, IsCrewOut};
 ghost use Rattle.trace_crew.specs.Taking.{Sorted};
 ghost use Rattle.trace_crew.specs.Work.{HasEnded, is_closed};
 ghost use Rattle.trace_crew.specs.declared.threads.CrewFault.TheVariants.{Memory};
 ghost use Rattle.trace_crew.specs.declared.piece.Piece.{Piece as PieceValue};
 
+use crate::board::Board;
 use crate::gate::Gate;
+use crate::inbox::{InboxReceiver, InboxSender, Seat, Worker, join, make_first, make_second, open};
 use crate::keeper::{Keeper, drain, own};
 use crate::owner::Hall;
 use crate::piece::{Piece, PieceFault};
@@ -27,8 +29,6 @@ use std::sync::Wait;
 use std::thread;
 use std::thread::{PromisedHandle, Scope, Threads};
 use thiserror::Error;
-use trace_board::Board;
-use trace_inbox::{InboxReceiver, InboxSender, Seat, Worker, join, make_first, make_second, open};
 use trace_know::Segment;
 use trace_node::{Node, NodeFault};
 

@@ -3,17 +3,17 @@
 ghost use Rattle.std.specs.Prelude.{◌≡◌, false, [], ◌∷◌, None, OnOk, map};
 ghost use Rattle.crossbeam_channel.specs.Claims.{view, IsSeatAt};
 ghost use Rattle.crossbeam_channel.specs.Ends.{sends_on};
-ghost use Rattle.trace_inbox.specs.Views.{IsPoster, end_item, segment_item};
-ghost use Rattle.trace_inbox.specs.declared.rule.View.TheVariants.{Poster};
+ghost use Rattle.trace_crew.specs.Views.{IsPoster, end_item, segment_item};
+ghost use Rattle.trace_crew.specs.declared.inbox.rule.View.TheVariants.{Poster};
 ghost use Rattle.trace_crew.specs.Work.{EndsPosts, HasEnded, HasRead, ReadsOne, after_posts, is_closed};
 
 use crate::gate::Gate;
+use crate::inbox::{Closed, InboxSender, Item, Post, Seat, Worker, post};
 use crate::piece::{Piece, PieceFault, segments_of};
 use std::alloc::Global;
 use std::snapshot::Snapshot;
 use std::sync::Wait;
 use std::thread::Promise;
-use trace_inbox::{Closed, InboxSender, Item, Post, Seat, Worker, post};
 use trace_know::ReadySegment;
 
 /// Why a worker stopped before it had read all its texts and posted that it ends.

@@ -2,10 +2,10 @@ use Rattle.std.proofs.Common.{◌≡◌, List}
 use Rattle.crossbeam_channel.specs.Claims.{view, IsSeatAt}
 use Rattle.crossbeam_channel.specs.Ends.{receives_on}
 use Rattle.mpi_model.specs.Layouts.{Parts}
-use Rattle.trace_inbox.specs.declared.item.Item.{Item}
-use Rattle.trace_inbox.specs.declared.rule.Standing.TheVariants.{Joined}
-use Rattle.trace_inbox.specs.declared.rule.View.TheVariants.{Owner}
-use Rattle.trace_inbox.specs.Views.{desk}
+use Rattle.trace_crew.specs.declared.inbox.item.Item.{Item}
+use Rattle.trace_crew.specs.declared.inbox.rule.Standing.TheVariants.{Joined}
+use Rattle.trace_crew.specs.declared.inbox.rule.View.TheVariants.{Owner}
+use Rattle.trace_crew.specs.Views.{desk}
 use Rattle.trace_crew.specs.Taking.{Sorted}
 use Rattle.trace_crew.proofs.keeper.drain.Given as goal
 

@@ -1,5 +1,5 @@
 use Rattle.std.proofs.Common.{◌∙◌, ◌+◌, ◌++◌, ◌∷◌, [], ap, sym, arith}
-use Rattle.trace_inbox.specs.Views.{after_take}
+use Rattle.trace_crew.specs.Views.{after_take}
 use Rattle.trace_crew.specs.Taking.{counted, is_end}
 use Rattle.trace_crew.proofs.Sorting.{ends_more, sorted_kept}
 use Rattle.trace_crew.proofs.keeper.own.Goals as goal

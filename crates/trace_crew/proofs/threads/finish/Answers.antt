@@ -1,9 +1,9 @@
 use Rattle.std.proofs.Common.{◌≡◌, ◌∙◌}
 use Rattle.crossbeam_channel.specs.Claims.{view}
-use Rattle.trace_inbox.specs.declared.item.Worker.TheVariants.{First, Second}
-use Rattle.trace_inbox.specs.declared.rule.Standing.TheVariants.{Joined}
-use Rattle.trace_inbox.specs.declared.rule.View.TheVariants.{Owner}
-use Rattle.trace_inbox.specs.Views.{after_join, desk, posts_of}
+use Rattle.trace_crew.specs.declared.inbox.item.Worker.TheVariants.{First, Second}
+use Rattle.trace_crew.specs.declared.inbox.rule.Standing.TheVariants.{Joined}
+use Rattle.trace_crew.specs.declared.inbox.rule.View.TheVariants.{Owner}
+use Rattle.trace_crew.specs.Views.{after_join, desk, posts_of}
 use Rattle.trace_crew.proofs.Crewing.{settled}
 use Rattle.trace_crew.proofs.threads.finish.Goals as goal
 

@@ -1,7 +1,7 @@
 use Rattle.std.proofs.Common.{◌≡◌, map}
 use Rattle.crossbeam_channel.specs.Claims.{view, IsSeatAt}
 use Rattle.crossbeam_channel.specs.Ends.{sends_on}
-use Rattle.trace_inbox.specs.Views.{IsPoster, segment_item}
+use Rattle.trace_crew.specs.Views.{IsPoster, segment_item}
 use Rattle.trace_crew.specs.Work.{after_posts}
 use Rattle.trace_crew.proofs.worker.Hand.post_text.Given as goal
 

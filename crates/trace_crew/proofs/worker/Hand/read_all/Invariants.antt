@@ -1,7 +1,7 @@
 use Rattle.std.proofs.Common.{◌≡◌, take}
 use Rattle.crossbeam_channel.specs.Claims.{view, IsSeatAt}
 use Rattle.crossbeam_channel.specs.Ends.{sends_on}
-use Rattle.trace_inbox.specs.Views.{IsPoster}
+use Rattle.trace_crew.specs.Views.{IsPoster}
 use Rattle.trace_crew.specs.Work.{HasRead}
 use Rattle.trace_crew.proofs.worker.Hand.read_all.Given as goal
 

@@ -1,3 +1,0 @@
-pub mod Showing
-pub mod Codes
-pub mod Older

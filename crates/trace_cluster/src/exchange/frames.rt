@@ -1,0 +1,51 @@
+//! Frames by themselves, with no node: one read, and one each way.
+
+ghost use Rattle.std.specs.Prelude.{IfOk, IfErr};
+ghost use Rattle.std.specs.FinMap.{entries};
+ghost use Rattle.mpi_model.specs.Side.{LeavesSide};
+ghost use Rattle.trace_wire.specs.Frames.{HasFrame};
+ghost use Rattle.trace_cluster.specs.Exchange.{ExchangesFrames, GetsFrame, HaveFrames, IsOfFrame};
+ghost use Rattle.trace_cluster.specs.Stream.{IsStream, halves, side};
+
+use crate::exchange::fault::ExchangeFault;
+use mpi_model::{Read, Write};
+use std::alloc::Global;
+use trace_know::Knowledge;
+use trace_wire::{read_frame, write_frame};
+
+/// Reads one frame: what it tells.
+pub(crate) fn heard_frame<R: Read>(
+    alloc: Global,
+    reader: &mut R,
+) -> Result<Knowledge, ExchangeFault>
+    ensures value { GetsFrame (side (R.left reader.old) (R.failures reader.old)) (side (R.left reader.new) (R.failures reader.new)) result }
+    ensures framed { IfOk result (λ heard. HasFrame (entries heard)) }
+    ensures beside { LeavesSide (R.write_side reader.old) (R.write_side reader.new) }
+{
+    match read_frame(alloc, reader) {
+        Ok(heard) => Ok(heard),
+        Err(fault) => Err(ExchangeFault::Read(fault)),
+    }
+}
+
+/// Writes the frame of all that is known, then reads one frame: what [`lead`](crate::lead) does before
+/// it merges. Where the write is refused, nothing is read; where the read is refused, the frame is out.
+pub fn exchange_frames<S: Read + Write>(
+    alloc: Global,
+    stream: &mut S,
+    know: &Knowledge,
+) -> Result<Knowledge, ExchangeFault>
+    // over a stream whose halves tell of each other
+    ensures told { IsStream (λ s. side (S.left s) (S.Read.failures s)) S.read_side (λ s. side (S.written s) (S.Write.failures s)) S.write_side
+        → ExchangesFrames (halves (side (S.left stream.old) (S.Read.failures stream.old)) (side (S.written stream.old) (S.Write.failures stream.old)))
+        (halves (side (S.left stream.new) (S.Read.failures stream.new)) (side (S.written stream.new) (S.Write.failures stream.new))) know.now result }
+
+    // over any stream
+    ensures framed { IfOk result (λ heard. HaveFrames know.now heard) }
+    ensures unmerged { IfErr result (λ fault. IsOfFrame fault) }
+{
+    match write_frame(know, stream) {
+        Ok(()) => heard_frame(alloc, stream),
+        Err(fault) => Err(ExchangeFault::Write(fault)),
+    }
+}

@@ -1,0 +1,94 @@
+-- What seats at an inbox know, and how each step changes it.
+use Rattle.std.specs.Prelude.{◌≡◌, ℕ, Bool, true, false, List, [], ◌∷◌, ◌++◌, map}
+use Rattle.std.specs.List.{filter}
+use Rattle.trace_know.specs.Segment.{PlacedEvents}
+use Rattle.trace_crew.specs.declared.inbox.item.Worker.{Worker}
+use Rattle.trace_crew.specs.declared.inbox.item.Worker.TheVariants.{First, Second}
+use Rattle.trace_crew.specs.declared.inbox.item.Post.TheVariants.{Segment, End}
+use Rattle.trace_crew.specs.declared.inbox.item.Item.{Item}
+use Rattle.trace_crew.specs.declared.inbox.rule.Standing.{Standing}
+use Rattle.trace_crew.specs.declared.inbox.rule.Standing.TheVariants.{Unmade, Running, Joined}
+use Rattle.trace_crew.specs.declared.inbox.rule.Desk.{Desk}
+use Rattle.trace_crew.specs.declared.inbox.rule.View.{View}
+use Rattle.trace_crew.specs.declared.inbox.rule.View.TheVariants.{Owner, Poster, Spent}
+
+-- ---- items
+
+-- whether the two are one worker
+abbrev pub is_from : Worker → Worker → Bool
+is_from First First = true
+is_from First Second = false
+is_from Second First = false
+is_from Second Second = true
+
+-- the number of a worker
+abbrev pub number_of : Worker → ℕ
+number_of First = 0
+number_of Second = 1
+
+-- the items of one worker, in their order
+abbrev pub of : Worker → List Item → List Item
+of w items = filter (λ i. is_from w i.from) items
+
+abbrev pub segment_item : Worker → PlacedEvents → Item
+segment_item w segment = record { from = w; post = Segment segment }
+
+abbrev pub end_item : Worker → Item
+end_item w = record { from = w; post = End }
+
+-- all that a worker posts: its segments, and at last that it posts no more
+abbrev pub posts_of : Worker → List PlacedEvents → List Item
+posts_of w segments = map (segment_item w) segments ++ end_item w ∷ []
+
+-- ---- what a seat knows
+
+abbrev pub desk : List Item → Standing → Standing → Desk
+desk taken first second = record { taken = taken; first = first; second = second }
+
+-- how a worker stands with the owner
+abbrev pub standing : Desk → Worker → Standing
+standing d First = d.first
+standing d Second = d.second
+
+abbrev pub with_standing : Desk → Worker → Standing → Desk
+with_standing d First s = desk d.taken s d.second
+with_standing d Second s = desk d.taken d.first s
+
+-- the seat is the owner's
+abbrev pub IsOwner : View → Type 0
+IsOwner v = (d : Desk) × (v ≡ Owner d)
+
+-- the seat is the owner's, who hasn't made this worker
+abbrev pub IsWithout : Worker → View → Type 0
+IsWithout w v = (d : Desk) × (v ≡ Owner d) × (standing d w ≡ Unmade)
+
+-- the seat is this worker's
+abbrev pub IsPoster : Worker → View → Type 0
+IsPoster w v = (posted : List Item) × (v ≡ Poster w posted)
+
+-- ---- steps: each by the role of its seat, and nothing at another role
+
+abbrev pub after_post : View → Item → View
+after_post (Poster w posted) item = Poster w (posted ++ item ∷ [])
+after_post (Owner d) item = Owner d
+after_post Spent item = Spent
+
+abbrev pub after_take : View → Item → View
+after_take (Owner d) item = Owner (desk (d.taken ++ item ∷ []) d.first d.second)
+after_take (Poster w posted) item = Poster w posted
+after_take Spent item = Spent
+
+abbrev pub after_make : Worker → View → View
+after_make w (Owner d) = Owner (with_standing d w Running)
+after_make w (Poster u posted) = Poster u posted
+after_make w Spent = Spent
+
+abbrev pub joined_with : Desk → View → View
+joined_with d (Poster w posted) = Owner (with_standing d w (Joined posted))
+joined_with d (Owner e) = Owner d
+joined_with d Spent = Owner d
+
+abbrev pub after_join : View → View → View
+after_join (Owner d) other = joined_with d other
+after_join (Poster u posted) other = Poster u posted
+after_join Spent other = Spent

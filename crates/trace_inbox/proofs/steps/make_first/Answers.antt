@@ -1,6 +1,0 @@
-use Rattle.trace_inbox.specs.declared.item.Worker.TheVariants.{First}
-use Rattle.trace_inbox.proofs.Keeping.{can_make}
-use Rattle.trace_inbox.proofs.steps.make_first.Goals as goal
-
-pub another-requires-clause-rule : goal.another-requires-clause-rule
-another-requires-clause-rule c = can_make _ _ _ First c.requires.owner.1 c.requires.owner.2

@@ -1,5 +1,0 @@
-use Rattle.trace_inbox.proofs.Keeping.{begins}
-use Rattle.trace_inbox.proofs.steps.open.Goals as goal
-
-pub bounded_with-requires-clause-rule : goal.bounded_with-requires-clause-rule
-bounded_with-requires-clause-rule c = begins

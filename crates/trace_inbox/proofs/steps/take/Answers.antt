@@ -1,5 +1,0 @@
-use Rattle.trace_inbox.proofs.Keeping.{can_take}
-use Rattle.trace_inbox.proofs.steps.take.Goals as goal
-
-pub recv_as-requires-clause-rule : goal.recv_as-requires-clause-rule
-recv_as-requires-clause-rule g c = can_take _ _ _ c.requires.owner.1

@@ -1,5 +1,0 @@
-use Rattle.trace_inbox.proofs.Keeping.{can_take}
-use Rattle.trace_inbox.proofs.steps.take_now.Goals as goal
-
-pub try_recv_as-requires-clause-rule : goal.try_recv_as-requires-clause-rule
-try_recv_as-requires-clause-rule g c = can_take _ _ _ c.requires.owner.1
