@@ -31,7 +31,8 @@ impl<'a> Read for Failing<'a> {
 const TEXT: &[u8] =
     b"A entering at walltime 1.5, cputime 0.25 seconds in thread 0.\nA returning at walltime 1.75, cputime 0.5 seconds in thread 0.\n";
 
-/// How many calls come before the reader fails, the line that is refused for it, and how often the text is refused again.
+/// How many calls come before the reader fails, the line that is refused for it, and how often the
+/// text is refused again.
 type Ending = (u64, Option<u64>, u64);
 
 /// After how many bytes the reader fails, and how the text then ends in four answers.

@@ -5,8 +5,9 @@ use std::alloc::Global;
 use std::test::Fail;
 use trace_know::{Knowledge, Segment};
 
-/// Local calls: their rank, the number of the first, how many events, and the nanoseconds that their times are late. The time
-/// of an event is that of its place, so two pieces with one lateness agree, and two with others contradict each other.
+/// Local calls: their rank, the number of the first, how many events, and the nanoseconds that
+/// their times are late. The time of an event is that of its place, so two pieces with one lateness
+/// agree, and two with others contradict each other.
 pub type Piece = (u32, u64, u64, u64);
 
 /// The event of a place.
@@ -38,7 +39,8 @@ pub fn known(alloc: Global, pieces: &[Piece]) -> Result<Knowledge, Fail> {
     Ok(know)
 }
 
-/// How many places are known and how many contradict, and of rank 0 how much is readable and whether something lies beyond.
+/// How many places are known and how many contradict, and of rank 0 how much is readable and
+/// whether something lies beyond.
 pub type Summary = (usize, usize, usize, bool);
 
 pub fn summary(alloc: Global, know: &Knowledge) -> Result<Summary, Fail> {

@@ -84,8 +84,8 @@ fn sends(alloc: Global) -> Result<String, Fail> {
     Ok(text)
 }
 
-/// How a walk over the three sends ends that may have so many: the calls that were handed on and the line of the one that
-/// was refused, if one was; and how many elements were sent.
+/// How a walk over the three sends ends that may have so many: the calls that were handed on and
+/// the line of the one that was refused, if one was; and how many elements were sent.
 fn summed(alloc: Global, most: u64) -> Result<(u64, Option<u64>, u64), Fail> {
     let text = sends(alloc)?;
     let mut sent = SentTo {
