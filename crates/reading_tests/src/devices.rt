@@ -1,4 +1,5 @@
-//! Devices over readers and writers of std that do what a script says: each answer of a device is that of the inner call.
+//! Devices over readers and writers of std that do what a script says: each answer of a device is
+//! that of the inner call.
 
 use mpi_model::*;
 use std::alloc::Global;
@@ -54,8 +55,8 @@ impl io::Write for ScriptedWriter {
     }
 }
 
-/// A name, the steps of the inner value, and calls: the length of the buffer or piece, and how many bytes the device answers, or
-/// nothing where it fails.
+/// A name, the steps of the inner value, and calls: the length of the buffer or piece, and how many
+/// bytes the device answers, or nothing where it fails.
 type Row = (
     &'static str,
     &'static [Step],

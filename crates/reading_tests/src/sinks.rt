@@ -1,7 +1,7 @@
 //! A sink of one's own, which folds and which refuses.
 
 ghost use Rattle.std.specs.Prelude.{◌≡◌, ◌+◌, ◌-◌, ◌<◌, OnErr, OnOk};
-ghost use Rattle.dumpi_calls_tests.specs.Sent.{elements_after, elements_with};
+ghost use Rattle.reading_tests.specs.Sent.{elements_after, elements_with};
 
 use dumpi_calls::CallSink;
 use mpi_model::{Call, Envelope, Exit, Peer, Stamp};
@@ -57,7 +57,7 @@ impl SentTo {
 
 impl CallSink for SentTo {
     ghost use Rattle.std.specs.Prelude.{◌-◌};
-    ghost use Rattle.dumpi_calls_tests.specs.Sent.{elements_after};
+    ghost use Rattle.reading_tests.specs.Sent.{elements_after};
 
     type Fault = Full;
 

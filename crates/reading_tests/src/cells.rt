@@ -2,7 +2,7 @@
 
 ghost use Rattle.std.specs.Prelude.{◌<◌, ◌^◌};
 
-use crate::fixture::{known, show};
+use crate::pieces::{Summary, known, summary};
 use std::alloc::{AllocError, Global};
 use std::test::Fail;
 use trace_know::Knowledge;
@@ -17,17 +17,17 @@ fn contradiction(alloc: Global, rank: u32, place: u64) -> Result<Knowledge, Allo
 }
 
 /// What single cells tell, joined to what a piece tells.
-fn told(alloc: Global) -> Result<String, Fail> {
-    let mut know = known(alloc, &[(0, 1, 3, 0)])?;
+fn told(alloc: Global) -> Result<Summary, Fail> {
+    let mut know = known(alloc, &[(0, 0, 3, 0)])?;
     know.join(&contradiction(alloc, 0, 5)?)?;
-    know.join(&contradiction(alloc, 0, 3)?)?;
+    know.join(&contradiction(alloc, 0, 1)?)?;
     know.join(&contradiction(alloc, 7, 1_099_511_627_775)?)?;
-    show(alloc, &know)
+    summary(alloc, &know)
 }
 
 #[test]
 fn cells_that_are_put(rt: HostRuntime) -> Result<(), Fail> {
     let found = told(rt.alloc())?;
-    assert_eq!(rt; found.as_str(), " 0@2 .x.x 7@1099511627775 x");
+    assert!(rt; found == (5, 3, 1, true), "{found:?}");
     Ok(())
 }

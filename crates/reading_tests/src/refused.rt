@@ -1,5 +1,6 @@
-//! What is known where memory is refused. Each step is tried again after a refusal, which has to leave what was known: so the
-//! test passes whichever request is refused (`rt try --test --fail-alloc N`), and where none is.
+//! What is known where memory is refused. Each step is tried again after a refusal, which has to
+//! leave what was known: so the test passes whichever request is refused (`rt try --test --fail-
+//! alloc N`), and where none is.
 
 use mpi_model::{Call, Event, Outs, Stamp};
 use std::alloc::Global;

@@ -3,8 +3,8 @@
 use mpi_model::*;
 use std::alloc::Global;
 
-/// The limit a call, after how many bytes it fails, the length of the buffer or piece, and how many of five bytes are moved, or
-/// nothing where it fails.
+/// The limit a call, after how many bytes it fails, the length of the buffer or piece, and how many
+/// of five bytes are moved, or nothing where it fails.
 type Row = (usize, Option<usize>, usize, Option<usize>);
 
 static READS: [Row; 9] = [
@@ -29,8 +29,8 @@ static WRITES: [Row; 7] = [
     (usize::MAX, Some(0), 0, Some(0)),
 ];
 
-/// How many bytes a reader of five gives to a buffer of this length, eight at most; `None` where it fails or where there is no
-/// such reader.
+/// How many bytes a reader of five gives to a buffer of this length, eight at most; `None` where it
+/// fails or where there is no such reader.
 fn read_of(most: usize, until: Option<usize>, length: usize) -> Option<usize> {
     if most == 0 {
         return None;
