@@ -1,4 +1,4 @@
-"""What the scripts of tests/ share: the built program, runs of it, texts of calls, and the count of checks."""
+"""What the scripts of tests/ share: the built program, runs of it, texts of calls, sizes of frames, and the count of checks."""
 import json
 import os
 import pathlib
@@ -10,6 +10,16 @@ TOP = TESTS.parent
 BUILT = TOP / "crates" / "mpimatch" / "out" / "mpimatch"
 SECONDS = 300
 NOBODY = 65534
+# a segment has at most 65,536 events, two for each call
+CALLS_OF_A_SEGMENT = 32_768
+# bytes of a frame that may follow its length field, and those of the count of cells
+LONGEST, COUNT = 16_777_216, 4
+# rank, place and kind of a cell; kind, wall and CPU time of an event
+CELL, EVENT = 13, 17
+# By docs/formats.md the Enter of a call that waits for requests has their number (4 bytes) and each of them (8), and its Return
+# as many told sources (4 each). So many calls of so many requests fit a frame, and no more.
+REQUESTS = 32_000
+MOST_HEAVY = (LONGEST - COUNT) // (2 * (CELL + EVENT + 4) + 12 * REQUESTS)
 
 
 class Checks:
@@ -54,3 +64,9 @@ def call(name, at, *parameters, shift=0, returns=True):
     if returns:
         lines.append(f"{name} returning at walltime {at + shift}.5, cputime 0.0 seconds in thread 0.")
     return "\n".join([*lines, ""])
+
+
+def heavy_calls(first, count):
+    """The text of so many calls that each wait for REQUESTS requests, from the one of this number of its rank on."""
+    value = "requests={" + ",".join(["4"] * REQUESTS) + "}"
+    return "".join(call("MPI_Waitall", first + at, value) for at in range(count))

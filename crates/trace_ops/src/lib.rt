@@ -16,7 +16,7 @@
 //! - `ops::gather`: the way from what is known to all of that
 //! - [`laws`]: how a rank's ops grow with its readable events, as contracts of calls that do nothing
 //!
-//! Its tests are in the crate `trace_ops_tests`.
+//! Its tests are the runs of `tests/runs.txt`, and `crates/matching_tests/src/steps.rt`.
 #![tactic(auto)]
 
 mod called;

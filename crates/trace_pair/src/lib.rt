@@ -22,6 +22,8 @@
 //!   [`together`]: as those of all ranks come
 //! - [`index`]: the index
 //! - [`laws`]: what makes the rules easy to believe, as contracts of calls that do nothing
+//!
+//! Its tests are the runs of `tests/runs.txt`, and `crates/matching_tests/src/steps.rt`.
 #![tactic(auto)]
 
 mod couples;

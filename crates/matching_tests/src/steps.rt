@@ -1,91 +1,46 @@
-//! An index over a long list of steps, beside the slow pairing of the same calls.
+//! An index of pairs over a long list of steps, beside the slow pairing of the same calls.
 
-use crate::made::{Did, take};
-use mpi_model::{Layout, Sends};
+ghost use Rattle.std.specs.Prelude.{◌<◌, length};
+ghost use Rattle.trace_ops.specs.Ops.{IsOwn};
+
+use crate::made::{Did, four, known};
+use mpi_model::Layout;
 use std::alloc::Global;
 use std::test::Fail;
 use trace_know::Knowledge;
-use trace_ops::{all_ops, ops_laws, ops_of};
+use trace_ops::{RankOps, all_ops, ops_laws, ops_of};
 use trace_pair::{PairIndex, PairTable, pair_all};
 
 /// Numbers that look random, the same ones each time.
 #[derive(Drop)]
-pub(crate) struct Draw {
-    pub(crate) state: u64,
+struct Draw {
+    state: u64,
 }
 
 impl Draw {
     /// A number below `most`, which is one at least.
-    pub(crate) fn below(&mut self, most: u64) -> u32 {
+    fn below(&mut self, most: u64) -> u32 {
         self.state = self.state.wrapping_mul(6_364_136_223_846_793_005);
         self.state = self.state.wrapping_add(1_442_695_040_888_963_407);
         let drawn = (self.state >> 33).checked_rem(most).unwrap_or(0);
         u32::try_from(drawn).unwrap_or(0)
     }
 
-    pub(crate) fn tag(&mut self) -> u32 {
-        if self.below(2) == 0 { 5 } else { 6 }
-    }
-
-    fn request(&mut self) -> i64 {
-        i64::from(self.below(3))
-    }
-
     /// A call of one of four ranks.
     fn call(&mut self) -> Did {
-        let (with, tag, request) = (self.below(4), self.tag(), self.request());
+        let (with, request) = (self.below(4), i64::from(self.below(3)));
+        let tag = if self.below(2) == 0 { 5 } else { 6 };
         match self.below(12) {
-            0..=3 => Did::Send(with, tag),
-            4 => Did::SendOn(3, with, tag),
-            5 => Did::SendSome(with, tag, 4, 11),
-            6 | 7 => Did::Recv(with, tag),
-            8 => Did::RecvOn(3, with, tag),
-            9 => Did::AnyTag(with),
+            0..=3 => Did::Send(2, with, tag, 1),
+            4 => Did::Send(3, with, tag, 1),
+            5 => Did::Send(2, with, tag, 4),
+            6 | 7 => Did::Recv(2, with, Some(tag)),
+            8 => Did::Recv(3, with, Some(tag)),
+            9 => Did::Recv(2, with, None),
             10 => Did::Irecv(request, tag),
             _ => Did::Wait(request, with),
         }
     }
-}
-
-/// Four ranks, all in communicators 2, which is the world, and 3.
-fn four(alloc: Global) -> Result<Layout, Fail> {
-    let comms = vec![in alloc;
-        (2, vec![in alloc; 0, 1, 2, 3]?),
-        (3, vec![in alloc; 0, 1, 2, 3]?),
-    ]?;
-    Ok(Layout::new(alloc, 4, 2, comms, Sends::Wait)?)
-}
-
-pub(crate) fn known(alloc: Global, calls: &[Vec<Did>]) -> Result<Knowledge, Fail> {
-    let mut know = Knowledge::new(alloc);
-    let mut rank: u32 = 0;
-    for own in calls {
-        take(alloc, &mut know, rank, own)?;
-        rank = rank.saturating_add(1);
-    }
-    Ok(know)
-}
-
-fn by_rules(alloc: Global, layout: &Layout, know: &Knowledge) -> Result<PairTable, Fail> {
-    ops_laws();
-    let ops = all_ops(alloc, layout, know)?;
-    Ok(pair_all(alloc, &ops)?)
-}
-
-/// Brings the index to what the rank did by now.
-pub(crate) fn follow(
-    alloc: Global,
-    layout: &Layout,
-    know: &Knowledge,
-    rank: u32,
-    index: &mut PairIndex,
-) -> Result<(), Fail> {
-    ops_laws();
-    let ops = ops_of(alloc, layout, know, rank)?;
-    if (rank as usize) < index.ops().len() {
-        index.set(rank, ops)?;
-    }
-    Ok(())
 }
 
 /// One more call of the rank; or, as a contradiction does, an end of what can be read of it.
@@ -99,9 +54,42 @@ fn change(draw: &mut Draw, own: &mut Vec<Did>) -> Result<(), Fail> {
     Ok(())
 }
 
-/// Whether two tables are equal.
-pub(crate) fn are_equal(a: &PairTable, b: &PairTable) -> bool {
-    a.pairs() == b.pairs() && a.postponed() == b.postponed()
+fn by_rules(alloc: Global, layout: &Layout, know: &Knowledge) -> Result<PairTable, Fail> {
+    ops_laws();
+    let ops = all_ops(alloc, layout, know)?;
+    Ok(pair_all(alloc, &ops)?)
+}
+
+/// Takes all calls of the rank back, and puts in what it did by now.
+#[tactic(auto, using(crate::proofs::Nothing::own_nothing, crate::proofs::Nothing::grows_from_nothing, crate::proofs::Nothing::nothing_after))]
+fn put_anew(alloc: Global, rank: u32, ops: &RankOps, index: &mut PairIndex) -> Result<(), Fail>
+    requires rank { rank < length index.old }
+    requires own { IsOwn rank ops.now }
+{
+    index.cut(rank, RankOps::empty(alloc))?;
+    index.grow(rank, ops.try_clone()?)?;
+    Ok(())
+}
+
+/// Brings the index to what the rank did by now, at once or by taking all of its calls back first.
+fn follow(
+    alloc: Global,
+    layout: &Layout,
+    know: &Knowledge,
+    rank: u32,
+    at_once: bool,
+    index: &mut PairIndex,
+) -> Result<(), Fail> {
+    ops_laws();
+    let ops = ops_of(alloc, layout, know, rank)?;
+    if (rank as usize) >= index.ops().len() {
+        return Ok(());
+    }
+    if at_once {
+        index.set(rank, ops)?;
+        return Ok(());
+    }
+    put_anew(alloc, rank, &ops, index)
 }
 
 /// What the steps work on.
@@ -131,10 +119,17 @@ fn step(alloc: Global, draw: &mut Draw, run: &mut Run) -> Result<(PairTable, boo
         change(draw, own)?;
     }
     let know = known(alloc, &run.calls)?;
-    follow(alloc, &run.layout, &know, rank, &mut run.index)?;
+    follow(
+        alloc,
+        &run.layout,
+        &know,
+        rank,
+        draw.below(2) == 0,
+        &mut run.index,
+    )?;
     let slow = by_rules(alloc, &run.layout, &know)?;
     let table = run.index.pairs()?;
-    let is_same = are_equal(&slow, &table);
+    let is_same = slow.pairs() == table.pairs() && slow.postponed() == table.postponed();
     Ok((table, is_same))
 }
 

@@ -1,0 +1,95 @@
+//! Calls of ranks, and what is known of them.
+
+use mpi_model::*;
+use std::alloc::Global;
+use std::test::Fail;
+use trace_know::{Knowledge, Segment};
+
+/// A call of datatype 11.
+#[derive(Clone, Copy)]
+pub(crate) enum Did {
+    /// Communicator, receiver, tag and elements.
+    Send(u32, u32, u32, u32),
+    /// Communicator and sender, and a tag or any; one element.
+    Recv(u32, u32, Option<u32>),
+    /// A request, of any source and a tag, on communicator 2.
+    Irecv(i64, u32),
+    /// A request, and the source that its status tells.
+    Wait(i64, u32),
+}
+
+fn envelope(comm: u32, peer: Peer, tag: Option<u32>, count: u32) -> Envelope {
+    Envelope {
+        peer,
+        tag,
+        comm: CommRef::Id(comm),
+        count,
+        datatype: 11,
+    }
+}
+
+fn call_of(did: Did) -> Option<Call> {
+    Some(match did {
+        Did::Send(comm, to, tag, count) => {
+            let sent = envelope(comm, Peer::Rank(to), Some(tag), count);
+            Call::Send(Mode::Standard, SendEnvelope::new(sent)?)
+        }
+        Did::Recv(comm, from, tag) => {
+            Call::Recv(ReceiveEnvelope::new(envelope(comm, Peer::Rank(from), tag, 1))?)
+        }
+        Did::Irecv(_, tag) => {
+            Call::Irecv(ReceiveEnvelope::new(envelope(2, Peer::Any, Some(tag), 1))?)
+        }
+        Did::Wait(request, _) => Call::Wait(request),
+    })
+}
+
+fn outs_of(did: Did) -> Option<Outs> {
+    Some(match did {
+        Did::Irecv(request, _) => Outs::Posted(request),
+        Did::Wait(_, source) => Outs::Status(Told::new(Some(source))?),
+        _ => Outs::Nothing,
+    })
+}
+
+/// The events of these calls. Of an odd number of calls the last has not returned.
+fn events_of(alloc: Global, calls: &[Did]) -> Result<Vec<Event>, Fail> {
+    let mut events = Vec::new(alloc);
+    for did in calls {
+        let stamp = Stamp::new(0, 0).ok_or("a time")?;
+        events.push(Event::Enter(call_of(*did).ok_or("a call")?, stamp))?;
+        events.push(Event::Return(outs_of(*did).ok_or("an outcome")?, stamp))?;
+    }
+    if calls.len() % 2 == 1 {
+        events.truncate(2 * calls.len() - 1);
+    }
+    Ok(events)
+}
+
+fn take(alloc: Global, know: &mut Knowledge, rank: u32, calls: &[Did]) -> Result<(), Fail> {
+    let events = events_of(alloc, calls)?;
+    if !events.is_empty() {
+        know.take_owned(Segment::new(rank, 0, events)?)?;
+    }
+    Ok(())
+}
+
+/// What is known of ranks 0, 1, 2 and so on by their calls.
+pub(crate) fn known(alloc: Global, calls: &[Vec<Did>]) -> Result<Knowledge, Fail> {
+    let mut know = Knowledge::new(alloc);
+    let mut rank: u32 = 0;
+    for own in calls {
+        take(alloc, &mut know, rank, own)?;
+        rank = rank.saturating_add(1);
+    }
+    Ok(know)
+}
+
+/// Four ranks, all in communicators 2, which is the world, and 3.
+pub(crate) fn four(alloc: Global) -> Result<Layout, Fail> {
+    let mut comms = Vec::new(alloc);
+    for comm in 2..4u32 {
+        comms.push((comm, vec![in alloc; 0, 1, 2, 3]?))?;
+    }
+    Ok(Layout::new(alloc, 4, 2, comms, Sends::Wait)?)
+}
