@@ -1,5 +1,5 @@
 -- The pieces of a manifest by node, worker and place, and the texts that stand there.
-use Rattle.std.proofs.Common.{◌≡◌, ◌∙◌, ◌++◌, ◌∷◌, [], ◌==◌, ◌+◌, ◌≤◌, ◌<◌, ◌≢◌, inl, inr, arith, ℕ, zero, suc, List, Option, Some, true, false, ap, ap₂, sym, refl, subst, length, append_assoc, get_or}
+use Rattle.std.proofs.Common.{◌≡◌, ◌∙◌, ◌++◌, ◌∷◌, [], ◌+◌, ◌≤◌, ◌<◌, ◌≢◌, inl, inr, arith, ℕ, zero, suc, List, Option, Some, ap, ap₂, sym, refl, subst, length, append_assoc, get_or}
 use Rattle.std.specs.Prelude.{Contains}
 use Rattle.std.specs.List.{All, slice_get}
 use Rattle.std.proofs.lemmas.List.{length-append}

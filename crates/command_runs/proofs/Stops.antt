@@ -1,5 +1,5 @@
 -- Why the first piece is refused, and what else stops a cluster.
-use Rattle.std.proofs.Common.{◌≡◌, ◌==◌, [], inl, inr, ℕ, List, Option, Some, None, ap, sym, refl, subst}
+use Rattle.std.proofs.Common.{◌≡◌, [], inl, inr, ℕ, List, Option, Some, None, ap, sym, refl, subst}
 use Rattle.dumpi_calls.specs.Whole.{SegmentsTellAll}
 use Rattle.mpi_model.specs.Layouts.{Parts}
 use Rattle.trace_know.specs.Trace.{view_of}
