@@ -1,5 +1,5 @@
 -- Each node of a cluster knows its own pieces.
-use Rattle.std.proofs.Common.{◌≡◌, ◌∷◌, [], ◌==◌, ℕ, List, Option, Bool, true, false, refl, subst}
+use Rattle.std.proofs.Common.{◌≡◌, ◌∷◌, [], ℕ, List, Option, Bool, true, false, refl, subst}
 use Rattle.std.specs.List.{All}
 use Rattle.std.proofs.lemmas.List.Elements.{All-cons, All-head, All-nil, All-tail}
 use Rattle.mpi_model.specs.Layouts.{Parts}
@@ -7,12 +7,17 @@ use Rattle.dumpi_calls.specs.Whole.{SegmentsTellAll}
 use Rattle.trace_know.specs.Trace.{Trace, view_of}
 use Rattle.trace_know.specs.View.{View, IsBelow}
 use Rattle.trace_node.specs.Node.{Held}
+use Rattle.trace_cluster.specs.declared.side.Side.{Side}
+use Rattle.trace_cluster.specs.declared.side.Side.TheVariants as sides
+use Rattle.trace_crew.specs.declared.inbox.item.Worker.{Worker}
+use Rattle.trace_crew.specs.declared.inbox.item.Worker.TheVariants as workers
 use Rattle.trace_crew.specs.declared.piece.Piece.{Piece}
+use Rattle.trace_crew.specs.Views.{is_from}
 use Rattle.trace_cluster.specs.Clustered.{KnowsOwn, KnowsPiece}
 use Rattle.input_files.specs.Manifests.{PieceParts}
 use Rattle.command_runs.specs.Clusters.{IsKnownTo, known_by}
 use Rattle.command_runs.specs.Pieces.{TellsFacts, facts_of_all}
-use Rattle.command_runs.specs.Texts.{AreShares, AreTextsOf, is_same, is_share, share_of}
+use Rattle.command_runs.specs.Texts.{AreShares, AreTextsOf, is_share, is_side, share_of, side_of, worker_of}
 use Rattle.command_runs.specs.declared.texts.AllTexts.{AllTexts}
 use Rattle.command_runs.proofs.GivenFacts.{facts_given}
 
@@ -31,17 +36,21 @@ told_each tells file know (p ∷ ps) texts are all =
 
 -- ---- all shares are all pieces
 
-same_as_itself : (b : Bool) → is_same b b ≡ true
-same_as_itself true = refl
-same_as_itself false = refl
+side_itself : (node : Side) → is_side node node ≡ true
+side_itself sides.First = refl
+side_itself sides.Second = refl
 
-head_share : (P : PieceParts → Type 0) (p : PieceParts) (ps : List PieceParts) → All P (share_of (p.node == 0) (p.worker == 0) (p ∷ ps)) → P p
+worker_itself : (worker : Worker) → is_from worker worker ≡ true
+worker_itself workers.First = refl
+worker_itself workers.Second = refl
+
+head_share : (P : PieceParts → Type 0) (p : PieceParts) (ps : List PieceParts) → All P (share_of (side_of p.node) (worker_of p.worker) (p ∷ ps)) → P p
 head_share P p ps all =
-    let mine : is_share (p.node == 0) (p.worker == 0) p ≡ true = rw (same_as_itself (p.node == 0), same_as_itself (p.worker == 0)) refl in
-    let first : share_of (p.node == 0) (p.worker == 0) (p ∷ ps) ≡ p ∷ share_of (p.node == 0) (p.worker == 0) ps = rw mine refl in
-    All-head P p (share_of (p.node == 0) (p.worker == 0) ps) (subst (λ (qs : List PieceParts). All P qs) first all)
+    let mine : is_share (side_of p.node) (worker_of p.worker) p ≡ true = rw (side_itself (side_of p.node), worker_itself (worker_of p.worker)) refl in
+    let first : share_of (side_of p.node) (worker_of p.worker) (p ∷ ps) ≡ p ∷ share_of (side_of p.node) (worker_of p.worker) ps = rw mine refl in
+    All-head P p (share_of (side_of p.node) (worker_of p.worker) ps) (subst (λ (qs : List PieceParts). All P qs) first all)
 
-tail_share : (P : PieceParts → Type 0) (node worker : Bool) (p : PieceParts) (ps : List PieceParts) → All P (share_of node worker (p ∷ ps)) → All P (share_of node worker ps)
+tail_share : (P : PieceParts → Type 0) (node : Side) (worker : Worker) (p : PieceParts) (ps : List PieceParts) → All P (share_of node worker (p ∷ ps)) → All P (share_of node worker ps)
 tail_share P node worker p ps all = step (is_share node worker p) refl
   where
     step : (mine : Bool) → is_share node worker p ≡ mine → All P (share_of node worker ps)
@@ -52,11 +61,11 @@ tail_share P node worker p ps all = step (is_share node worker p) refl
         let less : share_of node worker (p ∷ ps) ≡ share_of node worker ps = rw e refl in
         subst (λ (qs : List PieceParts). All P qs) less all
 
-all_shares : (P : Bool → PieceParts → Type 0) (pieces : List PieceParts) → ((node worker : Bool) → All (P node) (share_of node worker pieces))
-    → All (λ (p : PieceParts). P (p.node == 0) p) pieces
-all_shares P [] h = All-nil (λ (p : PieceParts). P (p.node == 0) p)
-all_shares P (p ∷ ps) h = All-cons (λ (q : PieceParts). P (q.node == 0) q) p ps
-    (head_share (P (p.node == 0)) p ps (h (p.node == 0) (p.worker == 0)))
+all_shares : (P : Side → PieceParts → Type 0) (pieces : List PieceParts) → ((node : Side) (worker : Worker) → All (P node) (share_of node worker pieces))
+    → All (λ (p : PieceParts). P (side_of p.node) p) pieces
+all_shares P [] h = All-nil (λ (p : PieceParts). P (side_of p.node) p)
+all_shares P (p ∷ ps) h = All-cons (λ (q : PieceParts). P (side_of q.node) q) p ps
+    (head_share (P (side_of p.node)) p ps (h (side_of p.node) (worker_of p.worker)))
     (all_shares P ps (λ node worker. tail_share (P node) node worker p ps (h node worker)))
 
 -- Both nodes know their own pieces.
@@ -65,8 +74,8 @@ pub own_known : SegmentsTellAll → (file : List ℕ → Option (List ℕ)) (l :
 own_known tells file l pieces texts one other are first second =
     all_shares (λ node. IsToldTo file (known_by one other node)) pieces each
   where
-    each : (node worker : Bool) → All (IsToldTo file (known_by one other node)) (share_of node worker pieces)
-    each true true = told_each tells file one.know (share_of true true pieces) texts.first.first.items (are true true) first.first
-    each true false = told_each tells file one.know (share_of true false pieces) texts.first.second.items (are true false) first.second
-    each false true = told_each tells file other.know (share_of false true pieces) texts.second.first.items (are false true) second.first
-    each false false = told_each tells file other.know (share_of false false pieces) texts.second.second.items (are false false) second.second
+    each : (node : Side) (worker : Worker) → All (IsToldTo file (known_by one other node)) (share_of node worker pieces)
+    each sides.First workers.First = told_each tells file one.know (share_of sides.First workers.First pieces) texts.first.first.items (are sides.First workers.First) first.first
+    each sides.First workers.Second = told_each tells file one.know (share_of sides.First workers.Second pieces) texts.first.second.items (are sides.First workers.Second) first.second
+    each sides.Second workers.First = told_each tells file other.know (share_of sides.Second workers.First pieces) texts.second.first.items (are sides.Second workers.First) second.first
+    each sides.Second workers.Second = told_each tells file other.know (share_of sides.Second workers.Second pieces) texts.second.second.items (are sides.Second workers.Second) second.second

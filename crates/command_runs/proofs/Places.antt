@@ -1,5 +1,5 @@
 -- The pieces of a manifest by node, worker and place, and the texts that stand there.
-use Rattle.std.proofs.Common.{◌≡◌, ◌∙◌, ◌++◌, ◌∷◌, [], ◌==◌, ◌+◌, ◌≤◌, ◌<◌, ◌≢◌, inl, inr, arith, ℕ, zero, suc, List, Option, Some, true, false, ap, ap₂, sym, refl, subst, length, append_assoc, get_or}
+use Rattle.std.proofs.Common.{◌≡◌, ◌∙◌, ◌++◌, ◌∷◌, [], ◌+◌, ◌≤◌, ◌<◌, ◌≢◌, inl, inr, arith, ℕ, zero, suc, List, Option, Some, ap, ap₂, sym, refl, subst, length, append_assoc, get_or}
 use Rattle.std.specs.Prelude.{Contains}
 use Rattle.std.specs.List.{All, slice_get}
 use Rattle.std.proofs.lemmas.List.{length-append}
@@ -10,7 +10,12 @@ use Rattle.dumpi_calls.specs.Collected.{AreSegments}
 use Rattle.dumpi_calls.specs.Whole.{SegmentsTellAll}
 use Rattle.trace_know.specs.Segment.{PlacedEvents}
 use Rattle.trace_know.specs.Trace.{Trace, view_of}
+use Rattle.trace_cluster.specs.declared.side.Side.{Side}
+use Rattle.trace_cluster.specs.declared.side.Side.TheVariants as sides
+use Rattle.trace_crew.specs.declared.inbox.item.Worker.{Worker}
+use Rattle.trace_crew.specs.declared.inbox.item.Worker.TheVariants as workers
 use Rattle.trace_crew.specs.declared.piece.Piece.{Piece}
+use Rattle.trace_crew.specs.Pieces.{place_of}
 use Rattle.trace_cluster.specs.Pieces.{IsForeign, IsWhole, IsWithin, Placed, all_pieces, placed_from}
 use Rattle.input_files.specs.Manifests.{PieceParts}
 use Rattle.command_runs.specs.Clusters.{AreSound, AreWhole, HaveStranger, IsOutside, by_node, piece_at}
@@ -23,7 +28,7 @@ use Rattle.command_runs.proofs.Traces.{facts_of_first}
 
 -- A placed text is that of a piece, which stands at that place of its share.
 abbrev pub IsAt : (List ℕ → Option (List ℕ)) → List PieceParts → Placed → PieceParts → Type 0
-IsAt file all text piece = IsTextOf file piece text.piece × (piece_at all (text.node == 0) (text.worker == 0) text.place ≡ Some piece)
+IsAt file all text piece = IsTextOf file piece text.piece × (piece_at all text.node text.at ≡ Some piece)
 
 abbrev pub AreAt : (List ℕ → Option (List ℕ)) → List PieceParts → List Placed → List PieceParts → Type 0
 AreAt file all [] [] = Unit {0}
@@ -44,13 +49,13 @@ get_at [] x back = refl
 get_at (y ∷ ys) x back = get_at ys x back
 
 -- the rest of a share, from a place on
-at_from : (file : List ℕ → Option (List ℕ)) (all : List PieceParts) (node worker place : ℕ) (front pieces : List PieceParts) (texts : List Piece)
-    → share_of (node == 0) (worker == 0) all ≡ front ++ pieces → place ≡ length front → AreTextsOf file pieces texts
+at_from : (file : List ℕ → Option (List ℕ)) (all : List PieceParts) (node : Side) (worker : Worker) (place : ℕ) (front pieces : List PieceParts) (texts : List Piece)
+    → share_of node worker all ≡ front ++ pieces → place ≡ length front → AreTextsOf file pieces texts
     → AreAt file all (placed_from node worker place texts) pieces
 at_from file all node worker place front [] texts cut at are =
     subst (λ (ts : List Piece). AreAt file all (placed_from node worker place ts) []) (sym are) tt
 at_from file all node worker place front (p ∷ ps) texts cut at are =
-    let here : piece_at all (node == 0) (worker == 0) place ≡ Some p =
+    let here : piece_at all node (place_of worker place) ≡ Some p =
     ap₂ (λ (qs : List PieceParts) (n : ℕ). slice_get qs n) cut at ∙ get_at front p ps in
     let next : place + 1 ≡ length (front ++ p ∷ []) = ap (λ (n : ℕ). n + 1) at ∙ sym (length-append front (p ∷ [])) in
     subst (λ (ts : List Piece). AreAt file all (placed_from node worker place ts) (p ∷ ps)) (sym are.4)
@@ -61,11 +66,11 @@ pub all_at : (file : List ℕ → Option (List ℕ)) (pieces : List PieceParts) 
 all_at file pieces texts are =
     at_both file pieces _ _ _ _
     (at_both file pieces _ _ _ _
-    (at_from file pieces 0 0 0 [] (share_of true true pieces) texts.first.first.items refl refl (are true true))
-    (at_from file pieces 0 1 0 [] (share_of true false pieces) texts.first.second.items refl refl (are true false)))
+    (at_from file pieces sides.First workers.First 0 [] (share_of sides.First workers.First pieces) texts.first.first.items refl refl (are sides.First workers.First))
+    (at_from file pieces sides.First workers.Second 0 [] (share_of sides.First workers.Second pieces) texts.first.second.items refl refl (are sides.First workers.Second)))
     (at_both file pieces _ _ _ _
-    (at_from file pieces 1 0 0 [] (share_of false true pieces) texts.second.first.items refl refl (are false true))
-    (at_from file pieces 1 1 0 [] (share_of false false pieces) texts.second.second.items refl refl (are false false)))
+    (at_from file pieces sides.Second workers.First 0 [] (share_of sides.Second workers.First pieces) texts.second.first.items refl refl (are sides.Second workers.First))
+    (at_from file pieces sides.Second workers.Second 0 [] (share_of sides.Second workers.Second pieces) texts.second.second.items refl refl (are sides.Second workers.Second)))
 
 -- one text, with those before it and its piece
 pub record Stands (file : List ℕ → Option (List ℕ)) (all : List PieceParts) (before : List Placed) (text : Placed) (pieces : List PieceParts) : Type 0 where

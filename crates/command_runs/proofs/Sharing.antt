@@ -1,10 +1,12 @@
 -- The texts of pieces, one piece more.
-use Rattle.std.proofs.Common.{◌≡◌, ◌∙◌, ◌++◌, ◌∷◌, [], ◌==◌, ◌&&◌, ℕ, List, Option, Bool, true, false, cond, ap, sym, refl, subst}
+use Rattle.std.proofs.Common.{◌≡◌, ◌∙◌, ◌++◌, ◌∷◌, [], ℕ, List, Option, Bool, true, false, cond, ap, sym, refl, subst}
 use Rattle.std.proofs.lemmas.List.{append-nil}
 use Rattle.std.proofs.lemmas.List.Elements.{filter-append}
+use Rattle.trace_cluster.specs.declared.side.Side.{Side}
+use Rattle.trace_crew.specs.declared.inbox.item.Worker.{Worker}
 use Rattle.trace_crew.specs.declared.piece.Piece.{Piece}
 use Rattle.input_files.specs.Manifests.{PieceParts}
-use Rattle.command_runs.specs.Texts.{AreShares, AreTextsOf, IsTextOf, is_same, is_share, share_in, share_of}
+use Rattle.command_runs.specs.Texts.{AreShares, AreTextsOf, IsTextOf, is_share, share_in, share_of}
 use Rattle.command_runs.specs.declared.texts.AllTexts.{AllTexts}
 
 texts_more : (file : List ℕ → Option (List ℕ)) (pieces : List PieceParts) (piece : PieceParts) (texts : List Piece) (text : Piece)
@@ -24,8 +26,8 @@ share_grown file false pieces piece texts text are is =
 
 -- what one piece more adds to each share
 abbrev pub Adds : PieceParts → Piece → AllTexts → AllTexts → Type 0
-Adds piece text old new = (node worker : Bool) → share_in new node worker
-    ≡ share_in old node worker ++ cond (is_same node (piece.node == 0) && is_same worker (piece.worker == 0)) (text ∷ []) []
+Adds piece text old new = (node : Side) (worker : Worker) → share_in new node worker
+    ≡ share_in old node worker ++ cond (is_share node worker piece) (text ∷ []) []
 
 pub shares_more : (file : List ℕ → Option (List ℕ)) (front pieces : List PieceParts) (piece : PieceParts) (old new : AllTexts) (text : Piece)
     → pieces ≡ front ++ piece ∷ [] → AreShares file front old → IsTextOf file piece text → Adds piece text old new → AreShares file pieces new

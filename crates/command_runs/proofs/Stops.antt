@@ -1,5 +1,5 @@
 -- Why the first piece is refused, and what else stops a cluster.
-use Rattle.std.proofs.Common.{◌≡◌, ◌==◌, [], inl, inr, ℕ, List, Option, Some, None, ap, sym, refl, subst}
+use Rattle.std.proofs.Common.{◌≡◌, [], inl, inr, ℕ, List, Option, Some, None, ap, sym, refl, subst}
 use Rattle.dumpi_calls.specs.Whole.{SegmentsTellAll}
 use Rattle.mpi_model.specs.Layouts.{Parts}
 use Rattle.trace_know.specs.Trace.{view_of}
@@ -9,9 +9,11 @@ use Rattle.trace_cluster.specs.declared.exchange.fault.ExchangeFault.TheVariants
 use Rattle.trace_wire.specs.declared.fault.WireFault.{WireFault}
 use Rattle.trace_wire.specs.declared.fault.WireFault.TheVariants as wires
 use Rattle.trace_crew.specs.declared.piece.Piece.{Piece}
+use Rattle.trace_crew.specs.declared.piece.PieceAt.{PieceAt}
 use Rattle.trace_crew.specs.declared.piece.PieceFault.{PieceFault}
 use Rattle.trace_crew.specs.declared.piece.PieceFault.TheVariants as causes
 use Rattle.trace_crew.specs.Pieces.{IsRefusedFor}
+use Rattle.trace_cluster.specs.declared.side.Side.{Side}
 use Rattle.trace_cluster.specs.declared.fault.ClusterFault.{ClusterFault}
 use Rattle.trace_cluster.specs.declared.fault.ClusterFault.TheVariants as clusters
 use Rattle.trace_cluster.specs.Pieces.{Placed, all_pieces, placed}
@@ -63,20 +65,20 @@ same_piece : (found : Option PieceParts) (one other : PieceParts) → found ≡ 
 same_piece found one other e f = cc (e, f)
 
 -- where the piece of the first fault stands
-pub stands_first : (file : List ℕ → Option (List ℕ)) (pieces : List PieceParts) (texts : AllTexts) (node worker place : ℕ) (fault : PieceFault) → AreShares file pieces texts
-    → (first : IsFirstFault (all_pieces texts.first texts.second) node worker place fault)
-    → Stands file pieces first.before (placed node worker place first.piece) (by_node pieces)
-stands_first file pieces texts node worker place fault are first =
-    stands_in file pieces first.before (placed node worker place first.piece) first.after (by_node pieces)
+pub stands_first : (file : List ℕ → Option (List ℕ)) (pieces : List PieceParts) (texts : AllTexts) (node : Side) (at : PieceAt) (fault : PieceFault) → AreShares file pieces texts
+    → (first : IsFirstFault (all_pieces texts.first texts.second) node at fault)
+    → Stands file pieces first.before (placed node at first.piece) (by_node pieces)
+stands_first file pieces texts node at fault are first =
+    stands_in file pieces first.before (placed node at first.piece) first.after (by_node pieces)
     (subst (λ (all : List Placed). AreAt file pieces all (by_node pieces)) first.all_are (all_at file pieces texts are))
 
 -- A piece is the first that is refused, and the fault of the run names it.
-pub first_refused : SegmentsTellAll → (file : List ℕ → Option (List ℕ)) (pieces : List PieceParts) (texts : AllTexts) (node worker place : ℕ) (fault : PieceFault) (run : RunFault)
-    → AreShares file pieces texts → IsFirstFault (all_pieces texts.first texts.second) node worker place fault
-    → (piece : PieceParts) × (piece_at pieces (node == 0) (worker == 0) place ≡ Some piece) × IsTextFault piece.file fault run
+pub first_refused : SegmentsTellAll → (file : List ℕ → Option (List ℕ)) (pieces : List PieceParts) (texts : AllTexts) (node : Side) (at : PieceAt) (fault : PieceFault) (run : RunFault)
+    → AreShares file pieces texts → IsFirstFault (all_pieces texts.first texts.second) node at fault
+    → (piece : PieceParts) × (piece_at pieces node at ≡ Some piece) × IsTextFault piece.file fault run
     → RefusesFirst file (by_node pieces) run
-first_refused tells file pieces texts node worker place fault run are first named =
-    let stands = stands_first file pieces texts node worker place fault are first in
+first_refused tells file pieces texts node at fault run are first named =
+    let stands = stands_first file pieces texts node at fault are first in
     let same : named.0 ≡ stands.piece = same_piece _ named.0 stands.piece named.1 stands.is_at.1 in
     let names : IsTextFault stands.piece.file fault run = subst (λ (p : PieceParts). IsTextFault p.file fault run) same named.2 in
     let trace = traced tells file pieces first.before stands.front stands.front_at first.whole in (
@@ -142,8 +144,8 @@ stopped tells file layout pieces texts clusters.Memory run are stops is = subst 
 stopped tells file layout pieces texts clusters.Worker run are stops is = subst (RefusesCrews file layout.ranks (by_node pieces)) (sym is) tt
 stopped tells file layout pieces texts clusters.Net run are stops is =
     subst (RefusesCrews file layout.ranks (by_node pieces)) (sym is) (sound tells file layout pieces texts are stops)
-stopped tells file layout pieces texts (clusters.Piece node worker place fault) run are stops is =
-    crews_refused file layout.ranks (by_node pieces) is.0.file fault run is.2 (first_refused tells file pieces texts node worker place fault run are stops is)
+stopped tells file layout pieces texts (clusters.Piece node at fault) run are stops is =
+    crews_refused file layout.ranks (by_node pieces) is.0.file fault run is.2 (first_refused tells file pieces texts node at fault run are stops is)
 stopped tells file layout pieces texts (clusters.Node nodes.Rank) run are stops is =
     subst (RefusesCrews file layout.ranks (by_node pieces)) (sym is) (inl (stranger tells file layout pieces texts are stops.0 stops.1))
 stopped tells file layout pieces texts (clusters.Node nodes.Memory) run are stops is = subst (RefusesCrews file layout.ranks (by_node pieces)) (sym is) tt
@@ -159,8 +161,8 @@ pub named_one : (file : List ℕ → Option (List ℕ)) (layout : Parts) (pieces
 named_one file layout pieces texts clusters.Memory are stops = tt
 named_one file layout pieces texts clusters.Worker are stops = tt
 named_one file layout pieces texts clusters.Net are stops = tt
-named_one file layout pieces texts (clusters.Piece node worker place fault) are stops =
-    let stands = stands_first file pieces texts node worker place fault are stops in
+named_one file layout pieces texts (clusters.Piece node at fault) are stops =
+    let stands = stands_first file pieces texts node at fault are stops in
     (stands.piece, stands.is_at.1)
 named_one file layout pieces texts (clusters.Node fault) are stops = tt
 named_one file layout pieces texts (clusters.Lead fault) are stops = tt

@@ -1,5 +1,5 @@
 -- What a cluster of two nodes prints, and why it is refused.
-use Rattle.std.specs.Prelude.{◌≡◌, ◌≢◌, ◌≤◌, ◌⊎◌, ◌++◌, ◌==◌, ℕ, Bool, true, false, List, [], Option, Some, codes, Contains, ⊤}
+use Rattle.std.specs.Prelude.{◌≡◌, ◌≢◌, ◌≤◌, ◌⊎◌, ◌++◌, ℕ, List, [], Option, Some, codes, Contains, ⊤}
 use Rattle.std.specs.List.{All, slice_get}
 use Rattle.mpi_model.specs.Layouts.{Parts}
 use Rattle.trace_know.specs.Trace.{Trace, view_of}
@@ -12,8 +12,12 @@ use Rattle.trace_cluster.specs.declared.exchange.fault.ExchangeFault.{ExchangeFa
 use Rattle.trace_cluster.specs.declared.exchange.fault.ExchangeFault.TheVariants as exchanges
 use Rattle.trace_wire.specs.declared.fault.WireFault.{WireFault}
 use Rattle.trace_wire.specs.declared.fault.WireFault.TheVariants as wires
+use Rattle.trace_crew.specs.declared.inbox.item.Worker.TheVariants as workers
+use Rattle.trace_crew.specs.declared.piece.PieceAt.{PieceAt}
 use Rattle.trace_crew.specs.declared.piece.PieceFault.{PieceFault}
 use Rattle.trace_crew.specs.declared.piece.PieceFault.TheVariants as causes
+use Rattle.trace_cluster.specs.declared.side.Side.{Side}
+use Rattle.trace_cluster.specs.declared.side.Side.TheVariants as sides
 use Rattle.trace_cluster.specs.declared.fault.ClusterFault.{ClusterFault}
 use Rattle.trace_cluster.specs.declared.fault.ClusterFault.TheVariants as clusters
 use Rattle.input_files.specs.Layouts.{RefusesLayout}
@@ -22,7 +26,7 @@ use Rattle.command_runs.specs.Inputs.{RefusesInput, TellsLayout, TellsManifest}
 use Rattle.command_runs.specs.Pieces.{IsNamed, IsWalkFault, TellsFacts}
 use Rattle.command_runs.specs.Refusals.{RefusesFirst}
 use Rattle.command_runs.specs.Replays.{node_text}
-use Rattle.command_runs.specs.Texts.{RefusesBytes, share_of}
+use Rattle.command_runs.specs.Texts.{RefusesBytes, share_of, side_of}
 use Rattle.command_runs.specs.Traces.{IsInside, IsKnown}
 use Rattle.command_runs.specs.declared.fault.RunFault.{RunFault}
 use Rattle.command_runs.specs.declared.fault.RunFault.TheVariants as faults
@@ -30,14 +34,14 @@ use Rattle.command_runs.specs.declared.fault.RunFault.TheVariants as faults
 -- ---- nodes
 
 -- what one of two nodes knows: the first, or the second
-abbrev pub known_by : Held → Held → Bool → View
-known_by one other true = one.know
-known_by one other false = other.know
+abbrev pub known_by : Held → Held → Side → View
+known_by one other sides.First = one.know
+known_by one other sides.Second = other.know
 
 -- All that the piece tells is known to the node that it names.
 abbrev pub IsKnownTo : (List ℕ → Option (List ℕ)) → Held → Held → PieceParts → Type 0
 IsKnownTo file one other piece = (facts : Trace) × TellsFacts (file piece.file) piece.rank piece.first facts
-    × IsBelow (view_of facts) (known_by one other (piece.node == 0))
+    × IsBelow (view_of facts) (known_by one other (side_of piece.node))
 
 -- Two nodes of the layout, each of which knows its own pieces of the manifest.
 abbrev pub AreClusterNodes : (List ℕ → Option (List ℕ)) → Parts → List ℕ → Held → Held → Type 0
@@ -68,7 +72,8 @@ IsClusterOf file layout manifest text = (l : Parts) × (one other : Held) × (a 
 
 -- the pieces by node, by worker, and then in the manifest's order
 abbrev pub by_node : List PieceParts → List PieceParts
-by_node pieces = (share_of true true pieces ++ share_of true false pieces) ++ (share_of false true pieces ++ share_of false false pieces)
+by_node pieces = (share_of sides.First workers.First pieces ++ share_of sides.First workers.Second pieces)
+    ++ (share_of sides.Second workers.First pieces ++ share_of sides.Second workers.Second pieces)
 
 -- The pieces are whole: what they tell together is known.
 abbrev pub AreWhole : (List ℕ → Option (List ℕ)) → List PieceParts → Type 0
@@ -138,12 +143,12 @@ of_exchange (exchanges.Read fault) = of_wire fault
 of_exchange (exchanges.Merge fault) = of_node fault
 
 -- the piece at a place of a node's worker
-abbrev pub piece_at : List PieceParts → Bool → Bool → ℕ → Option PieceParts
-piece_at pieces of_first by_first place = slice_get (share_of of_first by_first pieces) place
+abbrev pub piece_at : List PieceParts → Side → PieceAt → Option PieceParts
+piece_at pieces node at = slice_get (share_of node at.worker pieces) at.place
 
 -- A fault of a piece names one of these.
 abbrev pub NamesOne : List PieceParts → ClusterFault → Type 0
-NamesOne pieces (clusters.Piece node worker place fault) = (piece : PieceParts) × (piece_at pieces (node == 0) (worker == 0) place ≡ Some piece)
+NamesOne pieces (clusters.Piece node at fault) = (piece : PieceParts) × (piece_at pieces node at ≡ Some piece)
 NamesOne pieces fault = ⊤
 
 -- The fault of a run stands for that of a cluster of these pieces.
@@ -151,8 +156,8 @@ abbrev pub IsFaultFor : List PieceParts → ClusterFault → RunFault → Type 0
 IsFaultFor pieces clusters.Memory run = run ≡ faults.Memory
 IsFaultFor pieces clusters.Worker run = run ≡ faults.Worker
 IsFaultFor pieces clusters.Net run = run ≡ faults.Net
-IsFaultFor pieces (clusters.Piece node worker place fault) run = (piece : PieceParts)
-    × (piece_at pieces (node == 0) (worker == 0) place ≡ Some piece) × IsTextFault piece.file fault run
+IsFaultFor pieces (clusters.Piece node at fault) run = (piece : PieceParts)
+    × (piece_at pieces node at ≡ Some piece) × IsTextFault piece.file fault run
 IsFaultFor pieces (clusters.Node fault) run = run ≡ of_node fault
 IsFaultFor pieces (clusters.Lead fault) run = run ≡ of_exchange fault
 IsFaultFor pieces (clusters.Follow fault) run = run ≡ of_exchange fault

@@ -1,7 +1,12 @@
 -- The texts of pieces, by the node and the worker that they name.
-use Rattle.std.specs.Prelude.{◌≡◌, ◌⊎◌, ◌&&◌, ◌==◌, ℕ, Bool, true, false, List, [], ◌∷◌, Option}
+use Rattle.std.specs.Prelude.{◌≡◌, ◌⊎◌, ◌&&◌, ◌==◌, ℕ, Bool, true, false, List, [], ◌∷◌, Option, if◌then◌else◌}
 use Rattle.std.specs.List.{filter}
+use Rattle.trace_cluster.specs.declared.side.Side.{Side}
+use Rattle.trace_cluster.specs.declared.side.Side.TheVariants as sides
+use Rattle.trace_crew.specs.declared.inbox.item.Worker.{Worker}
+use Rattle.trace_crew.specs.declared.inbox.item.Worker.TheVariants as workers
 use Rattle.trace_crew.specs.declared.piece.Piece.{Piece}
+use Rattle.trace_crew.specs.Views.{is_from}
 use Rattle.input_files.specs.Manifests.{PieceParts}
 use Rattle.command_runs.specs.Files.{IsFile}
 use Rattle.command_runs.specs.Inputs.{RefusesFile}
@@ -10,27 +15,34 @@ use Rattle.command_runs.specs.declared.fault.RunFault.{RunFault}
 use Rattle.command_runs.specs.declared.fault.RunFault.TheVariants.{Memory}
 use Rattle.command_runs.specs.declared.texts.AllTexts.{AllTexts}
 
--- both are first, or both second
-abbrev pub is_same : Bool → Bool → Bool
-is_same true true = true
-is_same true false = false
-is_same false true = false
-is_same false false = true
+-- the node of a number, and the worker: 0 is the first
+abbrev pub side_of : ℕ → Side
+side_of node = if node == 0 then sides.First else sides.Second
 
--- The piece is one of the first node, or of the second; and one of that node's first worker, or of its second.
-abbrev pub is_share : Bool → Bool → PieceParts → Bool
-is_share of_first by_first piece = is_same of_first (piece.node == 0) && is_same by_first (piece.worker == 0)
+abbrev pub worker_of : ℕ → Worker
+worker_of worker = if worker == 0 then workers.First else workers.Second
+
+-- whether the two are one node
+abbrev pub is_side : Side → Side → Bool
+is_side sides.First sides.First = true
+is_side sides.First sides.Second = false
+is_side sides.Second sides.First = false
+is_side sides.Second sides.Second = true
+
+-- The piece names this node and this worker.
+abbrev pub is_share : Side → Worker → PieceParts → Bool
+is_share node worker piece = is_side node (side_of piece.node) && is_from worker (worker_of piece.worker)
 
 -- those among these pieces, in their order
-abbrev pub share_of : Bool → Bool → List PieceParts → List PieceParts
-share_of of_first by_first pieces = filter (is_share of_first by_first) pieces
+abbrev pub share_of : Side → Worker → List PieceParts → List PieceParts
+share_of node worker pieces = filter (is_share node worker) pieces
 
 -- the texts of a node's worker
-abbrev pub share_in : AllTexts → Bool → Bool → List Piece
-share_in texts true true = texts.first.first.items
-share_in texts true false = texts.first.second.items
-share_in texts false true = texts.second.first.items
-share_in texts false false = texts.second.second.items
+abbrev pub share_in : AllTexts → Side → Worker → List Piece
+share_in texts sides.First workers.First = texts.first.first.items
+share_in texts sides.First workers.Second = texts.first.second.items
+share_in texts sides.Second workers.First = texts.second.first.items
+share_in texts sides.Second workers.Second = texts.second.second.items
 
 -- The piece has its rank, its first call and the bytes of its file.
 abbrev pub IsTextOf : (List ℕ → Option (List ℕ)) → PieceParts → Piece → Type 0
@@ -44,7 +56,7 @@ AreTextsOf file (piece ∷ pieces) texts = (text : Piece) × (rest : List Piece)
 
 -- Each worker of each node has the texts of its pieces.
 abbrev pub AreShares : (List ℕ → Option (List ℕ)) → List PieceParts → AllTexts → Type 0
-AreShares file pieces texts = (of_first by_first : Bool) → AreTextsOf file (share_of of_first by_first pieces) (share_in texts of_first by_first)
+AreShares file pieces texts = (node : Side) (worker : Worker) → AreTextsOf file (share_of node worker pieces) (share_in texts node worker)
 
 -- The file of a piece can't be read whole.
 abbrev pub RefusesBytes : List PieceParts → RunFault → Type 0

@@ -4,9 +4,10 @@
 ghost use Rattle.std.specs.Prelude.{◌≡◌, ◌⊎◌, ◌==◌, ℕ, false, true, IfErr, IfOk, List, OnErr, OnOk, option_map};
 ghost use Rattle.std.specs.Io.KnownBytes.{Appends, Keeps};
 ghost use Rattle.mpi_model.specs.Failures.{HasFailed};
+ghost use Rattle.trace_crew.specs.Views.{is_from};
 ghost use Rattle.command_runs.specs.Clusters.{AreClusterNodes, IsBothText, IsClusterOf, IsEqualLine, IsFaultFor, IsTextFault, NamesOne, RefusesCluster, RefusesClusterNodes, SayBoth, of_exchange, of_node, of_wire, piece_at};
 ghost use Rattle.command_runs.specs.Replays.{AppendsFront};
-ghost use Rattle.command_runs.specs.Texts.{is_share};
+ghost use Rattle.command_runs.specs.Texts.{is_share, is_side};
 ghost use Rattle.command_runs.specs.Verbs.{BreaksOff};
 
 use crate::answerer::Answerer;
@@ -15,7 +16,7 @@ use crate::input::{layout_at, manifest_at};
 use crate::opener::Opener;
 use crate::piece::refusal;
 use crate::replay::{write_node, write_piece};
-use crate::texts::texts_of_all;
+use crate::texts::{side_of, texts_of_all, worker_of};
 use command_line::Verb;
 use dumpi_calls::whole_segments;
 use input_files::Piece;
@@ -24,8 +25,8 @@ use std::alloc::{AllocError, Global};
 use std::net::{Net, TcpListener, TcpStream};
 use std::sync::Wait;
 use std::thread::Threads;
-use trace_cluster::{ClusterFault, ExchangeFault, cluster};
-use trace_crew::PieceFault;
+use trace_cluster::{ClusterFault, ExchangeFault, Side, cluster};
+use trace_crew::{PieceAt, PieceFault, Worker};
 use trace_node::{Answer, Node, NodeFault};
 use trace_wire::WireFault;
 
@@ -108,30 +109,20 @@ fn fault_of(alloc: Global, pieces: &[Piece], fault: ClusterFault) -> Result<RunF
         ClusterFault::Node(fault) => Ok(of_node(fault)),
         ClusterFault::Lead(fault) => Ok(of_exchange(fault)),
         ClusterFault::Follow(fault) => Ok(of_exchange(fault)),
-        ClusterFault::Piece {
-            node,
-            worker,
-            piece,
-            fault,
-        } => match piece_at(pieces, node == 0, worker == 0, piece) {
+        ClusterFault::Piece { node, at, fault } => match piece_at(pieces, node, at) {
             Some(piece) => of_text(alloc, piece.file(), fault),
             None => unreachable!(),
         },
     }
 }
 
-// The piece at a place among those of a worker of a node.
-fn piece_at<'a>(
-    pieces: &'a [Piece],
-    of_first: bool,
-    by_first: bool,
-    place: u64,
-) -> Option<&'a Piece>
-    ensures { option_map (λ piece. piece.now) result ≡ piece_at pieces.entry.now of_first by_first place }
+// The piece at a place of a worker of a node.
+fn piece_at(pieces: &[Piece], node: Side, at: PieceAt) -> Option<&Piece>
+    ensures { option_map (λ piece. piece.now) result ≡ piece_at pieces.entry.now node at }
 {
-    let mut left = place;
+    let mut left = at.place;
     for piece in pieces {
-        if is_share(piece, of_first, by_first) {
+        if is_share(piece, node, at.worker) {
             if left == 0 {
                 return Some(piece);
             }
@@ -141,10 +132,31 @@ fn piece_at<'a>(
     None
 }
 
-fn is_share(piece: &Piece, of_first: bool, by_first: bool) -> bool
-    ensures { result ≡ is_share of_first by_first piece.now }
+// Whether the piece is one of this worker of this node.
+fn is_share(piece: &Piece, node: Side, worker: Worker) -> bool
+    ensures { result ≡ is_share node worker piece.now }
 {
-    (piece.node() == 0) == of_first && (piece.worker() == 0) == by_first
+    is_side(node, side_of(piece)) && is_worker(worker, worker_of(piece))
+}
+
+// Whether the two are one node.
+fn is_side(one: Side, other: Side) -> bool
+    ensures { result ≡ is_side one other }
+{
+    match (one, other) {
+        (Side::First, Side::First) | (Side::Second, Side::Second) => true,
+        (Side::First, Side::Second) | (Side::Second, Side::First) => false,
+    }
+}
+
+// Whether the two are one worker.
+fn is_worker(one: Worker, other: Worker) -> bool
+    ensures { result ≡ is_from one other }
+{
+    match (one, other) {
+        (Worker::First, Worker::First) | (Worker::Second, Worker::Second) => true,
+        (Worker::First, Worker::Second) | (Worker::Second, Worker::First) => false,
+    }
 }
 
 // The fault of a text of this file.

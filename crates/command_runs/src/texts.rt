@@ -1,7 +1,10 @@
 //! The texts of all pieces, by the node and the worker that they name.
 
-ghost use Rattle.std.specs.Prelude.{◌≡◌, ◌++◌, ◌∷◌, ◌&&◌, [], Bool, if◌then◌else◌, IfErr, IfOk, OnOk};
-ghost use Rattle.command_runs.specs.Texts.{AreShares, RefusesBytes, is_same, share_in};
+ghost use Rattle.std.specs.Prelude.{◌≡◌, ◌++◌, ◌∷◌, ◌&&◌, [], if◌then◌else◌, IfErr, IfOk, OnOk};
+ghost use Rattle.trace_cluster.specs.declared.side.Side.{Side as SideValue};
+ghost use Rattle.trace_crew.specs.Views.{is_from};
+ghost use Rattle.trace_crew.specs.declared.inbox.item.Worker.{Worker as WorkerValue};
+ghost use Rattle.command_runs.specs.Texts.{AreShares, RefusesBytes, is_side, share_in, side_of, worker_of};
 
 use crate::fault::RunFault;
 use crate::input::file_at;
@@ -9,8 +12,8 @@ use crate::opener::Opener;
 use crate::whole::LONGEST_PIECE;
 use input_files::Piece;
 use std::alloc::{AllocError, Global};
-use trace_cluster::Workload;
-use trace_crew::Piece as TextPiece;
+use trace_cluster::{Side, Workload};
+use trace_crew::{Piece as TextPiece, Worker};
 
 /// The texts of two nodes, of each by the worker who reads them.
 #[derive(Drop)]
@@ -21,7 +24,7 @@ pub struct AllTexts {
 
 impl AllTexts {
     fn new(alloc: Global) -> AllTexts
-        ensures { (of_first by_first : Bool) → share_in result of_first by_first ≡ [] }
+        ensures { (node : SideValue) (worker : WorkerValue) → share_in result node worker ≡ [] }
     {
         AllTexts {
             first: Workload {
@@ -35,17 +38,39 @@ impl AllTexts {
         }
     }
 
-    // Adds a text for the first node or the second, and for its first worker or its second.
-    fn add(&mut self, of_first: bool, by_first: bool, text: TextPiece) -> Result<(), AllocError>
-        ensures { OnOk result ((node worker : Bool) → share_in self.new node worker ≡ share_in self.old node worker ++ (if is_same node of_first && is_same worker by_first then text ∷ [] else [])) }
+    // Adds a text for a worker of a node.
+    fn add(&mut self, node: Side, worker: Worker, text: TextPiece) -> Result<(), AllocError>
+        ensures { OnOk result ((one : SideValue) (by : WorkerValue) → share_in self.new one by ≡ share_in self.old one by ++ (if is_side one node && is_from by worker then text ∷ [] else [])) }
     {
-        match (of_first, by_first) {
-            (true, true) => self.first.first.push(text)?,
-            (true, false) => self.first.second.push(text)?,
-            (false, true) => self.second.first.push(text)?,
-            (false, false) => self.second.second.push(text)?,
+        match (node, worker) {
+            (Side::First, Worker::First) => self.first.first.push(text)?,
+            (Side::First, Worker::Second) => self.first.second.push(text)?,
+            (Side::Second, Worker::First) => self.second.first.push(text)?,
+            (Side::Second, Worker::Second) => self.second.second.push(text)?,
         }
         Ok(())
+    }
+}
+
+/// The node that a piece names.
+pub fn side_of(piece: &Piece) -> Side
+    ensures { result ≡ side_of piece.now.node }
+{
+    if piece.node() == 0 {
+        Side::First
+    } else {
+        Side::Second
+    }
+}
+
+/// The worker that a piece names.
+pub fn worker_of(piece: &Piece) -> Worker
+    ensures { result ≡ worker_of piece.now.worker }
+{
+    if piece.worker() == 0 {
+        Worker::First
+    } else {
+        Worker::Second
     }
 }
 
@@ -66,8 +91,8 @@ pub fn texts_of_all<O: Opener>(
         };
         let (rank, first) = (piece.rank(), piece.first());
         texts.add(
-            piece.node() == 0,
-            piece.worker() == 0,
+            side_of(piece),
+            worker_of(piece),
             TextPiece { rank, first, text },
         )?;
     }

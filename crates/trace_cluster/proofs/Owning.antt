@@ -1,5 +1,5 @@
 -- What a node's crew has joined the node knows, and keeps.
-use Rattle.std.proofs.Common.{◌≡◌, ℕ, List, [], ◌∷◌, ◌++◌, Option, Some, None, refl, sym, ap, ◌∙◌, subst}
+use Rattle.std.proofs.Common.{◌≡◌, List, [], ◌∷◌, ◌++◌, Option, Some, None, refl, sym, ap, ◌∙◌, subst}
 use Rattle.std.specs.List.{All, AllByRecursion, flat_map}
 use Rattle.std.specs.FinMap.{empty}
 use Rattle.std.proofs.lemmas.List.Elements.{All-from_recursion, All-weaker}
@@ -11,12 +11,11 @@ use Rattle.trace_node.specs.Node.{Held}
 use Rattle.trace_node.specs.declared.fault.NodeFault.{NodeFault}
 use Rattle.trace_crew.specs.declared.inbox.item.Worker.{Worker}
 use Rattle.trace_crew.specs.declared.inbox.item.Worker.TheVariants.{First, Second}
-use Rattle.trace_crew.specs.Views.{number_of}
 use Rattle.trace_crew.specs.declared.piece.Piece.{Piece}
 use Rattle.trace_crew.specs.declared.threads.CrewOut.{CrewOut}
 use Rattle.trace_crew.specs.Crewed.{IsCrewOut, segments_by}
 use Rattle.trace_crew.specs.Pieces.{Gave}
-use Rattle.trace_crew.specs.Taking.{Taken, joined_for, joined_in, refused_for, refused_in}
+use Rattle.trace_crew.specs.Taking.{Taken, joined_for, joined_in, refused_as, refused_for, refused_in}
 use Rattle.trace_cluster.specs.declared.workload.Workload.{Workload}
 use Rattle.trace_cluster.specs.Clustered.{KnowsOwn, KnowsPiece}
 use Rattle.trace_cluster.specs.Meeting.{IsMore}
@@ -27,7 +26,7 @@ use Rattle.trace_cluster.proofs.Taking.{by_worker}
 -- a segment that isn't listed was joined
 all_joined : (from : Worker) (segment : PlacedEvents) (fault : Option NodeFault) → refused_for from segment fault ≡ [] → joined_for segment fault ≡ facts_of segment
 all_joined from segment None e = refl
-all_joined from segment (Some fault) e = absurd (no_element (number_of from, segment, fault) [] e)
+all_joined from segment (Some fault) e = absurd (no_element (refused_as from segment fault) [] e)
 
 -- the facts of a segment are known
 abbrev IsKnown : View → PlacedEvents → Type 0
@@ -69,7 +68,7 @@ module _
   all_known (s ∷ ss) know h =
       subst (λ (v : View). IsBelow v know) (sym (union (facts_of s) (flat_map facts_of ss))) (least (view_of (facts_of s)) (view_of (flat_map facts_of ss)) know h.0 (all_known ss know h.1))
 
-  worker_known : (know : View) (worker : ℕ) (pieces : List Piece) (segments : List PlacedEvents) (faults : Faults) → Gave worker pieces segments faults → faults ≡ [] → AllByRecursion (IsKnown know) segments
+  worker_known : (know : View) (worker : Worker) (pieces : List Piece) (segments : List PlacedEvents) (faults : Faults) → Gave worker pieces segments faults → faults ≡ [] → AllByRecursion (IsKnown know) segments
       → All (KnowsPiece know) pieces
   worker_known know worker pieces segments faults gave none h =
       All-weaker (Found (IsKnown know)) (KnowsPiece know) (λ p f. (f.0, f.1, all_known f.0 know f.2)) pieces
@@ -85,8 +84,8 @@ module _
       record {
         layout_is = more.layout_is ∙ is.layout_is;
         fresh = more.fresh;
-        first = worker_known node.know 0 load.first.items (segments_by First is.taken) is.first_faults is.first_gave (nil_first is.first_faults is.second_faults none)
+        first = worker_known node.know First load.first.items (segments_by First is.taken) is.first_faults is.first_gave (nil_first is.first_faults is.second_faults none)
             (by_worker (IsKnown node.know) First is.taken known);
-        second = worker_known node.know 1 load.second.items (segments_by Second is.taken) is.second_faults is.second_gave (nil_rest is.first_faults is.second_faults none)
+        second = worker_known node.know Second load.second.items (segments_by Second is.taken) is.second_faults is.second_gave (nil_rest is.first_faults is.second_faults none)
             (by_worker (IsKnown node.know) Second is.taken known);
       }

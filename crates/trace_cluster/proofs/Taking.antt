@@ -7,9 +7,10 @@ use Rattle.trace_know.specs.Segment.{PlacedEvents}
 use Rattle.trace_node.specs.declared.fault.NodeFault.{NodeFault}
 use Rattle.trace_crew.specs.declared.inbox.item.Worker.{Worker}
 use Rattle.trace_crew.specs.declared.inbox.item.Worker.TheVariants.{First, Second}
-use Rattle.trace_crew.specs.Views.{is_from, number_of}
+use Rattle.trace_crew.specs.declared.owner.Refusal.{Refusal}
+use Rattle.trace_crew.specs.Views.{is_from}
 use Rattle.trace_crew.specs.Crewed.{segments_by}
-use Rattle.trace_crew.specs.Taking.{IsFair, IsFairFor, Refusal, Taken, refused_for, refused_in, taken_as}
+use Rattle.trace_crew.specs.Taking.{IsFair, IsFairFor, Taken, refused_as, refused_for, refused_in, taken_as}
 use Rattle.trace_cluster.proofs.Lists.{contains_first, nil_first, nil_rest, no_element, same_first}
 
 -- the segments of what was taken
@@ -31,7 +32,7 @@ by_worker P w (t ∷ ts) h = one_more P (is_from w t.from) t (filter (λ (u : Ta
 
 in_ranks : (layout : Parts) (from : Worker) (segment : PlacedEvents) (fault : Option NodeFault) → IsFairFor layout segment.rank fault → refused_for from segment fault ≡ [] → segment.rank < layout.ranks
 in_ranks layout from segment None fair e = fair
-in_ranks layout from segment (Some fault) fair e = absurd (no_element (number_of from, segment, fault) [] e)
+in_ranks layout from segment (Some fault) fair e = absurd (no_element (refused_as from segment fault) [] e)
 
 -- Where no segment was refused, all are of the layout's ranks.
 pub all_in_ranks : (layout : Parts) (taken : List Taken) → AllByRecursion (IsFair layout) taken → flat_map refused_in taken ≡ [] → AllByRecursion (λ (t : Taken). t.segment.rank < layout.ranks) taken
@@ -54,15 +55,15 @@ this_one layout First segment fault ts fair = (First, segment, contains_first se
 this_one layout Second segment fault ts fair = (Second, segment, contains_first segment (segments_by Second ts), fair)
 
 this_or_later : (layout : Parts) (from : Worker) (segment : PlacedEvents) (fault : Option NodeFault) (ts : List Taken) (r : Refusal) (rest : List Refusal)
-    → IsFairFor layout segment.rank fault → refused_for from segment fault ++ flat_map refused_in ts ≡ r ∷ rest → (flat_map refused_in ts ≡ r ∷ rest → IsRefusedAmong layout ts r.2)
-    → IsRefusedAmong layout (taken_as from segment fault ∷ ts) r.2
+    → IsFairFor layout segment.rank fault → refused_for from segment fault ++ flat_map refused_in ts ≡ r ∷ rest → (flat_map refused_in ts ≡ r ∷ rest → IsRefusedAmong layout ts r.fault)
+    → IsRefusedAmong layout (taken_as from segment fault ∷ ts) r.fault
 this_or_later layout from segment None ts r rest fair e later =
     let h = later e in
     (h.0, h.1, contains_more (is_from h.0 from) (taken_as from segment None) (filter (λ (u : Taken). is_from h.0 u.from) ts) h.1 h.2, h.3)
 this_or_later layout from segment (Some fault) ts r rest fair e later =
-    subst (λ (q : Refusal). IsRefusedAmong layout (taken_as from segment (Some fault) ∷ ts) q.2) (same_first (number_of from, segment, fault) r (flat_map refused_in ts) rest e) (this_one layout from segment fault ts fair)
+    subst (λ (q : Refusal). IsRefusedAmong layout (taken_as from segment (Some fault) ∷ ts) q.fault) (same_first (refused_as from segment fault) r (flat_map refused_in ts) rest e) (this_one layout from segment fault ts fair)
 
 -- Of the segments that were taken there is one that was refused as the first of the list is.
-pub first_refused : (layout : Parts) (taken : List Taken) (r : Refusal) (rest : List Refusal) → AllByRecursion (IsFair layout) taken → flat_map refused_in taken ≡ r ∷ rest → IsRefusedAmong layout taken r.2
+pub first_refused : (layout : Parts) (taken : List Taken) (r : Refusal) (rest : List Refusal) → AllByRecursion (IsFair layout) taken → flat_map refused_in taken ≡ r ∷ rest → IsRefusedAmong layout taken r.fault
 first_refused layout [] r rest fair e = absurd (no_element r rest (sym e))
 first_refused layout (t ∷ ts) r rest fair e = this_or_later layout t.from t.segment t.fault ts r rest fair.0 e (first_refused layout ts r rest fair.1)

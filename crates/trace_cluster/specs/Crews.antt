@@ -1,15 +1,17 @@
 -- What stops a cluster among what two crews leave.
-use Rattle.std.specs.Prelude.{◌≡◌, ℕ, Result, Ok, Err, List, [], ◌∷◌, ◌++◌, ◌⊎◌, ⊤}
+use Rattle.std.specs.Prelude.{◌≡◌, Result, Ok, Err, List, [], ◌∷◌, ◌++◌, ◌⊎◌, ⊤}
 use Rattle.trace_know.specs.View.{View}
 use Rattle.trace_node.specs.declared.fault.NodeFault.{NodeFault}
 use Rattle.trace_cluster.specs.declared.exchange.fault.ExchangeFault.TheVariants.{Merge}
 use Rattle.trace_cluster.specs.declared.exchange.fault.ExchangeFault.{ExchangeFault}
-use Rattle.trace_crew.specs.declared.piece.PieceFault.{PieceFault}
+use Rattle.trace_crew.specs.declared.piece.FaultyPiece.{FaultyPiece}
 use Rattle.trace_crew.specs.declared.threads.CrewFault.{CrewFault}
 use Rattle.trace_crew.specs.declared.threads.CrewFault.TheVariants as crews
 use Rattle.trace_crew.specs.declared.threads.CrewOut.{CrewOut}
-use Rattle.trace_crew.specs.Taking.{Refusal}
+use Rattle.trace_crew.specs.declared.owner.Refusal.{Refusal}
 use Rattle.trace_cluster.specs.declared.fault.ClusterFault.{ClusterFault}
+use Rattle.trace_cluster.specs.declared.side.Side.{Side}
+use Rattle.trace_cluster.specs.declared.side.Side.TheVariants as sides
 use Rattle.trace_cluster.specs.declared.fault.ClusterFault.TheVariants.{Worker, Memory, Piece, Node, Net, Lead, Follow}
 
 -- the fault of a crew as one of the cluster
@@ -18,22 +20,22 @@ of_crew crews.Worker = Worker
 of_crew crews.Memory = Memory
 
 -- It is the first of a node's faulty pieces.
-abbrev pub IsFirstPiece : ℕ → List (ℕ × ℕ × PieceFault) → ClusterFault → Type 0
-IsFirstPiece node faults fault = (first : ℕ × ℕ × PieceFault) × (rest : List (ℕ × ℕ × PieceFault)) × (faults ≡ first ∷ rest) × (fault ≡ Piece node first.0 first.1 first.2)
+abbrev pub IsFirstPiece : Side → List FaultyPiece → ClusterFault → Type 0
+IsFirstPiece node faults fault = (first : FaultyPiece) × (rest : List FaultyPiece) × (faults ≡ first ∷ rest) × (fault ≡ Piece node first.at first.fault)
 
 -- It is why the first of these segments was refused.
 abbrev pub IsFirstRefusal : List Refusal → ClusterFault → Type 0
-IsFirstRefusal refused fault = (first : Refusal) × (rest : List Refusal) × (refused ≡ first ∷ rest) × (fault ≡ Node first.2)
+IsFirstRefusal refused fault = (first : Refusal) × (rest : List Refusal) × (refused ≡ first ∷ rest) × (fault ≡ Node first.fault)
 
 -- Of the faulty pieces and the refused segments of two nodes it is the first that stops a cluster: a piece by node,
 -- worker and place, and where all pieces are whole a refused segment by node and in the order of taking.
-abbrev pub Stops : List (ℕ × ℕ × PieceFault) → List (ℕ × ℕ × PieceFault) → List Refusal → List Refusal → ClusterFault → Type 0
-Stops faults others refused later fault = IsFirstPiece 0 faults fault
-    ⊎ ((faults ≡ []) × IsFirstPiece 1 others fault)
+abbrev pub Stops : List FaultyPiece → List FaultyPiece → List Refusal → List Refusal → ClusterFault → Type 0
+Stops faults others refused later fault = IsFirstPiece sides.First faults fault
+    ⊎ ((faults ≡ []) × IsFirstPiece sides.Second others fault)
     ⊎ (((faults ≡ []) × (others ≡ [])) × IsFirstRefusal (refused ++ later) fault)
 
 -- There are none of them.
-abbrev pub IsClean : List (ℕ × ℕ × PieceFault) → List (ℕ × ℕ × PieceFault) → List Refusal → List Refusal → Type 0
+abbrev pub IsClean : List FaultyPiece → List FaultyPiece → List Refusal → List Refusal → Type 0
 IsClean faults others refused later = ((faults ≡ []) × (others ≡ [])) × (refused ≡ []) × (later ≡ [])
 
 -- no piece of two crews has a fault

@@ -2,32 +2,36 @@
 use Rattle.std.specs.Prelude.{ℕ, ◌+◌, ◌<◌, ◌≤◌, List, [], ◌∷◌, ◌++◌, All, Contains}
 use Rattle.mpi_model.specs.Layouts.{Parts}
 use Rattle.trace_know.specs.Segment.{PlacedEvents}
+use Rattle.trace_crew.specs.declared.inbox.item.Worker.{Worker}
+use Rattle.trace_crew.specs.declared.inbox.item.Worker.TheVariants.{First, Second}
 use Rattle.trace_crew.specs.declared.piece.Piece.{Piece}
-use Rattle.trace_crew.specs.Pieces.{GivesSegments}
+use Rattle.trace_crew.specs.declared.piece.PieceAt.{PieceAt}
+use Rattle.trace_crew.specs.Pieces.{GivesSegments, place_of}
+use Rattle.trace_cluster.specs.declared.side.Side.{Side}
+use Rattle.trace_cluster.specs.declared.side.Side.TheVariants as sides
 use Rattle.trace_cluster.specs.declared.workload.Workload.{Workload}
 
--- a piece with the numbers of its node and its worker, and its place in that worker's list
+-- a piece with its node, and where it stands there
 pub record Placed : Type 0 where
-  pub node : ℕ
-  pub worker : ℕ
-  pub place : ℕ
+  pub node : Side
+  pub at : PieceAt
   pub piece : Piece
 
-abbrev pub placed : ℕ → ℕ → ℕ → Piece → Placed
-placed node worker place piece = record { node = node; worker = worker; place = place; piece = piece }
+abbrev pub placed : Side → PieceAt → Piece → Placed
+placed node at piece = record { node = node; at = at; piece = piece }
 
 -- the pieces of a worker from a place on
-abbrev pub placed_from : ℕ → ℕ → ℕ → List Piece → List Placed
+abbrev pub placed_from : Side → Worker → ℕ → List Piece → List Placed
 placed_from node worker place [] = []
-placed_from node worker place (piece ∷ pieces) = placed node worker place piece ∷ placed_from node worker (place + 1) pieces
+placed_from node worker place (piece ∷ pieces) = placed node (place_of worker place) piece ∷ placed_from node worker (place + 1) pieces
 
 -- the pieces of a node by worker and place
-abbrev pub pieces_of : ℕ → Workload → List Placed
-pieces_of node load = placed_from node 0 0 load.first.items ++ placed_from node 1 0 load.second.items
+abbrev pub pieces_of : Side → Workload → List Placed
+pieces_of node load = placed_from node First 0 load.first.items ++ placed_from node Second 0 load.second.items
 
 -- all pieces by node, worker and place
 abbrev pub all_pieces : Workload → Workload → List Placed
-all_pieces first second = pieces_of 0 first ++ pieces_of 1 second
+all_pieces first second = pieces_of sides.First first ++ pieces_of sides.Second second
 
 -- Its segments were found.
 abbrev pub IsWhole : Piece → Type 0

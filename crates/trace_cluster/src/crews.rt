@@ -5,14 +5,14 @@ ghost use Rattle.trace_crew.specs.Crewed.{IsCrewOut};
 ghost use Rattle.trace_cluster.specs.Crews.{AreClean, IsClean, IsFirstPiece, IsFirstRefusal, Stops, StopsAt};
 
 use crate::fault::ClusterFault;
+use crate::side::Side;
 use crate::workload::Workload;
 use mpi_model::Layout;
 use std::alloc::Global;
 use std::sync::Wait;
 use std::thread::Threads;
-use trace_crew::{Board, CrewFault, CrewOut, OpenGate, PieceFault, crew};
-use trace_know::Segment;
-use trace_node::{Node, NodeFault};
+use trace_crew::{Board, CrewFault, CrewOut, FaultyPiece, OpenGate, Refusal, crew};
+use trace_node::Node;
 
 /// Runs the crew of a node, on a board of its own.
 pub(crate) fn crew_of<'a, R: Threads + Wait + Sync>(
@@ -36,28 +36,23 @@ pub(crate) fn crew_of<'a, R: Threads + Wait + Sync>(
 }
 
 /// That a node's pieces have no fault, or the first fault of them.
-fn without_faults(node: u8, faults: Vec<(u8, u64, PieceFault)>) -> Result<(), ClusterFault>
+fn without_faults(node: Side, faults: Vec<FaultyPiece>) -> Result<(), ClusterFault>
     ensures ok { OnOk result (faults.items ≡ []) }
     ensures err { IfErr result (λ fault. IsFirstPiece node faults.items fault) }
 {
     match faults.into_iter().next() {
-        Some((worker, piece, fault)) => Err(ClusterFault::Piece {
-            node,
-            worker,
-            piece,
-            fault,
-        }),
+        Some(FaultyPiece { at, fault }) => Err(ClusterFault::Piece { node, at, fault }),
         None => Ok(()),
     }
 }
 
 /// That a node refused no segment, or why it refused the first.
-fn without_refusals(refused: &Vec<(u8, Segment, NodeFault)>) -> Result<(), ClusterFault>
+fn without_refusals(refused: &Vec<Refusal>) -> Result<(), ClusterFault>
     ensures ok { OnOk result (refused.now.items ≡ []) }
     ensures err { IfErr result (λ fault. IsFirstRefusal refused.now.items fault) }
 {
     match refused.first() {
-        Some((_, _, fault)) => Err(ClusterFault::Node(*fault)),
+        Some(refusal) => Err(ClusterFault::Node(refusal.fault)),
         None => Ok(()),
     }
 }
@@ -65,16 +60,16 @@ fn without_refusals(refused: &Vec<(u8, Segment, NodeFault)>) -> Result<(), Clust
 /// That nothing of what two crews leave beside their nodes stops a cluster, or what does first.
 #[tactic(auto, using(crate::proofs::Stopping::stops_first, crate::proofs::Stopping::stops_second, crate::proofs::Stopping::stops_refused, crate::proofs::Stopping::stops_refused_later))]
 fn none_stops(
-    faults: Vec<(u8, u64, PieceFault)>,
-    others: Vec<(u8, u64, PieceFault)>,
-    refused: &Vec<(u8, Segment, NodeFault)>,
-    refused_later: &Vec<(u8, Segment, NodeFault)>,
+    faults: Vec<FaultyPiece>,
+    others: Vec<FaultyPiece>,
+    refused: &Vec<Refusal>,
+    refused_later: &Vec<Refusal>,
 ) -> Result<(), ClusterFault>
     ensures clean { OnOk result (IsClean faults.items others.items refused.now.items refused_later.now.items) }
     ensures err { IfErr result (λ fault. Stops faults.items others.items refused.now.items refused_later.now.items fault) }
 {
-    without_faults(0, faults)?;
-    without_faults(1, others)?;
+    without_faults(Side::First, faults)?;
+    without_faults(Side::Second, others)?;
     without_refusals(refused)?;
     without_refusals(refused_later)
 }

@@ -4,8 +4,9 @@ ghost use Rattle.std.specs.Prelude.{◌≡◌};
 ghost use Rattle.trace_cluster.specs.Crews.{of_crew};
 
 use crate::exchange::ExchangeFault;
+use crate::side::Side;
 use thiserror::Error;
-use trace_crew::{CrewFault, PieceFault};
+use trace_crew::{CrewFault, PieceAt, PieceFault};
 use trace_node::NodeFault;
 
 /// Why a cluster leaves nothing, tried in this order.
@@ -20,9 +21,8 @@ pub enum ClusterFault {
     /// A piece gave no segments: the first such by node, worker and place in that worker's list.
     #[error("{fault}")]
     Piece {
-        node: u8,
-        worker: u8,
-        piece: u64,
+        node: Side,
+        at: PieceAt,
         fault: PieceFault,
     },
     /// A node refused a segment: the first such by node, and then in the order of taking.

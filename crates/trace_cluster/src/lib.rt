@@ -9,7 +9,7 @@
 //! thread reads what the first node knows and makes no answer; what it hears is held beside both nodes
 //! until the first has joined it.
 //!
-//! - [`workload`]: the pieces of a node's workers
+//! - [`side`]: the two nodes; [`workload`]: the pieces of a node's workers
 //! - [`fault`]: why a cluster leaves nothing
 //! - [`crews`]: what both crews leave, and the first fault or refused segment
 //! - [`exchange`]: two nodes that send each other what they know over a stream
@@ -29,9 +29,11 @@ mod fault;
 mod meeting;
 mod nodes;
 mod peer;
+mod side;
 mod workload;
 
 pub use exchange::{ExchangeFault, exchange_frames, exchange_laws, follow, lead};
 pub use fault::ClusterFault;
 pub use nodes::cluster;
+pub use side::Side;
 pub use workload::Workload;

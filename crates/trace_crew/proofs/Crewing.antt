@@ -1,5 +1,5 @@
 -- What the owner took of a worker is what the worker posted.
-use Rattle.std.proofs.Common.{◌≡◌, ℕ, Result, Ok, Err, IfOk, Bool, true, false, cond, List, [], ◌∷◌, map, refl, sym, ap, ◌∙◌, subst}
+use Rattle.std.proofs.Common.{◌≡◌, Result, Ok, Err, IfOk, Bool, true, false, cond, List, [], ◌∷◌, map, refl, sym, ap, ◌∙◌, subst}
 use Rattle.std.specs.List.{cons_option, filter, filter_map}
 use Rattle.mpi_model.specs.Layouts.{Parts}
 use Rattle.trace_know.specs.Segment.{PlacedEvents}
@@ -11,10 +11,11 @@ use Rattle.trace_crew.specs.declared.inbox.item.Worker.{Worker}
 use Rattle.trace_crew.specs.declared.inbox.item.Worker.TheVariants.{First, Second}
 use Rattle.trace_crew.specs.Views.{is_from, of, posts_of}
 use Rattle.trace_crew.specs.declared.piece.Piece.{Piece}
-use Rattle.trace_crew.specs.declared.piece.PieceFault.{PieceFault}
+use Rattle.trace_crew.specs.declared.piece.FaultyPiece.{FaultyPiece}
 use Rattle.trace_crew.specs.declared.threads.CrewOut.{CrewOut}
+use Rattle.trace_crew.specs.declared.owner.Refusal.{Refusal}
 use Rattle.trace_crew.specs.Pieces.{Gave}
-use Rattle.trace_crew.specs.Taking.{HasAll, IsKept, Refusal, Taken, sent, sent_by, source}
+use Rattle.trace_crew.specs.Taking.{HasAll, IsKept, Taken, sent, sent_by, source}
 use Rattle.trace_crew.proofs.Sorting.{sorted_kept}
 use Rattle.trace_crew.specs.Crewed.{HasGathered, IsCrewOut, segments_by}
 
@@ -76,7 +77,7 @@ settled layout ones others node later refused still all kept same =
     record { items = all.items; first_all = all.first_all; second_all = all.second_all; sorted = sorted_kept layout all.items node later refused still kept same all.sorted }
 
 -- Where the owner took all that the workers posted, the crew leaves what it promises.
-pub crewed : (layout : Parts) (first second : List Piece) (out : CrewOut) (node : Held) (refused : List Refusal) (faults : List (ℕ × ℕ × PieceFault))
+pub crewed : (layout : Parts) (first second : List Piece) (out : CrewOut) (node : Held) (refused : List Refusal) (faults : List FaultyPiece)
     → out.node ≡ node → out.refused.items ≡ refused → out.faults.items ≡ faults → HasGathered layout first second node refused faults → IsCrewOut layout first second out
 crewed layout first second out node refused faults is_node is_refused is_faults h =
     let s = h.all.sorted.1 in
@@ -85,8 +86,8 @@ crewed layout first second out node refused faults is_node is_refused is_faults 
       taken = taken;
       first_faults = h.first_faults;
       second_faults = h.second_faults;
-      first_gave = subst (λ (l : List PlacedEvents). Gave 0 first l h.first_faults) (sym (all_of First taken h.all.items h.ones s.all h.all.first_all)) h.first_gave;
-      second_gave = subst (λ (l : List PlacedEvents). Gave 1 second l h.second_faults) (sym (all_of Second taken h.all.items h.others s.all h.all.second_all)) h.second_gave;
+      first_gave = subst (λ (l : List PlacedEvents). Gave First first l h.first_faults) (sym (all_of First taken h.all.items h.ones s.all h.all.first_all)) h.first_gave;
+      second_gave = subst (λ (l : List PlacedEvents). Gave Second second l h.second_faults) (sym (all_of Second taken h.all.items h.others s.all h.all.second_all)) h.second_gave;
       faults = is_faults ∙ h.faults_are;
       fair = s.fair;
       refused = is_refused ∙ s.listed;

@@ -15,7 +15,8 @@ use Rattle.trace_node.specs.declared.fault.NodeFault.{NodeFault}
 use Rattle.trace_node.specs.declared.fault.NodeFault.TheVariants.{Rank, Memory, Stale}
 use Rattle.trace_crew.specs.declared.inbox.item.Item.{Item}
 use Rattle.trace_crew.specs.declared.inbox.item.Post.TheVariants.{Segment, End}
-use Rattle.trace_crew.specs.Taking.{Handles, IsFair, IsFairFor, IsKept, Refusal, Sorted, Taken, counted, ends_in, is_end, joined_for, joined_in, known_after, refused_in, sent, source, taken_as}
+use Rattle.trace_crew.specs.declared.owner.Refusal.{Refusal}
+use Rattle.trace_crew.specs.Taking.{Handles, IsFair, IsFairFor, IsKept, Sorted, Taken, counted, ends_in, is_end, joined_for, joined_in, known_after, refused_in, sent, source, taken_as}
 
 -- Nothing was taken, and nothing is known.
 pub nothing_taken : (layout : Parts) (node : Held) (refused : List Refusal) → node ≡ held layout empty false → refused ≡ [] → Sorted layout [] node refused

@@ -1,5 +1,5 @@
 -- What a crew leaves.
-use Rattle.std.specs.Prelude.{◌≡◌, ℕ, None, List, ◌++◌, map, All}
+use Rattle.std.specs.Prelude.{◌≡◌, None, List, ◌++◌, map, All}
 use Rattle.std.specs.List.{filter, flat_map}
 use Rattle.crossbeam_channel.specs.Claims.{view}
 use Rattle.mpi_model.specs.Layouts.{Parts}
@@ -16,9 +16,10 @@ use Rattle.trace_crew.specs.Views.{desk, is_from, posts_of}
 use Rattle.trace_crew.specs.declared.threads.CrewOut.{CrewOut}
 use Rattle.trace_crew.specs.declared.worker.Worked.{Worked}
 use Rattle.trace_crew.specs.declared.piece.Piece.{Piece}
-use Rattle.trace_crew.specs.declared.piece.PieceFault.{PieceFault}
+use Rattle.trace_crew.specs.declared.piece.FaultyPiece.{FaultyPiece}
+use Rattle.trace_crew.specs.declared.owner.Refusal.{Refusal}
 use Rattle.trace_crew.specs.Pieces.{Gave}
-use Rattle.trace_crew.specs.Taking.{HasAll, IsFair, Refusal, Sorted, Taken, joined_in, refused_in}
+use Rattle.trace_crew.specs.Taking.{HasAll, IsFair, Sorted, Taken, joined_in, refused_in}
 use Rattle.trace_crew.specs.Work.{HasEnded}
 
 -- the segments of one worker among those that were taken, in their order
@@ -33,10 +34,10 @@ segments_by w taken = map (λ t. t.segment) (filter (λ t. is_from w t.from) tak
 -- and the node, which is the layout's, knows the facts of the others and nothing else.
 pub record IsCrewOut (layout : Parts) (first second : List Piece) (out : CrewOut) : Type 0 where
   pub taken : List Taken
-  pub first_faults : List (ℕ × ℕ × PieceFault)
-  pub second_faults : List (ℕ × ℕ × PieceFault)
-  pub first_gave : Gave 0 first (segments_by First taken) first_faults
-  pub second_gave : Gave 1 second (segments_by Second taken) second_faults
+  pub first_faults : List FaultyPiece
+  pub second_faults : List FaultyPiece
+  pub first_gave : Gave First first (segments_by First taken) first_faults
+  pub second_gave : Gave Second second (segments_by Second taken) second_faults
   pub faults : out.faults.items ≡ first_faults ++ second_faults
   pub fair : All (IsFair layout) taken
   pub refused : out.refused.items ≡ flat_map refused_in taken
@@ -45,13 +46,13 @@ pub record IsCrewOut (layout : Parts) (first second : List Piece) (out : CrewOut
 
 -- The owner has taken all that both workers posted: the segments of their texts, but for the texts with a fault, which
 -- are listed.
-pub record HasGathered (layout : Parts) (first second : List Piece) (node : Held) (refused : List Refusal) (faults : List (ℕ × ℕ × PieceFault)) : Type 0 where
+pub record HasGathered (layout : Parts) (first second : List Piece) (node : Held) (refused : List Refusal) (faults : List FaultyPiece) : Type 0 where
   pub ones : List PlacedEvents
   pub others : List PlacedEvents
-  pub first_faults : List (ℕ × ℕ × PieceFault)
-  pub second_faults : List (ℕ × ℕ × PieceFault)
-  pub first_gave : Gave 0 first ones first_faults
-  pub second_gave : Gave 1 second others second_faults
+  pub first_faults : List FaultyPiece
+  pub second_faults : List FaultyPiece
+  pub first_gave : Gave First first ones first_faults
+  pub second_gave : Gave Second second others second_faults
   pub faults_are : faults ≡ first_faults ++ second_faults
   pub all : HasAll layout (posts_of First ones) (posts_of Second others) node refused
 

@@ -14,6 +14,9 @@ use Rattle.dumpi_calls.specs.Whole.{AreEvents}
 use Rattle.dumpi_calls.specs.declared.fault.WalkCause.{WalkCause}
 use Rattle.dumpi_calls.specs.declared.fault.WalkCause.TheVariants.{Text, Missing, Wrong, Sink, Memory}
 use Rattle.trace_crew.specs.declared.piece.Piece.{Piece}
+use Rattle.trace_crew.specs.declared.inbox.item.Worker.{Worker}
+use Rattle.trace_crew.specs.declared.piece.FaultyPiece.{FaultyPiece}
+use Rattle.trace_crew.specs.declared.piece.PieceAt.{PieceAt}
 use Rattle.trace_crew.specs.declared.piece.PieceFault.{PieceFault}
 use Rattle.trace_crew.specs.declared.piece.PieceFault.TheVariants as pieces
 
@@ -67,18 +70,27 @@ abbrev pub segments_in : Outcome → List PlacedEvents
 segments_in (Ok segments) = segments
 segments_in (Err fault) = []
 
--- the fault of the piece at a place of a worker's list
-abbrev pub faults_in : ℕ → ℕ → Outcome → List (ℕ × ℕ × PieceFault)
-faults_in worker place (Ok segments) = []
-faults_in worker place (Err fault) = (worker, place, fault) ∷ []
+-- a place of a worker's list
+abbrev pub place_of : Worker → ℕ → PieceAt
+place_of worker place = record { worker = worker; place = place }
 
-abbrev pub faults_from : ℕ → ℕ → List Outcome → List (ℕ × ℕ × PieceFault)
+-- the piece that stands there, with its fault
+abbrev pub faulty : Worker → ℕ → PieceFault → FaultyPiece
+faulty worker place fault = record { at = place_of worker place; fault = fault }
+
+-- the fault of the piece at a place of a worker's list, where it has one
+abbrev pub faults_in : Worker → ℕ → Outcome → List FaultyPiece
+faults_in worker place (Ok segments) = []
+faults_in worker place (Err fault) = faulty worker place fault ∷ []
+
+-- those of the pieces from a place on
+abbrev pub faults_from : Worker → ℕ → List Outcome → List FaultyPiece
 faults_from worker place [] = []
 faults_from worker place (o ∷ os) = faults_in worker place o ++ faults_from worker (place + 1) os
 
 -- A worker's pieces gave these segments, whole, each as often as given, and in their order; and these faults, with the
 -- worker and the places of their pieces. Each piece gave its segments or its fault.
-pub record Gave (worker : ℕ) (pieces : List Piece) (segments : List PlacedEvents) (faults : List (ℕ × ℕ × PieceFault)) : Type 0 where
+pub record Gave (worker : Worker) (pieces : List Piece) (segments : List PlacedEvents) (faults : List FaultyPiece) : Type 0 where
   pub outcomes : List Outcome
   pub are : AreOutcomes pieces outcomes
   pub segments_are : segments ≡ flat_map segments_in outcomes

@@ -13,7 +13,8 @@ use Rattle.trace_crew.specs.declared.inbox.item.Post.{Post}
 use Rattle.trace_crew.specs.declared.inbox.item.Post.TheVariants.{Segment, End}
 use Rattle.trace_crew.specs.declared.inbox.item.Worker.{Worker}
 use Rattle.trace_crew.specs.declared.inbox.item.Worker.TheVariants.{First, Second}
-use Rattle.trace_crew.specs.Views.{number_of, of}
+use Rattle.trace_crew.specs.declared.owner.Refusal.{Refusal}
+use Rattle.trace_crew.specs.Views.{of}
 
 -- ---- one segment
 
@@ -41,13 +42,14 @@ abbrev pub fault_in : Option (PlacedEvents × NodeFault) → Option NodeFault
 fault_in None = None
 fault_in (Some refused) = Some refused.1
 
--- a segment with its worker's number and its fault
-abbrev pub Refusal : Type 0
-Refusal = ℕ × PlacedEvents × NodeFault
+-- a segment that was not joined, with its worker and its fault
+abbrev pub refused_as : Worker → PlacedEvents → NodeFault → Refusal
+refused_as from segment fault = record { from = from; segment = segment; fault = fault }
 
+-- how a segment is listed, where it was refused
 abbrev pub refused_for : Worker → PlacedEvents → Option NodeFault → List Refusal
 refused_for from segment None = []
-refused_for from segment (Some fault) = (number_of from, segment, fault) ∷ []
+refused_for from segment (Some fault) = refused_as from segment fault ∷ []
 
 -- how it is listed, where it was refused
 abbrev pub refused_in : Taken → List Refusal
@@ -131,6 +133,6 @@ ends_in [] = 0
 ends_in (item ∷ items) = counted (is_end item) + ends_in items
 
 -- of how many workers an item ends the posts, of which is told which segment it was, where it was one
-abbrev pub ends_told : Option (ℕ × ℕ) → ℕ
+abbrev pub ends_told : Option (Worker × ℕ) → ℕ
 ends_told None = 1
 ends_told (Some segment) = 0

@@ -1,5 +1,5 @@
 -- What seats at an inbox know, and how each step changes it.
-use Rattle.std.specs.Prelude.{◌≡◌, ℕ, Bool, true, false, List, [], ◌∷◌, ◌++◌, map}
+use Rattle.std.specs.Prelude.{◌≡◌, Bool, true, false, List, [], ◌∷◌, ◌++◌, map}
 use Rattle.std.specs.List.{filter}
 use Rattle.trace_know.specs.Segment.{PlacedEvents}
 use Rattle.trace_crew.specs.declared.inbox.item.Worker.{Worker}
@@ -20,11 +20,6 @@ is_from First First = true
 is_from First Second = false
 is_from Second First = false
 is_from Second Second = true
-
--- the number of a worker
-abbrev pub number_of : Worker → ℕ
-number_of First = 0
-number_of Second = 1
 
 -- the items of one worker, in their order
 abbrev pub of : Worker → List Item → List Item

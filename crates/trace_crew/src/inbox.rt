@@ -28,4 +28,4 @@ mod steps;
 
 pub use item::{Item, Post, Worker};
 pub use rule::{Desk, Inbox, InboxReceiver, InboxSender, Seat, Standing, View};
-pub use steps::{Closed, PLACES, join, make_first, make_second, open, post, take, take_now};
+pub use steps::{Closed, MOST_ITEMS, join, make_first, make_second, open, post, take, take_now};

@@ -9,10 +9,11 @@ ghost use Rattle.trace_crew.specs.Views.{IsOwner, after_take, desk};
 ghost use Rattle.trace_crew.specs.declared.inbox.item.Item.{Item as ItemValue};
 ghost use Rattle.trace_crew.specs.declared.inbox.rule.Standing.TheVariants.{Joined, Running};
 ghost use Rattle.trace_crew.specs.declared.inbox.rule.View.TheVariants.{Owner};
-ghost use Rattle.trace_crew.specs.Taking.{HasAll, IsKept, Refusal, Sorted, counted, ends_in, ends_told, is_end};
+ghost use Rattle.trace_crew.specs.declared.owner.Refusal.{Refusal};
+ghost use Rattle.trace_crew.specs.Taking.{HasAll, IsKept, Sorted, counted, ends_in, ends_told, is_end};
 
 use crate::gate::Gate;
-use crate::inbox::{InboxReceiver, Item, Seat, take, take_now};
+use crate::inbox::{InboxReceiver, Item, Seat, Worker, take, take_now};
 use crate::threads::CrewFault;
 use std::alloc::AllocError;
 use std::sync::Wait;
@@ -28,7 +29,7 @@ pub trait Keeper: Drop {
 
     /// Takes one item in, and answers which segment of which worker it was: None where it ends its
     /// worker's posts.
-    fn take_in(&mut self, item: Item) -> Result<Option<(u8, u64)>, AllocError>
+    fn take_in(&mut self, item: Item) -> Result<Option<(Worker, u64)>, AllocError>
         ensures end { IfOk result (λ taken. ends_told taken ≡ counted (is_end item)) }
         ensures sorted { OnOk result ((layout : Parts) (taken : List ItemValue) → Sorted layout taken (held self.old) (listed self.old) → Sorted layout (taken ++ item ∷ []) (held self.new) (listed self.new)) };
 
@@ -47,7 +48,7 @@ pub trait Keeper: Drop {
 
 /// Tells the gate which segment was taken, where one was, and answers of how many workers the item ends
 /// the posts: one or none.
-fn announce<G: Gate>(gate: &G, taken: Option<(u8, u64)>) -> u8
+fn announce<G: Gate>(gate: &G, taken: Option<(Worker, u64)>) -> u8
     ensures count { result ≡ ends_told taken }
     ensures one { result ≤ 1 }
 {

@@ -47,5 +47,6 @@ pub use board::{Board, PutFault, ShowFault, Shown};
 pub use gate::{Gate, OpenGate};
 pub use inbox::Worker;
 pub use laws::crews_follow;
-pub use piece::{Piece, PieceFault};
+pub use owner::Refusal;
+pub use piece::{FaultyPiece, Piece, PieceAt, PieceFault};
 pub use threads::{CrewFault, CrewOut, crew};

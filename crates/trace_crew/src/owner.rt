@@ -19,6 +19,15 @@ use trace_node::{Node, NodeFault};
 /// them in less than a second, so who asks the board earlier would hardly see it.
 const FIRST_SHOWN: u64 = 1_000_000;
 
+/// A segment that was not joined, and why.
+#[derive(Drop)]
+pub struct Refusal {
+    /// The worker that posted it.
+    pub from: Worker,
+    pub segment: Segment,
+    pub fault: NodeFault,
+}
+
 /// A node, and what was made of the segments that came for it.
 #[derive(Drop)]
 pub struct Hall<'s, 'a> {
@@ -26,8 +35,8 @@ pub struct Hall<'s, 'a> {
     board: &'s Board<'a>,
     /// The join of the segments that were not refused.
     pub node: Node<'a>,
-    /// Those that were refused, with their workers, in the order of taking.
-    pub refused: Vec<(u8, Segment, NodeFault)>,
+    /// Those that were refused, in the order of taking.
+    pub refused: Vec<Refusal>,
     /// How many segments of the first worker were taken.
     first: u64,
     /// How many segments of the second worker were taken.
@@ -110,7 +119,11 @@ impl<'s, 'a> Hall<'s, 'a> {
             }
             Some((segment, fault)) => {
                 let segment = segment.into_segment(*self.refused.allocator())?;
-                self.refused.push((from.number(), segment, fault))?;
+                self.refused.push(Refusal {
+                    from,
+                    segment,
+                    fault,
+                })?;
                 Ok(())
             }
         }
@@ -138,7 +151,7 @@ impl<'s, 'a> Hall<'s, 'a> {
     /// Handles one item, and answers which segment of which worker it was: None where it ends its
     /// worker's posts.
     #[tactic(auto, using(crate::proofs::Sorting::sorted_end))]
-    fn handle(&mut self, item: Item) -> Result<Option<(u8, u64)>, AllocError>
+    fn handle(&mut self, item: Item) -> Result<Option<(Worker, u64)>, AllocError>
         ensures end { IfOk result (λ taken. ends_told taken ≡ counted (is_end item)) }
         ensures sorted { OnOk result ((layout : Parts) (taken : List ItemValue) → Sorted layout taken self.old.node self.old.refused.items → Sorted layout (taken ++ item ∷ []) self.new.node self.new.refused.items) }
     {
@@ -148,7 +161,7 @@ impl<'s, 'a> Hall<'s, 'a> {
             Post::Segment(segment) => {
                 self.join(from, segment)?;
                 let nth = self.next_of(from);
-                Ok(Some((from.number(), nth)))
+                Ok(Some((from, nth)))
             }
             Post::End => Ok(None),
         }
@@ -160,7 +173,7 @@ impl<'s, 'a> Keeper for Hall<'s, 'a> {
 
     ghost listed = { λ h. h.refused.items };
 
-    fn take_in(&mut self, item: Item) -> Result<Option<(u8, u64)>, AllocError> {
+    fn take_in(&mut self, item: Item) -> Result<Option<(Worker, u64)>, AllocError> {
         self.handle(item)
     }
 

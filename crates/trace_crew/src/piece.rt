@@ -8,6 +8,7 @@ ghost use Rattle.trace_crew.specs.Pieces.{GivesSegments, IsOwn, IsRefusedFor};
 ghost use Rattle.trace_crew.specs.declared.piece.Piece.{Piece as PieceValue};
 ghost use Rattle.trace_crew.specs.declared.piece.PieceFault.TheVariants.{Walk};
 
+use crate::inbox::Worker;
 use dumpi_calls::{Collect, Memory, WalkCause, WalkFault, walk, whole_texts};
 use dumpi_text::{TextCause, TextFault};
 use mpi_model::Device;
@@ -37,6 +38,20 @@ pub enum PieceFault {
     /// No memory was left for the text's calls, its segments or a fault.
     #[error("Memory")]
     Memory,
+}
+
+/// Where a piece stands: the worker that reads it, and its place in that worker's list, from 0.
+#[derive(Clone, Copy, Debug, PartialEq, Eq)]
+pub struct PieceAt {
+    pub worker: Worker,
+    pub place: u64,
+}
+
+/// A piece that gave no segments, and why.
+#[derive(Debug, Drop)]
+pub struct FaultyPiece {
+    pub at: PieceAt,
+    pub fault: PieceFault,
 }
 
 /// The segments of a piece's whole text, ready to be joined, none of one without calls. The worker

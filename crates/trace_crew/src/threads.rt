@@ -19,8 +19,8 @@ use crate::board::Board;
 use crate::gate::Gate;
 use crate::inbox::{InboxReceiver, InboxSender, Seat, Worker, join, make_first, make_second, open};
 use crate::keeper::{Keeper, drain, own};
-use crate::owner::Hall;
-use crate::piece::{Piece, PieceFault};
+use crate::owner::{Hall, Refusal};
+use crate::piece::{FaultyPiece, Piece};
 use crate::worker::{Stop, Worked, Working, work};
 use mpi_model::Layout;
 use std::alloc::{AllocError, Global};
@@ -29,8 +29,7 @@ use std::sync::Wait;
 use std::thread;
 use std::thread::{PromisedHandle, Scope, Threads};
 use thiserror::Error;
-use trace_know::Segment;
-use trace_node::{Node, NodeFault};
+use trace_node::Node;
 
 /// What a crew leaves.
 #[derive(Drop)]
@@ -38,9 +37,9 @@ pub struct CrewOut<'a> {
     /// The join of all segments that were taken and not refused.
     pub node: Node<'a>,
     /// The pieces that gave no segments, by worker and place in its list.
-    pub faults: Vec<(u8, u64, PieceFault)>,
-    /// The segments that were not joined, with their workers, in the order of taking.
-    pub refused: Vec<(u8, Segment, NodeFault)>,
+    pub faults: Vec<FaultyPiece>,
+    /// The segments that were not joined, in the order of taking.
+    pub refused: Vec<Refusal>,
 }
 
 /// Why a crew leaves nothing.
@@ -77,7 +76,7 @@ struct Ran<H> {
 #[derive(Drop)]
 struct Left<H> {
     hall: H,
-    faults: Vec<(u8, u64, PieceFault)>,
+    faults: Vec<FaultyPiece>,
 }
 
 /// Two workers read their texts side by side and post the segments into an inbox of eight places; the
@@ -100,7 +99,7 @@ pub fn crew<'a, R: Threads + Wait + Sync, G: Gate>(
 }
 
 /// What a crew's owner and its workers leave, as the crew's caller gets it.
-fn out_of<'s, 'a>(hall: Hall<'s, 'a>, faults: Vec<(u8, u64, PieceFault)>) -> CrewOut<'a>
+fn out_of<'s, 'a>(hall: Hall<'s, 'a>, faults: Vec<FaultyPiece>) -> CrewOut<'a>
     ensures node { result.node ≡ hall.entry.node }
     ensures faults { result.faults.items ≡ faults.items }
     ensures refused { result.refused.items ≡ hall.entry.refused.items }
@@ -271,10 +270,7 @@ fn join_both(sender: &InboxSender, owner: &mut Seat, first: Seat, second: Seat)
 }
 
 /// The faults of the first worker, and then those of the second.
-fn both(
-    first: Vec<(u8, u64, PieceFault)>,
-    second: Vec<(u8, u64, PieceFault)>,
-) -> Result<Vec<(u8, u64, PieceFault)>, AllocError>
+fn both(first: Vec<FaultyPiece>, second: Vec<FaultyPiece>) -> Result<Vec<FaultyPiece>, AllocError>
     ensures { IfOk result (λ all. all.items ≡ first.items ++ second.items) }
 {
     let mut all = first;

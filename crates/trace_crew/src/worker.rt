@@ -9,7 +9,7 @@ ghost use Rattle.trace_crew.specs.Work.{EndsPosts, HasEnded, HasRead, ReadsOne, 
 
 use crate::gate::Gate;
 use crate::inbox::{Closed, InboxSender, Item, Post, Seat, Worker, post};
-use crate::piece::{Piece, PieceFault, segments_of};
+use crate::piece::{FaultyPiece, Piece, PieceAt, segments_of};
 use std::alloc::Global;
 use std::snapshot::Snapshot;
 use std::sync::Wait;
@@ -32,8 +32,8 @@ pub struct Hand {
     pub seat: Seat,
     /// How many segments it has posted.
     posted: u64,
-    /// Its number, the place of a text in its list, and that text's fault.
-    pub faults: Vec<(u8, u64, PieceFault)>,
+    /// The texts that gave no segments.
+    pub faults: Vec<FaultyPiece>,
 }
 
 impl Hand {
@@ -54,7 +54,7 @@ impl Hand {
         ensures ok { OnOk result (view self.new.seat ≡ after_posts (view self.old.seat) (map (segment_item self.old.worker) segments.items)) }
     {
         for segment in segments {
-            gate.before_post(self.worker.number(), self.posted);
+            gate.before_post(self.worker, self.posted);
             self.posted = self.posted.saturating_add(1);
             let item = Item {
                 from: self.worker,
@@ -82,19 +82,20 @@ impl Hand {
         ensures worker { self.new.worker ≡ self.old.worker }
         ensures ok { OnOk result (ReadsOne self.old.worker place piece.now (view self.old.seat) self.old.faults.items (view self.new.seat) self.new.faults.items) }
     {
-        gate.before_walk(self.worker.number(), place);
+        let at = PieceAt {
+            worker: self.worker,
+            place,
+        };
+        gate.before_walk(at);
         match segments_of(alloc, piece) {
             Ok(segments) => match self.post_text(rt, inbox, segments, gate) {
                 Ok(()) => Ok(()),
                 Err(Closed) => Err(Stop::Closed),
             },
-            Err(fault) => {
-                let number = self.worker.number();
-                match self.faults.push((number, place, fault)) {
-                    Ok(()) => Ok(()),
-                    Err(_) => Err(Stop::Memory),
-                }
-            }
+            Err(fault) => match self.faults.push(FaultyPiece { at, fault }) {
+                Ok(()) => Ok(()),
+                Err(_) => Err(Stop::Memory),
+            },
         }
     }
 
@@ -142,8 +143,8 @@ impl Hand {
 #[derive(Drop)]
 pub struct Worked {
     pub seat: Seat,
-    /// Its number, the place of a text in its list, and that text's fault.
-    pub faults: Vec<(u8, u64, PieceFault)>,
+    /// The texts that gave no segments.
+    pub faults: Vec<FaultyPiece>,
     /// None where it has read all its texts and posted that it ends.
     pub stop: Option<Stop>,
 }

@@ -7,6 +7,7 @@ ghost use Rattle.trace_crew.specs.Rule.{Arrived};
 ghost use Rattle.trace_crew.specs.Views.{IsOwner, IsPoster, IsWithout, after_join, after_make, after_post, after_take, desk};
 ghost use Rattle.trace_crew.specs.declared.inbox.item.Worker.TheVariants.{First, Second};
 ghost use Rattle.trace_crew.specs.declared.inbox.item.Worker.{Worker as WorkerValue};
+ghost use Rattle.trace_crew.specs.declared.inbox.steps.TheConstants.{MOST_ITEMS};
 ghost use Rattle.trace_crew.specs.declared.inbox.rule.Standing.TheVariants.{Unmade};
 ghost use Rattle.trace_crew.specs.declared.inbox.rule.View.TheVariants.{Owner, Poster};
 
@@ -19,7 +20,7 @@ use std::alloc::{AllocError, Global};
 use std::sync::Wait;
 
 /// How many items an inbox holds at most.
-pub const PLACES: usize = 8;
+pub const MOST_ITEMS: usize = 8;
 
 /// The owner has left: nothing is taken any more.
 #[derive(Clone, Copy, Debug, PartialEq, Eq)]
@@ -28,11 +29,11 @@ pub struct Closed;
 /// An empty inbox, with the owner's seat. No worker is made yet.
 pub fn open(alloc: Global) -> Result<(InboxSender, InboxReceiver, Seat), AllocError>
     ensures channel { IfOk result (λ r. receives_on r.1 ≡ sends_on r.0) }
-    ensures places { IfOk result (λ r. ruled_capacity (sends_on r.0) ≡ 8) }
+    ensures places { IfOk result (λ r. ruled_capacity (sends_on r.0) ≡ MOST_ITEMS) }
     ensures seat { IfOk result (λ r. IsSeatAt (sends_on r.0) r.2) }
     ensures owner { IfOk result (λ r. view r.2 ≡ Owner (desk [] Unmade Unmade)) }
 {
-    bounded_with::<Item, View, Inbox, Global>(alloc, PLACES)
+    bounded_with::<Item, View, Inbox, Global>(alloc, MOST_ITEMS)
 }
 
 /// Makes the first worker: a seat that has posted nothing.

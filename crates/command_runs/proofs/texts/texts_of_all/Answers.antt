@@ -17,7 +17,7 @@ loop-piece-preserved g c =
     ∙ ap (λ (p : PieceParts). take c.loop-piece.piece-index c.args.pieces.now ++ p ∷ []) (sym c.piece-item.is) in
     let text : Piece = record { rank = c.rank-rank.result; first = c.first-first.result; text = c.in-Ok.text } in
     let bytes : IsFile (file c.piece-item.result.file) c.in-Ok.text.items = rw (c.file.ensures, c.loop-piece.invariant.files) at c.in-Ok.ensures.ok in
-    let adds : Adds c.piece-item.result text c.loop-piece.texts c.add.new.self = rw (c.node.ensures, c.worker.ensures) at c.in_ok-add.ensures in
+    let adds : Adds c.piece-item.result text c.loop-piece.texts c.add.new.self = rw (c.side_of.ensures, c.worker_of.ensures) at c.in_ok-add.ensures in
     record {
       files = c.file_at.ensures.same ∙ c.loop-piece.invariant.files;
       shares = shares_more file (take c.loop-piece.piece-index c.args.pieces.now) (take (c.loop-piece.piece-index + 1) c.args.pieces.now) c.piece-item.result
