@@ -1,7 +1,7 @@
 //! A board of two ranks: that a publish changes it, that a show reads it, and that one who has seen more
 //! is told so, and no one else.
 
-use crate::fixture::{Does, Piece, layout, segment};
+use crate::fixture::{Does, layout, segment};
 use mpi_model::Layout;
 use std::alloc::Global;
 use std::process::Abort;
@@ -9,13 +9,6 @@ use std::sync::Wait;
 use std::thread::{Threads, join};
 use trace_board::{Board, ShowFault, Shown};
 use trace_node::Node;
-
-/// Three calls that take part in no matching.
-static CALLS: [Piece; 3] = [
-    (0, 0, &[Does::Nothing]),
-    (0, 1, &[Does::Nothing]),
-    (1, 0, &[Does::Nothing]),
-];
 
 /// The readable prefixes of both ranks, in what is shown; nothing where its answer has others.
 fn prefixes(shown: &Shown<'_>) -> Option<(u64, u64)> {
@@ -33,18 +26,24 @@ fn older_than<'a, R: Wait>(rt: &R, board: &Board<'a>, seen: &Shown<'a>) -> Optio
     }
 }
 
-/// Publishes a new node, and again after each of its calls.
+/// Takes a call of rank 0 that takes part in no matching.
+fn take_call<R: Abort>(rt: &R, alloc: Global, node: &mut Node, call: u64) {
+    let segment = segment(rt, alloc, &(0, call, &[Does::Nothing]));
+    node.take(&segment).expect(rt, "a take");
+}
+
+/// Publishes a new node, and again after each of so many calls of rank 0, each in a segment of its own.
 fn publish_calls<'a, R: Wait + Abort>(
     rt: &R,
     alloc: Global,
     layout: &'a Layout,
     board: &Board<'a>,
-    calls: &[Piece],
+    calls: u64,
 ) {
     let mut node = Node::new(alloc, layout).expect(rt, "memory");
     board.publish(rt, &node).expect(rt, "a publish");
-    for piece in calls {
-        node.take(&segment(rt, alloc, piece)).expect(rt, "a take");
+    for call in 0..calls {
+        take_call(rt, alloc, &mut node, call);
         board.publish(rt, &node).expect(rt, "a publish");
     }
 }
@@ -58,61 +57,44 @@ fn shown_after<'a, R: Wait + Abort>(
     board.show(rt, seen).ok().expect(rt, "what is newer")
 }
 
-/// The prefixes shown before anything was published, after three calls, and, as older, after a new
-/// node was published.
-type InTurn = [Option<(u64, u64)>; 3];
+/// The prefixes shown after a node was published and then took a call.
+fn shown_beside_a_take<'a, R: Wait + Abort>(
+    rt: &R,
+    alloc: Global,
+    layout: &'a Layout,
+    board: &Board<'a>,
+) -> Option<(u64, u64)> {
+    let mut node = Node::new(alloc, layout).expect(rt, "memory");
+    board.publish(rt, &node).expect(rt, "a publish");
+    take_call(rt, alloc, &mut node, 0);
+    prefixes(&shown_after(rt, board, None))
+}
+
+/// The prefixes shown before anything was published; after a node was published and then took a call;
+/// after three calls that were published; and, as older, after a new node was.
+type InTurn = [Option<(u64, u64)>; 4];
 
 fn shown_in_turn<R: Wait + Abort>(rt: &R, alloc: Global) -> InTurn {
     let layout = layout(rt, alloc);
     let board = Board::new(alloc, &layout).expect(rt, "memory");
-    let nothing = shown_after(rt, &board, None);
-    publish_calls(rt, alloc, &layout, &board, &CALLS);
-    let all = shown_after(rt, &board, Some(&nothing));
-    publish_calls(rt, alloc, &layout, &board, &[]);
-    let older = older_than(rt, &board, &all);
-    [prefixes(&nothing), prefixes(&all), older]
+    let nothing = prefixes(&shown_after(rt, &board, None));
+    let before = shown_beside_a_take(rt, alloc, &layout, &board);
+    publish_calls(rt, alloc, &layout, &board, 3);
+    let all = shown_after(rt, &board, None);
+    publish_calls(rt, alloc, &layout, &board, 0);
+    [
+        nothing,
+        before,
+        prefixes(&all),
+        older_than(rt, &board, &all),
+    ]
 }
 
 #[test]
 fn what_is_published_is_shown(rt: HostRuntime) {
     let shown = shown_in_turn(&rt, rt.alloc());
-    assert!(rt; shown == [Some((0, 0)), Some((4, 2)), Some((0, 0))]);
+    assert!(rt; shown == [Some((0, 0)), Some((0, 0)), Some((6, 0)), Some((0, 0))]);
 }
-
-/// The prefixes shown after a node was published and then took three calls, and after it was published
-/// once more.
-fn shown_around<R: Wait + Abort>(rt: &R, alloc: Global) -> [Option<(u64, u64)>; 2] {
-    let layout = layout(rt, alloc);
-    let board = Board::new(alloc, &layout).expect(rt, "memory");
-    let mut node = Node::new(alloc, &layout).expect(rt, "memory");
-    board.publish(rt, &node).expect(rt, "a publish");
-    for piece in &CALLS {
-        node.take(&segment(rt, alloc, piece)).expect(rt, "a take");
-    }
-    let before = prefixes(&shown_after(rt, &board, None));
-    board.publish(rt, &node).expect(rt, "a publish");
-    [before, prefixes(&shown_after(rt, &board, None))]
-}
-
-#[test]
-fn what_is_shown_stays_while_the_node_knows_more(rt: HostRuntime) {
-    let shown = shown_around(&rt, rt.alloc());
-    assert!(rt; shown == [Some((0, 0)), Some((4, 2))]);
-}
-
-/// Ten calls of one rank, each in a segment of its own.
-static TEN: [Piece; 10] = [
-    (0, 0, &[Does::Nothing]),
-    (0, 1, &[Does::Nothing]),
-    (0, 2, &[Does::Nothing]),
-    (0, 3, &[Does::Nothing]),
-    (0, 4, &[Does::Nothing]),
-    (0, 5, &[Does::Nothing]),
-    (0, 6, &[Does::Nothing]),
-    (0, 7, &[Does::Nothing]),
-    (0, 8, &[Does::Nothing]),
-    (0, 9, &[Does::Nothing]),
-];
 
 /// Asks twenty times, each time with what was shown last: how often that was not contained in what was
 /// shown then.
@@ -147,7 +129,7 @@ fn older_beside<'a, R: Threads + Wait + Sync + Abort>(
 ) -> (u64, u64) {
     join(
         rt,
-        || publish_calls(rt, alloc, layout, board, &TEN),
+        || publish_calls(rt, alloc, layout, board, 10),
         || two_readers(rt, board),
     )
     .1

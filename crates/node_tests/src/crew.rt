@@ -1,15 +1,12 @@
 //! Crews with an open gate: what two workers and an owner leave.
 
 use crate::fixture::layout;
-use dumpi_calls::{WalkCause, WalkFault};
-use dumpi_text::{LineFault, TextCause, TextFault};
 use std::alloc::Global;
 use std::process::Abort;
 use std::sync::Wait;
 use std::thread::Threads;
 use trace_board::Board;
-use trace_crew::{CrewOut, OpenGate, Piece, PieceFault, crew};
-use trace_node::NodeFault;
+use trace_crew::{OpenGate, Piece, crew};
 
 /// One call of no matching that enters at 0 s and returns at half a second.
 pub(crate) const CALL: &str =
@@ -106,46 +103,4 @@ fn whole_texts_are_joined(rt: HostRuntime) {
         let found = told(&rt, rt.alloc(), first, second);
         assert!(rt; found == *wanted, "{name}");
     }
-}
-
-/// Whether the only fault is that the first worker's first text is cut off in its ninth line.
-fn is_cut_off_at_nine(out: &CrewOut<'_>) -> bool {
-    let Some((worker, place, PieceFault::Walk(WalkFault { cause, calls, .. }))) = out.faults.get(0)
-    else {
-        return false;
-    };
-    let WalkCause::Text(TextFault::At { line, cause }) = cause else {
-        return false;
-    };
-    *worker == 0
-        && *place == 0
-        && *calls == 1
-        && *line == 9
-        && *cause == TextCause::Line(LineFault::Truncated)
-}
-
-/// Whether the only refused segment is the second worker's, of rank 9.
-fn is_of_rank_nine(out: &CrewOut<'_>) -> bool {
-    match out.refused.get(0) {
-        Some((worker, segment, fault)) => {
-            *worker == 1 && segment.rank() == 9 && *fault == NodeFault::Rank
-        }
-        None => false,
-    }
-}
-
-/// Whether a crew lists the cut off text of its first worker and the foreign rank of its second.
-fn lists_both<R: Threads + Wait + Sync + Abort>(rt: &R, alloc: Global) -> bool {
-    let layout = layout(rt, alloc);
-    let board = Board::new(alloc, &layout).expect(rt, "memory");
-    let first = pieces(rt, alloc, &[(0, 0, CUT_OFF)]);
-    let second = pieces(rt, alloc, &[(9, 0, CALL)]);
-    let out = crew(rt, alloc, &layout, &first, &second, &board, &OpenGate).expect(rt, "a crew");
-    is_cut_off_at_nine(&out) && is_of_rank_nine(&out)
-}
-
-#[test]
-fn faults_and_refusals_are_named(rt: HostRuntime) {
-    let is_so = lists_both(&rt, rt.alloc());
-    assert!(rt; is_so);
 }

@@ -8,19 +8,19 @@
 //! | File | Tests |
 //! |---|---|
 //! | `fixture` | pieces of two ranks, nodes that took them, their frames and reports |
-//! | `node` | `trace_node`: pieces in every order, refusals, copies |
-//! | `report` | `trace_report`: a report, whole and broken off |
+//! | `node` | `trace_node`: copies of nodes and answers, a refreshed node, and pieces that are held |
+//! | `report` | `trace_report`: a report to a writer that takes it piece by piece |
 //! | `exchange`, `socket` | `trace_exchange`: both sides in memory (`pipe`), and over a socket of this machine |
-//! | `world` | `trace_world`: schedules over two nodes |
+//! | `world` | `trace_world`: a node that is refreshed after a schedule |
 //! | `board` | `trace_board`: what is published is shown, beside threads that ask too, and one who has seen more is told so |
 //! | `crew`, `gates` | `trace_crew`: what it leaves, and, by gates, that its threads run at the same time |
-//! | `cluster`, `unplugged` | `trace_cluster`: two nodes that know the same at the end, which refusal is named, and a network that gives no port or no connection |
+//! | `unplugged` | `trace_cluster`: a network that gives no port or no connection |
+//!
+//! What the program's verbs do, `replay` and `cluster` among them, is data in `tests/cases/`.
 #![tactic(auto)]
 
 #[cfg(test)]
 mod board;
-#[cfg(test)]
-mod cluster;
 #[cfg(test)]
 mod crew;
 #[cfg(test)]
