@@ -18,6 +18,20 @@ fn prefixes(shown: &Shown<'_>) -> Option<(u64, u64)> {
     is_answered.then_some(told)
 }
 
+/// What is shown to one who has seen this.
+fn shown_after<'a, R: Wait + Abort>(
+    rt: &R,
+    board: &Board<'a>,
+    seen: Option<&Shown<'a>>,
+) -> Shown<'a> {
+    board.show(rt, seen).ok().expect(rt, "what is newer")
+}
+
+/// The prefixes of what is shown to one who has seen nothing.
+fn shown_now<R: Wait + Abort>(rt: &R, board: &Board<'_>) -> Option<(u64, u64)> {
+    prefixes(&shown_after(rt, board, None))
+}
+
 /// The prefixes of what is shown, where it is older than what was seen.
 fn older_than<'a, R: Wait>(rt: &R, board: &Board<'a>, seen: &Shown<'a>) -> Option<(u64, u64)> {
     match board.show(rt, Some(seen)) {
@@ -32,68 +46,49 @@ fn take_call<R: Abort>(rt: &R, alloc: Global, node: &mut Node, call: u64) {
     node.take(&segment).expect(rt, "a take");
 }
 
-/// Publishes a new node, and again after each of so many calls of rank 0, each in a segment of its own.
+/// Publishes a new node, and again after each of so many calls of rank 0, each in a segment of its own: what
+/// was shown once the last was taken and not published yet.
 fn publish_calls<'a, R: Wait + Abort>(
     rt: &R,
     alloc: Global,
     layout: &'a Layout,
     board: &Board<'a>,
     calls: u64,
-) {
-    let mut node = Node::new(alloc, layout).expect(rt, "memory");
-    board.publish(rt, &node).expect(rt, "a publish");
-    for call in 0..calls {
-        take_call(rt, alloc, &mut node, call);
-        board.publish(rt, &node).expect(rt, "a publish");
-    }
-}
-
-/// What is shown to one who has seen this.
-fn shown_after<'a, R: Wait + Abort>(
-    rt: &R,
-    board: &Board<'a>,
-    seen: Option<&Shown<'a>>,
-) -> Shown<'a> {
-    board.show(rt, seen).ok().expect(rt, "what is newer")
-}
-
-/// The prefixes shown after a node was published and then took a call.
-fn shown_beside_a_take<'a, R: Wait + Abort>(
-    rt: &R,
-    alloc: Global,
-    layout: &'a Layout,
-    board: &Board<'a>,
 ) -> Option<(u64, u64)> {
     let mut node = Node::new(alloc, layout).expect(rt, "memory");
     board.publish(rt, &node).expect(rt, "a publish");
-    take_call(rt, alloc, &mut node, 0);
-    prefixes(&shown_after(rt, board, None))
+    let mut before = None;
+    for call in 0..calls {
+        take_call(rt, alloc, &mut node, call);
+        before = shown_now(rt, board);
+        board.publish(rt, &node).expect(rt, "a publish");
+    }
+    drop(node);
+    before
 }
 
-/// The prefixes shown before anything was published; after a node was published and then took a call;
-/// after three calls that were published; and, as older, after a new node was.
+/// The prefixes shown before anything was published; when a node that was published had taken a third call;
+/// when that was published; and, as older, when a new node was.
 type InTurn = [Option<(u64, u64)>; 4];
 
 fn shown_in_turn<R: Wait + Abort>(rt: &R, alloc: Global) -> InTurn {
     let layout = layout(rt, alloc);
     let board = Board::new(alloc, &layout).expect(rt, "memory");
-    let nothing = prefixes(&shown_after(rt, &board, None));
-    let before = shown_beside_a_take(rt, alloc, &layout, &board);
-    publish_calls(rt, alloc, &layout, &board, 3);
+    let nothing = shown_now(rt, &board);
+    let before = publish_calls(rt, alloc, &layout, &board, 3);
     let all = shown_after(rt, &board, None);
     publish_calls(rt, alloc, &layout, &board, 0);
-    [
-        nothing,
-        before,
-        prefixes(&all),
-        older_than(rt, &board, &all),
-    ]
+    let older = older_than(rt, &board, &all);
+    let found = [nothing, before, prefixes(&all), older];
+    drop(all);
+    drop(board);
+    found
 }
 
 #[test]
 fn what_is_published_is_shown(rt: HostRuntime) {
     let shown = shown_in_turn(&rt, rt.alloc());
-    assert!(rt; shown == [Some((0, 0)), Some((0, 0)), Some((6, 0)), Some((0, 0))]);
+    assert!(rt; shown == [Some((0, 0)), Some((4, 0)), Some((6, 0)), Some((0, 0))]);
 }
 
 /// Asks twenty times, each time with what was shown last: how often that was not contained in what was
@@ -119,8 +114,8 @@ fn two_readers<'a, R: Threads + Wait + Sync + Abort>(rt: &R, board: &Board<'a>) 
     join(rt, || count_older(rt, board), || count_older(rt, board))
 }
 
-/// One thread publishes ten nodes, each with one segment more, beside two that ask: how often each of
-/// these was shown something older.
+/// One thread publishes a node again after each of ten calls, beside two that ask: how often each of these
+/// was shown something older.
 fn older_beside<'a, R: Threads + Wait + Sync + Abort>(
     rt: &R,
     alloc: Global,
@@ -143,7 +138,9 @@ fn shown_beside<R: Threads + Wait + Sync + Abort>(
     let layout = layout(rt, alloc);
     let board = Board::new(alloc, &layout).expect(rt, "memory");
     let older = older_beside(rt, alloc, &layout, &board);
-    (older, prefixes(&shown_after(rt, &board, None)))
+    let last = shown_now(rt, &board);
+    drop(board);
+    (older, last)
 }
 
 #[test]

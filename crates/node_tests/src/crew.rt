@@ -5,8 +5,8 @@ use std::alloc::Global;
 use std::process::Abort;
 use std::sync::Wait;
 use std::thread::Threads;
-use trace_board::Board;
-use trace_crew::{OpenGate, Piece, crew};
+use trace_board::{Board, Shown};
+use trace_crew::{CrewOut, Gate, OpenGate, Piece, crew};
 
 /// One call of no matching that enters at 0 s and returns at half a second.
 pub(crate) const CALL: &str =
@@ -50,21 +50,9 @@ pub(crate) fn pieces<R: Abort>(rt: &R, alloc: Global, rows: &[Row]) -> Vec<Piece
 
 /// What the node knows (the readable prefixes of both ranks), and what the board shows of it; and how
 /// many texts had a fault, and how many segments were refused.
-type Told = ((u64, u64), (u64, u64), usize, usize);
+pub(crate) type Told = ((u64, u64), (u64, u64), usize, usize);
 
-/// What a crew with an open gate leaves.
-fn told<R: Threads + Wait + Sync + Abort>(
-    rt: &R,
-    alloc: Global,
-    first: &[Row],
-    second: &[Row],
-) -> Told {
-    let layout = layout(rt, alloc);
-    let board = Board::new(alloc, &layout).expect(rt, "memory");
-    let first = pieces(rt, alloc, first);
-    let second = pieces(rt, alloc, second);
-    let out = crew(rt, alloc, &layout, &first, &second, &board, &OpenGate).expect(rt, "a crew");
-    let shown = board.show(rt, None).ok().expect(rt, "memory");
+fn told(out: &CrewOut<'_>, shown: &Shown<'_>) -> Told {
     let (node, seen) = (out.node.know(), shown.know());
     (
         (node.prefix(0), node.prefix(1)),
@@ -72,6 +60,37 @@ fn told<R: Threads + Wait + Sync + Abort>(
         out.faults.len(),
         out.refused.len(),
     )
+}
+
+/// What a crew leaves that this gate holds.
+pub(crate) fn left<R: Threads + Wait + Sync + Abort, G: Gate>(
+    rt: &R,
+    alloc: Global,
+    first: &[Piece],
+    second: &[Piece],
+    gate: &G,
+) -> Told {
+    let layout = layout(rt, alloc);
+    let board = Board::new(alloc, &layout).expect(rt, "memory");
+    let out = crew(rt, alloc, &layout, first, second, &board, gate).expect(rt, "a crew");
+    let shown = board.show(rt, None).ok().expect(rt, "memory");
+    let told = told(&out, &shown);
+    drop(out);
+    drop(shown);
+    drop(board);
+    told
+}
+
+/// What a crew with an open gate leaves of these texts.
+fn left_open<R: Threads + Wait + Sync + Abort>(
+    rt: &R,
+    alloc: Global,
+    first: &[Row],
+    second: &[Row],
+) -> Told {
+    let first = pieces(rt, alloc, first);
+    let second = pieces(rt, alloc, second);
+    left(rt, alloc, &first, &second, &OpenGate)
 }
 
 /// A name, the texts of both workers, and what is left.
@@ -100,7 +119,7 @@ static ROWS: [(&str, &[Row], &[Row], Told); 4] = [
 #[test]
 fn whole_texts_are_joined(rt: HostRuntime) {
     for (name, first, second, wanted) in &ROWS {
-        let found = told(&rt, rt.alloc(), first, second);
+        let found = left_open(&rt, rt.alloc(), first, second);
         assert!(rt; found == *wanted, "{name}");
     }
 }

@@ -46,9 +46,11 @@ fn meet<R: Abort>(rt: &R, alloc: Global, layout: &Layout) -> bool {
     let own = frame_of(rt, alloc, leader.know());
     let answered = followed(rt, alloc, &mut follower, &own);
     let asked = led(rt, alloc, &mut leader, &answered);
-    asked.as_slice() == own.as_slice()
-        && knows_all(rt, alloc, &leader, &answered)
-        && knows_all(rt, alloc, &follower, &answered)
+    let has_led = knows_all(rt, alloc, &leader, &answered);
+    let has_followed = knows_all(rt, alloc, &follower, &answered);
+    drop(leader);
+    drop(follower);
+    has_led && has_followed && asked.as_slice() == own.as_slice()
 }
 
 #[test]

@@ -1,8 +1,7 @@
 //! Crews that are held by gates: each holds one thread until another has come to a place, for at most
 //! 1,000 turns of one millisecond, and notes where the turns ran out.
 
-use crate::crew::{CALL, piece, pieces};
-use crate::fixture::layout;
+use crate::crew::{CALL, Told, left, piece, pieces};
 use std::alloc::Global;
 use std::process::Abort;
 use std::rt::Clock;
@@ -10,8 +9,7 @@ use std::sync::{Mutex, Wait};
 use std::thread;
 use std::thread::Threads;
 use std::time::Duration;
-use trace_board::Board;
-use trace_crew::{Gate, Piece, crew};
+use trace_crew::{Gate, Piece};
 
 /// How often something was announced, for threads that wait until it was.
 #[derive(Drop)]
@@ -104,26 +102,8 @@ impl<'a, R: Wait + Clock + Sync> Gate for Crowd<'a, R> {
     }
 }
 
-/// The readable prefixes that a crew leaves where nothing has a fault or is refused, in its node and on
-/// the board alike.
-fn prefixes<R: Threads + Wait + Sync + Abort, G: Gate>(
-    rt: &R,
-    alloc: Global,
-    first: &[Piece],
-    second: &[Piece],
-    gate: &G,
-) -> Option<(u64, u64)> {
-    let layout = layout(rt, alloc);
-    let board = Board::new(alloc, &layout).expect(rt, "memory");
-    let out = crew(rt, alloc, &layout, first, second, &board, gate).expect(rt, "a crew");
-    let shown = board.show(rt, None).ok().expect(rt, "memory");
-    let know = out.node.know();
-    let is_so = out.faults.is_empty() && out.refused.is_empty() && shown.know().same(know);
-    is_so.then_some((know.prefix(0), know.prefix(1)))
-}
-
-/// The prefixes, and whether the gate had to let go.
-type Held = (Option<(u64, u64)>, bool);
+/// What the crew leaves, and whether the gate had to let go.
+type Held = (Told, bool);
 
 /// After two pieces beside one, held so that both workers and the owner must run at the same time.
 fn met<R: Threads + Wait + Clock + Sync + Abort>(rt: &R, alloc: Global) -> Held {
@@ -135,15 +115,15 @@ fn met<R: Threads + Wait + Clock + Sync + Abort>(rt: &R, alloc: Global) -> Held 
     };
     let first = pieces(rt, alloc, &[(0, 0, CALL), (0, 1, CALL)]);
     let second = pieces(rt, alloc, &[(1, 0, CALL)]);
-    let found = prefixes(rt, alloc, &first, &second, &gate);
+    let told = left(rt, alloc, &first, &second, &gate);
     let has_failed = *gate.failures.count.lock(rt) > 0;
-    (found, has_failed)
+    (told, has_failed)
 }
 
 #[test]
 fn workers_and_owner_run_at_once(rt: HostRuntime) {
     let found = met(&rt, rt.alloc());
-    assert!(rt; found == (Some((4, 2)), false));
+    assert!(rt; found == (((4, 2), (4, 2), 0, 0), false));
 }
 
 /// Twenty calls of a rank, each a piece.
@@ -165,13 +145,13 @@ fn crowded<R: Threads + Wait + Clock + Sync + Abort>(rt: &R, alloc: Global) -> H
     };
     let first = twenty(rt, alloc, 0);
     let second = twenty(rt, alloc, 1);
-    let found = prefixes(rt, alloc, &first, &second, &gate);
+    let told = left(rt, alloc, &first, &second, &gate);
     let has_failed = *gate.failures.count.lock(rt) > 0;
-    (found, has_failed)
+    (told, has_failed)
 }
 
 #[test]
 fn workers_fill_the_inbox(rt: HostRuntime) {
     let found = crowded(&rt, rt.alloc());
-    assert!(rt; found == (Some((40, 40)), false));
+    assert!(rt; found == (((40, 40), (40, 40), 0, 0), false));
 }

@@ -1,12 +1,14 @@
-//! Nodes that were told of pieces: what they report, and so do their copies, their answers' copies, and they
-//! themselves once they are refreshed; and pieces that are held, in several orders.
+//! Nodes that were told of pieces: what they report, in memory and piece by piece, and so do their copies,
+//! their answers' copies, and they themselves once they are refreshed; and pieces that are held, in several
+//! orders.
 
 use crate::fixture::{Does, PIECES, PINGPONG, Piece, layout, node_of, report_of, segment};
+use mpi_model::MemoryWriter;
 use std::alloc::Global;
 use std::process::Abort;
 use trace_know::ReadySegment;
 use trace_node::Node;
-use trace_report::report_text;
+use trace_report::{report_text, write_report};
 
 /// Three sends of rank 0, which rank 1 receives; and the second of them with another tag.
 const DISAGREEING: &[Piece] = &[
@@ -52,10 +54,20 @@ static ROWS: [(&str, &[Piece], &[u8]); 3] = [
     ("a contradiction", DISAGREEING, DISAGREED),
 ];
 
+/// What a writer gets that takes seven bytes of the node's report at a time.
+fn written<R: Abort>(rt: &R, alloc: Global, node: &Node) -> Vec<u8> {
+    let answer = node.answer().expect(rt, "an answer");
+    let mut writer = MemoryWriter::new(alloc).at_most(7);
+    write_report(answer, &mut writer).expect(rt, "a report");
+    writer.bytes().to_vec(alloc).expect(rt, "memory")
+}
+
 /// What a copy of the node reports.
 fn copied<R: Abort>(rt: &R, alloc: Global, node: &Node) -> Vec<u8> {
     let copy = node.try_clone().expect(rt, "memory");
-    report_of(rt, alloc, &copy)
+    let report = report_of(rt, alloc, &copy);
+    drop(copy);
+    report
 }
 
 /// The report of a copy of the node's answer.
@@ -71,28 +83,37 @@ fn refreshed<R: Abort>(rt: &R, alloc: Global, node: &mut Node) -> Vec<u8> {
     report_of(rt, alloc, node)
 }
 
-/// What doesn't report so: a node that took these pieces, its copy, its answer's copy, or it refreshed;
+/// What doesn't report so: the node, to a writer too, its copy, its answer's copy, or the node refreshed;
 /// nothing where all do.
-fn fails<R: Abort>(rt: &R, alloc: Global, pieces: &[Piece], report: &[u8]) -> &'static str {
-    let layout = layout(rt, alloc);
-    let mut node = node_of(rt, alloc, &layout, pieces);
-    if report_of(rt, alloc, &node).as_slice() != report {
-        "it"
-    } else if copied(rt, alloc, &node).as_slice() != report {
+fn failing<R: Abort>(rt: &R, alloc: Global, node: &mut Node, report: &[u8]) -> &'static str {
+    if report_of(rt, alloc, node).as_slice() != report {
+        "the node"
+    } else if written(rt, alloc, node).as_slice() != report {
+        "the node, to a writer"
+    } else if copied(rt, alloc, node).as_slice() != report {
         "its copy"
-    } else if answer_copied(rt, alloc, &node).as_slice() != report {
+    } else if answer_copied(rt, alloc, node).as_slice() != report {
         "its answer's copy"
-    } else if refreshed(rt, alloc, &mut node).as_slice() != report {
-        "it refreshed"
+    } else if refreshed(rt, alloc, node).as_slice() != report {
+        "the node refreshed"
     } else {
         ""
     }
 }
 
+/// What doesn't report so of a node that took these pieces.
+fn failing_after<R: Abort>(rt: &R, alloc: Global, pieces: &[Piece], report: &[u8]) -> &'static str {
+    let layout = layout(rt, alloc);
+    let mut node = node_of(rt, alloc, &layout, pieces);
+    let failing = failing(rt, alloc, &mut node, report);
+    drop(node);
+    failing
+}
+
 #[test]
 fn nodes_that_were_told_of_pieces(rt: HostRuntime) {
     for (name, pieces, report) in &ROWS {
-        let failing = fails(&rt, rt.alloc(), pieces, report);
+        let failing = failing_after(&rt, rt.alloc(), pieces, report);
         assert!(rt; failing.is_empty(), "{name}: {failing}");
     }
 }
@@ -110,8 +131,8 @@ fn is_held<R: Abort>(rt: &R, alloc: Global, node: &mut Node, place: usize) -> bo
     }
 }
 
-/// Whether the node holds the four pieces in this order, prepares for each, and has no answer before the end
-/// but after the first of them, wherever that stands.
+/// Whether the node holds the four pieces in this order, each of which it prepares for, and has no answer
+/// before it catches up: after the first piece, wherever that stands, and at the end.
 fn holds<R: Abort>(rt: &R, alloc: Global, node: &mut Node, order: &str) -> bool {
     let mut is_so = true;
     for name in order.bytes() {
@@ -126,20 +147,20 @@ fn holds<R: Abort>(rt: &R, alloc: Global, node: &mut Node, order: &str) -> bool 
     is_so
 }
 
-/// What is reported of the four pieces, held in this order; nothing where they aren't.
-fn held<R: Abort>(rt: &R, alloc: Global, order: &str) -> Vec<u8> {
+/// Whether the four pieces are held in this order, and what is reported of them then.
+fn held<R: Abort>(rt: &R, alloc: Global, order: &str) -> (bool, Vec<u8>) {
     let layout = layout(rt, alloc);
-    let mut node = Node::new(alloc, &layout).expect(rt, "memory");
-    if !holds(rt, alloc, &mut node, order) {
-        return Vec::new(alloc);
-    }
-    report_of(rt, alloc, &node)
+    let mut node = node_of(rt, alloc, &layout, &[]);
+    let is_held = holds(rt, alloc, &mut node, order);
+    let report = report_of(rt, alloc, &node);
+    drop(node);
+    (is_held, report)
 }
 
 #[test]
 fn pieces_are_held_in_several_orders(rt: HostRuntime) {
     for order in ["0123", "1302", "2031", "3210"] {
-        let report = held(&rt, rt.alloc(), order);
-        assert!(rt; report.as_slice() == DISAGREED, "{order}");
+        let (is_held, report) = held(&rt, rt.alloc(), order);
+        assert!(rt; is_held && report.as_slice() == DISAGREED, "{order}");
     }
 }

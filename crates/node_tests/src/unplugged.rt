@@ -57,10 +57,8 @@ fn is_unmet<R: Net<Listener = TcpListener, Stream = TcpStream> + Threads + Wait 
     let first = workload(rt, alloc, 0);
     let second = workload(rt, alloc, 1);
     let unplugged = Unplugged { rt, has_ports };
-    matches!(
-        &cluster(&unplugged, alloc, &layout, &first, &second),
-        Err(ClusterFault::Net)
-    )
+    let fault = cluster(&unplugged, alloc, &layout, &first, &second).err();
+    matches!(fault, Some(ClusterFault::Net))
 }
 
 #[test]

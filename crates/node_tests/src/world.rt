@@ -48,12 +48,10 @@ fn seen<R: Abort>(rt: &R, alloc: Global) -> Seen {
     world.run(&steps).expect(rt, "the steps");
     world.refresh(1).expect(rt, "a refreshment");
     let fault = world.refresh(2).err();
-    (
-        prefixes(&world, 1),
-        world.inbox_len(1),
-        world.mails(),
-        fault,
-    )
+    let (waiting, mails) = (world.inbox_len(1), world.mails());
+    let known = prefixes(&world, 1);
+    drop(world);
+    (known, waiting, mails, fault)
 }
 
 #[test]
