@@ -4,39 +4,44 @@
 use crate::fixture::{Does, layout, segment};
 use mpi_model::Layout;
 use std::alloc::Global;
+use std::mem::replace;
 use std::process::Abort;
 use std::sync::Wait;
 use std::thread::{Threads, join};
-use trace_board::{Board, ShowFault, Shown};
+use trace_crew::{Board, ShowFault, Shown};
 use trace_node::Node;
 
-/// The readable prefixes of both ranks, in what is shown; nothing where its answer has others.
-fn prefixes(shown: &Shown<'_>) -> Option<(u64, u64)> {
+/// The readable prefixes of both ranks; nothing where an answer has others.
+type Prefixes = Option<(u64, u64)>;
+
+/// Those of what is shown.
+fn prefixes(shown: &Shown<'_>) -> Prefixes {
     let know = shown.know();
     let told = (know.prefix(0), know.prefix(1));
     let is_answered = shown.answer().prefixes() == [told.0, told.1].as_slice();
     is_answered.then_some(told)
 }
 
-/// What is shown to one who has seen this.
-fn shown_after<'a, R: Wait + Abort>(
+/// What is shown to one who has seen nothing.
+fn shown_first<'a, R: Wait + Abort>(rt: &R, board: &Board<'a>) -> Shown<'a> {
+    board.show(rt, None).ok().expect(rt, "what is shown")
+}
+
+/// The prefixes of what is shown now.
+fn shown_now<R: Wait + Abort>(rt: &R, board: &Board<'_>) -> Prefixes {
+    prefixes(&shown_first(rt, board))
+}
+
+/// What is shown to one who has seen this, and 1 where it doesn't contain that.
+fn shown_next<'a, R: Wait + Abort>(
     rt: &R,
     board: &Board<'a>,
-    seen: Option<&Shown<'a>>,
-) -> Shown<'a> {
-    board.show(rt, seen).ok().expect(rt, "what is newer")
-}
-
-/// The prefixes of what is shown to one who has seen nothing.
-fn shown_now<R: Wait + Abort>(rt: &R, board: &Board<'_>) -> Option<(u64, u64)> {
-    prefixes(&shown_after(rt, board, None))
-}
-
-/// The prefixes of what is shown, where it is older than what was seen.
-fn older_than<'a, R: Wait>(rt: &R, board: &Board<'a>, seen: &Shown<'a>) -> Option<(u64, u64)> {
+    seen: &Shown<'a>,
+) -> (Shown<'a>, u64) {
     match board.show(rt, Some(seen)) {
-        Err(ShowFault::Older(found)) => prefixes(&found),
-        _ => None,
+        Ok(found) => (found, 0),
+        Err(ShowFault::Older(found)) => (found, 1),
+        Err(ShowFault::Memory) => None.expect(rt, "memory"),
     }
 }
 
@@ -54,7 +59,7 @@ fn publish_calls<'a, R: Wait + Abort>(
     layout: &'a Layout,
     board: &Board<'a>,
     calls: u64,
-) -> Option<(u64, u64)> {
+) -> Prefixes {
     let mut node = Node::new(alloc, layout).expect(rt, "memory");
     board.publish(rt, &node).expect(rt, "a publish");
     let mut before = None;
@@ -68,19 +73,20 @@ fn publish_calls<'a, R: Wait + Abort>(
 }
 
 /// The prefixes shown before anything was published; when a node that was published had taken a third call;
-/// when that was published; and, as older, when a new node was.
-type InTurn = [Option<(u64, u64)>; 4];
+/// when that was published; and when a new node was, and then whether the last was older (1) or not.
+type InTurn = (Prefixes, Prefixes, Prefixes, Prefixes, u64);
 
 fn shown_in_turn<R: Wait + Abort>(rt: &R, alloc: Global) -> InTurn {
     let layout = layout(rt, alloc);
     let board = Board::new(alloc, &layout).expect(rt, "memory");
     let nothing = shown_now(rt, &board);
     let before = publish_calls(rt, alloc, &layout, &board, 3);
-    let all = shown_after(rt, &board, None);
+    let all = shown_first(rt, &board);
     publish_calls(rt, alloc, &layout, &board, 0);
-    let older = older_than(rt, &board, &all);
-    let found = [nothing, before, prefixes(&all), older];
+    let (last, older) = shown_next(rt, &board, &all);
+    let found = (nothing, before, prefixes(&all), prefixes(&last), older);
     drop(all);
+    drop(last);
     drop(board);
     found
 }
@@ -88,24 +94,20 @@ fn shown_in_turn<R: Wait + Abort>(rt: &R, alloc: Global) -> InTurn {
 #[test]
 fn what_is_published_is_shown(rt: HostRuntime) {
     let shown = shown_in_turn(&rt, rt.alloc());
-    assert!(rt; shown == [Some((0, 0)), Some((4, 0)), Some((6, 0)), Some((0, 0))]);
+    assert!(rt; shown == (Some((0, 0)), Some((4, 0)), Some((6, 0)), Some((0, 0)), 1));
 }
 
 /// Asks twenty times, each time with what was shown last: how often that was not contained in what was
 /// shown then.
-fn count_older<'a, R: Wait + Abort>(rt: &R, board: &Board<'a>) -> u64 {
+fn count_older<R: Wait + Abort>(rt: &R, board: &Board<'_>) -> u64 {
     let mut older: u64 = 0;
-    let mut seen = shown_after(rt, board, None);
+    let mut seen = shown_first(rt, board);
     for _ in 0..20 {
-        seen = match board.show(rt, Some(&seen)) {
-            Ok(found) => found,
-            Err(ShowFault::Older(found)) => {
-                older = older.saturating_add(1);
-                found
-            }
-            Err(ShowFault::Memory) => None.expect(rt, "memory"),
-        };
+        let (found, count) = shown_next(rt, board, &seen);
+        drop(replace(&mut seen, found));
+        older = older.saturating_add(count);
     }
+    drop(seen);
     older
 }
 
@@ -131,10 +133,7 @@ fn older_beside<'a, R: Threads + Wait + Sync + Abort>(
 }
 
 /// How often each reader was shown something older, and the prefixes shown in the end.
-fn shown_beside<R: Threads + Wait + Sync + Abort>(
-    rt: &R,
-    alloc: Global,
-) -> ((u64, u64), Option<(u64, u64)>) {
+fn shown_beside<R: Threads + Wait + Sync + Abort>(rt: &R, alloc: Global) -> ((u64, u64), Prefixes) {
     let layout = layout(rt, alloc);
     let board = Board::new(alloc, &layout).expect(rt, "memory");
     let older = older_beside(rt, alloc, &layout, &board);

@@ -5,8 +5,7 @@ use std::alloc::Global;
 use std::process::Abort;
 use std::sync::Wait;
 use std::thread::Threads;
-use trace_board::{Board, Shown};
-use trace_crew::{CrewOut, Gate, OpenGate, Piece, crew};
+use trace_crew::{Board, CrewOut, Gate, OpenGate, Piece, Shown, crew};
 
 /// One call of no matching that enters at 0 s and returns at half a second.
 pub(crate) const CALL: &str =

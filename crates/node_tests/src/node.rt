@@ -1,14 +1,12 @@
-//! Nodes that were told of pieces: what they report, in memory and piece by piece, and so do their copies,
-//! their answers' copies, and they themselves once they are refreshed; and pieces that are held, in several
-//! orders.
+//! Nodes that were told of pieces: what they report, and so do their copies, their answers' copies, and they
+//! themselves once they are refreshed; and pieces that are held, in several orders.
 
 use crate::fixture::{Does, PIECES, PINGPONG, Piece, layout, node_of, report_of, segment};
-use mpi_model::MemoryWriter;
 use std::alloc::Global;
 use std::process::Abort;
 use trace_know::ReadySegment;
 use trace_node::Node;
-use trace_report::{report_text, write_report};
+use trace_report::report_text;
 
 /// Three sends of rank 0, which rank 1 receives; and the second of them with another tag.
 const DISAGREEING: &[Piece] = &[
@@ -54,14 +52,6 @@ static ROWS: [(&str, &[Piece], &[u8]); 3] = [
     ("a contradiction", DISAGREEING, DISAGREED),
 ];
 
-/// What a writer gets that takes seven bytes of the node's report at a time.
-fn written<R: Abort>(rt: &R, alloc: Global, node: &Node) -> Vec<u8> {
-    let answer = node.answer().expect(rt, "an answer");
-    let mut writer = MemoryWriter::new(alloc).at_most(7);
-    write_report(answer, &mut writer).expect(rt, "a report");
-    writer.bytes().to_vec(alloc).expect(rt, "memory")
-}
-
 /// What a copy of the node reports.
 fn copied<R: Abort>(rt: &R, alloc: Global, node: &Node) -> Vec<u8> {
     let copy = node.try_clone().expect(rt, "memory");
@@ -83,38 +73,48 @@ fn refreshed<R: Abort>(rt: &R, alloc: Global, node: &mut Node) -> Vec<u8> {
     report_of(rt, alloc, node)
 }
 
-/// What doesn't report so: the node, to a writer too, its copy, its answer's copy, or the node refreshed;
-/// nothing where all do.
-fn failing<R: Abort>(rt: &R, alloc: Global, node: &mut Node, report: &[u8]) -> &'static str {
-    if report_of(rt, alloc, node).as_slice() != report {
-        "the node"
-    } else if written(rt, alloc, node).as_slice() != report {
-        "the node, to a writer"
-    } else if copied(rt, alloc, node).as_slice() != report {
-        "its copy"
-    } else if answer_copied(rt, alloc, node).as_slice() != report {
-        "its answer's copy"
-    } else if refreshed(rt, alloc, node).as_slice() != report {
-        "the node refreshed"
-    } else {
-        ""
+/// Whose report it is: a node's own, that of its copy or of its answer's copy, or its own once it is
+/// refreshed.
+#[derive(Clone, Copy)]
+enum Whose {
+    Own,
+    Copy,
+    AnswerCopy,
+    Refreshed,
+}
+
+fn report_by<R: Abort>(rt: &R, alloc: Global, node: &mut Node, whose: Whose) -> Vec<u8> {
+    match whose {
+        Whose::Own => report_of(rt, alloc, node),
+        Whose::Copy => copied(rt, alloc, node),
+        Whose::AnswerCopy => answer_copied(rt, alloc, node),
+        Whose::Refreshed => refreshed(rt, alloc, node),
     }
 }
 
-/// What doesn't report so of a node that took these pieces.
-fn failing_after<R: Abort>(rt: &R, alloc: Global, pieces: &[Piece], report: &[u8]) -> &'static str {
+/// What is reported of a node that took these pieces.
+fn reported<R: Abort>(rt: &R, alloc: Global, pieces: &[Piece], whose: Whose) -> Vec<u8> {
     let layout = layout(rt, alloc);
     let mut node = node_of(rt, alloc, &layout, pieces);
-    let failing = failing(rt, alloc, &mut node, report);
+    let report = report_by(rt, alloc, &mut node, whose);
     drop(node);
-    failing
+    report
 }
+
+static WHOSE: [(&str, Whose); 4] = [
+    ("its own", Whose::Own),
+    ("its copy's", Whose::Copy),
+    ("its answer's copy's", Whose::AnswerCopy),
+    ("its own, refreshed", Whose::Refreshed),
+];
 
 #[test]
 fn nodes_that_were_told_of_pieces(rt: HostRuntime) {
-    for (name, pieces, report) in &ROWS {
-        let failing = failing_after(&rt, rt.alloc(), pieces, report);
-        assert!(rt; failing.is_empty(), "{name}: {failing}");
+    for (name, pieces, wanted) in &ROWS {
+        for (whose, by) in &WHOSE {
+            let report = reported(&rt, rt.alloc(), pieces, *by);
+            assert!(rt; report.as_slice() == *wanted, "{name}: {whose}");
+        }
     }
 }
 
