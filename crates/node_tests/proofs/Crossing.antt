@@ -12,8 +12,8 @@ use Rattle.trace_stuck.proofs.condition.Condition.TheLaws.TheKnot as condition
 use Rattle.trace_node.specs.contracts.answer.Answer as answer
 use Rattle.trace_node.specs.contracts.shared.SharedKnowledge as shared_knowledge
 use Rattle.trace_node.specs.contracts.shared.SharedAnswer as shared_answer
-use Rattle.trace_board.specs.contracts.shown.Shown as shown
-use Rattle.trace_board.specs.contracts.board.Board as board
+use Rattle.trace_crew.specs.contracts.board.shown.Shown as shown
+use Rattle.trace_crew.specs.contracts.board.Board as board
 
 -- An answer holds conditions, which lead back to themselves: `condition.crosses` goes through them by recursion.
 pub answer_send : IsSend answer.the_row

@@ -1,134 +1,113 @@
 //! A board of two ranks: that a publish changes it, that a show reads it, and that one who has seen more
 //! is told so, and no one else.
 
-use crate::fixture::{Does, Piece, layout, segment};
+use crate::fixture::{Does, layout, segment};
 use mpi_model::Layout;
 use std::alloc::Global;
+use std::mem::replace;
 use std::process::Abort;
 use std::sync::Wait;
 use std::thread::{Threads, join};
-use trace_board::{Board, ShowFault, Shown};
+use trace_crew::{Board, ShowFault, Shown};
 use trace_node::Node;
 
-/// Three calls that take part in no matching.
-static CALLS: [Piece; 3] = [
-    (0, 0, &[Does::Nothing]),
-    (0, 1, &[Does::Nothing]),
-    (1, 0, &[Does::Nothing]),
-];
+/// The readable prefixes of both ranks; nothing where an answer has others.
+type Prefixes = Option<(u64, u64)>;
 
-/// The readable prefixes of both ranks, in what is shown; nothing where its answer has others.
-fn prefixes(shown: &Shown<'_>) -> Option<(u64, u64)> {
+/// Those of what is shown.
+fn prefixes(shown: &Shown<'_>) -> Prefixes {
     let know = shown.know();
     let told = (know.prefix(0), know.prefix(1));
     let is_answered = shown.answer().prefixes() == [told.0, told.1].as_slice();
     is_answered.then_some(told)
 }
 
-/// The prefixes of what is shown, where it is older than what was seen.
-fn older_than<'a, R: Wait>(rt: &R, board: &Board<'a>, seen: &Shown<'a>) -> Option<(u64, u64)> {
+/// What is shown to one who has seen nothing.
+fn shown_first<'a, R: Wait + Abort>(rt: &R, board: &Board<'a>) -> Shown<'a> {
+    board.show(rt, None).ok().expect(rt, "what is shown")
+}
+
+/// The prefixes of what is shown now.
+fn shown_now<R: Wait + Abort>(rt: &R, board: &Board<'_>) -> Prefixes {
+    prefixes(&shown_first(rt, board))
+}
+
+/// What is shown to one who has seen this, and 1 where it doesn't contain that.
+fn shown_next<'a, R: Wait + Abort>(
+    rt: &R,
+    board: &Board<'a>,
+    seen: &Shown<'a>,
+) -> (Shown<'a>, u64) {
     match board.show(rt, Some(seen)) {
-        Err(ShowFault::Older(found)) => prefixes(&found),
-        _ => None,
+        Ok(found) => (found, 0),
+        Err(ShowFault::Older(found)) => (found, 1),
+        Err(ShowFault::Memory) => None.expect(rt, "memory"),
     }
 }
 
-/// Publishes a new node, and again after each of its calls.
+/// Takes a call of rank 0 that takes part in no matching.
+fn take_call<R: Abort>(rt: &R, alloc: Global, node: &mut Node, call: u64) {
+    let segment = segment(rt, alloc, &(0, call, &[Does::Nothing]));
+    node.take(&segment).expect(rt, "a take");
+}
+
+/// Publishes a new node, and again after each of so many calls of rank 0, each in a segment of its own: what
+/// was shown once the last was taken and not published yet.
 fn publish_calls<'a, R: Wait + Abort>(
     rt: &R,
     alloc: Global,
     layout: &'a Layout,
     board: &Board<'a>,
-    calls: &[Piece],
-) {
+    calls: u64,
+) -> Prefixes {
     let mut node = Node::new(alloc, layout).expect(rt, "memory");
     board.publish(rt, &node).expect(rt, "a publish");
-    for piece in calls {
-        node.take(&segment(rt, alloc, piece)).expect(rt, "a take");
+    let mut before = None;
+    for call in 0..calls {
+        take_call(rt, alloc, &mut node, call);
+        before = shown_now(rt, board);
         board.publish(rt, &node).expect(rt, "a publish");
     }
+    drop(node);
+    before
 }
 
-/// What is shown to one who has seen this.
-fn shown_after<'a, R: Wait + Abort>(
-    rt: &R,
-    board: &Board<'a>,
-    seen: Option<&Shown<'a>>,
-) -> Shown<'a> {
-    board.show(rt, seen).ok().expect(rt, "what is newer")
-}
-
-/// The prefixes shown before anything was published, after three calls, and, as older, after a new
-/// node was published.
-type InTurn = [Option<(u64, u64)>; 3];
+/// The prefixes shown before anything was published; when a node that was published had taken a third call;
+/// when that was published; and when a new node was, and then whether the last was older (1) or not.
+type InTurn = (Prefixes, Prefixes, Prefixes, Prefixes, u64);
 
 fn shown_in_turn<R: Wait + Abort>(rt: &R, alloc: Global) -> InTurn {
     let layout = layout(rt, alloc);
     let board = Board::new(alloc, &layout).expect(rt, "memory");
-    let nothing = shown_after(rt, &board, None);
-    publish_calls(rt, alloc, &layout, &board, &CALLS);
-    let all = shown_after(rt, &board, Some(&nothing));
-    publish_calls(rt, alloc, &layout, &board, &[]);
-    let older = older_than(rt, &board, &all);
-    [prefixes(&nothing), prefixes(&all), older]
+    let nothing = shown_now(rt, &board);
+    let before = publish_calls(rt, alloc, &layout, &board, 3);
+    let all = shown_first(rt, &board);
+    publish_calls(rt, alloc, &layout, &board, 0);
+    let (last, older) = shown_next(rt, &board, &all);
+    let found = (nothing, before, prefixes(&all), prefixes(&last), older);
+    drop(all);
+    drop(last);
+    drop(board);
+    found
 }
 
 #[test]
 fn what_is_published_is_shown(rt: HostRuntime) {
     let shown = shown_in_turn(&rt, rt.alloc());
-    assert!(rt; shown == [Some((0, 0)), Some((4, 2)), Some((0, 0))]);
+    assert!(rt; shown == (Some((0, 0)), Some((4, 0)), Some((6, 0)), Some((0, 0)), 1));
 }
-
-/// The prefixes shown after a node was published and then took three calls, and after it was published
-/// once more.
-fn shown_around<R: Wait + Abort>(rt: &R, alloc: Global) -> [Option<(u64, u64)>; 2] {
-    let layout = layout(rt, alloc);
-    let board = Board::new(alloc, &layout).expect(rt, "memory");
-    let mut node = Node::new(alloc, &layout).expect(rt, "memory");
-    board.publish(rt, &node).expect(rt, "a publish");
-    for piece in &CALLS {
-        node.take(&segment(rt, alloc, piece)).expect(rt, "a take");
-    }
-    let before = prefixes(&shown_after(rt, &board, None));
-    board.publish(rt, &node).expect(rt, "a publish");
-    [before, prefixes(&shown_after(rt, &board, None))]
-}
-
-#[test]
-fn what_is_shown_stays_while_the_node_knows_more(rt: HostRuntime) {
-    let shown = shown_around(&rt, rt.alloc());
-    assert!(rt; shown == [Some((0, 0)), Some((4, 2))]);
-}
-
-/// Ten calls of one rank, each in a segment of its own.
-static TEN: [Piece; 10] = [
-    (0, 0, &[Does::Nothing]),
-    (0, 1, &[Does::Nothing]),
-    (0, 2, &[Does::Nothing]),
-    (0, 3, &[Does::Nothing]),
-    (0, 4, &[Does::Nothing]),
-    (0, 5, &[Does::Nothing]),
-    (0, 6, &[Does::Nothing]),
-    (0, 7, &[Does::Nothing]),
-    (0, 8, &[Does::Nothing]),
-    (0, 9, &[Does::Nothing]),
-];
 
 /// Asks twenty times, each time with what was shown last: how often that was not contained in what was
 /// shown then.
-fn count_older<'a, R: Wait + Abort>(rt: &R, board: &Board<'a>) -> u64 {
+fn count_older<R: Wait + Abort>(rt: &R, board: &Board<'_>) -> u64 {
     let mut older: u64 = 0;
-    let mut seen = shown_after(rt, board, None);
+    let mut seen = shown_first(rt, board);
     for _ in 0..20 {
-        seen = match board.show(rt, Some(&seen)) {
-            Ok(found) => found,
-            Err(ShowFault::Older(found)) => {
-                older = older.saturating_add(1);
-                found
-            }
-            Err(ShowFault::Memory) => None.expect(rt, "memory"),
-        };
+        let (found, count) = shown_next(rt, board, &seen);
+        drop(replace(&mut seen, found));
+        older = older.saturating_add(count);
     }
+    drop(seen);
     older
 }
 
@@ -137,8 +116,8 @@ fn two_readers<'a, R: Threads + Wait + Sync + Abort>(rt: &R, board: &Board<'a>) 
     join(rt, || count_older(rt, board), || count_older(rt, board))
 }
 
-/// One thread publishes ten nodes, each with one segment more, beside two that ask: how often each of
-/// these was shown something older.
+/// One thread publishes a node again after each of ten calls, beside two that ask: how often each of these
+/// was shown something older.
 fn older_beside<'a, R: Threads + Wait + Sync + Abort>(
     rt: &R,
     alloc: Global,
@@ -147,21 +126,20 @@ fn older_beside<'a, R: Threads + Wait + Sync + Abort>(
 ) -> (u64, u64) {
     join(
         rt,
-        || publish_calls(rt, alloc, layout, board, &TEN),
+        || publish_calls(rt, alloc, layout, board, 10),
         || two_readers(rt, board),
     )
     .1
 }
 
 /// How often each reader was shown something older, and the prefixes shown in the end.
-fn shown_beside<R: Threads + Wait + Sync + Abort>(
-    rt: &R,
-    alloc: Global,
-) -> ((u64, u64), Option<(u64, u64)>) {
+fn shown_beside<R: Threads + Wait + Sync + Abort>(rt: &R, alloc: Global) -> ((u64, u64), Prefixes) {
     let layout = layout(rt, alloc);
     let board = Board::new(alloc, &layout).expect(rt, "memory");
     let older = older_beside(rt, alloc, &layout, &board);
-    (older, prefixes(&shown_after(rt, &board, None)))
+    let last = shown_now(rt, &board);
+    drop(board);
+    (older, last)
 }
 
 #[test]

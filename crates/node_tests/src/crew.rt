@@ -1,15 +1,11 @@
 //! Crews with an open gate: what two workers and an owner leave.
 
 use crate::fixture::layout;
-use dumpi_calls::{WalkCause, WalkFault};
-use dumpi_text::{LineFault, TextCause, TextFault};
 use std::alloc::Global;
 use std::process::Abort;
 use std::sync::Wait;
 use std::thread::Threads;
-use trace_board::Board;
-use trace_crew::{CrewOut, OpenGate, Piece, PieceFault, crew};
-use trace_node::NodeFault;
+use trace_crew::{Board, CrewOut, Gate, OpenGate, Piece, Shown, crew};
 
 /// One call of no matching that enters at 0 s and returns at half a second.
 pub(crate) const CALL: &str =
@@ -53,21 +49,9 @@ pub(crate) fn pieces<R: Abort>(rt: &R, alloc: Global, rows: &[Row]) -> Vec<Piece
 
 /// What the node knows (the readable prefixes of both ranks), and what the board shows of it; and how
 /// many texts had a fault, and how many segments were refused.
-type Told = ((u64, u64), (u64, u64), usize, usize);
+pub(crate) type Told = ((u64, u64), (u64, u64), usize, usize);
 
-/// What a crew with an open gate leaves.
-fn told<R: Threads + Wait + Sync + Abort>(
-    rt: &R,
-    alloc: Global,
-    first: &[Row],
-    second: &[Row],
-) -> Told {
-    let layout = layout(rt, alloc);
-    let board = Board::new(alloc, &layout).expect(rt, "memory");
-    let first = pieces(rt, alloc, first);
-    let second = pieces(rt, alloc, second);
-    let out = crew(rt, alloc, &layout, &first, &second, &board, &OpenGate).expect(rt, "a crew");
-    let shown = board.show(rt, None).ok().expect(rt, "memory");
+fn told(out: &CrewOut<'_>, shown: &Shown<'_>) -> Told {
     let (node, seen) = (out.node.know(), shown.know());
     (
         (node.prefix(0), node.prefix(1)),
@@ -75,6 +59,37 @@ fn told<R: Threads + Wait + Sync + Abort>(
         out.faults.len(),
         out.refused.len(),
     )
+}
+
+/// What a crew leaves that this gate holds.
+pub(crate) fn left<R: Threads + Wait + Sync + Abort, G: Gate>(
+    rt: &R,
+    alloc: Global,
+    first: &[Piece],
+    second: &[Piece],
+    gate: &G,
+) -> Told {
+    let layout = layout(rt, alloc);
+    let board = Board::new(alloc, &layout).expect(rt, "memory");
+    let out = crew(rt, alloc, &layout, first, second, &board, gate).expect(rt, "a crew");
+    let shown = board.show(rt, None).ok().expect(rt, "memory");
+    let told = told(&out, &shown);
+    drop(out);
+    drop(shown);
+    drop(board);
+    told
+}
+
+/// What a crew with an open gate leaves of these texts.
+fn left_open<R: Threads + Wait + Sync + Abort>(
+    rt: &R,
+    alloc: Global,
+    first: &[Row],
+    second: &[Row],
+) -> Told {
+    let first = pieces(rt, alloc, first);
+    let second = pieces(rt, alloc, second);
+    left(rt, alloc, &first, &second, &OpenGate)
 }
 
 /// A name, the texts of both workers, and what is left.
@@ -103,49 +118,7 @@ static ROWS: [(&str, &[Row], &[Row], Told); 4] = [
 #[test]
 fn whole_texts_are_joined(rt: HostRuntime) {
     for (name, first, second, wanted) in &ROWS {
-        let found = told(&rt, rt.alloc(), first, second);
+        let found = left_open(&rt, rt.alloc(), first, second);
         assert!(rt; found == *wanted, "{name}");
     }
-}
-
-/// Whether the only fault is that the first worker's first text is cut off in its ninth line.
-fn is_cut_off_at_nine(out: &CrewOut<'_>) -> bool {
-    let Some((worker, place, PieceFault::Walk(WalkFault { cause, calls, .. }))) = out.faults.get(0)
-    else {
-        return false;
-    };
-    let WalkCause::Text(TextFault::At { line, cause }) = cause else {
-        return false;
-    };
-    *worker == 0
-        && *place == 0
-        && *calls == 1
-        && *line == 9
-        && *cause == TextCause::Line(LineFault::Truncated)
-}
-
-/// Whether the only refused segment is the second worker's, of rank 9.
-fn is_of_rank_nine(out: &CrewOut<'_>) -> bool {
-    match out.refused.get(0) {
-        Some((worker, segment, fault)) => {
-            *worker == 1 && segment.rank() == 9 && *fault == NodeFault::Rank
-        }
-        None => false,
-    }
-}
-
-/// Whether a crew lists the cut off text of its first worker and the foreign rank of its second.
-fn lists_both<R: Threads + Wait + Sync + Abort>(rt: &R, alloc: Global) -> bool {
-    let layout = layout(rt, alloc);
-    let board = Board::new(alloc, &layout).expect(rt, "memory");
-    let first = pieces(rt, alloc, &[(0, 0, CUT_OFF)]);
-    let second = pieces(rt, alloc, &[(9, 0, CALL)]);
-    let out = crew(rt, alloc, &layout, &first, &second, &board, &OpenGate).expect(rt, "a crew");
-    is_cut_off_at_nine(&out) && is_of_rank_nine(&out)
-}
-
-#[test]
-fn faults_and_refusals_are_named(rt: HostRuntime) {
-    let is_so = lists_both(&rt, rt.alloc());
-    assert!(rt; is_so);
 }

@@ -1,8 +1,7 @@
 //! Crews that are held by gates: each holds one thread until another has come to a place, for at most
 //! 1,000 turns of one millisecond, and notes where the turns ran out.
 
-use crate::crew::{CALL, piece, pieces};
-use crate::fixture::layout;
+use crate::crew::{CALL, Told, left, piece, pieces};
 use std::alloc::Global;
 use std::process::Abort;
 use std::rt::Clock;
@@ -10,8 +9,7 @@ use std::sync::{Mutex, Wait};
 use std::thread;
 use std::thread::Threads;
 use std::time::Duration;
-use trace_board::Board;
-use trace_crew::{Gate, Piece, crew};
+use trace_crew::{Gate, Piece};
 
 /// How often something was announced, for threads that wait until it was.
 #[derive(Drop)]
@@ -56,25 +54,25 @@ struct Meeting<'a, R: Wait + Clock> {
 }
 
 impl<'a, R: Wait + Clock + Sync> Gate for Meeting<'a, R> {
-    fn before_walk(&self, worker: u8, piece: u64) {
-        let (mine, other) = match worker {
-            0 => (&self.first_walks, &self.second_walks),
-            _ => (&self.second_walks, &self.first_walks),
+    fn before_walk(&self, at: PieceAt) {
+        let (mine, other) = match at.worker {
+            Worker::First => (&self.first_walks, &self.second_walks),
+            Worker::Second => (&self.second_walks, &self.first_walks),
         };
         mine.ring();
-        if piece == 0 && !other.has_rung(1) {
+        if at.place == 0 && !other.has_rung(1) {
             self.failures.ring();
         }
     }
 
-    fn before_post(&self, worker: u8, nth: u64) {
-        if worker == 0 && nth == 1 && !self.second_taken.has_rung(1) {
+    fn before_post(&self, worker: Worker, nth: u64) {
+        if worker == Worker::First && nth == 1 && !self.second_taken.has_rung(1) {
             self.failures.ring();
         }
     }
 
-    fn after_take(&self, worker: u8, _nth: u64) {
-        if worker == 1 {
+    fn after_take(&self, worker: Worker, _nth: u64) {
+        if worker == Worker::Second {
             self.second_taken.ring();
         }
     }
@@ -89,13 +87,13 @@ struct Crowd<'a, R: Wait + Clock> {
 }
 
 impl<'a, R: Wait + Clock + Sync> Gate for Crowd<'a, R> {
-    fn before_walk(&self, _worker: u8, _piece: u64) {}
+    fn before_walk(&self, _at: PieceAt) {}
 
-    fn before_post(&self, _worker: u8, _nth: u64) {
+    fn before_post(&self, _worker: Worker, _nth: u64) {
         self.posts.ring();
     }
 
-    fn after_take(&self, _worker: u8, _nth: u64) {
+    fn after_take(&self, _worker: Worker, _nth: u64) {
         let is_first = *self.takes.count.lock(self.takes.rt) == 0;
         self.takes.ring();
         if is_first && !self.posts.has_rung(8) {
@@ -104,26 +102,8 @@ impl<'a, R: Wait + Clock + Sync> Gate for Crowd<'a, R> {
     }
 }
 
-/// The readable prefixes that a crew leaves where nothing has a fault or is refused, in its node and on
-/// the board alike.
-fn prefixes<R: Threads + Wait + Sync + Abort, G: Gate>(
-    rt: &R,
-    alloc: Global,
-    first: &[Piece],
-    second: &[Piece],
-    gate: &G,
-) -> Option<(u64, u64)> {
-    let layout = layout(rt, alloc);
-    let board = Board::new(alloc, &layout).expect(rt, "memory");
-    let out = crew(rt, alloc, &layout, first, second, &board, gate).expect(rt, "a crew");
-    let shown = board.show(rt, None).ok().expect(rt, "memory");
-    let know = out.node.know();
-    let is_so = out.faults.is_empty() && out.refused.is_empty() && shown.know().same(know);
-    is_so.then_some((know.prefix(0), know.prefix(1)))
-}
-
-/// The prefixes, and whether the gate had to let go.
-type Held = (Option<(u64, u64)>, bool);
+/// What the crew leaves, and whether the gate had to let go.
+type Held = (Told, bool);
 
 /// After two pieces beside one, held so that both workers and the owner must run at the same time.
 fn met<R: Threads + Wait + Clock + Sync + Abort>(rt: &R, alloc: Global) -> Held {
@@ -135,15 +115,15 @@ fn met<R: Threads + Wait + Clock + Sync + Abort>(rt: &R, alloc: Global) -> Held 
     };
     let first = pieces(rt, alloc, &[(0, 0, CALL), (0, 1, CALL)]);
     let second = pieces(rt, alloc, &[(1, 0, CALL)]);
-    let found = prefixes(rt, alloc, &first, &second, &gate);
+    let told = left(rt, alloc, &first, &second, &gate);
     let has_failed = *gate.failures.count.lock(rt) > 0;
-    (found, has_failed)
+    (told, has_failed)
 }
 
 #[test]
 fn workers_and_owner_run_at_once(rt: HostRuntime) {
     let found = met(&rt, rt.alloc());
-    assert!(rt; found == (Some((4, 2)), false));
+    assert!(rt; found == (((4, 2), (4, 2), 0, 0), false));
 }
 
 /// Twenty calls of a rank, each a piece.
@@ -165,13 +145,13 @@ fn crowded<R: Threads + Wait + Clock + Sync + Abort>(rt: &R, alloc: Global) -> H
     };
     let first = twenty(rt, alloc, 0);
     let second = twenty(rt, alloc, 1);
-    let found = prefixes(rt, alloc, &first, &second, &gate);
+    let told = left(rt, alloc, &first, &second, &gate);
     let has_failed = *gate.failures.count.lock(rt) > 0;
-    (found, has_failed)
+    (told, has_failed)
 }
 
 #[test]
 fn workers_fill_the_inbox(rt: HostRuntime) {
     let found = crowded(&rt, rt.alloc());
-    assert!(rt; found == (Some((40, 40)), false));
+    assert!(rt; found == (((40, 40), (40, 40), 0, 0), false));
 }

@@ -2,25 +2,25 @@
 //!
 //! They stand in one crate, since each crate that owns a node, an answer or a world proves once more
 //! how these are let go. Each helper has one way out: where a value is missing it stops the test
-//! (`expect`). Expected reports and frames are those of `docs/formats.md`, written out by hand. A
+//! (`expect`). One that has a node hands it to `drop` at its end: that is proved for any type, and what is
+//! let go without it is taken apart in the helper's own proof. Expected reports and frames are those of `docs/formats.md`, written out by hand. A
 //! failure names its row.
 //!
 //! | File | Tests |
 //! |---|---|
 //! | `fixture` | pieces of two ranks, nodes that took them, their frames and reports |
-//! | `node` | `trace_node`: pieces in every order, refusals, copies |
-//! | `report` | `trace_report`: a report, whole and broken off |
-//! | `exchange`, `socket` | `trace_exchange`: both sides in memory (`pipe`), and over a socket of this machine |
-//! | `world` | `trace_world`: schedules over two nodes |
-//! | `board` | `trace_board`: what is published is shown, beside threads that ask too, and one who has seen more is told so |
+//! | `node` | `trace_node` and `trace_report`: reports of nodes and of their copies, and pieces that are held |
+//! | `exchange`, `socket` | the exchange of `trace_cluster`: both sides in memory (`pipe`), and over a socket of this machine |
+//! | `world` | `trace_world`: a node that is refreshed after a schedule |
+//! | `board` | the board of `trace_crew`: what is published is shown, beside threads that ask too, and one who has seen more is told so |
 //! | `crew`, `gates` | `trace_crew`: what it leaves, and, by gates, that its threads run at the same time |
-//! | `cluster`, `unplugged` | `trace_cluster`: two nodes that know the same at the end, which refusal is named, and a network that gives no port or no connection |
+//! | `unplugged` | `trace_cluster`: a network that gives no port or no connection |
+//!
+//! What the program's verbs do, `replay` and `cluster` among them, is data in `tests/cases/`.
 #![tactic(auto)]
 
 #[cfg(test)]
 mod board;
-#[cfg(test)]
-mod cluster;
 #[cfg(test)]
 mod crew;
 #[cfg(test)]
@@ -33,8 +33,6 @@ mod gates;
 mod node;
 #[cfg(test)]
 mod pipe;
-#[cfg(test)]
-mod report;
 #[cfg(test)]
 mod socket;
 #[cfg(test)]

@@ -4,7 +4,7 @@ ghost use Rattle.std.specs.Prelude.{◌≤◌, ◌<◌, Some, length, IfOk};
 ghost use Rattle.std.specs.Io.KnownBytes.{ReadConsumes, WriteAppends};
 ghost use Rattle.mpi_model.specs.Failures.{CountsFailure};
 ghost use Rattle.mpi_model.specs.Side.{LeavesSide};
-ghost use Rattle.trace_exchange.specs.Stream.{IsStream, side};
+ghost use Rattle.trace_cluster.specs.Stream.{IsStream, side};
 
 use mpi_model::{Failed, MemoryReader, MemoryWriter, Read, Write};
 
@@ -17,7 +17,7 @@ pub(crate) struct Pipe<'a> {
 
 impl<'a> Read for Pipe<'a> {
     ghost use Rattle.mpi_model.specs.Devices.{bytes_left, bytes_written, failures_of_reader, failures_of_writer};
-    ghost use Rattle.trace_exchange.specs.Stream.{side};
+    ghost use Rattle.trace_cluster.specs.Stream.{side};
 
     ghost left = { λ p. Some (bytes_left p.reader) };
 
@@ -32,7 +32,7 @@ impl<'a> Read for Pipe<'a> {
 
 impl<'a> Write for Pipe<'a> {
     ghost use Rattle.mpi_model.specs.Devices.{bytes_left, bytes_written, failures_of_reader, failures_of_writer};
-    ghost use Rattle.trace_exchange.specs.Stream.{side};
+    ghost use Rattle.trace_cluster.specs.Stream.{side};
 
     ghost written = { λ p. Some (bytes_written p.writer) };
 

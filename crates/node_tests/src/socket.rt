@@ -9,7 +9,7 @@ use std::process::Abort;
 use std::sync::Wait;
 use std::thread::Threads;
 use std::{io, thread};
-use trace_exchange::{follow, lead};
+use trace_cluster::{follow, lead};
 
 /// The two ends of a connection.
 fn connected<R: Net<Listener = TcpListener, Stream = TcpStream>>(
@@ -27,14 +27,18 @@ fn has_led<R: Abort>(rt: &R, alloc: Global, layout: &Layout, stream: TcpStream) 
     let mut device = Device::new(stream);
     is_stream(&device);
     lead(alloc, &mut device, &mut node).expect(rt, "an exchange");
-    report_of(rt, alloc, &node).as_slice() == PINGPONG
+    let report = report_of(rt, alloc, &node);
+    drop(node);
+    report.as_slice() == PINGPONG
 }
 
 /// Whether the node of rank 1 reports it after it followed.
 fn has_followed<R: Abort>(rt: &R, alloc: Global, layout: &Layout, stream: TcpStream) -> bool {
     let mut node = node_of(rt, alloc, layout, &PIECES[1..]);
     follow(alloc, &mut Device::new(stream), &mut node).expect(rt, "an exchange");
-    report_of(rt, alloc, &node).as_slice() == PINGPONG
+    let report = report_of(rt, alloc, &node);
+    drop(node);
+    report.as_slice() == PINGPONG
 }
 
 /// Whether both report it; nothing of the first where there was no thread.

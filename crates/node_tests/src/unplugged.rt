@@ -1,7 +1,6 @@
 //! A network that gives no port, or no connection.
 
-use crate::cluster::workload;
-use crate::crew::CALL;
+use crate::crew::{CALL, pieces};
 use crate::fixture::layout;
 use std::alloc::Global;
 use std::io;
@@ -9,7 +8,7 @@ use std::net::{Net, SocketAddr, TcpListener, TcpStream};
 use std::process::Abort;
 use std::sync::Wait;
 use std::thread::Threads;
-use trace_cluster::{ClusterFault, cluster};
+use trace_cluster::{ClusterFault, Workload, cluster};
 
 /// A runtime whose network gives ports where it is told so, and no connection.
 #[derive(Drop)]
@@ -40,6 +39,14 @@ impl<'a, R: Net<Listener = TcpListener, Stream = TcpStream>> Net for Unplugged<'
     }
 }
 
+/// A call of a rank, as the piece of a node's first worker.
+fn workload<R: Abort>(rt: &R, alloc: Global, rank: u32) -> Workload {
+    Workload {
+        first: pieces(rt, alloc, &[(rank, 0, CALL)]),
+        second: Vec::new(alloc),
+    }
+}
+
 /// Whether a cluster over such a network says that there is none, after both crews.
 fn is_unmet<R: Net<Listener = TcpListener, Stream = TcpStream> + Threads + Wait + Sync + Abort>(
     rt: &R,
@@ -47,13 +54,11 @@ fn is_unmet<R: Net<Listener = TcpListener, Stream = TcpStream> + Threads + Wait 
     has_ports: bool,
 ) -> bool {
     let layout = layout(rt, alloc);
-    let first = workload(rt, alloc, (&[(0, 0, CALL)], &[]));
-    let second = workload(rt, alloc, (&[], &[(1, 0, CALL)]));
+    let first = workload(rt, alloc, 0);
+    let second = workload(rt, alloc, 1);
     let unplugged = Unplugged { rt, has_ports };
-    matches!(
-        &cluster(&unplugged, alloc, &layout, &first, &second),
-        Err(ClusterFault::Net)
-    )
+    let fault = cluster(&unplugged, alloc, &layout, &first, &second).err();
+    matches!(fault, Some(ClusterFault::Net))
 }
 
 #[test]

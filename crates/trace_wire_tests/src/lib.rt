@@ -6,7 +6,7 @@
 //! |---|---|
 //! | `spelling` | the bytes of each kind of event, there and back |
 //! | `order` | the first cause of a refusal, byte by byte |
-//! | `devices` | slow and failing devices, several frames on one of them, and the limit of a frame's length |
+//! | `devices` | a device without an end, and the longest frame |
 #![tactic(auto)]
 
 #[cfg(test)]

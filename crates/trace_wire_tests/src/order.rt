@@ -1,9 +1,8 @@
 //! The first cause of a refusal, in the order of the format.
 
-use crate::fixture::{WORKED, answer, frame, name_of, read, taken};
+use crate::fixture::{WORKED, answer, frame, read, taken};
 use std::alloc::Global;
 use std::process::Abort;
-use trace_wire::WireFault;
 
 /// A name, the bytes, and what the format says of them.
 static ROWS: [(&str, &[u8], &str); 20] = [
@@ -164,33 +163,6 @@ fn a_frame_that_is_cut_is_short(rt: HostRuntime) {
     }
 }
 
-/// A length, and one less, for each number of its bits.
-#[test]
-fn lengths_are_tried_before_the_payload_is_read(rt: HostRuntime) {
-    for shift in 0..32_u32 {
-        for less in 0..2_u32 {
-            let len = (u32::MAX >> shift).saturating_sub(less);
-            let found = with_length(&rt, rt.alloc(), len.max(5));
-            let want = if len > 16_777_216 {
-                "W4 Length"
-            } else {
-                "W5 Short"
-            };
-            assert!(rt; found == want, "{len}");
-        }
-    }
-}
-
-/// What reading answers where four bytes follow a head with this length.
-fn with_length<R: Abort>(rt: &R, alloc: Global, len: u32) -> &'static str {
-    let mut bytes = b"MPTX\0\x01".to_vec(alloc).expect(rt, "memory");
-    bytes
-        .extend_from_slice(&len.to_be_bytes())
-        .expect(rt, "memory");
-    bytes.extend_from_slice(&[0; 4]).expect(rt, "memory");
-    answer(alloc, &bytes)
-}
-
 /// What the format says of the worked frame with another value of one byte.
 fn wanted(position: usize, value: u8) -> &'static str {
     match (position, value) {
@@ -255,25 +227,4 @@ fn is_kept<R: Abort>(rt: &R, alloc: Global, bytes: &[u8]) -> bool {
     let know = read(alloc, bytes).expect(rt, "a frame");
     let is_other = !know.same(&taken(rt, alloc, "ABC"));
     is_other && frame(rt, alloc, &know).as_slice() == bytes
-}
-
-static FAULTS: [WireFault; 10] = [
-    WireFault::Memory,
-    WireFault::Read,
-    WireFault::Write,
-    WireFault::Magic,
-    WireFault::Version,
-    WireFault::Length,
-    WireFault::Short,
-    WireFault::Order,
-    WireFault::Content,
-    WireFault::Rest,
-];
-
-#[test]
-fn faults_are_printed_with_their_numbers(rt: HostRuntime) {
-    for fault in FAULTS {
-        let text = format!(in rt.alloc(); "{fault}").expect(&rt, "memory");
-        assert!(rt; text.as_str() == name_of(fault));
-    }
 }
