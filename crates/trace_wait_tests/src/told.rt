@@ -96,7 +96,19 @@ fn push_condition(alloc: Global, condition: &Condition, text: &mut String) -> Re
         Condition::Rank(r) => push_number(alloc, *r, text),
         Condition::All(parts) => push_parts(alloc, "all(", parts, text),
         Condition::One(parts) => push_parts(alloc, "any(", parts, text),
+        Condition::OneRank(ranks) => push_ranks(alloc, ranks, text),
     }
+}
+
+fn push_ranks(alloc: Global, ranks: &[u32], text: &mut String) -> Result<(), Fail> {
+    text.push_str("any(")?;
+    for (place, rank) in ranks.iter().enumerate() {
+        if place > 0 {
+            text.push_str(" ")?;
+        }
+        push_number(alloc, *rank, text)?;
+    }
+    Ok(text.push_str(")")?)
 }
 
 #[cycle(condition)]
