@@ -2,7 +2,7 @@
 use Rattle.std.proofs.Common.{◌≡◌, ℕ, Bool, true, ◌&&◌, ◌||◌, List, [], ◌∷◌, map, refl, sym, ◌∙◌, ap, subst, false}
 use Rattle.std.specs.List.{list_any, list_all}
 use Rattle.trace_stuck.specs.declared.condition.Condition.{Condition}
-use Rattle.trace_stuck.specs.declared.condition.Condition.TheOpen.{Condition-F, Yes, Rank, All, One}
+use Rattle.trace_stuck.specs.declared.condition.Condition.TheOpen.{Condition-F, Yes, Rank, All, One, OneRank}
 use Rattle.trace_stuck.specs.declared.condition.Condition.TheFolds.{fold-roll-Condition, ind-Condition, map-Condition}
 use Rattle.trace_stuck.specs.declared.condition.Condition.TheViews.{roll-Condition}
 use Rattle.trace_stuck.specs.Holds.{holds_step, holds}
@@ -39,6 +39,11 @@ some_parts : (able : ℕ → Bool) (cs : List ((c : Condition) × IsOver able c)
 some_parts able [] = refl
 some_parts able (e ∷ cs) = λ i. e.1 i || some_parts able cs i
 
+-- one of some ranks
+ranks_over : (able : ℕ → Bool) (ranks : List ℕ) → list_any able ranks ≡ some_over able (waits_of (map OnRank ranks))
+ranks_over able [] = refl
+ranks_over able (r ∷ ranks) = ap (λ b. able r || b) (ranks_over able ranks)
+
 -- one level
 level : (able : ℕ → Bool) (y : Condition-F ((c : Condition) × IsOver able c)) →
     holds able (roll-Condition (map-Condition _ _ (λ e. e.0) y)) ≡ over able (shape (roll-Condition (map-Condition _ _ (λ e. e.0) y)))
@@ -48,6 +53,8 @@ level able (All parts) = fold-roll-Condition Bool (holds_step able) (map-Conditi
     ∙ sym (ap (over able) (fold-roll-Condition Wait shape_step (map-Condition _ _ (λ e. e.0) (All parts))))
 level able (One parts) = fold-roll-Condition Bool (holds_step able) (map-Condition _ _ (λ e. e.0) (One parts)) ∙ some_parts able parts.items
     ∙ sym (ap (over able) (fold-roll-Condition Wait shape_step (map-Condition _ _ (λ e. e.0) (One parts))))
+level able (OneRank ranks) = fold-roll-Condition Bool (holds_step able) (OneRank ranks) ∙ ranks_over able ranks.value.items
+    ∙ sym (ap (over able) (fold-roll-Condition Wait shape_step (OneRank ranks)))
 
 holds-shape : (able : ℕ → Bool) (c : Condition) → IsOver able c
 holds-shape able c = ind-Condition (IsOver able) (λ x y is. subst (λ z. IsOver able (roll-Condition z)) is (level able y)) c

@@ -2,7 +2,7 @@
 
 ghost use Rattle.std.specs.Prelude.{◌≡◌, ◌++◌, codes, decimal, map};
 ghost use Rattle.trace_report.specs.Page.{Prints};
-ghost use Rattle.trace_stuck.specs.Shape.{shape, waits_of};
+ghost use Rattle.trace_stuck.specs.Shape.{shape, waits_of, OnRank};
 ghost use Rattle.trace_report.specs.Waits.{part_text, parts_text, space_before, wait_text};
 
 use crate::sink::Sink;
@@ -19,6 +19,7 @@ pub(crate) fn put_wait<S: Sink>(out: &mut S, condition: &Condition)
         Condition::Rank(r) => put_number(out, *r as u64),
         Condition::All(parts) => put_list(out, b"all(", parts),
         Condition::One(parts) => put_list(out, b"any(", parts),
+        Condition::OneRank(ranks) => put_one_rank(out, ranks),
     }
 }
 
@@ -46,6 +47,29 @@ fn put_part<S: Sink>(out: &mut S, i: usize, part: &Condition)
 {
     out.put(space_before(i));
     put_wait(out, part);
+}
+
+fn put_one_rank<S: Sink>(out: &mut S, ranks: &[u32])
+    ensures { Prints (S.page out.old) (S.page out.new) (codes "any(" ++ parts_text (waits_of (map OnRank ranks.now)) ++ codes ")") }
+{
+    out.put(b"any(");
+    put_ranks(out, ranks);
+    out.put(b")");
+}
+
+fn put_ranks<S: Sink>(out: &mut S, ranks: &[u32])
+    ensures { Prints (S.page out.old) (S.page out.new) (parts_text (waits_of (map OnRank ranks.now))) }
+{
+    for (i, rank) in ranks.iter().enumerate() {
+        put_rank(out, i, *rank);
+    }
+}
+
+fn put_rank<S: Sink>(out: &mut S, i: usize, rank: u32)
+    ensures { Prints (S.page out.old) (S.page out.new) (part_text i (OnRank rank)) }
+{
+    out.put(space_before(i));
+    put_number(out, rank as u64);
 }
 
 fn space_before(i: usize) -> &'static [u8]

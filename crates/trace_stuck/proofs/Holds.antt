@@ -1,8 +1,9 @@
 -- What a condition says, level by level, and that it holds of more where more ranks can go on.
 use Rattle.std.proofs.Common.{Vec, Global, ◌⊎◌, subst, ◌≡◌, ℕ, Bool, true, false, ◌&&◌, ◌||◌, List, [], ◌∷◌, map, refl, sym, ◌∙◌, ap, inl, inr, ⊎_elim}
 use Rattle.std.specs.List.{list_any, list_all}
+use Rattle.std.specs.declared.sync.Arc.{Arc}
 use Rattle.trace_stuck.specs.declared.condition.Condition.{Condition}
-use Rattle.trace_stuck.specs.declared.condition.Condition.TheOpen.{Condition-F, Yes, Rank, All, One}
+use Rattle.trace_stuck.specs.declared.condition.Condition.TheOpen.{Condition-F, Yes, Rank, All, One, OneRank}
 use Rattle.trace_stuck.specs.declared.condition.Condition.TheFolds.{fold-roll-Condition, ind-Condition, map-Condition}
 use Rattle.trace_stuck.specs.declared.condition.Condition.TheViews.{out-Condition, roll-Condition}
 use Rattle.trace_stuck.specs.declared.condition.Condition.TheViews as views
@@ -40,18 +41,23 @@ level able Yes = true
 level able (Rank r) = able r
 level able (All parts) = list_all (holds able) parts.items
 level able (One parts) = list_any (holds able) parts.items
+level able (OneRank ranks) = list_any able ranks.value.items
 
 pub holds_roll : (able : ℕ → Bool) (x : Condition-F Condition) → holds able (roll-Condition x) ≡ level able x
 holds_roll able Yes = fold-roll-Condition Bool (holds_step able) Yes
 holds_roll able (Rank r) = fold-roll-Condition Bool (holds_step able) (Rank r)
 holds_roll able (All parts) = fold-roll-Condition Bool (holds_step able) (All parts) ∙ all_map (holds able) parts.items
 holds_roll able (One parts) = fold-roll-Condition Bool (holds_step able) (One parts) ∙ any_map (holds able) parts.items
+holds_roll able (OneRank ranks) = fold-roll-Condition Bool (holds_step able) (OneRank ranks)
 
 pub holds_All : (able : ℕ → Bool) (parts : Vec Condition Global) → holds able (views.All parts) ≡ list_all (holds able) parts.items
 holds_All able parts = ap (holds able) (sym (views.rolls-All parts)) ∙ holds_roll able (All parts)
 
 pub holds_One : (able : ℕ → Bool) (parts : Vec Condition Global) → holds able (views.One parts) ≡ list_any (holds able) parts.items
 holds_One able parts = ap (holds able) (sym (views.rolls-One parts)) ∙ holds_roll able (One parts)
+
+pub holds_OneRank : (able : ℕ → Bool) (ranks : Arc (Vec ℕ Global) Global) → holds able (views.made-OneRank ranks) ≡ list_any able ranks.value.items
+holds_OneRank able ranks = ap (holds able) (sym (views.rolls-OneRank ranks)) ∙ holds_roll able (OneRank ranks)
 
 -- where more ranks can go on, no fewer conditions hold
 abbrev IsMonotone : (ℕ → Bool) → (ℕ → Bool) → Condition → Type 0
@@ -69,6 +75,12 @@ any_more able more (e ∷ cs) h =
     ⊎_elim (λ a. or_left (holds more e.0) (list_any (holds more) (map (λ e. e.0) cs)) (e.1 a)) (λ b. or_right (holds more e.0) (list_any (holds more) (map (λ e. e.0) cs)) (any_more able more cs b))
     (either (holds able e.0) (list_any (holds able) (map (λ e. e.0) cs)) h)
 
+some_more : (able more : ℕ → Bool) (h : (r : ℕ) → able r ≡ true → more r ≡ true) (ranks : List ℕ) → list_any able ranks ≡ true → list_any more ranks ≡ true
+some_more able more h [] g = g
+some_more able more h (r ∷ ranks) g =
+    ⊎_elim (λ a. or_left (more r) (list_any more ranks) (h r a)) (λ b. or_right (more r) (list_any more ranks) (some_more able more h ranks b))
+    (either (able r) (list_any able ranks) g)
+
 -- y is x with a proof beside each part
 level_more : (able more : ℕ → Bool) (h : (r : ℕ) → able r ≡ true → more r ≡ true) (y : Condition-F ((c : Condition) × IsMonotone able more c)) →
     level able (map-Condition _ _ (λ e. e.0) y) ≡ true → level more (map-Condition _ _ (λ e. e.0) y) ≡ true
@@ -76,6 +88,7 @@ level_more able more h Yes g = refl
 level_more able more h (Rank r) g = h r g
 level_more able more h (All parts) g = all_more able more parts.items g
 level_more able more h (One parts) g = any_more able more parts.items g
+level_more able more h (OneRank ranks) g = some_more able more h ranks.value.items g
 
 pub monotone : (able more : ℕ → Bool) (c : Condition) → ((r : ℕ) → able r ≡ true → more r ≡ true) → holds able c ≡ true → holds more c ≡ true
 monotone able more c h = ind-Condition (IsMonotone able more) (λ x y is g.

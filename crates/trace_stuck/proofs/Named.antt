@@ -1,10 +1,11 @@
 -- A condition that holds only since one more rank can go on names that rank.
 use Rattle.std.proofs.Common.{Vec, Global, ◌⊎◌, subst, ◌≡◌, ℕ, Bool, true, false, ◌&&◌, ◌||◌, List, [], ◌∷◌, ◌++◌, map, eqb, refl, sym, ◌∙◌, ap, inl, inr, ⊎_elim, arith}
 use Rattle.std.specs.List.{list_any, list_all, flat_map}
+use Rattle.std.specs.declared.sync.Arc.{Arc}
 use Rattle.std.proofs.lemmas.List.Folds.{list_any-append, flat_map-map}
 use Rattle.std.proofs.lemmas.Bool.Decides.{nat_tests}
 use Rattle.trace_stuck.specs.declared.condition.Condition.{Condition}
-use Rattle.trace_stuck.specs.declared.condition.Condition.TheOpen.{Condition-F, Yes, Rank, All, One}
+use Rattle.trace_stuck.specs.declared.condition.Condition.TheOpen.{Condition-F, Yes, Rank, All, One, OneRank}
 use Rattle.trace_stuck.specs.declared.condition.Condition.TheFolds.{fold-roll-Condition, ind-Condition, map-Condition}
 use Rattle.trace_stuck.specs.declared.condition.Condition.TheViews.{out-Condition, roll-Condition}
 use Rattle.trace_stuck.specs.declared.condition.Condition.TheViews as views
@@ -21,12 +22,14 @@ named_level Yes = []
 named_level (Rank r) = r ∷ []
 named_level (All parts) = flat_map named parts.items
 named_level (One parts) = flat_map named parts.items
+named_level (OneRank ranks) = ranks.value.items
 
 named_roll : (x : Condition-F Condition) → named (roll-Condition x) ≡ named_level x
 named_roll Yes = fold-roll-Condition (List ℕ) named_step Yes
 named_roll (Rank r) = fold-roll-Condition (List ℕ) named_step (Rank r)
 named_roll (All parts) = fold-roll-Condition (List ℕ) named_step (All parts) ∙ flat_parts parts.items
 named_roll (One parts) = fold-roll-Condition (List ℕ) named_step (One parts) ∙ flat_parts parts.items
+named_roll (OneRank ranks) = fold-roll-Condition (List ℕ) named_step (OneRank ranks)
 
 pub named_Rank : (r : ℕ) → named (views.made-Rank r) ≡ r ∷ []
 named_Rank r = ap named (sym (views.rolls-Rank r)) ∙ named_roll (Rank r)
@@ -37,7 +40,10 @@ named_All parts = ap named (sym (views.rolls-All parts)) ∙ named_roll (All par
 pub named_One : (parts : Vec Condition Global) → named (views.One parts) ≡ flat_map named parts.items
 named_One parts = ap named (sym (views.rolls-One parts)) ∙ named_roll (One parts)
 
-pub ruleset named_rules = (named_Rank, named_All, named_One)
+pub named_OneRank : (ranks : Arc (Vec ℕ Global) Global) → named (views.made-OneRank ranks) ≡ ranks.value.items
+named_OneRank ranks = ap named (sym (views.rolls-OneRank ranks)) ∙ named_roll (OneRank ranks)
+
+pub ruleset named_rules = (named_Rank, named_All, named_One, named_OneRank)
 
 pub and_false : (a b : Bool) → (a && b) ≡ false → (a ≡ false) ⊎ (b ≡ false)
 and_false true b h = inr h
@@ -84,6 +90,16 @@ module _ (able more : ℕ → Bool) (q : ℕ) where
       (λ (b : list_any (holds more) (map (λ e. e.0) cs) ≡ true). names_rest (named e.0) (flat_map named (map (λ e. e.0) cs)) (any_new cs b p.1))
       (either (holds more e.0) (list_any (holds more) (map (λ e. e.0) cs)) h)
 
+  -- the one rank more is among those of which one can go on
+  some_new : ((s : ℕ) → more s ≡ true → (able s ≡ true) ⊎ (q ≡ s)) → (ranks : List ℕ) → list_any more ranks ≡ true → list_any able ranks ≡ false → among ranks q ≡ true
+  some_new new [] h k = absurd (cc)
+  some_new new (r ∷ ranks) h k =
+      let p = or_false_parts (able r) (list_any able ranks) k in
+      ⊎_elim
+      (λ (a : more r ≡ true). ⊎_elim (λ (b : able r ≡ true). absurd (cc)) (λ (e : q ≡ r). or_left (eqb r q) (among ranks q) (subst (λ (x : ℕ). eqb x q ≡ true) e (grind (arith, nat_tests)))) (new r a))
+      (λ (b : list_any more ranks ≡ true). or_right (eqb r q) (among ranks q) (some_new new ranks b p.1))
+      (either (more r) (list_any more ranks) h)
+
   level_new : ((s : ℕ) → more s ≡ true → (able s ≡ true) ⊎ (q ≡ s)) → (y : Condition-F ((c : Condition) × NamesNew c)) →
       level more (map-Condition _ _ (λ e. e.0) y) ≡ true → level able (map-Condition _ _ (λ e. e.0) y) ≡ false →
       among (named_level (map-Condition _ _ (λ e. e.0) y)) q ≡ true
@@ -92,6 +108,7 @@ module _ (able more : ℕ → Bool) (q : ℕ) where
       ⊎_elim (λ (a : able r ≡ true). absurd (cc)) (λ (e : q ≡ r). subst (λ (x : ℕ). among (x ∷ []) q ≡ true) e (among_self q)) (new r h)
   level_new new (All parts) h k = all_new parts.items h k
   level_new new (One parts) h k = any_new parts.items h k
+  level_new new (OneRank ranks) h k = some_new new ranks.value.items h k
 
   pub names_new : ((s : ℕ) → more s ≡ true → (able s ≡ true) ⊎ (q ≡ s)) → (c : Condition) → NamesNew c
   names_new new c = ind-Condition NamesNew (λ x y is h k.

@@ -3,7 +3,7 @@ use Rattle.std.proofs.Common.{◌≡◌, ℕ, zero, suc, ◌<◌, true, false, L
 use Rattle.std.specs.Prelude.{slice_get}
 use Rattle.std.proofs.Math.ListN.{length-set}
 use Rattle.trace_stuck.specs.Release.{among}
-use Rattle.trace_stuck.specs.Named.{at_rank, Asks}
+use Rattle.trace_stuck.specs.Named.{at_rank, Asks, NotesAll}
 use Rattle.trace_stuck.proofs.Holds.{either, or_left, or_right}
 use Rattle.trace_stuck.proofs.Orders.{is_equal}
 use Rattle.trace_stuck.proofs.Named.{among_append, among_self}
@@ -54,4 +54,17 @@ noted_already askers s r h = record {
   noted = λ t below a. ⊎_elim
       (λ (e : eqb s t ≡ true). subst (λ (u : ℕ). among (at_rank askers u) r ≡ true) (is_equal s t e) h)
       (λ (b : false ≡ true). absurd (cc)) (either (eqb s t) false a);
+}
+
+-- nothing is to be noted
+pub noted_none : (askers : List (Vec ℕ Global)) (r : ℕ) → NotesAll askers askers [] r
+noted_none askers r = record { len = refl; kept = λ t x h. h; noted = λ s lt h. absurd (cc) }
+
+-- first at these ranks, then at those
+pub noted_append : (before between after : List (Vec ℕ Global)) (xs ys : List ℕ) (r : ℕ) → NotesAll before between xs r → NotesAll between after ys r → NotesAll before after (xs ++ ys) r
+noted_append before between after xs ys r p q = record {
+  len = q.len ∙ p.len;
+  kept = λ t x h. q.kept t x (p.kept t x h);
+  noted = λ s lt h. ⊎_elim (λ (i : among xs s ≡ true). q.kept s r (p.noted s lt i)) (λ (i : among ys s ≡ true). q.noted s (omega (arith, lt, p.len)) i)
+      (either (among xs s) (among ys s) (sym (among_append xs ys s) ∙ h));
 }

@@ -1,7 +1,8 @@
 -- The shape of a condition that was just made.
 use Rattle.std.proofs.Common.{Vec, Global, ◌≡◌, ℕ, zero, suc, ◌<◌, Bool, List, [], ◌∷◌, ◌++◌, IsTrue, map, length, get_or, refl, sym, ◌∙◌, ap, arith}
+use Rattle.std.specs.declared.sync.Arc.{Arc}
 use Rattle.trace_stuck.specs.declared.condition.Condition.{Condition}
-use Rattle.trace_stuck.specs.declared.condition.Condition.TheOpen.{Rank, All, One}
+use Rattle.trace_stuck.specs.declared.condition.Condition.TheOpen.{Rank, All, One, OneRank}
 use Rattle.trace_stuck.specs.declared.condition.Condition.TheFolds.{fold-roll-Condition}
 use Rattle.trace_stuck.specs.declared.condition.Condition.TheViews as views
 use Rattle.trace_stuck.specs.Shape.{Wait, OnRank, OnAll, OnOne, waits_of, shape_step, shape}
@@ -15,11 +16,14 @@ shape_All parts = ap shape (sym (views.rolls-All parts)) ∙ fold-roll-Condition
 pub shape_One : (parts : Vec Condition Global) → shape (views.One parts) ≡ OnOne (waits_of (map shape parts.items))
 shape_One parts = ap shape (sym (views.rolls-One parts)) ∙ fold-roll-Condition Wait shape_step (One parts)
 
+pub shape_OneRank : (ranks : Arc (Vec ℕ Global) Global) → shape (views.made-OneRank ranks) ≡ OnOne (waits_of (map OnRank ranks.value.items))
+shape_OneRank ranks = ap shape (sym (views.rolls-OneRank ranks)) ∙ fold-roll-Condition Wait shape_step (OneRank ranks)
+
 pub map_push : {X Y : Type 0} (f : X → Y) (xs : List X) (x : X) → map f (xs ++ x ∷ []) ≡ map f xs ++ f x ∷ []
 map_push f [] x = refl
 map_push {Y = Y} f (y ∷ ys) x = ap (λ (l : List Y). f y ∷ l) (map_push f ys x)
 
-pub ruleset shapes = (shape_Rank, shape_All, shape_One, map_push)
+pub ruleset shapes = (shape_Rank, shape_All, shape_One, shape_OneRank, map_push)
 
 -- parts are known by the list that they make
 one_waits : (xs ys : List Wait) → waits_of xs ≡ waits_of ys → xs ≡ ys
@@ -31,6 +35,18 @@ one_waits (x ∷ xs) (y ∷ ys) h =
     let b : waits_of xs ≡ waits_of ys = cc in
     let rest = one_waits xs ys b in
     cc (a, rest)
+
+-- ranks are known by the parts that they make
+one_ranks : (xs ys : List ℕ) → map OnRank xs ≡ map OnRank ys → xs ≡ ys
+one_ranks [] [] h = refl
+one_ranks [] (y ∷ ys) h = absurd (cc)
+one_ranks (x ∷ xs) [] h = absurd (cc)
+one_ranks (x ∷ xs) (y ∷ ys) h =
+    let a : OnRank x ≡ OnRank y = cc in
+    let i : x ≡ y = cc in
+    let b : map OnRank xs ≡ map OnRank ys = cc in
+    let rest = one_ranks xs ys b in
+    cc (i, rest)
 
 -- a test of the parts is a test of the whole
 module _ (first second : Condition) (parts others : Vec Condition Global) (xs ys : List Condition) (x_is : xs ≡ parts.items) (y_is : ys ≡ others.items)
@@ -58,6 +74,48 @@ module _ (first second : Condition) (parts others : Vec Condition Global) (xs ys
         let w : waits_of (map shape parts.items) ≡ waits_of (map shape others.items) = cc in
         test.1 (back (one_waits (map shape parts.items) (map shape others.items) w)),
   )
+
+-- a test of a list of ranks is a test of the whole, whether the ranks stand as parts or as a list
+module _ (first second : Condition) (b : Bool) where
+  pub same_parts_ranks : (parts : Vec Condition Global) (ranks : Arc (Vec ℕ Global) Global) (xs : List Condition) (ys : List ℕ) → xs ≡ parts.items → ys ≡ ranks.value.items →
+      (test : (IsTrue b → map shape xs ≡ map OnRank ys) × (map shape xs ≡ map OnRank ys → IsTrue b)) →
+      first ≡ views.One parts → second ≡ views.made-OneRank ranks → (IsTrue b → shape first ≡ shape second) × (shape first ≡ shape second → IsTrue b)
+  same_parts_ranks parts ranks xs ys x_is y_is test f s =
+      let there : map shape xs ≡ map shape parts.items = ap (map shape) x_is in
+      let others : map OnRank ys ≡ map OnRank ranks.value.items = ap (map OnRank) y_is in (
+        λ h. ap shape f ∙ shape_One parts ∙ ap (λ (l : List Wait). OnOne (waits_of l)) (sym there ∙ test.0 h ∙ others) ∙ sym (shape_OneRank ranks) ∙ sym (ap shape s),
+        λ h.
+            let e : OnOne (waits_of (map shape parts.items)) ≡ OnOne (waits_of (map OnRank ranks.value.items)) = sym (shape_One parts) ∙ sym (ap shape f) ∙ h ∙ ap shape s ∙ shape_OneRank ranks in
+            let w : waits_of (map shape parts.items) ≡ waits_of (map OnRank ranks.value.items) = cc in
+            test.1 (there ∙ one_waits (map shape parts.items) (map OnRank ranks.value.items) w ∙ sym others),
+      )
+
+  pub same_ranks : (ranks others : Arc (Vec ℕ Global) Global) (xs ys : List ℕ) → xs ≡ ranks.value.items → ys ≡ others.value.items →
+      (test : (IsTrue b → xs ≡ ys) × (xs ≡ ys → IsTrue b)) →
+      first ≡ views.made-OneRank ranks → second ≡ views.made-OneRank others → (IsTrue b → shape first ≡ shape second) × (shape first ≡ shape second → IsTrue b)
+  same_ranks ranks others xs ys x_is y_is test f s = (
+    λ h. ap shape f ∙ shape_OneRank ranks ∙ ap (λ (l : List ℕ). OnOne (waits_of (map OnRank l))) (sym x_is ∙ test.0 h ∙ y_is) ∙ sym (shape_OneRank others) ∙ sym (ap shape s),
+    λ h.
+        let e : OnOne (waits_of (map OnRank ranks.value.items)) ≡ OnOne (waits_of (map OnRank others.value.items)) = sym (shape_OneRank ranks) ∙ sym (ap shape f) ∙ h ∙ ap shape s ∙ shape_OneRank others in
+        let w : waits_of (map OnRank ranks.value.items) ≡ waits_of (map OnRank others.value.items) = cc in
+        test.1 (x_is ∙ one_ranks ranks.value.items others.value.items (one_waits (map OnRank ranks.value.items) (map OnRank others.value.items) w) ∙ sym y_is),
+  )
+
+pub same_ranks_parts : (first second : Condition) (b : Bool) (ranks : Arc (Vec ℕ Global) Global) (parts : Vec Condition Global) (xs : List Condition) (ys : List ℕ) → xs ≡ parts.items → ys ≡ ranks.value.items →
+    (test : (IsTrue b → map shape xs ≡ map OnRank ys) × (map shape xs ≡ map OnRank ys → IsTrue b)) →
+    first ≡ views.made-OneRank ranks → second ≡ views.One parts → (IsTrue b → shape first ≡ shape second) × (shape first ≡ shape second → IsTrue b)
+same_ranks_parts first second b ranks parts xs ys x_is y_is test f s =
+    let back = same_parts_ranks second first b parts ranks xs ys x_is y_is test s f in
+    (λ h. sym (back.0 h), λ h. back.1 (sym h))
+
+-- one part that is not the rank at its place
+pub ranks_at : (xs : List Condition) (ys : List ℕ) (i : ℕ) (d : Condition) (r : ℕ) → i < length xs → i < length ys → map shape xs ≡ map OnRank ys → shape (get_or xs i d) ≡ OnRank (get_or ys i r)
+ranks_at [] ys i d r lt le h = absurd (omega arith)
+ranks_at (x ∷ xs) [] i d r lt le h = absurd (omega arith)
+ranks_at (x ∷ xs) (y ∷ ys) zero d r lt le h = cc
+ranks_at (x ∷ xs) (y ∷ ys) (suc i) d r lt le h =
+    let rest : map shape xs ≡ map OnRank ys = cc in
+    ranks_at xs ys i d r (omega (arith, lt)) (omega (arith, le)) rest
 
 -- lists of one shape have one shape at each place
 pub shapes_at : (xs ys : List Condition) (i : ℕ) (d e : Condition) → i < length xs → i < length ys → map shape xs ≡ map shape ys → shape (get_or xs i d) ≡ shape (get_or ys i e)

@@ -3,7 +3,7 @@ use Rattle.std.specs.Prelude.{◌≡◌, ◌<◌, ℕ, true, Option, Some, None,
 use Rattle.std.specs.List.{flat_map}
 use Rattle.std.specs.declared.alloc.Global.{Global}
 use Rattle.trace_stuck.specs.declared.condition.Condition.{Condition}
-use Rattle.trace_stuck.specs.declared.condition.Condition.TheOpen.{Condition-F, Yes, Rank, All, One}
+use Rattle.trace_stuck.specs.declared.condition.Condition.TheOpen.{Condition-F, Yes, Rank, All, One, OneRank}
 use Rattle.trace_stuck.specs.declared.condition.Condition.TheFolds.{fold-Condition}
 use Rattle.trace_stuck.specs.Release.{among}
 
@@ -13,6 +13,7 @@ named_step Yes = []
 named_step (Rank r) = r ∷ []
 named_step (All parts) = flat_map (λ p. p) parts.items
 named_step (One parts) = flat_map (λ p. p) parts.items
+named_step (OneRank ranks) = ranks.value.items
 
 -- the ranks that stand in a condition, in order
 abbrev pub named : Condition → List ℕ

@@ -8,46 +8,6 @@ ghost use Rattle.trace_stuck.specs.Named.{named, names, Asks, NotesAll, IsAskedB
 use crate::condition::Condition;
 use std::alloc::{AllocError, Global};
 
-#[cycle(names)]
-fn push_named(condition: &Condition, out: &mut Vec<u32>) -> Result<(), AllocError>
-    ensures { OnOk result (out.new.items ≡ out.old.items ++ named condition.now) }
-{
-    match condition {
-        Condition::Yes => Ok(()),
-        Condition::Rank(r) => {
-            out.push(*r)?;
-            Ok(())
-        }
-        Condition::All(all) => push_each_named(all, out),
-        Condition::One(all) => push_each_named(all, out),
-    }
-}
-
-#[cycle(names)]
-fn push_each_named(parts: &[Condition], out: &mut Vec<u32>) -> Result<(), AllocError>
-    ensures { OnOk result (out.new.items ≡ out.old.items ++ flat_map named parts.now) }
-{
-    for c in parts {
-        push_named(c, out)?;
-    }
-    Ok(())
-}
-
-/// The ranks that the rank's condition names, in the place of what the buffer held.
-fn refill(
-    conditions: &[Option<Condition>],
-    r: usize,
-    buffer: &mut Vec<u32>,
-) -> Result<(), AllocError>
-    ensures { OnOk result (buffer.new.items ≡ names conditions.now r) }
-{
-    buffer.clear();
-    if let Some(Some(c)) = conditions.get(r) {
-        push_named(c, buffer)?;
-    }
-    Ok(())
-}
-
 /// Whether the rank is the last that was noted at s.
 fn is_last_noted(askers: &[Vec<u32>], s: u32, r: u32) -> bool
     ensures { result ≡ true → among (at_rank askers.now s) r ≡ true }
@@ -88,6 +48,44 @@ fn note_all(askers: &mut [Vec<u32>], ranks: &[u32], r: u32) -> Result<(), AllocE
     Ok(())
 }
 
+/// Notes r at the ranks that the condition names.
+#[cycle(names)]
+fn note_named(askers: &mut [Vec<u32>], condition: &Condition, r: u32) -> Result<(), AllocError>
+    ensures { OnOk result (NotesAll askers.old askers.new (named condition.now) r) }
+{
+    match condition {
+        Condition::Yes => Ok(()),
+        Condition::Rank(s) => note(askers, *s, r),
+        Condition::All(all) => note_each_named(askers, all, r),
+        Condition::One(all) => note_each_named(askers, all, r),
+        Condition::OneRank(ranks) => note_all(askers, ranks, r),
+    }
+}
+
+#[cycle(names)]
+fn note_each_named(askers: &mut [Vec<u32>], parts: &[Condition], r: u32) -> Result<(), AllocError>
+    ensures { OnOk result (NotesAll askers.old askers.new (flat_map named parts.now) r) }
+{
+    for c in parts {
+        note_named(askers, c, r)?;
+    }
+    Ok(())
+}
+
+/// Notes r at the ranks that its condition names.
+fn note_names(
+    askers: &mut [Vec<u32>],
+    conditions: &[Option<Condition>],
+    r: u32,
+) -> Result<(), AllocError>
+    ensures { OnOk result (NotesAll askers.old askers.new (names conditions.now r) r) }
+{
+    match conditions.get(r as usize) {
+        Some(Some(c)) => note_named(askers, c, r),
+        _ => Ok(()),
+    }
+}
+
 fn no_askers(alloc: Global, count: usize) -> Result<Vec<Vec<u32>>, AllocError>
     ensures { IfOk result (λ a. vec_len a ≡ count) }
 {
@@ -109,10 +107,8 @@ pub(crate) fn askers_of(
     ensures asked { IfOk result (λ a. IsAskedBy conditions.now count count a.items) }
 {
     let mut askers = no_askers(alloc, count)?;
-    let mut buffer = Vec::new(alloc);
     for r in 0..count {
-        refill(conditions, r, &mut buffer)?;
-        note_all(&mut askers, &buffer, r as u32)?;
+        note_names(&mut askers, conditions, r as u32)?;
     }
     Ok(askers)
 }

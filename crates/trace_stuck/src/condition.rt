@@ -4,6 +4,7 @@ ghost use Rattle.std.specs.Prelude.{◌≡◌, ◌↔◌, IfOk, IsTrue, map};
 ghost use Rattle.trace_stuck.specs.Shape.{shape, waits_of, OnNothing, OnRank, OnAll, OnOne};
 
 use std::alloc::{AllocError, Global};
+use std::sync::Arc;
 
 /// What a waiting rank needs before it can go on. Ranks are trace ranks.
 ///
@@ -18,6 +19,8 @@ pub enum Condition {
     All(Vec<Condition>),
     /// One of these; of none it is false.
     One(Vec<Condition>),
+    /// One of these ranks, with the shape of `One` of them. Many conditions may share the list.
+    OneRank(Arc<Vec<u32>>),
 }
 
 impl Condition {
@@ -52,7 +55,15 @@ impl Condition {
         Condition::One(parts)
     }
 
-    /// A copy, with equal parts.
+    /// Waits for one of these ranks. Their list is shared: the part itself only points to it.
+    #[tactic(auto, using(crate::proofs::Shapes::shapes))]
+    pub fn one_rank(list: Arc<Vec<u32>>) -> Condition
+        ensures { shape result ≡ OnOne (waits_of (map OnRank list.value.items)) }
+    {
+        Condition::OneRank(list)
+    }
+
+    /// A copy, with equal parts. Lists of ranks are shared with it.
     pub fn try_clone(&self, alloc: Global) -> Result<Condition, AllocError>
         ensures { IfOk result (λ c. shape c ≡ shape self.now) }
     {
@@ -76,6 +87,7 @@ fn copy_of(alloc: Global, condition: &Condition) -> Result<Condition, AllocError
         Condition::Rank(r) => Ok(Condition::rank(*r)),
         Condition::All(parts) => Ok(Condition::all(copies_of(alloc, parts)?)),
         Condition::One(parts) => Ok(Condition::one(copies_of(alloc, parts)?)),
+        Condition::OneRank(ranks) => Ok(Condition::one_rank(Arc::try_clone(ranks)?)),
     }
 }
 
@@ -90,6 +102,38 @@ fn copies_of(alloc: Global, parts: &[Condition]) -> Result<Vec<Condition>, Alloc
     Ok(copies)
 }
 
+/// Whether the two lists are equal.
+fn are_same_ranks(first: &[u32], second: &[u32]) -> bool
+    ensures { IsTrue result ↔ (first.now ≡ second.now) }
+{
+    first == second
+}
+
+/// Whether the condition is to wait for this rank.
+fn is_rank(condition: &Condition, r: u32) -> bool
+    ensures { IsTrue result ↔ (shape condition.now ≡ OnRank r) }
+{
+    match condition {
+        Condition::Rank(s) => *s == r,
+        _ => false,
+    }
+}
+
+/// Whether the parts are just these ranks.
+fn are_ranks(parts: &[Condition], ranks: &[u32]) -> bool
+    ensures { IsTrue result ↔ (map shape parts.now ≡ map OnRank ranks.now) }
+{
+    if parts.len() != ranks.len() {
+        return false;
+    }
+    for i in 0..parts.len() {
+        if !is_rank(&parts[i], ranks[i]) {
+            return false;
+        }
+    }
+    true
+}
+
 #[cycle(same)]
 fn is_same(first: &Condition, second: &Condition) -> bool
     ensures { IsTrue result ↔ (shape first.now ≡ shape second.now) }
@@ -99,6 +143,9 @@ fn is_same(first: &Condition, second: &Condition) -> bool
         (Condition::Rank(r), Condition::Rank(s)) => *r == *s,
         (Condition::All(parts), Condition::All(others)) => are_same(parts, others),
         (Condition::One(parts), Condition::One(others)) => are_same(parts, others),
+        (Condition::One(parts), Condition::OneRank(ranks)) => are_ranks(parts, ranks),
+        (Condition::OneRank(ranks), Condition::One(parts)) => are_ranks(parts, ranks),
+        (Condition::OneRank(ranks), Condition::OneRank(others)) => are_same_ranks(ranks, others),
         _ => false,
     }
 }

@@ -35,6 +35,18 @@ pub(crate) fn flag_at(flags: &[bool], r: usize) -> bool
     flags.get(r).copied().unwrap_or(false)
 }
 
+/// Whether one of these ranks can go on.
+fn can_some_go<A: Able>(able: &A, ranks: &[u32]) -> bool
+    ensures { result ≡ list_any (A.able able.now) ranks.now }
+{
+    for r in ranks {
+        if able.can_go(*r) {
+            return true;
+        }
+    }
+    false
+}
+
 #[cycle(hold)]
 fn does_hold<A: Able>(able: &A, condition: &Condition) -> bool
     ensures { result ≡ holds (A.able able.now) condition.now }
@@ -44,6 +56,7 @@ fn does_hold<A: Able>(able: &A, condition: &Condition) -> bool
         Condition::Rank(r) => able.can_go(*r),
         Condition::All(all) => does_each_hold(able, all),
         Condition::One(all) => does_some_hold(able, all),
+        Condition::OneRank(ranks) => can_some_go(able, ranks),
     }
 }
 

@@ -10,13 +10,17 @@
 //! names no rank too many, the closed set one that names none too few, and two checks that take no
 //! memory tell both apart from anything else.
 //!
-//! Cost over n ranks whose conditions have c parts together: never more than n c steps. A condition
-//! is looked at once, and then once for each rank that it names and that was released before its
-//! own; so at most n times, and each time only up to the first part that decides. One-of ranks is
-//! looked at twice at most. So where conditions are that, or name few ranks, all is in the order of
-//! n + c. What costs more is an all-of whose ranks are released in just the order in which it names
-//! them: half of the square of their number. [`check_release`] and [`check_closed`] take no memory,
-//! so they look through the list for each part: n c steps at most.
+//! Cost over n ranks whose conditions have c parts together, where a list of ranks counts in each part
+//! that shares it: never more than n c steps. A condition is looked at once, and then once for each
+//! rank that it names and that was released before its own; so at most n times, and each time only up
+//! to the first part that decides. One-of ranks is looked at twice at most. So where conditions are
+//! that, or name few ranks, all is in the order of n + c. What costs more is an all-of whose ranks are
+//! released in just the order in which it names them: half of the square of their number.
+//! [`check_release`] and [`check_closed`] take no memory, so they look through the list for each part:
+//! n c steps at most.
+//!
+//! Memory: a part takes the size of a [`Condition`], and a list that parts share is held once. The
+//! search keeps for each rank who names it, each once, and no list of names.
 //!
 //! - [`state`]: the state of each rank; [`condition`]: what it waits for
 //! - [`hold`]: whether a condition holds; [`askers`]: which conditions name a rank

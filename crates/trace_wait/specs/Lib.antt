@@ -7,3 +7,4 @@ pub mod Parts
 pub mod Conditions
 pub mod Tallies
 pub mod Calls
+pub mod Groups

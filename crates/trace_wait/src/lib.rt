@@ -13,6 +13,7 @@
 //! - [`entries`]: collective calls by communicator; [`counts`]: how many each member has entered
 //! - [`round`]: how a round stands; [`tally`]: the rounds of all communicators
 //! - [`sets`], [`paired`], [`unpaired`], [`mismatch`]: what is looked up for the conditions; [`overview`]: all of it together
+//! - [`groups`]: the members of each communicator, in one list that all conditions share
 //! - [`posts`]: what a call started; [`active`]: which call posted a request
 //! - [`parts`]: what a send, a receive and a request wait for; [`collective`]: a collective call
 //! - [`waiting`]: the condition of each rank
@@ -24,6 +25,7 @@ mod active;
 mod collective;
 mod counts;
 mod entries;
+mod groups;
 mod mismatch;
 mod overview;
 mod paired;

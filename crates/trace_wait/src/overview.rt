@@ -1,6 +1,6 @@
 //! What the conditions are made from.
 
-ghost use Rattle.std.specs.Prelude.{◌≡◌, ◌==◌, ◌&&◌, count_by, is_some, nat_lt, slice_index};
+ghost use Rattle.std.specs.Prelude.{◌≡◌, ◌==◌, ◌&&◌, IfOk, count_by, is_some, nat_lt, slice_index};
 ghost use Rattle.std.specs.List.{list_any};
 ghost use Rattle.mpi_model.specs.Fit.{fits};
 ghost use Rattle.trace_pair.specs.Table.{taken_by, given_by};
@@ -11,16 +11,20 @@ ghost use Rattle.trace_wait.specs.Calls.{counts};
 ghost use Rattle.trace_wait.specs.Conditions.{is_mismatched, round_number};
 
 use crate::counts::{CommCalls, row_of};
+use crate::groups::{Group, shared_members};
 use crate::round::Round;
 use crate::unpaired::Pattern;
 use mpi_model::{Layout, Message, Receive};
+use std::alloc::{AllocError, Global};
 use std::collections::BTreeSet;
 use std::marker::Model;
+use std::sync::Arc;
 use trace_ops::{Entered, RankOps};
 use trace_pair::{PairTable, Side};
 
 /// The whole run, and what was gathered of it to be looked up: which messages and receives are in
-/// no pair, which rounds are mismatched, and how many calls each member has entered.
+/// no pair, which rounds are mismatched, how many calls each member has entered, and the members of
+/// each communicator in a list to be shared.
 #[derive(Drop)]
 pub(crate) struct Overview<'a> {
     pub layout: &'a Layout,
@@ -31,6 +35,7 @@ pub(crate) struct Overview<'a> {
     pub asked: &'a BTreeSet<Pattern>,
     pub mismatched: &'a BTreeSet<(u32, u64)>,
     pub calls: &'a [CommCalls],
+    pub groups: &'a [Group],
 }
 
 impl<'a> Model for Overview<'a> {
@@ -42,6 +47,7 @@ impl<'a> Model for Overview<'a> {
     ghost use Rattle.trace_wait.specs.Patterns.{Pattern as Named, pattern_cmp, place_cmp, suits, asks};
     ghost use Rattle.trace_wait.specs.Conditions.{is_mismatched_at};
     ghost use Rattle.trace_wait.specs.Calls.{table};
+    ghost use Rattle.trace_wait.specs.Groups.{AreGroups};
 
     ghost Value = { Run };
 
@@ -51,7 +57,8 @@ impl<'a> Model for Overview<'a> {
         ((p : Named) → contains pattern_cmp s.offered.now p ≡ list_any (λ m. suits m p) (unpaired_messages s.ops.now s.pairs.now.pairs))
         × ((p : Named) → contains pattern_cmp s.asked.now p ≡ list_any (λ q. asks q p) (unpaired_receives s.ops.now s.pairs.now.pairs))
         × ((c k : ℕ) → contains place_cmp s.mismatched.now (c, k) ≡ list_any (is_mismatched_at c k) s.rounds.now)
-        × (s.calls.now ≡ table s.layout.now.comms s.ops.now s.layout.now.comms) };
+        × (s.calls.now ≡ table s.layout.now.comms s.ops.now s.layout.now.comms)
+        × (AreGroups s.layout.now.comms s.groups.now) };
 }
 
 impl<'a> Overview<'a> {
@@ -63,6 +70,13 @@ impl<'a> Overview<'a> {
             Some(ranks) => ranks,
             None => &[],
         }
+    }
+
+    /// The members of a communicator, in a list that all conditions share.
+    pub fn shared_members(&self, alloc: Global, comm: u32) -> Result<Arc<Vec<u32>>, AllocError>
+        ensures { IfOk result (λ list. list.value.items ≡ members self.now comm) }
+    {
+        shared_members(alloc, self.layout, self.groups, comm)
     }
 
     /// How many calls on the communicator each of its members has entered.

@@ -3,7 +3,7 @@
 ghost use Rattle.std.specs.Prelude.{◌≡◌, ◌++◌, ◌∷◌, [], map, IfOk, OnOk};
 ghost use Rattle.trace_ops.specs.Order.{AreInOrder, ArePosted};
 ghost use Rattle.trace_stuck.specs.Shape.{shape, waits_of, OnRank, OnOne};
-ghost use Rattle.trace_wait.specs.Parts.{is_buffered, may_send, send_part, source_part, may_receive, receive_part, send_of_call, receive_of_call, post_part, posted_by, requests};
+ghost use Rattle.trace_wait.specs.Parts.{members, is_buffered, may_send, send_part, source_part, may_receive, receive_part, send_of_call, receive_of_call, post_part, posted_by, requests};
 
 use crate::active::{Posts, posts_of};
 use crate::overview::Overview;
@@ -45,15 +45,11 @@ fn send_part(run: &Overview, m: &Message) -> Condition
     }
 }
 
-/// One of these ranks.
-fn one_of(alloc: Global, ranks: &[u32]) -> Result<Condition, AllocError>
-    ensures { IfOk result (λ c. shape c ≡ OnOne (waits_of (map OnRank ranks.now))) }
+/// One of the members of the communicator.
+fn one_of(alloc: Global, run: &Overview, comm: u32) -> Result<Condition, AllocError>
+    ensures { IfOk result (λ c. shape c ≡ OnOne (waits_of (map OnRank (members run.now comm)))) }
 {
-    let mut parts = Vec::new(alloc);
-    for r in ranks {
-        parts.push(Condition::rank(*r))?;
-    }
-    Ok(Condition::one(parts))
+    Ok(Condition::one_rank(run.shared_members(alloc, comm)?))
 }
 
 fn source_part(alloc: Global, run: &Overview, q: &Receive) -> Result<Condition, AllocError>
@@ -61,7 +57,7 @@ fn source_part(alloc: Global, run: &Overview, q: &Receive) -> Result<Condition, 
 {
     match q.source {
         Some(r) => Ok(Condition::rank(r)),
-        None => one_of(alloc, run.members(q.comm)),
+        None => one_of(alloc, run, q.comm),
     }
 }
 

@@ -9,6 +9,7 @@ ghost use Rattle.trace_wait.specs.Conditions.{some_of, request, waits_for, condi
 
 use crate::collective::collective_of_call;
 use crate::counts::all_calls;
+use crate::groups::groups_of;
 use crate::mismatch::mismatched_rounds;
 use crate::overview::Overview;
 use crate::parts::{post_part, posted_by, receive_of_call, requests, send_of_call};
@@ -117,6 +118,7 @@ pub fn conditions(
     let asked = patterns_asked(alloc, ops, pairs)?;
     let mismatched = mismatched_rounds(alloc, rounds)?;
     let calls = all_calls(alloc, layout, ops)?;
+    let groups = groups_of(alloc, layout)?;
     let run = Overview {
         layout,
         ops,
@@ -126,6 +128,7 @@ pub fn conditions(
         asked: &asked,
         mismatched: &mismatched,
         calls: &calls,
+        groups: &groups,
     };
     let mut out = Vec::new(alloc);
     for (r, o) in ops.iter().enumerate() {

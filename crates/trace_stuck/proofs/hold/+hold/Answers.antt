@@ -1,4 +1,4 @@
-use Rattle.trace_stuck.proofs.Holds.{holds_All, holds_One}
+use Rattle.trace_stuck.proofs.Holds.{holds_All, holds_One, holds_OneRank}
 use Rattle.trace_stuck.proofs.hold.+hold.Goals as goal
 
 pub does_hold-returns-in-All : goal.does_hold-returns-in-All
@@ -6,3 +6,6 @@ does_hold-returns-in-All g t c = let e = holds_All (g.A.Able.able c.args.able.no
 
 pub does_hold-returns-in-One : goal.does_hold-returns-in-One
 does_hold-returns-in-One g t c = let e = holds_One (g.A.Able.able c.args.able.now) c.in-One.all in cc (c.in-One.is, c.deref-in-One.ensures.value, c.does_some_hold.ensures)
+
+pub does_hold-returns-in-OneRank : goal.does_hold-returns-in-OneRank
+does_hold-returns-in-OneRank g t c = let e = holds_OneRank (g.A.Able.able c.args.able.now) c.in-OneRank.ranks in cc (c.in-OneRank.is, c.deref-in-OneRank.ensures, c.deref-in-OneRank-2.ensures.value, c.can_some_go.ensures)

@@ -3,7 +3,7 @@ use Rattle.std.proofs.lemmas.Grind.{get_or_default_zero}
 use Rattle.trace_stuck.specs.Release.{among}
 use Rattle.trace_stuck.specs.Named.{at_rank}
 use Rattle.trace_stuck.specs.Queue.{Ready}
-use Rattle.trace_stuck.proofs.Queues.{ready_start, ready_turn}
+use Rattle.trace_stuck.proofs.Queues.{ready_start, ready_turn, ready_end}
 use Rattle.trace_stuck.proofs.release.release_all.Goals as goal
 
 pub loop-at-init : goal.loop-at-init
@@ -32,3 +32,8 @@ loop-at-preserved c =
       ready = m.ready (c.loop-at.at + 1) (omega (arith, lt))
           (subst (λ (l : List ℕ). Ready c.args.states.now c.args.conditions.now (c.loop-at.at + 1) (among l) c.loop-at.able.items c.loop-at.release.items) (sym ranks) turn);
     }
+
+pub returns-clause-rest : goal.returns-clause-rest
+returns-clause-rest c =
+    ready_end c.args.states.now c.args.conditions.now c.loop-at.at c.loop-at.able.items c.loop-at.release.items
+    (omega (arith, c.loop-at-test.false, c.loop-at.release.ok.0, c.len.ensures)) c.loop-at.invariant.ready

@@ -1,0 +1,5 @@
+use Rattle.trace_report.proofs.Printing.{then, reads}
+use Rattle.trace_report.proofs.waits.put_rank.Goals as goal
+
+pub returns : goal.returns
+returns g c = then (reads c.put.ensures c.space_before.ensures) c.put_number.ensures
