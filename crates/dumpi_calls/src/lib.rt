@@ -14,7 +14,7 @@
 //! - [`sink`]: the callbacks; [`fault`], [`walking`]: the walk
 //! - [`collect`], over events in [`parts`], and [`tally`]: two sinks; [`laws`]: what holds of walks over whole texts
 //!
-//! Its tests are in the crate `dumpi_calls_tests`; calls that are refused, by each parameter of each function, are in
+//! Its tests are in the crate `reading_tests`; calls that are refused, by each parameter of each function, are in
 //! `tests/functions.txt`.
 #![tactic(auto)]
 

@@ -61,7 +61,7 @@ use mpi_model::{Call, Exit, Stamp};
 /// let walked = walk(alloc, reader, &mut sink)?;
 /// ```
 ///
-/// It stands whole, with `elements_after` and with a bound on its calls, in `crates/dumpi_calls_tests`, where it is proved
+/// It stands whole, with `elements_after` and with a bound on its calls, in `crates/reading_tests`, where it is proved
 /// and run.
 pub trait CallSink {
     /// Why a call is refused.

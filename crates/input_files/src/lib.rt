@@ -11,7 +11,7 @@
 //! - [`schedule`]: the steps of a manifest's schedule
 //! - [`manifest`]: the pieces of a trace, and what nodes are to do with them
 //!
-//! Its tests are in the crate `input_files_tests`.
+//! Its tests are rows of `tests/inputs.txt`, which the built program runs.
 #![tactic(auto)]
 
 mod fault;

@@ -15,7 +15,7 @@
 //! - [`message`]: what is matched, and which messages a receive can take
 //! - [`layout`]: the ranks of a run and its communicators
 //!
-//! Its tests are in the crate `mpi_model_tests`.
+//! Its tests are in the crate `reading_tests`.
 #![tactic(auto)]
 
 mod call;

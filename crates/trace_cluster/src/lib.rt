@@ -20,7 +20,8 @@
 //! A socket tells no bytes, so no contract says that both nodes know the same at the end; nor that a
 //! call which waits returns.
 //!
-//! Its tests are in `crates/node_tests/src/cluster.rt`, `exchange.rt`, `socket.rt` and `unplugged.rt`.
+//! Its tests are in `crates/node_tests/src/exchange.rt`, `socket.rt` and `unplugged.rt`, in `tests/cases/` and in
+//! `tests/run_clusters`.
 #![tactic(auto)]
 
 mod crews;

@@ -21,7 +21,7 @@
 //! - [`knowledge`]: all that is known
 //! - [`laws`]: what holds of joins and views, as contracts of calls that do nothing
 //!
-//! Its tests are in the crate `trace_know_tests`.
+//! Its tests are in the crate `reading_tests`; pieces that touch or contradict each other are in `tests/texts.txt`.
 #![tactic(auto)]
 
 mod boxed;

@@ -14,7 +14,7 @@
 //! - [`waits`]: what a stuck rank waits for; [`seconds`]: times; [`words`]: words and numbers
 //! - [`sink`]: where lines go; [`paged`]: page by page; [`direct`]: to the device; [`fault`]: why a report is not whole
 //!
-//! Its tests are in `crates/node_tests/src/report.rt`.
+//! Its tests are in `crates/node_tests/src/node.rt` and `tests/cases/`.
 #![tactic(auto)]
 
 mod direct;

@@ -18,7 +18,7 @@
 //! - [`parts`]: what a send, a receive and a request wait for; [`collective`]: a collective call
 //! - [`waiting`]: the condition of each rank
 //!
-//! Its tests are in the crate `trace_wait_tests`.
+//! Its tests are the runs of `tests/runs.txt`.
 #![tactic(auto)]
 
 mod active;

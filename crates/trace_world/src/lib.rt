@@ -15,7 +15,7 @@
 //! - [`laws`]: nodes that the same segments reached are equal, and equal states refuse the same steps, as
 //!   contracts
 //!
-//! Its tests are in `crates/node_tests/src/world.rt`.
+//! Its tests are in `crates/node_tests/src/world.rt`, `tests/cases/` and `tests/run_replays`.
 #![tactic(auto)]
 
 mod inbox;
