@@ -9,7 +9,7 @@ use std::sync::{Mutex, Wait};
 use std::thread;
 use std::thread::Threads;
 use std::time::Duration;
-use trace_crew::{Gate, Piece};
+use trace_crew::{Gate, Piece, PieceAt, Worker};
 
 /// How often something was announced, for threads that wait until it was.
 #[derive(Drop)]

@@ -3,8 +3,8 @@
 //! They stand in one crate, since each crate that owns a node, an answer or a world proves once more
 //! how these are let go. Each helper has one way out: where a value is missing it stops the test
 //! (`expect`). One that has a node hands it to `drop` at its end: that is proved for any type, and what is
-//! let go without it is taken apart in the helper's own proof. Expected reports and frames are those of `docs/formats.md`, written out by hand. A
-//! failure names its row.
+//! let go without it is taken apart in the helper's own proof. Expected reports are those of
+//! `docs/formats.md`, written out by hand. A failure names its row.
 //!
 //! | File | Tests |
 //! |---|---|
