@@ -12,6 +12,7 @@
 //! | `report` | `trace_report`: a report, whole and broken off |
 //! | `exchange`, `socket` | `trace_exchange`: both sides in memory (`pipe`), and over a socket of this machine |
 //! | `world` | `trace_world`: schedules over two nodes |
+//! | `storm` | `trace_world`, `trace_node`: 2,000 steps over four nodes and eight ranks, beside new nodes and the rules |
 //! | `board` | `trace_board`: what is published is shown, beside threads that ask too, and one who has seen more is told so |
 //! | `crew`, `gates` | `trace_crew`: what it leaves, and, by gates, that its threads run at the same time |
 //! | `cluster`, `unplugged` | `trace_cluster`: two nodes that know the same at the end, which refusal is named, and a network that gives no port or no connection |
@@ -37,6 +38,8 @@ mod pipe;
 mod report;
 #[cfg(test)]
 mod socket;
+#[cfg(test)]
+mod storm;
 #[cfg(test)]
 mod unplugged;
 #[cfg(test)]
