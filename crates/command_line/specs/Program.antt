@@ -9,7 +9,7 @@ use Rattle.command_line.specs.declared.Asked.{Asked}
 use Rattle.command_line.specs.declared.CommandFault.{CommandFault}
 use Rattle.command_line.specs.declared.CommandFault.TheVariants.{Memory, Shown, Unread}
 use Rattle.command_line.specs.declared.Verb.{Verb}
-use Rattle.command_line.specs.declared.Verb.TheVariants.{Report, Replay, Cluster}
+use Rattle.command_line.specs.declared.Verb.TheVariants.{Report, Replay, Cluster, Check}
 
 -- a file that has to be named
 abbrev pub file_rule : Text → Rule
@@ -27,12 +27,13 @@ abbrev pub bare : App
 bare = on_top (λ s. record s { has_version = true; subcommand_required = true }) (new_app (codes "mpimatch"))
 
 abbrev pub program : App
-program = with_verb (with_verb (with_verb bare (codes "report")) (codes "replay")) (codes "cluster")
+program = with_verb (with_verb (with_verb (with_verb bare (codes "report")) (codes "replay")) (codes "cluster")) (codes "check")
 
 abbrev pub verb_named : Text → Option Verb
 verb_named name = if bytes_eq name (codes "report") then Some Report
     else if bytes_eq name (codes "replay") then Some Replay
-    else if bytes_eq name (codes "cluster") then Some Cluster else None
+    else if bytes_eq name (codes "cluster") then Some Cluster
+    else if bytes_eq name (codes "check") then Some Check else None
 
 -- what the words ask for
 pub record Request : Type 0 where

@@ -29,6 +29,8 @@ pub enum Verb {
     /// Read the pieces of two nodes by two workers each, let the nodes exchange what they know, and
     /// print the report of each and whether both say the same.
     Cluster,
+    /// Make what a report tells once more straight from the rules, and print whether both agree.
+    Check,
 }
 
 /// A verb with the names of its two files, as the words spell them.
@@ -146,6 +148,23 @@ A file of a piece may have 1,073,741,824 bytes. A run that can't be done ends wi
   N1 Rank                      a piece has calls of a rank that the layout doesn't have
 "#;
 
+// What the help of `check` says below its arguments.
+const CHECK_HELP: &str =
+    r#"It tells whether a report of these pieces can be relied on, without trust in how a report is made:
+the pairs are made once more straight from MPI's rules, and each rank that is named stuck or is let go on
+is looked at by itself. It prints two lines:
+  check pairs P postponed Q equal
+                               so many lines pair and postponed has the report, and the rules give the
+                               same; or unequal
+  check stuck S released R valid
+                               S ranks are stuck, each for good, and the R others that wait can go on, one
+                               after another; or invalid
+It ends with 0 where they say equal and valid, and else with 1. mpimatch is proved to print nothing else:
+unequal or invalid is a fault of the program, its proof or the machine.
+The rules hold each message and each receive against all others, again and again, so this is for runs
+of some hundred messages, or for the pieces of a few ranks; a report takes any number.
+"#;
+
 // What the help says below the verbs.
 const MORE_HELP: &str = r#"Example: mpimatch report layout.json manifest.json
 
@@ -187,12 +206,19 @@ fn program_command<'a>(alloc: Global) -> Result<Command<'a>, AllocError>
         "Runs a schedule of nodes that exchange what they know, and prints the report of each",
         REPLAY_HELP,
     )?;
-    with_verb(
+    let command = with_verb(
         command,
         alloc,
         "cluster",
         "Reads the pieces of two nodes, which exchange what they know, and prints the report of each",
         CLUSTER_HELP,
+    )?;
+    with_verb(
+        command,
+        alloc,
+        "check",
+        "Makes pairs and stuck ranks once more straight from the rules, and prints whether they agree",
+        CHECK_HELP,
     )
 }
 
@@ -263,6 +289,8 @@ fn verb_of(name: &str) -> Option<Verb>
         Some(Verb::Replay)
     } else if name == "cluster" {
         Some(Verb::Cluster)
+    } else if name == "check" {
+        Some(Verb::Check)
     } else {
         None
     }

@@ -12,3 +12,4 @@ pub mod GivenFacts
 pub mod OwnPieces
 pub mod Places
 pub mod Stops
+pub mod Checks

@@ -1,3 +1,4 @@
+pub mod Checks
 pub mod Clusters
 pub mod Endings
 pub mod FaultLines

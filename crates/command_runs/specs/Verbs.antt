@@ -2,7 +2,8 @@
 use Rattle.std.specs.Prelude.{ℕ, List, Option}
 use Rattle.mpi_model.specs.Failures.{HasFailed}
 use Rattle.command_line.specs.declared.Verb.{Verb}
-use Rattle.command_line.specs.declared.Verb.TheVariants.{Report, Replay, Cluster}
+use Rattle.command_line.specs.declared.Verb.TheVariants.{Report, Replay, Cluster, Check}
+use Rattle.command_runs.specs.Checks.{IsCheckOf}
 use Rattle.command_runs.specs.Clusters.{IsClusterOf, RefusesCluster}
 use Rattle.command_runs.specs.Refusals.{RefusesRun}
 use Rattle.command_runs.specs.Replays.{AppendsFront, BeginsReplayOf, IsReplayOf, RefusesReplay}
@@ -14,12 +15,14 @@ abbrev pub IsOutputOf : (List ℕ → Option (List ℕ)) → Verb → List ℕ �
 IsOutputOf file Report layout manifest text = IsReportOf file layout manifest text
 IsOutputOf file Replay layout manifest text = IsReplayOf file layout manifest text
 IsOutputOf file Cluster layout manifest text = IsClusterOf file layout manifest text
+IsOutputOf file Check layout manifest text = IsCheckOf file layout manifest text
 
--- What a verb prints of these files begins so: the report, the first nodes of a replay, or the text of a cluster.
+-- What a verb prints of these files begins so: the report, the first nodes of a replay, the text of a cluster, or the lines of a check.
 abbrev pub BeginsOutputOf : (List ℕ → Option (List ℕ)) → Verb → List ℕ → List ℕ → List ℕ → Type 0
 BeginsOutputOf file Report layout manifest text = IsReportOf file layout manifest text
 BeginsOutputOf file Replay layout manifest text = BeginsReplayOf file layout manifest text
 BeginsOutputOf file Cluster layout manifest text = IsClusterOf file layout manifest text
+BeginsOutputOf file Check layout manifest text = IsCheckOf file layout manifest text
 
 -- The output couldn't be written whole: the writer failed, after it had taken a front of it.
 abbrev pub BreaksOff : (List ℕ → Option (List ℕ)) → Verb → List ℕ → List ℕ → Option (List ℕ) → Option (List ℕ) → ℕ → ℕ → Type 0
@@ -31,3 +34,4 @@ abbrev pub RefusesVerb : (List ℕ → Option (List ℕ)) → Verb → List ℕ 
 RefusesVerb file Report layout manifest fault = RefusesRun file layout manifest fault
 RefusesVerb file Replay layout manifest fault = RefusesReplay file layout manifest fault
 RefusesVerb file Cluster layout manifest fault = RefusesCluster file layout manifest fault
+RefusesVerb file Check layout manifest fault = RefusesRun file layout manifest fault

@@ -1,6 +1,7 @@
 //! What the pieces of a run tell together.
 
-ghost use Rattle.std.specs.Prelude.{◌≡◌, ◌≢◌, [], IfErr, IfOk, OnOk, false, true};
+ghost use Rattle.std.specs.Prelude.{◌≡◌, ◌≢◌, [], IfErr, IfOk, false, true};
+ghost use Rattle.std.specs.FinMap.{empty};
 ghost use Rattle.std.specs.List.{All};
 ghost use Rattle.dumpi_text.specs.Failing.{Fails};
 ghost use Rattle.command_runs.specs.Files.{NamesFailed};
@@ -12,33 +13,37 @@ ghost use Rattle.trace_know.specs.View.{join};
 ghost use Rattle.trace_node.specs.Node.{IsWithin};
 
 use crate::fault::RunFault;
+use crate::gatherer::Gatherer;
 use crate::opener::Opener;
 use crate::piece::segments_of;
 use crate::watch::{Watcher, announce};
 use input_files::Piece;
 use mpi_model::Layout;
 use std::alloc::{AllocError, Global};
-use trace_know::{Knowledge, Segment, join_laws, view_laws};
+use trace_know::{Segment, join_laws, view_laws};
 
-/// What the pieces tell together, of a run of this layout. All of them are read before a piece is
-/// refused for its rank.
-pub fn know_of<O: Opener, V: Watcher>(
+/// What the pieces tell together, of a run of this layout, by who gathers it. All of them are read before
+/// a piece is refused for its rank.
+pub(crate) fn know_of<G: Gatherer, O: Opener, V: Watcher>(
     alloc: Global,
     layout: &Layout,
     pieces: &[Piece],
     files: &mut O,
     watcher: &mut V,
-) -> Result<Knowledge, RunFault>
-    ensures ok { IfOk result (λ know. IsKnown (O.file files.old) pieces.now know) }
-    ensures inside { IfOk result (λ know. All (IsInside (O.file files.old) layout.now.ranks) pieces.now) }
-    ensures within { IfOk result (λ know. IsWithin layout.now know) }
+    gatherer: G,
+) -> Result<G, RunFault>
+    requires { G.known gatherer ≡ empty }
+    ensures ok { IfOk result (λ g. IsKnown (O.file files.old) pieces.now (G.known g)) }
+    ensures inside { IfOk result (λ g. All (IsInside (O.file files.old) layout.now.ranks) pieces.now) }
+    ensures within { IfOk result (λ g. IsWithin layout.now (G.known g)) }
+    ensures layout { IfOk result (λ g. G.layout g ≡ G.layout gatherer) }
     ensures err { IfErr result (RefusesPieces (O.file files.old) layout.now.ranks pieces.now) }
     ensures failed { IfErr result (NamesFailed (Fails O.R.failures)) }
 {
     join_laws();
     view_laws();
     announce(pieces, files, watcher);
-    let mut know = Knowledge::new(alloc);
+    let mut know = gatherer;
     let mut stranger = None;
     for piece in pieces {
         let segments = match segments_of(alloc, piece, files, watcher) {
@@ -46,7 +51,7 @@ pub fn know_of<O: Opener, V: Watcher>(
             Err(fault) => return Err(fault),
         };
         stranger = with_stranger(alloc, stranger, layout, piece, &segments)?;
-        take_all(&mut know, segments)?;
+        know = take_all(know, segments)?;
     }
     match stranger {
         Some(path) => Err(RunFault::Rank { path }),
@@ -86,13 +91,15 @@ fn have_calls(segments: &[Segment]) -> bool
 }
 
 // Takes segments that are not needed any more, with their events.
-fn take_all(know: &mut Knowledge, segments: Vec<Segment>) -> Result<(), AllocError>
-    ensures { OnOk result (know.new ≡ join know.old (view_of (facts_of_all segments.items))) }
+fn take_all<G: Gatherer>(gatherer: G, segments: Vec<Segment>) -> Result<G, AllocError>
+    ensures known { IfOk result (λ g. G.known g ≡ join (G.known gatherer) (view_of (facts_of_all segments.items))) }
+    ensures layout { IfOk result (λ g. G.layout g ≡ G.layout gatherer) }
 {
     join_laws();
     view_laws();
+    let mut know = gatherer;
     for segment in segments {
-        know.take_owned(segment)?;
+        know = know.reading(segment)?;
     }
-    Ok(())
+    Ok(know)
 }

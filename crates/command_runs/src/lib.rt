@@ -5,7 +5,8 @@
 //! its answer is written. `replay` reads all pieces, runs the manifest's schedule over nodes that
 //! exchange what they know (`trace_world`), and writes the report of each. `cluster` reads all files,
 //! lets the workers of two nodes read their texts side by side and both nodes exchange what they know
-//! over a socket (`trace_cluster`), and writes both reports. Nothing is written before the whole run is
+//! over a socket (`trace_cluster`), and writes both reports. `check` reads the pieces as `report` does, and
+//! writes whether the rules say the same (`trace_check`). Nothing is written before the whole run is
 //! good. Files come from an [`Opener`], so that a run can be proved and tested over
 //! files in memory; the program opens those of the system.
 //!
@@ -16,12 +17,12 @@
 //!
 //! - [`opener`]: where files come from; [`whole`]: a whole file, within its limit
 //! - [`piece`]: the segments of a piece; [`pieces`]: those of all pieces
-//! - [`input`]: the layout and the manifest; [`knowing`]: what the pieces tell together
+//! - [`input`]: the layout and the manifest; [`gatherer`], [`knowing`]: what the pieces tell together
 //! - [`watch`]: who is told how the reading comes along; [`watched`]: a reader that tells it;
 //!   [`terminal`]: what a person then sees
 //! - [`schedule`]: the steps that a manifest's schedule stands for; [`replay`]: their run, and the reports
 //!   of the nodes
-//! - [`answerer`]: a node as those know it who write what it tells
+//! - [`answerer`]: a node as those know it who write what it tells; [`check`]: the lines of a check
 //! - [`texts`]: the texts of a cluster; [`cluster`]: its run, and the reports of both nodes
 //! - [`run`]: a verb over its files; [`fault`]: why it is refused, and the line that says so
 //! - [`ending`]: from words to a status and what standard error shows
@@ -31,9 +32,11 @@
 #![tactic(auto)]
 
 mod answerer;
+mod check;
 mod cluster;
 mod ending;
 mod fault;
+mod gatherer;
 mod input;
 mod knowing;
 mod opener;

@@ -15,7 +15,9 @@ ghost use Rattle.command_runs.specs.Nodes.{IsNodeOf};
 ghost use Rattle.command_runs.specs.Refusals.{RefusesNode, RefusesRun};
 
 use crate::answerer::Answerer;
+use crate::check::check_with;
 use crate::fault::RunFault;
+use crate::gatherer::Gathered;
 use crate::input::{layout_at, manifest_at};
 use crate::knowing::know_of;
 use crate::opener::Opener;
@@ -28,7 +30,8 @@ use trace_node::{Node, NodeFault};
 use trace_report::write_report;
 
 /// Runs a verb over a layout and a manifest, which it names by their files. Nothing is written
-/// before the whole run is good. The answer is whether all that was checked held. A cluster, which
+/// before the whole run is good. The answer is whether all that was checked held: that of a check whether
+/// its lines say `equal` and `valid`, which is proved of every run but looked at in each. A cluster, which
 /// takes threads, is run by [`run_cluster`](crate::run_cluster).
 pub fn run_with<O: Opener, V: Watcher, W: Write>(
     alloc: Global,
@@ -51,6 +54,7 @@ pub fn run_with<O: Opener, V: Watcher, W: Write>(
     match verb {
         Verb::Report => report_with(alloc, layout, manifest, files, watcher, out),
         Verb::Replay => replay_with(alloc, layout, manifest, files, watcher, out),
+        Verb::Check => check_with(alloc, layout, manifest, files, watcher, out),
         Verb::Cluster => unreachable!(),
     }
 }
@@ -121,11 +125,12 @@ fn node_with<'a, O: Opener, V: Watcher>(
         Ok(manifest) => manifest,
         Err(fault) => return Err(fault),
     };
-    let know = match know_of(alloc, layout, manifest.pieces(), files, watcher) {
-        Ok(know) => know,
+    let nothing = Gathered::new(alloc, layout);
+    let gathered = match know_of(alloc, layout, manifest.pieces(), files, watcher, nothing) {
+        Ok(gathered) => gathered,
         Err(fault) => return Err(fault),
     };
-    match Node::of(alloc, layout, know) {
+    match Node::of(alloc, layout, gathered.know) {
         Ok(node) => Ok(node),
         Err(NodeFault::Memory) => Err(RunFault::Memory),
         // (what is known is of ranks of the layout, and a new node isn't stale)

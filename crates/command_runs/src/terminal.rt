@@ -9,8 +9,8 @@ use std::time::{Clock, Instant};
 /// lines.
 const PATIENCE: u64 = 2;
 
-/// Shows on standard error how many pieces and bytes were read, where that takes long, and each text
-/// that has lines and no call: a file in another encoding looks so. Where standard error is no terminal
+/// Shows on standard error how many pieces and bytes were read, where that takes long, each text that has
+/// lines and no call, as a file in another encoding looks, and that a check pairs by the rules. Where standard error is no terminal
 /// it shows nothing. That a line can't be shown changes nothing.
 #[derive(Drop)]
 pub struct Terminal<'a, R: Eprint + Clock> {
@@ -99,5 +99,11 @@ impl<'a, R: Eprint + Clock> Watcher for Terminal<'a, R> {
             let _ = eprint!(self.rt; "note: {path} has no call in its {lines} lines\n");
         }
         self.show();
+    }
+
+    fn begin_check(&mut self, calls: usize) {
+        if self.is_terminal {
+            let _ = eprint!(self.rt; "mpimatch: {calls} messages and receives are paired by the rules\n");
+        }
     }
 }

@@ -19,6 +19,9 @@ pub trait Watcher: Drop {
 
     /// The text of one more piece was read to its end.
     fn has_read(&mut self, path: &str, walked: &Walked);
+
+    /// So many messages and receives are paired by the rules from here on.
+    fn begin_check(&mut self, calls: usize);
 }
 
 /// A watcher that does nothing.
@@ -35,6 +38,8 @@ impl Watcher for Unwatched {
     fn has_taken(&mut self, _bytes: usize) {}
 
     fn has_read(&mut self, _path: &str, _walked: &Walked) {}
+
+    fn begin_check(&mut self, _calls: usize) {}
 }
 
 /// Tells the watcher that these pieces are read from here on.

@@ -12,6 +12,7 @@
 //! | `node` | `trace_node` and `trace_report`: reports of nodes and of their copies, and pieces that are held |
 //! | `exchange`, `socket` | the exchange of `trace_cluster`: both sides in memory (`pipe`), and over a socket of this machine |
 //! | `world` | `trace_world`: a node that is refreshed after a schedule |
+//! | `storm` | `trace_world`, `trace_node`: 2,000 steps over four nodes and eight ranks, beside new nodes and the rules |
 //! | `board` | the board of `trace_crew`: what is published is shown, beside threads that ask too, and one who has seen more is told so |
 //! | `crew`, `gates` | `trace_crew`: what it leaves, and, by gates, that its threads run at the same time |
 //! | `unplugged` | `trace_cluster`: a network that gives no port or no connection |
@@ -35,6 +36,8 @@ mod node;
 mod pipe;
 #[cfg(test)]
 mod socket;
+#[cfg(test)]
+mod storm;
 #[cfg(test)]
 mod unplugged;
 #[cfg(test)]

@@ -13,9 +13,10 @@ use Rattle.command_runs.proofs.knowing.know_of.Goals as goal
 pub loop-piece-init : goal.loop-piece-init
 loop-piece-init g c = record {
   files = refl;
-  known = ([], refl, search rules);
+  known = ([], refl, c.requires);
   outside = search rules;
-  within = λ _. within_nothing c.args.layout.now _ (search rules);
+  within = λ _. within_nothing c.args.layout.now _ c.requires;
+  layout = refl;
 }
 
 pub loop-piece-preserved : goal.loop-piece-preserved
@@ -27,16 +28,17 @@ loop-piece-preserved g c =
     ∙ ap (λ (p : PieceParts). take c.loop-piece.piece-index c.args.pieces.now ++ p ∷ []) (sym c.piece-item.is) in
     let told : TellsFacts (file c.piece-item.result.file) c.piece-item.result.rank c.piece-item.result.first (facts_of_all c.in-Ok.segments.items) =
     rw c.loop-piece.invariant.files at c.in-Ok.ensures.ok in
-    let taken : c.take_all.new.know ≡ join c.loop-piece.know (view_of (facts_of_all c.in-Ok.segments.items)) = search rules in
+    let taken : g.G.Gatherer.known c.in_ok-know.know ≡ join (g.G.Gatherer.known c.loop-piece.know) (view_of (facts_of_all c.in-Ok.segments.items)) = c.in_ok-know.ensures.known in
     record {
       files = c.segments_of.ensures.same ∙ c.loop-piece.invariant.files;
-      known = subst (λ (ps : List PieceParts). IsKnown file ps c.take_all.new.know) (sym more)
-          (known_more c.view_laws.ensures.union file (take c.loop-piece.piece-index c.args.pieces.now) c.piece-item.result c.loop-piece.know c.take_all.new.know
+      known = subst (λ (ps : List PieceParts). IsKnown file ps (g.G.Gatherer.known c.in_ok-know.know)) (sym more)
+          (known_more c.view_laws.ensures.union file (take c.loop-piece.piece-index c.args.pieces.now) c.piece-item.result (g.G.Gatherer.known c.loop-piece.know) (g.G.Gatherer.known c.in_ok-know.know)
           (facts_of_all c.in-Ok.segments.items) c.loop-piece.invariant.known told taken);
       outside = outside_later file c.args.layout.now.ranks (take c.loop-piece.piece-index c.args.pieces.now) _ c.piece-item.result
           (facts_of_all c.in-Ok.segments.items) c.loop-piece.stranger _ more c.loop-piece.invariant.outside told (search rules);
       within = within_more c.join_laws.ensures.cells c.view_laws.ensures.cells _ c.args.layout.now c.piece-item.result (facts_of_all c.in-Ok.segments.items)
-          c.loop-piece.stranger _ c.loop-piece.know c.take_all.new.know c.loop-piece.invariant.within told (search rules) taken;
+          c.loop-piece.stranger _ (g.G.Gatherer.known c.loop-piece.know) (g.G.Gatherer.known c.in_ok-know.know) c.loop-piece.invariant.within told (search rules) taken;
+      layout = c.in_ok-know.ensures.layout ∙ c.loop-piece.invariant.layout;
     }
 
 pub returns-in-Err-clause-err : goal.returns-in-Err-clause-err
@@ -52,7 +54,7 @@ returns-in-Err-clause-err g c =
       take c.loop-piece.piece-index c.args.pieces.now,
       c.piece-item.result,
       begins c.args.pieces.now c.loop-piece.piece-index c.piece-item.result more,
-      (c.loop-piece.know, c.loop-piece.invariant.known),
+      (g.G.Gatherer.known c.loop-piece.know, c.loop-piece.invariant.known),
       refuses,
     ))
 
@@ -65,6 +67,6 @@ returns-in-Some-clause-err g c =
     let outside : IsOutside file c.args.layout.now.ranks (take c.loop-piece.piece-index c.args.pieces.now) (Some c.in-Some.path) =
     rw c.in-Some.is at c.loop-piece.invariant.outside in
     inr (inr (
-      (c.loop-piece.know, subst (λ (ps : List PieceParts). IsKnown file ps c.loop-piece.know) all c.loop-piece.invariant.known),
+      (g.G.Gatherer.known c.loop-piece.know, subst (λ (ps : List PieceParts). IsKnown file ps (g.G.Gatherer.known c.loop-piece.know)) all c.loop-piece.invariant.known),
       subst (λ (ps : List PieceParts). IsFirstStranger file c.args.layout.now.ranks ps c.in-Some.path) all outside,
     ))

@@ -7,7 +7,8 @@ use Rattle.command_runs.proofs.knowing.know_of.Given as goal
 abbrev pub invariant-loop-piece : goal.invariant-loop-piece
 invariant-loop-piece g l = record {
   files : g.O.Opener.file l.files ≡ g.O.Opener.file l.fn.files;
-  known : IsKnown (g.O.Opener.file l.fn.files) (take l.piece-index l.pieces) l.know;
-  within : is_none l.stranger ≡ true → IsWithin l.layout l.know;
+  known : IsKnown (g.O.Opener.file l.fn.files) (take l.piece-index l.pieces) (g.G.Gatherer.known l.know);
+  within : is_none l.stranger ≡ true → IsWithin l.layout (g.G.Gatherer.known l.know);
+  layout : g.G.Gatherer.layout l.know ≡ g.G.Gatherer.layout l.initial.know;
   outside : IsOutside (g.O.Opener.file l.fn.files) l.layout.ranks (take l.piece-index l.pieces) l.stranger;
 }

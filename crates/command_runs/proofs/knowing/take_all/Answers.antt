@@ -1,4 +1,4 @@
-use Rattle.std.proofs.Common.{rules, ◌≡◌, ◌∙◌, ◌++◌, ◌∷◌, [], List, ap, sym, subst}
+use Rattle.std.proofs.Common.{refl, ◌≡◌, ◌∙◌, ◌++◌, ◌∷◌, [], List, ap, sym, subst}
 use Rattle.std.proofs.lemmas.List.{append-nil, map-id}
 use Rattle.std.proofs.lemmas.Grind.{flat_map-append}
 use Rattle.std.proofs.lemmas.Iterator.Adapters.{YieldsList-from_vec}
@@ -20,18 +20,19 @@ one_more associative unites view segments segment =
     ∙ ap (join view) (sym (unites (facts_of_all segments) (facts_of segment)) ∙ ap view_of (sym facts))
 
 pub loop-segment-init : goal.loop-segment-init
-loop-segment-init c = sym (c.join_laws.ensures.unit c.args.know.now)
+loop-segment-init g c = record { known = sym (c.join_laws.ensures.unit (g.G.Gatherer.known c.args.gatherer)); layout = refl }
 
 pub loop-segment-preserved : goal.loop-segment-preserved
-loop-segment-preserved c =
-    let taken : c.take_owned.new.self ≡ join c.loop-segment.know (view_of (facts_of c.in-Some.segment)) = search rules in
-    taken ∙ ap (λ (v : View). join v (view_of (facts_of c.in-Some.segment))) c.loop-segment.invariant
-    ∙ one_more c.join_laws.ensures.associative c.view_laws.ensures.union c.args.know.now c.loop-segment.yielded c.in-Some.segment
+loop-segment-preserved g c = record {
+  known = c.in_ok-know.ensures.known ∙ ap (λ (v : View). join v (view_of (facts_of c.in-Some.segment))) c.loop-segment.invariant.known
+      ∙ one_more c.join_laws.ensures.associative c.view_laws.ensures.union (g.G.Gatherer.known c.args.gatherer) c.loop-segment.yielded c.in-Some.segment;
+  layout = c.in_ok-know.ensures.layout ∙ c.loop-segment.invariant.layout;
+}
 
-pub returns : goal.returns
-returns c =
+pub returns-clause-known : goal.returns-clause-known
+returns-clause-known g c =
     let b = c.into_iter-segment-iterator.ensures.into_iter_gives in
     let road = YieldsList-from_vec {s = c.into_iter-segment-iterator.result} c.args.segments.items b.0 (b.1 ∙ c.args.segments.ok.0) in
     let all = YieldsList-end road c.loop-segment.yielded _ c.loop-segment.yielded_by _ c.next.new.self c.in-None.is c.next.ensures.steps in
     let same : c.loop-segment.yielded ≡ c.args.segments.items = sym (map-id c.loop-segment.yielded) ∙ all.0 in
-    subst (λ (ss : List PlacedEvents). c.loop-segment.know ≡ join c.args.know.now (view_of (facts_of_all ss))) same c.loop-segment.invariant
+    subst (λ (ss : List PlacedEvents). g.G.Gatherer.known c.loop-segment.know ≡ join (g.G.Gatherer.known c.args.gatherer) (view_of (facts_of_all ss))) same c.loop-segment.invariant.known

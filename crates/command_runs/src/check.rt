@@ -1,0 +1,82 @@
+//! A check: whether the rules say the same of the pieces as a report does.
+
+ghost use Rattle.std.specs.Prelude.{◌≡◌, ◌⊎◌, ℕ, true, IfErr, IfOk, List, OnOk};
+ghost use Rattle.std.specs.Io.KnownBytes.{Appends, Keeps};
+ghost use Rattle.dumpi_text.specs.Failing.{Fails};
+ghost use Rattle.command_runs.specs.Checks.{IsCheckOf, IsCheckerOf};
+ghost use Rattle.command_runs.specs.Files.{NamesFailed, NamesUnreadable};
+ghost use Rattle.command_runs.specs.Refusals.{RefusesNode, RefusesRun};
+ghost use Rattle.command_runs.specs.Verbs.{BreaksOff};
+ghost use Rattle.command_runs.specs.declared.whole.TheConstants.{LONGEST_FILE};
+
+use crate::fault::RunFault;
+use crate::input::{layout_at, manifest_at};
+use crate::knowing::know_of;
+use crate::opener::Opener;
+use crate::replay::write_piece;
+use crate::watch::Watcher;
+use command_line::Verb;
+use mpi_model::{Layout, Write};
+use std::alloc::Global;
+use trace_check::Checker;
+
+/// Writes the two lines of a check of what the files tell. The answer is whether both say that it held.
+pub(crate) fn check_with<O: Opener, V: Watcher, W: Write>(
+    alloc: Global,
+    layout_name: &str,
+    manifest_name: &str,
+    files: &mut O,
+    watcher: &mut V,
+    out: &mut W,
+) -> Result<bool, RunFault>
+    ensures output { OnOk result ((text : List ℕ) × IsCheckOf (O.file files.old) layout_name.now manifest_name.now text × Appends (W.written out.old) (W.written out.new) text) }
+    ensures held { IfOk result (λ held. held ≡ true) }
+    ensures refused { IfErr result (λ fault. (fault ≡ RunFault.Write) ⊎ RefusesRun (O.file files.old) layout_name.now manifest_name.now fault) }
+    ensures unread { IfErr result (λ fault. NamesUnreadable LONGEST_FILE (Fails O.R.failures) (O.file files.old) fault) }
+    ensures failed { IfErr result (NamesFailed (Fails O.R.failures)) }
+    ensures nothing { IfErr result (λ fault. (fault ≡ RunFault.Write) ⊎ Keeps (W.written out.old) (W.written out.new)) }
+    ensures broken_off { result ≡ Err RunFault.Write → BreaksOff (O.file files.old) Verb.Check layout_name.now manifest_name.now (W.written out.old) (W.written out.new) (W.failures out.old) (W.failures out.new) }
+{
+    let layout = match layout_at(alloc, layout_name, files) {
+        Ok(layout) => layout,
+        Err(fault) => return Err(fault),
+    };
+    let checker = match checker_with(alloc, &layout, manifest_name, files, watcher) {
+        Ok(checker) => checker,
+        Err(fault) => return Err(fault),
+    };
+    watcher.begin_check(checker.size());
+    let Ok((lines, held)) = checker.lines() else {
+        return Err(RunFault::Memory);
+    };
+    match write_piece(lines.as_str().as_bytes(), out) {
+        Ok(()) => Ok(held),
+        Err(_) => Err(RunFault::Write),
+    }
+}
+
+// The checker of the layout that has read all pieces of the manifest.
+fn checker_with<'a, O: Opener, V: Watcher>(
+    alloc: Global,
+    layout: &'a Layout,
+    manifest_name: &str,
+    files: &mut O,
+    watcher: &mut V,
+) -> Result<Checker<'a>, RunFault>
+    ensures ok { IfOk result (λ checker. IsCheckerOf (O.file files.old) layout.now manifest_name.now checker) }
+    ensures err { IfErr result (λ fault. RefusesNode (O.file files.old) layout.now manifest_name.now fault) }
+    ensures unread { IfErr result (λ fault. NamesUnreadable LONGEST_FILE (Fails O.R.failures) (O.file files.old) fault) }
+    ensures failed { IfErr result (NamesFailed (Fails O.R.failures)) }
+{
+    let manifest = match manifest_at(alloc, manifest_name, files) {
+        Ok(manifest) => manifest,
+        Err(fault) => return Err(fault),
+    };
+    let Ok(checker) = Checker::new(alloc, layout) else {
+        return Err(RunFault::Memory);
+    };
+    match know_of(alloc, layout, manifest.pieces(), files, watcher, checker) {
+        Ok(checker) => Ok(checker),
+        Err(fault) => Err(fault),
+    }
+}

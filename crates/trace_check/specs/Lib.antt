@@ -1,0 +1,5 @@
+pub mod Right
+pub mod Lines
+pub mod Printed
+pub mod Checker
+pub mod Codes
