@@ -1,12 +1,13 @@
 //! From what is known to what is told of it.
 
-ghost use Rattle.std.specs.Prelude.{◌≡◌, ◌<◌, ◌^◌, ℕ, List, IfOk, length, map};
+ghost use Rattle.std.specs.Prelude.{◌≡◌, ◌<◌, ◌^◌, ℕ, List, IfOk, length, map, unwrap_or};
+ghost use Rattle.std.specs.List.Sorted.{IsStrictlyIncreasing};
 ghost use Rattle.std.specs.Option.{option_copied, option_map};
 ghost use Rattle.trace_know.specs.Listing.{conflicts_of};
 ghost use Rattle.trace_know.specs.Prefix.{event_at};
 ghost use Rattle.trace_ops.specs.Ops.{AreOwn};
 ghost use Rattle.trace_pair.specs.Table.{table_of};
-ghost use Rattle.trace_stuck.specs.Shape.{shape};
+ghost use Rattle.trace_stuck.specs.Shape.{OnNothing, shape};
 ghost use Rattle.trace_wait.specs.Ranks.{ops_of};
 ghost use Rattle.trace_wait.specs.Rounds.{rounds_of};
 ghost use Rattle.trace_node.specs.Answer.{AreStuck, IsAnswerBy, beyond_of, call_of, entry_of, foreign_of, prefixes_of, states_of, stopped_at, wait_at, waits_of, wall_of};
@@ -110,29 +111,39 @@ fn call_of(ops: &[RankOps], rank: u32) -> u64
     }
 }
 
-/// What a rank waits for.
-fn wait_at(
-    alloc: Global,
-    conditions: &[Option<Condition>],
-    rank: u32,
-) -> Result<Condition, AllocError>
-    ensures { IfOk result (λ c. shape c ≡ wait_at (map (option_map shape) conditions.now) rank) }
+/// The condition of a rank, moved out of the list. What the later ranks wait for stays.
+fn take_condition(conditions: &mut [Option<Condition>], rank: u32) -> Option<Condition>
+    ensures taken { unwrap_or (option_map shape result) OnNothing ≡ wait_at (map (option_map shape) conditions.old) rank }
+    ensures later { (r : ℕ) → rank < r → wait_at (map (option_map shape) conditions.new) r ≡ wait_at (map (option_map shape) conditions.old) r }
 {
-    match conditions.get(rank as usize) {
-        Some(Some(condition)) => condition.try_clone(alloc),
-        _ => Ok(Condition::yes()),
+    let at = rank as usize;
+    if at < conditions.len() {
+        conditions[at].take()
+    } else {
+        None
     }
 }
 
-/// What is told of the stuck ranks.
+/// What a rank with this condition waits for.
+fn wait_of(condition: Option<Condition>) -> Condition
+    ensures { shape result ≡ unwrap_or (option_map shape condition) OnNothing }
+{
+    match condition {
+        Some(condition) => condition,
+        None => Condition::yes(),
+    }
+}
+
+/// What is told of the stuck ranks. Their conditions are moved.
 fn stuck_of(
     alloc: Global,
     know: &Knowledge,
     ops: &[RankOps],
-    conditions: &[Option<Condition>],
+    conditions: &mut [Option<Condition>],
     ranks: &[u32],
 ) -> Result<Vec<Stuck>, AllocError>
-    ensures { IfOk result (λ v. map stopped v.items ≡ map (stopped_at know.now ops.now (map (option_map shape) conditions.now)) ranks.now) }
+    requires { IsStrictlyIncreasing ranks.now }
+    ensures { IfOk result (λ v. map stopped v.items ≡ map (stopped_at know.now ops.now (map (option_map shape) conditions.old)) ranks.now) }
 {
     let mut all = Vec::new(alloc);
     for rank in ranks {
@@ -141,7 +152,7 @@ fn stuck_of(
             rank: *rank,
             call,
             wall: wall_of(know, *rank, call),
-            waits: wait_at(alloc, conditions, *rank)?,
+            waits: wait_of(take_condition(conditions, *rank)),
         })?;
     }
     Ok(all)
@@ -185,10 +196,10 @@ fn waiting_of(
     ensures stuck { IfOk result (λ s. (ranks : List ℕ) × AreStuck (states_of ops.now) (waits_of layout.now ops.now) ranks × (map stopped s.stuck.items ≡ map (stopped_at know.now ops.now (waits_of layout.now ops.now)) ranks)) }
 {
     let rounds = rounds(alloc, layout, ops)?;
-    let conditions = conditions(alloc, layout, ops, table, &rounds)?;
+    let mut conditions = conditions(alloc, layout, ops, table, &rounds)?;
     let states = states_of(alloc, ops)?;
     let verdict = stuck(alloc, &states, &conditions)?;
-    let stuck = stuck_of(alloc, know, ops, &conditions, &verdict.stuck)?;
+    let stuck = stuck_of(alloc, know, ops, &mut conditions, &verdict.stuck)?;
     Ok(Waiting {
         rounds,
         states,

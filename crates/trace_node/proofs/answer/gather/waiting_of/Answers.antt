@@ -10,9 +10,9 @@ returns-clause-stuck c =
     let waits : shapes c.in_ok-conditions.conditions.items ≡ waits_of c.args.layout.now c.args.ops.now =
     c.in_ok-conditions.ensures ∙ (λ i. conditions_from (record { layout = c.args.layout.now; ops = c.args.ops.now; pairs = (c.requires.table i).pairs; rounds = rounds i }) 0 c.args.ops.now) in
     let conditions = ap shapes c.deref-3.ensures.value ∙ waits in
-    let told = ap shapes c.deref-4.ensures.value ∙ waits in (
+    let told = ap shapes c.deref_mut.ensures.value ∙ waits in (
       c.in_ok-verdict.verdict.stuck.items,
       are_stuck c.in_ok-verdict.verdict.stuck.items (states_of c.args.ops.now) c.deref-2.result.now c.deref-3.result.now (waits_of c.args.layout.now c.args.ops.now)
           (c.deref-2.ensures.value ∙ c.in_ok-states.ensures) conditions c.in_ok-verdict.ensures.rising c.in_ok-verdict.ensures.stuck,
-      c.in_ok-stuck.ensures ∙ (λ i. map (stopped_at c.args.know.now c.args.ops.now (told i)) (c.deref-5.ensures.value i)),
+      c.in_ok-stuck.ensures ∙ (λ i. map (stopped_at c.args.know.now c.args.ops.now (told i)) (c.deref-4.ensures.value i)),
     )
