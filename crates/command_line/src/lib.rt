@@ -5,7 +5,7 @@
 //! command. A verb that comes later is one line in `Verb`, in `verb_of`, in `program_command` and,
 //! in `specs/Program.antt`, in `verb_named` and in `program`.
 //!
-//! Its tests are in the crate `command_line_tests`.
+//! Its tests are rows of `tests/inputs.txt` and cases of `tests/cases/`, which the built program runs.
 #![tactic(auto)]
 
 ghost use Rattle.std.specs.Prelude.{◌≡◌, [], IfErr, IfOk, OnOk, Some, codes, false, map, option_map};

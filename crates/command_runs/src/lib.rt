@@ -27,8 +27,8 @@
 //! - [`run`]: a verb over its files; [`fault`]: why it is refused, and the line that says so
 //! - [`ending`]: from words to a status and what standard error shows
 //!
-//! Its tests are in `crates/command_runs_tests/src/runs.rt`, and in `tests/cases/`, which the built
-//! program runs.
+//! Its tests are in `tests/cases/` and `tests/inputs.txt`, which the built program runs;
+//! `crates/command_runs_tests` has what only files in memory show.
 #![tactic(auto)]
 
 mod answerer;
