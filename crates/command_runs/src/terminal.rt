@@ -103,7 +103,9 @@ impl<'a, R: Eprint + Clock> Watcher for Terminal<'a, R> {
 
     fn begin_check(&mut self, calls: usize) {
         if self.is_terminal {
-            let _ = eprint!(self.rt; "mpimatch: {calls} messages and receives are paired by the rules\n");
+            let _ = eprint!(self.rt;
+                "mpimatch: {calls} messages and receives are paired by the rules\n"
+            );
         }
     }
 }
