@@ -20,6 +20,7 @@ const STEPS: usize = 2_000;
 const SEGMENTS: usize = 64;
 
 /// A fixed row of numbers without a pattern.
+#[derive(Drop)]
 struct Chance {
     state: u64,
 }
@@ -125,6 +126,7 @@ fn segment<R: Abort>(rt: &R, alloc: Global, number: usize) -> Segment {
 }
 
 /// A schedule over plain lists: of each node its inbox, and which segments reached it; and the mails.
+#[derive(Drop)]
 struct Lists {
     inboxes: Vec<Vec<usize>>,
     reached: Vec<Vec<bool>>,

@@ -1,5 +1,5 @@
 -- What the four tests of a verdict show.
-use Rattle.std.proofs.Common.{◌≡◌, ◌∙◌, ◌≢◌, ◌↔◌, ◌&&◌, ◌||◌, ◌++◌, ℕ, Bool, true, false, Option, List, [], ◌∷◌, eqb, refl, sym, subst, ⊎_elim, ◌⊎◌, inl, inr}
+use Rattle.std.proofs.Common.{◌≡◌, ◌∙◌, ◌≢◌, ◌&&◌, ◌||◌, ◌++◌, ℕ, Bool, true, false, Option, List, [], ◌∷◌, eqb, refl, sym, subst, ⊎_elim, ◌⊎◌, inl, inr}
 use Rattle.std.specs.Prelude.{not}
 use Rattle.std.specs.List.{AllPairs}
 use Rattle.trace_ops.specs.declared.state.State.{State}
@@ -7,8 +7,8 @@ use Rattle.trace_stuck.specs.declared.condition.Condition.{Condition}
 use Rattle.trace_stuck.specs.Laws.{CheckedVerdictsAreRight, StuckRanksAreClosed}
 use Rattle.trace_stuck.specs.Release.{IsReleasedAfter, IsReleaseOrder, among, left}
 use Rattle.trace_stuck.specs.States.{is_waiting}
-use Rattle.trace_stuck.specs.Stuck.{IsClosed, IsStuck}
-use Rattle.trace_check.specs.Right.{AreAllListed, IsRight, is_listed}
+use Rattle.trace_stuck.specs.Stuck.{IsClosed}
+use Rattle.trace_check.specs.Right.{AreAllListed, IsRight}
 use Rattle.trace_check.proofs.Lists.{test_equal}
 
 pub same_bool : (a b : Bool) → (a ≡ true → b ≡ true) → (b ≡ true → a ≡ true) → a ≡ b

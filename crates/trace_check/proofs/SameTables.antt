@@ -1,5 +1,5 @@
 -- The tests of equality in the rows of a table.
-use Rattle.std.proofs.Common.{◌≡◌, ◌↔◌, List, Bool, true, false, refl, ap, arith, rules}
+use Rattle.std.proofs.Common.{◌≡◌, List, Bool, true, false, arith, rules}
 use Rattle.std.specs.Bool.{Decides}
 use Rattle.std.proofs.lemmas.Grind.{common_steps}
 use mathlib.Core.Bool.{beq}

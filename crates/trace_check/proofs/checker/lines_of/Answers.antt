@@ -25,8 +25,8 @@ returns-clause-text c =
     (verdict_right c.deref-2.result.now c.deref-3.result.now v.stuck.items v.release.items
     c.in_ok-verdict.ensures.rising c.in_ok-verdict.ensures.stuck c.in_ok-verdict.ensures.order c.in_ok-verdict.ensures.others) in
     IfOk-weaker c.check_lines.result _ _ (λ told h.
-        told_right c.args.layout.now ops c.args.first.now c.args.second.now c.deref-4.result.now c.deref-5.result.now v.stuck.items v.release.items (string_bytes told.0)
-        c.requires.first c.requires.second (c.deref-4.ensures.value ∙ c.in_ok-states.ensures) (ap shapes c.deref-5.ensures.value ∙ waits) right h) c.check_lines.ensures.text
+    told_right c.args.layout.now ops c.args.first.now c.args.second.now c.deref-4.result.now c.deref-5.result.now v.stuck.items v.release.items (string_bytes told.0)
+    c.requires.first c.requires.second (c.deref-4.ensures.value ∙ c.in_ok-states.ensures) (ap shapes c.deref-5.ensures.value ∙ waits) right h) c.check_lines.ensures.text
 
 pub returns-clause-held : goal.returns-clause-held
 returns-clause-held c =

@@ -1,4 +1,4 @@
-use Rattle.std.proofs.Common.{◌≡◌, ◌∙◌, ◌≢◌, ◌+◌, ◌≤◌, List, ℕ, true, false, subst, sym, take, take_all, length, refl, arith}
+use Rattle.std.proofs.Common.{◌≡◌, ◌∙◌, ◌≢◌, List, ℕ, true, false, subst, sym, take, take_all, refl, arith}
 use Rattle.std.specs.List.{AllPairs}
 use Rattle.trace_check.proofs.Lists.{apart_more, not_apart, nothing}
 use Rattle.trace_check.proofs.verdict.is_each_once.Goals as goal

@@ -1,4 +1,4 @@
-use Rattle.std.proofs.Common.{◌≡◌, ◌∙◌, List, ap, subst, sym, length, arith, string_bytes}
+use Rattle.std.proofs.Common.{◌≡◌, ◌∙◌, List, ap, subst, length, arith, string_bytes}
 use Rattle.std.proofs.lemmas.List.FromFn.{length-map-range_with_len}
 use Rattle.std.proofs.lemmas.Result.{IfOk-weaker}
 use Rattle.trace_ops.specs.Ops.{Ops}

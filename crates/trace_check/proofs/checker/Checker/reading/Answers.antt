@@ -1,4 +1,4 @@
-use Rattle.std.proofs.Common.{◌≡◌, ◌∙◌, ◌<◌, ◌≤◌, List, ap, sym, length, set, arith}
+use Rattle.std.proofs.Common.{◌∙◌, List, ap, length, set, arith}
 use Rattle.std.proofs.lemmas.List.FromFn.{length-map-range_with_len}
 use Rattle.trace_ops.specs.Ops.{Ops}
 use Rattle.trace_ops.specs.RankOps.{ops_of}
