@@ -7,7 +7,7 @@ use std::alloc::Global;
 use std::process::Abort;
 use trace_know::Segment;
 use trace_node::Node;
-use trace_ops::all_ops;
+use trace_ops::{all_ops, ops_laws};
 use trace_pair::pair_all;
 use trace_world::{Step, World};
 
@@ -75,7 +75,7 @@ fn told<R: Abort>(rt: &R, source: Option<u32>) -> Outs {
 /// The call of this number of a rank and what it tells, if it has returned: sends, receives from the rank
 /// before or from any, posts with their waits, of which some tell no source, and at last an open send.
 fn call<R: Abort>(rt: &R, rank: u32, number: u64) -> (Call, Option<Outs>) {
-    let next = if rank + 1 < RANKS { rank + 1 } else { 0 };
+    let next = if rank < RANKS - 1 { rank + 1 } else { 0 };
     let before = if rank > 0 { rank - 1 } else { RANKS - 1 };
     let source = if rank < 5 { Some(before) } else { None };
     match number {
@@ -216,6 +216,7 @@ fn node_of<'a, R: Abort>(rt: &R, alloc: Global, layout: &'a Layout, reached: &[b
 
 /// Whether the node has the pairs and postponed messages of the rules.
 fn has_ruled_pairs<R: Abort>(rt: &R, alloc: Global, layout: &Layout, node: &Node) -> bool {
+    ops_laws();
     let ops = all_ops(alloc, layout, node.know()).expect(rt, "memory");
     let table = pair_all(alloc, &ops).expect(rt, "memory");
     let answer = node.answer().expect(rt, "an answer");
