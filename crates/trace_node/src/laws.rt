@@ -1,7 +1,13 @@
 //! What holds of answers, as the contract of a call that does nothing, so that the check proves it.
 
-ghost use Rattle.trace_node.specs.Answer.{AnswersAreOne};
+ghost use Rattle.mpi_model.specs.Layouts.{Parts};
+ghost use Rattle.trace_know.specs.View.{View};
+ghost use Rattle.trace_ops.specs.RankOps.{all_ops};
+ghost use Rattle.trace_pair.specs.Certainty.{AreAllTold, AreCertain, AreLegal, AreTheOnlyLegal};
+ghost use Rattle.trace_node.specs.Answer.{AnswersAreOne, Answered, IsAnswer};
 
+use trace_ops::ops_laws;
+use trace_pair::tables_are_certain;
 use trace_stuck::rising_lists_are_one;
 
 /// Two answers of one layout and one view are equal: an answer is a function of them.
@@ -9,4 +15,16 @@ pub fn answers_are_one()
     ensures { AnswersAreOne }
 {
     rising_lists_are_one();
+}
+
+/// The pairs of an answer are certain: each is a couple of every matching that MPI allows, however the ranks
+/// go on and their untold receives are told. Where every source is told they are such a matching, and the
+/// only one (MPI 4.0, 3.5).
+pub fn answers_are_certain()
+    ensures certain { (layout : Parts) (view : View) (a : Answered) → IsAnswer layout view a → AreCertain (all_ops layout view) a.pairs }
+    ensures legal { (layout : Parts) (view : View) (a : Answered) → IsAnswer layout view a → AreAllTold (all_ops layout view) → AreLegal (all_ops layout view) a.pairs }
+    ensures only { (layout : Parts) (view : View) (a : Answered) → IsAnswer layout view a → AreAllTold (all_ops layout view) → AreTheOnlyLegal (all_ops layout view) a.pairs }
+{
+    ops_laws();
+    tables_are_certain();
 }

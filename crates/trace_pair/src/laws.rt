@@ -4,10 +4,13 @@ ghost use Rattle.std.specs.Prelude.{◌≡◌, List, Bool, true};
 ghost use Rattle.mpi_model.specs.declared.event.OpName.{OpName};
 ghost use Rattle.mpi_model.specs.declared.message.Message.{Message};
 ghost use Rattle.mpi_model.specs.declared.message.Receive.{Receive};
+ghost use Rattle.trace_ops.specs.Ops.{Ops, AreOwn};
 ghost use Rattle.trace_ops.specs.Order.{Has};
 ghost use Rattle.trace_pair.specs.Calls.{AreApart, ArePostedApart};
+ghost use Rattle.trace_pair.specs.Certainty.{AreAllTold, AreCertain, AreLegal, AreTheOnlyLegal};
 ghost use Rattle.trace_pair.specs.Pairing.{paired, obeys, Paired, Obeys};
 ghost use Rattle.trace_pair.specs.Matching.{Continues, IsLegal};
+ghost use Rattle.trace_pair.specs.Table.{table_of};
 ghost use Rattle.trace_pair.specs.Worked.{Over, AnyTag, Hidden, ToldLater, InOrder, CutBack, Exchanged, Interleaved, Freed, TwoCommunicators};
 
 /// A pair obeys the five rules, what obeys them is a pair, and no other relation obeys them. Each
@@ -26,6 +29,14 @@ pub fn pairs_are_certain()
     ensures { (ms : List Message) (qs : List Receive) (more_ms : List Message) (more_qs : List Receive) (couple : OpName → OpName → Bool) →
         Continues ms qs more_ms more_qs → IsLegal more_ms more_qs (λ m q. couple m.name q.name ≡ true) →
         (m : Message) (q : Receive) → Has ms m → Has qs q → Paired ms qs m q → couple m.name q.name ≡ true }
+{}
+
+/// What the pairs of a table are worth: each is a couple of every legal matching of every continuation; and
+/// where every source is told they are a legal matching, and the only one (MPI 4.0, 3.5).
+pub fn tables_are_certain()
+    ensures certain { (held : List Ops) → AreOwn 0 held → AreCertain held (table_of held).pairs }
+    ensures legal { (held : List Ops) → AreOwn 0 held → AreAllTold held → AreLegal held (table_of held).pairs }
+    ensures only { (held : List Ops) → AreOwn 0 held → AreAllTold held → AreTheOnlyLegal held (table_of held).pairs }
 {}
 
 /// What the rules say of some small runs.

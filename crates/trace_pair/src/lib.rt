@@ -44,7 +44,7 @@ mod table;
 mod together;
 
 pub use index::PairIndex;
-pub use laws::{pairs_are_certain, pairs_are_the_rules, worked_runs};
+pub use laws::{pairs_are_certain, pairs_are_the_rules, tables_are_certain, worked_runs};
 pub use pair::{Pair, Side};
 pub use scratch::pair_all;
 pub use table::PairTable;
