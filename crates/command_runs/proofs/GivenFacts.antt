@@ -3,12 +3,12 @@ use Rattle.std.proofs.Common.{◌∙◌, ℕ, List, Option, Some, None, ap₂, s
 use Rattle.mpi_model.specs.declared.event.Event.{Event}
 use Rattle.dumpi_calls.specs.Whole.{AreEvents, SegmentsTellAll, TellsEvents}
 use Rattle.trace_know.specs.Segment.{PlacedEvents, enter_place}
-use Rattle.trace_know.specs.Trace.{facts_from}
+use Rattle.trace_know.specs.Trace.{facts_from, facts_of_all}
 use Rattle.trace_crew.specs.declared.piece.Piece.{Piece}
 use Rattle.trace_crew.specs.Pieces.{GivesSegments}
 use Rattle.input_files.specs.Manifests.{PieceParts}
 use Rattle.command_runs.specs.Files.{IsFile}
-use Rattle.command_runs.specs.Pieces.{TellsFacts, facts_of_all}
+use Rattle.command_runs.specs.Pieces.{TellsFacts}
 use Rattle.command_runs.specs.Texts.{IsTextOf}
 
 pub events_told : (file : Option (List ℕ)) (bytes : List ℕ) (events : List Event) → IsFile file bytes → AreEvents bytes events → TellsEvents file events

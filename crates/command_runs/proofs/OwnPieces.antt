@@ -4,7 +4,7 @@ use Rattle.std.specs.List.{All}
 use Rattle.std.proofs.lemmas.List.Elements.{All-cons, All-head, All-nil, All-tail}
 use Rattle.mpi_model.specs.Layouts.{Parts}
 use Rattle.dumpi_calls.specs.Whole.{SegmentsTellAll}
-use Rattle.trace_know.specs.Trace.{Trace, view_of}
+use Rattle.trace_know.specs.Trace.{Trace, facts_of_all, view_of}
 use Rattle.trace_know.specs.View.{View, IsBelow}
 use Rattle.trace_node.specs.Node.{Held}
 use Rattle.trace_cluster.specs.declared.side.Side.{Side}
@@ -16,7 +16,7 @@ use Rattle.trace_crew.specs.Views.{is_from}
 use Rattle.trace_cluster.specs.Clustered.{KnowsOwn, KnowsPiece}
 use Rattle.input_files.specs.Manifests.{PieceParts}
 use Rattle.command_runs.specs.Clusters.{IsKnownTo, known_by}
-use Rattle.command_runs.specs.Pieces.{TellsFacts, facts_of_all}
+use Rattle.command_runs.specs.Pieces.{TellsFacts}
 use Rattle.command_runs.specs.Texts.{AreShares, AreTextsOf, is_share, is_side, share_of, side_of, worker_of}
 use Rattle.command_runs.specs.declared.texts.AllTexts.{AllTexts}
 use Rattle.command_runs.proofs.GivenFacts.{facts_given}

@@ -9,7 +9,7 @@ use Rattle.mpi_model.specs.declared.event.Event.{Event}
 use Rattle.dumpi_calls.specs.Collected.{AreSegments}
 use Rattle.dumpi_calls.specs.Whole.{SegmentsTellAll}
 use Rattle.trace_know.specs.Segment.{PlacedEvents}
-use Rattle.trace_know.specs.Trace.{Trace, view_of}
+use Rattle.trace_know.specs.Trace.{Trace, facts_of_all, view_of}
 use Rattle.trace_cluster.specs.declared.side.Side.{Side}
 use Rattle.trace_cluster.specs.declared.side.Side.TheVariants as sides
 use Rattle.trace_crew.specs.declared.inbox.item.Worker.{Worker}
@@ -19,7 +19,6 @@ use Rattle.trace_crew.specs.Pieces.{place_of}
 use Rattle.trace_cluster.specs.Pieces.{IsForeign, IsWhole, IsWithin, Placed, all_pieces, placed_from}
 use Rattle.input_files.specs.Manifests.{PieceParts}
 use Rattle.command_runs.specs.Clusters.{AreSound, AreWhole, HaveStranger, IsOutside, by_node, piece_at}
-use Rattle.command_runs.specs.Pieces.{facts_of_all}
 use Rattle.command_runs.specs.Texts.{AreShares, AreTextsOf, IsTextOf, share_of}
 use Rattle.command_runs.specs.Traces.{IsInside, TellTrace}
 use Rattle.command_runs.specs.declared.texts.AllTexts.{AllTexts}

@@ -6,10 +6,10 @@ use Rattle.std.specs.declared.alloc.Global.{Global}
 use Rattle.std.proofs.lemmas.List.{map-append}
 use Rattle.dumpi_calls.specs.Whole.{SegmentsTellAll}
 use Rattle.trace_know.specs.Segment.{PlacedEvents}
-use Rattle.trace_know.specs.Trace.{view_of}
+use Rattle.trace_know.specs.Trace.{facts_of_all, view_of}
 use Rattle.trace_know.specs.View.{View}
 use Rattle.input_files.specs.Manifests.{PieceParts}
-use Rattle.command_runs.specs.Pieces.{RefusesPiece, TellsSegments, facts_of_all}
+use Rattle.command_runs.specs.Pieces.{RefusesPiece, TellsSegments}
 use Rattle.command_runs.specs.Refusals.{RefusesFirst}
 use Rattle.command_runs.specs.Schedules.{TellSegments, held_lists}
 use Rattle.command_runs.specs.Traces.{IsKnown, TellTrace}

@@ -12,7 +12,8 @@ use Rattle.dumpi_calls.specs.declared.fault.WalkCause.TheVariants as causes
 use Rattle.dumpi_calls.specs.declared.fault.WalkFault.{WalkFault}
 use Rattle.dumpi_calls.specs.declared.walking.Walked.{Walked}
 use Rattle.command_runs.specs.Files.{StandsAtFirst}
-use Rattle.command_runs.specs.Pieces.{IsWalkFault, PassesPlaces, RefusesPiece, StopsText, TellsFacts, TellsSegments, facts_of_all}
+use Rattle.command_runs.specs.Pieces.{IsWalkFault, PassesPlaces, RefusesPiece, StopsText, TellsFacts, TellsSegments}
+use Rattle.trace_know.specs.Trace.{facts_of_all}
 use Rattle.command_runs.specs.declared.fault.RunFault.{RunFault}
 use Rattle.command_runs.specs.declared.fault.RunFault.TheVariants.{Memory, File, Json, Shape, Piece, Layout, Text, Missing, Wrong, Place, Rank, Outside, NodeCount, Step, Worker, Net, Frame, Write}
 

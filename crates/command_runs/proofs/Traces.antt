@@ -6,10 +6,10 @@ use Rattle.std.proofs.lemmas.List.Elements.{All-push}
 use Rattle.std.specs.declared.alloc.Global.{Global}
 use Rattle.mpi_model.specs.declared.event.Event.{Event}
 use Rattle.trace_know.specs.Segment.{PlacedEvents}
-use Rattle.trace_know.specs.Trace.{Trace, facts_from, view_of}
+use Rattle.trace_know.specs.Trace.{Trace, facts_from, facts_of_all, view_of}
 use Rattle.trace_know.specs.View.{View, join}
 use Rattle.input_files.specs.Manifests.{PieceParts}
-use Rattle.command_runs.specs.Pieces.{TellsFacts, facts_of_all}
+use Rattle.command_runs.specs.Pieces.{TellsFacts}
 use Rattle.command_runs.specs.Traces.{Begin, IsFirstStranger, IsInside, IsKnown, KeepsFirst, TellTrace}
 
 tell_more : (file : List ℕ → Option (List ℕ)) (pieces : List PieceParts) (piece : PieceParts) (trace own : Trace)

@@ -1,12 +1,11 @@
 -- The facts of a piece, and why a piece is refused.
 use Rattle.std.specs.Prelude.{◌≡◌, ℕ, List, Option, Some, None, IsSome, String, string_bytes}
-use Rattle.std.specs.List.{flat_map}
 use Rattle.std.specs.declared.alloc.Global.{Global}
 use Rattle.mpi_model.specs.declared.event.Event.{Event}
 use Rattle.dumpi_text.specs.Call.{TextCall}
 use Rattle.dumpi_text.specs.declared.fault.TextFault.TheVariants.{At}
 use Rattle.trace_know.specs.Segment.{PlacedEvents, enter_place}
-use Rattle.trace_know.specs.Trace.{Trace, facts_from, facts_of}
+use Rattle.trace_know.specs.Trace.{Trace, facts_from}
 use Rattle.dumpi_calls.specs.Collected.{AreSegments, HasPlacesPast}
 use Rattle.dumpi_calls.specs.Seen.{seen_in}
 use Rattle.dumpi_calls.specs.Walks.{StopsWalk}
@@ -17,10 +16,6 @@ use Rattle.dumpi_calls.specs.declared.fault.WalkCause.TheVariants as causes
 use Rattle.dumpi_calls.specs.declared.fault.WalkFault.{WalkFault}
 use Rattle.command_runs.specs.declared.fault.RunFault.{RunFault}
 use Rattle.command_runs.specs.declared.fault.RunFault.TheVariants.{Memory, File, Text, Missing, Wrong, Place}
-
--- the facts that segments stand for together
-abbrev pub facts_of_all : List PlacedEvents → Trace
-facts_of_all segments = flat_map facts_of segments
 
 -- The facts of a piece: the events of its text stand from the Enter of its first call on.
 abbrev pub TellsFacts : Option (List ℕ) → ℕ → ℕ → Trace → Type 0

@@ -9,7 +9,7 @@ ghost use Rattle.trace_know.specs.View.{View, join};
 use mpi_model::Layout;
 use std::alloc::{AllocError, Global};
 use trace_check::Checker;
-use trace_know::{Knowledge, Segment};
+use trace_know::{Gathering, Segment};
 
 /// One who reads the segments of a run: for a report they are joined, and for a check an index of the
 /// pairs follows each of them too.
@@ -30,7 +30,7 @@ pub(crate) trait Gatherer: Drop {
 #[derive(Drop)]
 pub(crate) struct Gathered<'a> {
     pub layout: &'a Layout,
-    pub know: Knowledge,
+    pub know: Gathering,
 }
 
 impl<'a> Gathered<'a> {
@@ -41,7 +41,7 @@ impl<'a> Gathered<'a> {
     {
         Gathered {
             layout,
-            know: Knowledge::new(alloc),
+            know: Gathering::new(alloc),
         }
     }
 }
@@ -52,11 +52,9 @@ impl<'a> Gatherer for Gathered<'a> {
     ghost known = { λ g. g.know };
 
     fn reading(self, segment: Segment) -> Result<Gathered<'a>, AllocError> {
-        let mut know = self.know;
-        know.take_owned(segment)?;
         Ok(Gathered {
             layout: self.layout,
-            know,
+            know: self.know.reading(segment)?,
         })
     }
 }

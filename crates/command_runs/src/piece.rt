@@ -4,7 +4,8 @@ ghost use Rattle.std.specs.Prelude.{IfErr, IfOk, ◌≡◌};
 ghost use Rattle.dumpi_calls.specs.Walks.{IsReadStop};
 ghost use Rattle.dumpi_text.specs.Failing.{Fails};
 ghost use Rattle.command_runs.specs.Files.{NamesFailed};
-ghost use Rattle.command_runs.specs.Pieces.{IsWalkFault, RefusesPiece, TellsFacts, TellsSegments, facts_of_all};
+ghost use Rattle.command_runs.specs.Pieces.{IsWalkFault, RefusesPiece, TellsFacts, TellsSegments};
+ghost use Rattle.trace_know.specs.Trace.{facts_of_all};
 
 use crate::fault::RunFault;
 use crate::opener::{OpenFault, Opener};

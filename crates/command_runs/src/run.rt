@@ -107,7 +107,7 @@ fn write_told<N: Answerer, W: Write>(node: N, out: &mut W) -> Result<(), Failed>
     }
 }
 
-// The node of the layout that knows all that the pieces of the manifest tell. They are joined while
+// The node of the layout that knows all that the pieces of the manifest tell. They are gathered while
 // they are read, and the node takes that over once.
 fn node_with<'a, O: Opener, V: Watcher>(
     alloc: Global,
@@ -130,7 +130,8 @@ fn node_with<'a, O: Opener, V: Watcher>(
         Ok(gathered) => gathered,
         Err(fault) => return Err(fault),
     };
-    match Node::of(alloc, layout, gathered.know) {
+    let know = gathered.know.into_knowledge()?;
+    match Node::of(alloc, layout, know) {
         Ok(node) => Ok(node),
         Err(NodeFault::Memory) => Err(RunFault::Memory),
         // (what is known is of ranks of the layout, and a new node isn't stale)

@@ -22,3 +22,4 @@ pub mod Alike
 pub mod Below
 pub mod Beyond
 pub mod Covering
+pub mod AnyOrder

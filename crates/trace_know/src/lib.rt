@@ -18,7 +18,7 @@
 //! - [`run`]: cells of one rank without a gap; [`boxed`]: a run in memory of its own; [`runs`]: such
 //!   runs in their order; [`copies`]: of runs; [`patches`]: joins of whole lists of runs
 //! - [`readers`]: what runs tell; [`walk`]: their cells one after another; [`compare`]: by walks
-//! - [`knowledge`]: all that is known
+//! - [`knowledge`]: all that is known; [`gathering`]: segments that come in any order
 //! - [`laws`]: what holds of joins and views, as contracts of calls that do nothing
 //!
 //! Its tests are in the crate `reading_tests`; pieces that touch or contradict each other are in `tests/texts.txt`.
@@ -28,6 +28,7 @@ mod boxed;
 mod cell;
 mod compare;
 mod copies;
+mod gathering;
 mod knowledge;
 mod laws;
 mod patches;
@@ -39,6 +40,7 @@ mod segment;
 mod walk;
 
 pub use cell::{Cell, Known};
+pub use gathering::Gathering;
 pub use knowledge::Knowledge;
 pub use laws::{growth_laws, join_laws, listing_laws, prefix_laws, view_laws};
 pub use ready::ReadySegment;

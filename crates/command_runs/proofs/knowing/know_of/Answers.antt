@@ -1,10 +1,10 @@
 use Rattle.std.proofs.Common.{rules, refl, arith, ◌≡◌, ◌∙◌, ◌+◌, ◌<◌, ◌++◌, ◌∷◌, [], ℕ, List, Some, ap, sym, subst, inl, inr, length, take}
 use Rattle.std.proofs.Math.Seq.{take-length}
 use Rattle.std.proofs.lemmas.List.{take_more}
-use Rattle.trace_know.specs.Trace.{view_of}
+use Rattle.trace_know.specs.Trace.{facts_of_all, view_of}
 use Rattle.trace_know.specs.View.{join}
 use Rattle.input_files.specs.Manifests.{PieceParts}
-use Rattle.command_runs.specs.Pieces.{RefusesPiece, TellsFacts, facts_of_all}
+use Rattle.command_runs.specs.Pieces.{RefusesPiece, TellsFacts}
 use Rattle.command_runs.specs.Traces.{IsFirstStranger, IsKnown}
 use Rattle.command_runs.proofs.Traces.{IsOutside, begins, known_more, outside_later}
 use Rattle.command_runs.proofs.Within.{within_more, within_nothing}

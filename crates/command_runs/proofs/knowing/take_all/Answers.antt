@@ -4,9 +4,8 @@ use Rattle.std.proofs.lemmas.Grind.{flat_map-append}
 use Rattle.std.proofs.lemmas.Iterator.Adapters.{YieldsList-from_vec}
 use Rattle.std.proofs.lemmas.Iterator.Consumers.{YieldsList-end}
 use Rattle.trace_know.specs.Segment.{PlacedEvents}
-use Rattle.trace_know.specs.Trace.{Trace, facts_of, view_of}
+use Rattle.trace_know.specs.Trace.{Trace, facts_of, facts_of_all, view_of}
 use Rattle.trace_know.specs.View.{View, join}
-use Rattle.command_runs.specs.Pieces.{facts_of_all}
 use Rattle.command_runs.proofs.Traces.{Unites}
 use Rattle.command_runs.proofs.knowing.take_all.Goals as goal
 

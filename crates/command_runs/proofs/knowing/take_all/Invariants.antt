@@ -1,6 +1,5 @@
 use Rattle.std.proofs.Common.{◌≡◌}
-use Rattle.command_runs.specs.Pieces.{facts_of_all}
-use Rattle.trace_know.specs.Trace.{view_of}
+use Rattle.trace_know.specs.Trace.{facts_of_all, view_of}
 use Rattle.trace_know.specs.View.{join}
 use Rattle.command_runs.proofs.knowing.take_all.Given as goal
 

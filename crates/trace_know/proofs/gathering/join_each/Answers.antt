@@ -1,0 +1,26 @@
+use Rattle.std.proofs.Common.{◌≡◌, ◌∙◌, List, ap, sym, subst}
+use Rattle.std.proofs.lemmas.List.{map-id}
+use Rattle.std.proofs.lemmas.Iterator.Adapters.{YieldsList-from_vec}
+use Rattle.std.proofs.lemmas.Iterator.Consumers.{YieldsList-end}
+use Rattle.trace_know.specs.Segment.{PlacedEvents}
+use Rattle.trace_know.specs.Trace.{facts_of, facts_of_all, view_of}
+use Rattle.trace_know.specs.View.{View, join}
+use Rattle.trace_know.proofs.AnyOrder.{one_more}
+use Rattle.trace_know.proofs.Joins.{join-empty}
+use Rattle.trace_know.proofs.gathering.join_each.Goals as goal
+
+pub loop-segment-init : goal.loop-segment-init
+loop-segment-init c = sym (join-empty c.args.know)
+
+pub loop-segment-preserved : goal.loop-segment-preserved
+loop-segment-preserved c =
+    c.in_ok-take_owned.ensures.ok ∙ ap (λ (v : View). join v (view_of (facts_of c.in-Some.segment))) c.loop-segment.invariant
+    ∙ one_more c.args.know c.loop-segment.yielded c.in-Some.segment
+
+pub returns : goal.returns
+returns c =
+    let b = c.into_iter-segment-iterator.ensures.into_iter_gives in
+    let road = YieldsList-from_vec {s = c.into_iter-segment-iterator.result} c.args.segments.items b.0 (b.1 ∙ c.args.segments.ok.0) in
+    let all = YieldsList-end road c.loop-segment.yielded _ c.loop-segment.yielded_by _ c.next.new.self c.in-None.is c.next.ensures.steps in
+    let same : c.loop-segment.yielded ≡ c.args.segments.items = sym (map-id c.loop-segment.yielded) ∙ all.0 in
+    subst (λ (ss : List PlacedEvents). c.loop-segment.all ≡ join c.args.know (view_of (facts_of_all ss))) same c.loop-segment.invariant

@@ -1,0 +1,140 @@
+//! Segments that come in any order, joined in the order of their places.
+
+ghost use Rattle.std.specs.Prelude.{◌≡◌, IfOk};
+ghost use Rattle.std.specs.FinMap.{empty};
+ghost use Rattle.std.specs.List.Sorted.{IsPermutation};
+ghost use Rattle.trace_know.specs.Trace.{facts_of, facts_of_all, view_of};
+ghost use Rattle.trace_know.specs.View.{join};
+
+use crate::knowledge::Knowledge;
+use crate::segment::Segment;
+use std::alloc::{AllocError, Global};
+use std::marker::Model;
+
+/// As long as fewer events are held back, they wait for more.
+const FEW_EVENTS: usize = 1_048_576;
+
+/// How many events a segment has on average where joining them in any order is cheap.
+const LONG_SEGMENT: usize = 1_024;
+
+/// What segments tell together, whatever order they come in. They are held back and joined in the order
+/// of their places, so that each goes to the end of what is known: a million short segments cost the
+/// sorting, where [`Knowledge::take`] moves a pointer for each run behind a new one. Long ones are
+/// joined once a million events are held.
+///
+/// In a contract it is the view of all that was read.
+#[derive(Debug, Drop)]
+pub struct Gathering {
+    alloc: Global,
+    know: Knowledge,
+    held: Vec<Segment>,
+    /// How many events are held, as far as they can be counted.
+    events: usize,
+}
+
+impl Model for Gathering {
+    ghost use Rattle.std.specs.Coded.{coded_ℕ, coded×};
+    ghost use Rattle.std.specs.FinMap as map;
+    ghost use Rattle.trace_know.specs.Trace.{facts_of_all, view_of};
+    ghost use Rattle.trace_know.specs.View.{View, join};
+    ghost use Rattle.trace_know.specs.contracts.cell.Known as known;
+
+    ghost Value = { View };
+
+    ghost coded = { map.code (coded× coded_ℕ coded_ℕ) known.the_row.coded };
+
+    ghost view = { λ g. join g.know (view_of (facts_of_all g.held.items)) };
+}
+
+impl Gathering {
+    /// Nothing was read. Takes no memory.
+    pub fn new(alloc: Global) -> Gathering
+        ensures { result ≡ empty }
+    {
+        Gathering {
+            alloc,
+            know: Knowledge::new(alloc),
+            held: Vec::new(alloc),
+            events: 0,
+        }
+    }
+
+    /// The gathering once it has read one segment more.
+    pub fn reading(self, segment: Segment) -> Result<Gathering, AllocError>
+        ensures { IfOk result (λ g. g ≡ join self (view_of (facts_of segment))) }
+    {
+        let more = self.holding(segment)?;
+        if more.is_due() {
+            return more.joined();
+        }
+        Ok(more)
+    }
+
+    /// All that was read, joined.
+    pub fn into_knowledge(self) -> Result<Knowledge, AllocError>
+        ensures { IfOk result (λ know. know ≡ self) }
+    {
+        join_all(self.know, self.held)
+    }
+
+    /// Holds one segment more.
+    fn holding(self, segment: Segment) -> Result<Gathering, AllocError>
+        ensures { IfOk result (λ g. g ≡ join self (view_of (facts_of segment))) }
+    {
+        let events = self.events.saturating_add(segment.events().len());
+        let mut held = self.held;
+        held.push(segment)?;
+        Ok(Gathering {
+            alloc: self.alloc,
+            know: self.know,
+            held,
+            events,
+        })
+    }
+
+    /// Whether many events are held, in segments that are long on average.
+    fn is_due(&self) -> bool {
+        self.events >= FEW_EVENTS && self.events / LONG_SEGMENT >= self.held.len()
+    }
+
+    /// The same with nothing held.
+    fn joined(self) -> Result<Gathering, AllocError>
+        ensures { IfOk result (λ g. g ≡ self) }
+    {
+        let alloc = self.alloc;
+        Ok(Gathering {
+            alloc,
+            know: self.into_knowledge()?,
+            held: Vec::new(alloc),
+            events: 0,
+        })
+    }
+}
+
+/// What is known with these segments, which are joined in the order of their places.
+fn join_all(know: Knowledge, segments: Vec<Segment>) -> Result<Knowledge, AllocError>
+    ensures { IfOk result (λ all. all ≡ join know (view_of (facts_of_all segments.items))) }
+{
+    let sorted = by_place(segments)?;
+    join_each(know, sorted)
+}
+
+/// The segments in the order of their ranks and first places.
+fn by_place(segments: Vec<Segment>) -> Result<Vec<Segment>, AllocError>
+    ensures { IfOk result (λ sorted. IsPermutation segments.items sorted.items) }
+{
+    let mut sorted = segments;
+    sorted.sort_by_key(|segment| (segment.rank(), segment.first_place()))?;
+    Ok(sorted)
+}
+
+/// What is known with these segments, one after another.
+fn join_each(know: Knowledge, segments: Vec<Segment>) -> Result<Knowledge, AllocError>
+    ensures { IfOk result (λ all. all ≡ join know (view_of (facts_of_all segments.items))) }
+{
+    let mut all = know;
+    for segment in segments {
+        all.take_owned(segment)?;
+    }
+    Ok(all)
+}
