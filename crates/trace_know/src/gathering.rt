@@ -12,7 +12,7 @@ use std::alloc::{AllocError, Global};
 use std::marker::Model;
 
 /// As long as fewer events are held back, they wait for more.
-const FEW_EVENTS: usize = 1_048_576;
+const FEW_EVENTS: usize = 131_072;
 
 /// How many events a segment has on average where joining them in any order is cheap.
 const LONG_SEGMENT: usize = 1_024;
@@ -20,7 +20,7 @@ const LONG_SEGMENT: usize = 1_024;
 /// What segments tell together, whatever order they come in. They are held back and joined in the order
 /// of their places, so that each goes to the end of what is known: a million short segments cost the
 /// sorting, where [`Knowledge::take`] moves a pointer for each run behind a new one. Long ones are
-/// joined once a million events are held.
+/// joined once a hundred thousand events are held.
 ///
 /// In a contract it is the view of all that was read.
 #[derive(Debug, Drop)]
