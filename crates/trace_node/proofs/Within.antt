@@ -7,10 +7,10 @@ use Rattle.mpi_model.specs.Layouts.{Parts}
 use Rattle.mpi_model.specs.declared.event.Event.{Event}
 use Rattle.trace_know.specs.declared.cell.Known.{Known}
 use Rattle.trace_know.specs.declared.cell.Known.TheVariants.{One, Contradiction}
-use Rattle.trace_know.specs.Cell.{join_cell}
+use Rattle.trace_know.specs.Cell.{IsAtMost, join_cell}
 use Rattle.trace_know.specs.Segment.{PlacedEvents}
 use Rattle.trace_know.specs.Trace.{Fact, IsCellOf, facts_from, facts_of, view_of}
-use Rattle.trace_know.specs.View.{View, cell, join, place_cmp}
+use Rattle.trace_know.specs.View.{IsBelow, View, cell, join, place_cmp}
 use Rattle.trace_node.specs.Node.{HasStranger, IsWithin}
 
 nothing : IsSome {T = Known} None → ⊥
@@ -52,3 +52,14 @@ pub within_segment : (layout : Parts) (segment : PlacedEvents) → ((rank place 
     segment.rank < layout.ranks → IsWithin layout (view_of (facts_of segment))
 within_segment layout segment cells lt = λ rank place some.
     let e = own_cell segment rank place (cell (view_of (facts_of segment)) rank place) (cells rank place) some in omega (arith, e, lt)
+
+some_above : (a b : Option Known) → IsAtMost a b → IsSome a → IsSome b
+some_above None b at some = absurd (nothing some)
+some_above (Some a) None at some = absurd at
+some_above (Some a) (Some b) at some = refl
+
+-- what is below a view that is within the ranks has no stranger
+pub below_within : (layout : Parts) (view other : View) → IsBelow other view → IsWithin layout view → HasStranger layout other → ⊥
+below_within layout view other below within s =
+    let inside : s.0 < layout.ranks = within s.0 s.1 (some_above (cell other s.0 s.1) (cell view s.0 s.1) (below s.0 s.1) s.3) in
+    omega (arith, s.2, inside)

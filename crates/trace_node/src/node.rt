@@ -153,8 +153,8 @@ impl<'a> Node<'a> {
         }
     }
 
-    /// Joins all that the other knows, and makes the answer to all that is known then. A stale node
-    /// joins it too, and stays stale.
+    /// Joins all that the other knows, and makes the answer to all that is known then; where that is
+    /// nothing new, the answer stays. A stale node joins it too, and stays stale.
     pub fn merge(&mut self, other: &Knowledge) -> Result<(), NodeFault>
         ensures ok { OnOk result (self.new ≡ held self.old.layout (join self.old.know other.now) false) }
         ensures fresh { OnOk result (self.old.is_stale ≡ false) }
@@ -164,9 +164,22 @@ impl<'a> Node<'a> {
         ensures memory { IsErrOf result NodeFault.Memory → self.new ≡ self.old }
         ensures stale { IsErrOf result NodeFault.Stale → self.new ≡ held self.old.layout (join self.old.know other.now) true }
     {
+        if self.has_answered(other) {
+            return Ok(());
+        }
         let was_stale = self.answer.is_none();
         self.hold_all(other)?;
         self.answer_again(was_stale)
+    }
+
+    /// Whether there is an answer, and the other knows nothing that isn't known here.
+    fn has_answered(&self, other: &Knowledge) -> bool
+        ensures fresh { IsTrue result → self.now.is_stale ≡ false }
+        ensures same { IsTrue result → join self.now.know other.now ≡ self.now.know }
+        ensures own { IsTrue result → ¬ (HasStranger self.now.layout other.now) }
+    {
+        join_laws();
+        self.answer.is_some() && self.know.get().contains(other)
     }
 
     /// Joins all that the other knows, and makes no answer.
