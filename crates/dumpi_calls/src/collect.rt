@@ -1,7 +1,6 @@
 //! A sink that keeps the events of its calls, for segments.
 
 ghost use Rattle.std.specs.Prelude.{◌≡◌, ◌<◌, ◌≤◌, ◌^◌, ◌+◌, ◌↔◌, [], IsTrue, ◌≢◌, IfOk, IfErr, OnErr, OnOk, Err, length, true};
-ghost use Rattle.std.specs.Option.{option_copied};
 ghost use Rattle.dumpi_calls.specs.Collected.{AreSegments, collected, ends_open, placed};
 ghost use Rattle.dumpi_calls.specs.Rows.{OnCollective};
 ghost use Rattle.dumpi_calls.specs.Seen.{seen};
@@ -100,23 +99,22 @@ impl Collect {
     }
 
     // keeps the events of one call, unless a call before it has not returned
-    fn push(&mut self, call: &Call, enter: Stamp, exit: Option<&Exit>) -> Result<(), Memory>
-        ensures ok { OnOk result (self.new ≡ collected self.old (seen OnCollective call.now enter (option_copied exit.entry))) }
+    fn push(&mut self, call: Call, enter: Stamp, exit: Option<Exit>) -> Result<(), Memory>
+        ensures ok { OnOk result (self.new ≡ collected self.old (seen OnCollective call enter exit)) }
         ensures err { OnErr result (self.new ≡ self.old) }
     {
         if self.is_open {
             return Ok(());
         }
-        let call = call.try_clone()?;
         match exit {
             None => {
                 self.parts.push(Event::Enter(call, enter))?;
                 self.is_open = true;
             }
             Some(exit) => {
-                let outs = exit.outs.try_clone()?;
+                let Exit { outs, stamp } = exit;
                 self.parts
-                    .push_both(Event::Enter(call, enter), Event::Return(outs, exit.stamp))?;
+                    .push_both(Event::Enter(call, enter), Event::Return(outs, stamp))?;
             }
         }
         Ok(())
@@ -130,61 +128,51 @@ impl CallSink for Collect {
 
     ghost step = { collected };
 
-    fn on_send(&mut self, call: &Call, enter: Stamp, exit: Option<&Exit>) -> Result<(), Memory> {
+    fn on_send(&mut self, call: Call, enter: Stamp, exit: Option<Exit>) -> Result<(), Memory> {
         self.push(call, enter, exit)
     }
 
-    fn on_isend(&mut self, call: &Call, enter: Stamp, exit: Option<&Exit>) -> Result<(), Memory> {
+    fn on_isend(&mut self, call: Call, enter: Stamp, exit: Option<Exit>) -> Result<(), Memory> {
         self.push(call, enter, exit)
     }
 
-    fn on_recv(&mut self, call: &Call, enter: Stamp, exit: Option<&Exit>) -> Result<(), Memory> {
+    fn on_recv(&mut self, call: Call, enter: Stamp, exit: Option<Exit>) -> Result<(), Memory> {
         self.push(call, enter, exit)
     }
 
-    fn on_irecv(&mut self, call: &Call, enter: Stamp, exit: Option<&Exit>) -> Result<(), Memory> {
+    fn on_irecv(&mut self, call: Call, enter: Stamp, exit: Option<Exit>) -> Result<(), Memory> {
         self.push(call, enter, exit)
     }
 
-    fn on_sendrecv(
-        &mut self,
-        call: &Call,
-        enter: Stamp,
-        exit: Option<&Exit>,
-    ) -> Result<(), Memory> {
+    fn on_sendrecv(&mut self, call: Call, enter: Stamp, exit: Option<Exit>) -> Result<(), Memory> {
         self.push(call, enter, exit)
     }
 
-    fn on_wait(&mut self, call: &Call, enter: Stamp, exit: Option<&Exit>) -> Result<(), Memory> {
+    fn on_wait(&mut self, call: Call, enter: Stamp, exit: Option<Exit>) -> Result<(), Memory> {
         self.push(call, enter, exit)
     }
 
-    fn on_waitall(&mut self, call: &Call, enter: Stamp, exit: Option<&Exit>) -> Result<(), Memory> {
+    fn on_waitall(&mut self, call: Call, enter: Stamp, exit: Option<Exit>) -> Result<(), Memory> {
         self.push(call, enter, exit)
     }
 
-    fn on_waitany(&mut self, call: &Call, enter: Stamp, exit: Option<&Exit>) -> Result<(), Memory> {
+    fn on_waitany(&mut self, call: Call, enter: Stamp, exit: Option<Exit>) -> Result<(), Memory> {
         self.push(call, enter, exit)
     }
 
-    fn on_waitsome(
-        &mut self,
-        call: &Call,
-        enter: Stamp,
-        exit: Option<&Exit>,
-    ) -> Result<(), Memory> {
+    fn on_waitsome(&mut self, call: Call, enter: Stamp, exit: Option<Exit>) -> Result<(), Memory> {
         self.push(call, enter, exit)
     }
 
-    fn on_test(&mut self, call: &Call, enter: Stamp, exit: Option<&Exit>) -> Result<(), Memory> {
+    fn on_test(&mut self, call: Call, enter: Stamp, exit: Option<Exit>) -> Result<(), Memory> {
         self.push(call, enter, exit)
     }
 
     fn on_collective(
         &mut self,
-        call: &Call,
+        call: Call,
         enter: Stamp,
-        exit: Option<&Exit>,
+        exit: Option<Exit>,
     ) -> Result<(), Memory> {
         self.push(call, enter, exit)
     }
@@ -192,9 +180,9 @@ impl CallSink for Collect {
     fn on_other(
         &mut self,
         _name: &[u8],
-        call: &Call,
+        call: Call,
         enter: Stamp,
-        exit: Option<&Exit>,
+        exit: Option<Exit>,
     ) -> Result<(), Memory> {
         self.push(call, enter, exit)
     }

@@ -1,7 +1,6 @@
 //! What calls are handed to.
 
 ghost use Rattle.std.specs.Prelude.{◌≡◌, OnErr, OnOk};
-ghost use Rattle.std.specs.Option.{option_copied};
 ghost use Rattle.dumpi_calls.specs.Rows.{OnCollective, OnIrecv, OnIsend, OnOther, OnRecv, OnSend, OnSendrecv, OnTest, OnWait, OnWaitall, OnWaitany, OnWaitsome, row};
 ghost use Rattle.dumpi_calls.specs.Seen.{Seen, seen, seen_by};
 
@@ -11,9 +10,11 @@ use mpi_model::{Call, Exit, Stamp};
 
 /// What the calls of a text are handed to: one callback for each kind of function.
 ///
-/// A callback gets the call, when it was entered, and how it returned, if it did: the last call of a text can lack its
-/// exit, and no other. A sink says by `step` what a call makes of it. A callback that takes the call leaves that, and one
-/// that refuses it leaves the sink as it was. So [`walk`](crate::walk) can say in which state it leaves any sink.
+/// A callback is given the call, when it was entered, and how it returned, if it did: the last call of a text can lack
+/// its exit, and no other. It owns what it is given, so a sink keeps lists of requests without a copy.
+///
+/// A sink says by `step` what a call makes of it. A callback that takes the call leaves that, and one that refuses it
+/// leaves the sink as it was. So [`walk`](crate::walk) can say in which state it leaves any sink.
 ///
 /// # A sink of one's own
 ///
@@ -49,8 +50,8 @@ use mpi_model::{Call, Exit, Stamp};
 ///
 ///     ghost step = { λ sink seen. record { rank = sink.rank; elements = elements_after sink.rank sink.elements seen.call } };
 ///
-///     fn on_send(&mut self, call: &Call, _enter: Stamp, _exit: Option<&Exit>) -> Result<(), Infallible> {
-///         self.add(call);
+///     fn on_send(&mut self, call: Call, _enter: Stamp, _exit: Option<Exit>) -> Result<(), Infallible> {
+///         self.add(&call);
 ///         Ok(())
 ///     }
 ///
@@ -71,105 +72,95 @@ pub trait CallSink {
     ghost step: { Self → Seen → Self };
 
     /// `MPI_Send`, `MPI_Ssend`, `MPI_Bsend`, `MPI_Rsend`.
-    fn on_send(&mut self, call: &Call, enter: Stamp, exit: Option<&Exit>) -> Result<(), Self::Fault>
-        ensures ok { OnOk result (self.new ≡ step self.old (seen OnSend call.now enter (option_copied exit.entry))) }
+    fn on_send(&mut self, call: Call, enter: Stamp, exit: Option<Exit>) -> Result<(), Self::Fault>
+        ensures ok { OnOk result (self.new ≡ step self.old (seen OnSend call enter exit)) }
         ensures err { OnErr result (self.new ≡ self.old) };
 
     /// `MPI_Isend`, `MPI_Issend`, `MPI_Ibsend`, `MPI_Irsend`.
-    fn on_isend(
-        &mut self,
-        call: &Call,
-        enter: Stamp,
-        exit: Option<&Exit>,
-    ) -> Result<(), Self::Fault>
-        ensures ok { OnOk result (self.new ≡ step self.old (seen OnIsend call.now enter (option_copied exit.entry))) }
+    fn on_isend(&mut self, call: Call, enter: Stamp, exit: Option<Exit>) -> Result<(), Self::Fault>
+        ensures ok { OnOk result (self.new ≡ step self.old (seen OnIsend call enter exit)) }
         ensures err { OnErr result (self.new ≡ self.old) };
 
     /// `MPI_Recv`.
-    fn on_recv(&mut self, call: &Call, enter: Stamp, exit: Option<&Exit>) -> Result<(), Self::Fault>
-        ensures ok { OnOk result (self.new ≡ step self.old (seen OnRecv call.now enter (option_copied exit.entry))) }
+    fn on_recv(&mut self, call: Call, enter: Stamp, exit: Option<Exit>) -> Result<(), Self::Fault>
+        ensures ok { OnOk result (self.new ≡ step self.old (seen OnRecv call enter exit)) }
         ensures err { OnErr result (self.new ≡ self.old) };
 
     /// `MPI_Irecv`.
-    fn on_irecv(
-        &mut self,
-        call: &Call,
-        enter: Stamp,
-        exit: Option<&Exit>,
-    ) -> Result<(), Self::Fault>
-        ensures ok { OnOk result (self.new ≡ step self.old (seen OnIrecv call.now enter (option_copied exit.entry))) }
+    fn on_irecv(&mut self, call: Call, enter: Stamp, exit: Option<Exit>) -> Result<(), Self::Fault>
+        ensures ok { OnOk result (self.new ≡ step self.old (seen OnIrecv call enter exit)) }
         ensures err { OnErr result (self.new ≡ self.old) };
 
     /// `MPI_Sendrecv`.
     fn on_sendrecv(
         &mut self,
-        call: &Call,
+        call: Call,
         enter: Stamp,
-        exit: Option<&Exit>,
+        exit: Option<Exit>,
     ) -> Result<(), Self::Fault>
-        ensures ok { OnOk result (self.new ≡ step self.old (seen OnSendrecv call.now enter (option_copied exit.entry))) }
+        ensures ok { OnOk result (self.new ≡ step self.old (seen OnSendrecv call enter exit)) }
         ensures err { OnErr result (self.new ≡ self.old) };
 
     /// `MPI_Wait`.
-    fn on_wait(&mut self, call: &Call, enter: Stamp, exit: Option<&Exit>) -> Result<(), Self::Fault>
-        ensures ok { OnOk result (self.new ≡ step self.old (seen OnWait call.now enter (option_copied exit.entry))) }
+    fn on_wait(&mut self, call: Call, enter: Stamp, exit: Option<Exit>) -> Result<(), Self::Fault>
+        ensures ok { OnOk result (self.new ≡ step self.old (seen OnWait call enter exit)) }
         ensures err { OnErr result (self.new ≡ self.old) };
 
     /// `MPI_Waitall`.
     fn on_waitall(
         &mut self,
-        call: &Call,
+        call: Call,
         enter: Stamp,
-        exit: Option<&Exit>,
+        exit: Option<Exit>,
     ) -> Result<(), Self::Fault>
-        ensures ok { OnOk result (self.new ≡ step self.old (seen OnWaitall call.now enter (option_copied exit.entry))) }
+        ensures ok { OnOk result (self.new ≡ step self.old (seen OnWaitall call enter exit)) }
         ensures err { OnErr result (self.new ≡ self.old) };
 
     /// `MPI_Waitany`.
     fn on_waitany(
         &mut self,
-        call: &Call,
+        call: Call,
         enter: Stamp,
-        exit: Option<&Exit>,
+        exit: Option<Exit>,
     ) -> Result<(), Self::Fault>
-        ensures ok { OnOk result (self.new ≡ step self.old (seen OnWaitany call.now enter (option_copied exit.entry))) }
+        ensures ok { OnOk result (self.new ≡ step self.old (seen OnWaitany call enter exit)) }
         ensures err { OnErr result (self.new ≡ self.old) };
 
     /// `MPI_Waitsome`.
     fn on_waitsome(
         &mut self,
-        call: &Call,
+        call: Call,
         enter: Stamp,
-        exit: Option<&Exit>,
+        exit: Option<Exit>,
     ) -> Result<(), Self::Fault>
-        ensures ok { OnOk result (self.new ≡ step self.old (seen OnWaitsome call.now enter (option_copied exit.entry))) }
+        ensures ok { OnOk result (self.new ≡ step self.old (seen OnWaitsome call enter exit)) }
         ensures err { OnErr result (self.new ≡ self.old) };
 
     /// `MPI_Test`.
-    fn on_test(&mut self, call: &Call, enter: Stamp, exit: Option<&Exit>) -> Result<(), Self::Fault>
-        ensures ok { OnOk result (self.new ≡ step self.old (seen OnTest call.now enter (option_copied exit.entry))) }
+    fn on_test(&mut self, call: Call, enter: Stamp, exit: Option<Exit>) -> Result<(), Self::Fault>
+        ensures ok { OnOk result (self.new ≡ step self.old (seen OnTest call enter exit)) }
         ensures err { OnErr result (self.new ≡ self.old) };
 
     /// `MPI_Barrier`, `MPI_Bcast`, `MPI_Scatter`, `MPI_Gather`, `MPI_Reduce`, `MPI_Allreduce`, `MPI_Allgather`,
     /// `MPI_Alltoall`.
     fn on_collective(
         &mut self,
-        call: &Call,
+        call: Call,
         enter: Stamp,
-        exit: Option<&Exit>,
+        exit: Option<Exit>,
     ) -> Result<(), Self::Fault>
-        ensures ok { OnOk result (self.new ≡ step self.old (seen OnCollective call.now enter (option_copied exit.entry))) }
+        ensures ok { OnOk result (self.new ≡ step self.old (seen OnCollective call enter exit)) }
         ensures err { OnErr result (self.new ≡ self.old) };
 
     /// `MPI_Finalize` and every other function; its name comes first.
     fn on_other(
         &mut self,
         name: &[u8],
-        call: &Call,
+        call: Call,
         enter: Stamp,
-        exit: Option<&Exit>,
+        exit: Option<Exit>,
     ) -> Result<(), Self::Fault>
-        ensures ok { OnOk result (self.new ≡ step self.old (seen (OnOther name.now) call.now enter (option_copied exit.entry))) }
+        ensures ok { OnOk result (self.new ≡ step self.old (seen (OnOther name.now) call enter exit)) }
         ensures err { OnErr result (self.new ≡ self.old) };
 }
 
@@ -178,14 +169,12 @@ pub fn hand_on<S: CallSink>(
     sink: &mut S,
     function: Function,
     name: &[u8],
-    typed: &TypedCall,
+    typed: TypedCall,
 ) -> Result<(), S::Fault>
-    ensures ok { OnOk result (sink.new ≡ S.step sink.old (seen_by (row function name.now) typed.now)) }
+    ensures ok { OnOk result (sink.new ≡ S.step sink.old (seen_by (row function name.now) typed)) }
     ensures err { OnErr result (sink.new ≡ sink.old) }
 {
     let TypedCall { call, enter, exit } = typed;
-    let enter = *enter;
-    let exit = exit.as_ref();
     match function {
         Function::Send(_) => sink.on_send(call, enter, exit),
         Function::Isend(_) => sink.on_isend(call, enter, exit),

@@ -54,9 +54,9 @@ impl CallSink for Tally {
 
     fn on_send(
         &mut self,
-        _call: &Call,
+        _call: Call,
         _enter: Stamp,
-        _exit: Option<&Exit>,
+        _exit: Option<Exit>,
     ) -> Result<(), Infallible> {
         self.on_send = self.on_send.saturating_add(1);
         Ok(())
@@ -64,9 +64,9 @@ impl CallSink for Tally {
 
     fn on_isend(
         &mut self,
-        _call: &Call,
+        _call: Call,
         _enter: Stamp,
-        _exit: Option<&Exit>,
+        _exit: Option<Exit>,
     ) -> Result<(), Infallible> {
         self.on_isend = self.on_isend.saturating_add(1);
         Ok(())
@@ -74,9 +74,9 @@ impl CallSink for Tally {
 
     fn on_recv(
         &mut self,
-        _call: &Call,
+        _call: Call,
         _enter: Stamp,
-        _exit: Option<&Exit>,
+        _exit: Option<Exit>,
     ) -> Result<(), Infallible> {
         self.on_recv = self.on_recv.saturating_add(1);
         Ok(())
@@ -84,9 +84,9 @@ impl CallSink for Tally {
 
     fn on_irecv(
         &mut self,
-        _call: &Call,
+        _call: Call,
         _enter: Stamp,
-        _exit: Option<&Exit>,
+        _exit: Option<Exit>,
     ) -> Result<(), Infallible> {
         self.on_irecv = self.on_irecv.saturating_add(1);
         Ok(())
@@ -94,9 +94,9 @@ impl CallSink for Tally {
 
     fn on_sendrecv(
         &mut self,
-        _call: &Call,
+        _call: Call,
         _enter: Stamp,
-        _exit: Option<&Exit>,
+        _exit: Option<Exit>,
     ) -> Result<(), Infallible> {
         self.on_sendrecv = self.on_sendrecv.saturating_add(1);
         Ok(())
@@ -104,9 +104,9 @@ impl CallSink for Tally {
 
     fn on_wait(
         &mut self,
-        _call: &Call,
+        _call: Call,
         _enter: Stamp,
-        _exit: Option<&Exit>,
+        _exit: Option<Exit>,
     ) -> Result<(), Infallible> {
         self.on_wait = self.on_wait.saturating_add(1);
         Ok(())
@@ -114,9 +114,9 @@ impl CallSink for Tally {
 
     fn on_waitall(
         &mut self,
-        _call: &Call,
+        _call: Call,
         _enter: Stamp,
-        _exit: Option<&Exit>,
+        _exit: Option<Exit>,
     ) -> Result<(), Infallible> {
         self.on_waitall = self.on_waitall.saturating_add(1);
         Ok(())
@@ -124,9 +124,9 @@ impl CallSink for Tally {
 
     fn on_waitany(
         &mut self,
-        _call: &Call,
+        _call: Call,
         _enter: Stamp,
-        _exit: Option<&Exit>,
+        _exit: Option<Exit>,
     ) -> Result<(), Infallible> {
         self.on_waitany = self.on_waitany.saturating_add(1);
         Ok(())
@@ -134,9 +134,9 @@ impl CallSink for Tally {
 
     fn on_waitsome(
         &mut self,
-        _call: &Call,
+        _call: Call,
         _enter: Stamp,
-        _exit: Option<&Exit>,
+        _exit: Option<Exit>,
     ) -> Result<(), Infallible> {
         self.on_waitsome = self.on_waitsome.saturating_add(1);
         Ok(())
@@ -144,9 +144,9 @@ impl CallSink for Tally {
 
     fn on_test(
         &mut self,
-        _call: &Call,
+        _call: Call,
         _enter: Stamp,
-        _exit: Option<&Exit>,
+        _exit: Option<Exit>,
     ) -> Result<(), Infallible> {
         self.on_test = self.on_test.saturating_add(1);
         Ok(())
@@ -154,9 +154,9 @@ impl CallSink for Tally {
 
     fn on_collective(
         &mut self,
-        _call: &Call,
+        _call: Call,
         _enter: Stamp,
-        _exit: Option<&Exit>,
+        _exit: Option<Exit>,
     ) -> Result<(), Infallible> {
         self.on_collective = self.on_collective.saturating_add(1);
         Ok(())
@@ -165,9 +165,9 @@ impl CallSink for Tally {
     fn on_other(
         &mut self,
         _name: &[u8],
-        _call: &Call,
+        _call: Call,
         _enter: Stamp,
-        _exit: Option<&Exit>,
+        _exit: Option<Exit>,
     ) -> Result<(), Infallible> {
         self.on_other = self.on_other.saturating_add(1);
         Ok(())

@@ -80,7 +80,7 @@ fn take<S: CallSink>(
     let function = function_of(raw.name());
     match typed_call(alloc, function, raw) {
         Err(fault) => Err(refusal(raw, fault, calls)),
-        Ok(call) => match hand_on(sink, function, raw.name(), &call) {
+        Ok(call) => match hand_on(sink, function, raw.name(), call) {
             Ok(()) => Ok(()),
             Err(fault) => Err(WalkFault {
                 cause: WalkCause::Sink(fault),

@@ -63,72 +63,72 @@ impl CallSink for SentTo {
 
     ghost step = { λ sink seen. record { rank = sink.rank; elements = elements_after sink.rank sink.elements seen.call; calls_left = sink.calls_left - 1 } };
 
-    fn on_send(&mut self, call: &Call, _enter: Stamp, _exit: Option<&Exit>) -> Result<(), Full> {
-        self.add(call)
+    fn on_send(&mut self, call: Call, _enter: Stamp, _exit: Option<Exit>) -> Result<(), Full> {
+        self.add(&call)
     }
 
-    fn on_isend(&mut self, call: &Call, _enter: Stamp, _exit: Option<&Exit>) -> Result<(), Full> {
-        self.add(call)
+    fn on_isend(&mut self, call: Call, _enter: Stamp, _exit: Option<Exit>) -> Result<(), Full> {
+        self.add(&call)
     }
 
-    fn on_recv(&mut self, call: &Call, _enter: Stamp, _exit: Option<&Exit>) -> Result<(), Full> {
-        self.add(call)
+    fn on_recv(&mut self, call: Call, _enter: Stamp, _exit: Option<Exit>) -> Result<(), Full> {
+        self.add(&call)
     }
 
-    fn on_irecv(&mut self, call: &Call, _enter: Stamp, _exit: Option<&Exit>) -> Result<(), Full> {
-        self.add(call)
+    fn on_irecv(&mut self, call: Call, _enter: Stamp, _exit: Option<Exit>) -> Result<(), Full> {
+        self.add(&call)
     }
 
     fn on_sendrecv(
         &mut self,
-        call: &Call,
+        call: Call,
         _enter: Stamp,
-        _exit: Option<&Exit>,
+        _exit: Option<Exit>,
     ) -> Result<(), Full> {
-        self.add(call)
+        self.add(&call)
     }
 
-    fn on_wait(&mut self, call: &Call, _enter: Stamp, _exit: Option<&Exit>) -> Result<(), Full> {
-        self.add(call)
+    fn on_wait(&mut self, call: Call, _enter: Stamp, _exit: Option<Exit>) -> Result<(), Full> {
+        self.add(&call)
     }
 
-    fn on_waitall(&mut self, call: &Call, _enter: Stamp, _exit: Option<&Exit>) -> Result<(), Full> {
-        self.add(call)
+    fn on_waitall(&mut self, call: Call, _enter: Stamp, _exit: Option<Exit>) -> Result<(), Full> {
+        self.add(&call)
     }
 
-    fn on_waitany(&mut self, call: &Call, _enter: Stamp, _exit: Option<&Exit>) -> Result<(), Full> {
-        self.add(call)
+    fn on_waitany(&mut self, call: Call, _enter: Stamp, _exit: Option<Exit>) -> Result<(), Full> {
+        self.add(&call)
     }
 
     fn on_waitsome(
         &mut self,
-        call: &Call,
+        call: Call,
         _enter: Stamp,
-        _exit: Option<&Exit>,
+        _exit: Option<Exit>,
     ) -> Result<(), Full> {
-        self.add(call)
+        self.add(&call)
     }
 
-    fn on_test(&mut self, call: &Call, _enter: Stamp, _exit: Option<&Exit>) -> Result<(), Full> {
-        self.add(call)
+    fn on_test(&mut self, call: Call, _enter: Stamp, _exit: Option<Exit>) -> Result<(), Full> {
+        self.add(&call)
     }
 
     fn on_collective(
         &mut self,
-        call: &Call,
+        call: Call,
         _enter: Stamp,
-        _exit: Option<&Exit>,
+        _exit: Option<Exit>,
     ) -> Result<(), Full> {
-        self.add(call)
+        self.add(&call)
     }
 
     fn on_other(
         &mut self,
         _name: &[u8],
-        call: &Call,
+        call: Call,
         _enter: Stamp,
-        _exit: Option<&Exit>,
+        _exit: Option<Exit>,
     ) -> Result<(), Full> {
-        self.add(call)
+        self.add(&call)
     }
 }
