@@ -6,7 +6,7 @@ use Rattle.mpi_model.specs.declared.event.Event.TheVariants.{Enter, Return}
 use Rattle.mpi_model.specs.declared.event.Exit.{Exit}
 use Rattle.trace_know.specs.Segment.{PlacedEvents, enter_place}
 use Rattle.trace_know.specs.declared.segment.TheConstants.{MOST_EVENTS}
-use Rattle.dumpi_calls.specs.Rows.{Callback, OnSend, OnIsend, OnRecv, OnIrecv, OnSendrecv, OnWait, OnWaitall, OnWaitany, OnWaitsome, OnTest, OnCollective, OnOther}
+use Rattle.dumpi_calls.specs.Rows.{Callback, OnSend, OnIsend, OnRecv, OnIrecv, OnSendrecv, OnProbe, OnWait, OnWaitall, OnWaitany, OnWaitsome, OnTest, OnCollective, OnIbarrier, OnOther}
 use Rattle.dumpi_calls.specs.Seen.{Seen}
 use Rattle.dumpi_calls.specs.declared.tally.Tally.{Tally}
 
@@ -66,10 +66,12 @@ tallied t OnIsend = record t { on_isend = one_more t.on_isend }
 tallied t OnRecv = record t { on_recv = one_more t.on_recv }
 tallied t OnIrecv = record t { on_irecv = one_more t.on_irecv }
 tallied t OnSendrecv = record t { on_sendrecv = one_more t.on_sendrecv }
+tallied t OnProbe = record t { on_probe = one_more t.on_probe }
 tallied t OnWait = record t { on_wait = one_more t.on_wait }
 tallied t OnWaitall = record t { on_waitall = one_more t.on_waitall }
 tallied t OnWaitany = record t { on_waitany = one_more t.on_waitany }
 tallied t OnWaitsome = record t { on_waitsome = one_more t.on_waitsome }
 tallied t OnTest = record t { on_test = one_more t.on_test }
 tallied t OnCollective = record t { on_collective = one_more t.on_collective }
+tallied t OnIbarrier = record t { on_ibarrier = one_more t.on_ibarrier }
 tallied t (OnOther name) = record t { on_other = one_more t.on_other }

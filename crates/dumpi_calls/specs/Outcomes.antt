@@ -139,6 +139,7 @@ flag raw = do
 abbrev pub brought_by : Call → List Parameter
 brought_by (calls.Isend mode envelope) = Request ∷ []
 brought_by (calls.Irecv envelope) = Request ∷ []
+brought_by (calls.Ibarrier comm) = Request ∷ []
 brought_by (calls.Waitany requests) = Index ∷ []
 brought_by (calls.Test request) = Flag ∷ []
 brought_by _ = []
@@ -158,3 +159,5 @@ outcome_in (calls.Waitany requests) raw = index requests raw
 outcome_in (calls.Waitsome requests) raw = Ok (several requests raw)
 outcome_in (calls.Test request) raw = flag raw
 outcome_in (calls.Collective collective) raw = Ok outcomes.Nothing
+outcome_in (calls.Probe envelope) raw = Ok (status raw)
+outcome_in (calls.Ibarrier comm) raw = posted raw

@@ -1,7 +1,7 @@
 -- The table of functions: its callback, its entry and outcome parameters, and how these are read.
 use Rattle.std.specs.Prelude.{ℕ, List, [], ◌∷◌, Option, Some, None, Result, Ok, Err, codes, if◌then◌else◌}
 use Rattle.std.specs.Str.{bytes_eq}
-use Rattle.mpi_model.specs.Ranges.{HasRoot}
+use Rattle.mpi_model.specs.Ranges.{HasRoot, IsRootOf}
 use Rattle.mpi_model.specs.declared.call.Call.{Call}
 use Rattle.mpi_model.specs.declared.call.Call.TheVariants as calls
 use Rattle.mpi_model.specs.declared.collective.Kind.{Kind}
@@ -24,9 +24,9 @@ use Rattle.dumpi_calls.specs.declared.parameter.CallFault.TheVariants.{Missing}
 use Rattle.dumpi_calls.specs.declared.parameter.Parameter.{Parameter}
 use Rattle.dumpi_calls.specs.declared.parameter.Parameter.TheVariants.{Count, Datatype, Dest, Source, Tag, Comm, SendCount, SendType, SendTag, RecvCount, RecvType, RecvTag, Root, Request, Requests, Index, Flag}
 
--- a collective function has a root just where its kind has one
+-- a blocking collective function has a root just where its kind has one
 abbrev pub HasItsKind : Function → Type 0
-HasItsKind (functions.OfAll kind) = HasRoot kind → ⊥
+HasItsKind (functions.OfAll kind) = IsRootOf kind None
 HasItsKind (functions.Rooted kind) = HasRoot kind
 HasItsKind _ = Unit {0}
 
@@ -50,12 +50,13 @@ isend_named name =
     else if bytes_eq name (codes "MPI_Irsend") then Some (functions.Isend Ready)
     else None
 
--- receives (MPI 4.0, 3.2.4, 3.7.2 and 3.10)
+-- receives and probes (MPI 4.0, 3.2.4, 3.7.2, 3.8.1 and 3.10)
 abbrev pub receive_named : List ℕ → Option Function
 receive_named name =
     if bytes_eq name (codes "MPI_Recv") then Some functions.Recv
     else if bytes_eq name (codes "MPI_Irecv") then Some functions.Irecv
     else if bytes_eq name (codes "MPI_Sendrecv") then Some functions.Sendrecv
+    else if bytes_eq name (codes "MPI_Probe") then Some functions.Probe
     else None
 
 -- completion calls (MPI 4.0, 3.7.3 and 3.7.5)
@@ -75,6 +76,7 @@ group_named name =
     else if bytes_eq name (codes "MPI_Allreduce") then Some (functions.OfAll kinds.Allreduce)
     else if bytes_eq name (codes "MPI_Allgather") then Some (functions.OfAll kinds.Allgather)
     else if bytes_eq name (codes "MPI_Alltoall") then Some (functions.OfAll kinds.Alltoall)
+    else if bytes_eq name (codes "MPI_Ibarrier") then Some functions.Ibarrier
     else None
 
 -- collective calls with a root (MPI 4.0, 6)
@@ -103,7 +105,7 @@ function_named name =
 
 -- ---- envelopes (MPI 4.0, 3.2.3)
 
--- the parameters that a send has to have, a receive, and a call that is both
+-- the parameters that a send has to have, a receive, a call that is both, and a probe
 abbrev pub send_parameters : List Parameter
 send_parameters = Count ∷ Datatype ∷ Dest ∷ Tag ∷ Comm ∷ []
 
@@ -112,6 +114,9 @@ receive_parameters = Count ∷ Datatype ∷ Source ∷ Tag ∷ Comm ∷ []
 
 abbrev pub sendrecv_parameters : List Parameter
 sendrecv_parameters = SendCount ∷ SendType ∷ Dest ∷ SendTag ∷ RecvCount ∷ RecvType ∷ Source ∷ RecvTag ∷ Comm ∷ []
+
+abbrev pub probe_parameters : List Parameter
+probe_parameters = Source ∷ Tag ∷ Comm ∷ []
 
 -- what a send says apart from its communicator
 unfoldable pub send_part : Parameter → Parameter → Parameter → TextCall → Result Part CallFault
@@ -178,6 +183,13 @@ sendrecv_call call = do
   comm ← comm_in call
   Ok (calls.Sendrecv (record { send = envelope_of send comm; receive = envelope_of receive comm }))
 
+unfoldable pub probe_call : TextCall → Result Call CallFault
+probe_call call = do
+  source ← source_in call
+  tag ← asked_tag_in Tag call
+  comm ← comm_in call
+  Ok (calls.Probe (record { source = source; tag = tag; comm = comm }))
+
 unfoldable pub wait_call : TextCall → Result Call CallFault
 wait_call call = do
   request ← number_in Request call
@@ -214,6 +226,11 @@ rooted_call kind call = do
   comm ← comm_in call
   Ok (calls.Collective (record { kind = kind; root = Some root; comm = comm }))
 
+unfoldable pub ibarrier_call : TextCall → Result Call CallFault
+ibarrier_call call = do
+  comm ← comm_in call
+  Ok (calls.Ibarrier comm)
+
 -- ---- the table
 
 -- the callback of a function; that of all others is told the function's name
@@ -223,12 +240,14 @@ pub data Callback : Type 0 where
   OnRecv : Callback
   OnIrecv : Callback
   OnSendrecv : Callback
+  OnProbe : Callback
   OnWait : Callback
   OnWaitall : Callback
   OnWaitany : Callback
   OnWaitsome : Callback
   OnTest : Callback
   OnCollective : Callback
+  OnIbarrier : Callback
   OnOther : (name : List ℕ) → Callback
 
 -- A row: the callback; the parameters that have to be there, those of the outcome where the call returned; and how the
@@ -246,6 +265,7 @@ row (functions.Isend mode) name = record { callback = OnIsend; entry = send_para
 row functions.Recv name = record { callback = OnRecv; entry = receive_parameters; outcome = []; call = recv_call }
 row functions.Irecv name = record { callback = OnIrecv; entry = receive_parameters; outcome = Request ∷ []; call = irecv_call }
 row functions.Sendrecv name = record { callback = OnSendrecv; entry = sendrecv_parameters; outcome = []; call = sendrecv_call }
+row functions.Probe name = record { callback = OnProbe; entry = probe_parameters; outcome = []; call = probe_call }
 row functions.Wait name = record { callback = OnWait; entry = Request ∷ []; outcome = []; call = wait_call }
 row functions.Waitall name = record { callback = OnWaitall; entry = Requests ∷ []; outcome = []; call = waitall_call }
 row functions.Waitany name = record { callback = OnWaitany; entry = Requests ∷ []; outcome = Index ∷ []; call = waitany_call }
@@ -253,6 +273,7 @@ row functions.Waitsome name = record { callback = OnWaitsome; entry = Requests �
 row functions.Test name = record { callback = OnTest; entry = Request ∷ []; outcome = Flag ∷ []; call = test_call }
 row (functions.OfAll kind) name = record { callback = OnCollective; entry = Comm ∷ []; outcome = []; call = group_call kind }
 row (functions.Rooted kind) name = record { callback = OnCollective; entry = Root ∷ Comm ∷ []; outcome = []; call = rooted_call kind }
+row functions.Ibarrier name = record { callback = OnIbarrier; entry = Comm ∷ []; outcome = Request ∷ []; call = ibarrier_call }
 row functions.Finalize name = record { callback = OnOther name; entry = []; outcome = []; call = λ raw. Ok calls.Finalize }
 row functions.Other name = record { callback = OnOther name; entry = []; outcome = []; call = λ raw. Ok calls.Local }
 

@@ -148,6 +148,10 @@ impl CallSink for Collect {
         self.push(call, enter, exit)
     }
 
+    fn on_probe(&mut self, call: Call, enter: Stamp, exit: Option<Exit>) -> Result<(), Memory> {
+        self.push(call, enter, exit)
+    }
+
     fn on_wait(&mut self, call: Call, enter: Stamp, exit: Option<Exit>) -> Result<(), Memory> {
         self.push(call, enter, exit)
     }
@@ -174,6 +178,10 @@ impl CallSink for Collect {
         enter: Stamp,
         exit: Option<Exit>,
     ) -> Result<(), Memory> {
+        self.push(call, enter, exit)
+    }
+
+    fn on_ibarrier(&mut self, call: Call, enter: Stamp, exit: Option<Exit>) -> Result<(), Memory> {
         self.push(call, enter, exit)
     }
 

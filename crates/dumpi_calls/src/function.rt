@@ -16,15 +16,17 @@ pub enum Function {
     Recv,
     Irecv,
     Sendrecv,
+    Probe,
     Wait,
     Waitall,
     Waitany,
     Waitsome,
     Test,
-    /// A collective call without a root.
+    /// A blocking collective call without a root.
     OfAll(Kind),
     /// A collective call with a root.
     Rooted(Kind),
+    Ibarrier,
     Finalize,
     /// Every other one: its calls are local.
     Other,
@@ -91,7 +93,7 @@ fn isend_of(name: &[u8]) -> Option<Function>
     }
 }
 
-// a receive, or a send and a receive at once
+// a receive, a send and a receive at once, or a probe
 fn receive_of(name: &[u8]) -> Option<Function>
     ensures value { result ≡ receive_named name.now }
     ensures kind { IfSome result HasItsKind }
@@ -102,6 +104,8 @@ fn receive_of(name: &[u8]) -> Option<Function>
         Some(Function::Irecv)
     } else if is(name, "MPI_Sendrecv") {
         Some(Function::Sendrecv)
+    } else if is(name, "MPI_Probe") {
+        Some(Function::Probe)
     } else {
         None
     }
@@ -140,6 +144,8 @@ fn group_of(name: &[u8]) -> Option<Function>
         Some(Function::OfAll(Kind::Allgather))
     } else if is(name, "MPI_Alltoall") {
         Some(Function::OfAll(Kind::Alltoall))
+    } else if is(name, "MPI_Ibarrier") {
+        Some(Function::Ibarrier)
     } else {
         None
     }

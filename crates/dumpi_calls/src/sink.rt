@@ -1,7 +1,7 @@
 //! What calls are handed to.
 
 ghost use Rattle.std.specs.Prelude.{◌≡◌, OnErr, OnOk};
-ghost use Rattle.dumpi_calls.specs.Rows.{OnCollective, OnIrecv, OnIsend, OnOther, OnRecv, OnSend, OnSendrecv, OnTest, OnWait, OnWaitall, OnWaitany, OnWaitsome, row};
+ghost use Rattle.dumpi_calls.specs.Rows.{OnCollective, OnIbarrier, OnIrecv, OnIsend, OnOther, OnProbe, OnRecv, OnSend, OnSendrecv, OnTest, OnWait, OnWaitall, OnWaitany, OnWaitsome, row};
 ghost use Rattle.dumpi_calls.specs.Seen.{Seen, seen, seen_by};
 
 use crate::function::Function;
@@ -55,7 +55,7 @@ use mpi_model::{Call, Exit, Stamp};
 ///         Ok(())
 ///     }
 ///
-///     // and each of the other eleven likewise
+///     // and each of the other thirteen likewise
 /// }
 ///
 /// let mut sink = SentTo { rank: 1, elements: 0 };
@@ -99,6 +99,11 @@ pub trait CallSink {
         exit: Option<Exit>,
     ) -> Result<(), Self::Fault>
         ensures ok { OnOk result (self.new ≡ step self.old (seen OnSendrecv call enter exit)) }
+        ensures err { OnErr result (self.new ≡ self.old) };
+
+    /// `MPI_Probe`.
+    fn on_probe(&mut self, call: Call, enter: Stamp, exit: Option<Exit>) -> Result<(), Self::Fault>
+        ensures ok { OnOk result (self.new ≡ step self.old (seen OnProbe call enter exit)) }
         ensures err { OnErr result (self.new ≡ self.old) };
 
     /// `MPI_Wait`.
@@ -152,6 +157,11 @@ pub trait CallSink {
         ensures ok { OnOk result (self.new ≡ step self.old (seen OnCollective call enter exit)) }
         ensures err { OnErr result (self.new ≡ self.old) };
 
+    /// `MPI_Ibarrier`.
+    fn on_ibarrier(&mut self, call: Call, enter: Stamp, exit: Option<Exit>) -> Result<(), Self::Fault>
+        ensures ok { OnOk result (self.new ≡ step self.old (seen OnIbarrier call enter exit)) }
+        ensures err { OnErr result (self.new ≡ self.old) };
+
     /// `MPI_Finalize` and every other function; its name comes first.
     fn on_other(
         &mut self,
@@ -181,6 +191,7 @@ pub fn hand_on<S: CallSink>(
         Function::Recv => sink.on_recv(call, enter, exit),
         Function::Irecv => sink.on_irecv(call, enter, exit),
         Function::Sendrecv => sink.on_sendrecv(call, enter, exit),
+        Function::Probe => sink.on_probe(call, enter, exit),
         Function::Wait => sink.on_wait(call, enter, exit),
         Function::Waitall => sink.on_waitall(call, enter, exit),
         Function::Waitany => sink.on_waitany(call, enter, exit),
@@ -188,6 +199,7 @@ pub fn hand_on<S: CallSink>(
         Function::Test => sink.on_test(call, enter, exit),
         Function::OfAll(_) => sink.on_collective(call, enter, exit),
         Function::Rooted(_) => sink.on_collective(call, enter, exit),
+        Function::Ibarrier => sink.on_ibarrier(call, enter, exit),
         Function::Finalize => sink.on_other(name, call, enter, exit),
         Function::Other => sink.on_other(name, call, enter, exit),
     }

@@ -14,19 +14,21 @@ pub struct Tally {
     pub on_recv: u64,
     pub on_irecv: u64,
     pub on_sendrecv: u64,
+    pub on_probe: u64,
     pub on_wait: u64,
     pub on_waitall: u64,
     pub on_waitany: u64,
     pub on_waitsome: u64,
     pub on_test: u64,
     pub on_collective: u64,
+    pub on_ibarrier: u64,
     pub on_other: u64,
 }
 
 impl Tally {
     /// Every count at 0.
     pub fn new() -> Tally
-        ensures { result ≡ record { on_send = 0; on_isend = 0; on_recv = 0; on_irecv = 0; on_sendrecv = 0; on_wait = 0; on_waitall = 0; on_waitany = 0; on_waitsome = 0; on_test = 0; on_collective = 0; on_other = 0 } }
+        ensures { result ≡ record { on_send = 0; on_isend = 0; on_recv = 0; on_irecv = 0; on_sendrecv = 0; on_probe = 0; on_wait = 0; on_waitall = 0; on_waitany = 0; on_waitsome = 0; on_test = 0; on_collective = 0; on_ibarrier = 0; on_other = 0 } }
     {
         Tally {
             on_send: 0,
@@ -34,12 +36,14 @@ impl Tally {
             on_recv: 0,
             on_irecv: 0,
             on_sendrecv: 0,
+            on_probe: 0,
             on_wait: 0,
             on_waitall: 0,
             on_waitany: 0,
             on_waitsome: 0,
             on_test: 0,
             on_collective: 0,
+            on_ibarrier: 0,
             on_other: 0,
         }
     }
@@ -102,6 +106,16 @@ impl CallSink for Tally {
         Ok(())
     }
 
+    fn on_probe(
+        &mut self,
+        _call: Call,
+        _enter: Stamp,
+        _exit: Option<Exit>,
+    ) -> Result<(), Infallible> {
+        self.on_probe = self.on_probe.saturating_add(1);
+        Ok(())
+    }
+
     fn on_wait(
         &mut self,
         _call: Call,
@@ -159,6 +173,16 @@ impl CallSink for Tally {
         _exit: Option<Exit>,
     ) -> Result<(), Infallible> {
         self.on_collective = self.on_collective.saturating_add(1);
+        Ok(())
+    }
+
+    fn on_ibarrier(
+        &mut self,
+        _call: Call,
+        _enter: Stamp,
+        _exit: Option<Exit>,
+    ) -> Result<(), Infallible> {
+        self.on_ibarrier = self.on_ibarrier.saturating_add(1);
         Ok(())
     }
 

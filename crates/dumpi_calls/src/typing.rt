@@ -7,16 +7,16 @@
 ghost use Rattle.std.specs.Prelude.{◌≡◌, ◌∷◌, [], IfOk, IsSome, None, OnOk};
 ghost use Rattle.dumpi_calls.specs.Outcomes.{brought_by};
 ghost use Rattle.dumpi_calls.specs.Readings.{AreThere, Reads};
-ghost use Rattle.dumpi_calls.specs.Rows.{HasItsKind, exit_in, first_missing, group_call, isend_call, irecv_call, missing_in, read_by, receive_parameters, recv_call, returned, rooted_call, row, send_call, send_parameters, test_call, typed_by, wait_call, waitall_call, waitany_call, waitsome_call};
-ghost use Rattle.mpi_model.specs.Ranges.{HasRoot};
+ghost use Rattle.dumpi_calls.specs.Rows.{HasItsKind, exit_in, first_missing, group_call, ibarrier_call, isend_call, irecv_call, missing_in, probe_call, probe_parameters, read_by, receive_parameters, recv_call, returned, rooted_call, row, send_call, send_parameters, test_call, typed_by, wait_call, waitall_call, waitany_call, waitsome_call};
+ghost use Rattle.mpi_model.specs.Ranges.{HasRoot, IsRootOf};
 
 use crate::envelope::{receive_envelope_in, send_envelope_in, sendrecv_in};
 use crate::function::Function;
 use crate::outcome::outcome;
 use crate::parameter::{CallFault, Parameter};
-use crate::reading::{comm, non_negative, number, requests, text_in};
+use crate::reading::{asked_tag, comm, non_negative, number, requests, source, text_in};
 use dumpi_text::RawCall;
-use mpi_model::{Call, Collective, Exit, Kind, Mode, Stamp};
+use mpi_model::{Call, Collective, Exit, Kind, Mode, NamedComm, ProbeEnvelope, Stamp};
 use std::alloc::Global;
 
 /// A call with what it names, when it was entered, and how it returned, if it did.
@@ -78,11 +78,15 @@ fn entry_missing(function: Function, raw: &RawCall) -> Option<Parameter>
                 Parameter::Comm,
             ],
         ),
+        Function::Probe => first_of(
+            raw,
+            &[Parameter::Source, Parameter::Tag, Parameter::Comm],
+        ),
         Function::Wait | Function::Test => first_of(raw, &[Parameter::Request]),
         Function::Waitall | Function::Waitany | Function::Waitsome => {
             first_of(raw, &[Parameter::Requests])
         }
-        Function::OfAll(_) => first_of(raw, &[Parameter::Comm]),
+        Function::OfAll(_) | Function::Ibarrier => first_of(raw, &[Parameter::Comm]),
         Function::Rooted(_) => first_of(raw, &[Parameter::Root, Parameter::Comm]),
         Function::Finalize | Function::Other => None,
     }
@@ -93,10 +97,12 @@ fn outcome_missing(function: Function, raw: &RawCall) -> Option<Parameter>
     ensures { result ≡ first_missing (row function raw.now.name).outcome raw.now }
 {
     match function {
-        Function::Isend(_) | Function::Irecv => first_of(raw, &[Parameter::Request]),
+        Function::Isend(_) | Function::Irecv | Function::Ibarrier => {
+            first_of(raw, &[Parameter::Request])
+        }
         Function::Waitany => first_of(raw, &[Parameter::Index]),
         Function::Test => first_of(raw, &[Parameter::Flag]),
-        Function::Send(_) | Function::Recv | Function::Sendrecv => None,
+        Function::Send(_) | Function::Recv | Function::Sendrecv | Function::Probe => None,
         Function::Wait | Function::Waitall | Function::Waitsome => None,
         Function::OfAll(_) | Function::Rooted(_) => None,
         Function::Finalize | Function::Other => None,
@@ -156,6 +162,19 @@ fn irecv(alloc: Global, raw: &RawCall) -> Result<Call, CallFault>
     Ok(Call::Irecv(envelope))
 }
 
+#[tactic(auto, unfolding(crate::specs::Rows::probe_call))]
+fn probe(alloc: Global, raw: &RawCall) -> Result<Call, CallFault>
+    ensures means { Reads result (probe_call raw.now) }
+    ensures there { OnOk result (AreThere probe_parameters raw.now) }
+    ensures brings { IfOk result (λ c. brought_by c ≡ []) }
+{
+    let source = source(alloc, raw)?;
+    let tag = asked_tag(alloc, raw, Parameter::Tag)?;
+    let comm = comm(alloc, raw)?;
+    let envelope = ProbeEnvelope::new(source, tag, comm);
+    Ok(Call::Probe(envelope.unwrap()))
+}
+
 #[tactic(auto, unfolding(crate::specs::Rows::wait_call))]
 fn wait(alloc: Global, raw: &RawCall) -> Result<Call, CallFault>
     ensures means { Reads result (wait_call raw.now) }
@@ -208,7 +227,7 @@ fn waitsome(alloc: Global, raw: &RawCall) -> Result<Call, CallFault>
 
 #[tactic(auto, unfolding(crate::specs::Rows::group_call))]
 fn of_all(alloc: Global, kind: Kind, raw: &RawCall) -> Result<Call, CallFault>
-    requires { ¬ (HasRoot kind) }
+    requires { IsRootOf kind None }
     ensures means { Reads result (group_call kind raw.now) }
     ensures there { OnOk result (AreThere (Parameter.Comm ∷ []) raw.now) }
     ensures brings { IfOk result (λ c. brought_by c ≡ []) }
@@ -229,6 +248,16 @@ fn rooted(alloc: Global, kind: Kind, raw: &RawCall) -> Result<Call, CallFault>
     Ok(Call::Collective(Collective::new(kind, Some(root), comm).unwrap()))
 }
 
+#[tactic(auto, unfolding(crate::specs::Rows::ibarrier_call))]
+fn ibarrier(alloc: Global, raw: &RawCall) -> Result<Call, CallFault>
+    ensures means { Reads result (ibarrier_call raw.now) }
+    ensures there { OnOk result (AreThere (Parameter.Comm ∷ []) raw.now) }
+    ensures brings { IfOk result (λ c. brought_by c ≡ Parameter.Request ∷ []) }
+{
+    let comm = comm(alloc, raw)?;
+    Ok(Call::Ibarrier(NamedComm::new(comm).unwrap()))
+}
+
 // the call by the entry parameters of its row
 fn call_in(alloc: Global, function: Function, raw: &RawCall) -> Result<Call, CallFault>
     requires { HasItsKind function }
@@ -242,6 +271,7 @@ fn call_in(alloc: Global, function: Function, raw: &RawCall) -> Result<Call, Cal
         Function::Recv => recv(alloc, raw),
         Function::Irecv => irecv(alloc, raw),
         Function::Sendrecv => sendrecv_in(alloc, raw),
+        Function::Probe => probe(alloc, raw),
         Function::Wait => wait(alloc, raw),
         Function::Waitall => waitall(alloc, raw),
         Function::Waitany => waitany(alloc, raw),
@@ -249,6 +279,7 @@ fn call_in(alloc: Global, function: Function, raw: &RawCall) -> Result<Call, Cal
         Function::Test => test(alloc, raw),
         Function::OfAll(kind) => of_all(alloc, kind, raw),
         Function::Rooted(kind) => rooted(alloc, kind, raw),
+        Function::Ibarrier => ibarrier(alloc, raw),
         Function::Finalize => Ok(Call::Finalize),
         Function::Other => Ok(Call::Local),
     }

@@ -6,7 +6,7 @@ use Rattle.mpi_model.specs.declared.envelope.CommRef.{CommRef}
 use Rattle.mpi_model.specs.declared.envelope.CommRef.TheVariants as comms
 use Rattle.mpi_model.specs.declared.envelope.Envelope.{Envelope}
 use Rattle.mpi_model.specs.declared.collective.Kind.{Kind}
-use Rattle.mpi_model.specs.declared.collective.Kind.TheVariants.{Barrier, Bcast, Scatter, Gather, Reduce, Allreduce, Allgather, Alltoall}
+use Rattle.mpi_model.specs.declared.collective.Kind.TheVariants.{Barrier, Bcast, Scatter, Gather, Reduce, Allreduce, Allgather, Alltoall, Ibarrier}
 
 -- a source that an outcome tells, or nothing
 abbrev pub IsTold : Option ℕ → Type 0
@@ -43,6 +43,15 @@ IsAskedTag tag = IfSome tag (λ n. n < 2 ^ 31)
 abbrev pub IsReceive : Envelope → Type 0
 IsReceive e = IsSource e.peer × IsAskedTag e.tag × IsComm e.comm × (e.count < 2 ^ 31)
 
+-- what a probe looks for
+pub record Probed : Type 0 where
+  pub source : Peer
+  pub tag : Option ℕ
+  pub comm : CommRef
+
+abbrev pub IsProbe : Probed → Type 0
+IsProbe e = IsSource e.source × IsAskedTag e.tag × IsComm e.comm
+
 -- the two envelopes of a Sendrecv
 pub record BothEnvelopes : Type 0 where
   pub send : Envelope
@@ -57,6 +66,18 @@ pub record CollectiveCall : Type 0 where
   pub root : Option ℕ
   pub comm : CommRef
 
+-- the number of a kind
+abbrev pub kind_number : Kind → ℕ
+kind_number Barrier = 0
+kind_number Bcast = 1
+kind_number Scatter = 2
+kind_number Gather = 3
+kind_number Reduce = 4
+kind_number Allreduce = 5
+kind_number Allgather = 6
+kind_number Alltoall = 7
+kind_number Ibarrier = 8
+
 -- Four kinds have a root.
 abbrev pub HasRoot : Kind → Type 0
 HasRoot Bcast = Unit {0}
@@ -67,8 +88,9 @@ HasRoot Barrier = ⊥
 HasRoot Allreduce = ⊥
 HasRoot Allgather = ⊥
 HasRoot Alltoall = ⊥
+HasRoot Ibarrier = ⊥
 
--- A root just where the kind has one.
+-- A root just where the kind has one. No call has the kind Ibarrier: it is of rounds alone.
 abbrev pub IsRootOf : Kind → Option ℕ → Type 0
 IsRootOf Bcast root = IsNamed root
 IsRootOf Scatter root = IsNamed root
@@ -78,6 +100,7 @@ IsRootOf Barrier root = root ≡ None
 IsRootOf Allreduce root = root ≡ None
 IsRootOf Allgather root = root ≡ None
 IsRootOf Alltoall root = root ≡ None
+IsRootOf Ibarrier root = ⊥
 
 abbrev pub IsCollective : CollectiveCall → Type 0
 IsCollective c = IsRootOf c.kind c.root × IsComm c.comm

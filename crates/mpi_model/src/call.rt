@@ -4,7 +4,7 @@ ghost use Rattle.std.specs.Prelude.{◌≡◌, ◌↔◌, IsTrue, IfOk};
 ghost use Rattle.mpi_model.specs.Events.{IsCall};
 
 use crate::collective::Collective;
-use crate::envelope::{Exchange, Mode, ReceiveEnvelope, SendEnvelope};
+use crate::envelope::{Exchange, Mode, NamedComm, ProbeEnvelope, ReceiveEnvelope, SendEnvelope};
 use crate::list::Requests;
 use std::alloc::AllocError;
 
@@ -29,6 +29,10 @@ pub enum Call {
     Waitsome(Requests),
     Test(i64),
     Collective(Collective),
+    /// It waits for a message and leaves it where it is (MPI 4.0, 3.8.1).
+    Probe(ProbeEnvelope),
+    /// A barrier whose end its request tells (MPI 4.0, 6.12.1).
+    Ibarrier(NamedComm),
 }
 
 impl Call {
@@ -49,6 +53,8 @@ impl Call {
             Call::Waitsome(requests) => Call::Waitsome(requests.try_clone()?),
             Call::Test(request) => Call::Test(*request),
             Call::Collective(collective) => Call::Collective(*collective),
+            Call::Probe(envelope) => Call::Probe(*envelope),
+            Call::Ibarrier(comm) => Call::Ibarrier(*comm),
         })
     }
 
@@ -68,6 +74,10 @@ impl Call {
                 requests.known();
             }
             Call::Collective(collective) => collective.known(),
+            Call::Probe(envelope) => envelope.known(),
+            Call::Ibarrier(comm) => {
+                let _comm = comm.comm();
+            }
         }
     }
 
@@ -89,6 +99,8 @@ impl Call {
             (Call::Waitsome(r), Call::Waitsome(s)) => r.same(s),
             (Call::Test(r), Call::Test(s)) => *r == *s,
             (Call::Collective(c), Call::Collective(d)) => c.same(*d),
+            (Call::Probe(e), Call::Probe(f)) => e.same(*f),
+            (Call::Ibarrier(c), Call::Ibarrier(d)) => c.same(*d),
             _ => false,
         }
     }

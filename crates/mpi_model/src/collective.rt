@@ -1,12 +1,12 @@
 //! Collective calls (MPI 4.0, chapter 6).
 
 ghost use Rattle.std.specs.Prelude.{◌≡◌, ◌↔◌, IsTrue, SomeIff};
-ghost use Rattle.mpi_model.specs.Ranges.{HasRoot, IsRootOf};
+ghost use Rattle.mpi_model.specs.Ranges.{HasRoot, IsRootOf, kind_number};
 
 use crate::envelope::CommRef;
 use std::marker::Model;
 
-/// The kind of a collective call.
+/// The kind of a collective call, or of a round of them.
 #[derive(Clone, Copy, Debug, PartialEq, Eq)]
 pub enum Kind {
     Barrier,
@@ -17,9 +17,28 @@ pub enum Kind {
     Allreduce,
     Allgather,
     Alltoall,
+    /// Of rounds alone: an `MPI_Ibarrier` is no [`Collective`].
+    Ibarrier,
 }
 
 impl Kind {
+    /// The number of the kind, each its own. Those of a [`Collective`] are its codes in a frame.
+    pub fn number(self) -> u8
+        ensures { result ≡ kind_number self }
+    {
+        match self {
+            Kind::Barrier => 0,
+            Kind::Bcast => 1,
+            Kind::Scatter => 2,
+            Kind::Gather => 3,
+            Kind::Reduce => 4,
+            Kind::Allreduce => 5,
+            Kind::Allgather => 6,
+            Kind::Alltoall => 7,
+            Kind::Ibarrier => 8,
+        }
+    }
+
     /// Whether a call of this kind names a root.
     pub fn has_root(self) -> bool
         ensures { IsTrue result ↔ HasRoot self }
@@ -31,7 +50,7 @@ impl Kind {
     }
 }
 
-/// A collective call, with a root, a rank in the group, just where its kind has one.
+/// A blocking collective call, with a root, a rank in the group, just where its kind has one.
 #[derive(Clone, Copy, Debug, PartialEq, Eq)]
 pub struct Collective {
     kind: Kind,
@@ -110,5 +129,6 @@ fn is_root_of(kind: Kind, root: Option<u32>) -> bool
             root,
             Some(0..=0x7FFF_FFFF)
         ),
+        Kind::Ibarrier => false,
     }
 }

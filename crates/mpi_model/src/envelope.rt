@@ -1,13 +1,17 @@
-//! Envelopes of sends and receives (MPI 4.0, 3.2.3).
+//! Envelopes of sends, receives and probes (MPI 4.0, 3.2.3).
 
 ghost use Rattle.std.specs.Prelude.{◌≡◌, ◌↔◌, IsTrue};
 
+mod comm;
 mod exchange;
 mod packed;
+mod probe;
 mod receive;
 mod send;
 
+pub use comm::NamedComm;
 pub use exchange::Exchange;
+pub use probe::ProbeEnvelope;
 pub use receive::ReceiveEnvelope;
 pub use send::SendEnvelope;
 

@@ -35,7 +35,10 @@ mod whole;
 pub use call::Call;
 pub use collective::{Collective, Kind};
 pub use device::{Device, Failed, Read, Write};
-pub use envelope::{CommRef, Envelope, Exchange, Mode, Peer, ReceiveEnvelope, SendEnvelope};
+pub use envelope::{
+    CommRef, Envelope, Exchange, Mode, NamedComm, Peer, ProbeEnvelope, ReceiveEnvelope,
+    SendEnvelope,
+};
 pub use event::{Event, Exit, OpName};
 pub use layout::fault::LayoutFault;
 pub use layout::{Layout, MOST_COMMS, MOST_RANKS, Sends};

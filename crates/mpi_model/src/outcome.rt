@@ -12,9 +12,9 @@ use std::alloc::AllocError;
 #[derive(Debug, Drop)]
 pub enum Outs {
     Nothing,
-    /// The request that an Isend or Irecv posted.
+    /// The request that an Isend, Irecv or Ibarrier posted.
     Posted(i64),
-    /// What the status of a Recv, Sendrecv or Wait tells.
+    /// What the status of a Recv, Sendrecv, Probe or Wait tells.
     Status(Told),
     Statuses(Sources),
     /// The position in the call's list, from 0, of the request that a Waitany completed.

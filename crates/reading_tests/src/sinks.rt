@@ -88,6 +88,10 @@ impl CallSink for SentTo {
         self.add(&call)
     }
 
+    fn on_probe(&mut self, call: Call, _enter: Stamp, _exit: Option<Exit>) -> Result<(), Full> {
+        self.add(&call)
+    }
+
     fn on_wait(&mut self, call: Call, _enter: Stamp, _exit: Option<Exit>) -> Result<(), Full> {
         self.add(&call)
     }
@@ -119,6 +123,10 @@ impl CallSink for SentTo {
         _enter: Stamp,
         _exit: Option<Exit>,
     ) -> Result<(), Full> {
+        self.add(&call)
+    }
+
+    fn on_ibarrier(&mut self, call: Call, _enter: Stamp, _exit: Option<Exit>) -> Result<(), Full> {
         self.add(&call)
     }
 

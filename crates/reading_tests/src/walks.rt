@@ -8,19 +8,21 @@ use std::fmt::Write;
 use std::test::Fail;
 
 /// A function for each callback, in the order of `Tally`.
-static FUNCTIONS: [&str; 12] = [
+static FUNCTIONS: [&str; 14] = [
     "MPI_Ssend",
     "MPI_Ibsend",
     "MPI_Recv",
     "MPI_Irecv",
     "MPI_Sendrecv",
+    "MPI_Probe",
     "MPI_Wait",
     "MPI_Waitall",
     "MPI_Waitany",
     "MPI_Waitsome",
     "MPI_Test",
     "MPI_Reduce",
-    "MPI_Probe",
+    "MPI_Ibarrier",
+    "MPI_Iprobe",
 ];
 
 /// The parameters of all functions of the profile.
@@ -37,25 +39,27 @@ fn put_call(text: &mut String, function: &str, parameters: &str) -> Result<(), F
 }
 
 /// How often each callback was called, in the order of `FUNCTIONS`.
-fn counts(tally: Tally) -> [u64; 12] {
+fn counts(tally: Tally) -> [u64; 14] {
     [
         tally.on_send,
         tally.on_isend,
         tally.on_recv,
         tally.on_irecv,
         tally.on_sendrecv,
+        tally.on_probe,
         tally.on_wait,
         tally.on_waitall,
         tally.on_waitany,
         tally.on_waitsome,
         tally.on_test,
         tally.on_collective,
+        tally.on_ibarrier,
         tally.on_other,
     ]
 }
 
 /// What a walk over two calls of a function counts.
-fn counted(alloc: Global, function: &str) -> Result<[u64; 12], Fail> {
+fn counted(alloc: Global, function: &str) -> Result<[u64; 14], Fail> {
     let mut text = String::new(alloc);
     put_call(&mut text, function, PARAMETERS)?;
     put_call(&mut text, function, PARAMETERS)?;
@@ -67,7 +71,7 @@ fn counted(alloc: Global, function: &str) -> Result<[u64; 12], Fail> {
 #[test]
 fn each_callback_is_counted(rt: HostRuntime) -> Result<(), Fail> {
     for (i, function) in FUNCTIONS.iter().enumerate() {
-        let mut want = [0; 12];
+        let mut want = [0; 14];
         want[i] = 2;
         let found = counted(rt.alloc(), function)?;
         assert!(rt; found == want, "{function}: {found:?}");

@@ -2,7 +2,7 @@
 use Rattle.std.proofs.Common.{◌≡◌, ℕ, Bool, true, ◌&&◌, ◌||◌, List, [], ◌∷◌, map, refl, sym, ◌∙◌, ap, subst, false}
 use Rattle.std.specs.List.{list_any, list_all}
 use Rattle.trace_stuck.specs.declared.condition.Condition.{Condition}
-use Rattle.trace_stuck.specs.declared.condition.Condition.TheOpen.{Condition-F, Yes, Rank, All, One, OneRank}
+use Rattle.trace_stuck.specs.declared.condition.Condition.TheOpen.{Condition-F, Yes, Rank, All, One, OneRank, AllRanks}
 use Rattle.trace_stuck.specs.declared.condition.Condition.TheFolds.{fold-roll-Condition, ind-Condition, map-Condition}
 use Rattle.trace_stuck.specs.declared.condition.Condition.TheViews.{roll-Condition}
 use Rattle.trace_stuck.specs.Holds.{holds_step, holds}
@@ -44,6 +44,11 @@ ranks_over : (able : ℕ → Bool) (ranks : List ℕ) → list_any able ranks �
 ranks_over able [] = refl
 ranks_over able (r ∷ ranks) = ap (λ b. able r || b) (ranks_over able ranks)
 
+-- each of some ranks
+each_over : (able : ℕ → Bool) (ranks : List ℕ) → list_all able ranks ≡ all_over able (waits_of (map OnRank ranks))
+each_over able [] = refl
+each_over able (r ∷ ranks) = ap (λ b. able r && b) (each_over able ranks)
+
 -- one level
 level : (able : ℕ → Bool) (y : Condition-F ((c : Condition) × IsOver able c)) →
     holds able (roll-Condition (map-Condition _ _ (λ e. e.0) y)) ≡ over able (shape (roll-Condition (map-Condition _ _ (λ e. e.0) y)))
@@ -55,6 +60,8 @@ level able (One parts) = fold-roll-Condition Bool (holds_step able) (map-Conditi
     ∙ sym (ap (over able) (fold-roll-Condition Wait shape_step (map-Condition _ _ (λ e. e.0) (One parts))))
 level able (OneRank ranks) = fold-roll-Condition Bool (holds_step able) (OneRank ranks) ∙ ranks_over able ranks.value.items
     ∙ sym (ap (over able) (fold-roll-Condition Wait shape_step (OneRank ranks)))
+level able (AllRanks ranks) = fold-roll-Condition Bool (holds_step able) (AllRanks ranks) ∙ each_over able ranks.value.items
+    ∙ sym (ap (over able) (fold-roll-Condition Wait shape_step (AllRanks ranks)))
 
 holds-shape : (able : ℕ → Bool) (c : Condition) → IsOver able c
 holds-shape able c = ind-Condition (IsOver able) (λ x y is. subst (λ z. IsOver able (roll-Condition z)) is (level able y)) c

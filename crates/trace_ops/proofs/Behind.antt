@@ -7,7 +7,7 @@ use Rattle.std.specs.Ordering.{int_eq}
 use Rattle.std.proofs.lemmas.List.{drop_more}
 use Rattle.std.proofs.lemmas.Option.{slice_get_read}
 use Rattle.mpi_model.specs.declared.call.Call.{Call}
-use Rattle.mpi_model.specs.declared.call.Call.TheVariants.{Isend, Irecv}
+use Rattle.mpi_model.specs.declared.call.Call.TheVariants.{Isend, Irecv, Ibarrier}
 use Rattle.mpi_model.specs.declared.outcome.Outs.{Outs}
 use Rattle.trace_ops.specs.declared.completed.Completed.{Completed}
 use Rattle.trace_ops.specs.declared.touched.Touch.{Touch}
@@ -20,6 +20,7 @@ use Rattle.trace_ops.specs.Touched.{Follows, tells_of, touch_at, with_tellings, 
 pub quiet : (call : Call) (outs : Option Outs) (x : ℤ) → post_of call outs ≡ Some x → completions call outs ≡ []
 quiet (Isend mode e) outs x h = refl
 quiet (Irecv e) outs x h = refl
+quiet (Ibarrier c) outs x h = refl
 quiet call outs x h = absurd (cc)
 
 drop_tail : {X : Type 0} (whole : List X) (i : ℕ) (x : X) (rest : List X) → drop i whole ≡ x ∷ rest → drop (i + 1) whole ≡ rest

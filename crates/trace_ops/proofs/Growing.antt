@@ -7,7 +7,7 @@ use Rattle.mpi_model.specs.declared.envelope.Envelope.{Envelope}
 use Rattle.mpi_model.specs.declared.envelope.Peer.{Peer}
 use Rattle.mpi_model.specs.declared.envelope.Peer.TheVariants.{Any, Null, Rank}
 use Rattle.mpi_model.specs.declared.call.Call.{Call}
-use Rattle.mpi_model.specs.declared.call.Call.TheVariants.{Recv, Irecv, Isend, Sendrecv, Wait, Waitall, Waitany, Waitsome, Test}
+use Rattle.mpi_model.specs.declared.call.Call.TheVariants.{Recv, Irecv, Isend, Ibarrier, Sendrecv, Wait, Waitall, Waitany, Waitsome, Test}
 use Rattle.mpi_model.specs.declared.outcome.Outs.{Outs}
 use Rattle.mpi_model.specs.declared.message.Receive.{Receive}
 use Rattle.mpi_model.specs.Layouts.{Parts}
@@ -59,6 +59,7 @@ module _ {Y : Type 0} (f : ℕ → Call → Option Y) where
 post_none : (call : Call) → post_of call None ≡ None
 post_none (Isend mode e) = refl
 post_none (Irecv e) = refl
+post_none (Ibarrier c) = refl
 post_none call = refl
 
 complete_none : (call : Call) → completions call None ≡ []

@@ -1,5 +1,5 @@
--- The receives of a rank, with their told sources (MPI 4.0, 3.2.4, 3.7.2 and 3.10).
-use Rattle.std.specs.Prelude.{ℕ, if◌then◌else◌, Option, Some, None, List, slice_get}
+-- The receives of a rank, with their told sources (MPI 4.0, 3.2.4, 3.7.2, 3.8.1 and 3.10).
+use Rattle.std.specs.Prelude.{ℕ, pos, if◌then◌else◌, Option, Some, None, List, slice_get}
 use Rattle.std.specs.List.{filter_map}
 use Rattle.mpi_model.specs.declared.envelope.Envelope.{Envelope}
 use Rattle.mpi_model.specs.declared.envelope.Peer.{Peer}
@@ -8,6 +8,7 @@ use Rattle.mpi_model.specs.declared.call.Call.{Call}
 use Rattle.mpi_model.specs.declared.call.Call.TheVariants.{Recv, Irecv, Sendrecv}
 use Rattle.mpi_model.specs.declared.message.Receive.{Receive}
 use Rattle.mpi_model.specs.Layouts.{Parts}
+use Rattle.mpi_model.specs.Ranges.{Probed}
 use Rattle.trace_ops.specs.Calls.{Entry, Numbered, numbered}
 use Rattle.trace_ops.specs.Foreign.{number_of, group, is_foreign}
 use Rattle.trace_ops.specs.Request.{posted_by}
@@ -33,6 +34,10 @@ taken_from layout rank n e told (Rank p) = Some (receive_from layout rank n e (s
 
 abbrev pub taken_with : Parts → ℕ → ℕ → Envelope → Option ℕ → Option Receive
 taken_with layout rank n e told = taken_from layout rank n e told e.peer
+
+-- The receive as which a probe looks for a message: with its source, or untold where it names any. It takes nothing.
+abbrev pub probed : Parts → ℕ → ℕ → Probed → Option Receive
+probed layout rank n e = taken_with layout rank n (record { peer = e.source; tag = e.tag; comm = e.comm; count = 0; datatype = pos 0 }) None
 
 -- the receive that a call posts, were it not foreign
 abbrev pub taken_by : Parts → ℕ → ℕ → Entry → List Entry → Call → Option Receive

@@ -1,20 +1,21 @@
--- Requests: which call posts them, which outcomes complete them, and which are active (MPI 4.0, 3.7.2, 3.7.3 and 3.7.5).
+-- Requests: which call posts them, which outcomes complete them, and which are active (MPI 4.0, 3.7.2, 3.7.3, 3.7.5 and 6.12.1).
 use Rattle.std.specs.Prelude.{ℕ, ℤ, Bool, false, ◌||◌, if◌then◌else◌, Option, Some, None, List, [], ◌∷◌, slice_get}
 use Rattle.std.specs.List.{list_any, filter_map}
 use Rattle.std.specs.Option.{option_map}
 use Rattle.std.specs.Ordering.{int_eq}
 use Rattle.mpi_model.specs.declared.call.Call.{Call}
-use Rattle.mpi_model.specs.declared.call.Call.TheVariants.{Isend, Irecv, Wait, Waitall, Waitany, Waitsome, Test}
+use Rattle.mpi_model.specs.declared.call.Call.TheVariants.{Isend, Irecv, Ibarrier, Wait, Waitall, Waitany, Waitsome, Test}
 use Rattle.mpi_model.specs.declared.outcome.Outs.{Outs}
 use Rattle.mpi_model.specs.declared.outcome.Outs.TheVariants.{Posted, Status, Statuses, Index, Several, Flag}
 use Rattle.mpi_model.specs.declared.list.elements.Element.{Element}
 use Rattle.trace_ops.specs.declared.completed.Completed.{Completed}
 use Rattle.trace_ops.specs.Calls.{Entry, Numbered, numbered}
 
--- the number that a returned call posts: that of an Isend or Irecv, foreign or not
+-- the number that a returned call posts: that of an Isend, Irecv or Ibarrier, foreign or not
 abbrev pub post_of : Call → Option Outs → Option ℤ
 post_of (Isend mode e) (Some (Posted request)) = Some request
 post_of (Irecv e) (Some (Posted request)) = Some request
+post_of (Ibarrier c) (Some (Posted request)) = Some request
 post_of call outs = None
 
 abbrev pub posted_by : Entry → Option ℤ

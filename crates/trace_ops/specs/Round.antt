@@ -1,8 +1,9 @@
--- The entries of a rank into collective calls (MPI 4.0, 6.1 and 6.14).
+-- The entries of a rank into collective calls (MPI 4.0, 6.1, 6.12 and 6.14).
 use Rattle.std.specs.Prelude.{ℕ, if◌then◌else◌, Option, Some, None, List}
 use Rattle.std.specs.List.{filter_map}
 use Rattle.mpi_model.specs.declared.call.Call.{Call}
-use Rattle.mpi_model.specs.declared.call.Call.TheVariants.{Collective}
+use Rattle.mpi_model.specs.declared.call.Call.TheVariants.{Collective, Ibarrier}
+use Rattle.mpi_model.specs.declared.collective.Kind.TheVariants as kinds
 use Rattle.mpi_model.specs.Layouts.{Parts}
 use Rattle.trace_ops.specs.declared.entered.Entered.{Entered}
 use Rattle.trace_ops.specs.Calls.{Entry, numbered}
@@ -11,6 +12,7 @@ use Rattle.trace_ops.specs.Foreign.{number_of, is_foreign}
 -- the entry of a call, were it not foreign
 abbrev pub entered_by : Parts → ℕ → Call → Option Entered
 entered_by layout n (Collective c) = Some (record { comm = number_of layout c.comm; kind = c.kind; root = c.root; call = n })
+entered_by layout n (Ibarrier c) = Some (record { comm = number_of layout c; kind = kinds.Ibarrier; root = None; call = n })
 entered_by layout n call = None
 
 -- the entry of a collective call: foreign calls are none

@@ -23,6 +23,7 @@ pub(crate) fn post_of(call: &Call, outs: Option<&Outs>) -> Option<i64>
     match (call, outs) {
         (Call::Isend(_, _), Some(Outs::Posted(request))) => Some(*request),
         (Call::Irecv(_), Some(Outs::Posted(request))) => Some(*request),
+        (Call::Ibarrier(_), Some(Outs::Posted(request))) => Some(*request),
         _ => None,
     }
 }

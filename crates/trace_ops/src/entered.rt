@@ -2,7 +2,7 @@
 
 use mpi_model::Kind;
 
-/// A collective call that a rank entered (MPI 4.0, 6.1). Communicators are named by their numbers.
+/// A collective call that a rank entered, blocking or not (MPI 4.0, 6.1 and 6.12). Communicators are named by their numbers.
 #[derive(Clone, Copy, Debug, PartialEq, Eq)]
 pub struct Entered {
     pub comm: u32,

@@ -91,6 +91,8 @@ pub(crate) fn is_foreign(layout: &Layout, rank: u32, call: &Call) -> bool
                 && is_placed_envelope(layout, rank, both.receive()))
         }
         Call::Collective(c) => !is_placed(group(layout, c.comm()), rank, c.root()),
+        Call::Probe(e) => !is_placed(group(layout, e.comm()), rank, named(e.source())),
+        Call::Ibarrier(c) => !is_placed(group(layout, c.comm()), rank, None),
         Call::Local
         | Call::Finalize
         | Call::Wait(_)

@@ -11,7 +11,7 @@
 //! - [`completed`], [`called`]: its calls, with the requests that their outcomes complete
 //! - [`group`]: the groups that calls name, and the calls that the layout doesn't know
 //! - [`message`]: messages and collective entries; [`touched`], [`receive`]: receives with their
-//!   told sources, and active requests
+//!   told sources, active requests, and what a probe looks for
 //! - [`rank_state`]: how a rank stands
 //! - `ops::gather`: the way from what is known to all of that
 //! - [`laws`]: how a rank's ops grow with its readable events, as contracts of calls that do nothing
@@ -34,4 +34,5 @@ mod touched;
 pub use entered::Entered;
 pub use laws::{join_law, ops_laws};
 pub use ops::{RankOps, all_ops, ops_of};
+pub use receive::probed;
 pub use state::State;

@@ -6,7 +6,7 @@ ghost use Rattle.trace_ops.specs.Round.{entered_by, entered_of};
 
 use crate::entered::Entered;
 use crate::group::{group, is_foreign, named, number_of};
-use mpi_model::{Call, Envelope, Layout, Message, Mode, OpName};
+use mpi_model::{Call, Envelope, Kind, Layout, Message, Mode, OpName};
 
 fn tag_of(tag: Option<u32>) -> u32
     ensures { result ≡ tag_of tag }
@@ -70,6 +70,12 @@ fn entered_by(layout: &Layout, n: u64, call: &Call) -> Option<Entered>
             comm: number_of(layout, c.comm()),
             kind: c.kind(),
             root: c.root(),
+            call: n,
+        }),
+        Call::Ibarrier(c) => Some(Entered {
+            comm: number_of(layout, c.comm()),
+            kind: Kind::Ibarrier,
+            root: None,
             call: n,
         }),
         _ => None,

@@ -17,12 +17,14 @@ fn may_block(call: &Call) -> bool
         Call::Send(_, _)
         | Call::Recv(_)
         | Call::Sendrecv(_)
+        | Call::Probe(_)
         | Call::Wait(_)
         | Call::Waitall(_)
         | Call::Waitany(_)
         | Call::Waitsome(_)
         | Call::Collective(_) => true,
-        Call::Local | Call::Finalize | Call::Isend(_, _) | Call::Irecv(_) | Call::Test(_) => false,
+        Call::Local | Call::Finalize | Call::Test(_) => false,
+        Call::Isend(_, _) | Call::Irecv(_) | Call::Ibarrier(_) => false,
     }
 }
 

@@ -1,11 +1,11 @@
-//! The receives of a rank, with their told sources, and its active requests.
+//! The receives of a rank, with their told sources, its active requests, and what a probe looks for.
 
 ghost use Rattle.std.specs.Prelude.{◌≡◌, List, slice_get};
 ghost use Rattle.std.specs.Option.{option_copied};
 ghost use Rattle.indexmap.specs.IndexMap.{get};
 ghost use Rattle.std.specs.Ordering.{int_eq};
 ghost use Rattle.trace_ops.specs.Calls.{Entry};
-ghost use Rattle.trace_ops.specs.Receive.{receive_from, receive_of, taken_by, taken_with};
+ghost use Rattle.trace_ops.specs.Receive.{probed, receive_from, receive_of, taken_by, taken_with};
 ghost use Rattle.trace_ops.specs.Request.{active_post};
 ghost use Rattle.trace_ops.specs.Source.{told_of_own, told_of_post};
 ghost use Rattle.trace_ops.specs.Touched.{Follows};
@@ -13,7 +13,7 @@ ghost use Rattle.trace_ops.specs.Touched.{Follows};
 use crate::called::Called;
 use crate::group::{group, is_foreign, number_of};
 use crate::touched::{Touched, source_in, told_by};
-use mpi_model::{Call, Envelope, Layout, OpName, Outs, Peer, Receive};
+use mpi_model::{Call, Envelope, Layout, OpName, Outs, Peer, ProbeEnvelope, Receive};
 
 fn receive_from(layout: &Layout, rank: u32, n: u64, e: Envelope, source: Option<u32>) -> Receive
     ensures { result ≡ receive_from layout.now rank n e source }
@@ -40,6 +40,22 @@ fn taken_with(layout: &Layout, rank: u32, n: u64, e: Envelope, told: Option<u32>
             Some(receive_from(layout, rank, n, e, source))
         }
     }
+}
+
+/// The receive as which the Probe of call `n` looks for a message: with its source, or with none
+/// where it names any. A probe of the null process looks for none. It takes nothing, so no list of
+/// receives has it (MPI 4.0, 3.8.1).
+pub fn probed(layout: &Layout, rank: u32, n: u64, envelope: ProbeEnvelope) -> Option<Receive>
+    ensures { result ≡ probed layout.now rank n envelope }
+{
+    let asked = Envelope {
+        peer: envelope.source(),
+        tag: envelope.tag(),
+        comm: envelope.comm(),
+        count: 0,
+        datatype: 0,
+    };
+    taken_with(layout, rank, n, asked, None)
 }
 
 /// What the outcome of a Recv or Sendrecv tells.

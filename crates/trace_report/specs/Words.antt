@@ -1,7 +1,7 @@
 -- The words of a report.
 use Rattle.std.specs.Prelude.{Bool, List, [], ℕ, codes, if◌then◌else◌}
 use Rattle.mpi_model.specs.declared.collective.Kind.{Kind}
-use Rattle.mpi_model.specs.declared.collective.Kind.TheVariants.{Barrier, Bcast, Scatter, Gather, Reduce, Allreduce, Allgather, Alltoall}
+use Rattle.mpi_model.specs.declared.collective.Kind.TheVariants.{Barrier, Bcast, Scatter, Gather, Reduce, Allreduce, Allgather, Alltoall, Ibarrier}
 use Rattle.mpi_model.specs.declared.layout.Sends.{Sends}
 use Rattle.mpi_model.specs.declared.layout.Sends.TheVariants.{Wait, Buffer}
 use Rattle.trace_ops.specs.declared.state.State.{State}
@@ -28,6 +28,7 @@ kind_word Reduce = codes "reduce"
 kind_word Allreduce = codes "allreduce"
 kind_word Allgather = codes "allgather"
 kind_word Alltoall = codes "alltoall"
+kind_word Ibarrier = codes "ibarrier"
 
 -- a word that stands only where it applies
 abbrev pub where_so : Bool → List ℕ → List ℕ

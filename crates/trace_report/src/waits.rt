@@ -19,7 +19,8 @@ pub(crate) fn put_wait<S: Sink>(out: &mut S, condition: &Condition)
         Condition::Rank(r) => put_number(out, *r as u64),
         Condition::All(parts) => put_list(out, b"all(", parts),
         Condition::One(parts) => put_list(out, b"any(", parts),
-        Condition::OneRank(ranks) => put_one_rank(out, ranks),
+        Condition::OneRank(ranks) => put_rank_list(out, b"any(", ranks),
+        Condition::AllRanks(ranks) => put_rank_list(out, b"all(", ranks),
     }
 }
 
@@ -49,10 +50,10 @@ fn put_part<S: Sink>(out: &mut S, i: usize, part: &Condition)
     put_wait(out, part);
 }
 
-fn put_one_rank<S: Sink>(out: &mut S, ranks: &[u32])
-    ensures { Prints (S.page out.old) (S.page out.new) (codes "any(" ++ parts_text (waits_of (map OnRank ranks.now)) ++ codes ")") }
+fn put_rank_list<S: Sink>(out: &mut S, head: &[u8], ranks: &[u32])
+    ensures { Prints (S.page out.old) (S.page out.new) (head.now ++ parts_text (waits_of (map OnRank ranks.now)) ++ codes ")") }
 {
-    out.put(b"any(");
+    out.put(head);
     put_ranks(out, ranks);
     out.put(b")");
 }

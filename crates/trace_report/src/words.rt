@@ -54,5 +54,6 @@ pub(crate) fn kind_word(kind: Kind) -> &'static [u8]
         Kind::Allreduce => b"allreduce",
         Kind::Allgather => b"allgather",
         Kind::Alltoall => b"alltoall",
+        Kind::Ibarrier => b"ibarrier",
     }
 }

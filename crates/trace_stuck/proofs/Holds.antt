@@ -3,7 +3,7 @@ use Rattle.std.proofs.Common.{Vec, Global, ◌⊎◌, subst, ◌≡◌, ℕ, Boo
 use Rattle.std.specs.List.{list_any, list_all}
 use Rattle.std.specs.declared.sync.Arc.{Arc}
 use Rattle.trace_stuck.specs.declared.condition.Condition.{Condition}
-use Rattle.trace_stuck.specs.declared.condition.Condition.TheOpen.{Condition-F, Yes, Rank, All, One, OneRank}
+use Rattle.trace_stuck.specs.declared.condition.Condition.TheOpen.{Condition-F, Yes, Rank, All, One, OneRank, AllRanks}
 use Rattle.trace_stuck.specs.declared.condition.Condition.TheFolds.{fold-roll-Condition, ind-Condition, map-Condition}
 use Rattle.trace_stuck.specs.declared.condition.Condition.TheViews.{out-Condition, roll-Condition}
 use Rattle.trace_stuck.specs.declared.condition.Condition.TheViews as views
@@ -42,6 +42,7 @@ level able (Rank r) = able r
 level able (All parts) = list_all (holds able) parts.items
 level able (One parts) = list_any (holds able) parts.items
 level able (OneRank ranks) = list_any able ranks.value.items
+level able (AllRanks ranks) = list_all able ranks.value.items
 
 pub holds_roll : (able : ℕ → Bool) (x : Condition-F Condition) → holds able (roll-Condition x) ≡ level able x
 holds_roll able Yes = fold-roll-Condition Bool (holds_step able) Yes
@@ -49,6 +50,7 @@ holds_roll able (Rank r) = fold-roll-Condition Bool (holds_step able) (Rank r)
 holds_roll able (All parts) = fold-roll-Condition Bool (holds_step able) (All parts) ∙ all_map (holds able) parts.items
 holds_roll able (One parts) = fold-roll-Condition Bool (holds_step able) (One parts) ∙ any_map (holds able) parts.items
 holds_roll able (OneRank ranks) = fold-roll-Condition Bool (holds_step able) (OneRank ranks)
+holds_roll able (AllRanks ranks) = fold-roll-Condition Bool (holds_step able) (AllRanks ranks)
 
 pub holds_All : (able : ℕ → Bool) (parts : Vec Condition Global) → holds able (views.All parts) ≡ list_all (holds able) parts.items
 holds_All able parts = ap (holds able) (sym (views.rolls-All parts)) ∙ holds_roll able (All parts)
@@ -58,6 +60,9 @@ holds_One able parts = ap (holds able) (sym (views.rolls-One parts)) ∙ holds_r
 
 pub holds_OneRank : (able : ℕ → Bool) (ranks : Arc (Vec ℕ Global) Global) → holds able (views.made-OneRank ranks) ≡ list_any able ranks.value.items
 holds_OneRank able ranks = ap (holds able) (sym (views.rolls-OneRank ranks)) ∙ holds_roll able (OneRank ranks)
+
+pub holds_AllRanks : (able : ℕ → Bool) (ranks : Arc (Vec ℕ Global) Global) → holds able (views.made-AllRanks ranks) ≡ list_all able ranks.value.items
+holds_AllRanks able ranks = ap (holds able) (sym (views.rolls-AllRanks ranks)) ∙ holds_roll able (AllRanks ranks)
 
 -- where more ranks can go on, no fewer conditions hold
 abbrev IsMonotone : (ℕ → Bool) → (ℕ → Bool) → Condition → Type 0
@@ -81,6 +86,12 @@ some_more able more h (r ∷ ranks) g =
     ⊎_elim (λ a. or_left (more r) (list_any more ranks) (h r a)) (λ b. or_right (more r) (list_any more ranks) (some_more able more h ranks b))
     (either (able r) (list_any able ranks) g)
 
+each_more : (able more : ℕ → Bool) (h : (r : ℕ) → able r ≡ true → more r ≡ true) (ranks : List ℕ) → list_all able ranks ≡ true → list_all more ranks ≡ true
+each_more able more h [] g = refl
+each_more able more h (r ∷ ranks) g =
+    let p = both (able r) (list_all able ranks) g in
+    and_true (more r) (list_all more ranks) (h r p.0) (each_more able more h ranks p.1)
+
 -- y is x with a proof beside each part
 level_more : (able more : ℕ → Bool) (h : (r : ℕ) → able r ≡ true → more r ≡ true) (y : Condition-F ((c : Condition) × IsMonotone able more c)) →
     level able (map-Condition _ _ (λ e. e.0) y) ≡ true → level more (map-Condition _ _ (λ e. e.0) y) ≡ true
@@ -89,6 +100,7 @@ level_more able more h (Rank r) g = h r g
 level_more able more h (All parts) g = all_more able more parts.items g
 level_more able more h (One parts) g = any_more able more parts.items g
 level_more able more h (OneRank ranks) g = some_more able more h ranks.value.items g
+level_more able more h (AllRanks ranks) g = each_more able more h ranks.value.items g
 
 pub monotone : (able more : ℕ → Bool) (c : Condition) → ((r : ℕ) → able r ≡ true → more r ≡ true) → holds able c ≡ true → holds more c ≡ true
 monotone able more c h = ind-Condition (IsMonotone able more) (λ x y is g.

@@ -5,7 +5,7 @@ use Rattle.std.specs.declared.sync.Arc.{Arc}
 use Rattle.std.proofs.lemmas.List.Folds.{list_any-append, flat_map-map}
 use Rattle.std.proofs.lemmas.Bool.Decides.{nat_tests}
 use Rattle.trace_stuck.specs.declared.condition.Condition.{Condition}
-use Rattle.trace_stuck.specs.declared.condition.Condition.TheOpen.{Condition-F, Yes, Rank, All, One, OneRank}
+use Rattle.trace_stuck.specs.declared.condition.Condition.TheOpen.{Condition-F, Yes, Rank, All, One, OneRank, AllRanks}
 use Rattle.trace_stuck.specs.declared.condition.Condition.TheFolds.{fold-roll-Condition, ind-Condition, map-Condition}
 use Rattle.trace_stuck.specs.declared.condition.Condition.TheViews.{out-Condition, roll-Condition}
 use Rattle.trace_stuck.specs.declared.condition.Condition.TheViews as views
@@ -23,6 +23,7 @@ named_level (Rank r) = r ∷ []
 named_level (All parts) = flat_map named parts.items
 named_level (One parts) = flat_map named parts.items
 named_level (OneRank ranks) = ranks.value.items
+named_level (AllRanks ranks) = ranks.value.items
 
 named_roll : (x : Condition-F Condition) → named (roll-Condition x) ≡ named_level x
 named_roll Yes = fold-roll-Condition (List ℕ) named_step Yes
@@ -30,6 +31,7 @@ named_roll (Rank r) = fold-roll-Condition (List ℕ) named_step (Rank r)
 named_roll (All parts) = fold-roll-Condition (List ℕ) named_step (All parts) ∙ flat_parts parts.items
 named_roll (One parts) = fold-roll-Condition (List ℕ) named_step (One parts) ∙ flat_parts parts.items
 named_roll (OneRank ranks) = fold-roll-Condition (List ℕ) named_step (OneRank ranks)
+named_roll (AllRanks ranks) = fold-roll-Condition (List ℕ) named_step (AllRanks ranks)
 
 pub named_Rank : (r : ℕ) → named (views.made-Rank r) ≡ r ∷ []
 named_Rank r = ap named (sym (views.rolls-Rank r)) ∙ named_roll (Rank r)
@@ -43,7 +45,10 @@ named_One parts = ap named (sym (views.rolls-One parts)) ∙ named_roll (One par
 pub named_OneRank : (ranks : Arc (Vec ℕ Global) Global) → named (views.made-OneRank ranks) ≡ ranks.value.items
 named_OneRank ranks = ap named (sym (views.rolls-OneRank ranks)) ∙ named_roll (OneRank ranks)
 
-pub ruleset named_rules = (named_Rank, named_All, named_One, named_OneRank)
+pub named_AllRanks : (ranks : Arc (Vec ℕ Global) Global) → named (views.made-AllRanks ranks) ≡ ranks.value.items
+named_AllRanks ranks = ap named (sym (views.rolls-AllRanks ranks)) ∙ named_roll (AllRanks ranks)
+
+pub ruleset named_rules = (named_Rank, named_All, named_One, named_OneRank, named_AllRanks)
 
 pub and_false : (a b : Bool) → (a && b) ≡ false → (a ≡ false) ⊎ (b ≡ false)
 and_false true b h = inr h
@@ -100,6 +105,16 @@ module _ (able more : ℕ → Bool) (q : ℕ) where
       (λ (b : list_any more ranks ≡ true). or_right (eqb r q) (among ranks q) (some_new new ranks b p.1))
       (either (more r) (list_any more ranks) h)
 
+  -- so it is among those of which each can go on
+  each_new : ((s : ℕ) → more s ≡ true → (able s ≡ true) ⊎ (q ≡ s)) → (ranks : List ℕ) → list_all more ranks ≡ true → list_all able ranks ≡ false → among ranks q ≡ true
+  each_new new [] h k = absurd (cc)
+  each_new new (r ∷ ranks) h k =
+      let p = both (more r) (list_all more ranks) h in
+      ⊎_elim
+      (λ (a : able r ≡ false). ⊎_elim (λ (b : able r ≡ true). absurd (cc)) (λ (e : q ≡ r). or_left (eqb r q) (among ranks q) (subst (λ (x : ℕ). eqb x q ≡ true) e (grind (arith, nat_tests)))) (new r p.0))
+      (λ (b : list_all able ranks ≡ false). or_right (eqb r q) (among ranks q) (each_new new ranks p.1 b))
+      (and_false (able r) (list_all able ranks) k)
+
   level_new : ((s : ℕ) → more s ≡ true → (able s ≡ true) ⊎ (q ≡ s)) → (y : Condition-F ((c : Condition) × NamesNew c)) →
       level more (map-Condition _ _ (λ e. e.0) y) ≡ true → level able (map-Condition _ _ (λ e. e.0) y) ≡ false →
       among (named_level (map-Condition _ _ (λ e. e.0) y)) q ≡ true
@@ -109,6 +124,7 @@ module _ (able more : ℕ → Bool) (q : ℕ) where
   level_new new (All parts) h k = all_new parts.items h k
   level_new new (One parts) h k = any_new parts.items h k
   level_new new (OneRank ranks) h k = some_new new ranks.value.items h k
+  level_new new (AllRanks ranks) h k = each_new new ranks.value.items h k
 
   pub names_new : ((s : ℕ) → more s ≡ true → (able s ≡ true) ⊎ (q ≡ s)) → (c : Condition) → NamesNew c
   names_new new c = ind-Condition NamesNew (λ x y is h k.

@@ -2,10 +2,10 @@
 use Rattle.std.proofs.Common.{Vec, Global, ◌≡◌, ℕ, zero, suc, ◌<◌, Bool, List, [], ◌∷◌, ◌++◌, IsTrue, map, length, get_or, refl, sym, ◌∙◌, ap, arith}
 use Rattle.std.specs.declared.sync.Arc.{Arc}
 use Rattle.trace_stuck.specs.declared.condition.Condition.{Condition}
-use Rattle.trace_stuck.specs.declared.condition.Condition.TheOpen.{Rank, All, One, OneRank}
+use Rattle.trace_stuck.specs.declared.condition.Condition.TheOpen.{Rank, All, One, OneRank, AllRanks}
 use Rattle.trace_stuck.specs.declared.condition.Condition.TheFolds.{fold-roll-Condition}
 use Rattle.trace_stuck.specs.declared.condition.Condition.TheViews as views
-use Rattle.trace_stuck.specs.Shape.{Wait, OnRank, OnAll, OnOne, waits_of, shape_step, shape}
+use Rattle.trace_stuck.specs.Shape.{Wait, Waits, OnRank, OnAll, OnOne, waits_of, shape_step, shape}
 
 pub shape_Rank : (r : ℕ) → shape (views.made-Rank r) ≡ OnRank r
 shape_Rank r = ap shape (sym (views.rolls-Rank r)) ∙ fold-roll-Condition Wait shape_step (Rank r)
@@ -19,11 +19,14 @@ shape_One parts = ap shape (sym (views.rolls-One parts)) ∙ fold-roll-Condition
 pub shape_OneRank : (ranks : Arc (Vec ℕ Global) Global) → shape (views.made-OneRank ranks) ≡ OnOne (waits_of (map OnRank ranks.value.items))
 shape_OneRank ranks = ap shape (sym (views.rolls-OneRank ranks)) ∙ fold-roll-Condition Wait shape_step (OneRank ranks)
 
+pub shape_AllRanks : (ranks : Arc (Vec ℕ Global) Global) → shape (views.made-AllRanks ranks) ≡ OnAll (waits_of (map OnRank ranks.value.items))
+shape_AllRanks ranks = ap shape (sym (views.rolls-AllRanks ranks)) ∙ fold-roll-Condition Wait shape_step (AllRanks ranks)
+
 pub map_push : {X Y : Type 0} (f : X → Y) (xs : List X) (x : X) → map f (xs ++ x ∷ []) ≡ map f xs ++ f x ∷ []
 map_push f [] x = refl
 map_push {Y = Y} f (y ∷ ys) x = ap (λ (l : List Y). f y ∷ l) (map_push f ys x)
 
-pub ruleset shapes = (shape_Rank, shape_All, shape_One, shape_OneRank, map_push)
+pub ruleset shapes = (shape_Rank, shape_All, shape_One, shape_OneRank, shape_AllRanks, map_push)
 
 -- parts are known by the list that they make
 one_waits : (xs ys : List Wait) → waits_of xs ≡ waits_of ys → xs ≡ ys
@@ -75,37 +78,42 @@ module _ (first second : Condition) (parts others : Vec Condition Global) (xs ys
         test.1 (back (one_waits (map shape parts.items) (map shape others.items) w)),
   )
 
--- a test of a list of ranks is a test of the whole, whether the ranks stand as parts or as a list
-module _ (first second : Condition) (b : Bool) where
-  pub same_parts_ranks : (parts : Vec Condition Global) (ranks : Arc (Vec ℕ Global) Global) (xs : List Condition) (ys : List ℕ) → xs ≡ parts.items → ys ≡ ranks.value.items →
+pub one_of : (x y : Waits) → OnOne x ≡ OnOne y → x ≡ y
+one_of x y h = cc
+
+pub all_of : (x y : Waits) → OnAll x ≡ OnAll y → x ≡ y
+all_of x y h = cc
+
+-- A test of a list of ranks is a test of the whole, whether the ranks stand as parts or as a list, and whether one or all
+-- of them are waited for.
+module _ (on : Waits → Wait) (same_on : (x y : Waits) → on x ≡ on y → x ≡ y) (first second : Condition) (b : Bool) where
+  pub same_parts_ranks : (parts : List Condition) (ranks : List ℕ) (xs : List Condition) (ys : List ℕ) → xs ≡ parts → ys ≡ ranks →
       (test : (IsTrue b → map shape xs ≡ map OnRank ys) × (map shape xs ≡ map OnRank ys → IsTrue b)) →
-      first ≡ views.One parts → second ≡ views.made-OneRank ranks → (IsTrue b → shape first ≡ shape second) × (shape first ≡ shape second → IsTrue b)
+      shape first ≡ on (waits_of (map shape parts)) → shape second ≡ on (waits_of (map OnRank ranks)) → (IsTrue b → shape first ≡ shape second) × (shape first ≡ shape second → IsTrue b)
   same_parts_ranks parts ranks xs ys x_is y_is test f s =
-      let there : map shape xs ≡ map shape parts.items = ap (map shape) x_is in
-      let others : map OnRank ys ≡ map OnRank ranks.value.items = ap (map OnRank) y_is in (
-        λ h. ap shape f ∙ shape_One parts ∙ ap (λ (l : List Wait). OnOne (waits_of l)) (sym there ∙ test.0 h ∙ others) ∙ sym (shape_OneRank ranks) ∙ sym (ap shape s),
+      let there : map shape xs ≡ map shape parts = ap (map shape) x_is in
+      let others : map OnRank ys ≡ map OnRank ranks = ap (map OnRank) y_is in (
+        λ h. f ∙ ap (λ (l : List Wait). on (waits_of l)) (sym there ∙ test.0 h ∙ others) ∙ sym s,
         λ h.
-            let e : OnOne (waits_of (map shape parts.items)) ≡ OnOne (waits_of (map OnRank ranks.value.items)) = sym (shape_One parts) ∙ sym (ap shape f) ∙ h ∙ ap shape s ∙ shape_OneRank ranks in
-            let w : waits_of (map shape parts.items) ≡ waits_of (map OnRank ranks.value.items) = cc in
-            test.1 (there ∙ one_waits (map shape parts.items) (map OnRank ranks.value.items) w ∙ sym others),
+            let w = same_on (waits_of (map shape parts)) (waits_of (map OnRank ranks)) (sym f ∙ h ∙ s) in
+            test.1 (there ∙ one_waits (map shape parts) (map OnRank ranks) w ∙ sym others),
       )
 
-  pub same_ranks : (ranks others : Arc (Vec ℕ Global) Global) (xs ys : List ℕ) → xs ≡ ranks.value.items → ys ≡ others.value.items →
+  pub same_ranks : (ranks others xs ys : List ℕ) → xs ≡ ranks → ys ≡ others →
       (test : (IsTrue b → xs ≡ ys) × (xs ≡ ys → IsTrue b)) →
-      first ≡ views.made-OneRank ranks → second ≡ views.made-OneRank others → (IsTrue b → shape first ≡ shape second) × (shape first ≡ shape second → IsTrue b)
+      shape first ≡ on (waits_of (map OnRank ranks)) → shape second ≡ on (waits_of (map OnRank others)) → (IsTrue b → shape first ≡ shape second) × (shape first ≡ shape second → IsTrue b)
   same_ranks ranks others xs ys x_is y_is test f s = (
-    λ h. ap shape f ∙ shape_OneRank ranks ∙ ap (λ (l : List ℕ). OnOne (waits_of (map OnRank l))) (sym x_is ∙ test.0 h ∙ y_is) ∙ sym (shape_OneRank others) ∙ sym (ap shape s),
+    λ h. f ∙ ap (λ (l : List ℕ). on (waits_of (map OnRank l))) (sym x_is ∙ test.0 h ∙ y_is) ∙ sym s,
     λ h.
-        let e : OnOne (waits_of (map OnRank ranks.value.items)) ≡ OnOne (waits_of (map OnRank others.value.items)) = sym (shape_OneRank ranks) ∙ sym (ap shape f) ∙ h ∙ ap shape s ∙ shape_OneRank others in
-        let w : waits_of (map OnRank ranks.value.items) ≡ waits_of (map OnRank others.value.items) = cc in
-        test.1 (x_is ∙ one_ranks ranks.value.items others.value.items (one_waits (map OnRank ranks.value.items) (map OnRank others.value.items) w) ∙ sym y_is),
+        let w = same_on (waits_of (map OnRank ranks)) (waits_of (map OnRank others)) (sym f ∙ h ∙ s) in
+        test.1 (x_is ∙ one_ranks ranks others (one_waits (map OnRank ranks) (map OnRank others) w) ∙ sym y_is),
   )
 
-pub same_ranks_parts : (first second : Condition) (b : Bool) (ranks : Arc (Vec ℕ Global) Global) (parts : Vec Condition Global) (xs : List Condition) (ys : List ℕ) → xs ≡ parts.items → ys ≡ ranks.value.items →
+pub same_ranks_parts : (on : Waits → Wait) (same_on : (x y : Waits) → on x ≡ on y → x ≡ y) (first second : Condition) (b : Bool) (ranks : List ℕ) (parts : List Condition) (xs : List Condition) (ys : List ℕ) → xs ≡ parts → ys ≡ ranks →
     (test : (IsTrue b → map shape xs ≡ map OnRank ys) × (map shape xs ≡ map OnRank ys → IsTrue b)) →
-    first ≡ views.made-OneRank ranks → second ≡ views.One parts → (IsTrue b → shape first ≡ shape second) × (shape first ≡ shape second → IsTrue b)
-same_ranks_parts first second b ranks parts xs ys x_is y_is test f s =
-    let back = same_parts_ranks second first b parts ranks xs ys x_is y_is test s f in
+    shape first ≡ on (waits_of (map OnRank ranks)) → shape second ≡ on (waits_of (map shape parts)) → (IsTrue b → shape first ≡ shape second) × (shape first ≡ shape second → IsTrue b)
+same_ranks_parts on same_on first second b ranks parts xs ys x_is y_is test f s =
+    let back = same_parts_ranks on same_on second first b parts ranks xs ys x_is y_is test s f in
     (λ h. sym (back.0 h), λ h. back.1 (sym h))
 
 -- one part that is not the rank at its place

@@ -2,7 +2,7 @@
 use Rattle.std.specs.Prelude.{ℕ, Bool, true, false, Option, Some, List, slice_get}
 use Rattle.std.specs.List.{list_any, list_all}
 use Rattle.trace_stuck.specs.declared.condition.Condition.{Condition}
-use Rattle.trace_stuck.specs.declared.condition.Condition.TheOpen.{Condition-F, Yes, Rank, All, One, OneRank}
+use Rattle.trace_stuck.specs.declared.condition.Condition.TheOpen.{Condition-F, Yes, Rank, All, One, OneRank, AllRanks}
 use Rattle.trace_stuck.specs.declared.condition.Condition.TheFolds.{fold-Condition}
 
 -- One level of a condition, with the answer of each part in its place. All-of nothing is true, one-of nothing is false.
@@ -12,6 +12,7 @@ holds_step able (Rank r) = able r
 holds_step able (All parts) = list_all (λ b. b) parts.items
 holds_step able (One parts) = list_any (λ b. b) parts.items
 holds_step able (OneRank ranks) = list_any able ranks.value.items
+holds_step able (AllRanks ranks) = list_all able ranks.value.items
 
 -- whether a condition holds where just these ranks can go on
 abbrev pub holds : (ℕ → Bool) → Condition → Bool

@@ -3,7 +3,7 @@ use Rattle.std.specs.Prelude.{◌≡◌, ◌<◌, ℕ, true, Option, Some, None,
 use Rattle.std.specs.List.{flat_map}
 use Rattle.std.specs.declared.alloc.Global.{Global}
 use Rattle.trace_stuck.specs.declared.condition.Condition.{Condition}
-use Rattle.trace_stuck.specs.declared.condition.Condition.TheOpen.{Condition-F, Yes, Rank, All, One, OneRank}
+use Rattle.trace_stuck.specs.declared.condition.Condition.TheOpen.{Condition-F, Yes, Rank, All, One, OneRank, AllRanks}
 use Rattle.trace_stuck.specs.declared.condition.Condition.TheFolds.{fold-Condition}
 use Rattle.trace_stuck.specs.Release.{among}
 
@@ -14,6 +14,7 @@ named_step (Rank r) = r ∷ []
 named_step (All parts) = flat_map (λ p. p) parts.items
 named_step (One parts) = flat_map (λ p. p) parts.items
 named_step (OneRank ranks) = ranks.value.items
+named_step (AllRanks ranks) = ranks.value.items
 
 -- the ranks that stand in a condition, in order
 abbrev pub named : Condition → List ℕ

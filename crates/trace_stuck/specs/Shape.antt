@@ -1,7 +1,7 @@
 -- What a condition says, apart from where its parts lie in memory.
 use Rattle.std.specs.Prelude.{ℕ, List, [], ◌∷◌, map}
 use Rattle.trace_stuck.specs.declared.condition.Condition.{Condition}
-use Rattle.trace_stuck.specs.declared.condition.Condition.TheOpen.{Condition-F, Yes, Rank, All, One, OneRank}
+use Rattle.trace_stuck.specs.declared.condition.Condition.TheOpen.{Condition-F, Yes, Rank, All, One, OneRank, AllRanks}
 use Rattle.trace_stuck.specs.declared.condition.Condition.TheFolds.{fold-Condition}
 
 mutual
@@ -29,6 +29,7 @@ shape_step (Rank r) = OnRank r
 shape_step (All parts) = OnAll (waits_of parts.items)
 shape_step (One parts) = OnOne (waits_of parts.items)
 shape_step (OneRank ranks) = OnOne (waits_of (map OnRank ranks.value.items))
+shape_step (AllRanks ranks) = OnAll (waits_of (map OnRank ranks.value.items))
 
 -- A condition as a plain tree. Two conditions with equal parts have equal shapes, wherever the parts lie.
 abbrev pub shape : Condition → Wait

@@ -59,6 +59,7 @@ fn note_named(askers: &mut [Vec<u32>], condition: &Condition, r: u32) -> Result<
         Condition::All(all) => note_each_named(askers, all, r),
         Condition::One(all) => note_each_named(askers, all, r),
         Condition::OneRank(ranks) => note_all(askers, ranks, r),
+        Condition::AllRanks(ranks) => note_all(askers, ranks, r),
     }
 }
 

@@ -21,6 +21,8 @@ pub enum Condition {
     One(Vec<Condition>),
     /// One of these ranks, with the shape of `One` of them. Many conditions may share the list.
     OneRank(Arc<Vec<u32>>),
+    /// All of these ranks, with the shape of `All` of them. Many conditions may share the list.
+    AllRanks(Arc<Vec<u32>>),
 }
 
 impl Condition {
@@ -63,6 +65,14 @@ impl Condition {
         Condition::OneRank(list)
     }
 
+    /// Waits for all of these ranks. Their list is shared: the part itself only points to it.
+    #[tactic(auto, using(crate::proofs::Shapes::shapes))]
+    pub fn all_ranks(list: Arc<Vec<u32>>) -> Condition
+        ensures { shape result ≡ OnAll (waits_of (map OnRank list.value.items)) }
+    {
+        Condition::AllRanks(list)
+    }
+
     /// A copy, with equal parts. Lists of ranks are shared with it.
     pub fn try_clone(&self, alloc: Global) -> Result<Condition, AllocError>
         ensures { IfOk result (λ c. shape c ≡ shape self.now) }
@@ -88,6 +98,7 @@ fn copy_of(alloc: Global, condition: &Condition) -> Result<Condition, AllocError
         Condition::All(parts) => Ok(Condition::all(copies_of(alloc, parts)?)),
         Condition::One(parts) => Ok(Condition::one(copies_of(alloc, parts)?)),
         Condition::OneRank(ranks) => Ok(Condition::one_rank(Arc::try_clone(ranks)?)),
+        Condition::AllRanks(ranks) => Ok(Condition::all_ranks(Arc::try_clone(ranks)?)),
     }
 }
 
@@ -146,6 +157,9 @@ fn is_same(first: &Condition, second: &Condition) -> bool
         (Condition::One(parts), Condition::OneRank(ranks)) => are_ranks(parts, ranks),
         (Condition::OneRank(ranks), Condition::One(parts)) => are_ranks(parts, ranks),
         (Condition::OneRank(ranks), Condition::OneRank(others)) => are_same_ranks(ranks, others),
+        (Condition::All(parts), Condition::AllRanks(ranks)) => are_ranks(parts, ranks),
+        (Condition::AllRanks(ranks), Condition::All(parts)) => are_ranks(parts, ranks),
+        (Condition::AllRanks(ranks), Condition::AllRanks(others)) => are_same_ranks(ranks, others),
         _ => false,
     }
 }

@@ -47,6 +47,18 @@ fn can_some_go<A: Able>(able: &A, ranks: &[u32]) -> bool
     false
 }
 
+/// Whether each of these ranks can go on.
+fn can_each_go<A: Able>(able: &A, ranks: &[u32]) -> bool
+    ensures { result ≡ list_all (A.able able.now) ranks.now }
+{
+    for r in ranks {
+        if !able.can_go(*r) {
+            return false;
+        }
+    }
+    true
+}
+
 #[cycle(hold)]
 fn does_hold<A: Able>(able: &A, condition: &Condition) -> bool
     ensures { result ≡ holds (A.able able.now) condition.now }
@@ -57,6 +69,7 @@ fn does_hold<A: Able>(able: &A, condition: &Condition) -> bool
         Condition::All(all) => does_each_hold(able, all),
         Condition::One(all) => does_some_hold(able, all),
         Condition::OneRank(ranks) => can_some_go(able, ranks),
+        Condition::AllRanks(ranks) => can_each_go(able, ranks),
     }
 }
 

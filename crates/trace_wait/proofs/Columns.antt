@@ -9,13 +9,14 @@ use Rattle.std.proofs.lemmas.Map.Steps.{length-le_from_distinct_below}
 use Rattle.std.proofs.lemmas.Bool.Decides.{nat_tests}
 use Rattle.mpi_model.specs.Layouts.{IsGroup}
 use Rattle.mpi_model.specs.Communicators.{Communicator}
+use Rattle.mpi_model.specs.Ranges.{kind_number}
 use Rattle.trace_ops.specs.declared.entered.Entered.{Entered}
 use Rattle.trace_wait.specs.declared.round.Round.{Round}
 use Rattle.trace_wait.specs.declared.round.Standing.{Standing}
 use Rattle.trace_wait.specs.declared.tally.Tally.{Tally}
 use Rattle.trace_ops.specs.Ops.{Ops}
 use Rattle.trace_wait.specs.Ranks.{ops_of}
-use Rattle.trace_wait.specs.Rounds.{kind_number, same_root, alike, on_comm, rows, column, round_of, depth, rounds_on, group}
+use Rattle.trace_wait.specs.Rounds.{same_root, alike, on_comm, rows, column, round_of, depth, rounds_on, group}
 use Rattle.trace_wait.specs.Tallies.{start, add, put, merged, tallied, stands, rounds_from}
 
 -- one call more at the end of the row

@@ -14,7 +14,7 @@ use Rattle.mpi_model.specs.Fit.{admits, fits}
 use Rattle.mpi_model.specs.declared.message.Message.{Message}
 use Rattle.mpi_model.specs.declared.message.Receive.{Receive}
 use Rattle.trace_wait.specs.declared.round.Round.{Round}
-use Rattle.trace_wait.specs.Conditions.{is_mismatch, is_mismatched_at}
+use Rattle.trace_wait.specs.Collectives.{is_mismatch, is_mismatched_at}
 use Rattle.trace_wait.specs.Patterns.{Pattern, pattern_cmp, same_option, same_pattern, suits, asks, Place, place_cmp}
 
 or_false : (a : Bool) → (a || false) ≡ a

@@ -6,3 +6,4 @@ pub mod Searches
 pub mod Fronts
 pub mod Rows
 pub mod Posted
+pub mod Made

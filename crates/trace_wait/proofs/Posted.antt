@@ -5,7 +5,7 @@ use Rattle.std.specs.List.{find}
 use Rattle.std.specs.Option.{option_map}
 use Rattle.std.specs.Ordering.{int_eq}
 use Rattle.std.proofs.lemmas.List.{drop_more}
-use Rattle.trace_wait.specs.Parts.{posted_in}
+use Rattle.trace_wait.specs.Requests.{posted_in}
 
 -- the request at the front, then the others
 front : (a : ℤ × ℕ) (rest : List (ℤ × ℕ)) (x : ℤ) → (if int_eq a.0 x then Some a.1 else posted_in rest x) ≡ posted_in (a ∷ rest) x

@@ -7,8 +7,10 @@ use Rattle.std.proofs.lemmas.List.Elements.{filter_map-append, filter-append}
 use Rattle.trace_stuck.specs.declared.condition.Condition.{Condition}
 use Rattle.trace_stuck.specs.Shape.{Wait, shape}
 use Rattle.trace_ops.specs.Ops.{Ops}
-use Rattle.trace_wait.specs.Parts.{Run, post_part, posted_by, requests}
-use Rattle.trace_wait.specs.Conditions.{condition_of, conditions_from, has_entered}
+use Rattle.trace_wait.specs.Parts.{Run}
+use Rattle.trace_wait.specs.Collectives.{has_entered}
+use Rattle.trace_wait.specs.Requests.{post_part, posted_by, requests}
+use Rattle.trace_wait.specs.Conditions.{condition_of, conditions_from}
 use Rattle.trace_wait.specs.Calls.{calls_of}
 use Rattle.trace_wait.proofs.Tables.{count_at}
 
@@ -16,8 +18,8 @@ pub map_push : {X Y : Type 0} (f : X → Y) (xs : List X) (x : X) → map f (xs 
 map_push f [] x = refl
 map_push {Y = Y} f (y ∷ ys) x = ap (λ (l : List Y). f y ∷ l) (map_push f ys x)
 
-pub requests_more : (s : Run) (o : Ops) (xs : List ℤ) (i : ℕ) (d : ℤ) → i < length xs → requests s o (take (i + 1) xs) ≡ requests s o (take i xs) ++ requests s o (get_or xs i d ∷ [])
-requests_more s o xs i d lt = ap (requests s o) (take_more xs i d lt) ∙ filter_map-append (λ x. option_map (post_part s o) (posted_by o x)) (take i xs) (get_or xs i d ∷ [])
+pub requests_more : (s : Run) (r : ℕ) (o : Ops) (xs : List ℤ) (i : ℕ) (d : ℤ) → i < length xs → requests s r o (take (i + 1) xs) ≡ requests s r o (take i xs) ++ requests s r o (get_or xs i d ∷ [])
+requests_more s r o xs i d lt = ap (requests s r o) (take_more xs i d lt) ∙ filter_map-append (λ x. option_map (post_part s r o) (posted_by o x)) (take i xs) (get_or xs i d ∷ [])
 
 conditions_more : (s : Run) (first : ℕ) (ops : List Ops) (i r : ℕ) (d : Ops) → r ≡ first + i → i < length ops →
     conditions_from s first (take (i + 1) ops) ≡ conditions_from s first (take i ops) ++ condition_of s r (get_or ops i d) ∷ []
@@ -38,10 +40,10 @@ conditions_step s ops r o out c lt e h k =
 
 -- one member more that has entered the round, or has not
 module _ (s : Run) (c k : ℕ) where
-  abbrev pub missing : List ℕ → List ℕ
-  missing members = filter (λ r. not (has_entered s c k r)) members
+  abbrev pub missing_of : List ℕ → List ℕ
+  missing_of members = filter (λ r. not (has_entered s c k r)) members
 
-  missing_one : (r : ℕ) (b : Bool) → has_entered s c k r ≡ b → missing (r ∷ []) ≡ (if b then [] else r ∷ [])
+  missing_one : (r : ℕ) (b : Bool) → has_entered s c k r ≡ b → missing_of (r ∷ []) ≡ (if b then [] else r ∷ [])
   missing_one r b h = one (has_entered s c k r) b h
     where
       one : (a b : Bool) → a ≡ b → (if not a then r ∷ [] else []) ≡ (if b then [] else r ∷ [])
@@ -51,8 +53,8 @@ module _ (s : Run) (c k : ℕ) where
       one false true h = absurd (cc)
 
   pub missing_more : (members : List ℕ) (i r : ℕ) (b : Bool) → i < length members → r ≡ get_or members i 0 → b ≡ nat_lt k (slice_index (map (calls_of s.ops c) members) i) →
-      missing (take (i + 1) members) ≡ missing (take i members) ++ (if b then [] else r ∷ [])
+      missing_of (take (i + 1) members) ≡ missing_of (take i members) ++ (if b then [] else r ∷ [])
   missing_more members i r b lt e h =
       let n : has_entered s c k (get_or members i 0) ≡ b = ap (nat_lt k) (sym (count_at s.ops c members i 0 lt)) ∙ sym h in
-      ap missing (take_more members i 0 lt) ∙ filter-append (λ r. not (has_entered s c k r)) (take i members) (get_or members i 0 ∷ [])
-      ∙ ap (λ (l : List ℕ). missing (take i members) ++ l) (missing_one (get_or members i 0) b n ∙ ap (λ (m : ℕ). if b then [] else m ∷ []) (sym e))
+      ap missing_of (take_more members i 0 lt) ∙ filter-append (λ r. not (has_entered s c k r)) (take i members) (get_or members i 0 ∷ [])
+      ∙ ap (λ (l : List ℕ). missing_of (take i members) ++ l) (missing_one (get_or members i 0) b n ∙ ap (λ (m : ℕ). if b then [] else m ∷ []) (sym e))

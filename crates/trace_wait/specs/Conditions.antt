@@ -1,141 +1,39 @@
 -- What a waiting rank waits for, call by call.
-use Rattle.std.specs.Prelude.{ℕ, ◌+◌, ℤ, Bool, true, false, ◌==◌, ◌&&◌, not, nat_lt, Option, Some, None, List, [], ◌∷◌, filter, map, slice_get, count_by, if◌then◌else◌}
-use Rattle.std.specs.List.{list_any, find}
-use Rattle.std.specs.Option.{option_map, option_and_then}
-use Rattle.mpi_model.specs.declared.layout.Sends.{Sends}
-use Rattle.mpi_model.specs.declared.layout.Sends.TheVariants as sends
+use Rattle.std.specs.Prelude.{ℕ, ◌+◌, Option, List, [], ◌∷◌}
+use Rattle.std.specs.Option.{option_map}
 use Rattle.mpi_model.specs.declared.call.Call.{Call}
-use Rattle.mpi_model.specs.declared.call.Call.TheVariants.{Local, Finalize, Send, Isend, Recv, Irecv, Sendrecv, Wait, Waitall, Waitany, Waitsome, Test, Collective}
-use Rattle.mpi_model.specs.declared.collective.Kind.{Kind}
-use Rattle.mpi_model.specs.declared.collective.Kind.TheVariants.{Barrier, Bcast, Scatter, Gather, Reduce, Allreduce, Allgather, Alltoall}
-use Rattle.trace_stuck.specs.Shape as waits
-use Rattle.trace_stuck.specs.Shape.{OnNothing, OnRank, OnAll, OnOne, waits_of}
-use Rattle.trace_ops.specs.declared.entered.Entered.{Entered}
-use Rattle.trace_wait.specs.declared.round.Round.{Round}
-use Rattle.trace_wait.specs.declared.round.Standing.{Standing}
-use Rattle.trace_wait.specs.declared.round.Standing.TheVariants.{Mismatched, Complete, Partial}
+use Rattle.mpi_model.specs.declared.call.Call.TheVariants as calls
+use Rattle.mpi_model.specs.declared.call.Call.TheVariants.{Local, Finalize, Send, Isend, Recv, Irecv, Sendrecv, Waitall, Waitany, Waitsome, Test, Collective, Probe, Ibarrier}
+use Rattle.trace_stuck.specs.Shape.{Wait, OnNothing, OnAll, waits_of}
 use Rattle.trace_ops.specs.Ops.{Ops}
-use Rattle.trace_wait.specs.Ranks.{ops_of}
-use Rattle.trace_wait.specs.Parts.{Run, members, send_of_call, receive_of_call, post_part, posted_by, requests}
-
--- Collective calls
-
--- the rank has entered round k of communicator c
-abbrev pub has_entered : Run → ℕ → ℕ → ℕ → Bool
-has_entered s c k r = nat_lt k (count_by (λ e. e.comm == c) (ops_of s.ops r).rounds)
-
--- all of the members that have not entered the round
-abbrev pub absent : Run → ℕ → ℕ → waits.Wait
-absent s c k = OnAll (waits_of (map OnRank (filter (λ r. not (has_entered s c k r)) (members s c))))
-
--- under `wait` the absent members; under `buffer` nothing
-abbrev pub other_side : Run → ℕ → ℕ → waits.Wait
-other_side s c k = by s.layout.sends
-  where
-    by : Sends → waits.Wait
-    by sends.Wait = absent s c k
-    by sends.Buffer = OnNothing
-
--- the root, where it has not entered
-abbrev pub root_first : Run → ℕ → ℕ → ℕ → waits.Wait
-root_first s c k root = if has_entered s c k root then OnNothing else OnRank root
-
--- the root of the round, as a trace rank
-abbrev pub root_rank : Run → Entered → Option ℕ
-root_rank s e = option_and_then (slice_get (members s e.comm)) e.root
-
--- kinds or roots differ
-abbrev pub is_mismatch : Standing → Bool
-is_mismatch Mismatched = true
-is_mismatch (Complete kind root) = false
-is_mismatch (Partial kind root entered all) = false
-
--- this round is round k of communicator c, and is mismatched
-abbrev pub is_mismatched_at : ℕ → ℕ → Round → Bool
-is_mismatched_at c k r = (r.comm == c) && (r.k == k) && is_mismatch r.standing
-
-abbrev pub is_mismatched : Run → ℕ → ℕ → Bool
-is_mismatched s c k = list_any (is_mismatched_at c k) s.rounds
-
--- from the root (Bcast, Scatter): the root, and the others
-abbrev pub from_root : Run → ℕ → Entered → ℕ → waits.Wait
-from_root s r e k = by (root_rank s e)
-  where
-    by : Option ℕ → waits.Wait
-    by None = OnNothing
-    by (Some root) = if root == r then other_side s e.comm k else root_first s e.comm k root
-
--- to the root (Reduce, Gather): the root, and the others
-abbrev pub to_root : Run → ℕ → Entered → ℕ → waits.Wait
-to_root s r e k = by (root_rank s e)
-  where
-    by : Option ℕ → waits.Wait
-    by None = OnNothing
-    by (Some root) = if root == r then absent s e.comm k else other_side s e.comm k
-
-abbrev pub by_kind : Run → ℕ → Entered → ℕ → waits.Wait
-by_kind s r e k = of e.kind
-  where
-    of : Kind → waits.Wait
-    of Barrier = absent s e.comm k
-    of Allreduce = absent s e.comm k
-    of Allgather = absent s e.comm k
-    of Alltoall = absent s e.comm k
-    of Bcast = from_root s r e k
-    of Scatter = from_root s r e k
-    of Reduce = to_root s r e k
-    of Gather = to_root s r e k
-
--- the number of the round that a call of the rank entered: so many calls of it on the communicator came before
-abbrev pub round_number : Ops → Entered → ℕ
-round_number o e = count_by (λ d. (d.comm == e.comm) && nat_lt d.call e.call) o.rounds
-
-abbrev pub round_part : Run → ℕ → Entered → ℕ → waits.Wait
-round_part s r e k = if is_mismatched s e.comm k then OnNothing else by_kind s r e k
-
--- call n of the rank, where it is collective: none was entered where it is local
-abbrev pub collective_of_call : Run → ℕ → Ops → ℕ → waits.Wait
-collective_of_call s r o n = part (find (λ e. e.call == n) o.rounds)
-  where
-    part : Option Entered → waits.Wait
-    part (Some e) = round_part s r e (round_number o e)
-    part None = OnNothing
-
--- All calls
-
--- one of these; nothing where there is none
-abbrev pub some_of : List waits.Wait → waits.Wait
-some_of [] = OnNothing
-some_of (p ∷ ps) = OnOne (waits_of (p ∷ ps))
-
-abbrev pub request : Run → Ops → ℤ → waits.Wait
-request s o x = part (posted_by o x)
-  where
-    part : Option ℕ → waits.Wait
-    part (Some n) = post_part s o n
-    part None = OnNothing
+use Rattle.trace_ops.specs.Receive.{probed}
+use Rattle.trace_wait.specs.Parts.{Run, send_of_call, receive_of_call, probe_part}
+use Rattle.trace_wait.specs.Collectives.{collective_of_call}
+use Rattle.trace_wait.specs.Requests.{request, requests, some_of}
 
 -- what rank r waits for in its call n; the other calls don't wait
-abbrev pub waits_for : Run → ℕ → Ops → ℕ → Call → waits.Wait
+abbrev pub waits_for : Run → ℕ → Ops → ℕ → Call → Wait
 waits_for s r o n (Send mode e) = send_of_call s o n
 waits_for s r o n (Recv e) = receive_of_call s o n
 waits_for s r o n (Sendrecv x) = OnAll (waits_of (send_of_call s o n ∷ receive_of_call s o n ∷ []))
-waits_for s r o n (Wait x) = request s o x
-waits_for s r o n (Waitall xs) = OnAll (waits_of (requests s o xs))
-waits_for s r o n (Waitany xs) = some_of (requests s o xs)
-waits_for s r o n (Waitsome xs) = some_of (requests s o xs)
+waits_for s r o n (calls.Wait x) = request s r o x
+waits_for s r o n (Waitall xs) = OnAll (waits_of (requests s r o xs))
+waits_for s r o n (Waitany xs) = some_of (requests s r o xs)
+waits_for s r o n (Waitsome xs) = some_of (requests s r o xs)
 waits_for s r o n (Collective c) = collective_of_call s r o n
+waits_for s r o n (Probe e) = probe_part s (probed s.layout r n e)
 waits_for s r o n Local = OnNothing
 waits_for s r o n Finalize = OnNothing
 waits_for s r o n (Isend mode e) = OnNothing
 waits_for s r o n (Irecv e) = OnNothing
+waits_for s r o n (Ibarrier c) = OnNothing
 waits_for s r o n (Test x) = OnNothing
 
 -- the condition of rank r, whose operations these are, where it waits
-abbrev pub condition_of : Run → ℕ → Ops → Option waits.Wait
+abbrev pub condition_of : Run → ℕ → Ops → Option Wait
 condition_of s r o = option_map (λ w. waits_for s r o w.0 w.1) o.waiting
 
 -- the conditions of the ranks from `first` on
-abbrev pub conditions_from : Run → ℕ → List Ops → List (Option waits.Wait)
+abbrev pub conditions_from : Run → ℕ → List Ops → List (Option Wait)
 conditions_from s first [] = []
 conditions_from s first (o ∷ ops) = condition_of s first o ∷ conditions_from s (first + 1) ops

@@ -4,6 +4,8 @@ pub mod Patterns
 pub mod Rounds
 pub mod Entries
 pub mod Parts
+pub mod Collectives
+pub mod Requests
 pub mod Conditions
 pub mod Tallies
 pub mod Calls

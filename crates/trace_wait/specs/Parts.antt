@@ -1,8 +1,6 @@
--- The parts of which conditions are made: a send, a receive, a request.
-use Rattle.std.specs.Prelude.{ℕ, ℤ, Bool, true, false, ◌==◌, ◌||◌, Option, Some, None, is_some, List, [], map, unwrap_or, if◌then◌else◌}
-use Rattle.std.specs.List.{list_any, find, filter_map}
-use Rattle.std.specs.Option.{option_map}
-use Rattle.std.specs.Ordering.{int_eq}
+-- The parts of which conditions are made: a send, a receive, a probe.
+use Rattle.std.specs.Prelude.{ℕ, Bool, true, false, ◌==◌, ◌||◌, Option, Some, None, is_some, List, [], map, unwrap_or, if◌then◌else◌}
+use Rattle.std.specs.List.{list_any, find}
 use Rattle.mpi_model.specs.Layouts.{Parts}
 use Rattle.mpi_model.specs.Communicators.{members_of}
 use Rattle.mpi_model.specs.declared.layout.Sends.{Sends}
@@ -61,6 +59,15 @@ may_receive s q = is_some (given_by s.pairs q.name) || list_any (λ m. fits m q)
 abbrev pub receive_part : Run → Receive → Wait
 receive_part s q = if may_receive s q then OnNothing else source_part s q
 
+-- A probe may return where an unpaired message fits it, read as a receive; else it waits for its source. A probe of the
+-- null process looks for none.
+abbrev pub may_probe : Run → Receive → Bool
+may_probe s q = list_any (λ m. fits m q) (unpaired_messages s.ops s.pairs)
+
+abbrev pub probe_part : Run → Option Receive → Wait
+probe_part s None = OnNothing
+probe_part s (Some q) = if may_probe s q then OnNothing else source_part s q
+
 -- the send, and the receive, that call n of a rank started: there is none where it is of the null process or local
 abbrev pub send_of : Ops → ℕ → Option Message
 send_of o n = find (λ m. m.name.call == n) o.sends
@@ -81,23 +88,3 @@ receive_of_call s o n = part (receive_of o n)
     part : Option Receive → Wait
     part (Some q) = receive_part s q
     part None = OnNothing
-
--- A request waits as the send or the receive that its call posted.
-abbrev pub post_part : Run → Ops → ℕ → Wait
-post_part s o n = part (send_of o n)
-  where
-    part : Option Message → Wait
-    part (Some m) = send_part s m
-    part None = receive_of_call s o n
-
--- the call that posted the request of this number, among requests with the calls that posted them
-abbrev pub posted_in : List (ℤ × ℕ) → ℤ → Option ℕ
-posted_in active x = option_map (λ a. a.1) (find (λ a. int_eq a.0 x) active)
-
--- the call that posted the active request of this number
-abbrev pub posted_by : Ops → ℤ → Option ℕ
-posted_by o x = posted_in o.active x
-
--- what each active request of the list waits for, in the list's order
-abbrev pub requests : Run → Ops → List ℤ → List Wait
-requests s o xs = filter_map (λ x. option_map (post_part s o) (posted_by o x)) xs

@@ -1,26 +1,15 @@
--- The collective rounds of a communicator (MPI 4.0, 6.1: the members call in one order).
+-- The collective rounds of a communicator (MPI 4.0, 6.1 and 6.12: the members call in one order, and all of them block or
+-- none does).
 use Rattle.std.specs.Prelude.{ℕ, ◌+◌, Bool, true, false, ◌==◌, ◌&&◌, not, Option, Some, None, List, [], ◌∷◌, filter, map, length, slice_get, if◌then◌else◌, max, unwrap_or}
 use Rattle.std.specs.List.{list_all, flat_map, filter_map, range_with_len}
 use Rattle.mpi_model.specs.Communicators.{Communicator, members_of}
-use Rattle.mpi_model.specs.declared.collective.Kind.{Kind}
-use Rattle.mpi_model.specs.declared.collective.Kind.TheVariants.{Barrier, Bcast, Scatter, Gather, Reduce, Allreduce, Allgather, Alltoall}
+use Rattle.mpi_model.specs.Ranges.{kind_number}
 use Rattle.trace_ops.specs.declared.entered.Entered.{Entered}
 use Rattle.trace_wait.specs.declared.round.Round.{Round}
 use Rattle.trace_wait.specs.declared.round.Standing.{Standing}
 use Rattle.trace_wait.specs.declared.round.Standing.TheVariants.{Mismatched, Complete, Partial}
 use Rattle.trace_ops.specs.Ops.{Ops}
 use Rattle.trace_wait.specs.Ranks.{ops_of}
-
--- the number of a kind
-abbrev pub kind_number : Kind → ℕ
-kind_number Barrier = 0
-kind_number Bcast = 1
-kind_number Scatter = 2
-kind_number Gather = 3
-kind_number Reduce = 4
-kind_number Allreduce = 5
-kind_number Allgather = 6
-kind_number Alltoall = 7
 
 abbrev pub same_root : Option ℕ → Option ℕ → Bool
 same_root None None = true

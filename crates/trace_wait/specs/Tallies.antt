@@ -8,7 +8,8 @@ use Rattle.trace_wait.specs.declared.round.Standing.TheVariants.{Mismatched, Com
 use Rattle.trace_wait.specs.declared.tally.Tally.{Tally}
 use Rattle.trace_ops.specs.Ops.{Ops}
 use Rattle.trace_wait.specs.Ranks.{ops_of}
-use Rattle.trace_wait.specs.Rounds.{kind_number, same_root, on_comm}
+use Rattle.mpi_model.specs.Ranges.{kind_number}
+use Rattle.trace_wait.specs.Rounds.{same_root, on_comm}
 
 abbrev pub start : Entered → Tally
 start e = record { kind = e.kind; root = e.root; is_alike = true; entered = 1 }

@@ -3,7 +3,7 @@
 ghost use Rattle.std.specs.Prelude.{◌≡◌, ℤ, Some, if◌then◌else◌, IfOk, OnOk};
 ghost use Rattle.std.specs.Ordering.{int_eq};
 ghost use Rattle.indexmap.specs.IndexMap.{get};
-ghost use Rattle.trace_wait.specs.Parts.{posted_in};
+ghost use Rattle.trace_wait.specs.Requests.{posted_in};
 
 use indexmap::IndexMap;
 use std::alloc::{AllocError, Global};
@@ -20,7 +20,7 @@ impl<'a> Model for Posts<'a> {
     ghost use Rattle.std.specs.Prelude.{◌≡◌, ℕ, ℤ, List};
     ghost use Rattle.std.specs.Ordering.{int_eq};
     ghost use Rattle.indexmap.specs.IndexMap.{get};
-    ghost use Rattle.trace_wait.specs.Parts.{posted_in};
+    ghost use Rattle.trace_wait.specs.Requests.{posted_in};
 
     ghost Value = { List (ℤ × ℕ) };
 

@@ -1,38 +1,47 @@
 //! The conditions of collective calls, a function for each row of their table.
 
-ghost use Rattle.std.specs.Prelude.{Some, IfSome, option_map, ◌≡◌, ◌==◌, ◌++◌, ◌∷◌, [], if◌then◌else◌, map, filter, not, slice_get, IfOk, OnOk};
+ghost use Rattle.std.specs.Prelude.{Some, IfSome, option_map, ◌≡◌, ◌==◌, ◌++◌, ◌∷◌, [], if◌then◌else◌, slice_get, IfOk, OnOk};
 ghost use Rattle.std.specs.List.{find};
 ghost use Rattle.trace_wait.specs.Parts.{members};
-ghost use Rattle.trace_stuck.specs.Shape.{shape, waits_of, OnRank, OnAll};
-ghost use Rattle.trace_wait.specs.Conditions.{has_entered, absent, other_side, root_first, root_rank, from_root, to_root, by_kind, round_part, collective_of_call};
+ghost use Rattle.trace_stuck.specs.Shape.{shape};
+ghost use Rattle.trace_wait.specs.Collectives.{has_entered, missing, absent, other_side, root_first, root_rank, from_root, to_root, by_kind, round_part, collective_of_call};
 
 use crate::counts::has_more;
 use crate::overview::{Overview, round_number};
 use mpi_model::{Kind, Sends};
 use std::alloc::{AllocError, Global};
+use std::sync::Arc;
 use trace_ops::{Entered, RankOps};
 use trace_stuck::Condition;
 
-fn push_missing(has_entered: bool, r: u32, parts: &mut Vec<Condition>) -> Result<(), AllocError>
-    ensures { OnOk result (map shape parts.new.items ≡ map shape parts.old.items ++ map OnRank (if has_entered then [] else r ∷ [])) }
+fn push_missing(has_entered: bool, r: u32, ranks: &mut Vec<u32>) -> Result<(), AllocError>
+    ensures { OnOk result (ranks.new.items ≡ ranks.old.items ++ (if has_entered then [] else r ∷ [])) }
 {
     if !has_entered {
-        parts.push(Condition::rank(r))?;
+        ranks.push(r)?;
     }
     Ok(())
 }
 
-/// All members that have not entered.
-fn absent(alloc: Global, run: &Overview, comm: u32, k: u64) -> Result<Condition, AllocError>
-    ensures { IfOk result (λ c. shape c ≡ absent run.now comm k) }
+/// The members that have not entered.
+fn missing(alloc: Global, run: &Overview, comm: u32, k: u64) -> Result<Vec<u32>, AllocError>
+    ensures { IfOk result (λ ranks. ranks.items ≡ missing run.now comm k) }
 {
-    let mut parts = Vec::new(alloc);
+    let mut ranks = Vec::new(alloc);
     let members = run.members(comm);
     let calls = run.calls_on(comm);
     for (place, r) in members.iter().enumerate() {
-        push_missing(has_more(calls, place, k), *r, &mut parts)?;
+        push_missing(has_more(calls, place, k), *r, &mut ranks)?;
     }
-    Ok(Condition::all(parts))
+    Ok(ranks)
+}
+
+/// All members that have not entered, in a list that copies of the condition share.
+fn absent(alloc: Global, run: &Overview, comm: u32, k: u64) -> Result<Condition, AllocError>
+    ensures { IfOk result (λ c. shape c ≡ absent run.now comm k) }
+{
+    let ranks = missing(alloc, run, comm, k)?;
+    Ok(Condition::all_ranks(Arc::new(alloc, ranks)?))
 }
 
 fn other_side(alloc: Global, run: &Overview, comm: u32, k: u64) -> Result<Condition, AllocError>
@@ -127,12 +136,8 @@ fn by_kind(
     ensures { IfOk result (λ c. shape c ≡ by_kind run.now r entered.now k) }
 {
     match entered.kind {
-        Kind::Barrier | Kind::Allreduce | Kind::Allgather | Kind::Alltoall => absent(
-            alloc,
-            run,
-            entered.comm,
-            k,
-        ),
+        Kind::Barrier | Kind::Ibarrier => absent(alloc, run, entered.comm, k),
+        Kind::Allreduce | Kind::Allgather | Kind::Alltoall => absent(alloc, run, entered.comm, k),
         Kind::Bcast | Kind::Scatter => from_root(alloc, run, r, entered, k),
         Kind::Reduce | Kind::Gather => to_root(alloc, run, r, entered, k),
     }
@@ -160,6 +165,7 @@ fn entered_by(o: &RankOps, n: u64) -> Option<Entered>
     o.rounds().iter().copied().find(|e| e.call == n)
 }
 
+/// What call n of the rank waits for, where it is collective, or the request that it posted.
 pub(crate) fn collective_of_call(
     alloc: Global,
     run: &Overview,

@@ -8,14 +8,16 @@
 //! Cost: rounds go once through all collective calls, with a look-up in an ordered map for each.
 //! Conditions go once through all messages and receives, each looked for in the table of pairs by
 //! halving, and keep only what those in no pair name; a part of a condition costs some look-ups
-//! more.
+//! more. A request that a call lists twice is looked at once. That of an Ibarrier goes through the
+//! rank's collective calls, and its list of members is shared.
 //!
 //! - [`entries`]: collective calls by communicator; [`counts`]: how many each member has entered
 //! - [`round`]: how a round stands; [`tally`]: the rounds of all communicators
 //! - [`sets`], [`paired`], [`unpaired`], [`mismatch`]: what is looked up for the conditions; [`overview`]: all of it together
 //! - [`groups`]: the members of each communicator, in one list that all conditions share
 //! - [`posts`]: what a call started; [`active`]: which call posted a request
-//! - [`parts`]: what a send, a receive and a request wait for; [`collective`]: a collective call
+//! - [`parts`]: what a send, a receive and a probe wait for; [`collective`]: a collective call;
+//!   [`requests`]: requests
 //! - [`waiting`]: the condition of each rank
 //!
 //! Its tests are the runs of `tests/runs.txt`.
@@ -31,6 +33,7 @@ mod overview;
 mod paired;
 mod parts;
 mod posts;
+mod requests;
 mod round;
 mod sets;
 mod tally;

@@ -4,7 +4,7 @@ ghost use Rattle.std.specs.Prelude.{◌≡◌, ◌||◌, ℕ, IfOk, OnOk};
 ghost use Rattle.std.specs.List.{list_any};
 ghost use Rattle.std.specs.BTreeSet.{contains};
 ghost use Rattle.trace_wait.specs.Patterns.{place_cmp};
-ghost use Rattle.trace_wait.specs.Conditions.{is_mismatch, is_mismatched_at};
+ghost use Rattle.trace_wait.specs.Collectives.{is_mismatch, is_mismatched_at};
 
 use crate::round::{Round, Standing};
 use crate::sets::note;

@@ -8,7 +8,7 @@ ghost use Rattle.trace_wait.specs.Matching.{unpaired_messages, unpaired_receives
 ghost use Rattle.trace_wait.specs.Parts.{members};
 ghost use Rattle.trace_wait.specs.Patterns.{asks};
 ghost use Rattle.trace_wait.specs.Calls.{counts};
-ghost use Rattle.trace_wait.specs.Conditions.{is_mismatched, round_number};
+ghost use Rattle.trace_wait.specs.Collectives.{is_mismatched, round_number};
 
 use crate::counts::{CommCalls, row_of};
 use crate::groups::{Group, shared_members};
@@ -45,7 +45,7 @@ impl<'a> Model for Overview<'a> {
     ghost use Rattle.trace_wait.specs.Parts.{Run};
     ghost use Rattle.trace_wait.specs.Matching.{unpaired_messages, unpaired_receives};
     ghost use Rattle.trace_wait.specs.Patterns.{Pattern as Named, pattern_cmp, place_cmp, suits, asks};
-    ghost use Rattle.trace_wait.specs.Conditions.{is_mismatched_at};
+    ghost use Rattle.trace_wait.specs.Collectives.{is_mismatched_at};
     ghost use Rattle.trace_wait.specs.Calls.{table};
     ghost use Rattle.trace_wait.specs.Groups.{AreGroups};
 

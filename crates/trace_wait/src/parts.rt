@@ -1,11 +1,10 @@
-//! The parts of conditions: a send, a receive, a request.
+//! The parts of conditions: a send, a receive, a probe.
 
-ghost use Rattle.std.specs.Prelude.{◌≡◌, ◌++◌, ◌∷◌, [], map, IfOk, OnOk};
+ghost use Rattle.std.specs.Prelude.{◌≡◌, map, IfOk};
 ghost use Rattle.trace_ops.specs.Order.{AreInOrder, ArePosted};
 ghost use Rattle.trace_stuck.specs.Shape.{shape, waits_of, OnRank, OnOne};
-ghost use Rattle.trace_wait.specs.Parts.{members, is_buffered, may_send, send_part, source_part, may_receive, receive_part, send_of_call, receive_of_call, post_part, posted_by, requests};
+ghost use Rattle.trace_wait.specs.Parts.{members, is_buffered, may_send, send_part, source_part, may_receive, receive_part, probe_part, send_of_call, receive_of_call};
 
-use crate::active::{Posts, posts_of};
 use crate::overview::Overview;
 use crate::posts::{receive_of, send_of};
 use mpi_model::{Message, Mode, Receive, Sends};
@@ -35,7 +34,7 @@ fn may_receive(run: &Overview, q: &Receive) -> bool
     run.is_given(q) || run.fits_some_message(q)
 }
 
-fn send_part(run: &Overview, m: &Message) -> Condition
+pub(crate) fn send_part(run: &Overview, m: &Message) -> Condition
     ensures { shape result ≡ send_part run.now m.now }
 {
     if may_send(run, m) {
@@ -61,13 +60,35 @@ fn source_part(alloc: Global, run: &Overview, q: &Receive) -> Result<Condition, 
     }
 }
 
-fn receive_part(alloc: Global, run: &Overview, q: &Receive) -> Result<Condition, AllocError>
+pub(crate) fn receive_part(
+    alloc: Global,
+    run: &Overview,
+    q: &Receive,
+) -> Result<Condition, AllocError>
     ensures { IfOk result (λ c. shape c ≡ receive_part run.now q.now) }
 {
     if may_receive(run, q) {
         Ok(Condition::yes())
     } else {
         source_part(alloc, run, q)
+    }
+}
+
+/// What a Probe waits for that looks for a message as this receive would; none looks for nothing.
+pub(crate) fn probe_part(
+    alloc: Global,
+    run: &Overview,
+    asked: Option<Receive>,
+) -> Result<Condition, AllocError>
+    ensures { IfOk result (λ c. shape c ≡ probe_part run.now asked) }
+{
+    match asked {
+        None => Ok(Condition::yes()),
+        Some(q) => if run.fits_some_message(&q) {
+            Ok(Condition::yes())
+        } else {
+            source_part(alloc, run, &q)
+        },
     }
 }
 
@@ -94,65 +115,4 @@ pub(crate) fn receive_of_call(
         Some(q) => receive_part(alloc, run, &q),
         None => Ok(Condition::yes()),
     }
-}
-
-pub(crate) fn post_part(
-    alloc: Global,
-    run: &Overview,
-    o: &RankOps,
-    n: u64,
-) -> Result<Condition, AllocError>
-    requires sends { AreInOrder o.now.sends }
-    requires receives { ArePosted o.now.receives }
-    ensures { IfOk result (λ c. shape c ≡ post_part run.now o.now n) }
-{
-    match send_of(o, n) {
-        Some(m) => Ok(send_part(run, &m)),
-        None => receive_of_call(alloc, run, o, n),
-    }
-}
-
-/// The call that posted the active request of this number.
-pub(crate) fn posted_by(o: &RankOps, x: &i64) -> Option<u64>
-    ensures { result ≡ posted_by o.now x.now }
-{
-    Some(o.active().iter().find(|a| a.0 == *x)?.1)
-}
-
-/// What the active requests of the list wait for.
-pub(crate) fn requests(
-    alloc: Global,
-    run: &Overview,
-    o: &RankOps,
-    xs: &[i64],
-) -> Result<Vec<Condition>, AllocError>
-    requires sends { AreInOrder o.now.sends }
-    requires receives { ArePosted o.now.receives }
-    ensures { IfOk result (λ parts. map shape parts.items ≡ requests run.now o.now xs.now) }
-{
-    let posts = posts_of(alloc, o.active())?;
-    let mut parts = Vec::new(alloc);
-    for x in xs {
-        push_request(alloc, run, o, &posts, x, &mut parts)?;
-    }
-    Ok(parts)
-}
-
-fn push_request(
-    alloc: Global,
-    run: &Overview,
-    o: &RankOps,
-    posts: &Posts,
-    x: &i64,
-    parts: &mut Vec<Condition>,
-) -> Result<(), AllocError>
-    requires posts { posts.now ≡ o.now.active }
-    requires sends { AreInOrder o.now.sends }
-    requires receives { ArePosted o.now.receives }
-    ensures { OnOk result (map shape parts.new.items ≡ map shape parts.old.items ++ requests run.now o.now (x.now ∷ [])) }
-{
-    if let Some(n) = posts.call_of(*x) {
-        parts.push(post_part(alloc, run, o, n)?)?;
-    }
-    Ok(())
 }

@@ -1,7 +1,7 @@
 //! The rounds of all communicators. Each member's calls on a communicator are gone through once.
 
 ghost use Rattle.std.specs.Prelude.{◌≡◌, ◌==◌, ◌≤◌, ◌<◌, ◌^◌, ◌++◌, IfOk, OnOk, length};
-ghost use Rattle.trace_wait.specs.Rounds.{kind_number, same_root, group, rounds_on, rounds_of};
+ghost use Rattle.trace_wait.specs.Rounds.{same_root, group, rounds_on, rounds_of};
 ghost use Rattle.trace_wait.specs.Tallies.{start, add, put, merged, tallied, stands, rounds_from};
 
 use crate::entries::{Entries, entries_of};
@@ -17,21 +17,6 @@ struct Tally {
     root: Option<u32>,
     is_alike: bool,
     entered: u32,
-}
-
-fn kind_number(kind: Kind) -> u8
-    ensures { result ≡ kind_number kind }
-{
-    match kind {
-        Kind::Barrier => 0,
-        Kind::Bcast => 1,
-        Kind::Scatter => 2,
-        Kind::Gather => 3,
-        Kind::Reduce => 4,
-        Kind::Allreduce => 5,
-        Kind::Allgather => 6,
-        Kind::Alltoall => 7,
-    }
 }
 
 fn is_same_root(a: Option<u32>, b: Option<u32>) -> bool
@@ -59,9 +44,7 @@ fn start(e: &Entered) -> Tally
 fn add(t: Tally, e: &Entered) -> Tally
     ensures { result ≡ add t e.now }
 {
-    let is_alike = t.is_alike
-        && kind_number(t.kind) == kind_number(e.kind)
-        && is_same_root(t.root, e.root);
+    let is_alike = t.is_alike && t.kind.number() == e.kind.number() && is_same_root(t.root, e.root);
     Tally {
         kind: t.kind,
         root: t.root,

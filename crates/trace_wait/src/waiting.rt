@@ -5,19 +5,20 @@ ghost use Rattle.std.specs.Option.{option_map};
 ghost use Rattle.trace_ops.specs.Ops.{AreOwn};
 ghost use Rattle.trace_ops.specs.Order.{AreInOrder, ArePosted};
 ghost use Rattle.trace_stuck.specs.Shape.{shape, waits_of, OnAll};
-ghost use Rattle.trace_wait.specs.Conditions.{some_of, request, waits_for, condition_of, conditions_from};
+ghost use Rattle.trace_wait.specs.Conditions.{waits_for, condition_of, conditions_from};
 
 use crate::collective::collective_of_call;
 use crate::counts::all_calls;
 use crate::groups::groups_of;
 use crate::mismatch::mismatched_rounds;
 use crate::overview::Overview;
-use crate::parts::{post_part, posted_by, receive_of_call, requests, send_of_call};
+use crate::parts::{probe_part, receive_of_call, send_of_call};
+use crate::requests::{request, requests, some_of};
 use crate::round::Round;
 use crate::unpaired::{patterns_asked, patterns_offered};
 use mpi_model::{Call, Layout};
 use std::alloc::{AllocError, Global};
-use trace_ops::RankOps;
+use trace_ops::{RankOps, probed};
 use trace_pair::PairTable;
 use trace_stuck::Condition;
 
@@ -28,27 +29,6 @@ fn both(alloc: Global, first: Condition, second: Condition) -> Result<Condition,
     parts.push(first)?;
     parts.push(second)?;
     Ok(Condition::all(parts))
-}
-
-fn some_of(parts: Vec<Condition>) -> Condition
-    ensures { shape result ≡ some_of (map shape parts.items) }
-{
-    if parts.is_empty() {
-        Condition::yes()
-    } else {
-        Condition::one(parts)
-    }
-}
-
-fn request(alloc: Global, run: &Overview, o: &RankOps, x: &i64) -> Result<Condition, AllocError>
-    requires sends { AreInOrder o.now.sends }
-    requires receives { ArePosted o.now.receives }
-    ensures { IfOk result (λ c. shape c ≡ request run.now o.now x.now) }
-{
-    match posted_by(o, x) {
-        Some(n) => post_part(alloc, run, o, n),
-        None => Ok(Condition::yes()),
-    }
 }
 
 fn waits_for(
@@ -71,15 +51,17 @@ fn waits_for(
             send_of_call(run, o, n),
             receive_of_call(alloc, run, o, n)?,
         ),
-        Call::Wait(x) => request(alloc, run, o, x),
-        Call::Waitall(xs) => Ok(Condition::all(requests(alloc, run, o, xs.as_slice())?)),
-        Call::Waitany(xs) => Ok(some_of(requests(alloc, run, o, xs.as_slice())?)),
-        Call::Waitsome(xs) => Ok(some_of(requests(alloc, run, o, xs.as_slice())?)),
+        Call::Wait(x) => request(alloc, run, r, o, x),
+        Call::Waitall(xs) => Ok(Condition::all(requests(alloc, run, r, o, xs.as_slice())?)),
+        Call::Waitany(xs) => Ok(some_of(requests(alloc, run, r, o, xs.as_slice())?)),
+        Call::Waitsome(xs) => Ok(some_of(requests(alloc, run, r, o, xs.as_slice())?)),
         Call::Collective(_) => collective_of_call(alloc, run, r, o, n),
+        Call::Probe(e) => probe_part(alloc, run, probed(run.layout, r, n, *e)),
         Call::Local => Ok(Condition::yes()),
         Call::Finalize => Ok(Condition::yes()),
         Call::Isend(_, _) => Ok(Condition::yes()),
         Call::Irecv(_) => Ok(Condition::yes()),
+        Call::Ibarrier(_) => Ok(Condition::yes()),
         Call::Test(_) => Ok(Condition::yes()),
     }
 }

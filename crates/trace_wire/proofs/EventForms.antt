@@ -1,8 +1,9 @@
 -- The laws of events.
-use Rattle.std.proofs.Common.{◌≡◌, ℕ, ◌^◌, ◌<◌, Bool, true, false, List, [], ◌∷◌, ◌++◌, length, Option, Some, None, refl, sym, ap, subst, ◌∙◌, append_assoc, arith}
+use Rattle.std.proofs.Common.{◌≡◌, ℕ, ◌^◌, ◌<◌, Bool, true, false, eqb, List, [], ◌∷◌, ◌++◌, length, Option, Some, None, refl, sym, ap, subst, ◌∙◌, append_assoc, arith}
 use Rattle.std.specs.List.{All}
 use Rattle.std.specs.Int.{w32}
 use Rattle.std.proofs.lemmas.List.{length-append}
+use Rattle.std.proofs.lemmas.Bool.Decides.{nat_tests}
 use Rattle.mpi_model.specs.Times.{Times, IsTimes}
 use Rattle.mpi_model.specs.Ranges.{IsTold}
 use Rattle.mpi_model.specs.declared.call.Call.{Call}
@@ -13,10 +14,10 @@ use Rattle.mpi_model.specs.declared.event.Event.{Event}
 use Rattle.mpi_model.specs.declared.event.Event.TheVariants as events
 use Rattle.trace_wire.specs.Forms.{◌>>=◌, Form, number, byte, pair, list, told, signed, IsBytes}
 use Rattle.trace_wire.specs.Events.{call_code, call_fields, call_at, outs_code, outs_fields, outs_at, body_at, is_even, event_at, event_bytes, event}
-use Rattle.trace_wire.specs.Fields.{mode, flag, stamp, envelope, send_envelope, exchange, gathering, made, index, element, index_fields, index_at, index_behind}
+use Rattle.trace_wire.specs.Fields.{comm, mode, flag, stamp, envelope, send_envelope, exchange, gathering, probe, made, index, element, index_fields, index_at, index_behind}
 use Rattle.mpi_model.specs.Events.{IsSigned, IsCall, IsOutcome, IsPosition, IsElement, IsEvent}
 use Rattle.trace_wire.proofs.FormLaws.{IsBytes-rest, Takes, Takes-then, IsForm, wide32, number_form, byte_form, pair_form, record_form, list_form, choose, no_value, some_is, bind_some}
-use Rattle.trace_wire.proofs.FieldForms.{mode_form, flag_form, signed_form, stamp_form, told_form, envelope_form, send_form, exchange_form, gathering_form}
+use Rattle.trace_wire.proofs.FieldForms.{mode_form, flag_form, signed_form, stamp_form, told_form, envelope_form, send_form, exchange_form, gathering_form, comm_form, probe_form}
 
 -- what was read behind the code of a kind
 abbrev Behind : {B : Type 0} → (B → ℕ) → (B → List ℕ) → (B → Type 0) → List ℕ → B × List ℕ → ℕ → Type 0
@@ -52,7 +53,9 @@ call_takes n bytes x fits e0 =
     choose (Behind call_code call_fields IsCall bytes x) n 9 _ _ x e9 (filled (list signed) _ (requests_form) (λ r. calls.Waitany r) call_code call_fields IsCall bytes x 9 fits (λ a. refl) (λ a. refl) (λ a ok. ok)) (λ e10.
     choose (Behind call_code call_fields IsCall bytes x) n 10 _ _ x e10 (filled (list signed) _ (requests_form) (λ r. calls.Waitsome r) call_code call_fields IsCall bytes x 10 fits (λ a. refl) (λ a. refl) (λ a ok. ok)) (λ e11.
     choose (Behind call_code call_fields IsCall bytes x) n 11 _ _ x e11 (filled (signed) _ (signed_form) (λ r. calls.Test r) call_code call_fields IsCall bytes x 11 fits (λ a. refl) (λ a. refl) (λ a ok. ok)) (λ e12.
-    choose (Behind call_code call_fields IsCall bytes x) n 12 _ _ x e12 (filled (gathering) _ (gathering_form) (λ g. calls.Collective g) call_code call_fields IsCall bytes x 12 fits (λ a. refl) (λ a. refl) (λ a ok. ok)) (λ e13. no_value _ x e13)))))))))))))
+    choose (Behind call_code call_fields IsCall bytes x) n 12 _ _ x e12 (filled (gathering) _ (gathering_form) (λ g. calls.Collective g) call_code call_fields IsCall bytes x 12 fits (λ a. refl) (λ a. refl) (λ a ok. ok)) (λ e13.
+    choose (Behind call_code call_fields IsCall bytes x) n 13 _ _ x e13 (filled (probe) _ (probe_form) (λ e. calls.Probe e) call_code call_fields IsCall bytes x 13 fits (λ a. refl) (λ a. refl) (λ a ok. ok)) (λ e14.
+    choose (Behind call_code call_fields IsCall bytes x) n 14 _ _ x e14 (filled (comm) _ (comm_form) (λ c. calls.Ibarrier c) call_code call_fields IsCall bytes x 14 fits (λ a. refl) (λ a. refl) (λ a ok. ok)) (λ e15. no_value _ x e15)))))))))))))))
 
 pub call_again : (c : Call) (rest : List ℕ) → IsCall c → length (call_fields c) < 2 ^ 32 → call_at (call_code c) (call_fields c ++ rest) ≡ Some (c, rest)
 unfolding call_at
@@ -69,6 +72,33 @@ call_again (calls.Waitany a) rest fits short = ap (made (λ r. calls.Waitany r))
 call_again (calls.Waitsome a) rest fits short = ap (made (λ r. calls.Waitsome r)) ((requests_form).again a rest fits short)
 call_again (calls.Test a) rest fits short = ap (made (λ r. calls.Test r)) ((signed_form).again a rest fits short)
 call_again (calls.Collective a) rest fits short = ap (made (λ g. calls.Collective g)) ((gathering_form).again a rest fits short)
+call_again (calls.Probe a) rest fits short = ap (made (λ e. calls.Probe e)) ((probe_form).again a rest fits short)
+call_again (calls.Ibarrier a) rest fits short = ap (made (λ c. calls.Ibarrier c)) ((comm_form).again a rest fits short)
+
+past : (n k : ℕ) → k < n → eqb n k ≡ false
+past n k lt = grind (arith, nat_tests)
+
+-- no kind of call has a greater code
+pub no_call : (n : ℕ) (bytes : List ℕ) → 14 < n → call_at n bytes ≡ None
+unfolding call_at
+no_call n bytes lt =
+    rw (
+      past n 0 (omega (arith, lt)),
+      past n 1 (omega (arith, lt)),
+      past n 2 (omega (arith, lt)),
+      past n 3 (omega (arith, lt)),
+      past n 4 (omega (arith, lt)),
+      past n 5 (omega (arith, lt)),
+      past n 6 (omega (arith, lt)),
+      past n 7 (omega (arith, lt)),
+      past n 8 (omega (arith, lt)),
+      past n 9 (omega (arith, lt)),
+      past n 10 (omega (arith, lt)),
+      past n 11 (omega (arith, lt)),
+      past n 12 (omega (arith, lt)),
+      past n 13 (omega (arith, lt)),
+      past n 14 (omega (arith, lt))
+    ) refl
 
 call_small : (c : Call) → call_code c < 256
 call_small calls.Local = omega arith
@@ -84,6 +114,8 @@ call_small (calls.Waitany a) = omega arith
 call_small (calls.Waitsome a) = omega arith
 call_small (calls.Test a) = omega arith
 call_small (calls.Collective a) = omega arith
+call_small (calls.Probe a) = omega arith
+call_small (calls.Ibarrier a) = omega arith
 
 -- ---- outcomes
 

@@ -6,7 +6,7 @@ use Rattle.std.proofs.lemmas.Bool.{ltb-true, eqb-true}
 use Rattle.std.proofs.lemmas.Bool.Decides.{nat_tests}
 use Rattle.std.proofs.lemmas.Int.{ints, to_z-of_z, of_z-to_z}
 use Rattle.mpi_model.specs.Times.{latest, IsTimes}
-use Rattle.mpi_model.specs.Ranges.{IsTold, IsComm, IsSource, IsNamed, IsTarget, IsRootOf, IsCollective}
+use Rattle.mpi_model.specs.Ranges.{IsTold, IsComm, IsSource, IsNamed, IsTarget, IsRootOf, IsCollective, IsProbe, kind_number}
 use Rattle.mpi_model.specs.declared.envelope.Peer.{Peer}
 use Rattle.mpi_model.specs.declared.envelope.Peer.TheVariants as peers
 use Rattle.mpi_model.specs.declared.envelope.CommRef.{CommRef}
@@ -17,7 +17,7 @@ use Rattle.mpi_model.specs.declared.collective.Kind.{Kind}
 use Rattle.mpi_model.specs.declared.collective.Kind.TheVariants as kinds
 use Rattle.mpi_model.specs.declared.envelope.Envelope.{Envelope}
 use Rattle.trace_wire.specs.Forms.{◌>>=◌, number, byte, mapped, guarded, pair, small, told, signed, small_of, marked_of, marked_code}
-use Rattle.trace_wire.specs.Fields.{peer_code, peer_of, comm_code, comm_of, mode_code, mode_of, kind_code, kind_of, flag_code, flag_of, peer, comm, mode, kind, flag, moment, stamp, envelope, named, send_envelope, same_comm, exchange, rooted, gathering}
+use Rattle.trace_wire.specs.Fields.{peer_code, peer_of, comm_code, comm_of, mode_code, mode_of, kind_of, flag_code, flag_of, peer, comm, mode, kind, flag, moment, stamp, envelope, named, send_envelope, same_comm, exchange, rooted, gathering, probe}
 use Rattle.mpi_model.specs.Events.{IsSigned, IsSent, IsReceived, IsExchanged}
 use Rattle.trace_wire.proofs.FormLaws.{IsForm, wide32, wide64, number_form, byte_form, mapped_form, pair_form, guarded_form, record_form, refit, chosen, choose, no_value, some_is, bind_some}
 
@@ -149,18 +149,19 @@ few_form {A} code of back again fits = mapped_form byte code of (λ n. n < 256) 
 pub mode_form : IsForm mode (λ _. Unit {0})
 mode_form = few_form mode_code mode_of mode_back mode_again mode_fits
 
-kind_back : (n : ℕ) (m : Kind) → kind_of n ≡ Some m → kind_code m ≡ n
+kind_back : (n : ℕ) (m : Kind) → kind_of n ≡ Some m → kind_number m ≡ n
 kind_back n m e =
-    step kind_code n 0 kinds.Barrier _ m refl e (λ e1.
-    step kind_code n 1 kinds.Bcast _ m refl e1 (λ e2.
-    step kind_code n 2 kinds.Scatter _ m refl e2 (λ e3.
-    step kind_code n 3 kinds.Gather _ m refl e3 (λ e4.
-    step kind_code n 4 kinds.Reduce _ m refl e4 (λ e5.
-    step kind_code n 5 kinds.Allreduce _ m refl e5 (λ e6.
-    step kind_code n 6 kinds.Allgather _ m refl e6 (λ e7.
-    step kind_code n 7 kinds.Alltoall _ m refl e7 (no_value _ m))))))))
+    step kind_number n 0 kinds.Barrier _ m refl e (λ e1.
+    step kind_number n 1 kinds.Bcast _ m refl e1 (λ e2.
+    step kind_number n 2 kinds.Scatter _ m refl e2 (λ e3.
+    step kind_number n 3 kinds.Gather _ m refl e3 (λ e4.
+    step kind_number n 4 kinds.Reduce _ m refl e4 (λ e5.
+    step kind_number n 5 kinds.Allreduce _ m refl e5 (λ e6.
+    step kind_number n 6 kinds.Allgather _ m refl e6 (λ e7.
+    step kind_number n 7 kinds.Alltoall _ m refl e7 (λ e8.
+    step kind_number n 8 kinds.Ibarrier _ m refl e8 (no_value _ m)))))))))
 
-kind_again : (m : Kind) → kind_of (kind_code m) ≡ Some m
+kind_again : (m : Kind) → kind_of (kind_number m) ≡ Some m
 kind_again kinds.Barrier = refl
 kind_again kinds.Bcast = refl
 kind_again kinds.Scatter = refl
@@ -169,8 +170,9 @@ kind_again kinds.Reduce = refl
 kind_again kinds.Allreduce = refl
 kind_again kinds.Allgather = refl
 kind_again kinds.Alltoall = refl
+kind_again kinds.Ibarrier = refl
 
-kind_fits : (m : Kind) → kind_code m < 256
+kind_fits : (m : Kind) → kind_number m < 256
 kind_fits kinds.Barrier = omega arith
 kind_fits kinds.Bcast = omega arith
 kind_fits kinds.Scatter = omega arith
@@ -179,9 +181,10 @@ kind_fits kinds.Reduce = omega arith
 kind_fits kinds.Allreduce = omega arith
 kind_fits kinds.Allgather = omega arith
 kind_fits kinds.Alltoall = omega arith
+kind_fits kinds.Ibarrier = omega arith
 
 pub kind_form : IsForm kind (λ _. Unit {0})
-kind_form = few_form kind_code kind_of kind_back kind_again kind_fits
+kind_form = few_form kind_number kind_of kind_back kind_again kind_fits
 
 flag_back : (n : ℕ) (b : Bool) → flag_of n ≡ Some b → flag_code b ≡ n
 flag_back n b e = step flag_code n 0 false _ b refl e (λ e1. step flag_code n 1 true _ b refl e1 (no_value _ b))
@@ -263,6 +266,7 @@ rooted_there kinds.Gather None f h = absurd cc
 rooted_there kinds.Gather (Some n) f h = f
 rooted_there kinds.Reduce None f h = absurd cc
 rooted_there kinds.Reduce (Some n) f h = f
+rooted_there kinds.Ibarrier r f h = absurd cc
 
 rooted_here : (k : Kind) (r : Option ℕ) → IsRootOf k r → IsTold r × (rooted k r ≡ true)
 rooted_here kinds.Barrier None f = (tt, refl)
@@ -281,6 +285,7 @@ rooted_here kinds.Gather None f = absurd f
 rooted_here kinds.Gather (Some n) f = (f, refl)
 rooted_here kinds.Reduce None f = absurd f
 rooted_here kinds.Reduce (Some n) f = (f, refl)
+rooted_here kinds.Ibarrier r f = absurd f
 
 -- A send names its peer and its tag.
 send_there : (e : Envelope) → IsReceived e × (named e.peer e.tag ≡ true) → IsSent e
@@ -313,3 +318,9 @@ gathering_form = record_form (guarded (pair kind (pair told comm)) (λ x. rooted
     (λ a fits. (rooted_there a.0 a.1.0 fits.0.1.0 fits.1, fits.0.1.1))
     (λ b fits. let r = rooted_here b.kind b.root fits.0 in ((tt, (r.0, fits.1)), r.1))
     (guarded_form (pair kind (pair told comm)) (λ x. rooted x.0 x.1.0) _ (pair_form kind (pair told comm) _ _ kind_form (pair_form told comm _ _ told_form comm_form)))
+
+pub probe_form : IsForm probe IsProbe
+probe_form = record_form (pair peer (pair told comm)) (λ e. (e.source, (e.tag, e.comm))) (λ x. record { source = x.0; tag = x.1.0; comm = x.1.1 }) _ IsProbe (λ a. refl) (λ b. refl)
+    (λ a fits. (fits.0, fits.1.0, fits.1.1))
+    (λ b fits. (fits.0, (fits.1, fits.2)))
+    (pair_form peer (pair told comm) _ _ peer_form (pair_form told comm _ _ told_form comm_form))

@@ -2,7 +2,7 @@
 use Rattle.std.specs.Prelude.{ℕ, Bool, true, false, List, [], ◌∷◌, Option, Some, None, nat_le, ◌==◌, if◌then◌else◌}
 use Rattle.std.specs.Int.{w32, w64}
 use Rattle.mpi_model.specs.Times.{Times, latest}
-use Rattle.mpi_model.specs.Ranges.{BothEnvelopes, CollectiveCall}
+use Rattle.mpi_model.specs.Ranges.{BothEnvelopes, CollectiveCall, Probed, kind_number}
 use Rattle.mpi_model.specs.declared.envelope.Peer.{Peer}
 use Rattle.mpi_model.specs.declared.envelope.Peer.TheVariants as peers
 use Rattle.mpi_model.specs.declared.envelope.CommRef.{CommRef}
@@ -48,17 +48,7 @@ mode_of n =
     if n == 2 then Some modes.Buffered else (
     if n == 3 then Some modes.Ready else None)))
 
--- the kind of a collective call (MPI 4.0, chapter 6)
-abbrev pub kind_code : Kind → ℕ
-kind_code kinds.Barrier = 0
-kind_code kinds.Bcast = 1
-kind_code kinds.Scatter = 2
-kind_code kinds.Gather = 3
-kind_code kinds.Reduce = 4
-kind_code kinds.Allreduce = 5
-kind_code kinds.Allgather = 6
-kind_code kinds.Alltoall = 7
-
+-- the kind of a collective call, by its number (MPI 4.0, chapter 6); that of Ibarrier stands in no call
 abbrev pub kind_of : ℕ → Option Kind
 kind_of n =
     if n == 0 then Some kinds.Barrier else (
@@ -68,7 +58,8 @@ kind_of n =
     if n == 4 then Some kinds.Reduce else (
     if n == 5 then Some kinds.Allreduce else (
     if n == 6 then Some kinds.Allgather else (
-    if n == 7 then Some kinds.Alltoall else None)))))))
+    if n == 7 then Some kinds.Alltoall else (
+    if n == 8 then Some kinds.Ibarrier else None))))))))
 
 -- whether a test found its request completed
 abbrev pub flag_code : Bool → ℕ
@@ -90,7 +81,7 @@ abbrev pub mode : Form Mode
 mode = mapped byte mode_code mode_of
 
 abbrev pub kind : Form Kind
-kind = mapped byte kind_code kind_of
+kind = mapped byte kind_number kind_of
 
 abbrev pub flag : Form Bool
 flag = mapped byte flag_code flag_of
@@ -131,7 +122,7 @@ abbrev pub exchange : Form BothEnvelopes
 exchange = mapped (guarded (pair send_envelope envelope) (λ x. same_comm x.0.comm x.1.comm))
     (λ b. (b.send, b.receive)) (λ x. Some (record { send = x.0; receive = x.1 }))
 
--- Four kinds of collective calls have a root, and the others have none.
+-- Four kinds of collective calls have a root, and the others have none. No call has the kind Ibarrier.
 abbrev pub rooted : Kind → Option ℕ → Bool
 rooted kinds.Barrier None = true
 rooted kinds.Barrier (Some n) = false
@@ -149,11 +140,16 @@ rooted kinds.Gather None = false
 rooted kinds.Gather (Some n) = true
 rooted kinds.Reduce None = false
 rooted kinds.Reduce (Some n) = true
+rooted kinds.Ibarrier root = false
 
 -- a collective call: kind, root, communicator
 abbrev pub gathering : Form CollectiveCall
 gathering = mapped (guarded (pair kind (pair told comm)) (λ x. rooted x.0 x.1.0))
     (λ g. (g.kind, (g.root, g.comm))) (λ x. Some (record { kind = x.0; root = x.1.0; comm = x.1.1 }))
+
+-- what a probe looks for: peer, tag, communicator
+abbrev pub probe : Form Probed
+probe = mapped (pair peer (pair told comm)) (λ e. (e.source, (e.tag, e.comm))) (λ x. Some (record { source = x.0; tag = x.1.0; comm = x.1.1 }))
 
 -- a value made of what was read
 abbrev pub made : {A B : Type 0} → (A → B) → Option (A × List ℕ) → Option (B × List ℕ)

@@ -36,6 +36,8 @@ fn call_len(call: &Call) -> u64
             list_len(requests.as_slice().len(), 8)
         }
         Call::Collective(_) => 9,
+        Call::Probe(_) => 12,
+        Call::Ibarrier(_) => 4,
     }
 }
 

@@ -5,7 +5,7 @@ use std::alloc::Global;
 use std::process::Abort;
 
 /// A name, the bytes, and what the format says of them.
-static ROWS: [(&str, &[u8], &str); 20] = [
+static ROWS: [(&str, &[u8], &str); 22] = [
     ("nothing is known", b"MPTX\0\x01\0\0\0\x04\0\0\0\0", "ok"),
     (
         "a byte more in the payload",
@@ -84,6 +84,16 @@ static ROWS: [(&str, &[u8], &str); 20] = [
         "place 3 of rank 1, and then place 0 of rank 0",
         b"MPTX\0\x01\0\0\0\x1E\0\0\0\x02\0\0\0\x01\0\0\0\0\0\0\0\x03\x01\0\0\0\0\0\0\0\0\0\0\0\0\x01",
         "W6 Order",
+    ),
+    (
+        "a probe of any source and tag",
+        b"MPTX\0\x01\0\0\0\x2E\0\0\0\x01\0\0\0\0\0\0\0\0\0\0\0\0\0\x0D\0\0\0\0\0\0\0\0\0\0\0\0\0\0\0\0\xFF\xFF\xFF\xFF\xFF\xFF\xFF\xFF\xFF\xFF\xFF\xFF",
+        "ok",
+    ),
+    (
+        "a call of kind 15",
+        b"MPTX\0\x01\0\0\0\x2E\0\0\0\x01\0\0\0\0\0\0\0\0\0\0\0\0\0\x0F\0\0\0\0\0\0\0\0\0\0\0\0\0\0\0\0\xFF\xFF\xFF\xFF\xFF\xFF\xFF\xFF\xFF\xFF\xFF\xFF",
+        "W7 Content",
     ),
     (
         "2^32 - 1 requests are promised",

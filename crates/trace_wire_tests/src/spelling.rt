@@ -2,8 +2,8 @@
 
 use crate::fixture::{LATEST, WORKED, both, frame, read, taken};
 use mpi_model::{
-    Call, Collective, CommRef, Element, Elements, Envelope, Exchange, Kind, Mode, Outs, Peer,
-    ReceiveEnvelope, Requests, SendEnvelope, Sources, Told,
+    Call, Collective, CommRef, Element, Elements, Envelope, Exchange, Kind, Mode, NamedComm, Outs,
+    Peer, ProbeEnvelope, ReceiveEnvelope, Requests, SendEnvelope, Sources, Told,
 };
 use std::alloc::Global;
 use std::process::Abort;
@@ -200,6 +200,39 @@ fn receives(rt: HostRuntime) {
         let is_so = enters(&rt, rt.alloc(), call, (*code, fields));
         assert!(rt; is_so, "{code}");
     }
+}
+
+/// Of any source and tag, of the null process, and the greatest numbers.
+static PROBES: [(Received, &[u8]); 3] = [
+    (
+        (Peer::Any, None, CommRef::World),
+        b"\xFF\xFF\xFF\xFF\xFF\xFF\xFF\xFF\xFF\xFF\xFF\xFF",
+    ),
+    (
+        (Peer::Null, Some(0), CommRef::Id(0)),
+        b"\xFF\xFF\xFF\xFE\0\0\0\0\0\0\0\0",
+    ),
+    (
+        (Peer::Rank(MOST), Some(MOST), CommRef::Id(MOST)),
+        b"\x7F\xFF\xFF\xFF\x7F\xFF\xFF\xFF\x7F\xFF\xFF\xFF",
+    ),
+];
+
+#[test]
+fn probes(rt: HostRuntime) {
+    for ((source, tag, comm), fields) in &PROBES {
+        let envelope = ProbeEnvelope::new(*source, *tag, *comm).expect(&rt, "a probe");
+        let is_so = enters(&rt, rt.alloc(), Call::Probe(envelope), (13, fields));
+        assert!(rt; is_so, "{fields:?}");
+    }
+}
+
+#[test]
+fn ibarriers(rt: HostRuntime) {
+    let world = NamedComm::new(CommRef::World).expect(&rt, "the world");
+    assert!(rt; enters(&rt, rt.alloc(), Call::Ibarrier(world), (14, b"\xFF\xFF\xFF\xFF")));
+    let last = NamedComm::new(CommRef::Id(MOST)).expect(&rt, "a communicator");
+    assert!(rt; enters(&rt, rt.alloc(), Call::Ibarrier(last), (14, b"\x7F\xFF\xFF\xFF")));
 }
 
 #[test]

@@ -2,7 +2,7 @@
 
 ghost use Rattle.trace_wire.specs.Outcomes.{Reads};
 ghost use Rattle.trace_wire.specs.Events.{call_at, outs_at, event_at, body_at};
-ghost use Rattle.trace_wire.specs.Fields.{envelope, send_envelope, exchange, gathering, index};
+ghost use Rattle.trace_wire.specs.Fields.{comm, envelope, send_envelope, exchange, gathering, probe, index};
 
 use crate::read::field::{
     FieldFault, byte_of, comm_field, flag_field, kind_field, mode_field, peer_field, signed_of,
@@ -10,8 +10,8 @@ use crate::read::field::{
 };
 use crate::read::list::list_of;
 use mpi_model::{
-    Call, Collective, Elements, Envelope, Event, Exchange, Outs, ReceiveEnvelope, Requests,
-    SendEnvelope, Sources, Stamp,
+    Call, Collective, Elements, Envelope, Event, Exchange, NamedComm, Outs, ProbeEnvelope,
+    ReceiveEnvelope, Requests, SendEnvelope, Sources, Stamp,
 };
 use std::alloc::Global;
 
@@ -68,6 +68,30 @@ fn collective_field(bytes: &[u8]) -> Result<(Collective, &[u8]), FieldFault>
     let (root, rest) = field!(told_field(rest));
     let (comm, rest) = comm_field(rest)?;
     match Collective::new(kind, root.rank(), comm) {
+        Some(found) => Ok((found, rest)),
+        None => Err(FieldFault::Content),
+    }
+}
+
+/// What a probe looks for.
+fn probe_field(bytes: &[u8]) -> Result<(ProbeEnvelope, &[u8]), FieldFault>
+    ensures { Reads (λ x. (x.0, x.1.now)) result (probe.read bytes.now) }
+{
+    let (source, rest) = peer_field(bytes)?;
+    let (tag, rest) = field!(told_field(rest));
+    let (comm, rest) = comm_field(rest)?;
+    match ProbeEnvelope::new(source, tag.rank(), comm) {
+        Some(found) => Ok((found, rest)),
+        None => Err(FieldFault::Content),
+    }
+}
+
+/// The communicator of a call that names nothing else.
+fn named_comm_field(bytes: &[u8]) -> Result<(NamedComm, &[u8]), FieldFault>
+    ensures { Reads (λ x. (x.0, x.1.now)) result (comm.read bytes.now) }
+{
+    let (found, rest) = comm_field(bytes)?;
+    match NamedComm::new(found) {
         Some(found) => Ok((found, rest)),
         None => Err(FieldFault::Content),
     }
@@ -141,6 +165,14 @@ fn call_of(alloc: Global, code: u8, bytes: &[u8]) -> Result<(Call, &[u8]), Field
         12 => {
             let (call, rest) = field!(collective_field(bytes));
             Ok((Call::Collective(call), rest))
+        }
+        13 => {
+            let (envelope, rest) = field!(probe_field(bytes));
+            Ok((Call::Probe(envelope), rest))
+        }
+        14 => {
+            let (comm, rest) = field!(named_comm_field(bytes));
+            Ok((Call::Ibarrier(comm), rest))
         }
         _ => Err(FieldFault::Content),
     }

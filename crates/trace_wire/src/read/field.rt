@@ -215,6 +215,7 @@ fn kind_from(n: u8) -> Option<Kind>
         5 => Some(Kind::Allreduce),
         6 => Some(Kind::Allgather),
         7 => Some(Kind::Alltoall),
+        8 => Some(Kind::Ibarrier),
         _ => None,
     }
 }

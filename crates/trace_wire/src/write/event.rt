@@ -9,8 +9,8 @@ ghost use Rattle.trace_wire.specs.Sending.{Sends};
 
 use crate::item::Item;
 use crate::write::field::{
-    put_byte, put_collective, put_envelope, put_exchange, put_flag, put_i64, put_indexed, put_sent,
-    put_stamp, put_told, put_u32,
+    put_byte, put_collective, put_comm, put_envelope, put_exchange, put_flag, put_i64, put_indexed,
+    put_probe, put_sent, put_stamp, put_told, put_u32,
 };
 use crate::write::sink::Sink;
 use mpi_model::{Call, Event, Outs, Stamp};
@@ -49,6 +49,8 @@ fn put_call<S: Sink>(out: &mut S, call: &Call)
             put_list(out, requests.as_slice())
         }
         Call::Collective(call) => put_collective(out, *call),
+        Call::Probe(e) => put_probe(out, *e),
+        Call::Ibarrier(named) => put_comm(out, named.comm()),
     }
 }
 
@@ -87,6 +89,8 @@ fn byte_of_call(call: &Call) -> u8
         Call::Waitsome(_) => 10,
         Call::Test(_) => 11,
         Call::Collective(_) => 12,
+        Call::Probe(_) => 13,
+        Call::Ibarrier(_) => 14,
     }
 }
 

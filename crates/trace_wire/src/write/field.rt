@@ -3,12 +3,13 @@
 ghost use Rattle.std.specs.Prelude.{◌≡◌};
 ghost use Rattle.std.specs.Int.{w32, w64};
 ghost use Rattle.trace_wire.specs.Forms.{byte, number, pair, signed, told};
-ghost use Rattle.trace_wire.specs.Fields.{comm, element, envelope, exchange, flag, gathering, index, kind_code, mode, mode_code, peer, send_envelope, stamp};
+ghost use Rattle.trace_wire.specs.Fields.{comm, element, envelope, exchange, flag, gathering, index, mode, mode_code, peer, probe, send_envelope, stamp};
 ghost use Rattle.trace_wire.specs.Sending.{Sends};
 
 use crate::write::sink::Sink;
 use mpi_model::{
-    Collective, CommRef, Element, Envelope, Exchange, Kind, Mode, Peer, SendEnvelope, Stamp, Told,
+    Collective, CommRef, Element, Envelope, Exchange, Mode, Peer, ProbeEnvelope, SendEnvelope,
+    Stamp, Told,
 };
 
 /// The mark of no number: any tag, no root, nothing told.
@@ -84,7 +85,7 @@ fn put_peer<S: Sink>(out: &mut S, end: Peer)
 }
 
 /// A communicator.
-fn put_comm<S: Sink>(out: &mut S, named: CommRef)
+pub(crate) fn put_comm<S: Sink>(out: &mut S, named: CommRef)
     ensures { Sends (S.page out.old) (S.page out.new) (comm.spell named) }
 {
     let code = match named {
@@ -117,22 +118,6 @@ fn byte_of_mode(of: Mode) -> u8
     }
 }
 
-/// The code of a kind of collective call.
-fn byte_of_kind(of: Kind) -> u8
-    ensures { result ≡ kind_code of }
-{
-    match of {
-        Kind::Barrier => 0,
-        Kind::Bcast => 1,
-        Kind::Scatter => 2,
-        Kind::Gather => 3,
-        Kind::Reduce => 4,
-        Kind::Allreduce => 5,
-        Kind::Allgather => 6,
-        Kind::Alltoall => 7,
-    }
-}
-
 /// The mode and the envelope of a send.
 pub(crate) fn put_sent<S: Sink>(out: &mut S, of: Mode, e: SendEnvelope)
     ensures { Sends (S.page out.old) (S.page out.new) ((pair mode send_envelope).spell (of, e)) }
@@ -153,9 +138,18 @@ pub(crate) fn put_exchange<S: Sink>(out: &mut S, e: Exchange)
 pub(crate) fn put_collective<S: Sink>(out: &mut S, call: Collective)
     ensures { Sends (S.page out.old) (S.page out.new) (gathering.spell call) }
 {
-    put_byte(out, byte_of_kind(call.kind()));
+    put_byte(out, call.kind().number());
     put_marked(out, call.root());
     put_comm(out, call.comm());
+}
+
+/// What a probe looks for: peer, tag and communicator.
+pub(crate) fn put_probe<S: Sink>(out: &mut S, e: ProbeEnvelope)
+    ensures { Sends (S.page out.old) (S.page out.new) (probe.spell e) }
+{
+    put_peer(out, e.source());
+    put_marked(out, e.tag());
+    put_comm(out, e.comm());
 }
 
 /// A completed request: its position, and what is told.

@@ -1,4 +1,4 @@
-use Rattle.trace_stuck.proofs.Holds.{holds_All, holds_One, holds_OneRank}
+use Rattle.trace_stuck.proofs.Holds.{holds_All, holds_One, holds_OneRank, holds_AllRanks}
 use Rattle.trace_stuck.proofs.hold.+hold.Goals as goal
 
 pub does_hold-returns-in-All : goal.does_hold-returns-in-All
@@ -9,3 +9,6 @@ does_hold-returns-in-One g t c = let e = holds_One (g.A.Able.able c.args.able.no
 
 pub does_hold-returns-in-OneRank : goal.does_hold-returns-in-OneRank
 does_hold-returns-in-OneRank g t c = let e = holds_OneRank (g.A.Able.able c.args.able.now) c.in-OneRank.ranks in cc (c.in-OneRank.is, c.deref-in-OneRank.ensures, c.deref-in-OneRank-2.ensures.value, c.can_some_go.ensures)
+
+pub does_hold-returns-in-AllRanks : goal.does_hold-returns-in-AllRanks
+does_hold-returns-in-AllRanks g t c = let e = holds_AllRanks (g.A.Able.able c.args.able.now) c.in-AllRanks.ranks in cc (c.in-AllRanks.is, c.deref-in-AllRanks.ensures, c.deref-in-AllRanks-2.ensures.value, c.can_each_go.ensures)

@@ -2,7 +2,7 @@ use Rattle.std.proofs.Common.{◌≡◌, ◌≤◌, drop, length}
 use Rattle.std.specs.Prelude.{ℤ}
 use Rattle.std.specs.Ordering.{int_eq}
 use Rattle.indexmap.specs.IndexMap.{get}
-use Rattle.trace_wait.specs.Parts.{posted_in}
+use Rattle.trace_wait.specs.Requests.{posted_in}
 use Rattle.trace_wait.proofs.active.calls_of.Given as goal
 
 abbrev pub decreases-loop-at : goal.decreases-loop-at

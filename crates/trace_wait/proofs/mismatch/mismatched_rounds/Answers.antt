@@ -1,4 +1,4 @@
-use Rattle.trace_wait.specs.Conditions.{is_mismatched_at}
+use Rattle.trace_wait.specs.Collectives.{is_mismatched_at}
 use Rattle.trace_wait.proofs.Fronts.{any_more}
 use Rattle.trace_wait.proofs.mismatch.mismatched_rounds.Goals as goal
 

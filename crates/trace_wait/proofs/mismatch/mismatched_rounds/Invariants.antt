@@ -2,7 +2,7 @@ use Rattle.std.proofs.Common.{◌≡◌, ℕ, take}
 use Rattle.std.specs.List.{list_any}
 use Rattle.std.specs.BTreeSet.{contains}
 use Rattle.trace_wait.specs.Patterns.{place_cmp}
-use Rattle.trace_wait.specs.Conditions.{is_mismatched_at}
+use Rattle.trace_wait.specs.Collectives.{is_mismatched_at}
 use Rattle.trace_wait.proofs.mismatch.mismatched_rounds.Given as goal
 
 abbrev pub invariant-loop-round : goal.invariant-loop-round

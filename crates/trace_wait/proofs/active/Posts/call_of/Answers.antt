@@ -2,7 +2,7 @@ use Rattle.std.proofs.Common.{◌∙◌, ℕ, ℤ, ap, List}
 use Rattle.std.specs.Ordering.{int_eq}
 use Rattle.std.proofs.Math.Facts.{to_z-of_z}
 use Rattle.indexmap.specs.IndexMap.{get}
-use Rattle.trace_wait.specs.Parts.{posted_in}
+use Rattle.trace_wait.specs.Requests.{posted_in}
 use Rattle.trace_wait.proofs.active.Posts.call_of.Goals as goal
 
 pub returns : goal.returns

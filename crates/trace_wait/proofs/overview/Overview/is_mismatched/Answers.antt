@@ -1,6 +1,6 @@
 use Rattle.std.proofs.Common.{◌∙◌, ap}
 use Rattle.trace_wait.specs.Parts.{Run}
-use Rattle.trace_wait.specs.Conditions.{is_mismatched}
+use Rattle.trace_wait.specs.Collectives.{is_mismatched}
 use Rattle.trace_wait.proofs.overview.Overview.is_mismatched.Goals as goal
 
 pub returns : goal.returns

@@ -1,10 +1,8 @@
 use Rattle.std.proofs.Common.{◌∙◌, ◌++◌, ◌∷◌, [], ap, sym, map, take, get_or, List, ℕ, refl}
 use Rattle.std.specs.Prelude.{if◌then◌else◌, nat_lt, slice_index}
 use Rattle.trace_wait.specs.Calls.{calls_of}
-use Rattle.std.proofs.lemmas.List.{map-append}
-use Rattle.trace_stuck.specs.Shape.{Wait, OnRank}
-use Rattle.trace_wait.proofs.Steps.{missing, missing_more}
-use Rattle.trace_wait.proofs.collective.absent.Goals as goal
+use Rattle.trace_wait.proofs.Steps.{missing_more}
+use Rattle.trace_wait.proofs.collective.missing.Goals as goal
 
 pub loop-place-preserved : goal.loop-place-preserved
 loop-place-preserved c =
@@ -13,8 +11,6 @@ loop-place-preserved c =
     let one : List ℕ = if c.has_more.result then [] else get_or ranks at 0 ∷ [] in
     let entered = c.has_more.ensures
     ∙ ap (λ (l : List ℕ). nat_lt c.args.k (slice_index l at)) (c.calls_on-calls.ensures ∙ ap (map (calls_of c.args.run.now.ops c.args.comm)) (sym c.members-members.ensures)) in
-    let more = missing_more c.args.run.now c.args.comm c.args.k ranks at (get_or ranks at 0) c.has_more.result c.loop-place-test.true refl entered in
     c.in_ok-push_missing.ensures
-    ∙ ap (λ (l : List Wait). l ++ map OnRank one) c.loop-place.invariant
-    ∙ sym (map-append OnRank (missing c.args.run.now c.args.comm c.args.k (take at ranks)) one)
-    ∙ ap (map OnRank) (sym more)
+    ∙ ap (λ (l : List ℕ). l ++ one) c.loop-place.invariant
+    ∙ sym (missing_more c.args.run.now c.args.comm c.args.k ranks at (get_or ranks at 0) c.has_more.result c.loop-place-test.true refl entered)

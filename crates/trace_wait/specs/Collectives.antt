@@ -1,0 +1,103 @@
+-- What a collective call waits for, by the round that it entered (MPI 4.0, 6.1 and 6.12).
+use Rattle.std.specs.Prelude.{ℕ, Bool, true, false, ◌==◌, ◌&&◌, not, nat_lt, Option, Some, None, List, filter, map, slice_get, count_by, if◌then◌else◌}
+use Rattle.std.specs.List.{list_any, find}
+use Rattle.std.specs.Option.{option_and_then}
+use Rattle.mpi_model.specs.declared.layout.Sends.{Sends}
+use Rattle.mpi_model.specs.declared.layout.Sends.TheVariants as sends
+use Rattle.mpi_model.specs.declared.collective.Kind.{Kind}
+use Rattle.mpi_model.specs.declared.collective.Kind.TheVariants.{Barrier, Bcast, Scatter, Gather, Reduce, Allreduce, Allgather, Alltoall, Ibarrier}
+use Rattle.trace_stuck.specs.Shape as waits
+use Rattle.trace_stuck.specs.Shape.{OnNothing, OnRank, OnAll, waits_of}
+use Rattle.trace_ops.specs.declared.entered.Entered.{Entered}
+use Rattle.trace_wait.specs.declared.round.Round.{Round}
+use Rattle.trace_wait.specs.declared.round.Standing.{Standing}
+use Rattle.trace_wait.specs.declared.round.Standing.TheVariants.{Mismatched, Complete, Partial}
+use Rattle.trace_ops.specs.Ops.{Ops}
+use Rattle.trace_wait.specs.Ranks.{ops_of}
+use Rattle.trace_wait.specs.Parts.{Run, members}
+
+-- the rank has entered round k of communicator c
+abbrev pub has_entered : Run → ℕ → ℕ → ℕ → Bool
+has_entered s c k r = nat_lt k (count_by (λ e. e.comm == c) (ops_of s.ops r).rounds)
+
+-- the members that have not entered the round
+abbrev pub missing : Run → ℕ → ℕ → List ℕ
+missing s c k = filter (λ r. not (has_entered s c k r)) (members s c)
+
+-- all of them
+abbrev pub absent : Run → ℕ → ℕ → waits.Wait
+absent s c k = OnAll (waits_of (map OnRank (missing s c k)))
+
+-- under `wait` the absent members; under `buffer` nothing
+abbrev pub other_side : Run → ℕ → ℕ → waits.Wait
+other_side s c k = by s.layout.sends
+  where
+    by : Sends → waits.Wait
+    by sends.Wait = absent s c k
+    by sends.Buffer = OnNothing
+
+-- the root, where it has not entered
+abbrev pub root_first : Run → ℕ → ℕ → ℕ → waits.Wait
+root_first s c k root = if has_entered s c k root then OnNothing else OnRank root
+
+-- the root of the round, as a trace rank
+abbrev pub root_rank : Run → Entered → Option ℕ
+root_rank s e = option_and_then (slice_get (members s e.comm)) e.root
+
+-- kinds or roots differ
+abbrev pub is_mismatch : Standing → Bool
+is_mismatch Mismatched = true
+is_mismatch (Complete kind root) = false
+is_mismatch (Partial kind root entered all) = false
+
+-- this round is round k of communicator c, and is mismatched
+abbrev pub is_mismatched_at : ℕ → ℕ → Round → Bool
+is_mismatched_at c k r = (r.comm == c) && (r.k == k) && is_mismatch r.standing
+
+abbrev pub is_mismatched : Run → ℕ → ℕ → Bool
+is_mismatched s c k = list_any (is_mismatched_at c k) s.rounds
+
+-- from the root (Bcast, Scatter): the root, and the others
+abbrev pub from_root : Run → ℕ → Entered → ℕ → waits.Wait
+from_root s r e k = by (root_rank s e)
+  where
+    by : Option ℕ → waits.Wait
+    by None = OnNothing
+    by (Some root) = if root == r then other_side s e.comm k else root_first s e.comm k root
+
+-- to the root (Reduce, Gather): the root, and the others
+abbrev pub to_root : Run → ℕ → Entered → ℕ → waits.Wait
+to_root s r e k = by (root_rank s e)
+  where
+    by : Option ℕ → waits.Wait
+    by None = OnNothing
+    by (Some root) = if root == r then absent s e.comm k else other_side s e.comm k
+
+abbrev pub by_kind : Run → ℕ → Entered → ℕ → waits.Wait
+by_kind s r e k = of e.kind
+  where
+    of : Kind → waits.Wait
+    of Barrier = absent s e.comm k
+    of Allreduce = absent s e.comm k
+    of Allgather = absent s e.comm k
+    of Alltoall = absent s e.comm k
+    of Ibarrier = absent s e.comm k
+    of Bcast = from_root s r e k
+    of Scatter = from_root s r e k
+    of Reduce = to_root s r e k
+    of Gather = to_root s r e k
+
+-- the number of the round that a call of the rank entered: so many calls of it on the communicator came before
+abbrev pub round_number : Ops → Entered → ℕ
+round_number o e = count_by (λ d. (d.comm == e.comm) && nat_lt d.call e.call) o.rounds
+
+abbrev pub round_part : Run → ℕ → Entered → ℕ → waits.Wait
+round_part s r e k = if is_mismatched s e.comm k then OnNothing else by_kind s r e k
+
+-- Call n of the rank, where it is collective, or the request that it posted. None was entered where it is local.
+abbrev pub collective_of_call : Run → ℕ → Ops → ℕ → waits.Wait
+collective_of_call s r o n = part (find (λ e. e.call == n) o.rounds)
+  where
+    part : Option Entered → waits.Wait
+    part (Some e) = round_part s r e (round_number o e)
+    part None = OnNothing

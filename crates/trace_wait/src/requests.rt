@@ -1,0 +1,160 @@
+//! What requests wait for, by the calls that posted them.
+
+ghost use Rattle.std.specs.Prelude.{◌≡◌, ◌++◌, ◌∷◌, [], ℕ, Some, map, nat_eq, if◌then◌else◌, IfOk, OnOk};
+ghost use Rattle.std.specs.Option.{option_copied};
+ghost use Rattle.indexmap.specs.IndexMap.{get};
+ghost use Rattle.trace_ops.specs.Order.{AreInOrder, ArePosted};
+ghost use Rattle.trace_stuck.specs.Shape.{shape};
+ghost use Rattle.trace_wait.specs.Requests.{AreMade, post_part, posted_by, request, requests, some_of};
+
+use crate::active::{Posts, posts_of};
+use crate::collective::collective_of_call;
+use crate::overview::Overview;
+use crate::parts::{receive_part, send_part};
+use crate::posts::{receive_of, send_of};
+use indexmap::IndexMap;
+use std::alloc::{AllocError, Global};
+use trace_ops::RankOps;
+use trace_stuck::Condition;
+
+/// What the request waits for that call n of rank r posted.
+fn post_part(
+    alloc: Global,
+    run: &Overview,
+    r: u32,
+    o: &RankOps,
+    n: u64,
+) -> Result<Condition, AllocError>
+    requires sends { AreInOrder o.now.sends }
+    requires receives { ArePosted o.now.receives }
+    ensures { IfOk result (λ c. shape c ≡ post_part run.now r o.now n) }
+{
+    match send_of(o, n) {
+        Some(m) => Ok(send_part(run, &m)),
+        None => match receive_of(o, n) {
+            Some(q) => receive_part(alloc, run, &q),
+            None => collective_of_call(alloc, run, r, o, n),
+        },
+    }
+}
+
+/// The call that posted the active request of this number.
+fn posted_by(o: &RankOps, x: &i64) -> Option<u64>
+    ensures { result ≡ posted_by o.now x.now }
+{
+    Some(o.active().iter().find(|a| a.0 == *x)?.1)
+}
+
+/// What requests wait for that were met before, by the calls that posted them.
+type Made = IndexMap<u64, Condition>;
+
+fn made_before(made: &Made, n: u64) -> Option<&Condition>
+    ensures { option_copied result ≡ get nat_eq made.now n }
+{
+    made.get(&n)
+}
+
+fn note_made(made: &mut Made, n: u64, part: Condition) -> Result<(), AllocError>
+    ensures { OnOk result ((m : ℕ) → get nat_eq made.new m ≡ (if nat_eq n m then Some part else get nat_eq made.old m)) }
+{
+    made.insert(n, part)?;
+    Ok(())
+}
+
+/// What the request waits for that call n of rank r posted. It is made once: a list of ranks in it
+/// is shared by all that ask for it.
+#[tactic(auto, using(crate::proofs::Made::made_more))]
+fn part_of(
+    alloc: Global,
+    run: &Overview,
+    r: u32,
+    o: &RankOps,
+    n: u64,
+    made: &mut Made,
+) -> Result<Condition, AllocError>
+    requires sends { AreInOrder o.now.sends }
+    requires receives { ArePosted o.now.receives }
+    requires made { AreMade run.now r o.now (get nat_eq made.old) }
+    ensures part { IfOk result (λ c. shape c ≡ post_part run.now r o.now n) }
+    ensures made { OnOk result (AreMade run.now r o.now (get nat_eq made.new)) }
+{
+    if let Some(part) = made_before(made, n) {
+        return part.try_clone(alloc);
+    }
+    let part = post_part(alloc, run, r, o, n)?;
+    note_made(made, n, part.try_clone(alloc)?)?;
+    Ok(part)
+}
+
+/// What the active requests of the list wait for.
+pub(crate) fn requests(
+    alloc: Global,
+    run: &Overview,
+    r: u32,
+    o: &RankOps,
+    xs: &[i64],
+) -> Result<Vec<Condition>, AllocError>
+    requires sends { AreInOrder o.now.sends }
+    requires receives { ArePosted o.now.receives }
+    ensures { IfOk result (λ parts. map shape parts.items ≡ requests run.now r o.now xs.now) }
+{
+    let posts = posts_of(alloc, o.active())?;
+    let mut made = Made::new(alloc);
+    let mut parts = Vec::new(alloc);
+    for x in xs {
+        push_request(alloc, run, r, o, &posts, x, &mut made, &mut parts)?;
+    }
+    Ok(parts)
+}
+
+fn push_request(
+    alloc: Global,
+    run: &Overview,
+    r: u32,
+    o: &RankOps,
+    posts: &Posts,
+    x: &i64,
+    made: &mut Made,
+    parts: &mut Vec<Condition>,
+) -> Result<(), AllocError>
+    requires posts { posts.now ≡ o.now.active }
+    requires sends { AreInOrder o.now.sends }
+    requires receives { ArePosted o.now.receives }
+    requires made { AreMade run.now r o.now (get nat_eq made.old) }
+    ensures made { OnOk result (AreMade run.now r o.now (get nat_eq made.new)) }
+    ensures parts { OnOk result (map shape parts.new.items ≡ map shape parts.old.items ++ requests run.now r o.now (x.now ∷ [])) }
+{
+    if let Some(n) = posts.call_of(*x) {
+        parts.push(part_of(alloc, run, r, o, n, made)?)?;
+    }
+    Ok(())
+}
+
+/// One of these; nothing where there is none.
+pub(crate) fn some_of(parts: Vec<Condition>) -> Condition
+    ensures { shape result ≡ some_of (map shape parts.items) }
+{
+    if parts.is_empty() {
+        Condition::yes()
+    } else {
+        Condition::one(parts)
+    }
+}
+
+/// What the request of this number waits for: nothing where it isn't active.
+pub(crate) fn request(
+    alloc: Global,
+    run: &Overview,
+    r: u32,
+    o: &RankOps,
+    x: &i64,
+) -> Result<Condition, AllocError>
+    requires sends { AreInOrder o.now.sends }
+    requires receives { ArePosted o.now.receives }
+    ensures { IfOk result (λ c. shape c ≡ request run.now r o.now x.now) }
+{
+    match posted_by(o, x) {
+        Some(n) => post_part(alloc, run, r, o, n),
+        None => Ok(Condition::yes()),
+    }
+}
