@@ -11,7 +11,7 @@ from collections import Counter, namedtuple
 
 from program import TESTS, TOP
 
-SECONDS, STACK = 20, 4096
+SECONDS, STACK = 120, 4096
 HEAD = struct.Struct("5Q256sQ")
 
 # how a run ended: its status, its two streams, what was met of the kind in all and before a file was opened; whether one was

@@ -1,8 +1,9 @@
 -- What stops a cluster among what two crews leave.
-use Rattle.std.specs.Prelude.{◌≡◌, Result, Ok, Err, List, [], ◌∷◌, ◌++◌, ◌⊎◌, ⊤}
+use Rattle.std.specs.Prelude.{◌≡◌, ◌<◌, ◌≤◌, ℕ, Result, Ok, Err, List, [], ◌∷◌, ◌++◌, ◌⊎◌, ⊤}
 use Rattle.trace_know.specs.View.{View}
 use Rattle.trace_node.specs.declared.fault.NodeFault.{NodeFault}
-use Rattle.trace_cluster.specs.declared.exchange.fault.ExchangeFault.TheVariants.{Merge}
+use Rattle.trace_wire.specs.declared.fault.WireFault.TheVariants as wire
+use Rattle.trace_cluster.specs.declared.exchange.fault.ExchangeFault.TheVariants.{Merge, Read, Write}
 use Rattle.trace_cluster.specs.declared.exchange.fault.ExchangeFault.{ExchangeFault}
 use Rattle.trace_crew.specs.declared.piece.FaultyPiece.{FaultyPiece}
 use Rattle.trace_crew.specs.declared.threads.CrewFault.{CrewFault}
@@ -58,10 +59,24 @@ IsLeadersMerge fault = (cause : NodeFault) × (fault ≡ Lead (Merge cause))
 abbrev pub IsFollowers : Result (Unit {0}) ExchangeFault → ClusterFault → Type 0
 IsFollowers followed fault = (cause : ExchangeFault) × (followed ≡ Err cause) × (fault ≡ Follow cause)
 
--- It is why the leader's side of an exchange was refused, or, where that was not, why the first node did not join what
--- that heard, or why the follower's side was refused.
+-- How surely a side of an exchange was refused for a cause of its own: not where its frame ends short, since only the
+-- other side closes the connection early, and less where the device failed, which it can for that.
+abbrev pub sureness_of : ExchangeFault → ℕ
+sureness_of (Read wire.Short) = 0
+sureness_of (Read wire.Read) = 1
+sureness_of (Write wire.Write) = 1
+sureness_of fault = 2
+
+-- Of a leader that was refused for this and of its follower it is why the one was that stopped the other: the more surely
+-- one's own cause, and where neither is the leader's.
+abbrev pub IsOwnCause : ExchangeFault → Result (Unit {0}) ExchangeFault → ClusterFault → Type 0
+IsOwnCause led (Ok done) fault = fault ≡ Lead led
+IsOwnCause led (Err cause) fault = ((sureness_of led < sureness_of cause) × (fault ≡ Follow cause)) ⊎ ((sureness_of cause ≤ sureness_of led) × (fault ≡ Lead led))
+
+-- It is why a side of an exchange was refused where the leader's was; or, where that was not, why the first node did not
+-- join what that heard, or why the follower's side was refused.
 abbrev pub IsFirstEnd : Result View ExchangeFault → Result (Unit {0}) ExchangeFault → ClusterFault → Type 0
-IsFirstEnd (Err led) followed fault = fault ≡ Lead led
+IsFirstEnd (Err led) followed fault = IsOwnCause led followed fault
 IsFirstEnd (Ok known) followed fault = IsLeadersMerge fault ⊎ IsFollowers followed fault
 
 -- It comes of the exchange, and not of a crew.

@@ -31,10 +31,12 @@ pub enum ClusterFault {
     /// There was no port to listen at, no connection, or no thread for the first node.
     #[error("Y3 Net")]
     Net,
-    /// The exchange was refused to the first node, which leads it.
+    /// The exchange was refused to the first node, which leads it, and not more surely to the second for
+    /// a cause of its own.
     #[error(transparent)]
     Lead(ExchangeFault),
-    /// The exchange was refused to the second node, which follows, and not to the first.
+    /// The exchange was refused to the second node, which follows; to the first it was not, or since
+    /// the second stopped.
     #[error(transparent)]
     Follow(ExchangeFault),
 }

@@ -2,7 +2,7 @@
 
 ghost use Rattle.std.specs.Prelude.{◌≡◌, Ok, IfSome, IfOk, IfErr, OnOk};
 ghost use Rattle.trace_cluster.specs.Exchange.{HaveFrames};
-ghost use Rattle.trace_cluster.specs.Crews.{IsFirstEnd, IsOfMeeting};
+ghost use Rattle.trace_cluster.specs.Crews.{IsFirstEnd, IsOfMeeting, IsOwnCause, sureness_of};
 ghost use Rattle.trace_cluster.specs.Meeting.{HasJoined, IsMore};
 
 use crate::exchange::{ExchangeFault, exchange_frames};
@@ -15,16 +15,27 @@ use std::sync::Wait;
 use std::thread::Threads;
 use std::{io, thread};
 use trace_know::Knowledge;
+use trace_wire::WireFault;
+
+/// How many others may have connected before the first node did: each of them is sent away.
+const MOST_STRANGERS: u32 = 1_024;
 
 /// Listens on 127.0.0.1 at a port that the system gives, connects to it and accepts, in this order:
-/// both ends of one connection.
+/// both ends of one connection. The one that is accepted has the address of the other end; whoever
+/// else of this machine came in between is not heard.
 fn connected<R: Net<Listener = TcpListener, Stream = TcpStream>>(
     rt: &R,
 ) -> io::Result<(TcpStream, TcpStream)> {
     let listener = TcpListener::bind(rt, "127.0.0.1:0")?;
     let one = TcpStream::connect(rt, listener.local_addr()?)?;
-    let (other, _) = listener.accept()?;
-    Ok((one, other))
+    let own = one.local_addr()?;
+    for _ in 0..MOST_STRANGERS {
+        let (other, address) = listener.accept()?;
+        if address == own {
+            return Ok((one, other));
+        }
+    }
+    Err(io::ErrorKind::ConnectionRefused.into())
 }
 
 /// Exchanges frames over a connection for one who knows this, and closes it: what was heard. Only
@@ -78,9 +89,38 @@ fn meet<R: Threads + Wait + Sync, N: Peer>(
     )
 }
 
-/// Both nodes, the first with what its side heard; or why that was refused, else why the first node
-/// did not join it, else why the follower was refused.
-#[tactic(auto, using(crate::proofs::Ending::unmerged_end, crate::proofs::Ending::followed_end))]
+/// Why an exchange was refused to its first side, and what became of the other: the one that surely
+/// comes of its own side, and where both are as sure the first.
+fn refusal_of(led: ExchangeFault, followed: Result<(), ExchangeFault>) -> ClusterFault
+    ensures { IsOwnCause led followed result }
+{
+    match followed {
+        Ok(()) => ClusterFault::Lead(led),
+        Err(fault) => {
+            if sureness(&led) < sureness(&fault) {
+                ClusterFault::Follow(fault)
+            } else {
+                ClusterFault::Lead(led)
+            }
+        }
+    }
+}
+
+/// How surely a side was refused for a cause of its own. A frame ends short only since the other side
+/// closed the connection; a device can fail for that.
+fn sureness(fault: &ExchangeFault) -> u8
+    ensures { result ≡ sureness_of fault.now }
+{
+    match fault {
+        ExchangeFault::Read(WireFault::Short) => 0,
+        ExchangeFault::Read(WireFault::Read) | ExchangeFault::Write(WireFault::Write) => 1,
+        _ => 2,
+    }
+}
+
+/// Both nodes, the first with what its side heard; or why that was refused, or the other side before
+/// it, else why the first node did not join it, else why the follower was refused.
+#[tactic(auto, using(crate::proofs::Ending::unmerged_end, crate::proofs::Ending::followed_end, crate::proofs::Ending::refused_end))]
 fn both<N: Peer>(
     leader: N,
     led: Result<Knowledge, ExchangeFault>,
@@ -94,7 +134,7 @@ fn both<N: Peer>(
     let mut leader = leader;
     let known = match led {
         Ok(known) => known,
-        Err(fault) => return Err(ClusterFault::Lead(fault)),
+        Err(fault) => return Err(refusal_of(fault, follower.end)),
     };
     match leader.learn(&known) {
         Ok(()) => {}
@@ -107,6 +147,7 @@ fn both<N: Peer>(
 }
 
 /// An exchange between two nodes over a socket of this machine: the first leads it.
+#[tactic(auto, using(crate::proofs::Ending::of_meeting))]
 pub(crate) fn exchange<
     R: Net<Listener = TcpListener, Stream = TcpStream> + Threads + Wait + Sync,
     N: Peer,

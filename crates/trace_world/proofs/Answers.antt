@@ -1,7 +1,7 @@
 -- Which nodes have an answer after a step.
-use Rattle.std.proofs.Common.{◌≡◌, ◌≢◌, ◌<◌, ℕ, Bool, true, false, Some, Ok, Err, OnOk, IfErr, Result, List, get_or, set, refl, sym, ap, ◌∙◌, subst}
+use Rattle.std.proofs.Common.{◌≡◌, ◌≢◌, ◌<◌, ℕ, Bool, true, false, Some, Ok, Err, OnOk, IfErr, Result, List, get_or, arith, set, refl, sym, ap, ◌∙◌, subst, Option, nat_lt, if◌then◌else◌}
 use Rattle.std.specs.Prelude.{slice_set, slice_index_or, length}
-use Rattle.std.proofs.lemmas.List.{map-set, set-get_or, get_or-set_other}
+use Rattle.std.proofs.lemmas.List.{length-map, map-set, set-get_or, get_or-set_same, get_or-set_other}
 use Rattle.std.proofs.lemmas.Option.{slice_get-get_or}
 use Rattle.std.specs.FinMap.{empty}
 use Rattle.mpi_model.specs.Layouts.{Parts}
@@ -11,9 +11,9 @@ use Rattle.trace_world.specs.declared.step.Step.{Step}
 use Rattle.trace_world.specs.declared.step.Step.TheVariants.{Post, Take, Ship, Deliver, Restart}
 use Rattle.trace_world.specs.declared.step.WorldFault.{WorldFault}
 use Rattle.trace_world.specs.declared.step.WorldFault.TheVariants.{NoNode, NoMail, EmptyInbox, Rank, FrameLength, Stale, NodeCount, Memory}
-use Rattle.trace_world.specs.Answers.{AnswersFresh, AnswersMore, AnswersStill, AnswersAfter, LosesOne}
+use Rattle.trace_world.specs.Answers.{AnswersFresh, AnswersMore, AnswersStill, AnswersAfter, JoinsMore, LosesOne}
 use Rattle.trace_world.specs.Moves.{Learns}
-use Rattle.trace_world.specs.Refusals.{IsFrameFault, NoneStaler, is_done, node_of, stale}
+use Rattle.trace_world.specs.Refusals.{IsFrameFault, IsOutcome, NoneStaler, is_done, node_of, refusal, refusal_there, stale}
 use Rattle.trace_world.specs.Shows.{WorldState}
 
 -- a node that had an answer, and has one
@@ -82,14 +82,44 @@ lost old mid new (Ship node) so_far h = absurd h
 lost old mid new (Deliver mail node) so_far h = one_lost old mid new node so_far h
 lost old mid new (Restart node) so_far h = absurd h
 
+-- a step that ended in `Stale` joins more
+joins : (x : Step) (old new : List Bool) → AnswersAfter x (Err Stale) old new → JoinsMore x
+joins (Post worker node segment) old new h = absurd h
+joins (Take node) old new h = tt
+joins (Ship node) old new h = absurd h
+joins (Deliver mail node) old new h = tt
+joins (Restart node) old new h = absurd h
+
+-- the node of a step that could be done is there
+there_if : (is_there : Bool) (found : Option WorldFault) → IsOutcome (if is_there then found else Some NoNode) (Err Stale) → is_there ≡ true
+there_if true found h = refl
+there_if false found h = cc
+
+there : (w : WorldState) (x : Step) → IsOutcome (refusal w x) (Err Stale) → node_of x < length w.nodes
+there w x h = let e : nat_lt (node_of x) (length w.nodes) ≡ true = there_if (nat_lt (node_of x) (length w.nodes)) (refusal_there w x) h in grind arith
+
+-- which node has no answer where a step ended in `Stale`
+stale_there : (x : Step) (old new : List Bool) → node_of x < length old → AnswersAfter x (Err Stale) old new → slice_index_or new (node_of x) false ≡ true
+stale_there (Post worker node segment) old new lt h = absurd h
+stale_there (Take node) old new lt h = ap (λ l. slice_index_or l node false) h ∙ get_or-set_same old node true false lt
+stale_there (Ship node) old new lt h = absurd h
+stale_there (Deliver mail node) old new lt h = ap (λ l. slice_index_or l node false) h ∙ get_or-set_same old node true false lt
+stale_there (Restart node) old new lt h = absurd h
+
 -- where a run ends
 pub loses : (old : List Held) (mid new : WorldState) (steps : List Step) (k : ℕ) (x : Step) (fault : WorldFault) → k < length steps → x ≡ get_or steps k x → NoneStaler old mid.nodes
-    → AnswersAfter x (Err fault) (stale mid.nodes) (stale new.nodes) → (is_done (Err fault) ≡ false → new ≡ mid) → LosesOne steps (k, fault) old new.nodes
-loses old mid new steps k x Stale lt is so_far h undone = (x, slice_get-get_or steps k x lt ∙ ap Some (sym is), lost old mid.nodes new.nodes x so_far h)
-loses old mid new steps k x NoNode lt is so_far h undone = same_then old mid new so_far (undone refl)
-loses old mid new steps k x NoMail lt is so_far h undone = same_then old mid new so_far (undone refl)
-loses old mid new steps k x EmptyInbox lt is so_far h undone = same_then old mid new so_far (undone refl)
-loses old mid new steps k x Rank lt is so_far h undone = same_then old mid new so_far (undone refl)
-loses old mid new steps k x FrameLength lt is so_far h undone = same_then old mid new so_far (undone refl)
-loses old mid new steps k x NodeCount lt is so_far h undone = same_then old mid new so_far (undone refl)
-loses old mid new steps k x Memory lt is so_far h undone = same_then old mid new so_far (undone refl)
+    → AnswersAfter x (Err fault) (stale mid.nodes) (stale new.nodes) → IsOutcome (refusal mid x) (Err fault) → (is_done (Err fault) ≡ false → new ≡ mid) → LosesOne steps (k, fault) old new.nodes
+loses old mid new steps k x Stale lt is so_far h may undone = (
+  x,
+  slice_get-get_or steps k x lt ∙ ap Some (sym is),
+  joins x _ _ h,
+  stale_there x _ _ (subst (λ n. node_of x < n) (sym (length-map mid.nodes (λ (n : Held). n.is_stale))) (there mid x may)) h,
+  lost old mid.nodes new.nodes x so_far h,
+)
+loses old mid new steps k x NoNode lt is so_far h may undone = same_then old mid new so_far (undone refl)
+loses old mid new steps k x NoMail lt is so_far h may undone = same_then old mid new so_far (undone refl)
+loses old mid new steps k x EmptyInbox lt is so_far h may undone = same_then old mid new so_far (undone refl)
+loses old mid new steps k x Rank lt is so_far h may undone = same_then old mid new so_far (undone refl)
+loses old mid new steps k x FrameLength lt is so_far h may undone = same_then old mid new so_far (undone refl)
+loses old mid new steps k x NodeCount lt is so_far h may undone = same_then old mid new so_far (undone refl)
+loses old mid new steps k x Memory lt is so_far h may undone = same_then old mid new so_far (undone refl)

@@ -1,5 +1,5 @@
 -- Which nodes have an answer after a step, and after a run that ended before its last step.
-use Rattle.std.specs.Prelude.{◌≡◌, ◌≢◌, ℕ, Bool, true, false, Result, Ok, Err, Some, List, slice_index_or, slice_set}
+use Rattle.std.specs.Prelude.{◌≡◌, ◌≢◌, ⊤, ℕ, Bool, true, false, Result, Ok, Err, Some, List, slice_index_or, slice_set}
 use Rattle.std.specs.List.{slice_get}
 use Rattle.trace_node.specs.Node.{Held}
 use Rattle.trace_world.specs.declared.step.Step.{Step}
@@ -42,8 +42,15 @@ AnswersAfter (Ship node) result old new = AnswersStill result old new
 AnswersAfter (Deliver mail node) result old new = AnswersMore node result old new
 AnswersAfter (Restart node) result old new = AnswersAnew node result old new
 
--- A run ended at one of its steps. No node that had an answer has lost it, but where that step ended in `Stale` its own
--- node has.
+-- At this step its node joins more: only then can it lose its answer.
+abbrev pub JoinsMore : Step → Type 0
+JoinsMore (Take node) = ⊤
+JoinsMore (Deliver mail node) = ⊤
+JoinsMore step = ⊥
+
+-- A run ended at one of its steps. No node that had an answer has lost it, but where that step ended in `Stale`: then its
+-- own node joined more, and has none.
 abbrev pub LosesOne : List Step → ℕ × WorldFault → List Held → List Held → Type 0
-LosesOne steps (k, Stale) old new = (step : Step) × (slice_get steps k ≡ Some step) × ((i : ℕ) → i ≢ node_of step → slice_index_or (stale old) i false ≡ false → slice_index_or (stale new) i false ≡ false)
+LosesOne steps (k, Stale) old new = (step : Step) × (slice_get steps k ≡ Some step) × JoinsMore step × (slice_index_or (stale new) (node_of step) false ≡ true)
+    × ((i : ℕ) → i ≢ node_of step → slice_index_or (stale old) i false ≡ false → slice_index_or (stale new) i false ≡ false)
 LosesOne steps (k, fault) old new = NoneStaler old new

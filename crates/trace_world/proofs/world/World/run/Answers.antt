@@ -22,7 +22,7 @@ pub returns-in-Err-clause-cause : goal.returns-in-Err-clause-cause
 returns-in-Err-clause-cause c = caused _ _ _ _ _ _ c.loop-k-test.true c.index-steps-k.is c.in-Err.ensures.outcome c.in-Err.ensures.undone
 
 pub returns-in-Err-clause-lost : goal.returns-in-Err-clause-lost
-returns-in-Err-clause-lost c = loses _ _ _ _ _ _ _ c.loop-k-test.true c.index-steps-k.is c.loop-k.invariant.fresh c.in-Err.ensures.answers c.in-Err.ensures.undone
+returns-in-Err-clause-lost c = loses _ _ _ _ _ _ _ c.loop-k-test.true c.index-steps-k.is c.loop-k.invariant.fresh c.in-Err.ensures.answers c.in-Err.ensures.outcome c.in-Err.ensures.undone
 
 pub returns-in-Err-clause-possible_before : goal.returns-in-Err-clause-possible_before
 returns-in-Err-clause-possible_before c = could_stop _ _ _ _ _ _ c.loop-k-test.true c.index-steps-k.is c.loop-k.invariant.follows c.loop-k.invariant.same c.loop-k.invariant.could c.in-Err.ensures.outcome
