@@ -158,7 +158,12 @@ pub trait CallSink {
         ensures err { OnErr result (self.new ≡ self.old) };
 
     /// `MPI_Ibarrier`.
-    fn on_ibarrier(&mut self, call: Call, enter: Stamp, exit: Option<Exit>) -> Result<(), Self::Fault>
+    fn on_ibarrier(
+        &mut self,
+        call: Call,
+        enter: Stamp,
+        exit: Option<Exit>,
+    ) -> Result<(), Self::Fault>
         ensures ok { OnOk result (self.new ≡ step self.old (seen OnIbarrier call enter exit)) }
         ensures err { OnErr result (self.new ≡ self.old) };
 

@@ -78,10 +78,7 @@ fn entry_missing(function: Function, raw: &RawCall) -> Option<Parameter>
                 Parameter::Comm,
             ],
         ),
-        Function::Probe => first_of(
-            raw,
-            &[Parameter::Source, Parameter::Tag, Parameter::Comm],
-        ),
+        Function::Probe => first_of(raw, &[Parameter::Source, Parameter::Tag, Parameter::Comm]),
         Function::Wait | Function::Test => first_of(raw, &[Parameter::Request]),
         Function::Waitall | Function::Waitany | Function::Waitsome => {
             first_of(raw, &[Parameter::Requests])

@@ -79,12 +79,7 @@ impl CallSink for SentTo {
         self.add(&call)
     }
 
-    fn on_sendrecv(
-        &mut self,
-        call: Call,
-        _enter: Stamp,
-        _exit: Option<Exit>,
-    ) -> Result<(), Full> {
+    fn on_sendrecv(&mut self, call: Call, _enter: Stamp, _exit: Option<Exit>) -> Result<(), Full> {
         self.add(&call)
     }
 
@@ -104,12 +99,7 @@ impl CallSink for SentTo {
         self.add(&call)
     }
 
-    fn on_waitsome(
-        &mut self,
-        call: Call,
-        _enter: Stamp,
-        _exit: Option<Exit>,
-    ) -> Result<(), Full> {
+    fn on_waitsome(&mut self, call: Call, _enter: Stamp, _exit: Option<Exit>) -> Result<(), Full> {
         self.add(&call)
     }
 

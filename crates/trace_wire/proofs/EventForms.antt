@@ -97,7 +97,7 @@ no_call n bytes lt =
       past n 11 (omega (arith, lt)),
       past n 12 (omega (arith, lt)),
       past n 13 (omega (arith, lt)),
-      past n 14 (omega (arith, lt))
+      past n 14 (omega (arith, lt)),
     ) refl
 
 call_small : (c : Call) → call_code c < 256

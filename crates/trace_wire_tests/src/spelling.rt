@@ -230,9 +230,23 @@ fn probes(rt: HostRuntime) {
 #[test]
 fn ibarriers(rt: HostRuntime) {
     let world = NamedComm::new(CommRef::World).expect(&rt, "the world");
-    assert!(rt; enters(&rt, rt.alloc(), Call::Ibarrier(world), (14, b"\xFF\xFF\xFF\xFF")));
+    assert!(rt;
+        enters(
+            &rt,
+            rt.alloc(),
+            Call::Ibarrier(world),
+            (14, b"\xFF\xFF\xFF\xFF")
+        )
+    );
     let last = NamedComm::new(CommRef::Id(MOST)).expect(&rt, "a communicator");
-    assert!(rt; enters(&rt, rt.alloc(), Call::Ibarrier(last), (14, b"\x7F\xFF\xFF\xFF")));
+    assert!(rt;
+        enters(
+            &rt,
+            rt.alloc(),
+            Call::Ibarrier(last),
+            (14, b"\x7F\xFF\xFF\xFF")
+        )
+    );
 }
 
 #[test]

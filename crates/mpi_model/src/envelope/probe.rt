@@ -79,9 +79,7 @@ impl ProbeEnvelope {
 fn can_be_probed(source: Peer, tag: Option<u32>, comm: CommRef) -> bool
     ensures { IsTrue result ↔ (IsSource source × IsAskedTag tag × IsComm comm) }
 {
-    matches!(
-        source,
-        Peer::Any | Peer::Null | Peer::Rank(0..=0x7FFF_FFFF)
-    ) && matches!(tag, None | Some(0..=0x7FFF_FFFF))
+    matches!(source, Peer::Any | Peer::Null | Peer::Rank(0..=0x7FFF_FFFF))
+        && matches!(tag, None | Some(0..=0x7FFF_FFFF))
         && matches!(comm, CommRef::World | CommRef::Id(0..=0x7FFF_FFFF))
 }
