@@ -1,6 +1,6 @@
 -- The laws of payloads and frames.
-use Rattle.std.proofs.Common.{◌≡◌, ℕ, zero, suc, ◌+◌, ◌*◌, ◌^◌, ◌<◌, ◌≤◌, Bool, true, false, cond, eqb, ltb, List, [], ◌∷◌, ◌++◌, length, get_or, take, drop, Option, Some, None, Result, Ok, Err, refl, sym, ap, subst, ◌∙◌, append_assoc, arith}
-use Rattle.std.specs.Prelude.{◌&&◌}
+use Rattle.std.proofs.Common.{◌≡◌, ℕ, zero, suc, ◌+◌, ◌*◌, ◌-◌, ◌^◌, ◌<◌, ◌≤◌, Bool, true, false, cond, eqb, ltb, List, [], ◌∷◌, ◌++◌, length, get_or, take, drop, Option, Some, None, Result, Ok, Err, refl, sym, ap, subst, ◌∙◌, append_assoc, arith}
+use Rattle.std.specs.Prelude.{◌&&◌, min}
 use Rattle.std.specs.Int.{w32, to_be_bytes}
 use Rattle.std.proofs.lemmas.Bool.{ltb-false, le-ltb, eqb-true}
 use Rattle.std.proofs.lemmas.List.{append-nil, nil_from_length, length-append, length-take, take_at, drop_at, take-append-drop}
@@ -10,7 +10,7 @@ use Rattle.trace_wire.specs.declared.version.Version.{Version}
 use Rattle.trace_wire.specs.declared.version.Version.TheVariants.{One, Two}
 use Rattle.trace_wire.specs.Forms.{number, number_at, IsBytes}
 use Rattle.trace_wire.specs.Cells.{AreCells, Entry, cell_bytes, cells_bytes, knowns_bytes, knowns_of}
-use Rattle.trace_wire.specs.Runs.{AreRuns, PlacedRun, RunFits, cells_in, run_bytes, runs_bytes, runs_of}
+use Rattle.trace_wire.specs.Runs.{AreRuns, PlacedRun, RunFits, behind, cells_in, run_bytes, runs_bytes, runs_of}
 use Rattle.trace_wire.specs.Frames.{HasFrame, HasFrameAs, frame_as, head_of, longest_of, parts_bytes, parts_in, payload_as, version_number}
 use Rattle.trace_wire.specs.Parts.{◌>=>◌, cell, or_fault, parts_at, run}
 use Rattle.trace_wire.specs.FirstFault.{body_of, frame_at, framed, is_magic, limited, no_rest, parts_of, payload_of, version_of}
@@ -34,11 +34,11 @@ cells_stand before (e ∷ es) h = ((h.0, h.1), cells_stand (Some e.0) es h.2)
 
 fit_runs : (before : Option (ℕ × ℕ)) (rs : List PlacedRun) → AllFit run RunFits before rs → AreRuns before rs
 fit_runs before [] h = tt
-fit_runs before (r ∷ rs) h = (h.0, fit_runs _ rs h.1)
+fit_runs before (r ∷ rs) h = (h.0, fit_runs (Some (behind r)) rs h.1)
 
 runs_stand : (before : Option (ℕ × ℕ)) (rs : List PlacedRun) → AreRuns before rs → AllFit run RunFits before rs
 runs_stand before [] h = tt
-runs_stand before (r ∷ rs) h = (h.0, runs_stand _ rs h.1)
+runs_stand before (r ∷ rs) h = (h.0, runs_stand (Some (behind r)) rs h.1)
 
 -- what was read as so many parts
 abbrev AsParts : Version → ℕ → List ℕ → List Entry × List ℕ → Type 0
@@ -132,6 +132,11 @@ pub version_again : (version : Version) → version_of 0 (version_number version
 version_again One = refl
 version_again Two = refl
 
+-- the first six bytes are those of a head
+pub head_text : {a b c d e f : ℕ} {bytes rest : List ℕ} (version : Version) → a ≡ 77 → b ≡ 80 → c ≡ 84 → d ≡ 88 → e ≡ 0 → f ≡ version_number version → bytes ≡ rest
+    → (a ∷ b ∷ c ∷ d ∷ e ∷ f ∷ bytes) ≡ (77 ∷ 80 ∷ 84 ∷ 88 ∷ 0 ∷ version_number version ∷ rest)
+head_text version a b c d e f same = λ i. a i ∷ b i ∷ c i ∷ d i ∷ e i ∷ f i ∷ same i
+
 -- a frame that was read, of some version
 abbrev IsFramed : List ℕ → List Entry × List ℕ → Type 0
 IsFramed bytes x = (version : Version) × (bytes ≡ frame_as version x.0 ++ x.1) × HasFrameAs version x.0
@@ -159,7 +164,7 @@ frame_takes (a ∷ b ∷ c ∷ d ∷ f ∷ g ∷ bytes) x fits e =
     let inner : bytes ≡ to_be_bytes w32 (length body) ++ (body ++ x.1) = t.0.parts ∙ ap (λ (r : List ℕ). to_be_bytes w32 n.0.0 ++ r) y.0 ∙ ap (λ (k : ℕ). to_be_bytes w32 k ++ (body ++ x.1)) (sym y.1) in
     let limit : n.0.0 ≤ longest_of version = ltb-false (longest_of version) n.0.0 l.0 in
     let whole : (a ∷ b ∷ c ∷ d ∷ f ∷ g ∷ bytes) ≡ frame_as version x.0 ++ x.1 =
-    rw (mm.0, mm.1, mm.2, mm.3, vv.0, vv.1) (ap (λ (r : List ℕ). 77 ∷ 80 ∷ 84 ∷ 88 ∷ 0 ∷ version_number version ∷ r) (inner ∙ sym (append_assoc (to_be_bytes w32 (length body)) body x.1))) in
+    head_text version mm.0 mm.1 mm.2 mm.3 vv.0 vv.1 (inner ∙ sym (append_assoc (to_be_bytes w32 (length body)) body x.1)) in
     (version, whole, (y.2, subst (λ (k : ℕ). k ≤ longest_of version) (sym y.1) limit))
 
 within_32 : (version : Version) (n : ℕ) → n ≤ longest_of version → n < 2 ^ 32
@@ -208,3 +213,16 @@ no_refusal version bytes rest es fault has parts e = ok_err (es, rest) fault (fr
 pub second_fits : (version : Version) (es : List Entry) → HasFrameAs version es → HasFrame es
 second_fits One es h = (h.0, omega (arith, h.1, payload_len One es, payload_len Two es, runs_few es))
 second_fits Two es h = h
+
+-- ---- what is written fits
+
+pub within : (version : Version) (len all longest : ℕ) → longest ≡ longest_of version → len ≡ min all (2 ^ 64 - 1) → len ≤ longest → all ≤ longest_of version
+within One len all longest is e le = omega (arith, is, e, le)
+within Two len all longest is e le = omega (arith, is, e, le)
+
+pub parts_sized : (version : Version) (es : List Entry) (parts : ℕ) → parts ≡ min (parts_in version es) (2 ^ 64 - 1) → length (payload_as version es) ≤ longest_of version → (parts_in version es ≡ parts) × (parts < 2 ^ 32)
+parts_sized version es parts is le =
+    let short = within_32 version (length (payload_as version es)) le in
+    let len = length-append (to_be_bytes w32 (parts_in version es)) (parts_bytes version es) in
+    let few = parts_short version es in
+    (omega (arith, is, short, len, few), omega (arith, is, short, len, few))

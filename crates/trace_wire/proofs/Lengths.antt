@@ -1,6 +1,6 @@
 -- Lengths of what is spelled.
-use Rattle.std.proofs.Common.{◌≡◌, ℕ, suc, ◌<◌, ◌≤◌, ◌+◌, ◌*◌, ◌^◌, Bool, true, false, cond, List, [], ◌∷◌, ◌++◌, length, Option, arith, ap, refl, ◌∙◌, length-append}
-use Rattle.std.specs.Prelude.{ℤ}
+use Rattle.std.proofs.Common.{◌≡◌, ℕ, suc, ◌<◌, ◌≤◌, ◌+◌, ◌*◌, ◌-◌, ◌^◌, Bool, true, false, cond, List, [], ◌∷◌, ◌++◌, length, Option, arith, ap, refl, ◌∙◌, length-append}
+use Rattle.std.specs.Prelude.{ℤ, min}
 use Rattle.std.specs.List.{flat_map}
 use Rattle.std.specs.Int.{w32, to_be_bytes}
 use Rattle.std.proofs.lemmas.List.Concat.{flat_map-cons}
@@ -118,3 +118,8 @@ runs_few (e ∷ es) = omega (arith, front_few e (runs_of es), runs_few es)
 pub parts_step : (version : Version) (e : Entry) (es : List Entry) → parts_in version (e ∷ es) ≡ part_end version (run_len (e ∷ es)) + parts_in version es
 parts_step One e es = omega arith
 parts_step Two e es = one_more_run e es
+
+-- so many parts at most, or as many as can be counted
+pub heads_capped : (version : Version) (parts all : ℕ) → parts ≡ min all (2 ^ 64 - 1) → min (parts * head_len version) (2 ^ 64 - 1) ≡ min (all * head_len version) (2 ^ 64 - 1)
+heads_capped One parts all is = omega (arith, is)
+heads_capped Two parts all is = omega (arith, is)

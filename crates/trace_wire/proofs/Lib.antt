@@ -9,7 +9,9 @@ pub mod RunCells
 pub mod RunLaws
 pub mod Lengths
 pub mod FrameLaws
+pub mod WrittenRuns
 pub mod PartLoop
+pub mod KnownLoop
 pub mod LastCells
 pub mod Heads
 pub mod Sending

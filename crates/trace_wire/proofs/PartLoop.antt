@@ -13,15 +13,23 @@ use Rattle.trace_wire.specs.Outcomes.{FailsWith}
 abbrev pub CellsRead : Type 0
 CellsRead = Result (List Entry × List ℕ) WireFault
 
+-- the cells in parts
+abbrev pub in_parts : {A : Type 0} → (A → List Entry) → List A × List ℕ → CellsRead
+in_parts cells x = Ok (flat_map cells x.0, x.1)
+
 -- the cells in so many parts
 abbrev pub cells_at : {A : Type 0} → Part A → (A → List Entry) → ℕ → Option (ℕ × ℕ) → List ℕ → CellsRead
-cells_at part cells n before bytes = parts_at part n before bytes >=> λ x. Ok (flat_map cells x.0, x.1)
+cells_at part cells n before bytes = parts_at part n before bytes >=> in_parts cells
+
+-- a part before others
+abbrev with_first : {A : Type 0} → A → List A × List ℕ → Result (List A × List ℕ) WireFault
+with_first a x = Ok (a ∷ x.0, x.1)
 
 -- what was read before, and what is still read
 abbrev pub cells_after : List Entry → CellsRead → CellsRead
 cells_after front read = read >=> λ x. Ok (front ++ x.0, x.1)
 
-first_of : {A : Type 0} (cells : A → List Entry) (a : A) (read : Result (List A × List ℕ) WireFault) → ((read >=> λ x. Ok (a ∷ x.0, x.1)) >=> λ x. Ok (flat_map cells x.0, x.1)) ≡ cells_after (cells a) (read >=> λ x. Ok (flat_map cells x.0, x.1))
+first_of : {A : Type 0} (cells : A → List Entry) (a : A) (read : Result (List A × List ℕ) WireFault) → ((read >=> with_first a) >=> in_parts cells) ≡ cells_after (cells a) (read >=> in_parts cells)
 first_of cells a (Ok x) = ap (λ (es : List Entry). Ok (es, x.1)) (flat_map-cons cells a x.0)
 first_of cells a (Err fault) = refl
 
@@ -84,6 +92,6 @@ each_alone : (es : List Entry) → flat_map alone es ≡ es
 each_alone [] = refl
 each_alone (e ∷ es) = flat_map-cons alone e es ∙ ap (λ (fs : List Entry). e ∷ fs) (each_alone es)
 
-pub as_cells : (read : CellsRead) → (read >=> λ x. Ok (flat_map alone x.0, x.1)) ≡ read
+pub as_cells : (read : CellsRead) → (read >=> in_parts alone) ≡ read
 as_cells (Ok x) = ap (λ (es : List Entry). Ok (es, x.1)) (each_alone x.0)
 as_cells (Err fault) = refl

@@ -155,7 +155,9 @@ run_within e (f ∷ es) = within (is_behind e.0 f.0) (run_within f es)
 ends_run : (b : Bool) (e f : Entry) (n : ℕ) (ks : List Known) (rs : List PlacedRun) → is_behind e.0 f.0 ≡ b
     → length (cond (is_behind e.0 f.0) (placed_run e.0 (e.1 ∷ ks) ∷ rs) (placed_run e.0 (e.1 ∷ []) ∷ placed_run f.0 ks ∷ rs)) ≡ cond (eqb (suc (cond b (suc n) 0)) 1) 1 0 + length (placed_run f.0 ks ∷ rs)
 ends_run true e f n ks rs h = ap (λ (b : Bool). length (cond b (placed_run e.0 (e.1 ∷ ks) ∷ rs) (placed_run e.0 (e.1 ∷ []) ∷ placed_run f.0 ks ∷ rs))) h
-ends_run false e f n ks rs h = ap (λ (b : Bool). length (cond b (placed_run e.0 (e.1 ∷ ks) ∷ rs) (placed_run e.0 (e.1 ∷ []) ∷ placed_run f.0 ks ∷ rs))) h
+ends_run false e f n ks rs h =
+    let more : length (cond (is_behind e.0 f.0) (placed_run e.0 (e.1 ∷ ks) ∷ rs) (placed_run e.0 (e.1 ∷ []) ∷ placed_run f.0 ks ∷ rs)) ≡ suc (suc (length rs)) = ap (λ (b : Bool). length (cond b (placed_run e.0 (e.1 ∷ ks) ∷ rs) (placed_run e.0 (e.1 ∷ []) ∷ placed_run f.0 ks ∷ rs))) h in
+    omega (arith, more)
 
 -- a cell ends a run where no other stands right behind it
 pub one_more_run : (e : Entry) (es : List Entry) → length (runs_of (e ∷ es)) ≡ cond (eqb (run_len (e ∷ es)) 1) 1 0 + length (runs_of es)

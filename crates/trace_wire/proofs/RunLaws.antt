@@ -6,7 +6,7 @@ use Rattle.std.proofs.lemmas.List.{length-append}
 use Rattle.std.proofs.lemmas.List.Concat.{flat_map-cons}
 use Rattle.trace_know.specs.declared.cell.Known.{Known}
 use Rattle.trace_know.specs.declared.cell.Known.TheVariants as knowns
-use Rattle.trace_know.specs.Placed.{IsPlaced}
+use Rattle.trace_know.specs.Placed.{ArePlaced, IsPlaced}
 use Rattle.trace_wire.specs.declared.fault.WireFault.{WireFault}
 use Rattle.trace_wire.specs.declared.fault.WireFault.TheVariants.{Order, Content}
 use Rattle.trace_wire.specs.Forms.{◌>>=◌, number_at, IsBytes}
@@ -54,7 +54,7 @@ some_bytes k = some k
     some (knowns.One event) = omega arith
     some knowns.Contradiction = omega arith
 
-knowns_short : (ks : List Known) → length ks ≤ length (knowns_bytes ks)
+pub knowns_short : (ks : List Known) → length ks ≤ length (knowns_bytes ks)
 knowns_short ks = items_short known_bytes some_bytes ks
 
 -- ---- runs
@@ -109,3 +109,8 @@ run_part = record {
   again = run_again;
   some = λ r. omega (arith, length-append (place_form.spell (r.rank, r.first)) (to_be_bytes w32 (length r.cells) ++ knowns_bytes r.cells));
 }
+
+-- what stands there can stand there
+pub placed_there : (rank place : ℕ) (ks : List Known) → AreKnown rank place ks → ArePlaced rank place ks
+placed_there rank place [] h = tt
+placed_there rank place (k ∷ ks) h = (h.0.0, placed_there rank (place + 1) ks h.1)

@@ -28,9 +28,12 @@ abbrev pub runs_of : List Entry → List PlacedRun
 runs_of [] = []
 runs_of (e ∷ es) = in_front e (runs_of es)
 
--- the cells of runs
+-- the cells of a run, and of runs
+abbrev pub run_cells : PlacedRun → List Entry
+run_cells r = placed_cells r.rank r.first r.cells
+
 abbrev pub cells_in : List PlacedRun → List Entry
-cells_in rs = flat_map (λ r. placed_cells r.rank r.first r.cells) rs
+cells_in rs = flat_map run_cells rs
 
 -- Each can stand at its place from one on, and lies in its range.
 abbrev pub AreKnown : ℕ → ℕ → List Known → Type 0

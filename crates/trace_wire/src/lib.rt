@@ -7,9 +7,9 @@
 //! Hostile bytes get a named refusal: the first cause, in the order of [`WireFault`]. The format stands in
 //! `docs/formats.md`, and as definitions in `specs/`.
 //!
-//! A frame has at most 10 + 67,108,864 bytes, in version 1 10 + 16,777,216. Both directions are linear in its length. Writing takes no memory and
-//! calls the device once for each 4,096 bytes; reading takes memory for the bytes that really came, whatever the length
-//! field says, and then for the knowledge.
+//! A payload has at most 67,108,864 bytes, in version 1 16,777,216. Both directions are linear in its length. Writing
+//! takes no memory and calls the device once for each 4,096 bytes; reading takes memory for the bytes that really came,
+//! whatever the length field and the counts say, and then for the knowledge.
 //!
 //! - [`version`]: the versions and their limits
 //! - [`write`]: a frame, field by field, into a page that goes to the device when it is full

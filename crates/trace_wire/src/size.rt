@@ -82,6 +82,7 @@ fn known_len(known: &Known) -> u64
 }
 
 /// The size of a payload.
+#[derive(Clone, Copy)]
 pub(crate) struct Size {
     /// How many parts it has: cells, or runs.
     pub parts: u64,

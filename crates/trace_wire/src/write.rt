@@ -18,7 +18,7 @@ pub(crate) mod runs;
 pub(crate) mod sink;
 
 use crate::fault::WireFault;
-use crate::size::payload_size;
+use crate::size::{Size, payload_size};
 use crate::version::Version;
 use crate::write::direct::Direct;
 use crate::write::paged::Paged;
@@ -67,17 +67,12 @@ pub fn write_frame_as<W: Write>(
     ensures later { W.failures writer.old ≤ W.failures writer.new }
     ensures beside { LeavesSide (W.read_side writer.old) (W.read_side writer.new) }
 {
-    let size = payload_size(version, knowledge);
-    if size.len > version.longest() {
+    let Size { parts, len } = payload_size(version, knowledge);
+    let longest = version.longest();
+    if len > longest {
         return Err(WireFault::Length);
     }
-    if send(
-        version,
-        size.len as u32,
-        size.parts as u32,
-        knowledge,
-        writer,
-    ) {
+    if send(version, len as u32, parts as u32, knowledge, writer) {
         return Err(WireFault::Write);
     }
     Ok(())

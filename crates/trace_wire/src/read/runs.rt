@@ -3,11 +3,12 @@
 ghost use Rattle.std.specs.Prelude.{◌≡◌, ◌+◌, ◌≤◌, ◌++◌, ◌^◌, ℕ, None, Ok, IfOk, IfErr, true};
 ghost use Rattle.std.specs.FinMap.{entries};
 ghost use Rattle.trace_know.specs.Placed.{IsPast};
-ghost use Rattle.trace_know.specs.Runs.{placed_cells};
 ghost use Rattle.trace_wire.specs.Outcomes.{Reads, Gives, FailsWith, IsOfBytes};
 ghost use Rattle.trace_wire.specs.Cells.{is_past};
-ghost use Rattle.trace_wire.specs.Runs.{PlacedRun, behind, cells_in, placed_run};
-ghost use Rattle.trace_wire.specs.Parts.{◌>=>◌, is_run, knowns_at, parts_at, run, run_at};
+ghost use Rattle.trace_wire.specs.Runs.{PlacedRun, behind, placed_run, run_cells};
+ghost use Rattle.trace_wire.specs.Parts.{is_run, knowns_at, run_at};
+ghost use Rattle.trace_wire.specs.FirstFault.{parts_of};
+ghost use Rattle.trace_wire.specs.declared.version.Version.TheVariants.{Two};
 
 use crate::fault::WireFault;
 use crate::read::cells::{are_bytes, fault_of, is_past, known_of, place_of};
@@ -16,6 +17,7 @@ use std::alloc::Global;
 use trace_know::{Knowledge, Known, PLACES};
 
 /// A run as it was read.
+#[derive(Drop)]
 struct Run {
     rank: u32,
     first: u64,
@@ -89,15 +91,16 @@ fn put_run<'a>(
     bytes: &'a [u8],
 ) -> Result<((u32, u64), &'a [u8]), WireFault>
     requires { (rank place : ℕ) → is_past before (rank, place) ≡ true → IsPast knowledge.old rank place }
-    ensures ok { IfOk result (λ x. (r : PlacedRun) × (run_at before bytes.now ≡ Ok (r, x.1.now)) × (x.0 ≡ behind r) × (entries knowledge.new ≡ entries knowledge.old ++ placed_cells r.rank r.first r.cells)) }
+    ensures ok { IfOk result (λ x. (r : PlacedRun) × (run_at before bytes.now ≡ Ok (r, x.1.now)) × (is_past before (r.rank, r.first) ≡ true) × (x.0 ≡ behind r) × (entries knowledge.new ≡ entries knowledge.old ++ run_cells r)) }
     ensures err { IfErr result (λ fault. FailsWith fault (run_at before bytes.now)) }
     ensures cause { IfErr result IsOfBytes }
 {
     are_bytes(bytes);
     let (run, rest) = field!(run_of(alloc, before, bytes));
-    let end = run.first + run.cells.len() as u64;
-    match knowledge.put_run(run.rank, run.first, run.cells) {
-        Ok(()) => Ok(((run.rank, end), rest)),
+    let Run { rank, first, cells } = run;
+    let end = first + cells.len() as u64;
+    match knowledge.put_run(rank, first, cells) {
+        Ok(()) => Ok(((rank, end), rest)),
         Err(_) => Err(WireFault::Memory),
     }
 }
@@ -109,7 +112,7 @@ pub(crate) fn runs_of(
     count: u32,
     bytes: &[u8],
 ) -> Result<(Knowledge, &[u8]), WireFault>
-    ensures value { Gives (λ x. (entries x.0, x.1.now)) result (parts_at run count None bytes.now >=> λ x. Ok (cells_in x.0, x.1)) }
+    ensures value { Gives (λ x. (entries x.0, x.1.now)) result (parts_of Two count bytes.now) }
     ensures cause { IfErr result IsOfBytes }
 {
     let mut knowledge = Knowledge::new(alloc);

@@ -1,10 +1,8 @@
 //! Runs, put into a sink.
 
-ghost use Rattle.std.specs.Prelude.{◌≡◌, ◌<◌, ◌≤◌, ◌^◌, ◌∷◌, ◌++◌, drop, length, take};
-ghost use Rattle.std.specs.Int.{w32};
+ghost use Rattle.std.specs.Prelude.{◌≡◌, ◌<◌, ◌≤◌, ◌^◌, ◌∷◌, drop, length, take};
 ghost use Rattle.trace_know.specs.Listing.{run_len};
-ghost use Rattle.trace_wire.specs.Forms.{number};
-ghost use Rattle.trace_wire.specs.Cells.{knowns_bytes, knowns_of, place_form};
+ghost use Rattle.trace_wire.specs.Cells.{knowns_bytes, knowns_of};
 ghost use Rattle.trace_wire.specs.Runs.{PlacedRun, run_bytes, runs_bytes, runs_of};
 ghost use Rattle.trace_wire.specs.Sending.{Sends};
 
@@ -12,14 +10,6 @@ use crate::write::cells::{put_known, put_place};
 use crate::write::field::put_u32;
 use crate::write::sink::Sink;
 use trace_know::Walk;
-
-/// The rank, the first place and the length of a run.
-fn put_run_head<S: Sink>(out: &mut S, rank: u32, first: u64, count: u32)
-    ensures { Sends (S.page out.old) (S.page out.new) (place_form.spell (rank, first) ++ (number w32).spell count) }
-{
-    put_place(out, rank, first);
-    put_u32(out, count);
-}
 
 /// What is known at so many cells of a walk, without their places.
 fn put_knowns<S: Sink>(out: &mut S, count: usize, cells: &mut Walk<'_>)
@@ -29,9 +19,10 @@ fn put_knowns<S: Sink>(out: &mut S, count: usize, cells: &mut Walk<'_>)
     ensures rest { cells.new ≡ drop count cells.old }
 {
     for _ in 0..count {
-        if let Some((_, _, known)) = cells.next() {
-            put_known(out, known);
-        }
+        let Some((_, _, known)) = cells.next() else {
+            return;
+        };
+        put_known(out, known);
     }
 }
 
@@ -42,11 +33,13 @@ fn put_run<S: Sink>(out: &mut S, cells: &mut Walk<'_>)
     ensures { (r : PlacedRun) × (runs_of cells.old ≡ r ∷ runs_of cells.new) × Sends (S.page out.old) (S.page out.new) (run_bytes r) }
 {
     let count = cells.run_len();
-    if let Some((rank, first, known)) = cells.next() {
-        put_run_head(out, rank, first, count as u32);
-        put_known(out, known);
-        put_knowns(out, count - 1, cells);
-    }
+    let Some((rank, first, known)) = cells.next() else {
+        unreachable!();
+    };
+    put_place(out, rank, first);
+    put_u32(out, count as u32);
+    put_known(out, known);
+    put_knowns(out, count - 1, cells);
 }
 
 /// The runs that a walk has left.
