@@ -152,9 +152,15 @@ run_within e (f ∷ es) = within (is_behind e.0 f.0) (run_within f es)
 
 -- ---- how many runs there are
 
+not_one : (n : ℕ) → eqb (suc (suc n)) 1 ≡ false
+not_one n = grind (arith, nat_tests)
+
 ends_run : (b : Bool) (e f : Entry) (n : ℕ) (ks : List Known) (rs : List PlacedRun) → is_behind e.0 f.0 ≡ b
     → length (cond (is_behind e.0 f.0) (placed_run e.0 (e.1 ∷ ks) ∷ rs) (placed_run e.0 (e.1 ∷ []) ∷ placed_run f.0 ks ∷ rs)) ≡ cond (eqb (suc (cond b (suc n) 0)) 1) 1 0 + length (placed_run f.0 ks ∷ rs)
-ends_run true e f n ks rs h = ap (λ (b : Bool). length (cond b (placed_run e.0 (e.1 ∷ ks) ∷ rs) (placed_run e.0 (e.1 ∷ []) ∷ placed_run f.0 ks ∷ rs))) h
+ends_run true e f n ks rs h =
+    let less : length (cond (is_behind e.0 f.0) (placed_run e.0 (e.1 ∷ ks) ∷ rs) (placed_run e.0 (e.1 ∷ []) ∷ placed_run f.0 ks ∷ rs)) ≡ suc (length rs) = ap (λ (b : Bool). length (cond b (placed_run e.0 (e.1 ∷ ks) ∷ rs) (placed_run e.0 (e.1 ∷ []) ∷ placed_run f.0 ks ∷ rs))) h in
+    let none : 0 + suc (length rs) ≡ suc (length rs) = omega arith in
+    less ∙ sym (ap (λ (b : Bool). cond b 1 0 + suc (length rs)) (not_one n) ∙ none)
 ends_run false e f n ks rs h =
     let more : length (cond (is_behind e.0 f.0) (placed_run e.0 (e.1 ∷ ks) ∷ rs) (placed_run e.0 (e.1 ∷ []) ∷ placed_run f.0 ks ∷ rs)) ≡ suc (suc (length rs)) = ap (λ (b : Bool). length (cond b (placed_run e.0 (e.1 ∷ ks) ∷ rs) (placed_run e.0 (e.1 ∷ []) ∷ placed_run f.0 ks ∷ rs))) h in
     omega (arith, more)

@@ -11,7 +11,7 @@ overflow_cast-parts g c =
     let es = entries c.args.knowledge.now in
     let size = c.payload_size-parts.ensures in
     let fits = within version c.payload_size-parts.result.len (length (payload_as version es)) c.longest-longest.result c.longest-longest.ensures size.len (omega (arith, c.if-len-longest.false)) in
-    (parts_sized version es c.payload_size-parts.result.parts size.parts fits).1
+    omega (arith, (parts_sized version es c.payload_size-parts.result.parts size.parts fits).1)
 
 pub send-requires-clause-parts : goal.send-requires-clause-parts
 send-requires-clause-parts g c =
