@@ -12,14 +12,14 @@ SECONDS = 300
 NOBODY = 65534
 # a segment has at most 65,536 events, two for each call
 CALLS_OF_A_SEGMENT = 32_768
-# bytes of a frame that may follow its length field, and those of the count of cells
-LONGEST, COUNT = 16_777_216, 4
-# rank, place and kind of a cell; kind, wall and CPU time of an event
-CELL, EVENT = 13, 17
+# bytes of a frame that may follow its length field, and those of the count of runs
+LONGEST, COUNT = 67_108_864, 4
+# rank, first place and count of a run; kind of a cell; kind, wall and CPU time of an event
+RUN, CELL, EVENT = 16, 1, 17
 # By docs/formats.md the Enter of a call that waits for requests has their number (4 bytes) and each of them (8), and its Return
-# as many told sources (4 each). So many calls of so many requests fit a frame, and no more.
+# as many told sources (4 each). So many calls of so many requests, all in one run, fit a frame, and no more.
 REQUESTS = 32_000
-MOST_HEAVY = (LONGEST - COUNT) // (2 * (CELL + EVENT + 4) + 12 * REQUESTS)
+MOST_HEAVY = (LONGEST - COUNT - RUN) // (2 * (CELL + EVENT + 4) + 12 * REQUESTS)
 
 
 class Checks:

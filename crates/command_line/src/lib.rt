@@ -144,7 +144,7 @@ nodes send each other what they know over a socket of this machine. It prints
 A file of a piece may have 1,073,741,824 bytes. A run that can't be done ends with 1 and a line:
   Y1 Worker                    a thread could not be started
   Y3 Net                       no connection could be made
-  W4 Length, W5 Short          a node knows too much to send, above 16,777,216 bytes
+  W4 Length, W5 Short          a node knows too much to send, above 67,108,864 bytes
   N1 Rank                      a piece has calls of a rank that the layout doesn't have
 "#;
 

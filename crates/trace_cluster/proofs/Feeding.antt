@@ -8,7 +8,10 @@ use Rattle.trace_know.specs.View.{View, join}
 use Rattle.trace_node.specs.Node.{Held}
 use Rattle.trace_wire.specs.declared.fault.WireFault.{WireFault}
 use Rattle.trace_wire.specs.FirstFault.{frame_at}
-use Rattle.trace_wire.specs.Frames.{Entry, HasFrame, frame, frame_of}
+use Rattle.trace_wire.specs.declared.version.Version.{Version}
+use Rattle.trace_wire.specs.declared.version.Version.TheVariants.{Two}
+use Rattle.trace_wire.specs.Cells.{Entry}
+use Rattle.trace_wire.specs.Frames.{HasFrame, HasFrameAs, frame, frame_as, frame_of}
 use Rattle.trace_cluster.specs.Exchange.{ExchangesFrames, Follows, Got, Leads, Wrote}
 use Rattle.trace_cluster.specs.Stream.{IsFedBy, Stream}
 
@@ -30,13 +33,13 @@ ok_is : {A : Type 0} (x y : A) → done x ≡ done y → x ≡ y
 ok_is x y e = cc
 
 -- two frames that stand in front of one byte string are of the same cells
-one_front : ((es : List Entry) (rest : List ℕ) → HasFrame es → frame_at (frame es ++ rest) ≡ Ok (es, rest)) →
-    (es fs : List Entry) (more rest : List ℕ) → HasFrame es → HasFrame fs → frame es ++ more ≡ frame fs ++ rest → es ≡ fs
-one_front again es fs more rest he hf e =
-    ap (λ (p : List Entry × List ℕ). p.0) (ok_is (es, more) (fs, rest) (sym (again es more he) ∙ ap frame_at e ∙ again fs rest hf))
+one_front : ((version : Version) (es : List Entry) (rest : List ℕ) → HasFrameAs version es → frame_at (frame_as version es ++ rest) ≡ Ok (es, rest)) →
+    (one other : Version) (es fs : List Entry) (more rest : List ℕ) → HasFrameAs one es → HasFrameAs other fs → frame_as one es ++ more ≡ frame_as other fs ++ rest → es ≡ fs
+one_front again one other es fs more rest he hf e =
+    ap (λ (p : List Entry × List ℕ). p.0) (ok_is (es, more) (fs, rest) (sym (again one es more he) ∙ ap frame_at e ∙ again other fs rest hf))
 
 module _
-    (again : (es : List Entry) (rest : List ℕ) → HasFrame es → frame_at (frame es ++ rest) ≡ Ok (es, rest))
+    (again : (version : Version) (es : List Entry) (rest : List ℕ) → HasFrameAs version es → frame_at (frame_as version es ++ rest) ≡ Ok (es, rest))
     (views : (v w : View) → HasFrame (entries v) → HasFrame (entries w) → frame_of v ≡ frame_of w → v ≡ w)
     (associative : (a b c : View) → join (join a b) c ≡ join a (join b c))
     (commutative : (a b : View) → join a b ≡ join b a)
@@ -45,10 +48,11 @@ module _
   heard_is_sent : (reader rest before after : Side) (know heard : View) → IsFedBy reader before after → Wrote before after know → Got reader rest heard → heard ≡ know
   heard_is_sent reader rest before after know heard fed wrote got =
       let sent : fed.1 ≡ frame_of know = sent_is before.bytes after.bytes fed.0 fed.1 (frame_of know) fed.3 fed.4 wrote.1 in
-      let read : Consumes (Some (fed.1 ++ fed.2)) rest.bytes (frame_of heard) = subst (λ (x : Option (List ℕ)). Consumes x rest.bytes (frame_of heard)) fed.5 got.1 in
-      let front = front_is rest.bytes (fed.1 ++ fed.2) (frame_of heard) read in
-      let same : entries heard ≡ entries know = one_front again (entries heard) (entries know) front.0 fed.2 got.0 wrote.0 (sym front.1 ∙ ap (λ l. l ++ fed.2) sent) in
-      views heard know got.0 wrote.0 (ap frame same)
+      let text = frame_as got.0.0 (entries heard) in
+      let read : Consumes (Some (fed.1 ++ fed.2)) rest.bytes text = subst (λ (x : Option (List ℕ)). Consumes x rest.bytes text) fed.5 got.0.1 in
+      let front = front_is rest.bytes (fed.1 ++ fed.2) text read in
+      let same : entries heard ≡ entries know = one_front again got.0.0 Two (entries heard) (entries know) front.0 fed.2 got.0.2 wrote.0 (sym front.1 ∙ ap (λ l. l ++ fed.2) sent) in
+      views heard know (subst (λ (es : List Entry). HasFrame es) (sym same) wrote.0) wrote.0 (ap frame same)
 
   -- Who lent what it knows heard all that the follower knew by then, and that is the join of both.
   pub frames_meet : (mine mine_after theirs theirs_after : Stream) (know heard : View) (follower followed : Held) (ok : Unit {0})

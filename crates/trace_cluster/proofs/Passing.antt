@@ -1,6 +1,7 @@
 -- What was read or written stays so when a call on the other half, which leaves this one, comes before it or after it.
 use Rattle.std.proofs.Common.{◌≡◌, ℕ, List, ◌++◌, Option, Some, None, Result, Ok, Err, sym, ap, subst, take, ◌∙◌}
 use Rattle.std.specs.Prelude.{IfSome}
+use Rattle.std.specs.FinMap.{entries}
 use Rattle.std.specs.Io.KnownBytes.{Appends, Consumes, Keeps}
 use Rattle.mpi_model.specs.Failures.{one_more}
 use Rattle.mpi_model.specs.Side.{Side, LeavesSide}
@@ -8,7 +9,7 @@ use Rattle.trace_know.specs.View.{View}
 use Rattle.trace_wire.specs.declared.fault.WireFault.{WireFault}
 use Rattle.trace_wire.specs.declared.fault.WireFault.TheVariants as wires
 use Rattle.trace_wire.specs.FirstFault.{frame_at}
-use Rattle.trace_wire.specs.Frames.{frame_of}
+use Rattle.trace_wire.specs.Frames.{frame_as, frame_of}
 use Rattle.trace_wire.specs.Reading.{IsUnread, StaysWithin}
 use Rattle.trace_cluster.specs.declared.exchange.fault.ExchangeFault.{ExchangeFault}
 use Rattle.trace_cluster.specs.declared.exchange.fault.ExchangeFault.TheVariants.{Write, Read, Merge}
@@ -80,11 +81,11 @@ unwritten_after a b c know wires.Rest leaves why = absurd why
 
 pub got_then : (a b c : Side) (heard : View) → Got a b heard → LeavesSide b c → Got a c heard
 got_then a b c heard got leaves =
-    (got.0, consumes_then a.bytes b.bytes c.bytes (frame_of heard) got.1 leaves.bytes, leaves.failures ∙ got.2)
+    ((got.0.0, consumes_then a.bytes b.bytes c.bytes (frame_as got.0.0 (entries heard)) got.0.1 leaves.bytes, got.0.2), leaves.failures ∙ got.1)
 
 got_after : (a b c : Side) (heard : View) → LeavesSide a b → Got b c heard → Got a c heard
 got_after a b c heard leaves got =
-    (got.0, consumes_after a.bytes b.bytes c.bytes (frame_of heard) leaves.bytes got.1, got.2 ∙ leaves.failures)
+    ((got.0.0, consumes_after a.bytes b.bytes c.bytes (frame_as got.0.0 (entries heard)) leaves.bytes got.0.1, got.0.2), got.1 ∙ leaves.failures)
 
 -- the bytes begin with no frame, for this cause
 abbrev blames : WireFault → List ℕ → Type 0

@@ -1,7 +1,7 @@
 -- What an exchange does to a stream and a node, and what it leaves where it is refused.
 use Rattle.std.specs.Prelude.{◌≡◌, false, true, Result, Ok, Err, ⊤}
 use Rattle.std.specs.FinMap.{entries}
-use Rattle.std.specs.Io.KnownBytes.{Appends, Consumes}
+use Rattle.std.specs.Io.KnownBytes.{Appends}
 use Rattle.mpi_model.specs.Side.{Side, LeavesSide}
 use Rattle.trace_know.specs.View.{View, join}
 use Rattle.trace_node.specs.declared.fault.NodeFault.{NodeFault}
@@ -9,7 +9,7 @@ use Rattle.trace_node.specs.declared.fault.NodeFault.TheVariants.{Rank, Memory, 
 use Rattle.trace_node.specs.Node.{Held, HasStranger, held}
 use Rattle.trace_wire.specs.declared.fault.WireFault.{WireFault}
 use Rattle.trace_wire.specs.Frames.{HasFrame, frame_of}
-use Rattle.trace_wire.specs.Reading.{IsUnread, StaysWithin}
+use Rattle.trace_wire.specs.Reading.{IsUnread, ReadsFrame, StaysWithin}
 use Rattle.trace_wire.specs.Writing.{IsUnwritten}
 use Rattle.trace_cluster.specs.declared.exchange.fault.ExchangeFault.{ExchangeFault}
 use Rattle.trace_cluster.specs.declared.exchange.fault.ExchangeFault.TheVariants.{Write, Read, Merge}
@@ -25,9 +25,9 @@ Wrote old new know = HasFrame (entries know) × Appends old.bytes new.bytes (fra
 abbrev pub FailsToWrite : Side → Side → View → WireFault → Type 0
 FailsToWrite old new know fault = IsUnwritten (entries know) old.bytes new.bytes old.failures new.failures fault
 
--- One frame was read, and it tells this.
+-- One frame was read, of either version, and it tells this.
 abbrev pub Got : Side → Side → View → Type 0
-Got old new heard = HasFrame (entries heard) × Consumes old.bytes new.bytes (frame_of heard) × (new.failures ≡ old.failures)
+Got old new heard = ReadsFrame old.bytes new.bytes (entries heard) × (new.failures ≡ old.failures)
 
 -- None was, for this cause, and no byte past it.
 abbrev pub FailsToRead : Side → Side → WireFault → Type 0

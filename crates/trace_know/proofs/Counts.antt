@@ -1,5 +1,5 @@
 -- The counts of a run as its cells change.
-use Rattle.std.proofs.Common.{◌≡◌, ℕ, ◌+◌, ◌<◌, ◌≤◌, suc, zero, min, true, false, List, [], ◌∷◌, ◌++◌, length, map, refl, sym, ap, ◌∙◌, arith}
+use Rattle.std.proofs.Common.{◌≡◌, ℕ, ◌+◌, ◌<◌, ◌≤◌, suc, zero, min, true, false, List, [], ◌∷◌, ◌++◌, length, map, drop, drop-cons, add-one, refl, sym, ap, ◌∙◌, arith}
 use Rattle.std.specs.Prelude.{slice_set, slice_index_or}
 use Rattle.mpi_model.specs.declared.event.Event.{Event}
 use Rattle.trace_know.specs.declared.cell.Known.{Known}
@@ -118,3 +118,20 @@ same_events (e ∷ es) (f ∷ fs) is =
     let rest : map {B = Known} (λ e. One e) es ≡ map (λ e. One e) fs = cc in
     let same = same_events es fs rest in
     cc
+
+-- ---- cells that are gone through
+
+pub cells_left : (ks : List Known) (i : ℕ) (k : Known) → i < length ks → k ≡ slice_index_or ks i k → drop i ks ≡ k ∷ drop (i + 1) ks
+cells_left ks i k h is = rw (drop-cons ks i k, sym is, add-one) refl
+
+pub sound_left : (ks : List Known) (i : ℕ) (k : Known) → i < length ks → k ≡ slice_index_or ks i k → is_contradiction k ≡ false → before_conflict (drop i ks) ≡ before_conflict (drop (i + 1) ks) + 1
+sound_left ks i k h is one = ap before_conflict (cells_left ks i k h is) ∙ before-front (drop (i + 1) ks) k one
+
+pub none_sound : (ks : List Known) (i : ℕ) (k : Known) → i < length ks → k ≡ slice_index_or ks i k → is_contradiction k ≡ true → before_conflict (drop i ks) ≡ 0
+none_sound ks i k h is two = ap before_conflict (cells_left ks i k h is) ∙ before-none (drop (i + 1) ks) k two
+
+pub conflict_left : (ks : List Known) (i : ℕ) (k : Known) → i < length ks → k ≡ slice_index_or ks i k → is_contradiction k ≡ true → conflicts_among (drop i ks) ≡ conflicts_among (drop (i + 1) ks) + 1
+conflict_left ks i k h is two = ap conflicts_among (cells_left ks i k h is) ∙ conflicts-front (drop (i + 1) ks) k two
+
+pub none_left : (ks : List Known) (i : ℕ) (k : Known) → i < length ks → k ≡ slice_index_or ks i k → is_contradiction k ≡ false → conflicts_among (drop i ks) ≡ conflicts_among (drop (i + 1) ks)
+none_left ks i k h is one = ap conflicts_among (cells_left ks i k h is) ∙ conflicts-still (drop (i + 1) ks) k one

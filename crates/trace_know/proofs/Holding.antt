@@ -8,7 +8,7 @@ use Rattle.std.specs.FinMap.{empty, get, insert, len, get-insert, len-insert, le
 use Rattle.trace_know.specs.declared.cell.Known.{Known}
 use Rattle.trace_know.specs.declared.run.Run.{Run}
 use Rattle.trace_know.specs.Cell.{join_known, join_cell}
-use Rattle.trace_know.specs.Placed.{IsKnowledge, IsPlaced, IsPast}
+use Rattle.trace_know.specs.Placed.{ArePlaced, IsKnowledge, IsPlaced, IsPast}
 use Rattle.trace_know.specs.View.{View, place_cmp, join}
 use Rattle.trace_know.specs.Rows.{single, row}
 use Rattle.trace_know.specs.Runs.{of_run, of_runs, Above, IsHeld, AreAlike, listed}
@@ -118,6 +118,10 @@ single-IsKnowledge rank place known h = record {
         absurd cc
   ];
 }
+
+pub row-IsKnowledge : (rank place : ℕ) (ks : List Known) → ArePlaced rank place ks → IsKnowledge (row rank place ks)
+row-IsKnowledge rank place [] h = empty-IsKnowledge
+row-IsKnowledge rank place (k ∷ ks) h = join-IsKnowledge (single rank place k) (row rank (place + 1) ks) (single-IsKnowledge rank place k h.0) (row-IsKnowledge rank (place + 1) ks h.1)
 
 none_or_some : (o : Option Known) → (IsSome o → ⊥) → o ≡ None
 none_or_some None h = refl

@@ -19,6 +19,7 @@ pub mod Walks
 pub mod Holding
 pub mod Fronts
 pub mod Alike
+pub mod Behind
 pub mod Below
 pub mod Beyond
 pub mod Covering

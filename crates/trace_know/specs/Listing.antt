@@ -1,5 +1,5 @@
 -- The cells of a view one after another, in rising order of rank and place.
-use Rattle.std.specs.Prelude.{ℕ, Option, Some, List, filter, map}
+use Rattle.std.specs.Prelude.{ℕ, suc, ◌+◌, Bool, ◌==◌, ◌&&◌, if◌then◌else◌, Option, Some, List, [], ◌∷◌, filter, map}
 use Rattle.std.specs.FinMap.{entries}
 use Rattle.trace_know.specs.declared.cell.Known.{Known}
 use Rattle.trace_know.specs.Cell.{is_contradiction}
@@ -20,3 +20,17 @@ conflicts_in es = map (λ e. e.0) (filter (λ e. is_contradiction e.1) es)
 -- the places with a contradiction
 abbrev pub conflicts_of : View → List (ℕ × ℕ)
 conflicts_of view = conflicts_in (entries view)
+
+-- a place is the one right behind another
+abbrev pub is_behind : ℕ × ℕ → ℕ × ℕ → Bool
+is_behind before here = (before.0 == here.0) && (before.1 + 1 == here.1)
+
+-- how many cells stand behind a place without a gap: the first right behind it, and each other right behind the one before
+abbrev pub run_behind : ℕ × ℕ → List ((ℕ × ℕ) × Known) → ℕ
+run_behind before [] = 0
+run_behind before (e ∷ es) = if is_behind before e.0 then suc (run_behind e.0 es) else 0
+
+-- how many cells stand without a gap from the first one on
+abbrev pub run_len : List ((ℕ × ℕ) × Known) → ℕ
+run_len [] = 0
+run_len (e ∷ es) = suc (run_behind e.0 es)

@@ -1,5 +1,5 @@
 -- Where what is known can stand.
-use Rattle.std.specs.Prelude.{◌≡◌, ℕ, ◌%◌, ◌^◌, ◌<◌, ⊤, Some, IsSome}
+use Rattle.std.specs.Prelude.{◌≡◌, ℕ, ◌+◌, ◌%◌, ◌^◌, ◌<◌, ⊤, Some, IsSome, List, [], ◌∷◌}
 use Rattle.std.specs.declared.cmp.Ordering.TheVariants.{Less}
 use Rattle.mpi_model.specs.declared.event.Event.TheVariants.{Enter, Return}
 use Rattle.trace_know.specs.declared.cell.Known.{Known}
@@ -21,6 +21,11 @@ pub record IsPlaced (rank place : ℕ) (known : Known) : Type 0 where
 -- what holds of the view of every knowledge
 pub record IsKnowledge (view : View) : Type 0 where
   pub placed : (rank place : ℕ) (known : Known) → cell view rank place ≡ Some known → IsPlaced rank place known
+
+-- cells of a rank from a place on, each where it can stand
+abbrev pub ArePlaced : ℕ → ℕ → List Known → Type 0
+ArePlaced rank place [] = ⊤
+ArePlaced rank place (known ∷ cells) = IsPlaced rank place known × ArePlaced rank (place + 1) cells
 
 -- all that is known stands before a place
 abbrev pub IsPast : View → ℕ → ℕ → Type 0

@@ -1,13 +1,13 @@
 //! Knowledge: the join of the segments that were taken.
 
-ghost use Rattle.std.specs.Prelude.{◌≡◌, ◌↔◌, ◌+◌, ◌^◌, ◌<◌, ◌≤◌, IsTrue, OnOk, OnErr, IfOk, IfErr, IsSome, length, map, slice_get};
+ghost use Rattle.std.specs.Prelude.{◌≡◌, ◌↔◌, ◌+◌, ◌++◌, ◌^◌, ◌<◌, ◌≤◌, IsTrue, OnOk, OnErr, IfOk, IfErr, IsSome, length, map, slice_get};
 ghost use Rattle.std.specs.FinMap.{empty, insert, entries, len};
 ghost use Rattle.std.specs.Option.{option_map, option_copied};
 ghost use Rattle.trace_know.specs.Cell.{shown, put_known};
-ghost use Rattle.trace_know.specs.Placed.{IsPast, IsPlaced, IsKnowledge};
+ghost use Rattle.trace_know.specs.Placed.{ArePlaced, IsPast, IsPlaced, IsKnowledge};
 ghost use Rattle.trace_know.specs.Listing.{cells_of, conflicts_of};
 ghost use Rattle.trace_know.specs.Prefix.{events_of, prefix_of, is_beyond};
-ghost use Rattle.trace_know.specs.Runs.{of_run, IsAlike, IsFilled};
+ghost use Rattle.trace_know.specs.Runs.{of_run, placed_cells, IsAlike, IsFilled};
 ghost use Rattle.trace_know.specs.Segment.{IsSegment};
 ghost use Rattle.trace_know.specs.Trace.{facts_of, view_of};
 ghost use Rattle.trace_know.specs.View.{IsBelow, cell, join};
@@ -22,7 +22,7 @@ use crate::readers::{
     prefix_in, readable_in,
 };
 use crate::ready::{ReadySegment, piece_of};
-use crate::run::run_of;
+use crate::run::{run_of, run_of_cells};
 use crate::runs::{take_cell, take_or_return};
 use crate::segment::Segment;
 use crate::walk::Walk;
@@ -170,6 +170,25 @@ impl Knowledge {
         let most = self.most_with(1)?;
         take_cell(self.alloc, &mut self.runs, rank, place, known_of(event))?;
         self.most = most;
+        Ok(())
+    }
+
+    /// Sets the cells of a rank from a place on, one place after another, all past what is known. The
+    /// list becomes the cells: none is moved where no place that is known touches them. Without
+    /// memory nothing changes.
+    pub fn put_run(&mut self, rank: u32, first: u64, cells: Vec<Known>) -> Result<(), AllocError>
+        requires some { 0 < length cells.items }
+        requires places { first + length cells.items ≤ 2 ^ 40 }
+        requires placed { ArePlaced rank first cells.items }
+        requires last { IsPast self.old rank first }
+        ensures ok { OnOk result (entries self.new ≡ entries self.old ++ placed_cells rank first cells.items) }
+        ensures err { OnErr result (self.new ≡ self.old) }
+    {
+        let run = run_of_cells(rank, first, cells);
+        let piece = BoxedRun::new(self.alloc, run)?;
+        let Ok(()) = self.join_piece(piece) else {
+            return Err(AllocError);
+        };
         Ok(())
     }
 

@@ -357,6 +357,54 @@ pub(crate) fn give_back(run: Run, events: &mut Vec<Event>)
     }
 }
 
+/// How many cells stand before the first contradiction.
+fn sound_among(cells: &[Known]) -> usize
+    ensures { result ≡ before_conflict cells.now }
+{
+    let mut sound = 0;
+    for known in cells {
+        if known.is_contradiction() {
+            return sound;
+        }
+        sound += 1;
+    }
+    sound
+}
+
+/// How many contradictions there are, where so many cells stand before the first.
+fn conflicts_behind(cells: &[Known], sound: usize) -> usize
+    requires { sound ≡ before_conflict cells.now }
+    ensures { result ≡ conflicts_among cells.now }
+{
+    if sound == cells.len() {
+        return 0;
+    }
+    let mut conflicts = 0;
+    for known in cells {
+        if known.is_contradiction() {
+            conflicts += 1;
+        }
+    }
+    conflicts
+}
+
+/// The cells as a run: the list becomes it, and none is moved.
+pub(crate) fn run_of_cells(rank: u32, first: u64, cells: Vec<Known>) -> Run
+    ensures place { (result.rank ≡ rank) × (result.first ≡ first) }
+    ensures cells { result.cells.items ≡ cells.items }
+    ensures counted { IsCounted result }
+{
+    let sound = sound_among(&cells);
+    let conflicts = conflicts_behind(&cells, sound);
+    Run {
+        rank,
+        first,
+        cells: VecDeque::from(cells),
+        sound,
+        conflicts,
+    }
+}
+
 /// A run of one cell.
 pub(crate) fn run_of_one(
     alloc: Global,

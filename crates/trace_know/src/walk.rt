@@ -2,6 +2,7 @@
 
 ghost use Rattle.std.specs.Prelude.{◌≡◌, ℕ};
 ghost use Rattle.std.specs.Iterator.{YieldsFirstBy, item_count};
+ghost use Rattle.trace_know.specs.Listing.{run_len};
 ghost use Rattle.trace_know.specs.Runs.{Above, listed};
 
 use crate::boxed::BoxedRun;
@@ -40,6 +41,17 @@ impl<'a> Walk<'a> {
         ensures { result ≡ listed runs.now }
     {
         Walk { runs, at: 0 }
+    }
+
+    /// How many of the cells that are left stand without a gap from the next one on: all of its rank, each
+    /// at the place after the one before.
+    pub fn run_len(&self) -> usize
+        ensures { result ≡ run_len self.now }
+    {
+        match self.runs.first() {
+            None => 0,
+            Some(run) => run.len() - self.at,
+        }
     }
 }
 

@@ -1,203 +1,109 @@
--- The laws of cells, payloads and frames.
-use Rattle.std.proofs.Common.{◌≡◌, ℕ, zero, suc, ◌+◌, ◌^◌, ◌%◌, ◌<◌, ◌≤◌, Bool, true, false, cond, eqb, ltb, List, [], ◌∷◌, ◌++◌, length, take, drop, Option, Some, None, Result, Ok, Err, refl, sym, ap, subst, ◌∙◌, append_assoc, arith}
-use Rattle.std.specs.Prelude.{◌&&◌, ⊤}
-use Rattle.std.specs.Int.{w32, w64, to_be_bytes}
-use Rattle.std.proofs.lemmas.Bool.{ltb-true, ltb-false, le-ltb, eqb-true}
-use Rattle.std.proofs.lemmas.Bool.Decides.{nat_tests}
+-- The laws of payloads and frames.
+use Rattle.std.proofs.Common.{◌≡◌, ℕ, zero, suc, ◌+◌, ◌*◌, ◌-◌, ◌^◌, ◌<◌, ◌≤◌, Bool, true, false, cond, eqb, ltb, List, [], ◌∷◌, ◌++◌, length, get_or, take, drop, Option, Some, None, Result, Ok, Err, refl, sym, ap, subst, ◌∙◌, append_assoc, arith}
+use Rattle.std.specs.Prelude.{◌&&◌, min}
+use Rattle.std.specs.Int.{w32, to_be_bytes}
+use Rattle.std.proofs.lemmas.Bool.{ltb-false, le-ltb, eqb-true}
 use Rattle.std.proofs.lemmas.List.{append-nil, nil_from_length, length-append, length-take, take_at, drop_at, take-append-drop}
-use Rattle.std.proofs.lemmas.List.Concat.{flat_map-cons}
-use Rattle.trace_know.specs.declared.cell.Known.{Known}
-use Rattle.trace_know.specs.declared.cell.Known.TheVariants as knowns
 use Rattle.trace_wire.specs.declared.fault.WireFault.{WireFault}
-use Rattle.trace_wire.specs.declared.fault.WireFault.TheVariants.{Magic, Version, Length, Short, Order, Content, Rest}
+use Rattle.trace_wire.specs.declared.fault.WireFault.TheVariants as faults
+use Rattle.trace_wire.specs.declared.version.Version.{Version}
+use Rattle.trace_wire.specs.declared.version.Version.TheVariants.{One, Two}
 use Rattle.trace_wire.specs.Forms.{number, number_at, IsBytes}
-use Rattle.trace_wire.specs.Events.{is_even, event_at}
-use Rattle.trace_wire.specs.Fields.{made}
-use Rattle.trace_know.specs.Placed.{IsHalfOf, IsPlaced}
-use Rattle.mpi_model.specs.declared.event.Event.TheVariants as events
-use Rattle.trace_wire.specs.Frames.{Entry, known_bytes, place_form, cell_bytes, cells_bytes, payload, frame, longest, is_past, IsInRange, AreCells, HasFrame}
-use Rattle.trace_wire.specs.FirstFault.{known_by, known_at, ◌>=>◌, or_fault, cell_after, cell_at, cells_at, no_rest, payload_of, is_magic, is_first_version, body_of, framed, frame_at}
-use Rattle.trace_wire.proofs.FormLaws.{items_short, IsBytes-rest, IsBytes-take, Takes, Takes-then, IsForm, wide32, wide64, number_form, number_takes, number_again, pair_form, choose, no_value, some_is, bind_some}
-use Rattle.trace_wire.proofs.EventForms.{EventFits, event_form}
+use Rattle.trace_wire.specs.Cells.{AreCells, Entry, cell_bytes, cells_bytes, knowns_bytes, knowns_of}
+use Rattle.trace_wire.specs.Runs.{AreRuns, PlacedRun, RunFits, behind, cells_in, run_bytes, runs_bytes, runs_of}
+use Rattle.trace_wire.specs.Frames.{HasFrame, HasFrameAs, frame_as, head_of, longest_of, parts_bytes, parts_in, payload_as, version_number}
+use Rattle.trace_wire.specs.Parts.{◌>=>◌, cell, or_fault, parts_at, run}
+use Rattle.trace_wire.specs.FirstFault.{body_of, frame_at, framed, is_magic, limited, no_rest, parts_of, payload_of, version_of}
+use Rattle.trace_wire.proofs.CellLaws.{CellStands, cell_part}
+use Rattle.trace_wire.proofs.FormLaws.{items_short, IsBytes-take, Takes, Takes-then, wide32, number_takes, number_again}
+use Rattle.trace_wire.proofs.Lengths.{payload_len, runs_few}
+use Rattle.trace_wire.proofs.PartLaws.{AllFit, IsPart, parts_again, parts_take}
+use Rattle.trace_wire.proofs.RunCells.{cells_fit, cells_of_runs, runs_fit, runs_of_cells}
+use Rattle.trace_wire.proofs.RunLaws.{run_part}
+use Rattle.trace_wire.proofs.Steps.{bind_ok, both_true, missed, ok_is, or_ok, passed}
 
--- the value of a step that did not fail
-pub bind_ok : {A B : Type 0} (r : Result A WireFault) (f : A → Result B WireFault) (y : B) → (r >=> f) ≡ Ok y → (x : A) × (r ≡ Ok x) × (f x ≡ Ok y)
-bind_ok (Ok x) f y e = (x, refl, e)
-bind_ok (Err d) f y e = absurd cc
+-- ---- parts
 
-abbrev pub done : {A : Type 0} → A → Result A WireFault
-done x = Ok x
+fit_cells : (before : Option (ℕ × ℕ)) (es : List Entry) → AllFit cell CellStands before es → AreCells before es
+fit_cells before [] h = tt
+fit_cells before (e ∷ es) h = (h.0.0, h.0.1, fit_cells (Some e.0) es h.1)
 
-pub ok_is : {A : Type 0} (x y : A) → done x ≡ done y → x ≡ y
-ok_is x y e = cc
+cells_stand : (before : Option (ℕ × ℕ)) (es : List Entry) → AreCells before es → AllFit cell CellStands before es
+cells_stand before [] h = tt
+cells_stand before (e ∷ es) h = ((h.0, h.1), cells_stand (Some e.0) es h.2)
 
-pub or_ok : {A : Type 0} (fault : WireFault) (o : Option A) (x : A) → or_fault fault o ≡ Ok x → o ≡ Some x
-or_ok fault None x e = absurd cc
-or_ok fault (Some y) x e = ap (λ z. Some z) (ok_is y x e)
+fit_runs : (before : Option (ℕ × ℕ)) (rs : List PlacedRun) → AllFit run RunFits before rs → AreRuns before rs
+fit_runs before [] h = tt
+fit_runs before (r ∷ rs) h = (h.0, fit_runs (Some (behind r)) rs h.1)
 
--- a test that had to pass, and one that had to fail
-pub passed : {A : Type 0} (b : Bool) (fault : WireFault) (r : Result A WireFault) (x : A) → cond b r (Err fault) ≡ Ok x → (b ≡ true) × (r ≡ Ok x)
-passed true fault r x e = (refl, e)
-passed false fault r x e = absurd cc
+runs_stand : (before : Option (ℕ × ℕ)) (rs : List PlacedRun) → AreRuns before rs → AllFit run RunFits before rs
+runs_stand before [] h = tt
+runs_stand before (r ∷ rs) h = (h.0, runs_stand (Some (behind r)) rs h.1)
 
-pub missed : {A : Type 0} (b : Bool) (fault : WireFault) (r : Result A WireFault) (x : A) → cond b (Err fault) r ≡ Ok x → (b ≡ false) × (r ≡ Ok x)
-missed true fault r x e = absurd cc
-missed false fault r x e = (refl, e)
+-- what was read as so many parts
+abbrev AsParts : Version → ℕ → List ℕ → List Entry × List ℕ → Type 0
+AsParts version n bytes x = Takes bytes (parts_bytes version x.0) x.1 × (parts_in version x.0 ≡ n) × AreCells None x.0
 
--- ---- what stands at a place
+parts_of_takes : (version : Version) (n : ℕ) (bytes : List ℕ) (x : List Entry × List ℕ) → IsBytes bytes → parts_of version n bytes ≡ Ok x → AsParts version n bytes x
+parts_of_takes One n bytes x fits e = let t = parts_take cell CellStands cell_part n None bytes x fits e in (t.0, t.1, fit_cells None x.0 t.2)
+parts_of_takes Two n bytes x fits e =
+    let a = bind_ok (parts_at run n None bytes) (λ y. Ok (cells_in y.0, y.1)) x e in
+    let t = parts_take run RunFits run_part n None bytes a.0 fits a.1 in
+    let order = fit_runs None a.0.0 t.2 in
+    let same : runs_of (cells_in a.0.0) ≡ a.0.0 = runs_of_cells None a.0.0 order in
+    let text : Takes bytes (runs_bytes (runs_of (cells_in a.0.0))) a.0.1 = subst (λ (rs : List PlacedRun). Takes bytes (runs_bytes rs) a.0.1) (sym same) t.0 in
+    let count : length (runs_of (cells_in a.0.0)) ≡ n = ap (λ (rs : List PlacedRun). length rs) same ∙ t.1 in
+    subst (λ (y : List Entry × List ℕ). AsParts Two n bytes y) (ok_is (cells_in a.0.0, a.0.1) x a.2) (text, count, cells_fit None None a.0.0 (λ at past. past) order)
 
--- what is known fits a place
-abbrev KnownFits : ℕ → Known → Type 0
-KnownFits place (knowns.One event) = EventFits place event
-KnownFits place knowns.Contradiction = ⊤
+parts_of_again : (version : Version) (es : List Entry) (rest : List ℕ) → AreCells None es → length (parts_bytes version es) < 2 ^ 32 → parts_of version (parts_in version es) (parts_bytes version es ++ rest) ≡ Ok (es, rest)
+parts_of_again One es rest fits short = parts_again cell CellStands cell_part None es rest (cells_stand None es fits) short
+parts_of_again Two es rest fits short =
+    ap (λ r. r >=> λ x. Ok (cells_in x.0, x.1)) (parts_again run RunFits run_part None (runs_of es) rest (runs_stand None (runs_of es) (runs_fit es fits)) short)
+    ∙ ap (λ (fs : List Entry). Ok (fs, rest)) (cells_of_runs es)
 
-odd_is : (n : ℕ) → is_even n ≡ false → n % 2 ≡ 1
-odd_is n h = grind (arith, nat_tests)
-
--- the half of a place, as a relation and as a test
-half_there : (place : ℕ) (k : Known) → KnownFits place k → IsHalfOf place k × IsInRange k
-half_there place (knowns.One (events.Enter call time)) fits = (eqb-true (place % 2) 0 fits.0, fits.1)
-half_there place (knowns.One (events.Return found time)) fits = (odd_is place fits.0, fits.1)
-half_there place knowns.Contradiction fits = (tt, tt)
-
-half_here : (place : ℕ) (k : Known) → IsHalfOf place k → IsInRange k → KnownFits place k
-half_here place (knowns.One (events.Enter call time)) half fits = (rw half refl, fits)
-half_here place (knowns.One (events.Return found time)) half fits = (rw half refl, fits)
-half_here place knowns.Contradiction half fits = tt
-
-known_by_takes : (place n : ℕ) (bytes : List ℕ) (x : Known × List ℕ) → IsBytes bytes → known_by place n bytes ≡ Some x → Takes (n ∷ bytes) (known_bytes x.0) x.1 × KnownFits place x.0
-known_by_takes place n bytes x fits e0 =
-    choose (λ (k : ℕ). Takes (k ∷ bytes) (known_bytes x.0) x.1 × KnownFits place x.0) n 0 _ _ x e0 (λ h.
-    let p = bind_some (event_at place bytes) (λ y. Some (knowns.One y.0, y.1)) x h in
-    let t = (event_form place).takes bytes p.0 fits p.1 in
-    subst (λ (y : Known × List ℕ). Takes (0 ∷ bytes) (known_bytes y.0) y.1 × KnownFits place y.0) (some_is (knowns.One p.0.0, p.0.1) x p.2) (record { parts = ap (λ (r : List ℕ). 0 ∷ r) t.0.parts; rest_fits = t.0.rest_fits }, t.1)) (λ e1.
-    choose (λ (k : ℕ). Takes (k ∷ bytes) (known_bytes x.0) x.1 × KnownFits place x.0) n 1 _ _ x e1 (λ h. subst (λ (y : Known × List ℕ). Takes (1 ∷ bytes) (known_bytes y.0) y.1 × KnownFits place y.0) (some_is (knowns.Contradiction, bytes) x h) (record { parts = refl; rest_fits = fits }, tt)) (λ e2. no_value _ x e2))
-
-known_takes : (place : ℕ) (bytes : List ℕ) (x : Known × List ℕ) → IsBytes bytes → known_at place bytes ≡ Some x → Takes bytes (known_bytes x.0) x.1 × KnownFits place x.0
-known_takes place [] x fits e = absurd cc
-known_takes place (b ∷ bytes) x fits e = known_by_takes place b bytes x (IsBytes-rest b bytes fits) e
-
-known_again : (place : ℕ) (k : Known) (rest : List ℕ) → KnownFits place k → length (known_bytes k) < 2 ^ 32 → known_at place (known_bytes k ++ rest) ≡ Some (k, rest)
-known_again place (knowns.One event) rest fits short = ap (made (λ e. knowns.One e)) ((event_form place).again event rest fits (omega arith))
-known_again place knowns.Contradiction rest fits short = refl
-
--- ---- cells
-
-place_law : IsForm place_form (λ p. (p.0 < 2 ^ 32) × (p.1 < 2 ^ 64))
-place_law = pair_form (number w32) (number w64) _ _ (number_form w32 (2 ^ 32) wide32) (number_form w64 (2 ^ 64) wide64)
-
-abbrev CellFits : Entry → Type 0
-CellFits e = (e.0.0 < 2 ^ 32) × (e.0.1 < 2 ^ 40) × KnownFits e.0.1 e.1
-
-cell_there : (e : Entry) → CellFits e → IsPlaced e.0.0 e.0.1 e.1 × IsInRange e.1
-cell_there e fits = let h = half_there e.0.1 e.1 fits.2 in (record { ranks = fits.0; places = fits.1; half = h.0 }, h.1)
-
-cell_here : (e : Entry) → IsPlaced e.0.0 e.0.1 e.1 × IsInRange e.1 → CellFits e
-cell_here e fits = (fits.0.ranks, fits.0.places, half_here e.0.1 e.1 fits.0.half fits.1)
-
-cell_takes : (before : Option (ℕ × ℕ)) (bytes : List ℕ) (x : Entry × List ℕ) → IsBytes bytes → cell_at before bytes ≡ Ok x → Takes bytes (cell_bytes x.0) x.1 × (is_past before x.0.0 ≡ true) × CellFits x.0
-cell_takes before bytes x fits e =
-    let p = bind_ok (or_fault Content (place_form.read bytes)) (cell_after before) x e in
-    let s = place_law.takes bytes p.0 fits (or_ok Content (place_form.read bytes) p.0 p.1) in
-    let g = passed (is_past before p.0.0) Order (cond (ltb p.0.0.1 (2 ^ 40)) (or_fault Content (made (λ k. (p.0.0, k)) (known_at p.0.0.1 p.0.1))) (Err Content)) x p.2 in
-    let h = passed (ltb p.0.0.1 (2 ^ 40)) Content (or_fault Content (made (λ k. (p.0.0, k)) (known_at p.0.0.1 p.0.1))) x g.1 in
-    let m = or_ok Content (made (λ k. (p.0.0, k)) (known_at p.0.0.1 p.0.1)) x h.1 in
-    let q = bind_some (known_at p.0.0.1 p.0.1) (λ y. Some ((p.0.0, y.0), y.1)) x m in
-    let t = known_takes p.0.0.1 p.0.1 q.0 s.0.rest_fits q.1 in
-    let both = Takes-then bytes (place_form.spell p.0.0) p.0.1 (known_bytes q.0.0) q.0.1 s.0 t.0 in
-    subst (λ (y : Entry × List ℕ). Takes bytes (cell_bytes y.0) y.1 × (is_past before y.0.0 ≡ true) × CellFits y.0) (some_is ((p.0.0, q.0.0), q.0.1) x q.2) (both, g.0, (s.1.0, ltb-true _ _ h.0, t.1))
-
-below_true : (m n : ℕ) → m < n → ltb m n ≡ true
-below_true m n h = grind (arith, nat_tests)
-
--- a cell that was read stands past the one before, where it can stand
-pub cell_read : (before : Option (ℕ × ℕ)) (bytes : List ℕ) (x : Entry × List ℕ) → IsBytes bytes → cell_at before bytes ≡ Ok x → (is_past before x.0.0 ≡ true) × IsPlaced x.0.0.0 x.0.0.1 x.0.1
-cell_read before bytes x fits e = let t = cell_takes before bytes x fits e in (t.1, (cell_there x.0 t.2).0)
-
-pub cell_made : (before : Option (ℕ × ℕ)) (bytes : List ℕ) (here : ℕ × ℕ) (rest : List ℕ) (k : Known) (after : List ℕ) → place_form.read bytes ≡ Some (here, rest) → is_past before here ≡ true → here.1 < 2 ^ 40 → known_at here.1 rest ≡ Some (k, after)
-    → cell_at before bytes ≡ Ok ((here, k), after)
-cell_made before bytes here rest k after place past below known =
-    ap (λ (r : Option ((ℕ × ℕ) × List ℕ)). or_fault Content r >=> cell_after before) place ∙ rw (past, below_true here.1 (2 ^ 40) below, known) refl
-
-cell_again : (before : Option (ℕ × ℕ)) (e : Entry) (rest : List ℕ) → is_past before e.0 ≡ true → CellFits e → length (cell_bytes e) < 2 ^ 32 → cell_at before (cell_bytes e ++ rest) ≡ Ok (e, rest)
-cell_again before e rest past fits short =
-    let there : length (known_bytes e.1) < 2 ^ 32 = omega (arith, length-append (place_form.spell e.0) (known_bytes e.1), short) in
-    let here : length (place_form.spell e.0) < 2 ^ 32 = omega (arith, length-append (place_form.spell e.0) (known_bytes e.1), short) in
-    let one = place_law.again e.0 (known_bytes e.1 ++ rest) (fits.0, omega (arith, fits.1)) here in
-    let two = known_again e.0.1 e.1 rest fits.2 there in
-    ap (cell_at before) (append_assoc (place_form.spell e.0) (known_bytes e.1) rest)
-    ∙ ap (λ (r : Option ((ℕ × ℕ) × List ℕ)). or_fault Content r >=> cell_after before) one
-    ∙ rw (past, below_true e.0.1 (2 ^ 40) fits.1, two) refl
-
-cells_take : (n : ℕ) (before : Option (ℕ × ℕ)) (bytes : List ℕ) (x : List Entry × List ℕ) → IsBytes bytes → cells_at n before bytes ≡ Ok x → Takes bytes (cells_bytes x.0) x.1 × (length x.0 ≡ n) × AreCells before x.0
-unfolding cells_at
-cells_take zero before bytes x fits e =
-    subst (λ (y : List Entry × List ℕ). Takes bytes (cells_bytes y.0) y.1 × (length y.0 ≡ 0) × AreCells before y.0) (ok_is ([], bytes) x e) (record { parts = refl; rest_fits = fits }, refl, tt)
-cells_take (suc n) before bytes x fits e =
-    let a = bind_ok (cell_at before bytes) (λ first. cells_at n (Some first.0.0) first.1 >=> λ others. Ok (first.0 ∷ others.0, others.1)) x e in
-    let b = bind_ok (cells_at n (Some a.0.0.0) a.0.1) (λ others. Ok (a.0.0 ∷ others.0, others.1)) x a.2 in
-    let first = cell_takes before bytes a.0 fits a.1 in
-    let second = cells_take n (Some a.0.0.0) a.0.1 b.0 first.0.rest_fits b.1 in
-    let both = Takes-then bytes (cell_bytes a.0.0) a.0.1 (cells_bytes b.0.0) b.0.1 first.0 second.0 in
-    let made : List Entry × List ℕ = (a.0.0 ∷ b.0.0, b.0.1) in
-    subst (λ (y : List Entry × List ℕ). Takes bytes (cells_bytes y.0) y.1 × (length y.0 ≡ suc n) × AreCells before y.0) (ok_is made x b.2) (rw flat_map-cons both, ap suc second.1, (first.1, cell_there a.0.0 first.2, second.2))
-
-cells_again : (before : Option (ℕ × ℕ)) (es : List Entry) (rest : List ℕ) → AreCells before es → length (cells_bytes es) < 2 ^ 32 → cells_at (length es) before (cells_bytes es ++ rest) ≡ Ok (es, rest)
-unfolding cells_at
-cells_again before [] rest fits short = refl
-cells_again before (x ∷ xs) rest fits short =
-    let parts : cells_bytes (x ∷ xs) ≡ cell_bytes x ++ cells_bytes xs = flat_map-cons cell_bytes x xs in
-    let len : length (cells_bytes (x ∷ xs)) ≡ length (cell_bytes x) + length (cells_bytes xs) = ap length parts ∙ length-append (cell_bytes x) (cells_bytes xs) in
-    let here : length (cell_bytes x) < 2 ^ 32 = omega (arith, len, short) in
-    let there : length (cells_bytes xs) < 2 ^ 32 = omega (arith, len, short) in
-    let regrouped : cells_bytes (x ∷ xs) ++ rest ≡ cell_bytes x ++ (cells_bytes xs ++ rest) = ap (λ (t : List ℕ). t ++ rest) parts ∙ append_assoc (cell_bytes x) (cells_bytes xs) rest in
-    ap (cells_at (suc (length xs)) before) regrouped ∙ rw (cell_again before x (cells_bytes xs ++ rest) fits.0 (cell_here x fits.1) here, cells_again (Some x.0) xs rest fits.2 there) refl
+-- each part takes bytes
+pub parts_short : (version : Version) (es : List Entry) → parts_in version es ≤ length (parts_bytes version es)
+parts_short One es = items_short cell_bytes cell_part.some es
+parts_short Two es = items_short run_bytes run_part.some (runs_of es)
 
 -- ---- payloads
 
-pub payload_takes : (bytes : List ℕ) (es : List Entry) → IsBytes bytes → payload_of bytes ≡ Ok es → (bytes ≡ payload es) × AreCells None es
+pub payload_takes : (version : Version) (bytes : List ℕ) (es : List Entry) → IsBytes bytes → payload_of version bytes ≡ Ok es → (bytes ≡ payload_as version es) × AreCells None es
 unfolding payload_of
-payload_takes bytes es fits e =
-    let a = bind_ok (or_fault Content (number_at w32 bytes) >=> λ n. cells_at n.0 None n.1) no_rest es e in
-    let b = bind_ok (or_fault Content (number_at w32 bytes)) (λ n. cells_at n.0 None n.1) a.0 a.1 in
-    let g = passed (eqb (length a.0.1) 0) Rest (Ok a.0.0) es a.2 in
-    let first = number_takes w32 (2 ^ 32) wide32 bytes b.0 fits (or_ok Content (number_at w32 bytes) b.0 b.1) in
-    let second = cells_take b.0.0 None b.0.1 a.0 first.0.rest_fits b.2 in
+payload_takes version bytes es fits e =
+    let a = bind_ok (or_fault faults.Content (number_at w32 bytes) >=> λ n. parts_of version n.0 n.1) no_rest es e in
+    let b = bind_ok (or_fault faults.Content (number_at w32 bytes)) (λ n. parts_of version n.0 n.1) a.0 a.1 in
+    let g = passed (eqb (length a.0.1) 0) faults.Rest (Ok a.0.0) es a.2 in
+    let first = number_takes w32 (2 ^ 32) wide32 bytes b.0 fits (or_ok faults.Content (number_at w32 bytes) b.0 b.1) in
+    let second = parts_of_takes version b.0.0 b.0.1 a.0 first.0.rest_fits b.2 in
     let nothing : a.0.1 ≡ [] = nil_from_length a.0.1 (eqb-true _ _ g.0) in
-    let both = (Takes-then bytes (to_be_bytes w32 b.0.0) b.0.1 (cells_bytes a.0.0) a.0.1 first.0 second.0).parts in
-    let whole : bytes ≡ payload a.0.0 = both ∙ ap (λ (r : List ℕ). (to_be_bytes w32 b.0.0 ++ cells_bytes a.0.0) ++ r) nothing ∙ append-nil (to_be_bytes w32 b.0.0 ++ cells_bytes a.0.0) ∙ ap (λ (k : ℕ). to_be_bytes w32 k ++ cells_bytes a.0.0) (sym second.1) in
-    subst (λ (v : List Entry). (bytes ≡ payload v) × AreCells None v) (ok_is a.0.0 es g.1) (whole, second.2)
+    let parts = parts_bytes version a.0.0 in
+    let both = (Takes-then bytes (to_be_bytes w32 b.0.0) b.0.1 parts a.0.1 first.0 second.0).parts in
+    let whole : bytes ≡ payload_as version a.0.0 = both ∙ ap (λ (r : List ℕ). (to_be_bytes w32 b.0.0 ++ parts) ++ r) nothing ∙ append-nil (to_be_bytes w32 b.0.0 ++ parts) ∙ ap (λ (k : ℕ). to_be_bytes w32 k ++ parts) (sym second.1) in
+    subst (λ (v : List Entry). (bytes ≡ payload_as version v) × AreCells None v) (ok_is a.0.0 es g.1) (whole, second.2)
 
--- each cell takes bytes
-pub cells_short : (es : List Entry) → length es ≤ length (cells_bytes es)
-cells_short es = items_short cell_bytes (λ e. omega (arith, length-append (place_form.spell e.0) (known_bytes e.1))) es
-
-payload_again : (es : List Entry) → AreCells None es → length (payload es) < 2 ^ 32 → payload_of (payload es) ≡ Ok es
+payload_again : (version : Version) (es : List Entry) → AreCells None es → length (payload_as version es) < 2 ^ 32 → payload_of version (payload_as version es) ≡ Ok es
 unfolding payload_of
-payload_again es fits short =
-    let len = length-append (to_be_bytes w32 (length es)) (cells_bytes es) in
-    let there : length (cells_bytes es) < 2 ^ 32 = omega (arith, len, short) in
-    let count : length es < 2 ^ 32 = omega (arith, cells_short es, there) in
-    let one = number_again w32 (2 ^ 32) wide32 (length es) (cells_bytes es) count in
-    let two : cells_at (length es) None (cells_bytes es) ≡ Ok (es, []) = ap (cells_at (length es) None) (sym (append-nil (cells_bytes es))) ∙ cells_again None es [] fits there in
-    ap (λ (r : Option (ℕ × List ℕ)). (or_fault Content r >=> λ n. cells_at n.0 None n.1) >=> no_rest) one ∙ ap (λ (r : Result (List Entry × List ℕ) WireFault). r >=> no_rest) two
+payload_again version es fits short =
+    let parts = parts_bytes version es in
+    let len = length-append (to_be_bytes w32 (parts_in version es)) parts in
+    let there : length parts < 2 ^ 32 = omega (arith, len, short) in
+    let count : parts_in version es < 2 ^ 32 = omega (arith, parts_short version es, there) in
+    let one = number_again w32 (2 ^ 32) wide32 (parts_in version es) parts count in
+    let two : parts_of version (parts_in version es) parts ≡ Ok (es, []) = ap (parts_of version (parts_in version es)) (sym (append-nil parts)) ∙ parts_of_again version es [] fits there in
+    ap (λ (r : Option (ℕ × List ℕ)). (or_fault faults.Content r >=> λ n. parts_of version n.0 n.1) >=> no_rest) one ∙ ap (λ (r : Result (List Entry × List ℕ) WireFault). r >=> no_rest) two
 
 -- ---- frames
 
-both_true : (a b : Bool) → (a && b) ≡ true → (a ≡ true) × (b ≡ true)
-both_true true true e = (refl, refl)
-both_true true false e = absurd cc
-both_true false b e = absurd cc
-
-body_takes : (bytes : List ℕ) (n : ℕ) (x : List Entry × List ℕ) → IsBytes bytes → body_of (n, bytes) ≡ Ok x → (bytes ≡ payload x.0 ++ x.1) × (length (payload x.0) ≡ n) × AreCells None x.0
-body_takes bytes n x fits e =
-    let g = missed (ltb (length bytes) n) Short (payload_of (take n bytes) >=> λ es. Ok (es, drop n bytes)) x e in
+body_takes : (version : Version) (bytes : List ℕ) (n : ℕ) (x : List Entry × List ℕ) → IsBytes bytes → body_of version (n, bytes) ≡ Ok x → (bytes ≡ payload_as version x.0 ++ x.1) × (length (payload_as version x.0) ≡ n) × AreCells None x.0
+body_takes version bytes n x fits e =
+    let g = missed (ltb (length bytes) n) faults.Short (payload_of version (take n bytes) >=> λ es. Ok (es, drop n bytes)) x e in
     let long : n ≤ length bytes = ltb-false _ _ g.0 in
-    let p = bind_ok (payload_of (take n bytes)) (λ es. Ok (es, drop n bytes)) x g.1 in
-    let t = payload_takes (take n bytes) p.0 (IsBytes-take n bytes fits) p.1 in
-    let parts : bytes ≡ payload p.0 ++ drop n bytes = sym (take-append-drop n bytes) ∙ ap (λ (r : List ℕ). r ++ drop n bytes) t.0 in
-    let len : length (payload p.0) ≡ n = ap length (sym t.0) ∙ length-take n bytes ∙ omega arith in
-    subst (λ (y : List Entry × List ℕ). (bytes ≡ payload y.0 ++ y.1) × (length (payload y.0) ≡ n) × AreCells None y.0) (ok_is (p.0, drop n bytes) x p.2) (parts, len, t.1)
+    let p = bind_ok (payload_of version (take n bytes)) (λ es. Ok (es, drop n bytes)) x g.1 in
+    let t = payload_takes version (take n bytes) p.0 (IsBytes-take n bytes fits) p.1 in
+    let parts : bytes ≡ payload_as version p.0 ++ drop n bytes = sym (take-append-drop n bytes) ∙ ap (λ (r : List ℕ). r ++ drop n bytes) t.0 in
+    let len : length (payload_as version p.0) ≡ n = ap length (sym t.0) ∙ length-take n bytes ∙ omega arith in
+    subst (λ (y : List Entry × List ℕ). (bytes ≡ payload_as version y.0 ++ y.1) × (length (payload_as version y.0) ≡ n) × AreCells None y.0) (ok_is (p.0, drop n bytes) x p.2) (parts, len, t.1)
 
 -- the bytes that a test says they are
 pub magic_is : (a b c d : ℕ) → is_magic a b c d ≡ true → (a ≡ 77) × (b ≡ 80) × (c ≡ 84) × (d ≡ 88)
@@ -207,10 +113,35 @@ magic_is a b c d h =
     let r = both_true (eqb c 84) (eqb d 88) p.1 in
     (eqb-true a 77 q.0, eqb-true b 80 q.1, eqb-true c 84 r.0, eqb-true d 88 r.1)
 
-pub version_is : (a b : ℕ) → is_first_version a b ≡ true → (a ≡ 0) × (b ≡ 1)
-version_is a b h = let p = both_true (eqb a 0) (eqb b 1) h in (eqb-true a 0 p.0, eqb-true b 1 p.1)
+version_by : (x y z : Bool) (version : Version) → cond x (cond y (Some One) (cond z (Some Two) None)) None ≡ Some version → (x ≡ true) × (cond y (version ≡ One) ((z ≡ true) × (version ≡ Two)))
+version_by true true z One e = (refl, refl)
+version_by true true z Two e = absurd cc
+version_by true false true One e = absurd cc
+version_by true false true Two e = (refl, (refl, refl))
+version_by true false false version e = absurd cc
+version_by false y z version e = absurd cc
 
-pub frame_takes : (bytes : List ℕ) (x : List Entry × List ℕ) → IsBytes bytes → frame_at bytes ≡ Ok x → (bytes ≡ frame x.0 ++ x.1) × HasFrame x.0
+number_by : (b : ℕ) (y : Bool) (version : Version) → eqb b 1 ≡ y → cond y (version ≡ One) ((eqb b 2 ≡ true) × (version ≡ Two)) → b ≡ version_number version
+number_by b true version h is = eqb-true b 1 h ∙ ap version_number (sym is)
+number_by b false version h is = eqb-true b 2 is.0 ∙ ap version_number (sym is.1)
+
+pub version_is : (a b : ℕ) (version : Version) → version_of a b ≡ Some version → (a ≡ 0) × (b ≡ version_number version)
+version_is a b version h = let p = version_by (eqb a 0) (eqb b 1) (eqb b 2) version h in (eqb-true a 0 p.0, number_by b (eqb b 1) version refl p.1)
+
+pub version_again : (version : Version) → version_of 0 (version_number version) ≡ Some version
+version_again One = refl
+version_again Two = refl
+
+-- the first six bytes are those of a head
+pub head_text : {a b c d e f : ℕ} {bytes rest : List ℕ} (version : Version) → a ≡ 77 → b ≡ 80 → c ≡ 84 → d ≡ 88 → e ≡ 0 → f ≡ version_number version → bytes ≡ rest
+    → (a ∷ b ∷ c ∷ d ∷ e ∷ f ∷ bytes) ≡ (77 ∷ 80 ∷ 84 ∷ 88 ∷ 0 ∷ version_number version ∷ rest)
+head_text version a b c d e f same = λ i. a i ∷ b i ∷ c i ∷ d i ∷ e i ∷ f i ∷ same i
+
+-- a frame that was read, of some version
+abbrev IsFramed : List ℕ → List Entry × List ℕ → Type 0
+IsFramed bytes x = (version : Version) × (bytes ≡ frame_as version x.0 ++ x.1) × HasFrameAs version x.0
+
+pub frame_takes : (bytes : List ℕ) (x : List Entry × List ℕ) → IsBytes bytes → frame_at bytes ≡ Ok x → IsFramed bytes x
 unfolding frame_at
 frame_takes [] x fits e = absurd cc
 frame_takes (a ∷ []) x fits e = absurd cc
@@ -220,46 +151,78 @@ frame_takes (a ∷ b ∷ c ∷ d ∷ []) x fits e = absurd cc
 frame_takes (a ∷ b ∷ c ∷ d ∷ f ∷ []) x fits e = absurd cc
 frame_takes (a ∷ b ∷ c ∷ d ∷ f ∷ g ∷ bytes) x fits e =
     let rest_fits : IsBytes bytes = λ i. fits (suc (suc (suc (suc (suc (suc i)))))) in
-    let n = bind_ok (or_fault Short (number_at w32 bytes)) (framed (is_magic a b c d) (is_first_version f g)) x e in
-    let t = number_takes w32 (2 ^ 32) wide32 bytes n.0 rest_fits (or_ok Short (number_at w32 bytes) n.0 n.1) in
-    let m = passed (is_magic a b c d) Magic (cond (is_first_version f g) (cond (ltb longest n.0.0) (Err Length) (body_of n.0)) (Err Version)) x n.2 in
-    let v = passed (is_first_version f g) Version (cond (ltb longest n.0.0) (Err Length) (body_of n.0)) x m.1 in
-    let l = missed (ltb longest n.0.0) Length (body_of n.0) x v.1 in
-    let y = body_takes n.0.1 n.0.0 x t.0.rest_fits l.1 in
+    let n = bind_ok (or_fault faults.Short (number_at w32 bytes)) (framed (is_magic a b c d) (version_of f g)) x e in
+    let t = number_takes w32 (2 ^ 32) wide32 bytes n.0 rest_fits (or_ok faults.Short (number_at w32 bytes) n.0 n.1) in
+    let m = passed (is_magic a b c d) faults.Magic (or_fault faults.Version (version_of f g) >=> limited n.0) x n.2 in
+    let v = bind_ok (or_fault faults.Version (version_of f g)) (limited n.0) x m.1 in
+    let version = v.0 in
+    let l = missed (ltb (longest_of version) n.0.0) faults.Length (body_of version n.0) x v.2 in
+    let y = body_takes version n.0.1 n.0.0 x t.0.rest_fits l.1 in
     let mm = magic_is a b c d m.0 in
-    let vv = version_is f g v.0 in
-    let inner : bytes ≡ to_be_bytes w32 (length (payload x.0)) ++ (payload x.0 ++ x.1) = t.0.parts ∙ ap (λ (r : List ℕ). to_be_bytes w32 n.0.0 ++ r) y.0 ∙ ap (λ (k : ℕ). to_be_bytes w32 k ++ (payload x.0 ++ x.1)) (sym y.1) in
-    let limit : n.0.0 ≤ longest = ltb-false longest n.0.0 l.0 in
-    let whole : (a ∷ b ∷ c ∷ d ∷ f ∷ g ∷ bytes) ≡ frame x.0 ++ x.1 =
-    rw (mm.0, mm.1, mm.2, mm.3, vv.0, vv.1) (ap (λ (r : List ℕ). 77 ∷ 80 ∷ 84 ∷ 88 ∷ 0 ∷ 1 ∷ r) (inner ∙ sym (append_assoc (to_be_bytes w32 (length (payload x.0))) (payload x.0) x.1))) in
-    (whole, (y.2, subst (λ (k : ℕ). k ≤ longest) (sym y.1) limit))
+    let vv = version_is f g version (or_ok faults.Version (version_of f g) version v.1) in
+    let body = payload_as version x.0 in
+    let inner : bytes ≡ to_be_bytes w32 (length body) ++ (body ++ x.1) = t.0.parts ∙ ap (λ (r : List ℕ). to_be_bytes w32 n.0.0 ++ r) y.0 ∙ ap (λ (k : ℕ). to_be_bytes w32 k ++ (body ++ x.1)) (sym y.1) in
+    let limit : n.0.0 ≤ longest_of version = ltb-false (longest_of version) n.0.0 l.0 in
+    let whole : (a ∷ b ∷ c ∷ d ∷ f ∷ g ∷ bytes) ≡ frame_as version x.0 ++ x.1 =
+    head_text version mm.0 mm.1 mm.2 mm.3 vv.0 vv.1 (inner ∙ sym (append_assoc (to_be_bytes w32 (length body)) body x.1)) in
+    (version, whole, (y.2, subst (λ (k : ℕ). k ≤ longest_of version) (sym y.1) limit))
 
-pub frame_again : (es : List Entry) (rest : List ℕ) → HasFrame es → frame_at (frame es ++ rest) ≡ Ok (es, rest)
+within_32 : (version : Version) (n : ℕ) → n ≤ longest_of version → n < 2 ^ 32
+within_32 One n le = omega (arith, le)
+within_32 Two n le = omega (arith, le)
+
+pub frame_again : (version : Version) (es : List Entry) (rest : List ℕ) → HasFrameAs version es → frame_at (frame_as version es ++ rest) ≡ Ok (es, rest)
 unfolding frame_at
-frame_again es rest fits =
-    let n : ℕ = length (payload es) in
-    let small : length (payload es) < 2 ^ 32 = omega (arith, fits.1) in
-    let one = number_again w32 (2 ^ 32) wide32 (length (payload es)) (payload es ++ rest) small in
-    let limit : ltb longest (length (payload es)) ≡ false = le-ltb longest (length (payload es)) fits.1 in
-    let long : ltb (length (payload es ++ rest)) (length (payload es)) ≡ false = le-ltb _ _ (omega (arith, length-append (payload es) rest)) in
-    let body : body_of (length (payload es), payload es ++ rest) ≡ Ok (es, rest) = rw (long, take_at (payload es) rest (length (payload es)) refl, drop_at (payload es) rest (length (payload es)) refl, payload_again es fits.0 small) refl in
-    ap (λ (r : List ℕ). frame_at (77 ∷ 80 ∷ 84 ∷ 88 ∷ 0 ∷ 1 ∷ r)) (append_assoc (to_be_bytes w32 (length (payload es))) (payload es) rest)
-    ∙ ap (λ (r : Option (ℕ × List ℕ)). or_fault Short r >=> framed true true) one
-    ∙ rw limit body
+frame_again version es rest fits =
+    let body = payload_as version es in
+    let small : length body < 2 ^ 32 = within_32 version (length body) fits.1 in
+    let one = number_again w32 (2 ^ 32) wide32 (length body) (body ++ rest) small in
+    let limit : ltb (longest_of version) (length body) ≡ false = le-ltb (longest_of version) (length body) fits.1 in
+    let long : ltb (length (body ++ rest)) (length body) ≡ false = le-ltb _ _ (omega (arith, length-append body rest)) in
+    let whole : body_of version (length body, body ++ rest) ≡ Ok (es, rest) = rw (long, take_at body rest (length body) refl, drop_at body rest (length body) refl, payload_again version es fits.0 small) refl in
+    ap (λ (r : List ℕ). frame_at (77 ∷ 80 ∷ 84 ∷ 88 ∷ 0 ∷ version_number version ∷ r)) (append_assoc (to_be_bytes w32 (length body)) body rest)
+    ∙ ap (λ (r : Option (ℕ × List ℕ)). or_fault faults.Short r >=> framed true (version_of 0 (version_number version))) one
+    ∙ ap (λ (v : Option Version). or_fault faults.Version v >=> limited (length body, body ++ rest)) (version_again version)
+    ∙ rw limit whole
+
+-- the sixth byte tells the version
+version_told : (one other : Version) (es fs : List Entry) (more : List ℕ) → frame_as other fs ≡ frame_as one es ++ more → other ≡ one
+version_told One One es fs more e = refl
+version_told Two Two es fs more e = refl
+version_told One Two es fs more e = let told : 2 ≡ 1 = ap (λ (bytes : List ℕ). get_or bytes 5 0) e in absurd (omega (arith, told))
+version_told Two One es fs more e = let told : 1 ≡ 2 = ap (λ (bytes : List ℕ). get_or bytes 5 0) e in absurd (omega (arith, told))
 
 -- no frame begins another, and one frame is of one list of cells
-pub one_frame : (es fs : List Entry) (more : List ℕ) → HasFrame es → HasFrame fs → frame fs ≡ frame es ++ more → (fs ≡ es) × (more ≡ [])
-one_frame es fs more he hf e =
-    let a : frame_at (frame fs ++ []) ≡ Ok (fs, []) = frame_again fs [] hf in
-    let b : frame_at (frame es ++ more) ≡ Ok (es, more) = frame_again es more he in
-    let c : frame_at (frame fs ++ []) ≡ frame_at (frame es ++ more) = ap frame_at (append-nil (frame fs) ∙ e) in
+pub one_frame : (one other : Version) (es fs : List Entry) (more : List ℕ) → HasFrameAs one es → HasFrameAs other fs → frame_as other fs ≡ frame_as one es ++ more → (other ≡ one) × (fs ≡ es) × (more ≡ [])
+one_frame one other es fs more he hf e =
+    let a : frame_at (frame_as other fs ++ []) ≡ Ok (fs, []) = frame_again other fs [] hf in
+    let b : frame_at (frame_as one es ++ more) ≡ Ok (es, more) = frame_again one es more he in
+    let c : frame_at (frame_as other fs ++ []) ≡ frame_at (frame_as one es ++ more) = ap frame_at (append-nil (frame_as other fs) ∙ e) in
     let d : (fs, []) ≡ (es, more) = ok_is (fs, []) (es, more) (sym a ∙ c ∙ b) in
-    (ap (λ (p : List Entry × List ℕ). p.0) d, sym (ap (λ (p : List Entry × List ℕ). p.1) d))
+    (version_told one other es fs more e, ap (λ (p : List Entry × List ℕ). p.0) d, sym (ap (λ (p : List Entry × List ℕ). p.1) d))
 
 ok_err : {A : Type 0} (x : A) (fault : WireFault) (r : Result A WireFault) → r ≡ Ok x → r ≡ Err fault → ⊥
 ok_err x fault (Ok y) a b = absurd cc
 ok_err x fault (Err f) a b = absurd cc
 
 -- where a frame stands in front, nothing is refused
-pub no_refusal : (bytes rest : List ℕ) (es : List Entry) (fault : WireFault) → HasFrame es → bytes ≡ frame es ++ rest → frame_at bytes ≡ Err fault → ⊥
-no_refusal bytes rest es fault has parts e = ok_err (es, rest) fault (frame_at bytes) (ap frame_at parts ∙ frame_again es rest has) e
+pub no_refusal : (version : Version) (bytes rest : List ℕ) (es : List Entry) (fault : WireFault) → HasFrameAs version es → bytes ≡ frame_as version es ++ rest → frame_at bytes ≡ Err fault → ⊥
+no_refusal version bytes rest es fault has parts e = ok_err (es, rest) fault (frame_at bytes) (ap frame_at parts ∙ frame_again version es rest has) e
+
+-- a payload of version 2 has no more than twice the bytes of one of version 1
+pub second_fits : (version : Version) (es : List Entry) → HasFrameAs version es → HasFrame es
+second_fits One es h = (h.0, omega (arith, h.1, payload_len One es, payload_len Two es, runs_few es))
+second_fits Two es h = h
+
+-- ---- what is written fits
+
+pub within : (version : Version) (len all longest : ℕ) → longest ≡ longest_of version → len ≡ min all (2 ^ 64 - 1) → len ≤ longest → all ≤ longest_of version
+within One len all longest is e le = omega (arith, is, e, le)
+within Two len all longest is e le = omega (arith, is, e, le)
+
+pub parts_sized : (version : Version) (es : List Entry) (parts : ℕ) → parts ≡ min (parts_in version es) (2 ^ 64 - 1) → length (payload_as version es) ≤ longest_of version → (parts_in version es ≡ parts) × (parts < 2 ^ 32)
+parts_sized version es parts is le =
+    let short = within_32 version (length (payload_as version es)) le in
+    let len = length-append (to_be_bytes w32 (parts_in version es)) (parts_bytes version es) in
+    let few = parts_short version es in
+    (omega (arith, is, short, len, few), omega (arith, is, short, len, few))

@@ -1,5 +1,5 @@
 -- Cells that are put behind the last of a knowledge.
-use Rattle.std.proofs.Common.{◌≡◌, ℕ, ◌<◌, true, List, [], ◌∷◌, ◌++◌, Option, Some, None, Result, Ok, Err, refl, sym, ap, subst, ◌∙◌, arith, inl, inr, ◌⊎◌}
+use Rattle.std.proofs.Common.{◌≡◌, ℕ, ◌+◌, ◌<◌, ◌≤◌, true, List, [], ◌∷◌, ◌++◌, length, Option, Some, None, refl, sym, ap, subst, ◌∙◌, arith, inl, inr, ◌⊎◌}
 use Rattle.std.specs.Prelude.{IsSome}
 use Rattle.std.specs.Ordering.{nat_cmp, is_eq, eq_by_cmp}
 use Rattle.std.specs.declared.cmp.Ordering.{Ordering}
@@ -13,11 +13,10 @@ use Rattle.std.proofs.lemmas.Cmp.{on_total, then_total}
 use Rattle.std.proofs.lemmas.Map.Lookups.{exact_pairs, exact_unsigned}
 use Rattle.trace_know.specs.declared.cell.Known.{Known}
 use Rattle.trace_know.specs.Placed.{IsPast}
+use Rattle.trace_know.specs.Runs.{placed_cells}
 use Rattle.trace_know.specs.View.{View, place_cmp}
-use Rattle.trace_wire.specs.declared.fault.WireFault.{WireFault}
-use Rattle.trace_wire.specs.Frames.{Entry, is_past}
+use Rattle.trace_wire.specs.Cells.{Entry, is_past}
 use Rattle.trace_wire.proofs.FormLaws.{chosen}
-use Rattle.trace_wire.proofs.CellLoop.{cells_after}
 
 places_total : IsTotalOrder place_cmp
 places_total = then_total (on_total (λ p. p.0) nat_cmp_total) (on_total (λ p. p.1) nat_cmp_total)
@@ -116,9 +115,19 @@ past_all v rank place a r p some = found_before (rank, place) (r, p) (entries v)
 pub entries_none : entries (empty {X = Known} {R = place_cmp}) ≡ []
 entries_none = nil_from_length (entries empty) (sym (len-entries empty) ∙ len-empty place_cmp Known)
 
-nothing_before : (read : Result (List Entry × List ℕ) WireFault) → cells_after [] read ≡ read
-nothing_before (Ok x) = refl
-nothing_before (Err fault) = refl
+-- ---- a run behind all others
 
-pub starts : (es : List Entry) (read : Result (List Entry × List ℕ) WireFault) → es ≡ [] → cells_after es read ≡ read
-starts es read e = ap (λ (fs : List Entry). cells_after fs read) e ∙ nothing_before read
+up_to_both : (last : ℕ × ℕ) (es fs : List Entry) → AllUpTo (Some last) es → AllUpTo (Some last) fs → AllUpTo (Some last) (es ++ fs)
+up_to_both last [] fs a b = b
+up_to_both last (e ∷ es) fs a b = (a.0, up_to_both last es fs a.1 b)
+
+run_up_to : (rank place end : ℕ) (ks : List Known) → place + length ks ≤ end → AllUpTo (Some (rank, end)) (placed_cells rank place ks)
+run_up_to rank place end [] le = tt
+run_up_to rank place end (k ∷ ks) le = (inl (inr (refl, omega (arith, le))), run_up_to rank (place + 1) end ks (omega (arith, le)))
+
+later_up_to : (rank place end : ℕ) (es : List Entry) → place ≤ end → AllBefore (rank, place) es → AllUpTo (Some (rank, end)) es
+later_up_to rank place end [] le a = tt
+later_up_to rank place end (e ∷ es) le a = (inl (elim a.0 [ inl lt ↦ inl lt | inr is ↦ inr (is.0, omega (arith, is.1, le)) ]), later_up_to rank place end es le a.1)
+
+pub run_behind_all : (rank place : ℕ) (ks : List Known) (es : List Entry) → AllBefore (rank, place) es → AllUpTo (Some (rank, place + length ks)) (es ++ placed_cells rank place ks)
+run_behind_all rank place ks es a = up_to_both (rank, place + length ks) es (placed_cells rank place ks) (later_up_to rank place (place + length ks) es (omega arith) a) (run_up_to rank place (place + length ks) ks (omega arith))

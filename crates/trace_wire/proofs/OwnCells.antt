@@ -9,7 +9,7 @@ use Rattle.trace_know.specs.declared.cell.Known.{Known}
 use Rattle.trace_know.specs.Listing.{as_shown}
 use Rattle.trace_know.specs.Placed.{IsPlaced}
 use Rattle.trace_know.specs.View.{place_cmp}
-use Rattle.trace_wire.specs.Frames.{Entry, AreCells, AreInRange, is_past}
+use Rattle.trace_wire.specs.Cells.{Entry, AreCells, AreInRange, is_past}
 
 less_past : (a b : ℕ × ℕ) → place_cmp a b ≡ Less → is_past (Some a) b ≡ true
 less_past a b h = grind (arith, nat_tests, h)

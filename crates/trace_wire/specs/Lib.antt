@@ -1,7 +1,11 @@
 pub mod Forms
 pub mod Fields
 pub mod Events
+pub mod Cells
+pub mod Runs
 pub mod Frames
+pub mod Sizes
+pub mod Parts
 pub mod FirstFault
 pub mod Outcomes
 pub mod Reading

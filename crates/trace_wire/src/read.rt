@@ -3,6 +3,7 @@
 ghost use Rattle.std.specs.Prelude.{◌≡◌, OnOk, IfOk, IfErr};
 ghost use Rattle.std.specs.FinMap.{entries};
 ghost use Rattle.mpi_model.specs.Side.{LeavesSide};
+ghost use Rattle.trace_wire.specs.Frames.{HasFrame};
 ghost use Rattle.trace_wire.specs.Reading.{ReadsFrame, IsUnread, StaysWithin};
 
 pub(crate) mod cells;
@@ -10,21 +11,25 @@ pub(crate) mod event;
 pub(crate) mod field;
 pub(crate) mod input;
 pub(crate) mod list;
+pub(crate) mod payload;
+pub(crate) mod runs;
 
 use crate::fault::WireFault;
-use crate::read::cells::{are_bytes, read_cells};
+use crate::read::cells::are_bytes;
 use crate::read::input::{fill, payload_len, read_bytes};
+use crate::read::payload::read_payload;
 use mpi_model::Read;
 use std::alloc::Global;
 use trace_know::Knowledge;
 
-/// Reads one frame, and leaves what follows it unread.
+/// Reads one frame of either version, and leaves what follows it unread.
 ///
 /// Bytes that are no frame are refused for their first cause, in the order of [`WireFault`]: the ten bytes of the head
-/// are read and tried first, then the payload is read, and then its cells are tried one by one. Memory is asked for the
+/// are read and tried first, then the payload is read, and then its cells or runs are tried one by one. Memory is asked for the
 /// bytes that came, whatever the length says. What was read before a refusal is lost.
 pub fn read_frame<R: Read>(alloc: Global, reader: &mut R) -> Result<Knowledge, WireFault>
     ensures ok { IfOk result (λ k. ReadsFrame (R.left reader.old) (R.left reader.new) (entries k)) }
+    ensures fits { IfOk result (λ k. HasFrame (entries k)) }
     ensures no_failure { OnOk result (R.failures reader.new ≡ R.failures reader.old) }
     ensures err { IfErr result (λ fault. IsUnread (R.left reader.old) (R.failures reader.old) (R.failures reader.new) fault) }
     ensures taken { StaysWithin (R.left reader.old) (R.left reader.new) }
@@ -33,9 +38,9 @@ pub fn read_frame<R: Read>(alloc: Global, reader: &mut R) -> Result<Knowledge, W
     let mut head = [0_u8; 10];
     field!(fill(reader, &mut head));
     are_bytes(&head);
-    let count = field!(payload_len(&head));
-    let payload = field!(read_bytes(alloc, reader, count as usize));
+    let (version, len) = field!(payload_len(&head));
+    let payload = field!(read_bytes(alloc, reader, len as usize));
     are_bytes(&payload);
-    let knowledge = field!(read_cells(alloc, &payload));
+    let knowledge = field!(read_payload(alloc, version, &payload));
     Ok(knowledge)
 }

@@ -2,17 +2,18 @@
 
 ghost use Rattle.std.specs.Prelude.{◌≡◌, ◌+◌, ◌*◌, ◌-◌, ◌^◌, None, min, length};
 ghost use Rattle.std.specs.FinMap.{entries};
+ghost use Rattle.trace_wire.specs.declared.version.Version.TheVariants.{Two};
 ghost use Rattle.trace_wire.specs.Events.{call_fields, event_bytes, outs_fields};
-ghost use Rattle.trace_wire.specs.Frames.{AreCells, AreInRange, IsInRange, cells_bytes, frame, known_bytes};
+ghost use Rattle.trace_wire.specs.Cells.{AreCells, AreInRange, IsInRange, known_bytes, knowns_bytes, knowns_of};
+ghost use Rattle.trace_wire.specs.Frames.{frame_as, parts_in, payload_as};
+ghost use Rattle.trace_wire.specs.Sizes.{head_len, part_end};
 
+use crate::version::Version;
 use mpi_model::{Call, Event, Outs};
 use trace_know::{Knowledge, Known, Walk, listing_laws};
 
 /// The bytes of a head: what stands before the payload.
-pub(crate) const HEAD: u64 = 10;
-
-/// The most bytes that a payload has.
-pub(crate) const LONGEST: u64 = 16_777_216;
+const HEAD: u64 = 10;
 
 /// A count and so many items of one length.
 fn list_len(count: usize, each: u64) -> u64
@@ -82,26 +83,84 @@ fn known_len(known: &Known) -> u64
     }
 }
 
-/// The bytes of the cells that a walk has left. It also tells that their events lie in their ranges.
-fn cells_len(cells: Walk<'_>) -> u64
-    ensures value { result ≡ min (length (cells_bytes cells.entry)) (2 ^ 64 - 1) }
+/// The size of a payload.
+#[derive(Clone, Copy)]
+pub(crate) struct Size {
+    /// How many parts it has: cells, or runs.
+    pub parts: u64,
+    /// How many bytes.
+    pub len: u64,
+}
+
+/// How many parts of a payload end at a cell, from which on so many cells stand without a gap: one or none.
+fn part_end(version: Version, run_len: usize) -> u64
+    ensures { result ≡ part_end version run_len }
+{
+    match version {
+        Version::One => 1,
+        Version::Two => (run_len == 1) as u64,
+    }
+}
+
+/// The bytes of so many parts without what is known at their cells.
+fn heads_len(version: Version, parts: u64) -> u64
+    ensures { result ≡ min (parts * head_len version) (2 ^ 64 - 1) }
+{
+    match version {
+        Version::One => parts.saturating_mul(12),
+        Version::Two => parts.saturating_mul(16),
+    }
+}
+
+/// How many parts the cells that a walk has left make, and how many bytes what is known there has. It also tells that
+/// their events lie in their ranges.
+fn walk_size(version: Version, cells: Walk<'_>) -> Size
+    ensures parts { result.parts ≡ min (parts_in version cells.entry) (2 ^ 64 - 1) }
+    ensures len { result.len ≡ min (length (knowns_bytes (knowns_of cells.entry))) (2 ^ 64 - 1) }
     ensures range { AreInRange cells.entry }
 {
     let mut cells = cells;
+    let mut parts = 0_u64;
     let mut len = 0_u64;
+    let mut run_len = cells.run_len();
     while let Some((_, _, known)) = cells.next() {
-        len = len.saturating_add(known_len(known)).saturating_add(12);
+        parts = parts.saturating_add(part_end(version, run_len));
+        len = len.saturating_add(known_len(known));
+        run_len = cells.run_len();
     }
-    len
+    Size { parts, len }
 }
 
-/// How many bytes the frame of the knowledge has. It also tells that the cells of every knowledge are those of a frame,
-/// if the length is within the limit.
-pub fn frame_len(knowledge: &Knowledge) -> u64
-    ensures value { result ≡ min (length (frame (entries knowledge.now))) (2 ^ 64 - 1) }
+/// The size of the payload of the knowledge. It also tells that the cells of every knowledge are those of a frame, if
+/// the length is within the limit.
+pub(crate) fn payload_size(version: Version, knowledge: &Knowledge) -> Size
+    ensures parts { result.parts ≡ min (parts_in version (entries knowledge.now)) (2 ^ 64 - 1) }
+    ensures len { result.len ≡ min (length (payload_as version (entries knowledge.now))) (2 ^ 64 - 1) }
     ensures cells { AreCells None (entries knowledge.now) }
 {
     knowledge.known();
     listing_laws();
-    cells_len(knowledge.cells()).saturating_add(14)
+    let size = walk_size(version, knowledge.cells());
+    let heads = heads_len(version, size.parts);
+    Size {
+        parts: size.parts,
+        len: heads.saturating_add(size.len).saturating_add(4),
+    }
+}
+
+/// How many bytes the frame of the knowledge has in a version. It takes no memory. It also tells that the cells of every
+/// knowledge are those of a frame, if the length is within the limit.
+pub fn frame_len_as(version: Version, knowledge: &Knowledge) -> u64
+    ensures value { result ≡ min (length (frame_as version (entries knowledge.now))) (2 ^ 64 - 1) }
+    ensures cells { AreCells None (entries knowledge.now) }
+{
+    payload_size(version, knowledge).len.saturating_add(HEAD)
+}
+
+/// How many bytes the frame of the knowledge has, in version 2.
+pub fn frame_len(knowledge: &Knowledge) -> u64
+    ensures value { result ≡ min (length (frame_as Two (entries knowledge.now))) (2 ^ 64 - 1) }
+    ensures cells { AreCells None (entries knowledge.now) }
+{
+    frame_len_as(Version::Two, knowledge)
 }

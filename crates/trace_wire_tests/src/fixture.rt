@@ -6,10 +6,14 @@ use mpi_model::{Call, Event, MemoryReader, MemoryWriter, Outs, Stamp};
 use std::alloc::Global;
 use std::process::Abort;
 use trace_know::{Knowledge, Segment};
-use trace_wire::{WireFault, read_frame, write_frame};
+use trace_wire::{Version, WireFault, read_frame, write_frame_as};
 
-/// The frame of A, B and C: of rank 0 two contents of place 0, and of rank 1 the Enter of `MPI_Finalize` there.
+/// The frame of A, B and C in version 2: of rank 0 two contents of place 0, and of rank 1 the Enter of `MPI_Finalize` there.
 pub(crate) const WORKED: &[u8] =
+    b"MPTX\0\x02\0\0\0\x37\0\0\0\x02\0\0\0\0\0\0\0\0\0\0\0\0\0\0\0\x01\x01\0\0\0\x01\0\0\0\0\0\0\0\0\0\0\0\x01\0\x01\0\0\0\0\0\0\0\x01\0\0\0\0\0\0\0\x02";
+
+/// The same in version 1.
+pub(crate) const WORKED_ONE: &[u8] =
     b"MPTX\0\x01\0\0\0\x2F\0\0\0\x02\0\0\0\0\0\0\0\0\0\0\0\0\x01\0\0\0\x01\0\0\0\0\0\0\0\0\0\x01\0\0\0\0\0\0\0\x01\0\0\0\0\0\0\0\x02";
 
 /// The latest time that a trace can tell.
@@ -47,10 +51,23 @@ pub(crate) fn taken<R: Abort>(rt: &R, alloc: Global, names: &str) -> Knowledge {
     know
 }
 
-/// The frame of the knowledge.
-pub(crate) fn frame<R: Abort>(rt: &R, alloc: Global, know: &Knowledge) -> Vec<u8> {
+/// The worked frame of a version.
+pub(crate) fn worked(version: Version) -> &'static [u8] {
+    match version {
+        Version::One => WORKED_ONE,
+        Version::Two => WORKED,
+    }
+}
+
+/// The frame of the knowledge in a version.
+pub(crate) fn frame<R: Abort>(
+    rt: &R,
+    alloc: Global,
+    version: Version,
+    know: &Knowledge,
+) -> Vec<u8> {
     let mut writer = MemoryWriter::new(alloc);
-    write_frame(know, &mut writer).expect(rt, "a frame");
+    write_frame_as(version, know, &mut writer).expect(rt, "a frame");
     writer.bytes().to_vec(alloc).expect(rt, "memory")
 }
 

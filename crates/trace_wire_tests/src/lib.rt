@@ -4,9 +4,9 @@
 //!
 //! | File | Tests |
 //! |---|---|
-//! | `spelling` | the bytes of each kind of event, there and back |
+//! | `spelling` | the bytes of each kind of event in both versions, there and back |
 //! | `order` | the first cause of a refusal, byte by byte |
-//! | `devices` | a device without an end, and the longest frame |
+//! | `devices` | a device without an end, and the longest frame of each version |
 #![tactic(auto)]
 
 #[cfg(test)]

@@ -1,11 +1,12 @@
 //! The first cause of a refusal, in the order of the format.
 
-use crate::fixture::{WORKED, answer, frame, read, taken};
+use crate::fixture::{WORKED, WORKED_ONE, answer, frame, read, taken, worked};
 use std::alloc::Global;
 use std::process::Abort;
+use trace_wire::Version;
 
 /// A name, the bytes, and what the format says of them.
-static ROWS: [(&str, &[u8], &str); 22] = [
+static ROWS: [(&str, &[u8], &str); 33] = [
     ("nothing is known", b"MPTX\0\x01\0\0\0\x04\0\0\0\0", "ok"),
     (
         "a byte more in the payload",
@@ -22,8 +23,19 @@ static ROWS: [(&str, &[u8], &str); 22] = [
         b"NPTX\0\x01\0\0\0\x04\0\0\0\0",
         "W2 Magic",
     ),
-    ("version 2", b"MPTX\0\x02\0\0\0\x04\0\0\0\0", "W3 Version"),
+    (
+        "nothing is known, in version 2",
+        b"MPTX\0\x02\0\0\0\x04\0\0\0\0",
+        "ok",
+    ),
+    ("version 0", b"MPTX\0\0\0\0\0\x04\0\0\0\0", "W3 Version"),
+    ("version 3", b"MPTX\0\x03\0\0\0\x04\0\0\0\0", "W3 Version"),
     ("version 256", b"MPTX\x01\0\0\0\0\x04\0\0\0\0", "W3 Version"),
+    (
+        "version 258",
+        b"MPTX\x01\x02\0\0\0\x04\0\0\0\0",
+        "W3 Version",
+    ),
     (
         "a length above the limit",
         b"MPTX\0\x01\x01\0\0\x01\0\0\0\0",
@@ -50,9 +62,24 @@ static ROWS: [(&str, &[u8], &str); 22] = [
         "W2 Magic",
     ),
     (
-        "version 2 and too long",
-        b"MPTX\0\x02\xFF\xFF\xFF\xFF",
+        "version 3 and too long",
+        b"MPTX\0\x03\xFF\xFF\xFF\xFF",
         "W3 Version",
+    ),
+    (
+        "a length above the limit of version 2",
+        b"MPTX\0\x02\x04\0\0\x01",
+        "W4 Length",
+    ),
+    (
+        "the limit of version 2, and nothing is there",
+        b"MPTX\0\x02\x04\0\0\0",
+        "W5 Short",
+    ),
+    (
+        "above the limit of version 1, in version 2",
+        b"MPTX\0\x02\x01\0\0\x01",
+        "W5 Short",
     ),
     ("no payload", b"MPTX\0\x01\0\0\0\0", "W7 Content"),
     (
@@ -93,6 +120,31 @@ static ROWS: [(&str, &[u8], &str); 22] = [
     (
         "a call of kind 15",
         b"MPTX\0\x01\0\0\0\x2E\0\0\0\x01\0\0\0\0\0\0\0\0\0\0\0\0\0\x0F\0\0\0\0\0\0\0\0\0\0\0\0\0\0\0\0\xFF\xFF\xFF\xFF\xFF\xFF\xFF\xFF\xFF\xFF\xFF\xFF",
+        "W7 Content",
+    ),
+    (
+        "contradictions at rank 1, places 2 and 3",
+        b"MPTX\0\x02\0\0\0\x16\0\0\0\x01\0\0\0\x01\0\0\0\0\0\0\0\x02\0\0\0\x02\x01\x01",
+        "ok",
+    ),
+    (
+        "the same as two runs",
+        b"MPTX\0\x02\0\0\0\x26\0\0\0\x02\0\0\0\x01\0\0\0\0\0\0\0\x02\0\0\0\x01\x01\0\0\0\x01\0\0\0\0\0\0\0\x03\0\0\0\x01\x01",
+        "W6 Order",
+    ),
+    (
+        "a run of no cell",
+        b"MPTX\0\x02\0\0\0\x14\0\0\0\x01\0\0\0\x01\0\0\0\0\0\0\0\x02\0\0\0\0",
+        "W7 Content",
+    ),
+    (
+        "2^32 - 1 runs are promised",
+        b"MPTX\0\x02\0\0\0\x04\xFF\xFF\xFF\xFF",
+        "W7 Content",
+    ),
+    (
+        "2^32 - 1 cells of a run are promised",
+        b"MPTX\0\x02\0\0\0\x15\0\0\0\x01\0\0\0\x01\0\0\0\0\0\0\0\x02\xFF\xFF\xFF\xFF\x01",
         "W7 Content",
     ),
     (
@@ -146,37 +198,142 @@ static SECOND_CELLS: [(&str, &[u8], &str); 6] = [
 #[test]
 fn order_comes_before_content(rt: HostRuntime) {
     for (name, cell, want) in &SECOND_CELLS {
-        let found = second_cell(&rt, rt.alloc(), cell);
+        let found = second_part(&rt, rt.alloc(), Version::One, cell);
         assert!(rt; found == *want, "{name}");
     }
 }
 
-/// What reading answers where this cell follows a contradiction at rank 1, place 3.
-fn second_cell<R: Abort>(rt: &R, alloc: Global, cell: &[u8]) -> &'static str {
-    let first = b"\0\0\0\x02\0\0\0\x01\0\0\0\0\0\0\0\x03\x01";
-    let len = first.len().saturating_add(cell.len());
+/// A second run that may not begin past the place behind the first one, (1, 4), and that may have other faults as well.
+static SECOND_RUNS: [(&str, &[u8], &str); 13] = [
+    (
+        "the place before, and the count is cut off",
+        b"\0\0\0\x01\0\0\0\0\0\0\0\x03",
+        "W6 Order",
+    ),
+    (
+        "right behind, and the count is cut off",
+        b"\0\0\0\x01\0\0\0\0\0\0\0\x04",
+        "W6 Order",
+    ),
+    (
+        "right behind, and no cell",
+        b"\0\0\0\x01\0\0\0\0\0\0\0\x04\0\0\0\0",
+        "W6 Order",
+    ),
+    (
+        "right behind",
+        b"\0\0\0\x01\0\0\0\0\0\0\0\x04\0\0\0\x01\x01",
+        "W6 Order",
+    ),
+    (
+        "past a gap",
+        b"\0\0\0\x01\0\0\0\0\0\0\0\x05\0\0\0\x01\x01",
+        "ok",
+    ),
+    (
+        "the next rank, at that place",
+        b"\0\0\0\x02\0\0\0\0\0\0\0\x04\0\0\0\x01\x01",
+        "ok",
+    ),
+    (
+        "the place is cut off",
+        b"\0\0\0\0\0\0\0\0\0\0\0",
+        "W7 Content",
+    ),
+    (
+        "the next rank, and no cell",
+        b"\0\0\0\x02\0\0\0\0\0\0\0\0\0\0\0\0",
+        "W7 Content",
+    ),
+    (
+        "a rank before, at place 2^40",
+        b"\0\0\0\0\0\0\x01\0\0\0\0\0\0\0\0\x01\x01",
+        "W6 Order",
+    ),
+    (
+        "the next rank, at place 2^40",
+        b"\0\0\0\x02\0\0\x01\0\0\0\0\0\0\0\0\x01\x01",
+        "W7 Content",
+    ),
+    (
+        "the next rank, from place 2^40 - 1 on one cell",
+        b"\0\0\0\x02\0\0\0\xFF\xFF\xFF\xFF\xFF\0\0\0\x01\x01",
+        "ok",
+    ),
+    (
+        "the next rank, from place 2^40 - 1 on two cells",
+        b"\0\0\0\x02\0\0\0\xFF\xFF\xFF\xFF\xFF\0\0\0\x02\x01\x01",
+        "W7 Content",
+    ),
+    (
+        "the next rank, at the greatest place",
+        b"\0\0\0\x02\xFF\xFF\xFF\xFF\xFF\xFF\xFF\xFF\0\0\0\x01\x01",
+        "W7 Content",
+    ),
+];
+
+#[test]
+fn a_run_begins_past_the_one_before(rt: HostRuntime) {
+    for (name, run, want) in &SECOND_RUNS {
+        let found = second_part(&rt, rt.alloc(), Version::Two, run);
+        assert!(rt; found == *want, "{name}");
+    }
+}
+
+/// What reading answers where this part follows a contradiction at rank 1, place 3.
+fn second_part<R: Abort>(
+    rt: &R,
+    alloc: Global,
+    version: Version,
+    part: &[u8],
+) -> &'static str {
+    let (head, first): (&[u8], &[u8]) = match version {
+        Version::One => (
+            b"MPTX\0\x01",
+            b"\0\0\0\x02\0\0\0\x01\0\0\0\0\0\0\0\x03\x01",
+        ),
+        Version::Two => (
+            b"MPTX\0\x02",
+            b"\0\0\0\x02\0\0\0\x01\0\0\0\0\0\0\0\x03\0\0\0\x01\x01",
+        ),
+    };
+    let len = first.len().saturating_add(part.len());
     let len = u32::try_from(len).ok().expect(rt, "a length");
-    let mut bytes = b"MPTX\0\x01".to_vec(alloc).expect(rt, "memory");
+    let mut bytes = head.to_vec(alloc).expect(rt, "memory");
     bytes
         .extend_from_slice(&len.to_be_bytes())
         .expect(rt, "memory");
     bytes.extend_from_slice(first).expect(rt, "memory");
-    bytes.extend_from_slice(cell).expect(rt, "memory");
+    bytes.extend_from_slice(part).expect(rt, "memory");
     answer(alloc, &bytes)
 }
 
 #[test]
 fn a_frame_that_is_cut_is_short(rt: HostRuntime) {
     for len in 0..WORKED.len() {
-        let cut = WORKED.get(..len).unwrap_or(WORKED);
-        assert!(rt; answer(rt.alloc(), cut) == "W5 Short", "{len}");
+        let is_so = is_cut_short(rt.alloc(), len);
+        assert!(rt; is_so, "{len}");
     }
 }
 
-/// What the format says of the worked frame with another value of one byte.
-fn wanted(position: usize, value: u8) -> &'static str {
+/// Whether both worked frames are short without their bytes from one on, where they have it.
+fn is_cut_short(alloc: Global, len: usize) -> bool {
+    is_short(alloc, WORKED, len) && is_short(alloc, WORKED_ONE, len)
+}
+
+fn is_short(alloc: Global, whole: &[u8], len: usize) -> bool {
+    match whole.get(..len) {
+        Some(cut) => cut.len() == whole.len() || answer(alloc, cut) == "W5 Short",
+        None => true,
+    }
+}
+
+/// What the format says of the worked frame of version 1 with another value of one byte.
+fn wanted_of_one(position: usize, value: u8) -> &'static str {
     match (position, value) {
         (0..=3, _) => "W2 Magic",
+        // Read as version 2, its third cell ends behind the payload.
+        (5, 2) => "W7 Content",
         (4..=5, _) => "W3 Version",
         // The length: above the limit, past the end, or within the cells.
         (6, _) => "W4 Length",
@@ -208,33 +365,94 @@ fn wanted(position: usize, value: u8) -> &'static str {
     }
 }
 
-/// Tries the worked frame with another value of one byte: what reading answers, and where it is another frame, that it is
-/// the frame of what is read.
-fn is_as_wanted<R: Abort>(rt: &R, alloc: Global, position: usize, value: u8) -> bool {
-    let mut bytes = WORKED.to_vec(alloc).expect(rt, "memory");
+/// The same of version 2.
+fn wanted_of_two(position: usize, value: u8) -> &'static str {
+    match (position, value) {
+        (0..=3, _) => "W2 Magic",
+        // Read as version 1, its second cell stands at place 2^56.
+        (5, 1) => "W7 Content",
+        (4..=5, _) => "W3 Version",
+        // The length: past the end, above the limit, or within the runs.
+        (6, 1..=3) => "W5 Short",
+        (6, _) => "W4 Length",
+        (7..=8, _) => "W5 Short",
+        (9, 0x38..=0xFF) => "W5 Short",
+        (9, _) => "W7 Content",
+        // The count: a run that isn't there, or bytes behind the last.
+        (13, 0..=1) => "W8 Rest",
+        (10..=13, _) => "W7 Content",
+        // The first run: a rank that isn't before the second's, a place from 2^40 on.
+        (14..=17, _) => "W6 Order",
+        (18..=20, _) => "W7 Content",
+        (21..=25, _) => "ok",
+        // No cell, or more than there are before the payload ends; an event, behind which the second run has no cell.
+        (26..=30, _) => "W7 Content",
+        // The second run: its rank, its place (at an odd one it would have to be a Return), its count, its cell's kind.
+        (34, 0) => "W6 Order",
+        (31..=34, _) => "ok",
+        (35..=37, _) => "W7 Content",
+        (42, odd) if odd % 2 == 1 => "W7 Content",
+        (38..=42, _) => "ok",
+        (43..=46, _) => "W7 Content",
+        (47, 1) => "W8 Rest",
+        (47, _) => "W7 Content",
+        // Its event: of MPI_Local no field follows either, of each other kind one does; times up to the latest.
+        (48, 0) => "ok",
+        (48, _) => "W7 Content",
+        (49, 0x8B..=0xFF) => "W7 Content",
+        (57, 0x8B..=0xFF) => "W7 Content",
+        _ => "ok",
+    }
+}
+
+/// What the format says of the worked frame of a version with another value of one byte.
+fn wanted(version: Version, position: usize, value: u8) -> &'static str {
+    match version {
+        Version::One => wanted_of_one(position, value),
+        Version::Two => wanted_of_two(position, value),
+    }
+}
+
+/// Tries the worked frame of a version with another value of one byte: what reading answers, and where it is another
+/// frame, that it is the frame of what is read.
+fn is_as_wanted<R: Abort>(
+    rt: &R,
+    alloc: Global,
+    version: Version,
+    position: usize,
+    value: u8,
+) -> bool {
+    let whole = worked(version);
+    let mut bytes = whole.to_vec(alloc).expect(rt, "memory");
     if let Some(byte) = bytes.get_mut(position) {
         *byte = value;
     }
-    if bytes.as_slice() == WORKED {
+    if bytes.as_slice() == whole {
         return true;
     }
-    let want = wanted(position, value);
-    answer(alloc, &bytes) == want && (want != "ok" || is_kept(rt, alloc, &bytes))
+    let want = wanted(version, position, value);
+    answer(alloc, &bytes) == want && (want != "ok" || is_kept(rt, alloc, version, &bytes))
+}
+
+/// Whether it is so in both versions.
+fn are_as_wanted<R: Abort>(rt: &R, alloc: Global, position: usize, value: u8) -> bool {
+    is_as_wanted(rt, alloc, Version::One, position, value)
+        && is_as_wanted(rt, alloc, Version::Two, position, value)
 }
 
 #[test]
 fn each_byte_turned_into_each_other_value(rt: HostRuntime) {
-    for position in 0..57_usize {
+    for position in 0..65_usize {
         for value in 0..=255_u8 {
-            let is_so = is_as_wanted(&rt, rt.alloc(), position, value);
+            let is_so = are_as_wanted(&rt, rt.alloc(), position, value);
             assert!(rt; is_so, "byte {position} is {value}");
         }
     }
 }
 
 /// Whether the bytes are the frame of what is read from them, and that isn't what the worked frame holds.
-fn is_kept<R: Abort>(rt: &R, alloc: Global, bytes: &[u8]) -> bool {
+fn is_kept<R: Abort>(rt: &R, alloc: Global, version: Version, bytes: &[u8]) -> bool {
     let know = read(alloc, bytes).expect(rt, "a frame");
     let is_other = !know.same(&taken(rt, alloc, "ABC"));
-    is_other && frame(rt, alloc, &know).as_slice() == bytes
+    is_other && frame(rt, alloc, version, &know).as_slice() == bytes
 }

@@ -1,6 +1,6 @@
 //! The bytes of each kind of call and outcome, with the least and the greatest values, there and back.
 
-use crate::fixture::{LATEST, WORKED, both, frame, read, taken};
+use crate::fixture::{LATEST, WORKED, WORKED_ONE, both, frame, read, taken};
 use mpi_model::{
     Call, Collective, CommRef, Element, Elements, Envelope, Exchange, Kind, Mode, NamedComm, Outs,
     Peer, ProbeEnvelope, ReceiveEnvelope, Requests, SendEnvelope, Sources, Told,
@@ -8,7 +8,7 @@ use mpi_model::{
 use std::alloc::Global;
 use std::process::Abort;
 use trace_know::Knowledge;
-use trace_wire::frame_len;
+use trace_wire::{Version, frame_len_as};
 
 /// The greatest number of a rank, a tag, a communicator or a count.
 const MOST: u32 = 0x7FFF_FFFF;
@@ -37,40 +37,76 @@ fn is_row<R: Abort>(
     let mut know = Knowledge::new(alloc);
     know.take_owned(both(rt, alloc, call, outs))
         .expect(rt, "memory");
-    is_spelled(rt, alloc, &know, &wanted(rt, alloc, enter, leave))
+    let one = wanted_of_one(rt, alloc, enter, leave);
+    let two = wanted_of_two(rt, alloc, enter, leave);
+    is_spelled(rt, alloc, Version::One, &know, &one)
+        && is_spelled(rt, alloc, Version::Two, &know, &two)
 }
 
-/// Whether the frame of what is known has these bytes, and is read back.
-fn is_spelled<R: Abort>(rt: &R, alloc: Global, know: &Knowledge, wanted: &[u8]) -> bool {
-    let bytes = frame(rt, alloc, know);
+/// Whether the frame of what is known has these bytes in a version, and is read back.
+fn is_spelled<R: Abort>(
+    rt: &R,
+    alloc: Global,
+    version: Version,
+    know: &Knowledge,
+    wanted: &[u8],
+) -> bool {
+    let bytes = frame(rt, alloc, version, know);
     let again = read(alloc, &bytes).expect(rt, "a frame");
-    bytes.as_slice() == wanted && again.same(know) && frame_len(know) == wanted.len() as u64
+    let counted = frame_len_as(version, know);
+    bytes.as_slice() == wanted && again.same(know) && counted == wanted.len() as u64
 }
 
 fn add<R: Abort>(rt: &R, bytes: &mut Vec<u8>, more: &[u8]) {
     bytes.extend_from_slice(more).expect(rt, "memory");
 }
 
-/// The frame of two events of rank 0, entered and left at the latest time.
-fn wanted<R: Abort>(rt: &R, alloc: Global, enter: Spelled<'_>, leave: Spelled<'_>) -> Vec<u8> {
+/// How many bytes the payload has of two events with these fields.
+fn payload_len<R: Abort>(rt: &R, bare: usize, enter: Spelled<'_>, leave: Spelled<'_>) -> [u8; 4] {
     let fields = enter.1.len().saturating_add(leave.1.len());
-    let len = u32::try_from(fields.saturating_add(64))
-        .ok()
-        .expect(rt, "a length");
+    let len = u32::try_from(fields.saturating_add(bare));
+    len.ok().expect(rt, "a length").to_be_bytes()
+}
+
+/// The frame in version 1 of two events of rank 0, entered and left at the latest time: two cells of 30 bytes and their
+/// fields.
+fn wanted_of_one<R: Abort>(
+    rt: &R,
+    alloc: Global,
+    enter: Spelled<'_>,
+    leave: Spelled<'_>,
+) -> Vec<u8> {
     let mut bytes = Vec::new(alloc);
     add(rt, &mut bytes, b"MPTX\0\x01");
-    add(rt, &mut bytes, &len.to_be_bytes());
+    add(rt, &mut bytes, &payload_len(rt, 64, enter, leave));
     add(rt, &mut bytes, b"\0\0\0\x02");
-    add_cell(rt, &mut bytes, 0, enter);
-    add_cell(rt, &mut bytes, 1, leave);
+    add(rt, &mut bytes, b"\0\0\0\0\0\0\0\0\0\0\0\0");
+    add_known(rt, &mut bytes, enter);
+    add(rt, &mut bytes, b"\0\0\0\0\0\0\0\0\0\0\0\x01");
+    add_known(rt, &mut bytes, leave);
     bytes
 }
 
-/// A cell of rank 0, of 30 bytes and its fields: its place, its event's kind and times, and what stands
-/// behind them.
-fn add_cell<R: Abort>(rt: &R, bytes: &mut Vec<u8>, place: u8, event: Spelled<'_>) {
-    add(rt, bytes, b"\0\0\0\0\0\0\0\0\0\0\0");
-    add(rt, bytes, &[place, 0, event.0]);
+/// The same in version 2: a run of two cells.
+fn wanted_of_two<R: Abort>(
+    rt: &R,
+    alloc: Global,
+    enter: Spelled<'_>,
+    leave: Spelled<'_>,
+) -> Vec<u8> {
+    let mut bytes = Vec::new(alloc);
+    add(rt, &mut bytes, b"MPTX\0\x02");
+    add(rt, &mut bytes, &payload_len(rt, 56, enter, leave));
+    add(rt, &mut bytes, b"\0\0\0\x01");
+    add(rt, &mut bytes, b"\0\0\0\0\0\0\0\0\0\0\0\0\0\0\0\x02");
+    add_known(rt, &mut bytes, enter);
+    add_known(rt, &mut bytes, leave);
+    bytes
+}
+
+/// What is known of a place, of 18 bytes and its fields: an event's kind and times, and what stands behind them.
+fn add_known<R: Abort>(rt: &R, bytes: &mut Vec<u8>, event: Spelled<'_>) {
+    add(rt, bytes, &[0, event.0]);
     add(rt, bytes, &LATEST.to_be_bytes());
     add(rt, bytes, b"\0\0\0\0\0\0\0\0");
     add(rt, bytes, event.1);
@@ -392,11 +428,18 @@ fn outcomes(rt: HostRuntime) {
     }
 }
 
+/// Whether the frames of these segments, taken in this order, are the worked ones.
+fn is_worked<R: Abort>(rt: &R, alloc: Global, names: &str) -> bool {
+    let know = taken(rt, alloc, names);
+    is_spelled(rt, alloc, Version::One, &know, WORKED_ONE)
+        && is_spelled(rt, alloc, Version::Two, &know, WORKED)
+}
+
 /// The segments A, B and C, in several orders and more than once.
 #[test]
 fn one_frame_for_each_order_of_the_same_segments(rt: HostRuntime) {
     for names in ["ABC", "BCA", "CBBAB"] {
-        let know = taken(&rt, rt.alloc(), names);
-        assert!(rt; is_spelled(&rt, rt.alloc(), &know, WORKED), "{names}");
+        let is_so = is_worked(&rt, rt.alloc(), names);
+        assert!(rt; is_so, "{names}");
     }
 }

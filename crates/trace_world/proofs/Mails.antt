@@ -1,21 +1,33 @@
 -- A mail is a frame, so reading it fails only for want of memory.
-use Rattle.std.proofs.Common.{◌≡◌, ℕ, List, [], ◌++◌, Err, Some, refl, sym, ◌∙◌, arith}
+use Rattle.std.proofs.Common.{◌≡◌, ℕ, List, [], ◌++◌, Err, Option, Some, None, refl, sym, ap, ◌∙◌, arith}
 use Rattle.std.specs.FinMap.{entries}
 use Rattle.std.proofs.lemmas.List.{append-nil}
 use Rattle.trace_wire.specs.declared.fault.WireFault.{WireFault}
 use Rattle.trace_wire.specs.declared.fault.WireFault.TheVariants.{Memory, Read, Write, Magic, Version, Length, Short, Order, Content, Rest}
 use Rattle.trace_wire.specs.FirstFault.{frame_at}
-use Rattle.trace_wire.specs.Frames.{Entry, HasFrame, frame}
-use Rattle.trace_wire.specs.Reading.{IsUnread}
+use Rattle.trace_wire.specs.declared.version.Version as versions
+use Rattle.trace_wire.specs.declared.version.Version.TheVariants.{Two}
+use Rattle.trace_wire.specs.Cells.{Entry}
+use Rattle.trace_wire.specs.Frames.{HasFrameAs, frame, frame_as}
+use Rattle.trace_wire.specs.Reading.{IsUnread, ReadsFrame}
 use Rattle.trace_world.specs.Worlds.{IsFrame}
 
 -- where a frame stands in front nothing is refused, as `frame_laws` tells
 abbrev pub NoRefusalLaw : Type 0
-NoRefusalLaw = (bytes rest : List ℕ) (es : List Entry) (fault : WireFault) → HasFrame es → bytes ≡ frame es ++ rest → frame_at bytes ≡ Err fault → ⊥
+NoRefusalLaw = (version : versions.Version) (bytes rest : List ℕ) (es : List Entry) (fault : WireFault) → HasFrameAs version es → bytes ≡ frame_as version es ++ rest → frame_at bytes ≡ Err fault → ⊥
+
+-- no frame begins another, as `frame_laws` tells
+abbrev pub OneFrontLaw : Type 0
+OneFrontLaw = (one other : versions.Version) (es fs : List Entry) (more : List ℕ) → HasFrameAs one es → HasFrameAs other fs → frame_as other fs ≡ frame_as one es ++ more → (other ≡ one) × (fs ≡ es) × (more ≡ [])
+
+-- what was read of a mail is what it is the frame of
+pub one_mail : OneFrontLaw → (bytes : List ℕ) (left : Option (List ℕ)) (es : List Entry) → IsFrame bytes → ReadsFrame (Some bytes) left es → bytes ≡ frame es
+one_mail law bytes None es is read = absurd read.1
+one_mail law bytes (Some rest) es is read = is.1 ∙ ap frame (law read.0 Two es (entries is.0) rest read.2 is.2 (sym is.1 ∙ read.1)).1
 
 -- a frame is not refused
 unrefused : NoRefusalLaw → (bytes : List ℕ) (fault : WireFault) → IsFrame bytes → frame_at bytes ≡ Err fault → ⊥
-unrefused law bytes fault is refused = law bytes [] (entries is.0) fault is.2 (is.1 ∙ sym (append-nil (frame (entries is.0)))) refused
+unrefused law bytes fault is refused = law Two bytes [] (entries is.0) fault is.2 (is.1 ∙ sym (append-nil (frame (entries is.0)))) refused
 
 -- a frame that could not be read, by a reader that never fails
 pub only_memory : NoRefusalLaw → (bytes : List ℕ) (fault : WireFault) → IsFrame bytes → IsUnread (Some bytes) 0 0 fault → fault ≡ Memory

@@ -7,18 +7,18 @@ ghost use Rattle.trace_know.specs.Placed.{IsPast};
 ghost use Rattle.trace_know.specs.declared.cell.Known.{Known as KnownValue};
 ghost use Rattle.trace_wire.specs.Forms.{IsBytes};
 ghost use Rattle.trace_wire.specs.Outcomes.{Reads, Gives, FailsWith, wire_of, IsOfBytes};
-ghost use Rattle.trace_wire.specs.Frames.{place_form, is_past};
-ghost use Rattle.trace_wire.specs.FirstFault.{known_at, cell_at, cells_at, payload_of};
+ghost use Rattle.trace_wire.specs.Cells.{place_form, is_past};
+ghost use Rattle.trace_wire.specs.Parts.{cell, cell_at, known_at, parts_at};
 
 use crate::fault::WireFault;
 use crate::read::event::event_of;
 use crate::read::field::{FieldFault, byte_of, u32_of, u64_of};
 use mpi_model::Event;
 use std::alloc::Global;
-use trace_know::{Knowledge, PLACES};
+use trace_know::{Knowledge, Known, PLACES};
 
 /// The fault of a frame that a field's fault is.
-fn fault_of(fault: FieldFault) -> WireFault
+pub(crate) fn fault_of(fault: FieldFault) -> WireFault
     ensures value { result ≡ wire_of fault }
     ensures cause { IsOfBytes result }
 {
@@ -28,23 +28,27 @@ fn fault_of(fault: FieldFault) -> WireFault
     }
 }
 
-/// What stands at a place, as knowledge takes it: an event, or none for a contradiction.
-fn known_of(alloc: Global, place: u64, bytes: &[u8]) -> Result<(Option<Event>, &[u8]), FieldFault>
-    ensures { Reads (λ x. (put_known x.0, x.1.now)) result (known_at place bytes.now) }
+/// What stands at a place.
+pub(crate) fn known_of(
+    alloc: Global,
+    place: u64,
+    bytes: &[u8],
+) -> Result<(Known, &[u8]), FieldFault>
+    ensures { Reads (λ x. (x.0, x.1.now)) result (known_at place bytes.now) }
 {
     match bytes {
         [] => Err(FieldFault::Content),
         [0, rest @ ..] => {
             let (event, rest) = field!(event_of(alloc, place, rest));
-            Ok((Some(event), rest))
+            Ok((Known::One(event), rest))
         }
-        [1, rest @ ..] => Ok((None, rest)),
+        [1, rest @ ..] => Ok((Known::Contradiction, rest)),
         [_, ..] => Err(FieldFault::Content),
     }
 }
 
 /// A rank and a place.
-fn place_of(bytes: &[u8]) -> Result<((u32, u64), &[u8]), FieldFault>
+pub(crate) fn place_of(bytes: &[u8]) -> Result<((u32, u64), &[u8]), FieldFault>
     ensures { Reads (λ x. (x.0, x.1.now)) result (place_form.read bytes.now) }
 {
     let (rank, rest) = u32_of(bytes)?;
@@ -53,12 +57,22 @@ fn place_of(bytes: &[u8]) -> Result<((u32, u64), &[u8]), FieldFault>
 }
 
 /// Whether a place is past the one before.
-fn is_past(before: Option<(u32, u64)>, here: (u32, u64)) -> bool
+pub(crate) fn is_past(before: Option<(u32, u64)>, here: (u32, u64)) -> bool
     ensures { result ≡ is_past before here }
 {
     match before {
         None => true,
         Some((rank, place)) => rank < here.0 || (rank == here.0 && place < here.1),
+    }
+}
+
+/// What is known, as knowledge takes it: an event, or none for a contradiction.
+fn event_in(known: Known) -> Option<Event>
+    ensures { put_known result ≡ known }
+{
+    match known {
+        Known::One(event) => Some(event),
+        Known::Contradiction => None,
     }
 }
 
@@ -86,20 +100,20 @@ fn put_cell<'a>(
     if here.1 >= PLACES {
         return Err(WireFault::Content);
     }
-    let (event, rest) = match known_of(alloc, here.1, rest) {
-        Ok(known) => known,
+    let (known, rest) = match known_of(alloc, here.1, rest) {
+        Ok(found) => found,
         Err(fault) => return Err(fault_of(fault)),
     };
-    match knowledge.put_last(here.0, here.1, event) {
+    match knowledge.put_last(here.0, here.1, event_in(known)) {
         Ok(()) => Ok((here, rest)),
         Err(_) => Err(WireFault::Memory),
     }
 }
 
 /// So many cells, put into knowledge as they are read.
-#[tactic(auto, using(crate::proofs::CellLoop::ends))]
-fn cells_of(alloc: Global, count: u32, bytes: &[u8]) -> Result<(Knowledge, &[u8]), WireFault>
-    ensures value { Gives (λ x. (entries x.0, x.1.now)) result (cells_at count None bytes.now) }
+#[tactic(auto, using(crate::proofs::PartLoop::ends))]
+pub(crate) fn cells_of(alloc: Global, count: u32, bytes: &[u8]) -> Result<(Knowledge, &[u8]), WireFault>
+    ensures value { Gives (λ x. (entries x.0, x.1.now)) result (parts_at cell count None bytes.now) }
     ensures cause { IfErr result IsOfBytes }
 {
     let mut knowledge = Knowledge::new(alloc);
@@ -111,23 +125,6 @@ fn cells_of(alloc: Global, count: u32, bytes: &[u8]) -> Result<(Knowledge, &[u8]
         rest = after;
     }
     Ok((knowledge, rest))
-}
-
-/// The cells of a payload, all of its bytes.
-#[tactic(auto, unfolding(crate::specs::FirstFault::payload_of))]
-pub(crate) fn read_cells(alloc: Global, bytes: &[u8]) -> Result<Knowledge, WireFault>
-    ensures value { Gives (λ k. entries k) result (payload_of bytes.now) }
-    ensures cause { IfErr result IsOfBytes }
-{
-    let (count, rest) = match u32_of(bytes) {
-        Ok(found) => found,
-        Err(fault) => return Err(fault_of(fault)),
-    };
-    let (cells, rest) = field!(cells_of(alloc, count, rest));
-    if !rest.is_empty() {
-        return Err(WireFault::Rest);
-    }
-    Ok(cells)
 }
 
 /// Tells the range of bytes. It does nothing: it is for proofs.

@@ -1,5 +1,5 @@
 use Rattle.std.proofs.Common.{◌≡◌, ◌+◌, ◌∷◌, List, length, ap, arith, subst, ◌∙◌}
-use Rattle.trace_wire.specs.Frames.{Entry, cell_bytes, cells_bytes, known_bytes}
+use Rattle.trace_wire.specs.Cells.{Entry, cell_bytes, cells_bytes, known_bytes}
 use Rattle.trace_wire.specs.Sending.{Comes}
 use Rattle.trace_wire.proofs.Lengths.{cells_len}
 use Rattle.trace_wire.proofs.Sending.{comes, next_item}

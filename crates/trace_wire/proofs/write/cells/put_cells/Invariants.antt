@@ -1,5 +1,5 @@
 use Rattle.std.proofs.Common.{◌<◌, ◌^◌, length}
-use Rattle.trace_wire.specs.Frames.{cells_bytes}
+use Rattle.trace_wire.specs.Cells.{cells_bytes}
 use Rattle.trace_wire.specs.Sending.{Comes}
 use Rattle.trace_wire.proofs.write.cells.put_cells.Given as goal
 

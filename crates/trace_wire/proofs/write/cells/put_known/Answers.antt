@@ -1,5 +1,5 @@
 use Rattle.std.proofs.Common.{ap, sym}
-use Rattle.trace_wire.specs.Frames.{known_bytes}
+use Rattle.trace_wire.specs.Cells.{known_bytes}
 use Rattle.trace_wire.proofs.Sending.{reads, then}
 use Rattle.trace_wire.proofs.write.cells.put_known.Goals as goal
 

@@ -1,5 +1,0 @@
-use Rattle.trace_wire.proofs.Sending.{then}
-use Rattle.trace_wire.proofs.write.cells.put_head.Goals as goal
-
-pub returns : goal.returns
-returns g c = then c.put.ensures c.put_u32.ensures
