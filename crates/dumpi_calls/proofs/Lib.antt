@@ -4,7 +4,9 @@ pub mod FieldByField
 pub mod GroupByGroup
 pub mod Missing
 pub mod Tolds
+pub mod InPlace
 pub mod NextCall
+pub mod Advancing
 pub mod Handed
 pub mod Alternating
 pub mod Joined

@@ -14,8 +14,10 @@ use Rattle.dumpi_text.specs.declared.fault.TextCause.TheVariants as causes
 use Rattle.dumpi_text.specs.declared.fault.TextFault.{TextFault}
 use Rattle.dumpi_text.specs.declared.fault.TextFault.TheVariants as faults
 use Rattle.dumpi_text.specs.declared.step.Position.{Position}
-use Rattle.dumpi_calls.specs.Rows.{row_of, typed}
+use Rattle.dumpi_calls.specs.InPlace.{usual_name}
+use Rattle.dumpi_calls.specs.Rows.{row, row_of, typed}
 use Rattle.dumpi_calls.specs.Seen.{Seen, after, seen_by, seen_in}
+use Rattle.dumpi_calls.specs.declared.function.Function.{Function}
 use Rattle.dumpi_calls.specs.declared.parameter.CallFault.TheVariants as refusals
 use Rattle.dumpi_calls.specs.declared.parameter.Parameter.{Parameter}
 use Rattle.dumpi_calls.specs.declared.typing.TypedCall.{TypedCall}
@@ -78,6 +80,31 @@ pub record Takes {S : Type 0} (step : S → Seen → S) (raw : TextCall) (old ne
   pub call : TypedCall
   pub typed_as : typed raw ≡ Ok call
   pub state : new ≡ step old (seen_by (row_of raw) call)
+
+-- A call of a text that was read whole: its row, what it is typed as, the line where it begins, and that it has returned.
+pub record IsTypedAs (raw : TextCall) (function : Function) (call : TypedCall) (line : ℕ) : Type 0 where
+  pub row_is : row_of raw ≡ row function (usual_name function)
+  pub typed_as : typed raw ≡ Ok call
+  pub line_is : raw.line ≡ line
+  pub exit_is : IsSome raw.exit
+
+-- One call more was read whole.
+pub record FollowsWhole (text : Option (List ℕ)) (calls : List TextCall) (function : Function) (call : TypedCall) (line : ℕ) (view : TextState) : Type 0 where
+  pub raw : TextCall
+  pub read : IsRead text (calls ++ raw ∷ []) view
+  pub is : IsTypedAs raw function call line
+
+-- One call more was read, and the sink took it.
+pub record TakesNext {S : Type 0} (step : S → Seen → S) (text : Option (List ℕ)) (calls : List TextCall) (is_open : Bool) (view : TextState) (old new : S) : Type 0 where
+  pub raw : TextCall
+  pub read : IsRead text (calls ++ raw ∷ []) view
+  pub takes : Takes step raw old new
+  pub exit : is_open ≡ lacks_exit raw.exit
+
+-- The sink took one call more, which has returned or not; or the text was over.
+abbrev pub Advances : {S : Type 0} → (S → Seen → S) → Option (List ℕ) → List TextCall → Option Bool → TextState → S → S → Type 0
+Advances step text calls (Some is_open) view old new = TakesNext step text calls is_open view old new
+Advances step text calls None view old new = MeansAll text calls (Complete view.told) × (new ≡ old)
 
 -- Why a call is refused, and at which line. One that was cut off before its last entry parameter was written is a
 -- truncated text, whose line is its last; any other is refused at its entering line.

@@ -84,7 +84,8 @@ fn part_of_receive(
     })
 }
 
-fn send_envelope(part: Part, comm: CommRef) -> SendEnvelope
+/// The envelope of a send, by its parts.
+pub fn send_envelope(part: Part, comm: CommRef) -> SendEnvelope
     requires part { IsTarget part.peer × IsNamed part.tag × (part.count < 2 ^ 31) }
     requires comm { IsComm comm }
     ensures { result ≡ envelope_of part comm }
@@ -92,7 +93,8 @@ fn send_envelope(part: Part, comm: CommRef) -> SendEnvelope
     SendEnvelope::new(envelope(part, comm)).unwrap()
 }
 
-fn receive_envelope(part: Part, comm: CommRef) -> ReceiveEnvelope
+/// The envelope of a receive, by its parts.
+pub fn receive_envelope(part: Part, comm: CommRef) -> ReceiveEnvelope
     requires part { IsSource part.peer × IsAskedTag part.tag × (part.count < 2 ^ 31) }
     requires comm { IsComm comm }
     ensures { result ≡ envelope_of part comm }

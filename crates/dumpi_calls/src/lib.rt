@@ -11,6 +11,7 @@
 //!   dumpi2ascii writes them, in one pass; [`skim`]: so the source of a status
 //! - [`function`]: the functions, by their names; [`envelope`], [`outcome`]: what calls name and bring back;
 //!   [`typing`]: a call by the row of its function
+//! - [`in_place`]: calls as dumpi2ascii writes them, read whole where they stand
 //! - [`sink`]: the callbacks; [`fault`], [`walking`]: the walk
 //! - [`collect`], over events in [`parts`], and [`tally`]: two sinks; [`laws`]: what holds of walks over whole texts
 //!
@@ -22,6 +23,7 @@ mod collect;
 mod envelope;
 mod fault;
 mod function;
+mod in_place;
 mod laws;
 mod outcome;
 mod parameter;

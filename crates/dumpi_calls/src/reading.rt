@@ -201,7 +201,8 @@ pub fn requests(alloc: Global, raw: &RawCall) -> Result<Requests, CallFault>
     Ok(Requests::from_vec(values(alloc, numbers.as_slice())?))
 }
 
-fn dest_of(number: Num) -> Option<Peer>
+/// The destination that a number tells, by its name first.
+pub fn dest_of(number: Num) -> Option<Peer>
     ensures value { result ≡ dest_by number.name number.value }
     ensures range { IfSome result IsTarget }
 {
@@ -214,7 +215,8 @@ fn dest_of(number: Num) -> Option<Peer>
     }
 }
 
-fn source_of(number: Num) -> Option<Peer>
+/// The source that a number tells, by its name first.
+pub fn source_of(number: Num) -> Option<Peer>
     ensures value { result ≡ source_by number.name number.value }
     ensures range { IfSome result IsSource }
 {
@@ -227,7 +229,8 @@ fn source_of(number: Num) -> Option<Peer>
     }
 }
 
-fn asked_tag_of(number: Num) -> Option<Option<u32>>
+/// The tag that a receive asks for by a number: none is any tag.
+pub fn asked_tag_of(number: Num) -> Option<Option<u32>>
     ensures value { result ≡ asked_tag_by number.name number.value }
     ensures range { IfSome result IsAskedTag }
 {
@@ -237,7 +240,8 @@ fn asked_tag_of(number: Num) -> Option<Option<u32>>
     Some(Some(non_negative_of(number.value)?))
 }
 
-fn comm_of(number: Num) -> Option<CommRef>
+/// The communicator that a number tells, by its name first.
+pub fn comm_of(number: Num) -> Option<CommRef>
     ensures value { result ≡ comm_by number.name number.value }
     ensures range { IfSome result IsComm }
 {

@@ -1,15 +1,16 @@
 //! A walk over the calls of a text.
 
-ghost use Rattle.std.specs.Prelude.{◌≡◌, ◌<◌, ◌≤◌, ℕ, List, Option, Err, Ok, Some, None, IfErr, IfOk, OnErr, true};
+ghost use Rattle.std.specs.Prelude.{◌≡◌, ◌<◌, ◌≤◌, ℕ, List, Option, Err, Ok, Some, None, IfErr, IfNone, IfOk, IfSome, OnErr, true};
 ghost use Rattle.dumpi_text.specs.Call.{TextCall};
 ghost use Rattle.dumpi_text.specs.Failing.{Fails};
 ghost use Rattle.dumpi_text.specs.Shown.{put_in};
 ghost use Rattle.dumpi_text.specs.declared.step.TheConstants.{MOST_LINES};
 ghost use Rattle.dumpi_calls.specs.Rows.{row_of, typed, typed_by, row, HasItsKind};
-ghost use Rattle.dumpi_calls.specs.Walks.{Follows, IsRead, IsReadFault, IsReadStop, IsStopped, IsWalked, LacksNext, RefusesCall, RefusesNext, StopsWalk, Takes, lacks_exit};
+ghost use Rattle.dumpi_calls.specs.Walks.{Advances, Follows, FollowsWhole, IsRead, IsReadFault, IsReadStop, IsStopped, IsTypedAs, IsWalked, LacksNext, RefusesCall, RefusesNext, StopsWalk, Takes, lacks_exit};
 
 use crate::fault::{WalkCause, WalkFault};
 use crate::function::function_of;
+use crate::in_place::{Whole, usual_name, whole_front};
 use crate::parameter::CallFault;
 use crate::sink::{CallSink, hand_on};
 use crate::typing::typed_call;
@@ -139,8 +140,85 @@ fn lack<F: Drop>(fault: TextFault, line: u64, calls: u64) -> WalkFault<F>
     }
 }
 
+// The next call, where it stands at hand whole and in its usual form, which is taken then, and the line where it begins.
+#[inline(always)]
+#[tactic(auto, using(crate::proofs::Advancing::follows_whole, crate::proofs::Advancing::stands_whole))]
+fn whole_of<R: Read>(texts: &mut Texts<R>) -> Option<(Whole, u64)>
+    ensures goes_on { (text : Option (List ℕ)) (calls : List TextCall) → IsRead text calls texts.old → IfSome result (λ x. FollowsWhole text calls x.0.function x.0.call x.1 texts.new) }
+    ensures none { IfNone result (texts.new ≡ texts.old) }
+    ensures progress { IfSome result (λ x. texts.old.at.line < texts.new.at.line) }
+    ensures lines { IfSome result (λ x. texts.new.at.line ≤ MOST_LINES) }
+{
+    reading_call_by_call();
+    let line = texts.line().saturating_add(1);
+    let text = texts.at_hand()?;
+    let whole = whole_front(text)?;
+    texts.pass_call(whole.bytes, whole.lines);
+    Some((whole, line))
+}
+
+// hands on a call that was read whole
+#[inline(always)]
+#[tactic(auto, using(crate::proofs::Advancing::takes_whole, crate::proofs::Advancing::refuses_whole))]
+fn take_whole<S: CallSink>(
+    whole: Whole,
+    line: u64,
+    sink: &mut S,
+    calls: u64,
+) -> Result<(), WalkFault<S::Fault>>
+    ensures ok { (raw : TextCall) → IsTypedAs raw whole.function whole.call line → IfOk result (λ done. Takes S.step raw sink.old sink.new) }
+    ensures err { (raw : TextCall) → IsTypedAs raw whole.function whole.call line → IfErr result (λ fault. RefusesCall raw fault.cause fault.line) }
+    ensures whole { IfErr result (λ fault. ¬ IsReadStop fault.cause) }
+    ensures calls { IfErr result (λ fault. fault.calls ≡ calls) }
+    ensures unchanged { OnErr result (sink.new ≡ sink.old) }
+{
+    let Whole { function, call, .. } = whole;
+    match hand_on(sink, function, usual_name(function).as_bytes(), call) {
+        Ok(()) => Ok(()),
+        Err(fault) => Err(WalkFault {
+            cause: WalkCause::Sink(fault),
+            line,
+            calls,
+        }),
+    }
+}
+
+// Hands on the next call of the text: whether it lacks its exit, or nothing at the end of the text.
+#[inline(always)]
+fn advance<R: Read, S: CallSink>(
+    alloc: Global,
+    texts: &mut Texts<R>,
+    raw: &mut RawCall,
+    sink: &mut S,
+    calls: u64,
+) -> Result<Option<bool>, WalkFault<S::Fault>>
+    ensures ok { (text : Option (List ℕ)) (before : List TextCall) → IsRead text before texts.old → IfOk result (λ found. Advances S.step text before found texts.new sink.old sink.new) }
+    ensures err { (text : Option (List ℕ)) (before : List TextCall) → IsRead text before texts.old → IfErr result (λ fault. StopsWalk text before fault.cause fault.line) }
+    ensures failed { IfErr result (λ fault. IsReadStop fault.cause → Fails R.failures) }
+    ensures calls { IfErr result (λ fault. fault.calls ≡ calls) }
+    ensures unchanged { OnErr result (sink.new ≡ sink.old) }
+    ensures progress { IfOk result (λ found. IfSome found (λ is_open. texts.old.at.line < texts.new.at.line)) }
+    ensures lines { texts.new.at.line ≤ MOST_LINES }
+{
+    if let Some((whole, line)) = whole_of(texts) {
+        return match take_whole(whole, line, sink, calls) {
+            Ok(()) => Ok(Some(false)),
+            Err(fault) => Err(fault),
+        };
+    }
+    match next_of(texts, raw) {
+        Ok(true) => match take(alloc, raw, sink, calls) {
+            Ok(()) => Ok(Some(is_open(raw))),
+            Err(fault) => Err(fault),
+        },
+        Ok(false) => Ok(None),
+        Err(fault) => Err(lack(fault, texts.line(), calls)),
+    }
+}
+
 /// Hands the calls of a text to a sink, in order, each by the callback of its function, up to the first that can't be
 /// read or that the sink refuses. The text is read in one pass, and memory doesn't grow with it.
+#[tactic(auto, using(crate::proofs::Advancing::advanced, crate::proofs::Advancing::walked_all, crate::proofs::Advancing::walk_stopped))]
 pub fn walk<R: Read, S: CallSink>(
     alloc: Global,
     reader: R,
@@ -164,24 +242,20 @@ pub fn walk<R: Read, S: CallSink>(
         }
     };
     let mut raw = RawCall::new(alloc);
-    loop {
-        match next_of(&mut texts, &mut raw) {
-            Ok(true) => {
-                match take(alloc, &raw, sink, calls) {
-                    Ok(()) => {}
-                    Err(fault) => return Err(fault),
-                }
+    'each: loop {
+        match advance(alloc, &mut texts, &mut raw, sink, calls) {
+            Ok(Some(is_open)) => {
                 calls += 1;
-                unfinished = is_open(&raw);
+                unfinished = is_open;
             }
-            Ok(false) => {
+            Ok(None) => {
                 return Ok(Walked {
                     calls,
                     skipped: texts.skipped(),
                     unfinished,
                 });
             }
-            Err(fault) => return Err(lack(fault, texts.line(), calls)),
+            Err(fault) => return Err(fault),
         }
     }
 }

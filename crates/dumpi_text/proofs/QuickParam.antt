@@ -43,13 +43,13 @@ no_stamp name value n =
     rw (no_front (codes "entering") (codes "at ") name value refl n, no_front (codes "returning") (codes "at ") name value refl n, no_front (codes "returned") (codes "at ") name value refl n) refl
 
 -- what follows a front isn't cut off
-end_kept : (front text : List ℕ) → 0 < length text → trim_end text ≡ text → trim_end (front ++ text) ≡ front ++ text
+pub end_kept : (front text : List ℕ) → 0 < length text → trim_end text ≡ text → trim_end (front ++ text) ≡ front ++ text
 end_kept [] text some e = e
 end_kept (b ∷ bs) [] some e = absurd (omega arith)
 end_kept (b ∷ []) (t ∷ ts) some e = ap (before_trimmed b) e
 end_kept (b ∷ c ∷ cs) (t ∷ ts) some e = ap (before_trimmed b) (end_kept (c ∷ cs) (t ∷ ts) some e)
 
-last_kept : (last : ℕ) (front text : List ℕ) → 0 < length text → without_last last text ≡ text → without_last last (front ++ text) ≡ front ++ text
+pub last_kept : (last : ℕ) (front text : List ℕ) → 0 < length text → without_last last text ≡ text → without_last last (front ++ text) ≡ front ++ text
 last_kept last [] text some e = e
 last_kept last (b ∷ bs) [] some e = absurd (omega arith)
 last_kept last (b ∷ []) (t ∷ ts) some e = ap (λ (r : List ℕ). b ∷ r) e
@@ -80,7 +80,7 @@ name_of front name some n =
     ∙ ap (λ (t : List ℕ). (split_at 91 t).0) (last_run front name n)
     ∙ unsplit is_word_byte 91 name n refl
 
-follows : (wanted : ℕ) (text rest : List ℕ) → byte_front wanted text ≡ Some rest → text ≡ wanted ∷ rest
+pub follows : (wanted : ℕ) (text rest : List ℕ) → byte_front wanted text ≡ Some rest → text ≡ wanted ∷ rest
 follows wanted [] rest e = cc
 follows wanted (b ∷ bs) rest e =
     elim (cases_eq b wanted) [
@@ -114,7 +114,7 @@ pub its_parameter : (line named value : List ℕ) → byte_front 32 (word_parts 
 its_parameter line named value n v some whole =
     ap parameter_of (line_parts line named value n v) ∙ by_parts (word_parts line).0 (word_parts named).0 value (words_front line) (words_front named) some whole
 
-starts_bare : (b : ℕ) (bs : List ℕ) → is_word_byte b ≡ true → trim_start (b ∷ bs) ≡ b ∷ bs
+pub starts_bare : (b : ℕ) (bs : List ℕ) → is_word_byte b ≡ true → trim_start (b ∷ bs) ≡ b ∷ bs
 starts_bare b bs w = rw (no_blank b w) refl
 
 -- nothing is cut off such a line
@@ -157,11 +157,11 @@ front_whole (f ∷ fs) (t ∷ ts) rest e =
       | inr other ↦ (let it : eqb t f ≡ false = other_byte t f other in let found : ◌≡◌ {A = Option (List ℕ)} None (Some rest) = rw it at e in cc)
     ]
 
-text_whole : (front text rest : List ℕ) → after_text front text ≡ Some rest → text ≡ front ++ rest
+pub text_whole : (front text rest : List ℕ) → after_text front text ≡ Some rest → text ≡ front ++ rest
 unfolding after_text
 text_whole front text rest e = front_whole front text rest e
 
-word_before : (word : List ℕ) (stop : ℕ) (more : List ℕ) → list_all is_word_byte word ≡ true → is_word_byte stop ≡ false → word_parts (word ++ stop ∷ more) ≡ (word, stop ∷ more)
+pub word_before : (word : List ℕ) (stop : ℕ) (more : List ℕ) → list_all is_word_byte word ≡ true → is_word_byte stop ≡ false → word_parts (word ++ stop ∷ more) ≡ (word, stop ∷ more)
 word_before [] stop more all stops = rw stops refl
 word_before (b ∷ bs) stop more all stops = rw (first_passes is_word_byte b bs all, word_before bs stop more (rest_passes is_word_byte b bs all) stops) refl
 

@@ -1,0 +1,134 @@
+-- One call more of a text that is walked: read whole, and handed on.
+use Rattle.std.proofs.Common.{◌≡◌, ◌+◌, ◌<◌, ◌≤◌, ◌++◌, ◌∷◌, [], ℕ, List, length, Bool, Option, Some, Result, Ok, IsOk, IsSome, None, false, subst, sym, ap, refl, inl, inr, ◌∙◌, arith}
+use Rattle.dumpi_text.specs.Call.{TextCall}
+use Rattle.dumpi_text.specs.Next.{IsNext}
+use Rattle.dumpi_text.specs.Grammar.{Complete}
+use Rattle.dumpi_text.specs.Reading.{MeansAll, ReadsOneMore}
+use Rattle.dumpi_text.specs.Source.{rest_of}
+use Rattle.dumpi_text.specs.Standing.{TextState}
+use Rattle.dumpi_text.specs.Usual.{StandsWhole, call_after}
+use Rattle.dumpi_text.specs.declared.standing.Standing.TheVariants.{Reading}
+use Rattle.dumpi_text.specs.declared.step.Position.{Position}
+use Rattle.dumpi_calls.specs.InPlace.{IsWhole, usual_name}
+use Rattle.dumpi_calls.specs.Rows.{Row, row, row_of, typed}
+use Rattle.dumpi_calls.specs.Seen.{Seen, seen_by}
+use Rattle.dumpi_calls.specs.Walks.{Follows, FollowsWhole, HandedOn, IsRead, IsStopped, IsTypedAs, IsWalked, RefusesCall, StopsWalk, Takes, TakesNext, is_unfinished, lacks_exit}
+use Rattle.mpi_model.specs.Times.{Times}
+use Rattle.dumpi_calls.specs.declared.fault.WalkCause.{WalkCause}
+use Rattle.dumpi_calls.specs.declared.fault.WalkCause.TheVariants.{Sink}
+use Rattle.dumpi_calls.specs.declared.function.Function.{Function}
+use Rattle.dumpi_calls.specs.declared.parameter.CallFault.{CallFault}
+use Rattle.dumpi_calls.specs.declared.fault.WalkFault.{WalkFault}
+use Rattle.dumpi_calls.specs.declared.typing.TypedCall.{TypedCall}
+use Rattle.dumpi_calls.specs.declared.walking.Walked.{Walked}
+use Rattle.dumpi_calls.proofs.Handed.{last_unfinished, one_handed}
+
+-- a whole call may be passed
+pub stands_whole : (text : List ℕ) (function : Function) (call : TypedCall) (bytes lines : ℕ) → IsWhole function call bytes lines text → StandsWhole text bytes lines
+stands_whole text function call bytes lines whole = record {
+  content = record { name = usual_name function; params = whole.params };
+  enter = whole.enter;
+  exit = whole.exit;
+  call = whole.stands;
+  counted = whole.counted;
+}
+
+-- a whole call was read
+pub follows_whole : ReadsOneMore → (text : Option (List ℕ)) (calls : List TextCall) (old new : TextState) (function : Function) (call : TypedCall) (bytes lines line : ℕ) → IsRead text calls old
+    → (whole : IsWhole function call bytes lines old.rest.at_hand) → IsNext old.at (rest_of old.rest) (Some (call_after old.at (record { name = usual_name function; params = whole.params }) whole.enter whole.exit)) new.at (rest_of new.rest)
+    → new.told ≡ new.at → new.standing ≡ Reading → line ≡ old.told.line + 1 → FollowsWhole text calls function call line new
+follows_whole one_more text calls old new function call bytes lines line is_read whole next told reading first = record {
+  raw = call_after old.at (record { name = usual_name function; params = whole.params }) whole.enter whole.exit;
+  read = record {
+    read = one_more text calls old.at (rest_of old.rest) (call_after old.at (record { name = usual_name function; params = whole.params }) whole.enter whole.exit) new.at (rest_of new.rest) is_read.read next;
+    stands = inl reading;
+    told = told;
+  };
+  is = record {
+    row_is = ap (λ (f : Function). row f (usual_name function)) whole.function_is;
+    typed_as = whole.typed_as old.at;
+    line_is = sym (first ∙ ap (λ (at : Position). at.line + 1) is_read.told);
+    exit_is = refl;
+  };
+}
+
+-- the sink took it
+pub takes_whole : {S : Type 0} → (step : S → Seen → S) (raw : TextCall) (function : Function) (call : TypedCall) (line : ℕ) (old new : S) → IsTypedAs raw function call line
+    → new ≡ step old (seen_by (row function (usual_name function)) call) → Takes step raw old new
+takes_whole step raw function call line old new is state = record {
+  call = call;
+  typed_as = is.typed_as;
+  state = state ∙ ap (λ (r : Row). step old (seen_by r call)) (sym is.row_is);
+}
+
+-- the sink refused it
+pub refuses_whole : {F : Type 0} → (raw : TextCall) (function : Function) (call : TypedCall) (line : ℕ) (fault : F) → IsTypedAs raw function call line → RefusesCall raw (Sink fault) line
+refuses_whole raw function call line fault is = (sym is.line_is, subst (λ (r : Result TypedCall CallFault). IsOk r) (sym is.typed_as) refl)
+
+-- A walk with one call more.
+pub advanced : {S : Type 0} → (step : S → Seen → S) (text : Option (List ℕ)) (calls : List TextCall) (is_open : Bool) (view : TextState) (first old new : S) (count : ℕ) → HandedOn step calls first old count
+    → TakesNext step text calls is_open view old new → (all : List TextCall) × IsRead text all view × HandedOn step all first new (count + 1) × (is_open ≡ is_unfinished all)
+advanced step text calls is_open view first old new count handed next =
+    (calls ++ next.raw ∷ [], next.read, one_handed step calls next.raw first old new count handed next.takes, next.exit ∙ sym (last_unfinished calls next.raw))
+
+-- handed on as before, where the sink is as it was
+still_handed : {S : Type 0} → (step : S → Seen → S) (calls : List TextCall) (first old new : S) (count total : ℕ) → HandedOn step calls first old count → new ≡ old → total ≡ count → HandedOn step calls first new total
+still_handed step calls first old new count total handed same counted = record { seen = handed.seen; typed_as = handed.typed_as; state = same ∙ handed.state; counted = counted ∙ handed.counted }
+
+-- The text is over.
+pub walked_all : {S : Type 0} → (step : S → Seen → S) (text : Option (List ℕ)) (calls : List TextCall) (view : TextState) (first old new : S) (walked : Walked) → HandedOn step calls first old walked.calls
+    → MeansAll text calls (Complete view.told) → new ≡ old → walked.skipped ≡ view.told.skipped → walked.unfinished ≡ is_unfinished calls → IsWalked step text first new walked
+walked_all step text calls view first old new walked handed means same skipped unfinished = record {
+  calls = calls;
+  at = view.told;
+  means = means;
+  handed = still_handed step calls first old new walked.calls walked.calls handed same refl;
+  skipped = skipped;
+  unfinished = unfinished;
+}
+
+-- A call can't be had, or is refused.
+pub walk_stopped : {S F : Type 0} → (step : S → Seen → S) (text : Option (List ℕ)) (calls : List TextCall) (first old new : S) (count : ℕ) (fault : WalkFault F) → HandedOn step calls first old count
+    → StopsWalk text calls fault.cause fault.line → new ≡ old → fault.calls ≡ count → IsStopped step text first new fault
+walk_stopped step text calls first old new count fault handed stops same counted = record {
+  calls = calls;
+  handed = still_handed step calls first old new count fault.calls handed same counted;
+  stops = stops;
+}
+
+-- ---- the next call, read whole or line by line
+
+-- a call that has returned doesn't lack its exit
+has_exit : (exit : Option Times) → IsSome exit → false ≡ lacks_exit exit
+has_exit None h = cc
+has_exit (Some stamp) h = refl
+
+-- the call was read whole and taken
+pub whole_next : {S : Type 0} → (step : S → Seen → S) (text : Option (List ℕ)) (calls : List TextCall) (function : Function) (call : TypedCall) (line : ℕ) (view : TextState) (old new : S)
+    → FollowsWhole text calls function call line view → ((raw : TextCall) → IsTypedAs raw function call line → Takes step raw old new) → TakesNext step text calls false view old new
+whole_next step text calls function call line view old new follows takes = record {
+  raw = follows.raw;
+  read = follows.read;
+  takes = takes follows.raw follows.is;
+  exit = has_exit follows.raw.exit follows.is.exit_is;
+}
+
+-- or refused
+pub whole_refused : {F : Type 0} → (text : Option (List ℕ)) (calls : List TextCall) (function : Function) (call : TypedCall) (line at : ℕ) (cause : WalkCause F) (view : TextState)
+    → FollowsWhole text calls function call line view → ((raw : TextCall) → IsTypedAs raw function call line → RefusesCall raw cause at) → StopsWalk text calls cause at
+whole_refused text calls function call line at cause view follows refuses =
+    inr (follows.raw, (view.at, rest_of view.rest, follows.read.read), refuses follows.raw follows.is)
+
+-- a text that no call was read of whole is as it was
+pub as_it_was : (text : Option (List ℕ)) (calls : List TextCall) (old mid : TextState) → mid ≡ old → IsRead text calls old → IsRead text calls mid
+as_it_was text calls old mid same read = subst (λ (view : TextState). IsRead text calls view) (sym same) read
+
+-- the call was read line by line and taken
+pub line_next : {S : Type 0} → (step : S → Seen → S) (text : Option (List ℕ)) (calls : List TextCall) (raw : TextCall) (is_open : Bool) (view : TextState) (old new : S)
+    → Follows text calls (Some raw) view → Takes step raw old new → is_open ≡ lacks_exit raw.exit → TakesNext step text calls is_open view old new
+line_next step text calls raw is_open view old new follows takes exit = record { raw = raw; read = follows; takes = takes; exit = exit }
+
+-- or refused
+pub line_refused : {F : Type 0} → (text : Option (List ℕ)) (calls : List TextCall) (raw : TextCall) (cause : WalkCause F) (line : ℕ) (view : TextState)
+    → Follows text calls (Some raw) view → RefusesCall raw cause line → StopsWalk text calls cause line
+line_refused text calls raw cause line view follows refuses = inr (raw, (view.at, rest_of view.rest, follows.read), refuses)

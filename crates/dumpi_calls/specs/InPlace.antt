@@ -1,0 +1,93 @@
+-- Calls that stand whole in front of a text, read where they stand.
+use Rattle.std.specs.Prelude.{◌≡◌, ◌≤◌, ℕ, ◌+◌, List, [], ◌∷◌, ◌++◌, length, Option, Some, Ok, codes, drop}
+use Rattle.mpi_model.specs.Times.{Times}
+use Rattle.mpi_model.specs.declared.call.Call.{Call}
+use Rattle.mpi_model.specs.declared.envelope.Envelope.{Envelope}
+use Rattle.mpi_model.specs.declared.envelope.Mode.TheVariants.{Standard, Synchronous}
+use Rattle.mpi_model.specs.declared.outcome.Outs.{Outs}
+use Rattle.dumpi_text.specs.Call.{Param, TextCall, first_value}
+use Rattle.dumpi_text.specs.Usual.{HasCall, Tells, TellsAll, call_after}
+use Rattle.dumpi_text.specs.Value.{value_of}
+use Rattle.dumpi_text.specs.declared.number.Num.{Num}
+use Rattle.dumpi_text.specs.declared.step.Position.{Position}
+use Rattle.dumpi_text.specs.declared.value.Value.TheVariants.{Number}
+use Rattle.dumpi_calls.specs.Outcomes.{groups_by, told_at}
+use Rattle.dumpi_calls.specs.Readings.{name_of}
+use Rattle.dumpi_calls.specs.Rows.{envelope_of_receive, envelope_of_send, function_named, row, typed, typed_by}
+use Rattle.dumpi_calls.specs.declared.function.Function.{Function}
+use Rattle.dumpi_calls.specs.declared.function.Function.TheVariants as functions
+use Rattle.dumpi_calls.specs.declared.parameter.Parameter.{Parameter}
+use Rattle.dumpi_calls.specs.declared.parameter.Parameter.TheVariants.{Comm, Count, Datatype, Dest, Source, Status, Tag}
+use Rattle.dumpi_calls.specs.declared.typing.TypedCall.{TypedCall}
+
+-- the line of a parameter
+abbrev pub param_of : Parameter → List ℕ → Param
+param_of parameter value = record { name = name_of parameter; value = value }
+
+-- A text begins with a line that tells a number as this parameter.
+pub record TellsNumber (parameter : Parameter) (number : Num) (text rest : List ℕ) : Type 0 where
+  pub value : List ℕ
+  pub tells : Tells (param_of parameter value) text rest
+  pub means : value_of value ≡ Some (Number number)
+
+-- the parameters of a send and of a receive in the order in which dumpi2ascii writes them
+abbrev pub send_lines : List ℕ → List ℕ → List ℕ → List ℕ → List ℕ → List Param
+send_lines count datatype dest tag comm = param_of Count count ∷ param_of Datatype datatype ∷ param_of Dest dest ∷ param_of Tag tag ∷ param_of Comm comm ∷ []
+
+abbrev pub receive_lines : List ℕ → List ℕ → List ℕ → List ℕ → List ℕ → List Param
+receive_lines count datatype source tag comm = param_of Count count ∷ param_of Datatype datatype ∷ param_of Source source ∷ param_of Tag tag ∷ param_of Comm comm ∷ []
+
+-- A text begins with the lines of a send, which say this envelope, whatever lines follow.
+pub record TellsSend (envelope : Envelope) (text rest : List ℕ) : Type 0 where
+  pub count : List ℕ
+  pub datatype : List ℕ
+  pub dest : List ℕ
+  pub tag : List ℕ
+  pub comm : List ℕ
+  pub tells : TellsAll (send_lines count datatype dest tag comm) text rest
+  pub says : (raw : TextCall) (more : List Param) → raw.params ≡ send_lines count datatype dest tag comm ++ more → envelope_of_send raw ≡ Ok envelope
+
+-- A text begins with the lines of a receive, which say this envelope, whatever lines follow.
+pub record TellsReceive (envelope : Envelope) (text rest : List ℕ) : Type 0 where
+  pub count : List ℕ
+  pub datatype : List ℕ
+  pub source : List ℕ
+  pub tag : List ℕ
+  pub comm : List ℕ
+  pub tells : TellsAll (receive_lines count datatype source tag comm) text rest
+  pub says : (raw : TextCall) (more : List Param) → raw.params ≡ receive_lines count datatype source tag comm ++ more → envelope_of_receive raw ≡ Ok envelope
+
+-- A text begins with so many parameter lines, which say a call of a function and what it brings back, whatever its times.
+pub record TellsCall (function : Function) (call : Call) (outs : Outs) (lines : ℕ) (text rest : List ℕ) : Type 0 where
+  pub params : List Param
+  pub tells : TellsAll params text rest
+  pub counted : lines ≡ length params
+  pub says : (raw : TextCall) (exit : Times) → raw.params ≡ params → raw.exit ≡ Some exit → typed_by (row function raw.name) raw ≡ Ok (record { call = call; enter = raw.enter; exit = Some (record { outs = outs; stamp = exit }) })
+
+-- A text begins with so many lines that tell a status, one or none, which tells this source.
+pub record TellsStatus (told : Option ℕ) (lines : ℕ) (text rest : List ℕ) : Type 0 where
+  pub params : List Param
+  pub tells : TellsAll params text rest
+  pub counted : lines ≡ length params
+  pub says : told_at (groups_by (first_value (name_of Status) params)) 0 ≡ told
+
+-- the name of a function whose calls are read in place
+abbrev pub usual_name : Function → List ℕ
+usual_name (functions.Send Standard) = codes "MPI_Send"
+usual_name (functions.Send Synchronous) = codes "MPI_Ssend"
+usual_name (functions.Isend Standard) = codes "MPI_Isend"
+usual_name (functions.Isend Synchronous) = codes "MPI_Issend"
+usual_name functions.Recv = codes "MPI_Recv"
+usual_name functions.Irecv = codes "MPI_Irecv"
+usual_name _ = []
+
+-- So many bytes in front of a text are a whole call of a function, of so many lines, and it is typed so, wherever it stands.
+pub record IsWhole (function : Function) (call : TypedCall) (bytes lines : ℕ) (text : List ℕ) : Type 0 where
+  pub params : List Param
+  pub enter : Times
+  pub exit : Times
+  pub stands : HasCall (record { name = usual_name function; params = params }) enter exit text (drop bytes text)
+  pub within : bytes ≤ length text
+  pub counted : lines ≡ length params + 2
+  pub function_is : function_named (usual_name function) ≡ function
+  pub typed_as : (at : Position) → typed (call_after at (record { name = usual_name function; params = params }) enter exit) ≡ Ok call

@@ -1,0 +1,288 @@
+//! Calls as dumpi2ascii writes them, read whole where they stand at hand: no line of them is copied. What these functions
+//! don't answer for is read line by line.
+
+ghost use Rattle.std.specs.Prelude.{◌≡◌, ◌≤◌, ◌<◌, ◌^◌, IfSome, true};
+ghost use Rattle.mpi_model.specs.Ranges.{IsAskedTag, IsComm, IsSource, IsTarget};
+ghost use Rattle.dumpi_calls.specs.InPlace.{IsWhole, TellsCall, TellsNumber, TellsReceive, TellsSend, TellsStatus, usual_name};
+ghost use Rattle.dumpi_calls.specs.Outcomes.{groups_from, told_at};
+ghost use Rattle.dumpi_calls.specs.Readings.{non_negative};
+ghost use Rattle.dumpi_calls.specs.Rows.{function_named};
+ghost use Rattle.dumpi_text.specs.Usual.{is_word};
+ghost use Rattle.dumpi_text.specs.declared.texts.TheConstants.{MOST_USUAL_LINES};
+ghost use Rattle.dumpi_text.specs.Value.{value_of};
+
+use crate::envelope::{Part, receive_envelope, send_envelope};
+use crate::function::{Function, is};
+use crate::parameter::Parameter;
+use crate::quick::quick_number;
+use crate::reading::{asked_tag_of, comm_of, dest_of, non_negative_of, source_of};
+use crate::skim::quick_status;
+use crate::typing::TypedCall;
+use dumpi_text::{Num, entering_front, parameter_front, returning_front};
+use mpi_model::{Call, CommRef, Exit, Mode, Outs, Peer, ReceiveEnvelope, SendEnvelope, Told};
+
+/// A whole call in front of a text.
+#[derive(Debug, Drop)]
+pub struct Whole {
+    pub function: Function,
+    pub call: TypedCall,
+    /// How many bytes it takes.
+    pub bytes: usize,
+    /// How many lines it has.
+    pub lines: u64,
+}
+
+// The number that the line in front of a text tells as this parameter, and what follows the line.
+#[inline(always)]
+#[tactic(auto, using(crate::proofs::InPlace::number_told, crate::proofs::InPlace::named_by_a_word))]
+fn number_front<'a>(kind: &[u8], parameter: Parameter, text: &'a [u8]) -> Option<(Num, &'a [u8])>
+    requires { is_word kind.now ≡ true }
+    ensures { IfSome result (λ x. TellsNumber parameter x.0 text.now x.1.now) }
+{
+    let (value, rest) = parameter_front(kind, parameter.name().as_bytes(), text)?;
+    let number = quick_number(value)?;
+    Some((number, rest))
+}
+
+// a count, a tag of a send or a root
+fn small_of(number: Num) -> Option<u32>
+    ensures value { result ≡ non_negative number.value }
+    ensures range { IfSome result (λ n. n < 2 ^ 31) }
+{
+    non_negative_of(number.value)
+}
+
+// the envelope of a send
+fn sent(count: u32, datatype: Num, peer: Peer, tag: u32, comm: CommRef) -> SendEnvelope
+    requires peer { IsTarget peer }
+    requires tag { tag < 2 ^ 31 }
+    requires comm { IsComm comm }
+    requires count { count < 2 ^ 31 }
+    ensures { result ≡ record { peer = peer; tag = Some tag; comm = comm; count = count; datatype = datatype.value } }
+{
+    let part = Part {
+        count,
+        datatype: datatype.value,
+        peer,
+        tag: Some(tag),
+    };
+    send_envelope(part, comm)
+}
+
+// the envelope of a receive
+fn received(
+    count: u32,
+    datatype: Num,
+    peer: Peer,
+    tag: Option<u32>,
+    comm: CommRef,
+) -> ReceiveEnvelope
+    requires peer { IsSource peer }
+    requires tag { IsAskedTag tag }
+    requires comm { IsComm comm }
+    requires count { count < 2 ^ 31 }
+    ensures { result ≡ record { peer = peer; tag = tag; comm = comm; count = count; datatype = datatype.value } }
+{
+    let part = Part {
+        count,
+        datatype: datatype.value,
+        peer,
+        tag,
+    };
+    receive_envelope(part, comm)
+}
+
+// the request that a call started
+fn posted(request: Num) -> Outs
+    ensures { result ≡ Outs.Posted request.value }
+{
+    Outs::Posted(request.value)
+}
+
+// The envelope that the lines of a send say in front of a text, and what follows them.
+fn send_front(text: &[u8]) -> Option<(SendEnvelope, &[u8])>
+    ensures { IfSome result (λ x. TellsSend x.0 text.now x.1.now) }
+{
+    let (count, rest) = number_front(b"int", Parameter::Count, text)?;
+    let (datatype, rest) = number_front(b"MPI_Datatype", Parameter::Datatype, rest)?;
+    let (dest, rest) = number_front(b"int", Parameter::Dest, rest)?;
+    let (tag, rest) = number_front(b"int", Parameter::Tag, rest)?;
+    let (comm, rest) = number_front(b"MPI_Comm", Parameter::Comm, rest)?;
+    let elements = small_of(count)?;
+    let peer = dest_of(dest)?;
+    let asked = small_of(tag)?;
+    let group = comm_of(comm)?;
+    Some((sent(elements, datatype, peer, asked, group), rest))
+}
+
+// The envelope that the lines of a receive say in front of a text, and what follows them.
+fn receive_front(text: &[u8]) -> Option<(ReceiveEnvelope, &[u8])>
+    ensures { IfSome result (λ x. TellsReceive x.0 text.now x.1.now) }
+{
+    let (count, rest) = number_front(b"int", Parameter::Count, text)?;
+    let (datatype, rest) = number_front(b"MPI_Datatype", Parameter::Datatype, rest)?;
+    let (source, rest) = number_front(b"int", Parameter::Source, rest)?;
+    let (tag, rest) = number_front(b"int", Parameter::Tag, rest)?;
+    let (comm, rest) = number_front(b"MPI_Comm", Parameter::Comm, rest)?;
+    let elements = small_of(count)?;
+    let peer = source_of(source)?;
+    let asked = asked_tag_of(tag)?;
+    let group = comm_of(comm)?;
+    Some((received(elements, datatype, peer, asked, group), rest))
+}
+
+// What the text of a status tells: `<IGNORED>` tells nothing.
+#[tactic(auto, using(crate::proofs::InPlace::ignored))]
+fn told_by(value: &[u8]) -> Option<Told>
+    ensures { IfSome result (λ told. told_at (groups_from (value_of value.now)) 0 ≡ told) }
+{
+    if is(value, "<IGNORED>") {
+        Some(Told::new(None).unwrap())
+    } else {
+        quick_status(value)
+    }
+}
+
+// What the status tells in front of a text, with how many lines, none where it is absent, and what follows.
+#[tactic(auto, using(crate::proofs::InPlace::status_absent, crate::proofs::InPlace::status_told))]
+fn status_front(text: &[u8]) -> Option<(Told, u64, &[u8])>
+    ensures says { IfSome result (λ x. TellsStatus x.0 x.1 text.now x.2.now) }
+    ensures few { IfSome result (λ x. x.1 ≤ 1) }
+{
+    match parameter_front(b"MPI_Status", b"status", text) {
+        None => Some((Told::new(None).unwrap(), 0, text)),
+        Some((value, rest)) => {
+            let told = told_by(value)?;
+            Some((told, 1, rest))
+        }
+    }
+}
+
+// What the lines in front of a text say: the call, its outcome, how many lines they are, and what follows them.
+#[tactic(auto, using(crate::proofs::InPlace::send_call_told))]
+fn send_lines(mode: Mode, text: &[u8]) -> Option<(Call, Outs, u64, &[u8])>
+    ensures says { IfSome result (λ x. TellsCall (Function.Send mode) x.0 x.1 x.2 text.now x.3.now) }
+    ensures few { IfSome result (λ x. x.2 ≤ 14) }
+{
+    let Some((envelope, rest)) = send_front(text) else {
+        return None;
+    };
+    Some((Call::Send(mode, envelope), Outs::Nothing, 5, rest))
+}
+
+#[tactic(auto, using(crate::proofs::InPlace::isend_lines_told))]
+fn isend_lines(mode: Mode, text: &[u8]) -> Option<(Call, Outs, u64, &[u8])>
+    ensures says { IfSome result (λ x. TellsCall (Function.Isend mode) x.0 x.1 x.2 text.now x.3.now) }
+    ensures few { IfSome result (λ x. x.2 ≤ 14) }
+{
+    let Some((envelope, rest)) = send_front(text) else {
+        return None;
+    };
+    let (request, rest) = number_front(b"MPI_Request", Parameter::Request, rest)?;
+    let outs = posted(request);
+    Some((Call::Isend(mode, envelope), outs, 6, rest))
+}
+
+#[tactic(auto, using(crate::proofs::InPlace::recv_call_told))]
+fn recv_lines(text: &[u8]) -> Option<(Call, Outs, u64, &[u8])>
+    ensures says { IfSome result (λ x. TellsCall Function.Recv x.0 x.1 x.2 text.now x.3.now) }
+    ensures few { IfSome result (λ x. x.2 ≤ 14) }
+{
+    let Some((envelope, rest)) = receive_front(text) else {
+        return None;
+    };
+    let Some((told, lines, rest)) = status_front(rest) else {
+        return None;
+    };
+    Some((Call::Recv(envelope), Outs::Status(told), 5 + lines, rest))
+}
+
+#[tactic(auto, using(crate::proofs::InPlace::irecv_lines_told))]
+fn irecv_lines(text: &[u8]) -> Option<(Call, Outs, u64, &[u8])>
+    ensures says { IfSome result (λ x. TellsCall Function.Irecv x.0 x.1 x.2 text.now x.3.now) }
+    ensures few { IfSome result (λ x. x.2 ≤ 14) }
+{
+    let Some((envelope, rest)) = receive_front(text) else {
+        return None;
+    };
+    let (request, rest) = number_front(b"MPI_Request", Parameter::Request, rest)?;
+    let outs = posted(request);
+    Some((Call::Irecv(envelope), outs, 6, rest))
+}
+
+// The same of any function whose calls are read in place.
+fn lines_front(function: Function, text: &[u8]) -> Option<(Call, Outs, u64, &[u8])>
+    ensures says { IfSome result (λ x. TellsCall function x.0 x.1 x.2 text.now x.3.now) }
+    ensures few { IfSome result (λ x. x.2 ≤ 14) }
+{
+    match function {
+        Function::Send(mode) => send_lines(mode, text),
+        Function::Isend(mode) => isend_lines(mode, text),
+        Function::Recv => recv_lines(text),
+        Function::Irecv => irecv_lines(text),
+        _ => None,
+    }
+}
+
+/// The name of a function whose calls are read in place.
+pub fn usual_name(function: Function) -> &'static str
+    ensures { result.now ≡ usual_name function }
+{
+    match function {
+        Function::Send(Mode::Standard) => "MPI_Send",
+        Function::Send(Mode::Synchronous) => "MPI_Ssend",
+        Function::Isend(Mode::Standard) => "MPI_Isend",
+        Function::Isend(Mode::Synchronous) => "MPI_Issend",
+        Function::Recv => "MPI_Recv",
+        Function::Irecv => "MPI_Irecv",
+        _ => "",
+    }
+}
+
+// The function whose entering line may stand in front of a text, by a few bytes of its name: no other of those that are
+// read in place has them.
+#[tactic(auto, unfolding(crate::specs::Rows::function_named))]
+fn likely_function(text: &[u8]) -> Option<Function>
+    ensures word { IfSome result (λ function. is_word (usual_name function) ≡ true) }
+    ensures named { IfSome result (λ function. function_named (usual_name function) ≡ function) }
+{
+    match text {
+        [_, _, _, _, b'S', b'e', ..] => Some(Function::Send(Mode::Standard)),
+        [_, _, _, _, b'S', b's', ..] => Some(Function::Send(Mode::Synchronous)),
+        [_, _, _, _, b'I', b's', b'e', ..] => Some(Function::Isend(Mode::Standard)),
+        [_, _, _, _, b'I', b's', ..] => Some(Function::Isend(Mode::Synchronous)),
+        [_, _, _, _, b'I', b'r', ..] => Some(Function::Irecv),
+        [_, _, _, _, b'R', b'e', ..] => Some(Function::Recv),
+        _ => None,
+    }
+}
+
+/// The call in front of a text, where it stands there whole and as dumpi2ascii writes it.
+#[tactic(auto, using(crate::proofs::InPlace::whole_told))]
+pub fn whole_front(text: &[u8]) -> Option<Whole>
+    ensures whole { IfSome result (λ w. IsWhole w.function w.call w.bytes w.lines text.now) }
+    ensures few { IfSome result (λ w. w.lines ≤ MOST_USUAL_LINES) }
+{
+    let function = likely_function(text)?;
+    let name = usual_name(function).as_bytes();
+    let Some((enter, inside)) = entering_front(name, text) else {
+        return None;
+    };
+    let Some((call, outs, count, after)) = lines_front(function, inside) else {
+        return None;
+    };
+    let Some((stamp, rest)) = returning_front(name, after) else {
+        return None;
+    };
+    let typed = TypedCall {
+        call,
+        enter,
+        exit: Some(Exit { outs, stamp }),
+    };
+    Some(Whole {
+        function,
+        call: typed,
+        bytes: text.len().saturating_sub(rest.len()),
+        lines: count + 2,
+    })
+}
