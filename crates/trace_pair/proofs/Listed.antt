@@ -62,10 +62,10 @@ has_take [] k x i = elim k as (λ k. Has (take k []) x → Has [] x) [ zero ↦ 
 has_take (y ∷ ys) zero x i = absurd i
 has_take (y ∷ ys) (suc k) x i = ⊎_elim (λ (d : x ≡ y). inl d) (λ j. inr (has_take ys k x j)) i
 
-name_apart : (a b : OpName) → name_lt a b ≡ true → a ≡ b → ⊥
+pub name_apart : (a b : OpName) → name_lt a b ≡ true → a ≡ b → ⊥
 name_apart a b h e = let f = ap (λ (o : OpName). o.rank) e in let g = ap (λ (o : OpName). o.call) e in grind (arith, nat_tests)
 
-name_apart_back : (a b : OpName) → name_lt a b ≡ true → name_lt b a ≡ true → ⊥
+pub name_apart_back : (a b : OpName) → name_lt a b ≡ true → name_lt b a ≡ true → ⊥
 name_apart_back a b h g = grind (arith, nat_tests)
 
 -- elements of one name are one element

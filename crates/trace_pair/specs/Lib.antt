@@ -17,4 +17,6 @@ pub mod OneOrMany
 pub mod Groups
 pub mod KeyOrders
 pub mod Queues
+pub mod Waiting
+pub mod Settled
 pub mod Worked
