@@ -6,7 +6,7 @@ use Rattle.std.specs.BTreeMap.{BTreeMap, IsOrdered}
 use Rattle.mpi_model.specs.declared.message.Message.{Message}
 use Rattle.mpi_model.specs.declared.message.Receive.{Receive}
 use Rattle.trace_pair.specs.KeyOrders.{Queue, queue_cmp, queue_of, Lane, lane_cmp, lane_of}
-use Rattle.trace_pair.specs.Scratch.{AreRising}
+use Rattle.trace_pair.specs.Rising.{AreRising}
 use Rattle.trace_pair.specs.Waiting.{Takings, from_waiting, places_at, ArePlaces, AreTakings, IsFirstPlace}
 use Rattle.trace_pair.specs.declared.pair.Taker.{Taker}
 use Rattle.trace_pair.proofs.Orders.{exact_lanes, exact_queues, lanes_total, queues_total}

@@ -12,7 +12,7 @@ use Rattle.trace_pair.specs.Calls.{AddsReceive, IsPosting, between}
 use Rattle.trace_pair.specs.Coupled.{taker_of, receive_by}
 use Rattle.trace_pair.specs.Indexed.{IsIndexed, IsFirstReceive, couple_of}
 use Rattle.trace_pair.specs.Pairing.{receive_of}
-use Rattle.trace_pair.specs.Scratch.{AreRising}
+use Rattle.trace_pair.specs.Rising.{AreRising}
 use Rattle.trace_pair.specs.Sets.{AddsTo}
 use Rattle.trace_pair.specs.Settled.{Settles, IsTakenAt}
 use Rattle.trace_pair.specs.Table.{sends_of, receives_of}

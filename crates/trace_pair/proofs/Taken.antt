@@ -7,7 +7,7 @@ use Rattle.trace_ops.specs.Order.{Has}
 use Rattle.trace_pair.specs.Calls.{IsOwnMessage, AreApart}
 use Rattle.trace_pair.specs.Coupled.{receive_by}
 use Rattle.trace_pair.specs.Indexed.{IsIndexed, couple_of, name_lt}
-use Rattle.trace_pair.specs.Scratch.{AreRising}
+use Rattle.trace_pair.specs.Rising.{AreRising}
 use Rattle.trace_pair.specs.Sets.{AddsTo, DropsFrom}
 use Rattle.trace_pair.specs.Waiting.{waiting_in, couples_with, waits_at, taker_in}
 use Rattle.trace_pair.specs.declared.pair.Couple.{Couple}

@@ -17,7 +17,7 @@ use Rattle.mpi_model.specs.declared.message.Receive.{Receive}
 use Rattle.mpi_model.specs.Fit.{fits}
 use Rattle.trace_ops.specs.Order.{Has}
 use Rattle.trace_pair.specs.Indexed.{name_lt}
-use Rattle.trace_pair.specs.Scratch.{AreRising}
+use Rattle.trace_pair.specs.Rising.{AreRising}
 use Rattle.trace_pair.specs.Waiting.{Takings, items_of, waiting_in, waits_at, from_waiting, places_at, AreRisingPlaces, ArePlaces, IsFirstPlace}
 use Rattle.trace_pair.specs.declared.pair.Taker.{Taker}
 use Rattle.trace_pair.proofs.Listed.{name_apart, name_apart_back}

@@ -4,7 +4,7 @@ use Rattle.mpi_model.specs.declared.message.Message.{Message}
 use Rattle.mpi_model.specs.declared.message.Receive.{Receive}
 use Rattle.trace_ops.specs.Order.{Has}
 use Rattle.trace_pair.specs.Indexed.{IsIndexed, TakesReceive}
-use Rattle.trace_pair.specs.Scratch.{AreRising}
+use Rattle.trace_pair.specs.Rising.{AreRising}
 use Rattle.trace_pair.specs.Waiting.{Takings, waits_at, waiting_in, couples_with}
 use Rattle.trace_pair.specs.declared.batch.Batch.{Batch}
 

@@ -3,7 +3,7 @@
 
 ghost use Rattle.std.specs.Prelude.{◌≡◌, ◌<◌, true, IfOk, IfSome, OnOk, is_some, length, replicate, List, None, Option};
 ghost use Rattle.trace_pair.specs.KeyOrders.{queue_cmp, queue_of, lane_cmp, lane_of};
-ghost use Rattle.trace_pair.specs.Scratch.{AreRising};
+ghost use Rattle.trace_pair.specs.Rising.{AreRising};
 ghost use Rattle.trace_pair.specs.Waiting.{ArePlaces, IsFirstPlace, taker_at, untaken, with_taker};
 ghost use Rattle.trace_pair.specs.declared.pair.Taker.{Taker};
 

@@ -1,6 +1,6 @@
 use Rattle.std.proofs.Common.{List, subst, sym, ap, ◌∙◌}
 use Rattle.mpi_model.specs.declared.message.Message.{Message}
-use Rattle.trace_pair.specs.Scratch.{AreRising}
+use Rattle.trace_pair.specs.Rising.{AreRising}
 use Rattle.trace_pair.specs.Waiting.{untaken}
 use Rattle.trace_pair.proofs.Owned.{all_sends_rise}
 use Rattle.trace_pair.proofs.Settling.{settled_none}
