@@ -144,25 +144,24 @@ nodes send each other what they know over a socket of this machine. It prints
 A file of a piece may have 1,073,741,824 bytes. A run that can't be done ends with 1 and a line:
   Y1 Worker                    a thread could not be started
   Y3 Net                       no connection could be made
-  W4 Length, W5 Short          a node knows too much to send, above 67,108,864 bytes
+  W4 Length                    a node knows too much to send, above 67,108,864 bytes
   N1 Rank                      a piece has calls of a rank that the layout doesn't have
 "#;
 
 // What the help of `check` says below its arguments.
 const CHECK_HELP: &str =
     r#"It tells whether a report of these pieces can be relied on, without trust in how a report is made:
-the pairs are made once more straight from MPI's rules, and each rank that is named stuck or is let go on
-is looked at by itself. It prints two lines:
+the pairs are made by one pass over all calls, and by an index that follows the pieces one by one. Each
+rank that is named stuck or is let go on is looked at by itself. It prints two lines:
   check pairs P postponed Q equal
-                               so many lines pair and postponed has the report, and the rules give the
+                               so many lines pair and postponed has the report, and both ways give the
                                same; or unequal
   check stuck S released R valid
                                S ranks are stuck, each for good, and the R others that wait can go on, one
                                after another; or invalid
 It ends with 0 where they say equal and valid, and else with 1. mpimatch is proved to print nothing else:
 unequal or invalid is a fault of the program, its proof or the machine.
-The rules hold each message and each receive against all others, again and again, so this is for runs
-of some hundred messages, or for the pieces of a few ranks; a report takes any number.
+Each piece costs a pass over all calls of its rank, so a rank in many pieces takes long.
 "#;
 
 // What the help says below the verbs.

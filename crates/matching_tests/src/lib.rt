@@ -3,7 +3,7 @@
 //! | File | Tests |
 //! |---|---|
 //! | `made` | calls of ranks, and what is known of them |
-//! | `steps` | an index of pairs beside the slow pairing, as calls come and go |
+//! | `steps` | an index of pairs beside the pairing from scratch, as calls come and go |
 //! | `checks` | orders of release and closed sets that are refused |
 #![tactic(auto)]
 

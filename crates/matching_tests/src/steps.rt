@@ -1,4 +1,4 @@
-//! An index of pairs over a long list of steps, beside the slow pairing of the same calls.
+//! An index of pairs over a long list of steps, beside the pairing of the same calls from scratch.
 
 ghost use Rattle.std.specs.Prelude.{◌<◌, length};
 ghost use Rattle.trace_ops.specs.Ops.{IsOwn};
@@ -54,7 +54,7 @@ fn change(draw: &mut Draw, own: &mut Vec<Did>) -> Result<(), Fail> {
     Ok(())
 }
 
-fn by_rules(alloc: Global, layout: &Layout, know: &Knowledge) -> Result<PairTable, Fail> {
+fn from_scratch(alloc: Global, layout: &Layout, know: &Knowledge) -> Result<PairTable, Fail> {
     ops_laws();
     let ops = all_ops(alloc, layout, know)?;
     Ok(pair_all(alloc, &ops)?)
@@ -112,7 +112,7 @@ fn begin(alloc: Global) -> Result<Run, Fail> {
     })
 }
 
-/// One step: the table of the index then, and whether it is that of the slow pairing.
+/// One step: the table of the index then, and whether it is that of a pairing from scratch.
 fn step(alloc: Global, draw: &mut Draw, run: &mut Run) -> Result<(PairTable, bool), Fail> {
     let rank = draw.below(4);
     if let Some(own) = run.calls.get_mut(rank as usize) {
@@ -127,9 +127,9 @@ fn step(alloc: Global, draw: &mut Draw, run: &mut Run) -> Result<(PairTable, boo
         draw.below(2) == 0,
         &mut run.index,
     )?;
-    let slow = by_rules(alloc, &run.layout, &know)?;
+    let whole = from_scratch(alloc, &run.layout, &know)?;
     let table = run.index.pairs()?;
-    let is_same = slow.pairs() == table.pairs() && slow.postponed() == table.postponed();
+    let is_same = whole.pairs() == table.pairs() && whole.postponed() == table.postponed();
     Ok((table, is_same))
 }
 

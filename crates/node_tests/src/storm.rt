@@ -1,6 +1,7 @@
-//! A storm: 2,000 steps of a fixed generator over four nodes and eight ranks. After each step the node that it
-//! touched knows and tells what a new node does that took the segments that reached it, in the order in
-//! which they were made; and its pairs are those of the rules. Longer storms are run by `tests/run_storms`.
+//! A storm: 2,000 steps of a fixed generator over four nodes and eight ranks. After each step each node
+//! knows and tells what a new node does that took the segments that reached it, in the order in which
+//! they were made; and its pairs are those of a pairing from scratch. Longer storms are run by
+//! `tests/run_storms`.
 
 use mpi_model::*;
 use std::alloc::Global;
@@ -168,12 +169,12 @@ fn next_step<R: Abort>(
     alloc: Global,
     chance: &mut Chance,
     lists: &mut Lists,
-) -> (usize, Step) {
+) -> Step {
     let node = chance.below(NODES);
     let word = chance.below(100);
     let inbox = lists.inboxes.get_mut(node).expect(rt, "a node");
     let reached = lists.reached.get_mut(node).expect(rt, "a node");
-    let step = if word < 45 && !inbox.is_empty() {
+    if word < 45 && !inbox.is_empty() {
         let number = inbox.remove(0);
         mark(rt, reached, number);
         Step::Take { node }
@@ -197,8 +198,7 @@ fn next_step<R: Abort>(
             node,
             segment: segment(rt, alloc, number),
         }
-    };
-    (node, step)
+    }
 }
 
 /// A new node that took these segments, in the order in which they were made.
@@ -214,8 +214,8 @@ fn node_of<'a, R: Abort>(rt: &R, alloc: Global, layout: &'a Layout, reached: &[b
     node
 }
 
-/// Whether the node has the pairs and postponed messages of the rules.
-fn has_ruled_pairs<R: Abort>(rt: &R, alloc: Global, layout: &Layout, node: &Node) -> bool {
+/// Whether the node has the pairs and postponed messages of a pairing from scratch.
+fn has_all_pairs<R: Abort>(rt: &R, alloc: Global, layout: &Layout, node: &Node) -> bool {
     ops_laws();
     let ops = all_ops(alloc, layout, node.know()).expect(rt, "memory");
     let table = pair_all(alloc, &ops).expect(rt, "memory");
@@ -240,7 +240,24 @@ fn is_as_listed<R: Abort>(
     let other = node_of(rt, alloc, layout, reached);
     let same = are_same(rt, node, &other);
     drop(other);
-    same && has_ruled_pairs(rt, alloc, layout, node)
+    same && has_all_pairs(rt, alloc, layout, node)
+}
+
+/// Whether each node of the world is as the lists say.
+fn are_all_as_listed<R: Abort>(
+    rt: &R,
+    alloc: Global,
+    layout: &Layout,
+    world: &World,
+    lists: &Lists,
+) -> bool {
+    for (at, reached) in lists.reached.iter().enumerate() {
+        let node = world.node(at).expect(rt, "a node");
+        if !is_as_listed(rt, alloc, layout, node, reached) {
+            return false;
+        }
+    }
+    true
 }
 
 /// The first step after which a node isn't as the lists say.
@@ -250,11 +267,9 @@ fn first_stray<R: Abort>(rt: &R, alloc: Global) -> Option<usize> {
     let mut lists = no_lists(rt, alloc);
     let mut chance = Chance { state: 17 };
     for k in 0..STEPS {
-        let (at, step) = next_step(rt, alloc, &mut chance, &mut lists);
+        let step = next_step(rt, alloc, &mut chance, &mut lists);
         world.step(&step).expect(rt, "a step");
-        let node = world.node(at).expect(rt, "a node");
-        let reached = lists.reached.get(at).expect(rt, "a node");
-        if !is_as_listed(rt, alloc, &layout, node, reached) {
+        if !are_all_as_listed(rt, alloc, &layout, &world, &lists) {
             return Some(k);
         }
     }

@@ -82,7 +82,7 @@ impl<'a> Checker<'a> {
         })
     }
 
-    /// How many messages and receives were read: the pairs by the rules take as long as their number says.
+    /// How many messages and receives were read.
     pub fn size(&self) -> usize {
         let mut size = 0usize;
         for own in self.index.ops() {

@@ -23,4 +23,8 @@ pub mod Sure
 pub mod Names
 pub mod Owned
 pub mod Searched
+pub mod Taken
+pub mod Waited
+pub mod Offered
+pub mod Settling
 pub mod Parts

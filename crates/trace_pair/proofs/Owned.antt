@@ -8,8 +8,8 @@ use Rattle.trace_ops.specs.Ops.{Ops, IsOwn, AreOwn}
 use Rattle.trace_ops.specs.Order.{Has, AreInOrder, ArePosted}
 use Rattle.trace_pair.specs.Calls.{IsOwnMessage, IsOwnReceive, AreApart, ArePostedApart}
 use Rattle.trace_pair.specs.Indexed.{name_lt}
-use Rattle.trace_pair.specs.Table.{sends_of, receives_of, Table, table_with, table_of}
-use Rattle.trace_pair.specs.Scratch.{AreRising, AreCalls}
+use Rattle.trace_pair.specs.Table.{sends_of, receives_of}
+use Rattle.trace_pair.specs.Rising.{AreRising}
 use Rattle.trace_pair.proofs.Listed.{one_named}
 use Rattle.trace_pair.proofs.Names.{sent_name, posted_name, named_message, named_receive}
 use Rattle.trace_pair.proofs.Ranked.{at_least}
@@ -71,12 +71,3 @@ own_calls os a = record {
   messages_apart = λ m n i j e. one_named (λ m. m.name) (sends_of os) m n (all_sends_rise os 0 a) i j (named_message m n (all_senders os 0 a m i) (all_senders os 0 a n j) e);
   receives_apart = λ q r i j e. one_named (λ q. q.name) (receives_of os) q r (all_receives_rise os 0 a) i j (named_receive q r (all_receivers os 0 a q i) (all_receivers os 0 a r j) e);
 }
-
-pub all_calls : (os : List Ops) → AreOwn 0 os → AreCalls (sends_of os) (receives_of os)
-all_calls os a = record { sends_rise = all_sends_rise os 0 a; receives_rise = all_receives_rise os 0 a; senders = all_senders os 0 a; receivers = all_receivers os 0 a }
-
--- what is the table of all calls is that of the ops
-pub made_of : (os : List Ops) (ms : List Message) (qs : List Receive) (t : Table) → AreOwn 0 os → ms ≡ sends_of os → qs ≡ receives_of os → (AreCalls ms qs → t ≡ table_with ms qs) → t ≡ table_of os
-made_of os ms qs t a e f made =
-    let calls = subst (λ (l : List Message). AreCalls l qs) (sym e) (subst (λ (l : List Receive). AreCalls (sends_of os) l) (sym f) (all_calls os a)) in
-    made calls ∙ ap (λ (l : List Message). table_with l qs) e ∙ ap (λ (l : List Receive). table_with (sends_of os) l) f

@@ -13,12 +13,12 @@ or_none : (b : Bool) → (b || false) ≡ b
 or_none true = refl
 or_none false = refl
 
-says_equal : (o : Ordering) → is_eq o ≡ true → o ≡ Equal
+pub says_equal : (o : Ordering) → is_eq o ≡ true → o ≡ Equal
 says_equal Equal h = refl
 says_equal _ h = absurd (cc)
 
 -- equal keys have one value
-at_equal : {K X : Type 0} {cmp : K → K → Ordering} → IsTotalOrder cmp → (m : BTreeMap K X) (key k : K) → cmp key k ≡ Equal → get cmp m key ≡ get cmp m k
+pub at_equal : {K X : Type 0} {cmp : K → K → Ordering} → IsTotalOrder cmp → (m : BTreeMap K X) (key k : K) → cmp key k ≡ Equal → get cmp m key ≡ get cmp m k
 at_equal keys m key k e = λ i. get_by (λ x. keys.congr key k x e i) m
 
 -- at the key stands v now

@@ -43,14 +43,41 @@ not_least : (b : Bool) → b ≡ true → b ≡ false → ⊥
 not_least true h g = cc
 not_least false h g = cc
 
-abbrev queue : ℕ → ℕ → ℕ → ℕ → Queue
+abbrev pub queue : ℕ → ℕ → ℕ → ℕ → Queue
 queue a b c d = (a, b, c, d)
 
-abbrev lane : ℕ → ℕ → ℕ → Lane
+abbrev pub lane : ℕ → ℕ → ℕ → Lane
 lane a b c = (a, b, c)
 
 abbrev receive_key : ℕ → ℕ → Option ℕ → Option ℕ → ReceiveKey
 receive_key a b c d = (a, b, c, d)
+
+-- messages that fit a receive of a tag are those of its queue
+pub queue_fits : (q : Receive) (s t : ℕ) (n : Message) → q.source ≡ Some s → q.tag ≡ Some t → fits n q ≡ true → queue q.comm s q.at t ≡ queue_of n
+queue_fits q s t n e f h =
+    let p = fit_parts n q h in
+    let a : s ≡ n.from = admits_says s n.from (ap (λ (o : Option ℕ). admits o n.from) (sym e) ∙ p.2) in
+    let b : t ≡ n.tag = admits_says t n.tag (ap (λ (o : Option ℕ). admits o n.tag) (sym f) ∙ p.3) in
+    ap (λ c. queue c s q.at t) (sym p.0) ∙ ap (λ r. queue n.comm r q.at t) a ∙ ap (λ r. queue n.comm n.from r t) (sym p.1) ∙ ap (λ r. queue n.comm n.from n.to r) b
+
+pub fits_queue : (q : Receive) (s t : ℕ) (n : Message) → q.source ≡ Some s → q.tag ≡ Some t → queue q.comm s q.at t ≡ queue_of n → fits n q ≡ true
+fits_queue q s t n e f k =
+    fit_from n q (sym (ap (λ (x : Queue). x.0) k)) (sym (ap (λ (x : Queue). x.2) k))
+    (ap (λ (o : Option ℕ). admits o n.from) e ∙ equal_nats s n.from (ap (λ (x : Queue). x.1) k))
+    (ap (λ (o : Option ℕ). admits o n.tag) f ∙ equal_nats t n.tag (ap (λ (x : Queue). x.3) k))
+
+-- and those that fit one of any tag are those of its lane
+pub lane_fits : (q : Receive) (s : ℕ) (n : Message) → q.source ≡ Some s → fits n q ≡ true → lane q.comm s q.at ≡ lane_of n
+lane_fits q s n e h =
+    let p = fit_parts n q h in
+    let a : s ≡ n.from = admits_says s n.from (ap (λ (o : Option ℕ). admits o n.from) (sym e) ∙ p.2) in
+    ap (λ c. lane c s q.at) (sym p.0) ∙ ap (λ r. lane n.comm r q.at) a ∙ ap (λ r. lane n.comm n.from r) (sym p.1)
+
+pub fits_lane : (q : Receive) (s : ℕ) (n : Message) → q.source ≡ Some s → q.tag ≡ None → lane q.comm s q.at ≡ lane_of n → fits n q ≡ true
+fits_lane q s n e f k =
+    fit_from n q (sym (ap (λ (x : Lane). x.0) k)) (sym (ap (λ (x : Lane). x.2) k))
+    (ap (λ (o : Option ℕ). admits o n.from) e ∙ equal_nats s n.from (ap (λ (x : Lane). x.1) k))
+    (ap (λ (o : Option ℕ). admits o n.tag) f)
 
 module _ (tagged : BTreeMap Queue (BTreeSet Message)) (lanes : BTreeMap Lane (BTreeSet Message)) (inv : AreQueued tagged lanes) where
   pub in_queue : (m : Message) → has queue_cmp message_cmp tagged (queue_of m) m ≡ true → Has (members tagged) m
@@ -60,22 +87,13 @@ module _ (tagged : BTreeMap Queue (BTreeSet Message)) (lanes : BTreeMap Lane (BT
   at_queue m i = stands queues_total exact_queues messages_total exact_messages queue_of tagged inv.first_ordered inv.first_placed m i
 
   -- the first of a queue is the first that fits a receive of its tag
-  queue_fits : (q : Receive) (s t : ℕ) (n : Message) → q.source ≡ Some s → q.tag ≡ Some t → fits n q ≡ true → queue q.comm s q.at t ≡ queue_of n
-  queue_fits q s t n e f h =
-      let p = fit_parts n q h in
-      let a : s ≡ n.from = admits_says s n.from (ap (λ (o : Option ℕ). admits o n.from) (sym e) ∙ p.2) in
-      let b : t ≡ n.tag = admits_says t n.tag (ap (λ (o : Option ℕ). admits o n.tag) (sym f) ∙ p.3) in
-      ap (λ c. queue c s q.at t) (sym p.0) ∙ ap (λ r. queue n.comm r q.at t) a ∙ ap (λ r. queue n.comm n.from r t) (sym p.1) ∙ ap (λ r. queue n.comm n.from n.to r) b
-
   pub queue_first : (q : Receive) (s t : ℕ) (n : Message) → q.source ≡ Some s → q.tag ≡ Some t → has queue_cmp message_cmp tagged (queue q.comm s q.at t) n ≡ true →
       ((d : Message) → has queue_cmp message_cmp tagged (queue q.comm s q.at t) d ≡ true → is_gt (message_cmp n d) ≡ false) → IsFirstMessage (members tagged) q n
   queue_first q s t n e f h least =
       let k : queue q.comm s q.at t ≡ queue_of n = inv.first_placed (queue q.comm s q.at t) n h in
       record {
         member = has_member queues_total exact_queues messages_total exact_messages tagged inv.first_ordered (queue q.comm s q.at t) n h;
-        fit = fit_from n q (sym (ap (λ (x : Queue). x.0) k)) (sym (ap (λ (x : Queue). x.2) k))
-            (ap (λ (o : Option ℕ). admits o n.from) e ∙ equal_nats s n.from (ap (λ (x : Queue). x.1) k))
-            (ap (λ (o : Option ℕ). admits o n.tag) f ∙ equal_nats t n.tag (ap (λ (x : Queue). x.3) k));
+        fit = fits_queue q s t n e f k;
         first = λ p i g b. not_least (is_gt (message_cmp n p)) (later_message p n b)
             (least p (ap (λ (x : Queue). has queue_cmp message_cmp tagged x p) (queue_fits q s t p e f g) ∙ at_queue p i));
       }
@@ -85,25 +103,17 @@ module _ (tagged : BTreeMap Queue (BTreeSet Message)) (lanes : BTreeMap Lane (BT
   queue_none q s t e f none n i g =
       not_least (has queue_cmp message_cmp tagged (queue q.comm s q.at t) n) (ap (λ (x : Queue). has queue_cmp message_cmp tagged x n) (queue_fits q s t n e f g) ∙ at_queue n i) (none n)
 
-  -- the first of a lane is the first that fits a receive of any tag
-  lane_fits : (q : Receive) (s : ℕ) (n : Message) → q.source ≡ Some s → fits n q ≡ true → lane q.comm s q.at ≡ lane_of n
-  lane_fits q s n e h =
-      let p = fit_parts n q h in
-      let a : s ≡ n.from = admits_says s n.from (ap (λ (o : Option ℕ). admits o n.from) (sym e) ∙ p.2) in
-      ap (λ c. lane c s q.at) (sym p.0) ∙ ap (λ r. lane n.comm r q.at) a ∙ ap (λ r. lane n.comm n.from r) (sym p.1)
-
   at_lane : (m : Message) → Has (members tagged) m → has lane_cmp message_cmp lanes (lane_of m) m ≡ true
   at_lane m i = sym (inv.same m) ∙ at_queue m i
 
+  -- the first of a lane is the first that fits a receive of any tag
   pub lane_first : (q : Receive) (s : ℕ) (n : Message) → q.source ≡ Some s → q.tag ≡ None → has lane_cmp message_cmp lanes (lane q.comm s q.at) n ≡ true →
       ((d : Message) → has lane_cmp message_cmp lanes (lane q.comm s q.at) d ≡ true → is_gt (message_cmp n d) ≡ false) → IsFirstMessage (members tagged) q n
   lane_first q s n e f h least =
       let k : lane q.comm s q.at ≡ lane_of n = inv.second_placed (lane q.comm s q.at) n h in
       record {
         member = in_queue n (inv.same n ∙ ap (λ (x : Lane). has lane_cmp message_cmp lanes x n) (sym k) ∙ h);
-        fit = fit_from n q (sym (ap (λ (x : Lane). x.0) k)) (sym (ap (λ (x : Lane). x.2) k))
-            (ap (λ (o : Option ℕ). admits o n.from) e ∙ equal_nats s n.from (ap (λ (x : Lane). x.1) k))
-            (ap (λ (o : Option ℕ). admits o n.tag) f);
+        fit = fits_lane q s n e f k;
         first = λ p i g b. not_least (is_gt (message_cmp n p)) (later_message p n b)
             (least p (ap (λ (x : Lane). has lane_cmp message_cmp lanes x p) (lane_fits q s p e g) ∙ at_lane p i));
       }

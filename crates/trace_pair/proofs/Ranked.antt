@@ -1,5 +1,5 @@
 -- The ops of one rank among those of all.
-use Rattle.std.proofs.Common.{subst, ◌≡◌, ℕ, zero, suc, ◌+◌, ◌<◌, ◌≤◌, List, [], ◌∷◌, ◌++◌, ⊎_elim, sym, refl, ◌∙◌, ap, arith, append_assoc, length, take, drop, get_or, set}
+use Rattle.std.proofs.Common.{subst, ◌≡◌, ℕ, zero, suc, ◌+◌, ◌<◌, ◌≤◌, List, [], ◌∷◌, ◌++◌, ⊎_elim, sym, refl, ◌∙◌, ap, arith, append_assoc, length, take, drop, get_or, set, None}
 use Rattle.std.specs.List.{flat_map}
 use Rattle.mpi_model.specs.declared.message.Message.{Message}
 use Rattle.mpi_model.specs.declared.message.Receive.{Receive}
@@ -85,14 +85,8 @@ is_posting os i n a o = record {
 }
 
 -- ranks without calls
-pub kept_fresh : (held : List Ops) (n : ℕ) (state : Matched) → held ≡ fresh n → Indexes [] [] state → IsKept held state
-kept_fresh held n state e x =
-    let s : [] ≡ sends_of (fresh n) = sym (fresh_part (λ o. o.sends) refl n) in
-    let r : [] ≡ receives_of (fresh n) = sym (fresh_part (λ o. o.receives) refl n) in
-    subst (λ (h : List Ops). IsKept h state) (sym e) (record {
-      own = own_fresh n 0;
-      followed = subst (λ (ms : List Message). Indexes ms (receives_of (fresh n)) state) s (subst (λ (qs : List Receive). Indexes [] qs state) r x);
-    })
+pub kept_fresh : (held : List Ops) (n : ℕ) → held ≡ fresh n → IsKept held None
+kept_fresh held n e = subst (λ (h : List Ops). IsKept h None) (sym e) (record { own = own_fresh n 0; followed = tt })
 
 -- a rank's ops are new ones
 pub moved : (held : List Ops) (i : ℕ) (d n : Ops) (old new : Matched) → i < length held → AreOwn 0 held → IsOwn i n → d ≡ get_or held i d → Moves d n old new → Follows held old → Follows (set held i n) new

@@ -19,7 +19,7 @@ use Rattle.trace_ops.specs.Order.{Has}
 use Rattle.trace_pair.specs.Indexed.{name_lt}
 use Rattle.trace_pair.specs.KeyOrders.{name_cmp}
 use Rattle.trace_pair.specs.Pairing.{Paired, receive_of}
-use Rattle.trace_pair.specs.Scratch.{AreRising}
+use Rattle.trace_pair.specs.Rising.{AreRising}
 use Rattle.trace_pair.specs.Searched.{ArePairs, AreByReceive, IsSearchable, receive_at, message_at, pair_named}
 use Rattle.trace_pair.specs.Table.{pair_of, pairs_of, sends_of, receives_of, table_of, Table, same_name as names_agree, given_by}
 use Rattle.trace_pair.specs.declared.pair.Pair.{Pair}

@@ -4,7 +4,7 @@ pub mod Matching
 pub mod Table
 pub mod Searched
 pub mod Certainty
-pub mod Scratch
+pub mod Rising
 pub mod Sets
 pub mod Calls
 pub mod Indexed
@@ -17,4 +17,6 @@ pub mod OneOrMany
 pub mod Groups
 pub mod KeyOrders
 pub mod Queues
+pub mod Waiting
+pub mod Settled
 pub mod Worked

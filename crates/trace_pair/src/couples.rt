@@ -33,7 +33,7 @@ impl Model for Couples {
 }
 
 /// What the receive tells beside its message.
-fn taker_of(q: &Receive) -> Taker
+pub(crate) fn taker_of(q: &Receive) -> Taker
     ensures { result ≡ taker_of q.now }
 {
     Taker {
@@ -45,7 +45,7 @@ fn taker_of(q: &Receive) -> Taker
 }
 
 /// The receive that takes the message.
-fn receive_by(m: &Message, taker: Taker) -> Receive
+pub(crate) fn receive_by(m: &Message, taker: Taker) -> Receive
     ensures { result ≡ receive_by m.now taker }
 {
     Receive {
@@ -70,13 +70,6 @@ impl Couples {
             takers: Vec::new(alloc),
             taken: Vec::new(alloc),
         }
-    }
-
-    pub(crate) fn clear(&mut self)
-        ensures { self.new ≡ [] }
-    {
-        self.takers.clear();
-        self.taken.clear();
     }
 
     /// Adds a couple of two calls; a call that is in one already stays there.

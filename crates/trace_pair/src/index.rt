@@ -1,6 +1,6 @@
 //! An index of the pairs that follows the ops of the ranks as they grow and are cut back.
 
-ghost use Rattle.std.specs.Prelude.{◌≡◌, ◌<◌, OnOk, OnErr, IfOk, length, slice_set, slice_index_or};
+ghost use Rattle.std.specs.Prelude.{◌≡◌, ◌<◌, OnOk, OnErr, IfOk, IfSome, length, slice_set, slice_index_or};
 ghost use Rattle.trace_ops.specs.Ops.{IsOwn, AreOwn, Grows, no_ops};
 ghost use Rattle.trace_pair.specs.Certainty.{AreCertain, AreAllTold, AreLegal, AreTheOnlyLegal};
 ghost use Rattle.trace_pair.specs.Followed.{Follows};
@@ -8,6 +8,7 @@ ghost use Rattle.trace_pair.specs.Table.{fresh, table_of};
 
 use crate::follow::set_rank;
 use crate::matched::Matched;
+use crate::scratch::pair_all;
 use crate::table::PairTable;
 use crate::together::add_ranks;
 use std::alloc::{AllocError, Global};
@@ -18,7 +19,8 @@ use trace_ops::RankOps;
 #[derive(Drop)]
 pub struct PairIndex {
     held: Vec<RankOps>,
-    state: Matched,
+    /// The sets that follow the held ops, made when a rank's ops first change.
+    state: Option<Matched>,
 }
 
 impl Model for PairIndex {
@@ -40,7 +42,7 @@ impl PairIndex {
     {
         Ok(PairIndex {
             held: fresh_ops(alloc, ranks)?,
-            state: Matched::empty(alloc),
+            state: None,
         })
     }
 
@@ -49,9 +51,11 @@ impl PairIndex {
         requires own { AreOwn 0 ops.items }
         ensures { IfOk result (λ index. index ≡ ops.items) }
     {
-        let mut state = Matched::empty(alloc);
-        add_ranks(&mut state, &ops)?;
-        Ok(PairIndex { held: ops, state })
+        let _ = alloc;
+        Ok(PairIndex {
+            held: ops,
+            state: None,
+        })
     }
 
     /// The rank did more, and some of its sources may be told by now. Where memory is refused, the
@@ -94,7 +98,7 @@ impl PairIndex {
         ensures only { AreAllTold self.now → IfOk result (λ t. AreTheOnlyLegal self.now t.pairs) }
     {
         let alloc = *self.held.allocator();
-        let table = PairTable::of_held(alloc, &self.state, &self.held)?;
+        let table = table_by(alloc, &self.state, &self.held)?;
         Ok(table)
     }
 
@@ -106,11 +110,13 @@ impl PairIndex {
         ensures ok { OnOk result (self.new ≡ slice_set self.old rank ops) }
         ensures memory { OnErr result (self.new ≡ fresh (length self.old)) }
     {
-        match set_ops(&mut self.held, &mut self.state, rank, ops) {
-            Ok(()) => Ok(()),
+        match set_ops(&mut self.held, self.state.take(), rank, ops) {
+            Ok(state) => {
+                self.state = Some(state);
+                Ok(())
+            }
             Err(error) => {
                 forget(&mut self.held);
-                self.state.clear();
                 Err(error)
             }
         }
@@ -139,23 +145,72 @@ fn forget(held: &mut Vec<RankOps>)
     }
 }
 
-/// Makes the rank's ops these, and the state with them.
+/// The table of the held ops, by the state where there is one.
+fn table_by(
+    alloc: Global,
+    state: &Option<Matched>,
+    held: &[RankOps],
+) -> Result<PairTable, AllocError>
+    requires own { AreOwn 0 held.now }
+    requires followed { IfSome state.now (Follows held.now) }
+    ensures { IfOk result (λ t. t ≡ table_of held.now) }
+{
+    match state {
+        Some(state) => {
+            let table = PairTable::of_held(alloc, state, held)?;
+            Ok(table)
+        }
+        None => {
+            let table = pair_all(alloc, held)?;
+            Ok(table)
+        }
+    }
+}
+
+/// The state that follows these ops.
+fn state_of(alloc: Global, held: &[RankOps]) -> Result<Matched, AllocError>
+    requires { AreOwn 0 held.now }
+    ensures { IfOk result (λ state. Follows held.now state) }
+{
+    let mut state = Matched::empty(alloc);
+    add_ranks(&mut state, held)?;
+    Ok(state)
+}
+
+/// This state, or a new one where there is none.
+fn state_or_new(
+    alloc: Global,
+    held: &[RankOps],
+    state: Option<Matched>,
+) -> Result<Matched, AllocError>
+    requires own { AreOwn 0 held.now }
+    requires followed { IfSome state (Follows held.now) }
+    ensures { IfOk result (λ state. Follows held.now state) }
+{
+    match state {
+        Some(state) => Ok(state),
+        None => state_of(alloc, held),
+    }
+}
+
+/// Makes the rank's ops these, and the state with them, which is made first where there is none.
 fn set_ops(
     held: &mut Vec<RankOps>,
-    state: &mut Matched,
+    state: Option<Matched>,
     rank: u32,
     ops: RankOps,
-) -> Result<(), AllocError>
+) -> Result<Matched, AllocError>
     requires rank { rank < length held.old.items }
     requires held { AreOwn 0 held.old.items }
     requires own { IsOwn rank ops }
-    requires followed { Follows held.old.items state.old }
+    requires followed { IfSome state (Follows held.old.items) }
     ensures length { length held.new.items ≡ length held.old.items }
     ensures held { OnOk result (held.new.items ≡ slice_set held.old.items rank ops) }
     ensures own { OnOk result (AreOwn 0 held.new.items) }
-    ensures state { OnOk result (Follows held.new.items state.new) }
+    ensures state { IfOk result (λ state. Follows held.new.items state) }
 {
-    set_rank(state, &held[rank as usize], &ops)?;
+    let mut state = state_or_new(*held.allocator(), held, state)?;
+    set_rank(&mut state, &held[rank as usize], &ops)?;
     held[rank as usize] = ops;
-    Ok(())
+    Ok(state)
 }

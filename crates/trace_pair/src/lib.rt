@@ -5,14 +5,16 @@
 //! is untold, the pairs are the only matching that MPI allows. Both are clauses of [`pair_all`]
 //! and of [`PairIndex::pairs`].
 //!
-//! [`pair_all`] follows the rules closely and is slow: for large runs take [`PairIndex::of_all`],
-//! which takes n calls in n log n; its [`PairIndex::pairs`] has the same contract. The index follows
-//! the ranks as they grow and are cut back; one step costs in proportion to what is new, and one pass
-//! over that rank's calls. It keeps no table: each call of `pairs` makes one, by a pass over all
-//! messages.
+//! [`pair_all`] goes once over all calls, and takes n of them in n log n; [`PairIndex::pairs`] has the
+//! same contract. The index follows the ranks as they grow and are cut back; one step costs in
+//! proportion to what is new, and one pass over that rank's calls. It has no sets until the first step:
+//! [`PairIndex::of_all`] only keeps the calls, and `pairs` is `pair_all` then. It keeps no table: each
+//! call of `pairs` makes one, by a pass over all messages.
 //!
 //! - [`pair`]: a pair, and the two sides of one
-//! - [`rules`]: the five rules, one by one; [`scratch`]: the pairing straight from them
+//! - [`scratch`]: the pairing from scratch; [`batch`]: its pass over all receives; [`takings`]: all
+//!   messages with what takes each; [`places`]: where those that wait stand
+//! - [`rules`]: which call comes first, and whether names are one
 //! - [`rows`], [`near`], [`table`]: the pairs and the postponed messages, their order by the receive,
 //!   and the other end of each
 //! - [`one_or_many`]: a set that has no tree of its own while it has one member; [`groups`],
@@ -26,6 +28,7 @@
 //! Its tests are the runs of `tests/runs.txt`, and `crates/matching_tests/src/steps.rt`.
 #![tactic(auto)]
 
+mod batch;
 mod couples;
 mod follow;
 mod groups;
@@ -35,12 +38,14 @@ mod matched;
 mod near;
 mod one_or_many;
 mod pair;
+mod places;
 mod queues;
 mod rows;
 mod rules;
 mod scratch;
 mod slots;
 mod table;
+mod takings;
 mod together;
 
 pub use index::PairIndex;

@@ -38,16 +38,6 @@ impl Matched {
         }
     }
 
-    /// Forgets all calls; takes no memory.
-    pub(crate) fn clear(&mut self)
-        ensures { Indexes [] [] self.new }
-    {
-        self.waiting.clear();
-        self.opened.clear();
-        self.untold.clear();
-        self.couples.clear();
-    }
-
     /// Makes room for the couples of so many messages and receives of a rank.
     pub(crate) fn reserve(
         &mut self,

@@ -45,13 +45,6 @@ impl Messages {
         }
     }
 
-    pub(crate) fn clear(&mut self)
-        ensures { self.new ≡ [] }
-    {
-        self.tagged.clear();
-        self.lanes.clear();
-    }
-
     pub(crate) fn insert(&mut self, m: Message) -> Result<(), AllocError>
         ensures { OnOk result (AddsTo self.old self.new m) }
     {
@@ -103,8 +96,7 @@ impl Messages {
     }
 }
 
-/// The kinds of receives that a set had since it was last cleared: by whether the source is told, and
-/// a tag. A kind that it didn't have needs no probe.
+/// The kinds of receives that a set ever had: by whether the source is told, and a tag. A kind that it didn't have needs no probe.
 #[derive(Clone, Copy, Debug, PartialEq, Eq)]
 pub(crate) struct Kinds {
     pub(crate) told: bool,
@@ -180,13 +172,6 @@ impl Receives {
             kinds: NO_KINDS,
             groups: BTreeMap::new(alloc),
         }
-    }
-
-    pub(crate) fn clear(&mut self)
-        ensures { self.new ≡ [] }
-    {
-        self.kinds = NO_KINDS;
-        self.groups.clear();
     }
 
     pub(crate) fn insert(&mut self, q: Receive) -> Result<(), AllocError>

@@ -1,6 +1,6 @@
 //! The rows of a table, as they are found message by message.
 
-ghost use Rattle.std.specs.Prelude.{◌≡◌, ◌++◌, ◌∷◌, [], List, OnOk, IfOk};
+ghost use Rattle.std.specs.Prelude.{◌≡◌, ◌++◌, ◌∷◌, [], Some, slice_get, List, OnOk, IfOk};
 ghost use Rattle.std.specs.List.{cons_option, filter_map};
 ghost use Rattle.std.specs.Option.{option_map};
 ghost use Rattle.mpi_model.specs.declared.message.Message.{Message};
@@ -8,8 +8,10 @@ ghost use Rattle.mpi_model.specs.declared.message.Receive.{Receive};
 ghost use Rattle.trace_ops.specs.Order.{Has};
 ghost use Rattle.trace_pair.specs.Followed.{Indexes, Follows};
 ghost use Rattle.trace_pair.specs.Pairing.{receive_of};
-ghost use Rattle.trace_pair.specs.Table.{pair_of, postponed_name, table_of};
+ghost use Rattle.trace_pair.specs.Settled.{Settles};
+ghost use Rattle.trace_pair.specs.Table.{pair_of, postponed_name, table_of, table_with};
 
+use crate::batch::Batch;
 use crate::matched::Matched;
 use crate::pair::{Pair, make_pair};
 use mpi_model::{Message, OpName};
@@ -85,6 +87,36 @@ impl Rows {
             }
         }
         Ok(())
+    }
+
+    /// Adds what the message at a place is.
+    fn add_settled(&mut self, batch: &Batch, place: usize, m: &Message) -> Result<(), AllocError>
+        ensures pairs { OnOk result ((ms : List Message) (qs : List Receive) → Settles ms qs batch.now → slice_get ms place ≡ Some m.now →
+            self.new.pairs ≡ self.old.pairs ++ cons_option (option_map (pair_of m.now) (receive_of ms qs m.now)) []) }
+        ensures postponed { OnOk result ((ms : List Message) (qs : List Receive) → Settles ms qs batch.now → slice_get ms place ≡ Some m.now →
+            self.new.postponed ≡ self.old.postponed ++ cons_option (postponed_name ms qs m.now) []) }
+    {
+        match batch.receive_of(place, m) {
+            Some(receive) => self.put(make_pair(m, &receive))?,
+            None => {
+                if batch.does_untold_fit(m) {
+                    self.postpone(m.name)?;
+                }
+            }
+        }
+        Ok(())
+    }
+
+    /// The rows of all messages of a pairing.
+    pub(crate) fn of_batch(alloc: Global, batch: &Batch) -> Result<Rows, AllocError>
+        ensures { IfOk result (λ rows. (ms : List Message) (qs : List Receive) → Settles ms qs batch.now → rows ≡ table_with ms qs) }
+    {
+        let messages = batch.messages();
+        let mut rows = Rows::with_room(alloc, messages.len())?;
+        for (place, m) in messages.iter().enumerate() {
+            rows.add_settled(batch, place, m)?;
+        }
+        Ok(rows)
     }
 
     /// Adds what the held messages of a rank are.

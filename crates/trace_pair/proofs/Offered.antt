@@ -1,0 +1,84 @@
+-- All messages with what takes each, as a receive asks for one and takes it.
+use Rattle.std.proofs.Common.{subst, ◌≡◌, ℕ, zero, suc, true, List, [], ◌∷◌, sym, refl, ◌∙◌, ap, cond, Option, Some, None, length}
+use Rattle.std.specs.Prelude.{slice_get, slice_set, replicate, IfSome}
+use Rattle.std.specs.Ordering.{is_eq}
+use Rattle.std.specs.BTreeMap.{BTreeMap, IsOrdered}
+use Rattle.mpi_model.specs.declared.message.Message.{Message}
+use Rattle.mpi_model.specs.declared.message.Receive.{Receive}
+use Rattle.trace_pair.specs.KeyOrders.{Queue, queue_cmp, queue_of, Lane, lane_cmp, lane_of}
+use Rattle.trace_pair.specs.Rising.{AreRising}
+use Rattle.trace_pair.specs.Waiting.{Takings, from_waiting, places_at, ArePlaces, AreTakings, IsFirstPlace}
+use Rattle.trace_pair.specs.declared.pair.Taker.{Taker}
+use Rattle.trace_pair.proofs.Orders.{exact_lanes, exact_queues, lanes_total, queues_total}
+use Rattle.trace_pair.proofs.Queued.{queue, lane, queue_fits, fits_queue, lane_fits, fits_lane}
+use Rattle.trace_pair.proofs.Waited.{places_passed, places_taken, front_is_first}
+
+abbrev nones : List Message → List (Option Taker)
+nones ms = replicate (length ms) None
+
+length_none : (ms : List Message) → length (nones ms) ≡ length ms
+length_none [] = refl
+length_none (m ∷ ms) = ap suc (length_none ms)
+
+length_set : (ts : List (Option Taker)) (p : ℕ) (t : Option Taker) → length (slice_set ts p t) ≡ length ts
+length_set [] p t = refl
+length_set (x ∷ ts) zero t = refl
+length_set (x ∷ ts) (suc p) t = ap suc (length_set ts p t)
+
+pub new_takings : (ms : List Message) (ts : List (Option Taker)) (queues : BTreeMap Queue (List ℕ)) → AreRising (λ (m : Message). m.name) ms → ts ≡ replicate (length ms) None → ((us : List (Option Taker)) → ArePlaces queue_cmp queue_of ms us queues) → AreTakings ms ts queues None
+new_takings ms ts queues rise e placed = record { rise = rise; many = ap (λ (l : List (Option Taker)). length l) e ∙ length_none ms; queued = placed ts; laned = tt }
+
+module _ (ms : List Message) (ts : List (Option Taker)) (queues : BTreeMap Queue (List ℕ)) (lanes : Option (BTreeMap Lane (List ℕ))) (are : AreTakings ms ts queues lanes) where
+  pub queue_passed : (new : BTreeMap Queue (List ℕ)) (key : Queue) (us : List (Option Taker)) → us ≡ ts → IsOrdered queue_cmp new →
+      ((k : Queue) → places_at queue_cmp new k ≡ cond (is_eq (queue_cmp key k)) (from_waiting us (places_at queue_cmp queues k)) (places_at queue_cmp queues k)) → AreTakings ms ts new lanes
+  queue_passed new key us e ordered law = record {
+    rise = are.rise;
+    many = are.many;
+    queued = places_passed queues_total exact_queues queue_of ms ts queues new key are.queued ordered
+        (subst (λ (vs : List (Option Taker)). (k : Queue) → places_at queue_cmp new k ≡ cond (is_eq (queue_cmp key k)) (from_waiting vs (places_at queue_cmp queues k)) (places_at queue_cmp queues k)) e law);
+    laned = are.laned;
+  }
+
+  pub lane_passed : (made new : BTreeMap Lane (List ℕ)) (key : Lane) (us : List (Option Taker)) → us ≡ ts → ArePlaces lane_cmp lane_of ms ts made → IsOrdered lane_cmp new →
+      ((k : Lane) → places_at lane_cmp new k ≡ cond (is_eq (lane_cmp key k)) (from_waiting us (places_at lane_cmp made k)) (places_at lane_cmp made k)) → AreTakings ms ts queues (Some new)
+  lane_passed made new key us e placed ordered law = record {
+    rise = are.rise;
+    many = are.many;
+    queued = are.queued;
+    laned = places_passed lanes_total exact_lanes lane_of ms ts made new key placed ordered
+        (subst (λ (vs : List (Option Taker)). (k : Lane) → places_at lane_cmp new k ≡ cond (is_eq (lane_cmp key k)) (from_waiting vs (places_at lane_cmp made k)) (places_at lane_cmp made k)) e law);
+  }
+
+  -- the lanes that there were, or new ones
+  pub lanes_made : (had : Option (BTreeMap Lane (List ℕ))) (made : BTreeMap Lane (List ℕ)) (ns : List Message) → had ≡ lanes → ns ≡ ms →
+      ((us : List (Option Taker)) → IfSome had (ArePlaces lane_cmp lane_of ns us) → ArePlaces lane_cmp lane_of ns us made) → ArePlaces lane_cmp lane_of ms ts made
+  lanes_made had made ns e f law =
+      subst (λ (l : List Message). ArePlaces lane_cmp lane_of l ts made) f
+      (law ts (subst (λ (o : Option (BTreeMap Lane (List ℕ))). IfSome o (ArePlaces lane_cmp lane_of ns ts)) (sym e)
+      (subst (λ (l : List Message). IfSome lanes (ArePlaces lane_cmp lane_of l ts)) (sym f) are.laned)))
+
+  lanes_taken : (o : Option (BTreeMap Lane (List ℕ))) (p : ℕ) (t : Taker) → IfSome o (ArePlaces lane_cmp lane_of ms ts) → IfSome o (ArePlaces lane_cmp lane_of ms (slice_set ts p (Some t)))
+  lanes_taken None p t h = tt
+  lanes_taken (Some l) p t h = places_taken lanes_total exact_lanes lane_of ms ts p t l h
+
+  pub taken_at : (p : ℕ) (t : Taker) → AreTakings ms (slice_set ts p (Some t)) queues lanes
+  taken_at p t = record {
+    rise = are.rise;
+    many = length_set ts p (Some t) ∙ are.many;
+    queued = places_taken queues_total exact_queues queue_of ms ts p t queues are.queued;
+    laned = lanes_taken lanes p t are.laned;
+  }
+
+  pub first_in_queue : (q : Receive) (s t : ℕ) (us : List (Option Taker)) (o : Option ℕ) → us ≡ ts → q.source ≡ Some s → q.tag ≡ Some t → o ≡ slice_get (from_waiting us (places_at queue_cmp queues (queue q.comm s q.at t))) zero →
+      IsFirstPlace (record { messages = ms; takers = ts }) q o
+  first_in_queue q s t us o e source tag first =
+      front_is_first queues_total exact_queues queue_of ms ts queues are.rise are.queued q (queue q.comm s q.at t)
+      (λ m f. queue_fits q s t m source tag f) (λ m k. fits_queue q s t m source tag k) o
+      (first ∙ ap (λ (vs : List (Option Taker)). slice_get (from_waiting vs (places_at queue_cmp queues (queue q.comm s q.at t))) zero) e)
+
+  pub first_in_lane : (made : BTreeMap Lane (List ℕ)) → ArePlaces lane_cmp lane_of ms ts made → (q : Receive) (s : ℕ) (us : List (Option Taker)) (o : Option ℕ) → us ≡ ts → q.source ≡ Some s → q.tag ≡ None →
+      o ≡ slice_get (from_waiting us (places_at lane_cmp made (lane q.comm s q.at))) zero → IsFirstPlace (record { messages = ms; takers = ts }) q o
+  first_in_lane made placed q s us o e source tag first =
+      front_is_first lanes_total exact_lanes lane_of ms ts made are.rise placed q (lane q.comm s q.at)
+      (λ m f. lane_fits q s m source f) (λ m k. fits_lane q s m source tag k) o
+      (first ∙ ap (λ (vs : List (Option Taker)). slice_get (from_waiting vs (places_at lane_cmp made (lane q.comm s q.at))) zero) e)

@@ -1,0 +1,145 @@
+-- A pairing of all messages, as a receive comes.
+use Rattle.std.proofs.Common.{subst, ◌≡◌, ℕ, ◌+◌, ◌<◌, true, List, [], ◌∷◌, ◌++◌, sym, refl, ◌∙◌, ap, arith, length, take, get_or, Option, Some, None}
+use Rattle.std.proofs.lemmas.List.{take_more, flat_map_more, append-nil}
+use Rattle.std.proofs.lemmas.Option.{get_or_from_slice_get}
+use Rattle.std.specs.Prelude.{is_some, is_none, slice_get}
+use Rattle.mpi_model.specs.declared.message.Message.{Message}
+use Rattle.mpi_model.specs.declared.message.Receive.{Receive}
+use Rattle.mpi_model.specs.Fit.{fits}
+use Rattle.trace_ops.specs.Ops.{Ops, IsOwn, AreOwn}
+use Rattle.trace_ops.specs.Order.{Has}
+use Rattle.trace_pair.specs.Calls.{AddsReceive, IsPosting, between}
+use Rattle.trace_pair.specs.Coupled.{taker_of, receive_by}
+use Rattle.trace_pair.specs.Indexed.{IsIndexed, IsFirstReceive, couple_of}
+use Rattle.trace_pair.specs.Pairing.{receive_of}
+use Rattle.trace_pair.specs.Rising.{AreRising}
+use Rattle.trace_pair.specs.Sets.{AddsTo}
+use Rattle.trace_pair.specs.Settled.{Settles, IsTakenAt}
+use Rattle.trace_pair.specs.Table.{sends_of, receives_of}
+use Rattle.trace_pair.specs.Waiting.{Takings, untaken, with_taker, taker_at, waiting_in, couples_with, IsFirstAt, IsFirstPlace}
+use Rattle.trace_pair.specs.declared.batch.Batch.{Batch}
+use Rattle.trace_pair.specs.declared.pair.Couple.{Couple}
+use Rattle.trace_pair.specs.declared.pair.Taker.{Taker}
+use Rattle.trace_pair.proofs.Held.{taken_found, taken_first}
+use Rattle.trace_pair.proofs.Known.{told_by}
+use Rattle.trace_pair.proofs.Moves.{push_receive_untold, push_receive_coupled, push_receive_open}
+use Rattle.trace_pair.proofs.Owned.{own_calls, all_sends_rise}
+use Rattle.trace_pair.proofs.Partners.{partner_is, partner_absent}
+use Rattle.trace_pair.proofs.Ranked.{own_at, is_posting}
+use Rattle.trace_pair.proofs.Searched.{stands}
+use Rattle.trace_pair.proofs.Taken.{taken_drops, taken_adds, taker_there, no_taker, all_wait, none_coupled, none_posted}
+
+module _ (ms : List Message) (qs : List Receive) (b : Batch) (s : Settles ms qs b) where
+  -- no message that waits fits the receive
+  pub none_fits : (q : Receive) → IsFirstPlace b.messages q None → IsTakenAt ms qs b.messages q None
+  none_fits q none = λ m i t. none m (s.held.waits_all m i t.waits) t.fit
+
+  module _ (q : Receive) (place : ℕ) (m : Message) (first : IsFirstAt b.messages q place m) where
+    -- an untold receive fits the only message that could be taken
+    pub untold_fits : (u : Receive) → IsFirstReceive b.untold m u → IsTakenAt ms qs b.messages q None
+    untold_fits u f = λ n i t.
+        let e = taken_first ms qs _ _ _ _ s.held n m q i t first.first in
+        let o = s.held.untolds u f.member in
+        t.no_untold u o.0 o.1 (subst (λ (x : Message). fits x u ≡ true) (sym e) f.fit)
+
+    -- an open one does
+    pub open_fits : (r : Receive) → IsFirstReceive b.opened m r → IsTakenAt ms qs b.messages q None
+    open_fits r f = λ n i t.
+        let e = taken_first ms qs _ _ _ _ s.held n m q i t first.first in
+        let o = s.held.opens r f.member in
+        let w = t.none_open r o.0 o.1 (subst (λ (x : Message). fits x r ≡ true) (sym e) f.fit) in
+        o.2 w.0 w.1 w.2
+
+    pub is_taken : is_some q.source ≡ true → ((u : Receive) → Has b.untold u → fits m u ≡ true → ⊥) → ((r : Receive) → Has b.opened r → fits m r ≡ true → ⊥) → IsTakenAt ms qs b.messages q (Some place)
+    is_taken told no_untold none = (m, first.there, first.waits, taken_found ms qs _ _ _ _ s.held m q told first.first no_untold none)
+
+  -- the same of the message that stands at the place of the list
+  module _ (q : Receive) (place : ℕ) (l : List Message) (d : Message) (first : IsFirstPlace b.messages q (Some place)) (same : l ≡ b.messages.messages) where
+    stands_at : get_or l place d ≡ first.0
+    stands_at = get_or_from_slice_get l place first.0 d (ap (λ (k : List Message). slice_get k place) same ∙ first.1.there)
+
+    pub untold_at : (u : Receive) → IsFirstReceive b.untold (get_or l place d) u → IsTakenAt ms qs b.messages q None
+    untold_at u f = untold_fits q place first.0 first.1 u (subst (λ (x : Message). IsFirstReceive b.untold x u) stands_at f)
+
+    pub open_at : (r : Receive) → IsFirstReceive b.opened (get_or l place d) r → IsTakenAt ms qs b.messages q None
+    open_at r f = open_fits q place first.0 first.1 r (subst (λ (x : Message). IsFirstReceive b.opened x r) stands_at f)
+
+    pub taken_at : is_some q.source ≡ true → ((u : Receive) → Has b.untold u → fits (get_or l place d) u ≡ true → ⊥) → ((r : Receive) → Has b.opened r → fits (get_or l place d) r ≡ true → ⊥) → IsTakenAt ms qs b.messages q (Some place)
+    taken_at told no_untold none =
+        is_taken q place first.0 first.1 told
+        (subst (λ (x : Message). (u : Receive) → Has b.untold u → fits x u ≡ true → ⊥) stands_at no_untold)
+        (subst (λ (x : Message). (r : Receive) → Has b.opened r → fits x r ≡ true → ⊥) stands_at none)
+
+  -- the receive that takes the message at a place
+  pub receive_there : (place : ℕ) (m : Message) (t : Taker) → slice_get ms place ≡ Some m → Some t ≡ taker_at b.messages place → Some (receive_by m t) ≡ receive_of ms qs m
+  receive_there place m t e h =
+      let f : slice_get b.messages.messages place ≡ Some m = ap (λ (l : List Message). slice_get l place) s.messages ∙ e in
+      partner_is ms qs _ _ _ _ s.held m (receive_by m t) (taker_there m t b.messages.messages b.messages.takers place f (sym h))
+
+  pub none_there : (place : ℕ) (m : Message) → slice_get ms place ≡ Some m → None ≡ taker_at b.messages place → None ≡ receive_of ms qs m
+  none_there place m e h =
+      let f : slice_get b.messages.messages place ≡ Some m = ap (λ (l : List Message). slice_get l place) s.messages ∙ e in
+      partner_absent ms qs _ _ _ _ s.held m (stands ms place m e)
+      (λ q i. no_taker b.messages.messages b.messages.takers place m q (subst (λ (l : List Message). AreRising (λ (m : Message). m.name) l) (sym s.messages) s.rise) f (sym h) i)
+
+-- the receive comes, and takes the message at the place
+module _ (ms : List Message) (qs more : List Receive) (q : Receive) (adds : AddsReceive qs more q) (b old : Batch) (same : b ≡ old) (s : Settles ms qs old) where
+  now : Settles ms qs b
+  now = subst (λ (x : Batch). Settles ms qs x) (sym same) s
+
+  pub adds_taken : (place : ℕ) (t : Taker) (new : Takings) → IsTakenAt ms qs old.messages q (Some place) → t ≡ taker_of q → new ≡ with_taker b.messages place t → Settles ms more (record b { messages = new })
+  adds_taken place t new taken is made =
+      let w : IsTakenAt ms qs b.messages q (Some place) = subst (λ (x : Batch). IsTakenAt ms qs x.messages q (Some place)) (sym same) taken in
+      let v = now in
+      let m = w.0 in
+      let rise : AreRising (λ (m : Message). m.name) b.messages.messages = subst (λ (l : List Message). AreRising (λ (m : Message). m.name) l) (sym v.messages) v.rise in
+      let im : Has ms m = subst (λ (l : List Message). Has l m) v.messages (stands b.messages.messages place m w.1) in
+      let fit : q ≡ receive_by m t = told_by m q adds.own w.3.told w.3.fit ∙ ap (λ (x : Taker). receive_by m x) (sym is) in
+      let d = taken_drops m t b.messages.messages b.messages.takers place rise w.1 w.2 in
+      let a = taken_adds m t b.messages.messages b.messages.takers place w.1 w.2 in
+      let a' = subst (λ (r : Receive). AddsTo (couples_with b.messages.messages b.messages.takers) (couples_with b.messages.messages (with_taker b.messages place t).takers) (couple_of m r)) (sym fit) a in
+      subst (λ (x : Takings). Settles ms more (record b { messages = x })) (sym made) (record {
+        messages = v.messages;
+        rise = v.rise;
+        held = push_receive_coupled ms qs more q adds _ _ _ _ v.held m _ _ im w.3 d a';
+      })
+
+  pub adds_open : (new : List Receive) → is_some q.source ≡ true → IsTakenAt ms qs old.messages q None → AddsTo b.opened new q → Settles ms more (record b { opened = new })
+  adds_open new told none added = record { messages = now.messages; rise = now.rise; held = push_receive_open ms qs more q adds _ _ _ _ now.held new told none added }
+
+  pub adds_untold : (new : List Receive) → is_none q.source ≡ true → AddsTo b.untold new q → Settles ms more (record b { untold = new })
+  adds_untold new lost added = record { messages = now.messages; rise = now.rise; held = push_receive_untold ms qs more q adds _ _ _ _ now.held new lost added }
+
+-- no receive has come
+pub settled_none : (os : List Ops) (t : Takings) (opened untold : List Receive) → AreOwn 0 os → t ≡ untaken (sends_of os) → opened ≡ [] → untold ≡ [] → Settles (sends_of os) [] (record { messages = t; opened = opened; untold = untold })
+settled_none os t opened untold a e f g =
+    let ms = sends_of os in
+    let o = own_calls os a in
+    subst (λ (x : Takings). Settles ms [] (record { messages = x; opened = opened; untold = untold })) (sym e)
+    (subst (λ (x : List Receive). Settles ms [] (record { messages = untaken ms; opened = x; untold = untold })) (sym f)
+    (subst (λ (x : List Receive). Settles ms [] (record { messages = untaken ms; opened = []; untold = x })) (sym g)
+    (record {
+      messages = refl;
+      rise = all_sends_rise os 0 a;
+      held = subst (λ (x : List Message). IsIndexed ms [] x [] [] (couples_with ms (untaken ms).takers)) (sym (all_wait ms))
+          (subst (λ (x : List Couple). IsIndexed ms [] ms [] [] x) (sym (none_coupled ms)) (none_posted ms o.senders o.messages_apart));
+    })))
+
+-- the receives of the next rank, behind those of the ranks before it
+pub posts_next : (os : List Ops) (i : ℕ) (n : Ops) → AreOwn 0 os → IsOwn i n → IsPosting (receives_of (take i os)) [] n.receives
+posts_next os i n a o = let p = is_posting os i n a o in record { own = p.own; order = p.order; apart_before = p.apart_before; apart_after = λ r q h j e. absurd h }
+
+-- and with them all that the ranks so far received is there
+pub ranks_next : (os : List Ops) (i : ℕ) (o : Ops) (own : List Receive) (old new : Batch) → i < length os → AreOwn 0 os → o ≡ get_or os i o → own ≡ o.receives →
+    ((ms : List Message) (before : List Receive) → IsPosting before [] own → Settles ms (between before [] []) old → Settles ms (between before own []) new) →
+    Settles (sends_of os) (receives_of (take i os)) old → Settles (sends_of os) (receives_of (take (i + 1) os)) new
+ranks_next os i o own old new lt a e f law s =
+    let ms = sends_of os in
+    let before = receives_of (take i os) in
+    let w : IsOwn i o = subst (λ (p : Ops). IsOwn i p) (sym e) (subst (λ (r : ℕ). IsOwn r (get_or os i o)) (omega arith) (own_at os 0 i o lt a)) in
+    let p : IsPosting before [] own = subst (λ (l : List Receive). IsPosting before [] l) (sym f) (posts_next os i o a w) in
+    let b : before ≡ between before [] [] = sym (append-nil (before ++ []) ∙ append-nil before) in
+    let r : between before own [] ≡ receives_of (take (i + 1) os) =
+    append-nil (before ++ own) ∙ ap (λ (l : List Receive). before ++ l) f ∙ flat_map_more (λ (x : Ops). x.receives) [] (take i os) o
+    ∙ ap (λ (l : List Ops). receives_of l) (ap (λ (x : Ops). take i os ++ x ∷ []) e ∙ sym (take_more os i o lt)) in
+    subst (λ (l : List Receive). Settles ms l new) r (law ms before p (subst (λ (l : List Receive). Settles ms l old) b s))

@@ -1,0 +1,284 @@
+-- Places of messages at keys, as one comes, as some are passed, and as a message is taken.
+use Rattle.std.proofs.Common.{subst, ◌≡◌, ℕ, zero, suc, ◌+◌, ◌<◌, Bool, true, false, List, [], ◌∷◌, ◌++◌, inl, inr, ⊎_elim, sym, refl, ◌∙◌, ap, arith, ◌⊎◌, cond, Option, Some, None, Result, Ok, Err, length, drop, take, get_or}
+use Rattle.std.proofs.lemmas.List.{take_more, length-take-le}
+use Rattle.std.specs.Prelude.{slice_get, slice_set, IfOk}
+use Rattle.std.specs.declared.cmp.Ordering.{Ordering}
+use Rattle.std.specs.Ordering.{is_eq}
+use Rattle.std.specs.Cmp.{IsTotalOrder}
+use Rattle.std.specs.BTreeMap.{BTreeMap, get, is_at, IsEmpty, IsOrdered, WritesThrough}
+use Rattle.std.specs.Map.{lookup}
+use Rattle.std.specs.Option.{IsSome}
+use Rattle.std.proofs.lemmas.Cmp.{tied_itself}
+use Rattle.std.proofs.lemmas.Map.Lookups.{CmpEqualImpliesEq}
+use Rattle.std.proofs.lemmas.Map.Views.{tells_apart}
+use Rattle.std.proofs.lemmas.Option.{slice_get_within}
+use Rattle.mpi_model.specs.declared.message.Message.{Message}
+use Rattle.mpi_model.specs.declared.message.Receive.{Receive}
+use Rattle.mpi_model.specs.Fit.{fits}
+use Rattle.trace_ops.specs.Order.{Has}
+use Rattle.trace_pair.specs.Indexed.{name_lt}
+use Rattle.trace_pair.specs.Rising.{AreRising}
+use Rattle.trace_pair.specs.Waiting.{Takings, items_of, waiting_in, waits_at, from_waiting, places_at, AreRisingPlaces, ArePlaces, IsFirstPlace}
+use Rattle.trace_pair.specs.declared.pair.Taker.{Taker}
+use Rattle.trace_pair.proofs.Listed.{name_apart, name_apart_back}
+use Rattle.trace_pair.proofs.PutAt.{at_equal, says_equal}
+use Rattle.trace_pair.proofs.Ranks.{has_left, has_right, has_either}
+use Rattle.trace_pair.proofs.Searched.{stands}
+use Rattle.trace_pair.proofs.Taken.{wait_found, waits_there, still_waits}
+
+-- What stood at a key is changed by f.
+module _ {K : Type 0} {cmp : K → K → Ordering} (keys : IsTotalOrder cmp) (old : BTreeMap K (List ℕ)) (key : K) (f : List ℕ → List ℕ) where
+  put_at : (new : BTreeMap K (List ℕ)) (xs ys : List ℕ) → items_of (get cmp old key) ≡ xs → ys ≡ f xs → ((k : K) → get cmp new k ≡ cond (is_eq (cmp key k)) (Some ys) (get cmp old k)) →
+      (k : K) → places_at cmp new k ≡ cond (is_eq (cmp key k)) (f (places_at cmp old k)) (places_at cmp old k)
+  put_at new xs ys stood made puts k =
+      ap (λ (g : Option (List ℕ)). items_of g) (puts k) ∙ (elim (is_eq (cmp key k)) as (λ b. is_eq (cmp key k) ≡ b → items_of (cond b (Some ys) (get cmp old k)) ≡ cond b (f (items_of (get cmp old k))) (items_of (get cmp old k))) [
+        | true ↦ λ h. made ∙ ap f (sym stood ∙ ap (λ (g : Option (List ℕ)). items_of g) (at_equal keys old key k (says_equal (cmp key k) h)))
+        | false ↦ λ h. refl
+      ] refl)
+
+  -- what `get_mut` lent, where xs stood, is ys now
+  pub written_at : (new : BTreeMap K (List ℕ)) (xs ys : List ℕ) → Some xs ≡ get cmp old key → WritesThrough cmp (cmp key) old ys new → ys ≡ f xs →
+      (k : K) → places_at cmp new k ≡ cond (is_eq (cmp key k)) (f (places_at cmp old k)) (places_at cmp old k)
+  written_at new xs ys stood written made =
+      put_at new xs ys (ap (λ (g : Option (List ℕ)). items_of g) (sym stood)) made ((written.3 (subst (λ (g : Option (List ℕ)). IsSome g) stood refl)).0)
+
+  -- nothing stood there, and ys was put
+  pub put_new_at : (new : BTreeMap K (List ℕ)) (ys : List ℕ) → None ≡ get cmp old key → ys ≡ f [] → ((k : K) → get cmp new k ≡ cond (is_eq (cmp key k)) (Some ys) (get cmp old k)) →
+      (k : K) → places_at cmp new k ≡ cond (is_eq (cmp key k)) (f (places_at cmp old k)) (places_at cmp old k)
+  put_new_at new ys none made puts = put_at new [] ys (ap (λ (g : Option (List ℕ)). items_of g) (sym none)) made puts
+
+  -- nothing stood there, and f leaves nothing as it is
+  pub none_at : None ≡ get cmp old key → f [] ≡ [] → (k : K) → places_at cmp old k ≡ cond (is_eq (cmp key k)) (f (places_at cmp old k)) (places_at cmp old k)
+  none_at none still k =
+      elim (is_eq (cmp key k)) as (λ b. is_eq (cmp key k) ≡ b → items_of (get cmp old k) ≡ cond b (f (items_of (get cmp old k))) (items_of (get cmp old k))) [
+        | true ↦ λ h.
+            let e : items_of (get cmp old k) ≡ [] = sym (ap (λ (g : Option (List ℕ)). items_of g) (none ∙ at_equal keys old key k (says_equal (cmp key k) h))) in
+            e ∙ sym still ∙ ap f (sym e)
+        | false ↦ λ h. refl
+      ] refl
+
+pub if_ok : {X E : Type 0} {P Q : X → Type 0} (r : Result X E) → ((x : X) → P x → Q x) → IfOk r P → IfOk r Q
+if_ok (Ok x) f h = f x h
+if_ok (Err e) f h = tt
+
+pub empty_places : {K : Type 0} (cmp : K → K → Ordering) (places : BTreeMap K (List ℕ)) → IsEmpty places → (k : K) → places_at cmp places k ≡ []
+empty_places {K = K} cmp places e k = ap (λ (es : List (K × List ℕ)). items_of (lookup (is_at (cmp k)) es)) e
+
+module _ (ts : List (Option Taker)) where
+  stays : (ps : List ℕ) (i : ℕ) → waits_at ts i ≡ true → Has ps i → Has (from_waiting ts ps) i
+  stays [] i w h = absurd h
+  stays (j ∷ ps) i w h =
+      elim (waits_at ts j) as (λ b. waits_at ts j ≡ b → Has (cond b (j ∷ ps) (from_waiting ts ps)) i) [
+        | true ↦ λ e. h
+        | false ↦ λ e. ⊎_elim (λ (d : i ≡ j). let f : waits_at ts j ≡ true = subst (λ (k : ℕ). waits_at ts k ≡ true) d w in absurd (cc)) (λ (k : Has ps i). stays ps i w k) h
+      ] refl
+
+  was : (ps : List ℕ) (i : ℕ) → Has (from_waiting ts ps) i → Has ps i
+  was [] i h = absurd h
+  was (j ∷ ps) i h =
+      elim (waits_at ts j) as (λ b. Has (cond b (j ∷ ps) (from_waiting ts ps)) i → Has (j ∷ ps) i) [
+        | true ↦ λ k. k
+        | false ↦ λ k. inr (was ps i k)
+      ] h
+
+  still_rise : (ps : List ℕ) → AreRisingPlaces ps → AreRisingPlaces (from_waiting ts ps)
+  still_rise [] r = tt
+  still_rise (j ∷ ps) r =
+      elim (waits_at ts j) as (λ b. AreRisingPlaces (cond b (j ∷ ps) (from_waiting ts ps))) [
+        | true ↦ r
+        | false ↦ still_rise ps r.1
+      ]
+
+  front_waits : (ps : List ℕ) (p : ℕ) → slice_get (from_waiting ts ps) zero ≡ Some p → waits_at ts p ≡ true
+  front_waits [] p e = absurd (cc)
+  front_waits (j ∷ ps) p e =
+      elim (waits_at ts j) as (λ b. waits_at ts j ≡ b → slice_get (cond b (j ∷ ps) (from_waiting ts ps)) zero ≡ Some p → waits_at ts p ≡ true) [
+        | true ↦ λ h g. let d : j ≡ p = cc in subst (λ (k : ℕ). waits_at ts k ≡ true) d h
+        | false ↦ λ h g. front_waits ps p g
+      ] refl e
+
+  -- some of the places were passed, if any
+  stays_if : (b : Bool) (xs ys : List ℕ) (i : ℕ) → ys ≡ cond b (from_waiting ts xs) xs → waits_at ts i ≡ true → Has xs i → Has ys i
+  stays_if true xs ys i e w h = subst (λ (l : List ℕ). Has l i) (sym e) (stays xs i w h)
+  stays_if false xs ys i e w h = subst (λ (l : List ℕ). Has l i) (sym e) h
+
+  was_if : (b : Bool) (xs ys : List ℕ) (i : ℕ) → ys ≡ cond b (from_waiting ts xs) xs → Has ys i → Has xs i
+  was_if true xs ys i e h = was xs i (subst (λ (l : List ℕ). Has l i) e h)
+  was_if false xs ys i e h = subst (λ (l : List ℕ). Has l i) e h
+
+  rise_if : (b : Bool) (xs ys : List ℕ) → ys ≡ cond b (from_waiting ts xs) xs → AreRisingPlaces xs → AreRisingPlaces ys
+  rise_if true xs ys e r = subst (λ (l : List ℕ). AreRisingPlaces l) (sym e) (still_rise xs r)
+  rise_if false xs ys e r = subst (λ (l : List ℕ). AreRisingPlaces l) (sym e) r
+
+-- a place at which nothing waits is passed
+pub passes_front : (ts : List (Option Taker)) (xs old new : List ℕ) (p : ℕ) → Some p ≡ slice_get xs zero → waits_at ts p ≡ false → new ≡ drop 1 xs → from_waiting ts xs ≡ from_waiting ts old → from_waiting ts new ≡ from_waiting ts old
+passes_front ts [] old new p e w n h = absurd (cc)
+passes_front ts (x ∷ xs) old new p e w n h =
+    let d : p ≡ x = cc in
+    let v : waits_at ts x ≡ false = subst (λ (y : ℕ). waits_at ts y ≡ false) d w in
+    ap (λ (l : List ℕ). from_waiting ts l) n ∙ ap (λ b. cond b (x ∷ xs) (from_waiting ts xs)) (sym v) ∙ h
+
+-- and one at which a message waits stays in front
+pub stays_front : (ts : List (Option Taker)) (xs old : List ℕ) (p : ℕ) → Some p ≡ slice_get xs zero → waits_at ts p ≡ true → from_waiting ts xs ≡ from_waiting ts old → xs ≡ from_waiting ts old
+stays_front ts [] old p e w h = absurd (cc)
+stays_front ts (x ∷ xs) old p e w h =
+    let d : p ≡ x = cc in
+    let v : waits_at ts x ≡ true = subst (λ (y : ℕ). waits_at ts y ≡ true) d w in
+    ap (λ b. cond b (x ∷ xs) (from_waiting ts xs)) (sym v) ∙ h
+
+pub front_of : (ts : List (Option Taker)) (xs old : List ℕ) (p : ℕ) → Some p ≡ slice_get xs zero → waits_at ts p ≡ true → from_waiting ts xs ≡ from_waiting ts old → Some p ≡ slice_get (from_waiting ts old) zero
+front_of ts xs old p e w h = e ∙ ap (λ (l : List ℕ). slice_get l zero) (stays_front ts xs old p e w h)
+
+pub all_passed : (ts : List (Option Taker)) (xs old : List ℕ) → None ≡ slice_get xs zero → from_waiting ts xs ≡ from_waiting ts old → xs ≡ from_waiting ts old
+all_passed ts [] old e h = h
+all_passed ts (x ∷ xs) old e h = absurd (cc)
+
+front_there : (xs : List ℕ) (p : ℕ) → slice_get xs zero ≡ Some p → Has xs p
+front_there xs p e = stands xs zero p e
+
+front_first : (xs : List ℕ) (p j : ℕ) → AreRisingPlaces xs → slice_get xs zero ≡ Some p → Has xs j → (j ≡ p) ⊎ (p < j)
+front_first [] p j r e h = absurd h
+front_first (x ∷ xs) p j r e h =
+    let d : x ≡ p = cc in
+    ⊎_elim (λ (f : j ≡ x). inl (f ∙ d)) (λ (k : Has xs j). inr (subst (λ (y : ℕ). y < j) d (r.0 j k))) h
+
+no_front : (xs : List ℕ) (i : ℕ) → slice_get xs zero ≡ None → Has xs i → ⊥
+no_front [] i e h = absurd h
+no_front (x ∷ xs) i e h = absurd (cc)
+
+-- a place more
+more_rise : (xs : List ℕ) (n : ℕ) → AreRisingPlaces xs → ((i : ℕ) → Has xs i → i < n) → AreRisingPlaces (xs ++ n ∷ [])
+more_rise [] n r b = (λ j h. absurd h, tt)
+more_rise (x ∷ xs) n r b = (
+  λ j h. ⊎_elim (λ (k : Has xs j). r.0 j k) (λ (k : Has (n ∷ []) j). ⊎_elim (λ (e : j ≡ n). subst (λ (y : ℕ). x < y) (sym e) (b x (inl refl))) (λ f. absurd f) k) (has_either xs (n ∷ []) j h),
+  more_rise xs n r.1 (λ i h. b i (inr h)),
+)
+
+-- messages that rise in their places
+rising_at : (ms : List Message) (i j : ℕ) (m n : Message) → AreRising (λ (m : Message). m.name) ms → slice_get ms i ≡ Some m → slice_get ms j ≡ Some n → i < j → name_lt m.name n.name ≡ true
+rising_at [] i j m n r e f lt = absurd (cc)
+rising_at (x ∷ ms) zero zero m n r e f lt = absurd (omega arith)
+rising_at (x ∷ ms) zero (suc j) m n r e f lt = let d : x ≡ m = cc in subst (λ (y : Message). name_lt y.name n.name ≡ true) d (r.0 n (stands ms j n f))
+rising_at (x ∷ ms) (suc i) zero m n r e f lt = absurd (omega arith)
+rising_at (x ∷ ms) (suc i) (suc j) m n r e f lt = rising_at ms i j m n r.1 e f (omega arith)
+
+-- the message behind the others, or one of these
+last_or_old : (ms : List Message) (x : Message) (i : ℕ) (m : Message) → slice_get (ms ++ x ∷ []) i ≡ Some m → (slice_get ms i ≡ Some m) ⊎ ((i ≡ length ms) × (m ≡ x))
+last_or_old [] x zero m e = inr (refl, cc)
+last_or_old [] x (suc i) m e = absurd (cc)
+last_or_old (y ∷ ms) x zero m e = inl e
+last_or_old (y ∷ ms) x (suc i) m e =
+    ⊎_elim (λ (f : slice_get ms i ≡ Some m). inl f) (λ (w : (i ≡ length ms) × (m ≡ x)). inr (ap suc w.0, w.1)) (last_or_old ms x i m e)
+
+still_there : (ms : List Message) (x : Message) (i : ℕ) (m : Message) → slice_get ms i ≡ Some m → slice_get (ms ++ x ∷ []) i ≡ Some m
+still_there [] x i m e = absurd (cc)
+still_there (y ∷ ms) x zero m e = e
+still_there (y ∷ ms) x (suc i) m e = still_there ms x i m e
+
+last_there : (ms : List Message) (x : Message) → slice_get (ms ++ x ∷ []) (length ms) ≡ Some x
+last_there [] x = refl
+last_there (y ∷ ms) x = last_there ms x
+
+module _ {K : Type 0} {cmp : K → K → Ordering} (keys : IsTotalOrder cmp) (exact : CmpEqualImpliesEq cmp) (key_of : Message → K) where
+  -- places were passed at a key
+  pub places_passed : (ms : List Message) (ts : List (Option Taker)) (old new : BTreeMap K (List ℕ)) (key : K) → ArePlaces cmp key_of ms ts old → IsOrdered cmp new →
+      ((k : K) → places_at cmp new k ≡ cond (is_eq (cmp key k)) (from_waiting ts (places_at cmp old k)) (places_at cmp old k)) → ArePlaces cmp key_of ms ts new
+  places_passed ms ts old new key are ordered law = record {
+    ordered = ordered;
+    all = λ i m e w. stays_if ts (is_eq (cmp key (key_of m))) (places_at cmp old (key_of m)) (places_at cmp new (key_of m)) i (law (key_of m)) w (are.all i m e w);
+    own = λ k i h. are.own k i (was_if ts (is_eq (cmp key k)) (places_at cmp old k) (places_at cmp new k) i (law k) h);
+    rise = λ k. rise_if ts (is_eq (cmp key k)) (places_at cmp old k) (places_at cmp new k) (law k) (are.rise k);
+  }
+
+  -- a message is taken
+  pub places_taken : (ms : List Message) (ts : List (Option Taker)) (p : ℕ) (t : Taker) (places : BTreeMap K (List ℕ)) → ArePlaces cmp key_of ms ts places → ArePlaces cmp key_of ms (slice_set ts p (Some t)) places
+  places_taken ms ts p t places are = record {
+    ordered = are.ordered;
+    all = λ i m e w. are.all i m e (still_waits ts p i t w);
+    own = are.own;
+    rise = are.rise;
+  }
+
+  -- no message is there
+  pub no_places : (ts : List (Option Taker)) (places : BTreeMap K (List ℕ)) → IsOrdered cmp places → ((k : K) → places_at cmp places k ≡ []) → ArePlaces cmp key_of [] ts places
+  no_places ts places ordered none = record {
+    ordered = ordered;
+    all = λ i m e w. absurd (cc);
+    own = λ k i h. absurd (subst (λ (l : List ℕ). Has l i) (none k) h);
+    rise = λ k. subst (λ (l : List ℕ). AreRisingPlaces l) (sym (none k)) tt;
+  }
+
+  added_left : (b : Bool) (xs ys : List ℕ) (n i : ℕ) → ys ≡ cond b (xs ++ n ∷ []) xs → Has xs i → Has ys i
+  added_left true xs ys n i e h = subst (λ (l : List ℕ). Has l i) (sym e) (has_left xs (n ∷ []) i h)
+  added_left false xs ys n i e h = subst (λ (l : List ℕ). Has l i) (sym e) h
+
+  added_here : (b : Bool) (xs ys : List ℕ) (n : ℕ) → ys ≡ cond b (xs ++ n ∷ []) xs → b ≡ true → Has ys n
+  added_here true xs ys n e h = subst (λ (l : List ℕ). Has l n) (sym e) (has_right xs (n ∷ []) n (inl refl))
+  added_here false xs ys n e h = absurd (cc)
+
+  added_cases : (b : Bool) (xs ys : List ℕ) (n i : ℕ) → ys ≡ cond b (xs ++ n ∷ []) xs → Has ys i → Has xs i ⊎ ((b ≡ true) × (i ≡ n))
+  added_cases true xs ys n i e h =
+      ⊎_elim (λ (k : Has xs i). inl k) (λ (k : Has (n ∷ []) i). ⊎_elim (λ (f : i ≡ n). inr (refl, f)) (λ f. absurd f) k) (has_either xs (n ∷ []) i (subst (λ (l : List ℕ). Has l i) e h))
+  added_cases false xs ys n i e h = inl (subst (λ (l : List ℕ). Has l i) e h)
+
+  added_rise : (b : Bool) (xs ys : List ℕ) (n : ℕ) → ys ≡ cond b (xs ++ n ∷ []) xs → AreRisingPlaces xs → ((i : ℕ) → Has xs i → i < n) → AreRisingPlaces ys
+  added_rise true xs ys n e r b = subst (λ (l : List ℕ). AreRisingPlaces l) (sym e) (more_rise xs n r b)
+  added_rise false xs ys n e r b = subst (λ (l : List ℕ). AreRisingPlaces l) (sym e) r
+
+  -- a message comes
+  pub places_more : (ms : List Message) (x : Message) (ts : List (Option Taker)) (n : ℕ) (old new : BTreeMap K (List ℕ)) → n ≡ length ms → ((us : List (Option Taker)) → ArePlaces cmp key_of ms us old) → IsOrdered cmp new →
+      ((k : K) → places_at cmp new k ≡ cond (is_eq (cmp (key_of x) k)) (places_at cmp old k ++ n ∷ []) (places_at cmp old k)) → ArePlaces cmp key_of (ms ++ x ∷ []) ts new
+  places_more ms x ts n old new len are ordered law = record {
+    ordered = ordered;
+    all = λ i m e w. ⊎_elim
+        (λ (f : slice_get ms i ≡ Some m). added_left (is_eq (cmp (key_of x) (key_of m))) (places_at cmp old (key_of m)) (places_at cmp new (key_of m)) n i (law (key_of m)) ((are ts).all i m f w))
+        (λ (v : (i ≡ length ms) × (m ≡ x)).
+        let h : Has (places_at cmp new (key_of x)) n =
+        added_here (is_eq (cmp (key_of x) (key_of x))) (places_at cmp old (key_of x)) (places_at cmp new (key_of x)) n (law (key_of x)) (ap (λ a. is_eq a) (tied_itself keys (key_of x))) in
+        subst (λ (y : Message). Has (places_at cmp new (key_of y)) i) (sym v.1) (subst (λ (j : ℕ). Has (places_at cmp new (key_of x)) j) (len ∙ sym v.0) h))
+        (last_or_old ms x i m e);
+    own = λ k i h. ⊎_elim
+        (λ (j : Has (places_at cmp old k) i). let o = (are ts).own k i j in (o.0, still_there ms x i o.0 o.1, o.2))
+        (λ (v : (is_eq (cmp (key_of x) k) ≡ true) × (i ≡ n)).
+        (x, subst (λ (j : ℕ). slice_get (ms ++ x ∷ []) j ≡ Some x) (sym (v.1 ∙ len)) (last_there ms x), tells_apart exact (key_of x) k v.0))
+        (added_cases (is_eq (cmp (key_of x) k)) (places_at cmp old k) (places_at cmp new k) n i (law k) h);
+    rise = λ k. added_rise (is_eq (cmp (key_of x) k)) (places_at cmp old k) (places_at cmp new k) n (law k) ((are ts).rise k)
+        (λ i h. let o = (are ts).own k i h in let b = slice_get_within ms i o.0 o.1 in omega (arith, b, len));
+  }
+
+  -- the next of the messages comes
+  pub places_next : (ms : List Message) (i : ℕ) (d : Message) (ts : List (Option Taker)) (old new : BTreeMap K (List ℕ)) → i < length ms → ((us : List (Option Taker)) → ArePlaces cmp key_of (take i ms) us old) → IsOrdered cmp new →
+      ((k : K) → places_at cmp new k ≡ cond (is_eq (cmp (key_of (get_or ms i d)) k)) (places_at cmp old k ++ i ∷ []) (places_at cmp old k)) → ArePlaces cmp key_of (take (i + 1) ms) ts new
+  places_next ms i d ts old new lt are ordered law =
+      subst (λ (l : List Message). ArePlaces cmp key_of l ts new) (sym (take_more ms i d lt))
+      (places_more (take i ms) (get_or ms i d) ts i old new (sym (length-take-le i ms (omega arith))) are ordered law)
+
+  -- the front of the places at the key of a receive is the first message that fits it
+  pub front_is_first : (ms : List Message) (ts : List (Option Taker)) (places : BTreeMap K (List ℕ)) → AreRising (λ (m : Message). m.name) ms → ArePlaces cmp key_of ms ts places →
+      (q : Receive) (k : K) → ((m : Message) → fits m q ≡ true → k ≡ key_of m) → ((m : Message) → k ≡ key_of m → fits m q ≡ true) →
+      (o : Option ℕ) → o ≡ slice_get (from_waiting ts (places_at cmp places k)) zero → IsFirstPlace (record { messages = ms; takers = ts }) q o
+  front_is_first ms ts places rise are q k at fit None e = λ n h f.
+      let w = wait_found ms ts n h in
+      let i : Has (places_at cmp places k) w.0 = subst (λ (x : K). Has (places_at cmp places x) w.0) (sym (at n f)) (are.all w.0 n w.1 w.2) in
+      no_front (from_waiting ts (places_at cmp places k)) w.0 (sym e) (stays ts (places_at cmp places k) w.0 w.2 i)
+  front_is_first ms ts places rise are q k at fit (Some p) e =
+      let fr : slice_get (from_waiting ts (places_at cmp places k)) zero ≡ Some p = sym e in
+      let o = are.own k p (was ts (places_at cmp places k) p (front_there (from_waiting ts (places_at cmp places k)) p fr)) in
+      let m = o.0 in (
+        m,
+        record {
+          there = o.1;
+          waits = front_waits ts (places_at cmp places k) p fr;
+          first = record {
+            member = waits_there ms ts p m o.1 (front_waits ts (places_at cmp places k) p fr);
+            fit = fit m (sym o.2);
+            first = λ n h f b.
+                let w = wait_found ms ts n h in
+                let i : Has (places_at cmp places k) w.0 = subst (λ (x : K). Has (places_at cmp places x) w.0) (sym (at n f)) (are.all w.0 n w.1 w.2) in
+                ⊎_elim
+                (λ (d : w.0 ≡ p). let g : slice_get ms p ≡ Some n = subst (λ (j : ℕ). slice_get ms j ≡ Some n) d w.1 in let s : n ≡ m = cc in name_apart n.name m.name b (ap (λ (x : Message). x.name) s))
+                (λ (lt : p < w.0). name_apart_back m.name n.name (rising_at ms p w.0 m n rise o.1 w.1 lt) b)
+                (front_first (from_waiting ts (places_at cmp places k)) p w.0 (still_rise ts (places_at cmp places k) (are.rise k)) fr (stays ts (places_at cmp places k) w.0 w.2 i));
+          };
+        },
+      )

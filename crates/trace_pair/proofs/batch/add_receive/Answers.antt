@@ -1,0 +1,25 @@
+use Rattle.std.proofs.Common.{ℕ, Option, refl, rules, subst, sym, ◌<◌, length}
+use Rattle.std.specs.Prelude.{IfSome}
+use Rattle.trace_pair.specs.Settled.{IsTakenAt}
+use Rattle.trace_pair.specs.declared.batch.Batch.{Batch}
+use Rattle.trace_pair.proofs.Moves.{told_of}
+use Rattle.trace_pair.proofs.Settling.{adds_taken, adds_open, adds_untold}
+use Rattle.trace_pair.proofs.batch.add_receive.Goals as goal
+
+pub returns-then-is_none : goal.returns-then-is_none
+returns-then-is_none c = λ ms qs more adds s. adds_untold ms qs more c.args.q adds c.args.batch.now c.args.batch.now refl s _ (search rules) c.in_ok-insert.ensures
+
+pub take-requires : goal.take-requires
+take-requires c =
+    let w = subst (λ (o : Option ℕ). IfSome o (λ p. p < length c.args.batch.now.messages.messages)) c.in-Some.is c.in_ok-place.ensures.within in
+    subst (λ (b : Batch). c.in-Some.place < length b.messages.messages) (sym c.taken_by.ensures.kept) w
+
+pub returns-in_ok-take-in-Some : goal.returns-in_ok-take-in-Some
+returns-in_ok-take-in-Some c = λ ms qs more adds s.
+    let found = subst (λ (o : Option ℕ). IsTakenAt ms qs c.args.batch.now.messages c.args.q o) c.in-Some.is (c.in_ok-place.ensures.found ms qs s) in
+    adds_taken ms qs more c.args.q adds c.taken_by.new.batch c.args.batch.now c.taken_by.ensures.kept s c.in-Some.place c.taker_of.result c.take.new.self found c.taker_of.ensures c.in_ok-take-in-Some.ensures
+
+pub returns-in_ok-insert-in-None : goal.returns-in_ok-insert-in-None
+returns-in_ok-insert-in-None c = λ ms qs more adds s.
+    let found = subst (λ (o : Option ℕ). IsTakenAt ms qs c.args.batch.now.messages c.args.q o) c.in-None.is (c.in_ok-place.ensures.found ms qs s) in
+    adds_open ms qs more c.args.q adds c.taken_by.new.batch c.args.batch.now c.taken_by.ensures.kept s _ (told_of c.args.q.source (search rules)) found c.in_ok-insert-in-None.ensures

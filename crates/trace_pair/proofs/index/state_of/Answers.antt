@@ -1,0 +1,4 @@
+use Rattle.trace_pair.proofs.index.state_of.Goals as goal
+
+pub returns : goal.returns
+returns c = c.in_ok-add_ranks.ensures c.requires c.empty-state.ensures

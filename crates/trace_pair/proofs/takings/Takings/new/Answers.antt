@@ -1,0 +1,11 @@
+use Rattle.std.proofs.Common.{List, Option, None, subst, ap, ◌∙◌, length}
+use Rattle.std.specs.Prelude.{replicate}
+use Rattle.mpi_model.specs.declared.message.Message.{Message}
+use Rattle.trace_pair.specs.KeyOrders.{queue_cmp, queue_of}
+use Rattle.trace_pair.specs.Waiting.{ArePlaces}
+use Rattle.trace_pair.proofs.Offered.{new_takings}
+use Rattle.trace_pair.proofs.takings.Takings.new.Goals as goal
+
+pub invariant_of-result : goal.invariant_of-result
+invariant_of-result c = new_takings c.args.messages.items c.in_ok-takers.takers.items c.in_ok-queues.queues c.requires (c.in_ok-takers.ensures ∙ ap (λ (l : List Message). replicate (length l) None) c.deref-2.ensures.value)
+    (λ us. subst (λ (l : List Message). ArePlaces queue_cmp queue_of l us c.in_ok-queues.queues) c.deref.ensures.value (c.in_ok-queues.ensures us))

@@ -1,0 +1,20 @@
+-- What a pairing of all messages has found, once it has seen some of the receives.
+use Rattle.std.specs.Prelude.{◌≡◌, ℕ, true, Option, Some, None, List, slice_get}
+use Rattle.mpi_model.specs.declared.message.Message.{Message}
+use Rattle.mpi_model.specs.declared.message.Receive.{Receive}
+use Rattle.trace_ops.specs.Order.{Has}
+use Rattle.trace_pair.specs.Indexed.{IsIndexed, TakesReceive}
+use Rattle.trace_pair.specs.Rising.{AreRising}
+use Rattle.trace_pair.specs.Waiting.{Takings, waits_at, waiting_in, couples_with}
+use Rattle.trace_pair.specs.declared.batch.Batch.{Batch}
+
+-- It stands for these messages and receives as an index does: the pairs, and what is in none.
+pub record Settles (ms : List Message) (qs : List Receive) (b : Batch) : Type 0 where
+  pub messages : b.messages.messages ≡ ms
+  pub rise : AreRising (λ m. m.name) ms
+  pub held : IsIndexed ms qs (waiting_in b.messages.messages b.messages.takers) b.opened b.untold (couples_with b.messages.messages b.messages.takers)
+
+-- the receive takes the message at the place, or none
+abbrev pub IsTakenAt : List Message → List Receive → Takings → Receive → Option ℕ → Type 0
+IsTakenAt ms qs t q None = (m : Message) → Has ms m → TakesReceive ms qs m q → ⊥
+IsTakenAt ms qs t q (Some place) = (m : Message) × (slice_get t.messages place ≡ Some m) × (waits_at t.takers place ≡ true) × TakesReceive ms qs m q

@@ -1,0 +1,101 @@
+-- All messages in their order, what takes each, and the places of those that wait.
+use Rattle.std.specs.Prelude.{◌≡◌, ◌<◌, ℕ, Bool, true, false, cond, Option, Some, None, IfSome, List, [], ◌∷◌, length, replicate, slice_get, slice_set}
+use Rattle.std.specs.declared.cmp.Ordering.{Ordering}
+use Rattle.std.specs.BTreeMap.{BTreeMap, get, IsOrdered}
+use Rattle.mpi_model.specs.declared.message.Message.{Message}
+use Rattle.mpi_model.specs.declared.message.Receive.{Receive}
+use Rattle.mpi_model.specs.Fit.{fits}
+use Rattle.trace_ops.specs.Order.{Has}
+use Rattle.trace_pair.specs.Coupled.{receive_by}
+use Rattle.trace_pair.specs.Indexed.{IsFirstMessage, couple_of}
+use Rattle.trace_pair.specs.KeyOrders.{Queue, queue_cmp, queue_of, Lane, lane_cmp, lane_of}
+use Rattle.trace_pair.specs.Rising.{AreRising}
+use Rattle.trace_pair.specs.declared.pair.Couple.{Couple}
+use Rattle.trace_pair.specs.declared.pair.Taker.{Taker}
+
+-- all messages, and at the place of each what takes it
+pub record Takings : Type 0 where
+  pub messages : List Message
+  pub takers : List (Option Taker)
+
+-- nothing takes any of them
+abbrev pub untaken : List Message → Takings
+untaken ms = record { messages = ms; takers = replicate (length ms) None }
+
+-- the message at the place is taken
+abbrev pub with_taker : Takings → ℕ → Taker → Takings
+with_taker t place taker = record t { takers = slice_set t.takers place (Some taker) }
+
+-- the messages that wait
+abbrev pub waiting_in : List Message → List (Option Taker) → List Message
+waiting_in [] takers = []
+waiting_in (m ∷ ms) [] = []
+waiting_in (m ∷ ms) (None ∷ takers) = m ∷ waiting_in ms takers
+waiting_in (m ∷ ms) (Some t ∷ takers) = waiting_in ms takers
+
+-- the others, each with what takes it
+abbrev pub couples_with : List Message → List (Option Taker) → List Couple
+couples_with [] takers = []
+couples_with (m ∷ ms) [] = []
+couples_with (m ∷ ms) (None ∷ takers) = couples_with ms takers
+couples_with (m ∷ ms) (Some t ∷ takers) = couple_of m (receive_by m t) ∷ couples_with ms takers
+
+-- a message stands there that waits
+abbrev pub is_waiting : Option (Option Taker) → Bool
+is_waiting None = false
+is_waiting (Some None) = true
+is_waiting (Some (Some t)) = false
+
+abbrev pub waits_at : List (Option Taker) → ℕ → Bool
+waits_at takers place = is_waiting (slice_get takers place)
+
+-- the places from the first on at which a message waits
+abbrev pub from_waiting : List (Option Taker) → List ℕ → List ℕ
+from_waiting takers [] = []
+from_waiting takers (i ∷ places) = cond (waits_at takers i) (i ∷ places) (from_waiting takers places)
+
+abbrev pub items_of : Option (List ℕ) → List ℕ
+items_of None = []
+items_of (Some places) = places
+
+-- the places at a key
+abbrev pub places_at : {K : Type 0} → (K → K → Ordering) → BTreeMap K (List ℕ) → K → List ℕ
+places_at cmp places k = items_of (get cmp places k)
+
+-- Each place is below those that follow.
+abbrev pub AreRisingPlaces : List ℕ → Type 0
+AreRisingPlaces [] = Unit {0}
+AreRisingPlaces (i ∷ places) = ((j : ℕ) → Has places j → i < j) × AreRisingPlaces places
+
+-- Each message that waits has its place at its key. What stands at a key are places of its messages, in their order.
+pub record ArePlaces {K : Type 0} (cmp : K → K → Ordering) (key_of : Message → K) (ms : List Message) (takers : List (Option Taker)) (places : BTreeMap K (List ℕ)) : Type 0 where
+  pub ordered : IsOrdered cmp places
+  pub all : (i : ℕ) (m : Message) → slice_get ms i ≡ Some m → waits_at takers i ≡ true → Has (places_at cmp places (key_of m)) i
+  pub own : (k : K) (i : ℕ) → Has (places_at cmp places k) i → (m : Message) × (slice_get ms i ≡ Some m) × (key_of m ≡ k)
+  pub rise : (k : K) → AreRisingPlaces (places_at cmp places k)
+
+-- places by queue, and where they were made, by lane
+pub record AreTakings (ms : List Message) (takers : List (Option Taker)) (queues : BTreeMap Queue (List ℕ)) (lanes : Option (BTreeMap Lane (List ℕ))) : Type 0 where
+  pub rise : AreRising (λ m. m.name) ms
+  pub many : length takers ≡ length ms
+  pub queued : ArePlaces queue_cmp queue_of ms takers queues
+  pub laned : IfSome lanes (ArePlaces lane_cmp lane_of ms takers)
+
+-- the message at the place waits, and is the first that fits the receive
+pub record IsFirstAt (t : Takings) (q : Receive) (place : ℕ) (m : Message) : Type 0 where
+  pub there : slice_get t.messages place ≡ Some m
+  pub waits : waits_at t.takers place ≡ true
+  pub first : IsFirstMessage (waiting_in t.messages t.takers) q m
+
+-- or no message that waits fits it
+abbrev pub IsFirstPlace : Takings → Receive → Option ℕ → Type 0
+IsFirstPlace t q None = (m : Message) → Has (waiting_in t.messages t.takers) m → fits m q ≡ true → ⊥
+IsFirstPlace t q (Some place) = (m : Message) × IsFirstAt t q place m
+
+-- what takes the message at a place
+abbrev pub taker_in : Option (Option Taker) → Option Taker
+taker_in None = None
+taker_in (Some taker) = taker
+
+abbrev pub taker_at : Takings → ℕ → Option Taker
+taker_at t place = taker_in (slice_get t.takers place)

@@ -1,0 +1,144 @@
+//! The pairing of all ranks' calls in one pass: all messages are there from the start, and the receives
+//! come rank by rank, each behind those before it.
+//!
+//! A told receive can only take the first message that fits it and that no receive before it took. It
+//! takes that one, unless an untold receive before it fits the message, or a told one that fits it went
+//! without a message. Which of the ranks comes first makes no difference, since all that the rules
+//! compare are messages of one sender and receives of one rank.
+
+ghost use Rattle.std.specs.Prelude.{◌≡◌, ◌<◌, true, Some, IfOk, IfSome, OnOk, is_some, [], List, length, slice_get};
+ghost use Rattle.mpi_model.specs.declared.message.Message.{Message};
+ghost use Rattle.mpi_model.specs.declared.message.Receive.{Receive};
+ghost use Rattle.trace_ops.specs.Ops.{AreOwn};
+ghost use Rattle.trace_pair.specs.Calls.{AddsReceive, between, IsPosting};
+ghost use Rattle.trace_pair.specs.Settled.{Settles, IsTakenAt};
+ghost use Rattle.trace_pair.specs.Pairing.{receive_of};
+ghost use Rattle.trace_pair.specs.Table.{fits_untold, sends_of, receives_of};
+
+use crate::couples::{receive_by, taker_of};
+use crate::queues::Receives;
+use crate::takings::Takings;
+use mpi_model::{Message, Receive};
+use std::alloc::{AllocError, Global};
+use trace_ops::RankOps;
+
+/// All messages with what takes each, and the receives so far that take none.
+#[derive(Drop)]
+pub(crate) struct Batch {
+    messages: Takings,
+    opened: Receives,
+    untold: Receives,
+}
+
+impl Batch {
+    /// All messages, in their order.
+    pub(crate) fn messages(&self) -> &[Message]
+        ensures { result.now ≡ self.now.messages.messages }
+    {
+        self.messages.messages()
+    }
+
+    /// The places of the pairs, nearly in order of the receive.
+    pub(crate) fn places_near(&self, alloc: Global) -> Result<Vec<usize>, AllocError> {
+        self.messages.places_near(alloc)
+    }
+
+    /// The receive that takes the message at a place.
+    pub(crate) fn receive_of(&self, place: usize, m: &Message) -> Option<Receive>
+        ensures { (ms : List Message) (qs : List Receive) → Settles ms qs self.now → slice_get ms place ≡ Some m.now → result ≡ receive_of ms qs m.now }
+    {
+        match self.messages.taker_at(place) {
+            Some(taker) => Some(receive_by(m, taker)),
+            None => None,
+        }
+    }
+
+    /// Whether an untold receive fits the message.
+    pub(crate) fn does_untold_fit(&self, m: &Message) -> bool
+        ensures { (ms : List Message) (qs : List Receive) → Settles ms qs self.now → result ≡ fits_untold qs m.now }
+    {
+        self.untold.first_for(m).is_some()
+    }
+}
+
+/// The place of the message that the new receive takes.
+fn taken_by(batch: &mut Batch, q: &Receive) -> Result<Option<usize>, AllocError>
+    requires { is_some q.now.source ≡ true }
+    ensures kept { batch.new ≡ batch.old }
+    ensures within { IfOk result (λ place. IfSome place (λ p. p < length batch.old.messages.messages)) }
+    ensures found { IfOk result (λ place. (ms : List Message) (qs : List Receive) → Settles ms qs batch.old → IsTakenAt ms qs batch.old.messages q.now place) }
+{
+    let Some(place) = batch.messages.first_for(q)? else {
+        return Ok(None);
+    };
+    let m = batch.messages.messages()[place];
+    if let Some(_) = batch.untold.first_for(&m) {
+        return Ok(None);
+    }
+    if let Some(_) = batch.opened.first_for(&m) {
+        return Ok(None);
+    }
+    Ok(Some(place))
+}
+
+/// Puts a receive behind those of its rank.
+fn add_receive(batch: &mut Batch, q: Receive) -> Result<(), AllocError>
+    ensures { OnOk result ((ms : List Message) (qs more : List Receive) → AddsReceive qs more q → Settles ms qs batch.old → Settles ms more batch.new) }
+{
+    if q.source.is_none() {
+        batch.untold.insert(q)?;
+        return Ok(());
+    }
+    match taken_by(batch, &q)? {
+        Some(place) => batch.messages.take(place, taker_of(&q))?,
+        None => batch.opened.insert(q)?,
+    }
+    Ok(())
+}
+
+/// Adds the receives of a rank behind those of the ranks before it.
+fn add_receives(batch: &mut Batch, own: &[Receive]) -> Result<(), AllocError>
+    ensures { OnOk result ((ms : List Message) (before : List Receive) → IsPosting before [] own.now → Settles ms (between before [] []) batch.old → Settles ms (between before own.now []) batch.new) }
+{
+    for q in own {
+        add_receive(batch, *q)?;
+    }
+    Ok(())
+}
+
+/// All messages, with no receive yet.
+fn all_waiting(alloc: Global, ops: &[RankOps]) -> Result<Batch, AllocError>
+    requires { AreOwn 0 ops.now }
+    ensures { IfOk result (Settles (sends_of ops.now) []) }
+{
+    let sends = all_sends(alloc, ops)?;
+    let messages = Takings::new(alloc, sends)?;
+    Ok(Batch {
+        messages,
+        opened: Receives::empty(alloc),
+        untold: Receives::empty(alloc),
+    })
+}
+
+/// The messages of all ranks.
+fn all_sends(alloc: Global, ops: &[RankOps]) -> Result<Vec<Message>, AllocError>
+    ensures { IfOk result (λ all. all.items ≡ sends_of ops.now) }
+{
+    let mut all = Vec::new(alloc);
+    for own in ops {
+        all.extend_from_slice(own.sends())?;
+    }
+    Ok(all)
+}
+
+/// The pairing of all ranks' calls.
+pub(crate) fn batch_of(alloc: Global, ops: &[RankOps]) -> Result<Batch, AllocError>
+    requires { AreOwn 0 ops.now }
+    ensures { IfOk result (Settles (sends_of ops.now) (receives_of ops.now)) }
+{
+    let mut batch = all_waiting(alloc, ops)?;
+    for own in ops {
+        add_receives(&mut batch, own.receives())?;
+    }
+    Ok(batch)
+}

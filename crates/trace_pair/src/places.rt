@@ -1,0 +1,128 @@
+//! Places of messages, in their order, at keys: where the first message that waits is found without
+//! going through those that were taken again.
+
+ghost use Rattle.std.specs.Prelude.{◌≡◌, ◌++◌, ◌∷◌, [], None, OnOk, IfOk, if◌then◌else◌, drop, slice_get};
+ghost use Rattle.std.specs.BTreeMap.{IsOrdered, get};
+ghost use Rattle.std.specs.Ordering.{is_eq};
+ghost use Rattle.trace_pair.specs.Waiting.{waits_at, from_waiting, places_at};
+
+use crate::pair::Taker;
+use std::alloc::{AllocError, Global};
+use std::collections::{BTreeMap, VecDeque};
+use std::marker::Model;
+
+/// Whether the message at a place waits.
+fn waits_at(takers: &[Option<Taker>], place: usize) -> bool
+    ensures { result ≡ waits_at takers.now place }
+{
+    match takers.get(place) {
+        Some(None) => true,
+        _ => false,
+    }
+}
+
+/// Places, the first in front.
+#[derive(Drop)]
+pub(crate) struct Places {
+    kept: VecDeque<usize>,
+}
+
+impl Model for Places {
+    ghost use Rattle.std.specs.Prelude.{ℕ, List};
+
+    ghost Value = { List ℕ };
+
+    ghost view = { λ s. s.kept.items };
+}
+
+impl Places {
+    fn one(alloc: Global, place: usize) -> Result<Places, AllocError>
+        ensures { IfOk result (λ places. places ≡ place ∷ []) }
+    {
+        let mut kept = VecDeque::new(alloc);
+        kept.push_back(place)?;
+        Ok(Places { kept })
+    }
+
+    fn push(&mut self, place: usize) -> Result<(), AllocError>
+        ensures { OnOk result (self.new ≡ self.old ++ place ∷ []) }
+    {
+        self.kept.push_back(place)?;
+        Ok(())
+    }
+
+    fn front(&self) -> Option<usize>
+        ensures { result ≡ slice_get self.now 0 }
+    {
+        self.kept.get(0).copied()
+    }
+
+    fn pop(&mut self)
+        ensures { self.new ≡ drop 1 self.old }
+    {
+        self.kept.pop_front();
+    }
+
+    /// The first place at which a message waits. Those before it go.
+    fn first_waiting(&mut self, takers: &[Option<Taker>]) -> Option<usize>
+        ensures first { result ≡ slice_get (from_waiting takers.now self.old) 0 }
+        ensures left { self.new ≡ from_waiting takers.now self.old }
+    {
+        while let Some(place) = self.front() {
+            if waits_at(takers, place) {
+                return Some(place);
+            }
+            self.pop();
+        }
+        None
+    }
+}
+
+/// The first place at a key at which a message waits. Those before it go.
+pub(crate) fn first_at<K: Ord>(
+    places: &mut BTreeMap<K, Places>,
+    key: &K,
+    takers: &[Option<Taker>],
+) -> Option<usize>
+    ensures first { result ≡ slice_get (from_waiting takers.now (places_at K.cmp places.old key.now)) 0 }
+    ensures left { (k : K) → places_at K.cmp places.new k ≡ (if is_eq (K.cmp key.now k) then from_waiting takers.now (places_at K.cmp places.old k) else places_at K.cmp places.old k) }
+    ensures ordered { IsOrdered K.cmp places.new }
+{
+    match places.get_mut(key) {
+        Some(own) => own.first_waiting(takers),
+        None => None,
+    }
+}
+
+/// Puts a place at a key where none stands.
+fn put_first<K: Ord + Drop>(
+    alloc: Global,
+    places: &mut BTreeMap<K, Places>,
+    key: K,
+    place: usize,
+) -> Result<(), AllocError>
+    requires { get K.cmp places.old key ≡ None }
+    ensures added { OnOk result ((k : K) → places_at K.cmp places.new k ≡ (if is_eq (K.cmp key k) then places_at K.cmp places.old k ++ place ∷ [] else places_at K.cmp places.old k)) }
+    ensures ordered { OnOk result (IsOrdered K.cmp places.new) }
+{
+    let own = Places::one(alloc, place)?;
+    places.insert(key, own)?;
+    Ok(())
+}
+
+/// Puts a place behind the others at its key.
+pub(crate) fn add_place<K: Ord + Drop>(
+    alloc: Global,
+    places: &mut BTreeMap<K, Places>,
+    key: K,
+    place: usize,
+) -> Result<(), AllocError>
+    ensures added { OnOk result ((k : K) → places_at K.cmp places.new k ≡ (if is_eq (K.cmp key k) then places_at K.cmp places.old k ++ place ∷ [] else places_at K.cmp places.old k)) }
+    ensures ordered { OnOk result (IsOrdered K.cmp places.new) }
+{
+    if let Some(own) = places.get_mut(&key) {
+        own.push(place)?;
+        return Ok(());
+    }
+    put_first(alloc, places, key, place)
+}

@@ -1,0 +1,195 @@
+//! All messages, in their order, with what takes each; those that wait are found by a receive that
+//! they fit.
+
+ghost use Rattle.std.specs.Prelude.{◌≡◌, ◌<◌, true, IfOk, IfSome, OnOk, is_some, length, replicate, List, None, Option};
+ghost use Rattle.trace_pair.specs.KeyOrders.{queue_cmp, queue_of, lane_cmp, lane_of};
+ghost use Rattle.trace_pair.specs.Rising.{AreRising};
+ghost use Rattle.trace_pair.specs.Waiting.{ArePlaces, IsFirstPlace, taker_at, untaken, with_taker};
+ghost use Rattle.trace_pair.specs.declared.pair.Taker.{Taker};
+
+use crate::pair::Taker;
+use crate::places::{Places, add_place, first_at};
+use mpi_model::{Message, Receive};
+use std::alloc::{AllocError, Global};
+use std::collections::BTreeMap;
+use std::marker::Model;
+
+/// Places by communicator, sender, receiver and tag.
+type Queues = BTreeMap<(u32, u32, u32, u32), Places>;
+
+/// The same ones without the tag.
+type Lanes = BTreeMap<(u32, u32, u32), Places>;
+
+/// All messages, and what takes each.
+#[derive(Drop)]
+pub(crate) struct Takings {
+    messages: Vec<Message>,
+    takers: Vec<Option<Taker>>,
+    queues: Queues,
+    /// Made when the first receive of any tag comes.
+    lanes: Option<Lanes>,
+    /// The places of taken messages, as their receives came.
+    order: Vec<usize>,
+}
+
+impl Model for Takings {
+    ghost use Rattle.trace_pair.specs.Waiting.{Takings, AreTakings};
+
+    ghost Value = { Takings };
+
+    ghost view = { λ s. record { messages = s.messages.items; takers = s.takers.items } };
+
+    ghost invariant = { λ s. AreTakings s.messages.items s.takers.items s.queues s.lanes };
+}
+
+/// The places of the messages by queue.
+fn queues_of(alloc: Global, messages: &[Message]) -> Result<Queues, AllocError>
+    ensures { IfOk result (λ queues. (takers : List (Option Taker)) → ArePlaces queue_cmp queue_of messages.now takers queues) }
+{
+    let mut queues = Queues::new(alloc);
+    for (place, m) in messages.iter().enumerate() {
+        add_place(alloc, &mut queues, (m.comm, m.from, m.to, m.tag), place)?;
+    }
+    Ok(queues)
+}
+
+/// The places of the messages by lane.
+fn lanes_of(alloc: Global, messages: &[Message]) -> Result<Lanes, AllocError>
+    ensures { IfOk result (λ lanes. (takers : List (Option Taker)) → ArePlaces lane_cmp lane_of messages.now takers lanes) }
+{
+    let mut lanes = Lanes::new(alloc);
+    for (place, m) in messages.iter().enumerate() {
+        add_place(alloc, &mut lanes, (m.comm, m.from, m.to), place)?;
+    }
+    Ok(lanes)
+}
+
+/// These lanes, or new ones where there are none.
+fn lanes_or_new(
+    alloc: Global,
+    messages: &[Message],
+    lanes: Option<Lanes>,
+) -> Result<Lanes, AllocError>
+    ensures { IfOk result (λ made. (takers : List (Option Taker)) → IfSome lanes (ArePlaces lane_cmp lane_of messages.now takers) → ArePlaces lane_cmp lane_of messages.now takers made) }
+{
+    match lanes {
+        Some(lanes) => Ok(lanes),
+        None => lanes_of(alloc, messages),
+    }
+}
+
+/// Nothing takes any of these messages.
+fn no_takers(alloc: Global, messages: &[Message]) -> Result<Vec<Option<Taker>>, AllocError>
+    ensures { IfOk result (λ takers. takers.items ≡ replicate (length messages.now) None) }
+{
+    let takers = Vec::from_elem(alloc, None, messages.len())?;
+    Ok(takers)
+}
+
+impl Takings {
+    /// Nothing takes any of these messages.
+    pub(crate) fn new(alloc: Global, messages: Vec<Message>) -> Result<Takings, AllocError>
+        requires { AreRising (λ m. m.name) messages.items }
+        ensures { IfOk result (λ t. t ≡ untaken messages.items) }
+    {
+        let queues = queues_of(alloc, &messages)?;
+        let takers = no_takers(alloc, &messages)?;
+        Ok(Takings {
+            messages,
+            takers,
+            queues,
+            lanes: None,
+            order: Vec::new(alloc),
+        })
+    }
+
+    pub(crate) fn messages(&self) -> &[Message]
+        ensures { result.now ≡ self.now.messages }
+    {
+        &self.messages
+    }
+
+    /// What takes the message at a place.
+    pub(crate) fn taker_at(&self, place: usize) -> Option<Taker>
+        ensures { result ≡ taker_at self.now place }
+    {
+        match self.takers.get(place) {
+            Some(taker) => *taker,
+            None => None,
+        }
+    }
+
+    /// The place of the first message of a queue that waits.
+    fn first_of_queue(&mut self, q: &Receive, source: u32, tag: u32) -> Option<usize>
+        requires source { q.now.source ≡ Some source }
+        requires tag { q.now.tag ≡ Some tag }
+        ensures kept { self.new ≡ self.old }
+        ensures first { IsFirstPlace self.old q.now result }
+    {
+        first_at(&mut self.queues, &(q.comm, source, q.at, tag), &self.takers)
+    }
+
+    /// The place of the first message of a lane that waits.
+    fn first_of_lane(&mut self, q: &Receive, source: u32) -> Result<Option<usize>, AllocError>
+        requires source { q.now.source ≡ Some source }
+        requires tag { q.now.tag ≡ None }
+        ensures kept { self.new ≡ self.old }
+        ensures first { IfOk result (IsFirstPlace self.old q.now) }
+    {
+        let alloc = *self.messages.allocator();
+        let had = self.lanes.take();
+        let mut lanes = lanes_or_new(alloc, &self.messages, had)?;
+        let place = first_at(&mut lanes, &(q.comm, source, q.at), &self.takers);
+        self.lanes = Some(lanes);
+        Ok(place)
+    }
+
+    /// The place of the first message that waits and fits a receive whose source is told.
+    pub(crate) fn first_for(&mut self, q: &Receive) -> Result<Option<usize>, AllocError>
+        requires { is_some q.now.source ≡ true }
+        ensures kept { self.new ≡ self.old }
+        ensures first { IfOk result (IsFirstPlace self.old q.now) }
+    {
+        match q.source {
+            None => Ok(None),
+            Some(source) => match q.tag {
+                Some(tag) => Ok(self.first_of_queue(q, source, tag)),
+                None => self.first_of_lane(q, source),
+            },
+        }
+    }
+
+    /// The message at the place is taken.
+    pub(crate) fn take(&mut self, place: usize, taker: Taker) -> Result<(), AllocError>
+        requires { place < length self.old.messages }
+        ensures { OnOk result (self.new ≡ with_taker self.old place taker) }
+    {
+        self.order.push(place)?;
+        self.takers[place] = Some(taker);
+        Ok(())
+    }
+
+    /// Of each message how many before it are taken.
+    fn taken_before(&self, alloc: Global) -> Result<Vec<usize>, AllocError> {
+        let mut counts = Vec::with_capacity(alloc, self.takers.len())?;
+        let mut count: usize = 0;
+        for taker in &self.takers {
+            counts.push(count)?;
+            if taker.is_some() {
+                count = count.saturating_add(1);
+            }
+        }
+        Ok(counts)
+    }
+
+    /// The places of the pairs, as the receives that take them came: a start from which the sort by the
+    /// receive has nothing left to do. Nothing is claimed of that order.
+    pub(crate) fn places_near(&self, alloc: Global) -> Result<Vec<usize>, AllocError> {
+        let counts = self.taken_before(alloc)?;
+        let mut places = Vec::with_capacity(alloc, self.order.len())?;
+        for place in &self.order {
+            places.push(counts.get(*place).copied().unwrap_or(0))?;
+        }
+        Ok(places)
+    }
+}
