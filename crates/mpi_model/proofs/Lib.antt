@@ -3,4 +3,6 @@ mod Communicators
 mod Known
 mod Layouts
 mod Orders
+mod Finds
+mod Places
 mod Same

@@ -113,8 +113,8 @@ impl Layout {
         Some(self.comms.get(i)?.number())
     }
 
-    /// The members of a communicator, ranks of the run in the order of their ranks in it. It looks
-    /// through the communicators: where many questions are asked of one, keep the slice.
+    /// The members of a communicator, ranks of the run in the order of their ranks in it. It
+    /// halves the communicators: where many questions are asked of one, keep the slice.
     pub fn members(&self, comm: u32) -> Option<&[u32]>
         ensures value { option_map (λ m. m.now) result ≡ members_of self.now.comms comm }
         ensures group { IfSome result (λ m. IsGroup self.now.ranks m.now) }

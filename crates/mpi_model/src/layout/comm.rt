@@ -1,8 +1,9 @@
 //! One communicator of a layout, and the look-up of communicators and of ranks in them.
 
-ghost use Rattle.std.specs.Prelude.{◌≡◌, ◌==◌, ◌<◌, ◌^◌, IfOk, length, option_map};
+ghost use Rattle.std.specs.Prelude.{◌≡◌, ◌==◌, ◌<◌, ◌^◌, IfOk, length, option_map, slice_get};
 ghost use Rattle.std.specs.List.{position_from};
-ghost use Rattle.mpi_model.specs.Communicators.{InOrder, communicators, members_of};
+ghost use Rattle.std.specs.List.Sorted.{IsStrictlyIncreasing};
+ghost use Rattle.mpi_model.specs.Communicators.{InOrder, communicators, members_of, numbers};
 
 use std::alloc::{AllocError, Global};
 use std::marker::Model;
@@ -62,8 +63,8 @@ pub(crate) fn in_order(given: Vec<Comm>) -> Result<Vec<Comm>, AllocError>
     Ok(comms)
 }
 
-/// The members of the communicator of this number.
-pub(crate) fn members_in(comms: &[Comm], comm: u32) -> Option<&[u32]>
+/// The members of the communicator of this number, in a list in any order.
+pub(crate) fn members_among(comms: &[Comm], comm: u32) -> Option<&[u32]>
     ensures { option_map (λ m. m.now) result ≡ members_of comms.now comm }
 {
     for candidate in comms {
@@ -72,6 +73,26 @@ pub(crate) fn members_in(comms: &[Comm], comm: u32) -> Option<&[u32]>
         }
     }
     None
+}
+
+/// The place of the communicator of this number, found by halves; where it is absent, one behind
+/// the last.
+fn place_in(comms: &[Comm], comm: u32) -> usize
+    requires { IsStrictlyIncreasing (numbers comms.now) }
+    ensures { option_map (λ g. g.members) (slice_get comms.now result) ≡ members_of comms.now comm }
+{
+    match comms.binary_search_by_key(&comm, |candidate| candidate.number()) {
+        Ok(at) => at,
+        Err(_) => comms.len(),
+    }
+}
+
+/// The members of the communicator of this number, found by halves.
+pub(crate) fn members_in(comms: &[Comm], comm: u32) -> Option<&[u32]>
+    requires { IsStrictlyIncreasing (numbers comms.now) }
+    ensures { option_map (λ m. m.now) result ≡ members_of comms.now comm }
+{
+    Some(comms.get(place_in(comms, comm))?.members())
 }
 
 /// The place of a rank among the members.

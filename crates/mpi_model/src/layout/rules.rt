@@ -5,7 +5,7 @@ ghost use Rattle.std.specs.List.{list_any};
 ghost use Rattle.mpi_model.specs.Communicators.{has_double, numbers};
 ghost use Rattle.mpi_model.specs.Layouts.{comm_fault, has_double_member, has_stranger, has_world, is_empty_group, is_whole};
 
-use crate::layout::comm::{Comm, members_in};
+use crate::layout::comm::{Comm, members_among};
 use crate::layout::fault::LayoutFault;
 use std::alloc::{AllocError, Global};
 
@@ -123,7 +123,7 @@ fn double_in(alloc: Global, members: &[u32], ranks: u32) -> Result<bool, AllocEr
 fn world_is_there(comms: &[Comm], ranks: u32, world: u32) -> bool
     ensures { result ≡ has_world ranks world comms.now }
 {
-    match members_in(comms, world) {
+    match members_among(comms, world) {
         Some(members) => are_all_ranks(members, ranks),
         None => false,
     }
