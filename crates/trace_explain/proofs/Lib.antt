@@ -1,0 +1,9 @@
+pub mod Chained
+pub mod Labels
+pub mod Spreading
+pub mod Components
+pub mod Shapes
+pub mod Named
+pub mod Drawn
+pub mod Listed
+pub mod Found

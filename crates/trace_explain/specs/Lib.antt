@@ -1,0 +1,4 @@
+pub mod Waiting
+pub mod Chains
+pub mod Hearts
+pub mod Search

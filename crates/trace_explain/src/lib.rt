@@ -1,0 +1,29 @@
+//! What an answer says, for a person who reads it: the hearts of its deadlocks.
+//!
+//! Of a thousand stuck ranks mostly a few hold up all others. r waits for s where both are stuck and s stands in
+//! the condition of r. A stuck rank is in a heart where every rank that it reaches along "waits for" also reaches
+//! it: the hearts are the components of the wait-for graph from which no edge leads out. [`hearts`] names them.
+//! Each stuck rank that is in none waits, over others, for one that is.
+//!
+//! Three searches find them. The first tells for each stuck rank the least rank that it reaches. Where an edge
+//! leads to a rank with another least rank, nobody who reaches that edge is in a heart; the second search finds
+//! these strays. A rank that is its own least one and no stray is in a heart, which is all that it reaches: the
+//! third search.
+//!
+//! Cost: a condition is gone through once, where a list of ranks counts in each part that shares it; and each
+//! edge of the graph is gone through once in each search. Memory: 8 bytes for an edge, and no list of all ranks
+//! that a condition names.
+//!
+//! - [`graph`]: the edges, in both directions; [`search`]: from where a rank is reached
+//! - [`heart`]: the three searches, and the hearts; [`laws`]: that a rank has one heart at most
+//!
+//! No verb of the program prints hearts yet.
+#![tactic(auto)]
+
+mod graph;
+mod heart;
+mod laws;
+mod search;
+
+pub use heart::hearts;
+pub use laws::hearts_are_one;
