@@ -6,7 +6,7 @@ use Rattle.trace_stuck.specs.declared.condition.Condition.{Condition}
 use Rattle.trace_stuck.specs.declared.condition.Condition.TheViews as views
 use Rattle.trace_stuck.specs.Shape.{Wait, OnRank, waits_of, shape}
 use Rattle.trace_explain.specs.Waiting.{ranks_in, ranks_of}
-use Rattle.trace_explain.proofs.Shapes.{shape_OneRank}
+use Rattle.trace_explain.proofs.Shapes.{shape_OneRank, shape_AllRanks}
 
 of_ranks : (ranks : List ℕ) → ranks_of (waits_of (map OnRank ranks)) ≡ ranks
 of_ranks [] = refl
@@ -14,6 +14,9 @@ of_ranks (r ∷ ranks) = ap (λ (l : List ℕ). r ∷ l) (of_ranks ranks)
 
 pub named_OneRank : (ranks : Arc (Vec ℕ Global) Global) → ranks_in (shape (views.made-OneRank ranks)) ≡ ranks.value.items
 named_OneRank ranks = ap ranks_in (shape_OneRank ranks) ∙ of_ranks ranks.value.items
+
+pub named_AllRanks : (ranks : Arc (Vec ℕ Global) Global) → ranks_in (shape (views.made-AllRanks ranks)) ≡ ranks.value.items
+named_AllRanks ranks = ap ranks_in (shape_AllRanks ranks) ∙ of_ranks ranks.value.items
 
 pub map_push : {X Y : Type 0} (f : X → Y) (xs : List X) (x : X) → map f (xs ++ x ∷ []) ≡ map f xs ++ f x ∷ []
 map_push f [] x = refl

@@ -2,7 +2,7 @@
 use Rattle.std.proofs.Common.{Vec, Global, ◌≡◌, ℕ, map, sym, ◌∙◌, ap}
 use Rattle.std.specs.declared.sync.Arc.{Arc}
 use Rattle.trace_stuck.specs.declared.condition.Condition.{Condition}
-use Rattle.trace_stuck.specs.declared.condition.Condition.TheOpen.{Yes, Rank, All, One, OneRank}
+use Rattle.trace_stuck.specs.declared.condition.Condition.TheOpen.{Yes, Rank, All, One, OneRank, AllRanks}
 use Rattle.trace_stuck.specs.declared.condition.Condition.TheFolds.{fold-roll-Condition}
 use Rattle.trace_stuck.specs.declared.condition.Condition.TheViews as views
 use Rattle.trace_stuck.specs.Shape.{Wait, OnNothing, OnRank, OnAll, OnOne, waits_of, shape_step, shape}
@@ -21,3 +21,6 @@ shape_One parts = ap shape (sym (views.rolls-One parts)) ∙ fold-roll-Condition
 
 pub shape_OneRank : (ranks : Arc (Vec ℕ Global) Global) → shape (views.made-OneRank ranks) ≡ OnOne (waits_of (map OnRank ranks.value.items))
 shape_OneRank ranks = ap shape (sym (views.rolls-OneRank ranks)) ∙ fold-roll-Condition Wait shape_step (OneRank ranks)
+
+pub shape_AllRanks : (ranks : Arc (Vec ℕ Global) Global) → shape (views.made-AllRanks ranks) ≡ OnAll (waits_of (map OnRank ranks.value.items))
+shape_AllRanks ranks = ap shape (sym (views.rolls-AllRanks ranks)) ∙ fold-roll-Condition Wait shape_step (AllRanks ranks)

@@ -147,6 +147,7 @@ fn draw_condition(
         Condition::All(parts) => draw_parts(flags, waits, askers, r, parts),
         Condition::One(parts) => draw_parts(flags, waits, askers, r, parts),
         Condition::OneRank(ranks) => draw_all(flags, waits, askers, r, ranks),
+        Condition::AllRanks(ranks) => draw_all(flags, waits, askers, r, ranks),
     }
 }
 

@@ -5,7 +5,7 @@ use Rattle.trace_stuck.specs.Shape.{shape, waits_of}
 use Rattle.trace_explain.specs.Waiting.{ranks_in, ranks_of}
 use Rattle.trace_explain.specs.Search.{Draws}
 use Rattle.trace_explain.proofs.Shapes.{shape_Yes, shape_Rank, shape_All, shape_One}
-use Rattle.trace_explain.proofs.Named.{named_OneRank, parts_next}
+use Rattle.trace_explain.proofs.Named.{named_OneRank, named_AllRanks, parts_next}
 use Rattle.trace_explain.proofs.Drawn.{draws_both, draws_none}
 use Rattle.trace_explain.proofs.graph.+edges.Goals as goal
 
@@ -36,6 +36,13 @@ draw_condition-returns-in-OneRank t c =
     let b = ap (λ (x : Condition). ranks_in (shape x)) c.in-OneRank.is in
     let e : c.deref-in-OneRank-2.result.now ≡ ranks_in (shape c.args.condition.now) = cc (a, b, c.deref-in-OneRank.ensures, c.deref-in-OneRank-2.ensures.value) in
     subst (λ (l : List ℕ). OnOk c.draw_all.result (Draws c.args.flags.now c.args.r l c.args.waits.now c.args.askers.now c.draw_all.new.waits c.draw_all.new.askers)) e c.draw_all.ensures
+
+pub draw_condition-returns-in-AllRanks : goal.draw_condition-returns-in-AllRanks
+draw_condition-returns-in-AllRanks t c =
+    let a = named_AllRanks c.in-AllRanks.ranks in
+    let b = ap (λ (x : Condition). ranks_in (shape x)) c.in-AllRanks.is in
+    let e : c.deref-in-AllRanks-2.result.now ≡ ranks_in (shape c.args.condition.now) = cc (a, b, c.deref-in-AllRanks.ensures, c.deref-in-AllRanks-2.ensures.value) in
+    subst (λ (l : List ℕ). OnOk c.draw_all-in-AllRanks.result (Draws c.args.flags.now c.args.r l c.args.waits.now c.args.askers.now c.draw_all-in-AllRanks.new.waits c.draw_all-in-AllRanks.new.askers)) e c.draw_all-in-AllRanks.ensures
 
 pub draw_parts-loop-part-init : goal.draw_parts-loop-part-init
 draw_parts-loop-part-init t c = record {
