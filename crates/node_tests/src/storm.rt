@@ -164,12 +164,7 @@ fn mark<R: Abort>(rt: &R, marked: &mut Vec<bool>, number: usize) {
 }
 
 /// The next step, which the lists can do, once they have done it.
-fn next_step<R: Abort>(
-    rt: &R,
-    alloc: Global,
-    chance: &mut Chance,
-    lists: &mut Lists,
-) -> Step {
+fn next_step<R: Abort>(rt: &R, alloc: Global, chance: &mut Chance, lists: &mut Lists) -> Step {
     let node = chance.below(NODES);
     let word = chance.below(100);
     let inbox = lists.inboxes.get_mut(node).expect(rt, "a node");

@@ -281,17 +281,9 @@ fn a_run_begins_past_the_one_before(rt: HostRuntime) {
 }
 
 /// What reading answers where this part follows a contradiction at rank 1, place 3.
-fn second_part<R: Abort>(
-    rt: &R,
-    alloc: Global,
-    version: Version,
-    part: &[u8],
-) -> &'static str {
+fn second_part<R: Abort>(rt: &R, alloc: Global, version: Version, part: &[u8]) -> &'static str {
     let (head, first): (&[u8], &[u8]) = match version {
-        Version::One => (
-            b"MPTX\0\x01",
-            b"\0\0\0\x02\0\0\0\x01\0\0\0\0\0\0\0\x03\x01",
-        ),
+        Version::One => (b"MPTX\0\x01", b"\0\0\0\x02\0\0\0\x01\0\0\0\0\0\0\0\x03\x01"),
         Version::Two => (
             b"MPTX\0\x02",
             b"\0\0\0\x02\0\0\0\x01\0\0\0\0\0\0\0\x03\0\0\0\x01\x01",

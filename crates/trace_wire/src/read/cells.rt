@@ -112,7 +112,11 @@ fn put_cell<'a>(
 
 /// So many cells, put into knowledge as they are read.
 #[tactic(auto, using(crate::proofs::PartLoop::ends))]
-pub(crate) fn cells_of(alloc: Global, count: u32, bytes: &[u8]) -> Result<(Knowledge, &[u8]), WireFault>
+pub(crate) fn cells_of(
+    alloc: Global,
+    count: u32,
+    bytes: &[u8],
+) -> Result<(Knowledge, &[u8]), WireFault>
     ensures value { Gives (λ x. (entries x.0, x.1.now)) result (parts_at cell count None bytes.now) }
     ensures cause { IfErr result IsOfBytes }
 {

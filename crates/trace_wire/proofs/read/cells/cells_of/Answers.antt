@@ -12,7 +12,7 @@ loop-init c =
     let zero : c.args.count - 0 ≡ c.args.count = omega arith in
     record {
       so_far = ap (λ (n : ℕ). cells_after (entries c.new-knowledge.result) (cells_at cell alone n None c.args.bytes.now)) zero ∙ starts (entries c.new-knowledge.result) (cells_at cell alone c.args.count None c.args.bytes.now) none
-      ∙ as_cells (parts_at cell c.args.count None c.args.bytes.now);
+          ∙ as_cells (parts_at cell c.args.count None c.args.bytes.now);
       up_to = subst (λ (es : List Entry). AllUpTo None es) (sym none) tt;
     }
 

@@ -28,7 +28,7 @@ loop-preserved c =
     let next = goes_on run run_cells (entries c.loop.knowledge) c.args.count c.loop.counter c.loop.last c.loop.rest.now r c.in-Ok.found.1.now (cells_at run run_cells c.args.count None c.args.bytes.now) c.loop-test.true c.in-Ok.ensures.ok.1 c.loop.invariant.so_far in
     record {
       so_far = subst (λ (es : List Entry). cells_after es (cells_at run run_cells (c.args.count - (c.loop.counter + 1)) (Some end) c.in-Ok.found.1.now) ≡ cells_at run run_cells c.args.count None c.args.bytes.now) (sym now)
-      (subst (λ (q : ℕ × ℕ). cells_after (entries c.loop.knowledge ++ run_cells r) (cells_at run run_cells (c.args.count - (c.loop.counter + 1)) (Some q) c.in-Ok.found.1.now) ≡ cells_at run run_cells c.args.count None c.args.bytes.now) (sym c.in-Ok.ensures.ok.3) next);
+          (subst (λ (q : ℕ × ℕ). cells_after (entries c.loop.knowledge ++ run_cells r) (cells_at run run_cells (c.args.count - (c.loop.counter + 1)) (Some q) c.in-Ok.found.1.now) ≡ cells_at run run_cells c.args.count None c.args.bytes.now) (sym c.in-Ok.ensures.ok.3) next);
       up_to = subst (λ (es : List Entry). AllUpTo (Some end) es) (sym now) (subst (λ (q : ℕ × ℕ). AllUpTo (Some q) (entries c.loop.knowledge ++ run_cells r)) (sym c.in-Ok.ensures.ok.3) (run_behind_all r.rank r.first r.cells (entries c.loop.knowledge) before));
     }
 

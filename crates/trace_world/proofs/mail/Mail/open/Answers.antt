@@ -1,4 +1,4 @@
-use Rattle.std.proofs.Common.{◌∙◌, sym, subst}
+use Rattle.std.proofs.Common.{◌∙◌, Some, sym, subst}
 use Rattle.std.specs.FinMap.{entries}
 use Rattle.trace_world.specs.Worlds.{IsFrame}
 use Rattle.trace_world.proofs.Mails.{one_mail, only_memory}
@@ -10,4 +10,4 @@ want_of_memory-requires c = only_memory c.frame_laws.ensures.refused _ _ (subst 
 pub returns-in-Ok : goal.returns-in-Ok
 returns-in-Ok c =
     let same = c.new-letter.ensures ∙ c.bytes.ensures in
-    (sym c.self.view_is ∙ sym same ∙ one_mail c.frame_laws.ensures.one _ _ (entries c.in-Ok.know) (subst IsFrame (sym same) c.self.invariant) c.in-Ok.ensures.ok, c.in-Ok.ensures.fits)
+    (sym c.self.view_is ∙ sym same ∙ one_mail c.frame_laws.ensures.one _ (Some c.read_frame.new.reader.bytes.now) (entries c.in-Ok.know) (subst IsFrame (sym same) c.self.invariant) c.in-Ok.ensures.ok, c.in-Ok.ensures.fits)
