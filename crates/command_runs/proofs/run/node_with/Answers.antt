@@ -19,4 +19,4 @@ returns-in-Ok-of-clause-ok g c =
     let known : IsKnown file c.in-Ok.manifest.pieces c.in-Ok-know_of.gathered.know = rw (c.manifest_at.ensures.same, c.pieces.ensures) at c.in-Ok-know_of.ensures.ok in
     let inside : All (IsInside file c.args.layout.now.ranks) c.in-Ok.manifest.pieces =
     rw (c.manifest_at.ensures.same, c.pieces.ensures) at c.in-Ok-know_of.ensures.inside in
-    (c.in-Ok.manifest, known.0, c.in-Ok.ensures.ok, known.1, inside, c.in-Ok-of.ensures.ok ∙ ap (λ (v : View). held c.args.layout.now v false) known.2)
+    (c.in-Ok.manifest, known.0, c.in-Ok.ensures.ok, known.1, inside, c.in-Ok-of.ensures.ok ∙ ap (λ (v : View). held c.args.layout.now v false) (c.in_ok-know.ensures ∙ known.2))
