@@ -5,23 +5,46 @@
 //! `crates/command_runs` has the rest.
 #![tactic(auto)]
 
-use command_runs::{
-    Disk, Ending, Terminal, Turn, ending_of, ending_of_cluster, ending_without_words,
-};
+use command_runs::{Disk, Terminal, Turn, ending_of, ending_of_cluster, ending_without_words};
 use mpi_model::Device;
-use std::alloc::{AllocError, Global};
-use std::env;
+use std::alloc::AllocError;
 use std::io::{self, IsTerminal};
-use std::net::{Net, TcpListener, TcpStream};
 use std::process::ExitCode;
-use std::rt::Runtime;
-use std::sync::Wait;
-use std::thread::Threads;
 
 fn main(rt: HostRuntime) -> ExitCode {
-    let is_terminal = rt.stderr().is_terminal();
+    let alloc = rt.alloc();
+    let ending = match std::env::args(&rt) {
+        Ok(args) => {
+            let words: Vec<String> = match args.collect(alloc) {
+                Ok(words) => words,
+                Err(_) => {
+                    let _ = eprint!(rt; "mpimatch: Memory\n");
+                    return ExitCode::from(1);
+                }
+            };
+            let mut texts = Vec::new(alloc);
+            for word in &words {
+                if let Err(_) = texts.push(word.as_str()) {
+                    let _ = eprint!(rt; "mpimatch: Memory\n");
+                    return ExitCode::from(1);
+                }
+            }
+            let mut files = Disk::new(&rt);
+            let mut watcher = Terminal::new(&rt, rt.stderr().is_terminal());
+            let mut out = Device::new(io::writer(&rt));
+            match ending_of(alloc, texts.as_slice(), &mut files, &mut watcher, &mut out) {
+                Ok(Turn::Ended(ending)) => Ok(ending),
+                Ok(Turn::Cluster { layout, manifest }) => {
+                    ending_of_cluster(&rt, alloc, layout, manifest, &mut files, &mut out)
+                }
+                Err(error) => Err(error),
+            }
+        }
+        Err(error) if error.kind() == io::ErrorKind::OutOfMemory => Err(AllocError),
+        Err(_) => ending_without_words(alloc),
+    };
     // (the status tells how the run ended, also where standard error takes no byte)
-    match ending(&rt, rt.alloc(), is_terminal) {
+    match ending {
         Ok(ending) => {
             let errors = ending.errors.as_str();
             let _ = eprint!(rt; "{errors}");
@@ -30,33 +53,6 @@ fn main(rt: HostRuntime) -> ExitCode {
         Err(_) => {
             let _ = eprint!(rt; "mpimatch: Memory\n");
             ExitCode::from(1)
-        }
-    }
-}
-
-/// Does what the words of the process ask for.
-fn ending<R: Runtime + Net<Listener = TcpListener, Stream = TcpStream> + Threads + Wait + Sync>(
-    rt: &R,
-    alloc: Global,
-    is_terminal: bool,
-) -> Result<Ending, AllocError> {
-    let args = match env::args(rt) {
-        Ok(args) => args,
-        Err(error) if error.kind() == io::ErrorKind::OutOfMemory => return Err(AllocError),
-        Err(_) => return ending_without_words(alloc),
-    };
-    let words: Vec<String<R::A>> = args.collect(alloc)?;
-    let mut texts = Vec::new(alloc);
-    for word in &words {
-        texts.push(word.as_str())?;
-    }
-    let mut files = Disk::new(rt);
-    let mut watcher = Terminal::new(rt, is_terminal);
-    let mut out = Device::new(io::writer(rt));
-    match ending_of(alloc, texts.as_slice(), &mut files, &mut watcher, &mut out)? {
-        Turn::Ended(ending) => Ok(ending),
-        Turn::Cluster { layout, manifest } => {
-            ending_of_cluster(rt, alloc, layout, manifest, &mut files, &mut out)
         }
     }
 }
