@@ -1,5 +1,6 @@
 #!/usr/bin/env python3
-"""Times libraries: libraries.py [--room FOLDER] WORKLOAD NUMBER.., and libraries.py [--room FOLDER] frames WORKLOAD NUMBER
+"""Times libraries: libraries.py [--room FOLDER] WORKLOAD NUMBER.., libraries.py [--room FOLDER] frames WORKLOAD NUMBER and
+libraries.py [--room FOLDER] names RANKS COMMS
 
 Workloads of the libraries between knowledge and the report:
 
@@ -15,8 +16,11 @@ Workloads of frames, each written into memory and read from it ten times:
     sends RANKS       32,768 calls of each rank that send, in cells of 55 and of 38 bytes
     list SOURCES      one call whose outcome tells so many sources, four bytes for each
 
-It copies the crates with what earlier checks kept in out/ to a room of its own, adds the sources of bench/waiting/ or
-bench/frames/ as a program, proves and builds that, and runs it: each line is a call, the processor time that it took, and the
+`names` makes a layout in which all ranks name COMMS communicators by one number, each in a call of its own, and asks ten
+million times which one a call names.
+
+It copies the crates with what earlier checks kept in out/ to a room of its own, adds the sources of bench/waiting/,
+bench/frames/ or bench/names/ as a program, proves and builds that, and runs it: each line is a call, the processor time that it took, and the
 length of its answer.
 """
 import argparse
@@ -30,6 +34,7 @@ TOP = pathlib.Path(__file__).resolve().parent.parent
 USES = {
     "waiting": ["mpi_model", "dumpi_calls", "trace_know", "trace_ops", "trace_pair", "trace_wait", "anyhow"],
     "frames": ["mpi_model", "trace_know", "trace_wire", "anyhow"],
+    "names": ["mpi_model", "anyhow"],
 }
 
 
@@ -39,7 +44,7 @@ def main():
     parser.add_argument("words", nargs="+")
     arguments = parser.parse_args()
     room, words = pathlib.Path(arguments.room), arguments.words
-    folder, words = ("frames", words[1:]) if words[0] == "frames" else ("waiting", words)
+    folder, words = (words[0], words[1:]) if words[0] in ("frames", "names") else ("waiting", words)
     program_name = f"{folder}_bench"
     lines = [line for line in (TOP / "crates.txt").read_text().split("\n") if line and not line.startswith("#")]
     uses = {line.split(":")[0]: line.split(":")[1].split() for line in lines}

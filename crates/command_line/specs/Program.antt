@@ -3,13 +3,14 @@ use Rattle.std.specs.Prelude.{◌≡◌, ℕ, List, [], Option, Some, None, if�
 use Rattle.std.specs.Str.{bytes_eq}
 use Rattle.clap.specs.Words.{App, IsAmong, Row, Rule, Text, fault_of, first_of, kind_of, new_app, new_rule, subcommand_of, with_rule, with_subcommand}
 use Rattle.clap.specs.Simple.{on_top}
+use Rattle.clap.specs.declared.builder.action.ArgAction.TheVariants.{SetTrue}
 use Rattle.clap.specs.declared.error.kind.ErrorKind.{ErrorKind}
 use Rattle.clap.specs.declared.error.kind.ErrorKind.TheVariants as kinds
 use Rattle.command_line.specs.declared.Asked.{Asked}
 use Rattle.command_line.specs.declared.CommandFault.{CommandFault}
 use Rattle.command_line.specs.declared.CommandFault.TheVariants.{Memory, Shown, Unread}
 use Rattle.command_line.specs.declared.Verb.{Verb}
-use Rattle.command_line.specs.declared.Verb.TheVariants.{Report, Replay, Cluster, Check}
+use Rattle.command_line.specs.declared.Verb.TheVariants.{Explain, Report, ReportJson, Replay, Cluster, Check}
 
 -- a file that has to be named
 abbrev pub file_rule : Text → Rule
@@ -19,6 +20,16 @@ file_rule id = record (new_rule id) { required = true }
 abbrev pub verb_app : Text → App
 verb_app name = with_rule (with_rule (new_app name) (file_rule (codes "LAYOUT"))) (file_rule (codes "MANIFEST"))
 
+-- the flag for a report as JSON
+abbrev pub json_rule : Rule
+json_rule = record (new_rule (codes "json")) { long = Some (codes "json"); action = Some SetTrue }
+
+abbrev pub report_app : App
+report_app = with_rule (verb_app (codes "report")) json_rule
+
+abbrev pub with_report : App → App
+with_report app = with_subcommand app report_app.top
+
 abbrev pub with_verb : App → Text → App
 with_verb app name = with_subcommand app (verb_app name).top
 
@@ -27,10 +38,11 @@ abbrev pub bare : App
 bare = on_top (λ s. record s { has_version = true; subcommand_required = true }) (new_app (codes "mpimatch"))
 
 abbrev pub program : App
-program = with_verb (with_verb (with_verb (with_verb bare (codes "report")) (codes "replay")) (codes "cluster")) (codes "check")
+program = with_verb (with_verb (with_verb (with_report (with_verb bare (codes "explain"))) (codes "replay")) (codes "cluster")) (codes "check")
 
 abbrev pub verb_named : Text → Option Verb
-verb_named name = if bytes_eq name (codes "report") then Some Report
+verb_named name = if bytes_eq name (codes "explain") then Some Explain
+    else if bytes_eq name (codes "report") then Some Report
     else if bytes_eq name (codes "replay") then Some Replay
     else if bytes_eq name (codes "cluster") then Some Cluster
     else if bytes_eq name (codes "check") then Some Check else None
@@ -44,17 +56,26 @@ pub record Request : Type 0 where
 abbrev pub request_of : Asked → Request
 request_of a = record { verb = a.verb; layout = a.layout.now; manifest = a.manifest.now }
 
--- a verb with both of its files
-abbrev pub together : Option Verb → Option Text → Option Text → Option Request
-together None layout manifest = None
-together (Some verb) None manifest = None
-together (Some verb) (Some layout) None = None
-together (Some verb) (Some layout) (Some manifest) = Some (record { verb = verb; layout = layout; manifest = manifest })
+-- a report, as JSON where the value of the flag says so
+abbrev pub report_in : Text → Verb
+report_in flag = if bytes_eq flag (codes "true") then ReportJson else Report
+
+-- a verb with the flag for JSON, where it has one
+abbrev pub in_form : Verb → Option Text → Verb
+in_form Report (Some flag) = report_in flag
+in_form verb json = verb
+
+-- a verb with both of its files, and the flag for JSON
+abbrev pub together : Option Verb → Option Text → Option Text → Option Text → Option Request
+together None layout manifest json = None
+together (Some verb) None manifest json = None
+together (Some verb) (Some layout) None json = None
+together (Some verb) (Some layout) (Some manifest) json = Some (record { verb = in_form verb json; layout = layout; manifest = manifest })
 
 -- what the subcommand that was met asks for, with its values
 abbrev pub request_in : Option (Text × List Row) → Option Request
 request_in None = None
-request_in (Some met) = together (verb_named met.0) (first_of (codes "LAYOUT") met.1) (first_of (codes "MANIFEST") met.1)
+request_in (Some met) = together (verb_named met.0) (first_of (codes "LAYOUT") met.1) (first_of (codes "MANIFEST") met.1) (first_of (codes "json") met.1)
 
 -- Why the words ask for nothing. An error that is shown has one of the kinds that clap gives for
 -- them.

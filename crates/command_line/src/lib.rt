@@ -11,18 +11,22 @@
 ghost use Rattle.std.specs.Prelude.{◌≡◌, [], IfErr, IfOk, OnOk, Some, codes, false, map, option_map};
 ghost use Rattle.clap.specs.Words.{app_of, fault_of, rule_of, subcommand_of, subcommand_rows_of};
 ghost use Rattle.clap.specs.declared.builder.command.Command.TheViews.{out-Command};
-ghost use Rattle.command_line.specs.Program.{Refuses, bare, file_rule, program, request_in, request_of, shown_status_of, verb_app, verb_named, with_verb as and_verb};
+ghost use Rattle.command_line.specs.Program.{Refuses, bare, file_rule, in_form, json_rule, program, report_app, report_in, request_in, request_of, shown_status_of, verb_app, verb_named, with_report as and_report, with_verb as and_verb};
 
 use clap::error::ErrorKind;
-use clap::{Arg, ArgMatches, Command};
+use clap::{Arg, ArgAction, ArgMatches, Command};
 use std::alloc::{AllocError, Global};
 use thiserror::Error;
 
 /// What the program is asked to do.
 #[derive(Clone, Copy, Debug, PartialEq, Eq)]
 pub enum Verb {
+    /// Say in words who is stuck, which of them hold up all others, and what makes the answer doubtful.
+    Explain,
     /// Print the report of a trace.
     Report,
+    /// Print the report as one JSON object.
+    ReportJson,
     /// Run a schedule of posts, takes, shipments, deliveries and restarts, and print the report of
     /// each node.
     Replay,
@@ -100,6 +104,16 @@ pub fn command_of<'a>(alloc: Global, words: &'a [&'a str]) -> Result<Asked<'a>, 
     }
 }
 
+// What the help of `explain` says below its arguments.
+const EXPLAIN_HELP: &str = r#"Example: mpimatch explain layout.json manifest.json
+
+It says how the run stands, and then of each stuck rank in which call it stands and whom it waits for:
+first of those that hold up one another, the hearts of the deadlocks, and then of those that only wait
+for them. Ranks that stand alike share a line. Below that it says what would be stuck if sends completed
+in the other way, which pieces disagree, where something is missing, and what else makes the answer
+doubtful. mpimatch report has all facts, one a line.
+"#;
+
 // What the help of `report` says below its arguments.
 const REPORT_HELP: &str =
     r#"It joins the pieces of the trace, in whatever order they come, and prints:
@@ -112,6 +126,8 @@ const REPORT_HELP: &str =
   stuck R call CALL since SECONDS waits WHOM
                                rank R can't go on: it needs this rank, all(..) of these, any(..) of these
   foreign N                    calls on a communicator, or of a rank, that the layout doesn't have
+With --json it prints the same as one JSON object, on one line:
+  mpimatch report --json layout.json manifest.json | jq .stuck
 Call n of a rank has the places 2n, where it was entered, and 2n + 1, where it returned.
 "#;
 
@@ -165,12 +181,17 @@ Each piece costs a pass over all calls of its rank, so a rank in many pieces tak
 "#;
 
 // What the help says below the verbs.
-const MORE_HELP: &str = r#"Example: mpimatch report layout.json manifest.json
+const MORE_HELP: &str =
+    r#"To see what is wrong: explain. All facts: report. A check of the answer: check.
+Nodes that exchange what they know: replay, cluster.
+
+Example: mpimatch explain layout.json manifest.json
 
 LAYOUT has the ranks and communicators of the run, in one JSON text:
   {"ranks":2,"world":2,"sends":"wait","comms":[{"id":2,"members":[0,1]}]}
 world is the id of MPI_COMM_WORLD; sends is wait where a send of standard mode waits for its
-receive, and buffer where it does not.
+receive, and buffer where it does not. A communicator may also have "numbers", by which the calls
+of each member name it, where that isn't its id: docs/formats.md says how.
 
 MANIFEST has the text files of the trace, each with its rank and the number of its first call:
   {"pieces":[{"rank":0,"first":0,"file":"r0.txt"},{"rank":1,"first":0,"file":"r1.txt"}]}
@@ -194,10 +215,11 @@ fn program_command<'a>(alloc: Global) -> Result<Command<'a>, AllocError>
     let command = with_verb(
         bare_command(alloc),
         alloc,
-        "report",
-        "Prints who received what from whom, and which ranks are stuck",
-        REPORT_HELP,
+        "explain",
+        "Says in words who is stuck, and which ranks hold up all others",
+        EXPLAIN_HELP,
     )?;
+    let command = with_report(command, alloc)?;
     let command = with_verb(
         command,
         alloc,
@@ -246,6 +268,37 @@ fn with_verb<'a>(
     command.subcommand(verb)
 }
 
+/// Adds `report`, which has a flag.
+fn with_report<'a>(command: Command<'a>, alloc: Global) -> Result<Command<'a>, AllocError>
+    ensures { IfOk result (λ c. app_of c ≡ and_report (app_of command.entry)) }
+{
+    let report = report_command(alloc)?;
+    command.subcommand(report)
+}
+
+fn report_command<'a>(alloc: Global) -> Result<Command<'a>, AllocError>
+    ensures shape { IfOk result (λ c. app_of c ≡ report_app) }
+    ensures local { IfOk result (λ c. (out-Command c).has_globals ≡ false) }
+{
+    let bare = verb_command(
+        alloc,
+        "report",
+        "Prints who received what from whom, and which ranks are stuck",
+        REPORT_HELP,
+    )?;
+    bare.arg(json_argument(alloc))
+}
+
+fn json_argument<'a>(alloc: Global) -> Arg<'a>
+    ensures rule { rule_of result ≡ json_rule }
+    ensures local { result.global ≡ false }
+{
+    Arg::new(alloc, "json")
+        .long("json")
+        .help("Prints the report as one JSON object")
+        .action(ArgAction::SetTrue)
+}
+
 fn verb_command<'a>(
     alloc: Global,
     name: &'a str,
@@ -282,7 +335,9 @@ fn file_argument<'a>(alloc: Global, name: &'a str, help: &'a str) -> Arg<'a>
 fn verb_of(name: &str) -> Option<Verb>
     ensures { result ≡ verb_named name.now }
 {
-    if name == "report" {
+    if name == "explain" {
+        Some(Verb::Explain)
+    } else if name == "report" {
         Some(Verb::Report)
     } else if name == "replay" {
         Some(Verb::Replay)
@@ -295,6 +350,26 @@ fn verb_of(name: &str) -> Option<Verb>
     }
 }
 
+/// The verb, where its flag is set or not.
+fn in_form(verb: Verb, json: Option<&str>) -> Verb
+    ensures { result ≡ in_form verb (option_map (λ t. t.now) json.entry) }
+{
+    match (verb, json) {
+        (Verb::Report, Some(text)) => report_in(text),
+        (verb, _) => verb,
+    }
+}
+
+fn report_in(flag: &str) -> Verb
+    ensures { result ≡ report_in flag.now }
+{
+    if flag == "true" {
+        Verb::ReportJson
+    } else {
+        Verb::Report
+    }
+}
+
 fn asked_in<'a>(matches: &ArgMatches<'a>) -> Option<Asked<'a>>
     ensures { option_map request_of result ≡ request_in (subcommand_rows_of matches.now) }
 {
@@ -302,8 +377,9 @@ fn asked_in<'a>(matches: &ArgMatches<'a>) -> Option<Asked<'a>>
     let verb = verb_of(name)?;
     let layout = inner.get_str("LAYOUT")?;
     let manifest = inner.get_str("MANIFEST")?;
+    let json = inner.get_str("json");
     Some(Asked {
-        verb,
+        verb: in_form(verb, json),
         layout,
         manifest,
     })

@@ -1,5 +1,5 @@
 -- The lines of a checker are those of the run.
-use Rattle.std.proofs.Common.{◌≡◌, ℕ, List, Option, subst}
+use Rattle.std.proofs.Common.{ℕ, List, Option, subst}
 use Rattle.mpi_model.specs.Layouts.{Parts}
 use Rattle.trace_check.specs.Checker as checker
 use Rattle.trace_check.specs.Checker.{Held}

@@ -13,3 +13,6 @@ pub mod OwnPieces
 pub mod Places
 pub mod Stops
 pub mod Checks
+pub mod OneByOne
+pub mod Unread
+pub mod Explaining

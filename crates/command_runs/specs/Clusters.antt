@@ -1,6 +1,7 @@
 -- What a cluster of two nodes prints, and why it is refused.
-use Rattle.std.specs.Prelude.{◌≡◌, ◌≢◌, ◌≤◌, ◌⊎◌, ◌++◌, ℕ, List, [], Option, Some, codes, Contains, ⊤}
+use Rattle.std.specs.Prelude.{◌≡◌, ◌≢◌, ◌≤◌, ◌⊎◌, ◌++◌, ℕ, List, [], Option, Some, String, codes, string_bytes, Contains, ⊤}
 use Rattle.std.specs.List.{All, slice_get}
+use Rattle.std.specs.declared.alloc.Global.{Global}
 use Rattle.mpi_model.specs.Layouts.{Parts}
 use Rattle.trace_know.specs.Trace.{Trace, view_of}
 use Rattle.trace_know.specs.View.{View, IsBelow}
@@ -22,6 +23,7 @@ use Rattle.trace_cluster.specs.declared.fault.ClusterFault.{ClusterFault}
 use Rattle.trace_cluster.specs.declared.fault.ClusterFault.TheVariants as clusters
 use Rattle.input_files.specs.Layouts.{RefusesLayout}
 use Rattle.input_files.specs.Manifests.{ManifestParts, PieceParts, RefusesManifest}
+use Rattle.command_runs.specs.Files.{IsUnreadable}
 use Rattle.command_runs.specs.Inputs.{RefusesInput, TellsLayout, TellsManifest}
 use Rattle.command_runs.specs.Pieces.{IsNamed, IsWalkFault, TellsFacts}
 use Rattle.command_runs.specs.Refusals.{RefusesFirst}
@@ -30,6 +32,7 @@ use Rattle.command_runs.specs.Texts.{RefusesBytes, share_of, side_of}
 use Rattle.command_runs.specs.Traces.{IsInside, IsKnown}
 use Rattle.command_runs.specs.declared.fault.RunFault.{RunFault}
 use Rattle.command_runs.specs.declared.fault.RunFault.TheVariants as faults
+use Rattle.command_runs.specs.declared.whole.TheConstants.{LONGEST_FILE, LONGEST_PIECE}
 
 -- ---- nodes
 
@@ -110,13 +113,19 @@ RefusesCrews file ranks pieces _ = ⊥
 abbrev pub RefusesClusterNodes : (List ℕ → Option (List ℕ)) → Parts → List ℕ → RunFault → Type 0
 RefusesClusterNodes file l manifest fault = (fault ≡ faults.Memory)
     ⊎ (RefusesInput RefusesManifest manifest (file manifest) fault
-    ⊎ ((m : ManifestParts) × TellsManifest (file manifest) m × (RefusesBytes m.pieces fault ⊎ RefusesCrews file l.ranks (by_node m.pieces) fault)))
+    ⊎ ((m : ManifestParts) × TellsManifest (file manifest) m × (RefusesBytes file m.pieces fault ⊎ RefusesCrews file l.ranks (by_node m.pieces) fault)))
 
 -- Why there is no cluster: the layout is refused, or what comes after it.
 abbrev pub RefusesCluster : (List ℕ → Option (List ℕ)) → List ℕ → List ℕ → RunFault → Type 0
 RefusesCluster file layout manifest fault = (fault ≡ faults.Memory)
     ⊎ (RefusesInput RefusesLayout layout (file layout) fault
     ⊎ ((l : Parts) × TellsLayout (file layout) l × RefusesClusterNodes file l manifest fault))
+
+-- A fault that says of a file that it can't be read says it of one that can't: one of these names, or a piece, which may be
+-- longer.
+abbrev pub NamesUnreadAmong : List (List ℕ) → Type 0 → (List ℕ → Option (List ℕ)) → RunFault → Type 0
+NamesUnreadAmong names fails file fault = (path : String Global) → fault ≡ faults.File path
+    → (Contains names (string_bytes path) × IsUnreadable LONGEST_FILE fails (file (string_bytes path))) ⊎ IsUnreadable LONGEST_PIECE fails (file (string_bytes path))
 
 -- ---- faults of a cluster as faults of a run
 

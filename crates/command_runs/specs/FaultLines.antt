@@ -12,6 +12,7 @@ use Rattle.trace_wire.specs.declared.fault.WireFault.{WireFault}
 use Rattle.trace_wire.specs.declared.fault.WireFault.TheVariants as wires
 use Rattle.trace_world.specs.declared.step.WorldFault.{WorldFault}
 use Rattle.trace_world.specs.declared.step.WorldFault.TheVariants as worlds
+use Rattle.command_runs.specs.FileNames.{shown_name}
 use Rattle.command_runs.specs.declared.fault.RunFault.{RunFault}
 use Rattle.command_runs.specs.declared.fault.RunFault.TheVariants.{Memory, File, Json, Shape, Piece, Layout, Text, Missing, Wrong, Place, Rank, Outside, NodeCount, Step, Worker, Net, Frame, Write}
 
@@ -23,6 +24,7 @@ layout_fault_name layouts.EmptyComm = codes "L4 EmptyComm"
 layout_fault_name layouts.MemberRange = codes "L5 MemberRange"
 layout_fault_name layouts.DoubleMember = codes "L6 DoubleMember"
 layout_fault_name layouts.World = codes "L7 World"
+layout_fault_name layouts.Numbers = codes "L8 Numbers"
 layout_fault_name layouts.Memory = codes "Memory"
 
 abbrev pub line_fault_name : LineFault → List ℕ
@@ -63,22 +65,26 @@ wire_fault_name wires.Order = codes "W6 Order"
 wire_fault_name wires.Content = codes "W7 Content"
 wire_fault_name wires.Rest = codes "W8 Rest"
 
+-- a file's name, as it stands in a line
+abbrev pub shown_path : String Global → List ℕ
+shown_path path = shown_name (string_bytes path)
+
 -- a line of a file
 abbrev pub at_line : String Global → ℕ → List ℕ
-at_line path line = codes " at " ++ string_bytes path ++ codes ":" ++ decimal line
+at_line path line = codes " at " ++ shown_path path ++ codes ":" ++ decimal line
 
 abbrev pub fault_text : RunFault → List ℕ
 fault_text Memory = codes "Memory"
-fault_text (File path) = codes "M1 File " ++ string_bytes path
-fault_text (Json path) = codes "M2 Json in " ++ string_bytes path
-fault_text (Shape path) = codes "M3 Shape in " ++ string_bytes path
-fault_text (Piece path) = codes "M4 Piece in " ++ string_bytes path
-fault_text (Layout fault path) = layout_fault_name fault ++ codes " in " ++ string_bytes path
+fault_text (File path) = codes "M1 File " ++ shown_path path
+fault_text (Json path) = codes "M2 Json in " ++ shown_path path
+fault_text (Shape path) = codes "M3 Shape in " ++ shown_path path
+fault_text (Piece path) = codes "M4 Piece in " ++ shown_path path
+fault_text (Layout fault path) = layout_fault_name fault ++ codes " in " ++ shown_path path
 fault_text (Text cause path line) = cause_name cause ++ at_line path line
 fault_text (Missing parameter path line) = codes "C1 Missing " ++ name_of parameter ++ at_line path line
 fault_text (Wrong parameter path line) = codes "C2 Wrong " ++ name_of parameter ++ at_line path line
-fault_text (Place path) = codes "S3 Place in " ++ string_bytes path
-fault_text (Rank path) = codes "N1 Rank in " ++ string_bytes path
+fault_text (Place path) = codes "S3 Place in " ++ shown_path path
+fault_text (Rank path) = codes "N1 Rank in " ++ shown_path path
 fault_text Outside = codes "N1 Rank"
 fault_text NodeCount = codes "V7 NodeCount"
 fault_text (Step fault step) = world_fault_name fault ++ codes " at step " ++ decimal step

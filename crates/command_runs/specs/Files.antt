@@ -1,5 +1,5 @@
 -- The files of a run.
-use Rattle.std.specs.Prelude.{◌≡◌, ◌<◌, ◌⊎◌, ℕ, List, Option, Some, None, String, length, string_bytes}
+use Rattle.std.specs.Prelude.{◌≡◌, ◌<◌, ◌≤◌, ◌⊎◌, ℕ, List, Option, Some, None, String, length, string_bytes}
 use Rattle.std.specs.declared.alloc.Global.{Global}
 use Rattle.dumpi_text.specs.declared.fault.TextCause.TheVariants.{Read}
 use Rattle.command_runs.specs.declared.fault.RunFault.{RunFault}
@@ -14,6 +14,11 @@ StandsAtFirst (Some bytes) left = left ≡ Some bytes
 abbrev pub IsFile : Option (List ℕ) → List ℕ → Type 0
 IsFile None bytes = Unit {0}
 IsFile (Some told) bytes = told ≡ bytes
+
+-- A file of at most so many bytes, where they are told.
+abbrev pub FitsIn : ℕ → Option (List ℕ) → Type 0
+FitsIn most None = Unit {0}
+FitsIn most (Some bytes) = length bytes ≤ most
 
 -- Why a file that may have so many bytes can't be read: nothing tells its bytes, as where it is absent; or its reader fails; or it has more.
 abbrev pub IsUnreadable : ℕ → Type 0 → Option (List ℕ) → Type 0

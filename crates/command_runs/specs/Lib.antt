@@ -1,7 +1,9 @@
 pub mod Checks
+pub mod Explains
 pub mod Clusters
 pub mod Endings
 pub mod FaultLines
+pub mod FileNames
 pub mod Files
 pub mod Inputs
 pub mod Nodes

@@ -4,6 +4,7 @@ use Rattle.std.specs.List.{All}
 use Rattle.mpi_model.specs.Layouts.{Parts}
 use Rattle.trace_know.specs.Trace.{Trace, view_of}
 use Rattle.trace_node.specs.Answer.{Answered, IsAnswer}
+use Rattle.trace_report.specs.Json.{json_text}
 use Rattle.trace_report.specs.Report.{report_text}
 use Rattle.input_files.specs.Manifests.{ManifestParts}
 use Rattle.command_runs.specs.Inputs.{TellsLayout, TellsManifest}
@@ -15,3 +16,9 @@ abbrev pub IsReportOf : (List ℕ → Option (List ℕ)) → List ℕ → List �
 IsReportOf file layout manifest text = (l : Parts) × (m : ManifestParts) × (trace : Trace) × (answer : Answered)
     × TellsLayout (file layout) l × TellsManifest (file manifest) m × TellTrace file m.pieces trace × All (IsInside file l.ranks) m.pieces
     × IsAnswer l (view_of trace) answer × (text ≡ report_text answer)
+
+-- The same report, as JSON.
+abbrev pub IsJsonOf : (List ℕ → Option (List ℕ)) → List ℕ → List ℕ → List ℕ → Type 0
+IsJsonOf file layout manifest text = (l : Parts) × (m : ManifestParts) × (trace : Trace) × (answer : Answered)
+    × TellsLayout (file layout) l × TellsManifest (file manifest) m × TellTrace file m.pieces trace × All (IsInside file l.ranks) m.pieces
+    × IsAnswer l (view_of trace) answer × (text ≡ json_text answer)

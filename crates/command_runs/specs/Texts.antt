@@ -1,6 +1,6 @@
 -- The texts of pieces, by the node and the worker that they name.
 use Rattle.std.specs.Prelude.{◌≡◌, ◌⊎◌, ◌&&◌, ◌==◌, ℕ, Bool, true, false, List, [], ◌∷◌, Option, if◌then◌else◌}
-use Rattle.std.specs.List.{filter}
+use Rattle.std.specs.List.{All, filter}
 use Rattle.trace_cluster.specs.declared.side.Side.{Side}
 use Rattle.trace_cluster.specs.declared.side.Side.TheVariants as sides
 use Rattle.trace_crew.specs.declared.inbox.item.Worker.{Worker}
@@ -8,12 +8,13 @@ use Rattle.trace_crew.specs.declared.inbox.item.Worker.TheVariants as workers
 use Rattle.trace_crew.specs.declared.piece.Piece.{Piece}
 use Rattle.trace_crew.specs.Views.{is_from}
 use Rattle.input_files.specs.Manifests.{PieceParts}
-use Rattle.command_runs.specs.Files.{IsFile}
+use Rattle.command_runs.specs.Files.{FitsIn, IsFile}
 use Rattle.command_runs.specs.Inputs.{RefusesFile}
 use Rattle.command_runs.specs.Traces.{Begin}
 use Rattle.command_runs.specs.declared.fault.RunFault.{RunFault}
 use Rattle.command_runs.specs.declared.fault.RunFault.TheVariants.{Memory}
 use Rattle.command_runs.specs.declared.texts.AllTexts.{AllTexts}
+use Rattle.command_runs.specs.declared.whole.TheConstants.{LONGEST_PIECE}
 
 -- the node of a number, and the worker: 0 is the first
 abbrev pub side_of : ℕ → Side
@@ -58,6 +59,11 @@ AreTextsOf file (piece ∷ pieces) texts = (text : Piece) × (rest : List Piece)
 abbrev pub AreShares : (List ℕ → Option (List ℕ)) → List PieceParts → AllTexts → Type 0
 AreShares file pieces texts = (node : Side) (worker : Worker) → AreTextsOf file (share_of node worker pieces) (share_in texts node worker)
 
--- The file of a piece can't be read whole.
-abbrev pub RefusesBytes : List PieceParts → RunFault → Type 0
-RefusesBytes pieces fault = (fault ≡ Memory) ⊎ ((front : List PieceParts) × (piece : PieceParts) × Begin front piece pieces × RefusesFile piece.file fault)
+-- The file of a piece was read whole: it is no longer than a piece's may be, where its bytes are told.
+abbrev pub WasRead : (List ℕ → Option (List ℕ)) → PieceParts → Type 0
+WasRead file piece = FitsIn LONGEST_PIECE (file piece.file)
+
+-- The file of a piece can't be read whole, and those of all pieces before it were.
+abbrev pub RefusesBytes : (List ℕ → Option (List ℕ)) → List PieceParts → RunFault → Type 0
+RefusesBytes file pieces fault = (fault ≡ Memory)
+    ⊎ ((front : List PieceParts) × (piece : PieceParts) × Begin front piece pieces × All (WasRead file) front × RefusesFile piece.file fault)

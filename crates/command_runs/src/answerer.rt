@@ -1,9 +1,10 @@
 //! A node as those know it who write what it tells.
 
-ghost use Rattle.std.specs.Prelude.{◌↔◌, IsTrue, IfOk, IsErr};
+ghost use Rattle.std.specs.Prelude.{◌≡◌, ◌↔◌, IsTrue, IfOk, IsErr};
 ghost use Rattle.trace_node.specs.Answer.{IsAnswer};
-ghost use Rattle.trace_node.specs.Node.{Held};
+ghost use Rattle.trace_node.specs.Node.{Held, IsWithin};
 
+use trace_know::Knowledge;
 use trace_node::{Answer, Node, Stale};
 
 /// One who may have an answer. Whoever lets go of a node once its answer is written knows it by this
@@ -17,6 +18,14 @@ pub(crate) trait Answerer: Drop {
     fn told(&self) -> Result<&Answer, Stale>
         ensures ok { IfOk result (λ a. IsAnswer (held self.now).layout (held self.now).know a.now) }
         ensures stale { IsErr result ↔ IsTrue (held self.now).is_stale };
+
+    /// All that its node knows.
+    fn knowledge(&self) -> &Knowledge
+        ensures { result.now ≡ (held self.now).know };
+
+    /// Tells that its node knows of ranks of the layout alone. It does nothing: it is for proofs.
+    fn known(&self)
+        ensures { IsWithin (held self.now).layout (held self.now).know };
 }
 
 impl<'a> Answerer for Node<'a> {
@@ -24,5 +33,13 @@ impl<'a> Answerer for Node<'a> {
 
     fn told(&self) -> Result<&Answer, Stale> {
         self.answer()
+    }
+
+    fn knowledge(&self) -> &Knowledge {
+        self.know()
+    }
+
+    fn known(&self) {
+        Node::known(self)
     }
 }

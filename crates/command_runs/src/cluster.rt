@@ -1,11 +1,13 @@
 //! A cluster: two nodes of one run, each with the pieces that name it, which exchange what they know;
 //! and the reports of both.
 
-ghost use Rattle.std.specs.Prelude.{◌≡◌, ◌⊎◌, ◌==◌, ℕ, false, true, IfErr, IfOk, List, OnErr, OnOk, option_map};
+ghost use Rattle.std.specs.Prelude.{◌≡◌, ◌⊎◌, ◌==◌, ◌∷◌, [], ℕ, false, true, IfErr, IfOk, List, OnErr, OnOk, option_map};
 ghost use Rattle.std.specs.Io.KnownBytes.{Appends, Keeps};
 ghost use Rattle.mpi_model.specs.Failures.{HasFailed};
+ghost use Rattle.dumpi_text.specs.Failing.{Fails};
 ghost use Rattle.trace_crew.specs.Views.{is_from};
-ghost use Rattle.command_runs.specs.Clusters.{AreClusterNodes, IsBothText, IsClusterOf, IsEqualLine, IsFaultFor, IsTextFault, NamesOne, RefusesCluster, RefusesClusterNodes, SayBoth, of_exchange, of_node, of_wire, piece_at};
+ghost use Rattle.command_runs.specs.Clusters.{AreClusterNodes, IsBothText, IsClusterOf, IsEqualLine, IsFaultFor, IsTextFault, NamesOne, NamesUnreadAmong, RefusesCluster, RefusesClusterNodes, SayBoth, of_exchange, of_node, of_wire, piece_at};
+ghost use Rattle.command_runs.specs.Files.{NamesFailed};
 ghost use Rattle.command_runs.specs.Replays.{AppendsFront};
 ghost use Rattle.command_runs.specs.Texts.{is_share, is_side};
 ghost use Rattle.command_runs.specs.Verbs.{BreaksOff};
@@ -49,6 +51,8 @@ pub fn run_cluster<
     ensures output { OnOk result ((text : List ℕ) × IsClusterOf (O.file files.old) layout_name.now manifest_name.now text × Appends (W.written out.old) (W.written out.new) text) }
     ensures held { IfOk result (λ held. held ≡ true) }
     ensures refused { IfErr result (λ fault. (fault ≡ RunFault.Write) ⊎ RefusesCluster (O.file files.old) layout_name.now manifest_name.now fault) }
+    ensures unread { IfErr result (NamesUnreadAmong (layout_name.now ∷ manifest_name.now ∷ []) (Fails O.R.failures) (O.file files.old)) }
+    ensures failed { IfErr result (NamesFailed ⊥) }
     ensures nothing { IfErr result (λ fault. (fault ≡ RunFault.Write) ⊎ Keeps (W.written out.old) (W.written out.new)) }
     ensures broken_off { result ≡ Err RunFault.Write → BreaksOff (O.file files.old) Verb.Cluster layout_name.now manifest_name.now (W.written out.old) (W.written out.new) (W.failures out.old) (W.failures out.new) }
 {
@@ -81,6 +85,8 @@ fn nodes_with<
     ensures ok { IfOk result (λ nodes. AreClusterNodes (O.file files.old) layout.now manifest_name.now nodes.0 nodes.1) }
     ensures fresh { IfOk result (λ nodes. (nodes.0.is_stale ≡ false) × (nodes.1.is_stale ≡ false)) }
     ensures err { IfErr result (λ fault. RefusesClusterNodes (O.file files.old) layout.now manifest_name.now fault) }
+    ensures unread { IfErr result (NamesUnreadAmong (manifest_name.now ∷ []) (Fails O.R.failures) (O.file files.old)) }
+    ensures failed { IfErr result (NamesFailed ⊥) }
 {
     whole_segments();
     let manifest = match manifest_at(alloc, manifest_name, files) {

@@ -3,6 +3,7 @@
 ghost use Rattle.std.specs.Prelude.{◌≡◌, IfOk, string_bytes};
 ghost use Rattle.command_runs.specs.FaultLines.{cause_name, fault_line_of, layout_fault_name, line_fault_name, wire_fault_name, world_fault_name};
 
+use crate::file_name::FileName;
 use dumpi_calls::Parameter;
 use dumpi_text::{LineFault, TextCause};
 use mpi_model::LayoutFault;
@@ -118,17 +119,17 @@ impl fmt::Display for RunFault {
     fn fmt<W: fmt::Write>(&self, f: &mut fmt::Formatter<W>) -> fmt::Result {
         match self {
             RunFault::Memory => write!(f, "Memory"),
-            RunFault::File { path } => write!(f, "M1 File {path}"),
-            RunFault::Json { path } => write!(f, "M2 Json in {path}"),
-            RunFault::Shape { path } => write!(f, "M3 Shape in {path}"),
-            RunFault::Piece { path } => write!(f, "M4 Piece in {path}"),
+            RunFault::File { path } => write!(f, "M1 File {}", FileName::new(path)),
+            RunFault::Json { path } => write!(f, "M2 Json in {}", FileName::new(path)),
+            RunFault::Shape { path } => write!(f, "M3 Shape in {}", FileName::new(path)),
+            RunFault::Piece { path } => write!(f, "M4 Piece in {}", FileName::new(path)),
             RunFault::Layout { fault, path } => {
                 let name = name_of_layout(*fault);
-                write!(f, "{name} in {path}")
+                write!(f, "{name} in {}", FileName::new(path))
             }
             RunFault::Text { cause, path, line } => {
                 let name = name_of_cause(*cause);
-                write!(f, "{name} at {path}:{line}")
+                write!(f, "{name} at {}:{line}", FileName::new(path))
             }
             RunFault::Missing {
                 parameter,
@@ -136,7 +137,7 @@ impl fmt::Display for RunFault {
                 line,
             } => {
                 let name = parameter.name();
-                write!(f, "C1 Missing {name} at {path}:{line}")
+                write!(f, "C1 Missing {name} at {}:{line}", FileName::new(path))
             }
             RunFault::Wrong {
                 parameter,
@@ -144,10 +145,10 @@ impl fmt::Display for RunFault {
                 line,
             } => {
                 let name = parameter.name();
-                write!(f, "C2 Wrong {name} at {path}:{line}")
+                write!(f, "C2 Wrong {name} at {}:{line}", FileName::new(path))
             }
-            RunFault::Place { path } => write!(f, "S3 Place in {path}"),
-            RunFault::Rank { path } => write!(f, "N1 Rank in {path}"),
+            RunFault::Place { path } => write!(f, "S3 Place in {}", FileName::new(path)),
+            RunFault::Rank { path } => write!(f, "N1 Rank in {}", FileName::new(path)),
             RunFault::Outside => write!(f, "N1 Rank"),
             RunFault::NodeCount => write!(f, "V7 NodeCount"),
             RunFault::Step { fault, step } => {
@@ -176,6 +177,7 @@ fn name_of_layout(fault: LayoutFault) -> &'static str
         LayoutFault::MemberRange => "L5 MemberRange",
         LayoutFault::DoubleMember => "L6 DoubleMember",
         LayoutFault::World => "L7 World",
+        LayoutFault::Numbers => "L8 Numbers",
         LayoutFault::Memory => "Memory",
     }
 }

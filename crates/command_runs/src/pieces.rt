@@ -12,16 +12,17 @@ use crate::piece::segments_of;
 use crate::watch::{Watcher, announce};
 use dumpi_calls::whole_segments;
 use input_files::Piece;
-use std::alloc::Global;
+use std::alloc::{AllocError, Global};
 use trace_know::Segment;
+use trace_world::SharedSegment;
 
-/// The segments of each piece, in the order of the pieces.
+/// The segments of each piece, in the order of the pieces, for all steps that post them.
 pub fn segments_of_all<O: Opener, V: Watcher>(
     alloc: Global,
     pieces: &[Piece],
     files: &mut O,
     watcher: &mut V,
-) -> Result<Vec<Vec<Segment>>, RunFault>
+) -> Result<Vec<Vec<SharedSegment>>, RunFault>
     ensures ok { IfOk result (λ lists. TellSegments (O.file files.old) pieces.now (held_lists lists.items)) }
     ensures err { IfErr result (λ fault. (fault ≡ RunFault.Memory) ⊎ RefusesFirst (O.file files.old) pieces.now fault) }
     ensures failed { IfErr result (NamesFailed (Fails O.R.failures)) }
@@ -34,7 +35,18 @@ pub fn segments_of_all<O: Opener, V: Watcher>(
             Ok(segments) => segments,
             Err(fault) => return Err(fault),
         };
-        lists.push(segments)?;
+        lists.push(shared(alloc, segments)?)?;
     }
     Ok(lists)
+}
+
+// The same segments, to be shared.
+fn shared(alloc: Global, segments: Vec<Segment>) -> Result<Vec<SharedSegment>, AllocError>
+    ensures { IfOk result (λ list. list.items ≡ segments.items) }
+{
+    let mut list = Vec::new(alloc);
+    for segment in segments {
+        list.push(SharedSegment::new(alloc, segment)?)?;
+    }
+    Ok(list)
 }

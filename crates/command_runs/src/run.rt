@@ -16,9 +16,11 @@ ghost use Rattle.command_runs.specs.Refusals.{RefusesNode, RefusesRun};
 
 use crate::answerer::Answerer;
 use crate::check::check_with;
+use crate::explain::explain_with;
 use crate::fault::RunFault;
 use crate::gatherer::Gathered;
 use crate::input::{layout_at, manifest_at};
+use crate::json::json_with;
 use crate::knowing::know_of;
 use crate::opener::Opener;
 use crate::replay::replay_with;
@@ -52,7 +54,9 @@ pub fn run_with<O: Opener, V: Watcher, W: Write>(
     ensures broken_off { result ≡ Err RunFault.Write → BreaksOff (O.file files.old) verb layout.now manifest.now (W.written out.old) (W.written out.new) (W.failures out.old) (W.failures out.new) }
 {
     match verb {
+        Verb::Explain => explain_with(alloc, layout, manifest, files, watcher, out),
         Verb::Report => report_with(alloc, layout, manifest, files, watcher, out),
+        Verb::ReportJson => json_with(alloc, layout, manifest, files, watcher, out),
         Verb::Replay => replay_with(alloc, layout, manifest, files, watcher, out),
         Verb::Check => check_with(alloc, layout, manifest, files, watcher, out),
         Verb::Cluster => unreachable!(),
@@ -109,7 +113,7 @@ fn write_told<N: Answerer, W: Write>(node: N, out: &mut W) -> Result<(), Failed>
 
 // The node of the layout that knows all that the pieces of the manifest tell. They are gathered while
 // they are read, and the node takes that over once.
-fn node_with<'a, O: Opener, V: Watcher>(
+pub(crate) fn node_with<'a, O: Opener, V: Watcher>(
     alloc: Global,
     layout: &'a Layout,
     manifest_name: &str,

@@ -5,15 +5,13 @@ ghost use Rattle.command_runs.specs.Schedules.{held_lists, posts_of, steps_for, 
 
 use input_files::PlannedStep;
 use std::alloc::{AllocError, Global};
-use trace_know::Segment;
-use trace_world::Step;
+use trace_world::{SharedSegment, Step};
 
-/// The steps that a schedule stands for, over the segments of each piece. Each post has copies of
-/// its piece's segments.
+/// The steps that a schedule stands for, over the segments of each piece, which each post shares.
 pub fn world_steps(
     alloc: Global,
     schedule: &[PlannedStep],
-    lists: &[Vec<Segment>],
+    lists: &[Vec<SharedSegment>],
 ) -> Result<Vec<Step>, AllocError>
     ensures { IfOk result (λ steps. steps.items ≡ world_steps (held_lists lists.now) schedule.now) }
 {
@@ -27,7 +25,7 @@ pub fn world_steps(
 fn add_steps(
     steps: &mut Vec<Step>,
     planned: &PlannedStep,
-    lists: &[Vec<Segment>],
+    lists: &[Vec<SharedSegment>],
 ) -> Result<(), AllocError>
     ensures { OnOk result (steps.new.items ≡ steps.old.items ++ steps_for (held_lists lists.now) planned.now) }
 {
@@ -67,7 +65,7 @@ fn add_posts(
     steps: &mut Vec<Step>,
     worker: u8,
     node: usize,
-    segments: &[Segment],
+    segments: &[SharedSegment],
 ) -> Result<(), AllocError>
     ensures { OnOk result (steps.new.items ≡ steps.old.items ++ posts_of worker node segments.now) }
 {

@@ -1,5 +1,6 @@
 //! What a person at a terminal sees while a run reads.
 
+use crate::file_name::FileName;
 use crate::watch::Watcher;
 use dumpi_calls::Walked;
 use std::io::Eprint;
@@ -96,7 +97,10 @@ impl<'a, R: Eprint + Clock> Watcher for Terminal<'a, R> {
         self.pieces_read = self.pieces_read.saturating_add(1);
         if self.is_terminal && walked.calls == 0 && walked.skipped > 0 {
             let lines = walked.skipped;
-            let _ = eprint!(self.rt; "note: {path} has no call in its {lines} lines\n");
+            let _ = eprint!(self.rt;
+                "note: {} has no call in its {lines} lines\n",
+                FileName::new(path)
+            );
         }
         self.show();
     }

@@ -4,6 +4,9 @@ ghost use Rattle.std.specs.Prelude.{◌≡◌, ◌++◌, ◌∷◌, ◌&&◌, []
 ghost use Rattle.trace_cluster.specs.declared.side.Side.{Side as SideValue};
 ghost use Rattle.trace_crew.specs.Views.{is_from};
 ghost use Rattle.trace_crew.specs.declared.inbox.item.Worker.{Worker as WorkerValue};
+ghost use Rattle.dumpi_text.specs.Failing.{Fails};
+ghost use Rattle.command_runs.specs.Files.{NamesFailed, NamesUnreadable};
+ghost use Rattle.command_runs.specs.declared.whole.TheConstants.{LONGEST_PIECE};
 ghost use Rattle.command_runs.specs.Texts.{AreShares, RefusesBytes, is_side, share_in, side_of, worker_of};
 
 use crate::fault::RunFault;
@@ -81,7 +84,9 @@ pub fn texts_of_all<O: Opener>(
     files: &mut O,
 ) -> Result<AllTexts, RunFault>
     ensures ok { IfOk result (λ texts. AreShares (O.file files.old) pieces.now texts) }
-    ensures err { IfErr result (RefusesBytes pieces.now) }
+    ensures err { IfErr result (RefusesBytes (O.file files.old) pieces.now) }
+    ensures unread { IfErr result (λ fault. NamesUnreadable LONGEST_PIECE (Fails O.R.failures) (O.file files.old) fault) }
+    ensures failed { IfErr result (NamesFailed ⊥) }
 {
     let mut texts = AllTexts::new(alloc);
     for piece in pieces {

@@ -1,18 +1,19 @@
 -- One call more of a text that is walked: read whole, and handed on.
-use Rattle.std.proofs.Common.{◌≡◌, ◌+◌, ◌<◌, ◌≤◌, ◌++◌, ◌∷◌, [], ℕ, List, length, Bool, Option, Some, Result, Ok, IsOk, IsSome, None, false, subst, sym, ap, refl, inl, inr, ◌∙◌, arith}
+use Rattle.std.proofs.Common.{◌≡◌, ◌+◌, ◌++◌, ◌∷◌, [], ℕ, List, Bool, Option, Some, Result, IsOk, IsSome, None, false, subst, sym, ap, refl, inl, inr, ◌∙◌}
 use Rattle.dumpi_text.specs.Call.{TextCall}
 use Rattle.dumpi_text.specs.Next.{IsNext}
 use Rattle.dumpi_text.specs.Grammar.{Complete}
-use Rattle.dumpi_text.specs.Reading.{MeansAll, ReadsOneMore}
+use Rattle.dumpi_text.specs.Reading.{HasRead, MeansAll, ReadsOneMore}
 use Rattle.dumpi_text.specs.Source.{rest_of}
 use Rattle.dumpi_text.specs.Standing.{TextState}
 use Rattle.dumpi_text.specs.Usual.{StandsWhole, call_after}
-use Rattle.dumpi_text.specs.declared.standing.Standing.TheVariants.{Reading}
+use Rattle.dumpi_text.specs.declared.standing.Standing.{Standing}
+use Rattle.dumpi_text.specs.declared.standing.Standing.TheVariants.{Reading, Finished}
 use Rattle.dumpi_text.specs.declared.step.Position.{Position}
 use Rattle.dumpi_calls.specs.InPlace.{IsWhole, usual_name}
-use Rattle.dumpi_calls.specs.Rows.{Row, row, row_of, typed}
+use Rattle.dumpi_calls.specs.Rows.{Row, row}
 use Rattle.dumpi_calls.specs.Seen.{Seen, seen_by}
-use Rattle.dumpi_calls.specs.Walks.{Follows, FollowsWhole, HandedOn, IsRead, IsStopped, IsTypedAs, IsWalked, RefusesCall, StopsWalk, Takes, TakesNext, is_unfinished, lacks_exit}
+use Rattle.dumpi_calls.specs.Walks.{Begins, Follows, FollowsWhole, HandedOn, IsRead, IsStopped, IsTypedAs, IsWalked, RefusesCall, StopsWalk, Takes, TakesNext, is_unfinished, lacks_exit}
 use Rattle.mpi_model.specs.Times.{Times}
 use Rattle.dumpi_calls.specs.declared.fault.WalkCause.{WalkCause}
 use Rattle.dumpi_calls.specs.declared.fault.WalkCause.TheVariants.{Sink}
@@ -24,24 +25,22 @@ use Rattle.dumpi_calls.specs.declared.walking.Walked.{Walked}
 use Rattle.dumpi_calls.proofs.Handed.{last_unfinished, one_handed}
 
 -- a whole call may be passed
-pub stands_whole : (text : List ℕ) (function : Function) (call : TypedCall) (bytes lines : ℕ) → IsWhole function call bytes lines text → StandsWhole text bytes lines
+pub stands_whole : (text : List ℕ) (function : Function) (call : TypedCall) (bytes lines : ℕ) → IsWhole function call bytes lines text → StandsWhole text bytes lines call.enter
 stands_whole text function call bytes lines whole = record {
   content = record { name = usual_name function; params = whole.params };
-  enter = whole.enter;
   exit = whole.exit;
   call = whole.stands;
   counted = whole.counted;
 }
 
 -- a whole call was read
-pub follows_whole : ReadsOneMore → (text : Option (List ℕ)) (calls : List TextCall) (old new : TextState) (function : Function) (call : TypedCall) (bytes lines line : ℕ) → IsRead text calls old
-    → (whole : IsWhole function call bytes lines old.rest.at_hand) → IsNext old.at (rest_of old.rest) (Some (call_after old.at (record { name = usual_name function; params = whole.params }) whole.enter whole.exit)) new.at (rest_of new.rest)
+pub follows_whole : ReadsOneMore → (text : Option (List ℕ)) (calls : List TextCall) (old new : TextState) (function : Function) (call : TypedCall) (bytes lines line : ℕ) → HasRead text calls old.at (rest_of old.rest) → IsRead text calls old
+    → (whole : IsWhole function call bytes lines old.rest.at_hand) → IsNext old.at (rest_of old.rest) (Some (call_after old.at (record { name = usual_name function; params = whole.params }) call.enter whole.exit)) new.at (rest_of new.rest)
     → new.told ≡ new.at → new.standing ≡ Reading → line ≡ old.told.line + 1 → FollowsWhole text calls function call line new
-follows_whole one_more text calls old new function call bytes lines line is_read whole next told reading first = record {
-  raw = call_after old.at (record { name = usual_name function; params = whole.params }) whole.enter whole.exit;
+follows_whole one_more text calls old new function call bytes lines line read is_read whole next told reading first = record {
+  raw = call_after old.at (record { name = usual_name function; params = whole.params }) call.enter whole.exit;
   read = record {
-    read = one_more text calls old.at (rest_of old.rest) (call_after old.at (record { name = usual_name function; params = whole.params }) whole.enter whole.exit) new.at (rest_of new.rest) is_read.read next;
-    stands = inl reading;
+    stands = inl (reading, one_more text calls old.at (rest_of old.rest) (call_after old.at (record { name = usual_name function; params = whole.params }) call.enter whole.exit) new.at (rest_of new.rest) read next refl);
     told = told;
   };
   is = record {
@@ -96,6 +95,14 @@ walk_stopped step text calls first old new count fault handed stops same counted
   stops = stops;
 }
 
+-- calls that were read are those that the text begins with
+begins : (text : Option (List ℕ)) (calls : List TextCall) (view : TextState) → IsRead text calls view → Begins text calls
+begins text calls view is_read = elim is_read.stands [ inl e ↦ inl (view.at, rest_of view.rest, e.1) | inr e ↦ inr (view.at, e.1) ]
+
+-- a text that is read on begins with them
+pub still_read : (text : Option (List ℕ)) (calls : List TextCall) (view : TextState) → view.standing ≡ Reading → IsRead text calls view → HasRead text calls view.at (rest_of view.rest)
+still_read text calls view reading is_read = elim is_read.stands [ inl e ↦ e.1 | inr e ↦ (let both : ◌≡◌ {A = Standing} Reading Finished = sym reading ∙ e.0 in cc) ]
+
 -- ---- the next call, read whole or line by line
 
 -- a call that has returned doesn't lack its exit
@@ -117,7 +124,7 @@ whole_next step text calls function call line view old new follows takes = recor
 pub whole_refused : {F : Type 0} → (text : Option (List ℕ)) (calls : List TextCall) (function : Function) (call : TypedCall) (line at : ℕ) (cause : WalkCause F) (view : TextState)
     → FollowsWhole text calls function call line view → ((raw : TextCall) → IsTypedAs raw function call line → RefusesCall raw cause at) → StopsWalk text calls cause at
 whole_refused text calls function call line at cause view follows refuses =
-    inr (follows.raw, (view.at, rest_of view.rest, follows.read.read), refuses follows.raw follows.is)
+    inr (follows.raw, begins text (calls ++ follows.raw ∷ []) view follows.read, refuses follows.raw follows.is)
 
 -- a text that no call was read of whole is as it was
 pub as_it_was : (text : Option (List ℕ)) (calls : List TextCall) (old mid : TextState) → mid ≡ old → IsRead text calls old → IsRead text calls mid
@@ -131,4 +138,4 @@ line_next step text calls raw is_open view old new follows takes exit = record {
 -- or refused
 pub line_refused : {F : Type 0} → (text : Option (List ℕ)) (calls : List TextCall) (raw : TextCall) (cause : WalkCause F) (line : ℕ) (view : TextState)
     → Follows text calls (Some raw) view → RefusesCall raw cause line → StopsWalk text calls cause line
-line_refused text calls raw cause line view follows refuses = inr (raw, (view.at, rest_of view.rest, follows.read), refuses)
+line_refused text calls raw cause line view follows refuses = inr (raw, begins text (calls ++ raw ∷ []) view follows, refuses)

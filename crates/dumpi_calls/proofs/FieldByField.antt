@@ -4,8 +4,10 @@ use Rattle.std.specs.Prelude.{if◌then◌else◌}
 use Rattle.std.specs.List.{list_all}
 use Rattle.std.specs.Str.{bytes_eq}
 use Rattle.std.proofs.lemmas.Bool.{cases_eq, false≢true}
-use Rattle.dumpi_calls.specs.Outcomes.{groups_from, told_at, told_by, told_of}
-use Rattle.dumpi_calls.specs.Skims.{source_with, told_with, with_told}
+use Rattle.mpi_model.specs.declared.told.Told.{Told}
+use Rattle.dumpi_calls.specs.Outcomes.{first_number, groups_from, told_at, told_from, told_of}
+use Rattle.dumpi_calls.specs.Skims.{number_or, number_with, seen_with, told_with, unseen, with_told}
+use Rattle.dumpi_calls.specs.declared.skim.Seen.{Seen}
 use Rattle.dumpi_text.specs.Items.{field_item, fields_front, many_front, next_front, with_first}
 use Rattle.dumpi_text.specs.Stamps.{◌>>=◌}
 use Rattle.dumpi_text.specs.Tokens.{after_spaces}
@@ -24,55 +26,67 @@ read_first : (most : ℕ) (text : List ℕ) (found : Option (Field × List ℕ))
     → many_front field_item 125 (suc most) text ≡ (found >>= (λ first. by_next most first.0 (next_front 125 (after_spaces first.1))))
 read_first most text found e = ap (λ (f : Option (Field × List ℕ)). f >>= (λ first. by_next most first.0 (next_front 125 (after_spaces first.1)))) e
 
--- a field is told before others
-moved : (source : Option (Option ℕ)) (field : Field) (o : Option (List Field × List ℕ)) → with_told source (with_first field o) ≡ with_told (source_with source field) o
-moved source field None = refl
-moved (Some told) field (Some (fields, rest)) = refl
-moved None field (Some (fields, rest)) =
-    elim (bytes_eq field.word (codes "source")) as (λ is. ◌≡◌ {A = Option (Option ℕ × List ℕ)} (Some (cond {A = Option ℕ} is (told_by field.number.name field.number.value) (told_of fields), rest)) (Some (told_with (cond {A = Option (Option ℕ)} is (Some (told_by field.number.name field.number.value)) None) fields, rest)))
+-- a number is found before others, or not
+number_moved : (word : List ℕ) (found : Option Num) (field : Field) (fields : List Field) → number_or word found (field ∷ fields) ≡ number_or word (number_with word found field) fields
+number_moved word (Some number) field fields = refl
+number_moved word None field fields =
+    elim (bytes_eq field.word word) as (λ is. ◌≡◌ {A = Option Num} (cond {A = Option Num} is (Some field.number) (first_number word fields)) (number_or word (cond {A = Option Num} is (Some field.number) None) fields))
     [ true ↦ refl | false ↦ refl ]
+
+-- a field is told before others
+moved : (seen : Seen) (field : Field) (o : Option (List Field × List ℕ)) → with_told seen (with_first field o) ≡ with_told (seen_with seen field) o
+moved seen field None = refl
+moved seen field (Some (fields, rest)) =
+    let told : Option Num → Option Num → Option (Told × List ℕ) = λ c s. Some (told_from c s, rest) in
+    ap (λ (c : Option Num). told c (number_or (codes "source") seen.source (field ∷ fields))) (number_moved (codes "cancelled") seen.cancelled field fields)
+    ∙ ap (told (number_or (codes "cancelled") (number_with (codes "cancelled") seen.cancelled field) fields)) (number_moved (codes "source") seen.source field fields)
+
+-- no field more leaves what was found
+pub none_more : (word : List ℕ) (found : Option Num) → number_or word found [] ≡ found
+none_more word None = refl
+none_more word (Some number) = refl
 
 below : (count done : ℕ) → done < count → count - done ≡ suc (count - (done + 1))
 below count done h = omega arith
 
 -- one field more, after which another one follows
-pub one_more : (count done : ℕ) (text : List ℕ) (source new : Option (Option ℕ)) (field : Field) (rest more : List ℕ)
-    → done < count → field_item (after_spaces text) ≡ Some (field, rest) → next_front 125 (after_spaces rest) ≡ Some (true, more) → new ≡ source_with source field
-    → with_told source (many_front field_item 125 (count - done) text) ≡ with_told new (many_front field_item 125 (count - (done + 1)) more)
-one_more count done text source new field rest more h e n told =
+pub one_more : (count done : ℕ) (text : List ℕ) (seen new : Seen) (field : Field) (rest more : List ℕ)
+    → done < count → field_item (after_spaces text) ≡ Some (field, rest) → next_front 125 (after_spaces rest) ≡ Some (true, more) → new ≡ seen_with seen field
+    → with_told seen (many_front field_item 125 (count - done) text) ≡ with_told new (many_front field_item 125 (count - (done + 1)) more)
+one_more count done text seen new field rest more h e n told =
     rw (below count done h, told)
-    (ap (with_told source) (read_first (count - (done + 1)) text (Some (field, rest)) e ∙ ap (by_next (count - (done + 1)) field) n)
-    ∙ moved source field (many_front field_item 125 (count - (done + 1)) more))
+    (ap (with_told seen) (read_first (count - (done + 1)) text (Some (field, rest)) e ∙ ap (by_next (count - (done + 1)) field) n)
+    ∙ moved seen field (many_front field_item 125 (count - (done + 1)) more))
 
 -- the last field
-pub the_last : (count done : ℕ) (text : List ℕ) (source new : Option (Option ℕ)) (field : Field) (rest more : List ℕ)
-    → done < count → field_item (after_spaces text) ≡ Some (field, rest) → next_front 125 (after_spaces rest) ≡ Some (false, more) → new ≡ source_with source field
-    → with_told source (many_front field_item 125 (count - done) text) ≡ Some (told_with new [], more)
-the_last count done text source new field rest more h e n told =
+pub the_last : (count done : ℕ) (text : List ℕ) (seen new : Seen) (field : Field) (rest more : List ℕ)
+    → done < count → field_item (after_spaces text) ≡ Some (field, rest) → next_front 125 (after_spaces rest) ≡ Some (false, more) → new ≡ seen_with seen field
+    → with_told seen (many_front field_item 125 (count - done) text) ≡ Some (told_with new [], more)
+the_last count done text seen new field rest more h e n told =
     rw (below count done h, told)
-    (ap (with_told source) (read_first (count - (done + 1)) text (Some (field, rest)) e ∙ ap (by_next (count - (done + 1)) field) n)
-    ∙ moved source field (Some ([], more)))
+    (ap (with_told seen) (read_first (count - (done + 1)) text (Some (field, rest)) e ∙ ap (by_next (count - (done + 1)) field) n)
+    ∙ moved seen field (Some ([], more)))
 
 -- a status of one group
 status_read : (text : List ℕ) (fields : List Field) → fields_front text ≡ Some (fields, 125 ∷ []) → told_at (groups_from (value_of (91 ∷ 49 ∷ 93 ∷ 32 ∷ 123 ∷ 123 ∷ text))) 0 ≡ told_of fields
 unfolding value_of after_count field_begins
 status_read text fields e = rw e refl
 
-status_by : (text : List ℕ) (told : Option ℕ) (found : Option (List Field × List ℕ)) → fields_front text ≡ found → with_told None found ≡ Some (told, 125 ∷ [])
+status_by : (text : List ℕ) (told : Told) (found : Option (List Field × List ℕ)) → fields_front text ≡ found → with_told unseen found ≡ Some (told, 125 ∷ [])
     → told_at (groups_from (value_of (91 ∷ 49 ∷ 93 ∷ 32 ∷ 123 ∷ 123 ∷ text))) 0 ≡ told
 status_by text told None e w = cc
 status_by text told (Some (fields, rest)) e w =
-    let both : ◌≡◌ {A = Option ℕ × List ℕ} (told_of fields, rest) (told, 125 ∷ []) = cc in
-    let end : rest ≡ 125 ∷ [] = ap (λ (p : Option ℕ × List ℕ). p.1) both in
-    let same : told_of fields ≡ told = ap (λ (p : Option ℕ × List ℕ). p.0) both in
+    let both : ◌≡◌ {A = Told × List ℕ} (told_of fields, rest) (told, 125 ∷ []) = cc in
+    let end : rest ≡ 125 ∷ [] = ap (λ (p : Told × List ℕ). p.1) both in
+    let same : told_of fields ≡ told = ap (λ (p : Told × List ℕ). p.0) both in
     let found : List ℕ → Option (List Field × List ℕ) = λ r. Some (fields, r) in
     status_read text fields (e ∙ ap found end) ∙ same
 
 -- the same, of a text by its parts
-pub status_value : (text fields rest : List ℕ) (told : Option ℕ) → text ≡ 91 ∷ 49 ∷ 93 ∷ 32 ∷ 123 ∷ 123 ∷ fields → with_told None (fields_front fields) ≡ Some (told, rest) → rest ≡ 125 ∷ []
+pub status_value : (text fields rest : List ℕ) (told : Told) → text ≡ 91 ∷ 49 ∷ 93 ∷ 32 ∷ 123 ∷ 123 ∷ fields → with_told unseen (fields_front fields) ≡ Some (told, rest) → rest ≡ 125 ∷ []
     → told_at (groups_from (value_of text)) 0 ≡ told
 status_value text fields rest told parts tells closes =
-    let end : List ℕ → Option (Option ℕ × List ℕ) = λ r. Some (told, r) in
+    let end : List ℕ → Option (Told × List ℕ) = λ r. Some (told, r) in
     ap (λ (t : List ℕ). told_at (groups_from (value_of t)) 0) parts ∙ status_by fields told (fields_front fields) refl (tells ∙ ap end closes)
 
 first_of_word : (b : ℕ) (bs : List ℕ) → list_all is_word_byte (b ∷ bs) ≡ true → is_word_byte b ≡ true
@@ -125,20 +139,21 @@ whole_count text =
     let same : length text ≡ length text - 0 = omega arith in
     ap (λ (n : ℕ). many_front field_item 125 n text) same
 
--- the five fields that dumpi2ascii writes, of which the third tells
+-- the five fields that dumpi2ascii writes, of which the second and the third tell
 pub usual_fields : (text a0 t1 a1 t2 a2 t3 a3 t4 a4 more : List ℕ) (n0 n1 n2 n3 n4 : Num) → 5 ≤ length text
     → field_item (after_spaces text) ≡ Some (record { word = codes "bytes"; number = n0 }, a0) → a0 ≡ 44 ∷ 32 ∷ t1
     → field_item (after_spaces t1) ≡ Some (record { word = codes "cancelled"; number = n1 }, a1) → a1 ≡ 44 ∷ 32 ∷ t2
     → field_item (after_spaces t2) ≡ Some (record { word = codes "source"; number = n2 }, a2) → a2 ≡ 44 ∷ 32 ∷ t3
     → field_item (after_spaces t3) ≡ Some (record { word = codes "tag"; number = n3 }, a3) → a3 ≡ 44 ∷ 32 ∷ t4
     → field_item (after_spaces t4) ≡ Some (record { word = codes "error"; number = n4 }, a4) → a4 ≡ 125 ∷ more
-    → with_told None (fields_front text) ≡ Some (told_by n2.name n2.value, more)
+    → with_told unseen (fields_front text) ≡ Some (told_from (Some n1) (Some n2), more)
 usual_fields text a0 t1 a1 t2 a2 t3 a3 t4 a4 more n0 n1 n2 n3 n4 long e0 c0 e1 c1 e2 c2 e3 c3 e4 closes =
     let count = length text in
-    let told = told_by n2.name n2.value in
-    ap (with_told None) (whole_count text)
-    ∙ one_more count 0 text None None (record { word = codes "bytes"; number = n0 }) a0 (32 ∷ t1) (omega arith) e0 (comma_follows a0 t1 c0) refl
-    ∙ one_more count 1 (32 ∷ t1) None None (record { word = codes "cancelled"; number = n1 }) a1 (32 ∷ t2) (omega arith) e1 (comma_follows a1 t2 c1) refl
-    ∙ one_more count 2 (32 ∷ t2) None (Some told) (record { word = codes "source"; number = n2 }) a2 (32 ∷ t3) (omega arith) e2 (comma_follows a2 t3 c2) refl
-    ∙ one_more count 3 (32 ∷ t3) (Some told) (Some told) (record { word = codes "tag"; number = n3 }) a3 (32 ∷ t4) (omega arith) e3 (comma_follows a3 t4 c3) refl
-    ∙ the_last count 4 (32 ∷ t4) (Some told) (Some told) (record { word = codes "error"; number = n4 }) a4 more (omega arith) e4 (brace_follows a4 more closes) refl
+    let first : Seen = record { cancelled = Some n1; source = None } in
+    let both : Seen = record { cancelled = Some n1; source = Some n2 } in
+    ap (with_told unseen) (whole_count text)
+    ∙ one_more count 0 text unseen unseen (record { word = codes "bytes"; number = n0 }) a0 (32 ∷ t1) (omega arith) e0 (comma_follows a0 t1 c0) refl
+    ∙ one_more count 1 (32 ∷ t1) unseen first (record { word = codes "cancelled"; number = n1 }) a1 (32 ∷ t2) (omega arith) e1 (comma_follows a1 t2 c1) refl
+    ∙ one_more count 2 (32 ∷ t2) first both (record { word = codes "source"; number = n2 }) a2 (32 ∷ t3) (omega arith) e2 (comma_follows a2 t3 c2) refl
+    ∙ one_more count 3 (32 ∷ t3) both both (record { word = codes "tag"; number = n3 }) a3 (32 ∷ t4) (omega arith) e3 (comma_follows a3 t4 c3) refl
+    ∙ the_last count 4 (32 ∷ t4) both both (record { word = codes "error"; number = n4 }) a4 more (omega arith) e4 (brace_follows a4 more closes) refl

@@ -3,8 +3,9 @@ use Rattle.std.proofs.Common.{◌≡◌, ◌∙◌, ℕ, ℤ, suc, ◌+◌, ◌-
 use Rattle.std.specs.Prelude.{if◌then◌else◌}
 use Rattle.std.specs.List.{list_all}
 use Rattle.std.proofs.lemmas.List.{drop_more, length-map, length-take-le, take-append-drop}
+use Rattle.mpi_model.specs.declared.told.Told.{Told}
 use Rattle.dumpi_calls.specs.Outcomes.{groups_from, told_at, told_of, tolds_from}
-use Rattle.dumpi_calls.specs.Skims.{tolds_with, with_told}
+use Rattle.dumpi_calls.specs.Skims.{tolds_with, unseen, with_told}
 use Rattle.dumpi_calls.proofs.QuickNumber.{digits_before, first_digit, unlike}
 use Rattle.dumpi_text.specs.Items.{group_item, items_front, many_front, next_front, with_first}
 use Rattle.dumpi_text.specs.Number.{note_front}
@@ -24,49 +25,49 @@ read_first : (most : ℕ) (text : List ℕ) (found : Option (List Field × List 
 read_first most text found e = ap (λ (f : Option (List Field × List ℕ)). f >>= (λ first. by_next most first.0 (next_front 125 (after_spaces first.1)))) e
 
 -- a group is told before others
-moved : (tolds : List (Option ℕ)) (group : List Field) (o : Option (List (List Field) × List ℕ)) → tolds_with tolds (with_first group o) ≡ tolds_with (tolds ++ told_of group ∷ []) o
+moved : (tolds : List Told) (group : List Field) (o : Option (List (List Field) × List ℕ)) → tolds_with tolds (with_first group o) ≡ tolds_with (tolds ++ told_of group ∷ []) o
 moved tolds group None = refl
 moved tolds group (Some (groups, rest)) =
-    let found : List (Option ℕ) → Option (List (Option ℕ) × List ℕ) = λ all. Some (all, rest) in
+    let found : List Told → Option (List Told × List ℕ) = λ all. Some (all, rest) in
     ap found (sym (append_assoc tolds (told_of group ∷ []) (map told_of groups)))
 
 below : (count done : ℕ) → done < count → count - done ≡ suc (count - (done + 1))
 below count done h = omega arith
 
 -- one group more, after which another one follows, by what it is
-group_more : (most : ℕ) (text : List ℕ) (tolds : List (Option ℕ)) (told : Option ℕ) (rest more : List ℕ) (found : Option (List Field × List ℕ))
-    → group_item (after_spaces text) ≡ found → with_told None found ≡ Some (told, rest) → next_front 125 (after_spaces rest) ≡ Some (true, more)
+group_more : (most : ℕ) (text : List ℕ) (tolds : List Told) (told : Told) (rest more : List ℕ) (found : Option (List Field × List ℕ))
+    → group_item (after_spaces text) ≡ found → with_told unseen found ≡ Some (told, rest) → next_front 125 (after_spaces rest) ≡ Some (true, more)
     → tolds_with tolds (many_front group_item 125 (suc most) text) ≡ tolds_with (tolds ++ told ∷ []) (many_front group_item 125 most more)
 group_more most text tolds told rest more None e w n = cc
 group_more most text tolds told rest more (Some (group, left)) e w n =
-    let both : ◌≡◌ {A = Option ℕ × List ℕ} (told_of group, left) (told, rest) = cc in
-    let end : left ≡ rest = ap (λ (p : Option ℕ × List ℕ). p.1) both in
-    let same : told_of group ≡ told = ap (λ (p : Option ℕ × List ℕ). p.0) both in
+    let both : ◌≡◌ {A = Told × List ℕ} (told_of group, left) (told, rest) = cc in
+    let end : left ≡ rest = ap (λ (p : Told × List ℕ). p.1) both in
+    let same : told_of group ≡ told = ap (λ (p : Told × List ℕ). p.0) both in
     ap (tolds_with tolds) (read_first most text (Some (group, left)) e ∙ ap (λ (l : List ℕ). by_next most group (next_front 125 (after_spaces l))) end ∙ ap (by_next most group) n)
     ∙ moved tolds group (many_front group_item 125 most more)
-    ∙ ap (λ (t : Option ℕ). tolds_with (tolds ++ t ∷ []) (many_front group_item 125 most more)) same
+    ∙ ap (λ (t : Told). tolds_with (tolds ++ t ∷ []) (many_front group_item 125 most more)) same
 
 -- the last group, by what it is
-group_last : (most : ℕ) (text : List ℕ) (tolds : List (Option ℕ)) (told : Option ℕ) (rest more : List ℕ) (found : Option (List Field × List ℕ))
-    → group_item (after_spaces text) ≡ found → with_told None found ≡ Some (told, rest) → next_front 125 (after_spaces rest) ≡ Some (false, more)
+group_last : (most : ℕ) (text : List ℕ) (tolds : List Told) (told : Told) (rest more : List ℕ) (found : Option (List Field × List ℕ))
+    → group_item (after_spaces text) ≡ found → with_told unseen found ≡ Some (told, rest) → next_front 125 (after_spaces rest) ≡ Some (false, more)
     → tolds_with tolds (many_front group_item 125 (suc most) text) ≡ Some (tolds ++ told ∷ [], more)
 group_last most text tolds told rest more None e w n = cc
 group_last most text tolds told rest more (Some (group, left)) e w n =
-    let both : ◌≡◌ {A = Option ℕ × List ℕ} (told_of group, left) (told, rest) = cc in
-    let end : left ≡ rest = ap (λ (p : Option ℕ × List ℕ). p.1) both in
-    let same : told_of group ≡ told = ap (λ (p : Option ℕ × List ℕ). p.0) both in
-    let found : Option ℕ → Option (List (Option ℕ) × List ℕ) = λ t. Some (tolds ++ t ∷ [], more) in
+    let both : ◌≡◌ {A = Told × List ℕ} (told_of group, left) (told, rest) = cc in
+    let end : left ≡ rest = ap (λ (p : Told × List ℕ). p.1) both in
+    let same : told_of group ≡ told = ap (λ (p : Told × List ℕ). p.0) both in
+    let found : Told → Option (List Told × List ℕ) = λ t. Some (tolds ++ t ∷ [], more) in
     ap (tolds_with tolds) (read_first most text (Some (group, left)) e ∙ ap (λ (l : List ℕ). by_next most group (next_front 125 (after_spaces l))) end ∙ ap (by_next most group) n)
     ∙ ap found same
 
-pub one_more : (count done : ℕ) (text : List ℕ) (tolds new : List (Option ℕ)) (told : Option ℕ) (rest more : List ℕ)
-    → done < count → with_told None (group_item (after_spaces text)) ≡ Some (told, rest) → next_front 125 (after_spaces rest) ≡ Some (true, more) → new ≡ tolds ++ told ∷ []
+pub one_more : (count done : ℕ) (text : List ℕ) (tolds new : List Told) (told : Told) (rest more : List ℕ)
+    → done < count → with_told unseen (group_item (after_spaces text)) ≡ Some (told, rest) → next_front 125 (after_spaces rest) ≡ Some (true, more) → new ≡ tolds ++ told ∷ []
     → tolds_with tolds (many_front group_item 125 (count - done) text) ≡ tolds_with new (many_front group_item 125 (count - (done + 1)) more)
 one_more count done text tolds new told rest more h w n is_new =
     rw (below count done h, is_new) (group_more (count - (done + 1)) text tolds told rest more (group_item (after_spaces text)) refl w n)
 
-pub the_last : (count done : ℕ) (text : List ℕ) (tolds new : List (Option ℕ)) (told : Option ℕ) (rest more : List ℕ)
-    → done < count → with_told None (group_item (after_spaces text)) ≡ Some (told, rest) → next_front 125 (after_spaces rest) ≡ Some (false, more) → new ≡ tolds ++ told ∷ []
+pub the_last : (count done : ℕ) (text : List ℕ) (tolds new : List Told) (told : Told) (rest more : List ℕ)
+    → done < count → with_told unseen (group_item (after_spaces text)) ≡ Some (told, rest) → next_front 125 (after_spaces rest) ≡ Some (false, more) → new ≡ tolds ++ told ∷ []
     → tolds_with tolds (many_front group_item 125 (count - done) text) ≡ Some (new, more)
 the_last count done text tolds new told rest more h w n is_new =
     rw (below count done h, is_new) (group_last (count - (done + 1)) text tolds told rest more (group_item (after_spaces text)) refl w n)
@@ -114,18 +115,18 @@ value_by_core : (text : List ℕ) → value_of (91 ∷ text) ≡ noted (core_fro
 unfolding value_of
 value_by_core text = refl
 
-tolds_by : (text list : List ℕ) (tolds : List (Option ℕ)) (found : Option (List (List Field) × List ℕ)) → items_front group_item 125 list ≡ found
+tolds_by : (text list : List ℕ) (tolds : List Told) (found : Option (List (List Field) × List ℕ)) → items_front group_item 125 list ≡ found
     → core_front (91 ∷ text) ≡ all_groups (items_front group_item 125 list) → tolds_with [] found ≡ Some (tolds, [])
     → map told_of (groups_from (value_of (91 ∷ text))) ≡ tolds
 tolds_by text list tolds None e core w = cc w
 tolds_by text list tolds (Some (groups, rest)) e core w =
-    let both : ◌≡◌ {A = List (Option ℕ) × List ℕ} (map told_of groups, rest) (tolds, []) = cc w in
-    let end : rest ≡ [] = ap (λ (p : List (Option ℕ) × List ℕ). p.1) both in
-    let same : map told_of groups ≡ tolds = ap (λ (p : List (Option ℕ) × List ℕ). p.0) both in
+    let both : ◌≡◌ {A = List Told × List ℕ} (map told_of groups, rest) (tolds, []) = cc w in
+    let end : rest ≡ [] = ap (λ (p : List Told × List ℕ). p.1) both in
+    let same : map told_of groups ≡ tolds = ap (λ (p : List Told × List ℕ). p.0) both in
     let found : List ℕ → Option (List (List Field) × List ℕ) = λ r. Some (groups, r) in
     ap (λ (v : Option Value). map told_of (groups_from v)) (value_by_core text ∙ ap noted (core ∙ ap all_groups (e ∙ ap found end))) ∙ same
 
-pub tolds_value : (whole text list : List ℕ) (tolds : List (Option ℕ)) → whole ≡ 91 ∷ text → core_front (91 ∷ text) ≡ all_groups (items_front group_item 125 list)
+pub tolds_value : (whole text list : List ℕ) (tolds : List Told) → whole ≡ 91 ∷ text → core_front (91 ∷ text) ≡ all_groups (items_front group_item 125 list)
     → tolds_with [] (items_front group_item 125 list) ≡ Some (tolds, []) → map told_of (groups_from (value_of whole)) ≡ tolds
 tolds_value whole text list tolds is_whole core w =
     ap (λ (t : List ℕ). map told_of (groups_from (value_of t))) is_whole ∙ tolds_by text list tolds (items_front group_item 125 list) refl core w
@@ -136,13 +137,13 @@ one_past : (group : List Field) (groups : List (List Field)) (place : ℕ) (requ
 one_past group groups place [] = refl
 one_past group groups place (r ∷ rs) =
     let next : suc place + 1 ≡ suc (place + 1) = omega arith in
-    ap (λ (ts : List (Option ℕ)). told_at groups place ∷ ts) (ap (λ (k : ℕ). tolds_from (group ∷ groups) k rs) next ∙ one_past group groups (place + 1) rs)
+    ap (λ (ts : List Told). told_at groups place ∷ ts) (ap (λ (k : ℕ). tolds_from (group ∷ groups) k rs) next ∙ one_past group groups (place + 1) rs)
 
 each_told : (groups : List (List Field)) (requests : List ℤ) → length groups ≡ length requests → map told_of groups ≡ tolds_from groups 0 requests
 each_told [] [] h = refl
 each_told [] (r ∷ rs) h = absurd (omega (arith, h))
 each_told (g ∷ gs) [] h = absurd (omega (arith, h))
-each_told (g ∷ gs) (r ∷ rs) h = ap (λ (ts : List (Option ℕ)). told_of g ∷ ts) (each_told gs rs (omega (arith, h)) ∙ sym (one_past g gs 0 rs))
+each_told (g ∷ gs) (r ∷ rs) h = ap (λ (ts : List Told). told_of g ∷ ts) (each_told gs rs (omega (arith, h)) ∙ sym (one_past g gs 0 rs))
 
-pub whole_list : (groups : List (List Field)) (requests : List ℤ) (tolds : List (Option ℕ)) → map told_of groups ≡ tolds → length tolds ≡ length requests → tolds ≡ tolds_from groups 0 requests
+pub whole_list : (groups : List (List Field)) (requests : List ℤ) (tolds : List Told) → map told_of groups ≡ tolds → length tolds ≡ length requests → tolds ≡ tolds_from groups 0 requests
 whole_list groups requests tolds told count = sym told ∙ each_told groups requests (sym (length-map groups told_of) ∙ ap length told ∙ count)

@@ -64,5 +64,5 @@ not_begun unread step text state = record { calls = []; handed = nothing_handed 
 
 -- a text of which nothing was read yet
 pub is_begun : (text : Option (List ℕ)) (failures : ℕ) → IsRead text [] (record { rest = record { at_hand = []; left = text; failures = failures }; at = start; told = start; standing = Reading })
-is_begun None failures = record { read = tt; stands = inl refl; told = refl }
-is_begun (Some text) failures = record { read = refl; stands = inl refl; told = refl }
+is_begun None failures = record { stands = inl (refl, tt); told = refl }
+is_begun (Some text) failures = record { stands = inl (refl, refl); told = refl }

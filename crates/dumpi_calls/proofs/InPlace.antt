@@ -1,5 +1,5 @@
 -- Calls that are read where they stand: what their lines say of any call that has them.
-use Rattle.std.proofs.Common.{◌≡◌, ℕ, ◌+◌, ◌-◌, ◌<◌, ◌≤◌, true, List, [], ◌∷◌, ◌++◌, length, drop, codes, Option, Some, None, Result, Ok, refl, sym, ap, ◌∙◌, subst, append_assoc, length-append, arith}
+use Rattle.std.proofs.Common.{◌≡◌, ℕ, ◌+◌, ◌-◌, true, List, [], ◌∷◌, ◌++◌, length, drop, codes, Option, Some, None, Result, Ok, refl, sym, ap, ◌∙◌, subst, append_assoc, length-append, arith}
 use Rattle.std.specs.Str.{bytes_eq}
 use Rattle.std.proofs.Math.Seq.{drop-append_seam}
 use Rattle.std.proofs.lemmas.Slice.Eq.{bytes_eq-Decides}
@@ -12,24 +12,24 @@ use Rattle.mpi_model.specs.declared.envelope.Mode.{Mode}
 use Rattle.mpi_model.specs.declared.envelope.Peer.{Peer}
 use Rattle.mpi_model.specs.declared.outcome.Outs.{Outs}
 use Rattle.mpi_model.specs.declared.outcome.Outs.TheVariants as outcomes
-use Rattle.dumpi_text.specs.Call.{CallContent, Param, TextCall, first_value}
+use Rattle.mpi_model.specs.declared.told.Told.{Told}
+use Rattle.mpi_model.specs.declared.told.Told.TheVariants.{Nothing}
+use Rattle.dumpi_text.specs.Call.{Param, TextCall, first_value}
 use Rattle.dumpi_text.specs.Stamps.{Entering, Kind, Returning}
-use Rattle.dumpi_text.specs.Usual.{HasCall, HasLine, Tells, TellsAll, call_after, is_word, lines_of}
+use Rattle.dumpi_text.specs.Usual.{HasCall, HasLine, Tells, TellsAll, call_after, is_word}
 use Rattle.dumpi_text.specs.Number.{integer_front, number_front}
 use Rattle.dumpi_text.specs.Value.{value_of}
 use Rattle.dumpi_text.specs.declared.number.Num.{Num}
-use Rattle.dumpi_text.specs.declared.step.Position.{Position}
 use Rattle.dumpi_text.specs.declared.value.Value.TheVariants.{Number}
 use Rattle.dumpi_calls.specs.InPlace.{IsWhole, TellsCall, TellsNumber, TellsReceive, TellsSend, TellsStatus, param_of, receive_lines, send_lines, usual_name}
 use Rattle.dumpi_calls.specs.Outcomes.{groups_by, groups_from, groups_in, outcome_in, posted, told_at}
-use Rattle.dumpi_calls.specs.Readings.{asked_tag_by, asked_tag_in, comm_by, comm_in, dest_by, dest_in, name_of, non_negative, non_negative_in, number_in, source_by, source_in, text_of}
-use Rattle.dumpi_calls.specs.Rows.{Row, envelope_of_receive, envelope_of_send, exit_in, first_missing, function_named, irecv_call, isend_call, missing_in, read_by, receive_part, recv_call, returned, row, send_call, send_part, typed, typed_by}
+use Rattle.dumpi_calls.specs.Readings.{asked_tag_by, asked_tag_in, comm_by, comm_in, dest_by, dest_in, name_of, non_negative, non_negative_in, number_in, request_by, request_in, source_by, source_in, text_of}
+use Rattle.dumpi_calls.specs.Rows.{Row, envelope_of_receive, envelope_of_send, exit_in, first_missing, function_named, irecv_call, isend_call, missing_in, read_by, receive_part, recv_call, returned, row, send_call, send_part, typed_by}
 use Rattle.dumpi_calls.specs.declared.function.Function.{Function}
 use Rattle.dumpi_calls.specs.declared.function.Function.TheVariants as functions
 use Rattle.dumpi_calls.specs.declared.parameter.CallFault.{CallFault}
 use Rattle.dumpi_calls.specs.declared.parameter.Parameter.{Parameter}
 use Rattle.dumpi_calls.specs.declared.parameter.Parameter.TheVariants.{Count, Datatype, Dest, Source, Tag, Comm, SendCount, SendType, SendTag, RecvCount, RecvType, RecvTag, Root, Request, Requests, Index, Indices, Flag, Status, Statuses}
-use Rattle.dumpi_calls.specs.declared.typing.TypedCall.{TypedCall}
 
 -- each parameter's name is a word
 pub named_by_a_word : (parameter : Parameter) → is_word (name_of parameter) ≡ true
@@ -77,7 +77,7 @@ text_there parameter raw params is = ap (first_value (name_of parameter)) is
 abbrev read_envelope : Envelope → Result Envelope CallFault
 read_envelope envelope = Ok envelope
 
-abbrev read_status : Option ℕ → Result Outs CallFault
+abbrev read_status : Told → Result Outs CallFault
 read_status told = Ok (outcomes.Status told)
 
 send_says : (raw : TextCall) (more : List Param) (v_count v_datatype v_dest v_tag v_comm : List ℕ) (count datatype dest tag comm : Num) (elements asked : ℕ) (peer : Peer) (group : CommRef)
@@ -155,7 +155,7 @@ tells_both : (first second : List Param) (text mid rest : List ℕ) → TellsAll
 tells_both [] second text mid rest a b = subst (λ (t : List ℕ). TellsAll second t rest) (sym a) b
 tells_both (param ∷ first) second text mid rest a b = (a.0, a.1, tells_both first second a.0 mid rest a.2 b)
 
-none_missing : (row : Row) (raw : TextCall) (exit : Times) → raw.exit ≡ Some exit → first_missing row.entry raw ≡ None → first_missing row.outcome raw ≡ None → missing_in row raw ≡ None
+none_missing : (row : Row) (raw : TextCall) (exit : Times) → raw.exit ≡ Some exit → first_missing row.entry raw ≡ None → first_missing (row.outcome raw) raw ≡ None → missing_in row raw ≡ None
 none_missing row raw exit returns entry outcome = rw (entry, outcome, returns) refl
 
 came_back : (call : Call) (raw : TextCall) (outs : Outs) (exit : Times) → outcome_in call raw ≡ Ok outs → exit_in call (Some exit) raw ≡ Ok (Some (record { outs = outs; stamp = exit }))
@@ -194,8 +194,8 @@ ireceived : (raw : TextCall) (envelope : Envelope) → envelope_of_receive raw �
 unfolding irecv_call
 ireceived raw envelope is = rw is refl
 
-was_posted : (raw : TextCall) (number : Num) → number_in Request raw ≡ Ok number → posted raw ≡ Ok (outcomes.Posted number.value)
-unfolding posted
+was_posted : (raw : TextCall) (number : Num) → number_in Request raw ≡ Ok number → posted raw ≡ Ok (outcomes.Posted (request_by number.name number.value))
+unfolding posted request_in
 was_posted raw number is = rw is refl
 
 -- the lines of a Send
@@ -213,7 +213,7 @@ send_call_told mode envelope text rest h = record {
 
 -- the lines of an Isend
 pub isend_call_told : (mode : Mode) (envelope : Envelope) (number : Num) (text mid rest : List ℕ) → TellsSend envelope text mid → TellsNumber Request number mid rest
-    → TellsCall (functions.Isend mode) (calls.Isend mode envelope) (outcomes.Posted number.value) 6 text rest
+    → TellsCall (functions.Isend mode) (calls.Isend mode envelope) (outcomes.Posted (request_by number.name number.value)) 6 text rest
 isend_call_told mode envelope number text mid rest h n = record {
   params = send_lines h.count h.datatype h.dest h.tag h.comm ++ param_of Request n.value ∷ [];
   tells = tells_both (send_lines h.count h.datatype h.dest h.tag h.comm) (param_of Request n.value ∷ []) text mid rest h.tells (rest, n.tells, refl);
@@ -222,7 +222,7 @@ isend_call_told mode envelope number text mid rest h n = record {
       let row_is : Row = row (functions.Isend mode) raw.name in
       let there : text_of Request raw ≡ Some n.value = text_there Request raw _ params in
       let request : first_missing (Request ∷ []) raw ≡ None = rw there refl in
-      typed_so row_is raw (calls.Isend mode envelope) (outcomes.Posted number.value) exit
+      typed_so row_is raw (calls.Isend mode envelope) (outcomes.Posted (request_by number.name number.value)) exit
       (none_missing row_is raw exit returns (sends_all raw (param_of Request n.value ∷ []) h.count h.datatype h.dest h.tag h.comm params) request)
       (isent mode raw envelope (h.says raw (param_of Request n.value ∷ []) params)) returns
       (was_posted raw number (number_said Request raw n.value number there n.means));
@@ -230,7 +230,7 @@ isend_call_told mode envelope number text mid rest h n = record {
 
 -- the lines of an Irecv
 pub irecv_call_told : (envelope : Envelope) (number : Num) (text mid rest : List ℕ) → TellsReceive envelope text mid → TellsNumber Request number mid rest
-    → TellsCall functions.Irecv (calls.Irecv envelope) (outcomes.Posted number.value) 6 text rest
+    → TellsCall functions.Irecv (calls.Irecv envelope) (outcomes.Posted (request_by number.name number.value)) 6 text rest
 irecv_call_told envelope number text mid rest h n = record {
   params = receive_lines h.count h.datatype h.source h.tag h.comm ++ param_of Request n.value ∷ [];
   tells = tells_both (receive_lines h.count h.datatype h.source h.tag h.comm) (param_of Request n.value ∷ []) text mid rest h.tells (rest, n.tells, refl);
@@ -239,30 +239,30 @@ irecv_call_told envelope number text mid rest h n = record {
       let row_is : Row = row functions.Irecv raw.name in
       let there : text_of Request raw ≡ Some n.value = text_there Request raw _ params in
       let request : first_missing (Request ∷ []) raw ≡ None = rw there refl in
-      typed_so row_is raw (calls.Irecv envelope) (outcomes.Posted number.value) exit
+      typed_so row_is raw (calls.Irecv envelope) (outcomes.Posted (request_by number.name number.value)) exit
       (none_missing row_is raw exit returns (receives_all raw (param_of Request n.value ∷ []) h.count h.datatype h.source h.tag h.comm params) request)
       (ireceived raw envelope (h.says raw (param_of Request n.value ∷ []) params)) returns
       (was_posted raw number (number_said Request raw n.value number there n.means));
 }
 
-pub isend_lines_told : (mode : Mode) (envelope : Envelope) (number : Num) (outs : Outs) (text mid rest : List ℕ) → TellsSend envelope text mid → TellsNumber Request number mid rest → outs ≡ outcomes.Posted number.value
+pub isend_lines_told : (mode : Mode) (envelope : Envelope) (number : Num) (outs : Outs) (text mid rest : List ℕ) → TellsSend envelope text mid → TellsNumber Request number mid rest → outs ≡ outcomes.Posted (request_by number.name number.value)
     → TellsCall (functions.Isend mode) (calls.Isend mode envelope) outs 6 text rest
 isend_lines_told mode envelope number outs text mid rest h n is =
     subst (λ (o : Outs). TellsCall (functions.Isend mode) (calls.Isend mode envelope) o 6 text rest) (sym is) (isend_call_told mode envelope number text mid rest h n)
 
-pub irecv_lines_told : (envelope : Envelope) (number : Num) (outs : Outs) (text mid rest : List ℕ) → TellsReceive envelope text mid → TellsNumber Request number mid rest → outs ≡ outcomes.Posted number.value
+pub irecv_lines_told : (envelope : Envelope) (number : Num) (outs : Outs) (text mid rest : List ℕ) → TellsReceive envelope text mid → TellsNumber Request number mid rest → outs ≡ outcomes.Posted (request_by number.name number.value)
     → TellsCall functions.Irecv (calls.Irecv envelope) outs 6 text rest
 irecv_lines_told envelope number outs text mid rest h n is =
     subst (λ (o : Outs). TellsCall functions.Irecv (calls.Irecv envelope) o 6 text rest) (sym is) (irecv_call_told envelope number text mid rest h n)
 
 -- what the groups of a status tell, by the lines of the outcome
-status_said : (raw : TextCall) (params : List Param) (told : Option ℕ) → text_of Status raw ≡ first_value (name_of Status) params → told_at (groups_by (first_value (name_of Status) params)) 0 ≡ told
+status_said : (raw : TextCall) (params : List Param) (told : Told) → text_of Status raw ≡ first_value (name_of Status) params → told_at (groups_by (first_value (name_of Status) params)) 0 ≡ told
     → told_at (groups_in Status raw) 0 ≡ told
 unfolding groups_in
 status_said raw params told there says = rw there says
 
 -- the lines of a Recv
-pub recv_call_told : (envelope : Envelope) (told : Option ℕ) (lines : ℕ) (text mid rest : List ℕ) → TellsReceive envelope text mid → TellsStatus told lines mid rest
+pub recv_call_told : (envelope : Envelope) (told : Told) (lines : ℕ) (text mid rest : List ℕ) → TellsReceive envelope text mid → TellsStatus told lines mid rest
     → TellsCall functions.Recv (calls.Recv envelope) (outcomes.Status told) (5 + lines) text rest
 recv_call_told envelope told lines text mid rest h s = record {
   params = receive_lines h.count h.datatype h.source h.tag h.comm ++ s.params;
@@ -277,18 +277,18 @@ recv_call_told envelope told lines text mid rest h s = record {
 }
 
 -- a status that tells nothing
-ignored_read : told_at (groups_from (value_of (codes "<IGNORED>"))) 0 ≡ None
+ignored_read : told_at (groups_from (value_of (codes "<IGNORED>"))) 0 ≡ Nothing
 unfolding value_of number_front integer_front
 ignored_read = refl
 
-pub ignored : (value : List ℕ) → bytes_eq value (codes "<IGNORED>") ≡ true → told_at (groups_from (value_of value)) 0 ≡ None
+pub ignored : (value : List ℕ) → bytes_eq value (codes "<IGNORED>") ≡ true → told_at (groups_from (value_of value)) 0 ≡ Nothing
 ignored value same = ap (λ (t : List ℕ). told_at (groups_from (value_of t)) 0) ((bytes_eq-Decides value (codes "<IGNORED>")).0 same) ∙ ignored_read
 
 -- no line of a status, and one
-pub status_absent : (text : List ℕ) → TellsStatus None 0 text text
+pub status_absent : (text : List ℕ) → TellsStatus Nothing 0 text text
 status_absent text = record { params = []; tells = refl; counted = refl; says = refl }
 
-pub status_told : (value text rest : List ℕ) (told : Option ℕ) → Tells (param_of Status value) text rest → told_at (groups_from (value_of value)) 0 ≡ told → TellsStatus told 1 text rest
+pub status_told : (value text rest : List ℕ) (told : Told) → Tells (param_of Status value) text rest → told_at (groups_from (value_of value)) 0 ≡ told → TellsStatus told 1 text rest
 status_told value text rest told tells says = record { params = param_of Status value ∷ []; tells = (rest, tells, refl); counted = refl; says = says }
 
 -- ---- the whole call
@@ -321,7 +321,6 @@ whole_told function name text inside after rest enter exit call outs count bytes
     subst (λ (n : List ℕ). HasCall (record { name = n; params = told.params }) enter exit text rest) name_is stands in
     record {
       params = told.params;
-      enter = enter;
       exit = exit;
       stands = subst (λ (t : List ℕ). HasCall (record { name = usual_name function; params = told.params }) enter exit text t) (sym left) by_name;
       within = omega arith;

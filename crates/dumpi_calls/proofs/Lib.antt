@@ -6,6 +6,7 @@ pub mod Missing
 pub mod Tolds
 pub mod InPlace
 pub mod NextCall
+pub mod Failing
 pub mod Advancing
 pub mod Handed
 pub mod Alternating

@@ -6,7 +6,7 @@ use Rattle.mpi_model.specs.declared.event.Event.TheVariants.{Enter, Return}
 use Rattle.mpi_model.specs.declared.event.Exit.{Exit}
 use Rattle.trace_know.specs.Segment.{PlacedEvents, enter_place}
 use Rattle.trace_know.specs.declared.segment.TheConstants.{MOST_EVENTS}
-use Rattle.dumpi_calls.specs.Rows.{Callback, OnSend, OnIsend, OnRecv, OnIrecv, OnSendrecv, OnProbe, OnWait, OnWaitall, OnWaitany, OnWaitsome, OnTest, OnCollective, OnIbarrier, OnOther}
+use Rattle.dumpi_calls.specs.Rows.{Callback, OnSend, OnIsend, OnRecv, OnIrecv, OnSendrecv, OnProbe, OnWait, OnWaitall, OnWaitany, OnWaitsome, OnTest, OnTestall, OnTestany, OnTestsome, OnCancel, OnRequestFree, OnCollective, OnIbarrier, OnUnread, OnOther}
 use Rattle.dumpi_calls.specs.Seen.{Seen}
 use Rattle.dumpi_calls.specs.declared.tally.Tally.{Tally}
 
@@ -72,6 +72,12 @@ tallied t OnWaitall = record t { on_waitall = one_more t.on_waitall }
 tallied t OnWaitany = record t { on_waitany = one_more t.on_waitany }
 tallied t OnWaitsome = record t { on_waitsome = one_more t.on_waitsome }
 tallied t OnTest = record t { on_test = one_more t.on_test }
+tallied t OnTestall = record t { on_testall = one_more t.on_testall }
+tallied t OnTestany = record t { on_testany = one_more t.on_testany }
+tallied t OnTestsome = record t { on_testsome = one_more t.on_testsome }
+tallied t OnCancel = record t { on_cancel = one_more t.on_cancel }
+tallied t OnRequestFree = record t { on_request_free = one_more t.on_request_free }
 tallied t OnCollective = record t { on_collective = one_more t.on_collective }
 tallied t OnIbarrier = record t { on_ibarrier = one_more t.on_ibarrier }
+tallied t (OnUnread name) = record t { on_unread = one_more t.on_unread }
 tallied t (OnOther name) = record t { on_other = one_more t.on_other }

@@ -1,10 +1,11 @@
 -- Calls that stand whole in front of a text, read where they stand.
-use Rattle.std.specs.Prelude.{◌≡◌, ◌≤◌, ℕ, ◌+◌, List, [], ◌∷◌, ◌++◌, length, Option, Some, Ok, codes, drop}
+use Rattle.std.specs.Prelude.{◌≡◌, ◌≤◌, ℕ, ◌+◌, List, [], ◌∷◌, ◌++◌, length, Some, Ok, codes, drop}
 use Rattle.mpi_model.specs.Times.{Times}
 use Rattle.mpi_model.specs.declared.call.Call.{Call}
 use Rattle.mpi_model.specs.declared.envelope.Envelope.{Envelope}
 use Rattle.mpi_model.specs.declared.envelope.Mode.TheVariants.{Standard, Synchronous}
 use Rattle.mpi_model.specs.declared.outcome.Outs.{Outs}
+use Rattle.mpi_model.specs.declared.told.Told.{Told}
 use Rattle.dumpi_text.specs.Call.{Param, TextCall, first_value}
 use Rattle.dumpi_text.specs.Usual.{HasCall, Tells, TellsAll, call_after}
 use Rattle.dumpi_text.specs.Value.{value_of}
@@ -65,7 +66,7 @@ pub record TellsCall (function : Function) (call : Call) (outs : Outs) (lines : 
   pub says : (raw : TextCall) (exit : Times) → raw.params ≡ params → raw.exit ≡ Some exit → typed_by (row function raw.name) raw ≡ Ok (record { call = call; enter = raw.enter; exit = Some (record { outs = outs; stamp = exit }) })
 
 -- A text begins with so many lines that tell a status, one or none, which tells this source.
-pub record TellsStatus (told : Option ℕ) (lines : ℕ) (text rest : List ℕ) : Type 0 where
+pub record TellsStatus (told : Told) (lines : ℕ) (text rest : List ℕ) : Type 0 where
   pub params : List Param
   pub tells : TellsAll params text rest
   pub counted : lines ≡ length params
@@ -84,10 +85,9 @@ usual_name _ = []
 -- So many bytes in front of a text are a whole call of a function, of so many lines, and it is typed so, wherever it stands.
 pub record IsWhole (function : Function) (call : TypedCall) (bytes lines : ℕ) (text : List ℕ) : Type 0 where
   pub params : List Param
-  pub enter : Times
   pub exit : Times
-  pub stands : HasCall (record { name = usual_name function; params = params }) enter exit text (drop bytes text)
+  pub stands : HasCall (record { name = usual_name function; params = params }) call.enter exit text (drop bytes text)
   pub within : bytes ≤ length text
   pub counted : lines ≡ length params + 2
   pub function_is : function_named (usual_name function) ≡ function
-  pub typed_as : (at : Position) → typed (call_after at (record { name = usual_name function; params = params }) enter exit) ≡ Ok call
+  pub typed_as : (at : Position) → typed (call_after at (record { name = usual_name function; params = params }) call.enter exit) ≡ Ok call

@@ -1,11 +1,13 @@
 -- What a returned call brings back, by its outcome parameters (MPI 4.0, 3.2.5 and 3.7).
-use Rattle.std.specs.Prelude.{ℕ, ◌+◌, ℤ, pos, negsuc, List, [], ◌∷◌, Option, Some, None, Result, Ok, Bool, true, ◌==◌, ◌&&◌, not, codes, nat_lt, length, slice_get, if◌then◌else◌}
+use Rattle.std.specs.Prelude.{ℕ, ◌+◌, ℤ, pos, negsuc, List, [], ◌∷◌, Option, Some, None, Result, Ok, Err, Bool, true, false, ◌==◌, ◌&&◌, not, codes, nat_lt, length, slice_get, if◌then◌else◌}
 use Rattle.std.specs.Str.{bytes_eq}
 use Rattle.mpi_model.specs.declared.call.Call.{Call}
 use Rattle.mpi_model.specs.declared.call.Call.TheVariants as calls
 use Rattle.mpi_model.specs.declared.outcome.Outs.{Outs}
 use Rattle.mpi_model.specs.declared.outcome.Outs.TheVariants as outcomes
 use Rattle.mpi_model.specs.declared.list.elements.Element.{Element}
+use Rattle.mpi_model.specs.declared.told.Told.{Told}
+use Rattle.mpi_model.specs.declared.told.Told.TheVariants.{Nothing, Source, Cancelled}
 use Rattle.dumpi_text.specs.Call.{TextCall}
 use Rattle.dumpi_text.specs.Value.{value_of}
 use Rattle.dumpi_text.specs.declared.group.Field.{Field}
@@ -14,7 +16,7 @@ use Rattle.dumpi_text.specs.declared.number.NumName.{NumName}
 use Rattle.dumpi_text.specs.declared.number.NumName.TheVariants as names
 use Rattle.dumpi_text.specs.declared.value.Value.{Value}
 use Rattle.dumpi_text.specs.declared.value.Value.TheVariants as values
-use Rattle.dumpi_calls.specs.Readings.{◌>>=◌, all_numbers, number_in, non_negative, text_of}
+use Rattle.dumpi_calls.specs.Readings.{◌>>=◌, all_numbers, number_in, non_negative, request_in, text_of}
 use Rattle.dumpi_calls.specs.declared.parameter.CallFault.{CallFault}
 use Rattle.dumpi_calls.specs.declared.parameter.Parameter.{Parameter}
 use Rattle.dumpi_calls.specs.declared.parameter.Parameter.TheVariants.{Request, Index, Indices, Flag, Status, Statuses}
@@ -27,18 +29,43 @@ told_by names.AnySource value = None
 told_by names.ProcNull value = None
 told_by _ value = non_negative value
 
--- what a group tells: the first of its fields `source` counts
-abbrev pub told_of : List Field → Option ℕ
-told_of [] = None
-told_of (field ∷ fields) = if bytes_eq field.word (codes "source") then told_by field.number.name field.number.value else told_of fields
+-- a source that is told, or nothing
+abbrev pub told_source : Option ℕ → Told
+told_source None = Nothing
+told_source (Some rank) = Source rank
+
+-- an `int` of C: 0 is false, any other number is true
+abbrev pub is_set : ℤ → Bool
+is_set (pos n) = not (n == 0)
+is_set (negsuc n) = true
+
+-- what the field `source` of a group tells, where it has one
+abbrev pub source_told : Option Num → Told
+source_told None = Nothing
+source_told (Some number) = told_source (told_by number.name number.value)
+
+-- What the fields `cancelled` and `source` of a group tell: where the operation was cancelled, its source says nothing (MPI 4.0,
+-- 3.8.4).
+abbrev pub told_from : Option Num → Option Num → Told
+told_from None source = source_told source
+told_from (Some cancelled) source = if is_set cancelled.value then Cancelled else source_told source
+
+-- the number of the first field of a name
+abbrev pub first_number : List ℕ → List Field → Option Num
+first_number word [] = None
+first_number word (field ∷ fields) = if bytes_eq field.word word then Some field.number else first_number word fields
+
+-- what a group tells: the first of its fields of a name counts
+abbrev pub told_of : List Field → Told
+told_of fields = told_from (first_number (codes "cancelled") fields) (first_number (codes "source") fields)
 
 -- what a group tells, where there is one
-abbrev pub told_in : Option (List Field) → Option ℕ
-told_in None = None
+abbrev pub told_in : Option (List Field) → Told
+told_in None = Nothing
 told_in (Some group) = told_of group
 
 -- what the group at a place tells
-abbrev pub told_at : List (List Field) → ℕ → Option ℕ
+abbrev pub told_at : List (List Field) → ℕ → Told
 told_at groups place = told_in (slice_get groups place)
 
 -- the groups of a value that is a list of groups
@@ -58,7 +85,7 @@ unfoldable pub groups_in : Parameter → TextCall → List (List Field)
 groups_in parameter call = groups_by (text_of parameter call)
 
 -- what the groups from a place on tell of each request
-abbrev pub tolds_from : List (List Field) → ℕ → List ℤ → List (Option ℕ)
+abbrev pub tolds_from : List (List Field) → ℕ → List ℤ → List Told
 tolds_from groups place [] = []
 tolds_from groups place (request ∷ requests) = told_at groups place ∷ tolds_from groups (place + 1) requests
 
@@ -89,7 +116,7 @@ unfoldable pub indices_in : TextCall → List Num
 indices_in call = indices_by (text_of Indices call)
 
 -- one element before others, where it has a position
-abbrev pub with_element : Option ℕ → Option ℕ → List Element → List Element
+abbrev pub with_element : Option ℕ → Told → List Element → List Element
 with_element None told elements = elements
 with_element (Some position) told elements = record { position = position; told = told } ∷ elements
 
@@ -100,16 +127,11 @@ elements_from groups count place (index ∷ indices) = with_element (position_of
 
 -- ---- outcomes
 
--- 0 is not done, any other number is
-abbrev pub is_done : ℤ → Bool
-is_done (pos n) = not (n == 0)
-is_done (negsuc n) = true
-
 -- the request that a call started
 unfoldable pub posted : TextCall → Result Outs CallFault
 posted raw = do
-  request ← number_in Request raw
-  Ok (outcomes.Posted request.value)
+  request ← request_in raw
+  Ok (outcomes.Posted request)
 
 -- what the first group of `status` tells
 abbrev pub status : TextCall → Outs
@@ -133,16 +155,40 @@ several requests raw = outcomes.Several (elements_from (groups_in Statuses raw) 
 unfoldable pub flag : TextCall → Result Outs CallFault
 flag raw = do
   flag ← number_in Flag raw
-  Ok (outcomes.Flag (is_done flag.value) (told_at (groups_in Status raw) 0))
+  Ok (outcomes.Flag (is_set flag.value) (told_at (groups_in Status raw) 0))
+
+-- What `statuses` tells where all requests are done, and nothing where they are not: then none of them was completed (MPI 4.0,
+-- 3.7.5).
+unfoldable pub all_done : List ℤ → TextCall → Result Outs CallFault
+all_done requests raw = do
+  flag ← number_in Flag raw
+  Ok (if is_set flag.value then statuses requests raw else outcomes.Flag false Nothing)
+
+-- the request that completed, where one did
+unfoldable pub any_done : List ℤ → TextCall → Result Outs CallFault
+any_done requests raw = do
+  flag ← number_in Flag raw
+  if is_set flag.value then index requests raw else Ok (outcomes.Index None Nothing)
+
+-- whether a flag that was read is set
+abbrev pub is_flagged : Result Num CallFault → Bool
+is_flagged (Ok flag) = is_set flag.value
+is_flagged (Err fault) = false
+
+-- `index` has to be there where `flag` is set.
+abbrev pub index_where_set : TextCall → List Parameter
+index_where_set raw = if is_flagged (number_in Flag raw) then Index ∷ [] else []
 
 -- the parameters that have to be there once a call has returned
-abbrev pub brought_by : Call → List Parameter
-brought_by (calls.Isend mode envelope) = Request ∷ []
-brought_by (calls.Irecv envelope) = Request ∷ []
-brought_by (calls.Ibarrier comm) = Request ∷ []
-brought_by (calls.Waitany requests) = Index ∷ []
-brought_by (calls.Test request) = Flag ∷ []
-brought_by _ = []
+abbrev pub brought_by : Call → TextCall → List Parameter
+brought_by (calls.Isend mode envelope) raw = Request ∷ []
+brought_by (calls.Irecv envelope) raw = Request ∷ []
+brought_by (calls.Ibarrier comm) raw = Request ∷ []
+brought_by (calls.Waitany requests) raw = Index ∷ []
+brought_by (calls.Test request) raw = Flag ∷ []
+brought_by (calls.Testall requests) raw = Flag ∷ []
+brought_by (calls.Testany requests) raw = Flag ∷ index_where_set raw
+brought_by _ raw = []
 
 -- what a call brings back, of the kind that belongs to it
 abbrev pub outcome_in : Call → TextCall → Result Outs CallFault
@@ -158,6 +204,12 @@ outcome_in (calls.Waitall requests) raw = Ok (statuses requests raw)
 outcome_in (calls.Waitany requests) raw = index requests raw
 outcome_in (calls.Waitsome requests) raw = Ok (several requests raw)
 outcome_in (calls.Test request) raw = flag raw
+outcome_in (calls.Testall requests) raw = all_done requests raw
+outcome_in (calls.Testany requests) raw = any_done requests raw
+outcome_in (calls.Testsome requests) raw = Ok (several requests raw)
+outcome_in (calls.Cancel request) raw = Ok outcomes.Nothing
+outcome_in (calls.Free request) raw = Ok outcomes.Nothing
 outcome_in (calls.Collective collective) raw = Ok outcomes.Nothing
 outcome_in (calls.Probe envelope) raw = Ok (status raw)
 outcome_in (calls.Ibarrier comm) raw = posted raw
+outcome_in calls.Unread raw = Ok outcomes.Nothing

@@ -1,5 +1,6 @@
 -- What the parameters of a call say, one by one.
 use Rattle.std.specs.Prelude.{◌≡◌, ◌≢◌, ◌==◌, ℕ, ℤ, pos, negsuc, List, [], ◌∷◌, Option, Some, None, Result, Ok, Err, codes, nat_lt, option_map, IfErr, IfOk, IsSome, if◌then◌else◌}
+use Rattle.mpi_model.specs.Requests.{null_request}
 use Rattle.mpi_model.specs.declared.envelope.CommRef.{CommRef}
 use Rattle.mpi_model.specs.declared.envelope.CommRef.TheVariants.{World, Id}
 use Rattle.mpi_model.specs.declared.envelope.Peer.{Peer}
@@ -171,13 +172,24 @@ comm_in call = do
   number ← number_in parameters.Comm call
   or_wrong parameters.Comm (comm_by number.name number.value)
 
--- numbers without their names
-abbrev pub values_of : List Num → List ℤ
-values_of [] = []
-values_of (number ∷ numbers) = number.value ∷ values_of numbers
+-- a request, by its name and its number: the null one by its name (MPI 4.0, 3.7.3)
+abbrev pub request_by : NumName → ℤ → ℤ
+request_by names.RequestNull value = null_request
+request_by _ value = value
 
--- the requests, by their numbers
+-- the request that a parameter names
+unfoldable pub request_in : TextCall → Result ℤ CallFault
+request_in call = do
+  number ← number_in parameters.Request call
+  Ok (request_by number.name number.value)
+
+-- the requests that numbers name
+abbrev pub requests_of : List Num → List ℤ
+requests_of [] = []
+requests_of (number ∷ numbers) = request_by number.name number.value ∷ requests_of numbers
+
+-- the requests that a parameter lists
 unfoldable pub requests_in : TextCall → Result (List ℤ) CallFault
 requests_in call = do
   numbers ← numbers_in parameters.Requests call
-  Ok (values_of numbers)
+  Ok (requests_of numbers)

@@ -1,5 +1,5 @@
 -- The table of functions: its callback, its entry and outcome parameters, and how these are read.
-use Rattle.std.specs.Prelude.{ℕ, List, [], ◌∷◌, Option, Some, None, Result, Ok, Err, codes, if◌then◌else◌}
+use Rattle.std.specs.Prelude.{ℕ, List, [], ◌∷◌, Option, Some, None, Result, Ok, Err, Bool, ◌||◌, codes, if◌then◌else◌}
 use Rattle.std.specs.Str.{bytes_eq}
 use Rattle.mpi_model.specs.Ranges.{HasRoot, IsRootOf}
 use Rattle.mpi_model.specs.declared.call.Call.{Call}
@@ -13,8 +13,8 @@ use Rattle.mpi_model.specs.declared.envelope.Mode.TheVariants.{Standard, Synchro
 use Rattle.mpi_model.specs.declared.event.Exit.{Exit}
 use Rattle.mpi_model.specs.Times.{Times}
 use Rattle.dumpi_text.specs.Call.{TextCall}
-use Rattle.dumpi_calls.specs.Readings.{◌>>=◌, asked_tag_in, comm_in, dest_in, number_in, requests_in, non_negative_in, source_in, text_of}
-use Rattle.dumpi_calls.specs.Outcomes.{outcome_in}
+use Rattle.dumpi_calls.specs.Readings.{◌>>=◌, asked_tag_in, comm_in, dest_in, number_in, request_in, requests_in, non_negative_in, source_in, text_of}
+use Rattle.dumpi_calls.specs.Outcomes.{index_where_set, outcome_in}
 use Rattle.dumpi_calls.specs.declared.envelope.Part.{Part}
 use Rattle.dumpi_calls.specs.declared.function.Function.{Function}
 use Rattle.dumpi_calls.specs.declared.function.Function.TheVariants as functions
@@ -59,49 +59,126 @@ receive_named name =
     else if bytes_eq name (codes "MPI_Probe") then Some functions.Probe
     else None
 
--- completion calls (MPI 4.0, 3.7.3 and 3.7.5)
+-- calls that wait for requests (MPI 4.0, 3.7.3 and 3.7.5)
 abbrev pub completion_named : List ℕ → Option Function
 completion_named name =
     if bytes_eq name (codes "MPI_Wait") then Some functions.Wait
     else if bytes_eq name (codes "MPI_Waitall") then Some functions.Waitall
     else if bytes_eq name (codes "MPI_Waitany") then Some functions.Waitany
     else if bytes_eq name (codes "MPI_Waitsome") then Some functions.Waitsome
-    else if bytes_eq name (codes "MPI_Test") then Some functions.Test
     else None
+
+-- calls that ask whether requests are complete (MPI 4.0, 3.7.3 and 3.7.5)
+abbrev pub test_named : List ℕ → Option Function
+test_named name =
+    if bytes_eq name (codes "MPI_Test") then Some functions.Test
+    else if bytes_eq name (codes "MPI_Testall") then Some functions.Testall
+    else if bytes_eq name (codes "MPI_Testany") then Some functions.Testany
+    else if bytes_eq name (codes "MPI_Testsome") then Some functions.Testsome
+    else None
+
+-- calls that give up a request (MPI 4.0, 3.7.3 and 3.8.4)
+abbrev pub ending_named : List ℕ → Option Function
+ending_named name =
+    if bytes_eq name (codes "MPI_Cancel") then Some functions.Cancel
+    else if bytes_eq name (codes "MPI_Request_free") then Some functions.Free
+    else None
+
+-- one of two names: with `_c` behind it a collective call has counts of 64 bits, and is the same call (MPI 4.0, 6)
+abbrev pub either : List ℕ → List ℕ → List ℕ → Bool
+either name short long = bytes_eq name short || bytes_eq name long
 
 -- collective calls without a root (MPI 4.0, 6)
 abbrev pub group_named : List ℕ → Option Function
 group_named name =
-    if bytes_eq name (codes "MPI_Barrier") then Some (functions.OfAll kinds.Barrier)
-    else if bytes_eq name (codes "MPI_Allreduce") then Some (functions.OfAll kinds.Allreduce)
-    else if bytes_eq name (codes "MPI_Allgather") then Some (functions.OfAll kinds.Allgather)
-    else if bytes_eq name (codes "MPI_Alltoall") then Some (functions.OfAll kinds.Alltoall)
+    if either name (codes "MPI_Barrier") (codes "MPI_Barrier_c") then Some (functions.OfAll kinds.Barrier)
+    else if either name (codes "MPI_Allreduce") (codes "MPI_Allreduce_c") then Some (functions.OfAll kinds.Allreduce)
+    else if either name (codes "MPI_Allgather") (codes "MPI_Allgather_c") then Some (functions.OfAll kinds.Allgather)
+    else if either name (codes "MPI_Alltoall") (codes "MPI_Alltoall_c") then Some (functions.OfAll kinds.Alltoall)
     else if bytes_eq name (codes "MPI_Ibarrier") then Some functions.Ibarrier
     else None
 
 -- collective calls with a root (MPI 4.0, 6)
 abbrev pub rooted_named : List ℕ → Option Function
 rooted_named name =
-    if bytes_eq name (codes "MPI_Bcast") then Some (functions.Rooted kinds.Bcast)
-    else if bytes_eq name (codes "MPI_Scatter") then Some (functions.Rooted kinds.Scatter)
-    else if bytes_eq name (codes "MPI_Gather") then Some (functions.Rooted kinds.Gather)
-    else if bytes_eq name (codes "MPI_Reduce") then Some (functions.Rooted kinds.Reduce)
+    if either name (codes "MPI_Bcast") (codes "MPI_Bcast_c") then Some (functions.Rooted kinds.Bcast)
+    else if either name (codes "MPI_Scatter") (codes "MPI_Scatter_c") then Some (functions.Rooted kinds.Scatter)
+    else if either name (codes "MPI_Gather") (codes "MPI_Gather_c") then Some (functions.Rooted kinds.Gather)
+    else if either name (codes "MPI_Reduce") (codes "MPI_Reduce_c") then Some (functions.Rooted kinds.Reduce)
     else None
+
+-- ---- functions that move messages and that no row reads: what follows a call of one isn't known
+
+-- nonblocking exchanges, partitioned and persistent communication, matched probes, and exchanges in place (MPI 4.0, 3.8.2, 3.9, 3.10 and 4)
+abbrev pub is_unread_name : List ℕ → Bool
+is_unread_name name =
+    bytes_eq name (codes "MPI_Isendrecv")
+    || bytes_eq name (codes "MPI_Isendrecv_replace")
+    || bytes_eq name (codes "MPI_Psend_init")
+    || bytes_eq name (codes "MPI_Precv_init")
+    || bytes_eq name (codes "MPI_Start")
+    || bytes_eq name (codes "MPI_Startall")
+    || bytes_eq name (codes "MPI_Mprobe")
+    || bytes_eq name (codes "MPI_Improbe")
+    || bytes_eq name (codes "MPI_Sendrecv_replace")
+
+-- sends with counts of 64 bits (MPI 4.0, 3.2.2)
+abbrev pub is_long_send : List ℕ → Bool
+is_long_send name =
+    bytes_eq name (codes "MPI_Send_c")
+    || bytes_eq name (codes "MPI_Ssend_c")
+    || bytes_eq name (codes "MPI_Bsend_c")
+    || bytes_eq name (codes "MPI_Rsend_c")
+    || bytes_eq name (codes "MPI_Isend_c")
+    || bytes_eq name (codes "MPI_Issend_c")
+    || bytes_eq name (codes "MPI_Ibsend_c")
+    || bytes_eq name (codes "MPI_Irsend_c")
+
+-- receives and exchanges with such counts
+abbrev pub is_long_receive : List ℕ → Bool
+is_long_receive name =
+    bytes_eq name (codes "MPI_Recv_c")
+    || bytes_eq name (codes "MPI_Irecv_c")
+    || bytes_eq name (codes "MPI_Sendrecv_c")
+    || bytes_eq name (codes "MPI_Sendrecv_replace_c")
+    || bytes_eq name (codes "MPI_Isendrecv_c")
+    || bytes_eq name (codes "MPI_Isendrecv_replace_c")
+
+-- persistent requests with such counts
+abbrev pub is_long_init : List ℕ → Bool
+is_long_init name =
+    bytes_eq name (codes "MPI_Send_init_c")
+    || bytes_eq name (codes "MPI_Ssend_init_c")
+    || bytes_eq name (codes "MPI_Bsend_init_c")
+    || bytes_eq name (codes "MPI_Rsend_init_c")
+    || bytes_eq name (codes "MPI_Recv_init_c")
+
+-- the function that no row reads, where the name is of one
+abbrev pub unread_named : List ℕ → Option Function
+unread_named name = if is_unread_name name || is_long_send name || is_long_receive name || is_long_init name then Some functions.Unread else None
 
 -- every other function
 abbrev pub other_named : List ℕ → Function
 other_named name = if bytes_eq name (codes "MPI_Finalize") then functions.Finalize else functions.Other
+
+-- the first of two functions that is there
+abbrev pub first_of : Option Function → Option Function → Option Function
+first_of (Some function) next = Some function
+first_of None next = next
 
 -- the function, or the next one
 abbrev pub or_else : Option Function → Function → Function
 or_else (Some function) next = function
 or_else None next = next
 
+-- calls of messages and of requests
+abbrev pub message_named : List ℕ → Option Function
+message_named name = first_of (send_named name) (first_of (isend_named name) (first_of (receive_named name) (first_of (completion_named name) (test_named name))))
+
 -- the function of a name
 unfoldable pub function_named : List ℕ → Function
 function_named name =
-    or_else (send_named name) (or_else (isend_named name) (or_else (receive_named name)
-    (or_else (completion_named name) (or_else (group_named name) (or_else (rooted_named name) (other_named name))))))
+    or_else (message_named name) (or_else (group_named name) (or_else (rooted_named name) (or_else (ending_named name) (or_else (unread_named name) (other_named name)))))
 
 -- ---- envelopes (MPI 4.0, 3.2.3)
 
@@ -192,8 +269,8 @@ probe_call call = do
 
 unfoldable pub wait_call : TextCall → Result Call CallFault
 wait_call call = do
-  request ← number_in Request call
-  Ok (calls.Wait request.value)
+  request ← request_in call
+  Ok (calls.Wait request)
 
 unfoldable pub waitall_call : TextCall → Result Call CallFault
 waitall_call call = do
@@ -212,8 +289,33 @@ waitsome_call call = do
 
 unfoldable pub test_call : TextCall → Result Call CallFault
 test_call call = do
-  request ← number_in Request call
-  Ok (calls.Test request.value)
+  request ← request_in call
+  Ok (calls.Test request)
+
+unfoldable pub testall_call : TextCall → Result Call CallFault
+testall_call call = do
+  requests ← requests_in call
+  Ok (calls.Testall requests)
+
+unfoldable pub testany_call : TextCall → Result Call CallFault
+testany_call call = do
+  requests ← requests_in call
+  Ok (calls.Testany requests)
+
+unfoldable pub testsome_call : TextCall → Result Call CallFault
+testsome_call call = do
+  requests ← requests_in call
+  Ok (calls.Testsome requests)
+
+unfoldable pub cancel_call : TextCall → Result Call CallFault
+cancel_call call = do
+  request ← request_in call
+  Ok (calls.Cancel request)
+
+unfoldable pub free_call : TextCall → Result Call CallFault
+free_call call = do
+  request ← request_in call
+  Ok (calls.Free request)
 
 unfoldable pub group_call : Kind → TextCall → Result Call CallFault
 group_call kind call = do
@@ -233,7 +335,7 @@ ibarrier_call call = do
 
 -- ---- the table
 
--- the callback of a function; that of all others is told the function's name
+-- the callback of a function; those of the functions that aren't read and of all others are told the function's name
 pub data Callback : Type 0 where
   OnSend : Callback
   OnIsend : Callback
@@ -246,36 +348,52 @@ pub data Callback : Type 0 where
   OnWaitany : Callback
   OnWaitsome : Callback
   OnTest : Callback
+  OnTestall : Callback
+  OnTestany : Callback
+  OnTestsome : Callback
+  OnCancel : Callback
+  OnRequestFree : Callback
   OnCollective : Callback
   OnIbarrier : Callback
+  OnUnread : (name : List ℕ) → Callback
   OnOther : (name : List ℕ) → Callback
 
--- A row: the callback; the parameters that have to be there, those of the outcome where the call returned; and how the
--- entry parameters are read. `status`, `statuses` and `indices` may be absent.
+-- A row: the callback; the parameters that have to be there, those of the outcome where the call returned, by what it says
+-- itself; and how the entry parameters are read. `status`, `statuses` and `indices` may be absent.
 pub record Row : Type 0 where
   pub callback : Callback
   pub entry : List Parameter
-  pub outcome : List Parameter
+  pub outcome : TextCall → List Parameter
   pub call : TextCall → Result Call CallFault
 
--- the row of a function; its name is told to the callback of all others
+-- the same outcome parameters whatever a call says
+abbrev pub always : List Parameter → TextCall → List Parameter
+always parameters raw = parameters
+
+-- the row of a function; its name is told to the callbacks of those that aren't read and of all others
 abbrev pub row : Function → List ℕ → Row
-row (functions.Send mode) name = record { callback = OnSend; entry = send_parameters; outcome = []; call = send_call mode }
-row (functions.Isend mode) name = record { callback = OnIsend; entry = send_parameters; outcome = Request ∷ []; call = isend_call mode }
-row functions.Recv name = record { callback = OnRecv; entry = receive_parameters; outcome = []; call = recv_call }
-row functions.Irecv name = record { callback = OnIrecv; entry = receive_parameters; outcome = Request ∷ []; call = irecv_call }
-row functions.Sendrecv name = record { callback = OnSendrecv; entry = sendrecv_parameters; outcome = []; call = sendrecv_call }
-row functions.Probe name = record { callback = OnProbe; entry = probe_parameters; outcome = []; call = probe_call }
-row functions.Wait name = record { callback = OnWait; entry = Request ∷ []; outcome = []; call = wait_call }
-row functions.Waitall name = record { callback = OnWaitall; entry = Requests ∷ []; outcome = []; call = waitall_call }
-row functions.Waitany name = record { callback = OnWaitany; entry = Requests ∷ []; outcome = Index ∷ []; call = waitany_call }
-row functions.Waitsome name = record { callback = OnWaitsome; entry = Requests ∷ []; outcome = []; call = waitsome_call }
-row functions.Test name = record { callback = OnTest; entry = Request ∷ []; outcome = Flag ∷ []; call = test_call }
-row (functions.OfAll kind) name = record { callback = OnCollective; entry = Comm ∷ []; outcome = []; call = group_call kind }
-row (functions.Rooted kind) name = record { callback = OnCollective; entry = Root ∷ Comm ∷ []; outcome = []; call = rooted_call kind }
-row functions.Ibarrier name = record { callback = OnIbarrier; entry = Comm ∷ []; outcome = Request ∷ []; call = ibarrier_call }
-row functions.Finalize name = record { callback = OnOther name; entry = []; outcome = []; call = λ raw. Ok calls.Finalize }
-row functions.Other name = record { callback = OnOther name; entry = []; outcome = []; call = λ raw. Ok calls.Local }
+row (functions.Send mode) name = record { callback = OnSend; entry = send_parameters; outcome = always []; call = send_call mode }
+row (functions.Isend mode) name = record { callback = OnIsend; entry = send_parameters; outcome = always (Request ∷ []); call = isend_call mode }
+row functions.Recv name = record { callback = OnRecv; entry = receive_parameters; outcome = always []; call = recv_call }
+row functions.Irecv name = record { callback = OnIrecv; entry = receive_parameters; outcome = always (Request ∷ []); call = irecv_call }
+row functions.Sendrecv name = record { callback = OnSendrecv; entry = sendrecv_parameters; outcome = always []; call = sendrecv_call }
+row functions.Probe name = record { callback = OnProbe; entry = probe_parameters; outcome = always []; call = probe_call }
+row functions.Wait name = record { callback = OnWait; entry = Request ∷ []; outcome = always []; call = wait_call }
+row functions.Waitall name = record { callback = OnWaitall; entry = Requests ∷ []; outcome = always []; call = waitall_call }
+row functions.Waitany name = record { callback = OnWaitany; entry = Requests ∷ []; outcome = always (Index ∷ []); call = waitany_call }
+row functions.Waitsome name = record { callback = OnWaitsome; entry = Requests ∷ []; outcome = always []; call = waitsome_call }
+row functions.Test name = record { callback = OnTest; entry = Request ∷ []; outcome = always (Flag ∷ []); call = test_call }
+row functions.Testall name = record { callback = OnTestall; entry = Requests ∷ []; outcome = always (Flag ∷ []); call = testall_call }
+row functions.Testany name = record { callback = OnTestany; entry = Requests ∷ []; outcome = λ raw. Flag ∷ index_where_set raw; call = testany_call }
+row functions.Testsome name = record { callback = OnTestsome; entry = Requests ∷ []; outcome = always []; call = testsome_call }
+row functions.Cancel name = record { callback = OnCancel; entry = Request ∷ []; outcome = always []; call = cancel_call }
+row functions.Free name = record { callback = OnRequestFree; entry = Request ∷ []; outcome = always []; call = free_call }
+row (functions.OfAll kind) name = record { callback = OnCollective; entry = Comm ∷ []; outcome = always []; call = group_call kind }
+row (functions.Rooted kind) name = record { callback = OnCollective; entry = Root ∷ Comm ∷ []; outcome = always []; call = rooted_call kind }
+row functions.Ibarrier name = record { callback = OnIbarrier; entry = Comm ∷ []; outcome = always (Request ∷ []); call = ibarrier_call }
+row functions.Unread name = record { callback = OnUnread name; entry = []; outcome = always []; call = λ raw. Ok calls.Unread }
+row functions.Finalize name = record { callback = OnOther name; entry = []; outcome = always []; call = λ raw. Ok calls.Finalize }
+row functions.Other name = record { callback = OnOther name; entry = []; outcome = always []; call = λ raw. Ok calls.Local }
 
 -- ---- calls
 
@@ -297,7 +415,7 @@ missing_by None (Some stamp) outcome = outcome
 
 -- the first parameter of its row that a call lacks: those of the outcome are asked for where it returned
 abbrev pub missing_in : Row → TextCall → Option Parameter
-missing_in row raw = missing_by (first_missing row.entry raw) raw.exit (first_missing row.outcome raw)
+missing_in row raw = missing_by (first_missing row.entry raw) raw.exit (first_missing (row.outcome raw) raw)
 
 -- how a call returned, at this time
 unfoldable pub returned : Call → Times → TextCall → Result Exit CallFault
@@ -328,9 +446,13 @@ unless_missing None read = read
 abbrev pub typed_by : Row → TextCall → Result TypedCall CallFault
 typed_by row raw = unless_missing (missing_in row raw) (read_by row raw)
 
+-- The function of a call: where another thread ended the reading, the call isn't read, whatever its name is.
+abbrev pub function_in : TextCall → Function
+function_in raw = if raw.threads then functions.Unread else function_named raw.name
+
 -- the row of a call's function
 abbrev pub row_of : TextCall → Row
-row_of raw = row (function_named raw.name) raw.name
+row_of raw = row (function_in raw) raw.name
 
 -- the call that a text tells, or why it is refused
 abbrev pub typed : TextCall → Result TypedCall CallFault

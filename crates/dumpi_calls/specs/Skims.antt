@@ -1,25 +1,40 @@
--- What groups tell, field by field: the first field `source` of a group counts.
+-- What groups tell, field by field: of a name the first field of a group counts.
 use Rattle.std.specs.Prelude.{ℕ, List, ◌++◌, map, Option, Some, None, codes, if◌then◌else◌}
 use Rattle.std.specs.Str.{bytes_eq}
+use Rattle.mpi_model.specs.declared.told.Told.{Told}
 use Rattle.dumpi_text.specs.declared.group.Field.{Field}
-use Rattle.dumpi_calls.specs.Outcomes.{told_by, told_of}
+use Rattle.dumpi_text.specs.declared.number.Num.{Num}
+use Rattle.dumpi_calls.specs.Outcomes.{first_number, told_from, told_of}
+use Rattle.dumpi_calls.specs.declared.skim.Seen.{Seen}
 
--- what was told, with one field more
-abbrev pub source_with : Option (Option ℕ) → Field → Option (Option ℕ)
-source_with (Some told) field = Some told
-source_with None field = if bytes_eq field.word (codes "source") then Some (told_by field.number.name field.number.value) else None
+-- the number of the first field of a name, with one field more
+abbrev pub number_with : List ℕ → Option Num → Field → Option Num
+number_with word (Some number) field = Some number
+number_with word None field = if bytes_eq field.word word then Some field.number else None
 
--- what was told, or else what these fields tell
-abbrev pub told_with : Option (Option ℕ) → List Field → Option ℕ
-told_with (Some told) fields = told
-told_with None fields = told_of fields
+-- the number that was found, or else that of the first such field of these
+abbrev pub number_or : List ℕ → Option Num → List Field → Option Num
+number_or word (Some number) fields = Some number
+number_or word None fields = first_number word fields
+
+-- what was seen of a group, with one field more
+abbrev pub seen_with : Seen → Field → Seen
+seen_with seen field = record { cancelled = number_with (codes "cancelled") seen.cancelled field; source = number_with (codes "source") seen.source field }
+
+-- what a group tells of which this was seen, and these fields follow
+abbrev pub told_with : Seen → List Field → Told
+told_with seen fields = told_from (number_or (codes "cancelled") seen.cancelled fields) (number_or (codes "source") seen.source fields)
 
 -- the same, where there are fields, and what follows them
-abbrev pub with_told : Option (Option ℕ) → Option (List Field × List ℕ) → Option (Option ℕ × List ℕ)
-with_told source None = None
-with_told source (Some (fields, rest)) = Some (told_with source fields, rest)
+abbrev pub with_told : Seen → Option (List Field × List ℕ) → Option (Told × List ℕ)
+with_told seen None = None
+with_told seen (Some (fields, rest)) = Some (told_with seen fields, rest)
+
+-- nothing was seen yet
+abbrev pub unseen : Seen
+unseen = record { cancelled = None; source = None }
 
 -- what was told by groups, and what these groups of a list tell, where there is one, and what follows it
-abbrev pub tolds_with : List (Option ℕ) → Option (List (List Field) × List ℕ) → Option (List (Option ℕ) × List ℕ)
+abbrev pub tolds_with : List Told → Option (List (List Field) × List ℕ) → Option (List Told × List ℕ)
 tolds_with tolds None = None
 tolds_with tolds (Some (groups, rest)) = Some (tolds ++ map told_of groups, rest)

@@ -1,9 +1,12 @@
 -- What a walk over a text does.
-use Rattle.std.specs.Prelude.{◌≡◌, ◌⊎◌, ℕ, Bool, true, false, List, [], ◌∷◌, ◌++◌, length, Option, Some, None, Ok, Err, IsSome, IsOk}
-use Rattle.std.specs.Io.KnownBytes.{IsAtEnd}
+use Rattle.std.specs.Prelude.{◌≡◌, ◌⊎◌, ℕ, ◌+◌, Bool, true, false, List, [], ◌∷◌, ◌++◌, length, Option, Some, None, Ok, Err, IsSome, IsOk}
+use Rattle.std.specs.Io.KnownBytes.{prepend_known}
+use Rattle.mpi_model.specs.Failures.{one_more}
 use Rattle.mpi_model.specs.Times.{Times}
 use Rattle.dumpi_text.specs.Call.{TextCall}
 use Rattle.dumpi_text.specs.Grammar.{Complete, Stopped}
+use Rattle.dumpi_text.specs.Lines.{CountsLines}
+use Rattle.dumpi_text.specs.Next.{ReadsInto}
 use Rattle.dumpi_text.specs.Reading.{HasRead, MeansAll}
 use Rattle.dumpi_text.specs.Source.{rest_of}
 use Rattle.dumpi_text.specs.Standing.{TextState}
@@ -28,10 +31,9 @@ use Rattle.dumpi_calls.specs.declared.walking.Walked.{Walked}
 
 -- ---- a text that is read
 
--- These calls were read of a text, and it is read on, or nothing is left of it; the line that it tells is the last one's.
+-- These calls were read of a text, and it is read on, or they are all that it means; the line that it tells is the last one's.
 pub record IsRead (text : Option (List ℕ)) (calls : List TextCall) (view : TextState) : Type 0 where
-  pub read : HasRead text calls view.at (rest_of view.rest)
-  pub stands : (view.standing ≡ Reading) ⊎ ((view.standing ≡ Finished) × IsAtEnd (rest_of view.rest))
+  pub stands : ((view.standing ≡ Reading) × HasRead text calls view.at (rest_of view.rest)) ⊎ ((view.standing ≡ Finished) × MeansAll text calls (Complete view.at))
   pub told : view.told ≡ view.at
 
 -- One call more was read, or the text was over.
@@ -39,13 +41,13 @@ abbrev pub Follows : Option (List ℕ) → List TextCall → Option TextCall →
 Follows text calls (Some call) view = IsRead text (calls ++ call ∷ []) view
 Follows text calls None view = MeansAll text calls (Complete view.told)
 
--- the text begins with these calls, where it is told
-abbrev pub Begins : Option (List ℕ) → List TextCall → Type 0
-Begins text calls = (at : Position) × (rest : Option (List ℕ)) × HasRead text calls at rest
-
 -- the text begins with these calls, and the last of them ends at this line (0 before the first)
 abbrev pub BeginsTo : Option (List ℕ) → List TextCall → ℕ → Type 0
 BeginsTo text calls line = (at : Position) × (rest : Option (List ℕ)) × HasRead text calls at rest × (line ≡ at.line)
+
+-- the text begins with these calls, or they are all that it means, where it is told
+abbrev pub Begins : Option (List ℕ) → List TextCall → Type 0
+Begins text calls = ((at : Position) × (rest : Option (List ℕ)) × HasRead text calls at rest) ⊎ ((at : Position) × MeansAll text calls (Complete at))
 
 -- The text stops at a line after these calls, where it is told, with the fault of that line; or its reader failed there.
 abbrev pub StopsAfter : Option (List ℕ) → List TextCall → TextCause → ℕ → Type 0
@@ -61,6 +63,21 @@ abbrev pub RefusesNext : Option (List ℕ) → List TextCall → TextFault → �
 RefusesNext text calls faults.Memory line = BeginsTo text calls line
 RefusesNext text calls faults.Ended line = ⊥
 RefusesNext text calls (faults.At at cause) line = (at ≡ line) × StopsAfter text calls cause line
+
+-- The reader fails after these calls of its text, once more than before, on the line after the last that was taken whole:
+-- `new` is the reader then, and the bytes at hand are those that it gave and that no whole line took. Up to that line the
+-- text has no call more and no fault.
+pub record FailsAfter {R : Type 0} (left : R → Option (List ℕ)) (failures : R → ℕ) (text : Option (List ℕ)) (before : ℕ) (calls : List TextCall) (line : ℕ) : Type 0 where
+  pub at : Position
+  pub known : Option (List ℕ)
+  pub read : HasRead text calls at known
+  pub new : R
+  pub once : failures new ≡ one_more before
+  pub at_hand : List ℕ
+  pub next : Position
+  pub line_is : line ≡ next.line
+  pub lines : CountsLines (at.line + 1) known next.line (prepend_known at_hand (left new))
+  pub into : ReadsInto at known next (prepend_known at_hand (left new))
 
 -- ---- calls
 
@@ -121,6 +138,10 @@ RefusesCall raw Memory line = line ≡ raw.line
 -- A walk stops since the text's reader failed.
 abbrev pub IsReadStop : {F : Type 0} → WalkCause F → Type 0
 IsReadStop {F = F} cause = (fault : TextFault) × (cause ≡ Text fault) × IsReadFault fault
+
+-- The reader of the text that is walked fails after so many calls, at this line.
+abbrev pub FailsIn : {R : Type 0} → (R → Option (List ℕ)) → (R → ℕ) → R → ℕ → ℕ → Type 0
+FailsIn left failures reader count line = (calls : List TextCall) × (count ≡ length calls) × FailsAfter left failures (left reader) (failures reader) calls line
 
 -- These calls were handed to the sink, in order, and are counted.
 pub record HandedOn {S : Type 0} (step : S → Seen → S) (calls : List TextCall) (old new : S) (count : ℕ) : Type 0 where

@@ -1,6 +1,6 @@
 //! A sink that keeps the events of its calls, for segments.
 
-ghost use Rattle.std.specs.Prelude.{◌≡◌, ◌<◌, ◌≤◌, ◌^◌, ◌+◌, ◌↔◌, [], IsTrue, ◌≢◌, IfOk, IfErr, OnErr, OnOk, Err, length, true};
+ghost use Rattle.std.specs.Prelude.{◌≡◌, ◌<◌, ◌≤◌, ◌^◌, ◌+◌, ◌↔◌, [], IsTrue, ◌≢◌, IfOk, IfErr, OnErr, OnOk, Err, Ok, length, true};
 ghost use Rattle.dumpi_calls.specs.Collected.{AreSegments, collected, ends_open, placed};
 ghost use Rattle.dumpi_calls.specs.Rows.{OnCollective};
 ghost use Rattle.dumpi_calls.specs.Seen.{seen};
@@ -102,6 +102,7 @@ impl Collect {
     fn push(&mut self, call: Call, enter: Stamp, exit: Option<Exit>) -> Result<(), Memory>
         ensures ok { OnOk result (self.new ≡ collected self.old (seen OnCollective call enter exit)) }
         ensures err { OnErr result (self.new ≡ self.old) }
+        ensures open { ends_open self.old ≡ true → result ≡ Ok tt }
     {
         if self.is_open {
             return Ok(());
@@ -172,6 +173,31 @@ impl CallSink for Collect {
         self.push(call, enter, exit)
     }
 
+    fn on_testall(&mut self, call: Call, enter: Stamp, exit: Option<Exit>) -> Result<(), Memory> {
+        self.push(call, enter, exit)
+    }
+
+    fn on_testany(&mut self, call: Call, enter: Stamp, exit: Option<Exit>) -> Result<(), Memory> {
+        self.push(call, enter, exit)
+    }
+
+    fn on_testsome(&mut self, call: Call, enter: Stamp, exit: Option<Exit>) -> Result<(), Memory> {
+        self.push(call, enter, exit)
+    }
+
+    fn on_cancel(&mut self, call: Call, enter: Stamp, exit: Option<Exit>) -> Result<(), Memory> {
+        self.push(call, enter, exit)
+    }
+
+    fn on_request_free(
+        &mut self,
+        call: Call,
+        enter: Stamp,
+        exit: Option<Exit>,
+    ) -> Result<(), Memory> {
+        self.push(call, enter, exit)
+    }
+
     fn on_collective(
         &mut self,
         call: Call,
@@ -182,6 +208,16 @@ impl CallSink for Collect {
     }
 
     fn on_ibarrier(&mut self, call: Call, enter: Stamp, exit: Option<Exit>) -> Result<(), Memory> {
+        self.push(call, enter, exit)
+    }
+
+    fn on_unread(
+        &mut self,
+        _name: &[u8],
+        call: Call,
+        enter: Stamp,
+        exit: Option<Exit>,
+    ) -> Result<(), Memory> {
         self.push(call, enter, exit)
     }
 

@@ -141,7 +141,7 @@ pub fn receive_envelope_in(alloc: Global, raw: &RawCall) -> Result<ReceiveEnvelo
 pub fn sendrecv_in(alloc: Global, raw: &RawCall) -> Result<Call, CallFault>
     ensures means { Reads result (sendrecv_call raw.now) }
     ensures there { OnOk result (AreThere sendrecv_parameters raw.now) }
-    ensures brings { IfOk result (λ c. brought_by c ≡ []) }
+    ensures brings { IfOk result (λ c. brought_by c raw.now ≡ []) }
 {
     let send = part_of_send(
         alloc,

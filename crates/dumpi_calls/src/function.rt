@@ -2,8 +2,9 @@
 
 ghost use Rattle.std.specs.Prelude.{◌≡◌, IfSome};
 ghost use Rattle.std.specs.Str.{bytes_eq};
-ghost use Rattle.dumpi_calls.specs.Rows.{HasItsKind, completion_named, function_named, group_named, isend_named, other_named, receive_named, rooted_named, send_named};
+ghost use Rattle.dumpi_calls.specs.Rows.{HasItsKind, completion_named, either, ending_named, function_in, function_named, group_named, is_long_init, is_long_receive, is_long_send, is_unread_name, isend_named, message_named, other_named, receive_named, rooted_named, send_named, test_named, unread_named};
 
+use dumpi_text::RawCall;
 use mpi_model::{Kind, Mode};
 
 /// A function by its name.
@@ -22,11 +23,19 @@ pub enum Function {
     Waitany,
     Waitsome,
     Test,
+    Testall,
+    Testany,
+    Testsome,
+    Cancel,
+    /// `MPI_Request_free`.
+    Free,
     /// A blocking collective call without a root.
     OfAll(Kind),
     /// A collective call with a root.
     Rooted(Kind),
     Ibarrier,
+    /// One that moves messages and that no row reads.
+    Unread,
     Finalize,
     /// Every other one: its calls are local.
     Other,
@@ -111,7 +120,7 @@ fn receive_of(name: &[u8]) -> Option<Function>
     }
 }
 
-// a completion call
+// a call that waits for requests
 fn completion_of(name: &[u8]) -> Option<Function>
     ensures value { result ≡ completion_named name.now }
     ensures kind { IfSome result HasItsKind }
@@ -124,11 +133,48 @@ fn completion_of(name: &[u8]) -> Option<Function>
         Some(Function::Waitany)
     } else if is(name, "MPI_Waitsome") {
         Some(Function::Waitsome)
-    } else if is(name, "MPI_Test") {
-        Some(Function::Test)
     } else {
         None
     }
+}
+
+// a call that asks whether requests are complete
+fn test_of(name: &[u8]) -> Option<Function>
+    ensures value { result ≡ test_named name.now }
+    ensures kind { IfSome result HasItsKind }
+{
+    if is(name, "MPI_Test") {
+        Some(Function::Test)
+    } else if is(name, "MPI_Testall") {
+        Some(Function::Testall)
+    } else if is(name, "MPI_Testany") {
+        Some(Function::Testany)
+    } else if is(name, "MPI_Testsome") {
+        Some(Function::Testsome)
+    } else {
+        None
+    }
+}
+
+// a call that gives up a request
+fn ending_of(name: &[u8]) -> Option<Function>
+    ensures value { result ≡ ending_named name.now }
+    ensures kind { IfSome result HasItsKind }
+{
+    if is(name, "MPI_Cancel") {
+        Some(Function::Cancel)
+    } else if is(name, "MPI_Request_free") {
+        Some(Function::Free)
+    } else {
+        None
+    }
+}
+
+// whether a name is one of two: a collective call has the same meaning with `_c` behind its name
+fn is_either(name: &[u8], short: &str, long: &str) -> bool
+    ensures { result ≡ either name.now short.now long.now }
+{
+    is(name, short) || is(name, long)
 }
 
 // a collective call without a root
@@ -136,13 +182,13 @@ fn group_of(name: &[u8]) -> Option<Function>
     ensures value { result ≡ group_named name.now }
     ensures kind { IfSome result HasItsKind }
 {
-    if is(name, "MPI_Barrier") {
+    if is_either(name, "MPI_Barrier", "MPI_Barrier_c") {
         Some(Function::OfAll(Kind::Barrier))
-    } else if is(name, "MPI_Allreduce") {
+    } else if is_either(name, "MPI_Allreduce", "MPI_Allreduce_c") {
         Some(Function::OfAll(Kind::Allreduce))
-    } else if is(name, "MPI_Allgather") {
+    } else if is_either(name, "MPI_Allgather", "MPI_Allgather_c") {
         Some(Function::OfAll(Kind::Allgather))
-    } else if is(name, "MPI_Alltoall") {
+    } else if is_either(name, "MPI_Alltoall", "MPI_Alltoall_c") {
         Some(Function::OfAll(Kind::Alltoall))
     } else if is(name, "MPI_Ibarrier") {
         Some(Function::Ibarrier)
@@ -156,14 +202,79 @@ fn rooted_of(name: &[u8]) -> Option<Function>
     ensures value { result ≡ rooted_named name.now }
     ensures kind { IfSome result HasItsKind }
 {
-    if is(name, "MPI_Bcast") {
+    if is_either(name, "MPI_Bcast", "MPI_Bcast_c") {
         Some(Function::Rooted(Kind::Bcast))
-    } else if is(name, "MPI_Scatter") {
+    } else if is_either(name, "MPI_Scatter", "MPI_Scatter_c") {
         Some(Function::Rooted(Kind::Scatter))
-    } else if is(name, "MPI_Gather") {
+    } else if is_either(name, "MPI_Gather", "MPI_Gather_c") {
         Some(Function::Rooted(Kind::Gather))
-    } else if is(name, "MPI_Reduce") {
+    } else if is_either(name, "MPI_Reduce", "MPI_Reduce_c") {
         Some(Function::Rooted(Kind::Reduce))
+    } else {
+        None
+    }
+}
+
+// whether a name is of a nonblocking exchange, of partitioned or persistent communication, of a matched probe, or of an
+// exchange in place
+fn is_unread_name(name: &[u8]) -> bool
+    ensures { result ≡ is_unread_name name.now }
+{
+    is(name, "MPI_Isendrecv")
+        || is(name, "MPI_Isendrecv_replace")
+        || is(name, "MPI_Psend_init")
+        || is(name, "MPI_Precv_init")
+        || is(name, "MPI_Start")
+        || is(name, "MPI_Startall")
+        || is(name, "MPI_Mprobe")
+        || is(name, "MPI_Improbe")
+        || is(name, "MPI_Sendrecv_replace")
+}
+
+// whether a name is of a send with counts of 64 bits
+fn is_long_send(name: &[u8]) -> bool
+    ensures { result ≡ is_long_send name.now }
+{
+    is(name, "MPI_Send_c")
+        || is(name, "MPI_Ssend_c")
+        || is(name, "MPI_Bsend_c")
+        || is(name, "MPI_Rsend_c")
+        || is(name, "MPI_Isend_c")
+        || is(name, "MPI_Issend_c")
+        || is(name, "MPI_Ibsend_c")
+        || is(name, "MPI_Irsend_c")
+}
+
+// whether a name is of a receive or an exchange with such counts
+fn is_long_receive(name: &[u8]) -> bool
+    ensures { result ≡ is_long_receive name.now }
+{
+    is(name, "MPI_Recv_c")
+        || is(name, "MPI_Irecv_c")
+        || is(name, "MPI_Sendrecv_c")
+        || is(name, "MPI_Sendrecv_replace_c")
+        || is(name, "MPI_Isendrecv_c")
+        || is(name, "MPI_Isendrecv_replace_c")
+}
+
+// whether a name is of a persistent request with such counts
+fn is_long_init(name: &[u8]) -> bool
+    ensures { result ≡ is_long_init name.now }
+{
+    is(name, "MPI_Send_init_c")
+        || is(name, "MPI_Ssend_init_c")
+        || is(name, "MPI_Bsend_init_c")
+        || is(name, "MPI_Rsend_init_c")
+        || is(name, "MPI_Recv_init_c")
+}
+
+// a function that moves messages and that no row reads
+fn unread_of(name: &[u8]) -> Option<Function>
+    ensures value { result ≡ unread_named name.now }
+    ensures kind { IfSome result HasItsKind }
+{
+    if is_unread_name(name) || is_long_send(name) || is_long_receive(name) || is_long_init(name) {
+        Some(Function::Unread)
     } else {
         None
     }
@@ -181,29 +292,58 @@ fn other_of(name: &[u8]) -> Function
     }
 }
 
+// a call of a message or of requests
+fn message_of(name: &[u8]) -> Option<Function>
+    ensures value { result ≡ message_named name.now }
+    ensures kind { IfSome result HasItsKind }
+{
+    match send_of(name) {
+        Some(function) => Some(function),
+        None => match isend_of(name) {
+            Some(function) => Some(function),
+            None => match receive_of(name) {
+                Some(function) => Some(function),
+                None => match completion_of(name) {
+                    Some(function) => Some(function),
+                    None => test_of(name),
+                },
+            },
+        },
+    }
+}
+
 /// The function of a name.
 #[tactic(auto, unfolding(crate::specs::Rows::function_named))]
 pub fn function_of(name: &[u8]) -> Function
     ensures value { result ≡ function_named name.now }
     ensures kind { HasItsKind result }
 {
-    match send_of(name) {
+    match message_of(name) {
         Some(function) => function,
-        None => match isend_of(name) {
+        None => match group_of(name) {
             Some(function) => function,
-            None => match receive_of(name) {
+            None => match rooted_of(name) {
                 Some(function) => function,
-                None => match completion_of(name) {
+                None => match ending_of(name) {
                     Some(function) => function,
-                    None => match group_of(name) {
+                    None => match unread_of(name) {
                         Some(function) => function,
-                        None => match rooted_of(name) {
-                            Some(function) => function,
-                            None => other_of(name),
-                        },
+                        None => other_of(name),
                     },
                 },
             },
         },
+    }
+}
+
+/// The function of a call: where another thread ended the reading, the call isn't read, whatever its name is.
+pub fn function_in(raw: &RawCall) -> Function
+    ensures value { result ≡ function_in raw.now }
+    ensures kind { HasItsKind result }
+{
+    if raw.threads() {
+        Function::Unread
+    } else {
+        function_of(raw.name())
     }
 }

@@ -5,7 +5,7 @@ ghost use Rattle.std.specs.Prelude.{◌≡◌, ◌≤◌, ◌<◌, ◌^◌, IfSo
 ghost use Rattle.mpi_model.specs.Ranges.{IsAskedTag, IsComm, IsSource, IsTarget};
 ghost use Rattle.dumpi_calls.specs.InPlace.{IsWhole, TellsCall, TellsNumber, TellsReceive, TellsSend, TellsStatus, usual_name};
 ghost use Rattle.dumpi_calls.specs.Outcomes.{groups_from, told_at};
-ghost use Rattle.dumpi_calls.specs.Readings.{non_negative};
+ghost use Rattle.dumpi_calls.specs.Readings.{non_negative, request_by};
 ghost use Rattle.dumpi_calls.specs.Rows.{function_named};
 ghost use Rattle.dumpi_text.specs.Usual.{is_word};
 ghost use Rattle.dumpi_text.specs.declared.texts.TheConstants.{MOST_USUAL_LINES};
@@ -15,11 +15,13 @@ use crate::envelope::{Part, receive_envelope, send_envelope};
 use crate::function::{Function, is};
 use crate::parameter::Parameter;
 use crate::quick::quick_number;
-use crate::reading::{asked_tag_of, comm_of, dest_of, non_negative_of, source_of};
+use crate::reading::{asked_tag_of, comm_of, dest_of, non_negative_of, request_of, source_of};
 use crate::skim::quick_status;
 use crate::typing::TypedCall;
 use dumpi_text::{Num, entering_front, parameter_front, returning_front};
-use mpi_model::{Call, CommRef, Exit, Mode, Outs, Peer, ReceiveEnvelope, SendEnvelope, Told};
+use mpi_model::{
+    Call, CommRef, Exit, Mode, Outs, Peer, ReceiveEnvelope, SendEnvelope, Stamp, Told,
+};
 
 /// A whole call in front of a text.
 #[derive(Debug, Drop)]
@@ -30,6 +32,15 @@ pub struct Whole {
     pub bytes: usize,
     /// How many lines it has.
     pub lines: u64,
+}
+
+impl Whole {
+    /// When the call was entered.
+    pub fn enter(&self) -> Stamp
+        ensures { result ≡ self.now.call.enter }
+    {
+        self.call.enter
+    }
 }
 
 // The number that the line in front of a text tells as this parameter, and what follows the line.
@@ -94,9 +105,9 @@ fn received(
 
 // the request that a call started
 fn posted(request: Num) -> Outs
-    ensures { result ≡ Outs.Posted request.value }
+    ensures { result ≡ Outs.Posted (request_by request.name request.value) }
 {
-    Outs::Posted(request.value)
+    Outs::Posted(request_of(request))
 }
 
 // The envelope that the lines of a send say in front of a text, and what follows them.
@@ -137,7 +148,7 @@ fn told_by(value: &[u8]) -> Option<Told>
     ensures { IfSome result (λ told. told_at (groups_from (value_of value.now)) 0 ≡ told) }
 {
     if is(value, "<IGNORED>") {
-        Some(Told::new(None).unwrap())
+        Some(Told::Nothing)
     } else {
         quick_status(value)
     }
@@ -150,7 +161,7 @@ fn status_front(text: &[u8]) -> Option<(Told, u64, &[u8])>
     ensures few { IfSome result (λ x. x.1 ≤ 1) }
 {
     match parameter_front(b"MPI_Status", b"status", text) {
-        None => Some((Told::new(None).unwrap(), 0, text)),
+        None => Some((Told::Nothing, 0, text)),
         Some((value, rest)) => {
             let told = told_by(value)?;
             Some((told, 1, rest))

@@ -2,17 +2,16 @@
 //!
 //! `status`, `statuses` and `indices` are never missing and never wrong: what is absent or can't be read tells nothing.
 
-ghost use Rattle.std.specs.Prelude.{◌≡◌, ◌∷◌, [], IfOk, OnOk, length};
+ghost use Rattle.std.specs.Prelude.{◌≡◌, ◌∷◌, ◌<◌, ◌^◌, [], IfOk, IfSome, OnOk, length};
 ghost use Rattle.std.specs.Option.{option_copied};
-ghost use Rattle.mpi_model.specs.Ranges.{IsTold};
-ghost use Rattle.dumpi_calls.specs.Readings.{AreThere, Reads};
-ghost use Rattle.dumpi_calls.specs.Outcomes.{brought_by, elements_from, flag, groups_from, groups_in, index, indices_in, is_done, outcome_in, position_of, posted, several, status, statuses, told_at, told_by, told_of, tolds_from};
+ghost use Rattle.dumpi_calls.specs.Readings.{AreThere, Reads, number_in};
+ghost use Rattle.dumpi_calls.specs.Outcomes.{all_done, any_done, brought_by, elements_from, first_number, flag, groups_from, groups_in, index, index_where_set, indices_in, is_flagged, is_set, outcome_in, position_of, posted, several, source_told, status, statuses, told_at, told_by, told_from, told_of, tolds_from};
 ghost use Rattle.dumpi_text.specs.Value.{value_of};
 ghost use Rattle.dumpi_calls.specs.declared.parameter.Parameter.TheVariants as parameters;
 
 use crate::function::is;
 use crate::parameter::{CallFault, Parameter};
-use crate::reading::{listed, non_negative_of, number, text_in};
+use crate::reading::{listed, non_negative_of, number, request, text_in};
 use crate::skim::{quick_status, quick_statuses};
 use dumpi_text::{
     Field, Group, Groups, Num, NumName, Nums, RawCall, Value, ValueFault, parse_value,
@@ -20,10 +19,10 @@ use dumpi_text::{
 use mpi_model::{Call, Element, Elements, Outs, Sources, Told};
 use std::alloc::{AllocError, Global};
 
-/// The source that a number tells, unless its name says that it is none.
-pub fn told_source(number: Num) -> Option<u32>
+// the source that a number tells, unless its name says that it is none
+fn source_of(number: Num) -> Option<u32>
     ensures value { result ≡ told_by number.name number.value }
-    ensures range { IsTold result }
+    ensures range { IfSome result (λ n. n < 2 ^ 31) }
 {
     match number.name {
         NumName::AnySource | NumName::ProcNull => None,
@@ -31,16 +30,53 @@ pub fn told_source(number: Num) -> Option<u32>
     }
 }
 
-// what a group tells: its first field `source` counts
+// what the field `source` of a group tells, where it has one
+fn told_by_source(source: Option<Num>) -> Told
+    ensures { result ≡ source_told source }
+{
+    match source {
+        None => Told::Nothing,
+        Some(number) => match source_of(number) {
+            None => Told::Nothing,
+            Some(rank) => Told::from_rank(rank).unwrap(),
+        },
+    }
+}
+
+// whether a number is true, as C reads an `int`
+fn is_true(value: i64) -> bool
+    ensures { result ≡ is_set value }
+{
+    value != 0
+}
+
+/// What the fields `cancelled` and `source` of a group tell (MPI 4.0, 3.8.4).
+pub fn told_from(cancelled: Option<Num>, source: Option<Num>) -> Told
+    ensures { result ≡ told_from cancelled source }
+{
+    match cancelled {
+        Some(number) if is_true(number.value) => Told::Cancelled,
+        _ => told_by_source(source),
+    }
+}
+
+// the number of the first field of a name
+fn number_of(fields: &[Field], word: &str) -> Option<Num>
+    ensures { result ≡ first_number word.now fields.now }
+{
+    for field in fields {
+        if is(field.word.as_slice(), word) {
+            return Some(field.number);
+        }
+    }
+    None
+}
+
+// what a group tells
 fn told_of_group(fields: &[Field]) -> Told
     ensures { result ≡ told_of fields.now }
 {
-    for field in fields {
-        if is(field.word.as_slice(), "source") {
-            return Told::new(told_source(field.number)).unwrap();
-        }
-    }
-    Told::new(None).unwrap()
+    told_from(number_of(fields, "cancelled"), number_of(fields, "source"))
 }
 
 // what the group at a place tells
@@ -49,7 +85,7 @@ fn told_of_place(groups: &[Group], place: usize) -> Told
 {
     match groups.get(place) {
         Some(group) => told_of_group(group.as_slice()),
-        None => Told::new(None).unwrap(),
+        None => Told::Nothing,
     }
 }
 
@@ -95,7 +131,7 @@ fn told(alloc: Global, raw: &RawCall) -> Result<Told, AllocError>
     ensures { IfOk result (λ t. t ≡ told_at (groups_in parameters.Status raw.now) 0) }
 {
     match text_in(raw, Parameter::Status) {
-        None => Ok(Told::new(None).unwrap()),
+        None => Ok(Told::Nothing),
         Some(text) => told_of_text(alloc, text),
     }
 }
@@ -171,8 +207,8 @@ fn posted_in(alloc: Global, raw: &RawCall) -> Result<Outs, CallFault>
     ensures means { Reads result (posted raw.now) }
     ensures there { OnOk result (AreThere (Parameter.Request ∷ []) raw.now) }
 {
-    let request = number(alloc, raw, Parameter::Request)?;
-    Ok(Outs::Posted(request.value))
+    let request = request(alloc, raw)?;
+    Ok(Outs::Posted(request))
 }
 
 fn status_in(alloc: Global, raw: &RawCall) -> Result<Outs, AllocError>
@@ -237,13 +273,6 @@ fn several_in(alloc: Global, requests: &[i64], raw: &RawCall) -> Result<Outs, Al
     Ok(Outs::Several(elements))
 }
 
-// whether a flag says that the request is done
-fn done(value: i64) -> bool
-    ensures { result ≡ is_done value }
-{
-    value != 0
-}
-
 #[tactic(auto, unfolding(crate::specs::Outcomes::flag))]
 fn flag_in(alloc: Global, raw: &RawCall) -> Result<Outs, CallFault>
     ensures means { Reads result (flag raw.now) }
@@ -251,22 +280,64 @@ fn flag_in(alloc: Global, raw: &RawCall) -> Result<Outs, CallFault>
 {
     let number = number(alloc, raw, Parameter::Flag)?;
     let told = told(alloc, raw)?;
-    Ok(Outs::Flag(done(number.value), told))
+    Ok(Outs::Flag(is_true(number.value), told))
+}
+
+#[tactic(auto, unfolding(crate::specs::Outcomes::all_done))]
+fn all_done_in(alloc: Global, requests: &[i64], raw: &RawCall) -> Result<Outs, CallFault>
+    ensures means { Reads result (all_done requests.now raw.now) }
+    ensures there { OnOk result (AreThere (Parameter.Flag ∷ []) raw.now) }
+{
+    let number = number(alloc, raw, Parameter::Flag)?;
+    if is_true(number.value) {
+        Ok(statuses_in(alloc, requests, raw)?)
+    } else {
+        Ok(Outs::Flag(false, Told::Nothing))
+    }
+}
+
+#[tactic(auto, unfolding(crate::specs::Outcomes::any_done))]
+fn any_done_in(alloc: Global, requests: &[i64], raw: &RawCall) -> Result<Outs, CallFault>
+    ensures means { Reads result (any_done requests.now raw.now) }
+    ensures there { OnOk result (AreThere (Parameter.Flag ∷ index_where_set raw.now) raw.now) }
+{
+    let number = number(alloc, raw, Parameter::Flag)?;
+    if is_true(number.value) {
+        index_in(alloc, requests, raw)
+    } else {
+        Ok(Outs::Index(None, Told::Nothing))
+    }
+}
+
+/// Whether the flag of a call is there, readable and set.
+pub fn is_flag_set(alloc: Global, raw: &RawCall) -> Result<bool, AllocError>
+    ensures { IfOk result (λ set. set ≡ is_flagged (number_in parameters.Flag raw.now)) }
+{
+    match number(alloc, raw, Parameter::Flag) {
+        Ok(number) => Ok(is_true(number.value)),
+        Err(CallFault::Memory) => Err(AllocError),
+        Err(_) => Ok(false),
+    }
 }
 
 /// What a returned call brings back.
 pub fn outcome(alloc: Global, call: &Call, raw: &RawCall) -> Result<Outs, CallFault>
     ensures means { Reads result (outcome_in call.now raw.now) }
-    ensures there { OnOk result (AreThere (brought_by call.now) raw.now) }
+    ensures there { OnOk result (AreThere (brought_by call.now raw.now) raw.now) }
 {
     match call {
         Call::Local | Call::Finalize | Call::Send(..) | Call::Collective(_) => Ok(Outs::Nothing),
+        Call::Cancel(_) | Call::Free(_) | Call::Unread => Ok(Outs::Nothing),
         Call::Isend(..) | Call::Irecv(_) | Call::Ibarrier(_) => posted_in(alloc, raw),
         Call::Recv(_) | Call::Sendrecv(_) => Ok(status_in(alloc, raw)?),
         Call::Probe(_) | Call::Wait(_) => Ok(status_in(alloc, raw)?),
         Call::Waitall(requests) => Ok(statuses_in(alloc, requests.as_slice(), raw)?),
         Call::Waitany(requests) => index_in(alloc, requests.as_slice(), raw),
-        Call::Waitsome(requests) => Ok(several_in(alloc, requests.as_slice(), raw)?),
+        Call::Waitsome(requests) | Call::Testsome(requests) => {
+            Ok(several_in(alloc, requests.as_slice(), raw)?)
+        }
         Call::Test(_) => flag_in(alloc, raw),
+        Call::Testall(requests) => all_done_in(alloc, requests.as_slice(), raw),
+        Call::Testany(requests) => any_done_in(alloc, requests.as_slice(), raw),
     }
 }

@@ -78,6 +78,8 @@ fn name_by(note: &[u8]) -> NumName
         NumName::ProcNull
     } else if says(note, "MPI_COMM_WORLD") {
         NumName::CommWorld
+    } else if says(note, "MPI_REQUEST_NULL") {
+        NumName::RequestNull
     } else {
         NumName::Other
     }
@@ -94,6 +96,8 @@ fn usual_note(rest: &[u8]) -> Option<NumName>
         Some(NumName::AnySource)
     } else if is(rest, "MPI_ANY_TAG)") {
         Some(NumName::AnyTag)
+    } else if is(rest, "MPI_REQUEST_NULL)") {
+        Some(NumName::RequestNull)
     } else if is(rest, "MPI_DOUBLE)") {
         Some(NumName::Other)
     } else if is(rest, "MPI_INT)") {

@@ -7,12 +7,12 @@ ghost use Rattle.std.specs.Prelude.{◌≡◌, ◌∷◌, ◌<◌, ◌^◌, [], 
 ghost use Rattle.dumpi_text.specs.Value.{value_of};
 ghost use Rattle.mpi_model.specs.Ranges.{IsAskedTag, IsComm, IsSource, IsTarget};
 ghost use Rattle.std.specs.Option.{option_copied};
-ghost use Rattle.dumpi_calls.specs.Readings.{AreThere, Reads, all_numbers, asked_tag_by, asked_tag_in, comm_by, comm_in, dest_by, dest_in, number_in, numbers_in, one_number, or_wrong, requests_in, non_negative, non_negative_in, source_by, source_in, text_of, value_in, values_of};
+ghost use Rattle.dumpi_calls.specs.Readings.{AreThere, Reads, all_numbers, asked_tag_by, asked_tag_in, comm_by, comm_in, dest_by, dest_in, number_in, numbers_in, one_number, or_wrong, requests_in, non_negative, non_negative_in, request_by, request_in, requests_of, source_by, source_in, text_of, value_in};
 
 use crate::parameter::{CallFault, Parameter};
 use crate::quick::quick_number;
 use dumpi_text::{Num, NumName, Nums, RawCall, Value, ValueFault, parse_value};
-use mpi_model::{CommRef, Peer, Requests};
+use mpi_model::{CommRef, NULL_REQUEST, Peer, Requests};
 use std::alloc::{AllocError, Global};
 
 /// The text of a parameter.
@@ -153,15 +153,36 @@ pub fn comm(alloc: Global, raw: &RawCall) -> Result<CommRef, CallFault>
     }
 }
 
-// the numbers without their names
-fn values(alloc: Global, numbers: &[Num]) -> Result<Vec<i64>, AllocError>
-    ensures { IfOk result (λ v. v.items ≡ values_of numbers.now) }
+/// The request that a number names: the null one by its name.
+pub fn request_of(number: Num) -> i64
+    ensures { result ≡ request_by number.name number.value }
 {
-    let mut values = Vec::with_capacity(alloc, numbers.len())?;
-    for number in numbers {
-        values.push(number.value)?;
+    if number.name == NumName::RequestNull {
+        NULL_REQUEST
+    } else {
+        number.value
     }
-    Ok(values)
+}
+
+/// The request that a call names.
+#[tactic(auto, unfolding(crate::specs::Readings::request_in))]
+pub fn request(alloc: Global, raw: &RawCall) -> Result<i64, CallFault>
+    ensures means { Reads result (request_in raw.now) }
+    ensures there { OnOk result (AreThere (Parameter.Request ∷ []) raw.now) }
+{
+    let number = number(alloc, raw, Parameter::Request)?;
+    Ok(request_of(number))
+}
+
+// the requests that numbers name
+fn named(alloc: Global, numbers: &[Num]) -> Result<Vec<i64>, AllocError>
+    ensures { IfOk result (λ v. v.items ≡ requests_of numbers.now) }
+{
+    let mut named = Vec::with_capacity(alloc, numbers.len())?;
+    for number in numbers {
+        named.push(request_of(*number))?;
+    }
+    Ok(named)
 }
 
 /// The numbers of a value that is a list of numbers, or one number.
@@ -191,14 +212,14 @@ fn number_list(alloc: Global, raw: &RawCall, parameter: Parameter) -> Result<Num
     }
 }
 
-/// The requests that a call names, by their numbers in its order.
+/// The requests that a call lists, in its order.
 #[tactic(auto, unfolding(crate::specs::Readings::requests_in))]
 pub fn requests(alloc: Global, raw: &RawCall) -> Result<Requests, CallFault>
     ensures means { Reads result (requests_in raw.now) }
     ensures there { OnOk result (AreThere (Parameter.Requests ∷ []) raw.now) }
 {
     let numbers = number_list(alloc, raw, Parameter::Requests)?;
-    Ok(Requests::from_vec(values(alloc, numbers.as_slice())?))
+    Ok(Requests::from_vec(named(alloc, numbers.as_slice())?))
 }
 
 /// The destination that a number tells, by its name first.

@@ -1,7 +1,7 @@
 //! What calls are handed to.
 
 ghost use Rattle.std.specs.Prelude.{◌≡◌, OnErr, OnOk};
-ghost use Rattle.dumpi_calls.specs.Rows.{OnCollective, OnIbarrier, OnIrecv, OnIsend, OnOther, OnProbe, OnRecv, OnSend, OnSendrecv, OnTest, OnWait, OnWaitall, OnWaitany, OnWaitsome, row};
+ghost use Rattle.dumpi_calls.specs.Rows.{OnCancel, OnCollective, OnIbarrier, OnIrecv, OnIsend, OnOther, OnProbe, OnRecv, OnRequestFree, OnSend, OnSendrecv, OnTest, OnTestall, OnTestany, OnTestsome, OnUnread, OnWait, OnWaitall, OnWaitany, OnWaitsome, row};
 ghost use Rattle.dumpi_calls.specs.Seen.{Seen, seen, seen_by};
 
 use crate::function::Function;
@@ -55,7 +55,7 @@ use mpi_model::{Call, Exit, Stamp};
 ///         Ok(())
 ///     }
 ///
-///     // and each of the other thirteen likewise
+///     // and each of the other nineteen likewise
 /// }
 ///
 /// let mut sink = SentTo { rank: 1, elements: 0 };
@@ -146,8 +146,53 @@ pub trait CallSink {
         ensures ok { OnOk result (self.new ≡ step self.old (seen OnTest call enter exit)) }
         ensures err { OnErr result (self.new ≡ self.old) };
 
+    /// `MPI_Testall`.
+    fn on_testall(
+        &mut self,
+        call: Call,
+        enter: Stamp,
+        exit: Option<Exit>,
+    ) -> Result<(), Self::Fault>
+        ensures ok { OnOk result (self.new ≡ step self.old (seen OnTestall call enter exit)) }
+        ensures err { OnErr result (self.new ≡ self.old) };
+
+    /// `MPI_Testany`.
+    fn on_testany(
+        &mut self,
+        call: Call,
+        enter: Stamp,
+        exit: Option<Exit>,
+    ) -> Result<(), Self::Fault>
+        ensures ok { OnOk result (self.new ≡ step self.old (seen OnTestany call enter exit)) }
+        ensures err { OnErr result (self.new ≡ self.old) };
+
+    /// `MPI_Testsome`.
+    fn on_testsome(
+        &mut self,
+        call: Call,
+        enter: Stamp,
+        exit: Option<Exit>,
+    ) -> Result<(), Self::Fault>
+        ensures ok { OnOk result (self.new ≡ step self.old (seen OnTestsome call enter exit)) }
+        ensures err { OnErr result (self.new ≡ self.old) };
+
+    /// `MPI_Cancel`.
+    fn on_cancel(&mut self, call: Call, enter: Stamp, exit: Option<Exit>) -> Result<(), Self::Fault>
+        ensures ok { OnOk result (self.new ≡ step self.old (seen OnCancel call enter exit)) }
+        ensures err { OnErr result (self.new ≡ self.old) };
+
+    /// `MPI_Request_free`.
+    fn on_request_free(
+        &mut self,
+        call: Call,
+        enter: Stamp,
+        exit: Option<Exit>,
+    ) -> Result<(), Self::Fault>
+        ensures ok { OnOk result (self.new ≡ step self.old (seen OnRequestFree call enter exit)) }
+        ensures err { OnErr result (self.new ≡ self.old) };
+
     /// `MPI_Barrier`, `MPI_Bcast`, `MPI_Scatter`, `MPI_Gather`, `MPI_Reduce`, `MPI_Allreduce`, `MPI_Allgather`,
-    /// `MPI_Alltoall`.
+    /// `MPI_Alltoall`, each also with `_c` behind its name.
     fn on_collective(
         &mut self,
         call: Call,
@@ -165,6 +210,18 @@ pub trait CallSink {
         exit: Option<Exit>,
     ) -> Result<(), Self::Fault>
         ensures ok { OnOk result (self.new ≡ step self.old (seen OnIbarrier call enter exit)) }
+        ensures err { OnErr result (self.new ≡ self.old) };
+
+    /// A function that moves messages and that isn't read, or a call at which another thread ended the reading; its name
+    /// comes first. What the rank does from there on isn't known.
+    fn on_unread(
+        &mut self,
+        name: &[u8],
+        call: Call,
+        enter: Stamp,
+        exit: Option<Exit>,
+    ) -> Result<(), Self::Fault>
+        ensures ok { OnOk result (self.new ≡ step self.old (seen (OnUnread name.now) call enter exit)) }
         ensures err { OnErr result (self.new ≡ self.old) };
 
     /// `MPI_Finalize` and every other function; its name comes first.
@@ -202,9 +259,15 @@ pub fn hand_on<S: CallSink>(
         Function::Waitany => sink.on_waitany(call, enter, exit),
         Function::Waitsome => sink.on_waitsome(call, enter, exit),
         Function::Test => sink.on_test(call, enter, exit),
+        Function::Testall => sink.on_testall(call, enter, exit),
+        Function::Testany => sink.on_testany(call, enter, exit),
+        Function::Testsome => sink.on_testsome(call, enter, exit),
+        Function::Cancel => sink.on_cancel(call, enter, exit),
+        Function::Free => sink.on_request_free(call, enter, exit),
         Function::OfAll(_) => sink.on_collective(call, enter, exit),
         Function::Rooted(_) => sink.on_collective(call, enter, exit),
         Function::Ibarrier => sink.on_ibarrier(call, enter, exit),
+        Function::Unread => sink.on_unread(name, call, enter, exit),
         Function::Finalize => sink.on_other(name, call, enter, exit),
         Function::Other => sink.on_other(name, call, enter, exit),
     }

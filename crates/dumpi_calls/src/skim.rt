@@ -1,11 +1,11 @@
-//! Statuses as dumpi2ascii writes them, `[count] {{word=number, ..}, ..}`, of which the sources are read in one pass and in
-//! place. What these functions don't answer for is read as any value is.
+//! Statuses as dumpi2ascii writes them, `[count] {{word=number, ..}, ..}`, of which is read in one pass and in place what they
+//! tell. What these functions don't answer for is read as any value is.
 
-ghost use Rattle.std.specs.Prelude.{◌≡◌, ◌<◌, ◌≤◌, ◌∷◌, [], IfOk, IfSome, None, Some, length, map, true};
+ghost use Rattle.std.specs.Prelude.{◌≡◌, ◌<◌, ◌≤◌, ◌∷◌, [], IfOk, IfSome, Some, length, map, true};
 ghost use Rattle.std.specs.List.{list_all};
 ghost use Rattle.std.specs.Option.{option_map};
-ghost use Rattle.dumpi_calls.specs.Outcomes.{groups_from, told_at, told_by, told_of};
-ghost use Rattle.dumpi_calls.specs.Skims.{source_with, told_with, tolds_with, with_told};
+ghost use Rattle.dumpi_calls.specs.Outcomes.{groups_from, told_at, told_of};
+ghost use Rattle.dumpi_calls.specs.Skims.{number_with, seen_with, told_with, tolds_with, unseen, with_told};
 ghost use Rattle.dumpi_text.specs.Bytes.{closing_brace, equals, opening_bracket};
 ghost use Rattle.dumpi_text.specs.Items.{field_item, fields_front, group_item, items_front, next_front};
 ghost use Rattle.dumpi_text.specs.Number.{note_front, number_front};
@@ -15,11 +15,18 @@ ghost use Rattle.dumpi_text.specs.Words.{after_front, is_word_byte, word_parts};
 ghost use Rattle.dumpi_text.specs.declared.number.NumName.TheVariants.{Other};
 
 use crate::function::is;
-use crate::outcome::told_source;
+use crate::outcome::told_from;
 use crate::quick::digits_front;
 use dumpi_text::{Num, NumName, ValueFault};
 use mpi_model::Told;
 use std::alloc::Global;
+
+/// What was seen of the fields of a group: the numbers of the first `cancelled` and of the first `source`.
+#[derive(Clone, Copy, Debug, PartialEq, Eq)]
+struct Seen {
+    cancelled: Option<Num>,
+    source: Option<Num>,
+}
 
 // the text without the spaces in front
 fn skip_spaces(text: &[u8]) -> &[u8]
@@ -172,15 +179,15 @@ fn after_comma(text: &[u8]) -> Option<&[u8]>
 
 // what the fields of a group tell, where they are those that dumpi2ascii writes, and what follows its `}`
 fn usual_front(text: &[u8]) -> Option<(Told, &[u8])>
-    ensures { IfSome result (λ x. with_told None (fields_front text.now) ≡ Some (x.0, x.1.now)) }
+    ensures { IfSome result (λ x. with_told unseen (fields_front text.now) ≡ Some (x.0, x.1.now)) }
 {
     let (_, rest) = field_named(b"bytes", text)?;
-    let (_, rest) = field_named(b"cancelled", after_comma(rest)?)?;
+    let (cancelled, rest) = field_named(b"cancelled", after_comma(rest)?)?;
     let (source, rest) = field_named(b"source", after_comma(rest)?)?;
     let (_, rest) = field_named(b"tag", after_comma(rest)?)?;
     let (_, rest) = field_named(b"error", after_comma(rest)?)?;
     let rest = strip_byte(b'}', rest)?;
-    Some((told_number(source), rest))
+    Some((told_from(Some(cancelled), Some(source)), rest))
 }
 
 // whether another field follows, and what follows its `,` or the group's `}`
@@ -194,42 +201,36 @@ fn split_next(text: &[u8]) -> Option<(bool, &[u8])>
     }
 }
 
-// what the number of a field `source` tells
-fn told_number(number: Num) -> Told
-    ensures { result ≡ told_by number.name number.value }
+// what was found of the fields of a name, with one field more: the first of them counts
+fn number_by(wanted: &str, found: Option<Num>, word: &[u8], number: Num) -> Option<Num>
+    ensures { result ≡ number_with wanted.now found (record { word = word.now; number = number }) }
 {
-    Told::new(told_source(number)).unwrap()
+    match found {
+        Some(first) => Some(first),
+        None => { if is(word, wanted) { Some(number) } else { None } }
+    }
 }
 
-// what was told, with one field more: the first field `source` counts
-fn source_by(source: Option<Told>, word: &[u8], number: Num) -> Option<Told>
-    ensures { result ≡ source_with source (record { word = word.now; number = number }) }
+// what was seen, with one field more
+fn seen_by(seen: Seen, word: &[u8], number: Num) -> Seen
+    ensures { result ≡ seen_with seen (record { word = word.now; number = number }) }
 {
-    match source {
-        Some(told) => Some(told),
-        None => {
-            if is(word, "source") {
-                Some(told_number(number))
-            } else {
-                None
-            }
-        }
+    Seen {
+        cancelled: number_by("cancelled", seen.cancelled, word, number),
+        source: number_by("source", seen.source, word, number),
     }
 }
 
 // what was told by all fields
-fn told_by_all(source: Option<Told>) -> Told
-    ensures { result ≡ told_with source [] }
+fn told_by_all(seen: Seen) -> Told
+    ensures { result ≡ told_with seen [] }
 {
-    match source {
-        Some(told) => told,
-        None => Told::new(None).unwrap(),
-    }
+    told_from(seen.cancelled, seen.source)
 }
 
 // what the fields of a group tell, and what follows its `}`
 fn told_front(text: &[u8]) -> Option<(Told, &[u8])>
-    ensures { IfSome result (λ x. with_told None (fields_front text.now) ≡ Some (x.0, x.1.now)) }
+    ensures { IfSome result (λ x. with_told unseen (fields_front text.now) ≡ Some (x.0, x.1.now)) }
 {
     match usual_front(text) {
         Some(usual) => Some(usual),
@@ -240,16 +241,19 @@ fn told_front(text: &[u8]) -> Option<(Told, &[u8])>
 // the same of any fields, one by one
 #[tactic(auto, using(crate::proofs::FieldByField::one_more, crate::proofs::FieldByField::the_last))]
 fn any_front(text: &[u8]) -> Option<(Told, &[u8])>
-    ensures { IfSome result (λ x. with_told None (fields_front text.now) ≡ Some (x.0, x.1.now)) }
+    ensures { IfSome result (λ x. with_told unseen (fields_front text.now) ≡ Some (x.0, x.1.now)) }
 {
-    let mut source = None;
+    let mut seen = Seen {
+        cancelled: None,
+        source: None,
+    };
     let mut left = text;
     for _ in 0..text.len() {
         let (word, number, rest) = split_field(skip_spaces(left))?;
-        source = source_by(source, word, number);
+        seen = seen_by(seen, word, number);
         match split_next(skip_spaces(rest)) {
             Some((true, rest)) => left = rest,
-            Some((false, rest)) => return Some((told_by_all(source), rest)),
+            Some((false, rest)) => return Some((told_by_all(seen), rest)),
             None => return None,
         }
     }
@@ -280,7 +284,6 @@ fn closes_list(text: &[u8]) -> bool
 }
 
 /// What the text of a status tells, where it is one group.
-#[tactic(auto, using(crate::proofs::FieldByField::status_value))]
 pub fn quick_status(text: &[u8]) -> Option<Told>
     ensures { IfSome result (λ told. told_at (groups_from (value_of text.now)) 0 ≡ told) }
 {
@@ -293,7 +296,7 @@ pub fn quick_status(text: &[u8]) -> Option<Told>
 
 // what the group in front tells, and what follows it
 fn told_group(text: &[u8]) -> Option<(Told, &[u8])>
-    ensures { IfSome result (λ x. with_told None (group_item text.now) ≡ Some (x.0, x.1.now)) }
+    ensures { IfSome result (λ x. with_told unseen (group_item text.now) ≡ Some (x.0, x.1.now)) }
 {
     match text {
         [b'{', fields @ ..] => told_front(fields),

@@ -20,15 +20,21 @@ pub struct Tally {
     pub on_waitany: u64,
     pub on_waitsome: u64,
     pub on_test: u64,
+    pub on_testall: u64,
+    pub on_testany: u64,
+    pub on_testsome: u64,
+    pub on_cancel: u64,
+    pub on_request_free: u64,
     pub on_collective: u64,
     pub on_ibarrier: u64,
+    pub on_unread: u64,
     pub on_other: u64,
 }
 
 impl Tally {
     /// Every count at 0.
     pub fn new() -> Tally
-        ensures { result ≡ record { on_send = 0; on_isend = 0; on_recv = 0; on_irecv = 0; on_sendrecv = 0; on_probe = 0; on_wait = 0; on_waitall = 0; on_waitany = 0; on_waitsome = 0; on_test = 0; on_collective = 0; on_ibarrier = 0; on_other = 0 } }
+        ensures { result ≡ record { on_send = 0; on_isend = 0; on_recv = 0; on_irecv = 0; on_sendrecv = 0; on_probe = 0; on_wait = 0; on_waitall = 0; on_waitany = 0; on_waitsome = 0; on_test = 0; on_testall = 0; on_testany = 0; on_testsome = 0; on_cancel = 0; on_request_free = 0; on_collective = 0; on_ibarrier = 0; on_unread = 0; on_other = 0 } }
     {
         Tally {
             on_send: 0,
@@ -42,8 +48,14 @@ impl Tally {
             on_waitany: 0,
             on_waitsome: 0,
             on_test: 0,
+            on_testall: 0,
+            on_testany: 0,
+            on_testsome: 0,
+            on_cancel: 0,
+            on_request_free: 0,
             on_collective: 0,
             on_ibarrier: 0,
+            on_unread: 0,
             on_other: 0,
         }
     }
@@ -166,6 +178,56 @@ impl CallSink for Tally {
         Ok(())
     }
 
+    fn on_testall(
+        &mut self,
+        _call: Call,
+        _enter: Stamp,
+        _exit: Option<Exit>,
+    ) -> Result<(), Infallible> {
+        self.on_testall = self.on_testall.saturating_add(1);
+        Ok(())
+    }
+
+    fn on_testany(
+        &mut self,
+        _call: Call,
+        _enter: Stamp,
+        _exit: Option<Exit>,
+    ) -> Result<(), Infallible> {
+        self.on_testany = self.on_testany.saturating_add(1);
+        Ok(())
+    }
+
+    fn on_testsome(
+        &mut self,
+        _call: Call,
+        _enter: Stamp,
+        _exit: Option<Exit>,
+    ) -> Result<(), Infallible> {
+        self.on_testsome = self.on_testsome.saturating_add(1);
+        Ok(())
+    }
+
+    fn on_cancel(
+        &mut self,
+        _call: Call,
+        _enter: Stamp,
+        _exit: Option<Exit>,
+    ) -> Result<(), Infallible> {
+        self.on_cancel = self.on_cancel.saturating_add(1);
+        Ok(())
+    }
+
+    fn on_request_free(
+        &mut self,
+        _call: Call,
+        _enter: Stamp,
+        _exit: Option<Exit>,
+    ) -> Result<(), Infallible> {
+        self.on_request_free = self.on_request_free.saturating_add(1);
+        Ok(())
+    }
+
     fn on_collective(
         &mut self,
         _call: Call,
@@ -183,6 +245,17 @@ impl CallSink for Tally {
         _exit: Option<Exit>,
     ) -> Result<(), Infallible> {
         self.on_ibarrier = self.on_ibarrier.saturating_add(1);
+        Ok(())
+    }
+
+    fn on_unread(
+        &mut self,
+        _name: &[u8],
+        _call: Call,
+        _enter: Stamp,
+        _exit: Option<Exit>,
+    ) -> Result<(), Infallible> {
+        self.on_unread = self.on_unread.saturating_add(1);
         Ok(())
     }
 

@@ -5,19 +5,19 @@
 //! that is refused it is asked what is missing.
 
 ghost use Rattle.std.specs.Prelude.{◌≡◌, ◌∷◌, [], IfOk, IsSome, None, OnOk};
-ghost use Rattle.dumpi_calls.specs.Outcomes.{brought_by};
+ghost use Rattle.dumpi_calls.specs.Outcomes.{brought_by, index_where_set};
 ghost use Rattle.dumpi_calls.specs.Readings.{AreThere, Reads};
-ghost use Rattle.dumpi_calls.specs.Rows.{HasItsKind, exit_in, first_missing, group_call, ibarrier_call, isend_call, irecv_call, missing_in, probe_call, probe_parameters, read_by, receive_parameters, recv_call, returned, rooted_call, row, send_call, send_parameters, test_call, typed_by, wait_call, waitall_call, waitany_call, waitsome_call};
+ghost use Rattle.dumpi_calls.specs.Rows.{HasItsKind, exit_in, first_missing, group_call, ibarrier_call, isend_call, irecv_call, missing_in, probe_call, probe_parameters, read_by, receive_parameters, recv_call, returned, rooted_call, row, send_call, send_parameters, cancel_call, free_call, test_call, testall_call, testany_call, testsome_call, typed_by, wait_call, waitall_call, waitany_call, waitsome_call};
 ghost use Rattle.mpi_model.specs.Ranges.{HasRoot, IsRootOf};
 
 use crate::envelope::{receive_envelope_in, send_envelope_in, sendrecv_in};
 use crate::function::Function;
-use crate::outcome::outcome;
+use crate::outcome::{is_flag_set, outcome};
 use crate::parameter::{CallFault, Parameter};
-use crate::reading::{asked_tag, comm, non_negative, number, requests, source, text_in};
+use crate::reading::{asked_tag, comm, non_negative, request, requests, source, text_in};
 use dumpi_text::RawCall;
 use mpi_model::{Call, Collective, Exit, Kind, Mode, NamedComm, ProbeEnvelope, Stamp};
-use std::alloc::Global;
+use std::alloc::{AllocError, Global};
 
 /// A call with what it names, when it was entered, and how it returned, if it did.
 #[derive(Debug, Drop)]
@@ -79,42 +79,64 @@ fn entry_missing(function: Function, raw: &RawCall) -> Option<Parameter>
             ],
         ),
         Function::Probe => first_of(raw, &[Parameter::Source, Parameter::Tag, Parameter::Comm]),
-        Function::Wait | Function::Test => first_of(raw, &[Parameter::Request]),
+        Function::Wait | Function::Test | Function::Cancel | Function::Free => {
+            first_of(raw, &[Parameter::Request])
+        }
         Function::Waitall | Function::Waitany | Function::Waitsome => {
+            first_of(raw, &[Parameter::Requests])
+        }
+        Function::Testall | Function::Testany | Function::Testsome => {
             first_of(raw, &[Parameter::Requests])
         }
         Function::OfAll(_) | Function::Ibarrier => first_of(raw, &[Parameter::Comm]),
         Function::Rooted(_) => first_of(raw, &[Parameter::Root, Parameter::Comm]),
-        Function::Finalize | Function::Other => None,
+        Function::Unread | Function::Finalize | Function::Other => None,
     }
 }
 
 // the first outcome parameter of the row that isn't there
-fn outcome_missing(function: Function, raw: &RawCall) -> Option<Parameter>
-    ensures { result ≡ first_missing (row function raw.now.name).outcome raw.now }
+fn outcome_missing(
+    alloc: Global,
+    function: Function,
+    raw: &RawCall,
+) -> Result<Option<Parameter>, AllocError>
+    ensures { IfOk result (λ missing. missing ≡ first_missing ((row function raw.now.name).outcome raw.now) raw.now) }
 {
     match function {
-        Function::Isend(_) | Function::Irecv | Function::Ibarrier => {
-            first_of(raw, &[Parameter::Request])
+        Function::Isend(_) | Function::Irecv | Function::Ibarrier => Ok(first_of(
+            raw,
+            &[Parameter::Request],
+        )),
+        Function::Waitany => Ok(first_of(raw, &[Parameter::Index])),
+        Function::Test | Function::Testall => Ok(first_of(raw, &[Parameter::Flag])),
+        Function::Testany => {
+            if is_flag_set(alloc, raw)? {
+                Ok(first_of(raw, &[Parameter::Flag, Parameter::Index]))
+            } else {
+                Ok(first_of(raw, &[Parameter::Flag]))
+            }
         }
-        Function::Waitany => first_of(raw, &[Parameter::Index]),
-        Function::Test => first_of(raw, &[Parameter::Flag]),
-        Function::Send(_) | Function::Recv | Function::Sendrecv | Function::Probe => None,
-        Function::Wait | Function::Waitall | Function::Waitsome => None,
-        Function::OfAll(_) | Function::Rooted(_) => None,
-        Function::Finalize | Function::Other => None,
+        Function::Send(_) | Function::Recv | Function::Sendrecv | Function::Probe => Ok(None),
+        Function::Wait | Function::Waitall | Function::Waitsome | Function::Testsome => Ok(None),
+        Function::Cancel | Function::Free | Function::Unread => Ok(None),
+        Function::OfAll(_) | Function::Rooted(_) => Ok(None),
+        Function::Finalize | Function::Other => Ok(None),
     }
 }
 
 // the first parameter of the row that isn't there; outcome parameters are asked for where the call returned
-fn missing(function: Function, raw: &RawCall) -> Option<Parameter>
-    ensures { result ≡ missing_in (row function raw.now.name) raw.now }
+fn missing(
+    alloc: Global,
+    function: Function,
+    raw: &RawCall,
+) -> Result<Option<Parameter>, AllocError>
+    ensures { IfOk result (λ missing. missing ≡ missing_in (row function raw.now.name) raw.now) }
 {
     match entry_missing(function, raw) {
-        Some(parameter) => Some(parameter),
+        Some(parameter) => Ok(Some(parameter)),
         None => match raw.exit() {
-            Some(_) => outcome_missing(function, raw),
-            None => None,
+            Some(_) => outcome_missing(alloc, function, raw),
+            None => Ok(None),
         },
     }
 }
@@ -123,7 +145,7 @@ fn missing(function: Function, raw: &RawCall) -> Option<Parameter>
 fn send(alloc: Global, mode: Mode, raw: &RawCall) -> Result<Call, CallFault>
     ensures means { Reads result (send_call mode raw.now) }
     ensures there { OnOk result (AreThere send_parameters raw.now) }
-    ensures brings { IfOk result (λ c. brought_by c ≡ []) }
+    ensures brings { IfOk result (λ c. brought_by c raw.now ≡ []) }
 {
     let envelope = send_envelope_in(alloc, raw)?;
     Ok(Call::Send(mode, envelope))
@@ -133,7 +155,7 @@ fn send(alloc: Global, mode: Mode, raw: &RawCall) -> Result<Call, CallFault>
 fn isend(alloc: Global, mode: Mode, raw: &RawCall) -> Result<Call, CallFault>
     ensures means { Reads result (isend_call mode raw.now) }
     ensures there { OnOk result (AreThere send_parameters raw.now) }
-    ensures brings { IfOk result (λ c. brought_by c ≡ Parameter.Request ∷ []) }
+    ensures brings { IfOk result (λ c. brought_by c raw.now ≡ Parameter.Request ∷ []) }
 {
     let envelope = send_envelope_in(alloc, raw)?;
     Ok(Call::Isend(mode, envelope))
@@ -143,7 +165,7 @@ fn isend(alloc: Global, mode: Mode, raw: &RawCall) -> Result<Call, CallFault>
 fn recv(alloc: Global, raw: &RawCall) -> Result<Call, CallFault>
     ensures means { Reads result (recv_call raw.now) }
     ensures there { OnOk result (AreThere receive_parameters raw.now) }
-    ensures brings { IfOk result (λ c. brought_by c ≡ []) }
+    ensures brings { IfOk result (λ c. brought_by c raw.now ≡ []) }
 {
     let envelope = receive_envelope_in(alloc, raw)?;
     Ok(Call::Recv(envelope))
@@ -153,7 +175,7 @@ fn recv(alloc: Global, raw: &RawCall) -> Result<Call, CallFault>
 fn irecv(alloc: Global, raw: &RawCall) -> Result<Call, CallFault>
     ensures means { Reads result (irecv_call raw.now) }
     ensures there { OnOk result (AreThere receive_parameters raw.now) }
-    ensures brings { IfOk result (λ c. brought_by c ≡ Parameter.Request ∷ []) }
+    ensures brings { IfOk result (λ c. brought_by c raw.now ≡ Parameter.Request ∷ []) }
 {
     let envelope = receive_envelope_in(alloc, raw)?;
     Ok(Call::Irecv(envelope))
@@ -163,7 +185,7 @@ fn irecv(alloc: Global, raw: &RawCall) -> Result<Call, CallFault>
 fn probe(alloc: Global, raw: &RawCall) -> Result<Call, CallFault>
     ensures means { Reads result (probe_call raw.now) }
     ensures there { OnOk result (AreThere probe_parameters raw.now) }
-    ensures brings { IfOk result (λ c. brought_by c ≡ []) }
+    ensures brings { IfOk result (λ c. brought_by c raw.now ≡ []) }
 {
     let source = source(alloc, raw)?;
     let tag = asked_tag(alloc, raw, Parameter::Tag)?;
@@ -176,27 +198,27 @@ fn probe(alloc: Global, raw: &RawCall) -> Result<Call, CallFault>
 fn wait(alloc: Global, raw: &RawCall) -> Result<Call, CallFault>
     ensures means { Reads result (wait_call raw.now) }
     ensures there { OnOk result (AreThere (Parameter.Request ∷ []) raw.now) }
-    ensures brings { IfOk result (λ c. brought_by c ≡ []) }
+    ensures brings { IfOk result (λ c. brought_by c raw.now ≡ []) }
 {
-    let request = number(alloc, raw, Parameter::Request)?;
-    Ok(Call::Wait(request.value))
+    let request = request(alloc, raw)?;
+    Ok(Call::Wait(request))
 }
 
 #[tactic(auto, unfolding(crate::specs::Rows::test_call))]
 fn test(alloc: Global, raw: &RawCall) -> Result<Call, CallFault>
     ensures means { Reads result (test_call raw.now) }
     ensures there { OnOk result (AreThere (Parameter.Request ∷ []) raw.now) }
-    ensures brings { IfOk result (λ c. brought_by c ≡ Parameter.Flag ∷ []) }
+    ensures brings { IfOk result (λ c. brought_by c raw.now ≡ Parameter.Flag ∷ []) }
 {
-    let request = number(alloc, raw, Parameter::Request)?;
-    Ok(Call::Test(request.value))
+    let request = request(alloc, raw)?;
+    Ok(Call::Test(request))
 }
 
 #[tactic(auto, unfolding(crate::specs::Rows::waitall_call))]
 fn waitall(alloc: Global, raw: &RawCall) -> Result<Call, CallFault>
     ensures means { Reads result (waitall_call raw.now) }
     ensures there { OnOk result (AreThere (Parameter.Requests ∷ []) raw.now) }
-    ensures brings { IfOk result (λ c. brought_by c ≡ []) }
+    ensures brings { IfOk result (λ c. brought_by c raw.now ≡ []) }
 {
     let requests = requests(alloc, raw)?;
     Ok(Call::Waitall(requests))
@@ -206,7 +228,7 @@ fn waitall(alloc: Global, raw: &RawCall) -> Result<Call, CallFault>
 fn waitany(alloc: Global, raw: &RawCall) -> Result<Call, CallFault>
     ensures means { Reads result (waitany_call raw.now) }
     ensures there { OnOk result (AreThere (Parameter.Requests ∷ []) raw.now) }
-    ensures brings { IfOk result (λ c. brought_by c ≡ Parameter.Index ∷ []) }
+    ensures brings { IfOk result (λ c. brought_by c raw.now ≡ Parameter.Index ∷ []) }
 {
     let requests = requests(alloc, raw)?;
     Ok(Call::Waitany(requests))
@@ -216,10 +238,60 @@ fn waitany(alloc: Global, raw: &RawCall) -> Result<Call, CallFault>
 fn waitsome(alloc: Global, raw: &RawCall) -> Result<Call, CallFault>
     ensures means { Reads result (waitsome_call raw.now) }
     ensures there { OnOk result (AreThere (Parameter.Requests ∷ []) raw.now) }
-    ensures brings { IfOk result (λ c. brought_by c ≡ []) }
+    ensures brings { IfOk result (λ c. brought_by c raw.now ≡ []) }
 {
     let requests = requests(alloc, raw)?;
     Ok(Call::Waitsome(requests))
+}
+
+#[tactic(auto, unfolding(crate::specs::Rows::testall_call))]
+fn testall(alloc: Global, raw: &RawCall) -> Result<Call, CallFault>
+    ensures means { Reads result (testall_call raw.now) }
+    ensures there { OnOk result (AreThere (Parameter.Requests ∷ []) raw.now) }
+    ensures brings { IfOk result (λ c. brought_by c raw.now ≡ Parameter.Flag ∷ []) }
+{
+    let requests = requests(alloc, raw)?;
+    Ok(Call::Testall(requests))
+}
+
+#[tactic(auto, unfolding(crate::specs::Rows::testany_call))]
+fn testany(alloc: Global, raw: &RawCall) -> Result<Call, CallFault>
+    ensures means { Reads result (testany_call raw.now) }
+    ensures there { OnOk result (AreThere (Parameter.Requests ∷ []) raw.now) }
+    ensures brings { IfOk result (λ c. brought_by c raw.now ≡ Parameter.Flag ∷ index_where_set raw.now) }
+{
+    let requests = requests(alloc, raw)?;
+    Ok(Call::Testany(requests))
+}
+
+#[tactic(auto, unfolding(crate::specs::Rows::testsome_call))]
+fn testsome(alloc: Global, raw: &RawCall) -> Result<Call, CallFault>
+    ensures means { Reads result (testsome_call raw.now) }
+    ensures there { OnOk result (AreThere (Parameter.Requests ∷ []) raw.now) }
+    ensures brings { IfOk result (λ c. brought_by c raw.now ≡ []) }
+{
+    let requests = requests(alloc, raw)?;
+    Ok(Call::Testsome(requests))
+}
+
+#[tactic(auto, unfolding(crate::specs::Rows::cancel_call))]
+fn cancel(alloc: Global, raw: &RawCall) -> Result<Call, CallFault>
+    ensures means { Reads result (cancel_call raw.now) }
+    ensures there { OnOk result (AreThere (Parameter.Request ∷ []) raw.now) }
+    ensures brings { IfOk result (λ c. brought_by c raw.now ≡ []) }
+{
+    let request = request(alloc, raw)?;
+    Ok(Call::Cancel(request))
+}
+
+#[tactic(auto, unfolding(crate::specs::Rows::free_call))]
+fn free(alloc: Global, raw: &RawCall) -> Result<Call, CallFault>
+    ensures means { Reads result (free_call raw.now) }
+    ensures there { OnOk result (AreThere (Parameter.Request ∷ []) raw.now) }
+    ensures brings { IfOk result (λ c. brought_by c raw.now ≡ []) }
+{
+    let request = request(alloc, raw)?;
+    Ok(Call::Free(request))
 }
 
 #[tactic(auto, unfolding(crate::specs::Rows::group_call))]
@@ -227,7 +299,7 @@ fn of_all(alloc: Global, kind: Kind, raw: &RawCall) -> Result<Call, CallFault>
     requires { IsRootOf kind None }
     ensures means { Reads result (group_call kind raw.now) }
     ensures there { OnOk result (AreThere (Parameter.Comm ∷ []) raw.now) }
-    ensures brings { IfOk result (λ c. brought_by c ≡ []) }
+    ensures brings { IfOk result (λ c. brought_by c raw.now ≡ []) }
 {
     let comm = comm(alloc, raw)?;
     Ok(Call::Collective(Collective::new(kind, None, comm).unwrap()))
@@ -238,7 +310,7 @@ fn rooted(alloc: Global, kind: Kind, raw: &RawCall) -> Result<Call, CallFault>
     requires { HasRoot kind }
     ensures means { Reads result (rooted_call kind raw.now) }
     ensures there { OnOk result (AreThere (Parameter.Root ∷ Parameter.Comm ∷ []) raw.now) }
-    ensures brings { IfOk result (λ c. brought_by c ≡ []) }
+    ensures brings { IfOk result (λ c. brought_by c raw.now ≡ []) }
 {
     let root = non_negative(alloc, raw, Parameter::Root)?;
     let comm = comm(alloc, raw)?;
@@ -249,7 +321,7 @@ fn rooted(alloc: Global, kind: Kind, raw: &RawCall) -> Result<Call, CallFault>
 fn ibarrier(alloc: Global, raw: &RawCall) -> Result<Call, CallFault>
     ensures means { Reads result (ibarrier_call raw.now) }
     ensures there { OnOk result (AreThere (Parameter.Comm ∷ []) raw.now) }
-    ensures brings { IfOk result (λ c. brought_by c ≡ Parameter.Request ∷ []) }
+    ensures brings { IfOk result (λ c. brought_by c raw.now ≡ Parameter.Request ∷ []) }
 {
     let comm = comm(alloc, raw)?;
     Ok(Call::Ibarrier(NamedComm::new(comm).unwrap()))
@@ -260,7 +332,7 @@ fn call_in(alloc: Global, function: Function, raw: &RawCall) -> Result<Call, Cal
     requires { HasItsKind function }
     ensures means { Reads result ((row function raw.now.name).call raw.now) }
     ensures there { OnOk result (AreThere (row function raw.now.name).entry raw.now) }
-    ensures brings { IfOk result (λ c. brought_by c ≡ (row function raw.now.name).outcome) }
+    ensures brings { IfOk result (λ c. brought_by c raw.now ≡ (row function raw.now.name).outcome raw.now) }
 {
     match function {
         Function::Send(mode) => send(alloc, mode, raw),
@@ -274,9 +346,15 @@ fn call_in(alloc: Global, function: Function, raw: &RawCall) -> Result<Call, Cal
         Function::Waitany => waitany(alloc, raw),
         Function::Waitsome => waitsome(alloc, raw),
         Function::Test => test(alloc, raw),
+        Function::Testall => testall(alloc, raw),
+        Function::Testany => testany(alloc, raw),
+        Function::Testsome => testsome(alloc, raw),
+        Function::Cancel => cancel(alloc, raw),
+        Function::Free => free(alloc, raw),
         Function::OfAll(kind) => of_all(alloc, kind, raw),
         Function::Rooted(kind) => rooted(alloc, kind, raw),
         Function::Ibarrier => ibarrier(alloc, raw),
+        Function::Unread => Ok(Call::Unread),
         Function::Finalize => Ok(Call::Finalize),
         Function::Other => Ok(Call::Local),
     }
@@ -286,7 +364,7 @@ fn call_in(alloc: Global, function: Function, raw: &RawCall) -> Result<Call, Cal
 #[tactic(auto, unfolding(crate::specs::Rows::returned))]
 fn exit_at(alloc: Global, call: &Call, stamp: Stamp, raw: &RawCall) -> Result<Exit, CallFault>
     ensures means { Reads result (returned call.now stamp raw.now) }
-    ensures there { OnOk result (AreThere (brought_by call.now) raw.now) }
+    ensures there { OnOk result (AreThere (brought_by call.now raw.now) raw.now) }
 {
     let outs = outcome(alloc, call, raw)?;
     Ok(Exit { outs, stamp })
@@ -295,7 +373,7 @@ fn exit_at(alloc: Global, call: &Call, stamp: Stamp, raw: &RawCall) -> Result<Ex
 // how a call returned, if it did
 fn exit_of(alloc: Global, call: &Call, raw: &RawCall) -> Result<Option<Exit>, CallFault>
     ensures means { Reads result (exit_in call.now raw.now.exit raw.now) }
-    ensures there { IsSome raw.now.exit → OnOk result (AreThere (brought_by call.now) raw.now) }
+    ensures there { IsSome raw.now.exit → OnOk result (AreThere (brought_by call.now raw.now) raw.now) }
 {
     match raw.exit() {
         None => Ok(None),
@@ -330,7 +408,7 @@ pub fn typed_call(alloc: Global, function: Function, raw: &RawCall) -> Result<Ty
     match read(alloc, function, raw) {
         Ok(call) => Ok(call),
         Err(CallFault::Memory) => Err(CallFault::Memory),
-        Err(fault) => match missing(function, raw) {
+        Err(fault) => match missing(alloc, function, raw)? {
             Some(parameter) => Err(CallFault::Missing(parameter)),
             None => Err(fault),
         },

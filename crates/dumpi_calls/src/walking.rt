@@ -1,15 +1,15 @@
 //! A walk over the calls of a text.
 
-ghost use Rattle.std.specs.Prelude.{◌≡◌, ◌<◌, ◌≤◌, ℕ, List, Option, Err, Ok, Some, None, IfErr, IfNone, IfOk, IfSome, OnErr, true};
+ghost use Rattle.std.specs.Prelude.{◌≡◌, ◌<◌, ◌≤◌, ℕ, List, Option, Err, Ok, Some, None, IfErr, IfNone, IfOk, IfSome, OnErr, OnOk, true};
 ghost use Rattle.dumpi_text.specs.Call.{TextCall};
 ghost use Rattle.dumpi_text.specs.Failing.{Fails};
 ghost use Rattle.dumpi_text.specs.Shown.{put_in};
 ghost use Rattle.dumpi_text.specs.declared.step.TheConstants.{MOST_LINES};
 ghost use Rattle.dumpi_calls.specs.Rows.{row_of, typed, typed_by, row, HasItsKind};
-ghost use Rattle.dumpi_calls.specs.Walks.{Advances, Follows, FollowsWhole, IsRead, IsReadFault, IsReadStop, IsStopped, IsTypedAs, IsWalked, LacksNext, RefusesCall, RefusesNext, StopsWalk, Takes, lacks_exit};
+ghost use Rattle.dumpi_calls.specs.Walks.{Advances, FailsAfter, FailsIn, Follows, FollowsWhole, IsRead, IsReadFault, IsReadStop, IsStopped, IsTypedAs, IsWalked, LacksNext, RefusesCall, RefusesNext, StopsWalk, Takes, lacks_exit};
 
 use crate::fault::{WalkCause, WalkFault};
-use crate::function::function_of;
+use crate::function::function_in;
 use crate::in_place::{Whole, usual_name, whole_front};
 use crate::parameter::CallFault;
 use crate::sink::{CallSink, hand_on};
@@ -21,11 +21,11 @@ use std::alloc::Global;
 /// A text that was walked to its end.
 #[derive(Clone, Copy, Debug, PartialEq, Eq)]
 pub struct Walked {
-    /// How many calls were handed on: all of the text's.
+    /// How many calls were handed on: all of the text's, up to one at which another thread ended its reading.
     pub calls: u64,
     /// How many nonblank lines were skipped.
     pub skipped: u64,
-    /// Whether the text ends before its last call has returned.
+    /// Whether the text, or its reading, ends before its last call has returned.
     pub unfinished: bool,
 }
 
@@ -78,7 +78,7 @@ fn take<S: CallSink>(
     ensures calls { IfErr result (λ fault. fault.calls ≡ calls) }
     ensures unchanged { OnErr result (sink.new ≡ sink.old) }
 {
-    let function = function_of(raw.name());
+    let function = function_in(raw);
     match typed_call(alloc, function, raw) {
         Err(fault) => Err(refusal(raw, fault, calls)),
         Ok(call) => match hand_on(sink, function, raw.name(), call) {
@@ -103,10 +103,13 @@ fn is_open(raw: &RawCall) -> bool
 }
 
 // the next call of the text, put in the place of the one before: whether there is one
+#[tactic(auto, using(crate::proofs::Failing::fails))]
 fn next_of<R: Read>(texts: &mut Texts<R>, raw: &mut RawCall) -> Result<bool, TextFault>
     ensures goes_on { (text : Option (List ℕ)) (calls : List TextCall) → IsRead text calls texts.old → IfOk result (λ found. Follows text calls (put_in found raw.new) texts.new) }
     ensures stops { (text : Option (List ℕ)) (calls : List TextCall) → IsRead text calls texts.old → IfErr result (λ fault. RefusesNext text calls fault texts.new.told.line) }
     ensures failed { IfErr result (λ fault. IsReadFault fault → Fails R.failures) }
+    ensures failure { (text : Option (List ℕ)) (calls : List TextCall) → IsRead text calls texts.old → IfErr result (λ fault. IsReadFault fault → FailsAfter R.left R.failures text texts.old.rest.failures calls texts.new.told.line) }
+    ensures no_failure { OnOk result (texts.new.rest.failures ≡ texts.old.rest.failures) }
     ensures progress { result ≡ Ok true → texts.old.at.line < texts.new.at.line }
     ensures lines { texts.new.at.line ≤ MOST_LINES }
 {
@@ -124,6 +127,7 @@ fn next_of<R: Read>(texts: &mut Texts<R>, raw: &mut RawCall) -> Result<bool, Tex
 fn lack<F: Drop>(fault: TextFault, line: u64, calls: u64) -> WalkFault<F>
     ensures cause { (text : Option (List ℕ)) (before : List TextCall) → RefusesNext text before fault line → LacksNext text before result.cause result.line }
     ensures failed { IsReadStop result.cause → IsReadFault fault }
+    ensures line { result.line ≡ line }
     ensures calls { result.calls ≡ calls }
 {
     match fault {
@@ -146,6 +150,7 @@ fn lack<F: Drop>(fault: TextFault, line: u64, calls: u64) -> WalkFault<F>
 fn whole_of<R: Read>(texts: &mut Texts<R>) -> Option<(Whole, u64)>
     ensures goes_on { (text : Option (List ℕ)) (calls : List TextCall) → IsRead text calls texts.old → IfSome result (λ x. FollowsWhole text calls x.0.function x.0.call x.1 texts.new) }
     ensures none { IfNone result (texts.new ≡ texts.old) }
+    ensures no_failure { texts.new.rest.failures ≡ texts.old.rest.failures }
     ensures progress { IfSome result (λ x. texts.old.at.line < texts.new.at.line) }
     ensures lines { IfSome result (λ x. texts.new.at.line ≤ MOST_LINES) }
 {
@@ -153,7 +158,7 @@ fn whole_of<R: Read>(texts: &mut Texts<R>) -> Option<(Whole, u64)>
     let line = texts.line().saturating_add(1);
     let text = texts.at_hand()?;
     let whole = whole_front(text)?;
-    texts.pass_call(whole.bytes, whole.lines);
+    texts.pass_call(whole.bytes, whole.lines, whole.enter());
     Some((whole, line))
 }
 
@@ -195,6 +200,8 @@ fn advance<R: Read, S: CallSink>(
     ensures ok { (text : Option (List ℕ)) (before : List TextCall) → IsRead text before texts.old → IfOk result (λ found. Advances S.step text before found texts.new sink.old sink.new) }
     ensures err { (text : Option (List ℕ)) (before : List TextCall) → IsRead text before texts.old → IfErr result (λ fault. StopsWalk text before fault.cause fault.line) }
     ensures failed { IfErr result (λ fault. IsReadStop fault.cause → Fails R.failures) }
+    ensures failure { (text : Option (List ℕ)) (before : List TextCall) → IsRead text before texts.old → IfErr result (λ fault. IsReadStop fault.cause → FailsAfter R.left R.failures text texts.old.rest.failures before fault.line) }
+    ensures no_failure { OnOk result (texts.new.rest.failures ≡ texts.old.rest.failures) }
     ensures calls { IfErr result (λ fault. fault.calls ≡ calls) }
     ensures unchanged { OnErr result (sink.new ≡ sink.old) }
     ensures progress { IfOk result (λ found. IfSome found (λ is_open. texts.old.at.line < texts.new.at.line)) }
@@ -218,7 +225,7 @@ fn advance<R: Read, S: CallSink>(
 
 /// Hands the calls of a text to a sink, in order, each by the callback of its function, up to the first that can't be
 /// read or that the sink refuses. The text is read in one pass, and memory doesn't grow with it.
-#[tactic(auto, using(crate::proofs::Advancing::advanced, crate::proofs::Advancing::walked_all, crate::proofs::Advancing::walk_stopped))]
+#[tactic(auto, using(crate::proofs::Advancing::advanced, crate::proofs::Advancing::walked_all, crate::proofs::Advancing::walk_stopped, crate::proofs::Failing::fails_in))]
 pub fn walk<R: Read, S: CallSink>(
     alloc: Global,
     reader: R,
@@ -226,7 +233,9 @@ pub fn walk<R: Read, S: CallSink>(
 ) -> Result<Walked, WalkFault<S::Fault>>
     ensures ok { IfOk result (λ walked. IsWalked S.step (R.left reader) sink.old sink.new walked) }
     ensures err { IfErr result (λ fault. IsStopped S.step (R.left reader) sink.old sink.new fault) }
+    // a text that can't be read: a reader of this kind fails, and this one did so where the walk stopped
     ensures failed { IfErr result (λ fault. IsReadStop fault.cause → Fails R.failures) }
+    ensures failure { IfErr result (λ fault. IsReadStop fault.cause → FailsIn R.left R.failures reader fault.calls fault.line) }
 {
     reading_call_by_call();
     let mut calls: u64 = 0;

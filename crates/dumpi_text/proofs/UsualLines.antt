@@ -1,12 +1,12 @@
 -- Lines of calls that begin with a known word.
-use Rattle.std.proofs.Common.{◌≡◌, ℕ, ◌<◌, ◌&&◌, Bool, true, false, codes, Option, Some, None, Result, Ok, List, [], ◌∷◌, ◌++◌, length, nat_lt, arith, ap, sym, refl, ◌∙◌}
+use Rattle.std.proofs.Common.{◌≡◌, ℕ, ◌<◌, Bool, true, false, codes, Option, Some, Result, Ok, List, [], ◌∷◌, ◌++◌, length, nat_lt, arith, ap, sym, refl, ◌∙◌}
 use Rattle.std.specs.List.{list_all}
 use Rattle.std.proofs.lemmas.Grind.{common_steps}
 use Rattle.mpi_model.specs.Times.{Times}
-use Rattle.dumpi_text.specs.Stamps.{Entering, Kind, Other, Returning, kind_from, kind_of, returning_word, stamp_of, stamp_word, stamped}
+use Rattle.dumpi_text.specs.Stamps.{Entering, Returning, kind_from, kind_of, returning_word, stamp_of, stamp_word, stamped}
 use Rattle.dumpi_text.specs.Tokens.{byte_front}
 use Rattle.dumpi_text.specs.Usual.{BeginsWith, HasLine, Tells, is_word}
-use Rattle.dumpi_text.specs.Words.{after_text, is_word_byte, trim_end, trim_start, trimmed, without_last, word_parts}
+use Rattle.dumpi_text.specs.Words.{after_text, is_word_byte, trim_end, trimmed, without_last, word_parts}
 use Rattle.dumpi_text.specs.declared.fault.LineFault.{LineFault}
 use Rattle.dumpi_text.proofs.QuickParam.{end_kept, follows, its_parameter, last_kept, no_stamp_line, starts_bare, text_whole, word_before}
 use Rattle.dumpi_text.proofs.Splits.{both_true, first_passes}
@@ -38,14 +38,14 @@ uncut (b ∷ bs) rest some all more end returns =
     ∙ end_kept (b ∷ bs) rest more end
 
 -- a stamp line, by what stands behind its name
-stamp_kind : (name after stamp : List ℕ) (enters : Bool) (at : Times) → 0 < length name → word_parts (name ++ after) ≡ (name, after) → stamp_word after ≡ Some (enters, stamp) → stamp_of stamp ≡ Ok at
-    → kind_of (name ++ after) ≡ stamped name enters (Ok at)
+stamp_kind : (name after stamp : List ℕ) (enters : Bool) (at : Times) → 0 < length name → word_parts (name ++ after) ≡ (name, after) → stamp_word after ≡ Some (enters, stamp) → stamp_of stamp ≡ Ok (at, true)
+    → kind_of (name ++ after) ≡ stamped name enters (Ok (at, true))
 unfolding kind_of
 stamp_kind [] after stamp enters at some parts word says = absurd (omega arith)
 stamp_kind (b ∷ bs) after stamp enters at some parts word says =
     ap (λ (p : List ℕ × List ℕ). kind_from (b ∷ (bs ++ after)) p.0 (stamp_word p.1)) parts
     ∙ ap (λ (w : Option (Bool × List ℕ)). kind_from (b ∷ (bs ++ after)) (b ∷ bs) w) word
-    ∙ ap (λ (s : Result Times LineFault). stamped (b ∷ bs) enters s) says
+    ∙ ap (λ (s : Result (Times × Bool) LineFault). stamped (b ∷ bs) enters s) says
 
 enters_word : (after stamp : List ℕ) → after_text (codes " entering at ") after ≡ Some stamp → stamp_word after ≡ Some (true, stamp)
 unfolding stamp_word
@@ -81,11 +81,11 @@ module _ (name line after word stamp : List ℕ) (named : is_word name ≡ true)
       ∙ ap (λ (t : List ℕ). by_name name t) (sym goes_on)
 
   -- what such a line is
-  pub kind_is : (enters : Bool) (at : Times) → stamp_word after ≡ Some (enters, stamp) → stamp_of stamp ≡ Ok at → kind_of (trimmed (without_last 13 line)) ≡ stamped name enters (Ok at)
+  pub kind_is : (enters : Bool) (at : Times) → stamp_word after ≡ Some (enters, stamp) → stamp_of stamp ≡ Ok (at, true) → kind_of (trimmed (without_last 13 line)) ≡ stamped name enters (Ok (at, true))
   kind_is enters at found says = ap kind_of kept ∙ stamp_kind name after stamp enters at (word_has name named) parts found says
 
 pub entering_line : (name text rest line after stamp : List ℕ) (at : Times) → is_word name ≡ true → BeginsWith line text rest → after_text name line ≡ Some after → after_text (codes " entering at ") after ≡ Some stamp
-    → 0 < length stamp → trim_end stamp ≡ stamp → without_last 13 stamp ≡ stamp → stamp_of stamp ≡ Ok at → HasLine (Entering name at) text rest
+    → 0 < length stamp → trim_end stamp ≡ stamp → without_last 13 stamp ≡ stamp → stamp_of stamp ≡ Ok (at, true) → HasLine (Entering name at) text rest
 entering_line name text rest line after stamp at named front begins word some end no_return says = record {
   line = line;
   front = front;
@@ -93,7 +93,7 @@ entering_line name text rest line after stamp at named front begins word some en
 }
 
 pub returning_line : (name text rest line after stamp : List ℕ) (at : Times) → is_word name ≡ true → BeginsWith line text rest → after_text name line ≡ Some after → after_text (codes " returning at ") after ≡ Some stamp
-    → 0 < length stamp → trim_end stamp ≡ stamp → without_last 13 stamp ≡ stamp → stamp_of stamp ≡ Ok at → HasLine (Returning name at) text rest
+    → 0 < length stamp → trim_end stamp ≡ stamp → without_last 13 stamp ≡ stamp → stamp_of stamp ≡ Ok (at, true) → HasLine (Returning name at) text rest
 returning_line name text rest line after stamp at named front begins word some end no_return says = record {
   line = line;
   front = front;

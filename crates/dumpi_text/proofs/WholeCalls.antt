@@ -5,13 +5,12 @@ use Rattle.std.proofs.lemmas.Grind.{common_steps}
 use Rattle.std.specs.Io.KnownBytes.{prepend_known}
 use Rattle.mpi_model.specs.Times.{Times}
 use Rattle.dumpi_text.specs.Call.{CallContent, Param, same_bytes}
-use Rattle.dumpi_text.specs.Effects.{Opening, Taken, Stays, Gives, by_kind, count_line, more_params, returning, step, with_param, within_limit}
-use Rattle.dumpi_text.specs.Grammar.{Meaning, follow, meaning_of, with_call}
+use Rattle.dumpi_text.specs.Effects.{Opening, Taken, Stays, by_kind, count_line, more_params, step, with_param, within_limit}
+use Rattle.dumpi_text.specs.Grammar.{follow, meaning_of, with_call}
 use Rattle.dumpi_text.specs.Next.{IsNext}
 use Rattle.dumpi_text.specs.Stamps.{Kind, Entering, Returning, Other, kind_of}
 use Rattle.dumpi_text.specs.Usual.{HasCall, HasLine, Tells, TellsAll, call_after, lines_of, place_after}
 use Rattle.dumpi_text.specs.Words.{trimmed, without_last}
-use Rattle.dumpi_text.specs.declared.fault.LineFault.TheVariants.{NameDiffers}
 use Rattle.dumpi_text.specs.declared.step.Position.{Position}
 use Rattle.dumpi_text.proofs.Meanings.{whole_line}
 
@@ -44,7 +43,7 @@ line_means at current kind text rest more h =
 
 -- the entering line
 entered : (at : Position) (name text rest more : List ℕ) (enter : Times) → HasLine (Entering name enter) text rest → at.calls < 1000000 → at.line + 1 ≤ 16777216
-    → meaning_of at None (text ++ more) ≡ meaning_of (record { line = at.line + 1; skipped = at.skipped; calls = at.calls + 1 }) (Some (record { content = record { name = name; params = [] }; enter = enter; line = at.line + 1 })) (rest ++ more)
+    → meaning_of at None (text ++ more) ≡ meaning_of (record { line = at.line + 1; skipped = at.skipped; calls = at.calls + 1; entered = enter.wall }) (Some (record { content = record { name = name; params = [] }; enter = enter; line = at.line + 1 })) (rest ++ more)
 entered at name text rest more enter h calls lines =
     line_means at None (Entering name enter) text rest more h ∙ rw (is_below at.calls 1000000 calls, not_above (at.line + 1) 16777216 lines) refl
 
@@ -94,16 +93,16 @@ all_put current (param ∷ params) =
 -- the returning line
 returned : (at : Position) (current : Opening) (text rest after : List ℕ) (exit : Times) → HasLine (Returning current.content.name exit) text rest → at.line + 1 ≤ 16777216
     → meaning_of at (Some current) (text ++ after)
-    ≡ with_call (record { name = current.content.name; params = current.content.params; enter = current.enter; exit = Some exit; line = current.line; last_line = at.line + 1 }) (meaning_of (count_line at) None (rest ++ after))
+    ≡ with_call (record { name = current.content.name; params = current.content.params; enter = current.enter; exit = Some exit; line = current.line; last_line = at.line + 1; threads = false }) (meaning_of (count_line at) None (rest ++ after))
 returned at current text rest after exit h lines =
     line_means at (Some current) (Returning current.content.name exit) text rest after h
     ∙ rw (same_self current.content.name, not_above (at.line + 1) 16777216 lines) refl
 
 -- all of the call
 call_means : (at : Position) (content : CallContent) (enter exit : Times) (text rest after : List ℕ) → HasCall content enter exit text rest → at.calls < 1000000 → at.line + lines_of content ≤ 16777216
-    → meaning_of at None (text ++ after) ≡ with_call (call_after at content enter exit) (meaning_of (place_after at (lines_of content)) None (rest ++ after))
+    → meaning_of at None (text ++ after) ≡ with_call (call_after at content enter exit) (meaning_of (place_after at (lines_of content) enter) None (rest ++ after))
 call_means at content enter exit text rest after h calls lines =
-    let first : Position = record { line = at.line + 1; skipped = at.skipped; calls = at.calls + 1 } in
+    let first : Position = record { line = at.line + 1; skipped = at.skipped; calls = at.calls + 1; entered = enter.wall } in
     let current : Opening = record { content = record { name = content.name; params = [] }; enter = enter; line = at.line + 1 } in
     let last : Position = record first { line = first.line + length content.params } in
     let whole : Opening = record { content = content; enter = enter; line = at.line + 1 } in
@@ -113,10 +112,10 @@ call_means at content enter exit text rest after h calls lines =
     ∙ ap (λ (p : Position). meaning_of p (Some (with_all current content.params)) (h.after ++ after)) (lines_counted first content.params)
     ∙ ap (λ (o : Opening). meaning_of last (Some o) (h.after ++ after)) (all_put current content.params)
     ∙ returned last whole h.after rest after exit h.returns (omega arith)
-    ∙ ap (λ (line : ℕ). with_call (record { name = content.name; params = content.params; enter = enter; exit = Some exit; line = at.line + 1; last_line = line }) (meaning_of (record { line = line; skipped = at.skipped; calls = at.calls + 1 }) None (rest ++ after))) end
+    ∙ ap (λ (line : ℕ). with_call (record { name = content.name; params = content.params; enter = enter; exit = Some exit; line = at.line + 1; last_line = line; threads = false }) (meaning_of (record { line = line; skipped = at.skipped; calls = at.calls + 1; entered = enter.wall }) None (rest ++ after))) end
 
 -- such a call is the text's next
 pub call_is_next : (at : Position) (content : CallContent) (enter exit : Times) (text rest : List ℕ) (left : Option (List ℕ)) → HasCall content enter exit text rest → at.calls < 1000000 → at.line + lines_of content ≤ 16777216
-    → IsNext at (prepend_known text left) (Some (call_after at content enter exit)) (place_after at (lines_of content)) (prepend_known rest left)
+    → IsNext at (prepend_known text left) (Some (call_after at content enter exit)) (place_after at (lines_of content) enter) (prepend_known rest left)
 call_is_next at content enter exit text rest None h calls lines = tt
 call_is_next at content enter exit text rest (Some after) h calls lines = call_means at content enter exit text rest after h calls lines

@@ -1,12 +1,12 @@
 -- What a line of a text does, at its place.
-use Rattle.std.specs.Prelude.{ℕ, ◌+◌, List, [], ◌∷◌, ◌++◌, length, Option, Some, None, nat_lt, if◌then◌else◌}
+use Rattle.std.specs.Prelude.{ℕ, ◌+◌, true, false, List, [], ◌∷◌, ◌++◌, length, Option, Some, None, nat_lt, if◌then◌else◌}
 use Rattle.mpi_model.specs.Times.{Times}
 use Rattle.dumpi_text.specs.Bytes.{carriage_return}
 use Rattle.dumpi_text.specs.Words.{trimmed, without_last}
 use Rattle.dumpi_text.specs.Parameter.{parameter_of}
-use Rattle.dumpi_text.specs.Stamps.{Kind, Blank, Entering, Returning, Bad, Other, kind_of, is_entering}
+use Rattle.dumpi_text.specs.Stamps.{Kind, Blank, Entering, Returning, Threaded, Bad, Other, kind_of, is_entering}
 use Rattle.dumpi_text.specs.declared.fault.LineFault.{LineFault}
-use Rattle.dumpi_text.specs.declared.fault.LineFault.TheVariants.{LineTooLong, ReturnOutside, NotReturned, NameDiffers, BadParameter, Truncated, TooManyCalls, TooManyLines}
+use Rattle.dumpi_text.specs.declared.fault.LineFault.TheVariants.{LineTooLong, OtherThread, ReturnOutside, NotReturned, NameDiffers, BadParameter, Truncated, TooManyCalls, TooManyLines}
 use Rattle.dumpi_text.specs.declared.source.TheConstants.{LONGEST_LINE}
 use Rattle.dumpi_text.specs.declared.step.TheConstants.{MOST_CALLS, MOST_LINES}
 use Rattle.dumpi_text.specs.declared.step.Position.{Position}
@@ -18,24 +18,39 @@ pub record Opening : Type 0 where
   pub enter : Times
   pub line : ℕ
 
--- what a line leaves: what is open then, the call that it ends, or its fault
+-- what a line leaves: what is open then, the call that it ends, the call with which it ends the reading, or its fault
 pub data Taken : Type 0 where
   Stays : (current : Option Opening) → Taken
   Gives : (call : TextCall) → Taken
+  Ends : (call : TextCall) → Taken
   Refuses : (fault : LineFault) → Taken
 
 -- the call that a returning line ends, or that the end of the text leaves open
 abbrev pub call_of : Opening → Option Times → ℕ → TextCall
-call_of current exit last = record { name = current.content.name; params = current.content.params; enter = current.enter; exit = exit; line = current.line; last_line = last }
+call_of current exit last = record { name = current.content.name; params = current.content.params; enter = current.enter; exit = exit; line = current.line; last_line = last; threads = false }
+
+-- the call that a line of another thread ends
+abbrev pub cut_call : Opening → ℕ → TextCall
+cut_call current last = record (call_of current None last) { threads = true }
+
+-- a call that is entered at a line
+abbrev pub opening : List ℕ → Times → ℕ → Opening
+opening name enter line = record { content = record { name = name; params = [] }; enter = enter; line = line }
+
+-- A stamp line of another thread ends the reading, with the call that is open or, outside a call, with the one that the line names. It
+-- is refused where it was written after a later entering line: there the calls of the two threads aren't told in their order.
+abbrev pub threaded : Position → Opening → Times → Taken × Position
+threaded at current time = if nat_lt time.wall at.entered then (Refuses OtherThread, at) else (Ends (cut_call current at.line), at)
 
 -- One line outside a call, and inside one, at its place: what is open then, or the call that it ends, or its fault.
 abbrev pub outside : Position → Kind → Taken × Position
 outside at Blank = (Stays None, at)
 outside at (Entering name enter) =
     if nat_lt at.calls MOST_CALLS
-    then (Stays (Some (record { content = record { name = name; params = [] }; enter = enter; line = at.line })), record at { calls = at.calls + 1 })
+    then (Stays (Some (opening name enter at.line)), record at { calls = at.calls + 1; entered = enter.wall })
     else (Refuses TooManyCalls, at)
 outside at (Returning name exit) = (Refuses ReturnOutside, at)
+outside at (Threaded name time) = threaded at (opening name time at.line) time
 outside at (Bad fault) = (Refuses fault, at)
 outside at (Other content) = (Stays None, record at { skipped = at.skipped + 1 })
 
@@ -58,6 +73,7 @@ abbrev pub inside : Position → Opening → Kind → Taken × Position
 inside at current Blank = (Stays (Some current), at)
 inside at current (Entering name enter) = (Refuses NotReturned, at)
 inside at current (Returning name exit) = returning at current name exit NameDiffers
+inside at current (Threaded name time) = threaded at current time
 inside at current (Bad fault) = (Refuses fault, at)
 inside at current (Other content) = with_param at current (parameter_of content)
 
@@ -66,11 +82,12 @@ abbrev pub by_kind : Position → Option Opening → Kind → Taken × Position
 by_kind at None kind = outside at kind
 by_kind at (Some current) kind = inside at current kind
 
--- A last line without a line feed: outside a call it may enter none, and inside one it has to end the call.
+-- A last line without a line feed: outside a call it may enter none of thread 0, and inside one it has to end the call.
 abbrev pub last_inside : Position → Opening → Kind → Taken × Position
 last_inside at current Blank = (Refuses Truncated, at)
 last_inside at current (Entering name enter) = (Refuses Truncated, at)
 last_inside at current (Returning name exit) = returning at current name exit Truncated
+last_inside at current (Threaded name time) = (Refuses Truncated, at)
 last_inside at current (Bad fault) = (Refuses Truncated, at)
 last_inside at current (Other content) = (Refuses Truncated, at)
 
@@ -84,6 +101,7 @@ abbrev pub within_limit : Taken × Position → Taken × Position
 within_limit (Refuses fault, at) = (Refuses fault, at)
 within_limit (Stays current, at) = if nat_lt MOST_LINES at.line then (Refuses TooManyLines, at) else (Stays current, at)
 within_limit (Gives call, at) = if nat_lt MOST_LINES at.line then (Refuses TooManyLines, at) else (Gives call, at)
+within_limit (Ends call, at) = if nat_lt MOST_LINES at.line then (Refuses TooManyLines, at) else (Ends call, at)
 
 -- the place of the line that follows
 abbrev pub count_line : Position → Position

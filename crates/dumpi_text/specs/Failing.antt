@@ -1,10 +1,11 @@
 -- Readers that fail.
-use Rattle.std.specs.Prelude.{◌≡◌, ℕ}
+use Rattle.std.specs.Prelude.{◌≡◌, ℕ, List, Option}
 use Rattle.mpi_model.specs.Failures.{one_more}
+use Rattle.dumpi_text.specs.Source.{Rest}
 
--- So often a reader of this kind has failed, at some time.
-abbrev pub IsCountOf : {R : Type 0} → (R → ℕ) → ℕ → Type 0
-IsCountOf {R = R} failures count = (reader : R) × (failures reader ≡ count)
+-- A reader of this kind has these bytes left, and has failed so often.
+abbrev pub IsRestOf : {R : Type 0} → (R → Option (List ℕ)) → (R → ℕ) → Rest → Type 0
+IsRestOf {R = R} left failures rest = (reader : R) × (left reader ≡ rest.left) × (failures reader ≡ rest.failures)
 
 -- A reader of this kind fails, once.
 abbrev pub Fails : {R : Type 0} → (R → ℕ) → Type 0

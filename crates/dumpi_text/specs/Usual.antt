@@ -1,5 +1,5 @@
 -- Calls that stand whole in front of a text: an entering line, parameter lines, and a returning line.
-use Rattle.std.specs.Prelude.{◌≡◌, ◌<◌, ◌≤◌, ℕ, ◌+◌, Bool, ◌&&◌, List, [], ◌∷◌, ◌++◌, length, Some, drop, nat_lt}
+use Rattle.std.specs.Prelude.{◌≡◌, ◌<◌, ◌≤◌, ℕ, ◌+◌, Bool, false, ◌&&◌, List, [], ◌∷◌, ◌++◌, length, Some, drop, nat_lt}
 use Rattle.std.specs.List.{list_all}
 use Rattle.mpi_model.specs.Times.{Times}
 use Rattle.dumpi_text.specs.Bytes.{carriage_return, line_feed}
@@ -51,18 +51,17 @@ pub record HasCall (content : CallContent) (enter exit : Times) (text rest : Lis
 abbrev pub lines_of : CallContent → ℕ
 lines_of content = length content.params + 2
 
--- So many bytes in front are a whole call, of so many lines.
-pub record StandsWhole (text : List ℕ) (bytes lines : ℕ) : Type 0 where
+-- So many bytes in front are a whole call, of so many lines, that was entered then.
+pub record StandsWhole (text : List ℕ) (bytes lines : ℕ) (enter : Times) : Type 0 where
   pub content : CallContent
-  pub enter : Times
   pub exit : Times
   pub call : HasCall content enter exit text (drop bytes text)
   pub counted : lines ≡ lines_of content
 
 -- such a call after a place
 abbrev pub call_after : Position → CallContent → Times → Times → TextCall
-call_after at content enter exit = record { name = content.name; params = content.params; enter = enter; exit = Some exit; line = at.line + 1; last_line = at.line + lines_of content }
+call_after at content enter exit = record { name = content.name; params = content.params; enter = enter; exit = Some exit; line = at.line + 1; last_line = at.line + lines_of content; threads = false }
 
 -- the place after a call of so many lines
-abbrev pub place_after : Position → ℕ → Position
-place_after at lines = record at { line = at.line + lines; calls = at.calls + 1 }
+abbrev pub place_after : Position → ℕ → Times → Position
+place_after at lines enter = record at { line = at.line + lines; calls = at.calls + 1; entered = enter.wall }

@@ -22,6 +22,8 @@ pub enum NumName {
     ProcNull,
     /// `MPI_COMM_WORLD`.
     CommWorld,
+    /// `MPI_REQUEST_NULL`.
+    RequestNull,
     /// Another note, or none.
     Other,
 }
@@ -144,6 +146,8 @@ fn name_by(note: &[u8]) -> NumName
         NumName::ProcNull
     } else if same(note, b"MPI_COMM_WORLD") {
         NumName::CommWorld
+    } else if same(note, b"MPI_REQUEST_NULL") {
+        NumName::RequestNull
     } else {
         NumName::Other
     }

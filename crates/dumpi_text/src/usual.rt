@@ -28,7 +28,7 @@ fn line_front(text: &[u8]) -> Option<(&[u8], &[u8])>
 /// What a stamp says that fills its line.
 #[inline(always)]
 fn stamp_on(text: &[u8]) -> Option<Stamp>
-    ensures value { IfSome result (λ at. stamp_of text.now ≡ Ok at) }
+    ensures value { IfSome result (λ at. stamp_of text.now ≡ Ok (at, true)) }
     ensures some { IfSome result (λ at. 0 < length text.now) }
     ensures end { IfSome result (λ at. trim_end text.now ≡ text.now) }
     ensures no_return { IfSome result (λ at. without_last carriage_return text.now ≡ text.now) }
@@ -37,7 +37,7 @@ fn stamp_on(text: &[u8]) -> Option<Stamp>
         return None;
     }
     match read_stamp(text) {
-        Ok(at) => Some(at),
+        Ok((at, own)) => { if own { Some(at) } else { None } }
         Err(_) => None,
     }
 }

@@ -5,20 +5,24 @@ use Rattle.serde_json.specs.Data.{Data, Items, no_items, item}
 use Rattle.serde_json.specs.Find.{as_array, as_str, get}
 use Rattle.mpi_model.specs.declared.layout.Sends.{Sends}
 use Rattle.mpi_model.specs.declared.layout.Sends.TheVariants.{Wait, Buffer}
+use Rattle.mpi_model.specs.declared.layout.comm.Stretch.{Stretch}
 use Rattle.mpi_model.specs.Communicators.{Communicator}
 use Rattle.mpi_model.specs.Layouts.{Holds, Parts, fault_of}
 use Rattle.input_files.specs.Fields.{IsJson, u32_in, u32s_in, with_first}
+use Rattle.input_files.specs.Numbers.{numbers_in}
 use Rattle.input_files.specs.declared.fault.InputFault.{InputFault}
 use Rattle.input_files.specs.declared.fault.InputFault.TheVariants.{Memory, Json, Shape, Piece, Layout}
 
-abbrev pub communicator_from : Option ℕ → Option (List ℕ) → Option Communicator
-communicator_from None members = None
-communicator_from (Some comm) members = option_map (λ ms. record { comm = comm; members = ms }) members
+abbrev pub communicator_from : Option ℕ → Option (List ℕ) → Option (List (Option Stretch)) → Option Communicator
+communicator_from None members numbers = None
+communicator_from (Some comm) None numbers = None
+communicator_from (Some comm) (Some members) numbers = option_map (λ ns. record { comm = comm; members = members; numbers = ns }) numbers
 
--- a communicator: its number and its members
+-- a communicator: its id, its members, and by which numbers these name it
 abbrev pub communicator_in : Data → Option Communicator
 communicator_in value = communicator_from (option_and_then u32_in (get (codes "id") value))
     (option_and_then u32s_in (option_and_then as_array (get (codes "members") value)))
+    (numbers_in (get (codes "numbers") value))
 
 -- the communicators of a list, in its order
 abbrev pub communicators_in : Items → Option (List Communicator)

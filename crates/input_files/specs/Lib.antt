@@ -1,4 +1,5 @@
 pub mod Fields
+pub mod Numbers
 pub mod Layouts
 pub mod Schedules
 pub mod Manifests

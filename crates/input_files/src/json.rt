@@ -89,13 +89,21 @@ pub(crate) fn u32s_of(alloc: Global, values: &[Value]) -> Result<Option<Vec<u32>
     Ok(Some(numbers))
 }
 
-fn u32_of(value: &Value) -> Option<u32>
+/// A whole number from 0 to 2^32 - 1.
+pub(crate) fn u32_of(value: &Value) -> Option<u32>
     ensures { result ≡ u32_in (view value.now) }
 {
     match value.as_u64() {
         Some(n) if n <= 4_294_967_295 => Some(n as u32),
         _ => None,
     }
+}
+
+/// A whole number from 0 to 2^64 - 1.
+pub(crate) fn u64_of(value: &Value) -> Option<u64>
+    ensures { result ≡ u64_in (view value.now) }
+{
+    value.as_u64()
 }
 
 /// A whole number from 0 to 2^64 - 1.

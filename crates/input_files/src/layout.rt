@@ -3,12 +3,12 @@
 ghost use Rattle.std.specs.Prelude.{◌≡◌, IfErr, IfOk, option_and_then, option_map};
 ghost use Rattle.serde_json.specs.Find.{as_str, get};
 ghost use Rattle.serde_json.specs.View.{items_view, view};
-ghost use Rattle.mpi_model.specs.Communicators.{communicators};
 ghost use Rattle.input_files.specs.Layouts.{IsLayoutOf, RefusesLayout, communicator_in, communicators_in, parts_in, sends_named};
 
 use crate::fault::InputFault;
 use crate::json::{list_at, str_at, u32_at, u32s_of, value_of};
-use mpi_model::{Layout, LayoutFault, Sends};
+use crate::numbers::numbers_at;
+use mpi_model::{Comm, Layout, LayoutFault, Sends};
 use serde_json::Value;
 use std::alloc::{AllocError, Global};
 
@@ -24,7 +24,7 @@ pub fn layout_of(alloc: Global, text: &[u8]) -> Result<Layout, InputFault>
         Ok(None) => return Err(InputFault::Shape),
         Err(_) => return Err(InputFault::Memory),
     };
-    let fault = match Layout::new(alloc, given.ranks, given.world, given.comms, given.sends) {
+    let fault = match Layout::of_comms(alloc, given.ranks, given.world, given.comms, given.sends) {
         Ok(layout) => return Ok(layout),
         Err(fault) => fault,
     };
@@ -40,11 +40,11 @@ struct Given {
     ranks: u32,
     world: u32,
     sends: Sends,
-    comms: Vec<(u32, Vec<u32>)>,
+    comms: Vec<Comm>,
 }
 
 fn given_in(alloc: Global, value: &Value) -> Result<Option<Given>, AllocError>
-    ensures { IfOk result (λ o. option_map (λ g. record { ranks = g.ranks; world = g.world; sends = g.sends; comms = communicators g.comms.items }) o ≡ parts_in (view value.now)) }
+    ensures { IfOk result (λ o. option_map (λ g. record { ranks = g.ranks; world = g.world; sends = g.sends; comms = g.comms.items }) o ≡ parts_in (view value.now)) }
 {
     let Some(ranks) = u32_at(value, "ranks") else {
         return Ok(None);
@@ -82,11 +82,8 @@ fn sends_at(value: &Value, name: &str) -> Option<Sends>
     }
 }
 
-fn communicators_of(
-    alloc: Global,
-    values: &[Value],
-) -> Result<Option<Vec<(u32, Vec<u32>)>>, AllocError>
-    ensures { IfOk result (λ o. option_map (λ v. communicators v.items) o ≡ communicators_in (items_view values.now)) }
+fn communicators_of(alloc: Global, values: &[Value]) -> Result<Option<Vec<Comm>>, AllocError>
+    ensures { IfOk result (λ o. option_map (λ v. v.items) o ≡ communicators_in (items_view values.now)) }
 {
     let mut found = Vec::new(alloc);
     for value in values {
@@ -98,8 +95,8 @@ fn communicators_of(
     Ok(Some(found))
 }
 
-fn communicator_of(alloc: Global, value: &Value) -> Result<Option<(u32, Vec<u32>)>, AllocError>
-    ensures { IfOk result (λ o. option_map (λ g. record { comm = g.0; members = g.1.items }) o ≡ communicator_in (view value.now)) }
+fn communicator_of(alloc: Global, value: &Value) -> Result<Option<Comm>, AllocError>
+    ensures { IfOk result (λ o. o ≡ communicator_in (view value.now)) }
 {
     let Some(id) = u32_at(value, "id") else {
         return Ok(None);
@@ -107,8 +104,15 @@ fn communicator_of(alloc: Global, value: &Value) -> Result<Option<(u32, Vec<u32>
     let Some(members) = list_at(value, "members") else {
         return Ok(None);
     };
-    match u32s_of(alloc, members)? {
-        Some(members) => Ok(Some((id, members))),
+    let Some(members) = u32s_of(alloc, members)? else {
+        return Ok(None);
+    };
+    match numbers_at(alloc, value)? {
+        Some(numbers) => Ok(Some(Comm {
+            id,
+            members,
+            numbers,
+        })),
         None => Ok(None),
     }
 }

@@ -10,12 +10,24 @@ use trace_know::{Knowledge, Segment};
 pub(crate) enum Did {
     /// Communicator, receiver, tag and elements.
     Send(u32, u32, u32, u32),
+    /// A request, of a receiver and a tag, on communicator 2; one element.
+    Isend(i64, u32, u32),
     /// Communicator and sender, and a tag or any; one element.
     Recv(u32, u32, Option<u32>),
-    /// A request, of any source and a tag, on communicator 2.
-    Irecv(i64, u32),
-    /// A request, and the source that its status tells.
-    Wait(i64, u32),
+    /// A request, of a sender or any, and a tag, on communicator 2.
+    Irecv(i64, Option<u32>, u32),
+    Cancel(i64),
+    /// A request, and what its status tells.
+    Wait(i64, Status),
+}
+
+/// What a status tells.
+#[derive(Clone, Copy)]
+pub(crate) enum Status {
+    /// It wasn't kept.
+    Nothing,
+    Source(u32),
+    Cancelled,
 }
 
 fn envelope(comm: u32, peer: Peer, tag: Option<u32>, count: u32) -> Envelope {
@@ -34,20 +46,28 @@ fn call_of(did: Did) -> Option<Call> {
             let sent = envelope(comm, Peer::Rank(to), Some(tag), count);
             Call::Send(Mode::Standard, SendEnvelope::new(sent)?)
         }
+        Did::Isend(_, to, tag) => {
+            let sent = envelope(2, Peer::Rank(to), Some(tag), 1);
+            Call::Isend(Mode::Standard, SendEnvelope::new(sent)?)
+        }
         Did::Recv(comm, from, tag) => {
             Call::Recv(ReceiveEnvelope::new(envelope(comm, Peer::Rank(from), tag, 1))?)
         }
-        Did::Irecv(_, tag) => {
-            Call::Irecv(ReceiveEnvelope::new(envelope(2, Peer::Any, Some(tag), 1))?)
+        Did::Irecv(_, from, tag) => {
+            let peer = from.map_or(Peer::Any, Peer::Rank);
+            Call::Irecv(ReceiveEnvelope::new(envelope(2, peer, Some(tag), 1))?)
         }
+        Did::Cancel(request) => Call::Cancel(request),
         Did::Wait(request, _) => Call::Wait(request),
     })
 }
 
 fn outs_of(did: Did) -> Option<Outs> {
     Some(match did {
-        Did::Irecv(request, _) => Outs::Posted(request),
-        Did::Wait(_, source) => Outs::Status(Told::new(Some(source))?),
+        Did::Isend(request, _, _) | Did::Irecv(request, _, _) => Outs::Posted(request),
+        Did::Wait(_, Status::Nothing) => Outs::Status(Told::Nothing),
+        Did::Wait(_, Status::Source(source)) => Outs::Status(Told::from_rank(source)?),
+        Did::Wait(_, Status::Cancelled) => Outs::Status(Told::Cancelled),
         _ => Outs::Nothing,
     })
 }

@@ -3,9 +3,9 @@
 ghost use Rattle.std.specs.Prelude.{◌<◌, length};
 ghost use Rattle.trace_ops.specs.Ops.{IsOwn};
 
-use crate::made::{Did, four, known};
-use mpi_model::Layout;
-use std::alloc::Global;
+use crate::made::{Did, Status, four, known};
+use mpi_model::{Layout, Trust};
+use std::alloc::{AllocError, Global};
 use std::test::Fail;
 use trace_know::Knowledge;
 use trace_ops::{RankOps, all_ops, ops_laws, ops_of};
@@ -30,24 +30,41 @@ impl Draw {
     fn call(&mut self) -> Did {
         let (with, request) = (self.below(4), i64::from(self.below(3)));
         let tag = if self.below(2) == 0 { 5 } else { 6 };
-        match self.below(12) {
+        match self.below(18) {
             0..=3 => Did::Send(2, with, tag, 1),
             4 => Did::Send(3, with, tag, 1),
             5 => Did::Send(2, with, tag, 4),
             6 | 7 => Did::Recv(2, with, Some(tag)),
             8 => Did::Recv(3, with, Some(tag)),
             9 => Did::Recv(2, with, None),
-            10 => Did::Irecv(request, tag),
-            _ => Did::Wait(request, with),
+            10 => Did::Irecv(request, None, tag),
+            11 => Did::Irecv(request, Some(with), tag),
+            12 | 13 => Did::Isend(request, with, tag),
+            14 | 15 => Did::Cancel(request),
+            _ => Did::Wait(request, self.status(with)),
+        }
+    }
+
+    /// What a status tells, if it tells that rank.
+    fn status(&mut self, source: u32) -> Status {
+        match self.below(4) {
+            0 => Status::Nothing,
+            1 => Status::Cancelled,
+            _ => Status::Source(source),
         }
     }
 }
 
-/// One more call of the rank; or, as a contradiction does, an end of what can be read of it.
+/// One more call of the rank, or a request that is cancelled, and known to be; or, as a contradiction does,
+/// an end of what can be read of it.
 fn change(draw: &mut Draw, own: &mut Vec<Did>) -> Result<(), Fail> {
     let len = own.len() as u64;
     if len >= 14 || draw.below(6) == 0 {
         own.truncate(draw.below(len + 1) as usize);
+    } else if draw.below(6) == 0 {
+        let request = i64::from(draw.below(3));
+        own.push(Did::Cancel(request))?;
+        own.push(Did::Wait(request, Status::Cancelled))?;
     } else {
         own.push(draw.call())?;
     }
@@ -71,17 +88,38 @@ fn put_anew(alloc: Global, rank: u32, ops: &RankOps, index: &mut PairIndex) -> R
     Ok(())
 }
 
+/// The trust in some calls that became another, and what it became.
+type Changes = Vec<(Trust, Trust)>;
+
+/// Notes a trust that became another, once.
+fn note(changes: &mut Changes, old: Trust, new: Trust) -> Result<(), AllocError> {
+    if old != new && !changes.contains(&(old, new)) {
+        changes.push((old, new))?;
+    }
+    Ok(())
+}
+
+/// Notes the trusts that became others, of a rank's messages and receives.
+fn note_all(changes: &mut Changes, old: &RankOps, new: &RankOps) -> Result<(), AllocError> {
+    for (was, is) in old.sends().iter().zip(new.sends()) {
+        note(changes, was.trust, is.trust)?;
+    }
+    for (was, is) in old.receives().iter().zip(new.receives()) {
+        note(changes, was.trust, is.trust)?;
+    }
+    Ok(())
+}
+
 /// Brings the index to what the rank did by now, at once or by taking all of its calls back first.
 fn follow(
     alloc: Global,
-    layout: &Layout,
-    know: &Knowledge,
     rank: u32,
+    ops: RankOps,
     at_once: bool,
     index: &mut PairIndex,
-) -> Result<(), Fail> {
-    ops_laws();
-    let ops = ops_of(alloc, layout, know, rank)?;
+) -> Result<(), Fail>
+    requires { IsOwn rank ops }
+{
     if (rank as usize) >= index.ops().len() {
         return Ok(());
     }
@@ -92,12 +130,13 @@ fn follow(
     put_anew(alloc, rank, &ops, index)
 }
 
-/// What the steps work on.
+/// What the steps work on, and the ways in which a trust changed.
 #[derive(Drop)]
 struct Run {
     layout: Layout,
     calls: Vec<Vec<Did>>,
     index: PairIndex,
+    changes: Changes,
 }
 
 fn begin(alloc: Global) -> Result<Run, Fail> {
@@ -109,6 +148,7 @@ fn begin(alloc: Global) -> Result<Run, Fail> {
         layout: four(alloc)?,
         calls,
         index: PairIndex::new(alloc, 4)?,
+        changes: Vec::new(alloc),
     })
 }
 
@@ -119,22 +159,30 @@ fn step(alloc: Global, draw: &mut Draw, run: &mut Run) -> Result<(PairTable, boo
         change(draw, own)?;
     }
     let know = known(alloc, &run.calls)?;
-    follow(
-        alloc,
-        &run.layout,
-        &know,
-        rank,
-        draw.below(2) == 0,
-        &mut run.index,
-    )?;
+    ops_laws();
+    let ops = ops_of(alloc, &run.layout, &know, rank)?;
+    if let Some(held) = run.index.ops().get(rank as usize) {
+        note_all(&mut run.changes, held, &ops)?;
+    }
+    follow(alloc, rank, ops, draw.below(2) == 0, &mut run.index)?;
     let whole = from_scratch(alloc, &run.layout, &know)?;
     let table = run.index.pairs()?;
     let is_same = whole.pairs() == table.pairs() && whole.postponed() == table.postponed();
     Ok((table, is_same))
 }
 
-/// Pairs and postponed messages over all steps, and the steps after which the two tables differ.
-fn steps(alloc: Global, count: u32) -> Result<(usize, usize, u32), Fail> {
+/// What came of all steps.
+#[derive(Drop)]
+struct Sums {
+    pairs: usize,
+    postponed: usize,
+    /// The steps after which the two tables differ.
+    differing: u32,
+    /// The ways in which a trust changed.
+    changes: usize,
+}
+
+fn steps(alloc: Global, count: u32) -> Result<Sums, Fail> {
     let mut draw = Draw { state: 7 };
     let mut run = begin(alloc)?;
     let (mut pairs, mut postponed, mut differing): (usize, usize, u32) = (0, 0, 0);
@@ -147,16 +195,25 @@ fn steps(alloc: Global, count: u32) -> Result<(usize, usize, u32), Fail> {
         pairs = pairs.saturating_add(now_paired.len());
         postponed = postponed.saturating_add(now_postponed.len());
     }
-    Ok((pairs, postponed, differing))
+    Ok(Sums {
+        pairs,
+        postponed,
+        differing,
+        changes: run.changes.len(),
+    })
 }
 
 #[test]
 fn an_index_over_many_steps(rt: HostRuntime) -> Result<(), Fail> {
-    let (pairs, postponed, differing) = steps(rt.alloc(), 2400)?;
-    // (and so many of both that the steps are worth something)
+    let sums = steps(rt.alloc(), 2400)?;
+    assert!(rt; sums.differing == 0, "{} differ", sums.differing);
+    // (and so much of each that the steps are worth something: a trust went each of the six ways)
     assert!(rt;
-        differing == 0 && pairs > 2400 && postponed > 400,
-        "{differing} differ, {pairs} pairs, {postponed} postponed"
+        sums.pairs > 1200 && sums.postponed > 1200 && sums.changes == 6,
+        "{} pairs, {} postponed, {} changes",
+        sums.pairs,
+        sums.postponed,
+        sums.changes
     );
     Ok(())
 }

@@ -12,7 +12,7 @@ pub or_false : (a b : Bool) → (a || b) ≡ false → (a ≡ false) × (b ≡ f
 or_false true b h = cc
 or_false false b h = (refl, h)
 
-and_true : (a b : Bool) → (a && b) ≡ true → (a ≡ true) × (b ≡ true)
+pub and_true : (a b : Bool) → (a && b) ≡ true → (a ≡ true) × (b ≡ true)
 and_true true b h = (refl, h)
 and_true false b h = cc
 

@@ -1,74 +1,74 @@
 -- What the tests of a layout tell.
-use Rattle.std.proofs.Common.{◌≡◌, ◌≤◌, ◌<◌, ℕ, suc, ◌==◌, ◌∙◌, Bool, true, false, List, [], ◌∷◌, nat_lt, length, refl, ap, arith, Some, None, if◌then◌else◌, eqb, Vec}
+use Rattle.std.proofs.Common.{◌≡◌, ◌≤◌, ◌<◌, ℕ, ◌==◌, ◌||◌, ◌∙◌, Bool, true, false, List, [], nat_lt, length, refl, arith, Some, None, if◌then◌else◌, eqb}
 use Rattle.std.proofs.lemmas.Grind.{common_steps}
 use Rattle.std.proofs.lemmas.List.{get_or-map}
 use Rattle.std.proofs.lemmas.List.Sorted.{All-permutation, IsPermutation-map, length_permutation}
 use Rattle.std.proofs.lemmas.Map.Keys.{IsDistinct-IsPermutation, IsStrictlyIncreasing-from_distinct}
 use Rattle.std.specs.List.{list_any}
 use Rattle.std.specs.List.Sorted.{IsNonDecreasing, IsNonDecreasingBy, IsStrictlyIncreasing}
-use Rattle.std.specs.declared.alloc.Global.{Global}
 use Rattle.mpi_model.specs.declared.layout.Sends.{Sends}
 use Rattle.mpi_model.specs.declared.layout.fault.LayoutFault.TheVariants.{CommCount}
-use Rattle.mpi_model.specs.Communicators.{Communicator, InOrder, communicators, has_double, members_of, numbers}
-use Rattle.mpi_model.specs.Layouts.{IsGroup, IsLayout, comm_fault, fault_of, has_double_member, has_stranger, has_world, is_empty_group}
+use Rattle.mpi_model.specs.Communicators.{Communicator, InOrder, has_double, members_of, ids}
+use Rattle.mpi_model.specs.Layouts.{IsGroup, IsLayout, comm_fault, fault_of, has_double_member, has_stranger, has_world, has_wrong_numbers, is_empty_group}
+use Rattle.mpi_model.specs.Names.{has_clash}
 use Rattle.mpi_model.proofs.Communicators.{all_groups, distinct, whole_world}
 
-pub length-communicators : (cs : List (ℕ × Vec ℕ Global)) → length (communicators cs) ≡ length cs
-length-communicators [] = refl
-length-communicators (c ∷ cs) = ap suc (length-communicators cs)
-
 -- the numbers of ranks and of communicators are allowed
-pub within : (ranks world : ℕ) (gs : List Communicator) → 0 < ranks → ranks ≤ 1024 → length gs ≤ 256 → fault_of ranks world gs ≡ comm_fault ranks world gs
+pub within : (ranks world : ℕ) (gs : List Communicator) → 0 < ranks → ranks ≤ 1024 → length gs ≤ 65536 → fault_of ranks world gs ≡ comm_fault ranks world gs
 within ranks world gs some few short =
     let a : (ranks == 0) ≡ false = grind (arith, common_steps) in
     let b : nat_lt 1024 ranks ≡ false = grind (arith, common_steps) in
-    let d : nat_lt 256 (length gs) ≡ false = grind (arith, common_steps) in
+    let d : nat_lt 65536 (length gs) ≡ false = grind (arith, common_steps) in
     rw (a, b, d) refl
 
-pub too_many : (ranks world : ℕ) (gs : List Communicator) → 0 < ranks → ranks ≤ 1024 → 256 < length gs → fault_of ranks world gs ≡ Some CommCount
+pub too_many : (ranks world : ℕ) (gs : List Communicator) → 0 < ranks → ranks ≤ 1024 → 65536 < length gs → fault_of ranks world gs ≡ Some CommCount
 too_many ranks world gs some few long =
     let a : (ranks == 0) ≡ false = grind (arith, common_steps) in
     let b : nat_lt 1024 ranks ≡ false = grind (arith, common_steps) in
-    let d : nat_lt 256 (length gs) ≡ true = grind (arith, common_steps) in
+    let d : nat_lt 65536 (length gs) ≡ true = grind (arith, common_steps) in
     rw (a, b, d) refl
 
 record Passes (ranks world : ℕ) (gs : List Communicator) : Type 0 where
-  pub single : has_double (numbers gs) ≡ false
+  pub single : has_double (ids gs) ≡ false
   pub full : list_any is_empty_group gs ≡ false
   pub in_range : list_any (λ g. has_stranger ranks g.members) gs ≡ false
   pub no_double : list_any has_double_member gs ≡ false
   pub world_there : has_world ranks world gs ≡ true
+  pub clear : has_clash gs ≡ false
 
-passes_by : {F : Type 0} (a b c d e : Bool) (f g h i j : F)
-    → (if a then Some f else if b then Some g else if c then Some h else if d then Some i else if e then None else Some j) ≡ None
-    → (a ≡ false) × (b ≡ false) × (c ≡ false) × (d ≡ false) × (e ≡ true)
-passes_by true b c d e f g h i j n = cc
-passes_by false true c d e f g h i j n = cc
-passes_by false false true d e f g h i j n = cc
-passes_by false false false true e f g h i j n = cc
-passes_by false false false false true f g h i j n = (refl, refl, refl, refl, refl)
-passes_by false false false false false f g h i j n = cc
+passes_by : {F : Type 0} (a b c d e m n : Bool) (f g h i j k : F)
+    → (if a then Some f else if b then Some g else if c then Some h else if d then Some i else if e then (if m || n then Some k else None) else Some j) ≡ None
+    → (a ≡ false) × (b ≡ false) × (c ≡ false) × (d ≡ false) × (e ≡ true) × (n ≡ false)
+passes_by true b c d e m n f g h i j k h' = cc
+passes_by false true c d e m n f g h i j k h' = cc
+passes_by false false true d e m n f g h i j k h' = cc
+passes_by false false false true e m n f g h i j k h' = cc
+passes_by false false false false true true n f g h i j k h' = cc
+passes_by false false false false true false true f g h i j k h' = cc
+passes_by false false false false true false false f g h i j k h' = (refl, refl, refl, refl, refl, refl)
+passes_by false false false false false m n f g h i j k h' = cc
 
 passes : (ranks world : ℕ) (gs : List Communicator) → comm_fault ranks world gs ≡ None → Passes ranks world gs
 passes ranks world gs n =
-    let all = passes_by (has_double (numbers gs)) (list_any is_empty_group gs) (list_any (λ g. has_stranger ranks g.members) gs) (list_any has_double_member gs) (has_world ranks world gs) _ _ _ _ _ n in
-    record { single = all.0; full = all.1; in_range = all.2; no_double = all.3; world_there = all.4 }
+    let all = passes_by (has_double (ids gs)) (list_any is_empty_group gs) (list_any (λ g. has_stranger ranks g.members) gs) (list_any has_double_member gs) (has_world ranks world gs)
+    (list_any has_wrong_numbers gs) (has_clash gs) _ _ _ _ _ _ n in
+    record { single = all.0; full = all.1; in_range = all.2; no_double = all.3; world_there = all.4; clear = all.5 }
 
 flips : (x y : ℕ) → eqb x y ≡ eqb y x
 flips x y = grind (arith, common_steps)
 
-never_falls : (gs : List Communicator) → IsNonDecreasingBy (λ g. g.comm) gs → IsNonDecreasing (numbers gs)
+never_falls : (gs : List Communicator) → IsNonDecreasingBy (λ g. g.comm) gs → IsNonDecreasing (ids gs)
 never_falls gs up i j d le lt =
-    let none : Communicator = record { comm = 0; members = [] } in
+    let none : Communicator = record { comm = 0; members = []; numbers = [] } in
     let in_list : j < length gs = grind (arith, common_steps, lt) in
     rw (get_or-map (λ (g : Communicator). g.comm) gs i none d (omega (arith, le, in_list)), get_or-map (λ (g : Communicator). g.comm) gs j none d in_list) (up i j none le in_list)
 
-rising : (given sorted : List Communicator) → InOrder given sorted → has_double (numbers given) ≡ false → IsStrictlyIncreasing (numbers sorted)
+rising : (given sorted : List Communicator) → InOrder given sorted → has_double (ids given) ≡ false → IsStrictlyIncreasing (ids sorted)
 rising given sorted o single =
-    IsStrictlyIncreasing-from_distinct (numbers sorted) (never_falls sorted o.rising)
-    (IsDistinct-IsPermutation eqb flips (numbers given) (numbers sorted) (IsPermutation-map (λ (g : Communicator). g.comm) given sorted o.same) (distinct (numbers given) single))
+    IsStrictlyIncreasing-from_distinct (ids sorted) (never_falls sorted o.rising)
+    (IsDistinct-IsPermutation eqb flips (ids given) (ids sorted) (IsPermutation-map (λ (g : Communicator). g.comm) given sorted o.same) (distinct (ids given) single))
 
-pub layout_known : (ranks world : ℕ) (sends : Sends) (given sorted : List Communicator) → 0 < ranks → ranks ≤ 1024 → length given ≤ 256
+pub layout_known : (ranks world : ℕ) (sends : Sends) (given sorted : List Communicator) → 0 < ranks → ranks ≤ 1024 → length given ≤ 65536
     → comm_fault ranks world given ≡ None → InOrder given sorted → IsLayout (record { ranks = ranks; world = world; sends = sends; comms = sorted })
 layout_known ranks world sends given sorted some few short n o =
     let p = passes ranks world given n in
@@ -80,3 +80,6 @@ layout_known ranks world sends given sorted some few short n o =
       groups = All-permutation (λ g. IsGroup ranks g.members) given sorted o.same (all_groups ranks given p.full p.in_range p.no_double);
       world = o.members world ∙ whole_world ranks (members_of given world) p.world_there;
     }
+
+pub clear : (ranks world : ℕ) (given : List Communicator) → comm_fault ranks world given ≡ None → has_clash given ≡ false
+clear ranks world given n = (passes ranks world given n).clear

@@ -2,7 +2,12 @@ mod Doubles
 mod Communicators
 mod Known
 mod Layouts
+mod Names
+mod Neighbours
 mod Orders
+mod Pairs
 mod Finds
+mod Found
 mod Places
 mod Same
+mod Starts

@@ -9,7 +9,7 @@ use Rattle.mpi_model.specs.Communicators.{Communicator, members_of}
 
 -- the sort's own test of one number
 abbrev has_number : ℕ → Communicator → Bool
-has_number n = ties (λ g h. is_lt (nat_cmp g.comm h.comm)) (record { comm = n; members = [] })
+has_number n = ties (λ g h. is_lt (nat_cmp g.comm h.comm)) (record { comm = n; members = []; numbers = [] })
 
 abbrev first_members : List Communicator → Option (List ℕ)
 first_members [] = None
@@ -29,4 +29,4 @@ members_first n (g ∷ gs) = step (g.comm == n) refl (members_first n gs)
 
 pub members_stay : (given sorted : List Communicator) → IsStableByKey (λ g. g.comm) nat_cmp given sorted → (n : ℕ) → members_of sorted n ≡ members_of given n
 members_stay given sorted stable n =
-    members_first n sorted ∙ ap first_members (stable (record { comm = n; members = [] })) ∙ sym (members_first n given)
+    members_first n sorted ∙ ap first_members (stable (record { comm = n; members = []; numbers = [] })) ∙ sym (members_first n given)

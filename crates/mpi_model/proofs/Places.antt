@@ -1,5 +1,5 @@
 -- Communicators found by halves.
-use Rattle.std.proofs.Common.{◌≡◌, ◌==◌, ℕ, zero, suc, ◌+◌, ◌-◌, ◌<◌, ◌≤◌, Bool, true, false, List, [], ◌∷◌, Some, None, length, get_or, map, refl, ap, sym, ◌∙◌, arith, option_map, ◌⊎◌, ⊎_elim}
+use Rattle.std.proofs.Common.{◌≡◌, ◌==◌, ℕ, zero, suc, ◌+◌, ◌-◌, ◌<◌, ◌≤◌, true, false, List, [], Some, None, length, get_or, refl, ap, sym, arith, option_map, ◌⊎◌, ⊎_elim}
 use Rattle.std.specs.Prelude.{find, slice_get}
 use Rattle.std.proofs.lemmas.Grind.{common_steps}
 use Rattle.std.proofs.lemmas.Bool.Decides.{nat_tests}
@@ -10,11 +10,11 @@ use Rattle.std.proofs.lemmas.Option.{slice_get-get_or, slice_get_past}
 use Rattle.std.specs.List.Sorted.{IsNonDecreasingBy, IsPartitionPoint, IsStrictlyIncreasing}
 use Rattle.std.specs.Ordering.{nat_cmp, ordering_index}
 use Rattle.std.specs.declared.cmp.Ordering.TheVariants.{Less, Equal, Greater}
-use Rattle.mpi_model.specs.Communicators.{Communicator, members_of, numbers}
+use Rattle.mpi_model.specs.Communicators.{Communicator, members_of, ids}
 use Rattle.mpi_model.proofs.Finds.{find_by, find_none}
 
 abbrev pub none : Communicator
-none = record { comm = 0; members = [] }
+none = record { comm = 0; members = []; numbers = [] }
 
 abbrev pub number_at : List Communicator → ℕ → ℕ
 number_at gs i = (get_or gs i none).comm
@@ -34,13 +34,13 @@ equals_itself a b same = grind (arith, nat_tests, common_steps)
 indices_rise : (a b n : ℕ) → a ≤ b → ordering_index (nat_cmp a n) ≤ ordering_index (nat_cmp b n)
 indices_rise a b n le = grind (arith, nat_tests)
 
-module _ (gs : List Communicator) (up : IsStrictlyIncreasing (numbers gs)) where
+module _ (gs : List Communicator) (up : IsStrictlyIncreasing (ids gs)) where
   next_rises : (i : ℕ) → i + 1 < length gs → number_at gs i < number_at gs (i + 1)
   next_rises i lt =
-      let long : length (numbers gs) ≡ length gs = length-map gs (λ (g : Communicator). g.comm) in
-      let here : get_or (numbers gs) i 0 ≡ number_at gs i = get_or-map (λ (g : Communicator). g.comm) gs i none 0 (omega (arith, lt)) in
-      let next : get_or (numbers gs) (i + 1) 0 ≡ number_at gs (i + 1) = get_or-map (λ (g : Communicator). g.comm) gs (i + 1) none 0 lt in
-      let rise : get_or (numbers gs) i 0 < get_or (numbers gs) (i + 1) 0 = up i (omega (arith, long, lt)) in
+      let long : length (ids gs) ≡ length gs = length-map gs (λ (g : Communicator). g.comm) in
+      let here : get_or (ids gs) i 0 ≡ number_at gs i = get_or-map (λ (g : Communicator). g.comm) gs i none 0 (omega (arith, lt)) in
+      let next : get_or (ids gs) (i + 1) 0 ≡ number_at gs (i + 1) = get_or-map (λ (g : Communicator). g.comm) gs (i + 1) none 0 lt in
+      let rise : get_or (ids gs) i 0 < get_or (ids gs) (i + 1) 0 = up i (omega (arith, long, lt)) in
       omega (arith, here, next, rise)
 
   further : (i n j : ℕ) → j ≡ i + n + 1 → j < length gs → number_at gs i < number_at gs j
@@ -52,7 +52,7 @@ module _ (gs : List Communicator) (up : IsStrictlyIncreasing (numbers gs)) where
       let total : number_at gs i < number_at gs (i + n + 1 + 1) = omega (arith, before, step) in
       rw same total
 
-  -- the numbers rise from any place to any later one
+  -- the ids rise from any place to any later one
   rises : (i j : ℕ) → i < j → j < length gs → number_at gs i < number_at gs j
   rises i j lt in_range = further i (j - i - 1) j (omega arith) in_range
 

@@ -3,30 +3,37 @@ use Rattle.std.specs.Prelude.{◌≡◌, ℕ, ◌==◌, ◌||◌, Bool, false, L
 use Rattle.std.specs.List.{list_any}
 use Rattle.std.specs.List.Sorted.{IsPermutation, IsNonDecreasingBy}
 use Rattle.std.specs.declared.alloc.Global.{Global}
+use Rattle.mpi_model.specs.declared.layout.comm.Stretch.{Stretch}
 
--- a communicator: its number, and the ranks of its group in their order (MPI 4.0, 7.2.1)
+-- A communicator: its id, the ranks of its group in their order (MPI 4.0, 7.2.1), and for each of these by which number
+-- its own calls name it. Where no numbers are given all of them name it by the id.
 pub record Communicator : Type 0 where
   pub comm : ℕ
   pub members : List ℕ
+  pub numbers : List (Option Stretch)
 
--- the communicators as they are passed
+-- the communicators as they are passed, without numbers
 abbrev pub communicators : List (ℕ × Vec ℕ Global) → List Communicator
 communicators [] = []
-communicators (c ∷ cs) = record { comm = c.0; members = c.1.items } ∷ communicators cs
+communicators (c ∷ cs) = record { comm = c.0; members = c.1.items; numbers = [] } ∷ communicators cs
 
-abbrev pub numbers : List Communicator → List ℕ
-numbers gs = map (λ g. g.comm) gs
+abbrev pub ids : List Communicator → List ℕ
+ids gs = map (λ g. g.comm) gs
 
--- the members of the communicator of this number
+-- the members of the communicator of this id
 abbrev pub members_of : List Communicator → ℕ → Option (List ℕ)
 members_of gs comm = option_map (λ g. g.members) (find (λ g. g.comm == comm) gs)
 
+-- two at different places of the list pass the test
+abbrev pub has_pair : {X : Type 0} → (X → X → Bool) → List X → Bool
+has_pair test [] = false
+has_pair test (x ∷ xs) = list_any (test x) xs || has_pair test xs
+
 -- some number stands in the list twice
 abbrev pub has_double : List ℕ → Bool
-has_double [] = false
-has_double (x ∷ xs) = list_any (λ y. y == x) xs || has_double xs
+has_double xs = has_pair (λ x y. y == x) xs
 
--- The same communicators in an order in which no number falls. Each number names what it named.
+-- The same communicators in an order in which no id falls. Each id names what it named.
 pub record InOrder (given sorted : List Communicator) : Type 0 where
   pub same : IsPermutation given sorted
   pub rising : IsNonDecreasingBy (λ g. g.comm) sorted

@@ -1,5 +1,5 @@
 -- What the devices of this crate hold.
-use Rattle.std.specs.Prelude.{ℕ, List, Option}
+use Rattle.std.specs.Prelude.{ℕ, List, Option, None, Some, length, min}
 use Rattle.mpi_model.specs.declared.device.Device.{Device}
 use Rattle.mpi_model.specs.declared.memory.reader.MemoryReader.{MemoryReader}
 use Rattle.mpi_model.specs.declared.memory.reader.EndlessReader.{EndlessReader}
@@ -30,6 +30,15 @@ most_read r = r.most
 abbrev pub until_failure : MemoryReader → Option ℕ
 until_failure r = r.until_failure
 
+-- the fewer of these bytes and those before it fails
+abbrev pub before_failure : Option ℕ → ℕ → ℕ
+before_failure None count = count
+before_failure (Some until) count = min count until
+
+-- how many bytes it gives to a buffer of this length: all that the buffer takes, up to its limits and its end
+abbrev pub count_given : MemoryReader → ℕ → ℕ
+count_given r room = before_failure (until_failure r) (min (min room (most_read r)) (length (bytes_left r)))
+
 abbrev pub failures_of_reader : MemoryReader → ℕ
 failures_of_reader r = r.failures
 
@@ -50,6 +59,10 @@ most_written w = w.most
 -- how many bytes it still takes
 abbrev pub room_of : MemoryWriter → ℕ
 room_of w = w.room
+
+-- how many bytes it takes of a piece of this length: all of it, up to its limits
+abbrev pub count_taken : MemoryWriter → ℕ → ℕ
+count_taken w length_of_piece = min (min length_of_piece (most_written w)) (room_of w)
 
 abbrev pub failures_of_writer : MemoryWriter → ℕ
 failures_of_writer w = w.failures

@@ -41,9 +41,15 @@ IsCall (calls.Waitall requests) = All IsSigned requests
 IsCall (calls.Waitany requests) = All IsSigned requests
 IsCall (calls.Waitsome requests) = All IsSigned requests
 IsCall (calls.Test request) = IsSigned request
+IsCall (calls.Testall requests) = All IsSigned requests
+IsCall (calls.Testany requests) = All IsSigned requests
+IsCall (calls.Testsome requests) = All IsSigned requests
+IsCall (calls.Cancel request) = IsSigned request
+IsCall (calls.Free request) = IsSigned request
 IsCall (calls.Collective c) = IsCollective c
 IsCall (calls.Probe e) = IsProbe e
 IsCall (calls.Ibarrier c) = IsComm c
+IsCall calls.Unread = Unit {0}
 
 -- a position in a call's list, where there is one
 abbrev pub IsPosition : Option ℕ → Type 0

@@ -1,11 +1,15 @@
 -- What a layout is, and why there is none.
-use Rattle.std.specs.Prelude.{◌≡◌, ◌<◌, ◌≤◌, ℕ, ◌+◌, ◌==◌, ◌&&◌, ◌||◌, Bool, true, false, List, [], ◌∷◌, Option, Some, None, All, eqb, nat_lt, nat_le, length, if◌then◌else◌}
+use Rattle.std.specs.Prelude.{◌≡◌, ◌<◌, ◌≤◌, ℕ, ◌+◌, ◌==◌, ◌&&◌, ◌||◌, Bool, true, false, not, List, [], ◌∷◌, Option, Some, None, All, eqb, nat_lt, nat_le, length, if◌then◌else◌}
 use Rattle.std.specs.List.{list_any, IsDistinct, range_with_len}
-use Rattle.std.specs.List.Sorted.{IsStrictlyIncreasing}
+use Rattle.std.specs.List.Sorted.{IsPermutation, IsStrictlyIncreasing}
 use Rattle.mpi_model.specs.declared.layout.Sends.{Sends}
 use Rattle.mpi_model.specs.declared.layout.fault.LayoutFault.{LayoutFault}
-use Rattle.mpi_model.specs.declared.layout.fault.LayoutFault.TheVariants.{RankCount, CommCount, DoubleComm, EmptyComm, MemberRange, DoubleMember, World}
-use Rattle.mpi_model.specs.Communicators.{Communicator, has_double, members_of, numbers}
+use Rattle.mpi_model.specs.declared.layout.fault.LayoutFault.TheVariants.{RankCount, CommCount, DoubleComm, EmptyComm, MemberRange, DoubleMember, World, Numbers}
+use Rattle.mpi_model.specs.declared.layout.comm.Stretch.{Stretch}
+use Rattle.mpi_model.specs.declared.envelope.CommRef.{CommRef}
+use Rattle.mpi_model.specs.declared.envelope.CommRef.TheVariants as comms
+use Rattle.mpi_model.specs.Communicators.{Communicator, has_double, ids, members_of}
+use Rattle.mpi_model.specs.Names.{has_clash, numbered}
 
 -- what a layout holds
 pub record Parts : Type 0 where
@@ -24,16 +28,17 @@ pub record IsGroup (ranks : ℕ) (members : List ℕ) : Type 0 where
 pub record IsLayout (l : Parts) : Type 0 where
   pub some_rank : 0 < l.ranks
   pub few_ranks : l.ranks ≤ 1024
-  pub few_comms : length l.comms ≤ 256
-  pub rising : IsStrictlyIncreasing (numbers l.comms)
+  pub few_comms : length l.comms ≤ 65536
+  pub rising : IsStrictlyIncreasing (ids l.comms)
   pub groups : All (λ g. IsGroup l.ranks g.members) l.comms
   pub world : members_of l.comms l.world ≡ Some (range_with_len 0 l.ranks)
 
--- The layout holds what was given: each number names the members that it named there.
+-- The layout holds what was given: the same communicators, each with its members and numbers.
 pub record Holds (ranks world : ℕ) (sends : Sends) (given : List Communicator) (l : Parts) : Type 0 where
   pub same_ranks : l.ranks ≡ ranks
   pub same_world : l.world ≡ world
   pub same_sends : l.sends ≡ sends
+  pub same_comms : IsPermutation given l.comms
   pub members : (comm : ℕ) → members_of l.comms comm ≡ members_of given comm
 
 abbrev pub is_empty_group : Communicator → Bool
@@ -63,19 +68,42 @@ is_some_whole ranks (Some members) = is_whole ranks members
 abbrev pub has_world : ℕ → ℕ → List Communicator → Bool
 has_world ranks world gs = is_some_whole ranks (members_of gs world)
 
+abbrev pub ends_before : Option ℕ → ℕ → Bool
+ends_before None call = false
+ends_before (Some end) call = nat_lt end call
+
+-- the stretch ends before its first call
+abbrev pub is_backward : Option Stretch → Bool
+is_backward None = false
+is_backward (Some s) = ends_before s.end s.first
+
+-- the numbers are neither absent nor one for each member, or some stretch ends before its first call
+abbrev pub has_wrong_numbers : Communicator → Bool
+has_wrong_numbers g = not ((length g.numbers == 0) || (length g.numbers == length g.members)) || list_any is_backward g.numbers
+
+-- the numbers are wrong, or some rank gives a number two meanings in one call
+abbrev pub number_fault : List Communicator → Option LayoutFault
+number_fault gs = if list_any has_wrong_numbers gs || has_clash gs then Some Numbers else None
+
 -- the first fault of these communicators, where they are not too many
 abbrev pub comm_fault : ℕ → ℕ → List Communicator → Option LayoutFault
 comm_fault ranks world gs =
-    if has_double (numbers gs) then Some DoubleComm
+    if has_double (ids gs) then Some DoubleComm
     else if list_any is_empty_group gs then Some EmptyComm
     else if list_any (λ g. has_stranger ranks g.members) gs then Some MemberRange
     else if list_any has_double_member gs then Some DoubleMember
-    else if has_world ranks world gs then None
+    else if has_world ranks world gs then number_fault gs
     else Some World
 
 -- The first fault of a layout of these communicators, in the order of the numbers.
 abbrev pub fault_of : ℕ → ℕ → List Communicator → Option LayoutFault
 fault_of ranks world gs =
     if (ranks == 0) || nat_lt 1024 ranks then Some RankCount
-    else if nat_lt 256 (length gs) then Some CommCount
+    else if nat_lt 65536 (length gs) then Some CommCount
     else comm_fault ranks world gs
+
+-- The communicator that a call of a rank names: the world for every rank of the run, or the one that the rank names so in
+-- this call.
+abbrev pub named : Parts → ℕ → ℕ → CommRef → Option ℕ
+named l rank call comms.World = if nat_lt rank l.ranks then Some l.world else None
+named l rank call (comms.Id number) = numbered l.comms rank call number

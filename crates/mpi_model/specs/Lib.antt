@@ -1,11 +1,16 @@
 pub mod Failures
 pub mod Side
 pub mod Times
+pub mod Tells
+pub mod Requests
 pub mod Ranges
 pub mod Whole
 pub mod Communicators
+pub mod Names
+pub mod Starts
 pub mod Layouts
 pub mod Devices
+pub mod Trusts
 pub mod Fit
 pub mod Events
 pub mod Packing

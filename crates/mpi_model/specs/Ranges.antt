@@ -1,5 +1,7 @@
 -- The ranges of what calls and outcomes hold. The greatest number is 2^31 - 1, that of an `int`.
 use Rattle.std.specs.Prelude.{◌≡◌, ℕ, ◌<◌, ◌^◌, Option, Some, None, IfSome}
+use Rattle.mpi_model.specs.declared.told.Told.{Told}
+use Rattle.mpi_model.specs.declared.told.Told.TheVariants as tolds
 use Rattle.mpi_model.specs.declared.envelope.Peer.{Peer}
 use Rattle.mpi_model.specs.declared.envelope.Peer.TheVariants as peers
 use Rattle.mpi_model.specs.declared.envelope.CommRef.{CommRef}
@@ -8,9 +10,11 @@ use Rattle.mpi_model.specs.declared.envelope.Envelope.{Envelope}
 use Rattle.mpi_model.specs.declared.collective.Kind.{Kind}
 use Rattle.mpi_model.specs.declared.collective.Kind.TheVariants.{Barrier, Bcast, Scatter, Gather, Reduce, Allreduce, Allgather, Alltoall, Ibarrier}
 
--- a source that an outcome tells, or nothing
-abbrev pub IsTold : Option ℕ → Type 0
-IsTold rank = IfSome rank (λ n. n < 2 ^ 31)
+-- what an outcome tells of a source
+abbrev pub IsTold : Told → Type 0
+IsTold tolds.Nothing = Unit {0}
+IsTold (tolds.Source rank) = rank < 2 ^ 31
+IsTold tolds.Cancelled = Unit {0}
 
 abbrev pub IsComm : CommRef → Type 0
 IsComm comms.World = Unit {0}

@@ -28,11 +28,20 @@ pub enum Call {
     Waitany(Requests),
     Waitsome(Requests),
     Test(i64),
+    Testall(Requests),
+    Testany(Requests),
+    Testsome(Requests),
+    /// It asks that an operation be cancelled, and returns at once (MPI 4.0, 3.8.4).
+    Cancel(i64),
+    /// The number then names no request, though its operation goes on (MPI 4.0, 3.7.3).
+    Free(i64),
     Collective(Collective),
     /// It waits for a message and leaves it where it is (MPI 4.0, 3.8.1).
     Probe(ProbeEnvelope),
     /// A barrier whose end its request tells (MPI 4.0, 6.12.1).
     Ibarrier(NamedComm),
+    /// A function that moves messages and isn't read: what follows it isn't known.
+    Unread,
 }
 
 impl Call {
@@ -52,9 +61,15 @@ impl Call {
             Call::Waitany(requests) => Call::Waitany(requests.try_clone()?),
             Call::Waitsome(requests) => Call::Waitsome(requests.try_clone()?),
             Call::Test(request) => Call::Test(*request),
+            Call::Testall(requests) => Call::Testall(requests.try_clone()?),
+            Call::Testany(requests) => Call::Testany(requests.try_clone()?),
+            Call::Testsome(requests) => Call::Testsome(requests.try_clone()?),
+            Call::Cancel(request) => Call::Cancel(*request),
+            Call::Free(request) => Call::Free(*request),
             Call::Collective(collective) => Call::Collective(*collective),
             Call::Probe(envelope) => Call::Probe(*envelope),
             Call::Ibarrier(comm) => Call::Ibarrier(*comm),
+            Call::Unread => Call::Unread,
         })
     }
 
@@ -63,16 +78,22 @@ impl Call {
         ensures { IsCall self.now }
     {
         match self {
-            Call::Local | Call::Finalize => {}
+            Call::Local | Call::Finalize | Call::Unread => {}
             Call::Send(_, envelope) | Call::Isend(_, envelope) => envelope.known(),
             Call::Recv(envelope) | Call::Irecv(envelope) => envelope.known(),
             Call::Sendrecv(exchange) => exchange.known(),
-            Call::Wait(request) | Call::Test(request) => {
+            Call::Wait(request)
+            | Call::Test(request)
+            | Call::Cancel(request)
+            | Call::Free(request) => {
                 let _request = *request;
             }
-            Call::Waitall(requests) | Call::Waitany(requests) | Call::Waitsome(requests) => {
-                requests.known();
-            }
+            Call::Waitall(requests)
+            | Call::Waitany(requests)
+            | Call::Waitsome(requests)
+            | Call::Testall(requests)
+            | Call::Testany(requests)
+            | Call::Testsome(requests) => requests.known(),
             Call::Collective(collective) => collective.known(),
             Call::Probe(envelope) => envelope.known(),
             Call::Ibarrier(comm) => {
@@ -98,9 +119,15 @@ impl Call {
             (Call::Waitany(r), Call::Waitany(s)) => r.same(s),
             (Call::Waitsome(r), Call::Waitsome(s)) => r.same(s),
             (Call::Test(r), Call::Test(s)) => *r == *s,
+            (Call::Testall(r), Call::Testall(s)) => r.same(s),
+            (Call::Testany(r), Call::Testany(s)) => r.same(s),
+            (Call::Testsome(r), Call::Testsome(s)) => r.same(s),
+            (Call::Cancel(r), Call::Cancel(s)) => *r == *s,
+            (Call::Free(r), Call::Free(s)) => *r == *s,
             (Call::Collective(c), Call::Collective(d)) => c.same(*d),
             (Call::Probe(e), Call::Probe(f)) => e.same(*f),
             (Call::Ibarrier(c), Call::Ibarrier(d)) => c.same(*d),
+            (Call::Unread, Call::Unread) => true,
             _ => false,
         }
     }

@@ -1,26 +1,31 @@
 //! The layout of a run: its ranks, its communicators, and how its sends complete.
 
-ghost use Rattle.std.specs.Prelude.{◌≡◌, ◌≢◌, ◌==◌, ◌<◌, ◌≤◌, IfOk, IfErr, IfSome, OnOk, Some, None, option_and_then, option_map, slice_get};
+ghost use Rattle.std.specs.Prelude.{◌≡◌, ◌≢◌, ◌==◌, ◌<◌, ◌≤◌, IfOk, IfErr, IfSome, OnOk, Some, None, nat_lt, option_and_then, option_map, slice_get};
 ghost use Rattle.std.specs.List.{position_from};
 ghost use Rattle.mpi_model.specs.Communicators.{communicators, members_of};
-ghost use Rattle.mpi_model.specs.Layouts.{Holds, IsGroup, IsLayout, fault_of};
+ghost use Rattle.mpi_model.specs.Layouts.{Holds, IsGroup, IsLayout, fault_of, named};
 ghost use Rattle.mpi_model.specs.declared.layout.fault.LayoutFault.TheVariants.{Memory};
 
-use crate::layout::comm::{Comm, comms_of, in_order, members_in, place_of};
+use crate::envelope::CommRef;
+use crate::layout::comm::{Comm, comms_of, copies, in_order, members_in, place_of};
 use crate::layout::fault::LayoutFault;
+use crate::layout::names::{
+    Name, names_copied, numbered_in, ordered_names, starts_copied, starts_of,
+};
 use crate::layout::rules::fault_in;
-use std::alloc::Global;
+use std::alloc::{AllocError, Global};
 use std::marker::Model;
 
-mod comm;
+pub(crate) mod comm;
 pub(crate) mod fault;
+mod names;
 mod rules;
 
 /// The most ranks of a layout.
 pub const MOST_RANKS: u32 = 1024;
 
 /// The most communicators of a layout.
-pub const MOST_COMMS: usize = 256;
+pub const MOST_COMMS: usize = 65_536;
 
 /// How sends of standard mode complete (MPI 4.0, 3.4: a program can't tell which it gets).
 #[derive(Clone, Copy, Debug, PartialEq, Eq)]
@@ -38,22 +43,28 @@ pub struct Layout {
     world: u32,
     sends: Sends,
     comms: Vec<Comm>,
+    names: Vec<Name>,
+    // where the names of each rank begin
+    starts: Vec<usize>,
 }
 
 impl Model for Layout {
     ghost use Rattle.mpi_model.specs.Layouts.{Parts, IsLayout};
+    ghost use Rattle.mpi_model.specs.Names.{AreNames};
+    ghost use Rattle.mpi_model.specs.Starts.{AreStarts};
 
     ghost Value = { Parts };
 
     ghost view = { λ l. record { ranks = l.ranks; world = l.world; sends = l.sends; comms = l.comms.items } };
 
-    ghost invariant = { λ l. IsLayout (record { ranks = l.ranks; world = l.world; sends = l.sends; comms = l.comms.items }) };
+    ghost invariant = { λ l. IsLayout (record { ranks = l.ranks; world = l.world; sends = l.sends; comms = l.comms.items })
+        × AreNames l.comms.items l.names.items × AreStarts l.names.items l.starts.items };
 }
 
 impl Layout {
     /// A layout of these parts, or the first of the faults in the order of their numbers, each
-    /// tried over the whole layout. `world` is the number of `MPI_COMM_WORLD`; each communicator
-    /// is its number and its members in the order of their ranks in it.
+    /// tried over the whole layout. `world` is the id of `MPI_COMM_WORLD`; each communicator is
+    /// its id and its members in the order of their ranks in it, who all name it by its id.
     pub fn new(
         alloc: Global,
         ranks: u32,
@@ -66,22 +77,58 @@ impl Layout {
         ensures none { OnOk result (fault_of ranks world (communicators comms.items) ≡ None) }
         ensures fault { IfErr result (λ e. e ≢ Memory → fault_of ranks world (communicators comms.items) ≡ Some e) }
     {
+        Layout::of_comms(alloc, ranks, world, comms_of(alloc, comms)?, sends)
+    }
+
+    /// As [`Layout::new`], of communicators that may say by which numbers their members name them.
+    pub fn of_comms(
+        alloc: Global,
+        ranks: u32,
+        world: u32,
+        comms: Vec<Comm>,
+        sends: Sends,
+    ) -> Result<Layout, LayoutFault>
+        ensures ok { IfOk result (λ l. Holds ranks world sends comms.items l) }
+        ensures rules { IfOk result (λ l. IsLayout l) }
+        ensures none { OnOk result (fault_of ranks world comms.items ≡ None) }
+        ensures fault { IfErr result (λ e. e ≢ Memory → fault_of ranks world comms.items ≡ Some e) }
+    {
         if ranks == 0 || ranks > MOST_RANKS {
             return Err(LayoutFault::RankCount);
         }
         if comms.len() > MOST_COMMS {
             return Err(LayoutFault::CommCount);
         }
-        let given = comms_of(alloc, comms)?;
-        if let Some(fault) = fault_in(alloc, &given, ranks, world)? {
+        let names = ordered_names(alloc, &comms)?;
+        if let Some(fault) = fault_in(alloc, &comms, &names, ranks, world)? {
             return Err(fault);
         }
-        let comms = in_order(given)?;
+        let starts = starts_of(alloc, &names, ranks)?;
+        let comms = in_order(comms)?;
         Ok(Layout {
             ranks,
             world,
             sends,
             comms,
+            names,
+            starts,
+        })
+    }
+
+    /// A copy in which sends of standard mode complete so.
+    pub fn with_sends(&self, alloc: Global, sends: Sends) -> Result<Layout, AllocError>
+        ensures { IfOk result (λ l. l ≡ record self.now { sends = sends }) }
+    {
+        let comms = copies(alloc, &self.comms)?;
+        let names = names_copied(alloc, &self.names)?;
+        let starts = starts_copied(alloc, &self.starts)?;
+        Ok(Layout {
+            ranks: self.ranks,
+            world: self.world,
+            sends,
+            comms,
+            names,
+            starts,
         })
     }
 
@@ -93,7 +140,7 @@ impl Layout {
         self.ranks
     }
 
-    /// The number of `MPI_COMM_WORLD`.
+    /// The id of `MPI_COMM_WORLD`.
     pub fn world(&self) -> u32
         ensures { result ≡ self.now.world }
     {
@@ -106,11 +153,11 @@ impl Layout {
         self.sends
     }
 
-    /// The number of the i-th communicator, from 0, in rising order.
+    /// The id of the i-th communicator, from 0, in rising order.
     pub fn comm_at(&self, i: usize) -> Option<u32>
         ensures { result ≡ option_map (λ g. g.comm) (slice_get self.now.comms i) }
     {
-        Some(self.comms.get(i)?.number())
+        Some(self.comms.get(i)?.id())
     }
 
     /// The members of a communicator, ranks of the run in the order of their ranks in it. It
@@ -120,6 +167,23 @@ impl Layout {
         ensures group { IfSome result (λ m. IsGroup self.now.ranks m.now) }
     {
         members_in(&self.comms, comm)
+    }
+
+    /// The communicator that a call of a rank names: the world for each rank of the run, or the one
+    /// that the rank names by this number in this call. It halves the names that the rank gives.
+    pub fn named(&self, rank: u32, call: u64, comm: CommRef) -> Option<u32>
+        ensures { result ≡ named self.now rank call comm }
+    {
+        match comm {
+            CommRef::World => self.has_rank(rank).then_some(self.world),
+            CommRef::Id(number) => { numbered_in(&self.names, &self.starts, rank, call, number) },
+        }
+    }
+
+    fn has_rank(&self, rank: u32) -> bool
+        ensures { result ≡ nat_lt rank self.now.ranks }
+    {
+        rank < self.ranks
     }
 
     /// The rank in a communicator of a rank of the run, where it is a member.

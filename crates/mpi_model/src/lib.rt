@@ -6,7 +6,7 @@
 //! 2^31 - 1 (the greatest `int` of MPI's C binding), times at most [`LATEST`]. In a contract each
 //! such type is seen as its plain value, and a list type as the list that it holds.
 //!
-//! Only copies of lists and [`Layout::new`] ask for memory.
+//! Only copies of lists and [`Layout::of_comms`] ask for memory.
 //!
 //! - [`device`]: bytes in and out, one call at a time; [`memory`]: devices in memory;
 //!   [`whole`]: whole pieces over devices
@@ -40,12 +40,13 @@ pub use envelope::{
     SendEnvelope,
 };
 pub use event::{Event, Exit, OpName};
+pub use layout::comm::{Comm, Stretch};
 pub use layout::fault::LayoutFault;
 pub use layout::{Layout, MOST_COMMS, MOST_RANKS, Sends};
-pub use list::{Element, Elements, Requests, Sources};
+pub use list::{Element, Elements, NULL_REQUEST, Requests, Sources};
 pub use memory::{EndlessReader, MemoryReader, MemoryWriter};
-pub use message::{Message, Receive, fits};
+pub use message::{Message, Receive, Trust, envelopes_fit, fits};
 pub use outcome::Outs;
 pub use stamp::{LATEST, Stamp};
-pub use told::Told;
+pub use told::{GroupRank, Told};
 pub use whole::{ReadFault, WriteFault, read_exactly, write_all};

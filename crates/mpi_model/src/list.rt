@@ -5,5 +5,5 @@ mod requests;
 mod sources;
 
 pub use elements::{Element, Elements};
-pub use requests::Requests;
+pub use requests::{NULL_REQUEST, Requests};
 pub use sources::Sources;

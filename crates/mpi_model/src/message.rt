@@ -1,10 +1,42 @@
 //! Messages and receives as matching sees them, and which of them fit together.
 
 ghost use Rattle.std.specs.Prelude.{◌≡◌};
-ghost use Rattle.mpi_model.specs.Fit.{fits};
+ghost use Rattle.mpi_model.specs.Fit.{envelopes_fit, fits};
+ghost use Rattle.mpi_model.specs.Trusts.{is_sure, is_doubtful, is_void, is_open, is_settled};
 
 use crate::envelope::Mode;
 use crate::event::OpName;
+
+/// What a Cancel leaves of a message or a receive (MPI 4.0, 3.8.4).
+#[derive(Clone, Copy, Debug, PartialEq, Eq, PartialOrd, Ord)]
+pub enum Trust {
+    /// No Cancel that was read names it, or it is told that it was completed all the same.
+    Sure,
+    /// A Cancel names it, and nothing tells whether it was cancelled.
+    Doubtful,
+    /// It is told that it was cancelled.
+    Void,
+}
+
+impl Trust {
+    pub fn is_sure(self) -> bool
+        ensures { result ≡ is_sure self }
+    {
+        matches!(self, Trust::Sure)
+    }
+
+    pub fn is_doubtful(self) -> bool
+        ensures { result ≡ is_doubtful self }
+    {
+        matches!(self, Trust::Doubtful)
+    }
+
+    pub fn is_void(self) -> bool
+        ensures { result ≡ is_void self }
+    {
+        matches!(self, Trust::Void)
+    }
+}
 
 /// A message of a send: ranks are those of the trace, and a communicator is named by its number.
 #[derive(Clone, Copy, Debug, PartialEq, Eq, PartialOrd, Ord)]
@@ -16,6 +48,7 @@ pub struct Message {
     pub to: u32,
     pub tag: u32,
     pub mode: Mode,
+    pub trust: Trust,
     /// Elements of the datatype.
     pub count: u32,
     /// The trace's number of the datatype.
@@ -37,16 +70,42 @@ pub struct Receive {
     pub tag: Option<u32>,
     /// The most elements that it takes.
     pub count: u32,
+    pub trust: Trust,
     /// The trace's number of the datatype.
     pub datatype: i64,
 }
 
 const _: () = prove!(size_of::<Message>() <= 64 && size_of::<Receive>() <= 64);
 
-/// Whether the receive can take the message: communicator, receiver, source and tag agree
-/// (MPI 4.0, 3.2.3 and 3.2.4). An untold source may be any.
+impl Receive {
+    /// Whether it may take more than is known of it: its source is untold, or it is doubtful. A
+    /// void one takes nothing.
+    pub fn is_open(&self) -> bool
+        ensures { result ≡ is_open self.now }
+    {
+        !self.trust.is_void() && (self.source.is_none() || self.trust.is_doubtful())
+    }
+
+    /// Whether it takes what its source tells: it is told, and sure.
+    pub fn is_settled(&self) -> bool
+        ensures { result ≡ is_settled self.now }
+    {
+        self.source.is_some() && self.trust.is_sure()
+    }
+}
+
+/// Whether the receive can take the message: their envelopes fit, and neither was cancelled
+/// (MPI 4.0, 3.8.4).
 pub fn fits(message: &Message, receive: &Receive) -> bool
     ensures { result ≡ fits message.now receive.now }
+{
+    envelopes_fit(message, receive) && !message.trust.is_void() && !receive.trust.is_void()
+}
+
+/// Whether the communicator, the receiver, the source and the tag agree (MPI 4.0, 3.2.3 and
+/// 3.2.4). An untold source may be any.
+pub fn envelopes_fit(message: &Message, receive: &Receive) -> bool
+    ensures { result ≡ envelopes_fit message.now receive.now }
 {
     message.comm == receive.comm
         && message.to == receive.at

@@ -17,10 +17,10 @@ pub enum Outs {
     /// What the status of a Recv, Sendrecv, Probe or Wait tells.
     Status(Told),
     Statuses(Sources),
-    /// The position in the call's list, from 0, of the request that a Waitany completed.
+    /// The position in the call's list, from 0, of the request that a Waitany or Testany completed.
     Index(Option<u32>, Told),
     Several(Elements),
-    /// Whether a Test found its request completed.
+    /// Whether a Test found its request completed, or a Testall all of them.
     Flag(bool, Told),
 }
 

@@ -1,48 +1,84 @@
 //! What an outcome tells of a message's source.
 
-ghost use Rattle.std.specs.Prelude.{◌≡◌, SomeIff};
+ghost use Rattle.std.specs.Prelude.{◌≡◌, ◌<◌, ◌^◌, SomeIff};
+ghost use Rattle.mpi_model.specs.Ranges.{IsTold};
+ghost use Rattle.mpi_model.specs.Tells.{told_rank, is_cancelled};
+ghost use Rattle.mpi_model.specs.declared.told.Told.TheVariants.{Source};
 
 use std::marker::Model;
 
-/// The source that an outcome tells, as a rank in the communicator's group, at most 2^31 - 1, or
-/// nothing (MPI 4.0, 3.2.5: the field `MPI_SOURCE` of a status).
+/// A rank in a communicator's group, at most 2^31 - 1.
 #[derive(Clone, Copy, Debug, PartialEq, Eq)]
-pub struct Told {
-    rank: Option<u32>,
+pub struct GroupRank {
+    number: u32,
 }
 
-impl Model for Told {
-    ghost use Rattle.std.specs.Prelude.{Option, ℕ};
-    ghost use Rattle.mpi_model.specs.Ranges.{IsTold};
+impl Model for GroupRank {
+    ghost use Rattle.std.specs.Prelude.{ℕ, ◌<◌, ◌^◌};
 
-    ghost Value = { Option ℕ };
+    ghost Value = { ℕ };
 
-    ghost view = { λ t. t.rank };
+    ghost view = { λ r. r.number };
 
-    ghost invariant = { λ t. IsTold t.rank };
+    ghost invariant = { λ r. r.number < 2 ^ 31 };
 
-    ghost inverse = { λ r. record { rank = r } };
+    ghost inverse = { λ n. record { number = n } };
 }
 
-impl Told {
-    ghost use Rattle.mpi_model.specs.Ranges.{IsTold};
-
-    /// What is told, or none where the rank is above 2^31 - 1.
-    pub fn new(rank: Option<u32>) -> Option<Told>
-        ensures { SomeIff result (IsTold rank) rank }
+impl GroupRank {
+    /// The rank of that number, or none where it is above 2^31 - 1.
+    pub fn new(number: u32) -> Option<GroupRank>
+        ensures { SomeIff result (number < 2 ^ 31) number }
     {
-        match rank {
-            None => Some(Told { rank: None }),
-            Some(n) if n < 0x8000_0000 => Some(Told { rank: Some(n) }),
-            Some(_) => None,
+        if number < 0x8000_0000 {
+            Some(GroupRank { number })
+        } else {
+            None
         }
     }
 
-    /// The rank in the group, where one is told.
-    pub fn rank(self) -> Option<u32>
+    pub fn number(self) -> u32
         ensures value { result ≡ self }
-        ensures range { IsTold result }
+        ensures range { result < 2 ^ 31 }
     {
-        self.rank
+        self.number
+    }
+}
+
+/// What a status tells of where its message came from (MPI 4.0, 3.2.5: the field `MPI_SOURCE`).
+#[derive(Clone, Copy, Debug, PartialEq, Eq)]
+pub enum Told {
+    Nothing,
+    Source(GroupRank),
+    /// The operation was cancelled (MPI 4.0, 3.8.4), so no message came or went.
+    Cancelled,
+}
+
+const _: () = prove!(size_of::<Told>() <= 8);
+
+impl Told {
+    /// That the message came from the rank of that number, or none where it is above 2^31 - 1.
+    pub fn from_rank(rank: u32) -> Option<Told>
+        ensures { SomeIff result (rank < 2 ^ 31) (Source rank) }
+    {
+        Some(Told::Source(GroupRank::new(rank)?))
+    }
+
+    /// The source's rank in the group, where one is told.
+    pub fn rank(self) -> Option<u32>
+        ensures value { result ≡ told_rank self }
+        ensures range { IsTold self }
+    {
+        match self {
+            Told::Source(rank) => Some(rank.number()),
+            Told::Nothing | Told::Cancelled => None,
+        }
+    }
+
+    /// Whether it is told that the operation was cancelled.
+    pub fn is_cancelled(self) -> bool
+        ensures { result ≡ is_cancelled self }
+    {
+        matches!(self, Told::Cancelled)
     }
 }

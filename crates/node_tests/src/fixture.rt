@@ -9,6 +9,7 @@ use trace_know::{Knowledge, Segment};
 use trace_node::Node;
 use trace_report::report_text;
 use trace_wire::write_frame;
+use trace_world::SharedSegment;
 
 /// What a call does: nothing that takes part in a matching; or it sends a message of four elements to
 /// the other rank, or receives one from it, or waits for one to receive, with this tag.
@@ -75,7 +76,7 @@ fn call<R: Abort>(rt: &R, peer: u32, does: Does) -> Call {
 fn outs<R: Abort>(rt: &R, peer: u32, does: Does) -> Option<Outs> {
     match does {
         Does::Nothing | Does::Send(_) => Some(Outs::Nothing),
-        Does::Receive(_) => Some(Outs::Status(Told::new(Some(peer)).expect(rt, "a source"))),
+        Does::Receive(_) => Some(Outs::Status(Told::from_rank(peer).expect(rt, "a source"))),
         Does::Await(_) => None,
     }
 }
@@ -104,6 +105,11 @@ pub(crate) fn segment<R: Abort>(rt: &R, alloc: Global, piece: &Piece) -> Segment
         number = number.saturating_add(1);
     }
     Segment::new(rank, first, events).expect(rt, "a segment")
+}
+
+/// A segment, to be posted.
+pub(crate) fn shared<R: Abort>(rt: &R, alloc: Global, segment: Segment) -> SharedSegment {
+    SharedSegment::new(alloc, segment).expect(rt, "memory")
 }
 
 /// A node that took these pieces in their order.

@@ -3,6 +3,7 @@
 //! they were made; and its pairs are those of a pairing from scratch. Longer storms are run by
 //! `tests/run_storms`.
 
+use crate::fixture::shared;
 use mpi_model::*;
 use std::alloc::Global;
 use std::process::Abort;
@@ -70,7 +71,10 @@ fn receive<R: Abort>(rt: &R, from: Peer) -> ReceiveEnvelope {
 
 /// The status that tells this source, or none.
 fn told<R: Abort>(rt: &R, source: Option<u32>) -> Outs {
-    Outs::Status(Told::new(source).expect(rt, "a source"))
+    Outs::Status(match source {
+        Some(rank) => Told::from_rank(rank).expect(rt, "a source"),
+        None => Told::Nothing,
+    })
 }
 
 /// The call of this number of a rank and what it tells, if it has returned: sends, receives from the rank
@@ -191,7 +195,7 @@ fn next_step<R: Abort>(rt: &R, alloc: Global, chance: &mut Chance, lists: &mut L
         Step::Post {
             worker: 0,
             node,
-            segment: segment(rt, alloc, number),
+            segment: shared(rt, alloc, segment(rt, alloc, number)),
         }
     }
 }

@@ -2,7 +2,7 @@
 //! refused is seen of the built program (`tests/cases/`, `tests/run_replays`), which refreshes no node and
 //! tells no counts.
 
-use crate::fixture::{Does, layout, segment};
+use crate::fixture::{Does, layout, segment, shared};
 use std::alloc::Global;
 use std::process::Abort;
 use trace_world::{Step, World, WorldFault};
@@ -12,7 +12,7 @@ fn post<R: Abort>(rt: &R, alloc: Global, node: usize, rank: u32) -> Step {
     Step::Post {
         worker: 0,
         node,
-        segment: segment(rt, alloc, &(rank, 0, &[Does::Nothing])),
+        segment: shared(rt, alloc, segment(rt, alloc, &(rank, 0, &[Does::Nothing]))),
     }
 }
 

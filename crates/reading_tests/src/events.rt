@@ -1,7 +1,8 @@
-//! The numbers -1 and -2 in calls that are collected: what they mean is this project's own choice.
+//! The numbers -1 and -2 in calls that are collected: what they mean is this project's own choice. And a call after one
+//! that has not returned, which no text has.
 
-use dumpi_calls::{Collect, walk};
-use mpi_model::{Call, Device, Envelope, Event, Peer};
+use dumpi_calls::{CallSink, Collect, walk};
+use mpi_model::{Call, Device, Envelope, Event, Peer, Stamp};
 use std::alloc::Global;
 use std::test::Fail;
 
@@ -77,5 +78,21 @@ fn numbers_below_zero_are_told_apart(rt: HostRuntime) -> Result<(), Fail> {
             "{function} {parameters}: {found:?}"
         );
     }
+    Ok(())
+}
+
+/// How many events the first segment has of two calls that have not returned.
+fn collected_of_two(alloc: Global) -> Result<Option<usize>, Fail> {
+    let stamp = Stamp::new(0, 0).ok_or("a stamp")?;
+    let mut collect = Collect::new(alloc);
+    collect.on_other(b"MPI_Comm_rank", Call::Local, stamp, None)?;
+    collect.on_other(b"MPI_Comm_rank", Call::Local, stamp, None)?;
+    let segments = collect.into_segments(0, 0)?;
+    Ok(segments.first().map(|segment| segment.events().len()))
+}
+
+#[test]
+fn a_call_after_an_open_one_is_left_out(rt: HostRuntime) -> Result<(), Fail> {
+    assert_eq!(rt; collected_of_two(rt.alloc())?, Some(1));
     Ok(())
 }

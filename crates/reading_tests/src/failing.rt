@@ -28,7 +28,7 @@ impl<'a> Read for Failing<'a> {
 }
 
 /// Two lines of 62 and 63 bytes.
-const TEXT: &[u8] =
+pub(crate) const TEXT: &[u8] =
     b"A entering at walltime 1.5, cputime 0.25 seconds in thread 0.\nA returning at walltime 1.75, cputime 0.5 seconds in thread 0.\n";
 
 /// How many calls come before the reader fails, the line that is refused for it, and how often the

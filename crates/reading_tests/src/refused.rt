@@ -1,8 +1,11 @@
 //! What is known where memory is refused. Each step is tried again after a refusal, which has to
-//! leave what was known: so the test passes whichever request is refused (`rt try --test --fail-
-//! alloc N`), and where none is.
+//! leave what was known: so the test passes whichever request is refused, and where none is. And a
+//! text that is refused memory, which ends for good. `tests/run_refusals` refuses each request of
+//! these tests in turn.
 
-use mpi_model::{Call, Event, Outs, Stamp};
+use crate::failing::TEXT;
+use dumpi_text::{TextFault, Texts};
+use mpi_model::{Call, Device, Event, Outs, Stamp};
 use std::alloc::Global;
 use std::process::Abort;
 use std::test::Fail;
@@ -185,5 +188,26 @@ fn refused_segments_come_back(rt: HostRuntime) -> Result<(), Fail> {
     assert!(rt; moved.same(&copied));
     let taken_ready = after_ready(&rt, rt.alloc(), &STEPS)?;
     assert!(rt; taken_ready.same(&copied));
+    Ok(())
+}
+
+/// Whether a text gives its one call and then no more; or is refused memory, and from then on answers that it has ended.
+fn ends_for_good(alloc: Global) -> Result<bool, Fail> {
+    let mut texts = match Texts::new(alloc, Device::new(TEXT)) {
+        Ok(texts) => texts,
+        Err(_) => Texts::new(alloc, Device::new(TEXT))?,
+    };
+    let answers = (texts.next_raw(), texts.next_raw(), texts.next_raw());
+    Ok(match answers {
+        (Ok(Some(_)), Ok(None), Ok(None)) => true,
+        (Err(TextFault::Memory), Err(TextFault::Ended), Err(TextFault::Ended)) => true,
+        (Ok(Some(_)), Err(TextFault::Memory), Err(TextFault::Ended)) => true,
+        _ => false,
+    })
+}
+
+#[test]
+fn a_refused_text_ends_for_good(rt: HostRuntime) -> Result<(), Fail> {
+    assert!(rt; ends_for_good(rt.alloc())?);
     Ok(())
 }

@@ -5,13 +5,16 @@ ghost use Rattle.reading_tests.specs.Sent.{elements_after, elements_with};
 
 use dumpi_calls::CallSink;
 use mpi_model::{Call, Envelope, Exit, Peer, Stamp};
+use std::cell::Cell;
 
-/// How many elements a rank of the group was sent, by so many calls at most: the next one is refused.
-#[derive(Debug, Drop)]
+/// How many elements a rank of the group was sent, by so many calls at most: the next one is refused. A cell counts how
+/// often the sink was asked, which no clause sees.
+#[derive(Drop)]
 pub struct SentTo {
     pub rank: u32,
     pub elements: u64,
     pub calls_left: u64,
+    pub asked: Cell<u64>,
 }
 
 /// The sink takes no more calls.
@@ -43,9 +46,10 @@ fn elements_after(rank: u32, elements: u64, call: &Call) -> u64
 impl SentTo {
     /// Adds what a call sends, unless too many came.
     fn add(&mut self, call: &Call) -> Result<(), Full>
-        ensures ok { OnOk result (self.new ≡ record { rank = self.old.rank; elements = elements_after self.old.rank self.old.elements call.now; calls_left = self.old.calls_left - 1 }) }
+        ensures ok { OnOk result (self.new ≡ record { rank = self.old.rank; elements = elements_after self.old.rank self.old.elements call.now; calls_left = self.old.calls_left - 1; asked = self.old.asked }) }
         ensures err { OnErr result (self.new ≡ self.old) }
     {
+        self.asked.set(self.asked.get().saturating_add(1));
         if self.calls_left == 0 {
             return Err(Full);
         }
@@ -61,7 +65,7 @@ impl CallSink for SentTo {
 
     type Fault = Full;
 
-    ghost step = { λ sink seen. record { rank = sink.rank; elements = elements_after sink.rank sink.elements seen.call; calls_left = sink.calls_left - 1 } };
+    ghost step = { λ sink seen. record { rank = sink.rank; elements = elements_after sink.rank sink.elements seen.call; calls_left = sink.calls_left - 1; asked = sink.asked } };
 
     fn on_send(&mut self, call: Call, _enter: Stamp, _exit: Option<Exit>) -> Result<(), Full> {
         self.add(&call)
@@ -107,6 +111,31 @@ impl CallSink for SentTo {
         self.add(&call)
     }
 
+    fn on_testall(&mut self, call: Call, _enter: Stamp, _exit: Option<Exit>) -> Result<(), Full> {
+        self.add(&call)
+    }
+
+    fn on_testany(&mut self, call: Call, _enter: Stamp, _exit: Option<Exit>) -> Result<(), Full> {
+        self.add(&call)
+    }
+
+    fn on_testsome(&mut self, call: Call, _enter: Stamp, _exit: Option<Exit>) -> Result<(), Full> {
+        self.add(&call)
+    }
+
+    fn on_cancel(&mut self, call: Call, _enter: Stamp, _exit: Option<Exit>) -> Result<(), Full> {
+        self.add(&call)
+    }
+
+    fn on_request_free(
+        &mut self,
+        call: Call,
+        _enter: Stamp,
+        _exit: Option<Exit>,
+    ) -> Result<(), Full> {
+        self.add(&call)
+    }
+
     fn on_collective(
         &mut self,
         call: Call,
@@ -117,6 +146,16 @@ impl CallSink for SentTo {
     }
 
     fn on_ibarrier(&mut self, call: Call, _enter: Stamp, _exit: Option<Exit>) -> Result<(), Full> {
+        self.add(&call)
+    }
+
+    fn on_unread(
+        &mut self,
+        _name: &[u8],
+        call: Call,
+        _enter: Stamp,
+        _exit: Option<Exit>,
+    ) -> Result<(), Full> {
         self.add(&call)
     }
 

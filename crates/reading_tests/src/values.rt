@@ -6,7 +6,7 @@ use std::fmt::Write;
 use std::test::Fail;
 
 /// Texts, and what they say.
-static VALUES: [(&str, &str); 13] = [
+static VALUES: [(&str, &str); 14] = [
     ("2 (MPI_COMM_WORLD)", "2 world"),
     ("2 ( MPI_COMM_WORLD)", "2"),
     ("[4 (MPI_ANY_TAG)] (x)", "4 any tag"),
@@ -17,6 +17,7 @@ static VALUES: [(&str, &str); 13] = [
         "{4 (MPI_ANY_TAG), [5 (MPI_PROC_NULL)]}",
         "numbers 4 any tag 5 null",
     ),
+    ("1 (MPI_REQUEST_NULL)", "1 no request"),
     ("{a=1}", "groups {a=1;}"),
     (
         "{source=3 (MPI_ANY_SOURCE), tag = -1}",
@@ -34,6 +35,7 @@ fn name_of(name: NumName) -> &'static str {
         NumName::AnyTag => " any tag",
         NumName::ProcNull => " null",
         NumName::CommWorld => " world",
+        NumName::RequestNull => " no request",
         NumName::Other => "",
     }
 }

@@ -4,11 +4,12 @@ use crate::sinks::SentTo;
 use dumpi_calls::{Tally, WalkCause, WalkFault, Walked, walk};
 use mpi_model::Device;
 use std::alloc::Global;
+use std::cell::Cell;
 use std::fmt::Write;
 use std::test::Fail;
 
 /// A function for each callback, in the order of `Tally`.
-static FUNCTIONS: [&str; 14] = [
+static FUNCTIONS: [&str; 20] = [
     "MPI_Ssend",
     "MPI_Ibsend",
     "MPI_Recv",
@@ -20,8 +21,14 @@ static FUNCTIONS: [&str; 14] = [
     "MPI_Waitany",
     "MPI_Waitsome",
     "MPI_Test",
-    "MPI_Reduce",
+    "MPI_Testall",
+    "MPI_Testany",
+    "MPI_Testsome",
+    "MPI_Cancel",
+    "MPI_Request_free",
+    "MPI_Reduce_c",
     "MPI_Ibarrier",
+    "MPI_Isendrecv",
     "MPI_Iprobe",
 ];
 
@@ -39,7 +46,7 @@ fn put_call(text: &mut String, function: &str, parameters: &str) -> Result<(), F
 }
 
 /// How often each callback was called, in the order of `FUNCTIONS`.
-fn counts(tally: Tally) -> [u64; 14] {
+fn counts(tally: Tally) -> [u64; 20] {
     [
         tally.on_send,
         tally.on_isend,
@@ -52,14 +59,20 @@ fn counts(tally: Tally) -> [u64; 14] {
         tally.on_waitany,
         tally.on_waitsome,
         tally.on_test,
+        tally.on_testall,
+        tally.on_testany,
+        tally.on_testsome,
+        tally.on_cancel,
+        tally.on_request_free,
         tally.on_collective,
         tally.on_ibarrier,
+        tally.on_unread,
         tally.on_other,
     ]
 }
 
 /// What a walk over two calls of a function counts.
-fn counted(alloc: Global, function: &str) -> Result<[u64; 14], Fail> {
+fn counted(alloc: Global, function: &str) -> Result<[u64; 20], Fail> {
     let mut text = String::new(alloc);
     put_call(&mut text, function, PARAMETERS)?;
     put_call(&mut text, function, PARAMETERS)?;
@@ -71,7 +84,7 @@ fn counted(alloc: Global, function: &str) -> Result<[u64; 14], Fail> {
 #[test]
 fn each_callback_is_counted(rt: HostRuntime) -> Result<(), Fail> {
     for (i, function) in FUNCTIONS.iter().enumerate() {
-        let mut want = [0; 14];
+        let mut want = [0; 20];
         want[i] = 2;
         let found = counted(rt.alloc(), function)?;
         assert!(rt; found == want, "{function}: {found:?}");
@@ -89,13 +102,14 @@ fn sends(alloc: Global) -> Result<String, Fail> {
 }
 
 /// How a walk over the three sends ends that may have so many: the calls that were handed on and
-/// the line of the one that was refused, if one was; and how many elements were sent.
-fn summed(alloc: Global, most: u64) -> Result<(u64, Option<u64>, u64), Fail> {
+/// the line of the one that was refused, if one was; how many elements were sent; and how often the sink was asked.
+fn summed(alloc: Global, most: u64) -> Result<(u64, Option<u64>, u64, u64), Fail> {
     let text = sends(alloc)?;
     let mut sent = SentTo {
         rank: 1,
         elements: 0,
         calls_left: most,
+        asked: Cell::new(0),
     };
     let (calls, line) = match walk(alloc, Device::new(text.as_bytes()), &mut sent) {
         Ok(Walked { calls, .. }) => (calls, None),
@@ -108,16 +122,16 @@ fn summed(alloc: Global, most: u64) -> Result<(u64, Option<u64>, u64), Fail> {
         ) => (calls, Some(line)),
         Err(_) => return Err("a fault of the text".into()),
     };
-    Ok((calls, line, sent.elements))
+    Ok((calls, line, sent.elements, sent.asked.get()))
 }
 
 #[test]
 fn a_sink_that_refuses_a_call_ends_the_walk(rt: HostRuntime) -> Result<(), Fail> {
     for (most, want) in [
-        (0, (0, Some(1), 0)),
-        (1, (1, Some(20), 4)),
-        (2, (2, Some(39), 8)),
-        (3, (3, None, 12)),
+        (0, (0, Some(1), 0, 1)),
+        (1, (1, Some(20), 4, 2)),
+        (2, (2, Some(39), 8, 3)),
+        (3, (3, None, 12, 3)),
     ] {
         let found = summed(rt.alloc(), most)?;
         assert!(rt; found == want, "{most} calls: {found:?}");

@@ -9,7 +9,7 @@ use Rattle.std.proofs.lemmas.List.FromFn.{length-map-range_with_len, get_or-map-
 use Rattle.mpi_model.specs.Layouts.{Parts}
 use Rattle.mpi_model.specs.declared.event.Event.{Event}
 use Rattle.trace_know.specs.Cell.{join_cell}
-use Rattle.trace_know.specs.Prefix.{IsBeyond, IsLeading, event_at, event_of, events_of, is_beyond, prefix_of}
+use Rattle.trace_know.specs.Prefix.{IsBeyond, IsLeading, events_of, is_beyond, prefix_of, readable_at, readable_of}
 use Rattle.trace_know.specs.Segment.{PlacedEvents}
 use Rattle.trace_know.specs.Trace.{Fact, Trace, IsCellOf, facts_from, facts_of, view_of}
 use Rattle.trace_know.specs.View.{View, cell, join}
@@ -30,10 +30,10 @@ abbrev pub TellsBeyond : Type 0
 TellsBeyond = (view : View) (rank : ℕ) → (is_beyond view rank ≡ true) ↔ IsBeyond view rank (prefix_of view rank)
 
 abbrev pub LeadsEvents : Type 0
-LeadsEvents = (view : View) (rank : ℕ) → IsLeading (event_at view rank) (events_of view rank)
+LeadsEvents = (view : View) (rank : ℕ) → IsLeading (readable_at view rank) (events_of view rank)
 
 abbrev pub HasOneList : Type 0
-HasOneList = (view : View) (rank : ℕ) (events : List Event) → IsLeading (event_at view rank) events → events ≡ events_of view rank
+HasOneList = (view : View) (rank : ℕ) (events : List Event) → IsLeading (readable_at view rank) events → events ≡ events_of view rank
 
 -- ---- a rank of which two views know the same
 
@@ -44,8 +44,8 @@ events_alike : LeadsEvents → HasOneList → (a b : View) (rank : ℕ) → Know
 events_alike leads one a b rank alike =
     let is = leads a rank in
     one b rank (events_of a rank) (record {
-      each = λ i lt. sym (ap event_of (alike i)) ∙ is.each i lt;
-      end = sym (ap event_of (alike (length (events_of a rank)))) ∙ is.end;
+      each = λ i lt. sym (ap readable_of (alike i)) ∙ is.each i lt;
+      end = sym (ap readable_of (alike (length (events_of a rank)))) ∙ is.end;
     })
 
 beyond_too : (a b : View) (rank : ℕ) → KnowsAlike a b rank → prefix_of a rank ≡ prefix_of b rank → IsBeyond a rank (prefix_of a rank) → IsBeyond b rank (prefix_of b rank)

@@ -7,6 +7,9 @@ use Rattle.trace_cluster.specs.declared.exchange.fault.ExchangeFault.TheVariants
 use Rattle.trace_cluster.specs.declared.fault.ClusterFault.TheVariants.{Lead, Follow}
 use Rattle.trace_cluster.specs.declared.fault.ClusterFault.{ClusterFault}
 use Rattle.trace_cluster.specs.Crews.{IsFirstEnd, IsOfMeeting, IsOwnCause}
+use Rattle.trace_cluster.specs.Exchange.{ExchangesFrames}
+use Rattle.trace_cluster.specs.Meeting.{HasExchanged}
+use Rattle.trace_cluster.specs.Stream.{Stream}
 
 pub unmerged_end : (led : Result View ExchangeFault) (followed : Result (Unit {0}) ExchangeFault) (known : View) (cause : NodeFault) → led ≡ Ok known → IsFirstEnd led followed (Lead (Merge cause))
 unmerged_end led followed known cause e = subst (λ (r : Result View ExchangeFault). IsFirstEnd r followed (Lead (Merge cause))) (sym e) (inl (cause, refl))
@@ -26,3 +29,7 @@ of_meeting (Err led) (Err cause) fault (inl h) = subst IsOfMeeting (sym h.1) tt
 of_meeting (Err led) (Err cause) fault (inr h) = subst IsOfMeeting (sym h.1) tt
 of_meeting (Ok known) followed fault (inl h) = subst IsOfMeeting (sym h.1) tt
 of_meeting (Ok known) followed fault (inr h) = subst IsOfMeeting (sym h.2) tt
+
+-- The stream is closed, as it was left.
+pub exchanged : (old new : Stream) (know : View) (result : Result View ExchangeFault) → ExchangesFrames old new know result → HasExchanged old know result
+exchanged old new know result exchanges = (new, exchanges)

@@ -3,12 +3,18 @@ use Rattle.std.specs.Prelude.{◌≡◌, false, Result, Ok}
 use Rattle.trace_know.specs.View.{View, IsBelow, join}
 use Rattle.trace_node.specs.Node.{Held}
 use Rattle.trace_cluster.specs.declared.exchange.fault.ExchangeFault.{ExchangeFault}
+use Rattle.trace_cluster.specs.Exchange.{ExchangesFrames}
+use Rattle.trace_cluster.specs.Stream.{Stream}
 
 -- The node knows all that it knew, for the same layout, and has an answer to all that it knows.
 pub record IsMore (before after : Held) : Type 0 where
   pub layout_is : after.layout ≡ before.layout
   pub fresh : after.is_stale ≡ false
   pub keeps : IsBelow before.know after.know
+
+-- Over a stream that was closed then, the frame of what is known was written and one was read, or that was refused.
+abbrev pub HasExchanged : Stream → View → Result View ExchangeFault → Type 0
+HasExchanged old know result = (new : Stream) × ExchangesFrames old new know result
 
 -- Its side of the exchange heard something, and just that was joined to what the node knew.
 abbrev pub HasJoined : Held → Result View ExchangeFault → Held → Type 0

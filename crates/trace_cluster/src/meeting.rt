@@ -1,14 +1,15 @@
 //! Two nodes that meet: the socket, and the exchange over it.
 
 ghost use Rattle.std.specs.Prelude.{◌≡◌, Ok, IfSome, IfOk, IfErr, OnOk};
-ghost use Rattle.trace_cluster.specs.Exchange.{HaveFrames};
+ghost use Rattle.trace_cluster.specs.Exchange.{HaveFrames, IsOfFrame};
 ghost use Rattle.trace_cluster.specs.Crews.{IsFirstEnd, IsOfMeeting, IsOwnCause, sureness_of};
-ghost use Rattle.trace_cluster.specs.Meeting.{HasJoined, IsMore};
+ghost use Rattle.trace_cluster.specs.Meeting.{HasExchanged, HasJoined, IsMore};
+ghost use Rattle.trace_cluster.specs.Stream.{IsStream, halves, side};
 
 use crate::exchange::{ExchangeFault, exchange_frames};
 use crate::fault::ClusterFault;
 use crate::peer::Peer;
-use mpi_model::Device;
+use mpi_model::{Device, Read, Write};
 use std::alloc::Global;
 use std::net::{Net, TcpListener, TcpStream};
 use std::sync::Wait;
@@ -38,12 +39,24 @@ fn connected<R: Net<Listener = TcpListener, Stream = TcpStream>>(
     Err(io::ErrorKind::ConnectionRefused.into())
 }
 
-/// Exchanges frames over a connection for one who knows this, and closes it: what was heard. Only
-/// knowledge crosses to the thread and back: that a node may cross is not found by itself.
-fn led(alloc: Global, know: &Knowledge, stream: TcpStream) -> Result<Knowledge, ExchangeFault>
-    ensures { IfOk result (λ heard. HaveFrames know.now heard) }
+/// Exchanges frames over a stream for one who knows this, and closes it: what was heard. Only knowledge
+/// crosses to the thread and back: that a node may cross is not found by itself.
+#[tactic(auto, using(crate::proofs::Ending::exchanged))]
+fn led<S: Read + Write>(
+    alloc: Global,
+    know: &Knowledge,
+    stream: S,
+) -> Result<Knowledge, ExchangeFault>
+    // over a stream whose halves tell of each other
+    ensures told { IsStream (λ s. side (S.left s) (S.Read.failures s)) S.read_side (λ s. side (S.written s) (S.Write.failures s)) S.write_side
+        → HasExchanged (halves (side (S.left stream) (S.Read.failures stream)) (side (S.written stream) (S.Write.failures stream))) know.now result }
+
+    // over any stream
+    ensures framed { IfOk result (λ heard. HaveFrames know.now heard) }
+    ensures unmerged { IfErr result (λ fault. IsOfFrame fault) }
 {
-    exchange_frames(alloc, &mut Device::new(stream), know)
+    let mut stream = stream;
+    exchange_frames(alloc, &mut stream, know)
 }
 
 /// A node after it has followed in an exchange, and whether that was refused.
@@ -80,7 +93,7 @@ fn meet<R: Threads + Wait + Sync, N: Peer>(
         move |scope| -> Option<(Result<Knowledge, ExchangeFault>, Met<N>)>
             ensures { IfSome result (λ met. OnOk met.1.end (IsMore (N.held follower) (N.held met.1.node))) }
         {
-            let Ok(leading) = scope.spawn(move || led(alloc, know, one)) else {
+            let Ok(leading) = scope.spawn(move || led(alloc, know, Device::new(one))) else {
                 return None;
             };
             let met = followed(alloc, other, follower);

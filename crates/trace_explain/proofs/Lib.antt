@@ -7,3 +7,7 @@ pub mod Named
 pub mod Drawn
 pub mod Listed
 pub mod Found
+pub mod Adding
+pub mod Lines
+pub mod Alike
+pub mod Parts

@@ -1,4 +1,4 @@
-//! What an answer says, for a person who reads it: the hearts of its deadlocks.
+//! What an answer says, for a person who reads it: the hearts of its deadlocks, and all of it in words.
 //!
 //! Of a thousand stuck ranks mostly a few hold up all others. r waits for s where both are stuck and s stands in
 //! the condition of r. A stuck rank is in a heart where every rank that it reaches along "waits for" also reaches
@@ -16,14 +16,26 @@
 //!
 //! - [`graph`]: the edges, in both directions; [`search`]: from where a rank is reached
 //! - [`heart`]: the three searches, and the hearts; [`laws`]: that a rank has one heart at most
+//! - [`standing`]: what a rank does; [`waited`]: for whom it waits; [`line`]: both, of each stuck rank
+//! - [`section`]: lines, where ranks that stand alike share one
+//! - [`head`]: how it stands, and under the other kind of sends; [`doubts`]: what makes it doubtful
+//! - [`explained`]: the whole
 //!
-//! No verb of the program prints hearts yet.
+//! Its words come from `call_words`. They cost what they say, and a comparison of each two stuck ranks.
 #![tactic(auto)]
 
+mod doubts;
+mod explained;
 mod graph;
+mod head;
 mod heart;
 mod laws;
+mod line;
 mod search;
+mod section;
+mod standing;
+mod waited;
 
+pub use explained::explain;
 pub use heart::hearts;
 pub use laws::hearts_are_one;

@@ -7,7 +7,7 @@ use Rattle.std.specs.FinMap.{get, remove, len, empty_of_len, get-empty, get-remo
 use Rattle.mpi_model.specs.declared.event.Event.{Event}
 use Rattle.trace_know.specs.declared.cell.Known.{Known}
 use Rattle.trace_know.specs.View.{View, place_cmp, cell}
-use Rattle.trace_know.specs.Prefix.{IsLeading, event_of, event_at, AllOneBelow, IsPrefix, events_of, prefix_of}
+use Rattle.trace_know.specs.Prefix.{IsLeading, readable_of, readable_at, AllReadableBelow, IsPrefix, events_of, prefix_of}
 use Rattle.trace_know.proofs.SameEvents.{false_or_true}
 use Rattle.trace_know.proofs.Joins.{places_total, exact_places, equal}
 use Rattle.trace_know.proofs.Leading.{leading-IsLeading, one_leading, some_within, greatest_leading, length_of_leading}
@@ -45,12 +45,12 @@ covered (suc n) view rank h =
     let rest : n ≤ len (remove view (rank, n)) = covered n (remove view (rank, n)) rank (λ p l. subst IsSome (sym (get-remove places_total view (rank, n) (rank, p) ∙ ap (λ b. cond b None (get view (rank, p))) (apart rank p n l))) (h p (omega arith))) in
     omega arith
 
-known_of_one : (c : Option Known) → IsSome (event_of c) → IsSome c
-known_of_one None h = absurd cc
-known_of_one (Some k) h = refl
+known_of_readable : (c : Option Known) → IsSome (readable_of c) → IsSome c
+known_of_readable None h = absurd cc
+known_of_readable (Some k) h = refl
 
-none_at : (view : View) (rank : ℕ) → AllOneBelow view rank (len view) → event_at view rank (len view) ≡ None
-none_at view rank all = by_cell (event_at view rank (len view)) (λ some. absurd (past (covered (suc (len view)) view rank (λ p l. known_of_one (cell view rank p) (upto p l some)))))
+none_at : (view : View) (rank : ℕ) → AllReadableBelow view rank (len view) → readable_at view rank (len view) ≡ None
+none_at view rank all = by_cell (readable_at view rank (len view)) (λ some. absurd (past (covered (suc (len view)) view rank (λ p l. known_of_readable (cell view rank p) (upto p l some)))))
   where
     by_cell : (o : Option Event) → (IsSome o → ⊥) → o ≡ None
     by_cell None f = refl
@@ -59,25 +59,25 @@ none_at view rank all = by_cell (event_at view rank (len view)) (λ some. absurd
     past : suc (len view) ≤ len view → ⊥
     past l = absurd (omega arith)
 
-    upto : (p : ℕ) → p < suc (len view) → IsSome (event_at view rank (len view)) → IsSome (event_at view rank p)
+    upto : (p : ℕ) → p < suc (len view) → IsSome (readable_at view rank (len view)) → IsSome (readable_at view rank p)
     upto p l some = elim (cases_lt p (len view)) [
       | inl lt ↦ all p lt
-      | inr le ↦ let e : p ≡ len view = omega arith in subst (λ x. IsSome (event_at view rank x)) (sym e) some
+      | inr le ↦ let e : p ≡ len view = omega arith in subst (λ x. IsSome (readable_at view rank x)) (sym e) some
     ]
 
-pub events_of-IsLeading : (view : View) (rank : ℕ) → IsLeading (event_at view rank) (events_of view rank)
-events_of-IsLeading view rank = leading-IsLeading (len view) (event_at view rank) (none_at view rank)
+pub events_of-IsLeading : (view : View) (rank : ℕ) → IsLeading (readable_at view rank) (events_of view rank)
+events_of-IsLeading view rank = leading-IsLeading (len view) (readable_at view rank) (none_at view rank)
 
 -- ---- the prefix
 
 pub prefix_of-IsPrefix : (view : View) (rank : ℕ) → IsPrefix view rank (prefix_of view rank)
 prefix_of-IsPrefix view rank = record {
-  all_one = some_within (event_at view rank) (events_of view rank) (events_of-IsLeading view rank);
-  greatest = greatest_leading (event_at view rank) (events_of view rank) (events_of-IsLeading view rank);
+  all_readable = some_within (readable_at view rank) (events_of view rank) (events_of-IsLeading view rank);
+  greatest = greatest_leading (readable_at view rank) (events_of view rank) (events_of-IsLeading view rank);
 }
 
-pub prefix_is : (view : View) (rank n : ℕ) → AllOneBelow view rank n → event_at view rank n ≡ None → n ≡ prefix_of view rank
-prefix_is view rank n all none = length_of_leading (event_at view rank) (events_of view rank) (events_of-IsLeading view rank) n all none
+pub prefix_is : (view : View) (rank n : ℕ) → AllReadableBelow view rank n → readable_at view rank n ≡ None → n ≡ prefix_of view rank
+prefix_is view rank n all none = length_of_leading (readable_at view rank) (events_of view rank) (events_of-IsLeading view rank) n all none
 
-pub events_are : (view : View) (rank : ℕ) (xs : List Event) → IsLeading (event_at view rank) xs → xs ≡ events_of view rank
-events_are view rank xs h = one_leading (event_at view rank) xs (events_of view rank) h (events_of-IsLeading view rank)
+pub events_are : (view : View) (rank : ℕ) (xs : List Event) → IsLeading (readable_at view rank) xs → xs ≡ events_of view rank
+events_are view rank xs h = one_leading (readable_at view rank) xs (events_of view rank) h (events_of-IsLeading view rank)

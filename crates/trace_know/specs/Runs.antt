@@ -1,5 +1,5 @@
 -- Runs.
-use Rattle.std.specs.Prelude.{◌≡◌, ℕ, suc, Some, ◌+◌, ◌*◌, ◌^◌, ◌<◌, ◌≤◌, ⊤, List, [], ◌∷◌, ◌++◌, length}
+use Rattle.std.specs.Prelude.{◌≡◌, ℕ, suc, Some, ◌+◌, ◌*◌, ◌^◌, ◌<◌, ◌≤◌, ⊤, Bool, true, if◌then◌else◌, List, [], ◌∷◌, ◌++◌, length}
 use Rattle.std.specs.List.{slice_get}
 use Rattle.std.specs.FinMap.{empty, get, len}
 use Rattle.trace_know.specs.declared.cell.Known.{Known}
@@ -8,6 +8,7 @@ use Rattle.trace_know.specs.declared.run.Run.{Run}
 use Rattle.trace_know.specs.View.{View, join}
 use Rattle.trace_know.specs.Rows.{row}
 use Rattle.trace_know.specs.Cell.{IsAtMost}
+use Rattle.trace_know.specs.Prefix.{enters_unread}
 use Rattle.trace_know.specs.Placed.{IsKnowledge}
 
 -- the view of a run
@@ -29,11 +30,15 @@ start_of run = spot run.rank run.first
 abbrev pub end_of : Run → ℕ
 end_of run = spot run.rank (run.first + length run.cells.items)
 
--- how many cells stand before the first contradiction
-abbrev pub before_conflict : List Known → ℕ
-before_conflict [] = 0
-before_conflict (One event ∷ cells) = suc (before_conflict cells)
-before_conflict (Contradiction ∷ cells) = 0
+-- A readable prefix ends at the cell.
+abbrev pub ends_prefix : Known → Bool
+ends_prefix (One event) = enters_unread event
+ends_prefix Contradiction = true
+
+-- how many cells stand before the first at which a readable prefix ends
+abbrev pub sound_among : List Known → ℕ
+sound_among [] = 0
+sound_among (known ∷ cells) = if ends_prefix known then 0 else suc (sound_among cells)
 
 -- how many of the cells are contradictions
 abbrev pub conflicts_among : List Known → ℕ
@@ -43,7 +48,7 @@ conflicts_among (Contradiction ∷ cells) = suc (conflicts_among cells)
 
 -- the run's counts are those of its cells
 pub record IsCounted (run : Run) : Type 0 where
-  pub sound : run.sound ≡ before_conflict run.cells.items
+  pub sound : run.sound ≡ sound_among run.cells.items
   pub conflicts : run.conflicts ≡ conflicts_among run.cells.items
 
 -- the run has cells, all at places of a trace, and counts them rightly

@@ -3,8 +3,10 @@
 ghost use Rattle.std.specs.Prelude.{◌≡◌, ◌↔◌, IsTrue};
 ghost use Rattle.std.specs.Option.{option_copied};
 ghost use Rattle.trace_know.specs.Cell.{shown, put_known, is_contradiction};
+ghost use Rattle.trace_know.specs.Prefix.{enters_unread};
+ghost use Rattle.trace_know.specs.Runs.{ends_prefix};
 
-use mpi_model::Event;
+use mpi_model::{Call, Event};
 use std::alloc::AllocError;
 
 /// What is known of a place where something is known.
@@ -46,6 +48,16 @@ impl Known {
     {
         matches!(self, Known::Contradiction)
     }
+
+    /// Whether a readable prefix ends at the cell.
+    pub(crate) fn ends_prefix(&self) -> bool
+        ensures { result ≡ ends_prefix self.now }
+    {
+        match self {
+            Known::One(event) => enters_unread(event),
+            Known::Contradiction => true,
+        }
+    }
 }
 
 /// What is known of a place of a rank.
@@ -57,6 +69,13 @@ pub enum Cell<'a> {
     One(&'a Event),
     /// Two events came that differ.
     Contradiction,
+}
+
+/// Whether an unread call was entered.
+pub(crate) fn enters_unread(event: &Event) -> bool
+    ensures { result ≡ enters_unread event.now }
+{
+    matches!(event, Event::Enter(Call::Unread, _))
 }
 
 /// What is known of a place that has this event, or a contradiction (`None`).

@@ -6,7 +6,7 @@ ghost use Rattle.std.specs.Option.{option_map, option_copied};
 ghost use Rattle.trace_know.specs.Cell.{shown, put_known};
 ghost use Rattle.trace_know.specs.Placed.{ArePlaced, IsPast, IsPlaced, IsKnowledge};
 ghost use Rattle.trace_know.specs.Listing.{cells_of, conflicts_of};
-ghost use Rattle.trace_know.specs.Prefix.{events_of, prefix_of, is_beyond};
+ghost use Rattle.trace_know.specs.Prefix.{events_of, prefix_of, is_beyond, is_unread};
 ghost use Rattle.trace_know.specs.Runs.{of_run, placed_cells, IsAlike, IsFilled};
 ghost use Rattle.trace_know.specs.Segment.{IsSegment};
 ghost use Rattle.trace_know.specs.Trace.{facts_of, view_of};
@@ -18,8 +18,8 @@ use crate::compare::{holds_all, same_cells};
 use crate::copies::copies_of;
 use crate::patches::join_runs;
 use crate::readers::{
-    any_from, cell_in, conflict_in, conflict_places_in, count_cells, count_conflicts, known_in,
-    prefix_in, readable_in,
+    any_from, cell_in, conflict_in, conflict_places_in, count_cells, count_conflicts, is_unread_in,
+    known_in, prefix_in, readable_in,
 };
 use crate::ready::{ReadySegment, piece_of};
 use crate::run::{run_of, run_of_cells};
@@ -253,7 +253,8 @@ impl Knowledge {
         conflict_places_in(alloc, &self.runs)
     }
 
-    /// The readable prefix of a rank: one event is known of each place below it, and not of it.
+    /// The readable prefix of a rank: one event is known of each place below it, and none of them is
+    /// the Enter of an unread call.
     pub fn prefix(&self, rank: u32) -> u64
         ensures { result ≡ prefix_of self.now rank }
     {
@@ -265,6 +266,14 @@ impl Knowledge {
         ensures { result ≡ is_beyond self.now rank }
     {
         any_from(&self.runs, rank, self.prefix(rank))
+    }
+
+    /// Whether the readable prefix of a rank ends at the Enter of an unread call. Such a rank is
+    /// [`beyond`](Self::beyond) its prefix.
+    pub fn is_unread(&self, rank: u32) -> bool
+        ensures { result ≡ is_unread self.now rank }
+    {
+        is_unread_in(&self.runs, rank)
     }
 
     /// The events below the readable prefix of a rank, in order.

@@ -6,11 +6,11 @@ ghost use Rattle.std.specs.VecDeque.{deque_len};
 ghost use Rattle.std.specs.Option.{option_copied};
 ghost use Rattle.std.specs.FinMap.{get};
 ghost use Rattle.trace_know.specs.Listing.{conflicts_in};
-ghost use Rattle.trace_know.specs.Prefix.{IsBeyond, event_of, events_of, prefix_of};
+ghost use Rattle.trace_know.specs.Prefix.{IsBeyond, event_of, events_of, is_unread, is_unread_enter, prefix_of, readable_of};
 ghost use Rattle.trace_know.specs.Runs.{Above, IsFilled, IsFront, listed, of_runs, placed_cells};
 
 use crate::boxed::BoxedRun;
-use crate::cell::Known;
+use crate::cell::{Known, enters_unread};
 use crate::run::Run;
 use crate::runs::{first_at, known_at};
 use crate::segment::PLACES;
@@ -85,14 +85,24 @@ pub(crate) fn prefix_in(runs: &[BoxedRun], rank: u32) -> u64
     }
 }
 
-/// The event of the cell at an index, if it has one.
+/// The event that is readable of the cell at an index.
 fn event_in(run: &BoxedRun, i: usize) -> Option<&Event>
-    ensures event { option_copied result ≡ event_of (slice_get run.now.cells.items i) }
+    ensures event { option_copied result ≡ readable_of (slice_get run.now.cells.items i) }
     ensures range { IsSome result → i < deque_len run.now.cells }
 {
     match run.get().cells.get(i) {
-        Some(Known::One(event)) => Some(event),
+        Some(Known::One(event)) if !enters_unread(event) => Some(event),
         _ => None,
+    }
+}
+
+/// Whether the cell at an index has one event, the Enter of an unread call.
+fn is_unread_at(run: &BoxedRun, i: usize) -> bool
+    ensures { result ≡ is_unread_enter (event_of (slice_get run.now.cells.items i)) }
+{
+    match run.get().cells.get(i) {
+        Some(Known::One(event)) => enters_unread(event),
+        _ => false,
     }
 }
 
@@ -113,6 +123,17 @@ pub(crate) fn readable_in(
         events.push(event)?;
     }
     Ok(events)
+}
+
+/// Whether the readable prefix of a rank ends at the Enter of an unread call.
+pub(crate) fn is_unread_in(runs: &[BoxedRun], rank: u32) -> bool
+    requires { Above 0 runs.now }
+    ensures { result ≡ is_unread (of_runs runs.now) rank }
+{
+    match front_run(runs, rank) {
+        Some(run) => is_unread_at(run, run.sound()),
+        None => false,
+    }
 }
 
 /// Whether something is known of the rank at the place or past it.

@@ -8,15 +8,15 @@ ghost use Rattle.trace_know.specs.declared.segment.TheConstants.{PLACES};
 ghost use Rattle.trace_know.specs.Cell.{join_known, is_contradiction};
 ghost use Rattle.trace_know.specs.View.{join};
 ghost use Rattle.trace_know.specs.Rows.{single, row};
-ghost use Rattle.trace_know.specs.Runs.{of_run, IsAlike, IsCounted, IsFilled, before_conflict, conflicts_among};
+ghost use Rattle.trace_know.specs.Runs.{of_run, IsAlike, IsCounted, IsFilled, conflicts_among, ends_prefix, sound_among};
 
-use crate::cell::Known;
+use crate::cell::{Known, enters_unread};
 use mpi_model::Event;
 use std::alloc::{AllocError, Global};
 use std::collections::VecDeque;
 
-/// Cells of a rank from a place on, and how many of them stand before the first contradiction, and
-/// how many are contradictions.
+/// Cells of a rank from a place on, how many of them stand before the first at which a readable
+/// prefix ends, and how many are contradictions.
 #[derive(Debug, Drop)]
 pub(crate) struct Run {
     pub(crate) rank: u32,
@@ -70,16 +70,16 @@ fn meet(run: &mut Run, at: usize, known: Known)
     turn(run, at);
 }
 
-/// How many cells stand before the first contradiction with one more at the end.
+/// How many cells stand before the first at which a readable prefix ends, with one more at the end.
 fn sound_with(run: &Run, last: &Known) -> usize
     requires room { deque_len run.now.cells < deque_capacity run.now.cells }
     requires counted { IsCounted run.now }
-    ensures { result ≡ before_conflict (run.now.cells.items ++ last.now ∷ []) }
+    ensures { result ≡ sound_among (run.now.cells.items ++ last.now ∷ []) }
 {
     if run.sound < run.cells.len() {
         return run.sound;
     }
-    if last.is_contradiction() {
+    if last.ends_prefix() {
         return run.sound;
     }
     run.sound + 1
@@ -97,13 +97,13 @@ fn conflicts_with(run: &Run, known: &Known) -> usize
     run.conflicts
 }
 
-/// How many cells stand before the first contradiction with one more at the front.
+/// How many cells stand before the first at which a readable prefix ends, with one more at the front.
 fn sound_from(run: &Run, first: &Known) -> usize
     requires room { deque_len run.now.cells < deque_capacity run.now.cells }
     requires counted { IsCounted run.now }
-    ensures { result ≡ before_conflict (first.now ∷ run.now.cells.items) }
+    ensures { result ≡ sound_among (first.now ∷ run.now.cells.items) }
 {
-    if first.is_contradiction() {
+    if first.ends_prefix() {
         return 0;
     }
     run.sound + 1
@@ -272,18 +272,11 @@ pub(crate) fn run_of(
     ensures cells { IfOk result (λ r. r.cells.items ≡ map (λ e. One e) events.now) }
     ensures counted { IfOk result (λ r. IsCounted r) }
 {
-    let mut cells = VecDeque::with_capacity(alloc, events.len())?;
+    let mut run = run_with_room(alloc, rank, first, events.len())?;
     for event in events {
-        cells.push_back(Known::One(event.try_clone()?))?;
+        add_back(&mut run, Known::One(event.try_clone()?));
     }
-    let sound = cells.len();
-    Ok(Run {
-        rank,
-        first,
-        cells,
-        sound,
-        conflicts: 0,
-    })
+    Ok(run)
 }
 
 /// A run of a rank from a place on that has no cell yet, and room for so many.
@@ -295,6 +288,7 @@ pub(crate) fn run_with_room(
 ) -> Result<Run, AllocError>
     ensures place { IfOk result (λ r. (r.rank ≡ rank) × (r.first ≡ first)) }
     ensures none { IfOk result (λ r. r.cells.items ≡ []) }
+    ensures counted { IfOk result (λ r. IsCounted r) }
     ensures room { IfOk result (λ r. count ≤ deque_capacity r.cells) }
 {
     Ok(Run {
@@ -307,19 +301,23 @@ pub(crate) fn run_with_room(
 }
 
 /// Moves the events to cells that have room for them, of which there are none yet: the last event first, so that the
-/// list keeps its memory.
+/// list keeps its memory. Tells how many stand before the first at which a readable prefix ends.
 #[tactic(auto, using(crate::proofs::Counts::event_moved))]
-fn move_in(cells: &mut VecDeque<Known>, events: &mut Vec<Event>)
+fn move_in(cells: &mut VecDeque<Known>, events: &mut Vec<Event>) -> usize
     requires none { cells.old.items ≡ [] }
     requires room { vec_len events.old ≤ deque_capacity cells.old }
     ensures cells { cells.new.items ≡ map (λ e. One e) events.old.items }
+    ensures sound { result ≡ sound_among cells.new.items }
     ensures events { events.new.items ≡ [] }
     ensures capacity { vec_capacity events.new ≡ vec_capacity events.old }
     ensures fits { length events.old.items ≤ vec_capacity events.new }
 {
+    let mut sound = 0;
     while let Some(event) = events.pop() {
+        sound = if enters_unread(&event) { 0 } else { sound + 1 };
         cells.push_front_reserved(Known::One(event));
     }
+    sound
 }
 
 /// Moves the events to a run that has no cell yet, and room for them. The list keeps its memory.
@@ -333,9 +331,8 @@ pub(crate) fn fill(run: &mut Run, events: &mut Vec<Event>)
     ensures capacity { vec_capacity events.new ≡ vec_capacity events.old }
     ensures fits { length events.old.items ≤ vec_capacity events.new }
 {
-    run.sound = events.len();
+    run.sound = move_in(&mut run.cells, events);
     run.conflicts = 0;
-    move_in(&mut run.cells, events);
 }
 
 /// Moves the events of a run back to a list that has room for them, of which there are none yet. The run has no
@@ -357,13 +354,13 @@ pub(crate) fn give_back(run: Run, events: &mut Vec<Event>)
     }
 }
 
-/// How many cells stand before the first contradiction.
+/// How many cells stand before the first at which a readable prefix ends.
 fn sound_among(cells: &[Known]) -> usize
-    ensures { result ≡ before_conflict cells.now }
+    ensures { result ≡ sound_among cells.now }
 {
     let mut sound = 0;
     for known in cells {
-        if known.is_contradiction() {
+        if known.ends_prefix() {
             return sound;
         }
         sound += 1;
@@ -371,9 +368,9 @@ fn sound_among(cells: &[Known]) -> usize
     sound
 }
 
-/// How many contradictions there are, where so many cells stand before the first.
+/// How many contradictions there are, where a readable prefix passes so many cells.
 fn conflicts_behind(cells: &[Known], sound: usize) -> usize
-    requires { sound ≡ before_conflict cells.now }
+    requires { sound ≡ sound_among cells.now }
     ensures { result ≡ conflicts_among cells.now }
 {
     if sound == cells.len() {

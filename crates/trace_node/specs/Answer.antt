@@ -9,7 +9,7 @@ use Rattle.mpi_model.specs.declared.event.Event.{Event}
 use Rattle.mpi_model.specs.declared.event.Event.TheVariants.{Enter, Return}
 use Rattle.mpi_model.specs.declared.event.OpName.{OpName}
 use Rattle.trace_know.specs.View.{View}
-use Rattle.trace_know.specs.Prefix.{event_at, prefix_of, is_beyond}
+use Rattle.trace_know.specs.Prefix.{event_at, prefix_of, is_beyond, is_unread}
 use Rattle.trace_know.specs.Listing.{conflicts_of}
 use Rattle.trace_ops.specs.Ops.{Ops}
 use Rattle.trace_ops.specs.RankOps.{all_ops}
@@ -40,6 +40,7 @@ pub record Answered : Type 0 where
   pub sends : Sends
   pub prefixes : List ℕ
   pub beyond : List Bool
+  pub unread : List Bool
   pub conflicts : List (ℕ × ℕ)
   pub pairs : List Pair
   pub postponed : List OpName
@@ -61,6 +62,10 @@ prefixes_of layout view = map (prefix_of view) (ranks_of layout)
 -- of each rank, whether something is known past its readable prefix
 abbrev pub beyond_of : Parts → View → List Bool
 beyond_of layout view = map (is_beyond view) (ranks_of layout)
+
+-- of each rank, whether its readable prefix ends at the Enter of an unread call
+abbrev pub unread_of : Parts → View → List Bool
+unread_of layout view = map (is_unread view) (ranks_of layout)
 
 -- how each rank stands
 abbrev pub states_of : List Ops → List State
@@ -122,6 +127,7 @@ pub record IsAnswerBy (layout : Parts) (view : View) (ops : List Ops) (a : Answe
   pub sends : a.sends ≡ layout.sends
   pub prefixes : a.prefixes ≡ prefixes_of layout view
   pub beyond : a.beyond ≡ beyond_of layout view
+  pub unread : a.unread ≡ unread_of layout view
   pub conflicts : a.conflicts ≡ conflicts_of view
   pub pairs : a.pairs ≡ (table_of ops).pairs
   pub postponed : a.postponed ≡ (table_of ops).postponed
@@ -150,6 +156,7 @@ pub record HasSameRanks (one other : Answered) : Type 0 where
 -- both tell the same of places and foreign calls
 pub record HasSamePlaces (one other : Answered) : Type 0 where
   pub beyond : one.beyond ≡ other.beyond
+  pub unread : one.unread ≡ other.unread
   pub conflicts : one.conflicts ≡ other.conflicts
   pub foreign : one.foreign ≡ other.foreign
 

@@ -69,23 +69,24 @@ coded_stopped = code_by (ℕ × (ℕ × (ℕ × Wait))) (coded× coded_ℕ (code
     (λ s. (s.rank, (s.call, (s.wall, s.waits)))) (λ p. record { rank = p.0; call = p.1.0; wall = p.1.1.0; waits = p.1.1.1 }) (λ _. refl)
 
 abbrev pub coded_answered : Coded Answered
-coded_answered = code_by (ℕ × (Sends × (List ℕ × (List Bool × (List (ℕ × ℕ) × (List Pair × (List OpName × (List Round × (List State × (List Stopped × ℕ))))))))))
-    (coded× coded_ℕ (coded× sends.the_row.coded (coded× (coded_list coded_ℕ) (coded× (coded_list coded_bool) (coded× (coded_list (coded× coded_ℕ coded_ℕ))
+coded_answered = code_by (ℕ × (Sends × (List ℕ × (List Bool × (List Bool × (List (ℕ × ℕ) × (List Pair × (List OpName × (List Round × (List State × (List Stopped × ℕ)))))))))))
+    (coded× coded_ℕ (coded× sends.the_row.coded (coded× (coded_list coded_ℕ) (coded× (coded_list coded_bool) (coded× (coded_list coded_bool) (coded× (coded_list (coded× coded_ℕ coded_ℕ))
     (coded× (coded_list pair.the_row.coded) (coded× (coded_list name.the_row.coded) (coded× (coded_list round.the_row.coded)
-    (coded× (coded_list state.the_row.coded) (coded× (coded_list coded_stopped) coded_ℕ))))))))))
-    (λ a. (a.ranks, (a.sends, (a.prefixes, (a.beyond, (a.conflicts, (a.pairs, (a.postponed, (a.rounds, (a.states, (a.stuck, a.foreign)))))))))))
+    (coded× (coded_list state.the_row.coded) (coded× (coded_list coded_stopped) coded_ℕ)))))))))))
+    (λ a. (a.ranks, (a.sends, (a.prefixes, (a.beyond, (a.unread, (a.conflicts, (a.pairs, (a.postponed, (a.rounds, (a.states, (a.stuck, a.foreign))))))))))))
     (λ p. record {
       ranks = p.0;
       sends = p.1.0;
       prefixes = p.1.1.0;
       beyond = p.1.1.1.0;
-      conflicts = p.1.1.1.1.0;
-      pairs = p.1.1.1.1.1.0;
-      postponed = p.1.1.1.1.1.1.0;
-      rounds = p.1.1.1.1.1.1.1.0;
-      states = p.1.1.1.1.1.1.1.1.0;
-      stuck = p.1.1.1.1.1.1.1.1.1.0;
-      foreign = p.1.1.1.1.1.1.1.1.1.1;
+      unread = p.1.1.1.1.0;
+      conflicts = p.1.1.1.1.1.0;
+      pairs = p.1.1.1.1.1.1.0;
+      postponed = p.1.1.1.1.1.1.1.0;
+      rounds = p.1.1.1.1.1.1.1.1.0;
+      states = p.1.1.1.1.1.1.1.1.1.0;
+      stuck = p.1.1.1.1.1.1.1.1.1.1.0;
+      foreign = p.1.1.1.1.1.1.1.1.1.1.1;
     })
     (λ _. refl)
 

@@ -46,6 +46,7 @@ impl Model for Answer {
       sends = a.sends;
       prefixes = a.reading.prefixes.items;
       beyond = a.reading.beyond.items;
+      unread = a.reading.unread.items;
       conflicts = a.reading.conflicts.items;
       pairs = a.matching.pairs.items;
       postponed = a.matching.postponed.items;
@@ -71,7 +72,8 @@ impl Answer {
         self.sends
     }
 
-    /// The readable prefix of each rank: how far its places are known without a gap.
+    /// The readable prefix of each rank: how far its places are known without a gap, a contradiction
+    /// or an unread call.
     pub fn prefixes(&self) -> &[u64]
         ensures { result.now ≡ self.now.prefixes }
     {
@@ -83,6 +85,14 @@ impl Answer {
         ensures { result.now ≡ self.now.beyond }
     {
         &self.reading.beyond
+    }
+
+    /// Of each rank, whether its readable prefix ends at the Enter of an unread call. Such a rank is
+    /// [`beyond`](Self::beyond) it.
+    pub fn unread(&self) -> &[bool]
+        ensures { result.now ≡ self.now.unread }
+    {
+        &self.reading.unread
     }
 
     /// The rank and place of each contradiction, in rising order.

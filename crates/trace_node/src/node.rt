@@ -57,7 +57,10 @@ impl<'a> Node<'a> {
     pub fn new(alloc: Global, layout: &'a Layout) -> Result<Node<'a>, AllocError>
         ensures { IfOk result (λ n. n ≡ held layout.now empty false) }
     {
-        Node::knowing(alloc, layout, Knowledge::new(alloc))
+        let mut node = Node::knowing(alloc, layout, Knowledge::new(alloc))?;
+        // the index of many calls is made sooner at once than from one of none
+        put(&mut node.followed, None);
+        Ok(node)
     }
 
     /// A node that knows what was gathered, as one that is new and merges it, but without a copy.
@@ -164,9 +167,6 @@ impl<'a> Node<'a> {
         ensures memory { IsErrOf result NodeFault.Memory → self.new ≡ self.old }
         ensures stale { IsErrOf result NodeFault.Stale → self.new ≡ held self.old.layout (join self.old.know other.now) true }
     {
-        if self.has_answered(other) {
-            return Ok(());
-        }
         let was_stale = self.answer.is_none();
         self.hold_all(other)?;
         self.answer_again(was_stale)
@@ -182,8 +182,22 @@ impl<'a> Node<'a> {
         self.answer.is_some() && self.know.get().contains(other)
     }
 
+    /// Joins all that the other knows, and makes no answer: the node is stale then, unless that is
+    /// nothing new and it had an answer, which stays.
+    pub fn hold_all(&mut self, other: &Knowledge) -> Result<(), NodeFault>
+        ensures ok { OnOk result (self.new ≡ held self.old.layout (join self.old.know other.now) self.new.is_stale) }
+        ensures fresh { OnOk result (self.new.is_stale ≡ false → self.old.is_stale ≡ false) }
+        ensures rank { IsErrOf result NodeFault.Rank ↔ HasStranger self.old.layout other.now }
+        ensures err { IfErr result (λ fault. (fault ≢ NodeFault.Stale) × (self.new ≡ self.old)) }
+    {
+        if self.has_answered(other) {
+            return Ok(());
+        }
+        self.join_all(other)
+    }
+
     /// Joins all that the other knows, and makes no answer.
-    fn hold_all(&mut self, other: &Knowledge) -> Result<(), NodeFault>
+    fn join_all(&mut self, other: &Knowledge) -> Result<(), NodeFault>
         ensures ok { OnOk result (self.new ≡ held self.old.layout (join self.old.know other.now) true) }
         ensures rank { IsErrOf result NodeFault.Rank ↔ HasStranger self.old.layout other.now }
         ensures err { IfErr result (λ fault. (fault ≢ NodeFault.Stale) × (self.new ≡ self.old)) }
@@ -201,10 +215,10 @@ impl<'a> Node<'a> {
 
     /// Makes the answer, where there was one before more was known: else the node stays stale.
     fn answer_again(&mut self, was_stale: bool) -> Result<(), NodeFault>
-        requires stale { self.old.is_stale ≡ true }
+        requires stale { was_stale ≡ true → self.old.is_stale ≡ true }
         ensures ok { OnOk result (self.new ≡ held self.old.layout self.old.know false) }
         ensures fresh { OnOk result (was_stale ≡ false) }
-        ensures stale { IfErr result (λ fault. (fault ≡ NodeFault.Stale) × (self.new ≡ self.old)) }
+        ensures stale { IfErr result (λ fault. (fault ≡ NodeFault.Stale) × (self.new ≡ held self.old.layout self.old.know true)) }
     {
         if was_stale || self.catch_up().is_err() {
             return Err(NodeFault::Stale);

@@ -1,27 +1,36 @@
 -- What is kept of the calls behind, one call more.
-use Rattle.std.proofs.Common.{◌≡◌, ℕ, zero, suc, ◌+◌, ◌<◌, Bool, true, false, ◌||◌, ◌&&◌, cond, List, [], ◌∷◌, drop, get_or, length, refl, sym, ◌∙◌, ap, subst, arith}
+use Rattle.std.proofs.Common.{◌≡◌, ℕ, zero, suc, ◌+◌, ◌<◌, Bool, true, false, ◌||◌, cond, List, [], ◌∷◌, drop, get_or, length, refl, sym, ◌∙◌, ap, subst, arith}
 use Rattle.std.specs.Prelude.{ℤ, Option, Some, None, is_some, slice_get, if◌then◌else◌}
-use Rattle.std.specs.List.{list_any, position_from}
-use Rattle.std.specs.Option.{option_map, option_or}
+use Rattle.std.specs.List.{list_any}
 use Rattle.std.specs.Ordering.{int_eq}
 use Rattle.std.proofs.lemmas.List.{drop_more}
 use Rattle.std.proofs.lemmas.Option.{slice_get_read}
 use Rattle.mpi_model.specs.declared.call.Call.{Call}
-use Rattle.mpi_model.specs.declared.call.Call.TheVariants.{Isend, Irecv, Ibarrier}
+use Rattle.mpi_model.specs.declared.call.Call.TheVariants.{Isend, Irecv, Ibarrier, Cancel}
 use Rattle.mpi_model.specs.declared.outcome.Outs.{Outs}
+use Rattle.mpi_model.specs.declared.told.Told.{Told}
+use Rattle.mpi_model.specs.declared.told.Told.TheVariants.{Nothing, Source, Cancelled}
+use Rattle.mpi_model.specs.Tells.{is_cancelled}
 use Rattle.trace_ops.specs.declared.completed.Completed.{Completed}
+use Rattle.trace_ops.specs.declared.touched.End.{End}
 use Rattle.trace_ops.specs.declared.touched.Touch.{Touch}
 use Rattle.trace_ops.specs.Calls.{Entry}
 use Rattle.trace_ops.specs.Request.{post_of, completions, posted_by, completed_by, touches, is_completed, is_posted}
-use Rattle.trace_ops.specs.Source.{told_in, told_at, told_by, source_in}
-use Rattle.trace_ops.specs.Touched.{Follows, tells_of, touch_at, with_tellings, told_from}
+use Rattle.trace_ops.specs.Source.{told_in, told_by}
+use Rattle.trace_ops.specs.Touched.{Follows, ends_at, end_of, marked, is_marked, is_void_end, tellings_of, voided_end, with_told, with_tellings}
+use Rattle.trace_ops.specs.Trust.{cancel_of, cancels, has_cancel, said_in, said_by}
 
 -- a call that posts completes nothing
-pub quiet : (call : Call) (outs : Option Outs) (x : ℤ) → post_of call outs ≡ Some x → completions call outs ≡ []
+quiet : (call : Call) (outs : Option Outs) (x : ℤ) → post_of call outs ≡ Some x → completions call outs ≡ []
 quiet (Isend mode e) outs x h = refl
 quiet (Irecv e) outs x h = refl
 quiet (Ibarrier c) outs x h = refl
 quiet call outs x h = absurd (cc)
+
+-- a Cancel posts and completes nothing
+idle : (call : Call) (outs : Option Outs) (x : ℤ) → cancel_of call ≡ Some x → (post_of call outs ≡ None) × (completions call outs ≡ [])
+idle (Cancel request) outs x h = (refl, refl)
+idle call outs x h = absurd (cc)
 
 drop_tail : {X : Type 0} (whole : List X) (i : ℕ) (x : X) (rest : List X) → drop i whole ≡ x ∷ rest → drop (i + 1) whole ≡ rest
 drop_tail [] zero x rest h = cc
@@ -37,91 +46,139 @@ drop_all : {X : Type 0} (xs : List X) → drop (length xs) xs ≡ []
 drop_all [] = refl
 drop_all (x ∷ xs) = drop_all xs
 
--- what the completions tell from the first on that tells
-abbrev tail_of : List ℕ → ℤ → List Completed → Option ℕ → Option ℕ
-tail_of members x whole None = None
-tail_of members x whole (Some p) = told_in members x (drop p whole)
+-- What is kept of the number says what these completions tell, the last of the call's whole ones.
+record Tells (whole : List Completed) (call : ℕ) (x : ℤ) (rest : List Completed) (e : End) : Type 0 where
+  at : e.call ≡ call
+  void : e.void ≡ is_cancelled (said_in x rest)
+  told : (members : List ℕ) → told_in members x rest ≡ told_in members x (drop e.place whole)
 
-silent : (members : List ℕ) (x : ℤ) (c : Completed) → tells_of x c ≡ false → told_at members x c ≡ None
-silent members x c h = by (int_eq c.request x) c.told h
-  where
-    by : (b : Bool) (told : Option ℕ) → (b && is_some told) ≡ false → (if b then source_in members told else None) ≡ None
-    by false told h = refl
-    by true None h = refl
-    by true (Some s) h = cc
+abbrev Kept : Option Touch → End → Type 0
+Kept touch e = touch ≡ Some (record { end = Some e; cancelled = false })
 
-pub first_telling : (members : List ℕ) (x : ℤ) (whole : List Completed) (i : ℕ) (rest : List Completed) → drop i whole ≡ rest →
-    told_in members x rest ≡ tail_of members x whole (position_from (tells_of x) i rest)
-first_telling members x whole i [] h = refl
-first_telling members x whole i (c ∷ rest) h = by (tells_of x c) refl (first_telling members x whole (i + 1) rest (drop_tail whole i c rest h))
-  where
-    by : (b : Bool) → b ≡ tells_of x c → told_in members x rest ≡ tail_of members x whole (position_from (tells_of x) (i + 1) rest) →
-        told_in members x (c ∷ rest) ≡ tail_of members x whole (cond b (Some i) (position_from (tells_of x) (i + 1) rest))
-    by true k more = sym (ap (told_in members x) h)
-    by false k more = rw (silent members x c (sym k)) more
+module _ (whole : List Completed) (call : ℕ) (x : ℤ) where
+  one_more : (i : ℕ) (c : Completed) (rest : List Completed) (touch : Option Touch) (b : Bool) → b ≡ int_eq c.request x → drop i whole ≡ c ∷ rest →
+      (e : End) → Kept touch e → Tells whole call x rest e → (f : End) × Kept (if b then with_told call i c.told touch else touch) f × Tells whole call x (c ∷ rest) f
+  one_more i c rest touch false k d e h t = (e, h, record { at = t.at; void = rw (sym k) t.void; told = λ members. rw (sym k) (t.told members) })
+  one_more i c rest touch true k d e h t = by c.told refl
+    where
+      by : (told : Told) → told ≡ c.told → (f : End) × Kept (with_told call i told touch) f × Tells whole call x (c ∷ rest) f
+      by Nothing s = (e, h, record { at = t.at; void = rw (sym k, sym s) t.void; told = λ members. rw (sym k, sym s) (t.told members) })
+      by (Source rank) s =
+          (record { call = call; place = i; void = false }, refl, record { at = refl; void = rw (sym k, sym s) refl; told = λ members. sym (ap (told_in members x) d) })
+      by Cancelled s = (voided_end e, rw h refl, record { at = t.at; void = rw (sym k, sym s) refl; told = λ members. rw (sym k, sym s) (t.told members) })
+
+  all_told : (i : ℕ) (rest : List Completed) → drop i whole ≡ rest →
+      (e : End) × Kept (with_tellings call i rest x (Some (ends_at call (length whole)))) e × Tells whole call x rest e
+  all_told i [] d = (record { call = call; place = length whole; void = false }, refl, record { at = refl; void = refl; told = λ members. sym (ap (told_in members x) (drop_all whole)) })
+  all_told i (c ∷ rest) d =
+      let more = all_told (i + 1) rest (drop_tail whole i c rest d) in
+      one_more i c rest (with_tellings call (i + 1) rest x (Some (ends_at call (length whole)))) (int_eq c.request x) refl d more.0 more.1 more.2
 
 -- where none completes, none tells
-pub unmet : (x : ℤ) (done : List Completed) (i : ℕ) → is_completed x done ≡ false → position_from (tells_of x) i done ≡ None
-unmet x [] i h = refl
-unmet x (c ∷ done) i h = by (int_eq c.request x) h (unmet x done (i + 1))
+unmet : (call i : ℕ) (x : ℤ) (done : List Completed) (touch : Option Touch) → is_completed x done ≡ false → with_tellings call i done x touch ≡ touch
+unmet call i x [] touch h = refl
+unmet call i x (c ∷ done) touch h = by (int_eq c.request x) h (unmet call (i + 1) x done touch)
   where
-    by : (b : Bool) → (b || is_completed x done) ≡ false → (is_completed x done ≡ false → position_from (tells_of x) (i + 1) done ≡ None) →
-        cond (b && is_some c.told) (Some i) (position_from (tells_of x) (i + 1) done) ≡ None
+    by : (b : Bool) → (b || is_completed x done) ≡ false → (is_completed x done ≡ false → with_tellings call (i + 1) done x touch ≡ touch) →
+        (if b then with_told call i c.told (with_tellings call (i + 1) done x touch) else with_tellings call (i + 1) done x touch) ≡ touch
     by false h more = more h
     by true h more = cc
 
--- One call more. It posts a number, and so completes none; or it posts none.
+-- what holds of one number, and what is kept of it
+record FollowsOne (calls later : List Entry) (x : ℤ) (touch : Option Touch) : Type 0 where
+  ended : is_some (end_of touch) ≡ list_any (touches x) later
+  cancelled : is_marked touch ≡ has_cancel x later
+  void : is_void_end (end_of touch) ≡ is_cancelled (said_by x later)
+  told : (members : List ℕ) → told_in members x (tellings_of calls (end_of touch)) ≡ told_by members x later
+
+-- One call more. It names a number to be cancelled, or it posts one, and so completes none; or it does neither.
 module _ (calls : List Entry) (n : ℕ) (c : Entry) (later : List Entry) (old new : ℤ → Option Touch) where
-  is_post : (x request : ℤ) → posted_by c ≡ Some request → is_posted (posted_by c) x ≡ int_eq request x
-  is_post x request p = ap (λ (o : Option ℤ). is_posted o x) p
+  by_one : (kept : ℤ → Option Touch) → ((x : ℤ) → FollowsOne calls (c ∷ later) x (kept x)) → Follows calls (c ∷ later) kept
+  by_one kept one = record { ended = λ x. (one x).ended; cancelled = λ x. (one x).cancelled; void = λ x. (one x).void; told = λ members x. (one x).told members }
 
-  pub follows_posted : (request : ℤ) → slice_get calls n ≡ Some c → posted_by c ≡ Some request →
-      ((x : ℤ) → new x ≡ cond (int_eq request x) (Some (touch_at n 0)) (old x)) → Follows calls later old → Follows calls (c ∷ later) new
-  follows_posted request at p h f = record { touched = λ x. touched x (int_eq request x) refl; told = λ members x. told members x (int_eq request x) refl }
+  -- a call that neither touches nor cancels the number
+  passes : (x : ℤ) (touch : Option Touch) → Follows calls later old → touch ≡ old x → touches x c ≡ false → cancels x c ≡ false → FollowsOne calls (c ∷ later) x touch
+  passes x touch f e t k = rw e (record {
+    ended = rw t (f.ended x);
+    cancelled = rw (t, k) (f.cancelled x);
+    void = rw t (f.void x);
+    told = λ members. rw t (f.told members x);
+  })
+
+  pub follows_cancel : (request : ℤ) → cancel_of c.call ≡ Some request → ((x : ℤ) → new x ≡ cond (int_eq request x) (Some (marked (old x))) (old x)) →
+      Follows calls later old → Follows calls (c ∷ later) new
+  follows_cancel request p h f = by_one new (λ x. one x (int_eq request x) refl)
     where
-      touches_it : (x : ℤ) (b : Bool) → b ≡ int_eq request x → touches x c ≡ b
-      touches_it x b k = rw (is_post x request p, quiet c.call c.outs request p) (or_false (int_eq request x) ∙ sym k)
+      untouched : (x : ℤ) → touches x c ≡ false
+      untouched x = let q = idle c.call c.outs request p in rw (q.0, q.1) refl
 
-      touched : (x : ℤ) (b : Bool) → b ≡ int_eq request x → is_some (new x) ≡ list_any (touches x) (c ∷ later)
-      touched x true k = rw (touches_it x true k, h x, sym k) refl
-      touched x false k = rw (touches_it x false k, h x, sym k) (f.touched x)
+      one : (x : ℤ) (b : Bool) → b ≡ int_eq request x → FollowsOne calls (c ∷ later) x (new x)
+      one x false k = passes x (new x) f (h x ∙ ap (λ (v : Bool). cond v (Some (marked (old x))) (old x)) (sym k)) (untouched x) (ap (λ (o : Option ℤ). is_posted o x) p ∙ sym k)
+      one x true k =
+          let e : new x ≡ Some (marked (old x)) = h x ∙ ap (λ (v : Bool). cond v (Some (marked (old x))) (old x)) (sym k) in
+          let names : cancels x c ≡ true = ap (λ (o : Option ℤ). is_posted o x) p ∙ sym k in
+          rw e (record {
+            ended = rw (untouched x) (f.ended x);
+            cancelled = rw names refl;
+            void = rw (untouched x) (f.void x);
+            told = λ members. rw (untouched x) (f.told members x);
+          })
 
-      told : (members : List ℕ) (x : ℤ) (b : Bool) → b ≡ int_eq request x → told_from calls members x (new x) ≡ told_by members x (c ∷ later)
-      told members x true k = rw (touches_it x true k, h x, sym k, at, quiet c.call c.outs request p) refl
-      told members x false k = rw (touches_it x false k, h x, sym k) (f.told members x)
-
-  follows_middle : (middle : ℤ → Option Touch) → slice_get calls n ≡ Some c → posted_by c ≡ None →
-      ((x : ℤ) → middle x ≡ cond (is_completed x (completed_by c)) (Some (touch_at n (length (completed_by c)))) (old x)) →
-      ((x : ℤ) → new x ≡ with_tellings n (completed_by c) x (middle x)) → Follows calls later old → Follows calls (c ∷ later) new
-  follows_middle middle at p g h f = record { touched = λ x. touched x (is_completed x (completed_by c)) refl; told = λ members x. told members x (is_completed x (completed_by c)) refl }
+  pub follows_posted : (request : ℤ) → slice_get calls n ≡ Some c → cancel_of c.call ≡ None → posted_by c ≡ Some request →
+      ((x : ℤ) → new x ≡ cond (int_eq request x) (Some (ends_at n 0)) (old x)) → Follows calls later old → Follows calls (c ∷ later) new
+  follows_posted request at q p h f = by_one new (λ x. one x (int_eq request x) refl)
     where
-      touches_it : (x : ℤ) (b : Bool) → b ≡ is_completed x (completed_by c) → touches x c ≡ b
-      touches_it x b k = rw (ap (λ (o : Option ℤ). is_posted o x) p) (sym k)
+      touches_it : (x : ℤ) → touches x c ≡ int_eq request x
+      touches_it x = rw (ap (λ (o : Option ℤ). is_posted o x) p, quiet c.call c.outs request p) (or_false (int_eq request x))
 
-      is_there : (o : Option Touch) (t : Touch) → is_some (option_or o (Some t)) ≡ true
-      is_there None t = refl
-      is_there (Some s) t = refl
+      cancels_none : (x : ℤ) → cancels x c ≡ false
+      cancels_none x = ap (λ (o : Option ℤ). is_posted o x) q
 
-      touched : (x : ℤ) (b : Bool) → b ≡ is_completed x (completed_by c) → is_some (new x) ≡ list_any (touches x) (c ∷ later)
-      touched x true k = rw (touches_it x true k, h x, g x, sym k) (is_there (option_map (touch_at n) (position_from (tells_of x) 0 (completed_by c))) (touch_at n (length (completed_by c))))
-      touched x false k = rw (touches_it x false k, h x, g x, sym k, unmet x (completed_by c) 0 (sym k)) (f.touched x)
+      one : (x : ℤ) (b : Bool) → b ≡ int_eq request x → FollowsOne calls (c ∷ later) x (new x)
+      one x false k = passes x (new x) f (h x ∙ ap (λ (v : Bool). cond v (Some (ends_at n 0)) (old x)) (sym k)) (touches_it x ∙ sym k) (cancels_none x)
+      one x true k =
+          let e : new x ≡ Some (ends_at n 0) = h x ∙ ap (λ (v : Bool). cond v (Some (ends_at n 0)) (old x)) (sym k) in
+          let t : touches x c ≡ true = touches_it x ∙ sym k in
+          rw e (record {
+            ended = rw t refl;
+            cancelled = rw (t, cancels_none x) refl;
+            void = rw (t, quiet c.call c.outs request p) refl;
+            told = λ members. rw (t, at, quiet c.call c.outs request p) refl;
+          })
 
-      first : (members : List ℕ) (x : ℤ) (p : Option ℕ) →
-          told_from calls members x (option_or (option_map (touch_at n) p) (Some (touch_at n (length (completed_by c))))) ≡ tail_of members x (completed_by c) p
-      first members x (Some p) = rw at refl
-      first members x None = rw at (ap (told_in members x) (drop_all (completed_by c)))
+  follows_middle : (middle : ℤ → Option Touch) → slice_get calls n ≡ Some c → cancel_of c.call ≡ None → posted_by c ≡ None →
+      ((x : ℤ) → middle x ≡ cond (is_completed x (completed_by c)) (Some (ends_at n (length (completed_by c)))) (old x)) →
+      ((x : ℤ) → new x ≡ with_tellings n 0 (completed_by c) x (middle x)) → Follows calls later old → Follows calls (c ∷ later) new
+  follows_middle middle at q p g h f = by_one new (λ x. one x (is_completed x (completed_by c)) refl)
+    where
+      touches_it : (x : ℤ) → touches x c ≡ is_completed x (completed_by c)
+      touches_it x = ap (λ (o : Option ℤ). is_posted o x || is_completed x (completed_by c)) p
 
-      told : (members : List ℕ) (x : ℤ) (b : Bool) → b ≡ is_completed x (completed_by c) → told_from calls members x (new x) ≡ told_by members x (c ∷ later)
-      told members x true k = rw (touches_it x true k, h x, g x, sym k)
-          (first members x (position_from (tells_of x) 0 (completed_by c)) ∙ sym (first_telling members x (completed_by c) 0 (completed_by c) refl))
-      told members x false k = rw (touches_it x false k, h x, g x, sym k, unmet x (completed_by c) 0 (sym k)) (f.told members x)
+      cancels_none : (x : ℤ) → cancels x c ≡ false
+      cancels_none x = ap (λ (o : Option ℤ). is_posted o x) q
 
-  pub follows_completed : (middle : ℤ → Option Touch) (one two : List Completed) → one ≡ completed_by c → two ≡ completed_by c → slice_get calls n ≡ Some c → posted_by c ≡ None →
-      ((x : ℤ) → middle x ≡ cond (is_completed x one) (Some (touch_at n (length one))) (old x)) →
-      ((x : ℤ) → new x ≡ with_tellings n two x (middle x)) → Follows calls later old → Follows calls (c ∷ later) new
-  follows_completed middle one two e k at p g h f = follows_middle middle at p
-      (λ x. subst (λ (l : List Completed). middle x ≡ cond (is_completed x l) (Some (touch_at n (length l))) (old x)) e (g x))
-      (λ x. subst (λ (l : List Completed). new x ≡ with_tellings n l x (middle x)) k (h x)) f
+      one : (x : ℤ) (b : Bool) → b ≡ is_completed x (completed_by c) → FollowsOne calls (c ∷ later) x (new x)
+      one x false k =
+          passes x (new x) f (h x ∙ unmet n 0 x (completed_by c) (middle x) (sym k) ∙ g x ∙ ap (λ (v : Bool). cond v (Some (ends_at n (length (completed_by c)))) (old x)) (sym k))
+          (touches_it x ∙ sym k) (cancels_none x)
+      one x true k =
+          let all = all_told (completed_by c) n x 0 (completed_by c) refl in
+          let m : middle x ≡ Some (ends_at n (length (completed_by c))) = g x ∙ ap (λ (v : Bool). cond v (Some (ends_at n (length (completed_by c)))) (old x)) (sym k) in
+          let e : new x ≡ Some (record { end = Some all.0; cancelled = false }) = h x ∙ ap (with_tellings n 0 (completed_by c) x) m ∙ all.1 in
+          let t : touches x c ≡ true = touches_it x ∙ sym k in
+          rw e (record {
+            ended = rw t refl;
+            cancelled = rw (t, cancels_none x) refl;
+            void = rw t all.2.void;
+            told = λ members. rw (t, all.2.at, at) (sym (all.2.told members));
+          })
+
+  pub follows_completed : (middle : ℤ → Option Touch) (one two : List Completed) → one ≡ completed_by c → two ≡ completed_by c → slice_get calls n ≡ Some c → cancel_of c.call ≡ None → posted_by c ≡ None →
+      ((x : ℤ) → middle x ≡ cond (is_completed x one) (Some (ends_at n (length one))) (old x)) →
+      ((x : ℤ) → new x ≡ with_tellings n 0 two x (middle x)) → Follows calls later old → Follows calls (c ∷ later) new
+  follows_completed middle one two e k at q p g h f = follows_middle middle at q p
+      (λ x. subst (λ (l : List Completed). middle x ≡ cond (is_completed x l) (Some (ends_at n (length l))) (old x)) e (g x))
+      (λ x. subst (λ (l : List Completed). new x ≡ with_tellings n 0 l x (middle x)) k (h x)) f
 
 -- what is kept of the calls from this one on
 pub follows_at : (calls : List Entry) (n : ℕ) (c : Entry) (new : ℤ → Option Touch) → n < length calls → c ≡ get_or calls n c →

@@ -4,4 +4,3 @@ pub mod Cases
 pub mod Growing
 pub mod Owned
 pub mod Joined
-pub mod Found

@@ -1,6 +1,6 @@
--- The messages and receives of a rank are its own, and stand in order.
+-- The messages and receives of a rank are its own, and stand in order; so do its requests that a Cancel names.
 use Rattle.std.proofs.Common.{◌≡◌, ℕ, zero, suc, map, ◌+◌, ◌<◌, ◌≤◌, Bool, true, false, ◌&&◌, List, [], ◌∷◌, inl, inr, refl, sym, ◌∙◌, ap, arith}
-use Rattle.std.specs.Prelude.{Option, Some, None, ◌==◌, nat_lt, if◌then◌else◌, slice_get}
+use Rattle.std.specs.Prelude.{ℤ, Option, Some, None, ◌==◌, nat_lt, if◌then◌else◌, slice_get}
 use Rattle.std.specs.List.{filter_map, cons_option, range_with_len}
 use Rattle.std.specs.Option.{option_map, option_and_then}
 use Rattle.std.proofs.lemmas.Bool.Decides.{nat_tests}
@@ -13,6 +13,9 @@ use Rattle.mpi_model.specs.declared.call.Call.{Call}
 use Rattle.mpi_model.specs.declared.call.Call.TheVariants.{Send, Isend, Sendrecv, Recv, Irecv}
 use Rattle.mpi_model.specs.declared.message.Message.{Message}
 use Rattle.mpi_model.specs.declared.message.Receive.{Receive}
+use Rattle.mpi_model.specs.declared.message.Trust.{Trust}
+use Rattle.mpi_model.specs.declared.message.Trust.TheVariants.{Sure}
+use Rattle.mpi_model.specs.declared.event.OpName.{OpName}
 use Rattle.mpi_model.specs.Layouts.{Parts}
 use Rattle.mpi_model.specs.declared.event.Event.{Event}
 use Rattle.trace_know.specs.View.{View}
@@ -20,12 +23,13 @@ use Rattle.trace_know.specs.Prefix.{events_of, is_beyond}
 use Rattle.trace_ops.specs.Ops.{IsOwn, AreOwn}
 use Rattle.trace_ops.specs.RankOps.{ops_by, ops_of}
 use Rattle.trace_ops.specs.Calls.{Entry, Numbered, numbered, calls_of}
-use Rattle.trace_ops.specs.Foreign.{is_foreign, group, named}
+use Rattle.trace_ops.specs.Foreign.{Group, group_of, peer_rank}
 use Rattle.trace_ops.specs.Request.{posted_by}
 use Rattle.trace_ops.specs.Source.{told_of_own, told_of_post}
-use Rattle.trace_ops.specs.Message.{message_of, message_to, sent_by, sends_of}
-use Rattle.trace_ops.specs.Receive.{receive_of, receives_of, taken_by, taken_from}
-use Rattle.trace_ops.specs.Order.{Has, AreInOrder, ArePosted}
+use Rattle.trace_ops.specs.Trust.{has_cancel, trust_of_send, trust_of_receive, cancelled_with, cancelled_post, cancelled_of}
+use Rattle.trace_ops.specs.Message.{message_in, message_of, message_to, sent_by, sends_of}
+use Rattle.trace_ops.specs.Receive.{receive_in, receive_of, receives_of, taken_by, taken_from}
+use Rattle.trace_ops.specs.Order.{Has, AreInOrder, ArePosted, AreCalledInOrder}
 
 -- an operation, where there is one, is of the rank and of the call
 abbrev IsOf : {Y : Type 0} → (Y → ℕ) → (Y → ℕ) → (Y → ℕ) → ℕ → ℕ → Option Y → Type 0
@@ -64,55 +68,55 @@ module _ (layout : Parts) (rank : ℕ) where
   abbrev IsSent : ℕ → Option Message → Type 0
   IsSent n o = IsOf (λ m. m.name.rank) (λ m. m.from) (λ m. m.name.call) rank n o
 
-  with_own : (n : ℕ) (mode : Mode) (e : Envelope) (to : Option ℕ) → IsSent n (option_map (message_to layout rank n mode e) to)
-  with_own n mode e None = tt
-  with_own n mode e (Some to) = (refl, refl, refl)
+  with_own : (g : Group) (n : ℕ) (mode : Mode) (e : Envelope) (trust : Trust) (to : Option ℕ) → IsSent n (option_map (message_to g rank n mode e trust) to)
+  with_own g n mode e trust None = tt
+  with_own g n mode e trust (Some to) = (refl, refl, refl)
 
-  sent_own : (n : ℕ) (call : Call) → IsSent n (sent_by layout rank n call)
-  sent_own n (Send mode e) = with_own n mode e (option_and_then (slice_get (group layout e.comm)) (named e.peer))
-  sent_own n (Isend mode e) = with_own n mode e (option_and_then (slice_get (group layout e.comm)) (named e.peer))
-  sent_own n (Sendrecv x) = with_own n Standard x.send (option_and_then (slice_get (group layout x.send.comm)) (named x.send.peer))
-  sent_own n call = tt
+  sent_own : (g : Group) (n : ℕ) (c : Entry) (later : List Entry) (call : Call) → IsSent n (sent_by g rank n c later call)
+  sent_own g n c later (Send mode e) = with_own g n mode e Sure (option_and_then (slice_get g.members) (peer_rank e.peer))
+  sent_own g n c later (Isend mode e) = with_own g n mode e (trust_of_send later (posted_by c)) (option_and_then (slice_get g.members) (peer_rank e.peer))
+  sent_own g n c later (Sendrecv x) = with_own g n Standard x.send Sure (option_and_then (slice_get g.members) (peer_rank x.send.peer))
+  sent_own g n c later call = tt
 
-  pub message_own : (k : Numbered) → IsSent k.number (message_of layout rank k.number k.entry.call)
-  message_own k = by (is_foreign layout rank k.entry.call) (sent_own k.number k.entry.call)
+  pub message_own : (k : Numbered) → IsSent k.number (message_of layout rank k)
+  message_own k = by (group_of layout rank k.number k.entry.call)
     where
-      by : (b : Bool) → IsSent k.number (sent_by layout rank k.number k.entry.call) → IsSent k.number (if b then None else sent_by layout rank k.number k.entry.call)
-      by true s = tt
-      by false s = s
+      by : (g : Option Group) → IsSent k.number (message_in g rank k)
+      by None = tt
+      by (Some g) = sent_own g k.number k.entry k.later k.entry.call
 
   pub sent_member : (n : ℕ) (calls : List Entry) (m : Message) → Has (sends_of layout rank n calls) m → (m.name.rank ≡ rank) × (m.from ≡ rank) × (n ≤ m.name.call)
-  sent_member = member (λ m. m.name.rank) (λ m. m.from) (λ m. m.name.call) rank (λ c. message_of layout rank c.number c.entry.call) message_own
+  sent_member = member (λ m. m.name.rank) (λ m. m.from) (λ m. m.name.call) rank (message_of layout rank) message_own
 
-  in_order : (ms : List Message) → Sorted (λ m. m.name.rank) (λ m. m.from) (λ m. m.name.call) rank (λ c. message_of layout rank c.number c.entry.call) message_own ms → AreInOrder ms
+  in_order : (ms : List Message) → Sorted (λ m. m.name.rank) (λ m. m.from) (λ m. m.name.call) rank (message_of layout rank) message_own ms → AreInOrder ms
   in_order [] s = tt
   in_order (m ∷ ms) s = (s.0, in_order ms s.1)
 
   pub sends_rise : (n : ℕ) (calls : List Entry) → AreInOrder (sends_of layout rank n calls)
-  sends_rise n calls = in_order (sends_of layout rank n calls) (sorted (λ m. m.name.rank) (λ m. m.from) (λ m. m.name.call) rank (λ c. message_of layout rank c.number c.entry.call) message_own n calls)
+  sends_rise n calls = in_order (sends_of layout rank n calls) (sorted (λ m. m.name.rank) (λ m. m.from) (λ m. m.name.call) rank (message_of layout rank) message_own n calls)
 
   -- ---- receives
 
   abbrev IsTaken : ℕ → Option Receive → Type 0
   IsTaken n o = IsOf (λ q. q.name.rank) (λ q. q.at) (λ q. q.name.call) rank n o
 
-  from_own : (n : ℕ) (e : Envelope) (told : Option ℕ) (peer : Peer) → IsTaken n (taken_from layout rank n e told peer)
-  from_own n e told Null = tt
-  from_own n e told Any = (refl, refl, refl)
-  from_own n e told (Rank p) = (refl, refl, refl)
+  from_own : (g : Group) (n : ℕ) (e : Envelope) (trust : Trust) (told : Option ℕ) (peer : Peer) → IsTaken n (taken_from g rank n e trust told peer)
+  from_own g n e trust told Null = tt
+  from_own g n e trust told Any = (refl, refl, refl)
+  from_own g n e trust told (Rank p) = (refl, refl, refl)
 
-  taken_own : (n : ℕ) (c : Entry) (later : List Entry) (call : Call) → IsTaken n (taken_by layout rank n c later call)
-  taken_own n c later (Recv e) = from_own n e (told_of_own (group layout e.comm) c.outs) e.peer
-  taken_own n c later (Sendrecv x) = from_own n x.receive (told_of_own (group layout x.receive.comm) c.outs) x.receive.peer
-  taken_own n c later (Irecv e) = from_own n e (told_of_post (group layout e.comm) later (posted_by c)) e.peer
-  taken_own n c later call = tt
+  taken_own : (g : Group) (n : ℕ) (c : Entry) (later : List Entry) (call : Call) → IsTaken n (taken_by g rank n c later call)
+  taken_own g n c later (Recv e) = from_own g n e Sure (told_of_own g.members c.outs) e.peer
+  taken_own g n c later (Sendrecv x) = from_own g n x.receive Sure (told_of_own g.members c.outs) x.receive.peer
+  taken_own g n c later (Irecv e) = from_own g n e (trust_of_receive g.members later (posted_by c)) (told_of_post g.members later (posted_by c)) e.peer
+  taken_own g n c later call = tt
 
   pub receive_own : (k : Numbered) → IsTaken k.number (receive_of layout rank k)
-  receive_own k = by (is_foreign layout rank k.entry.call) (taken_own k.number k.entry k.later k.entry.call)
+  receive_own k = by (group_of layout rank k.number k.entry.call)
     where
-      by : (b : Bool) → IsTaken k.number (taken_by layout rank k.number k.entry k.later k.entry.call) → IsTaken k.number (if b then None else taken_by layout rank k.number k.entry k.later k.entry.call)
-      by true s = tt
-      by false s = s
+      by : (g : Option Group) → IsTaken k.number (receive_in g rank k)
+      by None = tt
+      by (Some g) = taken_own g k.number k.entry k.later k.entry.call
 
   pub taken_member : (n : ℕ) (calls : List Entry) (q : Receive) → Has (receives_of layout rank n calls) q → (q.name.rank ≡ rank) × (q.at ≡ rank) × (n ≤ q.name.call)
   taken_member = member (λ q. q.name.rank) (λ q. q.at) (λ q. q.name.call) rank (receive_of layout rank) receive_own
@@ -123,6 +127,33 @@ module _ (layout : Parts) (rank : ℕ) where
 
   pub receives_rise : (n : ℕ) (calls : List Entry) → ArePosted (receives_of layout rank n calls)
   receives_rise n calls = are_posted (receives_of layout rank n calls) (sorted (λ q. q.name.rank) (λ q. q.at) (λ q. q.name.call) rank (receive_of layout rank) receive_own n calls)
+
+-- ---- requests that a Cancel names
+
+module _ (rank : ℕ) where
+  abbrev IsNamed : ℕ → Option OpName → Type 0
+  IsNamed n o = IsOf (λ a. a.rank) (λ a. a.rank) (λ a. a.call) rank n o
+
+  name_own : (k : Numbered) → IsNamed k.number (cancelled_post rank k)
+  name_own k = by (posted_by k.entry)
+    where
+      of : (b : Bool) → IsNamed k.number (if b then Some (record { rank = rank; call = k.number }) else None)
+      of true = (refl, refl, refl)
+      of false = tt
+
+      by : (posted : Option ℤ) → IsNamed k.number (cancelled_with rank k.number k.later posted)
+      by None = tt
+      by (Some x) = of (has_cancel x k.later)
+
+  cancelled_member : (n : ℕ) (calls : List Entry) (a : OpName) → Has (cancelled_of rank n calls) a → (a.rank ≡ rank) × (a.rank ≡ rank) × (n ≤ a.call)
+  cancelled_member = member (λ a. a.rank) (λ a. a.rank) (λ a. a.call) rank (cancelled_post rank) name_own
+
+  are_called : (names : List OpName) → Sorted (λ a. a.rank) (λ a. a.rank) (λ a. a.call) rank (cancelled_post rank) name_own names → AreCalledInOrder names
+  are_called [] s = tt
+  are_called (a ∷ names) s = (s.0, are_called names s.1)
+
+  cancelled_rise : (n : ℕ) (calls : List Entry) → AreCalledInOrder (cancelled_of rank n calls)
+  cancelled_rise n calls = are_called (cancelled_of rank n calls) (sorted (λ a. a.rank) (λ a. a.rank) (λ a. a.call) rank (cancelled_post rank) name_own n calls)
 
 -- ---- ops
 
@@ -135,6 +166,8 @@ own_of layout rank beyond events = record {
   posted_at = λ q h. (taken_member layout rank 0 (calls_of events) q h).1;
   sends_rise = sends_rise layout rank 0 (calls_of events);
   receives_rise = receives_rise layout rank 0 (calls_of events);
+  cancelled_by = λ a h. (cancelled_member rank 0 (calls_of events) a h).0;
+  cancelled_rise = cancelled_rise rank 0 (calls_of events);
 }
 
 -- of all ranks from the first on

@@ -1,6 +1,6 @@
 -- One element more of a list that is gone through.
-use Rattle.std.proofs.Common.{◌≡◌, ℕ, zero, suc, ◌+◌, ◌<◌, List, [], ◌∷◌, ◌++◌, map, take, drop, get_or, length, reverse, refl, sym, ◌∙◌, ap, arith, append_assoc, Bor}
-use Rattle.std.specs.Prelude.{ℤ, Option, Some, None, slice_get}
+use Rattle.std.proofs.Common.{◌≡◌, ℕ, zero, suc, ◌+◌, ◌<◌, ◌≤◌, List, [], ◌∷◌, ◌++◌, map, take, drop, get_or, length, reverse, refl, sym, ◌∙◌, ap, arith, append_assoc, Bor}
+use Rattle.std.specs.Prelude.{ℤ, Bool, true, false, if◌then◌else◌, filter, Option, Some, None, slice_get}
 use Rattle.std.specs.List.{filter_map, cons_option}
 use Rattle.std.specs.Option.{option_and_then, option_map}
 use Rattle.std.proofs.lemmas.List.{take_more, drop_more, reverse-append, append-nil}
@@ -43,6 +43,10 @@ turned : {Y : Type 0} (done : List Y) (item : Option Y) → reverse (done ++ con
 turned {Y} done None = ap (λ (l : List Y). reverse l) (append-nil done)
 turned {Y} done (Some y) = reverse-append done (y ∷ [])
 
+count_one : {X : Type 0} (test : X → Bool) (x : X) (xs : List X) (b : Bool) → b ≡ test x → length (filter test (x ∷ xs)) ≡ length (filter test xs) + (if b then 1 else 0)
+count_one test x xs true k = rw (sym k) (omega arith)
+count_one test x xs false k = rw (sym k) (omega arith)
+
 -- One call more towards the front, in a list that is turned round at the end.
 pub turned_more : {Y : Type 0} (h : Numbered → Option Y) (calls : List Entry) (n m : ℕ) (entry : Entry) (done new : List Y) (item : Option Y) → n < length calls → m ≡ n + 1 →
     entry ≡ get_or calls n entry → item ≡ h (record { number = n; entry = entry; later = drop m calls }) → new ≡ done ++ cons_option item [] →
@@ -54,3 +58,17 @@ turned_more {Y} h calls n m entry done new item lt e at k j i =
     ∙ ap (λ (o : Option Y). cons_option o (filter_map h (numbered m (drop m calls)))) k
     ∙ ap (λ (s : ℕ). cons_option (h (record { number = n; entry = entry; later = drop m calls })) (filter_map h (numbered s (drop m calls)))) e
     ∙ sym (ap (λ (l : List Entry). filter_map h (numbered n l)) front)
+
+-- One call more towards the front, where the calls that pass a test are counted.
+pub counted_more : (test : Numbered → Bool) (calls : List Entry) (n : ℕ) (entry : Entry) (old new : ℕ) (b : Bool) → n < length calls → entry ≡ get_or calls n entry →
+    b ≡ test (record { number = n; entry = entry; later = drop (n + 1) calls }) → new ≡ old + (if b then 1 else 0) →
+    old ≡ length (filter test (numbered (n + 1) (drop (n + 1) calls))) → new ≡ length (filter test (numbered n (drop n calls)))
+counted_more test calls n entry old new b lt at k j i =
+    let front : drop n calls ≡ entry ∷ drop (n + 1) calls = drop_more calls n entry lt ∙ ap (λ (c : Entry). c ∷ drop (n + 1) calls) (sym at) in
+    j ∙ ap (λ (m : ℕ). m + (if b then 1 else 0)) i
+    ∙ sym (count_one test (record { number = n; entry = entry; later = drop (n + 1) calls }) (numbered (n + 1) (drop (n + 1) calls)) b k)
+    ∙ sym (ap (λ (l : List Entry). length (filter test (numbered n l))) front)
+
+pub few_more : (old new n len : ℕ) (b : Bool) → new ≡ old + (if b then 1 else 0) → old + (n + 1) ≤ len → new + n ≤ len
+few_more old new n len true e h = omega (arith, e, h)
+few_more old new n len false e h = omega (arith, e, h)

@@ -1,63 +1,85 @@
--- The groups that calls name, and the calls that the layout doesn't know.
-use Rattle.std.specs.Prelude.{ℕ, Bool, true, false, ◌&&◌, ◌==◌, not, nat_lt, Option, Some, None, List, [], length}
-use Rattle.std.specs.List.{list_any}
+-- The communicators that calls name, and the calls that the layout doesn't know.
+use Rattle.std.specs.Prelude.{ℕ, Bool, true, ◌&&◌, nat_lt, if◌then◌else◌, Option, Some, None, is_some, is_none, List, length}
+use Rattle.std.specs.Option.{option_map, option_and_then}
 use Rattle.mpi_model.specs.declared.envelope.Peer.{Peer}
 use Rattle.mpi_model.specs.declared.envelope.Peer.TheVariants as peers
 use Rattle.mpi_model.specs.declared.envelope.CommRef.{CommRef}
-use Rattle.mpi_model.specs.declared.envelope.CommRef.TheVariants as comms
-use Rattle.mpi_model.specs.declared.envelope.Envelope.{Envelope}
 use Rattle.mpi_model.specs.declared.call.Call.{Call}
 use Rattle.mpi_model.specs.declared.call.Call.TheVariants as calls
 use Rattle.mpi_model.specs.Communicators.{members_of}
-use Rattle.mpi_model.specs.Layouts.{Parts}
+use Rattle.mpi_model.specs.Layouts.{Parts, named}
 
--- the number of the communicator that a call names
-abbrev pub number_of : Parts → CommRef → ℕ
-number_of layout comms.World = layout.world
-number_of layout (comms.Id n) = n
+-- The group of a communicator, and the communicator's id in the layout: ranks of the trace in the order of their ranks in
+-- the group (MPI 4.0, 7.2.1).
+pub record Group : Type 0 where
+  pub comm : ℕ
+  pub members : List ℕ
 
-abbrev pub members_or_none : Option (List ℕ) → List ℕ
-members_or_none None = []
-members_or_none (Some members) = members
+abbrev pub group_at : Parts → ℕ → Option Group
+group_at layout comm = option_map (λ members. record { comm = comm; members = members }) (members_of layout.comms comm)
 
--- The group of a communicator: ranks of the trace in the order of their ranks in it (MPI 4.0, 7.2.1). It is empty just
--- where the layout has no such communicator.
-abbrev pub group : Parts → CommRef → List ℕ
-group layout comm = members_or_none (members_of layout.comms (number_of layout comm))
+-- The group of the communicator that call n of a rank names. It has one just where the layout says that the rank, which is
+-- then a member, names a communicator so in that call.
+abbrev pub group_named : Parts → ℕ → ℕ → CommRef → Option Group
+group_named layout rank n comm = option_and_then (group_at layout) (named layout rank n comm)
 
--- the rank that a peer names
-abbrev pub named : Peer → Option ℕ
-named peers.Any = None
-named peers.Null = None
-named (peers.Rank n) = Some n
+-- the communicator that a call names, where it names one; both sides of a Sendrecv name one (MPI 4.0, 3.10)
+abbrev pub comm_of : Call → Option CommRef
+comm_of (calls.Send mode e) = Some e.comm
+comm_of (calls.Isend mode e) = Some e.comm
+comm_of (calls.Recv e) = Some e.comm
+comm_of (calls.Irecv e) = Some e.comm
+comm_of (calls.Sendrecv x) = Some x.send.comm
+comm_of (calls.Collective c) = Some c.comm
+comm_of (calls.Probe e) = Some e.comm
+comm_of (calls.Ibarrier c) = Some c
+comm_of calls.Local = None
+comm_of calls.Finalize = None
+comm_of (calls.Wait request) = None
+comm_of (calls.Waitall requests) = None
+comm_of (calls.Waitany requests) = None
+comm_of (calls.Waitsome requests) = None
+comm_of (calls.Test request) = None
+comm_of (calls.Testall requests) = None
+comm_of (calls.Testany requests) = None
+comm_of (calls.Testsome requests) = None
+comm_of (calls.Cancel request) = None
+comm_of (calls.Free request) = None
+comm_of calls.Unread = None
+
+-- the rank in the group that a peer names
+abbrev pub peer_rank : Peer → Option ℕ
+peer_rank peers.Any = None
+peer_rank peers.Null = None
+peer_rank (peers.Rank n) = Some n
 
 -- the rank, where one is named, is a rank in the group
 abbrev pub is_within : List ℕ → Option ℕ → Bool
 is_within members None = true
 is_within members (Some n) = nat_lt n (length members)
 
--- the caller is a member of the group, and the rank that the call names, its peer or root, is within it
-abbrev pub is_placed : List ℕ → ℕ → Option ℕ → Bool
-is_placed members rank other = list_any (λ r. r == rank) members && is_within members other
+-- the ranks that a call names, its peers or its root, are ranks in the group
+abbrev pub are_within : List ℕ → Call → Bool
+are_within members (calls.Send mode e) = is_within members (peer_rank e.peer)
+are_within members (calls.Isend mode e) = is_within members (peer_rank e.peer)
+are_within members (calls.Recv e) = is_within members (peer_rank e.peer)
+are_within members (calls.Irecv e) = is_within members (peer_rank e.peer)
+are_within members (calls.Sendrecv x) = is_within members (peer_rank x.send.peer) && is_within members (peer_rank x.receive.peer)
+are_within members (calls.Collective c) = is_within members c.root
+are_within members (calls.Probe e) = is_within members (peer_rank e.source)
+are_within members call = true
 
-abbrev pub is_placed_envelope : Parts → ℕ → Envelope → Bool
-is_placed_envelope layout rank e = is_placed (group layout e.comm) rank (named e.peer)
+abbrev pub group_with : Call → Group → Option Group
+group_with call g = if are_within g.members call then Some g else None
 
--- A foreign call: its communicator is absent from the layout, or the caller is no member, or its peer or root is outside
--- the group. A Sendrecv is foreign as a whole.
-abbrev pub is_foreign : Parts → ℕ → Call → Bool
-is_foreign layout rank (calls.Send mode e) = not (is_placed_envelope layout rank e)
-is_foreign layout rank (calls.Isend mode e) = not (is_placed_envelope layout rank e)
-is_foreign layout rank (calls.Recv e) = not (is_placed_envelope layout rank e)
-is_foreign layout rank (calls.Irecv e) = not (is_placed_envelope layout rank e)
-is_foreign layout rank (calls.Sendrecv x) = not (is_placed_envelope layout rank x.send && is_placed_envelope layout rank x.receive)
-is_foreign layout rank (calls.Collective c) = not (is_placed (group layout c.comm) rank c.root)
-is_foreign layout rank (calls.Probe e) = not (is_placed (group layout e.comm) rank (named e.source))
-is_foreign layout rank (calls.Ibarrier c) = not (is_placed (group layout c) rank None)
-is_foreign layout rank calls.Local = false
-is_foreign layout rank calls.Finalize = false
-is_foreign layout rank (calls.Wait request) = false
-is_foreign layout rank (calls.Waitall requests) = false
-is_foreign layout rank (calls.Waitany requests) = false
-is_foreign layout rank (calls.Waitsome requests) = false
-is_foreign layout rank (calls.Test request) = false
+-- The group in which a call takes part: that of the communicator which it names, where its peers or its root are within.
+abbrev pub group_of : Parts → ℕ → ℕ → Call → Option Group
+group_of layout rank n call = option_and_then (group_with call) (option_and_then (group_named layout rank n) (comm_of call))
+
+-- A foreign call: it names a communicator, and takes part in no group. The layout gives its rank no such communicator, or
+-- its peer or root is outside. A Sendrecv is foreign as a whole.
+abbrev pub is_foreign_in : Option Group → Call → Bool
+is_foreign_in g call = is_some (comm_of call) && is_none g
+
+abbrev pub is_foreign : Parts → ℕ → ℕ → Call → Bool
+is_foreign layout rank n call = is_foreign_in (group_of layout rank n call) call

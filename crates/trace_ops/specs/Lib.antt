@@ -2,12 +2,15 @@ pub mod Order
 pub mod Ops
 pub mod Calls
 pub mod Foreign
+pub mod Groups
 pub mod Request
 pub mod Source
+pub mod Trust
 pub mod Message
 pub mod Receive
 pub mod Round
 pub mod RankState
 pub mod RankOps
 pub mod Touched
+pub mod Fate
 pub mod Gathered

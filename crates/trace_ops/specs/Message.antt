@@ -1,5 +1,5 @@
--- The messages of a rank (MPI 4.0, 3.2.1 to 3.2.3, and 3.7.2 and 3.10).
-use Rattle.std.specs.Prelude.{ℕ, if◌then◌else◌, Option, Some, None, List, slice_get}
+-- The messages of a rank (MPI 4.0, 3.2.1 to 3.2.3, and 3.7.2, 3.8.4 and 3.10).
+use Rattle.std.specs.Prelude.{ℕ, Option, Some, None, List, slice_get}
 use Rattle.std.specs.List.{filter_map}
 use Rattle.std.specs.Option.{option_map, option_and_then}
 use Rattle.mpi_model.specs.declared.envelope.Envelope.{Envelope}
@@ -8,42 +8,52 @@ use Rattle.mpi_model.specs.declared.envelope.Mode.TheVariants.{Standard}
 use Rattle.mpi_model.specs.declared.call.Call.{Call}
 use Rattle.mpi_model.specs.declared.call.Call.TheVariants.{Send, Isend, Sendrecv}
 use Rattle.mpi_model.specs.declared.message.Message.{Message}
+use Rattle.mpi_model.specs.declared.message.Trust.{Trust}
+use Rattle.mpi_model.specs.declared.message.Trust.TheVariants.{Sure}
 use Rattle.mpi_model.specs.Layouts.{Parts}
-use Rattle.trace_ops.specs.Calls.{Entry, numbered}
-use Rattle.trace_ops.specs.Foreign.{number_of, group, named, is_foreign}
+use Rattle.trace_ops.specs.Calls.{Entry, Numbered, numbered}
+use Rattle.trace_ops.specs.Foreign.{Group, group_of, peer_rank}
+use Rattle.trace_ops.specs.Request.{posted_by}
+use Rattle.trace_ops.specs.Trust.{trust_of_send}
 
 -- the tag of a send, which always names one
 abbrev pub tag_of : Option ℕ → ℕ
 tag_of None = 0
 tag_of (Some tag) = tag
 
-abbrev pub message_to : Parts → ℕ → ℕ → Mode → Envelope → ℕ → Message
-message_to layout rank n mode e to = record {
+abbrev pub message_to : Group → ℕ → ℕ → Mode → Envelope → Trust → ℕ → Message
+message_to g rank n mode e trust to = record {
   name = record { rank = rank; call = n };
-  comm = number_of layout e.comm;
+  comm = g.comm;
   from = rank;
   to = to;
   tag = tag_of e.tag;
   mode = mode;
+  trust = trust;
   count = e.count;
   datatype = e.datatype;
 }
 
--- the message of a send to a rank; a send to the null process moves nothing
-abbrev pub sent_with : Parts → ℕ → ℕ → Mode → Envelope → Option Message
-sent_with layout rank n mode e = option_map (message_to layout rank n mode e) (option_and_then (slice_get (group layout e.comm)) (named e.peer))
+-- the message of a send to a rank of the group; a send to the null process moves nothing
+abbrev pub sent_with : Group → ℕ → ℕ → Mode → Envelope → Trust → Option Message
+sent_with g rank n mode e trust = option_map (message_to g rank n mode e trust) (option_and_then (slice_get g.members) (peer_rank e.peer))
 
--- the message that a call starts, were it not foreign; the send of a Sendrecv has standard mode
-abbrev pub sent_by : Parts → ℕ → ℕ → Call → Option Message
-sent_by layout rank n (Send mode e) = sent_with layout rank n mode e
-sent_by layout rank n (Isend mode e) = sent_with layout rank n mode e
-sent_by layout rank n (Sendrecv x) = sent_with layout rank n Standard x.send
-sent_by layout rank n call = None
+-- The message that a call starts in its group. The send of a Sendrecv has standard mode. Only a send that posts a request
+-- can be cancelled.
+abbrev pub sent_by : Group → ℕ → ℕ → Entry → List Entry → Call → Option Message
+sent_by g rank n c later (Send mode e) = sent_with g rank n mode e Sure
+sent_by g rank n c later (Isend mode e) = sent_with g rank n mode e (trust_of_send later (posted_by c))
+sent_by g rank n c later (Sendrecv x) = sent_with g rank n Standard x.send Sure
+sent_by g rank n c later call = None
+
+abbrev pub message_in : Option Group → ℕ → Numbered → Option Message
+message_in None rank c = None
+message_in (Some g) rank c = sent_by g rank c.number c.entry c.later c.entry.call
 
 -- the message that a call starts: foreign calls start none
-abbrev pub message_of : Parts → ℕ → ℕ → Call → Option Message
-message_of layout rank n call = if is_foreign layout rank call then None else sent_by layout rank n call
+abbrev pub message_of : Parts → ℕ → Numbered → Option Message
+message_of layout rank c = message_in (group_of layout rank c.number c.entry.call) rank c
 
 -- the messages of a rank's calls, in their order
 abbrev pub sends_of : Parts → ℕ → ℕ → List Entry → List Message
-sends_of layout rank n calls = filter_map (λ c. message_of layout rank c.number c.entry.call) (numbered n calls)
+sends_of layout rank n calls = filter_map (message_of layout rank) (numbered n calls)

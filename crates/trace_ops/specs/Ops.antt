@@ -2,29 +2,35 @@
 use Rattle.std.specs.Prelude.{◌≡◌, ℕ, ℤ, ◌+◌, true, Option, None, is_some, List, [], ◌∷◌, length, take}
 use Rattle.std.specs.List.{AllZip}
 use Rattle.mpi_model.specs.declared.call.Call.{Call}
+use Rattle.mpi_model.specs.declared.event.OpName.{OpName}
 use Rattle.mpi_model.specs.declared.message.Message.{Message}
 use Rattle.mpi_model.specs.declared.message.Receive.{Receive}
+use Rattle.mpi_model.specs.declared.message.Trust.{Trust}
+use Rattle.mpi_model.specs.Trusts.{is_sure, is_void}
 use Rattle.trace_ops.specs.declared.entered.Entered.{Entered}
 use Rattle.trace_ops.specs.declared.state.State.{State}
 use Rattle.trace_ops.specs.declared.state.State.TheVariants.{Free}
-use Rattle.trace_ops.specs.Order.{Has, AreInOrder, ArePosted}
+use Rattle.trace_ops.specs.Order.{Has, AreInOrder, ArePosted, AreCalledInOrder}
 
 -- What a rank did: its messages, its receives, its entries into collective calls, its active requests with the calls
--- that posted them, how it stands, the call in which it waits, and how many foreign calls it entered.
+-- that posted them, the calls that posted the requests which a Cancel names, how it stands, the call in which it waits,
+-- and how many foreign calls it entered.
 pub record Ops : Type 0 where
   pub sends : List Message
   pub receives : List Receive
   pub rounds : List Entered
   pub active : List (ℤ × ℕ)
+  pub cancelled : List OpName
   pub state : State
   pub waiting : Option (ℕ × Call)
   pub foreign : ℕ
 
 -- of a rank without calls
 abbrev pub no_ops : Ops
-no_ops = record { sends = []; receives = []; rounds = []; active = []; state = Free; waiting = None; foreign = 0 }
+no_ops = record { sends = []; receives = []; rounds = []; active = []; cancelled = []; state = Free; waiting = None; foreign = 0 }
 
--- The messages and receives are of this rank, and stand in order of their calls.
+-- The messages, the receives and the calls whose requests a Cancel names are of this rank, and stand in order of their
+-- calls.
 pub record IsOwn (rank : ℕ) (ops : Ops) : Type 0 where
   pub sent : (m : Message) → Has ops.sends m → m.name.rank ≡ rank
   pub sent_from : (m : Message) → Has ops.sends m → m.from ≡ rank
@@ -32,13 +38,36 @@ pub record IsOwn (rank : ℕ) (ops : Ops) : Type 0 where
   pub posted_at : (q : Receive) → Has ops.receives q → q.at ≡ rank
   pub sends_rise : AreInOrder ops.sends
   pub receives_rise : ArePosted ops.receives
+  pub cancelled_by : (a : OpName) → Has ops.cancelled a → a.rank ≡ rank
+  pub cancelled_rise : AreCalledInOrder ops.cancelled
 
 -- the ops of the ranks from `first` on, each its rank's own
 abbrev pub AreOwn : ℕ → List Ops → Type 0
 AreOwn first [] = Unit {0}
 AreOwn first (o ∷ os) = IsOwn first o × AreOwn (first + 1) os
 
--- The same receive, whose source may be told by now. A source that was told stays.
+-- What is void stays void: no later call undoes a Cancel of which an outcome told.
+abbrev pub StaysVoid : Trust → Trust → Type 0
+StaysVoid old new = is_void old ≡ true → is_void new ≡ true
+
+-- What is sure stays sure.
+abbrev pub StaysSure : Trust → Trust → Type 0
+StaysSure old new = is_sure old ≡ true → is_sure new ≡ true
+
+-- The same message, of which more may be known by now: a Cancel, or what became of it.
+pub record SameSend (old new : Message) : Type 0 where
+  pub name : new.name ≡ old.name
+  pub comm : new.comm ≡ old.comm
+  pub from : new.from ≡ old.from
+  pub to : new.to ≡ old.to
+  pub tag : new.tag ≡ old.tag
+  pub mode : new.mode ≡ old.mode
+  pub count : new.count ≡ old.count
+  pub datatype : new.datatype ≡ old.datatype
+  pub void : StaysVoid old.trust new.trust
+
+-- The same receive, of which more may be known by now: its source, a Cancel, or what became of that. A source that was
+-- told stays.
 pub record TellsMore (old new : Receive) : Type 0 where
   pub name : new.name ≡ old.name
   pub comm : new.comm ≡ old.comm
@@ -47,8 +76,15 @@ pub record TellsMore (old new : Receive) : Type 0 where
   pub count : new.count ≡ old.count
   pub datatype : new.datatype ≡ old.datatype
   pub source : is_some old.source ≡ true → new.source ≡ old.source
+  pub void : StaysVoid old.trust new.trust
 
--- The rank goes on: the old messages and receives are the first of the new ones, where sources may be told.
+-- The rank goes on: the old messages and receives are the first of the new ones, of which more may be told.
 pub record Grows (old new : Ops) : Type 0 where
-  pub sends : take (length old.sends) new.sends ≡ old.sends
+  pub sends : AllZip SameSend old.sends (take (length old.sends) new.sends)
   pub receives : AllZip TellsMore old.receives (take (length old.receives) new.receives)
+
+-- No later Cancel names what is sure: of the messages and receives that there were, each sure one stays sure. It is the
+-- premise of what is promised of pairs, and no law of traces.
+pub record StaysCertain (old new : Ops) : Type 0 where
+  pub sends : AllZip (λ m n. StaysSure m.trust n.trust) old.sends (take (length old.sends) new.sends)
+  pub receives : AllZip (λ q r. StaysSure q.trust r.trust) old.receives (take (length old.receives) new.receives)

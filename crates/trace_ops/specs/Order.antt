@@ -1,5 +1,6 @@
 -- The order in which a rank starts its sends and posts its receives (MPI 4.0, 3.5 and 3.7.4).
 use Rattle.std.specs.Prelude.{◌≡◌, Bool, true, ◌&&◌, ◌==◌, nat_lt, List, [], ◌∷◌, ◌⊎◌}
+use Rattle.mpi_model.specs.declared.event.OpName.{OpName}
 use Rattle.mpi_model.specs.declared.message.Message.{Message}
 use Rattle.mpi_model.specs.declared.message.Receive.{Receive}
 
@@ -25,3 +26,12 @@ AreInOrder (m ∷ ms) = ((n : Message) → Has ms n → sent_before m n ≡ true
 abbrev pub ArePosted : List Receive → Type 0
 ArePosted [] = Unit {0}
 ArePosted (q ∷ qs) = ((r : Receive) → Has qs r → posted_before q r ≡ true) × ArePosted qs
+
+-- an earlier call of the same rank
+abbrev pub called_before : OpName → OpName → Bool
+called_before a b = (a.rank == b.rank) && nat_lt a.call b.call
+
+-- each call stands before those that follow, of one rank
+abbrev pub AreCalledInOrder : List OpName → Type 0
+AreCalledInOrder [] = Unit {0}
+AreCalledInOrder (a ∷ names) = ((b : OpName) → Has names b → called_before a b ≡ true) × AreCalledInOrder names

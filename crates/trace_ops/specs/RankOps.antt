@@ -5,18 +5,19 @@ use Rattle.mpi_model.specs.declared.event.Event.{Event}
 use Rattle.mpi_model.specs.Layouts.{Parts}
 use Rattle.trace_know.specs.View.{View}
 use Rattle.trace_know.specs.Prefix.{events_of, is_beyond}
-use Rattle.trace_ops.specs.Calls.{Entry, calls_of}
+use Rattle.trace_ops.specs.Calls.{Entry, calls_of, numbered}
 use Rattle.trace_ops.specs.Foreign.{is_foreign}
 use Rattle.trace_ops.specs.Message.{sends_of}
 use Rattle.trace_ops.specs.Receive.{receives_of}
 use Rattle.trace_ops.specs.Round.{rounds_of}
 use Rattle.trace_ops.specs.Request.{active_of}
+use Rattle.trace_ops.specs.Trust.{cancelled_of}
 use Rattle.trace_ops.specs.RankState.{state_of, waiting_of}
 use Rattle.trace_ops.specs.Ops.{Ops}
 
 -- how many foreign calls were entered
-abbrev pub foreign_of : Parts → ℕ → List Entry → ℕ
-foreign_of layout rank calls = length (filter (λ c. is_foreign layout rank c.call) calls)
+abbrev pub foreign_of : Parts → ℕ → ℕ → List Entry → ℕ
+foreign_of layout rank n calls = length (filter (λ c. is_foreign layout rank c.number c.entry.call) (numbered n calls))
 
 -- what a rank with these calls did
 abbrev pub ops_by_calls : Parts → ℕ → Bool → List Entry → Ops
@@ -25,9 +26,10 @@ ops_by_calls layout rank beyond calls = record {
   receives = receives_of layout rank 0 calls;
   rounds = rounds_of layout rank 0 calls;
   active = active_of 0 calls;
+  cancelled = cancelled_of rank 0 calls;
   state = state_of layout rank beyond calls;
   waiting = waiting_of layout rank beyond calls;
-  foreign = foreign_of layout rank calls;
+  foreign = foreign_of layout rank 0 calls;
 }
 
 -- What a rank with these readable events did; `beyond` says whether more is known of it than can be read.

@@ -23,20 +23,20 @@ may_block (Collective c) = true
 may_block call = false
 
 -- A waiting call: it may block, and is not foreign.
-abbrev pub is_waiting_call : Parts → ℕ → Call → Bool
-is_waiting_call layout rank call = may_block call && not (is_foreign layout rank call)
+abbrev pub is_waiting_call : Parts → ℕ → ℕ → Call → Bool
+is_waiting_call layout rank n call = may_block call && not (is_foreign layout rank n call)
 
 -- the call has not returned, and is a waiting call
-abbrev pub waits_in : Parts → ℕ → Entry → Bool
-waits_in layout rank c = is_none c.outs && is_waiting_call layout rank c.call
+abbrev pub waits_in : Parts → ℕ → ℕ → Entry → Bool
+waits_in layout rank n c = is_none c.outs && is_waiting_call layout rank n c.call
 
 abbrev pub is_finalize : Call → Bool
 is_finalize Finalize = true
 is_finalize call = false
 
 -- the state of a rank whose last call is this one
-abbrev pub state_after : Parts → ℕ → Entry → State
-state_after layout rank c = if is_finalize c.call then Ended else if waits_in layout rank c then Waiting else Free
+abbrev pub state_after : Parts → ℕ → ℕ → Entry → State
+state_after layout rank n c = if is_finalize c.call then Ended else if waits_in layout rank n c then Waiting else Free
 
 -- the last of the calls, with its number
 abbrev pub last_of : List Entry → Option (ℕ × Entry)
@@ -44,7 +44,7 @@ last_of calls = option_map (λ c. (length calls - 1, c)) (slice_get calls (lengt
 
 abbrev pub state_at : Parts → ℕ → Option (ℕ × Entry) → State
 state_at layout rank None = Free
-state_at layout rank (Some last) = state_after layout rank last.1
+state_at layout rank (Some last) = state_after layout rank last.0 last.1
 
 -- Ended: the last readable event belongs to Finalize. Waiting: it enters a waiting call. A rank of which more is known
 -- than can be read is free, and so is any other.

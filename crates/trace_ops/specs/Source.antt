@@ -4,6 +4,7 @@ use Rattle.std.specs.Option.{option_or, option_and_then}
 use Rattle.std.specs.Ordering.{int_eq}
 use Rattle.mpi_model.specs.declared.outcome.Outs.{Outs}
 use Rattle.mpi_model.specs.declared.outcome.Outs.TheVariants.{Status}
+use Rattle.mpi_model.specs.Tells.{told_rank}
 use Rattle.trace_ops.specs.declared.completed.Completed.{Completed}
 use Rattle.trace_ops.specs.Calls.{Entry}
 use Rattle.trace_ops.specs.Request.{completed_by, touches}
@@ -14,7 +15,7 @@ source_in members told = option_and_then (slice_get members) told
 
 -- what a place of an outcome tells of the request x
 abbrev pub told_at : List ℕ → ℤ → Completed → Option ℕ
-told_at members x c = if int_eq c.request x then source_in members c.told else None
+told_at members x c = if int_eq c.request x then source_in members (told_rank c.told) else None
 
 -- what an outcome tells of the request x: its first place that tells decides
 abbrev pub told_in : List ℕ → ℤ → List Completed → Option ℕ
@@ -29,7 +30,7 @@ told_by members x (c ∷ later) = if touches x c then told_in members x (complet
 
 -- what the outcome of a Recv or Sendrecv tells
 abbrev pub told_of_own : List ℕ → Option Outs → Option ℕ
-told_of_own members (Some (Status told)) = source_in members told
+told_of_own members (Some (Status told)) = source_in members (told_rank told)
 told_of_own members outs = None
 
 -- what later calls tell of an Irecv that posted this number

@@ -1,35 +1,71 @@
 -- What is kept, while a rank's calls are gone through from the last to the first, of the calls behind.
-use Rattle.std.specs.Prelude.{◌≡◌, ℕ, ℤ, Bool, ◌&&◌, Option, Some, None, is_some, List, [], drop, slice_get}
-use Rattle.std.specs.List.{list_any, position_from}
-use Rattle.std.specs.Option.{option_map, option_or}
+use Rattle.std.specs.Prelude.{◌≡◌, ℕ, ℤ, ◌+◌, Bool, false, true, if◌then◌else◌, Option, Some, None, is_some, List, [], ◌∷◌, drop, slice_get}
+use Rattle.std.specs.List.{list_any}
+use Rattle.std.specs.Option.{option_map, option_and_then}
 use Rattle.std.specs.Ordering.{int_eq}
+use Rattle.mpi_model.specs.declared.told.Told.{Told}
+use Rattle.mpi_model.specs.declared.told.Told.TheVariants.{Nothing, Source, Cancelled}
+use Rattle.mpi_model.specs.Tells.{is_cancelled}
 use Rattle.trace_ops.specs.declared.completed.Completed.{Completed}
+use Rattle.trace_ops.specs.declared.touched.End.{End}
 use Rattle.trace_ops.specs.declared.touched.Touch.{Touch}
 use Rattle.trace_ops.specs.Calls.{Entry}
 use Rattle.trace_ops.specs.Request.{completed_by, touches}
 use Rattle.trace_ops.specs.Source.{told_in, told_by}
+use Rattle.trace_ops.specs.Trust.{has_cancel, said_by}
 
--- the completion is of the number and tells a source
-abbrev pub tells_of : ℤ → Completed → Bool
-tells_of x c = int_eq c.request x && is_some c.told
+-- a call ends the number, and its completions from a place on tell of it
+abbrev pub ends_at : ℕ → ℕ → Touch
+ends_at call place = record { end = Some (record { call = call; place = place; void = false }); cancelled = false }
 
-abbrev pub touch_at : ℕ → ℕ → Touch
-touch_at call place = record { call = call; place = place }
+abbrev pub voided_end : End → End
+voided_end e = record { call = e.call; place = e.place; void = true }
 
--- what a call's first completion that tells of the number is, where there is one, and else what was there
-abbrev pub with_tellings : ℕ → List Completed → ℤ → Option Touch → Option Touch
-with_tellings call done x touch = option_or (option_map (touch_at call) (position_from (tells_of x) 0 done)) touch
+-- the call that ends the number says that it was cancelled
+abbrev pub voided : Touch → Touch
+voided t = record { end = option_map voided_end t.end; cancelled = t.cancelled }
+
+-- what a completion at a place of a call makes of what is kept of its number
+abbrev pub with_told : ℕ → ℕ → Told → Option Touch → Option Touch
+with_told call place Nothing touch = touch
+with_told call place (Source rank) touch = Some (ends_at call place)
+with_told call place Cancelled touch = option_map voided touch
+
+abbrev pub with_telling : ℕ → ℕ → ℤ → Completed → Option Touch → Option Touch
+with_telling call place x c touch = if int_eq c.request x then with_told call place c.told touch else touch
+
+-- what the completions of a call, from a place on, make of what is kept of the number
+abbrev pub with_tellings : ℕ → ℕ → List Completed → ℤ → Option Touch → Option Touch
+with_tellings call place [] x touch = touch
+with_tellings call place (c ∷ done) x touch = with_telling call place x c (with_tellings call (place + 1) done x touch)
+
+abbrev pub end_of : Option Touch → Option End
+end_of touch = option_and_then (λ t. t.end) touch
+
+-- what a Cancel makes of what is kept of its number
+abbrev pub marked : Option Touch → Touch
+marked touch = record { end = end_of touch; cancelled = true }
+
+abbrev pub is_marked : Option Touch → Bool
+is_marked None = false
+is_marked (Some t) = t.cancelled
+
+abbrev pub is_void_end : Option End → Bool
+is_void_end None = false
+is_void_end (Some e) = e.void
 
 abbrev pub completed_at : Option Entry → List Completed
 completed_at None = []
 completed_at (Some c) = completed_by c
 
--- what the completions of a call tell of the number, from a place on
-abbrev pub told_from : List Entry → List ℕ → ℤ → Option Touch → Option ℕ
-told_from calls members x None = None
-told_from calls members x (Some touch) = told_in members x (drop touch.place (completed_at (slice_get calls touch.call)))
+-- the completions of a call, from the first on that tells a source of the number
+abbrev pub tellings_of : List Entry → Option End → List Completed
+tellings_of calls None = []
+tellings_of calls (Some e) = drop e.place (completed_at (slice_get calls e.call))
 
--- A number is kept just where a later call touches it, with the place from which on that call tells its source.
+-- Of each number it is kept which later call touches it first, with what that tells, and whether a Cancel names it before.
 pub record Follows (calls later : List Entry) (kept : ℤ → Option Touch) : Type 0 where
-  pub touched : (x : ℤ) → is_some (kept x) ≡ list_any (touches x) later
-  pub told : (members : List ℕ) (x : ℤ) → told_from calls members x (kept x) ≡ told_by members x later
+  pub ended : (x : ℤ) → is_some (end_of (kept x)) ≡ list_any (touches x) later
+  pub cancelled : (x : ℤ) → is_marked (kept x) ≡ has_cancel x later
+  pub void : (x : ℤ) → is_void_end (end_of (kept x)) ≡ is_cancelled (said_by x later)
+  pub told : (members : List ℕ) (x : ℤ) → told_in members x (tellings_of calls (end_of (kept x))) ≡ told_by members x later

@@ -5,6 +5,7 @@ ghost use Rattle.std.specs.Option.{option_and_then, option_copied, option_map};
 ghost use Rattle.mpi_model.specs.declared.call.Call.TheVariants.{Local};
 ghost use Rattle.trace_ops.specs.Calls.{call_of, calls_of, outs_of};
 ghost use Rattle.trace_ops.specs.Request.{completed_by, posted_by};
+ghost use Rattle.trace_ops.specs.Trust.{cancel_of};
 
 use crate::completed::{Completed, completions, post_of};
 use mpi_model::{Call, Event, Outs};
@@ -62,6 +63,16 @@ impl<'a> Called<'a> {
         ensures { result ≡ posted_by self.now }
     {
         post_of(self.call, self.outs)
+    }
+
+    /// The request number that it asks to be cancelled.
+    pub fn cancels(&self) -> Option<i64>
+        ensures { result ≡ cancel_of self.now.call }
+    {
+        match self.call {
+            Call::Cancel(request) => Some(*request),
+            _ => None,
+        }
     }
 
     /// The requests that it completed.

@@ -1,19 +1,29 @@
 //! Requests that an outcome completes.
 
-ghost use Rattle.std.specs.Prelude.{◌≡◌, ◌++◌, [], IfOk, OnOk};
+ghost use Rattle.std.specs.Prelude.{◌≡◌, ◌++◌, ◌∷◌, [], IfOk, OnOk};
 ghost use Rattle.std.specs.List.{cons_option, filter_map};
 ghost use Rattle.std.specs.Option.{option_copied};
-ghost use Rattle.trace_ops.specs.Request.{all_of, any_of, completions, element_of, indexed, one_of, post_of};
+ghost use Rattle.trace_ops.specs.Request.{all_of, any_of, completes, completions, element_of, indexed, number_for, post_of};
 
-use mpi_model::{Call, Element, Outs, Told};
+use mpi_model::{Call, Element, NULL_REQUEST, Outs, Told};
 use std::alloc::{AllocError, Global};
 
-/// A request that an outcome completes, and the source that the outcome tells of it, a rank in the
-/// group.
+/// A request that an outcome completes, and what the outcome tells of it.
 #[derive(Clone, Copy, Debug, PartialEq, Eq)]
 pub struct Completed {
     pub request: i64,
-    pub told: Option<u32>,
+    pub told: Told,
+}
+
+/// The request number, unless it is the null number.
+fn number_for(request: i64) -> Option<i64>
+    ensures { result ≡ number_for request }
+{
+    if request == NULL_REQUEST {
+        None
+    } else {
+        Some(request)
+    }
 }
 
 /// The number that a returned call posts.
@@ -21,9 +31,9 @@ pub(crate) fn post_of(call: &Call, outs: Option<&Outs>) -> Option<i64>
     ensures { result ≡ post_of call.now (option_copied outs.entry) }
 {
     match (call, outs) {
-        (Call::Isend(_, _), Some(Outs::Posted(request))) => Some(*request),
-        (Call::Irecv(_), Some(Outs::Posted(request))) => Some(*request),
-        (Call::Ibarrier(_), Some(Outs::Posted(request))) => Some(*request),
+        (Call::Isend(_, _), Some(Outs::Posted(request))) => number_for(*request),
+        (Call::Irecv(_), Some(Outs::Posted(request))) => number_for(*request),
+        (Call::Ibarrier(_), Some(Outs::Posted(request))) => number_for(*request),
         _ => None,
     }
 }
@@ -37,58 +47,50 @@ pub(crate) fn completions(
     ensures { IfOk result (λ done. done.items ≡ completions call.now (option_copied outs.entry)) }
 {
     match (call, outs) {
-        (Call::Wait(request), Some(Outs::Status(told))) => {
-            one_of(alloc, Some(completes(*request, *told)))
-        }
+        (Call::Wait(request), Some(Outs::Status(told))) => one_of(alloc, *request, *told),
         (Call::Test(request), Some(Outs::Flag(done, told))) => {
             if *done {
-                one_of(alloc, Some(completes(*request, *told)))
+                one_of(alloc, *request, *told)
             } else {
                 Ok(Vec::new(alloc))
             }
         }
-        (Call::Waitall(requests), Some(Outs::Statuses(sources))) => {
-            all_of(alloc, requests.as_slice(), sources.as_slice())
+        (Call::Waitall(requests) | Call::Testall(requests), Some(Outs::Statuses(tells))) => {
+            all_of(alloc, requests.as_slice(), tells.as_slice())
         }
-        (Call::Waitany(requests), Some(Outs::Index(position, told))) => {
-            any_of(alloc, requests.as_slice(), *position, *told)
-        }
-        (Call::Waitsome(requests), Some(Outs::Several(elements))) => {
-            several_of(alloc, requests.as_slice(), elements.as_slice())
-        }
+        (Call::Waitany(requests) | Call::Testany(requests), Some(Outs::Index(position, told))) =>
+            any_of(alloc, requests.as_slice(), *position, *told),
+        (Call::Waitsome(requests) | Call::Testsome(requests), Some(Outs::Several(elements))) =>
+            several_of(alloc, requests.as_slice(), elements.as_slice()),
+        (Call::Free(request), Some(_)) => one_of(alloc, *request, Told::Nothing),
         _ => Ok(Vec::new(alloc)),
     }
 }
 
 fn completes(request: i64, told: Told) -> Completed
-    ensures { result ≡ record { request = request; told = told } }
+    ensures { result ≡ completes request told }
 {
-    Completed {
-        request,
-        told: told.rank(),
-    }
+    Completed { request, told }
 }
 
-fn one_of(alloc: Global, completed: Option<Completed>) -> Result<Vec<Completed>, AllocError>
-    ensures { IfOk result (λ done. done.items ≡ one_of completed) }
+fn one_of(alloc: Global, request: i64, told: Told) -> Result<Vec<Completed>, AllocError>
+    ensures { IfOk result (λ done. done.items ≡ completes request told ∷ []) }
 {
     let mut done = Vec::new(alloc);
-    if let Some(completed) = completed {
-        done.push(completed)?;
-    }
+    done.push(completes(request, told))?;
     Ok(done)
 }
 
-/// All of a Waitall, each with the entry at its own place.
-fn all_of(alloc: Global, requests: &[i64], sources: &[Told]) -> Result<Vec<Completed>, AllocError>
-    ensures { IfOk result (λ done. done.items ≡ all_of requests.now sources.now) }
+/// All of the list, each with the entry at its own place.
+fn all_of(alloc: Global, requests: &[i64], tells: &[Told]) -> Result<Vec<Completed>, AllocError>
+    ensures { IfOk result (λ done. done.items ≡ all_of requests.now tells.now) }
 {
     let mut done = Vec::with_capacity(alloc, requests.len())?;
     let mut place = 0;
     for request in requests {
-        let told = match sources.get(place) {
-            Some(told) => told.rank(),
-            None => None,
+        let told = match tells.get(place) {
+            Some(told) => *told,
+            None => Told::Nothing,
         };
         done.push(Completed {
             request: *request,
@@ -115,13 +117,14 @@ fn any_of(
 ) -> Result<Vec<Completed>, AllocError>
     ensures { IfOk result (λ done. done.items ≡ any_of requests.now position told) }
 {
-    match position {
-        Some(position) => one_of(alloc, indexed(requests, position, told)),
-        None => Ok(Vec::new(alloc)),
+    let mut done = Vec::new(alloc);
+    if let Some(position) = position {
+        push_some(&mut done, indexed(requests, position, told))?;
     }
+    Ok(done)
 }
 
-/// The indexed ones of a Waitsome, in the order of its outcome.
+/// The indexed ones of the list, in the order of the outcome.
 fn several_of(
     alloc: Global,
     requests: &[i64],

@@ -1,60 +1,69 @@
-//! The groups that calls name, and the calls that the layout doesn't know.
+//! The communicators that calls name, and the calls that the layout doesn't know.
 
-ghost use Rattle.std.specs.Prelude.{◌≡◌, ◌==◌, true, slice_get};
-ghost use Rattle.std.specs.List.{list_any};
-ghost use Rattle.trace_ops.specs.Foreign.{group, is_foreign, is_placed, is_placed_envelope, is_within, named, number_of};
+ghost use Rattle.std.specs.Prelude.{◌≡◌};
+ghost use Rattle.std.specs.Option.{option_map};
+ghost use Rattle.trace_ops.specs.Foreign.{are_within, comm_of, group_named, group_of, is_foreign, is_foreign_in, is_within, peer_rank};
+ghost use Rattle.trace_ops.specs.Groups.{plain};
 
-use mpi_model::{Call, CommRef, Envelope, Layout, Peer};
+use mpi_model::{Call, CommRef, Layout, Peer};
 
-/// The number of the communicator that a call names.
-pub(crate) fn number_of(layout: &Layout, comm: CommRef) -> u32
-    ensures { result ≡ number_of layout.now comm }
-{
-    match comm {
-        CommRef::World => layout.world(),
-        CommRef::Id(number) => number,
-    }
+/// The group of a communicator: ranks of the trace in the order of their ranks in it (MPI 4.0,
+/// 7.2.1).
+#[derive(Clone, Copy, Debug)]
+pub(crate) struct Group<'a> {
+    /// The communicator's id in the layout.
+    pub comm: u32,
+    pub members: &'a [u32],
 }
 
-/// The members of the communicator that a call names: none where the layout has no such one.
-pub(crate) fn group(layout: &Layout, comm: CommRef) -> &[u32]
-    ensures { result.now ≡ group layout.now comm }
+/// The group of the communicator that call `n` of the rank names, where the layout has one.
+pub(crate) fn group_named<'a>(
+    layout: &'a Layout,
+    rank: u32,
+    n: u64,
+    comm: CommRef,
+) -> Option<Group<'a>>
+    ensures { option_map plain result ≡ group_named layout.now rank n comm }
 {
-    match layout.members(number_of(layout, comm)) {
-        Some(members) => members,
-        None => &[],
+    let comm = layout.named(rank, n, comm)?;
+    let members = layout.members(comm)?;
+    Some(Group { comm, members })
+}
+
+fn comm_of(call: &Call) -> Option<CommRef>
+    ensures { result ≡ comm_of call.now }
+{
+    match call {
+        Call::Send(_, e) | Call::Isend(_, e) => Some(e.envelope().comm),
+        Call::Recv(e) | Call::Irecv(e) => Some(e.envelope().comm),
+        Call::Sendrecv(both) => Some(both.send().comm),
+        Call::Collective(c) => Some(c.comm()),
+        Call::Probe(e) => Some(e.comm()),
+        Call::Ibarrier(c) => Some(c.comm()),
+        Call::Local
+        | Call::Finalize
+        | Call::Wait(_)
+        | Call::Waitall(_)
+        | Call::Waitany(_)
+        | Call::Waitsome(_)
+        | Call::Test(_)
+        | Call::Testall(_)
+        | Call::Testany(_)
+        | Call::Testsome(_)
+        | Call::Cancel(_)
+        | Call::Free(_)
+        | Call::Unread => None,
     }
 }
 
 /// The rank in the group that a peer names.
-pub(crate) fn named(peer: Peer) -> Option<u32>
-    ensures { result ≡ named peer }
+pub(crate) fn peer_rank(peer: Peer) -> Option<u32>
+    ensures { result ≡ peer_rank peer }
 {
     match peer {
         Peer::Any | Peer::Null => None,
         Peer::Rank(n) => Some(n),
     }
-}
-
-/// Whether the rank stands at this place.
-fn is_at(members: &[u32], place: usize, rank: u32) -> bool
-    ensures { result ≡ true → list_any (λ r. r == rank) members.now ≡ true }
-{
-    if place >= members.len() {
-        return false;
-    }
-    members[place] == rank
-}
-
-/// Whether the rank is a member. In the world, and in each communicator that keeps its order from
-/// the start on, it stands at its own number, so that no search is needed.
-fn is_member(members: &[u32], rank: u32) -> bool
-    ensures { result ≡ list_any (λ r. r == rank) members.now }
-{
-    if is_at(members, rank as usize, rank) {
-        return true;
-    }
-    members.iter().any(|r| *r == rank)
 }
 
 fn is_within(members: &[u32], other: Option<u32>) -> bool
@@ -66,39 +75,45 @@ fn is_within(members: &[u32], other: Option<u32>) -> bool
     }
 }
 
-fn is_placed(members: &[u32], rank: u32, other: Option<u32>) -> bool
-    ensures { result ≡ is_placed members.now rank other }
-{
-    is_member(members, rank) && is_within(members, other)
-}
-
-fn is_placed_envelope(layout: &Layout, rank: u32, envelope: Envelope) -> bool
-    ensures { result ≡ is_placed_envelope layout.now rank envelope }
-{
-    is_placed(group(layout, envelope.comm), rank, named(envelope.peer))
-}
-
-/// Whether the call's communicator is absent from the layout, or the caller is no member of it, or
-/// its peer or root is outside its group.
-pub(crate) fn is_foreign(layout: &Layout, rank: u32, call: &Call) -> bool
-    ensures { result ≡ is_foreign layout.now rank call.now }
+fn are_within(members: &[u32], call: &Call) -> bool
+    ensures { result ≡ are_within members.now call.now }
 {
     match call {
-        Call::Send(_, e) | Call::Isend(_, e) => !is_placed_envelope(layout, rank, e.envelope()),
-        Call::Recv(e) | Call::Irecv(e) => !is_placed_envelope(layout, rank, e.envelope()),
+        Call::Send(_, e) | Call::Isend(_, e) => is_within(members, peer_rank(e.envelope().peer)),
+        Call::Recv(e) | Call::Irecv(e) => is_within(members, peer_rank(e.envelope().peer)),
         Call::Sendrecv(both) => {
-            !(is_placed_envelope(layout, rank, both.send())
-                && is_placed_envelope(layout, rank, both.receive()))
+            is_within(members, peer_rank(both.send().peer))
+                && is_within(members, peer_rank(both.receive().peer))
         }
-        Call::Collective(c) => !is_placed(group(layout, c.comm()), rank, c.root()),
-        Call::Probe(e) => !is_placed(group(layout, e.comm()), rank, named(e.source())),
-        Call::Ibarrier(c) => !is_placed(group(layout, c.comm()), rank, None),
-        Call::Local
-        | Call::Finalize
-        | Call::Wait(_)
-        | Call::Waitall(_)
-        | Call::Waitany(_)
-        | Call::Waitsome(_)
-        | Call::Test(_) => false,
+        Call::Collective(c) => is_within(members, c.root()),
+        Call::Probe(e) => is_within(members, peer_rank(e.source())),
+        _ => true,
     }
+}
+
+/// The group in which call `n` of the rank takes part: none where the call names no communicator,
+/// or is foreign.
+pub(crate) fn group_of<'a>(layout: &'a Layout, rank: u32, n: u64, call: &Call) -> Option<Group<'a>>
+    ensures { option_map plain result ≡ group_of layout.now rank n call.now }
+{
+    let group = group_named(layout, rank, n, comm_of(call)?)?;
+    if are_within(group.members, call) {
+        Some(group)
+    } else {
+        None
+    }
+}
+
+/// Whether the call, which takes part in this group, if in any, is foreign: the layout gives its
+/// rank no communicator as the call names it, or its peer or root is outside the group.
+pub(crate) fn is_foreign_in(group: Option<Group<'_>>, call: &Call) -> bool
+    ensures { result ≡ is_foreign_in (option_map plain group.entry) call.now }
+{
+    comm_of(call).is_some() && group.is_none()
+}
+
+pub(crate) fn is_foreign(layout: &Layout, rank: u32, n: u64, call: &Call) -> bool
+    ensures { result ≡ is_foreign layout.now rank n call.now }
+{
+    is_foreign_in(group_of(layout, rank, n, call), call)
 }

@@ -12,8 +12,8 @@ use trace_know::{growth_laws, join_laws};
 
 /// The ops of a rank are its own, in order of their calls, also in the list of all ranks. Where
 /// its readable events get longer they grow: the old messages and receives are the first of the
-/// new ones, and only sources that were not told may be told now. Read the other way round it says
-/// what becomes of them where the readable events get shorter.
+/// new ones; sources that were not told may be told now, and a Cancel may come, or what became of
+/// it. Read the other way round it says what becomes of them where the readable events get shorter.
 pub fn ops_laws()
     ensures own { (layout : Parts) (rank : ℕ) (beyond : Bool) (events : List Event) → IsOwn rank (ops_by layout rank beyond events) }
     ensures all { (layout : Parts) (view : View) → AreOwn 0 (all_ops layout view) }

@@ -10,8 +10,10 @@
 //! - [`entered`], [`state`], [`ops`]: what is told of a rank
 //! - [`completed`], [`called`]: its calls, with the requests that their outcomes complete
 //! - [`group`]: the groups that calls name, and the calls that the layout doesn't know
-//! - [`message`]: messages and collective entries; [`touched`], [`receive`]: receives with their
-//!   told sources, active requests, and what a probe looks for
+//! - [`touched`], [`fate`]: what the calls behind a post tell of its request; [`trust`]: what a
+//!   Cancel leaves of it
+//! - [`message`]: messages and collective entries; [`receive`]: receives with their told sources,
+//!   active requests, and what a probe looks for
 //! - [`rank_state`]: how a rank stands
 //! - `ops::gather`: the way from what is known to all of that
 //! - [`laws`]: how a rank's ops grow with its readable events, as contracts of calls that do nothing
@@ -22,6 +24,7 @@
 mod called;
 mod completed;
 mod entered;
+mod fate;
 mod group;
 mod laws;
 mod message;
@@ -30,6 +33,7 @@ mod rank_state;
 mod receive;
 mod state;
 mod touched;
+mod trust;
 
 pub use entered::Entered;
 pub use laws::{join_law, ops_laws};

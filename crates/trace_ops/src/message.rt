@@ -1,12 +1,20 @@
 //! The messages of a rank, and its entries into collective calls.
 
-ghost use Rattle.std.specs.Prelude.{◌≡◌};
-ghost use Rattle.trace_ops.specs.Message.{message_of, message_to, sent_by, sent_with, tag_of};
-ghost use Rattle.trace_ops.specs.Round.{entered_by, entered_of};
+ghost use Rattle.std.specs.Prelude.{◌≡◌, List};
+ghost use Rattle.std.specs.Option.{option_map};
+ghost use Rattle.trace_ops.specs.Calls.{Entry};
+ghost use Rattle.trace_ops.specs.Fate.{IsFateOf};
+ghost use Rattle.trace_ops.specs.Groups.{plain};
+ghost use Rattle.trace_ops.specs.Message.{message_in, message_to, sent_by, sent_with, tag_of};
+ghost use Rattle.trace_ops.specs.Request.{posted_by};
+ghost use Rattle.trace_ops.specs.Round.{entered_by, entered_in};
 
+use crate::called::Called;
 use crate::entered::Entered;
-use crate::group::{group, is_foreign, named, number_of};
-use mpi_model::{Call, Envelope, Kind, Layout, Message, Mode, OpName};
+use crate::fate::Fate;
+use crate::group::{Group, peer_rank};
+use crate::trust::trust_of_post;
+use mpi_model::{Call, Envelope, Kind, Message, Mode, OpName, Trust};
 
 fn tag_of(tag: Option<u32>) -> u32
     ensures { result ≡ tag_of tag }
@@ -17,63 +25,93 @@ fn tag_of(tag: Option<u32>) -> u32
     }
 }
 
-fn message_to(layout: &Layout, rank: u32, n: u64, mode: Mode, e: Envelope, to: u32) -> Message
-    ensures { result ≡ message_to layout.now rank n mode e to }
+fn message_to(
+    group: Group<'_>,
+    rank: u32,
+    n: u64,
+    mode: Mode,
+    e: Envelope,
+    trust: Trust,
+    to: u32,
+) -> Message
+    ensures { result ≡ message_to (plain group.entry) rank n mode e trust to }
 {
     Message {
         name: OpName { rank, call: n },
-        comm: number_of(layout, e.comm),
+        comm: group.comm,
         from: rank,
         to,
         tag: tag_of(e.tag),
         mode,
+        trust,
         count: e.count,
         datatype: e.datatype,
     }
 }
 
-fn sent_with(layout: &Layout, rank: u32, n: u64, mode: Mode, e: Envelope) -> Option<Message>
-    ensures { result ≡ sent_with layout.now rank n mode e }
+fn sent_with(
+    group: Group<'_>,
+    rank: u32,
+    n: u64,
+    mode: Mode,
+    e: Envelope,
+    trust: Trust,
+) -> Option<Message>
+    ensures { result ≡ sent_with (plain group.entry) rank n mode e trust }
 {
-    let peer = named(e.peer)?;
-    let to = group(layout, e.comm).get(peer as usize)?;
-    Some(message_to(layout, rank, n, mode, e, *to))
+    let peer = peer_rank(e.peer)?;
+    let to = group.members.get(peer as usize)?;
+    Some(message_to(group, rank, n, mode, e, trust, *to))
 }
 
-fn sent_by(layout: &Layout, rank: u32, n: u64, call: &Call) -> Option<Message>
-    ensures { result ≡ sent_by layout.now rank n call.now }
+fn sent_by(
+    group: Group<'_>,
+    rank: u32,
+    n: u64,
+    called: &Called<'_>,
+    fate: Option<Fate<'_>>,
+) -> Option<Message>
+    ensures { (later : List Entry) → IsFateOf (posted_by called.now) later fate.entry → result ≡ sent_by (plain group.entry) rank n called.now later called.now.call }
 {
-    match call {
-        Call::Send(mode, e) => sent_with(layout, rank, n, *mode, e.envelope()),
-        Call::Isend(mode, e) => sent_with(layout, rank, n, *mode, e.envelope()),
-        Call::Sendrecv(both) => sent_with(layout, rank, n, Mode::Standard, both.send()),
+    match called.call() {
+        Call::Send(mode, e) => sent_with(group, rank, n, *mode, e.envelope(), Trust::Sure),
+        Call::Isend(mode, e) => {
+            let trust = trust_of_post(fate, false);
+            sent_with(group, rank, n, *mode, e.envelope(), trust)
+        }
+        Call::Sendrecv(both) => {
+            let e = both.send();
+            sent_with(group, rank, n, Mode::Standard, e, Trust::Sure)
+        }
         _ => None,
     }
 }
 
-/// The message that call `n` starts.
-pub(crate) fn message_of(layout: &Layout, rank: u32, n: u64, call: &Call) -> Option<Message>
-    ensures { result ≡ message_of layout.now rank n call.now }
+/// The message that call `n` starts in its group, by the fate of the request that it posts.
+pub(crate) fn message_in(
+    group: Option<Group<'_>>,
+    rank: u32,
+    n: u64,
+    called: &Called<'_>,
+    fate: Option<Fate<'_>>,
+) -> Option<Message>
+    ensures { (later : List Entry) → IsFateOf (posted_by called.now) later fate.entry → result ≡ message_in (option_map plain group.entry) rank (record { number = n; entry = called.now; later = later }) }
 {
-    let message = sent_by(layout, rank, n, call)?;
-    if is_foreign(layout, rank, call) {
-        return None;
-    }
-    Some(message)
+    sent_by(group?, rank, n, called, fate)
 }
 
-fn entered_by(layout: &Layout, n: u64, call: &Call) -> Option<Entered>
-    ensures { result ≡ entered_by layout.now n call.now }
+fn entered_by(group: Group<'_>, n: u64, call: &Call) -> Option<Entered>
+    ensures { result ≡ entered_by (plain group.entry) n call.now }
 {
     match call {
         Call::Collective(c) => Some(Entered {
-            comm: number_of(layout, c.comm()),
+            comm: group.comm,
             kind: c.kind(),
             root: c.root(),
             call: n,
         }),
-        Call::Ibarrier(c) => Some(Entered {
-            comm: number_of(layout, c.comm()),
+        Call::Ibarrier(_) => Some(Entered {
+            comm: group.comm,
             kind: Kind::Ibarrier,
             root: None,
             call: n,
@@ -82,13 +120,9 @@ fn entered_by(layout: &Layout, n: u64, call: &Call) -> Option<Entered>
     }
 }
 
-/// The entry of call `n`, where it is a collective one.
-pub(crate) fn entered_of(layout: &Layout, rank: u32, n: u64, call: &Call) -> Option<Entered>
-    ensures { result ≡ entered_of layout.now rank n call.now }
+/// The entry of call `n` into a round of its group, where it is a collective one.
+pub(crate) fn entered_in(group: Option<Group<'_>>, n: u64, call: &Call) -> Option<Entered>
+    ensures { result ≡ entered_in (option_map plain group.entry) n call.now }
 {
-    let entered = entered_by(layout, n, call)?;
-    if is_foreign(layout, rank, call) {
-        return None;
-    }
-    Some(entered)
+    entered_by(group?, n, call)
 }

@@ -5,7 +5,7 @@ ghost use Rattle.trace_ops.specs.Ops.{no_ops};
 
 use crate::entered::Entered;
 use crate::state::State;
-use mpi_model::{Call, Message, Receive};
+use mpi_model::{Call, Message, OpName, Receive};
 use std::alloc::{AllocError, Global};
 use std::marker::Model;
 
@@ -20,6 +20,7 @@ pub struct RankOps {
     receives: Vec<Receive>,
     rounds: Vec<Entered>,
     active: Vec<(i64, u64)>,
+    cancelled: Vec<OpName>,
     state: State,
     waiting: Option<(u64, Call)>,
     foreign: u64,
@@ -30,7 +31,7 @@ impl Model for RankOps {
 
     ghost Value = { Ops };
 
-    ghost view = { λ o. record { sends = o.sends.items; receives = o.receives.items; rounds = o.rounds.items; active = o.active.items; state = o.state; waiting = o.waiting; foreign = o.foreign } };
+    ghost view = { λ o. record { sends = o.sends.items; receives = o.receives.items; rounds = o.rounds.items; active = o.active.items; cancelled = o.cancelled.items; state = o.state; waiting = o.waiting; foreign = o.foreign } };
 }
 
 impl RankOps {
@@ -43,20 +44,23 @@ impl RankOps {
             receives: Vec::new(alloc),
             rounds: Vec::new(alloc),
             active: Vec::new(alloc),
+            cancelled: Vec::new(alloc),
             state: State::Free,
             waiting: None,
             foreign: 0,
         }
     }
 
-    /// The messages that the rank's sends start, in order of their calls (MPI 4.0, 3.2.3).
+    /// The messages that the rank's sends start, in order of their calls, each with what a Cancel
+    /// leaves of it (MPI 4.0, 3.2.3 and 3.8.4).
     pub fn sends(&self) -> &[Message]
         ensures { result.now ≡ self.now.sends }
     {
         &self.sends
     }
 
-    /// The receives of the rank, in order of their calls, each with its source where that is told.
+    /// The receives of the rank, in order of their calls, each with its source where that is told, and
+    /// with what a Cancel leaves of it.
     pub fn receives(&self) -> &[Receive]
         ensures { result.now ≡ self.now.receives }
     {
@@ -76,6 +80,14 @@ impl RankOps {
         ensures { result.now ≡ self.now.active }
     {
         &self.active
+    }
+
+    /// The requests that a readable Cancel names, whether they are still active or not, by the calls
+    /// that posted them, in order of posting.
+    pub fn cancelled(&self) -> &[OpName]
+        ensures { result.now ≡ self.now.cancelled }
+    {
+        &self.cancelled
     }
 
     pub fn state(&self) -> State
@@ -113,6 +125,7 @@ impl RankOps {
             receives: self.receives.clone()?,
             rounds: self.rounds.clone()?,
             active: self.active.clone()?,
+            cancelled: self.cancelled.clone()?,
             state: self.state,
             waiting,
             foreign: self.foreign,

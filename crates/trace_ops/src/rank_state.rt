@@ -23,21 +23,23 @@ fn may_block(call: &Call) -> bool
         | Call::Waitany(_)
         | Call::Waitsome(_)
         | Call::Collective(_) => true,
-        Call::Local | Call::Finalize | Call::Test(_) => false,
+        Call::Local | Call::Finalize | Call::Unread => false,
         Call::Isend(_, _) | Call::Irecv(_) | Call::Ibarrier(_) => false,
+        Call::Test(_) | Call::Testall(_) | Call::Testany(_) | Call::Testsome(_) => false,
+        Call::Cancel(_) | Call::Free(_) => false,
     }
 }
 
-fn is_waiting_call(layout: &Layout, rank: u32, call: &Call) -> bool
-    ensures { result ≡ is_waiting_call layout.now rank call.now }
+fn is_waiting_call(layout: &Layout, rank: u32, n: u64, call: &Call) -> bool
+    ensures { result ≡ is_waiting_call layout.now rank n call.now }
 {
-    may_block(call) && !is_foreign(layout, rank, call)
+    may_block(call) && !is_foreign(layout, rank, n, call)
 }
 
-fn waits_in(layout: &Layout, rank: u32, called: &Called<'_>) -> bool
-    ensures { result ≡ waits_in layout.now rank called.now }
+fn waits_in(layout: &Layout, rank: u32, n: u64, called: &Called<'_>) -> bool
+    ensures { result ≡ waits_in layout.now rank n called.now }
 {
-    called.outs().is_none() && is_waiting_call(layout, rank, called.call())
+    called.outs().is_none() && is_waiting_call(layout, rank, n, called.call())
 }
 
 fn is_finalize(call: &Call) -> bool
@@ -46,12 +48,12 @@ fn is_finalize(call: &Call) -> bool
     matches!(call, Call::Finalize)
 }
 
-fn state_after(layout: &Layout, rank: u32, called: &Called<'_>) -> State
-    ensures { result ≡ state_after layout.now rank called.now }
+fn state_after(layout: &Layout, rank: u32, n: u64, called: &Called<'_>) -> State
+    ensures { result ≡ state_after layout.now rank n called.now }
 {
     if is_finalize(called.call()) {
         State::Ended
-    } else if waits_in(layout, rank, called) {
+    } else if waits_in(layout, rank, n, called) {
         State::Waiting
     } else {
         State::Free
@@ -74,7 +76,7 @@ pub(crate) fn state_of(layout: &Layout, rank: u32, beyond: bool, calls: &[Called
         return State::Free;
     }
     match last_of(calls) {
-        Some((_, called)) => state_after(layout, rank, called),
+        Some((n, called)) => state_after(layout, rank, n, called),
         None => State::Free,
     }
 }

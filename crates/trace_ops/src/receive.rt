@@ -1,43 +1,58 @@
 //! The receives of a rank, with their told sources, its active requests, and what a probe looks for.
 
-ghost use Rattle.std.specs.Prelude.{◌≡◌, List, slice_get};
-ghost use Rattle.std.specs.Option.{option_copied};
-ghost use Rattle.indexmap.specs.IndexMap.{get};
-ghost use Rattle.std.specs.Ordering.{int_eq};
+ghost use Rattle.std.specs.Prelude.{◌≡◌, List};
+ghost use Rattle.std.specs.Option.{option_copied, option_map};
 ghost use Rattle.trace_ops.specs.Calls.{Entry};
-ghost use Rattle.trace_ops.specs.Receive.{probed, receive_from, receive_of, taken_by, taken_with};
-ghost use Rattle.trace_ops.specs.Request.{active_post};
-ghost use Rattle.trace_ops.specs.Source.{told_of_own, told_of_post};
-ghost use Rattle.trace_ops.specs.Touched.{Follows};
+ghost use Rattle.trace_ops.specs.Fate.{IsFateOf};
+ghost use Rattle.trace_ops.specs.Groups.{plain};
+ghost use Rattle.trace_ops.specs.Receive.{probed, receive_from, receive_in, taken_by, taken_with};
+ghost use Rattle.trace_ops.specs.Request.{active_post, posted_by};
+ghost use Rattle.trace_ops.specs.Source.{told_of_own};
 
 use crate::called::Called;
-use crate::group::{group, is_foreign, number_of};
-use crate::touched::{Touched, source_in, told_by};
-use mpi_model::{Call, Envelope, Layout, OpName, Outs, Peer, ProbeEnvelope, Receive};
+use crate::fate::{Fate, source_in, told_of_post};
+use crate::group::{Group, group_named};
+use crate::trust::trust_of_post;
+use mpi_model::{Call, Envelope, Layout, OpName, Outs, Peer, ProbeEnvelope, Receive, Trust};
 
-fn receive_from(layout: &Layout, rank: u32, n: u64, e: Envelope, source: Option<u32>) -> Receive
-    ensures { result ≡ receive_from layout.now rank n e source }
+fn receive_from(
+    group: Group<'_>,
+    rank: u32,
+    n: u64,
+    e: Envelope,
+    trust: Trust,
+    source: Option<u32>,
+) -> Receive
+    ensures { result ≡ receive_from (plain group.entry) rank n e trust source }
 {
     Receive {
         name: OpName { rank, call: n },
-        comm: number_of(layout, e.comm),
+        comm: group.comm,
         at: rank,
         source,
         tag: e.tag,
         count: e.count,
+        trust,
         datatype: e.datatype,
     }
 }
 
-fn taken_with(layout: &Layout, rank: u32, n: u64, e: Envelope, told: Option<u32>) -> Option<Receive>
-    ensures { result ≡ taken_with layout.now rank n e told }
+fn taken_with(
+    group: Group<'_>,
+    rank: u32,
+    n: u64,
+    e: Envelope,
+    trust: Trust,
+    told: Option<u32>,
+) -> Option<Receive>
+    ensures { result ≡ taken_with (plain group.entry) rank n e trust told }
 {
     match e.peer {
         Peer::Null => None,
-        Peer::Any => Some(receive_from(layout, rank, n, e, told)),
+        Peer::Any => Some(receive_from(group, rank, n, e, trust, told)),
         Peer::Rank(p) => {
-            let source = group(layout, e.comm).get(p as usize).copied();
-            Some(receive_from(layout, rank, n, e, source))
+            let source = group.members.get(p as usize).copied();
+            Some(receive_from(group, rank, n, e, trust, source))
         }
     }
 }
@@ -55,7 +70,8 @@ pub fn probed(layout: &Layout, rank: u32, n: u64, envelope: ProbeEnvelope) -> Op
         count: 0,
         datatype: 0,
     };
-    taken_with(layout, rank, n, asked, None)
+    let group = group_named(layout, rank, n, asked.comm)?;
+    taken_with(group, rank, n, asked, Trust::Sure, None)
 }
 
 /// What the outcome of a Recv or Sendrecv tells.
@@ -68,72 +84,54 @@ fn told_of_own(members: &[u32], outs: Option<&Outs>) -> Option<u32>
     }
 }
 
-/// What the calls behind tell of an Irecv that posted this number.
-fn told_of_post(
-    calls: &[Called<'_>],
-    touched: &Touched,
-    members: &[u32],
-    posted: Option<i64>,
-) -> Option<u32>
-    ensures { (later : List Entry) → Follows calls.now later (get int_eq touched.now) → result ≡ told_of_post members.now later posted }
-{
-    told_by(calls, touched, members, posted?)
-}
-
 fn taken_by(
-    layout: &Layout,
+    group: Group<'_>,
     rank: u32,
     n: u64,
     called: &Called<'_>,
-    calls: &[Called<'_>],
-    touched: &Touched,
+    fate: Option<Fate<'_>>,
 ) -> Option<Receive>
-    ensures { (later : List Entry) → Follows calls.now later (get int_eq touched.now) → result ≡ taken_by layout.now rank n called.now later called.now.call }
+    ensures { (later : List Entry) → IsFateOf (posted_by called.now) later fate.entry → result ≡ taken_by (plain group.entry) rank n called.now later called.now.call }
 {
     match called.call() {
         Call::Recv(e) => {
-            let e = e.envelope();
-            let told = told_of_own(group(layout, e.comm), called.outs());
-            taken_with(layout, rank, n, e, told)
+            let told = told_of_own(group.members, called.outs());
+            taken_with(group, rank, n, e.envelope(), Trust::Sure, told)
         }
         Call::Sendrecv(both) => {
-            let e = both.receive();
-            let told = told_of_own(group(layout, e.comm), called.outs());
-            taken_with(layout, rank, n, e, told)
+            let told = told_of_own(group.members, called.outs());
+            taken_with(group, rank, n, both.receive(), Trust::Sure, told)
         }
         Call::Irecv(e) => {
-            let e = e.envelope();
-            let told = told_of_post(calls, touched, group(layout, e.comm), called.posted());
-            taken_with(layout, rank, n, e, told)
+            let told = told_of_post(group.members, fate);
+            let trust = trust_of_post(fate, told.is_some());
+            taken_with(group, rank, n, e.envelope(), trust, told)
         }
         _ => None,
     }
 }
 
-/// The receive that call `n` posts, where `touched` follows the calls behind it.
-pub(crate) fn receive_of(
-    layout: &Layout,
+/// The receive that call `n` posts in its group, by the fate of the request that it posts.
+pub(crate) fn receive_in(
+    group: Option<Group<'_>>,
     rank: u32,
     n: u64,
     called: &Called<'_>,
-    calls: &[Called<'_>],
-    touched: &Touched,
+    fate: Option<Fate<'_>>,
 ) -> Option<Receive>
-    ensures { (later : List Entry) → Follows calls.now later (get int_eq touched.now) → result ≡ receive_of layout.now rank (record { number = n; entry = called.now; later = later }) }
+    ensures { (later : List Entry) → IsFateOf (posted_by called.now) later fate.entry → result ≡ receive_in (option_map plain group.entry) rank (record { number = n; entry = called.now; later = later }) }
 {
-    if is_foreign(layout, rank, called.call()) {
-        return None;
-    }
-    taken_by(layout, rank, n, called, calls, touched)
+    taken_by(group?, rank, n, called, fate)
 }
 
 /// The request that call `n` posts, where no call behind it touches its number.
-pub(crate) fn active_post(n: u64, called: &Called<'_>, touched: &Touched) -> Option<(i64, u64)>
-    ensures { (calls later : List Entry) → Follows calls later (get int_eq touched.now) → result ≡ active_post (record { number = n; entry = called.now; later = later }) }
+pub(crate) fn active_post(n: u64, fate: Option<Fate<'_>>) -> Option<(i64, u64)>
+    ensures { (entry : Entry) (later : List Entry) → IsFateOf (posted_by entry) later fate.entry → result ≡ active_post (record { number = n; entry = entry; later = later }) }
 {
-    let request = called.posted()?;
-    if touched.contains_key(&request) {
-        return None;
+    let fate = fate?;
+    if fate.ended {
+        None
+    } else {
+        Some((fate.request, n))
     }
-    Some((request, n))
 }

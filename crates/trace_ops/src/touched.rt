@@ -1,125 +1,80 @@
-//! Which request numbers the calls behind touch, and what they tell of their sources.
+//! Which request numbers the calls behind touch or cancel, and what they tell of them.
 
-ghost use Rattle.std.specs.Prelude.{◌≡◌, ◌<◌, ◌+◌, ℤ, Some, if◌then◌else◌, length, drop, is_some, slice_get, OnOk};
+ghost use Rattle.std.specs.Prelude.{◌≡◌, ◌<◌, ◌+◌, ℤ, Some, if◌then◌else◌, length, drop, OnOk};
+ghost use Rattle.std.specs.Option.{option_map};
 ghost use Rattle.indexmap.specs.IndexMap.{get};
 ghost use Rattle.std.specs.Ordering.{int_eq};
-ghost use Rattle.trace_ops.specs.Calls.{Entry};
 ghost use Rattle.trace_ops.specs.Request.{is_completed};
-ghost use Rattle.trace_ops.specs.Source.{source_in, told_at, told_by, told_in};
-ghost use Rattle.trace_ops.specs.Touched.{Follows, completed_at, tells_of, told_from, touch_at, with_tellings};
+ghost use Rattle.trace_ops.specs.Touched.{Follows, end_of, ends_at, marked, voided, with_telling, with_tellings};
 
 use crate::called::Called;
 use crate::completed::Completed;
 use indexmap::IndexMap;
+use mpi_model::Told;
 use std::alloc::AllocError;
 
-/// Where a call touches a request number: the call, and the first of its completions that may tell
-/// the source.
+/// The first call that touches a request number, and what it tells of the request.
+#[derive(Clone, Copy, Debug)]
+pub(crate) struct End {
+    pub call: usize,
+    /// The first of its completions that may tell the source, or else their number.
+    pub place: usize,
+    /// Whether the first of them that says something says that the request was cancelled.
+    pub void: bool,
+}
+
+/// What the calls behind do with a request number.
 #[derive(Clone, Copy, Debug)]
 pub(crate) struct Touch {
-    pub call: usize,
-    pub place: usize,
+    pub end: Option<End>,
+    /// Whether a Cancel names the number before it is touched.
+    pub cancelled: bool,
 }
 
-/// By number, the first of the calls behind that touches it.
+/// By number, what the calls behind do with it.
 pub(crate) type Touched = IndexMap<i64, Touch>;
 
-pub(crate) fn source_in(members: &[u32], told: Option<u32>) -> Option<u32>
-    ensures { result ≡ source_in members.now told }
-{
-    members.get(told? as usize).copied()
-}
-
-fn told_at(members: &[u32], x: i64, completed: &Completed) -> Option<u32>
-    ensures { result ≡ told_at members.now x completed.now }
-{
-    if completed.request == x {
-        source_in(members, completed.told)
-    } else {
-        None
-    }
-}
-
-/// What the completions tell of the number.
-fn told_in(members: &[u32], x: i64, done: &[Completed]) -> Option<u32>
-    ensures { result ≡ told_in members.now x done.now }
-{
-    for completed in done {
-        let told = told_at(members, x, completed);
-        if told.is_some() {
-            return told;
-        }
-    }
-    None
-}
-
-fn touch_of(touched: &Touched, x: i64) -> Option<Touch>
+/// What is kept of the number.
+pub(crate) fn touch_of(touched: &Touched, x: i64) -> Option<Touch>
     ensures { result ≡ get int_eq touched.now x }
 {
     touched.get(&x).copied()
 }
 
-fn completed_at<'a>(calls: &'a [Called<'_>], call: usize) -> &'a [Completed]
-    ensures { result.now ≡ completed_at (slice_get calls.now call) }
+pub(crate) fn end_of(touch: Option<Touch>) -> Option<End>
+    ensures { result ≡ end_of touch }
 {
-    if call < calls.len() {
-        calls[call].completed()
-    } else {
-        &[]
-    }
+    touch?.end
 }
 
-/// The completions from a place on.
-fn tail_of(done: &[Completed], place: usize) -> &[Completed]
-    ensures { result.now ≡ drop place done.now }
+/// A call ends the number, and its completions from a place on tell of it.
+fn ends_at(call: usize, place: usize) -> Touch
+    ensures { result ≡ ends_at call place }
 {
-    if place < done.len() {
-        &done[place..]
-    } else {
-        &[]
-    }
-}
-
-/// What the calls behind tell of the number.
-pub(crate) fn told_by(
-    calls: &[Called<'_>],
-    touched: &Touched,
-    members: &[u32],
-    x: i64,
-) -> Option<u32>
-    ensures { result ≡ told_from calls.now members.now x (get int_eq touched.now x) }
-{
-    match touch_of(touched, x) {
-        Some(touch) => {
-            told_in(
-                members,
-                x,
-                tail_of(completed_at(calls, touch.call), touch.place),
-            )
-        }
-        None => None,
+    Touch {
+        end: Some(End {
+            call,
+            place,
+            void: false,
+        }),
+        cancelled: false,
     }
 }
 
 /// Notes all numbers that the call completes, as if it told nothing.
 fn note_completed(touched: &mut Touched, call: usize, done: &[Completed]) -> Result<(), AllocError>
-    ensures { OnOk result ((x : ℤ) → get int_eq touched.new x ≡ (if is_completed x done.now then Some (touch_at call (length done.now)) else get int_eq touched.old x)) }
+    ensures { OnOk result ((x : ℤ) → get int_eq touched.new x ≡ (if is_completed x done.now then Some (ends_at call (length done.now)) else get int_eq touched.old x)) }
 {
     for completed in done {
-        touched.insert(
-            completed.request,
-            Touch {
-                call,
-                place: done.len(),
-            },
-        )?;
+        touched.insert(completed.request, ends_at(call, done.len()))?;
     }
     Ok(())
 }
 
-/// Notes for each number the first completion that tells of it.
+/// Notes for each number what the completions tell of it: the last of them first, so that at the
+/// end the first one decides.
 fn note_tellings(touched: &mut Touched, call: usize, done: &[Completed]) -> Result<(), AllocError>
-    ensures { OnOk result ((x : ℤ) → get int_eq touched.new x ≡ with_tellings call done.now x (get int_eq touched.old x)) }
+    ensures { OnOk result ((x : ℤ) → get int_eq touched.new x ≡ with_tellings call 0 done.now x (get int_eq touched.old x)) }
 {
     let mut place = done.len();
     while place > 0 {
@@ -129,26 +84,67 @@ fn note_tellings(touched: &mut Touched, call: usize, done: &[Completed]) -> Resu
     Ok(())
 }
 
-/// Notes the completion, where it tells.
+/// Notes what the completion tells.
 fn note_telling(
     touched: &mut Touched,
     call: usize,
     place: usize,
     completed: &Completed,
 ) -> Result<(), AllocError>
-    ensures { OnOk result ((x : ℤ) → get int_eq touched.new x ≡ (if tells_of x completed.now then Some (touch_at call place) else get int_eq touched.old x)) }
+    ensures { OnOk result ((x : ℤ) → get int_eq touched.new x ≡ with_telling call place x completed.now (get int_eq touched.old x)) }
 {
-    if completed.told.is_some() {
-        touched.insert(completed.request, Touch { call, place })?;
+    match completed.told {
+        Told::Nothing => {}
+        Told::Source(_) => {
+            touched.insert(completed.request, ends_at(call, place))?;
+        }
+        Told::Cancelled => note_void(touched, completed.request)?,
     }
     Ok(())
 }
 
+/// Notes that the call which ends the number says that its request was cancelled.
+fn note_void(touched: &mut Touched, request: i64) -> Result<(), AllocError>
+    ensures { OnOk result ((x : ℤ) → get int_eq touched.new x ≡ (if int_eq request x then option_map voided (get int_eq touched.old x) else get int_eq touched.old x)) }
+{
+    if let Some(touch) = touch_of(touched, request) {
+        touched.insert(request, voided(touch))?;
+    }
+    Ok(())
+}
+
+fn voided(touch: Touch) -> Touch
+    ensures { result ≡ voided touch }
+{
+    Touch {
+        end: match touch.end {
+            Some(end) => Some(End { void: true, ..end }),
+            None => None,
+        },
+        cancelled: touch.cancelled,
+    }
+}
+
 /// Notes the number that the call posts.
 fn note_post(touched: &mut Touched, call: usize, request: i64) -> Result<(), AllocError>
-    ensures { OnOk result ((x : ℤ) → get int_eq touched.new x ≡ (if int_eq request x then Some (touch_at call 0) else get int_eq touched.old x)) }
+    ensures { OnOk result ((x : ℤ) → get int_eq touched.new x ≡ (if int_eq request x then Some (ends_at call 0) else get int_eq touched.old x)) }
 {
-    touched.insert(request, Touch { call, place: 0 })?;
+    touched.insert(request, ends_at(call, 0))?;
+    Ok(())
+}
+
+/// Notes the number that a Cancel names.
+fn note_cancel(touched: &mut Touched, request: i64) -> Result<(), AllocError>
+    ensures { OnOk result ((x : ℤ) → get int_eq touched.new x ≡ (if int_eq request x then Some (marked (get int_eq touched.old x)) else get int_eq touched.old x)) }
+{
+    let end = end_of(touch_of(touched, request));
+    touched.insert(
+        request,
+        Touch {
+            end,
+            cancelled: true,
+        },
+    )?;
     Ok(())
 }
 
@@ -158,11 +154,10 @@ pub(crate) fn note(touched: &mut Touched, calls: &[Called<'_>], n: usize) -> Res
     ensures { OnOk result (Follows calls.now (drop (n + 1) calls.now) (get int_eq touched.old) → Follows calls.now (drop n calls.now) (get int_eq touched.new)) }
 {
     let called = &calls[n];
-    match called.posted() {
-        Some(request) => {
-            note_post(touched, n, request)?;
-        }
-        None => {
+    match (called.cancels(), called.posted()) {
+        (Some(request), _) => note_cancel(touched, request)?,
+        (None, Some(request)) => note_post(touched, n, request)?,
+        (None, None) => {
             note_completed(touched, n, called.completed())?;
             note_tellings(touched, n, called.completed())?;
         }

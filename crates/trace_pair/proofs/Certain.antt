@@ -1,19 +1,21 @@
 -- Each pair is a couple of every legal matching of every continuation.
-use Rattle.std.proofs.Common.{subst, ◌≡◌, ◌≢◌, ℕ, zero, suc, ◌+◌, ◌<◌, Bool, true, false, ◌&&◌, List, inl, inr, ⊎_elim, sym, refl, ◌∙◌, ap, arith, ◌⊎◌, ltb, eqb, Option, Some, None}
-use Rattle.std.specs.Prelude.{is_some, is_none}
+use Rattle.std.proofs.Common.{subst, ◌≡◌, ◌≢◌, ℕ, zero, suc, ◌+◌, ◌<◌, Bool, true, false, ◌&&◌, List, inl, inr, ⊎_elim, sym, refl, ◌∙◌, ap, arith, ◌⊎◌, ltb, eqb}
+use Rattle.std.specs.Prelude.{is_some}
+use Rattle.std.specs.List.{list_any}
+use Rattle.std.proofs.lemmas.Bool.{cases_lt}
 use Rattle.std.proofs.lemmas.Bool.Decides.{nat_tests}
 use Rattle.mpi_model.specs.declared.event.OpName.{OpName}
 use Rattle.mpi_model.specs.declared.message.Message.{Message}
 use Rattle.mpi_model.specs.declared.message.Receive.{Receive}
-use Rattle.mpi_model.specs.Fit.{admits, fits}
-use Rattle.trace_ops.specs.Ops.{TellsMore}
+use Rattle.mpi_model.specs.Fit.{fits}
+use Rattle.trace_ops.specs.Ops.{TellsMore, SameSend}
 use Rattle.trace_ops.specs.Order.{sent_before, posted_before, Has}
 use Rattle.trace_pair.specs.Matching.{IsLegal, Continues, SomeOf}
 use Rattle.trace_pair.specs.Places.{sent_at, posted_at}
 use Rattle.trace_pair.specs.Calls.{AreApart, ArePostedApart}
 use Rattle.trace_pair.specs.Pairing.{paired, Paired}
-use Rattle.std.specs.List.{list_any}
-use Rattle.std.proofs.lemmas.Bool.{cases_lt}
+use Rattle.mpi_model.specs.Trusts.{is_doubtful, is_open, is_settled}
+use Rattle.trace_pair.proofs.Fitting.{fit_parts, fits_before, fits_after, open_or_settled, settled_from, settled_parts, stands_sure, sure_not_doubtful, one_sender, fits_source, fits_at}
 use Rattle.trace_pair.proofs.Obeyed.{any_found, any_of, both, and_true, before_lt, posted_lt, pair_obeys, obeys_paired}
 
 pub not_before : (m n : Message) → sent_before n m ≡ true → n.name.call ≡ m.name.call → ⊥
@@ -32,7 +34,7 @@ no_two zero ms qs m q r lt i j j' b h g = absurd (omega arith)
 no_two (suc k) ms qs m q r lt i j j' b h g =
     let o = pair_obeys ms qs m q h in
     let p = pair_obeys ms qs m r g in
-    let n = o.receives r j' p.told b p.fit in
+    let n = o.receives r j' (settled_from r p.told p.sure_receive) b p.fit in
     let f = (pair_obeys ms qs n.0 r n.3).fit in
     let w = p.messages n.0 n.1 n.2 f in
     let x = before_lt m n.0 n.2 in
@@ -51,28 +53,6 @@ one_message ms qs m n q i i' j b h g =
 pub same_name : (a b : OpName) → a.rank ≡ b.rank → a.call ≡ b.call → a ≡ b
 same_name a b h g = let f : ℕ → ℕ → OpName = λ r c. record { rank = r; call = c } in ap (λ r. f r a.call) h ∙ ap (λ c. f b.rank c) g
 
--- what a receive that is told takes, it takes later too, and the other way round
-admits_more : (a b : Option ℕ) (n : ℕ) → (is_some a ≡ true → b ≡ a) → admits b n ≡ true → admits a n ≡ true
-admits_more None b n h k = refl
-admits_more (Some s) b n h k = subst (λ o. admits o n ≡ true) (h refl) k
-
-pub fits_before : (m : Message) (p r : Receive) → TellsMore p r → fits m r ≡ true → fits m p ≡ true
-fits_before m p r t h =
-    let c = both (eqb m.comm r.comm && eqb m.to r.at && admits r.source m.from) (admits r.tag m.tag) h in
-    let d = both (eqb m.comm r.comm && eqb m.to r.at) (admits r.source m.from) c.0 in
-    let e = both (eqb m.comm r.comm) (eqb m.to r.at) d.0 in
-    and_true (eqb m.comm p.comm && eqb m.to p.at && admits p.source m.from) (admits p.tag m.tag)
-    (and_true (eqb m.comm p.comm && eqb m.to p.at) (admits p.source m.from)
-    (and_true (eqb m.comm p.comm) (eqb m.to p.at)
-    (subst (λ x. eqb m.comm x ≡ true) t.comm e.0)
-    (subst (λ x. eqb m.to x ≡ true) t.at e.1))
-    (admits_more p.source r.source m.from t.source d.1))
-    (subst (λ x. admits x m.tag ≡ true) t.tag c.1)
-
-pub fits_after : (m : Message) (p r : Receive) → TellsMore p r → is_some p.source ≡ true → fits m p ≡ true → fits m r ≡ true
-fits_after m p r t s h =
-    fits_before m r p (record { name = sym t.name; comm = sym t.comm; at = sym t.at; tag = sym t.tag; count = sym t.count; datatype = sym t.datatype; source = λ _. sym (t.source s) }) h
-
 -- what tells more stands at the same place
 same_place : (p r : Receive) → TellsMore p r → posted_at r ≡ posted_at p
 same_place p r t = same_name (posted_at r) (posted_at p) t.at (ap (λ (o : OpName). o.call) t.name)
@@ -82,65 +62,74 @@ posted_names r q p w e f h =
     subst (λ (x : OpName). (eqb p.at x.rank && ltb p.name.call x.call) ≡ true) f
     (subst (λ (x : OpName). (eqb x.rank q.at && ltb x.call q.name.call) ≡ true) e h)
 
-pub told_or_not : (o : Option ℕ) → (is_none o ≡ true) ⊎ (is_some o ≡ true)
-told_or_not None = inl refl
-told_or_not (Some s) = inr refl
+-- and so does a message of which more is known
+same_sender : (m n : Message) → SameSend m n → sent_at n ≡ sent_at m
+same_sender m n s = same_name (sent_at n) (sent_at m) s.from (ap (λ (o : OpName). o.call) s.name)
 
-pub one_sender : (o : Option ℕ) (a b : ℕ) → is_some o ≡ true → admits o a ≡ true → admits o b ≡ true → a ≡ b
-one_sender None a b h x y = absurd (cc)
-one_sender (Some s) a b h x y = grind (arith, nat_tests)
-
-pub fits_source : (m : Message) (q : Receive) → fits m q ≡ true → admits q.source m.from ≡ true
-fits_source m q h = (both (eqb m.comm q.comm && eqb m.to q.at) (admits q.source m.from) (both (eqb m.comm q.comm && eqb m.to q.at && admits q.source m.from) (admits q.tag m.tag) h).0).1
+sent_names : (r q p w : Message) → sent_at r ≡ sent_at p → sent_at q ≡ sent_at w → sent_before r q ≡ true → sent_before p w ≡ true
+sent_names r q p w e f h =
+    subst (λ (x : OpName). (eqb p.from x.rank && ltb p.name.call x.call) ≡ true) f
+    (subst (λ (x : OpName). (eqb x.rank q.from && ltb x.call q.name.call) ≡ true) e h)
 
 module _ (ms : List Message) (qs : List Receive) (more_ms : List Message) (more_qs : List Receive) (goes : Continues ms qs more_ms more_qs) (L : OpName → OpName → Bool) (legal : IsLegal more_ms more_qs (λ m q. L m.name q.name ≡ true)) where
+  same_call : (a b c d : OpName) → b ≡ a → b ≡ c → c ≡ d → a.call ≡ d.call
+  same_call a b c d e f g = one_call a d (sym e ∙ f ∙ g)
+
+  renamed : (a b c d : OpName) → b ≡ a → d ≡ c → L a c ≡ true → L b d ≡ true
+  renamed a b c d e f h = subst (λ (x : OpName). L b x ≡ true) (sym f) (subst (λ (x : OpName). L x c ≡ true) (sym e) h)
+
   certain_below : (k : ℕ) (m : Message) (q : Receive) → m.name.call + q.name.call < k → Has ms m → Has qs q → Paired ms qs m q → L m.name q.name ≡ true
   certain_below zero m q lt i j h = absurd (omega arith)
   certain_below (suc k) m q lt i j h =
       let o = pair_obeys ms qs m q h in
+      let v = goes.sent m i in
       let w = goes.posted q j in
-      let i' = goes.sent m i in
-      let f = fits_after m q w.0 w.2 o.told o.fit in
+      let sure_v = v.2.1 o.sure_message in
+      let sure_w = w.2.1 o.sure_receive in
+      let told_w : is_some w.0.source ≡ true = subst (λ s. is_some s ≡ true) (sym (w.2.0.source o.told)) o.told in
+      let f = fits_after m v.0 q w.0 v.2.0 w.2.0 sure_v sure_w o.told o.fit in
       elim (L m.name q.name) as (λ b. L m.name q.name ≡ b → b ≡ true) [
         | true ↦ λ _. refl
         | false ↦ λ e.
-            let no : L m.name w.0.name ≡ true → ⊥ = λ g. let g' = subst (λ (x : OpName). L m.name x ≡ true) w.2.name g in cc in
+            let no : L v.0.name w.0.name ≡ true → ⊥ = λ g. let g' = renamed v.0.name m.name w.0.name q.name (sym v.2.0.name) (sym w.2.0.name) g in cc in
             ⊎_elim
-            (λ (t : SomeOf more_qs (λ r. (posted_before r w.0 ≡ true) × (L m.name r.name ≡ true))).
-            let p = goes.none_posted_before t.0 q t.1 j (posted_names t.0 w.0 t.0 q refl (same_place q w.0 w.2) t.2.0) in
-            let g = fits_before m p.0 t.0 p.2 (legal.fit m t.0 i' t.1 t.2.1) in
-            let b = posted_names t.0 w.0 p.0 q (same_place p.0 t.0 p.2) (same_place q w.0 w.2) t.2.0 in
+            (λ (t : SomeOf more_qs (λ r. (posted_before r w.0 ≡ true) × (L v.0.name r.name ≡ true))).
+            let p = goes.none_posted_before t.0 q t.1 j (posted_names t.0 w.0 t.0 q refl (same_place q w.0 w.2.0) t.2.0) in
+            let g = fits_before m v.0 p.0 t.0 v.2.0 p.2 (legal.fit v.0 t.0 v.1 t.1 t.2.1) in
+            let b = posted_names t.0 w.0 p.0 q (same_place p.0 t.0 p.2) (same_place q w.0 w.2.0) t.2.0 in
             ⊎_elim
-            (λ (u : is_none p.0.source ≡ true). absurd (o.no_untold p.0 p.1 u b g))
-            (λ (s : is_some p.0.source ≡ true).
+            (λ (u : is_open p.0 ≡ true). absurd (o.no_open p.0 p.1 u b g))
+            (λ (s : is_settled p.0 ≡ true).
             let n = o.receives p.0 p.1 s b g in
             let x = before_lt m n.0 n.2 in
             let y = posted_lt q p.0 b in
             let c = certain_below k n.0 p.0 (omega arith) n.1 p.1 n.3 in
-            let c' = subst (λ (x : OpName). L n.0.name x ≡ true) (sym p.2.name) c in
-            absurd (not_before m n.0 n.2 (one_call n.0.name m.name (legal.one_message t.0 n.0 m t.1 (goes.sent n.0 n.1) i' c' t.2.1))))
-            (told_or_not p.0.source))
+            let n' = goes.sent n.0 n.1 in
+            let c' = renamed n.0.name n'.0.name p.0.name t.0.name n'.2.0.name p.2.name c in
+            absurd (not_before m n.0 n.2 (same_call n.0.name n'.0.name v.0.name m.name n'.2.0.name (legal.one_message t.0 n'.0 v.0 t.1 n'.1 v.1 c' t.2.1) v.2.0.name)))
+            (open_or_settled p.0 (fit_parts m p.0 g).receive_stands))
             (λ d. ⊎_elim
-            (λ (t : SomeOf more_ms (λ n. (sent_before n m ≡ true) × (L n.name w.0.name ≡ true))).
-            let i'' = goes.none_sent_before t.0 m t.1 i t.2.0 in
-            let g = fits_before t.0 q w.0 w.2 (legal.fit t.0 w.0 t.1 w.1 t.2.1) in
-            let r = o.messages t.0 i'' t.2.0 g in
-            let x = before_lt m t.0 t.2.0 in
+            (λ (t : SomeOf more_ms (λ n. (sent_before n v.0 ≡ true) × (L n.name w.0.name ≡ true))).
+            let n = goes.none_sent_before t.0 m t.1 i (sent_names t.0 v.0 t.0 m refl (same_sender m v.0 v.2.0) t.2.0) in
+            let g = fits_before n.0 t.0 q w.0 n.2 w.2.0 (legal.fit t.0 w.0 t.1 w.1 t.2.1) in
+            let b = sent_names t.0 v.0 n.0 m (same_sender n.0 t.0 n.2) (same_sender m v.0 v.2.0) t.2.0 in
+            let r = o.messages n.0 n.1 b g in
+            let x = before_lt m n.0 b in
             let y = posted_lt q r.0 r.2 in
-            let c = certain_below k t.0 r.0 (omega arith) i'' r.1 r.3 in
+            let c = certain_below k n.0 r.0 (omega arith) n.1 r.1 r.3 in
             let p = goes.posted r.0 r.1 in
-            let c' = subst (λ (x : OpName). L t.0.name x ≡ true) (sym p.2.name) c in
-            absurd (not_posted q r.0 r.2 (one_call r.0.name q.name (sym p.2.name ∙ legal.one_receive t.0 p.0 w.0 t.1 p.1 w.1 c' t.2.1 ∙ w.2.name))))
-            (λ (t : SomeOf more_ms (λ n. (n.from ≢ m.from) × (L n.name w.0.name ≡ true))).
-            let g = fits_before t.0 q w.0 w.2 (legal.fit t.0 w.0 t.1 w.1 t.2.1) in
-            absurd (t.2.0 (one_sender q.source t.0.from m.from o.told (fits_source t.0 q g) (fits_source m q o.fit)))) d)
-            (legal.progress m w.0 i' w.1 f no)
+            let c' = renamed n.0.name t.0.name r.0.name p.0.name n.2.name p.2.0.name c in
+            absurd (not_posted q r.0 r.2 (same_call r.0.name p.0.name w.0.name q.name p.2.0.name (legal.one_receive t.0 p.0 w.0 t.1 p.1 w.1 c' t.2.1) w.2.0.name)))
+            (λ (t : SomeOf more_ms (λ n. (n.from ≢ v.0.from) × (L n.name w.0.name ≡ true))).
+            let g = legal.fit t.0 w.0 t.1 w.1 t.2.1 in
+            absurd (t.2.0 (one_sender w.0.source t.0.from v.0.from told_w (fits_source t.0 w.0 g) (fits_source v.0 w.0 f)))) d)
+            (legal.progress v.0 w.0 v.1 w.1 f no (λ d. absurd (sure_not_doubtful v.0.trust sure_v d)) (λ d. absurd (sure_not_doubtful w.0.trust sure_w d)))
       ] refl
 
   pub certain : (m : Message) (q : Receive) → Has ms m → Has qs q → Paired ms qs m q → L m.name q.name ≡ true
   certain m q i j h = certain_below (suc (m.name.call + q.name.call)) m q (omega arith) i j h
 
--- Where each receive is told, the pairs are a legal matching, and the only one.
+-- Where no receive is open and no message doubtful, the pairs are a legal matching, and the only one.
 pub sent_along : (a b c : Message) → sent_before a b ≡ true → sent_before b c ≡ true → sent_before a c ≡ true
 sent_along a b c h g =
     let p = both (eqb a.from b.from) (ltb a.name.call b.name.call) h in
@@ -152,9 +141,6 @@ posted_along a b c h g =
     let p = both (eqb a.at b.at) (ltb a.name.call b.name.call) h in
     let r = both (eqb b.at c.at) (ltb b.name.call c.name.call) g in
     and_true (eqb a.at c.at) (ltb a.name.call c.name.call) (grind (arith, nat_tests)) (grind (arith, nat_tests))
-
-pub fits_at : (m : Message) (q : Receive) → fits m q ≡ true → m.to ≡ q.at
-fits_at m q h = let e = (both (eqb m.comm q.comm) (eqb m.to q.at) (both (eqb m.comm q.comm && eqb m.to q.at) (admits q.source m.from) (both (eqb m.comm q.comm && eqb m.to q.at && admits q.source m.from) (admits q.tag m.tag) h).0).0).1 in grind (arith, nat_tests)
 
 pub in_order : (a b : OpName) → a.rank ≡ b.rank → ((eqb a.rank b.rank && ltb a.call b.call) ≡ true) ⊎ (((eqb b.rank a.rank && ltb b.call a.call) ≡ true) ⊎ (a ≡ b))
 in_order a b h =
@@ -182,9 +168,16 @@ the_one_message ms qs apart m n q i i' j h g =
     (λ d. ⊎_elim (λ (x : sent_before n m ≡ true). absurd (one_message ms qs m n q i i' j x h g)) (λ e. apart m n i i' e) d)
     (in_order (sent_at m) (sent_at n) e)
 
-module _ (ms : List Message) (qs : List Receive) (apart : AreApart ms) (posted_apart : ArePostedApart qs) (all_told : (q : Receive) → Has qs q → is_some q.source ≡ true) where
-  not_none : (q : Receive) → Has qs q → is_none q.source ≡ true → ⊥
-  not_none q j h = let t = all_told q j in grind arith
+module _ (ms : List Message) (qs : List Receive) (apart : AreApart ms) (posted_apart : ArePostedApart qs)
+    (none_open : (q : Receive) → Has qs q → is_open q ≡ false) (none_doubtful : (m : Message) → Has ms m → is_doubtful m.trust ≡ false) where
+  not_open : (q : Receive) → Has qs q → is_open q ≡ true → ⊥
+  not_open q j u = let t = none_open q j in cc
+
+  -- what fits is settled, and its message sure
+  settled : (m : Message) (q : Receive) → Has qs q → fits m q ≡ true → is_settled q ≡ true
+  settled m q j f =
+      ⊎_elim (λ (u : is_open q ≡ true). absurd (not_open q j u)) (λ (s : is_settled q ≡ true). s)
+      (open_or_settled q (fit_parts m q f).receive_stands)
 
   taken_below : (k : ℕ) (m : Message) (q : Receive) → m.name.call + q.name.call < k → Has ms m → Has qs q → fits m q ≡ true →
       Paired ms qs m q ⊎ (SomeOf qs (λ r. (posted_before r q ≡ true) × Paired ms qs m r) ⊎ SomeOf ms (λ n. (sent_before n m ≡ true) × Paired ms qs n q))
@@ -199,9 +192,11 @@ module _ (ms : List Message) (qs : List Receive) (apart : AreApart ms) (posted_a
                   let not_r : (r : Receive) → Has qs r → posted_before r q ≡ true → Paired ms qs m r → ⊥ = λ r j' b h. let e = any_of (λ r. posted_before r q && paired ms qs m r) qs r j' (and_true (posted_before r q) (paired ms qs m r) b h) in cc in
                   let not_n : (n : Message) → Has ms n → sent_before n m ≡ true → Paired ms qs n q → ⊥ = λ n i' b h. let e = any_of (λ n. sent_before n m && paired ms qs n q) ms n i' (and_true (sent_before n m) (paired ms qs n q) b h) in cc in
                   inl (obeys_paired ms qs m q (record {
-                    told = all_told q j;
+                    told = (settled_parts q (settled m q j f)).0;
+                    sure_receive = (settled_parts q (settled m q j f)).1;
+                    sure_message = stands_sure m.trust (fit_parts m q f).message_stands (none_doubtful m i);
                     fit = f;
-                    no_untold = λ u i' n _ _. not_none u i' n;
+                    no_open = λ u i' n _ _. not_open u i' n;
                     messages = λ n i' b g. let x = before_lt m n b in
                         ⊎_elim (λ (h : Paired ms qs n q). absurd (not_n n i' b h))
                         (λ d. ⊎_elim (λ (h : SomeOf qs (λ r. (posted_before r q ≡ true) × Paired ms qs n r)). (h.0, h.1, h.2.0, h.2.1))
@@ -221,21 +216,24 @@ module _ (ms : List Message) (qs : List Receive) (apart : AreApart ms) (posted_a
     one_receive = λ m q r i j j' h g. ap (λ (x : Receive). x.name) (the_one_receive ms qs posted_apart m q r i j j' h g);
     one_message = λ q m n j i i' h g. ap (λ (x : Message). x.name) (the_one_message ms qs apart m n q i i' j h g);
     fit = λ m q i j h. (pair_obeys ms qs m q h).fit;
-    progress = λ m q i j f no.
+    progress = λ m q i j f no _ _.
         ⊎_elim (λ (h : Paired ms qs m q). absurd (no h))
         (λ d. ⊎_elim (λ (h : SomeOf qs (λ r. (posted_before r q ≡ true) × Paired ms qs m r)). inl h)
         (λ (h : SomeOf ms (λ n. (sent_before n m ≡ true) × Paired ms qs n q)). inr (inl h)) d)
         (taken_below (suc (m.name.call + q.name.call)) m q (omega arith) i j f);
   }
 
+  sends_same : (m : Message) → SameSend m m
+  sends_same m = record { name = refl; comm = refl; from = refl; to = refl; tag = refl; mode = refl; count = refl; datatype = refl; void = λ v. v }
+
   tells_same : (q : Receive) → TellsMore q q
-  tells_same q = record { name = refl; comm = refl; at = refl; tag = refl; count = refl; datatype = refl; source = λ _. refl }
+  tells_same q = record { name = refl; comm = refl; at = refl; tag = refl; count = refl; datatype = refl; source = λ _. refl; void = λ v. v }
 
   stays : Continues ms qs ms qs
   stays = record {
-    sent = λ m i. i;
-    none_sent_before = λ n m i _ _. i;
-    posted = λ q j. (q, j, tells_same q);
+    sent = λ m i. (m, i, (sends_same m, λ s. s));
+    none_sent_before = λ n m i _ _. (n, i, sends_same n);
+    posted = λ q j. (q, j, (tells_same q, λ s. s));
     none_posted_before = λ r q j _ _. (r, j, tells_same r);
   }
 

@@ -6,7 +6,7 @@ use Rattle.std.proofs.lemmas.Bool.Decides.{nat_tests}
 use Rattle.mpi_model.specs.declared.event.OpName.{OpName}
 use Rattle.mpi_model.specs.declared.message.Message.{Message}
 use Rattle.mpi_model.specs.declared.message.Receive.{Receive}
-use Rattle.trace_ops.specs.Ops.{TellsMore, Ops, AreOwn, Grows}
+use Rattle.trace_ops.specs.Ops.{SameSend, TellsMore, Ops, AreOwn, Grows, StaysCertain, StaysSure}
 use Rattle.trace_ops.specs.Order.{Has, sent_before, posted_before, AreInOrder, ArePosted}
 use Rattle.trace_pair.specs.Matching.{Continues, SomeOf}
 use Rattle.trace_pair.specs.Places.{sent_at, posted_at}
@@ -15,6 +15,12 @@ use Rattle.trace_pair.proofs.Obeyed.{before_lt, posted_lt}
 use Rattle.trace_pair.proofs.Listed.{has_take}
 use Rattle.trace_pair.proofs.Ranks.{has_left, has_right, has_either}
 use Rattle.trace_pair.proofs.Ranked.{at_least}
+
+zip_both : {A B : Type 0} (R S : A → B → Type 0) (xs : List A) (ys : List B) → AllZip R xs ys → AllZip S xs ys → AllZip (λ x y. R x y × S x y) xs ys
+zip_both R S [] [] r s = tt
+zip_both R S [] (y ∷ ys) r s = absurd r
+zip_both R S (x ∷ xs) [] r s = absurd r
+zip_both R S (x ∷ xs) (y ∷ ys) r s = ((r.0, s.0), zip_both R S xs ys r.1 s.1)
 
 zip_second : {A B : Type 0} (R : A → B → Type 0) (xs : List A) (ys : List B) (x : A) → AllZip R xs ys → Has xs x → (y : B) × Has ys y × R x y
 zip_second R [] [] x z i = absurd i
@@ -30,6 +36,13 @@ zip_first R (x ∷ xs) [] y z i = absurd i
 zip_first {B = B} R (x ∷ xs) (v ∷ ys) y z i =
     ⊎_elim (λ (e : y ≡ v). (x, inl refl, subst (λ (w : B). R x w) (sym e) z.0)) (λ j. let r = zip_first R xs ys y z.1 j in (r.0, inr r.1, r.2)) i
 
+-- the message goes on, and stays sure
+abbrev Sends : Message → Message → Type 0
+Sends m n = SameSend m n × StaysSure m.trust n.trust
+
+abbrev Tells : Receive → Receive → Type 0
+Tells q r = TellsMore q r × StaysSure q.trust r.trust
+
 same_rank : (a b : OpName) → (eqb a.rank b.rank && ltb a.call b.call) ≡ true → a.rank ≡ b.rank
 same_rank a b h = grind (arith, nat_tests)
 
@@ -44,23 +57,29 @@ posts_across (x ∷ xs) ys q r o i j =
     ⊎_elim (λ (e : q ≡ x). subst (λ (z : Receive). posted_before z r ≡ true) (sym e) (o.0 r (has_right xs ys r j))) (λ k. posts_across xs ys q r o.1 k j) i
 
 -- one rank
-sent : (o n : Ops) (m : Message) → Grows o n → Has o.sends m → Has n.sends m
-sent o n m g i = has_take n.sends (length o.sends) m (subst (λ (l : List Message). Has l m) (sym g.sends) i)
+sent : (o n : Ops) (m : Message) → Grows o n → StaysCertain o n → Has o.sends m → SomeOf n.sends (Sends m)
+sent o n m g c i =
+    let k = length o.sends in
+    let r = zip_second Sends o.sends (take k n.sends) m (zip_both SameSend (λ m n. StaysSure m.trust n.trust) o.sends (take k n.sends) g.sends c.sends) i in
+    (r.0, has_take n.sends k r.0 r.1, r.2)
 
-none_sent : (o n : Ops) (x m : Message) → Grows o n → AreInOrder n.sends → Has n.sends x → Has o.sends m → sent_before x m ≡ true → Has o.sends x
+none_sent : (o n : Ops) (x m : Message) → Grows o n → AreInOrder n.sends → Has n.sends x → Has o.sends m → sent_before x m ≡ true → SomeOf o.sends (λ p. SameSend p x)
 none_sent o n x m g order i j b =
     let k = length o.sends in
     let e : take k n.sends ++ drop k n.sends ≡ n.sends = take-append-drop k n.sends in
-    ⊎_elim (λ (h : Has (take k n.sends) x). subst (λ (l : List Message). Has l x) g.sends h)
+    ⊎_elim (λ (h : Has (take k n.sends) x). zip_first SameSend o.sends (take k n.sends) x g.sends h)
     (λ (h : Has (drop k n.sends) x).
-    let c = sends_across (take k n.sends) (drop k n.sends) m x (subst (λ (l : List Message). AreInOrder l) (sym e) order) (subst (λ (l : List Message). Has l m) (sym g.sends) j) h in
-    let p = before_lt x m c in let q = before_lt m x b in absurd (omega arith))
+    let t = zip_second SameSend o.sends (take k n.sends) m g.sends j in
+    let c = sends_across (take k n.sends) (drop k n.sends) t.0 x (subst (λ (l : List Message). AreInOrder l) (sym e) order) t.1 h in
+    let p = before_lt x t.0 c in let q = before_lt m x b in
+    let f : t.0.name.call ≡ m.name.call = ap (λ (a : OpName). a.call) t.2.name in absurd (omega arith))
     (has_either (take k n.sends) (drop k n.sends) x (subst (λ (l : List Message). Has l x) (sym e) i))
 
-posted : (o n : Ops) (q : Receive) → Grows o n → Has o.receives q → SomeOf n.receives (λ r. TellsMore q r)
-posted o n q g i =
-    let r = zip_second TellsMore o.receives (take (length o.receives) n.receives) q g.receives i in
-    (r.0, has_take n.receives (length o.receives) r.0 r.1, r.2)
+posted : (o n : Ops) (q : Receive) → Grows o n → StaysCertain o n → Has o.receives q → SomeOf n.receives (Tells q)
+posted o n q g c i =
+    let k = length o.receives in
+    let r = zip_second Tells o.receives (take k n.receives) q (zip_both TellsMore (λ q r. StaysSure q.trust r.trust) o.receives (take k n.receives) g.receives c.receives) i in
+    (r.0, has_take n.receives k r.0 r.1, r.2)
 
 none_posted : (o n : Ops) (r q : Receive) → Grows o n → ArePosted n.receives → Has n.receives r → Has o.receives q → posted_before r q ≡ true → SomeOf o.receives (λ p. TellsMore p r)
 none_posted o n r q g order i j b =
@@ -75,18 +94,19 @@ none_posted o n r q g order i j b =
     (has_either (take k n.receives) (drop k n.receives) r (subst (λ (l : List Receive). Has l r) (sym e) i))
 
 -- all ranks
-all_sent : (os ns : List Ops) (m : Message) → AllZip Grows os ns → Has (sends_of os) m → Has (sends_of ns) m
-all_sent [] ns m z i = absurd i
-all_sent (o ∷ os) [] m z i = absurd z
-all_sent (o ∷ os) (n ∷ ns) m z i =
-    ⊎_elim (λ (h : Has o.sends m). has_left n.sends (sends_of ns) m (sent o n m z.0 h)) (λ (h : Has (sends_of os) m). has_right n.sends (sends_of ns) m (all_sent os ns m z.1 h)) (has_either o.sends (sends_of os) m i)
+all_sent : (os ns : List Ops) (m : Message) → AllZip Grows os ns → AllZip StaysCertain os ns → Has (sends_of os) m → SomeOf (sends_of ns) (Sends m)
+all_sent [] ns m z c i = absurd i
+all_sent (o ∷ os) [] m z c i = absurd z
+all_sent (o ∷ os) (n ∷ ns) m z c i =
+    ⊎_elim (λ (h : Has o.sends m). let r = sent o n m z.0 c.0 h in (r.0, has_left n.sends (sends_of ns) r.0 r.1, r.2))
+    (λ (h : Has (sends_of os) m). let r = all_sent os ns m z.1 c.1 h in (r.0, has_right n.sends (sends_of ns) r.0 r.1, r.2)) (has_either o.sends (sends_of os) m i)
 
-all_posted : (os ns : List Ops) (q : Receive) → AllZip Grows os ns → Has (receives_of os) q → SomeOf (receives_of ns) (λ r. TellsMore q r)
-all_posted [] ns q z i = absurd i
-all_posted (o ∷ os) [] q z i = absurd z
-all_posted (o ∷ os) (n ∷ ns) q z i =
-    ⊎_elim (λ (h : Has o.receives q). let r = posted o n q z.0 h in (r.0, has_left n.receives (receives_of ns) r.0 r.1, r.2))
-    (λ (h : Has (receives_of os) q). let r = all_posted os ns q z.1 h in (r.0, has_right n.receives (receives_of ns) r.0 r.1, r.2)) (has_either o.receives (receives_of os) q i)
+all_posted : (os ns : List Ops) (q : Receive) → AllZip Grows os ns → AllZip StaysCertain os ns → Has (receives_of os) q → SomeOf (receives_of ns) (Tells q)
+all_posted [] ns q z c i = absurd i
+all_posted (o ∷ os) [] q z c i = absurd z
+all_posted (o ∷ os) (n ∷ ns) q z c i =
+    ⊎_elim (λ (h : Has o.receives q). let r = posted o n q z.0 c.0 h in (r.0, has_left n.receives (receives_of ns) r.0 r.1, r.2))
+    (λ (h : Has (receives_of os) q). let r = all_posted os ns q z.1 c.1 h in (r.0, has_right n.receives (receives_of ns) r.0 r.1, r.2)) (has_either o.receives (receives_of os) q i)
 
 sent_above : (os : List Ops) (first : ℕ) (m : Message) → AreOwn first os → Has (sends_of os) m → first ≤ m.from
 sent_above os first m a i = at_least (λ o. o.sends) (λ m. m.from) (λ r o m w. w.sent_from m) os first m a i
@@ -94,16 +114,16 @@ sent_above os first m a i = at_least (λ o. o.sends) (λ m. m.from) (λ r o m w.
 posted_above : (os : List Ops) (first : ℕ) (q : Receive) → AreOwn first os → Has (receives_of os) q → first ≤ q.at
 posted_above os first q a i = at_least (λ o. o.receives) (λ q. q.at) (λ r o q w. w.posted_at q) os first q a i
 
-all_none_sent : (os ns : List Ops) (first : ℕ) (x m : Message) → AreOwn first os → AreOwn first ns → AllZip Grows os ns → Has (sends_of ns) x → Has (sends_of os) m → sent_before x m ≡ true → Has (sends_of os) x
+all_none_sent : (os ns : List Ops) (first : ℕ) (x m : Message) → AreOwn first os → AreOwn first ns → AllZip Grows os ns → Has (sends_of ns) x → Has (sends_of os) m → sent_before x m ≡ true → SomeOf (sends_of os) (λ p. SameSend p x)
 all_none_sent [] ns first x m a c z i j b = absurd j
 all_none_sent (o ∷ os) [] first x m a c z i j b = absurd z
 all_none_sent (o ∷ os) (n ∷ ns) first x m a c z i j b =
     let e = same_rank (sent_at x) (sent_at m) b in
     ⊎_elim
-    (λ (h : Has n.sends x). ⊎_elim (λ (k : Has o.sends m). has_left o.sends (sends_of os) x (none_sent o n x m z.0 c.0.sends_rise h k b))
+    (λ (h : Has n.sends x). ⊎_elim (λ (k : Has o.sends m). let w = none_sent o n x m z.0 c.0.sends_rise h k b in (w.0, has_left o.sends (sends_of os) w.0 w.1, w.2))
     (λ (k : Has (sends_of os) m). let p = c.0.sent_from x h in let q = sent_above os (first + 1) m a.1 k in absurd (omega arith)) (has_either o.sends (sends_of os) m j))
     (λ (h : Has (sends_of ns) x). ⊎_elim (λ (k : Has o.sends m). let p = sent_above ns (first + 1) x c.1 h in let q = a.0.sent_from m k in absurd (omega arith))
-    (λ (k : Has (sends_of os) m). has_right o.sends (sends_of os) x (all_none_sent os ns (first + 1) x m a.1 c.1 z.1 h k b)) (has_either o.sends (sends_of os) m j))
+    (λ (k : Has (sends_of os) m). let w = all_none_sent os ns (first + 1) x m a.1 c.1 z.1 h k b in (w.0, has_right o.sends (sends_of os) w.0 w.1, w.2)) (has_either o.sends (sends_of os) m j))
     (has_either n.sends (sends_of ns) x i)
 
 all_none_posted : (os ns : List Ops) (first : ℕ) (r q : Receive) → AreOwn first os → AreOwn first ns → AllZip Grows os ns → Has (receives_of ns) r → Has (receives_of os) q → posted_before r q ≡ true → SomeOf (receives_of os) (λ p. TellsMore p r)
@@ -118,10 +138,10 @@ all_none_posted (o ∷ os) (n ∷ ns) first r q a c z i j b =
     (λ (k : Has (receives_of os) q). let w = all_none_posted os ns (first + 1) r q a.1 c.1 z.1 h k b in (w.0, has_right o.receives (receives_of os) w.0 w.1, w.2)) (has_either o.receives (receives_of os) q j))
     (has_either n.receives (receives_of ns) r i)
 
-pub continues : (os ns : List Ops) → AreOwn 0 os → AreOwn 0 ns → AllZip Grows os ns → Continues (sends_of os) (receives_of os) (sends_of ns) (receives_of ns)
-continues os ns a c z = record {
-  sent = λ m i. all_sent os ns m z i;
+pub continues : (os ns : List Ops) → AreOwn 0 os → AreOwn 0 ns → AllZip Grows os ns → AllZip StaysCertain os ns → Continues (sends_of os) (receives_of os) (sends_of ns) (receives_of ns)
+continues os ns a c z s = record {
+  sent = λ m i. all_sent os ns m z s i;
   none_sent_before = λ n m i j b. all_none_sent os ns 0 n m a c z i j b;
-  posted = λ q i. all_posted os ns q z i;
+  posted = λ q i. all_posted os ns q z s i;
   none_posted_before = λ r q i j b. all_none_posted os ns 0 r q a c z i j b;
 }

@@ -5,6 +5,9 @@ use Rattle.mpi_model.specs.declared.event.OpName.{OpName}
 use Rattle.mpi_model.specs.declared.message.Message.{Message}
 use Rattle.mpi_model.specs.declared.message.Receive.{Receive}
 use Rattle.mpi_model.specs.Fit.{fits, admits}
+use Rattle.mpi_model.specs.declared.message.Trust.{Trust}
+use Rattle.mpi_model.specs.declared.message.Trust.TheVariants.{Sure, Doubtful, Void}
+use Rattle.mpi_model.specs.Trusts.{is_sure, is_settled}
 use Rattle.trace_ops.specs.Order.{Has}
 use Rattle.trace_pair.specs.Calls.{AddsMessage, AddsReceive, IsOwnReceive}
 use Rattle.trace_pair.specs.Coupled.{taker_of, receive_by, IsNew, IsOneMessage, IsOneReceive}
@@ -13,6 +16,7 @@ use Rattle.trace_pair.specs.Pairing.{Paired}
 use Rattle.trace_pair.specs.declared.pair.Couple.{Couple}
 use Rattle.trace_pair.proofs.Certain.{not_before, not_posted, one_call, same_name}
 use Rattle.trace_pair.proofs.Names.{placed, placed_receive}
+use Rattle.trace_pair.proofs.Fitting.{envelope_of, settled_from, settled_parts}
 use Rattle.trace_pair.proofs.Queued.{fit_parts, admits_says}
 
 admitted : (o : Option ℕ) (x : ℕ) → is_some o ≡ true → admits o x ≡ true → o ≡ Some x
@@ -23,21 +27,28 @@ tag_is : (o : Option ℕ) (x : ℕ) → admits o x ≡ true → o ≡ cond (is_n
 tag_is None x h = refl
 tag_is (Some s) x h = ap (λ (y : ℕ). Some y) (admits_says s x h)
 
-abbrev receive : OpName → ℕ → ℕ → Option ℕ → Option ℕ → Receive → Receive
-receive n c a s g q = record { name = n; comm = c; at = a; source = s; tag = g; count = q.count; datatype = q.datatype }
+sure_is : (t : Trust) → is_sure t ≡ true → t ≡ Sure
+sure_is Sure h = refl
+sure_is Doubtful h = absurd (cc)
+sure_is Void h = absurd (cc)
 
--- A told receive that the message fits is what the message and the rest tell of it.
-pub told_by : (m : Message) (q : Receive) → IsOwnReceive q → is_some q.source ≡ true → fits m q ≡ true → q ≡ receive_by m (taker_of q)
-told_by m q own told fit =
-    let p = fit_parts m q fit in
+abbrev receive : OpName → ℕ → ℕ → Option ℕ → Option ℕ → Trust → Receive → Receive
+receive n c a s g t q = record { name = n; comm = c; at = a; source = s; tag = g; count = q.count; trust = t; datatype = q.datatype }
+
+-- A settled receive that the message fits is what the message and the rest tell of it.
+pub told_by : (m : Message) (q : Receive) → IsOwnReceive q → is_settled q ≡ true → fits m q ≡ true → q ≡ receive_by m (taker_of q)
+told_by m q own settled fit =
+    let p = fit_parts m q (envelope_of m q fit) in
+    let s = settled_parts q settled in
     let n : q.name ≡ record { rank = m.to; call = q.name.call } = same_name q.name (record { rank = m.to; call = q.name.call }) (own ∙ sym p.1) refl in
-    ap (λ x. receive x q.comm q.at q.source q.tag q) n
-    ∙ ap (λ x. receive (record { rank = m.to; call = q.name.call }) x q.at q.source q.tag q) (sym p.0)
-    ∙ ap (λ x. receive (record { rank = m.to; call = q.name.call }) m.comm x q.source q.tag q) (sym p.1)
-    ∙ ap (λ x. receive (record { rank = m.to; call = q.name.call }) m.comm m.to x q.tag q) (admitted q.source m.from told p.2)
-    ∙ ap (λ x. receive (record { rank = m.to; call = q.name.call }) m.comm m.to (Some m.from) x q) (tag_is q.tag m.tag p.3)
+    ap (λ x. receive x q.comm q.at q.source q.tag q.trust q) n
+    ∙ ap (λ x. receive (record { rank = m.to; call = q.name.call }) x q.at q.source q.tag q.trust q) (sym p.0)
+    ∙ ap (λ x. receive (record { rank = m.to; call = q.name.call }) m.comm x q.source q.tag q.trust q) (sym p.1)
+    ∙ ap (λ x. receive (record { rank = m.to; call = q.name.call }) m.comm m.to x q.tag q.trust q) (admitted q.source m.from s.0 p.2)
+    ∙ ap (λ x. receive (record { rank = m.to; call = q.name.call }) m.comm m.to (Some m.from) x q.trust q) (tag_is q.tag m.tag p.3)
+    ∙ ap (λ x. receive (record { rank = m.to; call = q.name.call }) m.comm m.to (Some m.from) (cond (is_none q.tag) None (Some m.tag)) x q) (sure_is q.trust s.1)
 
-module _ (ms : List Message) (qs : List Receive) (waiting : List Message) (opened untold : List Receive) (couples : List Couple) (held : IsIndexed ms qs waiting opened untold couples) where
+module _ (ms : List Message) (qs : List Receive) (waiting : List Message) (free opened : List Receive) (couples : List Couple) (held : IsIndexed ms qs waiting free opened couples) where
   pub known_message : (m : Message) → Has ms m → IsOneMessage couples m
   known_message m i d j e =
       let w = held.coupled d j in
@@ -51,7 +62,7 @@ module _ (ms : List Message) (qs : List Receive) (waiting : List Message) (opene
   -- the couple of a new message is new
   pub new_message : (more : List Message) (m : Message) (q : Receive) → AddsMessage ms more m → Has qs q → TakesMessage ms qs m q → IsNew couples (couple_of m q)
   new_message more m q adds i t = record {
-    fit = told_by m q (held.receivers q i) t.told t.fit;
+    fit = told_by m q (held.receivers q i) (settled_from q t.told t.sure_receive) t.fit;
     message = λ d j e.
         let w = held.coupled d j in
         let s = placed d.message m (held.senders d.message w.0) adds.own e in
@@ -59,13 +70,13 @@ module _ (ms : List Message) (qs : List Receive) (waiting : List Message) (opene
     receive = λ d j e.
         let w = held.coupled d j in
         let s = known_receive q i d j e in
-        t.is_open d.message w.0 (subst (λ (r : Receive). Paired ms qs d.message r) s w.2);
+        t.is_free d.message w.0 (subst (λ (r : Receive). Paired ms qs d.message r) s w.2);
   }
 
   -- and so is that of a new receive
   pub new_receive : (more : List Receive) (m : Message) (q : Receive) → AddsReceive qs more q → Has ms m → TakesReceive ms qs m q → IsNew couples (couple_of m q)
   new_receive more m q adds i t = record {
-    fit = told_by m q adds.own t.told t.fit;
+    fit = told_by m q adds.own (settled_from q t.told t.sure_receive) t.fit;
     message = λ d j e.
         let w = held.coupled d j in
         let s = known_message m i d j e in

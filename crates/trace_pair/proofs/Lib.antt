@@ -1,4 +1,5 @@
 pub mod Obeyed
+pub mod Fitting
 pub mod Certain
 pub mod Listed
 pub mod Local
@@ -13,12 +14,14 @@ pub mod Tabled
 pub mod Members
 pub mod PutAt
 pub mod Orders
+pub mod Same
 pub mod Queued
 pub mod Twice
 pub mod Slotted
 pub mod Mutual
 pub mod Known
 pub mod Continued
+pub mod Beside
 pub mod Sure
 pub mod Names
 pub mod Owned

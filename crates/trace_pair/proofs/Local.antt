@@ -1,14 +1,15 @@
 -- Whether a message and a receive are a pair depends on the earlier messages of the sender to that rank, and on the earlier receives.
 use Rattle.std.proofs.Common.{◌≡◌, ℕ, zero, suc, ◌+◌, ◌<◌, true, eqb, ltb, List, ◌∙◌, arith}
-use Rattle.std.specs.Prelude.{is_some}
 use Rattle.std.proofs.lemmas.Bool.Decides.{nat_tests}
 use Rattle.mpi_model.specs.declared.message.Message.{Message}
 use Rattle.mpi_model.specs.declared.message.Receive.{Receive}
 use Rattle.mpi_model.specs.Fit.{fits}
 use Rattle.trace_ops.specs.Order.{sent_before, posted_before, Has}
 use Rattle.trace_pair.specs.Pairing.{Paired}
+use Rattle.mpi_model.specs.Trusts.{is_settled}
 use Rattle.trace_pair.proofs.Obeyed.{both, before_lt, posted_lt, pair_obeys, obeys_paired}
-use Rattle.trace_pair.proofs.Certain.{sent_along, posted_along, fits_at}
+use Rattle.trace_pair.proofs.Fitting.{fits_at}
+use Rattle.trace_pair.proofs.Certain.{sent_along, posted_along}
 
 -- Two lists of calls have the same messages to the receive's rank before this message, and the same receives before this receive.
 pub record SameBefore (ms : List Message) (qs : List Receive) (other_ms : List Message) (other_qs : List Receive) (m : Message) (q : Receive) : Type 0 where
@@ -37,8 +38,10 @@ module _ (ms : List Message) (qs : List Receive) (other_ms : List Message) (othe
       let o = pair_obeys ms qs m q g in
       obeys_paired other_ms other_qs m q (record {
         told = o.told;
+        sure_receive = o.sure_receive;
+        sure_message = o.sure_message;
         fit = o.fit;
-        no_untold = λ u i n p f. o.no_untold u (h.receives_back u p i) n p f;
+        no_open = λ u i n p f. o.no_open u (h.receives_back u p i) n p f;
         messages = λ n i s f.
             let w = o.messages n (h.messages_back n s (fits_at n q f) i) s f in
             let x = before_lt m n s in let y = posted_lt q w.0 w.2 in
@@ -58,12 +61,12 @@ pub only_first_message : (ms : List Message) (qs : List Receive) (m n : Message)
     ((r : Receive) → Has qs r → posted_before r q ≡ true → Paired ms qs n r → ⊥) → ⊥
 only_first_message ms qs m n q h i s f none = let w = (pair_obeys ms qs m q h).messages n i s f in none w.0 w.1 w.2 w.3
 
--- a told receive before it that fits the message took one before
-pub only_first_receive : (ms : List Message) (qs : List Receive) (m : Message) (q r : Receive) → Paired ms qs m q → Has qs r → is_some r.source ≡ true → posted_before r q ≡ true → fits m r ≡ true →
+-- a settled receive before it that fits the message took one before
+pub only_first_receive : (ms : List Message) (qs : List Receive) (m : Message) (q r : Receive) → Paired ms qs m q → Has qs r → is_settled r ≡ true → posted_before r q ≡ true → fits m r ≡ true →
     ((n : Message) → Has ms n → sent_before n m ≡ true → Paired ms qs n r → ⊥) → ⊥
 only_first_receive ms qs m q r h i t p f none = let w = (pair_obeys ms qs m q h).receives r i t p f in none w.0 w.1 w.2 w.3
 
--- Calls that come at the ranks' ends, with no source told, leave each couple as it was.
+-- Calls that come at the ranks' ends, with no source told and no trust changed, leave each couple as it was.
 module _ (ms : List Message) (qs : List Receive) (more_ms : List Message) (more_qs : List Receive)
     (sent : (m : Message) → Has ms m → Has more_ms m) (none_sent : (n m : Message) → Has more_ms n → Has ms m → sent_before n m ≡ true → Has ms n)
     (posted : (q : Receive) → Has qs q → Has more_qs q) (none_posted : (r q : Receive) → Has more_qs r → Has qs q → posted_before r q ≡ true → Has qs r) where

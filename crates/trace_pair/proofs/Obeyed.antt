@@ -1,6 +1,6 @@
 -- The pairs are those of the five rules, whatever bound the recursion starts from.
 use Rattle.std.proofs.Common.{◌≡◌, ℕ, zero, suc, ◌+◌, ◌<◌, Bool, true, false, ◌&&◌, ◌||◌, List, [], ◌∷◌, inl, inr, ⊎_elim, sym, refl, ◌∙◌, ap, arith, ltb, eqb}
-use Rattle.std.specs.Prelude.{not, is_some, is_none}
+use Rattle.std.specs.Prelude.{not, is_some}
 use Rattle.std.specs.List.{list_any, list_all}
 use Rattle.std.proofs.lemmas.Bool.Decides.{nat_tests}
 use Rattle.mpi_model.specs.declared.message.Message.{Message}
@@ -8,6 +8,7 @@ use Rattle.mpi_model.specs.declared.message.Receive.{Receive}
 use Rattle.mpi_model.specs.Fit.{fits}
 use Rattle.trace_ops.specs.Order.{sent_before, posted_before, Has}
 use Rattle.trace_pair.specs.Pairing.{obeys, paired_below, paired, Obeys, Paired}
+use Rattle.mpi_model.specs.Trusts.{is_sure, is_open, is_settled}
 
 pub any_same : {X : Type 0} (p t : X → Bool) (xs : List X) → ((x : X) → Has xs x → p x ≡ t x) → list_any p xs ≡ list_any t xs
 any_same p t [] h = refl
@@ -86,9 +87,9 @@ obeys_same ms qs R S m q h =
     (λ r. posted_before r q && R n r) (λ r. posted_before r q && S n r) qs
     (λ r j. same_and (posted_before r q) _ _ (λ pb. h n r i j (both _ _ b).0 pb)))) in
     let e5 = all_same
-    (λ r. not (is_some r.source && posted_before r q && fits m r) || list_any (λ n. sent_before n m && R n r) ms)
-    (λ r. not (is_some r.source && posted_before r q && fits m r) || list_any (λ n. sent_before n m && S n r) ms)
-    qs (λ r j. same_if_then (is_some r.source && posted_before r q && fits m r) _ _ (λ b. any_same
+    (λ r. not (is_settled r && posted_before r q && fits m r) || list_any (λ n. sent_before n m && R n r) ms)
+    (λ r. not (is_settled r && posted_before r q && fits m r) || list_any (λ n. sent_before n m && S n r) ms)
+    qs (λ r j. same_if_then (is_settled r && posted_before r q && fits m r) _ _ (λ b. any_same
     (λ n. sent_before n m && R n r) (λ n. sent_before n m && S n r) ms
     (λ n i. same_and (sent_before n m) _ _ (λ sb. h n r i j sb (both _ _ (both _ _ b).0).1)))) in
     rw (e4, e5) refl
@@ -121,25 +122,29 @@ paired_obeys ms qs m q =
 pub Obeys-from : (ms : List Message) (qs : List Receive) (R : Message → Receive → Bool) (m : Message) (q : Receive) → obeys ms qs R m q ≡ true → Obeys ms qs (λ n r. R n r ≡ true) m q
 unfolding obeys
 Obeys-from ms qs R m q h =
-    let a1 = is_some q.source in let a2 = fits m q in
-    let a3 = not (list_any (λ u. is_none u.source && posted_before u q && fits m u) qs) in
-    let a4 = list_all (λ n. not (sent_before n m && fits n q) || list_any (λ r. posted_before r q && R n r) qs) ms in
-    let a5 = list_all (λ r. not (is_some r.source && posted_before r q && fits m r) || list_any (λ n. sent_before n m && R n r) ms) qs in
-    let h5 = both (a1 && a2 && a3 && a4) a5 h in
+    let a1 = is_settled q in let a2 = is_sure m.trust in let a3 = fits m q in
+    let a4 = not (list_any (λ u. is_open u && posted_before u q && fits m u) qs) in
+    let a5 = list_all (λ n. not (sent_before n m && fits n q) || list_any (λ r. posted_before r q && R n r) qs) ms in
+    let a6 = list_all (λ r. not (is_settled r && posted_before r q && fits m r) || list_any (λ n. sent_before n m && R n r) ms) qs in
+    let h6 = both (a1 && a2 && a3 && a4 && a5) a6 h in
+    let h5 = both (a1 && a2 && a3 && a4) a5 h6.0 in
     let h4 = both (a1 && a2 && a3) a4 h5.0 in
     let h3 = both (a1 && a2) a3 h4.0 in
     let h2 = both a1 a2 h3.0 in
+    let h1 = both (is_some q.source) (is_sure q.trust) h2.0 in
     record {
-      told = h2.0;
-      fit = h2.1;
-      no_untold = λ u i n p f. not_true-elim _ h3.1 (any_of (λ u. is_none u.source && posted_before u q && fits m u) qs u i (and_true (is_none u.source && posted_before u q) (fits m u) (and_true (is_none u.source) (posted_before u q) n p) f));
+      told = h1.0;
+      sure_receive = h1.1;
+      sure_message = h2.1;
+      fit = h3.1;
+      no_open = λ u i n p f. not_true-elim _ h4.1 (any_of (λ u. is_open u && posted_before u q && fits m u) qs u i (and_true (is_open u && posted_before u q) (fits m u) (and_true (is_open u) (posted_before u q) n p) f));
       messages = λ n i s f.
-          let g = if_then-elim (sent_before n m && fits n q) _ (all_at (λ n. not (sent_before n m && fits n q) || list_any (λ r. posted_before r q && R n r) qs) ms n h4.1 i) (and_true (sent_before n m) (fits n q) s f) in
+          let g = if_then-elim (sent_before n m && fits n q) _ (all_at (λ n. not (sent_before n m && fits n q) || list_any (λ r. posted_before r q && R n r) qs) ms n h5.1 i) (and_true (sent_before n m) (fits n q) s f) in
           let w = any_found (λ r. posted_before r q && R n r) qs g in
           let p = both (posted_before w.0 q) (R n w.0) w.2 in
           (w.0, w.1, p.0, p.1);
       receives = λ r i t p f.
-          let g = if_then-elim (is_some r.source && posted_before r q && fits m r) _ (all_at (λ r. not (is_some r.source && posted_before r q && fits m r) || list_any (λ n. sent_before n m && R n r) ms) qs r h5.1 i) (and_true (is_some r.source && posted_before r q) (fits m r) (and_true (is_some r.source) (posted_before r q) t p) f) in
+          let g = if_then-elim (is_settled r && posted_before r q && fits m r) _ (all_at (λ r. not (is_settled r && posted_before r q && fits m r) || list_any (λ n. sent_before n m && R n r) ms) qs r h6.1 i) (and_true (is_settled r && posted_before r q) (fits m r) (and_true (is_settled r) (posted_before r q) t p) f) in
           let w = any_found (λ n. sent_before n m && R n r) ms g in
           let p = both (sent_before w.0 m) (R w.0 r) w.2 in
           (w.0, w.1, p.0, p.1);
@@ -148,25 +153,25 @@ Obeys-from ms qs R m q h =
 pub obeys-from : (ms : List Message) (qs : List Receive) (R : Message → Receive → Bool) (m : Message) (q : Receive) → Obeys ms qs (λ n r. R n r ≡ true) m q → obeys ms qs R m q ≡ true
 unfolding obeys
 obeys-from ms qs R m q o =
-    let a1 = is_some q.source in let a2 = fits m q in
-    let a3 = not (list_any (λ u. is_none u.source && posted_before u q && fits m u) qs) in
-    let a4 = list_all (λ n. not (sent_before n m && fits n q) || list_any (λ r. posted_before r q && R n r) qs) ms in
-    let a5 = list_all (λ r. not (is_some r.source && posted_before r q && fits m r) || list_any (λ n. sent_before n m && R n r) ms) qs in
-    and_true (a1 && a2 && a3 && a4) a5
-    (and_true (a1 && a2 && a3) a4
-    (and_true (a1 && a2) a3 (and_true a1 a2 o.told o.fit)
-    (not_true (list_any (λ u. is_none u.source && posted_before u q && fits m u) qs) (λ h.
-    let w = any_found (λ u. is_none u.source && posted_before u q && fits m u) qs h in
-    let p = both (is_none w.0.source && posted_before w.0 q) (fits m w.0) w.2 in
-    let p' = both (is_none w.0.source) (posted_before w.0 q) p.0 in
-    o.no_untold w.0 w.1 p'.0 p'.1 p.1)))
+    let a1 = is_settled q in let a2 = is_sure m.trust in let a3 = fits m q in
+    let a4 = not (list_any (λ u. is_open u && posted_before u q && fits m u) qs) in
+    let a5 = list_all (λ n. not (sent_before n m && fits n q) || list_any (λ r. posted_before r q && R n r) qs) ms in
+    let a6 = list_all (λ r. not (is_settled r && posted_before r q && fits m r) || list_any (λ n. sent_before n m && R n r) ms) qs in
+    and_true (a1 && a2 && a3 && a4 && a5) a6
+    (and_true (a1 && a2 && a3 && a4) a5
+    (and_true (a1 && a2 && a3) a4 (and_true (a1 && a2) a3 (and_true a1 a2 (and_true (is_some q.source) (is_sure q.trust) o.told o.sure_receive) o.sure_message) o.fit)
+    (not_true (list_any (λ u. is_open u && posted_before u q && fits m u) qs) (λ h.
+    let w = any_found (λ u. is_open u && posted_before u q && fits m u) qs h in
+    let p = both (is_open w.0 && posted_before w.0 q) (fits m w.0) w.2 in
+    let p' = both (is_open w.0) (posted_before w.0 q) p.0 in
+    o.no_open w.0 w.1 p'.0 p'.1 p.1)))
     (all_of (λ n. not (sent_before n m && fits n q) || list_any (λ r. posted_before r q && R n r) qs) ms (λ n i. if_then (sent_before n m && fits n q) _ (λ b.
     let p = both (sent_before n m) (fits n q) b in
     let w = o.messages n i p.0 p.1 in
     any_of (λ r. posted_before r q && R n r) qs w.0 w.1 (and_true (posted_before w.0 q) (R n w.0) w.2 w.3)))))
-    (all_of (λ r. not (is_some r.source && posted_before r q && fits m r) || list_any (λ n. sent_before n m && R n r) ms) qs (λ r i. if_then (is_some r.source && posted_before r q && fits m r) _ (λ b.
-    let p = both (is_some r.source && posted_before r q) (fits m r) b in
-    let p' = both (is_some r.source) (posted_before r q) p.0 in
+    (all_of (λ r. not (is_settled r && posted_before r q && fits m r) || list_any (λ n. sent_before n m && R n r) ms) qs (λ r i. if_then (is_settled r && posted_before r q && fits m r) _ (λ b.
+    let p = both (is_settled r && posted_before r q) (fits m r) b in
+    let p' = both (is_settled r) (posted_before r q) p.0 in
     let w = o.receives r i p'.0 p'.1 p.1 in
     any_of (λ n. sent_before n m && R n r) ms w.0 w.1 (and_true (sent_before w.0 m) (R w.0 r) w.2 w.3))))
 

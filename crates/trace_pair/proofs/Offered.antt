@@ -1,5 +1,5 @@
 -- All messages with what takes each, as a receive asks for one and takes it.
-use Rattle.std.proofs.Common.{subst, ◌≡◌, ℕ, zero, suc, true, List, [], ◌∷◌, sym, refl, ◌∙◌, ap, cond, Option, Some, None, length}
+use Rattle.std.proofs.Common.{subst, ◌≡◌, ℕ, zero, suc, List, [], ◌∷◌, sym, refl, ◌∙◌, ap, cond, Option, Some, None, length}
 use Rattle.std.specs.Prelude.{slice_get, slice_set, replicate, IfSome}
 use Rattle.std.specs.Ordering.{is_eq}
 use Rattle.std.specs.BTreeMap.{BTreeMap, IsOrdered}
@@ -7,7 +7,7 @@ use Rattle.mpi_model.specs.declared.message.Message.{Message}
 use Rattle.mpi_model.specs.declared.message.Receive.{Receive}
 use Rattle.trace_pair.specs.KeyOrders.{Queue, queue_cmp, queue_of, Lane, lane_cmp, lane_of}
 use Rattle.trace_pair.specs.Rising.{AreRising}
-use Rattle.trace_pair.specs.Waiting.{Takings, from_waiting, places_at, ArePlaces, AreTakings, IsFirstPlace}
+use Rattle.trace_pair.specs.Waiting.{from_waiting, places_at, ArePlaces, AreTakings, IsFirstPlace}
 use Rattle.trace_pair.specs.declared.pair.Taker.{Taker}
 use Rattle.trace_pair.proofs.Orders.{exact_lanes, exact_queues, lanes_total, queues_total}
 use Rattle.trace_pair.proofs.Queued.{queue, lane, queue_fits, fits_queue, lane_fits, fits_lane}

@@ -11,13 +11,16 @@ use Rattle.std.proofs.lemmas.Bool.{cases_lt}
 use Rattle.mpi_model.specs.declared.envelope.Mode.{Mode}
 use Rattle.mpi_model.specs.declared.envelope.Mode.TheVariants.{Standard, Synchronous, Buffered, Ready}
 use Rattle.mpi_model.specs.contracts.envelope.ModeOrd.TheImpl.Laws as mode_laws
+use Rattle.mpi_model.specs.contracts.message.TrustOrd.TheImpl.Laws as trust_laws
 use Rattle.std.proofs.lemmas.Bool.Decides.{nat_tests}
 use Rattle.std.proofs.lemmas.Map.Lookups.{CmpEqualImpliesEq}
 use Rattle.mpi_model.specs.declared.event.OpName.{OpName}
 use Rattle.mpi_model.specs.declared.message.Message.{Message}
 use Rattle.mpi_model.specs.declared.message.Receive.{Receive}
+use Rattle.mpi_model.specs.declared.message.Trust.{Trust}
+use Rattle.mpi_model.specs.declared.message.Trust.TheVariants.{Sure, Doubtful, Void}
 use Rattle.trace_pair.specs.Indexed.{name_lt}
-use Rattle.trace_pair.specs.KeyOrders.{name_cmp, message_cmp, receive_cmp, Queue, queue_cmp, Lane, lane_cmp, ReceiveKey, receive_key_cmp, mode_cmp}
+use Rattle.trace_pair.specs.KeyOrders.{name_cmp, message_cmp, receive_cmp, Queue, queue_cmp, Lane, lane_cmp, ReceiveKey, receive_key_cmp, mode_cmp, trust_cmp}
 
 then_equal : (a b : Ordering) → ordering_then a b ≡ Equal → (a ≡ Equal) × (b ≡ Equal)
 then_equal Less b h = absurd (cc)
@@ -48,6 +51,17 @@ exact_modes Ready Standard h = absurd (cc)
 exact_modes Ready Synchronous h = absurd (cc)
 exact_modes Ready Buffered h = absurd (cc)
 
+exact_trusts : CmpEqualImpliesEq trust_cmp
+exact_trusts Sure Sure h = refl
+exact_trusts Doubtful Doubtful h = refl
+exact_trusts Void Void h = refl
+exact_trusts Sure Doubtful h = absurd (cc)
+exact_trusts Sure Void h = absurd (cc)
+exact_trusts Doubtful Sure h = absurd (cc)
+exact_trusts Doubtful Void h = absurd (cc)
+exact_trusts Void Sure h = absurd (cc)
+exact_trusts Void Doubtful h = absurd (cc)
+
 exact_options : CmpEqualImpliesEq (option_cmp nat_cmp)
 exact_options None None h = refl
 exact_options None (Some b) h = absurd (cc)
@@ -58,10 +72,10 @@ pub name_total : IsTotalOrder name_cmp
 name_total = then_total (on_total (λ (x : OpName). x.rank) nat_cmp_total) (on_total (λ (x : OpName). x.call) nat_cmp_total)
 
 pub messages_total : IsTotalOrder message_cmp
-messages_total = then_total (on_total (λ (x : Message). x.name) name_total) (then_total (on_total (λ (x : Message). x.comm) nat_cmp_total) (then_total (on_total (λ (x : Message). x.from) nat_cmp_total) (then_total (on_total (λ (x : Message). x.to) nat_cmp_total) (then_total (on_total (λ (x : Message). x.tag) nat_cmp_total) (then_total (on_total (λ (x : Message). x.mode) mode_laws.total-law) (then_total (on_total (λ (x : Message). x.count) nat_cmp_total) (on_total (λ (x : Message). x.datatype) int_cmp_total)))))))
+messages_total = then_total (on_total (λ (x : Message). x.name) name_total) (then_total (on_total (λ (x : Message). x.comm) nat_cmp_total) (then_total (on_total (λ (x : Message). x.from) nat_cmp_total) (then_total (on_total (λ (x : Message). x.to) nat_cmp_total) (then_total (on_total (λ (x : Message). x.tag) nat_cmp_total) (then_total (on_total (λ (x : Message). x.mode) mode_laws.total-law) (then_total (on_total (λ (x : Message). x.trust) trust_laws.total-law) (then_total (on_total (λ (x : Message). x.count) nat_cmp_total) (on_total (λ (x : Message). x.datatype) int_cmp_total))))))))
 
 pub receives_total : IsTotalOrder receive_cmp
-receives_total = then_total (on_total (λ (x : Receive). x.name) name_total) (then_total (on_total (λ (x : Receive). x.comm) nat_cmp_total) (then_total (on_total (λ (x : Receive). x.at) nat_cmp_total) (then_total (on_total (λ (x : Receive). x.source) (options_total nat_cmp_total)) (then_total (on_total (λ (x : Receive). x.tag) (options_total nat_cmp_total)) (then_total (on_total (λ (x : Receive). x.count) nat_cmp_total) (on_total (λ (x : Receive). x.datatype) int_cmp_total))))))
+receives_total = then_total (on_total (λ (x : Receive). x.name) name_total) (then_total (on_total (λ (x : Receive). x.comm) nat_cmp_total) (then_total (on_total (λ (x : Receive). x.at) nat_cmp_total) (then_total (on_total (λ (x : Receive). x.source) (options_total nat_cmp_total)) (then_total (on_total (λ (x : Receive). x.tag) (options_total nat_cmp_total)) (then_total (on_total (λ (x : Receive). x.count) nat_cmp_total) (then_total (on_total (λ (x : Receive). x.trust) trust_laws.total-law) (on_total (λ (x : Receive). x.datatype) int_cmp_total)))))))
 
 pub queues_total : IsTotalOrder queue_cmp
 queues_total = then_total (then_total (then_total (on_total (λ (x : Queue). x.0) nat_cmp_total) (on_total (λ (x : Queue). x.1) nat_cmp_total)) (on_total (λ (x : Queue). x.2) nat_cmp_total)) (on_total (λ (x : Queue). x.3) nat_cmp_total)
@@ -75,11 +89,11 @@ receive_keys_total = then_total (then_total (then_total (on_total (λ (x : Recei
 abbrev name : ℕ → ℕ → OpName
 name r c = record { rank = r; call = c }
 
-abbrev message : OpName → ℕ → ℕ → ℕ → ℕ → Mode → ℕ → ℤ → Message
-message n c f t g k e d = record { name = n; comm = c; from = f; to = t; tag = g; mode = k; count = e; datatype = d }
+abbrev message : OpName → ℕ → ℕ → ℕ → ℕ → Mode → Trust → ℕ → ℤ → Message
+message n c f t g k u e d = record { name = n; comm = c; from = f; to = t; tag = g; mode = k; trust = u; count = e; datatype = d }
 
-abbrev receive : OpName → ℕ → ℕ → Option ℕ → Option ℕ → ℕ → ℤ → Receive
-receive n c a s g e d = record { name = n; comm = c; at = a; source = s; tag = g; count = e; datatype = d }
+abbrev receive : OpName → ℕ → ℕ → Option ℕ → Option ℕ → ℕ → Trust → ℤ → Receive
+receive n c a s g e u d = record { name = n; comm = c; at = a; source = s; tag = g; count = e; trust = u; datatype = d }
 
 abbrev queue : ℕ → ℕ → ℕ → ℕ → Queue
 queue a b c d = (a, b, c, d)
@@ -98,37 +112,41 @@ exact_names a b h =
 
 pub exact_messages : CmpEqualImpliesEq message_cmp
 exact_messages a b h =
-    let h0 = then_equal (name_cmp a.name b.name) (ordering_then (nat_cmp a.comm b.comm) (ordering_then (nat_cmp a.from b.from) (ordering_then (nat_cmp a.to b.to) (ordering_then (nat_cmp a.tag b.tag) (ordering_then (mode_cmp a.mode b.mode) (ordering_then (nat_cmp a.count b.count) (int_cmp a.datatype b.datatype))))))) h in
-    let h1 = then_equal (nat_cmp a.comm b.comm) (ordering_then (nat_cmp a.from b.from) (ordering_then (nat_cmp a.to b.to) (ordering_then (nat_cmp a.tag b.tag) (ordering_then (mode_cmp a.mode b.mode) (ordering_then (nat_cmp a.count b.count) (int_cmp a.datatype b.datatype)))))) h0.1 in
-    let h2 = then_equal (nat_cmp a.from b.from) (ordering_then (nat_cmp a.to b.to) (ordering_then (nat_cmp a.tag b.tag) (ordering_then (mode_cmp a.mode b.mode) (ordering_then (nat_cmp a.count b.count) (int_cmp a.datatype b.datatype))))) h1.1 in
-    let h3 = then_equal (nat_cmp a.to b.to) (ordering_then (nat_cmp a.tag b.tag) (ordering_then (mode_cmp a.mode b.mode) (ordering_then (nat_cmp a.count b.count) (int_cmp a.datatype b.datatype)))) h2.1 in
-    let h4 = then_equal (nat_cmp a.tag b.tag) (ordering_then (mode_cmp a.mode b.mode) (ordering_then (nat_cmp a.count b.count) (int_cmp a.datatype b.datatype))) h3.1 in
-    let h5 = then_equal (mode_cmp a.mode b.mode) (ordering_then (nat_cmp a.count b.count) (int_cmp a.datatype b.datatype)) h4.1 in
-    let h6 = then_equal (nat_cmp a.count b.count) (int_cmp a.datatype b.datatype) h5.1 in
-    ap (λ x. message x a.comm a.from a.to a.tag a.mode a.count a.datatype) (exact_names a.name b.name h0.0)
-    ∙ ap (λ x. message b.name x a.from a.to a.tag a.mode a.count a.datatype) (exact_nats a.comm b.comm h1.0)
-    ∙ ap (λ x. message b.name b.comm x a.to a.tag a.mode a.count a.datatype) (exact_nats a.from b.from h2.0)
-    ∙ ap (λ x. message b.name b.comm b.from x a.tag a.mode a.count a.datatype) (exact_nats a.to b.to h3.0)
-    ∙ ap (λ x. message b.name b.comm b.from b.to x a.mode a.count a.datatype) (exact_nats a.tag b.tag h4.0)
-    ∙ ap (λ x. message b.name b.comm b.from b.to b.tag x a.count a.datatype) (exact_modes a.mode b.mode h5.0)
-    ∙ ap (λ x. message b.name b.comm b.from b.to b.tag b.mode x a.datatype) (exact_nats a.count b.count h6.0)
-    ∙ ap (λ x. message b.name b.comm b.from b.to b.tag b.mode b.count x) (exact_ints a.datatype b.datatype h6.1)
+    let h0 = then_equal (name_cmp a.name b.name) (ordering_then (nat_cmp a.comm b.comm) (ordering_then (nat_cmp a.from b.from) (ordering_then (nat_cmp a.to b.to) (ordering_then (nat_cmp a.tag b.tag) (ordering_then (mode_cmp a.mode b.mode) (ordering_then (trust_cmp a.trust b.trust) (ordering_then (nat_cmp a.count b.count) (int_cmp a.datatype b.datatype)))))))) h in
+    let h1 = then_equal (nat_cmp a.comm b.comm) (ordering_then (nat_cmp a.from b.from) (ordering_then (nat_cmp a.to b.to) (ordering_then (nat_cmp a.tag b.tag) (ordering_then (mode_cmp a.mode b.mode) (ordering_then (trust_cmp a.trust b.trust) (ordering_then (nat_cmp a.count b.count) (int_cmp a.datatype b.datatype))))))) h0.1 in
+    let h2 = then_equal (nat_cmp a.from b.from) (ordering_then (nat_cmp a.to b.to) (ordering_then (nat_cmp a.tag b.tag) (ordering_then (mode_cmp a.mode b.mode) (ordering_then (trust_cmp a.trust b.trust) (ordering_then (nat_cmp a.count b.count) (int_cmp a.datatype b.datatype)))))) h1.1 in
+    let h3 = then_equal (nat_cmp a.to b.to) (ordering_then (nat_cmp a.tag b.tag) (ordering_then (mode_cmp a.mode b.mode) (ordering_then (trust_cmp a.trust b.trust) (ordering_then (nat_cmp a.count b.count) (int_cmp a.datatype b.datatype))))) h2.1 in
+    let h4 = then_equal (nat_cmp a.tag b.tag) (ordering_then (mode_cmp a.mode b.mode) (ordering_then (trust_cmp a.trust b.trust) (ordering_then (nat_cmp a.count b.count) (int_cmp a.datatype b.datatype)))) h3.1 in
+    let h5 = then_equal (mode_cmp a.mode b.mode) (ordering_then (trust_cmp a.trust b.trust) (ordering_then (nat_cmp a.count b.count) (int_cmp a.datatype b.datatype))) h4.1 in
+    let h6 = then_equal (trust_cmp a.trust b.trust) (ordering_then (nat_cmp a.count b.count) (int_cmp a.datatype b.datatype)) h5.1 in
+    let h7 = then_equal (nat_cmp a.count b.count) (int_cmp a.datatype b.datatype) h6.1 in
+    ap (λ x. message x a.comm a.from a.to a.tag a.mode a.trust a.count a.datatype) (exact_names a.name b.name h0.0)
+    ∙ ap (λ x. message b.name x a.from a.to a.tag a.mode a.trust a.count a.datatype) (exact_nats a.comm b.comm h1.0)
+    ∙ ap (λ x. message b.name b.comm x a.to a.tag a.mode a.trust a.count a.datatype) (exact_nats a.from b.from h2.0)
+    ∙ ap (λ x. message b.name b.comm b.from x a.tag a.mode a.trust a.count a.datatype) (exact_nats a.to b.to h3.0)
+    ∙ ap (λ x. message b.name b.comm b.from b.to x a.mode a.trust a.count a.datatype) (exact_nats a.tag b.tag h4.0)
+    ∙ ap (λ x. message b.name b.comm b.from b.to b.tag x a.trust a.count a.datatype) (exact_modes a.mode b.mode h5.0)
+    ∙ ap (λ x. message b.name b.comm b.from b.to b.tag b.mode x a.count a.datatype) (exact_trusts a.trust b.trust h6.0)
+    ∙ ap (λ x. message b.name b.comm b.from b.to b.tag b.mode b.trust x a.datatype) (exact_nats a.count b.count h7.0)
+    ∙ ap (λ x. message b.name b.comm b.from b.to b.tag b.mode b.trust b.count x) (exact_ints a.datatype b.datatype h7.1)
 
 pub exact_receives : CmpEqualImpliesEq receive_cmp
 exact_receives a b h =
-    let h0 = then_equal (name_cmp a.name b.name) (ordering_then (nat_cmp a.comm b.comm) (ordering_then (nat_cmp a.at b.at) (ordering_then (option_cmp nat_cmp a.source b.source) (ordering_then (option_cmp nat_cmp a.tag b.tag) (ordering_then (nat_cmp a.count b.count) (int_cmp a.datatype b.datatype)))))) h in
-    let h1 = then_equal (nat_cmp a.comm b.comm) (ordering_then (nat_cmp a.at b.at) (ordering_then (option_cmp nat_cmp a.source b.source) (ordering_then (option_cmp nat_cmp a.tag b.tag) (ordering_then (nat_cmp a.count b.count) (int_cmp a.datatype b.datatype))))) h0.1 in
-    let h2 = then_equal (nat_cmp a.at b.at) (ordering_then (option_cmp nat_cmp a.source b.source) (ordering_then (option_cmp nat_cmp a.tag b.tag) (ordering_then (nat_cmp a.count b.count) (int_cmp a.datatype b.datatype)))) h1.1 in
-    let h3 = then_equal (option_cmp nat_cmp a.source b.source) (ordering_then (option_cmp nat_cmp a.tag b.tag) (ordering_then (nat_cmp a.count b.count) (int_cmp a.datatype b.datatype))) h2.1 in
-    let h4 = then_equal (option_cmp nat_cmp a.tag b.tag) (ordering_then (nat_cmp a.count b.count) (int_cmp a.datatype b.datatype)) h3.1 in
-    let h5 = then_equal (nat_cmp a.count b.count) (int_cmp a.datatype b.datatype) h4.1 in
-    ap (λ x. receive x a.comm a.at a.source a.tag a.count a.datatype) (exact_names a.name b.name h0.0)
-    ∙ ap (λ x. receive b.name x a.at a.source a.tag a.count a.datatype) (exact_nats a.comm b.comm h1.0)
-    ∙ ap (λ x. receive b.name b.comm x a.source a.tag a.count a.datatype) (exact_nats a.at b.at h2.0)
-    ∙ ap (λ x. receive b.name b.comm b.at x a.tag a.count a.datatype) (exact_options a.source b.source h3.0)
-    ∙ ap (λ x. receive b.name b.comm b.at b.source x a.count a.datatype) (exact_options a.tag b.tag h4.0)
-    ∙ ap (λ x. receive b.name b.comm b.at b.source b.tag x a.datatype) (exact_nats a.count b.count h5.0)
-    ∙ ap (λ x. receive b.name b.comm b.at b.source b.tag b.count x) (exact_ints a.datatype b.datatype h5.1)
+    let h0 = then_equal (name_cmp a.name b.name) (ordering_then (nat_cmp a.comm b.comm) (ordering_then (nat_cmp a.at b.at) (ordering_then (option_cmp nat_cmp a.source b.source) (ordering_then (option_cmp nat_cmp a.tag b.tag) (ordering_then (nat_cmp a.count b.count) (ordering_then (trust_cmp a.trust b.trust) (int_cmp a.datatype b.datatype))))))) h in
+    let h1 = then_equal (nat_cmp a.comm b.comm) (ordering_then (nat_cmp a.at b.at) (ordering_then (option_cmp nat_cmp a.source b.source) (ordering_then (option_cmp nat_cmp a.tag b.tag) (ordering_then (nat_cmp a.count b.count) (ordering_then (trust_cmp a.trust b.trust) (int_cmp a.datatype b.datatype)))))) h0.1 in
+    let h2 = then_equal (nat_cmp a.at b.at) (ordering_then (option_cmp nat_cmp a.source b.source) (ordering_then (option_cmp nat_cmp a.tag b.tag) (ordering_then (nat_cmp a.count b.count) (ordering_then (trust_cmp a.trust b.trust) (int_cmp a.datatype b.datatype))))) h1.1 in
+    let h3 = then_equal (option_cmp nat_cmp a.source b.source) (ordering_then (option_cmp nat_cmp a.tag b.tag) (ordering_then (nat_cmp a.count b.count) (ordering_then (trust_cmp a.trust b.trust) (int_cmp a.datatype b.datatype)))) h2.1 in
+    let h4 = then_equal (option_cmp nat_cmp a.tag b.tag) (ordering_then (nat_cmp a.count b.count) (ordering_then (trust_cmp a.trust b.trust) (int_cmp a.datatype b.datatype))) h3.1 in
+    let h5 = then_equal (nat_cmp a.count b.count) (ordering_then (trust_cmp a.trust b.trust) (int_cmp a.datatype b.datatype)) h4.1 in
+    let h6 = then_equal (trust_cmp a.trust b.trust) (int_cmp a.datatype b.datatype) h5.1 in
+    ap (λ x. receive x a.comm a.at a.source a.tag a.count a.trust a.datatype) (exact_names a.name b.name h0.0)
+    ∙ ap (λ x. receive b.name x a.at a.source a.tag a.count a.trust a.datatype) (exact_nats a.comm b.comm h1.0)
+    ∙ ap (λ x. receive b.name b.comm x a.source a.tag a.count a.trust a.datatype) (exact_nats a.at b.at h2.0)
+    ∙ ap (λ x. receive b.name b.comm b.at x a.tag a.count a.trust a.datatype) (exact_options a.source b.source h3.0)
+    ∙ ap (λ x. receive b.name b.comm b.at b.source x a.count a.trust a.datatype) (exact_options a.tag b.tag h4.0)
+    ∙ ap (λ x. receive b.name b.comm b.at b.source b.tag x a.trust a.datatype) (exact_nats a.count b.count h5.0)
+    ∙ ap (λ x. receive b.name b.comm b.at b.source b.tag b.count x a.datatype) (exact_trusts a.trust b.trust h6.0)
+    ∙ ap (λ x. receive b.name b.comm b.at b.source b.tag b.count b.trust x) (exact_ints a.datatype b.datatype h6.1)
 
 pub exact_queues : CmpEqualImpliesEq queue_cmp
 exact_queues a b h =

@@ -1,18 +1,20 @@
 -- The couples of an index say what takes each message.
 use Rattle.std.proofs.Common.{◌≡◌, true, false, List, ⊎_elim, sym, refl, ◌∙◌, ap, Option, Some, None, ◌&&◌}
-use Rattle.std.specs.Prelude.{is_some, is_none, IfSome, IfNone}
+use Rattle.std.specs.Prelude.{is_some, IfSome, IfNone}
 use Rattle.std.specs.List.{list_any}
 use Rattle.mpi_model.specs.declared.message.Message.{Message}
 use Rattle.mpi_model.specs.declared.message.Receive.{Receive}
-use Rattle.mpi_model.specs.Fit.{fits}
+use Rattle.mpi_model.specs.Fit.{envelopes_fit, fits}
+use Rattle.mpi_model.specs.Trusts.{is_open}
 use Rattle.trace_ops.specs.Order.{posted_before, Has}
 use Rattle.trace_pair.specs.Indexed.{IsIndexed, IsFirstReceive, couple_of}
 use Rattle.trace_pair.specs.Places.{posted_at}
-use Rattle.trace_pair.specs.Calls.{ArePostedApart}
+use Rattle.trace_pair.specs.Calls.{is_live, ArePostedApart}
 use Rattle.trace_pair.specs.Pairing.{paired, receive_of, Paired}
 use Rattle.trace_pair.specs.declared.pair.Couple.{Couple}
 use Rattle.trace_pair.proofs.Obeyed.{pair_obeys, any_found, any_of, both, and_true}
-use Rattle.trace_pair.proofs.Certain.{one_receive, fits_at, in_order}
+use Rattle.trace_pair.proofs.Certain.{one_receive, in_order}
+use Rattle.trace_pair.proofs.Fitting.{fits_at, fits_live, live_message, open_live, envelope_of, false_apart}
 use Rattle.trace_pair.proofs.Listed.{found, finds}
 
 -- what takes the message is its receive
@@ -28,7 +30,7 @@ receive_is_of ms qs apart m q i j h =
     (in_order (posted_at q) (posted_at w.0) (sym a ∙ b)) in
     ap (λ (x : Receive). Some x) e ∙ sym w.1
 
-module _ (ms : List Message) (qs : List Receive) (waiting : List Message) (opened untold : List Receive) (couples : List Couple) (held : IsIndexed ms qs waiting opened untold couples) where
+module _ (ms : List Message) (qs : List Receive) (waiting : List Message) (free opened : List Receive) (couples : List Couple) (held : IsIndexed ms qs waiting free opened couples) where
   pub partner_is : (m : Message) (q : Receive) → Has couples (couple_of m q) → Some q ≡ receive_of ms qs m
   partner_is m q ic = let h = held.coupled (couple_of m q) ic in receive_is_of ms qs held.receives_apart m q h.0 h.1 h.2
 
@@ -39,13 +41,21 @@ module _ (ms : List Message) (qs : List Receive) (waiting : List Message) (opene
         | Some q ↦ λ e. let u = found (paired ms qs m) qs q e in absurd (none q (held.coupled_all m q i u.0 u.1))
       ] refl
 
-  -- an untold receive fits the message where the set of them has one
-  pub untold_is : (m : Message) (o : Option Receive) → IfSome o (IsFirstReceive untold m) → IfNone o ((r : Receive) → Has untold r → fits m r ≡ true → ⊥) → is_some o ≡ list_any (λ u. is_none u.source && fits m u) qs
-  untold_is m (Some q) s n =
-      let h = held.untolds q s.member in
-      sym (any_of (λ u. is_none u.source && fits m u) qs q h.0 (and_true (is_none q.source) (fits m q) h.1 s.fit))
-  untold_is m None s n =
-      elim (list_any (λ u. is_none u.source && fits m u) qs) as (λ b. list_any (λ u. is_none u.source && fits m u) qs ≡ b → false ≡ b) [
-        | true ↦ λ e. let w = any_found (λ u. is_none u.source && fits m u) qs e in let p = both (is_none w.0.source) (fits m w.0) w.2 in absurd (n w.0 (held.untolds_all w.0 w.1 p.0) p.1)
+  -- an open receive fits the message where the set of them has one
+  pub open_is : (m : Message) → is_live m.trust ≡ true → (o : Option Receive) → IfSome o (IsFirstReceive opened m) → IfNone o ((r : Receive) → Has opened r → envelopes_fit m r ≡ true → ⊥) → is_some o ≡ list_any (λ u. is_open u && fits m u) qs
+  open_is m live (Some q) s n =
+      let h = held.opens q s.member in
+      sym (any_of (λ u. is_open u && fits m u) qs q h.0 (and_true (is_open q) (fits m q) h.1 (fits_live m q live (open_live q h.1) s.fit)))
+  open_is m live None s n =
+      elim (list_any (λ u. is_open u && fits m u) qs) as (λ b. list_any (λ u. is_open u && fits m u) qs ≡ b → false ≡ b) [
+        | true ↦ λ e. let w = any_found (λ u. is_open u && fits m u) qs e in let p = both (is_open w.0) (fits m w.0) w.2 in absurd (n w.0 (held.opens_all w.0 w.1 p.0) (envelope_of m w.0 p.1))
+        | false ↦ λ e. refl
+      ] refl
+
+  -- and none fits a void one
+  pub void_fits_none : (m : Message) → is_live m.trust ≡ false → false ≡ list_any (λ u. is_open u && fits m u) qs
+  void_fits_none m void =
+      elim (list_any (λ u. is_open u && fits m u) qs) as (λ b. list_any (λ u. is_open u && fits m u) qs ≡ b → false ≡ b) [
+        | true ↦ λ e. let w = any_found (λ u. is_open u && fits m u) qs e in let p = both (is_open w.0) (fits m w.0) w.2 in absurd (false_apart (is_live m.trust) void (live_message m w.0 p.1))
         | false ↦ λ e. refl
       ] refl

@@ -73,6 +73,8 @@ own_begun parts done rank o w =
       posted_at = λ q h. w.posted_at q (has_front j o.receives q h);
       sends_rise = order_front (take i o.sends) (drop i o.sends) (subst (λ (l : List Message). AreInOrder l) (sym (take-append-drop i o.sends)) w.sends_rise);
       receives_rise = posted_front (take j o.receives) (drop j o.receives) (subst (λ (l : List Receive). ArePosted l) (sym (take-append-drop j o.receives)) w.receives_rise);
+      cancelled_by = w.cancelled_by;
+      cancelled_rise = w.cancelled_rise;
     }
 
 begun_whole : (parts : ℕ) (o : Ops) → 0 < parts → begun parts parts o ≡ o

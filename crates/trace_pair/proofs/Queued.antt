@@ -7,7 +7,7 @@ use Rattle.std.specs.BTreeSet.{BTreeSet}
 use Rattle.std.proofs.lemmas.Bool.Decides.{nat_tests}
 use Rattle.mpi_model.specs.declared.message.Message.{Message}
 use Rattle.mpi_model.specs.declared.message.Receive.{Receive}
-use Rattle.mpi_model.specs.Fit.{fits, admits}
+use Rattle.mpi_model.specs.Fit.{envelopes_fit, admits}
 use Rattle.trace_ops.specs.Order.{Has}
 use Rattle.trace_pair.specs.Groups.{has, members}
 use Rattle.trace_pair.specs.Indexed.{IsFirstMessage, IsFirstReceive, name_lt}
@@ -28,13 +28,13 @@ equal_nats a b e = grind (arith, nat_tests)
 pub admits_says : (s x : ℕ) → admits (Some s) x ≡ true → s ≡ x
 admits_says s x h = nat_says s x h
 
-pub fit_parts : (m : Message) (q : Receive) → fits m q ≡ true → (m.comm ≡ q.comm) × (m.to ≡ q.at) × (admits q.source m.from ≡ true) × (admits q.tag m.tag ≡ true)
+pub fit_parts : (m : Message) (q : Receive) → envelopes_fit m q ≡ true → (m.comm ≡ q.comm) × (m.to ≡ q.at) × (admits q.source m.from ≡ true) × (admits q.tag m.tag ≡ true)
 fit_parts m q h =
     let a = eqb m.comm q.comm in let b = eqb m.to q.at in let s = admits q.source m.from in let t = admits q.tag m.tag in
     let h3 = both (a && b && s) t h in let h2 = both (a && b) s h3.0 in let h1 = both a b h2.0 in
     (nat_says m.comm q.comm h1.0, nat_says m.to q.at h1.1, h2.1, h3.1)
 
-fit_from : (m : Message) (q : Receive) → m.comm ≡ q.comm → m.to ≡ q.at → admits q.source m.from ≡ true → admits q.tag m.tag ≡ true → fits m q ≡ true
+fit_from : (m : Message) (q : Receive) → m.comm ≡ q.comm → m.to ≡ q.at → admits q.source m.from ≡ true → admits q.tag m.tag ≡ true → envelopes_fit m q ≡ true
 fit_from m q c r s t =
     let a = eqb m.comm q.comm in let b = eqb m.to q.at in let x = admits q.source m.from in let y = admits q.tag m.tag in
     and_true (a && b && x) y (and_true (a && b) x (and_true a b (equal_nats m.comm q.comm c) (equal_nats m.to q.at r)) s) t
@@ -52,28 +52,28 @@ lane a b c = (a, b, c)
 abbrev receive_key : ℕ → ℕ → Option ℕ → Option ℕ → ReceiveKey
 receive_key a b c d = (a, b, c, d)
 
--- messages that fit a receive of a tag are those of its queue
-pub queue_fits : (q : Receive) (s t : ℕ) (n : Message) → q.source ≡ Some s → q.tag ≡ Some t → fits n q ≡ true → queue q.comm s q.at t ≡ queue_of n
+-- messages whose envelopes fit a receive of a tag are those of its queue
+pub queue_fits : (q : Receive) (s t : ℕ) (n : Message) → q.source ≡ Some s → q.tag ≡ Some t → envelopes_fit n q ≡ true → queue q.comm s q.at t ≡ queue_of n
 queue_fits q s t n e f h =
     let p = fit_parts n q h in
     let a : s ≡ n.from = admits_says s n.from (ap (λ (o : Option ℕ). admits o n.from) (sym e) ∙ p.2) in
     let b : t ≡ n.tag = admits_says t n.tag (ap (λ (o : Option ℕ). admits o n.tag) (sym f) ∙ p.3) in
     ap (λ c. queue c s q.at t) (sym p.0) ∙ ap (λ r. queue n.comm r q.at t) a ∙ ap (λ r. queue n.comm n.from r t) (sym p.1) ∙ ap (λ r. queue n.comm n.from n.to r) b
 
-pub fits_queue : (q : Receive) (s t : ℕ) (n : Message) → q.source ≡ Some s → q.tag ≡ Some t → queue q.comm s q.at t ≡ queue_of n → fits n q ≡ true
+pub fits_queue : (q : Receive) (s t : ℕ) (n : Message) → q.source ≡ Some s → q.tag ≡ Some t → queue q.comm s q.at t ≡ queue_of n → envelopes_fit n q ≡ true
 fits_queue q s t n e f k =
     fit_from n q (sym (ap (λ (x : Queue). x.0) k)) (sym (ap (λ (x : Queue). x.2) k))
     (ap (λ (o : Option ℕ). admits o n.from) e ∙ equal_nats s n.from (ap (λ (x : Queue). x.1) k))
     (ap (λ (o : Option ℕ). admits o n.tag) f ∙ equal_nats t n.tag (ap (λ (x : Queue). x.3) k))
 
 -- and those that fit one of any tag are those of its lane
-pub lane_fits : (q : Receive) (s : ℕ) (n : Message) → q.source ≡ Some s → fits n q ≡ true → lane q.comm s q.at ≡ lane_of n
+pub lane_fits : (q : Receive) (s : ℕ) (n : Message) → q.source ≡ Some s → envelopes_fit n q ≡ true → lane q.comm s q.at ≡ lane_of n
 lane_fits q s n e h =
     let p = fit_parts n q h in
     let a : s ≡ n.from = admits_says s n.from (ap (λ (o : Option ℕ). admits o n.from) (sym e) ∙ p.2) in
     ap (λ c. lane c s q.at) (sym p.0) ∙ ap (λ r. lane n.comm r q.at) a ∙ ap (λ r. lane n.comm n.from r) (sym p.1)
 
-pub fits_lane : (q : Receive) (s : ℕ) (n : Message) → q.source ≡ Some s → q.tag ≡ None → lane q.comm s q.at ≡ lane_of n → fits n q ≡ true
+pub fits_lane : (q : Receive) (s : ℕ) (n : Message) → q.source ≡ Some s → q.tag ≡ None → lane q.comm s q.at ≡ lane_of n → envelopes_fit n q ≡ true
 fits_lane q s n e f k =
     fit_from n q (sym (ap (λ (x : Lane). x.0) k)) (sym (ap (λ (x : Lane). x.2) k))
     (ap (λ (o : Option ℕ). admits o n.from) e ∙ equal_nats s n.from (ap (λ (x : Lane). x.1) k))
@@ -86,7 +86,7 @@ module _ (tagged : BTreeMap Queue (BTreeSet Message)) (lanes : BTreeMap Lane (BT
   at_queue : (m : Message) → Has (members tagged) m → has queue_cmp message_cmp tagged (queue_of m) m ≡ true
   at_queue m i = stands queues_total exact_queues messages_total exact_messages queue_of tagged inv.first_ordered inv.first_placed m i
 
-  -- the first of a queue is the first that fits a receive of its tag
+  -- the first of a queue is the first whose envelope fits a receive of its tag
   pub queue_first : (q : Receive) (s t : ℕ) (n : Message) → q.source ≡ Some s → q.tag ≡ Some t → has queue_cmp message_cmp tagged (queue q.comm s q.at t) n ≡ true →
       ((d : Message) → has queue_cmp message_cmp tagged (queue q.comm s q.at t) d ≡ true → is_gt (message_cmp n d) ≡ false) → IsFirstMessage (members tagged) q n
   queue_first q s t n e f h least =
@@ -99,14 +99,14 @@ module _ (tagged : BTreeMap Queue (BTreeSet Message)) (lanes : BTreeMap Lane (BT
       }
 
   pub queue_none : (q : Receive) (s t : ℕ) → q.source ≡ Some s → q.tag ≡ Some t → ((d : Message) → has queue_cmp message_cmp tagged (queue q.comm s q.at t) d ≡ false) →
-      (n : Message) → Has (members tagged) n → fits n q ≡ true → ⊥
+      (n : Message) → Has (members tagged) n → envelopes_fit n q ≡ true → ⊥
   queue_none q s t e f none n i g =
       not_least (has queue_cmp message_cmp tagged (queue q.comm s q.at t) n) (ap (λ (x : Queue). has queue_cmp message_cmp tagged x n) (queue_fits q s t n e f g) ∙ at_queue n i) (none n)
 
   at_lane : (m : Message) → Has (members tagged) m → has lane_cmp message_cmp lanes (lane_of m) m ≡ true
   at_lane m i = sym (inv.same m) ∙ at_queue m i
 
-  -- the first of a lane is the first that fits a receive of any tag
+  -- the first of a lane is the first whose envelope fits a receive of any tag
   pub lane_first : (q : Receive) (s : ℕ) (n : Message) → q.source ≡ Some s → q.tag ≡ None → has lane_cmp message_cmp lanes (lane q.comm s q.at) n ≡ true →
       ((d : Message) → has lane_cmp message_cmp lanes (lane q.comm s q.at) d ≡ true → is_gt (message_cmp n d) ≡ false) → IsFirstMessage (members tagged) q n
   lane_first q s n e f h least =
@@ -119,7 +119,7 @@ module _ (tagged : BTreeMap Queue (BTreeSet Message)) (lanes : BTreeMap Lane (BT
       }
 
   pub lane_none : (q : Receive) (s : ℕ) → q.source ≡ Some s → ((d : Message) → has lane_cmp message_cmp lanes (lane q.comm s q.at) d ≡ false) →
-      (n : Message) → Has (members tagged) n → fits n q ≡ true → ⊥
+      (n : Message) → Has (members tagged) n → envelopes_fit n q ≡ true → ⊥
   lane_none q s e none n i g =
       not_least (has lane_cmp message_cmp lanes (lane q.comm s q.at) n) (ap (λ (x : Lane). has lane_cmp message_cmp lanes x n) (lane_fits q s n e g) ∙ at_lane n i) (none n)
 
@@ -130,7 +130,7 @@ module _ (tagged : BTreeMap Queue (BTreeSet Message)) (lanes : BTreeMap Lane (BT
   queue_if q s t (Some n) e f h = queue_first q s t n e f h.0 h.1
 
   pub queue_if_none : (q : Receive) (s t : ℕ) (o : Option Message) → q.source ≡ Some s → q.tag ≡ Some t → IfNone o ((d : Message) → has queue_cmp message_cmp tagged (queue q.comm s q.at t) d ≡ false) →
-      IfNone o (is_some q.source ≡ true → (n : Message) → Has (members tagged) n → fits n q ≡ true → ⊥)
+      IfNone o (is_some q.source ≡ true → (n : Message) → Has (members tagged) n → envelopes_fit n q ≡ true → ⊥)
   queue_if_none q s t None e f h = λ told. queue_none q s t e f h
   queue_if_none q s t (Some n) e f h = tt
 
@@ -141,7 +141,7 @@ module _ (tagged : BTreeMap Queue (BTreeSet Message)) (lanes : BTreeMap Lane (BT
   lane_if q s (Some n) e f h = lane_first q s n e f h.0 h.1
 
   pub lane_if_none : (q : Receive) (s : ℕ) (o : Option Message) → q.source ≡ Some s → IfNone o ((d : Message) → has lane_cmp message_cmp lanes (lane q.comm s q.at) d ≡ false) →
-      IfNone o (is_some q.source ≡ true → (n : Message) → Has (members tagged) n → fits n q ≡ true → ⊥)
+      IfNone o (is_some q.source ≡ true → (n : Message) → Has (members tagged) n → envelopes_fit n q ≡ true → ⊥)
   lane_if_none q s None e h = λ told. lane_none q s e h
   lane_if_none q s (Some n) e h = tt
 
@@ -195,7 +195,7 @@ module _ (kinds : Kinds) (groups : BTreeMap ReceiveKey (BTreeSet Receive)) (inv 
   told_alike (Some a) None x h f g = absurd (cc)
   told_alike (Some a) (Some b) x h f g = ap (λ (y : ℕ). Some y) (admits_says a x f ∙ sym (admits_says b x g))
 
-  receive_key_fits : (m : Message) (source tag : Option ℕ) (r : Receive) → admits source m.from ≡ true → admits tag m.tag ≡ true → of_kind source tag r ≡ true → fits m r ≡ true → receive_key m.comm m.to source tag ≡ receive_key_of r
+  receive_key_fits : (m : Message) (source tag : Option ℕ) (r : Receive) → admits source m.from ≡ true → admits tag m.tag ≡ true → of_kind source tag r ≡ true → envelopes_fit m r ≡ true → receive_key m.comm m.to source tag ≡ receive_key_of r
   receive_key_fits m source tag r a b k h =
       let p = fit_parts m r h in
       let t = both (alike source r.source) (alike tag r.tag) k in
@@ -289,6 +289,6 @@ pub best_if : (xs : List Receive) (m : Message) (o : Option Receive) → IsBestA
 best_if xs m None h = tt
 best_if xs m (Some q) h = record { member = h.0; fit = h.1; first = λ r i f b. h.2 r i (kinds r.source r.tag m.from m.tag) f b }
 
-pub best_if_none : (xs : List Receive) (m : Message) (o : Option Receive) → IsBestAmong xs m (all_kinds m) o → IfNone o ((r : Receive) → Has xs r → fits m r ≡ true → ⊥)
+pub best_if_none : (xs : List Receive) (m : Message) (o : Option Receive) → IsBestAmong xs m (all_kinds m) o → IfNone o ((r : Receive) → Has xs r → envelopes_fit m r ≡ true → ⊥)
 best_if_none xs m None h = λ r i f. h r i (kinds r.source r.tag m.from m.tag) f
 best_if_none xs m (Some q) h = tt

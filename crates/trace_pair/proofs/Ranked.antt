@@ -66,7 +66,7 @@ own_set (o ∷ os) first (suc i) n a o' = (a.0, own_set os (first + 1) i n a.1 (
 
 pub own_fresh : (n first : ℕ) → AreOwn first (fresh n)
 own_fresh zero first = tt
-own_fresh (suc n) first = (record { sent = λ m i. absurd i; sent_from = λ m i. absurd i; posted = λ q i. absurd i; posted_at = λ q i. absurd i; sends_rise = tt; receives_rise = tt }, own_fresh n (first + 1))
+own_fresh (suc n) first = (record { sent = λ m i. absurd i; sent_from = λ m i. absurd i; posted = λ q i. absurd i; posted_at = λ q i. absurd i; sends_rise = tt; receives_rise = tt; cancelled_by = λ b i. absurd i; cancelled_rise = tt }, own_fresh n (first + 1))
 
 pub is_sequence : (os : List Ops) (i : ℕ) (n : Ops) → AreOwn 0 os → IsOwn i n → IsSequence (sends_of (take i os)) (sends_of (drop (suc i) os)) n.sends
 is_sequence os i n a o = record {

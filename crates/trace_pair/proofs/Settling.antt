@@ -1,28 +1,30 @@
 -- A pairing of all messages, as a receive comes.
-use Rattle.std.proofs.Common.{subst, ◌≡◌, ℕ, ◌+◌, ◌<◌, true, List, [], ◌∷◌, ◌++◌, sym, refl, ◌∙◌, ap, arith, length, take, get_or, Option, Some, None}
+use Rattle.std.proofs.Common.{subst, ◌≡◌, ℕ, ◌+◌, ◌<◌, true, false, List, [], ◌∷◌, ◌++◌, sym, refl, ◌∙◌, ap, arith, length, take, get_or, Some, None}
 use Rattle.std.proofs.lemmas.List.{take_more, flat_map_more, append-nil}
 use Rattle.std.proofs.lemmas.Option.{get_or_from_slice_get}
-use Rattle.std.specs.Prelude.{is_some, is_none, slice_get}
+use Rattle.std.specs.Prelude.{slice_get}
 use Rattle.mpi_model.specs.declared.message.Message.{Message}
 use Rattle.mpi_model.specs.declared.message.Receive.{Receive}
-use Rattle.mpi_model.specs.Fit.{fits}
+use Rattle.mpi_model.specs.Fit.{envelopes_fit, fits}
+use Rattle.mpi_model.specs.Trusts.{is_sure, is_open, is_settled}
 use Rattle.trace_ops.specs.Ops.{Ops, IsOwn, AreOwn}
 use Rattle.trace_ops.specs.Order.{Has}
-use Rattle.trace_pair.specs.Calls.{AddsReceive, IsPosting, between}
+use Rattle.trace_pair.specs.Calls.{is_live, AddsReceive, IsPosting, between}
 use Rattle.trace_pair.specs.Coupled.{taker_of, receive_by}
-use Rattle.trace_pair.specs.Indexed.{IsIndexed, IsFirstReceive, couple_of}
+use Rattle.trace_pair.specs.Indexed.{IsIndexed, IsFirstReceive, TakesReceive, couple_of}
 use Rattle.trace_pair.specs.Pairing.{receive_of}
 use Rattle.trace_pair.specs.Rising.{AreRising}
 use Rattle.trace_pair.specs.Sets.{AddsTo}
 use Rattle.trace_pair.specs.Settled.{Settles, IsTakenAt}
 use Rattle.trace_pair.specs.Table.{sends_of, receives_of}
-use Rattle.trace_pair.specs.Waiting.{Takings, untaken, with_taker, taker_at, waiting_in, couples_with, IsFirstAt, IsFirstPlace}
+use Rattle.trace_pair.specs.Waiting.{Takings, untaken, with_taker, taker_at, live, couples_with, IsFirstAt, IsFirstPlace}
 use Rattle.trace_pair.specs.declared.batch.Batch.{Batch}
 use Rattle.trace_pair.specs.declared.pair.Couple.{Couple}
 use Rattle.trace_pair.specs.declared.pair.Taker.{Taker}
+use Rattle.trace_pair.proofs.Fitting.{envelope_of, fits_live, open_live, settled_live, settled_from, sure_stands, false_apart}
 use Rattle.trace_pair.proofs.Held.{taken_found, taken_first}
 use Rattle.trace_pair.proofs.Known.{told_by}
-use Rattle.trace_pair.proofs.Moves.{push_receive_untold, push_receive_coupled, push_receive_open}
+use Rattle.trace_pair.proofs.Moves.{push_receive_open, push_receive_coupled, push_receive_free, push_receive_void}
 use Rattle.trace_pair.proofs.Owned.{own_calls, all_sends_rise}
 use Rattle.trace_pair.proofs.Partners.{partner_is, partner_absent}
 use Rattle.trace_pair.proofs.Ranked.{own_at, is_posting}
@@ -32,43 +34,55 @@ use Rattle.trace_pair.proofs.Taken.{taken_drops, taken_adds, taker_there, no_tak
 module _ (ms : List Message) (qs : List Receive) (b : Batch) (s : Settles ms qs b) where
   -- no message that waits fits the receive
   pub none_fits : (q : Receive) → IsFirstPlace b.messages q None → IsTakenAt ms qs b.messages q None
-  none_fits q none = λ m i t. none m (s.held.waits_all m i t.waits) t.fit
+  none_fits q none = λ m i t. none m (s.held.waits_all m i (sure_stands m.trust t.sure_message) t.waits) (envelope_of m q t.fit)
 
   module _ (q : Receive) (place : ℕ) (m : Message) (first : IsFirstAt b.messages q place m) where
-    -- an untold receive fits the only message that could be taken
-    pub untold_fits : (u : Receive) → IsFirstReceive b.untold m u → IsTakenAt ms qs b.messages q None
-    untold_fits u f = λ n i t.
-        let e = taken_first ms qs _ _ _ _ s.held n m q i t first.first in
-        let o = s.held.untolds u f.member in
-        t.no_untold u o.0 o.1 (subst (λ (x : Message). fits x u ≡ true) (sym e) f.fit)
+    live_there : {n : Message} → n ≡ m → TakesReceive ms qs n q → is_live m.trust ≡ true
+    live_there {n} e t = subst (λ (x : Message). is_live x.trust ≡ true) e (sure_stands n.trust t.sure_message)
 
-    -- an open one does
-    pub open_fits : (r : Receive) → IsFirstReceive b.opened m r → IsTakenAt ms qs b.messages q None
-    open_fits r f = λ n i t.
+    -- the only message that could be taken is not sure
+    pub none_sure : is_sure m.trust ≡ false → IsTakenAt ms qs b.messages q None
+    none_sure not = λ n i t.
         let e = taken_first ms qs _ _ _ _ s.held n m q i t first.first in
-        let o = s.held.opens r f.member in
-        let w = t.none_open r o.0 o.1 (subst (λ (x : Message). fits x r ≡ true) (sym e) f.fit) in
+        false_apart (is_sure m.trust) not (subst (λ (x : Message). is_sure x.trust ≡ true) e t.sure_message)
+
+    -- an open receive fits it
+    pub open_fits : (u : Receive) → IsFirstReceive b.opened m u → IsTakenAt ms qs b.messages q None
+    open_fits u f = λ n i t.
+        let e = taken_first ms qs _ _ _ _ s.held n m q i t first.first in
+        let o = s.held.opens u f.member in
+        t.no_open u o.0 o.1 (subst (λ (x : Message). fits x u ≡ true) (sym e) (fits_live m u (live_there e t) (open_live u o.1) f.fit))
+
+    -- a free one does
+    pub free_fits : (r : Receive) → IsFirstReceive b.free m r → IsTakenAt ms qs b.messages q None
+    free_fits r f = λ n i t.
+        let e = taken_first ms qs _ _ _ _ s.held n m q i t first.first in
+        let o = s.held.frees r f.member in
+        let w = t.none_free r o.0 o.1 (subst (λ (x : Message). fits x r ≡ true) (sym e) (fits_live m r (live_there e t) (settled_live r o.1) f.fit)) in
         o.2 w.0 w.1 w.2
 
-    pub is_taken : is_some q.source ≡ true → ((u : Receive) → Has b.untold u → fits m u ≡ true → ⊥) → ((r : Receive) → Has b.opened r → fits m r ≡ true → ⊥) → IsTakenAt ms qs b.messages q (Some place)
-    is_taken told no_untold none = (m, first.there, first.waits, taken_found ms qs _ _ _ _ s.held m q told first.first no_untold none)
+    pub is_taken : is_settled q ≡ true → is_sure m.trust ≡ true → ((u : Receive) → Has b.opened u → envelopes_fit m u ≡ true → ⊥) → ((r : Receive) → Has b.free r → envelopes_fit m r ≡ true → ⊥) → IsTakenAt ms qs b.messages q (Some place)
+    is_taken settled sure no_open none = (m, first.there, first.waits, taken_found ms qs _ _ _ _ s.held m q settled sure first.first no_open none)
 
   -- the same of the message that stands at the place of the list
   module _ (q : Receive) (place : ℕ) (l : List Message) (d : Message) (first : IsFirstPlace b.messages q (Some place)) (same : l ≡ b.messages.messages) where
     stands_at : get_or l place d ≡ first.0
     stands_at = get_or_from_slice_get l place first.0 d (ap (λ (k : List Message). slice_get k place) same ∙ first.1.there)
 
-    pub untold_at : (u : Receive) → IsFirstReceive b.untold (get_or l place d) u → IsTakenAt ms qs b.messages q None
-    untold_at u f = untold_fits q place first.0 first.1 u (subst (λ (x : Message). IsFirstReceive b.untold x u) stands_at f)
+    pub open_at : (u : Receive) → IsFirstReceive b.opened (get_or l place d) u → IsTakenAt ms qs b.messages q None
+    open_at u f = open_fits q place first.0 first.1 u (subst (λ (x : Message). IsFirstReceive b.opened x u) stands_at f)
 
-    pub open_at : (r : Receive) → IsFirstReceive b.opened (get_or l place d) r → IsTakenAt ms qs b.messages q None
-    open_at r f = open_fits q place first.0 first.1 r (subst (λ (x : Message). IsFirstReceive b.opened x r) stands_at f)
+    pub free_at : (r : Receive) → IsFirstReceive b.free (get_or l place d) r → IsTakenAt ms qs b.messages q None
+    free_at r f = free_fits q place first.0 first.1 r (subst (λ (x : Message). IsFirstReceive b.free x r) stands_at f)
 
-    pub taken_at : is_some q.source ≡ true → ((u : Receive) → Has b.untold u → fits (get_or l place d) u ≡ true → ⊥) → ((r : Receive) → Has b.opened r → fits (get_or l place d) r ≡ true → ⊥) → IsTakenAt ms qs b.messages q (Some place)
-    taken_at told no_untold none =
-        is_taken q place first.0 first.1 told
-        (subst (λ (x : Message). (u : Receive) → Has b.untold u → fits x u ≡ true → ⊥) stands_at no_untold)
-        (subst (λ (x : Message). (r : Receive) → Has b.opened r → fits x r ≡ true → ⊥) stands_at none)
+    pub not_sure_at : is_sure (get_or l place d).trust ≡ false → IsTakenAt ms qs b.messages q None
+    not_sure_at not = none_sure q place first.0 first.1 (subst (λ (x : Message). is_sure x.trust ≡ false) stands_at not)
+
+    pub taken_at : is_settled q ≡ true → is_sure (get_or l place d).trust ≡ true → ((u : Receive) → Has b.opened u → envelopes_fit (get_or l place d) u ≡ true → ⊥) → ((r : Receive) → Has b.free r → envelopes_fit (get_or l place d) r ≡ true → ⊥) → IsTakenAt ms qs b.messages q (Some place)
+    taken_at settled sure no_open none =
+        is_taken q place first.0 first.1 settled (subst (λ (x : Message). is_sure x.trust ≡ true) stands_at sure)
+        (subst (λ (x : Message). (u : Receive) → Has b.opened u → envelopes_fit x u ≡ true → ⊥) stands_at no_open)
+        (subst (λ (x : Message). (r : Receive) → Has b.free r → envelopes_fit x r ≡ true → ⊥) stands_at none)
 
   -- the receive that takes the message at a place
   pub receive_there : (place : ℕ) (m : Message) (t : Taker) → slice_get ms place ≡ Some m → Some t ≡ taker_at b.messages place → Some (receive_by m t) ≡ receive_of ms qs m
@@ -94,7 +108,7 @@ module _ (ms : List Message) (qs more : List Receive) (q : Receive) (adds : Adds
       let m = w.0 in
       let rise : AreRising (λ (m : Message). m.name) b.messages.messages = subst (λ (l : List Message). AreRising (λ (m : Message). m.name) l) (sym v.messages) v.rise in
       let im : Has ms m = subst (λ (l : List Message). Has l m) v.messages (stands b.messages.messages place m w.1) in
-      let fit : q ≡ receive_by m t = told_by m q adds.own w.3.told w.3.fit ∙ ap (λ (x : Taker). receive_by m x) (sym is) in
+      let fit : q ≡ receive_by m t = told_by m q adds.own (settled_from q w.3.told w.3.sure_receive) w.3.fit ∙ ap (λ (x : Taker). receive_by m x) (sym is) in
       let d = taken_drops m t b.messages.messages b.messages.takers place rise w.1 w.2 in
       let a = taken_adds m t b.messages.messages b.messages.takers place w.1 w.2 in
       let a' = subst (λ (r : Receive). AddsTo (couples_with b.messages.messages b.messages.takers) (couples_with b.messages.messages (with_taker b.messages place t).takers) (couple_of m r)) (sym fit) a in
@@ -104,25 +118,29 @@ module _ (ms : List Message) (qs more : List Receive) (q : Receive) (adds : Adds
         held = push_receive_coupled ms qs more q adds _ _ _ _ v.held m _ _ im w.3 d a';
       })
 
-  pub adds_open : (new : List Receive) → is_some q.source ≡ true → IsTakenAt ms qs old.messages q None → AddsTo b.opened new q → Settles ms more (record b { opened = new })
-  adds_open new told none added = record { messages = now.messages; rise = now.rise; held = push_receive_open ms qs more q adds _ _ _ _ now.held new told none added }
+  pub adds_free : (new : List Receive) → is_settled q ≡ true → IsTakenAt ms qs old.messages q None → AddsTo b.free new q → Settles ms more (record b { free = new })
+  adds_free new settled none added = record { messages = now.messages; rise = now.rise; held = push_receive_free ms qs more q adds _ _ _ _ now.held new settled none added }
 
-  pub adds_untold : (new : List Receive) → is_none q.source ≡ true → AddsTo b.untold new q → Settles ms more (record b { untold = new })
-  adds_untold new lost added = record { messages = now.messages; rise = now.rise; held = push_receive_untold ms qs more q adds _ _ _ _ now.held new lost added }
+  pub adds_open : (new : List Receive) → is_open q ≡ true → AddsTo b.opened new q → Settles ms more (record b { opened = new })
+  adds_open new is added = record { messages = now.messages; rise = now.rise; held = push_receive_open ms qs more q adds _ _ _ _ now.held new is added }
+
+  -- a void receive is in none of the sets
+  pub adds_void : is_open q ≡ false → is_settled q ≡ false → Settles ms more b
+  adds_void not_open not_settled = record { messages = now.messages; rise = now.rise; held = push_receive_void ms qs more q adds _ _ _ _ now.held not_open not_settled }
 
 -- no receive has come
-pub settled_none : (os : List Ops) (t : Takings) (opened untold : List Receive) → AreOwn 0 os → t ≡ untaken (sends_of os) → opened ≡ [] → untold ≡ [] → Settles (sends_of os) [] (record { messages = t; opened = opened; untold = untold })
-settled_none os t opened untold a e f g =
+pub settled_none : (os : List Ops) (t : Takings) (free opened : List Receive) → AreOwn 0 os → t ≡ untaken (sends_of os) → free ≡ [] → opened ≡ [] → Settles (sends_of os) [] (record { messages = t; free = free; opened = opened })
+settled_none os t free opened a e f g =
     let ms = sends_of os in
     let o = own_calls os a in
-    subst (λ (x : Takings). Settles ms [] (record { messages = x; opened = opened; untold = untold })) (sym e)
-    (subst (λ (x : List Receive). Settles ms [] (record { messages = untaken ms; opened = x; untold = untold })) (sym f)
-    (subst (λ (x : List Receive). Settles ms [] (record { messages = untaken ms; opened = []; untold = x })) (sym g)
+    subst (λ (x : Takings). Settles ms [] (record { messages = x; free = free; opened = opened })) (sym e)
+    (subst (λ (x : List Receive). Settles ms [] (record { messages = untaken ms; free = x; opened = opened })) (sym f)
+    (subst (λ (x : List Receive). Settles ms [] (record { messages = untaken ms; free = []; opened = x })) (sym g)
     (record {
       messages = refl;
       rise = all_sends_rise os 0 a;
       held = subst (λ (x : List Message). IsIndexed ms [] x [] [] (couples_with ms (untaken ms).takers)) (sym (all_wait ms))
-          (subst (λ (x : List Couple). IsIndexed ms [] ms [] [] x) (sym (none_coupled ms)) (none_posted ms o.senders o.messages_apart));
+          (subst (λ (x : List Couple). IsIndexed ms [] (live ms) [] [] x) (sym (none_coupled ms)) (none_posted ms o.senders o.messages_apart));
     })))
 
 -- the receives of the next rank, behind those of the ranks before it

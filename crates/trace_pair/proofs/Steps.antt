@@ -11,7 +11,8 @@ use Rattle.trace_pair.specs.Indexed.{TakesMessage, TakesReceive}
 use Rattle.trace_pair.specs.Places.{sent_at, posted_at}
 use Rattle.trace_pair.specs.Pairing.{Paired}
 use Rattle.trace_pair.proofs.Obeyed.{both, before_lt, posted_lt, pair_obeys, obeys_paired}
-use Rattle.trace_pair.proofs.Certain.{one_receive, one_message, one_sender, fits_source, fits_at, in_order, not_before, not_posted}
+use Rattle.trace_pair.proofs.Fitting.{one_sender, fits_source, fits_at, settled_from, settled_parts}
+use Rattle.trace_pair.proofs.Certain.{one_receive, one_message, in_order, not_before, not_posted}
 use Rattle.trace_pair.proofs.Local.{stays_paired, stays_unpaired, one_rank}
 
 pub one_sender_rank : (a b : Message) → sent_before a b ≡ true → a.from ≡ b.from
@@ -43,8 +44,10 @@ module _ (ms more : List Message) (qs : List Receive) (m : Message) (adds : Adds
   pub takes_message : (q : Receive) → Has qs q → ArePostedApart qs → TakesMessage ms qs m q → Paired more qs m q
   takes_message q j named t = obeys_paired more qs m q (record {
     told = t.told;
+    sure_receive = t.sure_receive;
+    sure_message = t.sure_message;
     fit = t.fit;
-    no_untold = t.no_untold;
+    no_open = t.no_open;
     messages = λ n i s f.
         ⊎_elim
         (λ (k : Has ms n).
@@ -54,16 +57,16 @@ module _ (ms more : List Message) (qs : List Receive) (m : Message) (adds : Adds
         let b = fits_at n q f in
         let p : posted_before w.0 q ≡ true = ⊎_elim (λ (x : posted_before w.0 q ≡ true). x)
         (λ c. ⊎_elim
-        (λ (x : posted_before q w.0 ≡ true). let v = o.receives q j t.told x f in absurd (t.is_open v.0 v.1 v.3))
-        (λ (e : posted_at w.0 ≡ posted_at q). absurd (t.is_open n k (subst (λ (x : Receive). Paired ms qs n x) (named w.0 q w.1 j e) w.2))) c)
+        (λ (x : posted_before q w.0 ≡ true). let v = o.receives q j (settled_from q t.told t.sure_receive) x f in absurd (t.is_free v.0 v.1 v.3))
+        (λ (e : posted_at w.0 ≡ posted_at q). absurd (t.is_free n k (subst (λ (x : Receive). Paired ms qs n x) (named w.0 q w.1 j e) w.2))) c)
         (in_order (posted_at w.0) (posted_at q) (sym a ∙ b)) in
         (w.0, w.1, p, message-keeps n w.0 k w.1 w.2))
         (λ (e : n ≡ m). absurd (not_before m n s (ap (λ (x : Message). x.name.call) e)))
         (adds.cases n i);
     receives = λ r i s p f.
-        let w = t.first_open r i s p f in
+        let w = t.first_free r i s p f in
         let g = (pair_obeys ms qs w.0 r w.2).fit in
-        (w.0, adds.old w.0 w.1, adds.behind w.0 w.1 (same_sender w.0 m r s g f), message-keeps w.0 r w.1 i w.2);
+        (w.0, adds.old w.0 w.1, adds.behind w.0 w.1 (same_sender w.0 m r (settled_parts r s).0 g f), message-keeps w.0 r w.1 i w.2);
   })
 
   pub message-taken : (q : Receive) → Has qs q → Paired more qs m q → TakesMessage ms qs m q
@@ -71,12 +74,14 @@ module _ (ms more : List Message) (qs : List Receive) (m : Message) (adds : Adds
       let o = pair_obeys more qs m q h in
       record {
         told = o.told;
+        sure_receive = o.sure_receive;
+        sure_message = o.sure_message;
         fit = o.fit;
-        no_untold = o.no_untold;
-        is_open = λ n i g.
+        no_open = o.no_open;
+        is_free = λ n i g.
             let f = (pair_obeys ms qs n q g).fit in
             one_message more qs m n q adds.new (adds.old n i) j (adds.behind n i (same_sender n m q o.told f o.fit)) h (message-keeps n q i j g);
-        first_open = λ r i s p f.
+        first_free = λ r i s p f.
             let w = o.receives r i s p f in
             let k = ⊎_elim (λ (x : Has ms w.0). x) (λ (e : w.0 ≡ m). absurd (not_before m w.0 w.2 (ap (λ (x : Message). x.name.call) e))) (adds.cases w.0 w.1) in
             (w.0, k, message-adds_none w.0 r k i w.3);
@@ -101,9 +106,11 @@ module _ (ms : List Message) (qs more : List Receive) (q : Receive) (adds : Adds
   pub takes_receive : (m : Message) → Has ms m → AreApart ms → TakesReceive ms qs m q → Paired ms more m q
   takes_receive m j named t = obeys_paired ms more m q (record {
     told = t.told;
+    sure_receive = t.sure_receive;
+    sure_message = t.sure_message;
     fit = t.fit;
-    no_untold = λ u i n p f.
-        ⊎_elim (λ (k : Has qs u). t.no_untold u k n f) (λ (e : u ≡ q). not_posted q u p (ap (λ (x : Receive). x.name.call) e)) (adds.cases u i);
+    no_open = λ u i n p f.
+        ⊎_elim (λ (k : Has qs u). t.no_open u k n f) (λ (e : u ≡ q). not_posted q u p (ap (λ (x : Receive). x.name.call) e)) (adds.cases u i);
     messages = λ n i s f.
         let w = t.first_waiting n i s f in
         let g = (pair_obeys ms qs n w.0 w.2).fit in
@@ -111,9 +118,9 @@ module _ (ms : List Message) (qs more : List Receive) (q : Receive) (adds : Adds
     receives = λ r i s p f.
         ⊎_elim
         (λ (k : Has qs r).
-        let w = t.none_open r k s f in
+        let w = t.none_free r k s f in
         let o = pair_obeys ms qs w.0 r w.2 in
-        let e = same_sender w.0 m r s o.fit f in
+        let e = same_sender w.0 m r (settled_parts r s).0 o.fit f in
         let b : sent_before w.0 m ≡ true = ⊎_elim (λ (x : sent_before w.0 m ≡ true). x)
         (λ c. ⊎_elim
         (λ (x : sent_before m w.0 ≡ true). let v = o.messages m j x f in absurd (t.waits v.0 v.1 v.3))
@@ -130,8 +137,10 @@ module _ (ms : List Message) (qs more : List Receive) (q : Receive) (adds : Adds
       let at = fits_at m q o.fit in
       record {
         told = o.told;
+        sure_receive = o.sure_receive;
+        sure_message = o.sure_message;
         fit = o.fit;
-        no_untold = λ u i n f. o.no_untold u (adds.old u i) n (adds.behind u i (sym (fits_at m u f) ∙ at)) f;
+        no_open = λ u i n f. o.no_open u (adds.old u i) n (adds.behind u i (sym (fits_at m u f) ∙ at)) f;
         waits = λ r i g.
             let f = (pair_obeys ms qs m r g).fit in
             one_receive ms more m q r j adds.new (adds.old r i) (adds.behind r i (sym (fits_at m r f) ∙ at)) h (receive-keeps m r j i g);
@@ -139,7 +148,7 @@ module _ (ms : List Message) (qs more : List Receive) (q : Receive) (adds : Adds
             let w = o.messages n i s f in
             let k = ⊎_elim (λ (x : Has qs w.0). x) (λ (e : w.0 ≡ q). absurd (not_posted q w.0 w.2 (ap (λ (x : Receive). x.name.call) e))) (adds.cases w.0 w.1) in
             (w.0, k, receive-adds_none n w.0 i k w.3);
-        none_open = λ r i s f.
+        none_free = λ r i s f.
             let w = o.receives r (adds.old r i) s (adds.behind r i (sym (fits_at m r f) ∙ at)) f in
             (w.0, w.1, receive-adds_none w.0 r w.1 i w.3);
       }

@@ -14,17 +14,18 @@ use Rattle.std.proofs.lemmas.Map.Views.{tells_apart}
 use Rattle.std.proofs.lemmas.Option.{slice_get_within}
 use Rattle.mpi_model.specs.declared.message.Message.{Message}
 use Rattle.mpi_model.specs.declared.message.Receive.{Receive}
-use Rattle.mpi_model.specs.Fit.{fits}
+use Rattle.mpi_model.specs.Fit.{envelopes_fit}
 use Rattle.trace_ops.specs.Order.{Has}
+use Rattle.trace_pair.specs.Calls.{is_live}
 use Rattle.trace_pair.specs.Indexed.{name_lt}
 use Rattle.trace_pair.specs.Rising.{AreRising}
-use Rattle.trace_pair.specs.Waiting.{Takings, items_of, waiting_in, waits_at, from_waiting, places_at, AreRisingPlaces, ArePlaces, IsFirstPlace}
+use Rattle.trace_pair.specs.Waiting.{items_of, left_in, waits_at, from_waiting, places_at, AreRisingPlaces, ArePlaces, IsFirstPlace}
 use Rattle.trace_pair.specs.declared.pair.Taker.{Taker}
 use Rattle.trace_pair.proofs.Listed.{name_apart, name_apart_back}
 use Rattle.trace_pair.proofs.PutAt.{at_equal, says_equal}
 use Rattle.trace_pair.proofs.Ranks.{has_left, has_right, has_either}
 use Rattle.trace_pair.proofs.Searched.{stands}
-use Rattle.trace_pair.proofs.Taken.{wait_found, waits_there, still_waits}
+use Rattle.trace_pair.proofs.Taken.{left_found, left_there, live_has, live_was, still_waits}
 
 -- What stood at a key is changed by f.
 module _ {K : Type 0} {cmp : K → K → Ordering} (keys : IsTotalOrder cmp) (old : BTreeMap K (List ℕ)) (key : K) (f : List ℕ → List ℕ) where
@@ -185,7 +186,7 @@ module _ {K : Type 0} {cmp : K → K → Ordering} (keys : IsTotalOrder cmp) (ex
       ((k : K) → places_at cmp new k ≡ cond (is_eq (cmp key k)) (from_waiting ts (places_at cmp old k)) (places_at cmp old k)) → ArePlaces cmp key_of ms ts new
   places_passed ms ts old new key are ordered law = record {
     ordered = ordered;
-    all = λ i m e w. stays_if ts (is_eq (cmp key (key_of m))) (places_at cmp old (key_of m)) (places_at cmp new (key_of m)) i (law (key_of m)) w (are.all i m e w);
+    all = λ i m e l w. stays_if ts (is_eq (cmp key (key_of m))) (places_at cmp old (key_of m)) (places_at cmp new (key_of m)) i (law (key_of m)) w (are.all i m e l w);
     own = λ k i h. are.own k i (was_if ts (is_eq (cmp key k)) (places_at cmp old k) (places_at cmp new k) i (law k) h);
     rise = λ k. rise_if ts (is_eq (cmp key k)) (places_at cmp old k) (places_at cmp new k) (law k) (are.rise k);
   }
@@ -194,7 +195,7 @@ module _ {K : Type 0} {cmp : K → K → Ordering} (keys : IsTotalOrder cmp) (ex
   pub places_taken : (ms : List Message) (ts : List (Option Taker)) (p : ℕ) (t : Taker) (places : BTreeMap K (List ℕ)) → ArePlaces cmp key_of ms ts places → ArePlaces cmp key_of ms (slice_set ts p (Some t)) places
   places_taken ms ts p t places are = record {
     ordered = are.ordered;
-    all = λ i m e w. are.all i m e (still_waits ts p i t w);
+    all = λ i m e l w. are.all i m e l (still_waits ts p i t w);
     own = are.own;
     rise = are.rise;
   }
@@ -203,7 +204,7 @@ module _ {K : Type 0} {cmp : K → K → Ordering} (keys : IsTotalOrder cmp) (ex
   pub no_places : (ts : List (Option Taker)) (places : BTreeMap K (List ℕ)) → IsOrdered cmp places → ((k : K) → places_at cmp places k ≡ []) → ArePlaces cmp key_of [] ts places
   no_places ts places ordered none = record {
     ordered = ordered;
-    all = λ i m e w. absurd (cc);
+    all = λ i m e l w. absurd (cc);
     own = λ k i h. absurd (subst (λ (l : List ℕ). Has l i) (none k) h);
     rise = λ k. subst (λ (l : List ℕ). AreRisingPlaces l) (sym (none k)) tt;
   }
@@ -225,41 +226,57 @@ module _ {K : Type 0} {cmp : K → K → Ordering} (keys : IsTotalOrder cmp) (ex
   added_rise true xs ys n e r b = subst (λ (l : List ℕ). AreRisingPlaces l) (sym e) (more_rise xs n r b)
   added_rise false xs ys n e r b = subst (λ (l : List ℕ). AreRisingPlaces l) (sym e) r
 
-  -- a message comes
-  pub places_more : (ms : List Message) (x : Message) (ts : List (Option Taker)) (n : ℕ) (old new : BTreeMap K (List ℕ)) → n ≡ length ms → ((us : List (Option Taker)) → ArePlaces cmp key_of ms us old) → IsOrdered cmp new →
+  -- a message comes that is not void
+  pub places_more : (ms : List Message) (x : Message) (ts : List (Option Taker)) (n : ℕ) (old new : BTreeMap K (List ℕ)) → n ≡ length ms → is_live x.trust ≡ true → ((us : List (Option Taker)) → ArePlaces cmp key_of ms us old) → IsOrdered cmp new →
       ((k : K) → places_at cmp new k ≡ cond (is_eq (cmp (key_of x) k)) (places_at cmp old k ++ n ∷ []) (places_at cmp old k)) → ArePlaces cmp key_of (ms ++ x ∷ []) ts new
-  places_more ms x ts n old new len are ordered law = record {
+  places_more ms x ts n old new len live are ordered law = record {
     ordered = ordered;
-    all = λ i m e w. ⊎_elim
-        (λ (f : slice_get ms i ≡ Some m). added_left (is_eq (cmp (key_of x) (key_of m))) (places_at cmp old (key_of m)) (places_at cmp new (key_of m)) n i (law (key_of m)) ((are ts).all i m f w))
+    all = λ i m e l w. ⊎_elim
+        (λ (f : slice_get ms i ≡ Some m). added_left (is_eq (cmp (key_of x) (key_of m))) (places_at cmp old (key_of m)) (places_at cmp new (key_of m)) n i (law (key_of m)) ((are ts).all i m f l w))
         (λ (v : (i ≡ length ms) × (m ≡ x)).
         let h : Has (places_at cmp new (key_of x)) n =
         added_here (is_eq (cmp (key_of x) (key_of x))) (places_at cmp old (key_of x)) (places_at cmp new (key_of x)) n (law (key_of x)) (ap (λ a. is_eq a) (tied_itself keys (key_of x))) in
         subst (λ (y : Message). Has (places_at cmp new (key_of y)) i) (sym v.1) (subst (λ (j : ℕ). Has (places_at cmp new (key_of x)) j) (len ∙ sym v.0) h))
         (last_or_old ms x i m e);
     own = λ k i h. ⊎_elim
-        (λ (j : Has (places_at cmp old k) i). let o = (are ts).own k i j in (o.0, still_there ms x i o.0 o.1, o.2))
+        (λ (j : Has (places_at cmp old k) i). let o = (are ts).own k i j in (o.0, still_there ms x i o.0 o.1, o.2, o.3))
         (λ (v : (is_eq (cmp (key_of x) k) ≡ true) × (i ≡ n)).
-        (x, subst (λ (j : ℕ). slice_get (ms ++ x ∷ []) j ≡ Some x) (sym (v.1 ∙ len)) (last_there ms x), tells_apart exact (key_of x) k v.0))
+        (x, subst (λ (j : ℕ). slice_get (ms ++ x ∷ []) j ≡ Some x) (sym (v.1 ∙ len)) (last_there ms x), tells_apart exact (key_of x) k v.0, live))
         (added_cases (is_eq (cmp (key_of x) k)) (places_at cmp old k) (places_at cmp new k) n i (law k) h);
     rise = λ k. added_rise (is_eq (cmp (key_of x) k)) (places_at cmp old k) (places_at cmp new k) n (law k) ((are ts).rise k)
         (λ i h. let o = (are ts).own k i h in let b = slice_get_within ms i o.0 o.1 in omega (arith, b, len));
   }
 
-  -- the next of the messages comes
-  pub places_next : (ms : List Message) (i : ℕ) (d : Message) (ts : List (Option Taker)) (old new : BTreeMap K (List ℕ)) → i < length ms → ((us : List (Option Taker)) → ArePlaces cmp key_of (take i ms) us old) → IsOrdered cmp new →
-      ((k : K) → places_at cmp new k ≡ cond (is_eq (cmp (key_of (get_or ms i d)) k)) (places_at cmp old k ++ i ∷ []) (places_at cmp old k)) → ArePlaces cmp key_of (take (i + 1) ms) ts new
-  places_next ms i d ts old new lt are ordered law =
-      subst (λ (l : List Message). ArePlaces cmp key_of l ts new) (sym (take_more ms i d lt))
-      (places_more (take i ms) (get_or ms i d) ts i old new (sym (length-take-le i ms (omega arith))) are ordered law)
+  -- a void one comes
+  places_void : (ms : List Message) (x : Message) (ts : List (Option Taker)) (places : BTreeMap K (List ℕ)) → (is_live x.trust ≡ true → ⊥) → ArePlaces cmp key_of ms ts places → ArePlaces cmp key_of (ms ++ x ∷ []) ts places
+  places_void ms x ts places void are = record {
+    ordered = are.ordered;
+    all = λ i m e l w. ⊎_elim (λ (f : slice_get ms i ≡ Some m). are.all i m f l w)
+        (λ (v : (i ≡ length ms) × (m ≡ x)). absurd (void (subst (λ (y : Message). is_live y.trust ≡ true) v.1 l))) (last_or_old ms x i m e);
+    own = λ k i h. let o = are.own k i h in (o.0, still_there ms x i o.0 o.1, o.2, o.3);
+    rise = are.rise;
+  }
 
-  -- the front of the places at the key of a receive is the first message that fits it
+  pub places_passes : (ms : List Message) (i : ℕ) (d : Message) (ts : List (Option Taker)) (places : BTreeMap K (List ℕ)) → i < length ms → (is_live (get_or ms i d).trust ≡ true → ⊥) →
+      ((us : List (Option Taker)) → ArePlaces cmp key_of (take i ms) us places) → ArePlaces cmp key_of (take (i + 1) ms) ts places
+  places_passes ms i d ts places lt void are =
+      subst (λ (l : List Message). ArePlaces cmp key_of l ts places) (sym (take_more ms i d lt)) (places_void (take i ms) (get_or ms i d) ts places void (are ts))
+
+  -- the next of the messages comes
+  pub places_next : (ms : List Message) (i : ℕ) (d : Message) (ts : List (Option Taker)) (old new : BTreeMap K (List ℕ)) → i < length ms → is_live (get_or ms i d).trust ≡ true → ((us : List (Option Taker)) → ArePlaces cmp key_of (take i ms) us old) → IsOrdered cmp new →
+      ((k : K) → places_at cmp new k ≡ cond (is_eq (cmp (key_of (get_or ms i d)) k)) (places_at cmp old k ++ i ∷ []) (places_at cmp old k)) → ArePlaces cmp key_of (take (i + 1) ms) ts new
+  places_next ms i d ts old new lt live are ordered law =
+      subst (λ (l : List Message). ArePlaces cmp key_of l ts new) (sym (take_more ms i d lt))
+      (places_more (take i ms) (get_or ms i d) ts i old new (sym (length-take-le i ms (omega arith))) live are ordered law)
+
+  -- the front of the places at the key of a receive is the first message whose envelope fits it
   pub front_is_first : (ms : List Message) (ts : List (Option Taker)) (places : BTreeMap K (List ℕ)) → AreRising (λ (m : Message). m.name) ms → ArePlaces cmp key_of ms ts places →
-      (q : Receive) (k : K) → ((m : Message) → fits m q ≡ true → k ≡ key_of m) → ((m : Message) → k ≡ key_of m → fits m q ≡ true) →
+      (q : Receive) (k : K) → ((m : Message) → envelopes_fit m q ≡ true → k ≡ key_of m) → ((m : Message) → k ≡ key_of m → envelopes_fit m q ≡ true) →
       (o : Option ℕ) → o ≡ slice_get (from_waiting ts (places_at cmp places k)) zero → IsFirstPlace (record { messages = ms; takers = ts }) q o
   front_is_first ms ts places rise are q k at fit None e = λ n h f.
-      let w = wait_found ms ts n h in
-      let i : Has (places_at cmp places k) w.0 = subst (λ (x : K). Has (places_at cmp places x) w.0) (sym (at n f)) (are.all w.0 n w.1 w.2) in
+      let v = live_was (left_in ms ts) n h in
+      let w = left_found ms ts n v.0 in
+      let i : Has (places_at cmp places k) w.0 = subst (λ (x : K). Has (places_at cmp places x) w.0) (sym (at n f)) (are.all w.0 n w.1 v.1 w.2) in
       no_front (from_waiting ts (places_at cmp places k)) w.0 (sym e) (stays ts (places_at cmp places k) w.0 w.2 i)
   front_is_first ms ts places rise are q k at fit (Some p) e =
       let fr : slice_get (from_waiting ts (places_at cmp places k)) zero ≡ Some p = sym e in
@@ -270,11 +287,12 @@ module _ {K : Type 0} {cmp : K → K → Ordering} (keys : IsTotalOrder cmp) (ex
           there = o.1;
           waits = front_waits ts (places_at cmp places k) p fr;
           first = record {
-            member = waits_there ms ts p m o.1 (front_waits ts (places_at cmp places k) p fr);
+            member = live_has (left_in ms ts) m (left_there ms ts p m o.1 (front_waits ts (places_at cmp places k) p fr)) o.3;
             fit = fit m (sym o.2);
             first = λ n h f b.
-                let w = wait_found ms ts n h in
-                let i : Has (places_at cmp places k) w.0 = subst (λ (x : K). Has (places_at cmp places x) w.0) (sym (at n f)) (are.all w.0 n w.1 w.2) in
+                let v = live_was (left_in ms ts) n h in
+                let w = left_found ms ts n v.0 in
+                let i : Has (places_at cmp places k) w.0 = subst (λ (x : K). Has (places_at cmp places x) w.0) (sym (at n f)) (are.all w.0 n w.1 v.1 w.2) in
                 ⊎_elim
                 (λ (d : w.0 ≡ p). let g : slice_get ms p ≡ Some n = subst (λ (j : ℕ). slice_get ms j ≡ Some n) d w.1 in let s : n ≡ m = cc in name_apart n.name m.name b (ap (λ (x : Message). x.name) s))
                 (λ (lt : p < w.0). name_apart_back m.name n.name (rising_at ms p w.0 m n rise o.1 w.1 lt) b)

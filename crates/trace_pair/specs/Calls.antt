@@ -1,9 +1,15 @@
 -- Calls that come to the end of their rank, or go from there.
-use Rattle.std.specs.Prelude.{◌≡◌, true, List, ◌++◌, ◌⊎◌}
+use Rattle.std.specs.Prelude.{◌≡◌, Bool, true, not, List, ◌++◌, ◌⊎◌}
 use Rattle.mpi_model.specs.declared.message.Message.{Message}
 use Rattle.mpi_model.specs.declared.message.Receive.{Receive}
+use Rattle.mpi_model.specs.declared.message.Trust.{Trust}
+use Rattle.mpi_model.specs.Trusts.{is_void}
 use Rattle.trace_ops.specs.Order.{Has, sent_before, posted_before, AreInOrder, ArePosted}
 use Rattle.trace_pair.specs.Places.{sent_at, posted_at}
+
+-- it isn't known to be cancelled
+abbrev pub is_live : Trust → Bool
+is_live t = not (is_void t)
 
 -- the call that sent the message is one of its sender's
 abbrev pub IsOwnMessage : Message → Type 0

@@ -1,10 +1,11 @@
 -- Why pairs may be relied on: no further trace, and no choice that MPI leaves open, takes one back.
-use Rattle.std.specs.Prelude.{◌≡◌, Bool, true, is_some, List}
+use Rattle.std.specs.Prelude.{◌≡◌, Bool, true, false, List}
 use Rattle.std.specs.List.{AllZip}
 use Rattle.mpi_model.specs.declared.event.OpName.{OpName}
 use Rattle.mpi_model.specs.declared.message.Message.{Message}
 use Rattle.mpi_model.specs.declared.message.Receive.{Receive}
-use Rattle.trace_ops.specs.Ops.{Ops, AreOwn, Grows}
+use Rattle.mpi_model.specs.Trusts.{is_doubtful, is_open}
+use Rattle.trace_ops.specs.Ops.{Ops, AreOwn, Grows, StaysCertain}
 use Rattle.trace_ops.specs.Order.{Has}
 use Rattle.trace_pair.specs.Matching.{IsLegal}
 use Rattle.trace_pair.specs.Table.{sends_of, receives_of, pair_of}
@@ -14,14 +15,16 @@ use Rattle.trace_pair.specs.declared.pair.Pair.{Pair}
 abbrev pub IsLegalFor : List Ops → (OpName → OpName → Bool) → Type 0
 IsLegalFor held couple = IsLegal (sends_of held) (receives_of held) (λ m q. couple m.name q.name ≡ true)
 
--- Each pair is a couple of every legal matching of every continuation, however untold receives are told there.
+-- Each pair is a couple of every legal matching of every continuation, however open receives are told there. In a
+-- continuation no later Cancel names what is sure.
 abbrev pub AreCertain : List Ops → List Pair → Type 0
-AreCertain held pairs = (more : List Ops) (couple : OpName → OpName → Bool) → AreOwn 0 more → AllZip Grows held more → IsLegalFor more couple
+AreCertain held pairs = (more : List Ops) (couple : OpName → OpName → Bool) → AreOwn 0 more → AllZip Grows held more → AllZip StaysCertain held more → IsLegalFor more couple
     → (p : Pair) → Has pairs p → couple p.message p.receive ≡ true
 
--- No receive is untold.
-abbrev pub AreAllTold : List Ops → Type 0
-AreAllTold held = (q : Receive) → Has (receives_of held) q → is_some q.source ≡ true
+-- No receive is open, and no message doubtful.
+pub record AreAllSettled (held : List Ops) : Type 0 where
+  pub none_open : (q : Receive) → Has (receives_of held) q → is_open q ≡ false
+  pub none_doubtful : (m : Message) → Has (sends_of held) m → is_doubtful m.trust ≡ false
 
 -- The pairs are a legal matching.
 abbrev pub AreLegal : List Ops → List Pair → Type 0

@@ -5,6 +5,7 @@ use Rattle.std.specs.Option.{option_map}
 use Rattle.mpi_model.specs.declared.event.OpName.{OpName}
 use Rattle.mpi_model.specs.declared.message.Message.{Message}
 use Rattle.mpi_model.specs.declared.message.Receive.{Receive}
+use Rattle.mpi_model.specs.declared.message.Trust.TheVariants.{Sure}
 use Rattle.trace_ops.specs.Order.{Has}
 use Rattle.trace_pair.specs.Indexed.{couple_of}
 use Rattle.trace_pair.specs.Slots.{Slots, AreSlots, value_of, entries_of}
@@ -19,9 +20,9 @@ taker_of q = record { call = q.name.call; datatype = q.datatype; count = q.count
 abbrev pub taker_name : Message → Taker → OpName
 taker_name m t = record { rank = m.to; call = t.call }
 
--- and that receive: what the message tells of it, and what it tells beside
+-- and that receive: what the message tells of it, and what it tells beside; it is sure
 abbrev pub receive_by : Message → Taker → Receive
-receive_by m t = record { name = taker_name m t; comm = m.comm; at = m.to; source = Some m.from; tag = cond t.any_tag None (Some m.tag); count = t.count; datatype = t.datatype }
+receive_by m t = record { name = taker_name m t; comm = m.comm; at = m.to; source = Some m.from; tag = cond t.any_tag None (Some m.tag); count = t.count; trust = Sure; datatype = t.datatype }
 
 -- the couple of a message that some receive took
 abbrev pub couple_by : Slots Taker → Message → Option Couple

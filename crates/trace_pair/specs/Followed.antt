@@ -9,7 +9,7 @@ use Rattle.trace_pair.specs.Table.{sends_of, receives_of}
 use Rattle.trace_pair.specs.declared.matched.Matched.{Matched}
 
 abbrev pub Indexes : List Message → List Receive → Matched → Type 0
-Indexes ms qs s = IsIndexed ms qs s.waiting s.opened s.untold s.couples
+Indexes ms qs s = IsIndexed ms qs s.waiting s.free s.opened s.couples
 
 -- the state stands for the calls of all ranks
 abbrev pub Follows : List Ops → Matched → Type 0

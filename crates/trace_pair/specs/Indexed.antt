@@ -1,11 +1,12 @@
--- The four sets of an index: messages that wait, open receives, untold receives, and couples.
-use Rattle.std.specs.Prelude.{◌≡◌, Bool, true, ◌||◌, ◌==◌, ◌&&◌, nat_lt, is_some, is_none, List}
+-- The four sets of an index: messages that wait, free receives, open receives, and couples.
+use Rattle.std.specs.Prelude.{◌≡◌, Bool, true, ◌||◌, ◌==◌, ◌&&◌, nat_lt, is_some, List}
 use Rattle.mpi_model.specs.declared.event.OpName.{OpName}
 use Rattle.mpi_model.specs.declared.message.Message.{Message}
 use Rattle.mpi_model.specs.declared.message.Receive.{Receive}
-use Rattle.mpi_model.specs.Fit.{fits}
+use Rattle.mpi_model.specs.Fit.{envelopes_fit, fits}
+use Rattle.mpi_model.specs.Trusts.{is_sure, is_open, is_settled}
 use Rattle.trace_ops.specs.Order.{Has, sent_before, posted_before}
-use Rattle.trace_pair.specs.Calls.{IsOwnMessage, IsOwnReceive, AreApart, ArePostedApart}
+use Rattle.trace_pair.specs.Calls.{is_live, IsOwnMessage, IsOwnReceive, AreApart, ArePostedApart}
 use Rattle.trace_pair.specs.Pairing.{Paired}
 use Rattle.trace_pair.specs.declared.pair.Couple.{Couple}
 
@@ -14,58 +15,63 @@ abbrev pub IsUnpaired : List Message → List Receive → Message → Type 0
 IsUnpaired ms qs m = (q : Receive) → Has qs q → Paired ms qs m q → ⊥
 
 -- the receive takes no message
-abbrev pub IsOpen : List Message → List Receive → Receive → Type 0
-IsOpen ms qs q = (m : Message) → Has ms m → Paired ms qs m q → ⊥
+abbrev pub IsFree : List Message → List Receive → Receive → Type 0
+IsFree ms qs q = (m : Message) → Has ms m → Paired ms qs m q → ⊥
 
 abbrev pub couple_of : Message → Receive → Couple
 couple_of m q = record { message = m; receive = q }
 
--- In the sets are: messages without a receive, told receives without a message, untold receives, and the pairs.
+-- In the sets are: messages without a receive, settled receives without a message, open receives, and the pairs. What is
+-- void is in none of them.
 -- Each set in two directions: what is in it is so, and what is so is in it.
-pub record IsIndexed (ms : List Message) (qs : List Receive) (waiting : List Message) (opened untold : List Receive) (couples : List Couple) : Type 0 where
+pub record IsIndexed (ms : List Message) (qs : List Receive) (waiting : List Message) (free opened : List Receive) (couples : List Couple) : Type 0 where
   pub senders : (m : Message) → Has ms m → IsOwnMessage m
   pub receivers : (q : Receive) → Has qs q → IsOwnReceive q
   pub messages_apart : AreApart ms
   pub receives_apart : ArePostedApart qs
-  pub waits : (m : Message) → Has waiting m → Has ms m × IsUnpaired ms qs m
-  pub waits_all : (m : Message) → Has ms m → IsUnpaired ms qs m → Has waiting m
-  pub opens : (q : Receive) → Has opened q → Has qs q × (is_some q.source ≡ true) × IsOpen ms qs q
-  pub opens_all : (q : Receive) → Has qs q → is_some q.source ≡ true → IsOpen ms qs q → Has opened q
-  pub untolds : (q : Receive) → Has untold q → Has qs q × (is_none q.source ≡ true)
-  pub untolds_all : (q : Receive) → Has qs q → is_none q.source ≡ true → Has untold q
+  pub waits : (m : Message) → Has waiting m → Has ms m × (is_live m.trust ≡ true) × IsUnpaired ms qs m
+  pub waits_all : (m : Message) → Has ms m → is_live m.trust ≡ true → IsUnpaired ms qs m → Has waiting m
+  pub frees : (q : Receive) → Has free q → Has qs q × (is_settled q ≡ true) × IsFree ms qs q
+  pub frees_all : (q : Receive) → Has qs q → is_settled q ≡ true → IsFree ms qs q → Has free q
+  pub opens : (q : Receive) → Has opened q → Has qs q × (is_open q ≡ true)
+  pub opens_all : (q : Receive) → Has qs q → is_open q ≡ true → Has opened q
   pub coupled : (c : Couple) → Has couples c → Has ms c.message × Has qs c.receive × Paired ms qs c.message c.receive
   pub coupled_all : (m : Message) (q : Receive) → Has ms m → Has qs q → Paired ms qs m q → Has couples (couple_of m q)
 
--- what the index tests for a new message: the receive is the first open one that fits, and no waiting message fits it
+-- what the index tests for a new message: the receive is the first free one that fits, and no waiting message fits it
 pub record TakesMessage (ms : List Message) (qs : List Receive) (m : Message) (q : Receive) : Type 0 where
   pub told : is_some q.source ≡ true
+  pub sure_receive : is_sure q.trust ≡ true
+  pub sure_message : is_sure m.trust ≡ true
   pub fit : fits m q ≡ true
-  pub no_untold : (u : Receive) → Has qs u → is_none u.source ≡ true → posted_before u q ≡ true → fits m u ≡ true → ⊥
-  pub is_open : IsOpen ms qs q
-  pub first_open : (r : Receive) → Has qs r → is_some r.source ≡ true → posted_before r q ≡ true → fits m r ≡ true → (n : Message) × Has ms n × Paired ms qs n r
+  pub no_open : (u : Receive) → Has qs u → is_open u ≡ true → posted_before u q ≡ true → fits m u ≡ true → ⊥
+  pub is_free : IsFree ms qs q
+  pub first_free : (r : Receive) → Has qs r → is_settled r ≡ true → posted_before r q ≡ true → fits m r ≡ true → (n : Message) × Has ms n × Paired ms qs n r
   pub none_waits : (n : Message) → Has ms n → fits n q ≡ true → (r : Receive) × Has qs r × Paired ms qs n r
 
--- and for a new receive: the message is the first waiting one that fits, and no untold or open receive fits it
+-- and for a new receive: the message is the first waiting one that fits, and no open or free receive fits it
 pub record TakesReceive (ms : List Message) (qs : List Receive) (m : Message) (q : Receive) : Type 0 where
   pub told : is_some q.source ≡ true
+  pub sure_receive : is_sure q.trust ≡ true
+  pub sure_message : is_sure m.trust ≡ true
   pub fit : fits m q ≡ true
-  pub no_untold : (u : Receive) → Has qs u → is_none u.source ≡ true → fits m u ≡ true → ⊥
+  pub no_open : (u : Receive) → Has qs u → is_open u ≡ true → fits m u ≡ true → ⊥
   pub waits : IsUnpaired ms qs m
   pub first_waiting : (n : Message) → Has ms n → sent_before n m ≡ true → fits n q ≡ true → (r : Receive) × Has qs r × Paired ms qs n r
-  pub none_open : (r : Receive) → Has qs r → is_some r.source ≡ true → fits m r ≡ true → (n : Message) × Has ms n × Paired ms qs n r
+  pub none_free : (r : Receive) → Has qs r → is_settled r ≡ true → fits m r ≡ true → (n : Message) × Has ms n × Paired ms qs n r
 
 -- by rank, and then by call
 abbrev pub name_lt : OpName → OpName → Bool
 name_lt a b = nat_lt a.rank b.rank || ((a.rank == b.rank) && nat_lt a.call b.call)
 
--- the first message of the set that fits the receive
+-- the first message of the set whose envelope fits the receive's
 pub record IsFirstMessage (messages : List Message) (q : Receive) (m : Message) : Type 0 where
   pub member : Has messages m
-  pub fit : fits m q ≡ true
-  pub first : (n : Message) → Has messages n → fits n q ≡ true → name_lt n.name m.name ≡ true → ⊥
+  pub fit : envelopes_fit m q ≡ true
+  pub first : (n : Message) → Has messages n → envelopes_fit n q ≡ true → name_lt n.name m.name ≡ true → ⊥
 
--- the first receive of the set that fits the message
+-- the first receive of the set whose envelope fits the message's
 pub record IsFirstReceive (receives : List Receive) (m : Message) (q : Receive) : Type 0 where
   pub member : Has receives q
-  pub fit : fits m q ≡ true
-  pub first : (r : Receive) → Has receives r → fits m r ≡ true → name_lt r.name q.name ≡ true → ⊥
+  pub fit : envelopes_fit m q ≡ true
+  pub first : (r : Receive) → Has receives r → envelopes_fit m r ≡ true → name_lt r.name q.name ≡ true → ⊥

@@ -5,9 +5,11 @@ use Rattle.std.specs.Ordering.{nat_cmp, int_cmp, ordering_then}
 use Rattle.std.specs.Option.{option_cmp}
 use Rattle.mpi_model.specs.declared.envelope.Mode.{Mode}
 use Rattle.mpi_model.specs.contracts.envelope.ModeOrd.TheImpl as mode_ord
+use Rattle.mpi_model.specs.contracts.message.TrustOrd.TheImpl as trust_ord
 use Rattle.mpi_model.specs.declared.event.OpName.{OpName}
 use Rattle.mpi_model.specs.declared.message.Message.{Message}
 use Rattle.mpi_model.specs.declared.message.Receive.{Receive}
+use Rattle.mpi_model.specs.declared.message.Trust.{Trust}
 
 abbrev pub name_cmp : OpName → OpName → Ordering
 name_cmp a b = ordering_then (nat_cmp a.rank b.rank) (nat_cmp a.call b.call)
@@ -15,11 +17,14 @@ name_cmp a b = ordering_then (nat_cmp a.rank b.rank) (nat_cmp a.call b.call)
 abbrev pub mode_cmp : Mode → Mode → Ordering
 mode_cmp = (mode_ord.ghosts).cmp
 
+abbrev pub trust_cmp : Trust → Trust → Ordering
+trust_cmp = (trust_ord.ghosts).cmp
+
 abbrev pub message_cmp : Message → Message → Ordering
-message_cmp a b = ordering_then (name_cmp a.name b.name) (ordering_then (nat_cmp a.comm b.comm) (ordering_then (nat_cmp a.from b.from) (ordering_then (nat_cmp a.to b.to) (ordering_then (nat_cmp a.tag b.tag) (ordering_then (mode_cmp a.mode b.mode) (ordering_then (nat_cmp a.count b.count) (int_cmp a.datatype b.datatype)))))))
+message_cmp a b = ordering_then (name_cmp a.name b.name) (ordering_then (nat_cmp a.comm b.comm) (ordering_then (nat_cmp a.from b.from) (ordering_then (nat_cmp a.to b.to) (ordering_then (nat_cmp a.tag b.tag) (ordering_then (mode_cmp a.mode b.mode) (ordering_then (trust_cmp a.trust b.trust) (ordering_then (nat_cmp a.count b.count) (int_cmp a.datatype b.datatype))))))))
 
 abbrev pub receive_cmp : Receive → Receive → Ordering
-receive_cmp a b = ordering_then (name_cmp a.name b.name) (ordering_then (nat_cmp a.comm b.comm) (ordering_then (nat_cmp a.at b.at) (ordering_then (option_cmp nat_cmp a.source b.source) (ordering_then (option_cmp nat_cmp a.tag b.tag) (ordering_then (nat_cmp a.count b.count) (int_cmp a.datatype b.datatype))))))
+receive_cmp a b = ordering_then (name_cmp a.name b.name) (ordering_then (nat_cmp a.comm b.comm) (ordering_then (nat_cmp a.at b.at) (ordering_then (option_cmp nat_cmp a.source b.source) (ordering_then (option_cmp nat_cmp a.tag b.tag) (ordering_then (nat_cmp a.count b.count) (ordering_then (trust_cmp a.trust b.trust) (int_cmp a.datatype b.datatype)))))))
 
 -- communicator, sender, receiver and tag
 abbrev pub Queue : Type 0

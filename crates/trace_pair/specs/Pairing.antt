@@ -1,35 +1,37 @@
 -- Which message is received by which receive: the five rules.
 --
 -- They follow from what MPI lets no implementation change: which receives a message fits (MPI 4.0, 3.2.3 and
--- 3.2.4), and that neither messages of one sender nor receives of one rank overtake one another (MPI 4.0, 3.5).
-use Rattle.std.specs.Prelude.{◌≡◌, ℕ, zero, suc, ◌+◌, Bool, true, false, ◌&&◌, ◌||◌, not, Option, is_some, is_none, List}
+-- 3.2.4), and that neither messages of one sender nor receives of one rank overtake one another (MPI 4.0, 3.5). A
+-- message or receive that a Cancel names may take part in none of it, until the run tells (MPI 4.0, 3.8.4).
+use Rattle.std.specs.Prelude.{◌≡◌, ℕ, zero, suc, ◌+◌, Bool, true, false, ◌&&◌, ◌||◌, not, Option, is_some, List}
 use Rattle.std.specs.List.{list_any, list_all, find}
 use Rattle.mpi_model.specs.declared.message.Message.{Message}
 use Rattle.mpi_model.specs.declared.message.Receive.{Receive}
 use Rattle.mpi_model.specs.Fit.{fits}
+use Rattle.mpi_model.specs.Trusts.{is_sure, is_open, is_settled}
 use Rattle.trace_ops.specs.Order.{Has, sent_before, posted_before}
 
--- An untold receive before this one fits the message, so it may have taken it.
+-- An open receive before this one fits the message, so it may have taken it.
 abbrev pub blocked : List Receive → Message → Receive → Bool
-blocked qs m q = list_any (λ u. is_none u.source && posted_before u q && fits m u) qs
+blocked qs m q = list_any (λ u. is_open u && posted_before u q && fits m u) qs
 
 -- Each earlier message of the same sender that fits the receive is paired with a receive before it.
 abbrev pub messages_gone : List Message → List Receive → (Message → Receive → Bool) → Message → Receive → Bool
 messages_gone ms qs paired m q = list_all (λ n. not (sent_before n m && fits n q) || list_any (λ r. posted_before r q && paired n r) qs) ms
 
--- Each told receive before this one that fits the message is paired with an earlier message.
+-- Each settled receive before this one that fits the message is paired with an earlier message.
 abbrev pub receives_gone : List Message → List Receive → (Message → Receive → Bool) → Message → Receive → Bool
-receives_gone ms qs paired m q = list_all (λ r. not (is_some r.source && posted_before r q && fits m r) || list_any (λ n. sent_before n m && paired n r) ms) qs
+receives_gone ms qs paired m q = list_all (λ r. not (is_settled r && posted_before r q && fits m r) || list_any (λ n. sent_before n m && paired n r) ms) qs
 
 -- The five rules, where `paired` says which couples of earlier calls are pairs:
--- 1. the receive's source is told;
+-- 1. the receive's source is told, and both are sure;
 -- 2. the message fits the receive;
--- 3. no untold receive before it fits the message;
+-- 3. no open receive before it fits the message;
 -- 4. each earlier message that fits the receive is paired with an earlier receive;
--- 5. each earlier told receive that fits the message is paired with an earlier message.
+-- 5. each earlier told and sure receive that fits the message is paired with an earlier message.
 unfoldable pub obeys : List Message → List Receive → (Message → Receive → Bool) → Message → Receive → Bool
 obeys ms qs paired m q =
-    is_some q.source && fits m q && not (blocked qs m q) && messages_gone ms qs paired m q && receives_gone ms qs paired m q
+    is_settled q && is_sure m.trust && fits m q && not (blocked qs m q) && messages_gone ms qs paired m q && receives_gone ms qs paired m q
 
 -- the pairs whose call numbers add up to less than the bound
 unfoldable pub paired_below : ℕ → List Message → List Receive → Message → Receive → Bool
@@ -46,10 +48,12 @@ Paired ms qs m q = paired ms qs m q ≡ true
 -- The five rules as facts, where P says which couples of earlier calls are pairs.
 pub record Obeys (ms : List Message) (qs : List Receive) (P : Message → Receive → Type 0) (m : Message) (q : Receive) : Type 0 where
   pub told : is_some q.source ≡ true
+  pub sure_receive : is_sure q.trust ≡ true
+  pub sure_message : is_sure m.trust ≡ true
   pub fit : fits m q ≡ true
-  pub no_untold : (u : Receive) → Has qs u → is_none u.source ≡ true → posted_before u q ≡ true → fits m u ≡ true → ⊥
+  pub no_open : (u : Receive) → Has qs u → is_open u ≡ true → posted_before u q ≡ true → fits m u ≡ true → ⊥
   pub messages : (n : Message) → Has ms n → sent_before n m ≡ true → fits n q ≡ true → (r : Receive) × Has qs r × (posted_before r q ≡ true) × P n r
-  pub receives : (r : Receive) → Has qs r → is_some r.source ≡ true → posted_before r q ≡ true → fits m r ≡ true → (n : Message) × Has ms n × (sent_before n m ≡ true) × P n r
+  pub receives : (r : Receive) → Has qs r → is_settled r ≡ true → posted_before r q ≡ true → fits m r ≡ true → (n : Message) × Has ms n × (sent_before n m ≡ true) × P n r
 
 -- the receive that takes the message
 abbrev pub receive_of : List Message → List Receive → Message → Option Receive

@@ -8,7 +8,7 @@ use Rattle.trace_ops.specs.Order.{Has}
 use Rattle.trace_pair.specs.Groups.{ArePlaced, StandTwice, members}
 use Rattle.trace_pair.specs.Indexed.{name_lt}
 use Rattle.trace_pair.specs.KeyOrders.{message_cmp, receive_cmp, Queue, queue_cmp, queue_of, Lane, lane_cmp, lane_of, ReceiveKey, receive_key_cmp, receive_key_of}
-use Rattle.mpi_model.specs.Fit.{fits}
+use Rattle.mpi_model.specs.Fit.{envelopes_fit}
 use Rattle.trace_pair.specs.declared.queues.Kinds.{Kinds}
 
 -- messages by queue, and the same ones by lane
@@ -42,7 +42,7 @@ alike a b = cond (is_some a) (is_some b) (is_none b)
 abbrev pub of_kind : Option ℕ → Option ℕ → Receive → Bool
 of_kind source tag r = alike source r.source && alike tag r.tag
 
--- the first of the receives that pass the test and fit the message
+-- the first of the receives that pass the test and whose envelopes fit the message's
 abbrev pub IsBestAmong : List Receive → Message → (Receive → Bool) → Option Receive → Type 0
-IsBestAmong xs m p None = (r : Receive) → Has xs r → p r ≡ true → fits m r ≡ true → ⊥
-IsBestAmong xs m p (Some q) = Has xs q × (fits m q ≡ true) × ((r : Receive) → Has xs r → p r ≡ true → fits m r ≡ true → name_lt r.name q.name ≡ true → ⊥)
+IsBestAmong xs m p None = (r : Receive) → Has xs r → p r ≡ true → envelopes_fit m r ≡ true → ⊥
+IsBestAmong xs m p (Some q) = Has xs q × (envelopes_fit m q ≡ true) × ((r : Receive) → Has xs r → p r ≡ true → envelopes_fit m r ≡ true → name_lt r.name q.name ≡ true → ⊥)

@@ -12,7 +12,7 @@ use Rattle.trace_pair.specs.declared.batch.Batch.{Batch}
 pub record Settles (ms : List Message) (qs : List Receive) (b : Batch) : Type 0 where
   pub messages : b.messages.messages ≡ ms
   pub rise : AreRising (λ m. m.name) ms
-  pub held : IsIndexed ms qs (waiting_in b.messages.messages b.messages.takers) b.opened b.untold (couples_with b.messages.messages b.messages.takers)
+  pub held : IsIndexed ms qs (waiting_in b.messages.messages b.messages.takers) b.free b.opened (couples_with b.messages.messages b.messages.takers)
 
 -- the receive takes the message at the place, or none
 abbrev pub IsTakenAt : List Message → List Receive → Takings → Receive → Option ℕ → Type 0

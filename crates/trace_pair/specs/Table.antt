@@ -7,6 +7,7 @@ use Rattle.mpi_model.specs.declared.event.OpName.{OpName}
 use Rattle.mpi_model.specs.declared.message.Message.{Message}
 use Rattle.mpi_model.specs.declared.message.Receive.{Receive}
 use Rattle.mpi_model.specs.Fit.{fits}
+use Rattle.mpi_model.specs.Trusts.{is_open}
 use Rattle.trace_ops.specs.Ops.{Ops, no_ops}
 use Rattle.trace_pair.specs.Pairing.{receive_of}
 use Rattle.trace_pair.specs.declared.pair.Pair.{Pair}
@@ -32,13 +33,13 @@ pair_of m q = record { message = m.name; receive = q.name; over = is_over m q }
 abbrev pub pairs_of : List Message → List Receive → List Pair
 pairs_of ms qs = filter_map (λ m. option_map (pair_of m) (receive_of ms qs m)) ms
 
--- An untold receive fits the message.
-abbrev pub fits_untold : List Receive → Message → Bool
-fits_untold qs m = list_any (λ u. is_none u.source && fits m u) qs
+-- An open receive fits the message.
+abbrev pub fits_open : List Receive → Message → Bool
+fits_open qs m = list_any (λ u. is_open u && fits m u) qs
 
--- postponed: in no pair, though an untold receive fits it, wherever that stands in its rank
+-- postponed: in no pair, though an open receive fits it, wherever that stands in its rank
 abbrev pub is_postponed : List Message → List Receive → Message → Bool
-is_postponed ms qs m = is_none (receive_of ms qs m) && fits_untold qs m
+is_postponed ms qs m = is_none (receive_of ms qs m) && fits_open qs m
 
 -- its name, if it is postponed
 abbrev pub postponed_name : List Message → List Receive → Message → Option OpName

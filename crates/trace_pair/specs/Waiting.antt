@@ -1,11 +1,12 @@
 -- All messages in their order, what takes each, and the places of those that wait.
-use Rattle.std.specs.Prelude.{◌≡◌, ◌<◌, ℕ, Bool, true, false, cond, Option, Some, None, IfSome, List, [], ◌∷◌, length, replicate, slice_get, slice_set}
+use Rattle.std.specs.Prelude.{◌≡◌, ◌<◌, ℕ, Bool, true, false, cond, Option, Some, None, IfSome, List, [], ◌∷◌, filter, length, replicate, slice_get, slice_set}
 use Rattle.std.specs.declared.cmp.Ordering.{Ordering}
 use Rattle.std.specs.BTreeMap.{BTreeMap, get, IsOrdered}
 use Rattle.mpi_model.specs.declared.message.Message.{Message}
 use Rattle.mpi_model.specs.declared.message.Receive.{Receive}
-use Rattle.mpi_model.specs.Fit.{fits}
+use Rattle.mpi_model.specs.Fit.{envelopes_fit}
 use Rattle.trace_ops.specs.Order.{Has}
+use Rattle.trace_pair.specs.Calls.{is_live}
 use Rattle.trace_pair.specs.Coupled.{receive_by}
 use Rattle.trace_pair.specs.Indexed.{IsFirstMessage, couple_of}
 use Rattle.trace_pair.specs.KeyOrders.{Queue, queue_cmp, queue_of, Lane, lane_cmp, lane_of}
@@ -26,21 +27,29 @@ untaken ms = record { messages = ms; takers = replicate (length ms) None }
 abbrev pub with_taker : Takings → ℕ → Taker → Takings
 with_taker t place taker = record t { takers = slice_set t.takers place (Some taker) }
 
--- the messages that wait
-abbrev pub waiting_in : List Message → List (Option Taker) → List Message
-waiting_in [] takers = []
-waiting_in (m ∷ ms) [] = []
-waiting_in (m ∷ ms) (None ∷ takers) = m ∷ waiting_in ms takers
-waiting_in (m ∷ ms) (Some t ∷ takers) = waiting_in ms takers
+-- the messages that nothing takes
+abbrev pub left_in : List Message → List (Option Taker) → List Message
+left_in [] takers = []
+left_in (m ∷ ms) [] = []
+left_in (m ∷ ms) (None ∷ takers) = m ∷ left_in ms takers
+left_in (m ∷ ms) (Some t ∷ takers) = left_in ms takers
 
--- the others, each with what takes it
+-- those that aren't void
+abbrev pub live : List Message → List Message
+live ms = filter (λ m. is_live m.trust) ms
+
+-- The messages that wait: nothing takes them, and they aren't void.
+abbrev pub waiting_in : List Message → List (Option Taker) → List Message
+waiting_in ms takers = live (left_in ms takers)
+
+-- the messages that are taken, each with what takes it
 abbrev pub couples_with : List Message → List (Option Taker) → List Couple
 couples_with [] takers = []
 couples_with (m ∷ ms) [] = []
 couples_with (m ∷ ms) (None ∷ takers) = couples_with ms takers
 couples_with (m ∷ ms) (Some t ∷ takers) = couple_of m (receive_by m t) ∷ couples_with ms takers
 
--- a message stands there that waits
+-- a message stands there that nothing takes
 abbrev pub is_waiting : Option (Option Taker) → Bool
 is_waiting None = false
 is_waiting (Some None) = true
@@ -49,7 +58,7 @@ is_waiting (Some (Some t)) = false
 abbrev pub waits_at : List (Option Taker) → ℕ → Bool
 waits_at takers place = is_waiting (slice_get takers place)
 
--- the places from the first on at which a message waits
+-- the places from the first on at which nothing takes the message
 abbrev pub from_waiting : List (Option Taker) → List ℕ → List ℕ
 from_waiting takers [] = []
 from_waiting takers (i ∷ places) = cond (waits_at takers i) (i ∷ places) (from_waiting takers places)
@@ -67,11 +76,12 @@ abbrev pub AreRisingPlaces : List ℕ → Type 0
 AreRisingPlaces [] = Unit {0}
 AreRisingPlaces (i ∷ places) = ((j : ℕ) → Has places j → i < j) × AreRisingPlaces places
 
--- Each message that waits has its place at its key. What stands at a key are places of its messages, in their order.
+-- Each message that waits has its place at its key. What stands at a key are places of its messages, in their order, and
+-- of none that is void.
 pub record ArePlaces {K : Type 0} (cmp : K → K → Ordering) (key_of : Message → K) (ms : List Message) (takers : List (Option Taker)) (places : BTreeMap K (List ℕ)) : Type 0 where
   pub ordered : IsOrdered cmp places
-  pub all : (i : ℕ) (m : Message) → slice_get ms i ≡ Some m → waits_at takers i ≡ true → Has (places_at cmp places (key_of m)) i
-  pub own : (k : K) (i : ℕ) → Has (places_at cmp places k) i → (m : Message) × (slice_get ms i ≡ Some m) × (key_of m ≡ k)
+  pub all : (i : ℕ) (m : Message) → slice_get ms i ≡ Some m → is_live m.trust ≡ true → waits_at takers i ≡ true → Has (places_at cmp places (key_of m)) i
+  pub own : (k : K) (i : ℕ) → Has (places_at cmp places k) i → (m : Message) × (slice_get ms i ≡ Some m) × (key_of m ≡ k) × (is_live m.trust ≡ true)
   pub rise : (k : K) → AreRisingPlaces (places_at cmp places k)
 
 -- places by queue, and where they were made, by lane
@@ -81,15 +91,15 @@ pub record AreTakings (ms : List Message) (takers : List (Option Taker)) (queues
   pub queued : ArePlaces queue_cmp queue_of ms takers queues
   pub laned : IfSome lanes (ArePlaces lane_cmp lane_of ms takers)
 
--- the message at the place waits, and is the first that fits the receive
+-- the message at the place waits, and is the first whose envelope fits the receive's
 pub record IsFirstAt (t : Takings) (q : Receive) (place : ℕ) (m : Message) : Type 0 where
   pub there : slice_get t.messages place ≡ Some m
   pub waits : waits_at t.takers place ≡ true
   pub first : IsFirstMessage (waiting_in t.messages t.takers) q m
 
--- or no message that waits fits it
+-- or the envelope of no message that waits fits it
 abbrev pub IsFirstPlace : Takings → Receive → Option ℕ → Type 0
-IsFirstPlace t q None = (m : Message) → Has (waiting_in t.messages t.takers) m → fits m q ≡ true → ⊥
+IsFirstPlace t q None = (m : Message) → Has (waiting_in t.messages t.takers) m → envelopes_fit m q ≡ true → ⊥
 IsFirstPlace t q (Some place) = (m : Message) × IsFirstAt t q place m
 
 -- what takes the message at a place

@@ -4,6 +4,8 @@ use Rattle.mpi_model.specs.declared.event.OpName.{OpName}
 use Rattle.mpi_model.specs.declared.envelope.Mode.TheVariants.{Standard}
 use Rattle.mpi_model.specs.declared.message.Message.{Message}
 use Rattle.mpi_model.specs.declared.message.Receive.{Receive}
+use Rattle.mpi_model.specs.declared.message.Trust.{Trust}
+use Rattle.mpi_model.specs.declared.message.Trust.TheVariants.{Sure, Doubtful, Void}
 use Rattle.trace_pair.specs.declared.pair.Pair.{Pair}
 use Rattle.trace_pair.specs.Table.{Table, table_with}
 
@@ -12,10 +14,10 @@ op rank call = record { rank = rank; call = call }
 
 -- a message of one rank's call to another rank, with a tag
 abbrev sends : ℕ → ℕ → ℕ → ℕ → Message
-sends rank call to tag = record { name = op rank call; comm = 2; from = rank; to = to; tag = tag; mode = Standard; count = 1; datatype = pos 11 }
+sends rank call to tag = record { name = op rank call; comm = 2; from = rank; to = to; tag = tag; mode = Standard; trust = Sure; count = 1; datatype = pos 11 }
 
 abbrev receives : ℕ → ℕ → Option ℕ → Option ℕ → Receive
-receives rank call source tag = record { name = op rank call; comm = 2; at = rank; source = source; tag = tag; count = 1; datatype = pos 11 }
+receives rank call source tag = record { name = op rank call; comm = 2; at = rank; source = source; tag = tag; count = 1; trust = Sure; datatype = pos 11 }
 
 abbrev pair : ℕ → ℕ → ℕ → ℕ → Pair
 pair rank call at by = record { message = op rank call; receive = op at by; over = false }
@@ -69,3 +71,25 @@ Freed = (table_with (sends 0 0 1 7 ∷ sends 0 1 1 7 ∷ []) (receives 1 0 None 
 abbrev pub TwoCommunicators : Type 0
 TwoCommunicators = table_with (sends 0 0 1 7 ∷ (record (sends 0 1 1 7) { comm = 3 }) ∷ []) ((record (receives 1 0 (Some 0) (Some 7)) { comm = 3 }) ∷ receives 1 1 (Some 0) (Some 7) ∷ [])
     ≡ table (pair 0 0 1 1 ∷ pair 0 1 1 0 ∷ []) []
+
+-- a message and a receive of tag 7 that a Cancel may have left so
+abbrev left : ℕ → ℕ → ℕ → Trust → Message
+left rank call to trust = record (sends rank call to 7) { trust = trust }
+
+abbrev posted : ℕ → ℕ → Option ℕ → Trust → Receive
+posted rank call source trust = record (receives rank call source (Some 7)) { trust = trust }
+
+-- A receive that a Cancel names takes nothing for sure, and holds back what is behind it: the messages are postponed.
+abbrev pub CancelledReceive : Type 0
+CancelledReceive = (table_with (left 1 0 0 Sure ∷ left 1 1 0 Sure ∷ []) (posted 0 0 (Some 1) Doubtful ∷ posted 0 3 (Some 1) Sure ∷ []) ≡ table [] (op 1 0 ∷ op 1 1 ∷ []))
+
+-- Told that it was cancelled, it is passed over. Told its source, it took the first message.
+abbrev pub ToldCancelled : Type 0
+ToldCancelled = (table_with (left 1 0 0 Sure ∷ left 1 1 0 Sure ∷ []) (posted 0 0 (Some 1) Void ∷ posted 0 3 (Some 1) Sure ∷ []) ≡ table (pair 1 0 0 3 ∷ []) [])
+    × (table_with (left 1 0 0 Sure ∷ left 1 1 0 Sure ∷ []) (posted 0 0 (Some 1) Sure ∷ posted 0 3 (Some 1) Sure ∷ []) ≡ table (pair 1 0 0 0 ∷ pair 1 1 0 3 ∷ []) [])
+    × (table_with (left 1 0 0 Sure ∷ []) (posted 0 0 None Void ∷ posted 0 3 (Some 1) Sure ∷ []) ≡ table (pair 1 0 0 3 ∷ []) [])
+
+-- So too a message: behind a doubtful one nothing is sure, and a void one is passed over.
+abbrev pub CancelledMessage : Type 0
+CancelledMessage = (table_with (left 0 0 1 Doubtful ∷ left 0 2 1 Sure ∷ []) (posted 1 0 (Some 0) Sure ∷ posted 1 1 (Some 0) Sure ∷ []) ≡ table [] [])
+    × (table_with (left 0 0 1 Void ∷ left 0 3 1 Sure ∷ []) (posted 1 0 (Some 0) Sure ∷ posted 1 1 (Some 0) Sure ∷ []) ≡ table (pair 0 3 1 0 ∷ []) [])

@@ -1,19 +1,20 @@
 //! The pairing of all ranks' calls in one pass: all messages are there from the start, and the receives
 //! come rank by rank, each behind those before it.
 //!
-//! A told receive can only take the first message that fits it and that no receive before it took. It
-//! takes that one, unless an untold receive before it fits the message, or a told one that fits it went
-//! without a message. Which of the ranks comes first makes no difference, since all that the rules
-//! compare are messages of one sender and receives of one rank.
+//! A settled receive can only take the first message that fits it and that no receive before it took.
+//! It takes that one if it is sure, unless an open receive before it fits the message, or a settled one
+//! that fits it went without a message. Which of the ranks comes first makes no difference, since all
+//! that the rules compare are messages of one sender and receives of one rank.
 
-ghost use Rattle.std.specs.Prelude.{◌≡◌, ◌<◌, true, Some, IfOk, IfSome, OnOk, is_some, [], List, length, slice_get};
+ghost use Rattle.std.specs.Prelude.{◌≡◌, ◌<◌, true, Some, IfOk, IfSome, OnOk, [], List, length, slice_get};
 ghost use Rattle.mpi_model.specs.declared.message.Message.{Message};
 ghost use Rattle.mpi_model.specs.declared.message.Receive.{Receive};
+ghost use Rattle.mpi_model.specs.Trusts.{is_settled};
 ghost use Rattle.trace_ops.specs.Ops.{AreOwn};
 ghost use Rattle.trace_pair.specs.Calls.{AddsReceive, between, IsPosting};
 ghost use Rattle.trace_pair.specs.Settled.{Settles, IsTakenAt};
 ghost use Rattle.trace_pair.specs.Pairing.{receive_of};
-ghost use Rattle.trace_pair.specs.Table.{fits_untold, sends_of, receives_of};
+ghost use Rattle.trace_pair.specs.Table.{fits_open, sends_of, receives_of};
 
 use crate::couples::{receive_by, taker_of};
 use crate::queues::Receives;
@@ -22,12 +23,13 @@ use mpi_model::{Message, Receive};
 use std::alloc::{AllocError, Global};
 use trace_ops::RankOps;
 
-/// All messages with what takes each, and the receives so far that take none.
+/// All messages with what takes each, and of the receives so far those that are free, and those that
+/// are open.
 #[derive(Drop)]
 pub(crate) struct Batch {
     messages: Takings,
+    free: Receives,
     opened: Receives,
-    untold: Receives,
 }
 
 impl Batch {
@@ -53,17 +55,17 @@ impl Batch {
         }
     }
 
-    /// Whether an untold receive fits the message.
-    pub(crate) fn does_untold_fit(&self, m: &Message) -> bool
-        ensures { (ms : List Message) (qs : List Receive) → Settles ms qs self.now → result ≡ fits_untold qs m.now }
+    /// Whether an open receive fits the message.
+    pub(crate) fn does_open_fit(&self, m: &Message) -> bool
+        ensures { (ms : List Message) (qs : List Receive) → Settles ms qs self.now → result ≡ fits_open qs m.now }
     {
-        self.untold.first_for(m).is_some()
+        !m.trust.is_void() && self.opened.first_for(m).is_some()
     }
 }
 
 /// The place of the message that the new receive takes.
 fn taken_by(batch: &mut Batch, q: &Receive) -> Result<Option<usize>, AllocError>
-    requires { is_some q.now.source ≡ true }
+    requires { is_settled q.now ≡ true }
     ensures kept { batch.new ≡ batch.old }
     ensures within { IfOk result (λ place. IfSome place (λ p. p < length batch.old.messages.messages)) }
     ensures found { IfOk result (λ place. (ms : List Message) (qs : List Receive) → Settles ms qs batch.old → IsTakenAt ms qs batch.old.messages q.now place) }
@@ -72,10 +74,13 @@ fn taken_by(batch: &mut Batch, q: &Receive) -> Result<Option<usize>, AllocError>
         return Ok(None);
     };
     let m = batch.messages.messages()[place];
-    if let Some(_) = batch.untold.first_for(&m) {
+    if !m.trust.is_sure() {
         return Ok(None);
     }
     if let Some(_) = batch.opened.first_for(&m) {
+        return Ok(None);
+    }
+    if let Some(_) = batch.free.first_for(&m) {
         return Ok(None);
     }
     Ok(Some(place))
@@ -85,13 +90,16 @@ fn taken_by(batch: &mut Batch, q: &Receive) -> Result<Option<usize>, AllocError>
 fn add_receive(batch: &mut Batch, q: Receive) -> Result<(), AllocError>
     ensures { OnOk result ((ms : List Message) (qs more : List Receive) → AddsReceive qs more q → Settles ms qs batch.old → Settles ms more batch.new) }
 {
-    if q.source.is_none() {
-        batch.untold.insert(q)?;
+    if q.is_open() {
+        batch.opened.insert(q)?;
+        return Ok(());
+    }
+    if !q.is_settled() {
         return Ok(());
     }
     match taken_by(batch, &q)? {
         Some(place) => batch.messages.take(place, taker_of(&q))?,
-        None => batch.opened.insert(q)?,
+        None => batch.free.insert(q)?,
     }
     Ok(())
 }
@@ -115,8 +123,8 @@ fn all_waiting(alloc: Global, ops: &[RankOps]) -> Result<Batch, AllocError>
     let messages = Takings::new(alloc, sends)?;
     Ok(Batch {
         messages,
+        free: Receives::empty(alloc),
         opened: Receives::empty(alloc),
-        untold: Receives::empty(alloc),
     })
 }
 

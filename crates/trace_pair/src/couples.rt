@@ -8,7 +8,7 @@ ghost use Rattle.trace_pair.specs.Sets.{AddsTo, DropsFrom, IsSameSet};
 
 use crate::pair::{Couple, Taker};
 use crate::slots::{Slot, expect, put_new, reserve, take_at, value_at};
-use mpi_model::{Message, OpName, Receive};
+use mpi_model::{Message, OpName, Receive, Trust};
 use std::alloc::{AllocError, Global};
 use std::marker::Model;
 
@@ -58,6 +58,7 @@ pub(crate) fn receive_by(m: &Message, taker: Taker) -> Receive
         source: Some(m.from),
         tag: if taker.any_tag { None } else { Some(m.tag) },
         count: taker.count,
+        trust: Trust::Sure,
         datatype: taker.datatype,
     }
 }

@@ -2,7 +2,7 @@
 
 ghost use Rattle.std.specs.Prelude.{◌≡◌, ◌<◌, OnOk, OnErr, IfOk, IfSome, length, slice_set, slice_index_or};
 ghost use Rattle.trace_ops.specs.Ops.{IsOwn, AreOwn, Grows, no_ops};
-ghost use Rattle.trace_pair.specs.Certainty.{AreCertain, AreAllTold, AreLegal, AreTheOnlyLegal};
+ghost use Rattle.trace_pair.specs.Certainty.{AreCertain, AreAllSettled, AreLegal, AreTheOnlyLegal};
 ghost use Rattle.trace_pair.specs.Followed.{Follows};
 ghost use Rattle.trace_pair.specs.Table.{fresh, table_of};
 
@@ -58,8 +58,8 @@ impl PairIndex {
         })
     }
 
-    /// The rank did more, and some of its sources may be told by now. Where memory is refused, the
-    /// index is as made by `new`.
+    /// The rank did more. Sources may be told by now, and a Cancel may have come, or what became of it:
+    /// so pairs can go, too. Where memory is refused, the index is as made by `new`.
     pub fn grow(&mut self, rank: u32, ops: RankOps) -> Result<(), AllocError>
         requires rank { rank < length self.old }
         requires own { IsOwn rank ops }
@@ -70,8 +70,8 @@ impl PairIndex {
         self.set(rank, ops)
     }
 
-    /// The rank did less than was thought, and some of its sources may be untold by now. Where memory
-    /// is refused, the index is as made by `new`.
+    /// The rank did less than was thought, and what its later calls told isn't told any more. Where
+    /// memory is refused, the index is as made by `new`.
     pub fn cut(&mut self, rank: u32, ops: RankOps) -> Result<(), AllocError>
         requires rank { rank < length self.old }
         requires own { IsOwn rank ops }
@@ -90,12 +90,12 @@ impl PairIndex {
     }
 
     /// The table of the held ops, made by one pass over them, what its pairs are worth, and that none
-    /// is missing where every source is told (MPI 4.0, 3.5).
+    /// is missing where no receive is open and no message doubtful (MPI 4.0, 3.5).
     pub fn pairs(&self) -> Result<PairTable, AllocError>
         ensures table { IfOk result (λ t. t ≡ table_of self.now) }
         ensures certain { IfOk result (λ t. AreCertain self.now t.pairs) }
-        ensures legal { AreAllTold self.now → IfOk result (λ t. AreLegal self.now t.pairs) }
-        ensures only { AreAllTold self.now → IfOk result (λ t. AreTheOnlyLegal self.now t.pairs) }
+        ensures legal { AreAllSettled self.now → IfOk result (λ t. AreLegal self.now t.pairs) }
+        ensures only { AreAllSettled self.now → IfOk result (λ t. AreTheOnlyLegal self.now t.pairs) }
     {
         let alloc = *self.held.allocator();
         let table = table_by(alloc, &self.state, &self.held)?;

@@ -1,9 +1,10 @@
 //! Which message was received by which receive.
 //!
-//! A pair is reported only where it is certain: whatever the ranks did next, and however their
-//! untold receives were told, MPI allows no run in which the two aren't matched. Where no receive
-//! is untold, the pairs are the only matching that MPI allows. Both are clauses of [`pair_all`]
-//! and of [`PairIndex::pairs`].
+//! A pair is reported only where it is certain: whatever the ranks did next, and however their open
+//! receives were told, MPI allows no run in which the two aren't matched. Where no receive is open and
+//! no message doubtful, the pairs are the only matching that MPI allows. Both are clauses of
+//! [`pair_all`] and of [`PairIndex::pairs`]. They hold of runs in which no call that isn't read cancels
+//! a request of one that is.
 //!
 //! [`pair_all`] goes once over all calls, and takes n of them in n log n; [`PairIndex::pairs`] has the
 //! same contract. The index follows the ranks as they grow and are cut back; one step costs in
@@ -49,7 +50,10 @@ mod takings;
 mod together;
 
 pub use index::PairIndex;
-pub use laws::{pairs_are_certain, pairs_are_the_rules, tables_are_certain, worked_runs};
+pub use laws::{
+    doubtful_may_stand_outside, pairs_are_certain, pairs_are_the_rules, tables_are_certain,
+    worked_runs,
+};
 pub use pair::{Pair, Side};
 pub use scratch::pair_all;
 pub use table::PairTable;

@@ -1,14 +1,15 @@
 //! The sets of an index, as one call comes to the end of its rank or goes from there.
 
-ghost use Rattle.std.specs.Prelude.{◌≡◌, List, true, OnOk, IfSome, IfNone, is_some, []};
+ghost use Rattle.std.specs.Prelude.{◌≡◌, List, true, OnOk, IfSome, IfNone, []};
 ghost use Rattle.mpi_model.specs.declared.message.Message.{Message};
 ghost use Rattle.mpi_model.specs.declared.message.Receive.{Receive};
+ghost use Rattle.mpi_model.specs.Trusts.{is_settled};
 ghost use Rattle.trace_ops.specs.Order.{Has};
 ghost use Rattle.trace_pair.specs.Calls.{AddsMessage, AddsReceive};
 ghost use Rattle.trace_pair.specs.Followed.{Indexes};
-ghost use Rattle.trace_pair.specs.Indexed.{IsOpen, TakesMessage, TakesReceive};
+ghost use Rattle.trace_pair.specs.Indexed.{IsFree, TakesMessage, TakesReceive};
 ghost use Rattle.trace_pair.specs.Pairing.{Paired, receive_of};
-ghost use Rattle.trace_pair.specs.Table.{fits_untold};
+ghost use Rattle.trace_pair.specs.Table.{fits_open};
 
 use crate::couples::Couples;
 use crate::pair::Couple;
@@ -17,12 +18,13 @@ use crate::rules::is_posted_before;
 use mpi_model::{Message, Receive};
 use std::alloc::{AllocError, Global};
 
-/// The messages that wait, the receives without a message, and the pairs.
+/// The messages that wait, the free receives, the open ones, and the pairs. What is void is in none
+/// of them.
 #[derive(Drop)]
 pub(crate) struct Matched {
     waiting: Messages,
+    free: Receives,
     opened: Receives,
-    untold: Receives,
     couples: Couples,
 }
 
@@ -32,8 +34,8 @@ impl Matched {
     {
         Matched {
             waiting: Messages::empty(alloc),
+            free: Receives::empty(alloc),
             opened: Receives::empty(alloc),
-            untold: Receives::empty(alloc),
             couples: Couples::empty(alloc),
         }
     }
@@ -66,7 +68,7 @@ impl Matched {
     /// The message that the held receive takes; `next` likewise for the receives of its rank.
     pub(crate) fn message_of(&self, next: &mut usize, q: &Receive) -> Option<Message>
         ensures some { IfSome result (λ m. (ms : List Message) (qs : List Receive) → Indexes ms qs self.now → Has qs q.now → Has ms m × Paired ms qs m q.now) }
-        ensures none { IfNone result ((ms : List Message) (qs : List Receive) → Indexes ms qs self.now → Has qs q.now → IsOpen ms qs q.now) }
+        ensures none { IfNone result ((ms : List Message) (qs : List Receive) → Indexes ms qs self.now → Has qs q.now → IsFree ms qs q.now) }
     {
         match self.couples.of_receive(next, q) {
             Some(m) => Some(m),
@@ -74,11 +76,11 @@ impl Matched {
         }
     }
 
-    /// Whether an untold receive fits the message.
-    pub(crate) fn does_untold_fit(&self, m: &Message) -> bool
-        ensures { (ms : List Message) (qs : List Receive) → Indexes ms qs self.now → result ≡ fits_untold qs m.now }
+    /// Whether an open receive fits the message.
+    pub(crate) fn does_open_fit(&self, m: &Message) -> bool
+        ensures { (ms : List Message) (qs : List Receive) → Indexes ms qs self.now → result ≡ fits_open qs m.now }
     {
-        self.untold.first_for(m).is_some()
+        !m.trust.is_void() && self.opened.first_for(m).is_some()
     }
 }
 
@@ -87,10 +89,13 @@ fn taker_for(state: &Matched, m: &Message) -> Option<Receive>
     ensures some { IfSome result (λ q. (ms : List Message) (qs : List Receive) → Indexes ms qs state.now → Has qs q × TakesMessage ms qs m.now q) }
     ensures none { IfNone result ((ms : List Message) (qs : List Receive) → Indexes ms qs state.now → (q : Receive) → Has qs q → TakesMessage ms qs m.now q → ⊥) }
 {
-    let Some(q) = state.opened.first_for(m) else {
+    if !m.trust.is_sure() {
+        return None;
+    }
+    let Some(q) = state.free.first_for(m) else {
         return None;
     };
-    if let Some(u) = state.untold.first_for(m) {
+    if let Some(u) = state.opened.first_for(m) {
         if is_posted_before(&u, &q) {
             return None;
         }
@@ -103,17 +108,20 @@ fn taker_for(state: &Matched, m: &Message) -> Option<Receive>
 
 /// The message that the new receive takes.
 fn taken_by(state: &Matched, q: &Receive) -> Option<Message>
-    requires { is_some q.now.source ≡ true }
+    requires { is_settled q.now ≡ true }
     ensures some { IfSome result (λ m. (ms : List Message) (qs : List Receive) → Indexes ms qs state.now → Has ms m × TakesReceive ms qs m q.now) }
     ensures none { IfNone result ((ms : List Message) (qs : List Receive) → Indexes ms qs state.now → (m : Message) → Has ms m → TakesReceive ms qs m q.now → ⊥) }
 {
     let Some(m) = state.waiting.first_for(q) else {
         return None;
     };
-    if let Some(_) = state.untold.first_for(&m) {
+    if !m.trust.is_sure() {
         return None;
     }
     if let Some(_) = state.opened.first_for(&m) {
+        return None;
+    }
+    if let Some(_) = state.free.first_for(&m) {
         return None;
     }
     Some(m)
@@ -122,9 +130,12 @@ fn taken_by(state: &Matched, q: &Receive) -> Option<Message>
 fn push_message(state: &mut Matched, m: Message) -> Result<(), AllocError>
     ensures { OnOk result ((ms more : List Message) (qs : List Receive) → AddsMessage ms more m → Indexes ms qs state.old → Indexes more qs state.new) }
 {
+    if m.trust.is_void() {
+        return Ok(());
+    }
     match taker_for(state, &m) {
         Some(q) => {
-            state.opened.remove(&q);
+            state.free.remove(&q);
             state.couples.insert(Couple {
                 message: m,
                 receive: q,
@@ -138,8 +149,11 @@ fn push_message(state: &mut Matched, m: Message) -> Result<(), AllocError>
 fn push_receive(state: &mut Matched, q: Receive) -> Result<(), AllocError>
     ensures { OnOk result ((ms : List Message) (qs more : List Receive) → AddsReceive qs more q → Indexes ms qs state.old → Indexes ms more state.new) }
 {
-    if q.source.is_none() {
-        state.untold.insert(q)?;
+    if q.is_open() {
+        state.opened.insert(q)?;
+        return Ok(());
+    }
+    if !q.is_settled() {
         return Ok(());
     }
     match taken_by(state, &q) {
@@ -150,7 +164,7 @@ fn push_receive(state: &mut Matched, q: Receive) -> Result<(), AllocError>
                 receive: q,
             })?;
         }
-        None => state.opened.insert(q)?,
+        None => state.free.insert(q)?,
     }
     Ok(())
 }
@@ -165,7 +179,7 @@ pub(crate) fn pop_message(state: &mut Matched, m: &Message) -> Result<(), AllocE
                 message: *m,
                 receive: q,
             });
-            state.opened.insert(q)?;
+            state.free.insert(q)?;
         }
         None => state.waiting.remove(m),
     }
@@ -175,8 +189,8 @@ pub(crate) fn pop_message(state: &mut Matched, m: &Message) -> Result<(), AllocE
 pub(crate) fn pop_receive(state: &mut Matched, q: &Receive) -> Result<(), AllocError>
     ensures { OnOk result ((ms : List Message) (qs more : List Receive) → AddsReceive qs more q.now → Indexes ms more state.old → Indexes ms qs state.new) }
 {
-    if q.source.is_none() {
-        state.untold.remove(q);
+    if q.is_open() {
+        state.opened.remove(q);
         return Ok(());
     }
     let mut anywhere = 0;
@@ -188,7 +202,7 @@ pub(crate) fn pop_receive(state: &mut Matched, q: &Receive) -> Result<(), AllocE
             });
             state.waiting.insert(m)?;
         }
-        None => state.opened.remove(q),
+        None => state.free.remove(q),
     }
     Ok(())
 }
@@ -202,11 +216,11 @@ pub(crate) fn add_message(state: &mut Matched, m: Message) -> Result<(), AllocEr
     Ok(())
 }
 
-/// Makes room for the message of a receive, if its source is told.
-fn expect_told(state: &mut Matched, q: &Receive) -> Result<(), AllocError>
+/// Makes room for the message of a receive, if it is settled.
+fn expect_settled(state: &mut Matched, q: &Receive) -> Result<(), AllocError>
     ensures { (ms : List Message) (qs : List Receive) → Indexes ms qs state.old → Indexes ms qs state.new }
 {
-    if q.source.is_none() {
+    if !q.is_settled() {
         return Ok(());
     }
     state.couples.expect_receive(q)?;
@@ -217,7 +231,7 @@ fn expect_told(state: &mut Matched, q: &Receive) -> Result<(), AllocError>
 pub(crate) fn add_receive(state: &mut Matched, q: Receive) -> Result<(), AllocError>
     ensures { OnOk result ((ms : List Message) (qs more : List Receive) → AddsReceive qs more q → Indexes ms qs state.old → Indexes ms more state.new) }
 {
-    expect_told(state, &q)?;
+    expect_settled(state, &q)?;
     push_receive(state, q)?;
     Ok(())
 }

@@ -1,6 +1,6 @@
 //! The sets of an index: messages and receives, found by a few probes of an ordered map.
 ghost use Rattle.std.specs.Prelude.{◌≡◌, ◌||◌, true, OnOk, IfSome, IfNone, is_some, List, Bool, []};
-ghost use Rattle.mpi_model.specs.Fit.{fits, admits};
+ghost use Rattle.mpi_model.specs.Fit.{envelopes_fit, admits};
 ghost use Rattle.trace_ops.specs.Order.{Has};
 ghost use Rattle.trace_pair.specs.Sets.{AddsTo, DropsFrom};
 ghost use Rattle.trace_pair.specs.Indexed.{IsFirstMessage, IsFirstReceive, name_lt};
@@ -81,10 +81,10 @@ impl Messages {
         drop_at(self.alloc, &mut self.lanes, &(m.comm, m.from, m.to), m);
     }
 
-    /// The first message that fits a receive whose source is told.
+    /// The first message whose envelope fits that of a receive whose source is told.
     pub(crate) fn first_for(&self, q: &Receive) -> Option<Message>
         ensures some { IfSome result (IsFirstMessage self.now q.now) }
-        ensures none { IfNone result (is_some q.now.source ≡ true → (n : Message) → Has self.now n → fits n q.now ≡ true → ⊥) }
+        ensures none { IfNone result (is_some q.now.source ≡ true → (n : Message) → Has self.now n → envelopes_fit n q.now ≡ true → ⊥) }
     {
         match q.source {
             None => None,
@@ -198,7 +198,7 @@ impl Receives {
         );
     }
 
-    /// The first of the receives with this source and tag that fits the message.
+    /// The first of the receives with this source and tag whose envelope fits the message's.
     fn first_with(&self, m: &Message, source: Option<u32>, tag: Option<u32>) -> Option<Receive>
         requires source { admits source m.now.from ≡ true }
         requires tag { admits tag m.now.tag ≡ true }
@@ -210,9 +210,10 @@ impl Receives {
         first_at(&self.groups, &(m.comm, m.to, source, tag))
     }
 
+    /// The first receive whose envelope fits the message's.
     pub(crate) fn first_for(&self, m: &Message) -> Option<Receive>
         ensures some { IfSome result (IsFirstReceive self.now m.now) }
-        ensures none { IfNone result ((r : Receive) → Has self.now r → fits m.now r ≡ true → ⊥) }
+        ensures none { IfNone result ((r : Receive) → Has self.now r → envelopes_fit m.now r ≡ true → ⊥) }
     {
         let source = Some(m.from);
         let tag = Some(m.tag);

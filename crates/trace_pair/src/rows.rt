@@ -81,7 +81,7 @@ impl Rows {
         match state.partner_of(next, m) {
             Some(q) => self.put(make_pair(m, &q))?,
             None => {
-                if state.does_untold_fit(m) {
+                if state.does_open_fit(m) {
                     self.postpone(m.name)?;
                 }
             }
@@ -99,7 +99,7 @@ impl Rows {
         match batch.receive_of(place, m) {
             Some(receive) => self.put(make_pair(m, &receive))?,
             None => {
-                if batch.does_untold_fit(m) {
+                if batch.does_open_fit(m) {
                     self.postpone(m.name)?;
                 }
             }

@@ -74,7 +74,7 @@ impl PairTable {
         &self.rows.pairs
     }
 
-    /// Messages in no pair that an untold receive fits, in their order.
+    /// Messages in no pair that an open receive fits, in their order.
     pub fn postponed(&self) -> &[OpName]
         ensures { result.now ≡ self.now.postponed }
     {

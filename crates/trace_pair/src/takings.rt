@@ -48,6 +48,9 @@ fn queues_of(alloc: Global, messages: &[Message]) -> Result<Queues, AllocError>
 {
     let mut queues = Queues::new(alloc);
     for (place, m) in messages.iter().enumerate() {
+        if m.trust.is_void() {
+            continue;
+        }
         add_place(alloc, &mut queues, (m.comm, m.from, m.to, m.tag), place)?;
     }
     Ok(queues)
@@ -59,6 +62,9 @@ fn lanes_of(alloc: Global, messages: &[Message]) -> Result<Lanes, AllocError>
 {
     let mut lanes = Lanes::new(alloc);
     for (place, m) in messages.iter().enumerate() {
+        if m.trust.is_void() {
+            continue;
+        }
         add_place(alloc, &mut lanes, (m.comm, m.from, m.to), place)?;
     }
     Ok(lanes)

@@ -17,7 +17,7 @@ pub map_push : {X Y : Type 0} (f : X → Y) (xs : List X) (x : X) → map f (xs 
 map_push f [] x = refl
 map_push {Y = Y} f (y ∷ ys) x = ap (λ (l : List Y). f y ∷ l) (map_push f ys x)
 
-lines_push : {X : Type 0} (f : X → List ℕ) (xs : List X) (x : X) → flat_map f (xs ++ x ∷ []) ≡ flat_map f xs ++ f x
+pub lines_push : {X : Type 0} (f : X → List ℕ) (xs : List X) (x : X) → flat_map f (xs ++ x ∷ []) ≡ flat_map f xs ++ f x
 lines_push f [] x = append-nil (f x)
 lines_push f (y ∷ xs) x = ap (λ (l : List ℕ). f y ++ l) (lines_push f xs x) ∙ sym (append_assoc (f y) (flat_map f xs) (f x))
 

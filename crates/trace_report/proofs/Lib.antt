@@ -5,3 +5,4 @@ pub mod Finished
 pub mod Shapes
 pub mod Each
 pub mod Conditions
+pub mod Arrays

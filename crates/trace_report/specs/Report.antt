@@ -11,7 +11,7 @@ use Rattle.trace_wait.specs.declared.round.Standing.{Standing}
 use Rattle.trace_wait.specs.declared.round.Standing.TheVariants.{Mismatched, Complete, Partial}
 use Rattle.trace_node.specs.Answer.{Answered, Stopped}
 use Rattle.trace_report.specs.Seconds.{seconds_text}
-use Rattle.trace_report.specs.Waits.{wait_text}
+use Rattle.trace_report.specs.Waits.{wait_text, of_lines}
 use Rattle.trace_report.specs.Words.{kind_word, sends_word, state_word, where_so}
 
 -- `mpimatch report 1`, and `ranks N sends wait`
@@ -20,14 +20,16 @@ head_lines a = codes "mpimatch report 1\nranks " ++ decimal a.ranks ++ codes " s
 
 -- Ranks
 
--- `rank R prefix P free`, with ` beyond` where something is known at or past the prefix
-abbrev pub rank_text : ℕ → ℕ → State → Bool → List ℕ
-rank_text rank prefix state beyond = codes "rank " ++ decimal rank ++ codes " prefix " ++ decimal prefix ++ codes " "
-    ++ state_word state ++ where_so beyond (codes " beyond") ++ codes "\n"
+-- `rank R prefix P free`, with ` beyond` where something is known at or past the prefix, and ` unread` where it ends at the
+-- Enter of an unread call
+abbrev pub rank_text : ℕ → ℕ → State → Bool → Bool → List ℕ
+rank_text rank prefix state beyond unread = codes "rank " ++ decimal rank ++ codes " prefix " ++ decimal prefix ++ codes " "
+    ++ state_word state ++ where_so beyond (codes " beyond") ++ where_so unread (codes " unread") ++ codes "\n"
 
 -- the line of a rank
 abbrev pub rank_line : Answered → ℕ → List ℕ
-rank_line a rank = rank_text rank (unwrap_or (slice_get a.prefixes rank) 0) (unwrap_or (slice_get a.states rank) Ended) (unwrap_or (slice_get a.beyond rank) false)
+rank_line a rank = rank_text rank (unwrap_or (slice_get a.prefixes rank) 0) (unwrap_or (slice_get a.states rank) Ended)
+    (unwrap_or (slice_get a.beyond rank) false) (unwrap_or (slice_get a.unread rank) false)
 
 -- the lines of the ranks below a number, in rising order
 abbrev pub rank_lines : Answered → ℕ → List ℕ
@@ -86,7 +88,7 @@ round_line r = codes "round " ++ decimal r.comm ++ codes ":" ++ decimal r.k ++ c
 -- `stuck R call CALL since SECONDS waits CONDITION`
 abbrev pub stuck_line : Stopped → List ℕ
 stuck_line s = codes "stuck " ++ decimal s.rank ++ codes " call " ++ decimal s.call ++ codes " since " ++ seconds_text s.wall
-    ++ codes " waits " ++ wait_text s.waits ++ codes "\n"
+    ++ codes " waits " ++ wait_text of_lines s.waits ++ codes "\n"
 
 -- a line for each stuck rank, or `stuck none`
 abbrev pub stuck_lines : List Stopped → List ℕ

@@ -2,30 +2,54 @@
 use Rattle.std.specs.Prelude.{ℕ, zero, suc, List, [], ◌++◌, codes, decimal}
 use Rattle.trace_stuck.specs.Shape as waits
 use Rattle.trace_stuck.specs.Shape.{Waits, OnNothing, OnRank, OnAll, OnOne, none, and}
+use Rattle.trace_report.specs.declared.form.Form.{Form}
+use Rattle.trace_report.specs.declared.form.Form.TheVariants.{Lines, Json}
+
+-- The words of a condition: nothing to wait for, the heads of an all-of and a one-of, what stands between two parts, and
+-- what ends a list of them.
+pub record WaitWords : Type 0 where
+  pub yes : List ℕ
+  pub all : List ℕ
+  pub any : List ℕ
+  pub between : List ℕ
+  pub close : List ℕ
+
+-- `yes`, a rank, `all(..)` or `any(..)`, one space between two parts
+abbrev pub of_lines : WaitWords
+of_lines = record { yes = codes "yes"; all = codes "all("; any = codes "any("; between = codes " "; close = codes ")" }
+
+-- `"yes"`, a rank, `{"all":[..]}` or `{"any":[..]}`
+abbrev pub of_json : WaitWords
+of_json = record { yes = codes "\"yes\""; all = codes "{\"all\":["; any = codes "{\"any\":["; between = codes ","; close = codes "]}" }
+
+-- the words of each form of a report
+abbrev pub words_of : Form → WaitWords
+words_of Lines = of_lines
+words_of Json = of_json
 
 abbrev mutual
-  -- `yes`, a rank, `all(..)` or `any(..)`
-  pub wait_text : waits.Wait → List ℕ
-  wait_text OnNothing = codes "yes"
-  wait_text (OnRank r) = decimal r
-  wait_text (OnAll parts) = codes "all(" ++ parts_text parts ++ codes ")"
-  wait_text (OnOne parts) = codes "any(" ++ parts_text parts ++ codes ")"
+  -- a condition
+  pub wait_text : WaitWords → waits.Wait → List ℕ
+  wait_text words OnNothing = words.yes
+  wait_text words (OnRank r) = decimal r
+  wait_text words (OnAll parts) = words.all ++ parts_text words parts ++ words.close
+  wait_text words (OnOne parts) = words.any ++ parts_text words parts ++ words.close
 
-  -- the parts in their order, with one space between two of them
-  pub parts_text : Waits → List ℕ
-  parts_text none = []
-  parts_text (and first rest) = wait_text first ++ more_text rest
+  -- the parts in their order
+  pub parts_text : WaitWords → Waits → List ℕ
+  parts_text words none = []
+  parts_text words (and first rest) = wait_text words first ++ more_text words rest
 
-  -- the parts that follow, with one space before each
-  pub more_text : Waits → List ℕ
-  more_text none = []
-  more_text (and next rest) = codes " " ++ wait_text next ++ more_text rest
+  -- the parts that follow another
+  pub more_text : WaitWords → Waits → List ℕ
+  more_text words none = []
+  more_text words (and next rest) = words.between ++ wait_text words next ++ more_text words rest
 
 -- what stands before a part, by its place among the parts
-abbrev pub space_before : ℕ → List ℕ
-space_before zero = []
-space_before (suc i) = codes " "
+abbrev pub before_part : WaitWords → ℕ → List ℕ
+before_part words zero = []
+before_part words (suc i) = words.between
 
 -- a part by its place, with what stands before it
-abbrev pub part_text : ℕ → waits.Wait → List ℕ
-part_text i part = space_before i ++ wait_text part
+abbrev pub part_text : WaitWords → ℕ → waits.Wait → List ℕ
+part_text words i part = before_part words i ++ wait_text words part

@@ -1,16 +1,17 @@
-//! The report of an answer, as text.
+//! The report of an answer, as lines or as one JSON object.
 //!
 //! [`write_report`] takes no memory: each line goes to a page of 4,096 bytes on the stack, and a
 //! full page to the device in one call. Where a write fails the report is a front of its text, as
 //! long as the fault says, and nothing is tried after it. [`report_text`] is the same text in
 //! memory. Cost: one pass over the answer.
 //!
-//! What each line says stands in `specs/Report.antt`, a function for each, and for readers in
-//! `docs/formats.md`.
+//! What each line says stands in `specs/Report.antt`, and each object of the JSON in
+//! `specs/Json.antt`, a function for each; for readers both stand in `docs/formats.md`.
 //!
 //! - [`report`]: the lines in their order, and the way to a device; [`text`]: the report in memory
 //! - [`ranks`]: the head and the ranks; [`matching`]: contradictions, pairs, postponed messages;
 //!   [`rounds`]: rounds of collective calls; [`stuck`]: stuck ranks and the end
+//! - [`json`]: the same as JSON; [`form`]: the words in which the two differ
 //! - [`waits`]: what a stuck rank waits for; [`seconds`]: times; [`words`]: words and numbers
 //! - [`sink`]: where lines go; [`paged`]: page by page; [`direct`]: to the device; [`fault`]: why a report is not whole
 //!
@@ -19,6 +20,8 @@
 
 mod direct;
 mod fault;
+mod form;
+mod json;
 mod matching;
 mod paged;
 mod ranks;
@@ -32,5 +35,5 @@ mod waits;
 mod words;
 
 pub use fault::ReportFault;
-pub use report::write_report;
+pub use report::{write_json, write_report};
 pub use text::report_text;

@@ -1,5 +1,7 @@
 //! The head of a report, and what is known of each rank.
 
+ghost use Rattle.std.specs.Prelude.{◌≡◌, false, slice_get, unwrap_or};
+ghost use Rattle.trace_ops.specs.declared.state.State.TheVariants.{Ended};
 ghost use Rattle.trace_report.specs.Page.{Prints};
 ghost use Rattle.trace_report.specs.Report.{head_lines, rank_line, rank_lines, rank_text};
 
@@ -27,18 +29,54 @@ pub(crate) fn put_ranks<S: Sink>(out: &mut S, answer: &Answer)
     }
 }
 
+/// The readable prefix of a rank.
+pub(crate) fn prefix_at(answer: &Answer, rank: u32) -> u64
+    ensures { result ≡ unwrap_or (slice_get answer.now.prefixes rank) 0 }
+{
+    answer.prefixes().get(rank as usize).copied().unwrap_or(0)
+}
+
+/// How a rank stands.
+pub(crate) fn state_at(answer: &Answer, rank: u32) -> State
+    ensures { result ≡ unwrap_or (slice_get answer.now.states rank) Ended }
+{
+    let state = answer.states().get(rank as usize).copied();
+    state.unwrap_or(State::Ended)
+}
+
+/// Whether something is known past the readable prefix of a rank.
+pub(crate) fn is_beyond(answer: &Answer, rank: u32) -> bool
+    ensures { result ≡ unwrap_or (slice_get answer.now.beyond rank) false }
+{
+    answer.beyond().get(rank as usize).copied().unwrap_or(false)
+}
+
+/// Whether the readable prefix of a rank ends at an unread call.
+pub(crate) fn is_unread(answer: &Answer, rank: u32) -> bool
+    ensures { result ≡ unwrap_or (slice_get answer.now.unread rank) false }
+{
+    answer.unread().get(rank as usize).copied().unwrap_or(false)
+}
+
 fn put_rank<S: Sink>(out: &mut S, answer: &Answer, rank: u32)
     ensures { Prints (S.page out.old) (S.page out.new) (rank_line answer.now rank) }
 {
-    let at = rank as usize;
-    let prefix = answer.prefixes().get(at).copied().unwrap_or(0);
-    let state = answer.states().get(at).copied().unwrap_or(State::Ended);
-    let beyond = answer.beyond().get(at).copied().unwrap_or(false);
-    put_rank_text(out, rank, prefix, state, beyond);
+    let prefix = prefix_at(answer, rank);
+    let state = state_at(answer, rank);
+    let beyond = is_beyond(answer, rank);
+    let unread = is_unread(answer, rank);
+    put_rank_text(out, rank, prefix, state, beyond, unread);
 }
 
-fn put_rank_text<S: Sink>(out: &mut S, rank: u32, prefix: u64, state: State, beyond: bool)
-    ensures { Prints (S.page out.old) (S.page out.new) (rank_text rank prefix state beyond) }
+fn put_rank_text<S: Sink>(
+    out: &mut S,
+    rank: u32,
+    prefix: u64,
+    state: State,
+    beyond: bool,
+    unread: bool,
+)
+    ensures { Prints (S.page out.old) (S.page out.new) (rank_text rank prefix state beyond unread) }
 {
     out.put(b"rank ");
     put_number(out, rank as u64);
@@ -47,5 +85,6 @@ fn put_rank_text<S: Sink>(out: &mut S, rank: u32, prefix: u64, state: State, bey
     out.put(b" ");
     out.put(state_word(state));
     put_where(out, beyond, b" beyond");
+    put_where(out, unread, b" unread");
     out.put(b"\n");
 }

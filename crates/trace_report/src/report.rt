@@ -6,10 +6,14 @@ ghost use Rattle.mpi_model.specs.Failures.{CountsFailure};
 ghost use Rattle.mpi_model.specs.Side.{LeavesSide};
 ghost use Rattle.trace_report.specs.BrokenOff.{WritesFront};
 ghost use Rattle.trace_report.specs.Page.{Prints, capped, closing, opening, outlet};
+ghost use Rattle.trace_report.specs.Json.{json_text};
+ghost use Rattle.trace_report.specs.Forms.{text_in};
 ghost use Rattle.trace_report.specs.Report.{report_text};
 
 use crate::direct::Direct;
 use crate::fault::ReportFault;
+use crate::form::Form;
+use crate::json::put_json;
 use crate::matching::{put_all_postponed, put_conflicts, put_pairs};
 use crate::paged::Paged;
 use crate::ranks::{put_head, put_ranks};
@@ -31,7 +35,32 @@ pub fn write_report<W: Write>(answer: &Answer, writer: &mut W) -> Result<u64, Re
     ensures failures { CountsFailure (W.failures writer.old) (W.failures writer.new) result }
     ensures beside { LeavesSide (W.read_side writer.old) (W.read_side writer.new) }
 {
-    let (written, failed) = print(answer, writer);
+    write_as(Form::Lines, answer, writer)
+}
+
+/// Writes the report of an answer as one JSON object with a line feed behind it, and answers how
+/// many bytes it has. It takes no memory, hands the device a page at a time, and writes nothing
+/// after a failure.
+pub fn write_json<W: Write>(answer: &Answer, writer: &mut W) -> Result<u64, ReportFault>
+    ensures ok { OnOk result (Appends (W.written writer.old) (W.written writer.new) (json_text answer.now)) }
+    ensures length { IfOk result (λ n. n ≡ capped (length (json_text answer.now))) }
+
+    // at a refused write just the first `written` bytes of the text were written
+    ensures err { IfErr result (λ fault. WritesFront (W.written writer.old) (W.written writer.new) (json_text answer.now) fault) }
+    ensures failures { CountsFailure (W.failures writer.old) (W.failures writer.new) result }
+    ensures beside { LeavesSide (W.read_side writer.old) (W.read_side writer.new) }
+{
+    write_as(Form::Json, answer, writer)
+}
+
+fn write_as<W: Write>(form: Form, answer: &Answer, writer: &mut W) -> Result<u64, ReportFault>
+    ensures ok { OnOk result (Appends (W.written writer.old) (W.written writer.new) (text_in form answer.now)) }
+    ensures length { IfOk result (λ n. n ≡ capped (length (text_in form answer.now))) }
+    ensures err { IfErr result (λ fault. WritesFront (W.written writer.old) (W.written writer.new) (text_in form answer.now) fault) }
+    ensures failures { CountsFailure (W.failures writer.old) (W.failures writer.new) result }
+    ensures beside { LeavesSide (W.read_side writer.old) (W.read_side writer.new) }
+{
+    let (written, failed) = print(form, answer, writer);
     if failed {
         Err(ReportFault::Write { written })
     } else {
@@ -40,8 +69,8 @@ pub fn write_report<W: Write>(answer: &Answer, writer: &mut W) -> Result<u64, Re
 }
 
 // Prints the report, and answers how many bytes the device took, and whether a write failed.
-fn print<W: Write>(answer: &Answer, writer: &mut W) -> (u64, bool)
-    ensures { Prints (opening (outlet (W.written writer.old) (W.failures writer.old) (W.read_side writer.old))) (closing (outlet (W.written writer.new) (W.failures writer.new) (W.read_side writer.new)) result.0 result.1) (report_text answer.now) }
+fn print<W: Write>(form: Form, answer: &Answer, writer: &mut W) -> (u64, bool)
+    ensures { Prints (opening (outlet (W.written writer.old) (W.failures writer.old) (W.read_side writer.old))) (closing (outlet (W.written writer.new) (W.failures writer.new) (W.read_side writer.new)) result.0 result.1) (text_in form answer.now) }
 {
     let direct = Direct {
         writer,
@@ -52,9 +81,18 @@ fn print<W: Write>(answer: &Answer, writer: &mut W) -> (u64, bool)
         direct,
         page: ArrayVec::new(),
     };
-    put_report(&mut out, answer);
+    put_form(&mut out, form, answer);
     out.flush();
     (out.direct.written, out.direct.failed)
+}
+
+fn put_form<S: Sink>(out: &mut S, form: Form, answer: &Answer)
+    ensures { Prints (S.page out.old) (S.page out.new) (text_in form answer.now) }
+{
+    match form {
+        Form::Lines => put_report(out, answer),
+        Form::Json => put_json(out, answer),
+    }
 }
 
 fn put_report<S: Sink>(out: &mut S, answer: &Answer)

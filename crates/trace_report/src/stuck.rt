@@ -6,6 +6,7 @@ ghost use Rattle.trace_report.specs.Page.{Prints};
 ghost use Rattle.trace_report.specs.Report.{last_lines, stuck_line, stuck_lines};
 ghost use Rattle.trace_node.specs.Stopped.{stopped};
 
+use crate::form::Form;
 use crate::seconds::put_seconds;
 use crate::sink::Sink;
 use crate::waits::put_wait;
@@ -41,7 +42,7 @@ fn put_stuck<S: Sink>(out: &mut S, stuck: &Stuck)
     out.put(b" since ");
     put_seconds(out, stuck.wall);
     out.put(b" waits ");
-    put_wait(out, &stuck.waits);
+    put_wait(out, Form::Lines, &stuck.waits);
     out.put(b"\n");
 }
 

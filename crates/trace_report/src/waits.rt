@@ -1,80 +1,81 @@
 //! What a stuck rank waits for, in words.
 
-ghost use Rattle.std.specs.Prelude.{◌≡◌, ◌++◌, codes, decimal, map};
+ghost use Rattle.std.specs.Prelude.{◌≡◌, ◌++◌, decimal, map};
 ghost use Rattle.trace_report.specs.Page.{Prints};
 ghost use Rattle.trace_stuck.specs.Shape.{shape, waits_of, OnRank};
-ghost use Rattle.trace_report.specs.Waits.{part_text, parts_text, space_before, wait_text};
+ghost use Rattle.trace_report.specs.Waits.{before_part, part_text, parts_text, wait_text, words_of};
 
+use crate::form::Form;
 use crate::sink::Sink;
 use crate::words::put_number;
 use trace_wait::Condition;
 
 #[cycle(wait)]
 #[tactic(auto, using(crate::proofs::Shapes::shapes))]
-pub(crate) fn put_wait<S: Sink>(out: &mut S, condition: &Condition)
-    ensures { Prints (S.page out.old) (S.page out.new) (wait_text (shape condition.now)) }
+pub(crate) fn put_wait<S: Sink>(out: &mut S, form: Form, condition: &Condition)
+    ensures { Prints (S.page out.old) (S.page out.new) (wait_text (words_of form) (shape condition.now)) }
 {
     match condition {
-        Condition::Yes => out.put(b"yes"),
+        Condition::Yes => out.put(form.yes()),
         Condition::Rank(r) => put_number(out, *r as u64),
-        Condition::All(parts) => put_list(out, b"all(", parts),
-        Condition::One(parts) => put_list(out, b"any(", parts),
-        Condition::OneRank(ranks) => put_rank_list(out, b"any(", ranks),
-        Condition::AllRanks(ranks) => put_rank_list(out, b"all(", ranks),
+        Condition::All(parts) => put_list(out, form, form.all(), parts),
+        Condition::One(parts) => put_list(out, form, form.any(), parts),
+        Condition::OneRank(ranks) => put_rank_list(out, form, form.any(), ranks),
+        Condition::AllRanks(ranks) => put_rank_list(out, form, form.all(), ranks),
     }
 }
 
 #[cycle(wait)]
-fn put_list<S: Sink>(out: &mut S, head: &[u8], parts: &[Condition])
-    ensures { Prints (S.page out.old) (S.page out.new) (head.now ++ parts_text (waits_of (map shape parts.now)) ++ codes ")") }
+fn put_list<S: Sink>(out: &mut S, form: Form, head: &[u8], parts: &[Condition])
+    ensures { Prints (S.page out.old) (S.page out.new) (head.now ++ parts_text (words_of form) (waits_of (map shape parts.now)) ++ (words_of form).close) }
 {
     out.put(head);
-    put_parts(out, parts);
-    out.put(b")");
+    put_parts(out, form, parts);
+    out.put(form.close());
 }
 
 #[cycle(wait)]
-fn put_parts<S: Sink>(out: &mut S, parts: &[Condition])
-    ensures { Prints (S.page out.old) (S.page out.new) (parts_text (waits_of (map shape parts.now))) }
+fn put_parts<S: Sink>(out: &mut S, form: Form, parts: &[Condition])
+    ensures { Prints (S.page out.old) (S.page out.new) (parts_text (words_of form) (waits_of (map shape parts.now))) }
 {
     for (i, part) in parts.iter().enumerate() {
-        put_part(out, i, part);
+        put_part(out, form, i, part);
     }
 }
 
 #[cycle(wait)]
-fn put_part<S: Sink>(out: &mut S, i: usize, part: &Condition)
-    ensures { Prints (S.page out.old) (S.page out.new) (part_text i (shape part.now)) }
+fn put_part<S: Sink>(out: &mut S, form: Form, i: usize, part: &Condition)
+    ensures { Prints (S.page out.old) (S.page out.new) (part_text (words_of form) i (shape part.now)) }
 {
-    out.put(space_before(i));
-    put_wait(out, part);
+    out.put(before_part(form, i));
+    put_wait(out, form, part);
 }
 
-fn put_rank_list<S: Sink>(out: &mut S, head: &[u8], ranks: &[u32])
-    ensures { Prints (S.page out.old) (S.page out.new) (head.now ++ parts_text (waits_of (map OnRank ranks.now)) ++ codes ")") }
+fn put_rank_list<S: Sink>(out: &mut S, form: Form, head: &[u8], ranks: &[u32])
+    ensures { Prints (S.page out.old) (S.page out.new) (head.now ++ parts_text (words_of form) (waits_of (map OnRank ranks.now)) ++ (words_of form).close) }
 {
     out.put(head);
-    put_ranks(out, ranks);
-    out.put(b")");
+    put_ranks(out, form, ranks);
+    out.put(form.close());
 }
 
-fn put_ranks<S: Sink>(out: &mut S, ranks: &[u32])
-    ensures { Prints (S.page out.old) (S.page out.new) (parts_text (waits_of (map OnRank ranks.now))) }
+fn put_ranks<S: Sink>(out: &mut S, form: Form, ranks: &[u32])
+    ensures { Prints (S.page out.old) (S.page out.new) (parts_text (words_of form) (waits_of (map OnRank ranks.now))) }
 {
     for (i, rank) in ranks.iter().enumerate() {
-        put_rank(out, i, *rank);
+        put_rank(out, form, i, *rank);
     }
 }
 
-fn put_rank<S: Sink>(out: &mut S, i: usize, rank: u32)
-    ensures { Prints (S.page out.old) (S.page out.new) (part_text i (OnRank rank)) }
+fn put_rank<S: Sink>(out: &mut S, form: Form, i: usize, rank: u32)
+    ensures { Prints (S.page out.old) (S.page out.new) (part_text (words_of form) i (OnRank rank)) }
 {
-    out.put(space_before(i));
+    out.put(before_part(form, i));
     put_number(out, rank as u64);
 }
 
-fn space_before(i: usize) -> &'static [u8]
-    ensures { result.now ≡ space_before i }
+fn before_part(form: Form, i: usize) -> &'static [u8]
+    ensures { result.now ≡ before_part (words_of form) i }
 {
-    if i == 0 { b"" } else { b" " }
+    if i == 0 { b"" } else { form.between() }
 }

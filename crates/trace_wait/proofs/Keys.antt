@@ -1,6 +1,6 @@
 -- What the sets of patterns and of rounds hold, one element more.
 use Rattle.std.proofs.Common.{◌≡◌, ℕ, ◌+◌, ◌<◌, Bool, true, false, ◌&&◌, ◌||◌, List, [], ◌∷◌, ◌++◌, Option, Some, None, take, get_or, refl, sym, ◌∙◌, ap, arith, length, append-nil}
-use Rattle.std.specs.Prelude.{filter, is_some, is_none, ◌==◌, if◌then◌else◌}
+use Rattle.std.specs.Prelude.{filter, not, is_some, is_none, ◌==◌, if◌then◌else◌}
 use Rattle.std.specs.List.{list_any, flat_map}
 use Rattle.std.specs.declared.cmp.Ordering.{Ordering}
 use Rattle.std.specs.declared.cmp.Ordering.TheVariants.{Less, Equal, Greater}
@@ -10,12 +10,13 @@ use Rattle.std.proofs.lemmas.List.{take_more}
 use Rattle.std.proofs.lemmas.List.Elements.{filter-append}
 use Rattle.std.proofs.lemmas.List.Folds.{list_any-append}
 use Rattle.std.proofs.lemmas.Bool.Decides.{nat_tests}
-use Rattle.mpi_model.specs.Fit.{admits, fits}
+use Rattle.mpi_model.specs.Fit.{admits, envelopes_fit, fits}
+use Rattle.mpi_model.specs.Trusts.{is_void}
 use Rattle.mpi_model.specs.declared.message.Message.{Message}
 use Rattle.mpi_model.specs.declared.message.Receive.{Receive}
 use Rattle.trace_wait.specs.declared.round.Round.{Round}
 use Rattle.trace_wait.specs.Collectives.{is_mismatch, is_mismatched_at}
-use Rattle.trace_wait.specs.Patterns.{Pattern, pattern_cmp, same_option, same_pattern, suits, asks, Place, place_cmp}
+use Rattle.trace_wait.specs.Patterns.{Pattern, pattern_cmp, same_option, same_pattern, pattern_of, suits, offers, asks, Place, place_cmp}
 
 or_false : (a : Bool) → (a || false) ≡ a
 or_false true = refl
@@ -150,16 +151,49 @@ suits_is m p =
     four_ways (m.comm == p.0) (m.to == p.1) (same_option None p.2) (same_option (Some m.from) p.2) (same_option None p.3) (same_option (Some m.tag) p.3)
     ∙ ends (m.comm == p.0) (m.to == p.1) _ _ _ _ (named_ways p.2 m.from) (named_ways p.3 m.tag)
 
--- what fits a message names it in one of four ways
-fits_is : (m : Message) (q : Receive) →
-    (asks q (any_any m) || (asks q (any_tagged m) || (asks q (from_any m) || asks q (from_tagged m)))) ≡ fits m q
-fits_is m q =
+abbrev names : Receive → Pattern → Bool
+names q p = same_pattern (pattern_of q) p
+
+-- what suits a message names it in one of four ways
+named_is : (m : Message) (q : Receive) →
+    (names q (any_any m) || (names q (any_tagged m) || (names q (from_any m) || names q (from_tagged m)))) ≡ envelopes_fit m q
+named_is m q =
     four_ways (q.comm == m.comm) (q.at == m.to) (same_option q.source None) (same_option q.source (Some m.from)) (same_option q.tag None) (same_option q.tag (Some m.tag))
     ∙ ends (q.comm == m.comm) (q.at == m.to) _ _ _ _ (named_back q.source m.from) (named_back q.tag m.tag)
     ∙ begins (q.comm == m.comm) (m.comm == q.comm) (q.at == m.to) (m.to == q.at) (admits q.source m.from) (admits q.tag m.tag) (flipped q.comm m.comm) (flipped q.at m.to)
   where
     begins : (a b c d s t : Bool) → a ≡ b → c ≡ d → (a && c && s && t) ≡ (b && d && s && t)
     begins a b c d s t h k = ap (λ x. x && c && s && t) h ∙ ap (λ y. b && y && s && t) k
+
+-- the same of a receive that was not cancelled
+fits_is : (m : Message) (q : Receive) →
+    (asks q (any_any m) || (asks q (any_tagged m) || (asks q (from_any m) || asks q (from_tagged m)))) ≡ (envelopes_fit m q && not (is_void q.trust))
+fits_is m q =
+    all_or_none (names q (any_any m)) (names q (any_tagged m)) (names q (from_any m)) (names q (from_tagged m)) (not (is_void q.trust))
+    ∙ ap (λ b. b && not (is_void q.trust)) (named_is m q)
+  where
+    all_or_none : (a b c d e : Bool) → ((a && e) || ((b && e) || ((c && e) || (d && e)))) ≡ ((a || (b || (c || d))) && e)
+    all_or_none true b c d true = refl
+    all_or_none false true c d true = refl
+    all_or_none false false true d true = refl
+    all_or_none false false false true true = refl
+    all_or_none false false false false true = refl
+    all_or_none true true true true false = refl
+    all_or_none true true true false false = refl
+    all_or_none true true false true false = refl
+    all_or_none true true false false false = refl
+    all_or_none true false true true false = refl
+    all_or_none true false true false false = refl
+    all_or_none true false false true false = refl
+    all_or_none true false false false false = refl
+    all_or_none false true true true false = refl
+    all_or_none false true true false false = refl
+    all_or_none false true false true false = refl
+    all_or_none false true false false false = refl
+    all_or_none false false true true false = refl
+    all_or_none false false true false false = refl
+    all_or_none false false false true false = refl
+    all_or_none false false false false false = refl
 
 -- a message's patterns, all noted
 pub offered_more : (m : Message) (p : Pattern) (before after : Bool) →
@@ -194,13 +228,13 @@ offered_more m p before after h =
 -- one of four ways to name a message stands in the list exactly where a receive of it fits
 pub any_fits : (m : Message) (qs : List Receive) →
     (list_any (λ q. asks q (any_any m)) qs || (list_any (λ q. asks q (any_tagged m)) qs || (list_any (λ q. asks q (from_any m)) qs || list_any (λ q. asks q (from_tagged m)) qs)))
-    ≡ list_any (λ q. fits m q) qs
+    ≡ list_any (λ q. envelopes_fit m q && not (is_void q.trust)) qs
 any_fits m [] = refl
 any_fits m (q ∷ qs) =
     woven (asks q (any_any m)) (asks q (any_tagged m)) (asks q (from_any m)) (asks q (from_tagged m))
     (list_any (λ q. asks q (any_any m)) qs) (list_any (λ q. asks q (any_tagged m)) qs) (list_any (λ q. asks q (from_any m)) qs) (list_any (λ q. asks q (from_tagged m)) qs)
     ∙ ap (λ b. b || (list_any (λ q. asks q (any_any m)) qs || (list_any (λ q. asks q (any_tagged m)) qs || (list_any (λ q. asks q (from_any m)) qs || list_any (λ q. asks q (from_tagged m)) qs)))) (fits_is m q)
-    ∙ ap (λ b. fits m q || b) (any_fits m qs)
+    ∙ ap (λ b. (envelopes_fit m q && not (is_void q.trust)) || b) (any_fits m qs)
   where
     woven : (a b c d v w x y : Bool) → ((a || v) || ((b || w) || ((c || x) || (d || y)))) ≡ ((a || (b || (c || d))) || (v || (w || (x || y))))
     woven true b c d v w x y = refl
@@ -240,6 +274,83 @@ passed_over (Some x) s before h = refl
 pub taken_in : {X : Type 0} (o : Option X) (s before after : Bool) → is_some o ≡ false → after ≡ (s || before) → after ≡ ((is_none o && s) || before)
 taken_in None s before after h e = e
 taken_in (Some x) s before after h e = absurd (cc)
+
+-- a message of the other kind is passed over, and one of this kind is as its envelope says
+pub of_another_kind : (u s kind before : Bool) → kind ≡ false → before ≡ ((u && (s && kind)) || before)
+of_another_kind true true true before h = absurd (cc)
+of_another_kind true true false before h = refl
+of_another_kind true false kind before h = refl
+of_another_kind false s kind before h = refl
+
+pub in_kind : (s kind before after : Bool) → kind ≡ true → after ≡ (s || before) → after ≡ ((s && kind) || before)
+in_kind true true before after h e = e
+in_kind false kind before after h e = e
+in_kind true false before after h e = absurd (cc)
+
+-- ---- cancelled messages and receives
+
+-- a fact that doesn't hang on the element
+pub any_and : {X : Type 0} (f : X → Bool) (b : Bool) (xs : List X) → list_any (λ x. f x && b) xs ≡ (b && list_any f xs)
+any_and f true [] = refl
+any_and f false [] = refl
+any_and f b (x ∷ xs) = ap (λ r. (f x && b) || r) (any_and f b xs) ∙ taken_out (f x) b (list_any f xs)
+  where
+    taken_out : (a b c : Bool) → ((a && b) || (b && c)) ≡ (b && (a || c))
+    taken_out true true c = refl
+    taken_out false true c = refl
+    taken_out true false c = refl
+    taken_out false false c = refl
+
+-- one test or the other holds of some element
+pub any_or : {X : Type 0} (f g h : X → Bool) → ((x : X) → (f x || g x) ≡ h x) → (xs : List X) → (list_any f xs || list_any g xs) ≡ list_any h xs
+any_or f g h each [] = refl
+any_or f g h each (x ∷ xs) =
+    woven (f x) (g x) (list_any f xs) (list_any g xs) ∙ ap (λ b. b || (list_any f xs || list_any g xs)) (each x) ∙ ap (λ b. h x || b) (any_or f g h each xs)
+  where
+    woven : (a b c d : Bool) → ((a || c) || (b || d)) ≡ ((a || b) || (c || d))
+    woven true b c d = refl
+    woven false true true d = refl
+    woven false true false d = refl
+    woven false false c d = refl
+
+-- all of them pass such a fact, or none does
+pub all_pass : {X : Type 0} (f : X → Bool) (b : Bool) (xs : List X) → b ≡ true → list_any f xs ≡ list_any (λ x. f x && b) xs
+all_pass f b xs h = sym (any_and f b xs ∙ ap (λ c. c && list_any f xs) h)
+
+pub none_pass : {X : Type 0} (f : X → Bool) (b : Bool) (xs : List X) → b ≡ false → false ≡ list_any (λ x. f x && b) xs
+none_pass f b xs h = sym (any_and f b xs ∙ ap (λ c. c && list_any f xs) h)
+
+-- one of two tests
+pub by_either : (a b f r : Bool) → (a || b) ≡ f → r ≡ a → r ≡ true → r ≡ f
+by_either a b f r whole e h = h ∙ ap (λ c. c || b) (sym (sym e ∙ h)) ∙ whole
+
+pub by_other : (a b f p r : Bool) → (a || b) ≡ f → p ≡ a → p ≡ false → r ≡ b → r ≡ f
+by_other a b f p r whole e h k = k ∙ ap (λ c. c || b) (sym (sym e ∙ h)) ∙ whole
+
+-- the tests agree on each element
+pub any_same : {X : Type 0} (f g : X → Bool) → ((x : X) → f x ≡ g x) → (xs : List X) → list_any f xs ≡ list_any g xs
+any_same f g each [] = refl
+any_same f g each (x ∷ xs) = ap (λ b. b || list_any f xs) (each x) ∙ ap (λ b. g x || b) (any_same f g each xs)
+
+-- a message was cancelled or it was not
+pub either_kind : (m : Message) (q : Receive) → (offers false m (pattern_of q) || offers true m (pattern_of q)) ≡ envelopes_fit m q
+either_kind m q = either (envelopes_fit m q) (is_void m.trust)
+  where
+    either : (a v : Bool) → ((a && not v) || (a && v)) ≡ a
+    either true true = refl
+    either true false = refl
+    either false v = refl
+
+-- what fits a message that was not cancelled
+pub fits_by_message : (m : Message) (q : Receive) → fits m q ≡ ((envelopes_fit m q && not (is_void q.trust)) && not (is_void m.trust))
+fits_by_message m q = turned (envelopes_fit m q) (not (is_void m.trust)) (not (is_void q.trust))
+  where
+    turned : (a b c : Bool) → (a && b && c) ≡ ((a && c) && b)
+    turned true true true = refl
+    turned true true false = refl
+    turned true false true = refl
+    turned true false false = refl
+    turned false b c = refl
 
 -- some receive of the list names just this
 abbrev pub asked_as : List Receive → Pattern → Bool

@@ -1,15 +1,16 @@
 -- A search by halves in a list whose keys rise finds what a search from its front would.
-use Rattle.std.proofs.Common.{◌≡◌, ℕ, zero, suc, ◌+◌, ◌<◌, ◌≤◌, ◌⊎◌, inl, inr, ⊎_elim, Bool, true, false, ◌&&◌, List, [], ◌∷◌, Some, None, Result, Ok, Err, IfOk, IfErr, get_or, refl, sym, subst, arith, length}
-use Rattle.std.specs.Prelude.{slice_get, ◌==◌, cond, nat_lt}
-use Rattle.std.specs.List.{find}
+use Rattle.std.proofs.Common.{ap, ◌∙◌, ◌≡◌, ℕ, zero, suc, ◌+◌, ◌<◌, ◌≤◌, ◌⊎◌, inl, inr, ⊎_elim, Bool, true, false, ◌&&◌, List, [], ◌∷◌, Some, None, Result, Ok, Err, IfOk, IfErr, get_or, refl, sym, subst, arith, length}
+use Rattle.std.specs.Prelude.{slice_get, ◌==◌, ◌||◌, cond, nat_lt, is_some, is_ok}
+use Rattle.std.specs.List.{find, list_any}
 use Rattle.std.specs.List.Sorted.{IsSearchInRange, IsBinarySearchResult, IsNonDecreasingBy}
 use Rattle.std.specs.Ordering.{nat_cmp, ordering_index}
 use Rattle.std.proofs.lemmas.Cmp.{ranked}
 use Rattle.std.proofs.lemmas.Bool.Decides.{nat_tests}
+use Rattle.mpi_model.specs.declared.event.OpName.{OpName}
 use Rattle.mpi_model.specs.declared.message.Message.{Message}
 use Rattle.mpi_model.specs.declared.message.Receive.{Receive}
 use Rattle.trace_ops.specs.Ops.{Ops, AreOwn}
-use Rattle.trace_ops.specs.Order.{Has, AreInOrder, ArePosted}
+use Rattle.trace_ops.specs.Order.{Has, AreInOrder, ArePosted, AreCalledInOrder}
 
 -- each key is below those after it
 abbrev pub Rises : {X : Type 0} → (X → ℕ) → List X → Type 0
@@ -83,6 +84,24 @@ module _ {X : Type 0} (key : X → ℕ) where
               (split k at));
         }
 
+any_found : {X : Type 0} (p : X → Bool) (xs : List X) → is_some (find p xs) ≡ list_any p xs
+any_found p [] = refl
+any_found p (x ∷ xs) = by (p x) (any_found p xs)
+  where
+    by : (b : Bool) → is_some (find p xs) ≡ list_any p xs → is_some (cond b (Some x) (find p xs)) ≡ (b || list_any p xs)
+    by true rest = refl
+    by false rest = rest
+
+is_there : {X : Type 0} (xs : List X) (i : ℕ) → i < length xs → is_some (slice_get xs i) ≡ true
+is_there [] i lt = absurd (omega arith)
+is_there (x ∷ xs) zero lt = refl
+is_there (x ∷ xs) (suc i) lt = is_there xs i (omega (arith, lt))
+
+-- whether a search by halves finds something
+pub found_any : {X : Type 0} (p : X → Bool) (xs : List X) (r : Result ℕ ℕ) → IsSearchInRange r (length xs) → Finds p xs r → is_ok r ≡ list_any p xs
+found_any p xs (Ok at) in_range finds = sym (is_there xs at in_range) ∙ ap is_some finds.found ∙ any_found p xs
+found_any p xs (Err at) in_range finds = sym (ap is_some finds.absent) ∙ any_found p xs
+
 both : (a b : Bool) → (a && b) ≡ true → (a ≡ true) × (b ≡ true)
 both true b h = (refl, h)
 both false b h = absurd (cc)
@@ -98,8 +117,17 @@ pub receives_rise : (qs : List Receive) → ArePosted qs → Rises (λ q. q.name
 receives_rise [] o = tt
 receives_rise (q ∷ qs) o = (λ x i. below q.name.call x.name.call (both _ _ (o.0 x i)).1, receives_rise qs o.1)
 
--- the operations of rank r stand in order of their calls
-pub own_at : (first : ℕ) (ops : List Ops) (i : ℕ) (d : Ops) → AreOwn first ops → i < length ops → (AreInOrder (get_or ops i d).sends) × (ArePosted (get_or ops i d).receives)
+pub names_rise : (names : List OpName) → AreCalledInOrder names → Rises (λ a. a.call) names
+names_rise [] o = tt
+names_rise (a ∷ names) o = (λ x i. below a.call x.call (both _ _ (o.0 x i)).1, names_rise names o.1)
+
+-- the operations of a rank stand in order of their calls
+pub record StandInOrder (o : Ops) : Type 0 where
+  pub sends : AreInOrder o.sends
+  pub receives : ArePosted o.receives
+  pub cancelled : AreCalledInOrder o.cancelled
+
+pub own_at : (first : ℕ) (ops : List Ops) (i : ℕ) (d : Ops) → AreOwn first ops → i < length ops → StandInOrder (get_or ops i d)
 own_at first [] i d own lt = absurd (omega arith)
-own_at first (o ∷ ops) zero d own lt = (own.0.sends_rise, own.0.receives_rise)
+own_at first (o ∷ ops) zero d own lt = record { sends = own.0.sends_rise; receives = own.0.receives_rise; cancelled = own.0.cancelled_rise }
 own_at first (o ∷ ops) (suc i) d own lt = own_at (first + 1) ops i d own.1 (omega (arith, lt))

@@ -9,7 +9,7 @@ use Rattle.trace_stuck.specs.Shape.{Wait, shape}
 use Rattle.trace_ops.specs.Ops.{Ops}
 use Rattle.trace_wait.specs.Parts.{Run}
 use Rattle.trace_wait.specs.Collectives.{has_entered}
-use Rattle.trace_wait.specs.Requests.{post_part, posted_by, requests}
+use Rattle.trace_wait.specs.Requests.{post_part, posted_by, requests, choice, choices}
 use Rattle.trace_wait.specs.Conditions.{condition_of, conditions_from}
 use Rattle.trace_wait.specs.Calls.{calls_of}
 use Rattle.trace_wait.proofs.Tables.{count_at}
@@ -20,6 +20,9 @@ map_push {Y = Y} f (y ∷ ys) x = ap (λ (l : List Y). f y ∷ l) (map_push f ys
 
 pub requests_more : (s : Run) (r : ℕ) (o : Ops) (xs : List ℤ) (i : ℕ) (d : ℤ) → i < length xs → requests s r o (take (i + 1) xs) ≡ requests s r o (take i xs) ++ requests s r o (get_or xs i d ∷ [])
 requests_more s r o xs i d lt = ap (requests s r o) (take_more xs i d lt) ∙ filter_map-append (λ x. option_map (post_part s r o) (posted_by o x)) (take i xs) (get_or xs i d ∷ [])
+
+pub choices_more : (s : Run) (r : ℕ) (o : Ops) (xs : List ℤ) (i : ℕ) (d : ℤ) → i < length xs → choices s r o (take (i + 1) xs) ≡ choices s r o (take i xs) ++ choices s r o (get_or xs i d ∷ [])
+choices_more s r o xs i d lt = ap (choices s r o) (take_more xs i d lt) ∙ filter_map-append (choice s r o) (take i xs) (get_or xs i d ∷ [])
 
 conditions_more : (s : Run) (first : ℕ) (ops : List Ops) (i r : ℕ) (d : Ops) → r ≡ first + i → i < length ops →
     conditions_from s first (take (i + 1) ops) ≡ conditions_from s first (take i ops) ++ condition_of s r (get_or ops i d) ∷ []

@@ -3,13 +3,13 @@ use Rattle.std.specs.Prelude.{ℕ, ◌+◌, Option, List, [], ◌∷◌}
 use Rattle.std.specs.Option.{option_map}
 use Rattle.mpi_model.specs.declared.call.Call.{Call}
 use Rattle.mpi_model.specs.declared.call.Call.TheVariants as calls
-use Rattle.mpi_model.specs.declared.call.Call.TheVariants.{Local, Finalize, Send, Isend, Recv, Irecv, Sendrecv, Waitall, Waitany, Waitsome, Test, Collective, Probe, Ibarrier}
+use Rattle.mpi_model.specs.declared.call.Call.TheVariants.{Local, Finalize, Send, Isend, Recv, Irecv, Sendrecv, Waitall, Waitany, Waitsome, Test, Testall, Testany, Testsome, Cancel, Free, Collective, Probe, Ibarrier, Unread}
 use Rattle.trace_stuck.specs.Shape.{Wait, OnNothing, OnAll, waits_of}
 use Rattle.trace_ops.specs.Ops.{Ops}
 use Rattle.trace_ops.specs.Receive.{probed}
 use Rattle.trace_wait.specs.Parts.{Run, send_of_call, receive_of_call, probe_part}
 use Rattle.trace_wait.specs.Collectives.{collective_of_call}
-use Rattle.trace_wait.specs.Requests.{request, requests, some_of}
+use Rattle.trace_wait.specs.Requests.{request, requests, choices, some_of}
 
 -- what rank r waits for in its call n; the other calls don't wait
 abbrev pub waits_for : Run → ℕ → Ops → ℕ → Call → Wait
@@ -18,8 +18,8 @@ waits_for s r o n (Recv e) = receive_of_call s o n
 waits_for s r o n (Sendrecv x) = OnAll (waits_of (send_of_call s o n ∷ receive_of_call s o n ∷ []))
 waits_for s r o n (calls.Wait x) = request s r o x
 waits_for s r o n (Waitall xs) = OnAll (waits_of (requests s r o xs))
-waits_for s r o n (Waitany xs) = some_of (requests s r o xs)
-waits_for s r o n (Waitsome xs) = some_of (requests s r o xs)
+waits_for s r o n (Waitany xs) = some_of (choices s r o xs)
+waits_for s r o n (Waitsome xs) = some_of (choices s r o xs)
 waits_for s r o n (Collective c) = collective_of_call s r o n
 waits_for s r o n (Probe e) = probe_part s (probed s.layout r n e)
 waits_for s r o n Local = OnNothing
@@ -28,6 +28,12 @@ waits_for s r o n (Isend mode e) = OnNothing
 waits_for s r o n (Irecv e) = OnNothing
 waits_for s r o n (Ibarrier c) = OnNothing
 waits_for s r o n (Test x) = OnNothing
+waits_for s r o n (Testall xs) = OnNothing
+waits_for s r o n (Testany xs) = OnNothing
+waits_for s r o n (Testsome xs) = OnNothing
+waits_for s r o n (Cancel x) = OnNothing
+waits_for s r o n (Free x) = OnNothing
+waits_for s r o n Unread = OnNothing
 
 -- the condition of rank r, whose operations these are, where it waits
 abbrev pub condition_of : Run → ℕ → Ops → Option Wait

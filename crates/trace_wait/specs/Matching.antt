@@ -13,10 +13,10 @@ is_unpaired_message pairs m = is_none (taken_by pairs m.name)
 abbrev pub is_unpaired_receive : List Pair → Receive → Bool
 is_unpaired_receive pairs q = is_none (given_by pairs q.name)
 
--- The messages of all ranks that are in no pair, postponed ones among them.
+-- The messages of all ranks that are in no pair, postponed and void ones among them.
 abbrev pub unpaired_messages : List Ops → List Pair → List Message
 unpaired_messages ops pairs = flat_map (λ o. filter (is_unpaired_message pairs) o.sends) ops
 
--- The receives of all ranks that are in no pair, untold ones among them.
+-- The receives of all ranks that are in no pair, open and void ones among them.
 abbrev pub unpaired_receives : List Ops → List Pair → List Receive
 unpaired_receives ops pairs = flat_map (λ o. filter (is_unpaired_receive pairs) o.receives) ops

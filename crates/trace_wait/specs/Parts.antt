@@ -14,7 +14,7 @@ use Rattle.trace_pair.specs.declared.pair.Pair.{Pair}
 use Rattle.trace_wait.specs.declared.round.Round.{Round}
 use Rattle.trace_ops.specs.Ops.{Ops}
 use Rattle.trace_pair.specs.Table.{taken_by, given_by}
-use Rattle.mpi_model.specs.Fit.{fits}
+use Rattle.mpi_model.specs.Fit.{envelopes_fit, fits}
 use Rattle.trace_wait.specs.Matching.{unpaired_messages, unpaired_receives}
 
 -- what the conditions are made from
@@ -59,10 +59,10 @@ may_receive s q = is_some (given_by s.pairs q.name) || list_any (λ m. fits m q)
 abbrev pub receive_part : Run → Receive → Wait
 receive_part s q = if may_receive s q then OnNothing else source_part s q
 
--- A probe may return where an unpaired message fits it, read as a receive; else it waits for its source. A probe of the
--- null process looks for none.
+-- A probe may return where an unpaired message fits it, read as a receive; else it waits for its source. A message that was
+-- cancelled may have been probed before (MPI 4.0, 3.8.1). A probe of the null process looks for none.
 abbrev pub may_probe : Run → Receive → Bool
-may_probe s q = list_any (λ m. fits m q) (unpaired_messages s.ops s.pairs)
+may_probe s q = list_any (λ m. envelopes_fit m q) (unpaired_messages s.ops s.pairs)
 
 abbrev pub probe_part : Run → Option Receive → Wait
 probe_part s None = OnNothing

@@ -1,9 +1,10 @@
 -- The keys of the ordered sets in which things are looked up: what a receive names of a message, and rounds. No public clause speaks of it.
-use Rattle.std.specs.Prelude.{ℕ, Bool, true, false, ◌==◌, ◌&&◌, Option, Some, None}
+use Rattle.std.specs.Prelude.{ℕ, Bool, true, false, ◌==◌, ◌&&◌, not, if◌then◌else◌, Option, Some, None}
 use Rattle.std.specs.declared.cmp.Ordering.{Ordering}
 use Rattle.std.specs.Ordering.{nat_cmp, ordering_then}
 use Rattle.std.specs.Option.{option_cmp}
 use Rattle.mpi_model.specs.Fit.{admits}
+use Rattle.mpi_model.specs.Trusts.{is_void}
 use Rattle.mpi_model.specs.declared.message.Message.{Message}
 use Rattle.mpi_model.specs.declared.message.Receive.{Receive}
 
@@ -29,13 +30,21 @@ same_option (Some a) (Some b) = a == b
 abbrev pub same_pattern : Pattern → Pattern → Bool
 same_pattern a b = (a.0 == b.0) && (a.1 == b.1) && same_option a.2 b.2 && same_option a.3 b.3
 
--- a receive that names this can take the message
+-- The message's envelope suits a receive that names this.
 abbrev pub suits : Message → Pattern → Bool
 suits m p = (m.comm == p.0) && (m.to == p.1) && admits p.2 m.from && admits p.3 m.tag
 
--- the receive names just this
+-- whether the message was cancelled, or whether it was not
+abbrev pub is_void_or_not : Bool → Message → Bool
+is_void_or_not void m = if void then is_void m.trust else not (is_void m.trust)
+
+-- The message suits what is named; it was cancelled, or it was not.
+abbrev pub offers : Bool → Message → Pattern → Bool
+offers void m p = suits m p && is_void_or_not void m
+
+-- The receive names just this, and was not cancelled.
 abbrev pub asks : Receive → Pattern → Bool
-asks q p = same_pattern (pattern_of q) p
+asks q p = same_pattern (pattern_of q) p && not (is_void q.trust)
 
 -- a round as a key: its communicator and its number
 abbrev pub Place : Type 0

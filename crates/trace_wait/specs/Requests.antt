@@ -1,8 +1,9 @@
 -- What a request waits for, by the call that posted it (MPI 4.0, 3.7.3, 3.7.5 and 6.12).
-use Rattle.std.specs.Prelude.{◌≡◌, ℕ, ℤ, Option, Some, None, List, [], ◌∷◌}
-use Rattle.std.specs.List.{find, filter_map}
+use Rattle.std.specs.Prelude.{◌≡◌, ◌==◌, ℕ, ℤ, Bool, Option, Some, None, List, [], ◌∷◌, if◌then◌else◌}
+use Rattle.std.specs.List.{find, filter_map, list_any}
 use Rattle.std.specs.Option.{option_map}
 use Rattle.std.specs.Ordering.{int_eq}
+use Rattle.mpi_model.specs.Requests.{null_request}
 use Rattle.mpi_model.specs.declared.message.Message.{Message}
 use Rattle.mpi_model.specs.declared.message.Receive.{Receive}
 use Rattle.trace_stuck.specs.declared.condition.Condition.{Condition}
@@ -11,9 +12,9 @@ use Rattle.trace_ops.specs.Ops.{Ops}
 use Rattle.trace_wait.specs.Parts.{Run, send_of, send_part, receive_of, receive_part}
 use Rattle.trace_wait.specs.Collectives.{collective_of_call}
 
--- A request waits as what its call posted: a send, a receive, or an entry into a round. Rank r posted it.
-abbrev pub post_part : Run → ℕ → Ops → ℕ → Wait
-post_part s r o n = sent (send_of o n)
+-- what call n of rank r started: a send, a receive, or an entry into a round
+abbrev pub started_part : Run → ℕ → Ops → ℕ → Wait
+started_part s r o n = sent (send_of o n)
   where
     received : Option Receive → Wait
     received (Some q) = receive_part s q
@@ -22,6 +23,15 @@ post_part s r o n = sent (send_of o n)
     sent : Option Message → Wait
     sent (Some m) = send_part s m
     sent None = received (receive_of o n)
+
+-- A Cancel names the request that call n posted.
+abbrev pub has_cancel : Ops → ℕ → Bool
+has_cancel o n = list_any (λ a. a.call == n) o.cancelled
+
+-- A request waits as what its call started. Rank r posted it. One that a Cancel names is completed in any case, by its
+-- operation or by the Cancel (MPI 4.0, 3.8.4).
+abbrev pub post_part : Run → ℕ → Ops → ℕ → Wait
+post_part s r o n = if has_cancel o n then OnNothing else started_part s r o n
 
 -- These are parts of posts of the rank, each found by the number of its call.
 abbrev pub AreMade : Run → ℕ → Ops → (ℕ → Option Condition) → Type 0
@@ -51,3 +61,12 @@ request s r o x = part (posted_by o x)
     part : Option ℕ → Wait
     part (Some n) = post_part s r o n
     part None = OnNothing
+
+-- What a number adds to a list of which one request has to be completed. The null number adds nothing. Another number that
+-- is not active may be of a request that a call posted which isn't read here, and then nothing is known of it.
+abbrev pub choice : Run → ℕ → Ops → ℤ → Option Wait
+choice s r o x = if int_eq x null_request then None else Some (request s r o x)
+
+-- what each number of the list adds, in the list's order
+abbrev pub choices : Run → ℕ → Ops → List ℤ → List Wait
+choices s r o xs = filter_map (choice s r o) xs

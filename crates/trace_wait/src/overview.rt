@@ -1,12 +1,13 @@
 //! What the conditions are made from.
 
-ghost use Rattle.std.specs.Prelude.{◌≡◌, ◌==◌, ◌&&◌, IfOk, count_by, is_some, nat_lt, slice_index};
+ghost use Rattle.std.specs.Prelude.{◌≡◌, ◌==◌, ◌&&◌, not, true, false, IfOk, count_by, is_some, nat_lt, slice_index};
 ghost use Rattle.std.specs.List.{list_any};
-ghost use Rattle.mpi_model.specs.Fit.{fits};
+ghost use Rattle.mpi_model.specs.Fit.{envelopes_fit, fits};
+ghost use Rattle.mpi_model.specs.Trusts.{is_void};
 ghost use Rattle.trace_pair.specs.Table.{taken_by, given_by};
 ghost use Rattle.trace_wait.specs.Matching.{unpaired_messages, unpaired_receives};
 ghost use Rattle.trace_wait.specs.Parts.{members};
-ghost use Rattle.trace_wait.specs.Patterns.{asks};
+ghost use Rattle.trace_wait.specs.Patterns.{asks, offers, pattern_of};
 ghost use Rattle.trace_wait.specs.Calls.{counts};
 ghost use Rattle.trace_wait.specs.Collectives.{is_mismatched, round_number};
 
@@ -23,7 +24,7 @@ use trace_ops::{Entered, RankOps};
 use trace_pair::{PairTable, Side};
 
 /// The whole run, and what was gathered of it to be looked up: which messages and receives are in
-/// no pair, which rounds are mismatched, how many calls each member has entered, and the members of
+/// no pair, and which of the messages were cancelled, which rounds are mismatched, how many calls each member has entered, and the members of
 /// each communicator in a list to be shared.
 #[derive(Drop)]
 pub(crate) struct Overview<'a> {
@@ -32,6 +33,7 @@ pub(crate) struct Overview<'a> {
     pub pairs: &'a PairTable,
     pub rounds: &'a [Round],
     pub offered: &'a BTreeSet<Pattern>,
+    pub withdrawn: &'a BTreeSet<Pattern>,
     pub asked: &'a BTreeSet<Pattern>,
     pub mismatched: &'a BTreeSet<(u32, u64)>,
     pub calls: &'a [CommCalls],
@@ -39,12 +41,12 @@ pub(crate) struct Overview<'a> {
 }
 
 impl<'a> Model for Overview<'a> {
-    ghost use Rattle.std.specs.Prelude.{◌≡◌, ℕ};
+    ghost use Rattle.std.specs.Prelude.{◌≡◌, ℕ, true, false};
     ghost use Rattle.std.specs.List.{list_any};
     ghost use Rattle.std.specs.BTreeSet.{contains};
     ghost use Rattle.trace_wait.specs.Parts.{Run};
     ghost use Rattle.trace_wait.specs.Matching.{unpaired_messages, unpaired_receives};
-    ghost use Rattle.trace_wait.specs.Patterns.{Pattern as Named, pattern_cmp, place_cmp, suits, asks};
+    ghost use Rattle.trace_wait.specs.Patterns.{Pattern as Named, pattern_cmp, place_cmp, offers, asks};
     ghost use Rattle.trace_wait.specs.Collectives.{is_mismatched_at};
     ghost use Rattle.trace_wait.specs.Calls.{table};
     ghost use Rattle.trace_wait.specs.Groups.{AreGroups};
@@ -54,11 +56,12 @@ impl<'a> Model for Overview<'a> {
     ghost view = { λ s. record { layout = s.layout.now; ops = s.ops.now; pairs = s.pairs.now.pairs; rounds = s.rounds.now } };
 
     ghost invariant = { λ s.
-        ((p : Named) → contains pattern_cmp s.offered.now p ≡ list_any (λ m. suits m p) (unpaired_messages s.ops.now s.pairs.now.pairs))
+        ((p : Named) → contains pattern_cmp s.offered.now p ≡ list_any (λ m. offers false m p) (unpaired_messages s.ops.now s.pairs.now.pairs))
         × ((p : Named) → contains pattern_cmp s.asked.now p ≡ list_any (λ q. asks q p) (unpaired_receives s.ops.now s.pairs.now.pairs))
         × ((c k : ℕ) → contains place_cmp s.mismatched.now (c, k) ≡ list_any (is_mismatched_at c k) s.rounds.now)
         × (s.calls.now ≡ table s.layout.now.comms s.ops.now s.layout.now.comms)
-        × (AreGroups s.layout.now.comms s.groups.now) };
+        × (AreGroups s.layout.now.comms s.groups.now)
+        × ((p : Named) → contains pattern_cmp s.withdrawn.now p ≡ list_any (λ m. offers true m p) (unpaired_messages s.ops.now s.pairs.now.pairs)) };
 }
 
 impl<'a> Overview<'a> {
@@ -100,16 +103,16 @@ impl<'a> Overview<'a> {
         self.pairs.partner(q.name, Side::Received).is_some()
     }
 
-    /// Whether some unpaired receive names just this.
+    /// Whether some unpaired receive that was not cancelled names just this.
     fn is_asked(&self, pattern: Pattern) -> bool
         ensures { result ≡ list_any (λ q. asks q pattern) (unpaired_receives self.now.ops self.now.pairs) }
     {
         self.asked.contains(&pattern)
     }
 
-    /// Whether some unpaired receive can take the message.
-    pub fn fits_some_receive(&self, m: &Message) -> bool
-        ensures { result ≡ list_any (λ q. fits m.now q) (unpaired_receives self.now.ops self.now.pairs) }
+    /// Whether the message's envelope suits some unpaired receive that was not cancelled.
+    fn suits_some_receive(&self, m: &Message) -> bool
+        ensures { result ≡ list_any (λ q. envelopes_fit m.now q && not (is_void q.trust)) (unpaired_receives self.now.ops self.now.pairs) }
     {
         self.is_asked((m.comm, m.to, None, None))
             || (self.is_asked((m.comm, m.to, None, Some(m.tag)))
@@ -117,11 +120,39 @@ impl<'a> Overview<'a> {
                     || self.is_asked((m.comm, m.to, Some(m.from), Some(m.tag)))))
     }
 
+    /// Whether some unpaired receive can take the message.
+    pub fn fits_some_receive(&self, m: &Message) -> bool
+        ensures { result ≡ list_any (λ q. fits m.now q) (unpaired_receives self.now.ops self.now.pairs) }
+    {
+        !m.trust.is_void() && self.suits_some_receive(m)
+    }
+
+    /// Whether some unpaired message that was not cancelled suits the receive.
+    fn is_offered(&self, q: &Receive) -> bool
+        ensures { result ≡ list_any (λ m. offers false m (pattern_of q.now)) (unpaired_messages self.now.ops self.now.pairs) }
+    {
+        self.offered.contains(&(q.comm, q.at, q.source, q.tag))
+    }
+
+    /// Whether some message that was cancelled suits the receive.
+    fn is_withdrawn(&self, q: &Receive) -> bool
+        ensures { result ≡ list_any (λ m. offers true m (pattern_of q.now)) (unpaired_messages self.now.ops self.now.pairs) }
+    {
+        self.withdrawn.contains(&(q.comm, q.at, q.source, q.tag))
+    }
+
     /// Whether the receive can take some unpaired message.
     pub fn fits_some_message(&self, q: &Receive) -> bool
         ensures { result ≡ list_any (λ m. fits m q.now) (unpaired_messages self.now.ops self.now.pairs) }
     {
-        self.offered.contains(&(q.comm, q.at, q.source, q.tag))
+        !q.trust.is_void() && self.is_offered(q)
+    }
+
+    /// Whether the envelope of some unpaired message fits the receive, be the message cancelled or not.
+    pub fn suits_some_message(&self, q: &Receive) -> bool
+        ensures { result ≡ list_any (λ m. envelopes_fit m q.now) (unpaired_messages self.now.ops self.now.pairs) }
+    {
+        self.is_offered(q) || self.is_withdrawn(q)
     }
 
     /// Whether round k of the communicator is mismatched.

@@ -84,7 +84,7 @@ pub(crate) fn probe_part(
 {
     match asked {
         None => Ok(Condition::yes()),
-        Some(q) => if run.fits_some_message(&q) {
+        Some(q) => if run.suits_some_message(&q) {
             Ok(Condition::yes())
         } else {
             source_part(alloc, run, &q)

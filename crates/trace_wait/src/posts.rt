@@ -1,12 +1,13 @@
-//! The message or the receive that a call started, found by halves: those of a rank stand in order
-//! of their calls.
+//! The message or the receive that a call started, and whether a Cancel names its request, found by
+//! halves: those of a rank stand in order of their calls.
 
 ghost use Rattle.std.specs.Prelude.{◌≡◌, ◌==◌, None, IfOk, IfErr, slice_get};
-ghost use Rattle.std.specs.List.{find};
-ghost use Rattle.trace_ops.specs.Order.{AreInOrder, ArePosted};
+ghost use Rattle.std.specs.List.{find, list_any};
+ghost use Rattle.trace_ops.specs.Order.{AreCalledInOrder, AreInOrder, ArePosted};
 ghost use Rattle.trace_wait.specs.Parts.{send_of, receive_of};
+ghost use Rattle.trace_wait.specs.Requests.{has_cancel};
 
-use mpi_model::{Message, Receive};
+use mpi_model::{Message, OpName, Receive};
 use trace_ops::RankOps;
 
 /// Where the message of call n stands.
@@ -49,4 +50,20 @@ pub(crate) fn receive_of(o: &RankOps, n: u64) -> Option<Receive>
         Ok(at) => receives.get(at).copied(),
         Err(_) => None,
     }
+}
+
+/// Whether call n is among these.
+fn is_among(names: &[OpName], n: u64) -> bool
+    requires { AreCalledInOrder names.now }
+    ensures { result ≡ list_any (λ a. a.call == n) names.now }
+{
+    names.binary_search_by_key(&n, |a| a.call).is_ok()
+}
+
+/// Whether a Cancel names the request that call n posted.
+pub(crate) fn has_cancel(o: &RankOps, n: u64) -> bool
+    requires { AreCalledInOrder o.now.cancelled }
+    ensures { result ≡ has_cancel o.now n }
+{
+    is_among(o.cancelled(), n)
 }

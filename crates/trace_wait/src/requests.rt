@@ -3,19 +3,41 @@
 ghost use Rattle.std.specs.Prelude.{◌≡◌, ◌++◌, ◌∷◌, [], ℕ, Some, map, nat_eq, if◌then◌else◌, IfOk, OnOk};
 ghost use Rattle.std.specs.Option.{option_copied};
 ghost use Rattle.indexmap.specs.IndexMap.{get};
-ghost use Rattle.trace_ops.specs.Order.{AreInOrder, ArePosted};
+ghost use Rattle.trace_ops.specs.Order.{AreCalledInOrder, AreInOrder, ArePosted};
 ghost use Rattle.trace_stuck.specs.Shape.{shape};
-ghost use Rattle.trace_wait.specs.Requests.{AreMade, post_part, posted_by, request, requests, some_of};
+ghost use Rattle.trace_wait.specs.Requests.{AreMade, choices, post_part, posted_by, request, requests, some_of, started_part};
 
 use crate::active::{Posts, posts_of};
 use crate::collective::collective_of_call;
 use crate::overview::Overview;
 use crate::parts::{receive_part, send_part};
-use crate::posts::{receive_of, send_of};
+use crate::posts::{has_cancel, receive_of, send_of};
 use indexmap::IndexMap;
+use mpi_model::NULL_REQUEST;
 use std::alloc::{AllocError, Global};
 use trace_ops::RankOps;
 use trace_stuck::Condition;
+
+/// What it waits for that call n of rank r started.
+fn started_part(
+    alloc: Global,
+    run: &Overview,
+    r: u32,
+    o: &RankOps,
+    n: u64,
+) -> Result<Condition, AllocError>
+    requires sends { AreInOrder o.now.sends }
+    requires receives { ArePosted o.now.receives }
+    ensures { IfOk result (λ c. shape c ≡ started_part run.now r o.now n) }
+{
+    match send_of(o, n) {
+        Some(m) => Ok(send_part(run, &m)),
+        None => match receive_of(o, n) {
+            Some(q) => receive_part(alloc, run, &q),
+            None => collective_of_call(alloc, run, r, o, n),
+        },
+    }
+}
 
 /// What the request waits for that call n of rank r posted.
 fn post_part(
@@ -27,15 +49,13 @@ fn post_part(
 ) -> Result<Condition, AllocError>
     requires sends { AreInOrder o.now.sends }
     requires receives { ArePosted o.now.receives }
+    requires cancelled { AreCalledInOrder o.now.cancelled }
     ensures { IfOk result (λ c. shape c ≡ post_part run.now r o.now n) }
 {
-    match send_of(o, n) {
-        Some(m) => Ok(send_part(run, &m)),
-        None => match receive_of(o, n) {
-            Some(q) => receive_part(alloc, run, &q),
-            None => collective_of_call(alloc, run, r, o, n),
-        },
+    if has_cancel(o, n) {
+        return Ok(Condition::yes());
     }
+    started_part(alloc, run, r, o, n)
 }
 
 /// The call that posted the active request of this number.
@@ -74,6 +94,7 @@ fn part_of(
 ) -> Result<Condition, AllocError>
     requires sends { AreInOrder o.now.sends }
     requires receives { ArePosted o.now.receives }
+    requires cancelled { AreCalledInOrder o.now.cancelled }
     requires made { AreMade run.now r o.now (get nat_eq made.old) }
     ensures part { IfOk result (λ c. shape c ≡ post_part run.now r o.now n) }
     ensures made { OnOk result (AreMade run.now r o.now (get nat_eq made.new)) }
@@ -96,6 +117,7 @@ pub(crate) fn requests(
 ) -> Result<Vec<Condition>, AllocError>
     requires sends { AreInOrder o.now.sends }
     requires receives { ArePosted o.now.receives }
+    requires cancelled { AreCalledInOrder o.now.cancelled }
     ensures { IfOk result (λ parts. map shape parts.items ≡ requests run.now r o.now xs.now) }
 {
     let posts = posts_of(alloc, o.active())?;
@@ -120,6 +142,7 @@ fn push_request(
     requires posts { posts.now ≡ o.now.active }
     requires sends { AreInOrder o.now.sends }
     requires receives { ArePosted o.now.receives }
+    requires cancelled { AreCalledInOrder o.now.cancelled }
     requires made { AreMade run.now r o.now (get nat_eq made.old) }
     ensures made { OnOk result (AreMade run.now r o.now (get nat_eq made.new)) }
     ensures parts { OnOk result (map shape parts.new.items ≡ map shape parts.old.items ++ requests run.now r o.now (x.now ∷ [])) }
@@ -127,6 +150,57 @@ fn push_request(
     if let Some(n) = posts.call_of(*x) {
         parts.push(part_of(alloc, run, r, o, n, made)?)?;
     }
+    Ok(())
+}
+
+/// What each number of a list adds of which one request has to be completed.
+pub(crate) fn choices(
+    alloc: Global,
+    run: &Overview,
+    r: u32,
+    o: &RankOps,
+    xs: &[i64],
+) -> Result<Vec<Condition>, AllocError>
+    requires sends { AreInOrder o.now.sends }
+    requires receives { ArePosted o.now.receives }
+    requires cancelled { AreCalledInOrder o.now.cancelled }
+    ensures { IfOk result (λ parts. map shape parts.items ≡ choices run.now r o.now xs.now) }
+{
+    let posts = posts_of(alloc, o.active())?;
+    let mut made = Made::new(alloc);
+    let mut parts = Vec::new(alloc);
+    for x in xs {
+        push_choice(alloc, run, r, o, &posts, x, &mut made, &mut parts)?;
+    }
+    Ok(parts)
+}
+
+fn push_choice(
+    alloc: Global,
+    run: &Overview,
+    r: u32,
+    o: &RankOps,
+    posts: &Posts,
+    x: &i64,
+    made: &mut Made,
+    parts: &mut Vec<Condition>,
+) -> Result<(), AllocError>
+    requires posts { posts.now ≡ o.now.active }
+    requires sends { AreInOrder o.now.sends }
+    requires receives { ArePosted o.now.receives }
+    requires cancelled { AreCalledInOrder o.now.cancelled }
+    requires made { AreMade run.now r o.now (get nat_eq made.old) }
+    ensures made { OnOk result (AreMade run.now r o.now (get nat_eq made.new)) }
+    ensures parts { OnOk result (map shape parts.new.items ≡ map shape parts.old.items ++ choices run.now r o.now (x.now ∷ [])) }
+{
+    if *x == NULL_REQUEST {
+        return Ok(());
+    }
+    let part = match posts.call_of(*x) {
+        Some(n) => part_of(alloc, run, r, o, n, made)?,
+        None => Condition::yes(),
+    };
+    parts.push(part)?;
     Ok(())
 }
 
@@ -151,6 +225,7 @@ pub(crate) fn request(
 ) -> Result<Condition, AllocError>
     requires sends { AreInOrder o.now.sends }
     requires receives { ArePosted o.now.receives }
+    requires cancelled { AreCalledInOrder o.now.cancelled }
     ensures { IfOk result (λ c. shape c ≡ request run.now r o.now x.now) }
 {
     match posted_by(o, x) {

@@ -2,13 +2,14 @@
 //!
 //! A receive names communicator, receiver, source and tag, or leaves source or tag open. So a
 //! message can be named in four ways: all four stand in the set of an unpaired message, and one
-//! look-up tells whether some unpaired message fits a receive.
+//! look-up tells whether some unpaired message fits a receive. Cancelled messages, which only a
+//! probe may have found, stand in a set of their own, and cancelled receives in none.
 
 ghost use Rattle.std.specs.Prelude.{◌≡◌, ◌&&◌, ◌||◌, IfOk, OnOk, filter};
 ghost use Rattle.std.specs.List.{list_any};
 ghost use Rattle.std.specs.BTreeSet.{contains};
 ghost use Rattle.trace_wait.specs.Matching.{is_unpaired_message, is_unpaired_receive, unpaired_messages, unpaired_receives};
-ghost use Rattle.trace_wait.specs.Patterns.{Pattern as Named, pattern_cmp, suits, asks};
+ghost use Rattle.trace_wait.specs.Patterns.{Pattern as Named, pattern_cmp, suits, offers, asks, is_void_or_not};
 
 use crate::paired::{is_given, is_taken};
 use crate::sets::note;
@@ -32,14 +33,28 @@ fn offer(m: &Message, set: &mut BTreeSet<Pattern>) -> Result<(), AllocError>
     Ok(())
 }
 
+fn is_void_or_not(void: bool, m: &Message) -> bool
+    ensures { result ≡ is_void_or_not void m.now }
+{
+    if void {
+        m.trust.is_void()
+    } else {
+        !m.trust.is_void()
+    }
+}
+
 fn offer_unpaired(
     pairs: &PairTable,
+    void: bool,
     m: &Message,
     place: &mut usize,
     set: &mut BTreeSet<Pattern>,
 ) -> Result<(), AllocError>
-    ensures { OnOk result ((p : Named) → contains pattern_cmp set.new p ≡ ((is_unpaired_message pairs.now.pairs m.now && suits m.now p) || contains pattern_cmp set.old p)) }
+    ensures { OnOk result ((p : Named) → contains pattern_cmp set.new p ≡ ((is_unpaired_message pairs.now.pairs m.now && offers void m.now p) || contains pattern_cmp set.old p)) }
 {
+    if !is_void_or_not(void, m) {
+        return Ok(());
+    }
     if is_taken(pairs, m, place) {
         return Ok(());
     }
@@ -49,38 +64,43 @@ fn offer_unpaired(
 
 fn offer_all(
     pairs: &PairTable,
+    void: bool,
     sends: &[Message],
     place: &mut usize,
     set: &mut BTreeSet<Pattern>,
 ) -> Result<(), AllocError>
-    ensures { OnOk result ((p : Named) → contains pattern_cmp set.new p ≡ (list_any (λ m. suits m p) (filter (is_unpaired_message pairs.now.pairs) sends.now) || contains pattern_cmp set.old p)) }
+    ensures { OnOk result ((p : Named) → contains pattern_cmp set.new p ≡ (list_any (λ m. offers void m p) (filter (is_unpaired_message pairs.now.pairs) sends.now) || contains pattern_cmp set.old p)) }
 {
     for m in sends {
-        offer_unpaired(pairs, m, place, set)?;
+        offer_unpaired(pairs, void, m, place, set)?;
     }
     Ok(())
 }
 
-/// The patterns that suit some unpaired message.
+/// The patterns that suit some unpaired message: those that were cancelled, or the others.
 pub(crate) fn patterns_offered(
     alloc: Global,
+    void: bool,
     ops: &[RankOps],
     pairs: &PairTable,
 ) -> Result<BTreeSet<Pattern>, AllocError>
-    ensures { IfOk result (λ s. (p : Named) → contains pattern_cmp s p ≡ list_any (λ m. suits m p) (unpaired_messages ops.now pairs.now.pairs)) }
+    ensures { IfOk result (λ s. (p : Named) → contains pattern_cmp s p ≡ list_any (λ m. offers void m p) (unpaired_messages ops.now pairs.now.pairs)) }
 {
     let mut set = BTreeSet::new(alloc);
     let mut place = 0;
     for o in ops {
-        offer_all(pairs, o.sends(), &mut place, &mut set)?;
+        offer_all(pairs, void, o.sends(), &mut place, &mut set)?;
     }
     Ok(set)
 }
 
-/// Notes what the receive names.
+/// Notes what the receive names, unless it was cancelled.
 fn ask(q: &Receive, set: &mut BTreeSet<Pattern>) -> Result<(), AllocError>
     ensures { OnOk result ((p : Named) → contains pattern_cmp set.new p ≡ (asks q.now p || contains pattern_cmp set.old p)) }
 {
+    if q.trust.is_void() {
+        return Ok(());
+    }
     note(set, (q.comm, q.at, q.source, q.tag))?;
     Ok(())
 }

@@ -3,7 +3,7 @@
 ghost use Rattle.std.specs.Prelude.{◌≡◌, ◌<◌, ◌^◌, ◌∷◌, [], map, length, IfOk};
 ghost use Rattle.std.specs.Option.{option_map};
 ghost use Rattle.trace_ops.specs.Ops.{AreOwn};
-ghost use Rattle.trace_ops.specs.Order.{AreInOrder, ArePosted};
+ghost use Rattle.trace_ops.specs.Order.{AreCalledInOrder, AreInOrder, ArePosted};
 ghost use Rattle.trace_stuck.specs.Shape.{shape, waits_of, OnAll};
 ghost use Rattle.trace_wait.specs.Conditions.{waits_for, condition_of, conditions_from};
 
@@ -13,7 +13,7 @@ use crate::groups::groups_of;
 use crate::mismatch::mismatched_rounds;
 use crate::overview::Overview;
 use crate::parts::{probe_part, receive_of_call, send_of_call};
-use crate::requests::{request, requests, some_of};
+use crate::requests::{choices, request, requests, some_of};
 use crate::round::Round;
 use crate::unpaired::{patterns_asked, patterns_offered};
 use mpi_model::{Call, Layout};
@@ -41,6 +41,7 @@ fn waits_for(
 ) -> Result<Condition, AllocError>
     requires sends { AreInOrder o.now.sends }
     requires receives { ArePosted o.now.receives }
+    requires cancelled { AreCalledInOrder o.now.cancelled }
     ensures { IfOk result (λ c. shape c ≡ waits_for run.now r o.now n call.now) }
 {
     match call {
@@ -53,16 +54,22 @@ fn waits_for(
         ),
         Call::Wait(x) => request(alloc, run, r, o, x),
         Call::Waitall(xs) => Ok(Condition::all(requests(alloc, run, r, o, xs.as_slice())?)),
-        Call::Waitany(xs) => Ok(some_of(requests(alloc, run, r, o, xs.as_slice())?)),
-        Call::Waitsome(xs) => Ok(some_of(requests(alloc, run, r, o, xs.as_slice())?)),
+        Call::Waitany(xs) => Ok(some_of(choices(alloc, run, r, o, xs.as_slice())?)),
+        Call::Waitsome(xs) => Ok(some_of(choices(alloc, run, r, o, xs.as_slice())?)),
         Call::Collective(_) => collective_of_call(alloc, run, r, o, n),
         Call::Probe(e) => probe_part(alloc, run, probed(run.layout, r, n, *e)),
-        Call::Local => Ok(Condition::yes()),
-        Call::Finalize => Ok(Condition::yes()),
-        Call::Isend(_, _) => Ok(Condition::yes()),
-        Call::Irecv(_) => Ok(Condition::yes()),
-        Call::Ibarrier(_) => Ok(Condition::yes()),
-        Call::Test(_) => Ok(Condition::yes()),
+        Call::Local
+        | Call::Finalize
+        | Call::Isend(_, _)
+        | Call::Irecv(_)
+        | Call::Ibarrier(_)
+        | Call::Test(_)
+        | Call::Testall(_)
+        | Call::Testany(_)
+        | Call::Testsome(_)
+        | Call::Cancel(_)
+        | Call::Free(_)
+        | Call::Unread => Ok(Condition::yes()),
     }
 }
 
@@ -74,6 +81,7 @@ fn condition_of(
 ) -> Result<Option<Condition>, AllocError>
     requires sends { AreInOrder o.now.sends }
     requires receives { ArePosted o.now.receives }
+    requires cancelled { AreCalledInOrder o.now.cancelled }
     ensures { IfOk result (λ c. option_map shape c ≡ condition_of run.now r o.now) }
 {
     match o.waiting() {
@@ -96,7 +104,8 @@ pub fn conditions(
     requires own { AreOwn 0 ops.now }
     ensures { IfOk result (λ v. map (option_map shape) v.items ≡ conditions_from (record { layout = layout.now; ops = ops.now; pairs = pairs.now.pairs; rounds = rounds.now }) 0 ops.now) }
 {
-    let offered = patterns_offered(alloc, ops, pairs)?;
+    let offered = patterns_offered(alloc, false, ops, pairs)?;
+    let withdrawn = patterns_offered(alloc, true, ops, pairs)?;
     let asked = patterns_asked(alloc, ops, pairs)?;
     let mismatched = mismatched_rounds(alloc, rounds)?;
     let calls = all_calls(alloc, layout, ops)?;
@@ -107,6 +116,7 @@ pub fn conditions(
         pairs,
         rounds,
         offered: &offered,
+        withdrawn: &withdrawn,
         asked: &asked,
         mismatched: &mismatched,
         calls: &calls,

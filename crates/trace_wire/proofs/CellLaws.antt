@@ -1,5 +1,5 @@
 -- The laws of what stands at a place, and of cells.
-use Rattle.std.proofs.Common.{◌≡◌, ℕ, ◌^◌, ◌%◌, ◌<◌, Bool, true, false, cond, eqb, ltb, List, [], ◌∷◌, ◌++◌, length, Option, Some, None, Result, Ok, Err, refl, sym, ap, subst, ◌∙◌, append_assoc, arith}
+use Rattle.std.proofs.Common.{◌≡◌, ℕ, ◌^◌, ◌%◌, ◌<◌, true, false, cond, ltb, List, [], ◌∷◌, ◌++◌, length, Option, Some, Ok, Err, refl, ap, subst, ◌∙◌, append_assoc, arith}
 use Rattle.std.specs.Prelude.{⊤}
 use Rattle.std.specs.Int.{w32, w64}
 use Rattle.std.proofs.lemmas.Bool.{ltb-true, eqb-true}
@@ -9,7 +9,6 @@ use Rattle.mpi_model.specs.declared.event.Event.TheVariants as events
 use Rattle.trace_know.specs.declared.cell.Known.{Known}
 use Rattle.trace_know.specs.declared.cell.Known.TheVariants as knowns
 use Rattle.trace_know.specs.Placed.{IsHalfOf, IsPlaced}
-use Rattle.trace_wire.specs.declared.fault.WireFault.{WireFault}
 use Rattle.trace_wire.specs.declared.fault.WireFault.TheVariants.{Order, Content}
 use Rattle.trace_wire.specs.Forms.{number, IsBytes}
 use Rattle.trace_wire.specs.Events.{is_even, event_at}

@@ -12,9 +12,9 @@ use Rattle.mpi_model.specs.declared.outcome.Outs.{Outs}
 use Rattle.mpi_model.specs.declared.outcome.Outs.TheVariants as outs
 use Rattle.mpi_model.specs.declared.event.Event.{Event}
 use Rattle.mpi_model.specs.declared.event.Event.TheVariants as events
-use Rattle.trace_wire.specs.Forms.{◌>>=◌, Form, number, byte, pair, list, told, signed, IsBytes}
-use Rattle.trace_wire.specs.Events.{call_code, call_fields, call_at, outs_code, outs_fields, outs_at, body_at, is_even, event_at, event_bytes, event}
-use Rattle.trace_wire.specs.Fields.{comm, mode, flag, stamp, envelope, send_envelope, exchange, gathering, probe, made, index, element, index_fields, index_at, index_behind}
+use Rattle.trace_wire.specs.Forms.{◌>>=◌, Form, number, byte, pair, list, signed, IsBytes}
+use Rattle.trace_wire.specs.Events.{call_code, call_fields, call_at, further_call_at, outs_code, outs_fields, outs_at, body_at, is_even, event_at, event_bytes, event}
+use Rattle.trace_wire.specs.Fields.{comm, mode, flag, told, stamp, envelope, send_envelope, exchange, gathering, probe, made, index, element, index_fields, index_at, index_behind}
 use Rattle.mpi_model.specs.Events.{IsSigned, IsCall, IsOutcome, IsPosition, IsElement, IsEvent}
 use Rattle.trace_wire.proofs.FormLaws.{IsBytes-rest, Takes, Takes-then, IsForm, wide32, number_form, byte_form, pair_form, record_form, list_form, choose, no_value, some_is, bind_some}
 use Rattle.trace_wire.proofs.FieldForms.{mode_form, flag_form, signed_form, stamp_form, told_form, envelope_form, send_form, exchange_form, gathering_form, comm_form, probe_form}
@@ -38,6 +38,16 @@ filled {A} {B} form FitsA is make code spell Fits bytes x n fits code-is spell-i
 requests_form : IsForm (list signed) (All IsSigned)
 requests_form = list_form signed IsSigned signed_form (λ z. omega arith)
 
+further_takes : (n : ℕ) (bytes : List ℕ) (x : Call × List ℕ) → IsBytes bytes → further_call_at n bytes ≡ Some x → Behind call_code call_fields IsCall bytes x n
+unfolding further_call_at
+further_takes n bytes x fits e15 =
+    choose (Behind call_code call_fields IsCall bytes x) n 15 _ _ x e15 (filled (list signed) _ (requests_form) (λ r. calls.Testall r) call_code call_fields IsCall bytes x 15 fits (λ a. refl) (λ a. refl) (λ a ok. ok)) (λ e16.
+    choose (Behind call_code call_fields IsCall bytes x) n 16 _ _ x e16 (filled (list signed) _ (requests_form) (λ r. calls.Testany r) call_code call_fields IsCall bytes x 16 fits (λ a. refl) (λ a. refl) (λ a ok. ok)) (λ e17.
+    choose (Behind call_code call_fields IsCall bytes x) n 17 _ _ x e17 (filled (list signed) _ (requests_form) (λ r. calls.Testsome r) call_code call_fields IsCall bytes x 17 fits (λ a. refl) (λ a. refl) (λ a ok. ok)) (λ e18.
+    choose (Behind call_code call_fields IsCall bytes x) n 18 _ _ x e18 (filled (signed) _ (signed_form) (λ r. calls.Cancel r) call_code call_fields IsCall bytes x 18 fits (λ a. refl) (λ a. refl) (λ a ok. ok)) (λ e19.
+    choose (Behind call_code call_fields IsCall bytes x) n 19 _ _ x e19 (filled (signed) _ (signed_form) (λ r. calls.Free r) call_code call_fields IsCall bytes x 19 fits (λ a. refl) (λ a. refl) (λ a ok. ok)) (λ e20.
+    choose (Behind call_code call_fields IsCall bytes x) n 20 _ _ x e20 (bare call_code call_fields IsCall bytes x 20 calls.Unread fits refl refl tt) (λ e21. no_value _ x e21))))))
+
 pub call_takes : (n : ℕ) (bytes : List ℕ) (x : Call × List ℕ) → IsBytes bytes → call_at n bytes ≡ Some x → Behind call_code call_fields IsCall bytes x n
 unfolding call_at
 call_takes n bytes x fits e0 =
@@ -55,10 +65,10 @@ call_takes n bytes x fits e0 =
     choose (Behind call_code call_fields IsCall bytes x) n 11 _ _ x e11 (filled (signed) _ (signed_form) (λ r. calls.Test r) call_code call_fields IsCall bytes x 11 fits (λ a. refl) (λ a. refl) (λ a ok. ok)) (λ e12.
     choose (Behind call_code call_fields IsCall bytes x) n 12 _ _ x e12 (filled (gathering) _ (gathering_form) (λ g. calls.Collective g) call_code call_fields IsCall bytes x 12 fits (λ a. refl) (λ a. refl) (λ a ok. ok)) (λ e13.
     choose (Behind call_code call_fields IsCall bytes x) n 13 _ _ x e13 (filled (probe) _ (probe_form) (λ e. calls.Probe e) call_code call_fields IsCall bytes x 13 fits (λ a. refl) (λ a. refl) (λ a ok. ok)) (λ e14.
-    choose (Behind call_code call_fields IsCall bytes x) n 14 _ _ x e14 (filled (comm) _ (comm_form) (λ c. calls.Ibarrier c) call_code call_fields IsCall bytes x 14 fits (λ a. refl) (λ a. refl) (λ a ok. ok)) (λ e15. no_value _ x e15)))))))))))))))
+    choose (Behind call_code call_fields IsCall bytes x) n 14 _ _ x e14 (filled (comm) _ (comm_form) (λ c. calls.Ibarrier c) call_code call_fields IsCall bytes x 14 fits (λ a. refl) (λ a. refl) (λ a ok. ok)) (λ e15. further_takes n bytes x fits e15)))))))))))))))
 
 pub call_again : (c : Call) (rest : List ℕ) → IsCall c → length (call_fields c) < 2 ^ 32 → call_at (call_code c) (call_fields c ++ rest) ≡ Some (c, rest)
-unfolding call_at
+unfolding call_at further_call_at
 call_again calls.Local rest fits short = refl
 call_again calls.Finalize rest fits short = refl
 call_again (calls.Send m e) rest fits short = ap (made (λ x. calls.Send x.0 x.1)) ((pair_form mode send_envelope _ _ mode_form send_form).again (m, e) rest (tt, fits) short)
@@ -74,14 +84,20 @@ call_again (calls.Test a) rest fits short = ap (made (λ r. calls.Test r)) ((sig
 call_again (calls.Collective a) rest fits short = ap (made (λ g. calls.Collective g)) ((gathering_form).again a rest fits short)
 call_again (calls.Probe a) rest fits short = ap (made (λ e. calls.Probe e)) ((probe_form).again a rest fits short)
 call_again (calls.Ibarrier a) rest fits short = ap (made (λ c. calls.Ibarrier c)) ((comm_form).again a rest fits short)
+call_again (calls.Testall a) rest fits short = ap (made (λ r. calls.Testall r)) ((requests_form).again a rest fits short)
+call_again (calls.Testany a) rest fits short = ap (made (λ r. calls.Testany r)) ((requests_form).again a rest fits short)
+call_again (calls.Testsome a) rest fits short = ap (made (λ r. calls.Testsome r)) ((requests_form).again a rest fits short)
+call_again (calls.Cancel a) rest fits short = ap (made (λ r. calls.Cancel r)) ((signed_form).again a rest fits short)
+call_again (calls.Free a) rest fits short = ap (made (λ r. calls.Free r)) ((signed_form).again a rest fits short)
+call_again calls.Unread rest fits short = refl
 
 past : (n k : ℕ) → k < n → eqb n k ≡ false
 past n k lt = grind (arith, nat_tests)
 
--- no kind of call has a greater code
-pub no_call : (n : ℕ) (bytes : List ℕ) → 14 < n → call_at n bytes ≡ None
+-- the kinds behind Ibarrier have greater codes than those up to it
+pub further : (n : ℕ) (bytes : List ℕ) → 14 < n → call_at n bytes ≡ further_call_at n bytes
 unfolding call_at
-no_call n bytes lt =
+further n bytes lt =
     rw (
       past n 0 (omega (arith, lt)),
       past n 1 (omega (arith, lt)),
@@ -116,6 +132,12 @@ call_small (calls.Test a) = omega arith
 call_small (calls.Collective a) = omega arith
 call_small (calls.Probe a) = omega arith
 call_small (calls.Ibarrier a) = omega arith
+call_small (calls.Testall a) = omega arith
+call_small (calls.Testany a) = omega arith
+call_small (calls.Testsome a) = omega arith
+call_small (calls.Cancel a) = omega arith
+call_small (calls.Free a) = omega arith
+call_small calls.Unread = omega arith
 
 -- ---- outcomes
 

@@ -6,7 +6,7 @@ use Rattle.std.proofs.lemmas.Bool.{ltb-true, eqb-true}
 use Rattle.std.proofs.lemmas.Bool.Decides.{nat_tests}
 use Rattle.std.proofs.lemmas.Int.{ints, to_z-of_z, of_z-to_z}
 use Rattle.mpi_model.specs.Times.{latest, IsTimes}
-use Rattle.mpi_model.specs.Ranges.{IsTold, IsComm, IsSource, IsNamed, IsTarget, IsRootOf, IsCollective, IsProbe, kind_number}
+use Rattle.mpi_model.specs.Ranges.{IsTold, IsAskedTag, IsComm, IsSource, IsNamed, IsTarget, IsRootOf, IsCollective, IsProbe, kind_number}
 use Rattle.mpi_model.specs.declared.envelope.Peer.{Peer}
 use Rattle.mpi_model.specs.declared.envelope.Peer.TheVariants as peers
 use Rattle.mpi_model.specs.declared.envelope.CommRef.{CommRef}
@@ -16,8 +16,10 @@ use Rattle.mpi_model.specs.declared.envelope.Mode.TheVariants as modes
 use Rattle.mpi_model.specs.declared.collective.Kind.{Kind}
 use Rattle.mpi_model.specs.declared.collective.Kind.TheVariants as kinds
 use Rattle.mpi_model.specs.declared.envelope.Envelope.{Envelope}
-use Rattle.trace_wire.specs.Forms.{◌>>=◌, number, byte, mapped, guarded, pair, small, told, signed, small_of, marked_of, marked_code}
-use Rattle.trace_wire.specs.Fields.{peer_code, peer_of, comm_code, comm_of, mode_code, mode_of, kind_of, flag_code, flag_of, peer, comm, mode, kind, flag, moment, stamp, envelope, named, send_envelope, same_comm, exchange, rooted, gathering, probe}
+use Rattle.mpi_model.specs.declared.told.Told.{Told}
+use Rattle.mpi_model.specs.declared.told.Told.TheVariants as tolds
+use Rattle.trace_wire.specs.Forms.{◌>>=◌, number, byte, mapped, guarded, pair, small, marked, signed, small_of, marked_of, marked_code}
+use Rattle.trace_wire.specs.Fields.{peer_code, peer_of, told_code, told_of, comm_code, comm_of, mode_code, mode_of, kind_of, flag_code, flag_of, peer, told, comm, mode, kind, flag, moment, stamp, envelope, named, send_envelope, same_comm, exchange, rooted, gathering, probe}
 use Rattle.mpi_model.specs.Events.{IsSigned, IsSent, IsReceived, IsExchanged}
 use Rattle.trace_wire.proofs.FormLaws.{IsForm, wide32, wide64, number_form, byte_form, mapped_form, pair_form, guarded_form, record_form, refit, chosen, choose, no_value, some_is, bind_some}
 
@@ -49,22 +51,46 @@ small_made {A} P make n a one e =
 unmarked : (mark n : ℕ) → 2 ^ 31 ≤ mark → n < 2 ^ 31 → eqb n mark ≡ false
 unmarked mark n le lt = grind (arith, nat_tests)
 
-told_back : (n : ℕ) (o : Option ℕ) → marked_of n ≡ Some o → (marked_code o ≡ n) × IsTold o
-told_back n o e = choose (λ (k : ℕ). (marked_code o ≡ k) × IsTold o) n 4294967295 _ _ o e
-    (λ h. subst (λ (p : Option ℕ). (marked_code p ≡ 4294967295) × IsTold p) (some_is None o h) (refl, tt))
-    (λ h. small_made (λ (k : ℕ) (p : Option ℕ). (marked_code p ≡ k) × IsTold p) (λ m. Some m) n o (λ m lt. (refl, lt)) h)
+marked_back : (n : ℕ) (o : Option ℕ) → marked_of n ≡ Some o → (marked_code o ≡ n) × IsAskedTag o
+marked_back n o e = choose (λ (k : ℕ). (marked_code o ≡ k) × IsAskedTag o) n 4294967295 _ _ o e
+    (λ h. subst (λ (p : Option ℕ). (marked_code p ≡ 4294967295) × IsAskedTag p) (some_is None o h) (refl, tt))
+    (λ h. small_made (λ (k : ℕ) (p : Option ℕ). (marked_code p ≡ k) × IsAskedTag p) (λ m. Some m) n o (λ m lt. (refl, lt)) h)
 
-told_again : (o : Option ℕ) → IsTold o → marked_of (marked_code o) ≡ Some o
-told_again None fits = refl
-told_again (Some n) fits = rw (unmarked 4294967295 n (omega arith) fits, small_again n fits) refl
+marked_again : (o : Option ℕ) → IsAskedTag o → marked_of (marked_code o) ≡ Some o
+marked_again None fits = refl
+marked_again (Some n) fits = rw (unmarked 4294967295 n (omega arith) fits, small_again n fits) refl
 
-told_fits : (o : Option ℕ) → IsTold o → marked_code o < 2 ^ 32
-told_fits None fits = omega arith
-told_fits (Some n) fits = omega arith
+marked_fits : (o : Option ℕ) → IsAskedTag o → marked_code o < 2 ^ 32
+marked_fits None fits = omega arith
+marked_fits (Some n) fits = omega arith
+
+pub marked_form : IsForm marked IsAskedTag
+marked_form = mapped_form (number w32) marked_code marked_of (λ n. n < 2 ^ 32) IsAskedTag (number_form w32 (2 ^ 32) wide32) (record {
+  back = λ n o lt e. marked_back n o e;
+  again = marked_again;
+  fits = marked_fits;
+})
+
+told_back : (n : ℕ) (t : Told) → told_of n ≡ Some t → (told_code t ≡ n) × IsTold t
+told_back n t e = choose (λ (k : ℕ). (told_code t ≡ k) × IsTold t) n 4294967295 _ _ t e
+    (λ h. subst (λ (q : Told). (told_code q ≡ 4294967295) × IsTold q) (some_is tolds.Nothing t h) (refl, tt))
+    (λ e1. choose (λ (k : ℕ). (told_code t ≡ k) × IsTold t) n 4294967294 _ _ t e1
+    (λ h. subst (λ (q : Told). (told_code q ≡ 4294967294) × IsTold q) (some_is tolds.Cancelled t h) (refl, tt))
+    (λ h. small_made (λ (k : ℕ) (q : Told). (told_code q ≡ k) × IsTold q) (λ m. tolds.Source m) n t (λ m lt. (refl, lt)) h))
+
+told_again : (t : Told) → IsTold t → told_of (told_code t) ≡ Some t
+told_again tolds.Nothing fits = refl
+told_again tolds.Cancelled fits = refl
+told_again (tolds.Source n) fits = rw (unmarked 4294967295 n (omega arith) fits, unmarked 4294967294 n (omega arith) fits, small_again n fits) refl
+
+told_fits : (t : Told) → IsTold t → told_code t < 2 ^ 32
+told_fits tolds.Nothing fits = omega arith
+told_fits tolds.Cancelled fits = omega arith
+told_fits (tolds.Source n) fits = omega arith
 
 pub told_form : IsForm told IsTold
-told_form = mapped_form (number w32) marked_code marked_of (λ n. n < 2 ^ 32) IsTold (number_form w32 (2 ^ 32) wide32) (record {
-  back = λ n o lt e. told_back n o e;
+told_form = mapped_form (number w32) told_code told_of (λ n. n < 2 ^ 32) IsTold (number_form w32 (2 ^ 32) wide32) (record {
+  back = λ n t lt e. told_back n t e;
   again = told_again;
   fits = told_fits;
 })
@@ -229,27 +255,27 @@ pub stamp_form : IsForm stamp IsTimes
 stamp_form = record_form (pair moment moment) (λ t. (t.wall, t.cpu)) (λ x. record { wall = x.0; cpu = x.1 }) _ IsTimes (λ a. refl) (λ b. refl) (λ a fits. (fits.0, fits.1)) (λ b fits. (fits.0, fits.1)) (pair_form moment moment _ _ moment_form moment_form)
 
 pub envelope_form : IsForm envelope IsReceived
-envelope_form = record_form (pair peer (pair told (pair comm (pair small signed)))) _ (λ x. record { peer = x.0; tag = x.1.0; comm = x.1.1.0; count = x.1.1.1.0; datatype = x.1.1.1.1 }) _ IsReceived (λ a. refl) (λ b. refl)
+envelope_form = record_form (pair peer (pair marked (pair comm (pair small signed)))) _ (λ x. record { peer = x.0; tag = x.1.0; comm = x.1.1.0; count = x.1.1.1.0; datatype = x.1.1.1.1 }) _ IsReceived (λ a. refl) (λ b. refl)
     (λ a fits. ((fits.0, fits.1.0, fits.1.1.0, fits.1.1.1.0), fits.1.1.1.1))
     (λ b fits. (fits.0.0, (fits.0.1, (fits.0.2, (fits.0.3, fits.1)))))
-    (pair_form peer _ _ _ peer_form (pair_form told _ _ _ told_form (pair_form comm _ _ _ comm_form (pair_form small signed _ _ small_form signed_form))))
+    (pair_form peer _ _ _ peer_form (pair_form marked _ _ _ marked_form (pair_form comm _ _ _ comm_form (pair_form small signed _ _ small_form signed_form))))
 
 -- the peer and the tag of a send, as those of a receive
-sent : (p : Peer) (t : Option ℕ) → IsSource p → IsTold t → named p t ≡ true → IsTarget p × IsNamed t
+sent : (p : Peer) (t : Option ℕ) → IsSource p → IsAskedTag t → named p t ≡ true → IsTarget p × IsNamed t
 sent peers.Any t a b h = absurd cc
 sent peers.Null None a b h = absurd cc
 sent peers.Null (Some n) a b h = (tt, b)
 sent (peers.Rank r) None a b h = absurd cc
 sent (peers.Rank r) (Some n) a b h = (a, b)
 
-received : (p : Peer) (t : Option ℕ) → IsTarget p → IsNamed t → IsSource p × IsTold t × (named p t ≡ true)
+received : (p : Peer) (t : Option ℕ) → IsTarget p → IsNamed t → IsSource p × IsAskedTag t × (named p t ≡ true)
 received peers.Any t a b = absurd a
 received peers.Null None a b = absurd b
 received peers.Null (Some n) a b = (tt, b, refl)
 received (peers.Rank r) None a b = absurd b
 received (peers.Rank r) (Some n) a b = (a, b, refl)
 
-rooted_there : (k : Kind) (r : Option ℕ) → IsTold r → rooted k r ≡ true → IsRootOf k r
+rooted_there : (k : Kind) (r : Option ℕ) → IsAskedTag r → rooted k r ≡ true → IsRootOf k r
 rooted_there kinds.Barrier None f h = refl
 rooted_there kinds.Barrier (Some n) f h = absurd cc
 rooted_there kinds.Allreduce None f h = refl
@@ -268,7 +294,7 @@ rooted_there kinds.Reduce None f h = absurd cc
 rooted_there kinds.Reduce (Some n) f h = f
 rooted_there kinds.Ibarrier r f h = absurd cc
 
-rooted_here : (k : Kind) (r : Option ℕ) → IsRootOf k r → IsTold r × (rooted k r ≡ true)
+rooted_here : (k : Kind) (r : Option ℕ) → IsRootOf k r → IsAskedTag r × (rooted k r ≡ true)
 rooted_here kinds.Barrier None f = (tt, refl)
 rooted_here kinds.Barrier (Some n) f = absurd cc
 rooted_here kinds.Allreduce None f = (tt, refl)
@@ -314,13 +340,13 @@ exchange_form = record_form (guarded (pair send_envelope envelope) (λ x. same_c
     (guarded_form (pair send_envelope envelope) (λ x. same_comm x.0.comm x.1.comm) _ (pair_form send_envelope envelope _ _ send_form envelope_form))
 
 pub gathering_form : IsForm gathering IsCollective
-gathering_form = record_form (guarded (pair kind (pair told comm)) (λ x. rooted x.0 x.1.0)) (λ g. (g.kind, (g.root, g.comm))) (λ x. record { kind = x.0; root = x.1.0; comm = x.1.1 }) _ IsCollective (λ a. refl) (λ b. refl)
+gathering_form = record_form (guarded (pair kind (pair marked comm)) (λ x. rooted x.0 x.1.0)) (λ g. (g.kind, (g.root, g.comm))) (λ x. record { kind = x.0; root = x.1.0; comm = x.1.1 }) _ IsCollective (λ a. refl) (λ b. refl)
     (λ a fits. (rooted_there a.0 a.1.0 fits.0.1.0 fits.1, fits.0.1.1))
     (λ b fits. let r = rooted_here b.kind b.root fits.0 in ((tt, (r.0, fits.1)), r.1))
-    (guarded_form (pair kind (pair told comm)) (λ x. rooted x.0 x.1.0) _ (pair_form kind (pair told comm) _ _ kind_form (pair_form told comm _ _ told_form comm_form)))
+    (guarded_form (pair kind (pair marked comm)) (λ x. rooted x.0 x.1.0) _ (pair_form kind (pair marked comm) _ _ kind_form (pair_form marked comm _ _ marked_form comm_form)))
 
 pub probe_form : IsForm probe IsProbe
-probe_form = record_form (pair peer (pair told comm)) (λ e. (e.source, (e.tag, e.comm))) (λ x. record { source = x.0; tag = x.1.0; comm = x.1.1 }) _ IsProbe (λ a. refl) (λ b. refl)
+probe_form = record_form (pair peer (pair marked comm)) (λ e. (e.source, (e.tag, e.comm))) (λ x. record { source = x.0; tag = x.1.0; comm = x.1.1 }) _ IsProbe (λ a. refl) (λ b. refl)
     (λ a fits. (fits.0, fits.1.0, fits.1.1))
     (λ b fits. (fits.0, (fits.1, fits.2)))
-    (pair_form peer (pair told comm) _ _ peer_form (pair_form told comm _ _ told_form comm_form))
+    (pair_form peer (pair marked comm) _ _ peer_form (pair_form marked comm _ _ marked_form comm_form))

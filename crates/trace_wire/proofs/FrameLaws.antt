@@ -1,5 +1,5 @@
 -- The laws of payloads and frames.
-use Rattle.std.proofs.Common.{◌≡◌, ℕ, zero, suc, ◌+◌, ◌*◌, ◌-◌, ◌^◌, ◌<◌, ◌≤◌, Bool, true, false, cond, eqb, ltb, List, [], ◌∷◌, ◌++◌, length, get_or, take, drop, Option, Some, None, Result, Ok, Err, refl, sym, ap, subst, ◌∙◌, append_assoc, arith}
+use Rattle.std.proofs.Common.{◌≡◌, ℕ, suc, ◌-◌, ◌^◌, ◌<◌, ◌≤◌, Bool, true, false, cond, eqb, ltb, List, [], ◌∷◌, ◌++◌, length, get_or, take, drop, Option, Some, None, Result, Ok, Err, refl, sym, ap, subst, ◌∙◌, append_assoc, arith}
 use Rattle.std.specs.Prelude.{◌&&◌, min}
 use Rattle.std.specs.Int.{w32, to_be_bytes}
 use Rattle.std.proofs.lemmas.Bool.{ltb-false, le-ltb, eqb-true}
@@ -8,16 +8,16 @@ use Rattle.trace_wire.specs.declared.fault.WireFault.{WireFault}
 use Rattle.trace_wire.specs.declared.fault.WireFault.TheVariants as faults
 use Rattle.trace_wire.specs.declared.version.Version.{Version}
 use Rattle.trace_wire.specs.declared.version.Version.TheVariants.{One, Two}
-use Rattle.trace_wire.specs.Forms.{number, number_at, IsBytes}
-use Rattle.trace_wire.specs.Cells.{AreCells, Entry, cell_bytes, cells_bytes, knowns_bytes, knowns_of}
+use Rattle.trace_wire.specs.Forms.{number_at, IsBytes}
+use Rattle.trace_wire.specs.Cells.{AreCells, Entry, cell_bytes}
 use Rattle.trace_wire.specs.Runs.{AreRuns, PlacedRun, RunFits, behind, cells_in, run_bytes, runs_bytes, runs_of}
-use Rattle.trace_wire.specs.Frames.{HasFrame, HasFrameAs, frame_as, head_of, longest_of, parts_bytes, parts_in, payload_as, version_number}
+use Rattle.trace_wire.specs.Frames.{HasFrame, HasFrameAs, frame_as, longest_of, parts_bytes, parts_in, payload_as, version_number}
 use Rattle.trace_wire.specs.Parts.{◌>=>◌, cell, or_fault, parts_at, run}
 use Rattle.trace_wire.specs.FirstFault.{body_of, frame_at, framed, is_magic, limited, no_rest, parts_of, payload_of, version_of}
 use Rattle.trace_wire.proofs.CellLaws.{CellStands, cell_part}
 use Rattle.trace_wire.proofs.FormLaws.{items_short, IsBytes-take, Takes, Takes-then, wide32, number_takes, number_again}
 use Rattle.trace_wire.proofs.Lengths.{payload_len, runs_few}
-use Rattle.trace_wire.proofs.PartLaws.{AllFit, IsPart, parts_again, parts_take}
+use Rattle.trace_wire.proofs.PartLaws.{AllFit, parts_again, parts_take}
 use Rattle.trace_wire.proofs.RunCells.{cells_fit, cells_of_runs, runs_fit, runs_of_cells}
 use Rattle.trace_wire.proofs.RunLaws.{run_part}
 use Rattle.trace_wire.proofs.Steps.{bind_ok, both_true, missed, ok_is, or_ok, passed}

@@ -1,13 +1,14 @@
 -- Lengths of what is spelled.
-use Rattle.std.proofs.Common.{◌≡◌, ℕ, suc, ◌<◌, ◌≤◌, ◌+◌, ◌*◌, ◌-◌, ◌^◌, Bool, true, false, cond, List, [], ◌∷◌, ◌++◌, length, Option, arith, ap, refl, ◌∙◌, length-append}
+use Rattle.std.proofs.Common.{◌≡◌, ℕ, suc, ◌<◌, ◌≤◌, ◌+◌, ◌*◌, ◌-◌, ◌^◌, Bool, true, false, cond, List, [], ◌∷◌, ◌++◌, length, arith, ap, refl, ◌∙◌, length-append}
 use Rattle.std.specs.Prelude.{ℤ, min}
 use Rattle.std.specs.List.{flat_map}
 use Rattle.std.specs.Int.{w32, to_be_bytes}
 use Rattle.std.proofs.lemmas.List.Concat.{flat_map-cons}
 use Rattle.mpi_model.specs.declared.list.elements.Element.{Element}
+use Rattle.mpi_model.specs.declared.told.Told.{Told}
 use Rattle.trace_know.specs.declared.cell.Known.{Known}
-use Rattle.trace_wire.specs.Forms.{Form, list, signed, told}
-use Rattle.trace_wire.specs.Fields.{element}
+use Rattle.trace_wire.specs.Forms.{Form, list, signed}
+use Rattle.trace_wire.specs.Fields.{element, told}
 use Rattle.trace_know.specs.Listing.{is_behind, run_len}
 use Rattle.trace_wire.specs.declared.version.Version.{Version}
 use Rattle.trace_wire.specs.declared.version.Version.TheVariants.{One, Two}
@@ -34,7 +35,7 @@ width8 spell each (x ∷ xs) =
 pub requests_len : (xs : List ℤ) → length ((list signed).spell xs) ≡ 4 + length xs * 8
 requests_len xs = length-append (to_be_bytes w32 (length xs)) (flat_map signed.spell xs) ∙ ap (λ (n : ℕ). 4 + n) (width8 signed.spell (λ a. refl) xs)
 
-pub sources_len : (xs : List (Option ℕ)) → length ((list told).spell xs) ≡ 4 + length xs * 4
+pub sources_len : (xs : List Told) → length ((list told).spell xs) ≡ 4 + length xs * 4
 sources_len xs = length-append (to_be_bytes w32 (length xs)) (flat_map told.spell xs) ∙ ap (λ (n : ℕ). 4 + n) (width4 told.spell (λ a. refl) xs)
 
 pub elements_len : (xs : List Element) → length ((list element).spell xs) ≡ 4 + length xs * 8
@@ -47,7 +48,7 @@ list_short form some xs short = omega (arith, items_short form.spell some xs, le
 pub requests_short : (xs : List ℤ) → length ((list signed).spell xs) < 2 ^ 32 → length xs < 2 ^ 32
 requests_short xs short = list_short signed (λ z. omega arith) xs short
 
-pub sources_short : (xs : List (Option ℕ)) → length ((list told).spell xs) < 2 ^ 32 → length xs < 2 ^ 32
+pub sources_short : (xs : List Told) → length ((list told).spell xs) < 2 ^ 32 → length xs < 2 ^ 32
 sources_short xs short = list_short told (λ z. omega arith) xs short
 
 pub elements_short : (xs : List Element) → length ((list element).spell xs) < 2 ^ 32 → length xs < 2 ^ 32

@@ -1,5 +1,5 @@
 -- The laws of runs.
-use Rattle.std.proofs.Common.{◌≡◌, ℕ, zero, suc, ◌+◌, ◌^◌, ◌<◌, ◌≤◌, Bool, true, false, cond, List, [], ◌∷◌, ◌++◌, length, Option, Some, None, Result, Ok, Err, refl, sym, ap, subst, ◌∙◌, append_assoc, arith}
+use Rattle.std.proofs.Common.{◌≡◌, ℕ, zero, suc, ◌+◌, ◌^◌, ◌<◌, ◌≤◌, Bool, true, cond, List, [], ◌∷◌, ◌++◌, length, Option, Some, Ok, Err, refl, sym, ap, subst, ◌∙◌, append_assoc, arith}
 use Rattle.std.specs.Int.{w32, to_be_bytes}
 use Rattle.std.proofs.lemmas.Bool.Decides.{nat_tests}
 use Rattle.std.proofs.lemmas.List.{length-append}
@@ -7,11 +7,10 @@ use Rattle.std.proofs.lemmas.List.Concat.{flat_map-cons}
 use Rattle.trace_know.specs.declared.cell.Known.{Known}
 use Rattle.trace_know.specs.declared.cell.Known.TheVariants as knowns
 use Rattle.trace_know.specs.Placed.{ArePlaced, IsPlaced}
-use Rattle.trace_wire.specs.declared.fault.WireFault.{WireFault}
 use Rattle.trace_wire.specs.declared.fault.WireFault.TheVariants.{Order, Content}
 use Rattle.trace_wire.specs.Forms.{◌>>=◌, number_at, IsBytes}
 use Rattle.trace_wire.specs.Fields.{made}
-use Rattle.trace_wire.specs.Cells.{IsInRange, is_past, known_bytes, knowns_bytes, place_form}
+use Rattle.trace_wire.specs.Cells.{is_past, known_bytes, knowns_bytes, place_form}
 use Rattle.trace_wire.specs.Runs.{AreKnown, PlacedRun, RunFits, placed_run, run_bytes}
 use Rattle.trace_wire.specs.Parts.{◌>=>◌, is_run, knowns_at, known_at, or_fault, run, run_after, run_at, run_of_count}
 use Rattle.trace_wire.proofs.FormLaws.{items_short, Takes, Takes-then, bind_some, number_again, number_takes, some_is, wide32}

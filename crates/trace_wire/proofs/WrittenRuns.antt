@@ -1,10 +1,9 @@
 -- The run that a walk stands before, as it is written.
-use Rattle.std.proofs.Common.{◌≡◌, ℕ, suc, zero, ◌+◌, ◌-◌, ◌<◌, ◌≤◌, List, [], ◌∷◌, length, take, drop, Option, Some, None, refl, sym, ap, subst, ◌∙◌, arith}
-use Rattle.trace_know.specs.declared.cell.Known.{Known}
+use Rattle.std.proofs.Common.{◌≡◌, ℕ, suc, zero, ◌+◌, ◌-◌, ◌<◌, ◌≤◌, List, [], ◌∷◌, length, take, drop, refl, sym, ap, subst, ◌∙◌, arith}
 use Rattle.trace_know.specs.Listing.{run_behind, run_len}
 use Rattle.trace_wire.specs.Cells.{Entry, known_bytes, knowns_bytes, knowns_of}
-use Rattle.trace_wire.specs.Runs.{PlacedRun, placed_run, run_bytes, runs_bytes, runs_of}
-use Rattle.trace_wire.proofs.Lengths.{knowns_len, run_size, runs_len}
+use Rattle.trace_wire.specs.Runs.{PlacedRun, placed_run, runs_bytes, runs_of}
+use Rattle.trace_wire.proofs.Lengths.{knowns_len, runs_len}
 use Rattle.trace_wire.proofs.RunCells.{front_run, run_within}
 use Rattle.trace_wire.proofs.RunLaws.{knowns_short}
 

@@ -13,7 +13,9 @@ use Rattle.mpi_model.specs.declared.collective.Kind.{Kind}
 use Rattle.mpi_model.specs.declared.collective.Kind.TheVariants as kinds
 use Rattle.mpi_model.specs.declared.envelope.Envelope.{Envelope}
 use Rattle.mpi_model.specs.declared.list.elements.Element.{Element}
-use Rattle.trace_wire.specs.Forms.{◌>>=◌, Form, number, byte, mapped, guarded, pair, small, told, signed, small_of}
+use Rattle.mpi_model.specs.declared.told.Told.{Told}
+use Rattle.mpi_model.specs.declared.told.Told.TheVariants as tolds
+use Rattle.trace_wire.specs.Forms.{◌>>=◌, Form, number, byte, mapped, guarded, pair, small, marked, signed, small_of}
 
 -- ---- codes of the fields
 
@@ -25,6 +27,15 @@ peer_code (peers.Rank n) = n
 
 abbrev pub peer_of : ℕ → Option Peer
 peer_of n = if n == 4294967295 then Some peers.Any else (if n == 4294967294 then Some peers.Null else (small_of n >>= λ m. Some (peers.Rank m)))
+
+-- what is told: a source, or a mark that nothing is told, or that the operation was cancelled (MPI 4.0, 3.2.5 and 3.8.4)
+abbrev pub told_code : Told → ℕ
+told_code tolds.Nothing = 4294967295
+told_code tolds.Cancelled = 4294967294
+told_code (tolds.Source n) = n
+
+abbrev pub told_of : ℕ → Option Told
+told_of n = if n == 4294967295 then Some tolds.Nothing else (if n == 4294967294 then Some tolds.Cancelled else (small_of n >>= λ m. Some (tolds.Source m)))
 
 -- a communicator: its number, or a mark for MPI_COMM_WORLD
 abbrev pub comm_code : CommRef → ℕ
@@ -74,6 +85,9 @@ flag_of n = if n == 0 then Some false else (if n == 1 then Some true else None)
 abbrev pub peer : Form Peer
 peer = mapped (number w32) peer_code peer_of
 
+abbrev pub told : Form Told
+told = mapped (number w32) told_code told_of
+
 abbrev pub comm : Form CommRef
 comm = mapped (number w32) comm_code comm_of
 
@@ -95,7 +109,7 @@ stamp = mapped (pair moment moment) (λ t. (t.wall, t.cpu)) (λ x. Some (record 
 
 -- the envelope of a receive: peer, tag, communicator, count, datatype
 abbrev pub envelope : Form Envelope
-envelope = mapped (pair peer (pair told (pair comm (pair small signed))))
+envelope = mapped (pair peer (pair marked (pair comm (pair small signed))))
     (λ e. (e.peer, (e.tag, (e.comm, (e.count, e.datatype)))))
     (λ x. Some (record { peer = x.0; tag = x.1.0; comm = x.1.1.0; count = x.1.1.1.0; datatype = x.1.1.1.1 }))
 
@@ -144,12 +158,12 @@ rooted kinds.Ibarrier root = false
 
 -- a collective call: kind, root, communicator
 abbrev pub gathering : Form CollectiveCall
-gathering = mapped (guarded (pair kind (pair told comm)) (λ x. rooted x.0 x.1.0))
+gathering = mapped (guarded (pair kind (pair marked comm)) (λ x. rooted x.0 x.1.0))
     (λ g. (g.kind, (g.root, g.comm))) (λ x. Some (record { kind = x.0; root = x.1.0; comm = x.1.1 }))
 
 -- what a probe looks for: peer, tag, communicator
 abbrev pub probe : Form Probed
-probe = mapped (pair peer (pair told comm)) (λ e. (e.source, (e.tag, e.comm))) (λ x. Some (record { source = x.0; tag = x.1.0; comm = x.1.1 }))
+probe = mapped (pair peer (pair marked comm)) (λ e. (e.source, (e.tag, e.comm))) (λ x. Some (record { source = x.0; tag = x.1.0; comm = x.1.1 }))
 
 -- a value made of what was read
 abbrev pub made : {A B : Type 0} → (A → B) → Option (A × List ℕ) → Option (B × List ℕ)

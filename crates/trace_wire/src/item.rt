@@ -1,8 +1,8 @@
 //! What stands in counted lists.
 
 ghost use Rattle.trace_wire.specs.Outcomes.{Reads};
-ghost use Rattle.trace_wire.specs.Forms.{Form, signed, told};
-ghost use Rattle.trace_wire.specs.Fields.{element};
+ghost use Rattle.trace_wire.specs.Forms.{Form, signed};
+ghost use Rattle.trace_wire.specs.Fields.{element, told};
 ghost use Rattle.trace_wire.specs.Sending.{Sends};
 
 use crate::read::field::{FieldFault, signed_of, told_field, u32_of};

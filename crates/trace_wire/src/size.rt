@@ -28,14 +28,17 @@ fn call_len(call: &Call) -> u64
     ensures { result ≡ min (length (call_fields call.now)) (2 ^ 64 - 1) }
 {
     match call {
-        Call::Local | Call::Finalize => 0,
+        Call::Local | Call::Finalize | Call::Unread => 0,
         Call::Send(_, _) | Call::Isend(_, _) => 25,
         Call::Recv(_) | Call::Irecv(_) => 24,
         Call::Sendrecv(_) => 48,
-        Call::Wait(_) | Call::Test(_) => 8,
-        Call::Waitall(requests) | Call::Waitany(requests) | Call::Waitsome(requests) => {
-            list_len(requests.as_slice().len(), 8)
-        }
+        Call::Wait(_) | Call::Test(_) | Call::Cancel(_) | Call::Free(_) => 8,
+        Call::Waitall(requests)
+        | Call::Waitany(requests)
+        | Call::Waitsome(requests)
+        | Call::Testall(requests)
+        | Call::Testany(requests)
+        | Call::Testsome(requests) => list_len(requests.as_slice().len(), 8),
         Call::Collective(_) => 9,
         Call::Probe(_) => 12,
         Call::Ibarrier(_) => 4,

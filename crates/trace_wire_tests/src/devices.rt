@@ -17,10 +17,9 @@ fn a_reader_without_an_end(rt: HostRuntime) {
 
 /// Knowledge of one call whose outcome tells so many sources. Its frame has 70 bytes, in version 1 78, and four for each.
 fn long<R: Abort>(rt: &R, alloc: Global, sources: usize) -> Knowledge {
-    let source = Told::new(None).expect(rt, "a source");
     let mut told = Vec::new(alloc);
     for _ in 0..sources {
-        told.push(source).expect(rt, "memory");
+        told.push(Told::Nothing).expect(rt, "memory");
     }
     let outs = Outs::Statuses(Sources::from_vec(told));
     let mut know = Knowledge::new(alloc);

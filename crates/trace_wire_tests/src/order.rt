@@ -6,7 +6,7 @@ use std::process::Abort;
 use trace_wire::Version;
 
 /// A name, the bytes, and what the format says of them.
-static ROWS: [(&str, &[u8], &str); 33] = [
+static ROWS: [(&str, &[u8], &str); 38] = [
     ("nothing is known", b"MPTX\0\x01\0\0\0\x04\0\0\0\0", "ok"),
     (
         "a byte more in the payload",
@@ -118,8 +118,33 @@ static ROWS: [(&str, &[u8], &str); 33] = [
         "ok",
     ),
     (
-        "a call of kind 15",
-        b"MPTX\0\x01\0\0\0\x2E\0\0\0\x01\0\0\0\0\0\0\0\0\0\0\0\0\0\x0F\0\0\0\0\0\0\0\0\0\0\0\0\0\0\0\0\xFF\xFF\xFF\xFF\xFF\xFF\xFF\xFF\xFF\xFF\xFF\xFF",
+        "a Cancel of request 4",
+        b"MPTX\0\x01\0\0\0\x2A\0\0\0\x01\0\0\0\0\0\0\0\0\0\0\0\0\0\x12\0\0\0\0\0\0\0\0\0\0\0\0\0\0\0\0\0\0\0\0\0\0\0\x04",
+        "ok",
+    ),
+    (
+        "an unread call",
+        b"MPTX\0\x01\0\0\0\x22\0\0\0\x01\0\0\0\0\0\0\0\0\0\0\0\0\0\x14\0\0\0\0\0\0\0\0\0\0\0\0\0\0\0\0",
+        "ok",
+    ),
+    (
+        "a call of kind 21",
+        b"MPTX\0\x01\0\0\0\x22\0\0\0\x01\0\0\0\0\0\0\0\0\0\0\0\0\0\x15\0\0\0\0\0\0\0\0\0\0\0\0\0\0\0\0",
+        "W7 Content",
+    ),
+    (
+        "the status of a cancelled request",
+        b"MPTX\0\x01\0\0\0\x26\0\0\0\x01\0\0\0\0\0\0\0\0\0\0\0\x01\0\x02\0\0\0\0\0\0\0\0\0\0\0\0\0\0\0\0\xFF\xFF\xFF\xFE",
+        "ok",
+    ),
+    (
+        "a status that tells FFFFFFFD",
+        b"MPTX\0\x01\0\0\0\x26\0\0\0\x01\0\0\0\0\0\0\0\0\0\0\0\x01\0\x02\0\0\0\0\0\0\0\0\0\0\0\0\0\0\0\0\xFF\xFF\xFF\xFD",
+        "W7 Content",
+    ),
+    (
+        "a status that tells 80000000",
+        b"MPTX\0\x01\0\0\0\x26\0\0\0\x01\0\0\0\0\0\0\0\0\0\0\0\x01\0\x02\0\0\0\0\0\0\0\0\0\0\0\0\0\0\0\0\x80\0\0\0",
         "W7 Content",
     ),
     (
@@ -348,8 +373,8 @@ fn wanted_of_one(position: usize, value: u8) -> &'static str {
         (34..=38, _) => "ok",
         (39, 1) => "W8 Rest",
         (39, _) => "W7 Content",
-        // Its event: of MPI_Local no field follows either, of each other kind one does; times up to the latest.
-        (40, 0) => "ok",
+        // Its event: of MPI_Local and of an unread call no field follows either, of each other kind one does; times up to the latest.
+        (40, 0 | 20) => "ok",
         (40, _) => "W7 Content",
         (41, 0x8B..=0xFF) => "W7 Content",
         (49, 0x8B..=0xFF) => "W7 Content",
@@ -388,8 +413,8 @@ fn wanted_of_two(position: usize, value: u8) -> &'static str {
         (43..=46, _) => "W7 Content",
         (47, 1) => "W8 Rest",
         (47, _) => "W7 Content",
-        // Its event: of MPI_Local no field follows either, of each other kind one does; times up to the latest.
-        (48, 0) => "ok",
+        // Its event: of MPI_Local and of an unread call no field follows either, of each other kind one does; times up to the latest.
+        (48, 0 | 20) => "ok",
         (48, _) => "W7 Content",
         (49, 0x8B..=0xFF) => "W7 Content",
         (57, 0x8B..=0xFF) => "W7 Content",

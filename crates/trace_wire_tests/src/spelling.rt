@@ -296,7 +296,7 @@ fn sendrecv(rt: HostRuntime) {
 }
 
 /// Requests that a call names.
-static WAITS: [(u8, &[i64], &[u8]); 5] = [
+static WAITS: [(u8, &[i64], &[u8]); 10] = [
     (7, &[-1], b"\xFF\xFF\xFF\xFF\xFF\xFF\xFF\xFF"),
     (11, &[i64::MIN], b"\x80\0\0\0\0\0\0\0"),
     (8, &[], b"\0\0\0\0"),
@@ -310,6 +310,15 @@ static WAITS: [(u8, &[i64], &[u8]); 5] = [
         &[i64::MAX],
         b"\0\0\0\x01\x7F\xFF\xFF\xFF\xFF\xFF\xFF\xFF",
     ),
+    (15, &[], b"\0\0\0\0"),
+    (16, &[i64::MIN], b"\0\0\0\x01\x80\0\0\0\0\0\0\0"),
+    (
+        17,
+        &[1, -2],
+        b"\0\0\0\x02\0\0\0\0\0\0\0\x01\xFF\xFF\xFF\xFF\xFF\xFF\xFF\xFE",
+    ),
+    (18, &[4], b"\0\0\0\0\0\0\0\x04"),
+    (19, &[-1], b"\xFF\xFF\xFF\xFF\xFF\xFF\xFF\xFF"),
 ];
 
 fn wait_call<R: Abort>(rt: &R, alloc: Global, code: u8, numbers: &[i64]) -> Call {
@@ -323,8 +332,18 @@ fn wait_call<R: Abort>(rt: &R, alloc: Global, code: u8, numbers: &[i64]) -> Call
         8 => Call::Waitall(all),
         9 => Call::Waitany(all),
         10 => Call::Waitsome(all),
+        15 => Call::Testall(all),
+        16 => Call::Testany(all),
+        17 => Call::Testsome(all),
+        18 => Call::Cancel(first),
+        19 => Call::Free(first),
         _ => Call::Test(first),
     }
+}
+
+#[test]
+fn unread_calls(rt: HostRuntime) {
+    assert!(rt; enters(&rt, rt.alloc(), Call::Unread, (20, b"")));
 }
 
 #[test]
@@ -361,8 +380,12 @@ fn collective_calls(rt: HostRuntime) {
     }
 }
 
+/// A source, or nothing.
 fn told<R: Abort>(rt: &R, rank: Option<u32>) -> Told {
-    Told::new(rank).expect(rt, "a source")
+    match rank {
+        Some(rank) => Told::from_rank(rank).expect(rt, "a source"),
+        None => Told::Nothing,
+    }
 }
 
 /// No source, and rank 0.
@@ -398,11 +421,13 @@ fn outs_of<R: Abort>(rt: &R, alloc: Global, row: u8) -> Outs {
         5 => Outs::Index(Some(u32::MAX), told(rt, Some(0))),
         6 => several(rt, alloc),
         7 => Outs::Flag(false, told(rt, None)),
+        8 => Outs::Status(Told::Cancelled),
+        9 => Outs::Index(None, Told::Cancelled),
         _ => Outs::Flag(true, told(rt, Some(1))),
     }
 }
 
-static OUTCOMES: [(u8, &[u8]); 9] = [
+static OUTCOMES: [(u8, &[u8]); 11] = [
     (1, b"\x80\0\0\0\0\0\0\0"),
     (2, b"\xFF\xFF\xFF\xFF"),
     (2, b"\x7F\xFF\xFF\xFF"),
@@ -414,6 +439,8 @@ static OUTCOMES: [(u8, &[u8]); 9] = [
         b"\0\0\0\x02\xFF\xFF\xFF\xFF\xFF\xFF\xFF\xFF\0\0\0\0\x7F\xFF\xFF\xFF",
     ),
     (6, b"\0\xFF\xFF\xFF\xFF"),
+    (2, b"\xFF\xFF\xFF\xFE"),
+    (4, b"\0\xFF\xFF\xFF\xFE"),
     (6, b"\x01\0\0\0\x01"),
 ];
 

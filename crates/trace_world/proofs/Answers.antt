@@ -1,7 +1,7 @@
 -- Which nodes have an answer after a step.
-use Rattle.std.proofs.Common.{◌≡◌, ◌≢◌, ◌<◌, ℕ, Bool, true, false, Some, Ok, Err, OnOk, IfErr, Result, List, get_or, arith, set, refl, sym, ap, ◌∙◌, subst, Option, nat_lt, if◌then◌else◌}
+use Rattle.std.proofs.Common.{◌≡◌, ◌≢◌, ◌⊎◌, ⊎_elim, ◌↔◌, ◌<◌, ℕ, Bool, true, false, Some, Ok, Err, OnOk, IfErr, Result, List, get_or, arith, set, refl, sym, ap, ◌∙◌, subst, Option, nat_lt, if◌then◌else◌}
 use Rattle.std.specs.Prelude.{slice_set, slice_index_or, length}
-use Rattle.std.proofs.lemmas.List.{length-map, map-set, set-get_or, get_or-set_same, get_or-set_other}
+use Rattle.std.proofs.lemmas.List.{length-map, map-set, set-set, set-get_or, get_or-set_same, get_or-set_other}
 use Rattle.std.proofs.lemmas.Option.{slice_get-get_or}
 use Rattle.std.specs.FinMap.{empty}
 use Rattle.mpi_model.specs.Layouts.{Parts}
@@ -11,8 +11,8 @@ use Rattle.trace_world.specs.declared.step.Step.{Step}
 use Rattle.trace_world.specs.declared.step.Step.TheVariants.{Post, Take, Ship, Deliver, Restart}
 use Rattle.trace_world.specs.declared.step.WorldFault.{WorldFault}
 use Rattle.trace_world.specs.declared.step.WorldFault.TheVariants.{NoNode, NoMail, EmptyInbox, Rank, FrameLength, Stale, NodeCount, Memory}
-use Rattle.trace_world.specs.Answers.{AnswersFresh, AnswersMore, AnswersStill, AnswersAfter, JoinsMore, LosesOne}
-use Rattle.trace_world.specs.Moves.{Learns}
+use Rattle.trace_world.specs.Answers.{AnswersFresh, AnswersMore, AnswersStill, AnswersAfter, AnswersAgain, HoldsAfter, HoldsMore, JoinsMore, LosesOne, joins_more}
+use Rattle.trace_world.specs.Moves.{Holds}
 use Rattle.trace_world.specs.Refusals.{IsFrameFault, IsOutcome, NoneStaler, is_done, node_of, refusal, refusal_there, stale}
 use Rattle.trace_world.specs.Shows.{WorldState}
 
@@ -21,9 +21,9 @@ kept : (old : List Bool) (node : ℕ) → slice_index_or old node true ≡ false
 kept old node had = ap (λ b. set old node b) (sym had) ∙ set-get_or old node true
 
 -- one node was given more
-pub more : (old new : List Held) (node : ℕ) (view : View) (result : Result (Unit {0}) WorldFault) → Learns old node view result new → AnswersMore node result (stale old) (stale new)
-more old new node view (Ok x) h = (h.0, h.1.stale ∙ kept (stale old) node h.0)
-more old new node view (Err Stale) h = h.stale
+pub more : (old new : List Held) (node : ℕ) (view : View) (result : Result (Unit {0}) WorldFault) → Holds old node view result new → HoldsMore node result (stale old) (stale new)
+more old new node view (Ok x) h = (h.0, h.1.stale, h.2)
+more old new node view (Err Stale) h = absurd h
 more old new node view (Err Memory) h = ap stale h
 more old new node view (Err NoNode) h = absurd h
 more old new node view (Err NoMail) h = absurd h
@@ -31,6 +31,41 @@ more old new node view (Err EmptyInbox) h = absurd h
 more old new node view (Err Rank) h = absurd h
 more old new node view (Err FrameLength) h = absurd h
 more old new node view (Err NodeCount) h = absurd h
+
+-- a node that had no answer and joined more has none
+stays_stale : (had is_stale : Bool) (P : Type 0) → (is_stale ≡ false → P) → (P → had ≡ true) → had ≡ false → is_stale ≡ true
+stays_stale had true P fresh had_one none = refl
+stays_stale had false P fresh had_one none = let e : had ≡ true = had_one (fresh refl) in absurd (cc)
+
+-- a node that joined more makes its answer again
+again_one : (node : ℕ) (old mid new : List Bool) (had : Bool) (x : Unit {0}) (r : Result (Unit {0}) WorldFault) → HoldsMore node (Ok x) old mid → (had ≡ true) ↔ (slice_index_or old node true ≡ false) → AnswersAgain node had r mid new → AnswersMore node r old new
+again_one node old mid new had x (Ok y) h iff a = (iff.0 a.0, a.1 ∙ ap (λ l. set l node false) h.1 ∙ set-set old node h.0 false ∙ kept old node (iff.0 a.0))
+again_one node old mid new had x (Err Stale) h iff a = ⊎_elim
+    (λ (p : (had ≡ false) × (new ≡ mid)). p.1 ∙ h.1 ∙ ap (λ b. set old node b) (stays_stale had h.0 (slice_index_or old node true ≡ false) h.2 iff.1 p.0))
+    (λ (q : new ≡ slice_set mid node true). q ∙ ap (λ l. set l node true) h.1 ∙ set-set old node h.0 true)
+    a
+again_one node old mid new had x (Err NoNode) h iff a = absurd a
+again_one node old mid new had x (Err NoMail) h iff a = absurd a
+again_one node old mid new had x (Err EmptyInbox) h iff a = absurd a
+again_one node old mid new had x (Err Rank) h iff a = absurd a
+again_one node old mid new had x (Err FrameLength) h iff a = absurd a
+again_one node old mid new had x (Err NodeCount) h iff a = absurd a
+again_one node old mid new had x (Err Memory) h iff a = absurd a
+
+pub again : (x : Step) (old mid new : List Bool) (had : Bool) (y : Unit {0}) (r : Result (Unit {0}) WorldFault) → joins_more x ≡ true → HoldsAfter x (Ok y) old mid → (had ≡ true) ↔ (slice_index_or old (node_of x) true ≡ false) → AnswersAgain (node_of x) had r mid new → AnswersAfter x r old new
+again (Post worker node segment) old mid new had y r joins h iff a = absurd (cc joins)
+again (Take node) old mid new had y r joins h iff a = again_one node old mid new had y r h iff a
+again (Ship node) old mid new had y r joins h iff a = absurd (cc joins)
+again (Deliver mail node) old mid new had y r joins h iff a = again_one node old mid new had y r h iff a
+again (Restart node) old mid new had y r joins h iff a = absurd (cc joins)
+
+-- no step is refused for want of an answer that is to be made later
+pub whole : (x : Step) (fault : WorldFault) (old new : List Bool) → HoldsAfter x (Err fault) old new → fault ≢ Stale
+whole (Post worker node segment) fault old new h e = subst (λ f. HoldsAfter (Post worker node segment) (Err f) old new) e h
+whole (Take node) fault old new h e = subst (λ f. HoldsAfter (Take node) (Err f) old new) e h
+whole (Ship node) fault old new h e = subst (λ f. HoldsAfter (Ship node) (Err f) old new) e h
+whole (Deliver mail node) fault old new h e = subst (λ f. HoldsAfter (Deliver mail node) (Err f) old new) e h
+whole (Restart node) fault old new h e = subst (λ f. HoldsAfter (Restart node) (Err f) old new) e h
 
 -- nodes that are as they were, where all that can lack is memory
 pub still : (P : Type 0) (old new : List Held) (result : Result (Unit {0}) WorldFault) → IfErr result (λ fault. (fault ≡ Memory) × P) → new ≡ old → AnswersStill result (stale old) (stale new)

@@ -5,3 +5,4 @@ pub mod Moving
 pub mod Mails
 pub mod Answers
 pub mod Possible
+pub mod Ending

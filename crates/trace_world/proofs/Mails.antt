@@ -1,5 +1,5 @@
 -- A mail is a frame, so reading it fails only for want of memory.
-use Rattle.std.proofs.Common.{◌≡◌, ℕ, List, [], ◌++◌, Err, Option, Some, None, refl, sym, ap, ◌∙◌, arith}
+use Rattle.std.proofs.Common.{◌≡◌, ℕ, List, [], ◌++◌, Ok, Err, IfOk, IfErr, Result, Option, Some, None, refl, sym, ap, ◌∙◌, arith, subst}
 use Rattle.std.specs.FinMap.{entries}
 use Rattle.std.proofs.lemmas.List.{append-nil}
 use Rattle.trace_wire.specs.declared.fault.WireFault.{WireFault}
@@ -10,7 +10,12 @@ use Rattle.trace_wire.specs.declared.version.Version.TheVariants.{Two}
 use Rattle.trace_wire.specs.Cells.{Entry}
 use Rattle.trace_wire.specs.Frames.{HasFrameAs, frame, frame_as}
 use Rattle.trace_wire.specs.Reading.{IsUnread, ReadsFrame}
+use Rattle.trace_know.specs.View.{View}
+use Rattle.trace_wire.specs.Frames.{frame_of, HasFrame}
+use Rattle.trace_world.specs.Refusals.{IsFrameFault}
 use Rattle.trace_world.specs.Worlds.{IsFrame}
+use Rattle.trace_world.specs.declared.step.WorldFault as faults
+use Rattle.trace_world.specs.declared.step.WorldFault.TheVariants as faults_of
 
 -- where a frame stands in front nothing is refused, as `frame_laws` tells
 abbrev pub NoRefusalLaw : Type 0
@@ -41,3 +46,13 @@ only_memory law bytes Short is h = absurd (unrefused law bytes Short is h.1)
 only_memory law bytes Order is h = absurd (unrefused law bytes Order is h.1)
 only_memory law bytes Content is h = absurd (unrefused law bytes Content is h.1)
 only_memory law bytes Rest is h = absurd (unrefused law bytes Rest is h.1)
+
+-- a mail that holds a frame
+pub held_frame : (r : Result (List ℕ) faults.WorldFault) (bytes : List ℕ) (know : View) → bytes ≡ frame_of know → HasFrame (entries know) → IfOk r (λ m. m ≡ bytes) → IfOk r (λ m. (m ≡ frame_of know) × HasFrame (entries know))
+held_frame (Ok m) bytes know is framed h = (h ∙ is, framed)
+held_frame (Err fault) bytes know is framed h = h
+
+-- there was no memory for a mail
+pub held_fault : (r : Result (List ℕ) faults.WorldFault) (know : View) → HasFrame (entries know) → IfErr r (λ fault. fault ≡ faults_of.Memory) → IfErr r (λ fault. IsFrameFault know fault)
+held_fault (Ok m) know framed h = h
+held_fault (Err fault) know framed h = subst (IsFrameFault know) (sym h) framed.1

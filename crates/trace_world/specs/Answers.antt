@@ -1,5 +1,5 @@
 -- Which nodes have an answer after a step, and after a run that ended before its last step.
-use Rattle.std.specs.Prelude.{◌≡◌, ◌≢◌, ⊤, ℕ, Bool, true, false, Result, Ok, Err, Some, List, slice_index_or, slice_set}
+use Rattle.std.specs.Prelude.{◌≡◌, ◌≢◌, ◌⊎◌, ⊤, ℕ, Bool, true, false, Result, Ok, Err, Some, List, slice_index_or, slice_set}
 use Rattle.std.specs.List.{slice_get}
 use Rattle.trace_node.specs.Node.{Held}
 use Rattle.trace_world.specs.declared.step.Step.{Step}
@@ -41,6 +41,39 @@ AnswersAfter (Take node) result old new = AnswersMore node result old new
 AnswersAfter (Ship node) result old new = AnswersStill result old new
 AnswersAfter (Deliver mail node) result old new = AnswersMore node result old new
 AnswersAfter (Restart node) result old new = AnswersAnew node result old new
+
+-- A node was to join more, and to make no answer. It has one then only if it had one before. No other node has gained
+-- or lost an answer.
+abbrev pub HoldsMore : ℕ → Result (Unit {0}) WorldFault → List Bool → List Bool → Type 0
+HoldsMore node (Ok done) old new = (is_stale : Bool) × (new ≡ slice_set old node is_stale) × (is_stale ≡ false → slice_index_or old node true ≡ false)
+HoldsMore node (Err Stale) old new = ⊥
+HoldsMore node (Err fault) old new = new ≡ old
+
+-- Of each node, whether it had no answer before a step and whether it has none after it, where none was to be made.
+abbrev pub HoldsAfter : Step → Result (Unit {0}) WorldFault → List Bool → List Bool → Type 0
+HoldsAfter (Post worker node segment) result old new = AnswersStill result old new
+HoldsAfter (Take node) result old new = HoldsMore node result old new
+HoldsAfter (Ship node) result old new = AnswersStill result old new
+HoldsAfter (Deliver mail node) result old new = HoldsMore node result old new
+HoldsAfter (Restart node) result old new = AnswersAnew node result old new
+
+-- A node that joined more was to make its answer, if it had one before.
+abbrev pub AnswersAgain : ℕ → Bool → Result (Unit {0}) WorldFault → List Bool → List Bool → Type 0
+AnswersAgain node had (Ok done) old new = (had ≡ true) × (new ≡ slice_set old node false)
+AnswersAgain node had (Err Stale) old new = ((had ≡ false) × (new ≡ old)) ⊎ (new ≡ slice_set old node true)
+AnswersAgain node had (Err fault) old new = ⊥
+
+-- No node is without its answer.
+abbrev pub AllAnswered : List Held → Type 0
+AllAnswered nodes = (i : ℕ) → slice_index_or (stale nodes) i false ≡ false
+
+-- whether a step's node joins more
+abbrev pub joins_more : Step → Bool
+joins_more (Post worker node segment) = false
+joins_more (Take node) = true
+joins_more (Ship node) = false
+joins_more (Deliver mail node) = true
+joins_more (Restart node) = false
 
 -- At this step its node joins more: only then can it lose its answer.
 abbrev pub JoinsMore : Step → Type 0

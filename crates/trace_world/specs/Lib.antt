@@ -7,3 +7,4 @@ pub mod Codes
 pub mod Moves
 pub mod Answers
 pub mod Possible
+pub mod Ends

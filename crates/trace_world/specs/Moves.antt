@@ -1,5 +1,5 @@
 -- What a node makes of more knowledge, among the nodes of a world.
-use Rattle.std.specs.Prelude.{◌≡◌, ℕ, Bool, true, false, Result, Ok, Err, List, slice_set, slice_index_or}
+use Rattle.std.specs.Prelude.{◌≡◌, ℕ, Bool, true, false, Result, Ok, Err, List, length, slice_set, slice_index_or}
 use Rattle.std.specs.FinMap.{empty}
 use Rattle.trace_know.specs.View.{View, join}
 use Rattle.trace_node.specs.Node.{Held}
@@ -19,15 +19,21 @@ pub record Joined (old : List Held) (node : ℕ) (more : View) (is_stale : Bool)
   pub stale : stale new ≡ slice_set (stale old) node is_stale
   pub layouts : layouts new ≡ layouts old
 
--- One node is given more. A node that had an answer has one at `Ok`; at `Stale` it has none; no other refusal but for
--- want of memory comes, and then nothing has changed.
-abbrev pub Learns : List Held → ℕ → View → Result (Unit {0}) WorldFault → List Held → Type 0
-Learns old node more (Ok done) new = (slice_index_or (stale old) node true ≡ false) × Joined old node more false new
-Learns old node more (Err Stale) new = Joined old node more true new
-Learns old node more (Err Memory) new = new ≡ old
-Learns old node more (Err NoNode) new = ⊥
-Learns old node more (Err NoMail) new = ⊥
-Learns old node more (Err EmptyInbox) new = ⊥
-Learns old node more (Err Rank) new = ⊥
-Learns old node more (Err FrameLength) new = ⊥
-Learns old node more (Err NodeCount) new = ⊥
+-- One node is given more, and makes no answer. It has one then only if it had one before. No refusal but for want of
+-- memory comes, and then nothing has changed.
+abbrev pub Holds : List Held → ℕ → View → Result (Unit {0}) WorldFault → List Held → Type 0
+Holds old node more (Ok done) new = (is_stale : Bool) × Joined old node more is_stale new × (is_stale ≡ false → slice_index_or (stale old) node true ≡ false)
+Holds old node more (Err Memory) new = new ≡ old
+Holds old node more (Err Stale) new = ⊥
+Holds old node more (Err NoNode) new = ⊥
+Holds old node more (Err NoMail) new = ⊥
+Holds old node more (Err EmptyInbox) new = ⊥
+Holds old node more (Err Rank) new = ⊥
+Holds old node more (Err FrameLength) new = ⊥
+Holds old node more (Err NodeCount) new = ⊥
+
+-- The nodes know the same, for the same layouts.
+pub record SameKnown (old new : List Held) : Type 0 where
+  pub knows : knows new ≡ knows old
+  pub layouts : layouts new ≡ layouts old
+  pub count : length new ≡ length old

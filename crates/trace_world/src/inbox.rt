@@ -1,16 +1,17 @@
 //! The segments that wait for a node.
 
-ghost use Rattle.std.specs.Prelude.{◌≡◌, ◌∷◌, ◌++◌, [], drop, length, OnOk, OnErr, IfSome, IfNone};
+ghost use Rattle.std.specs.Prelude.{◌≡◌, ◌∷◌, ◌++◌, [], drop, length, OnOk, OnErr, IfOk, IfSome, IfNone};
 
+use crate::shared::SharedSegment;
 use std::alloc::{AllocError, Global};
 use std::collections::VecDeque;
 use std::marker::Model;
-use trace_know::Segment;
 
 /// Segments in the order in which they were posted.
 #[derive(Drop)]
 pub(crate) struct Inbox {
-    queue: VecDeque<Segment>,
+    alloc: Global,
+    queue: VecDeque<SharedSegment>,
 }
 
 impl Model for Inbox {
@@ -27,12 +28,13 @@ impl Inbox {
         ensures { result ≡ [] }
     {
         Inbox {
+            alloc,
             queue: VecDeque::new(alloc),
         }
     }
 
     /// Adds a segment at the back.
-    pub(crate) fn push(&mut self, segment: Segment) -> Result<(), AllocError>
+    pub(crate) fn push(&mut self, segment: SharedSegment) -> Result<(), AllocError>
         ensures ok { OnOk result (self.new ≡ self.old ++ segment ∷ []) }
         ensures err { OnErr result (self.new ≡ self.old) }
     {
@@ -41,7 +43,7 @@ impl Inbox {
     }
 
     /// The segment that came first.
-    pub(crate) fn front(&self) -> Option<&Segment>
+    pub(crate) fn front(&self) -> Option<&SharedSegment>
         ensures some { IfSome result (λ s. self.now ≡ s.now ∷ drop 1 self.now) }
         ensures none { IfNone result (self.now ≡ []) }
     {
@@ -65,5 +67,16 @@ impl Inbox {
         ensures { result ≡ length self.now }
     {
         self.queue.len()
+    }
+
+    /// The same segments, which both share.
+    pub(crate) fn try_clone(&self) -> Result<Inbox, AllocError>
+        ensures { IfOk result (λ copy. copy ≡ self.now) }
+    {
+        let mut copy = Inbox::new(self.alloc);
+        for segment in self.queue.iter() {
+            copy.push(segment.try_clone()?)?;
+        }
+        Ok(copy)
     }
 }

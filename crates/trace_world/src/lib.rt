@@ -6,11 +6,13 @@
 //! and their order, each node knows just what the segments that reached it tell together, and its
 //! answer is that of the definitions: that is the contract of [`World::run`].
 //!
-//! A step costs what its node's call costs; a shipment copies what is known into a frame.
+//! A run makes each node's answer once, at its end; a single step makes that of its node. A post
+//! shares its segment; a shipment copies what is known into a frame.
 //!
-//! - [`step`]: the steps, and why one is refused
-//! - [`inbox`]: the segments that wait for a node; [`mail`]: a shipped frame; [`letter`]: how it is read
-//! - [`moves`]: what a step does to nodes and inboxes
+//! - [`step`]: the steps, and why one is refused; [`shared`]: a segment that steps and inboxes share
+//! - [`inbox`]: the segments that wait for a node; [`mail`]: a shipped frame; [`sheet`], [`letter`]: how it is
+//!   written and read
+//! - [`moves`]: what a step does to nodes and inboxes; [`copies`]: of a world's parts
 //! - [`world`]: nodes with their inboxes, and the mails
 //! - [`laws`]: nodes that the same segments reached are equal, and equal states refuse the same steps, as
 //!   contracts
@@ -18,14 +20,18 @@
 //! Its tests are in `crates/node_tests/src/world.rt`, `tests/cases/` and `tests/run_replays`.
 #![tactic(auto)]
 
+mod copies;
 mod inbox;
 mod laws;
 mod letter;
 mod mail;
 mod moves;
+mod shared;
+mod sheet;
 mod step;
 mod world;
 
 pub use laws::{equal_nodes, states_refuse};
+pub use shared::SharedSegment;
 pub use step::{Step, WorldFault};
 pub use world::World;

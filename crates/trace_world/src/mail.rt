@@ -5,31 +5,32 @@ ghost use Rattle.std.specs.FinMap.{entries};
 ghost use Rattle.trace_wire.specs.declared.fault.WireFault.TheVariants.{Memory};
 ghost use Rattle.trace_wire.specs.Frames.{frame_of, HasFrame, payload, longest};
 ghost use Rattle.trace_world.specs.Refusals.{IsFrameFault};
+ghost use Rattle.trace_world.specs.Worlds.{IsFrame};
 
 use crate::letter::Letter;
+use crate::sheet::Sheet;
 use crate::step::WorldFault;
-use mpi_model::MemoryWriter;
 use std::alloc::{AllocError, Global};
 use std::marker::Model;
+use std::sync::Arc;
 use trace_know::Knowledge;
 use trace_wire::{WireFault, frame_laws, read_frame, write_frame};
 
-/// The frame of what a node knew.
+/// The frame of what a node knew, by one or more owners.
 #[derive(Drop)]
 pub(crate) struct Mail {
-    frame: MemoryWriter,
+    frame: Arc<Sheet>,
 }
 
 impl Model for Mail {
     ghost use Rattle.std.specs.Prelude.{List, ℕ};
-    ghost use Rattle.mpi_model.specs.Devices.{bytes_written};
     ghost use Rattle.trace_world.specs.Worlds.{IsFrame};
 
     ghost Value = { List ℕ };
 
-    ghost view = { λ m. bytes_written m.frame };
+    ghost view = { λ m. m.frame.value.bytes.items };
 
-    ghost invariant = { λ m. IsFrame (bytes_written m.frame) };
+    ghost invariant = { λ m. IsFrame m.frame.value.bytes.items };
 }
 
 impl Mail {
@@ -38,15 +39,36 @@ impl Mail {
         ensures ok { IfOk result (λ m. (m ≡ frame_of know.now) × HasFrame (entries know.now)) }
         ensures err { IfErr result (λ fault. IsFrameFault know.now fault) }
     {
-        let mut frame = MemoryWriter::new(alloc);
+        let mut frame = Sheet::new(alloc);
         match write_frame(know, &mut frame) {
-            Ok(()) => Ok(Mail { frame }),
+            Ok(()) => Mail::holding(alloc, frame),
             Err(WireFault::Length) => Err(WorldFault::FrameLength),
-            // a writer in memory fails only where no memory is left
+            // a sheet fails only where it can't grow
             Err(WireFault::Write) => Err(WorldFault::Memory),
             // `write_frame` takes no memory and reads nothing
             Err(_) => unreachable!(),
         }
+    }
+
+    /// A frame with one owner.
+    fn holding(alloc: Global, frame: Sheet) -> Result<Mail, WorldFault>
+        requires { IsFrame frame.bytes.items }
+        ensures ok { IfOk result (λ m. m ≡ frame.bytes.items) }
+        ensures err { IfErr result (λ fault. fault ≡ WorldFault.Memory) }
+    {
+        match Arc::new(alloc, frame) {
+            Ok(frame) => Ok(Mail { frame }),
+            Err(_) => Err(WorldFault::Memory),
+        }
+    }
+
+    /// One owner more of the same. No copy is made.
+    pub(crate) fn try_clone(&self) -> Result<Mail, AllocError>
+        ensures { IfOk result (λ m. m ≡ self.now) }
+    {
+        Ok(Mail {
+            frame: Arc::try_clone(&self.frame)?,
+        })
     }
 
     /// What was known when it was shipped.

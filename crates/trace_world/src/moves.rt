@@ -6,73 +6,100 @@ ghost use Rattle.mpi_model.specs.Layouts.{Parts};
 ghost use Rattle.trace_know.specs.Segment.{PlacedEvents};
 ghost use Rattle.trace_know.specs.Trace.{facts_of, view_of};
 ghost use Rattle.trace_node.specs.Node.{IsWithin};
-ghost use Rattle.trace_world.specs.Moves.{Learns};
+ghost use Rattle.trace_world.specs.Moves.{Holds, SameKnown};
+ghost use Rattle.trace_world.specs.Answers.{AllAnswered};
 ghost use Rattle.trace_world.specs.Refusals.{is_done, stale};
 ghost use Rattle.trace_world.specs.Schedule.{at};
 ghost use Rattle.trace_world.specs.Shows.{knows};
 ghost use Rattle.trace_world.specs.Worlds.{layouts, AreWithin};
 
 use crate::inbox::Inbox;
+use crate::shared::SharedSegment;
 use crate::step::WorldFault;
+use std::alloc::AllocError;
 use trace_know::{Knowledge, Segment};
 use trace_node::{Node, NodeFault};
 
-/// Adds a copy of a segment to a node's inbox.
+/// Adds a segment to a node's inbox, which shares it.
 pub(crate) fn post(
     inboxes: &mut Vec<Inbox>,
     node: usize,
-    segment: &Segment,
+    segment: &SharedSegment,
 ) -> Result<(), WorldFault>
     requires there { node < length inboxes.old.items }
     ensures ok { OnOk result (inboxes.new.items ≡ slice_set inboxes.old.items node (at inboxes.old.items node ++ segment.now ∷ [])) }
     ensures err { IfErr result (λ fault. (fault ≡ WorldFault.Memory) × (inboxes.new.items ≡ inboxes.old.items)) }
 {
-    let Ok(copy) = segment.try_clone() else {
+    let Ok(segment) = segment.try_clone() else {
         return Err(WorldFault::Memory);
     };
     let inbox = &mut inboxes[node];
-    if inbox.push(copy).is_err() {
+    if inbox.push(segment).is_err() {
         return Err(WorldFault::Memory);
     }
     Ok(())
 }
 
-/// A node takes a segment of a rank of its layout.
-pub(crate) fn take<'a>(
+/// A node takes a segment of a rank of its layout, and makes no answer.
+pub(crate) fn hold<'a>(
     nodes: &mut Vec<Node<'a>>,
     node: usize,
     segment: &Segment,
 ) -> Result<(), WorldFault>
     requires there { node < length nodes.old.items }
     requires within { (layout : Parts) → slice_get (layouts nodes.old.items) node ≡ Some layout → segment.now.rank < layout.ranks }
-    ensures { Learns nodes.old.items node (view_of (facts_of segment.now)) result nodes.new.items }
+    ensures { Holds nodes.old.items node (view_of (facts_of segment.now)) result nodes.new.items }
 {
     let place = &mut nodes[node];
-    match place.take(segment) {
+    match place.hold(segment) {
         Ok(()) => Ok(()),
-        Err(NodeFault::Stale) => Err(WorldFault::Stale),
         Err(NodeFault::Memory) => Err(WorldFault::Memory),
         Err(NodeFault::Rank) => unreachable!(),
+        // no answer was to be made
+        Err(NodeFault::Stale) => unreachable!(),
     }
 }
 
-/// A node joins other knowledge of ranks of its layout.
-pub(crate) fn merge<'a>(
+/// A node joins other knowledge of ranks of its layout, and makes no answer.
+pub(crate) fn hold_all<'a>(
     nodes: &mut Vec<Node<'a>>,
     node: usize,
     more: &Knowledge,
 ) -> Result<(), WorldFault>
     requires there { node < length nodes.old.items }
     requires within { (layout : Parts) → slice_get (layouts nodes.old.items) node ≡ Some layout → IsWithin layout more.now }
-    ensures { Learns nodes.old.items node more.now result nodes.new.items }
+    ensures { Holds nodes.old.items node more.now result nodes.new.items }
 {
     let place = &mut nodes[node];
-    match place.merge(more) {
+    match place.hold_all(more) {
         Ok(()) => Ok(()),
-        Err(NodeFault::Stale) => Err(WorldFault::Stale),
         Err(NodeFault::Memory) => Err(WorldFault::Memory),
         Err(NodeFault::Rank) => unreachable!(),
+        // no answer was to be made
+        Err(NodeFault::Stale) => unreachable!(),
     }
+}
+
+/// A node that has no answer makes it.
+pub(crate) fn answer<'a>(nodes: &mut Vec<Node<'a>>, node: usize) -> Result<(), AllocError>
+    requires there { node < length nodes.old.items }
+    ensures same { SameKnown nodes.old.items nodes.new.items }
+    ensures ok { OnOk result (stale nodes.new.items ≡ slice_set (stale nodes.old.items) node false) }
+    ensures err { OnErr result (stale nodes.new.items ≡ slice_set (stale nodes.old.items) node true) }
+{
+    let place = &mut nodes[node];
+    place.catch_up()
+}
+
+/// Each node that has no answer makes it.
+pub(crate) fn answer_all<'a>(nodes: &mut Vec<Node<'a>>) -> Result<(), AllocError>
+    ensures same { SameKnown nodes.old.items nodes.new.items }
+    ensures ok { OnOk result (AllAnswered nodes.new.items) }
+{
+    for node in 0..nodes.len() {
+        answer(nodes, node)?;
+    }
+    Ok(())
 }
 
 /// A node makes its answer anew.

@@ -1,10 +1,11 @@
 //! The steps of a schedule, and why one is refused.
 
 ghost use Rattle.std.specs.Prelude.{◌≡◌};
+ghost use Rattle.trace_world.specs.Answers.{joins_more};
 ghost use Rattle.trace_world.specs.Refusals.{node_of};
 
+use crate::shared::SharedSegment;
 use thiserror::Error;
-use trace_know::Segment;
 
 /// One step of a schedule. Nodes and mails are numbered from 0.
 #[derive(Debug, Drop)]
@@ -16,7 +17,7 @@ pub enum Step {
         /// The node whose inbox it is.
         node: usize,
         /// The segment.
-        segment: Segment,
+        segment: SharedSegment,
     },
     /// A node takes the front of its inbox into its knowledge.
     Take {
@@ -54,6 +55,13 @@ impl Step {
             Step::Deliver { node, .. } => *node,
             Step::Restart { node } => *node,
         }
+    }
+
+    /// Whether its node joins more, so that its answer has to be made again.
+    pub(crate) fn joins_more(&self) -> bool
+        ensures { result ≡ joins_more self.now }
+    {
+        matches!(self, Step::Take { .. } | Step::Deliver { .. })
     }
 }
 

@@ -1,10 +1,11 @@
 //! Nodes with their inboxes, and the mails that were shipped.
 
-ghost use Rattle.std.specs.Prelude.{◌≡◌, ◌<◌, ◌≤◌, ◌∷◌, ◌↔◌, ◌++◌, [], ℕ, true, false, IfOk, OnOk, IfErr, IsErrOf, MatchResult, IfSome, IfNone, length, map, take, replicate};
+ghost use Rattle.std.specs.Prelude.{◌≡◌, ◌<◌, ◌≤◌, ◌∷◌, ◌↔◌, ◌++◌, [], ℕ, true, false, IfOk, OnOk, IfErr, IsErrOf, IsTrue, MatchResult, IfSome, IfNone, length, map, take, replicate, slice_index_or};
 ghost use Rattle.std.specs.FinMap.{empty};
 ghost use Rattle.std.specs.List.{slice_get};
 ghost use Rattle.std.specs.Option.{option_map};
-ghost use Rattle.trace_world.specs.Answers.{AnswersAfter, AnswersAnew, AnswersFresh, AnswersMore, AnswersStill, LosesOne};
+ghost use Rattle.trace_world.specs.Answers.{AllAnswered, AnswersAfter, AnswersAgain, AnswersAnew, AnswersFresh, AnswersStill, HoldsAfter, HoldsMore, LosesOne};
+ghost use Rattle.trace_world.specs.Ends.{Ends, EndsHeld, SameButAnswers};
 ghost use Rattle.trace_world.specs.Possible.{Allows};
 ghost use Rattle.trace_world.specs.Refusals.{refusal, refusal_there, IsOutcome, IsCountFault, is_done, done, stale, NoneStaler, SameNodes, StopsAt};
 ghost use Rattle.trace_node.specs.Node.{held};
@@ -12,14 +13,16 @@ ghost use Rattle.trace_world.specs.Schedule.{opening};
 ghost use Rattle.trace_world.specs.Shows.{Shows, Follows, WorldState};
 ghost use Rattle.trace_world.specs.Worlds.{IsWorld};
 
+use crate::copies::{inboxes_of, mails_of, nodes_of};
 use crate::inbox::Inbox;
 use crate::mail::Mail;
 use crate::moves;
+use crate::shared::SharedSegment;
 use crate::step::{Step, WorldFault};
 use mpi_model::Layout;
 use std::alloc::{AllocError, Global};
 use std::marker::Model;
-use trace_know::{Segment, view_laws};
+use trace_know::view_laws;
 use trace_node::Node;
 use trace_wire::frame_laws;
 
@@ -91,20 +94,17 @@ impl<'a> World<'a> {
         ensures answers { AnswersAfter step.now result (stale self.old.nodes) (stale self.new.nodes) }
         ensures same { SameNodes self.old self.new }
     {
-        let node = step.node();
-        if node >= self.nodes.len() {
-            return Err(WorldFault::NoNode);
+        let had = self.has_answer(step.node());
+        self.hold_step(step)?;
+        if !step.joins_more() {
+            return Ok(());
         }
-        match step {
-            Step::Post { segment, .. } => self.post(node, segment),
-            Step::Take { .. } => self.take(node),
-            Step::Ship { .. } => self.ship(node),
-            Step::Deliver { mail, .. } => self.deliver(*mail, node),
-            Step::Restart { .. } => self.restart(node),
-        }
+        self.answer_again(step.node(), had)
     }
 
-    /// Does the steps in order, up to the first that is refused, which it names.
+    /// Does the steps in order, up to the first that is refused, which it names. The answers are made
+    /// once, at the end. Where there is no memory for that, the steps are undone and done again, each
+    /// with its answer, so that the one is named that lacks it.
     pub fn run(&mut self, steps: &[Step]) -> Result<(), (usize, WorldFault)>
         ensures ok { OnOk result (Follows self.old steps.now self.new) }
         ensures possible { OnOk result (Allows self.old steps.now) }
@@ -115,12 +115,10 @@ impl<'a> World<'a> {
         ensures lost { IfErr result (λ e. LosesOne steps.now e self.old.nodes self.new.nodes) }
         ensures same { SameNodes self.old self.new }
     {
-        for k in 0..steps.len() {
-            if let Err(fault) = self.step(&steps[k]) {
-                return Err((k, fault));
-            }
+        match self.run_at_once(steps) {
+            Some(ended) => ended,
+            None => self.run_each(steps),
         }
-        Ok(())
     }
 
     /// Makes a node's answer anew. Where there is no memory for it, the node has none; what is known
@@ -167,8 +165,121 @@ impl<'a> World<'a> {
         let _ = &self.layout;
     }
 
-    /// Adds a copy of a segment to a node's inbox, whichever worker posts it.
-    fn post(&mut self, node: usize, segment: &Segment) -> Result<(), WorldFault>
+    /// Runs the steps, and makes the answers once, at the end. Where there is no memory for them, or a
+    /// node has none before, nothing has changed.
+    fn run_at_once(&mut self, steps: &[Step]) -> Option<Result<(), (usize, WorldFault)>>
+        ensures some { IfSome result (λ ended. Ends self.old steps.now ended self.new) }
+        ensures none { IfNone result (self.new ≡ self.old) }
+    {
+        let before = self.answered_copy()?;
+        let ended = self.hold_steps(steps);
+        if self.catch_up().is_err() {
+            *self = before;
+            return None;
+        }
+        Some(ended)
+    }
+
+    /// Runs the steps, each with its answer.
+    fn run_each(&mut self, steps: &[Step]) -> Result<(), (usize, WorldFault)>
+        ensures { Ends self.old steps.now result self.new }
+    {
+        for k in 0..steps.len() {
+            if let Err(fault) = self.step(&steps[k]) {
+                return Err((k, fault));
+            }
+        }
+        Ok(())
+    }
+
+    /// Runs the steps, and makes no answer.
+    fn hold_steps(&mut self, steps: &[Step]) -> Result<(), (usize, WorldFault)>
+        ensures { EndsHeld self.old steps.now result self.new }
+    {
+        for i in 0..steps.len() {
+            if let Err(fault) = self.hold_step(&steps[i]) {
+                return Err((i, fault));
+            }
+        }
+        Ok(())
+    }
+
+    /// Does one step, and makes no answer to what its node joins.
+    fn hold_step(&mut self, step: &Step) -> Result<(), WorldFault>
+        ensures done { is_done result ≡ true → Follows self.old (step.now ∷ []) self.new }
+        ensures undone { is_done result ≡ false → self.new ≡ self.old }
+        ensures outcome { IsOutcome (refusal self.old step.now) result }
+        ensures answers { HoldsAfter step.now result (stale self.old.nodes) (stale self.new.nodes) }
+        ensures same { SameNodes self.old self.new }
+    {
+        let node = step.node();
+        if node >= self.nodes.len() {
+            return Err(WorldFault::NoNode);
+        }
+        match step {
+            Step::Post { segment, .. } => self.post(node, segment),
+            Step::Take { .. } => self.take(node),
+            Step::Ship { .. } => self.ship(node),
+            Step::Deliver { mail, .. } => self.deliver(*mail, node),
+            Step::Restart { .. } => self.restart(node),
+        }
+    }
+
+    /// Whether the node is there and has its answer.
+    fn has_answer(&self, node: usize) -> bool
+        ensures { IsTrue result ↔ (slice_index_or (stale self.now.nodes) node true ≡ false) }
+    {
+        match self.nodes.get(node) {
+            Some(node) => node.answer().is_ok(),
+            None => false,
+        }
+    }
+
+    /// Makes the answer of a node that joined more, if it had one before.
+    fn answer_again(&mut self, node: usize, had: bool) -> Result<(), WorldFault>
+        requires there { node < length self.old.nodes }
+        ensures same { SameButAnswers self.old self.new }
+        ensures answers { AnswersAgain node had result (stale self.old.nodes) (stale self.new.nodes) }
+    {
+        if !had || moves::answer(&mut self.nodes, node).is_err() {
+            return Err(WorldFault::Stale);
+        }
+        Ok(())
+    }
+
+    /// Makes each answer that is owed.
+    fn catch_up(&mut self) -> Result<(), AllocError>
+        ensures same { SameButAnswers self.old self.new }
+        ensures ok { OnOk result (AllAnswered self.new.nodes) }
+    {
+        moves::answer_all(&mut self.nodes)
+    }
+
+    /// A copy that shares what the nodes know, where each of them has its answer.
+    fn answered_copy(&self) -> Option<World<'a>>
+        ensures { IfSome result (λ copy. copy ≡ self.now) }
+    {
+        if self.nodes.iter().any(|node| node.answer().is_err()) {
+            return None;
+        }
+        self.try_clone().ok()
+    }
+
+    /// A copy that shares what the nodes know, the segments and the mails.
+    fn try_clone(&self) -> Result<World<'a>, AllocError>
+        ensures { IfOk result (λ copy. copy ≡ self.now) }
+    {
+        Ok(World {
+            alloc: self.alloc,
+            layout: self.layout,
+            nodes: nodes_of(self.alloc, &self.nodes)?,
+            inboxes: inboxes_of(self.alloc, &self.inboxes)?,
+            mails: mails_of(self.alloc, &self.mails)?,
+        })
+    }
+
+    /// Adds a segment to a node's inbox, whichever worker posts it.
+    fn post(&mut self, node: usize, segment: &SharedSegment) -> Result<(), WorldFault>
         requires there { node < length self.old.nodes }
         ensures done { is_done result ≡ true → Follows self.old (Step.Post 0 node segment.now ∷ []) self.new }
         ensures undone { is_done result ≡ false → self.new ≡ self.old }
@@ -177,31 +288,28 @@ impl<'a> World<'a> {
         ensures answers { AnswersStill result (stale self.old.nodes) (stale self.new.nodes) }
         ensures layout { self.new.layout ≡ self.old.layout }
     {
-        if segment.rank() >= self.layout.ranks() {
+        if segment.get().rank() >= self.layout.ranks() {
             return Err(WorldFault::Rank);
         }
         moves::post(&mut self.inboxes, node, segment)
     }
 
-    /// Joins the front of a node's inbox into what it knows.
+    /// Joins the front of a node's inbox into what it knows, and makes no answer.
     fn take(&mut self, node: usize) -> Result<(), WorldFault>
         requires there { node < length self.old.nodes }
         ensures done { is_done result ≡ true → Follows self.old (Step.Take node ∷ []) self.new }
         ensures undone { is_done result ≡ false → self.new ≡ self.old }
         ensures outcome { IsOutcome (refusal_there self.old (Step.Take node)) result }
-        ensures fresh { OnOk result (NoneStaler self.old.nodes self.new.nodes) }
-        ensures answers { AnswersMore node result (stale self.old.nodes) (stale self.new.nodes) }
+        ensures answers { HoldsMore node result (stale self.old.nodes) (stale self.new.nodes) }
         ensures same { SameNodes self.old self.new }
     {
         view_laws();
         let Some(segment) = self.inboxes[node].front() else {
             return Err(WorldFault::EmptyInbox);
         };
-        let taken = moves::take(&mut self.nodes, node, segment);
-        if matches!(taken, Ok(()) | Err(WorldFault::Stale)) {
-            self.inboxes[node].pop();
-        }
-        taken
+        moves::hold(&mut self.nodes, node, segment.get())?;
+        self.inboxes[node].pop();
+        Ok(())
     }
 
     /// The frame of what a node knows becomes the next mail.
@@ -221,14 +329,13 @@ impl<'a> World<'a> {
         add(&mut self.mails, mail)
     }
 
-    /// Joins a mail into what a node knows.
+    /// Joins a mail into what a node knows, and makes no answer.
     fn deliver(&mut self, mail: usize, node: usize) -> Result<(), WorldFault>
         requires there { node < length self.old.nodes }
         ensures done { is_done result ≡ true → Follows self.old (Step.Deliver mail node ∷ []) self.new }
         ensures undone { is_done result ≡ false → self.new ≡ self.old }
         ensures outcome { IsOutcome (refusal_there self.old (Step.Deliver mail node)) result }
-        ensures fresh { OnOk result (NoneStaler self.old.nodes self.new.nodes) }
-        ensures answers { AnswersMore node result (stale self.old.nodes) (stale self.new.nodes) }
+        ensures answers { HoldsMore node result (stale self.old.nodes) (stale self.new.nodes) }
         ensures same { SameNodes self.old self.new }
     {
         view_laws();
@@ -239,7 +346,7 @@ impl<'a> World<'a> {
         let Ok(know) = self.mails[mail].open(self.alloc) else {
             return Err(WorldFault::Memory);
         };
-        moves::merge(&mut self.nodes, node, &know)
+        moves::hold_all(&mut self.nodes, node, &know)
     }
 
     /// A node is as a new one, with an empty inbox.

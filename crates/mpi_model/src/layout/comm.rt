@@ -3,16 +3,28 @@
 ghost use Rattle.std.specs.Prelude.{◌≡◌, ◌==◌, ◌<◌, ◌^◌, IfOk, length, option_map, slice_get};
 ghost use Rattle.std.specs.List.{position_from};
 ghost use Rattle.std.specs.List.Sorted.{IsStrictlyIncreasing};
-ghost use Rattle.mpi_model.specs.Communicators.{InOrder, communicators, members_of, numbers};
+ghost use Rattle.mpi_model.specs.Communicators.{InOrder, communicators, ids, members_of};
 
 use std::alloc::{AllocError, Global};
 use std::marker::Model;
 
-/// A communicator: its number, and the ranks of its group in their order (MPI 4.0, 7.2.1).
+/// A number over a stretch of a rank's calls: from call `first` on and before call `end`, or
+/// without end.
+#[derive(Clone, Copy, Debug, PartialEq, Eq)]
+pub struct Stretch {
+    pub number: u32,
+    pub first: u64,
+    pub end: Option<u64>,
+}
+
+/// A communicator: its id, and the ranks of its group in their order (MPI 4.0, 7.2.1).
 #[derive(Debug, Drop)]
-pub(crate) struct Comm {
-    number: u32,
-    members: Vec<u32>,
+pub struct Comm {
+    pub id: u32,
+    pub members: Vec<u32>,
+    /// For each member, by which number its own calls name the communicator, where they do. With
+    /// no entry at all each member names it by its id.
+    pub numbers: Vec<Option<Stretch>>,
 }
 
 impl Model for Comm {
@@ -20,20 +32,24 @@ impl Model for Comm {
 
     ghost Value = { Communicator };
 
-    ghost view = { λ c. record { comm = c.number; members = c.members.items } };
+    ghost view = { λ c. record { comm = c.id; members = c.members.items; numbers = c.numbers.items } };
 }
 
 impl Comm {
-    pub(crate) fn new(number: u32, members: Vec<u32>) -> Comm
-        ensures { result ≡ record { comm = number; members = members.items } }
+    pub(crate) fn new(id: u32, members: Vec<u32>, numbers: Vec<Option<Stretch>>) -> Comm
+        ensures { result ≡ record { comm = id; members = members.items; numbers = numbers.items } }
     {
-        Comm { number, members }
+        Comm {
+            id,
+            members,
+            numbers,
+        }
     }
 
-    pub(crate) fn number(&self) -> u32
+    pub(crate) fn id(&self) -> u32
         ensures { result ≡ self.now.comm }
     {
-        self.number
+        self.id
     }
 
     pub(crate) fn members(&self) -> &[u32]
@@ -41,15 +57,21 @@ impl Comm {
     {
         &self.members
     }
+
+    pub(crate) fn numbers(&self) -> &[Option<Stretch>]
+        ensures { result.now ≡ self.now.numbers }
+    {
+        &self.numbers
+    }
 }
 
-/// The communicators as they were given.
+/// The communicators as they were given, without numbers.
 pub(crate) fn comms_of(alloc: Global, given: Vec<(u32, Vec<u32>)>) -> Result<Vec<Comm>, AllocError>
     ensures { IfOk result (λ v. v.items ≡ communicators given.items) }
 {
     let mut comms = Vec::with_capacity(alloc, given.len())?;
-    for (number, members) in given {
-        comms.push(Comm::new(number, members))?;
+    for (id, members) in given {
+        comms.push(Comm::new(id, members, Vec::new(alloc)))?;
     }
     Ok(comms)
 }
@@ -59,37 +81,77 @@ pub(crate) fn in_order(given: Vec<Comm>) -> Result<Vec<Comm>, AllocError>
     ensures { IfOk result (λ v. InOrder given.items v.items) }
 {
     let mut comms = given;
-    comms.sort_by_key(|comm| comm.number())?;
+    comms.sort_by_key(|comm| comm.id())?;
     Ok(comms)
 }
 
-/// The members of the communicator of this number, in a list in any order.
+fn copy_of_numbers(
+    alloc: Global,
+    numbers: &[Option<Stretch>],
+) -> Result<Vec<Option<Stretch>>, AllocError>
+    ensures { IfOk result (λ v. v.items ≡ numbers.now) }
+{
+    let mut copy = Vec::with_capacity(alloc, numbers.len())?;
+    for number in numbers {
+        copy.push(*number)?;
+    }
+    Ok(copy)
+}
+
+fn copy_of_members(alloc: Global, members: &[u32]) -> Result<Vec<u32>, AllocError>
+    ensures { IfOk result (λ v. v.items ≡ members.now) }
+{
+    let mut copy = Vec::new(alloc);
+    copy.extend_from_slice(members)?;
+    Ok(copy)
+}
+
+fn copy_of(alloc: Global, comm: &Comm) -> Result<Comm, AllocError>
+    ensures { IfOk result (λ c. c ≡ comm.now) }
+{
+    let members = copy_of_members(alloc, comm.members())?;
+    let numbers = copy_of_numbers(alloc, comm.numbers())?;
+    Ok(Comm::new(comm.id(), members, numbers))
+}
+
+/// A copy of the communicators.
+pub(crate) fn copies(alloc: Global, comms: &[Comm]) -> Result<Vec<Comm>, AllocError>
+    ensures { IfOk result (λ v. v.items ≡ comms.now) }
+{
+    let mut all = Vec::with_capacity(alloc, comms.len())?;
+    for comm in comms {
+        all.push(copy_of(alloc, comm)?)?;
+    }
+    Ok(all)
+}
+
+/// The members of the communicator of this id, in a list in any order.
 pub(crate) fn members_among(comms: &[Comm], comm: u32) -> Option<&[u32]>
     ensures { option_map (λ m. m.now) result ≡ members_of comms.now comm }
 {
     for candidate in comms {
-        if candidate.number() == comm {
+        if candidate.id() == comm {
             return Some(candidate.members());
         }
     }
     None
 }
 
-/// The place of the communicator of this number, found by halves; where it is absent, one behind
+/// The place of the communicator of this id, found by halves; where it is absent, one behind
 /// the last.
 fn place_in(comms: &[Comm], comm: u32) -> usize
-    requires { IsStrictlyIncreasing (numbers comms.now) }
+    requires { IsStrictlyIncreasing (ids comms.now) }
     ensures { option_map (λ g. g.members) (slice_get comms.now result) ≡ members_of comms.now comm }
 {
-    match comms.binary_search_by_key(&comm, |candidate| candidate.number()) {
+    match comms.binary_search_by_key(&comm, |candidate| candidate.id()) {
         Ok(at) => at,
         Err(_) => comms.len(),
     }
 }
 
-/// The members of the communicator of this number, found by halves.
+/// The members of the communicator of this id, found by halves.
 pub(crate) fn members_in(comms: &[Comm], comm: u32) -> Option<&[u32]>
-    requires { IsStrictlyIncreasing (numbers comms.now) }
+    requires { IsStrictlyIncreasing (ids comms.now) }
     ensures { option_map (λ m. m.now) result ≡ members_of comms.now comm }
 {
     Some(comms.get(place_in(comms, comm))?.members())

@@ -29,6 +29,10 @@ pub enum LayoutFault {
     /// The world is absent, or its members are not all ranks in their order (MPI 4.0, 11.2).
     #[error("L7 World")]
     World,
+    /// The numbers of a communicator are neither absent nor one for each member; or a stretch ends
+    /// before its first call; or a rank names two communicators by one number in one call.
+    #[error("L8 Numbers")]
+    Numbers,
     /// No memory was left.
     #[error("Memory")]
     Memory,

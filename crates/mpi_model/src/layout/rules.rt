@@ -2,23 +2,29 @@
 
 ghost use Rattle.std.specs.Prelude.{◌≡◌, ◌==◌, IfOk, false};
 ghost use Rattle.std.specs.List.{list_any};
-ghost use Rattle.mpi_model.specs.Communicators.{has_double, numbers};
-ghost use Rattle.mpi_model.specs.Layouts.{comm_fault, has_double_member, has_stranger, has_world, is_empty_group, is_whole};
+ghost use Rattle.std.specs.List.Sorted.{IsNonDecreasing, IsPermutation};
+ghost use Rattle.mpi_model.specs.Communicators.{has_double, ids};
+ghost use Rattle.mpi_model.specs.Layouts.{comm_fault, ends_before, has_double_member, has_stranger, has_world, has_wrong_numbers, is_backward, is_empty_group, is_whole, number_fault};
+ghost use Rattle.mpi_model.specs.Names.{AreOrdered, names_of};
 
-use crate::layout::comm::{Comm, members_among};
+use crate::layout::comm::{Comm, Stretch, members_among};
 use crate::layout::fault::LayoutFault;
+use crate::layout::names::{Name, has_clash};
 use std::alloc::{AllocError, Global};
 
-/// The first fault of the communicators.
+/// The first fault of the communicators, whose names in order are these.
 pub(crate) fn fault_in(
     alloc: Global,
     comms: &[Comm],
+    names: &[Name],
     ranks: u32,
     world: u32,
 ) -> Result<Option<LayoutFault>, AllocError>
+    requires same { IsPermutation (names_of comms.now) names.now }
+    requires order { AreOrdered names.now }
     ensures { IfOk result (λ f. f ≡ comm_fault ranks world comms.now) }
 {
-    if two_of_one_number(comms) {
+    if two_of_one_id(alloc, comms)? {
         return Ok(Some(LayoutFault::DoubleComm));
     }
     if some_empty(comms) {
@@ -33,25 +39,95 @@ pub(crate) fn fault_in(
     if !world_is_there(comms, ranks, world) {
         return Ok(Some(LayoutFault::World));
     }
-    Ok(None)
+    Ok(number_fault(comms, names))
 }
 
-fn two_of_one_number(comms: &[Comm]) -> bool
-    ensures { result ≡ has_double (numbers comms.now) }
+fn number_fault(comms: &[Comm], names: &[Name]) -> Option<LayoutFault>
+    requires same { IsPermutation (names_of comms.now) names.now }
+    requires order { AreOrdered names.now }
+    ensures { result ≡ number_fault comms.now }
 {
-    for i in 0..comms.len() {
-        if names(&comms[i + 1..], comms[i].number()) {
+    if some_wrong_numbers(comms) {
+        return Some(LayoutFault::Numbers);
+    }
+    if has_clash(names) {
+        return Some(LayoutFault::Numbers);
+    }
+    None
+}
+
+fn some_wrong_numbers(comms: &[Comm]) -> bool
+    ensures { result ≡ list_any has_wrong_numbers comms.now }
+{
+    for comm in comms {
+        if has_wrong_numbers(comm) {
             return true;
         }
     }
     false
 }
 
-fn names(comms: &[Comm], number: u32) -> bool
-    ensures { result ≡ list_any (λ n. n == number) (numbers comms.now) }
+fn has_wrong_numbers(comm: &Comm) -> bool
+    ensures { result ≡ has_wrong_numbers comm.now }
 {
+    let numbers = comm.numbers();
+    let is_whole = numbers.is_empty() || numbers.len() == comm.members().len();
+    !is_whole || some_backward(numbers)
+}
+
+fn some_backward(numbers: &[Option<Stretch>]) -> bool
+    ensures { result ≡ list_any is_backward numbers.now }
+{
+    for number in numbers {
+        if is_backward(*number) {
+            return true;
+        }
+    }
+    false
+}
+
+fn is_backward(number: Option<Stretch>) -> bool
+    ensures { result ≡ is_backward number }
+{
+    match number {
+        Some(stretch) => ends_before(stretch.end, stretch.first),
+        None => false,
+    }
+}
+
+fn ends_before(end: Option<u64>, call: u64) -> bool
+    ensures { result ≡ ends_before end call }
+{
+    match end {
+        Some(end) => end < call,
+        None => false,
+    }
+}
+
+fn two_of_one_id(alloc: Global, comms: &[Comm]) -> Result<bool, AllocError>
+    ensures { IfOk result (λ two. two ≡ has_double (ids comms.now)) }
+{
+    let mut ids = ids_of(alloc, comms)?;
+    ids.sort()?;
+    Ok(two_neighbours(&ids))
+}
+
+fn ids_of(alloc: Global, comms: &[Comm]) -> Result<Vec<u32>, AllocError>
+    ensures { IfOk result (λ v. v.items ≡ ids comms.now) }
+{
+    let mut ids = Vec::with_capacity(alloc, comms.len())?;
     for comm in comms {
-        if comm.number() == number {
+        ids.push(comm.id())?;
+    }
+    Ok(ids)
+}
+
+fn two_neighbours(numbers: &[u32]) -> bool
+    requires { IsNonDecreasing numbers.now }
+    ensures { result ≡ has_double numbers.now }
+{
+    for i in 1..numbers.len() {
+        if numbers[i - 1] == numbers[i] {
             return true;
         }
     }

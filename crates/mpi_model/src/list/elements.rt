@@ -7,8 +7,8 @@ use crate::told::Told;
 use std::alloc::AllocError;
 use std::marker::Model;
 
-/// A request that an `MPI_Waitsome` completed: its position in the call's list, from 0, and what
-/// its status tells.
+/// A request that an `MPI_Waitsome` or `MPI_Testsome` completed: its position in the call's list,
+/// from 0, and what its status tells.
 #[derive(Clone, Copy, Debug, PartialEq, Eq)]
 pub struct Element {
     pub position: u32,
@@ -24,7 +24,7 @@ impl Element {
     }
 }
 
-/// The requests that an `MPI_Waitsome` completed, in the order of its `indices`.
+/// The requests that an `MPI_Waitsome` or `MPI_Testsome` completed, in the order of its `indices`.
 #[derive(Debug, Drop)]
 pub struct Elements {
     items: Vec<Element>,

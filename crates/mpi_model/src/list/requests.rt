@@ -6,6 +6,9 @@ ghost use Rattle.mpi_model.specs.Events.{IsSigned};
 use std::alloc::AllocError;
 use std::marker::Model;
 
+/// The number of `MPI_REQUEST_NULL`, which is never an operation's (MPI 4.0, 3.7.3).
+pub const NULL_REQUEST: i64 = i64::MIN;
+
 /// The request numbers that a call names, in its order.
 #[derive(Debug, Drop)]
 pub struct Requests {

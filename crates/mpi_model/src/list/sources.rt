@@ -7,16 +7,17 @@ use crate::told::Told;
 use std::alloc::AllocError;
 use std::marker::Model;
 
-/// What the statuses of an `MPI_Waitall` tell, one entry for each request of the call.
+/// What the statuses of an `MPI_Waitall` or `MPI_Testall` tell, one entry for each request of the call.
 #[derive(Debug, Drop)]
 pub struct Sources {
     items: Vec<Told>,
 }
 
 impl Model for Sources {
-    ghost use Rattle.std.specs.Prelude.{List, Option, ℕ};
+    ghost use Rattle.std.specs.Prelude.{List};
+    ghost use Rattle.mpi_model.specs.declared.told.Told.{Told};
 
-    ghost Value = { List (Option ℕ) };
+    ghost Value = { List Told };
 
     ghost view = { λ r. r.items.items };
 }

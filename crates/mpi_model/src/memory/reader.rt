@@ -55,7 +55,7 @@ impl<'a> MemoryReader<'a> {
 }
 
 impl<'a> Read for MemoryReader<'a> {
-    ghost use Rattle.mpi_model.specs.Devices.{bytes_left, failures_of_reader, most_read, until_failure};
+    ghost use Rattle.mpi_model.specs.Devices.{bytes_left, count_given, failures_of_reader, most_read, until_failure};
 
     ghost left = { λ r. Some (bytes_left r) };
 
@@ -67,7 +67,7 @@ impl<'a> Read for MemoryReader<'a> {
         ensures failures { CountsFailure (failures_of_reader self.old) (failures_of_reader self.new) result }
         ensures beside { LeavesSide untold untold }
 
-        ensures most { IfOk result (λ n. n ≤ most_read self.old) }
+        ensures count { IfOk result (λ n. n ≡ count_given self.old (length buffer.old)) }
         ensures fails { IsErr result ↔ (until_failure self.old ≡ Some 0) }
         ensures nearer { IfOk result (λ n. until_failure self.new ≡ option_map (λ left. left - n) (until_failure self.old)) }
         ensures for_good { OnErr result (until_failure self.new ≡ until_failure self.old) }

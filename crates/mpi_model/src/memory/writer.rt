@@ -63,7 +63,7 @@ impl MemoryWriter {
 }
 
 impl Write for MemoryWriter {
-    ghost use Rattle.mpi_model.specs.Devices.{bytes_written, failures_of_writer, most_written, room_of};
+    ghost use Rattle.mpi_model.specs.Devices.{bytes_written, count_taken, failures_of_writer, most_written, room_of};
 
     ghost written = { λ w. Some (bytes_written w) };
 
@@ -76,7 +76,7 @@ impl Write for MemoryWriter {
         ensures failures { CountsFailure (failures_of_writer self.old) (failures_of_writer self.new) result }
         ensures beside { LeavesSide untold untold }
 
-        ensures most { IfOk result (λ n. n ≤ most_written self.old) }
+        ensures count { IfOk result (λ n. n ≡ count_taken self.old (length piece.now)) }
         ensures room { IfOk result (λ n. room_of self.new + n ≡ room_of self.old) }
         ensures limit { most_written self.new ≡ most_written self.old }
     {

@@ -10,7 +10,7 @@ ghost use Rattle.trace_pair.specs.Table.{table_of};
 ghost use Rattle.trace_stuck.specs.Shape.{OnNothing, shape};
 ghost use Rattle.trace_wait.specs.Ranks.{ops_of};
 ghost use Rattle.trace_wait.specs.Rounds.{rounds_of};
-ghost use Rattle.trace_node.specs.Answer.{AreStuck, IsAnswerBy, beyond_of, call_of, entry_of, foreign_of, prefixes_of, states_of, stopped_at, wait_at, waits_of, wall_of};
+ghost use Rattle.trace_node.specs.Answer.{AreStuck, IsAnswerBy, beyond_of, call_of, entry_of, foreign_of, prefixes_of, states_of, stopped_at, unread_of, wait_at, waits_of, wall_of};
 ghost use Rattle.trace_node.specs.Stopped.{stopped};
 
 use crate::answer::Answer;
@@ -43,6 +43,17 @@ fn beyond_of(alloc: Global, layout: &Layout, know: &Knowledge) -> Result<Vec<boo
         beyond.push(know.beyond(rank))?;
     }
     Ok(beyond)
+}
+
+/// Of each rank, whether its readable prefix ends at the Enter of an unread call.
+fn unread_of(alloc: Global, layout: &Layout, know: &Knowledge) -> Result<Vec<bool>, AllocError>
+    ensures { IfOk result (λ v. v.items ≡ unread_of layout.now know.now) }
+{
+    let mut unread = Vec::new(alloc);
+    for rank in 0..layout.ranks() {
+        unread.push(know.is_unread(rank))?;
+    }
+    Ok(unread)
 }
 
 /// How each rank stands.
@@ -171,11 +182,13 @@ fn matching_of(table: PairTable) -> Matching
 fn reading_of(alloc: Global, layout: &Layout, know: &Knowledge) -> Result<Reading, AllocError>
     ensures prefixes { IfOk result (λ r. r.prefixes.items ≡ prefixes_of layout.now know.now) }
     ensures beyond { IfOk result (λ r. r.beyond.items ≡ beyond_of layout.now know.now) }
+    ensures unread { IfOk result (λ r. r.unread.items ≡ unread_of layout.now know.now) }
     ensures conflicts { IfOk result (λ r. r.conflicts.items ≡ conflicts_of know.now) }
 {
     Ok(Reading {
         prefixes: prefixes_of(alloc, layout, know)?,
         beyond: beyond_of(alloc, layout, know)?,
+        unread: unread_of(alloc, layout, know)?,
         conflicts: know.conflict_places(alloc)?,
     })
 }

@@ -18,6 +18,7 @@ use trace_wait::Round;
 pub(crate) struct Reading {
     pub prefixes: Vec<u64>,
     pub beyond: Vec<bool>,
+    pub unread: Vec<bool>,
     pub conflicts: Vec<(u32, u64)>,
 }
 
@@ -25,11 +26,13 @@ impl Reading {
     pub(crate) fn try_clone(&self) -> Result<Reading, AllocError>
         ensures prefixes { IfOk result (λ copy. copy.prefixes.items ≡ self.now.prefixes.items) }
         ensures beyond { IfOk result (λ copy. copy.beyond.items ≡ self.now.beyond.items) }
+        ensures unread { IfOk result (λ copy. copy.unread.items ≡ self.now.unread.items) }
         ensures conflicts { IfOk result (λ copy. copy.conflicts.items ≡ self.now.conflicts.items) }
     {
         Ok(Reading {
             prefixes: self.prefixes.clone()?,
             beyond: self.beyond.clone()?,
+            unread: self.unread.clone()?,
             conflicts: self.conflicts.clone()?,
         })
     }

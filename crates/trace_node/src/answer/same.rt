@@ -130,6 +130,7 @@ pub(crate) fn has_same_places(first: &Answer, second: &Answer) -> bool
     ensures { IsTrue result ↔ HasSamePlaces first.now second.now }
 {
     are_same_flags(first.beyond(), second.beyond())
+        && are_same_flags(first.unread(), second.unread())
         && are_same_places(first.conflicts(), second.conflicts())
         && first.foreign() == second.foreign()
 }

@@ -1,29 +1,36 @@
 //! From what is known of a rank to what it did.
 
-ghost use Rattle.std.specs.Prelude.{◌≡◌, ◌<◌, ◌+◌, IfOk, OnOk, length};
-ghost use Rattle.trace_ops.specs.RankOps.{all_ops, foreign_of, ops_by_calls, ops_of};
+ghost use Rattle.std.specs.Prelude.{◌≡◌, ◌<◌, ◌+◌, if◌then◌else◌, IfOk, OnOk, length};
+ghost use Rattle.std.specs.Option.{option_map};
+ghost use Rattle.trace_ops.specs.Foreign.{is_foreign_in};
+ghost use Rattle.trace_ops.specs.Groups.{plain};
+ghost use Rattle.trace_ops.specs.RankOps.{all_ops, ops_by_calls, ops_of};
 
 use crate::called::{Called, calls_of};
 use crate::completed::push_some;
 use crate::entered::Entered;
-use crate::group::is_foreign;
-use crate::message::{entered_of, message_of};
+use crate::fate::fate_of;
+use crate::group::{Group, group_of, is_foreign_in};
+use crate::message::{entered_in, message_in};
 use crate::ops::RankOps;
 use crate::rank_state::{state_of, waiting_of};
-use crate::receive::{active_post, receive_of};
+use crate::receive::{active_post, receive_in};
 use crate::touched::{Touched, note};
-use mpi_model::{Call, Layout, Message, Receive};
+use crate::trust::cancelled_post;
+use mpi_model::{Call, Layout, Message, OpName, Receive};
 use std::alloc::{AllocError, Global};
 use trace_know::Knowledge;
 
-/// How many of the calls are foreign.
-fn foreign_of(layout: &Layout, rank: u32, calls: &[Called<'_>]) -> u64
-    ensures { result ≡ foreign_of layout.now rank calls.now }
+/// The count of foreign calls with one call more.
+fn with_call(count: u64, group: Option<Group<'_>>, call: &Call) -> u64
+    requires { count < u64.MAX }
+    ensures { result ≡ count + (if is_foreign_in (option_map plain group.entry) call.now then 1 else 0) }
 {
-    calls
-        .iter()
-        .filter(|called| is_foreign(layout, rank, called.call()))
-        .count() as u64
+    if is_foreign_in(group, call) {
+        count + 1
+    } else {
+        count
+    }
 }
 
 /// What the calls from a place on tell, the last of them first.
@@ -33,6 +40,8 @@ struct Gathered {
     receives: Vec<Receive>,
     rounds: Vec<Entered>,
     active: Vec<(i64, u64)>,
+    cancelled: Vec<OpName>,
+    foreign: u64,
     touched: Touched,
 }
 
@@ -53,17 +62,20 @@ impl Gathered {
     {
         let called = &calls[n];
         let number = n as u64;
+        let group = group_of(layout, rank, number, called.call());
+        let fate = fate_of(&self.touched, calls, called);
         push_some(
             &mut self.sends,
-            message_of(layout, rank, number, called.call()),
+            message_in(group, rank, number, called, fate),
         )?;
-        let receive = receive_of(layout, rank, number, called, calls, &self.touched);
-        push_some(&mut self.receives, receive)?;
         push_some(
-            &mut self.rounds,
-            entered_of(layout, rank, number, called.call()),
+            &mut self.receives,
+            receive_in(group, rank, number, called, fate),
         )?;
-        push_some(&mut self.active, active_post(number, called, &self.touched))?;
+        push_some(&mut self.rounds, entered_in(group, number, called.call()))?;
+        push_some(&mut self.active, active_post(number, fate))?;
+        push_some(&mut self.cancelled, cancelled_post(rank, number, fate))?;
+        self.foreign = with_call(self.foreign, group, called.call());
         note(&mut self.touched, calls, n)?;
         Ok(())
     }
@@ -85,18 +97,21 @@ impl Gathered {
         let mut receives = self.receives;
         let mut rounds = self.rounds;
         let mut active = self.active;
+        let mut cancelled = self.cancelled;
         sends.reverse();
         receives.reverse();
         rounds.reverse();
         active.reverse();
+        cancelled.reverse();
         Ok(RankOps {
             sends,
             receives,
             rounds,
             active,
+            cancelled,
             state,
             waiting,
-            foreign: foreign_of(layout, rank, calls),
+            foreign: self.foreign,
         })
     }
 }
@@ -118,6 +133,8 @@ fn gather(
         receives: Vec::new(alloc),
         rounds: Vec::new(alloc),
         active: Vec::new(alloc),
+        cancelled: Vec::new(alloc),
+        foreign: 0,
         touched: Touched::new(alloc),
     };
     let mut n = calls.len();

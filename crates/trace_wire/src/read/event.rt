@@ -1,12 +1,12 @@
 //! Events, read from bytes.
 
 ghost use Rattle.trace_wire.specs.Outcomes.{Reads};
-ghost use Rattle.trace_wire.specs.Events.{call_at, outs_at, event_at, body_at};
+ghost use Rattle.trace_wire.specs.Events.{call_at, further_call_at, outs_at, event_at, body_at};
 ghost use Rattle.trace_wire.specs.Fields.{comm, envelope, send_envelope, exchange, gathering, probe, index};
 
 use crate::read::field::{
-    FieldFault, byte_of, comm_field, flag_field, kind_field, mode_field, peer_field, signed_of,
-    small_field, stamp_field, told_field, u32_of,
+    FieldFault, byte_of, comm_field, flag_field, kind_field, marked_field, mode_field, peer_field,
+    signed_of, small_field, stamp_field, told_field, u32_of,
 };
 use crate::read::list::list_of;
 use mpi_model::{
@@ -20,13 +20,13 @@ fn receive_field(bytes: &[u8]) -> Result<(ReceiveEnvelope, &[u8]), FieldFault>
     ensures { Reads (λ x. (x.0, x.1.now)) result (envelope.read bytes.now) }
 {
     let (peer, rest) = peer_field(bytes)?;
-    let (tag, rest) = field!(told_field(rest));
+    let (tag, rest) = marked_field(rest)?;
     let (comm, rest) = comm_field(rest)?;
     let (count, rest) = small_field(rest)?;
     let (datatype, rest) = signed_of(rest)?;
     let inner = Envelope {
         peer,
-        tag: tag.rank(),
+        tag,
         comm,
         count,
         datatype,
@@ -65,9 +65,9 @@ fn collective_field(bytes: &[u8]) -> Result<(Collective, &[u8]), FieldFault>
     ensures { Reads (λ x. (x.0, x.1.now)) result (gathering.read bytes.now) }
 {
     let (kind, rest) = kind_field(bytes)?;
-    let (root, rest) = field!(told_field(rest));
+    let (root, rest) = marked_field(rest)?;
     let (comm, rest) = comm_field(rest)?;
-    match Collective::new(kind, root.rank(), comm) {
+    match Collective::new(kind, root, comm) {
         Some(found) => Ok((found, rest)),
         None => Err(FieldFault::Content),
     }
@@ -78,9 +78,9 @@ fn probe_field(bytes: &[u8]) -> Result<(ProbeEnvelope, &[u8]), FieldFault>
     ensures { Reads (λ x. (x.0, x.1.now)) result (probe.read bytes.now) }
 {
     let (source, rest) = peer_field(bytes)?;
-    let (tag, rest) = field!(told_field(rest));
+    let (tag, rest) = marked_field(rest)?;
     let (comm, rest) = comm_field(rest)?;
-    match ProbeEnvelope::new(source, tag.rank(), comm) {
+    match ProbeEnvelope::new(source, tag, comm) {
         Some(found) => Ok((found, rest)),
         None => Err(FieldFault::Content),
     }
@@ -108,6 +108,37 @@ fn index_field(bytes: &[u8]) -> Result<(Option<u32>, &[u8]), FieldFault>
             let (position, rest) = u32_of(rest)?;
             Ok((Some(position), rest))
         }
+        _ => Err(FieldFault::Content),
+    }
+}
+
+/// A call behind Ibarrier, by the code of its kind.
+#[tactic(auto, unfolding(crate::specs::Events::further_call_at))]
+fn further_call_of(alloc: Global, code: u8, bytes: &[u8]) -> Result<(Call, &[u8]), FieldFault>
+    ensures { Reads (λ x. (x.0, x.1.now)) result (further_call_at code bytes.now) }
+{
+    match code {
+        15 => {
+            let (requests, rest) = field!(list_of(alloc, bytes));
+            Ok((Call::Testall(Requests::from_vec(requests)), rest))
+        }
+        16 => {
+            let (requests, rest) = field!(list_of(alloc, bytes));
+            Ok((Call::Testany(Requests::from_vec(requests)), rest))
+        }
+        17 => {
+            let (requests, rest) = field!(list_of(alloc, bytes));
+            Ok((Call::Testsome(Requests::from_vec(requests)), rest))
+        }
+        18 => {
+            let (request, rest) = signed_of(bytes)?;
+            Ok((Call::Cancel(request), rest))
+        }
+        19 => {
+            let (request, rest) = signed_of(bytes)?;
+            Ok((Call::Free(request), rest))
+        }
+        20 => Ok((Call::Unread, bytes)),
         _ => Err(FieldFault::Content),
     }
 }
@@ -174,7 +205,7 @@ fn call_of(alloc: Global, code: u8, bytes: &[u8]) -> Result<(Call, &[u8]), Field
             let (comm, rest) = field!(named_comm_field(bytes));
             Ok((Call::Ibarrier(comm), rest))
         }
-        _ => Err(FieldFault::Content),
+        _ => further_call_of(alloc, code, bytes),
     }
 }
 

@@ -1,11 +1,11 @@
 //! The fields of an event, as bytes.
 
-ghost use Rattle.mpi_model.specs.Ranges.{IsSource, IsComm};
+ghost use Rattle.mpi_model.specs.Ranges.{IsAskedTag, IsSource, IsComm};
 ghost use Rattle.std.specs.Prelude.{◌<◌, ◌^◌, IfSome, IfOk, ◌≡◌};
 ghost use Rattle.std.specs.Int.{w32, w64};
 ghost use Rattle.trace_wire.specs.Outcomes.{Reads};
-ghost use Rattle.trace_wire.specs.Forms.{byte_at, number_at, small_of, marked_of, small, told, signed};
-ghost use Rattle.trace_wire.specs.Fields.{peer_of, comm_of, mode_of, kind_of, peer, comm, mode, kind, flag, stamp};
+ghost use Rattle.trace_wire.specs.Forms.{byte_at, number_at, small_of, small, marked, signed};
+ghost use Rattle.trace_wire.specs.Fields.{peer_of, told_of, comm_of, mode_of, kind_of, peer, told, comm, mode, kind, flag, stamp};
 ghost use Rattle.trace_wire.specs.declared.read.field.FieldFault.TheVariants.{Memory};
 
 use mpi_model::{CommRef, Kind, Mode, Peer, Stamp, Told};
@@ -99,20 +99,38 @@ pub(crate) fn small_field(bytes: &[u8]) -> Result<(u32, &[u8]), FieldFault>
     }
 }
 
-/// A number, or none by its mark.
+/// A tag or a root: a number, or none by its mark.
+pub(crate) fn marked_field(bytes: &[u8]) -> Result<(Option<u32>, &[u8]), FieldFault>
+    ensures read { Reads (λ x. (x.0, x.1.now)) result (marked.read bytes.now) }
+    ensures range { IfOk result (λ x. IsAskedTag x.0) }
+{
+    let (number, rest) = u32_of(bytes)?;
+    if number == 0xFFFF_FFFF {
+        return Ok((None, rest));
+    }
+    match small_from(number) {
+        Some(n) => Ok((Some(n), rest)),
+        None => Err(FieldFault::Content),
+    }
+}
+
+/// What is told by its number or mark.
 fn told_from(n: u32) -> Option<Told>
-    ensures { result ≡ marked_of n }
+    ensures { result ≡ told_of n }
 {
     if n == 0xFFFF_FFFF {
-        return Told::new(None);
+        return Some(Told::Nothing);
+    }
+    if n == 0xFFFF_FFFE {
+        return Some(Told::Cancelled);
     }
     match small_from(n) {
-        Some(n) => Told::new(Some(n)),
+        Some(rank) => Told::from_rank(rank),
         None => None,
     }
 }
 
-/// What is told, a tag or a root: a number, or none.
+/// What is told: a source, that the operation was cancelled, or nothing.
 pub(crate) fn told_field(bytes: &[u8]) -> Result<(Told, &[u8]), FieldFault>
     ensures { Reads (λ x. (x.0, x.1.now)) result (told.read bytes.now) }
 {

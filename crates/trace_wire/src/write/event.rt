@@ -40,14 +40,18 @@ fn put_call<S: Sink>(out: &mut S, call: &Call)
     ensures { Sends (S.page out.old) (S.page out.new) (call_fields call.now) }
 {
     match call {
-        Call::Local | Call::Finalize => out.put(&[]),
+        Call::Local | Call::Finalize | Call::Unread => out.put(&[]),
         Call::Send(mode, e) | Call::Isend(mode, e) => put_sent(out, *mode, *e),
         Call::Recv(e) | Call::Irecv(e) => put_envelope(out, e.envelope()),
         Call::Sendrecv(e) => put_exchange(out, *e),
         Call::Wait(request) | Call::Test(request) => put_i64(out, *request),
-        Call::Waitall(requests) | Call::Waitany(requests) | Call::Waitsome(requests) => {
-            put_list(out, requests.as_slice())
-        }
+        Call::Cancel(request) | Call::Free(request) => put_i64(out, *request),
+        Call::Waitall(requests)
+        | Call::Waitany(requests)
+        | Call::Waitsome(requests)
+        | Call::Testall(requests)
+        | Call::Testany(requests)
+        | Call::Testsome(requests) => put_list(out, requests.as_slice()),
         Call::Collective(call) => put_collective(out, *call),
         Call::Probe(e) => put_probe(out, *e),
         Call::Ibarrier(named) => put_comm(out, named.comm()),
@@ -91,6 +95,12 @@ fn byte_of_call(call: &Call) -> u8
         Call::Collective(_) => 12,
         Call::Probe(_) => 13,
         Call::Ibarrier(_) => 14,
+        Call::Testall(_) => 15,
+        Call::Testany(_) => 16,
+        Call::Testsome(_) => 17,
+        Call::Cancel(_) => 18,
+        Call::Free(_) => 19,
+        Call::Unread => 20,
     }
 }
 

@@ -2,8 +2,8 @@
 
 ghost use Rattle.std.specs.Prelude.{◌≡◌};
 ghost use Rattle.std.specs.Int.{w32, w64};
-ghost use Rattle.trace_wire.specs.Forms.{byte, number, pair, signed, told};
-ghost use Rattle.trace_wire.specs.Fields.{comm, element, envelope, exchange, flag, gathering, index, mode, mode_code, peer, probe, send_envelope, stamp};
+ghost use Rattle.trace_wire.specs.Forms.{byte, marked, number, pair, signed};
+ghost use Rattle.trace_wire.specs.Fields.{comm, element, envelope, exchange, flag, gathering, index, mode, mode_code, peer, probe, send_envelope, stamp, told};
 ghost use Rattle.trace_wire.specs.Sending.{Sends};
 
 use crate::write::sink::Sink;
@@ -12,11 +12,14 @@ use mpi_model::{
     Stamp, Told,
 };
 
-/// The mark of no number: any tag, no root, nothing told.
+/// The mark of nothing: any tag, no root, nothing told.
 const NO_NUMBER: u32 = 0xFFFF_FFFF;
 
 /// The mark of the null process.
 const NULL_PROCESS: u32 = 0xFFFF_FFFE;
+
+/// The mark of a cancelled operation.
+const CANCELLED: u32 = 0xFFFF_FFFE;
 
 /// A byte.
 pub(crate) fn put_byte<S: Sink>(out: &mut S, n: u8)
@@ -48,7 +51,7 @@ pub(crate) fn put_i64<S: Sink>(out: &mut S, n: i64)
 
 /// A number, or the mark of none.
 fn put_marked<S: Sink>(out: &mut S, number: Option<u32>)
-    ensures { Sends (S.page out.old) (S.page out.new) (told.spell number) }
+    ensures { Sends (S.page out.old) (S.page out.new) (marked.spell number) }
 {
     let code = match number {
         None => NO_NUMBER,
@@ -61,7 +64,12 @@ fn put_marked<S: Sink>(out: &mut S, number: Option<u32>)
 pub(crate) fn put_told<S: Sink>(out: &mut S, source: Told)
     ensures { Sends (S.page out.old) (S.page out.new) (told.spell source) }
 {
-    put_marked(out, source.rank());
+    let code = match source {
+        Told::Nothing => NO_NUMBER,
+        Told::Cancelled => CANCELLED,
+        Told::Source(rank) => rank.number(),
+    };
+    out.put(&code.to_be_bytes());
 }
 
 /// Wall and CPU time.

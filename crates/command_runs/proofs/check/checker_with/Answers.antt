@@ -1,8 +1,6 @@
 use Rattle.std.proofs.Common.{◌≡◌, ◌∙◌, inr}
 use Rattle.std.specs.List.{All}
-use Rattle.mpi_model.specs.Layouts.{Parts}
-use Rattle.trace_check.specs.Checker.{Held, held}
-use Rattle.trace_know.specs.View.{View}
+use Rattle.trace_check.specs.Checker.{held}
 use Rattle.command_runs.specs.Traces.{IsInside, IsKnown}
 use Rattle.command_runs.specs.Refusals.{RefusesPieces}
 use Rattle.command_runs.proofs.check.checker_with.Goals as goal

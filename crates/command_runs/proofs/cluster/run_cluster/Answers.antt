@@ -1,5 +1,7 @@
-use Rattle.std.proofs.Common.{inr}
+use Rattle.std.proofs.Common.{◌∷◌, [], inr}
+use Rattle.input_files.specs.Layouts.{RefusesLayout}
 use Rattle.command_runs.specs.Clusters.{AreClusterNodes, RefusesClusterNodes}
+use Rattle.command_runs.proofs.Unread.{input_unread, input_untold, more_names}
 use Rattle.command_runs.proofs.cluster.run_cluster.Goals as goal
 
 pub returns-in-Err-nodes_with-clause-refused : goal.returns-in-Err-nodes_with-clause-refused
@@ -23,3 +25,15 @@ returns-clause-broken_off g c =
     let wrote = c.in-Err-write_nodes.ensures.err in
     let say = wrote.1 in
     λ _. (wrote.0, (c.in-Ok.layout, c.in-Ok-nodes_with.nodes.0, c.in-Ok-nodes_with.nodes.1, say.0, say.1, c.in-Ok.ensures.ok, of, say.2, say.3, say.4), wrote.2, c.in-Err-write_nodes.ensures.failed)
+
+pub returns-in-Err-clause-unread : goal.returns-in-Err-clause-unread
+returns-in-Err-clause-unread g c =
+    input_unread RefusesLayout _ (g.O.Opener.file c.args.files.now) c.args.layout_name.now (c.args.manifest_name.now ∷ []) c.in-Err.fault c.in-Err.ensures.err c.in-Err.ensures.unread
+
+pub returns-in-Err-clause-failed : goal.returns-in-Err-clause-failed
+returns-in-Err-clause-failed g c = input_untold RefusesLayout c.args.layout_name.now _ c.in-Err.fault c.in-Err.ensures.err
+
+pub returns-in-Err-nodes_with-clause-unread : goal.returns-in-Err-nodes_with-clause-unread
+returns-in-Err-nodes_with-clause-unread g c =
+    more_names c.args.layout_name.now (c.args.manifest_name.now ∷ []) _ (g.O.Opener.file c.args.files.now) c.in-Err-nodes_with.fault
+    (rw c.layout_at.ensures.same at c.in-Err-nodes_with.ensures.unread)

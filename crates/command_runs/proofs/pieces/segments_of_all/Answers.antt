@@ -18,10 +18,11 @@ loop-piece-preserved g c =
     ∙ ap (λ (p : PieceParts). take c.loop-piece.piece-index c.args.pieces.now ++ p ∷ []) (sym c.piece-item.is) in
     let told : TellsSegments (file c.piece-item.result.file) c.piece-item.result.rank c.piece-item.result.first c.in-Ok.segments.items =
     rw c.loop-piece.invariant.files at c.in-Ok.ensures.segments in
-    let pushed : c.push.new.self.items ≡ c.loop-piece.lists.items ++ c.in-Ok.segments ∷ [] = search rules in
+    let told : TellsSegments (file c.piece-item.result.file) c.piece-item.result.rank c.piece-item.result.first c.in_ok-shared.field-0.items = rw c.in_ok-shared.ensures told in
+    let pushed : c.push.new.self.items ≡ c.loop-piece.lists.items ++ c.in_ok-shared.field-0 ∷ [] = search rules in
     record {
       files = c.segments_of.ensures.same ∙ c.loop-piece.invariant.files;
-      told = segments_later file (take c.loop-piece.piece-index c.args.pieces.now) _ c.piece-item.result c.loop-piece.lists.items _ c.in-Ok.segments
+      told = segments_later file (take c.loop-piece.piece-index c.args.pieces.now) _ c.piece-item.result c.loop-piece.lists.items _ c.in_ok-shared.field-0
           more pushed c.loop-piece.invariant.told told;
     }
 

@@ -1,4 +1,6 @@
-use Rattle.std.proofs.Common.{arith, ◌≡◌, ◌∙◌, ◌+◌, ◌<◌, ◌++◌, ◌∷◌, [], ap, sym, inr, length, take}
+use Rattle.std.proofs.Common.{arith, ◌≡◌, ◌∙◌, ◌+◌, ◌<◌, ◌++◌, ◌∷◌, [], List, ap, sym, subst, inr, length, take}
+use Rattle.std.specs.List.{All}
+use Rattle.std.proofs.lemmas.List.Elements.{All-append, All-cons, All-nil}
 use Rattle.std.proofs.lemmas.List.{take_more}
 use Rattle.trace_crew.specs.declared.piece.Piece.{Piece}
 use Rattle.input_files.specs.Manifests.{PieceParts}
@@ -6,6 +8,9 @@ use Rattle.command_runs.specs.Files.{IsFile}
 use Rattle.command_runs.specs.Inputs.{RefusesFile}
 use Rattle.command_runs.proofs.Sharing.{Adds, shares_more}
 use Rattle.command_runs.proofs.Traces.{begins}
+use Rattle.command_runs.proofs.Unread.{file_untold, fits}
+use Rattle.command_runs.specs.Texts.{WasRead}
+use Rattle.command_runs.specs.declared.whole.TheConstants.{LONGEST_PIECE}
 use Rattle.command_runs.proofs.texts.texts_of_all.Goals as goal
 
 pub loop-piece-preserved : goal.loop-piece-preserved
@@ -22,6 +27,9 @@ loop-piece-preserved g c =
       files = c.file_at.ensures.same ∙ c.loop-piece.invariant.files;
       shares = shares_more file (take c.loop-piece.piece-index c.args.pieces.now) (take (c.loop-piece.piece-index + 1) c.args.pieces.now) c.piece-item.result
           c.loop-piece.texts c.add.new.self text more c.loop-piece.invariant.shares (c.rank-rank.ensures, c.first-first.ensures, bytes) adds;
+      read = subst (λ (ps : List PieceParts). All (WasRead file) ps) (sym more)
+          (All-append (WasRead file) (take c.loop-piece.piece-index c.args.pieces.now) (c.piece-item.result ∷ []) c.loop-piece.invariant.read
+          (All-cons (WasRead file) c.piece-item.result [] (fits LONGEST_PIECE (file c.piece-item.result.file) c.in-Ok.text.items bytes c.in-Ok.ensures.limit) (All-nil (WasRead file))));
     }
 
 pub returns-in-Err-clause-err : goal.returns-in-Err-clause-err
@@ -31,4 +39,7 @@ returns-in-Err-clause-err g c =
     take_more c.args.pieces.now c.loop-piece.piece-index c.piece-item.result below
     ∙ ap (λ (p : PieceParts). take c.loop-piece.piece-index c.args.pieces.now ++ p ∷ []) (sym c.piece-item.is) in
     let refuses : RefusesFile c.piece-item.result.file c.in-Err.fault = rw c.file.ensures at c.in-Err.ensures.err in
-    inr (take c.loop-piece.piece-index c.args.pieces.now, c.piece-item.result, begins c.args.pieces.now c.loop-piece.piece-index c.piece-item.result more, refuses)
+    inr (take c.loop-piece.piece-index c.args.pieces.now, c.piece-item.result, begins c.args.pieces.now c.loop-piece.piece-index c.piece-item.result more, c.loop-piece.invariant.read, refuses)
+
+pub returns-in-Err-clause-failed : goal.returns-in-Err-clause-failed
+returns-in-Err-clause-failed g c = file_untold _ c.in-Err.fault c.in-Err.ensures.err

@@ -1,4 +1,3 @@
-use Rattle.std.proofs.Common.{refl}
 use Rattle.dumpi_calls.proofs.InPlace.{receive_told}
 use Rattle.dumpi_calls.proofs.in_place.receive_front.Goals as goal
 

@@ -1,4 +1,3 @@
-use Rattle.std.proofs.Common.{refl}
 use Rattle.dumpi_calls.proofs.InPlace.{send_told}
 use Rattle.dumpi_calls.proofs.in_place.send_front.Goals as goal
 

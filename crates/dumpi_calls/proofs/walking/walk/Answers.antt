@@ -1,4 +1,4 @@
-use Rattle.std.proofs.Common.{[], ◌<◌, Bool, Option, IfSome, refl, subst, zero-le, arith}
+use Rattle.std.proofs.Common.{[], ◌∙◌, ◌<◌, Bool, Option, IfSome, refl, subst, zero-le, arith}
 use Rattle.dumpi_calls.specs.Walks.{Advances, IsRead, TakesNext}
 use Rattle.dumpi_calls.proofs.Advancing.{advanced}
 use Rattle.dumpi_calls.proofs.Handed.{is_begun, not_begun, nothing_handed}
@@ -11,7 +11,7 @@ pub each-init : goal.each-init
 each-init g c =
     let text = g.R.Read.left c.args.reader in
     let begun : IsRead text [] c.in-Ok.texts = rw c.in-Ok.ensures (is_begun text (g.R.Read.failures c.args.reader)) in
-    record { far = zero-le; done = ([], begun, nothing_handed g.S.CallSink.step c.args.sink.now, refl) }
+    record { far = zero-le; unfailed = rw c.in-Ok.ensures refl; done = ([], begun, nothing_handed g.S.CallSink.step c.args.sink.now, refl) }
 
 pub each-preserved : goal.each-preserved
 each-preserved g c =
@@ -23,5 +23,6 @@ each-preserved g c =
     let progress : c.each.texts.at.line < c.advance.new.texts.at.line = subst (λ (o : Option Bool). IfSome o (λ (b : Bool). c.each.texts.at.line < c.advance.new.texts.at.line)) is c.in-Ok-Some.ensures.progress in
     record {
       far = omega (arith, c.each.invariant.far, progress);
+      unfailed = c.in-Ok-Some.ensures.no_failure ∙ c.each.invariant.unfailed;
       done = advanced g.S.CallSink.step text inv.0 c.in-Ok-Some.is_open c.advance.new.texts c.args.sink.now c.each.sink c.advance.new.sink c.each.calls inv.2 next;
     }

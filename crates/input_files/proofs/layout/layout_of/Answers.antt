@@ -1,6 +1,5 @@
 use Rattle.std.proofs.Common.{rules, ◌≡◌, Some}
 use Rattle.serde_json.specs.View.{view}
-use Rattle.mpi_model.specs.Communicators.{communicators}
 use Rattle.mpi_model.specs.Layouts.{Parts}
 use Rattle.input_files.specs.Layouts.{parts_in}
 use Rattle.input_files.proofs.layout.layout_of.Goals as goal
@@ -8,16 +7,16 @@ use Rattle.input_files.proofs.layout.layout_of.Goals as goal
 pub returns-in-Ok-clause-ok : goal.returns-in-Ok-clause-ok
 returns-in-Ok-clause-ok c =
     let g = c.in-Ok-Some.given in
-    let given : Parts = record { ranks = g.ranks; world = g.world; sends = g.sends; comms = communicators g.comms.items } in
+    let given : Parts = record { ranks = g.ranks; world = g.world; sends = g.sends; comms = g.comms.items } in
     let told : parts_in (view c.in_ok-value.value) ≡ Some given = search rules in
     (given, (view c.in_ok-value.value, c.in_ok-value.ensures.ok, told), c.in-Ok.ensures.none, c.in-Ok.ensures.ok)
 
 pub returns : goal.returns
 returns c =
     let g = c.in-Ok-Some.given in
-    let given : Parts = record { ranks = g.ranks; world = g.world; sends = g.sends; comms = communicators g.comms.items } in
+    let given : Parts = record { ranks = g.ranks; world = g.world; sends = g.sends; comms = g.comms.items } in
     let told : parts_in (view c.in_ok-value.value) ≡ Some given = search rules in
     record {
       ok = tt;
-      err = (given, (view c.in_ok-value.value, c.in_ok-value.ensures.ok, told), c.in-Err-new.ensures.fault c.in_default.not-Memory);
+      err = (given, (view c.in_ok-value.value, c.in_ok-value.ensures.ok, told), c.in-Err-of_comms.ensures.fault c.in_default.not-Memory);
     }

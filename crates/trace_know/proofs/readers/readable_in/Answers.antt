@@ -3,7 +3,7 @@ use Rattle.std.specs.Prelude.{MatchOption}
 use Rattle.std.specs.FinMap.{get}
 use Rattle.std.specs.Option.{option_copied}
 use Rattle.mpi_model.specs.declared.event.Event.{Event}
-use Rattle.trace_know.specs.Prefix.{event_at, event_of}
+use Rattle.trace_know.specs.Prefix.{readable_at, readable_of}
 use Rattle.trace_know.specs.declared.run.Run.{Run}
 use Rattle.trace_know.specs.Runs.{of_runs, IsFront}
 use Rattle.trace_know.proofs.Leading.{push_each}
@@ -33,7 +33,7 @@ pub returns-in_default : goal.returns-in_default
 returns-in_default c =
     let view = of_runs c.args.runs.now in
     let none = if_none (get view (c.args.rank, 0) ≡ None) (λ run. IsFront c.args.runs.now c.args.rank run.now) c.front_run.result c.in_default.not-Some c.front_run.ensures in
-    ap shown c.new.ensures.items ∙ events_are view c.args.rank [] (record { each = λ i l. absurd (omega arith); end = ap event_of none })
+    ap shown c.new.ensures.items ∙ events_are view c.args.rank [] (record { each = λ i l. absurd (omega arith); end = ap readable_of none })
 
 pub loop-event-preserved : goal.loop-event-preserved
 loop-event-preserved c =
@@ -41,10 +41,10 @@ loop-event-preserved c =
     let es = c.loop-event.events in
     let n : c.len.result ≡ length (shown es.items) = omega (arith, length-shown es.items) in
     let within = c.loop-event.invariant.within in
-    let here : event_at view c.args.rank (length (shown es.items)) ≡ Some c.in-Some-event_in.event.now =
-    ap (event_at view c.args.rank) (sym n) ∙ ap event_of (c.in-Some.ensures.cells c.len.result (omega arith)) ∙ sym c.event_in.ensures.event ∙ ap option_copied c.in-Some-event_in.is in
+    let here : readable_at view c.args.rank (length (shown es.items)) ≡ Some c.in-Some-event_in.event.now =
+    ap (readable_at view c.args.rank) (sym n) ∙ ap readable_of (c.in-Some.ensures.cells c.len.result (omega arith)) ∙ sym c.event_in.ensures.event ∙ ap option_copied c.in-Some-event_in.is in
     record {
-      each = rw (c.in_ok-push.ensures.items, shown-push) (push_each (event_at view c.args.rank) (shown es.items) c.in-Some-event_in.event.now c.loop-event.invariant.each here);
+      each = rw (c.in_ok-push.ensures.items, shown-push) (push_each (readable_at view c.args.rank) (shown es.items) c.in-Some-event_in.event.now c.loop-event.invariant.each here);
       within = omega (arith, c.in-Some-event_in.ensures.range refl);
     }
 
@@ -56,5 +56,5 @@ returns c =
     let within = c.loop-event.invariant.within in
     events_are view c.args.rank (shown es.items) (record {
       each = c.loop-event.invariant.each;
-      end = ap (event_at view c.args.rank) (sym n) ∙ ap event_of (c.in-Some.ensures.cells c.len.result (omega arith)) ∙ sym c.event_in.ensures.event ∙ copied_none c.event_in.result c.in_default-event_in.not-Some;
+      end = ap (readable_at view c.args.rank) (sym n) ∙ ap readable_of (c.in-Some.ensures.cells c.len.result (omega arith)) ∙ sym c.event_in.ensures.event ∙ copied_none c.event_in.result c.in_default-event_in.not-Some;
     })

@@ -1,5 +1,5 @@
 use Rattle.std.proofs.Common.{sym, ◌∙◌, arith}
-use Rattle.trace_know.proofs.Counts.{whole, conflicts-most, conflict_left, none_left}
+use Rattle.trace_know.proofs.Counts.{whole, conflicts-most, conflict_left}
 use Rattle.trace_know.proofs.run.conflicts_behind.Goals as goal
 
 pub overflow_add-conflicts : goal.overflow_add-conflicts

@@ -1,8 +1,7 @@
 use Rattle.std.proofs.Common.{◌++◌}
 use Rattle.trace_ops.specs.Calls.{calls_of}
-use Rattle.trace_ops.specs.Message.{message_of}
 use Rattle.trace_ops.specs.RankOps.{ops_by}
-use Rattle.trace_ops.proofs.Growing.{goes_on, same_front, receives_more}
+use Rattle.trace_ops.proofs.Growing.{goes_on, sends_more, receives_more}
 use Rattle.trace_ops.proofs.Owned.{own_of, all_own}
 use Rattle.trace_ops.proofs.laws.ops_laws.Goals as goal
 
@@ -15,6 +14,6 @@ returns-clause-all c layout view = all_own layout view 0 layout.ranks
 pub returns-clause-grow : goal.returns-clause-grow
 unfolding ops_by
 returns-clause-grow c layout rank one other events more = record {
-  sends = same_front (message_of layout rank) 0 (calls_of events) (calls_of (events ++ more)) (goes_on events more);
+  sends = sends_more layout rank 0 (calls_of events) (calls_of (events ++ more)) (goes_on events more);
   receives = receives_more layout rank 0 (calls_of events) (calls_of (events ++ more)) (goes_on events more);
 }

@@ -1,12 +1,20 @@
-use Rattle.std.proofs.Common.{◌∙◌}
+use Rattle.std.proofs.Common.{◌∙◌, sym}
+use Rattle.trace_ops.specs.Groups.{plain}
+use Rattle.trace_ops.specs.Request.{posted_by}
 use Rattle.trace_ops.proofs.Cases.{of_send, of_isend, of_exchange}
 use Rattle.trace_ops.proofs.message.sent_by.Goals as goal
 
-pub returns-in-Sendrecv : goal.returns-in-Sendrecv
-returns-in-Sendrecv c = c.sent_with-in-Sendrecv.ensures ∙ of_exchange c.args.layout.now c.args.rank c.args.n c.args.call.now c.in-Sendrecv.both c.send.result c.in-Sendrecv.is c.send.ensures.value
-
 pub returns-in-Send : goal.returns-in-Send
-returns-in-Send c = c.sent_with.ensures ∙ of_send c.args.layout.now c.args.rank c.args.n c.args.call.now c.in-Send.mode c.in-Send.e c.envelope.result c.in-Send.is c.envelope.ensures.value
+returns-in-Send c later f =
+    c.sent_with.ensures ∙ of_send (plain c.args.group) c.args.rank c.args.n c.args.called.now later c.envelope.result c.args.called.now.call c.in-Send.mode c.in-Send.e
+    (sym c.call.ensures ∙ c.in-Send.is) c.envelope.ensures.value
 
 pub returns-in-Isend : goal.returns-in-Isend
-returns-in-Isend c = c.sent_with-in-Isend.ensures ∙ of_isend c.args.layout.now c.args.rank c.args.n c.args.call.now c.in-Isend.mode c.in-Isend.e c.envelope-in-Isend.result c.in-Isend.is c.envelope-in-Isend.ensures.value
+returns-in-Isend c later f =
+    c.sent_with-in-Isend.ensures ∙ of_isend (plain c.args.group) c.args.rank c.args.n c.args.called.now later c.envelope-in-Isend.result c.trust_of_post-trust.result c.args.called.now.call c.in-Isend.mode c.in-Isend.e
+    (sym c.call.ensures ∙ c.in-Isend.is) c.envelope-in-Isend.ensures.value (c.trust_of_post-trust.ensures later (posted_by c.args.called.now) f)
+
+pub returns-in-Sendrecv : goal.returns-in-Sendrecv
+returns-in-Sendrecv c later f =
+    c.sent_with-in-Sendrecv.ensures ∙ of_exchange (plain c.args.group) c.args.rank c.args.n c.args.called.now later c.send-e.result c.args.called.now.call c.in-Sendrecv.both
+    (sym c.call.ensures ∙ c.in-Sendrecv.is) c.send-e.ensures.value

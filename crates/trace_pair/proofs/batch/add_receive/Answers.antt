@@ -2,12 +2,14 @@ use Rattle.std.proofs.Common.{ℕ, Option, refl, rules, subst, sym, ◌<◌, len
 use Rattle.std.specs.Prelude.{IfSome}
 use Rattle.trace_pair.specs.Settled.{IsTakenAt}
 use Rattle.trace_pair.specs.declared.batch.Batch.{Batch}
-use Rattle.trace_pair.proofs.Moves.{told_of}
-use Rattle.trace_pair.proofs.Settling.{adds_taken, adds_open, adds_untold}
+use Rattle.trace_pair.proofs.Settling.{adds_taken, adds_free, adds_open, adds_void}
 use Rattle.trace_pair.proofs.batch.add_receive.Goals as goal
 
-pub returns-then-is_none : goal.returns-then-is_none
-returns-then-is_none c = λ ms qs more adds s. adds_untold ms qs more c.args.q adds c.args.batch.now c.args.batch.now refl s _ (search rules) c.in_ok-insert.ensures
+pub returns-then-is_open : goal.returns-then-is_open
+returns-then-is_open c = λ ms qs more adds s. adds_open ms qs more c.args.q adds c.args.batch.now c.args.batch.now refl s _ (search rules) c.in_ok-insert.ensures
+
+pub returns-then-not-is_settled : goal.returns-then-not-is_settled
+returns-then-not-is_settled c = λ ms qs more adds s. adds_void ms qs more c.args.q adds c.args.batch.now c.args.batch.now refl s (search rules) (search rules)
 
 pub take-requires : goal.take-requires
 take-requires c =
@@ -22,4 +24,4 @@ returns-in_ok-take-in-Some c = λ ms qs more adds s.
 pub returns-in_ok-insert-in-None : goal.returns-in_ok-insert-in-None
 returns-in_ok-insert-in-None c = λ ms qs more adds s.
     let found = subst (λ (o : Option ℕ). IsTakenAt ms qs c.args.batch.now.messages c.args.q o) c.in-None.is (c.in_ok-place.ensures.found ms qs s) in
-    adds_open ms qs more c.args.q adds c.taken_by.new.batch c.args.batch.now c.taken_by.ensures.kept s _ (told_of c.args.q.source (search rules)) found c.in_ok-insert-in-None.ensures
+    adds_free ms qs more c.args.q adds c.taken_by.new.batch c.args.batch.now c.taken_by.ensures.kept s _ (search rules) found c.in_ok-insert-in-None.ensures

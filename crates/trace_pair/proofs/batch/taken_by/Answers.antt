@@ -1,22 +1,27 @@
-use Rattle.std.proofs.Common.{ℕ, Option, subst, ◌∙◌, ap}
+use Rattle.std.proofs.Common.{ℕ, Option, subst, sym, ◌∙◌, ap}
 use Rattle.trace_pair.specs.Waiting.{Takings, IsFirstPlace}
-use Rattle.trace_pair.proofs.Settling.{untold_at, open_at, taken_at}
+use Rattle.trace_pair.proofs.Settling.{not_sure_at, open_at, free_at, taken_at}
 use Rattle.trace_pair.proofs.batch.taken_by.Goals as goal
+
+pub returns-then-not-is_sure-clause-found : goal.returns-then-not-is_sure-clause-found
+returns-then-not-is_sure-clause-found c = λ ms qs s.
+    let first = subst (λ (o : Option ℕ). IsFirstPlace c.args.batch.now.messages c.args.q.now o) c.in-Some.is c.in_ok-place.ensures.first in
+    not_sure_at ms qs c.args.batch.now s c.args.q.now c.in-Some.place c.messages.result.now _ first (c.messages.ensures ∙ ap (λ (t : Takings). t.messages) c.first_for.ensures.kept) (sym c.is_sure.ensures ∙ c.if-not-is_sure.true)
 
 pub returns-in-Some-first_for-clause-found : goal.returns-in-Some-first_for-clause-found
 returns-in-Some-first_for-clause-found c = λ ms qs s.
     let first = subst (λ (o : Option ℕ). IsFirstPlace c.args.batch.now.messages c.args.q.now o) c.in-Some.is c.in_ok-place.ensures.first in
-    untold_at ms qs c.args.batch.now s c.args.q.now c.in-Some.place c.messages.result.now _ first (c.messages.ensures ∙ ap (λ (t : Takings). t.messages) c.first_for.ensures.kept)
+    open_at ms qs c.args.batch.now s c.args.q.now c.in-Some.place c.messages.result.now _ first (c.messages.ensures ∙ ap (λ (t : Takings). t.messages) c.first_for.ensures.kept)
     c.in-Some-first_for.field-0 c.in-Some-first_for.ensures.some
 
 pub returns-in-Some-first_for-2-clause-found : goal.returns-in-Some-first_for-2-clause-found
 returns-in-Some-first_for-2-clause-found c = λ ms qs s.
     let first = subst (λ (o : Option ℕ). IsFirstPlace c.args.batch.now.messages c.args.q.now o) c.in-Some.is c.in_ok-place.ensures.first in
-    open_at ms qs c.args.batch.now s c.args.q.now c.in-Some.place c.messages.result.now _ first (c.messages.ensures ∙ ap (λ (t : Takings). t.messages) c.first_for.ensures.kept)
+    free_at ms qs c.args.batch.now s c.args.q.now c.in-Some.place c.messages.result.now _ first (c.messages.ensures ∙ ap (λ (t : Takings). t.messages) c.first_for.ensures.kept)
     c.in-Some-first_for-2.field-0 c.in-Some-first_for-2.ensures.some
 
 pub returns-clause-found : goal.returns-clause-found
 returns-clause-found c = λ ms qs s.
     let first = subst (λ (o : Option ℕ). IsFirstPlace c.args.batch.now.messages c.args.q.now o) c.in-Some.is c.in_ok-place.ensures.first in
-    taken_at ms qs c.args.batch.now s c.args.q.now c.in-Some.place c.messages.result.now _ first (c.messages.ensures ∙ ap (λ (t : Takings). t.messages) c.first_for.ensures.kept) c.requires
+    taken_at ms qs c.args.batch.now s c.args.q.now c.in-Some.place c.messages.result.now _ first (c.messages.ensures ∙ ap (λ (t : Takings). t.messages) c.first_for.ensures.kept) c.requires (sym c.is_sure.ensures ∙ c.if-not-is_sure.false)
     c.in_default-first_for.ensures.none c.in_default-first_for-2.ensures.none

@@ -41,3 +41,15 @@ returns-clause-freed c = (refl, refl)
 pub returns-clause-two_communicators : goal.returns-clause-two_communicators
 unfolding paired paired_below obeys
 returns-clause-two_communicators c = refl
+
+pub returns-clause-cancelled_receive : goal.returns-clause-cancelled_receive
+unfolding paired paired_below obeys
+returns-clause-cancelled_receive c = refl
+
+pub returns-clause-told_cancelled : goal.returns-clause-told_cancelled
+unfolding paired paired_below obeys
+returns-clause-told_cancelled c = (refl, refl, refl)
+
+pub returns-clause-cancelled_message : goal.returns-clause-cancelled_message
+unfolding paired paired_below obeys
+returns-clause-cancelled_message c = (refl, refl)

@@ -1,4 +1,4 @@
 use Rattle.trace_pair.proofs.matched.add_receive.Goals as goal
 
 pub returns : goal.returns
-returns c = λ ms qs more adds held. c.in_ok-push_receive.ensures ms qs more adds (c.expect_told.ensures ms qs held)
+returns c = λ ms qs more adds held. c.in_ok-push_receive.ensures ms qs more adds (c.expect_settled.ensures ms qs held)

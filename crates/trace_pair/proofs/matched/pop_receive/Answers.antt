@@ -1,11 +1,11 @@
 use Rattle.std.proofs.Common.{rules}
 use Rattle.trace_pair.proofs.Known.{known_receive}
-use Rattle.trace_pair.proofs.Moves.{pop_receive_untold, pop_receive_coupled, pop_receive_open, told_of}
+use Rattle.trace_pair.proofs.Moves.{pop_receive_open, pop_receive_coupled, pop_receive_free}
 use Rattle.trace_pair.proofs.matched.pop_receive.Goals as goal
 
-pub returns-then-is_none : goal.returns-then-is_none
-returns-then-is_none c = λ ms qs more adds held.
-    pop_receive_untold ms qs more c.args.q.now adds _ _ _ _ held _ (search rules) c.remove.ensures
+pub returns-then-is_open : goal.returns-then-is_open
+returns-then-is_open c = λ ms qs more adds held.
+    pop_receive_open ms qs more c.args.q.now adds _ _ _ _ held _ (search rules) c.remove.ensures
 
 pub returns-in_ok-insert-in-Some : goal.returns-in_ok-insert-in-Some
 returns-in_ok-insert-in-Some c = λ ms qs more adds held.
@@ -14,4 +14,4 @@ returns-in_ok-insert-in-Some c = λ ms qs more adds held.
 
 pub returns-in-None : goal.returns-in-None
 returns-in-None c = λ ms qs more adds held.
-    pop_receive_open ms qs more c.args.q.now adds _ _ _ _ held _ (told_of c.args.q.now.source (search rules)) c.in-None.ensures.none c.remove-in-None.ensures
+    pop_receive_free ms qs more c.args.q.now adds _ _ _ _ held _ (search rules) c.in-None.ensures.none c.remove-in-None.ensures

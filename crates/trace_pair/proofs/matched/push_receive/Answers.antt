@@ -1,11 +1,15 @@
 use Rattle.std.proofs.Common.{rules}
 use Rattle.trace_pair.proofs.Known.{new_receive}
-use Rattle.trace_pair.proofs.Moves.{push_receive_untold, push_receive_coupled, push_receive_open, told_of}
+use Rattle.trace_pair.proofs.Moves.{push_receive_open, push_receive_coupled, push_receive_free, push_receive_void}
 use Rattle.trace_pair.proofs.matched.push_receive.Goals as goal
 
-pub returns-then-is_none : goal.returns-then-is_none
-returns-then-is_none c = λ ms qs more adds held.
-    push_receive_untold ms qs more c.args.q adds _ _ _ _ held _ (search rules) c.in_ok-insert.ensures
+pub returns-then-is_open : goal.returns-then-is_open
+returns-then-is_open c = λ ms qs more adds held.
+    push_receive_open ms qs more c.args.q adds _ _ _ _ held _ (search rules) c.in_ok-insert.ensures
+
+pub returns-then-not-is_settled : goal.returns-then-not-is_settled
+returns-then-not-is_settled c = λ ms qs more adds held.
+    push_receive_void ms qs more c.args.q adds _ _ _ _ held (search rules) (search rules)
 
 pub returns-in_ok-insert-in-Some : goal.returns-in_ok-insert-in-Some
 returns-in_ok-insert-in-Some c = λ ms qs more adds held.
@@ -15,4 +19,4 @@ returns-in_ok-insert-in-Some c = λ ms qs more adds held.
 
 pub returns-in_ok-insert-in-None : goal.returns-in_ok-insert-in-None
 returns-in_ok-insert-in-None c = λ ms qs more adds held.
-    push_receive_open ms qs more c.args.q adds _ _ _ _ held _ (told_of c.args.q.source (search rules)) (c.in-None.ensures.none ms qs held) c.in_ok-insert-in-None.ensures
+    push_receive_free ms qs more c.args.q adds _ _ _ _ held _ (search rules) (c.in-None.ensures.none ms qs held) c.in_ok-insert-in-None.ensures

@@ -1,6 +1,6 @@
 use Rattle.std.proofs.Common.{map, ◌∙◌, ap, sym, subst}
 use Rattle.trace_ops.specs.Ops.{Ops}
-use Rattle.trace_ops.specs.Order.{AreInOrder, ArePosted}
+use Rattle.trace_ops.specs.Order.{AreCalledInOrder, AreInOrder, ArePosted}
 use Rattle.trace_wait.proofs.Searches.{own_at}
 use Rattle.std.specs.Option.{option_map}
 use Rattle.trace_stuck.specs.Shape.{shape}
@@ -16,8 +16,12 @@ loop-r-preserved c =
 
 pub condition_of-requires-clause-sends : goal.condition_of-requires-clause-sends
 condition_of-requires-clause-sends c =
-    subst (λ (o : Ops). AreInOrder o.sends) (sym c.index-ops-r.is) (own_at 0 c.args.ops.now c.loop-r.r c.index-ops-r.result c.requires.own c.loop-r-test.true).0
+    subst (λ (o : Ops). AreInOrder o.sends) (sym c.index-ops-r.is) (own_at 0 c.args.ops.now c.loop-r.r c.index-ops-r.result c.requires.own c.loop-r-test.true).sends
 
 pub condition_of-requires-clause-receives : goal.condition_of-requires-clause-receives
 condition_of-requires-clause-receives c =
-    subst (λ (o : Ops). ArePosted o.receives) (sym c.index-ops-r.is) (own_at 0 c.args.ops.now c.loop-r.r c.index-ops-r.result c.requires.own c.loop-r-test.true).1
+    subst (λ (o : Ops). ArePosted o.receives) (sym c.index-ops-r.is) (own_at 0 c.args.ops.now c.loop-r.r c.index-ops-r.result c.requires.own c.loop-r-test.true).receives
+
+pub condition_of-requires-clause-cancelled : goal.condition_of-requires-clause-cancelled
+condition_of-requires-clause-cancelled c =
+    subst (λ (o : Ops). AreCalledInOrder o.cancelled) (sym c.index-ops-r.is) (own_at 0 c.args.ops.now c.loop-r.r c.index-ops-r.result c.requires.own c.loop-r-test.true).cancelled

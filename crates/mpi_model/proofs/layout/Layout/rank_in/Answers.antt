@@ -8,6 +8,6 @@ pub place_of-requires : goal.place_of-requires
 place_of-requires c =
     let ranks = c.self.inside.ranks in
     let found : members_of c.self.inside.comms.items c.args.comm ≡ Some c.in_ok-members_in.field-0.now = search rules in
-    let group : IsGroup ranks c.in_ok-members_in.field-0.now = subst (λ m. IfSome m (IsGroup ranks)) found (named_group ranks c.self.inside.comms.items c.args.comm c.self.invariant.groups) in
+    let group : IsGroup ranks c.in_ok-members_in.field-0.now = subst (λ m. IfSome m (IsGroup ranks)) found (named_group ranks c.self.inside.comms.items c.args.comm c.self.invariant.0.groups) in
     let few = small_group ranks c.in_ok-members_in.field-0.now group in
-    omega (arith, few, c.self.invariant.few_ranks)
+    omega (arith, few, c.self.invariant.0.few_ranks)

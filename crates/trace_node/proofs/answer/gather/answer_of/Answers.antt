@@ -9,6 +9,7 @@ returns c =
       sends = c.sends.ensures;
       prefixes = c.in_ok-reading.ensures.prefixes;
       beyond = c.in_ok-reading.ensures.beyond;
+      unread = c.in_ok-reading.ensures.unread;
       conflicts = c.in_ok-reading.ensures.conflicts;
       pairs = c.matching_of.ensures.pairs ∙ ap (λ (t : Table). t.pairs) c.requires.table;
       postponed = c.matching_of.ensures.postponed ∙ ap (λ (t : Table). t.postponed) c.requires.table;

@@ -1,4 +1,4 @@
-use Rattle.std.proofs.Common.{◌≡◌, ◌∙◌, ap, sym, List, [], Some, get_or}
+use Rattle.std.proofs.Common.{◌∙◌, ap, sym, List, []}
 use Rattle.std.specs.Prelude.{slice_get}
 use Rattle.std.specs.Option.{option_map}
 use Rattle.mpi_model.specs.declared.message.Message.{Message}

@@ -1,4 +1,4 @@
-use Rattle.std.proofs.Common.{Option, ℕ, subst}
+use Rattle.std.proofs.Common.{subst}
 use Rattle.trace_pair.specs.Waiting.{Takings, IsFirstPlace}
 use Rattle.trace_pair.proofs.Offered.{queue_passed, first_in_queue}
 use Rattle.trace_pair.proofs.Queued.{queue}

@@ -1,4 +1,4 @@
-use Rattle.std.proofs.Common.{List, Option, None, subst, ap, ◌∙◌, length}
+use Rattle.std.proofs.Common.{List, None, subst, ap, ◌∙◌, length}
 use Rattle.std.specs.Prelude.{replicate}
 use Rattle.mpi_model.specs.declared.message.Message.{Message}
 use Rattle.trace_pair.specs.KeyOrders.{queue_cmp, queue_of}

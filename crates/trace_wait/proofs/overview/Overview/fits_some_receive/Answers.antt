@@ -1,33 +1,23 @@
-use Rattle.std.specs.List.{list_any}
-use Rattle.mpi_model.specs.Fit.{fits}
+use Rattle.std.proofs.Common.{◌∙◌, ap, sym}
+use Rattle.std.specs.Prelude.{◌&&◌, not}
+use Rattle.mpi_model.specs.Fit.{envelopes_fit, fits}
+use Rattle.mpi_model.specs.Trusts.{is_void}
 use Rattle.trace_wait.specs.Matching.{unpaired_receives}
-use Rattle.trace_wait.proofs.Keys.{asked_as, any_any, any_tagged, from_any, from_tagged, any_fits, by_first, by_second, by_third, by_fourth}
+use Rattle.trace_wait.proofs.Keys.{all_pass, none_pass, any_same, fits_by_message}
 use Rattle.trace_wait.proofs.overview.Overview.fits_some_receive.Goals as goal
 
-pub returns-then-is_asked : goal.returns-then-is_asked
-returns-then-is_asked c =
+pub returns-then-not-is_void : goal.returns-then-not-is_void
+returns-then-not-is_void c =
     let m = c.args.m.now in
     let qs = unpaired_receives c.args.self.now.ops c.args.self.now.pairs in
-    by_first (asked_as qs (any_any m)) (asked_as qs (any_tagged m)) (asked_as qs (from_any m)) (asked_as qs (from_tagged m)) (list_any (λ q. fits m q) qs) (any_fits m qs)
-    c.is_asked.result c.is_asked.ensures c.if-is_asked.true
+    c.suits_some_receive.ensures
+    ∙ all_pass (λ q. envelopes_fit m q && not (is_void q.trust)) (not (is_void m.trust)) qs (ap not (sym c.is_void.ensures ∙ c.if-not-is_void.true))
+    ∙ any_same (λ q. (envelopes_fit m q && not (is_void q.trust)) && not (is_void m.trust)) (λ q. fits m q) (λ q. sym (fits_by_message m q)) qs
 
-pub returns-then-is_asked-2 : goal.returns-then-is_asked-2
-returns-then-is_asked-2 c =
+pub returns-else-not-is_void : goal.returns-else-not-is_void
+returns-else-not-is_void c =
     let m = c.args.m.now in
     let qs = unpaired_receives c.args.self.now.ops c.args.self.now.pairs in
-    by_second (asked_as qs (any_any m)) (asked_as qs (any_tagged m)) (asked_as qs (from_any m)) (asked_as qs (from_tagged m)) (list_any (λ q. fits m q) qs) (any_fits m qs)
-    c.is_asked.result c.is_asked-else-is_asked.result c.is_asked.ensures c.if-is_asked.false c.is_asked-else-is_asked.ensures c.if-is_asked-2.true
-
-pub returns-then-is_asked-3 : goal.returns-then-is_asked-3
-returns-then-is_asked-3 c =
-    let m = c.args.m.now in
-    let qs = unpaired_receives c.args.self.now.ops c.args.self.now.pairs in
-    by_third (asked_as qs (any_any m)) (asked_as qs (any_tagged m)) (asked_as qs (from_any m)) (asked_as qs (from_tagged m)) (list_any (λ q. fits m q) qs) (any_fits m qs)
-    c.is_asked.result c.is_asked-else-is_asked.result c.is_asked-else-is_asked-2.result c.is_asked.ensures c.if-is_asked.false c.is_asked-else-is_asked.ensures c.if-is_asked-2.false c.is_asked-else-is_asked-2.ensures c.if-is_asked-3.true
-
-pub returns-else-is_asked-3 : goal.returns-else-is_asked-3
-returns-else-is_asked-3 c =
-    let m = c.args.m.now in
-    let qs = unpaired_receives c.args.self.now.ops c.args.self.now.pairs in
-    by_fourth (asked_as qs (any_any m)) (asked_as qs (any_tagged m)) (asked_as qs (from_any m)) (asked_as qs (from_tagged m)) (list_any (λ q. fits m q) qs) (any_fits m qs)
-    c.is_asked.result c.is_asked-else-is_asked.result c.is_asked-else-is_asked-2.result c.is_asked-else-is_asked-3.result c.is_asked.ensures c.if-is_asked.false c.is_asked-else-is_asked.ensures c.if-is_asked-2.false c.is_asked-else-is_asked-2.ensures c.if-is_asked-3.false c.is_asked-else-is_asked-3.ensures
+    ap not c.if-not-is_void.false
+    ∙ none_pass (λ q. envelopes_fit m q && not (is_void q.trust)) (not (is_void m.trust)) qs (ap not (sym c.is_void.ensures ∙ c.if-not-is_void.false))
+    ∙ any_same (λ q. (envelopes_fit m q && not (is_void q.trust)) && not (is_void m.trust)) (λ q. fits m q) (λ q. sym (fits_by_message m q)) qs

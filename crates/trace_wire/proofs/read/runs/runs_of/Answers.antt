@@ -2,7 +2,7 @@ use Rattle.std.proofs.Common.{◌≡◌, ◌-◌, ◌+◌, ℕ, List, [], ◌++�
 use Rattle.std.specs.FinMap.{entries}
 use Rattle.trace_wire.specs.Cells.{Entry}
 use Rattle.trace_wire.specs.Parts.{run}
-use Rattle.trace_wire.specs.Runs.{behind, run_cells}
+use Rattle.trace_wire.specs.Runs.{run_cells}
 use Rattle.trace_wire.proofs.PartLoop.{cells_after, cells_at, ends, goes_on, is_done, starts}
 use Rattle.trace_wire.proofs.LastCells.{AllUpTo, up_to_before, past_all, entries_none, run_behind_all}
 use Rattle.trace_wire.proofs.read.runs.runs_of.Goals as goal

@@ -1,5 +1,4 @@
 use Rattle.std.proofs.Common.{◌≡◌, ℕ, ◌<◌, ◌^◌, ◌+◌, ◌-◌, ◌∷◌, List, take, drop, length, ap, arith, sym, subst, ◌∙◌}
-use Rattle.trace_know.specs.declared.cell.Known.{Known}
 use Rattle.trace_wire.specs.Cells.{Entry, known_bytes, knowns_bytes, knowns_of}
 use Rattle.trace_wire.specs.Sending.{Comes}
 use Rattle.trace_wire.proofs.Sending.{came, comes, next_item}

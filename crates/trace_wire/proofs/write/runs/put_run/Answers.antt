@@ -1,8 +1,8 @@
-use Rattle.std.proofs.Common.{◌≡◌, ◌+◌, ◌-◌, ◌∷◌, ◌++◌, List, take, drop, length, ap, arith, sym, subst, ◌∙◌}
+use Rattle.std.proofs.Common.{◌≡◌, ◌+◌, ◌-◌, ◌∷◌, List, ap, arith, sym, ◌∙◌}
 use Rattle.std.specs.Int.{w32}
 use Rattle.trace_wire.specs.Forms.{number}
-use Rattle.trace_wire.specs.Cells.{Entry, knowns_bytes, knowns_of}
-use Rattle.trace_wire.specs.Runs.{PlacedRun, runs_of}
+use Rattle.trace_wire.specs.Cells.{Entry}
+use Rattle.trace_wire.specs.Runs.{runs_of}
 use Rattle.trace_wire.proofs.Sending.{reads, then}
 use Rattle.trace_wire.proofs.WrittenRuns.{ahead, run_ahead}
 use Rattle.trace_wire.proofs.write.runs.put_run.Goals as goal

@@ -1,0 +1,4 @@
+pub mod Texts
+pub mod Seconds
+pub mod Ranges
+pub mod Words

@@ -1,0 +1,149 @@
+//! Calls.
+
+ghost use Rattle.std.specs.Prelude.{◌≡◌, length};
+ghost use Rattle.call_words.specs.Texts.{Adds};
+ghost use Rattle.call_words.specs.Words.{call_text, collective_name, collective_text, exchange_text, immediate_name, of_requests_text, on_text, one_root_text, probe_text, receive_text, root_text, send_name, send_text};
+
+use crate::envelopes::{put_comm, put_probed, put_received, put_sent};
+use crate::text::Text;
+use mpi_model::{Call, Collective, CommRef, Envelope, Exchange, Kind, Mode, ProbeEnvelope};
+
+fn send_name(mode: Mode) -> &'static [u8]
+    ensures { result.now ≡ send_name mode }
+{
+    match mode {
+        Mode::Standard => b"MPI_Send",
+        Mode::Synchronous => b"MPI_Ssend",
+        Mode::Buffered => b"MPI_Bsend",
+        Mode::Ready => b"MPI_Rsend",
+    }
+}
+
+fn immediate_name(mode: Mode) -> &'static [u8]
+    ensures { result.now ≡ immediate_name mode }
+{
+    match mode {
+        Mode::Standard => b"MPI_Isend",
+        Mode::Synchronous => b"MPI_Issend",
+        Mode::Buffered => b"MPI_Ibsend",
+        Mode::Ready => b"MPI_Irsend",
+    }
+}
+
+fn collective_name(kind: Kind) -> &'static [u8]
+    ensures { result.now ≡ collective_name kind }
+{
+    match kind {
+        Kind::Barrier => b"MPI_Barrier",
+        Kind::Bcast => b"MPI_Bcast",
+        Kind::Scatter => b"MPI_Scatter",
+        Kind::Gather => b"MPI_Gather",
+        Kind::Reduce => b"MPI_Reduce",
+        Kind::Allreduce => b"MPI_Allreduce",
+        Kind::Allgather => b"MPI_Allgather",
+        Kind::Alltoall => b"MPI_Alltoall",
+        Kind::Ibarrier => b"MPI_Ibarrier",
+    }
+}
+
+fn put_send(out: &mut Text, name: &[u8], envelope: Envelope)
+    ensures { Adds out.old out.new (send_text name.now envelope) }
+{
+    out.put(name);
+    put_sent(out, envelope);
+}
+
+fn put_receive(out: &mut Text, name: &[u8], envelope: Envelope)
+    ensures { Adds out.old out.new (receive_text name.now envelope) }
+{
+    out.put(name);
+    put_received(out, envelope);
+}
+
+fn put_probe(out: &mut Text, envelope: ProbeEnvelope)
+    ensures { Adds out.old out.new (probe_text envelope) }
+{
+    out.put(b"MPI_Probe");
+    put_probed(out, envelope);
+}
+
+fn put_exchange(out: &mut Text, exchange: Exchange)
+    ensures { Adds out.old out.new (exchange_text exchange) }
+{
+    out.put(b"MPI_Sendrecv");
+    put_sent(out, exchange.send());
+    out.put(b", and");
+    put_received(out, exchange.receive());
+}
+
+fn put_on(out: &mut Text, name: &[u8], comm: CommRef)
+    ensures { Adds out.old out.new (on_text name.now comm) }
+{
+    out.put(name);
+    out.put(b" on ");
+    put_comm(out, comm);
+}
+
+fn put_root(out: &mut Text, root: Option<u32>)
+    ensures { Adds out.old out.new (root_text root) }
+{
+    if let Some(root) = root {
+        put_one_root(out, root);
+    }
+}
+
+fn put_one_root(out: &mut Text, root: u32)
+    ensures { Adds out.old out.new (one_root_text root) }
+{
+    out.put(b", root ");
+    out.put_number(root as u64);
+}
+
+fn put_collective(out: &mut Text, call: Collective)
+    ensures { Adds out.old out.new (collective_text call) }
+{
+    put_on(out, collective_name(call.kind()), call.comm());
+    put_root(out, call.root());
+}
+
+fn put_of_requests(out: &mut Text, name: &[u8], count: usize)
+    ensures { Adds out.old out.new (of_requests_text name.now count) }
+{
+    out.put(name);
+    out.put(b" on ");
+    out.put_number(count as u64);
+    out.put(if count == 1 {
+        b" request"
+    } else {
+        b" requests"
+    });
+}
+
+/// A call by its function, with what it names. Peers and roots are ranks of the communicator, as in the trace.
+pub fn put_call(out: &mut Text, call: &Call)
+    ensures { Adds out.old out.new (call_text call.now) }
+{
+    match call {
+        Call::Local => out.put(b"a call of no other rank"),
+        Call::Finalize => out.put(b"MPI_Finalize"),
+        Call::Send(mode, envelope) => put_send(out, send_name(*mode), envelope.envelope()),
+        Call::Isend(mode, envelope) => put_send(out, immediate_name(*mode), envelope.envelope()),
+        Call::Recv(envelope) => put_receive(out, b"MPI_Recv", envelope.envelope()),
+        Call::Irecv(envelope) => put_receive(out, b"MPI_Irecv", envelope.envelope()),
+        Call::Sendrecv(exchange) => put_exchange(out, *exchange),
+        Call::Wait(_) => out.put(b"MPI_Wait on a request"),
+        Call::Waitall(list) => put_of_requests(out, b"MPI_Waitall", list.as_slice().len()),
+        Call::Waitany(list) => put_of_requests(out, b"MPI_Waitany", list.as_slice().len()),
+        Call::Waitsome(list) => put_of_requests(out, b"MPI_Waitsome", list.as_slice().len()),
+        Call::Test(_) => out.put(b"MPI_Test on a request"),
+        Call::Testall(list) => put_of_requests(out, b"MPI_Testall", list.as_slice().len()),
+        Call::Testany(list) => put_of_requests(out, b"MPI_Testany", list.as_slice().len()),
+        Call::Testsome(list) => put_of_requests(out, b"MPI_Testsome", list.as_slice().len()),
+        Call::Cancel(_) => out.put(b"MPI_Cancel on a request"),
+        Call::Free(_) => out.put(b"MPI_Request_free on a request"),
+        Call::Collective(call) => put_collective(out, *call),
+        Call::Probe(envelope) => put_probe(out, *envelope),
+        Call::Ibarrier(comm) => put_on(out, b"MPI_Ibarrier", comm.comm()),
+        Call::Unread => out.put(b"a call that is not read"),
+    }
+}

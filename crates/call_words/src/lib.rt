@@ -1,0 +1,21 @@
+//! Calls, times and ranks in words, for people who read them.
+//!
+//! All of it goes to a [`Text`] in memory, piece by piece. What each piece says is a definition of
+//! `specs/`, so what is built of them has its bytes proved.
+//!
+//! - [`text`]: a text that grows; [`seconds`]: times
+//! - [`ranges`]: ranks, neighbours joined into ranges, as `0 to 11, 13`
+//! - [`envelopes`], [`calls`]: a call with what it names, as
+//!   `MPI_Send to rank 1 of MPI_COMM_WORLD, tag 7, 65536 elements`
+#![tactic(auto)]
+
+mod calls;
+mod envelopes;
+mod ranges;
+mod seconds;
+mod text;
+
+pub use calls::put_call;
+pub use ranges::{Range, put_held, put_next, put_ranges};
+pub use seconds::put_seconds;
+pub use text::Text;

@@ -1,0 +1,15 @@
+use Rattle.std.proofs.Common.{ℕ, List, OnOk, sym, subst}
+use Rattle.std.specs.Io.KnownBytes.{Appends}
+use Rattle.command_runs.specs.Verbs.{BreaksOff, IsOutputOf}
+use Rattle.command_runs.proofs.run.run_with.Goals as goal
+
+pub returns-in-ReportJson-clause-output : goal.returns-in-ReportJson-clause-output
+returns-in-ReportJson-clause-output g c =
+    subst (λ v. OnOk c.json_with.result ((text : List ℕ) × IsOutputOf (g.O.Opener.file c.args.files.now) v c.args.layout.now c.args.manifest.now text
+    × Appends (g.W.Write.written c.args.out.now) (g.W.Write.written c.json_with.new.out) text)) (sym c.in-ReportJson.is) c.json_with.ensures.output
+
+pub returns-in-ReportJson-clause-broken_off : goal.returns-in-ReportJson-clause-broken_off
+returns-in-ReportJson-clause-broken_off g c = λ e.
+    subst (λ v. BreaksOff (g.O.Opener.file c.args.files.now) v c.args.layout.now c.args.manifest.now (g.W.Write.written c.args.out.now)
+    (g.W.Write.written c.json_with.new.out) (g.W.Write.failures c.args.out.now) (g.W.Write.failures c.json_with.new.out)) (sym c.in-ReportJson.is)
+    (c.json_with.ensures.broken_off e)

@@ -1,0 +1,191 @@
+//! What should make one doubt an answer.
+
+ghost use Rattle.std.specs.Prelude.{◌≡◌, IfOk, take};
+ghost use Rattle.std.specs.List.{flat_map};
+ghost use Rattle.call_words.specs.Texts.{Adds};
+ghost use Rattle.trace_explain.specs.Explained.{all_postponed_text, conflict_text, conflicts_text, doubts_text, foreign_text, gapped_below, gapped_text, is_gapped, is_unread, more_text, most_shown, postponed_text, side_text, some_foreign_text, some_ranks_text, unread_below, unread_text};
+
+use call_words::{Text, put_ranges};
+use mpi_model::OpName;
+use std::alloc::{AllocError, Global};
+use trace_node::Answer;
+
+/// How many lines of a kind are shown.
+const MOST_SHOWN: usize = 10;
+
+fn shown<X>(items: &[X]) -> &[X]
+    ensures { result.now ≡ take most_shown items.now }
+{
+    &items[..items.len().min(MOST_SHOWN)]
+}
+
+fn put_more(out: &mut Text, more: usize)
+    ensures { Adds out.old out.new (more_text more) }
+{
+    if more > 0 {
+        out.put(b"  and ");
+        out.put_number(more as u64);
+        out.put(b" more\n");
+    }
+}
+
+fn put_conflict(out: &mut Text, at: &(u32, u64))
+    ensures { Adds out.old out.new (conflict_text at.now) }
+{
+    out.put(b"  rank ");
+    out.put_number(at.0 as u64);
+    out.put(b": two pieces disagree on how call ");
+    out.put_number(at.1 / 2);
+    put_side(out, at.1);
+}
+
+fn put_side(out: &mut Text, place: u64)
+    ensures { Adds out.old out.new (side_text place) }
+{
+    if place % 2 == 0 {
+        out.put(b" was entered\n");
+    } else {
+        out.put(b" returned\n");
+    }
+}
+
+fn put_each_conflict(out: &mut Text, places: &[(u32, u64)])
+    ensures { Adds out.old out.new (flat_map conflict_text places.now) }
+{
+    for at in places {
+        put_conflict(out, at);
+    }
+}
+
+fn put_conflicts(out: &mut Text, places: &[(u32, u64)])
+    ensures { Adds out.old out.new (conflicts_text places.now) }
+{
+    put_each_conflict(out, shown(places));
+    put_more(out, places.len().saturating_sub(MOST_SHOWN));
+}
+
+fn put_postponed(out: &mut Text, name: &OpName)
+    ensures { Adds out.old out.new (postponed_text name.now) }
+{
+    out.put(b"  the message of rank ");
+    out.put_number(name.rank as u64);
+    out.put(b", call ");
+    out.put_number(name.call);
+    out.put(b", is left out: it may belong to a receive whose source no status tells\n");
+}
+
+fn put_each_postponed(out: &mut Text, names: &[OpName])
+    ensures { Adds out.old out.new (flat_map postponed_text names.now) }
+{
+    for name in names {
+        put_postponed(out, name);
+    }
+}
+
+fn put_all_postponed(out: &mut Text, names: &[OpName])
+    ensures { Adds out.old out.new (all_postponed_text names.now) }
+{
+    put_each_postponed(out, shown(names));
+    put_more(out, names.len().saturating_sub(MOST_SHOWN));
+}
+
+fn put_some(out: &mut Text, head: &[u8], ranks: &[u32])
+    ensures { Adds out.old out.new (some_ranks_text head.now ranks.now) }
+{
+    if !ranks.is_empty() {
+        out.put(head);
+        put_ranges(out, ranks);
+        out.put(b"\n");
+    }
+}
+
+/// The ranks of which nothing can be read.
+fn unread(alloc: Global, answer: &Answer) -> Result<Vec<u32>, AllocError>
+    ensures { IfOk result (λ ranks. ranks.items ≡ unread_below answer.now answer.now.ranks) }
+{
+    let mut ranks = Vec::new(alloc);
+    for rank in 0..answer.ranks() {
+        if is_unread(answer, rank) {
+            ranks.push(rank)?;
+        }
+    }
+    Ok(ranks)
+}
+
+fn is_unread(answer: &Answer, rank: u32) -> bool
+    ensures { result ≡ is_unread answer.now rank }
+{
+    answer.prefixes().get(rank as usize).copied().unwrap_or(0) == 0
+}
+
+/// The ranks of which more is known behind a gap or a contradiction.
+fn gapped(alloc: Global, answer: &Answer) -> Result<Vec<u32>, AllocError>
+    ensures { IfOk result (λ ranks. ranks.items ≡ gapped_below answer.now answer.now.ranks) }
+{
+    let mut ranks = Vec::new(alloc);
+    for rank in 0..answer.ranks() {
+        if is_gapped(answer, rank) {
+            ranks.push(rank)?;
+        }
+    }
+    Ok(ranks)
+}
+
+fn is_gapped(answer: &Answer, rank: u32) -> bool
+    ensures { result ≡ is_gapped answer.now rank }
+{
+    answer.beyond().get(rank as usize).copied().unwrap_or(false)
+}
+
+fn put_unread(alloc: Global, out: &mut Text, answer: &Answer)
+    ensures { Adds out.old out.new (unread_text answer.now) }
+{
+    match unread(alloc, answer) {
+        Ok(ranks) => put_some(out, b"  nothing can be read of ranks ", &ranks),
+        Err(_) => out.give_up(),
+    }
+}
+
+fn put_gapped(alloc: Global, out: &mut Text, answer: &Answer)
+    ensures { Adds out.old out.new (gapped_text answer.now) }
+{
+    match gapped(alloc, answer) {
+        Ok(ranks) => put_some(
+            out,
+            b"  behind a gap or a contradiction more is known, and not used, of ranks ",
+            &ranks,
+        ),
+        Err(_) => out.give_up(),
+    }
+}
+
+fn put_foreign(out: &mut Text, foreign: u64)
+    ensures { Adds out.old out.new (foreign_text foreign) }
+{
+    if foreign > 0 {
+        put_some_foreign(out, foreign);
+    }
+}
+
+fn put_some_foreign(out: &mut Text, foreign: u64)
+    ensures { Adds out.old out.new (some_foreign_text foreign) }
+{
+    out.put(
+        b"  calls that name a communicator, a root or a peer that the layout doesn't have, and count as local: ",
+    );
+    out.put_number(foreign);
+    out.put(b"\n");
+}
+
+/// What should make one doubt the answer.
+pub(crate) fn put_doubts(alloc: Global, out: &mut Text, answer: &Answer)
+    ensures { Adds out.old out.new (doubts_text answer.now) }
+{
+    out.put(b"\nWhat should make one doubt this:\n");
+    put_unread(alloc, out, answer);
+    put_gapped(alloc, out, answer);
+    put_conflicts(out, answer.conflicts());
+    put_all_postponed(out, answer.postponed());
+    put_foreign(out, answer.foreign());
+    out.put(b"  calls of functions that mpimatch doesn't know count as local\n");
+}

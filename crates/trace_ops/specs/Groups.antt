@@ -1,0 +1,6 @@
+-- Groups as the code has them.
+use Rattle.trace_ops.specs.declared.group.Group.{Group as Lent}
+use Rattle.trace_ops.specs.Foreign.{Group}
+
+abbrev pub plain : Lent → Group
+plain g = record { comm = g.comm; members = g.members.now }

@@ -1,0 +1,141 @@
+//! What becomes of a request, by the calls behind the one that posted it.
+
+ghost use Rattle.std.specs.Prelude.{◌≡◌, ℤ, Option, List, drop, slice_get};
+ghost use Rattle.indexmap.specs.IndexMap.{get};
+ghost use Rattle.std.specs.Ordering.{int_eq};
+ghost use Rattle.trace_ops.specs.Calls.{Entry};
+ghost use Rattle.trace_ops.specs.Fate.{IsFateOf, TellsFate};
+ghost use Rattle.trace_ops.specs.Request.{posted_by};
+ghost use Rattle.trace_ops.specs.Source.{source_in, told_at, told_in, told_of_post};
+ghost use Rattle.trace_ops.specs.Touched.{Follows, completed_at, is_marked, is_void_end, tellings_of};
+
+use crate::called::Called;
+use crate::completed::Completed;
+use crate::touched::{End, Touch, Touched, end_of, touch_of};
+
+/// What the calls behind a post tell of the request that it posted.
+#[derive(Clone, Copy, Debug)]
+pub(crate) struct Fate<'a> {
+    pub request: i64,
+    /// Whether one of them completes it, frees it or posts its number anew.
+    pub ended: bool,
+    /// Whether a Cancel names it before that.
+    pub cancelled: bool,
+    /// Whether its outcome says that it was cancelled.
+    pub void: bool,
+    /// The completions of its outcome, from the first on that may tell its source.
+    pub tellings: &'a [Completed],
+}
+
+fn told_at(members: &[u32], x: i64, completed: &Completed) -> Option<u32>
+    ensures { result ≡ told_at members.now x completed.now }
+{
+    if completed.request == x {
+        source_in(members, completed.told.rank())
+    } else {
+        None
+    }
+}
+
+/// What the completions tell of the number.
+fn told_in(members: &[u32], x: i64, done: &[Completed]) -> Option<u32>
+    ensures { result ≡ told_in members.now x done.now }
+{
+    for completed in done {
+        let told = told_at(members, x, completed);
+        if told.is_some() {
+            return told;
+        }
+    }
+    None
+}
+
+/// The rank of the trace that a told number names in the group.
+pub(crate) fn source_in(members: &[u32], told: Option<u32>) -> Option<u32>
+    ensures { result ≡ source_in members.now told }
+{
+    members.get(told? as usize).copied()
+}
+
+fn is_marked(touch: Option<Touch>) -> bool
+    ensures { result ≡ is_marked touch }
+{
+    match touch {
+        Some(touch) => touch.cancelled,
+        None => false,
+    }
+}
+
+fn is_void_end(end: Option<End>) -> bool
+    ensures { result ≡ is_void_end end }
+{
+    match end {
+        Some(end) => end.void,
+        None => false,
+    }
+}
+
+fn completed_at<'a>(calls: &'a [Called<'_>], call: usize) -> &'a [Completed]
+    ensures { result.now ≡ completed_at (slice_get calls.now call) }
+{
+    if call < calls.len() {
+        calls[call].completed()
+    } else {
+        &[]
+    }
+}
+
+/// The completions from a place on.
+fn tail_of(done: &[Completed], place: usize) -> &[Completed]
+    ensures { result.now ≡ drop place done.now }
+{
+    if place < done.len() {
+        &done[place..]
+    } else {
+        &[]
+    }
+}
+
+fn tellings_of<'a>(calls: &'a [Called<'_>], end: Option<End>) -> &'a [Completed]
+    ensures { result.now ≡ tellings_of calls.now end }
+{
+    match end {
+        Some(end) => tail_of(completed_at(calls, end.call), end.place),
+        None => &[],
+    }
+}
+
+/// What becomes of the request of this number, where `touched` follows the calls behind its post.
+fn fate_by<'a>(touched: &Touched, calls: &'a [Called<'_>], request: i64) -> Fate<'a>
+    ensures { (later : List Entry) → Follows calls.now later (get int_eq touched.now) → TellsFate request later result }
+{
+    let touch = touch_of(touched, request);
+    let end = end_of(touch);
+    Fate {
+        request,
+        ended: end.is_some(),
+        cancelled: is_marked(touch),
+        void: is_void_end(end),
+        tellings: tellings_of(calls, end),
+    }
+}
+
+/// What becomes of the request that the call posts, where `touched` follows the calls behind it.
+pub(crate) fn fate_of<'a>(
+    touched: &Touched,
+    calls: &'a [Called<'_>],
+    called: &Called<'_>,
+) -> Option<Fate<'a>>
+    ensures { (later : List Entry) → Follows calls.now later (get int_eq touched.now) → IsFateOf (posted_by called.now) later result }
+{
+    let request = called.posted()?;
+    Some(fate_by(touched, calls, request))
+}
+
+/// What is told of the source of an Irecv, by the fate of its request.
+pub(crate) fn told_of_post(members: &[u32], fate: Option<Fate<'_>>) -> Option<u32>
+    ensures { (later : List Entry) (posted : Option ℤ) → IsFateOf posted later fate.entry → result ≡ told_of_post members.now later posted }
+{
+    let fate = fate?;
+    told_in(members, fate.request, fate.tellings)
+}

@@ -1,0 +1,9 @@
+use Rattle.std.proofs.Common.{ap, decimal, ◌∙◌}
+use Rattle.trace_report.specs.Words.{sends_word}
+use Rattle.trace_report.proofs.Printing.{then, reads}
+use Rattle.trace_report.proofs.json.put_head.Goals as goal
+
+pub returns : goal.returns
+returns g c =
+    then (then (then (then c.put.ensures (reads c.put_number.ensures (ap decimal c.ranks.ensures))) c.put-2.ensures)
+    (reads c.put-3.ensures (c.sends_word.ensures ∙ ap sends_word c.sends.ensures))) c.put-4.ensures

@@ -1,0 +1,143 @@
+//! The objects of contradictions, pairs, postponed messages, rounds and stuck ranks.
+
+ghost use Rattle.trace_report.specs.Json.{complete_fields, kind_fields, open_fields, root_value, standing_fields};
+ghost use Rattle.trace_report.specs.Page.{Prints};
+
+use crate::form::Form;
+use crate::json::array::Value;
+use crate::json::ranks::bool_text;
+use crate::seconds::put_seconds;
+use crate::sink::Sink;
+use crate::waits::put_wait;
+use crate::words::{kind_word, put_number};
+use mpi_model::{Kind, OpName};
+use trace_node::Stuck;
+use trace_pair::Pair;
+use trace_wait::{Round, Standing};
+
+impl Value for (u32, u64) {
+    ghost use Rattle.trace_report.specs.Json.{conflict_object};
+
+    ghost value = { conflict_object };
+
+    fn put<S: Sink>(&self, out: &mut S) {
+        out.put(b"{\"rank\":");
+        put_number(out, self.0 as u64);
+        out.put(b",\"place\":");
+        put_number(out, self.1);
+        out.put(b"}");
+    }
+}
+
+impl Value for OpName {
+    ghost use Rattle.trace_report.specs.Json.{name_object};
+
+    ghost value = { name_object };
+
+    fn put<S: Sink>(&self, out: &mut S) {
+        out.put(b"{\"rank\":");
+        put_number(out, self.rank as u64);
+        out.put(b",\"call\":");
+        put_number(out, self.call);
+        out.put(b"}");
+    }
+}
+
+impl Value for Pair {
+    ghost use Rattle.trace_report.specs.Json.{pair_object};
+
+    ghost value = { pair_object };
+
+    fn put<S: Sink>(&self, out: &mut S) {
+        out.put(b"{\"message\":");
+        self.message.put(out);
+        out.put(b",\"receive\":");
+        self.receive.put(out);
+        out.put(b",\"over\":");
+        out.put(bool_text(self.over));
+        out.put(b"}");
+    }
+}
+
+impl Value for Round {
+    ghost use Rattle.trace_report.specs.Json.{round_object};
+
+    ghost value = { round_object };
+
+    fn put<S: Sink>(&self, out: &mut S) {
+        out.put(b"{\"comm\":");
+        put_number(out, self.comm as u64);
+        out.put(b",\"k\":");
+        put_number(out, self.k);
+        out.put(b",\"standing\":\"");
+        put_standing(out, self.standing);
+        out.put(b"}");
+    }
+}
+
+impl Value for Stuck {
+    ghost use Rattle.trace_node.specs.Stopped.{stopped};
+    ghost use Rattle.trace_report.specs.Json.{stuck_object};
+
+    ghost value = { λ s. stuck_object (stopped s) };
+
+    fn put<S: Sink>(&self, out: &mut S) {
+        out.put(b"{\"rank\":");
+        put_number(out, self.rank as u64);
+        out.put(b",\"call\":");
+        put_number(out, self.call);
+        out.put(b",\"since\":\"");
+        put_seconds(out, self.wall);
+        out.put(b"\",\"waits\":");
+        put_wait(out, Form::Json, &self.waits);
+        out.put(b"}");
+    }
+}
+
+fn put_standing<S: Sink>(out: &mut S, standing: Standing)
+    ensures { Prints (S.page out.old) (S.page out.new) (standing_fields standing) }
+{
+    match standing {
+        Standing::Mismatched => out.put(b"mismatched\""),
+        Standing::Complete(kind, root) => put_complete(out, kind, root),
+        Standing::Partial(kind, root, entered, members) => {
+            put_open(out, kind, root, entered, members)
+        }
+    }
+}
+
+fn put_complete<S: Sink>(out: &mut S, kind: Kind, root: Option<u32>)
+    ensures { Prints (S.page out.old) (S.page out.new) (complete_fields kind root) }
+{
+    out.put(b"complete\"");
+    put_kind(out, kind, root);
+}
+
+fn put_open<S: Sink>(out: &mut S, kind: Kind, root: Option<u32>, entered: u32, members: u32)
+    ensures { Prints (S.page out.old) (S.page out.new) (open_fields kind root entered members) }
+{
+    out.put(b"open\"");
+    put_kind(out, kind, root);
+    out.put(b",\"entered\":");
+    put_number(out, entered as u64);
+    out.put(b",\"members\":");
+    put_number(out, members as u64);
+}
+
+fn put_kind<S: Sink>(out: &mut S, kind: Kind, root: Option<u32>)
+    ensures { Prints (S.page out.old) (S.page out.new) (kind_fields kind root) }
+{
+    out.put(b",\"kind\":\"");
+    out.put(kind_word(kind));
+    out.put(b"\",\"root\":");
+    put_root(out, root);
+}
+
+fn put_root<S: Sink>(out: &mut S, root: Option<u32>)
+    ensures { Prints (S.page out.old) (S.page out.new) (root_value root) }
+{
+    match root {
+        Some(root) => put_number(out, root as u64),
+        None => out.put(b"null"),
+    }
+}
