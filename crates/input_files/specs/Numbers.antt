@@ -18,7 +18,7 @@ stretch_from (Some number) (Some first) (Some end) = Some (record { number = num
 
 -- a number, the first call and the end
 abbrev pub stretch_in : Items → Option Stretch
-stretch_in (item number (item first (item end no_items))) = stretch_from (u32_in number) (u64_in first) (end_in end)
+stretch_in (item named (item first (item end no_items))) = stretch_from (u32_in named) (u64_in first) (end_in end)
 stretch_in values = None
 
 abbrev pub number_from : Option Items → Option ℕ → Option Stretch
