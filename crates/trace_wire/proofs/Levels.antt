@@ -1,5 +1,5 @@
 -- Levels of joined knowledge.
-use Rattle.std.proofs.Common.{◌≡◌, List, [], ◌∷◌, ◌++◌, refl, sym, ap, ◌∙◌}
+use Rattle.std.proofs.Common.{◌≡◌, List, [], ◌∷◌, ◌++◌, sym, ap, ◌∙◌}
 use Rattle.std.specs.FinMap.{empty}
 use Rattle.trace_know.specs.View.{View, join}
 use Rattle.trace_wire.specs.declared.packed.joining.Level.{Level}

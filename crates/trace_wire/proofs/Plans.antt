@@ -1,5 +1,5 @@
 -- Parts, found cell by cell.
-use Rattle.std.proofs.Common.{◌≡◌, ℕ, suc, ◌+◌, ◌*◌, ◌-◌, ◌^◌, ◌<◌, ◌≤◌, Bool, true, false, cond, eqb, ltb, List, [], ◌∷◌, ◌++◌, length, map, refl, sym, ap, subst, ◌∙◌, append_assoc, inl, inr, ◌⊎◌, arith}
+use Rattle.std.proofs.Common.{◌≡◌, ℕ, suc, ◌+◌, ◌*◌, ◌-◌, ◌^◌, ◌<◌, ◌≤◌, Bool, true, false, cond, eqb, ltb, List, [], ◌∷◌, ◌++◌, length, map, refl, sym, ap, subst, ◌∙◌, append_assoc, inl, inr, arith}
 use Rattle.std.specs.Prelude.{min}
 use Rattle.std.proofs.lemmas.Bool.Decides.{nat_tests}
 use Rattle.std.proofs.lemmas.List.{append-nil, length-append, map-append}
@@ -9,8 +9,8 @@ use Rattle.trace_wire.specs.declared.fault.WireFault.TheVariants as faults
 use Rattle.trace_wire.specs.declared.packed.plan.PartSize.{PartSize}
 use Rattle.trace_wire.specs.declared.version.Version.TheVariants.{Two}
 use Rattle.trace_wire.specs.Cells.{Entry, known_bytes, knowns_bytes, knowns_of}
-use Rattle.trace_wire.specs.Frames.{longest, payload}
-use Rattle.trace_wire.specs.Packed.{AreParts, HasLongCell}
+use Rattle.trace_wire.specs.Frames.{payload}
+use Rattle.trace_wire.specs.Packed.{AreParts}
 use Rattle.trace_wire.specs.Planning.{AddsCell, IsLonger, IsNext, IsUnplanned, NeedsMore, cell_len, size_of}
 use Rattle.trace_wire.specs.Runs.{runs_of}
 use Rattle.trace_wire.proofs.Lengths.{knowns_len, payload_len}

@@ -4,7 +4,7 @@ use Rattle.std.specs.Prelude.{min}
 use Rattle.std.proofs.lemmas.List.{drop-take}
 use Rattle.trace_know.specs.Listing.{is_behind, run_behind, run_len}
 use Rattle.trace_wire.specs.Cells.{Entry, known_bytes, knowns_bytes, knowns_of}
-use Rattle.trace_wire.specs.Runs.{PlacedRun, placed_run, runs_bytes, runs_of}
+use Rattle.trace_wire.specs.Runs.{placed_run, runs_bytes, runs_of}
 use Rattle.trace_wire.proofs.WrittenRuns.{Ahead, ahead, run_ahead}
 
 step : (b : Bool) (m n k : ℕ) → k ≡ min m n → cond b (suc k) 0 ≡ min (suc m) (cond b (suc n) 0)

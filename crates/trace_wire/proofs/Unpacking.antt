@@ -1,16 +1,16 @@
 -- What is packed tells all that is known.
-use Rattle.std.proofs.Common.{◌≡◌, ℕ, suc, ◌+◌, ◌<◌, ◌≤◌, Bool, true, false, cond, List, [], ◌∷◌, ◌++◌, length, Option, Some, None, refl, sym, ap, subst, ◌∙◌, append-nil, inl, inr, ◌⊎◌, arith}
+use Rattle.std.proofs.Common.{◌≡◌, ℕ, ◌<◌, Bool, false, cond, List, [], ◌∷◌, ◌++◌, length, Option, Some, None, refl, sym, ap, subst, ◌∙◌, inl, inr, ◌⊎◌, arith}
 use Rattle.std.specs.Prelude.{IsSome}
 use Rattle.std.specs.Ordering.{eq_by_cmp, is_eq}
 use Rattle.std.specs.FinMap.{empty, entries, entries-insert, find, get-entries, get-from_entries, put}
-use Rattle.std.specs.List.{All, flat_map}
+use Rattle.std.specs.List.{All}
 use Rattle.std.proofs.lemmas.List.Concat.{flat_map-cons}
 use Rattle.std.proofs.lemmas.List.Elements.{All-cons, All-nil}
 use Rattle.trace_know.specs.declared.cell.Known.{Known}
 use Rattle.trace_know.specs.Cell.{join_cell}
 use Rattle.trace_know.specs.View.{View, cell, join, kept, place_cmp}
 use Rattle.trace_wire.specs.declared.version.Version.TheVariants.{Two}
-use Rattle.trace_wire.specs.Cells.{AreCells, Entry, is_past}
+use Rattle.trace_wire.specs.Cells.{AreCells, Entry}
 use Rattle.trace_wire.specs.Frames.{HasFrameAs, frame}
 use Rattle.trace_wire.specs.Packed.{AreParts, Framed, GoIn, IsOfRanks, IsPacked, IsSound, TellsPacked, all_bytes, framed_bytes, frames_of, told_by}
 use Rattle.trace_wire.proofs.FormLaws.{chosen}

@@ -1,4 +1,4 @@
-use Rattle.std.proofs.Common.{◌≡◌, ◌<◌, ◌^◌, List, length, take, ap, arith, length-append}
+use Rattle.std.proofs.Common.{◌≡◌, List, length, take, ap, arith, length-append}
 use Rattle.std.specs.Int.{w32, to_be_bytes}
 use Rattle.trace_wire.specs.declared.packed.plan.PartSize.{PartSize}
 use Rattle.trace_wire.specs.declared.version.Version.TheVariants.{Two}

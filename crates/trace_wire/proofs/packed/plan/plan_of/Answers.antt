@@ -1,7 +1,6 @@
-use Rattle.std.proofs.Common.{◌≡◌, ◌∷◌, [], Some, List, false, rules, ap, sym, subst, arith}
+use Rattle.std.proofs.Common.{◌≡◌, ◌∷◌, [], Some, List, false, rules, sym, subst}
 use Rattle.std.specs.FinMap.{entries}
 use Rattle.trace_wire.specs.Cells.{AreInRange, Entry}
-use Rattle.trace_wire.specs.Planning.{size_of}
 use Rattle.trace_wire.proofs.OwnCells.{own_cells}
 use Rattle.trace_wire.proofs.Plans.{Planned, goes_next, planned_all, planned_more, planned_none, sizes_few, unplanned}
 use Rattle.trace_wire.proofs.packed.plan.plan_of.Goals as goal

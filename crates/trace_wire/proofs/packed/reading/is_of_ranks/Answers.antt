@@ -1,4 +1,3 @@
-use Rattle.std.proofs.Common.{◌≡◌, ◌∷◌, [], List, rules, arith}
 use Rattle.std.specs.FinMap.{entries}
 use Rattle.trace_wire.specs.Cells.{Entry}
 use Rattle.trace_wire.proofs.Framing.{after_more, after_none, of_ranks, strays}

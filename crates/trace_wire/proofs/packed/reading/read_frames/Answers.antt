@@ -1,12 +1,11 @@
-use Rattle.std.proofs.Common.{◌≡◌, ◌+◌, ◌∙◌, Option, None, Ok, refl, sym, ap, subst, arith, rules}
+use Rattle.std.proofs.Common.{◌≡◌, ◌∙◌, Option, Ok, refl, sym, ap, subst, arith}
 use Rattle.std.specs.Prelude.{IfSome}
 use Rattle.std.specs.FinMap.{entries}
 use Rattle.trace_know.specs.View.{View}
-use Rattle.trace_wire.specs.declared.fault.WireFault.TheVariants.{Short}
 use Rattle.trace_wire.specs.declared.packed.fault.PackedFault.{PackedFault}
 use Rattle.trace_wire.specs.Packed.{IsOfRanks, RefusesPacked}
 use Rattle.trace_wire.specs.Reading.{ReadsFrame}
-use Rattle.trace_wire.proofs.Framing.{reads_all, reads_more, reads_none, reads_nothing, refused_next}
+use Rattle.trace_wire.proofs.Framing.{reads_more, reads_none, reads_nothing, refused_next}
 use Rattle.trace_wire.proofs.Sending.{leaves, leaves_both}
 use Rattle.trace_wire.proofs.packed.reading.read_frames.Goals as goal
 

@@ -1,8 +1,7 @@
-use Rattle.std.proofs.Common.{◌≡◌, ℕ, ◌+◌, ◌∙◌, List, take, refl, sym, ap, arith, slice_index_or}
+use Rattle.std.proofs.Common.{ℕ, ◌∙◌, List, take, refl, ap, slice_index_or}
 use Rattle.std.specs.FinMap.{entries}
 use Rattle.mpi_model.specs.Failures.{one_more}
 use Rattle.trace_wire.specs.declared.packed.plan.PartSize.{PartSize}
-use Rattle.trace_wire.specs.Cells.{Entry}
 use Rattle.trace_wire.specs.Frames.{frame}
 use Rattle.trace_wire.proofs.Packing.{Next, next_part, packs_all, packs_front, packs_more, packs_none, stands_before}
 use Rattle.trace_wire.proofs.Sending.{broke_off, came_out, leaves, leaves_both}
@@ -55,7 +54,7 @@ loop-part-preserved g c =
     let n : Next p.parts c.loop-part.part-index size = next_part p.parts items c.loop-part.part-index none size p.sized c.loop-part-test.true refl in
     let came = came_out _ _ _ _ _ _ _ (frame (take size.cells c.loop-part.cells)) c.if-send_part.false c.send_part.ensures.sends in
     record {
-      packs = packs_more (entries c.args.knowledge.now) c.loop-part.cells c.send_part.new.cells items c.loop-part.part-index _ _ _ size p n c.send_part.ensures.rest came.0;
+      packs = packs_more (entries c.args.knowledge.now) c.loop-part.cells c.send_part.new.cells items c.loop-part.part-index (g.W.Write.written c.args.writer.now) (g.W.Write.written c.loop-part.writer) (g.W.Write.written c.send_part.new.writer) size p n c.send_part.ensures.rest came.0;
       no_failure = came.1 ∙ c.loop-part.invariant.no_failure;
       beside = leaves_both _ _ _ c.loop-part.invariant.beside c.send_part.ensures.sends.beside;
     }

@@ -1,6 +1,5 @@
 use Rattle.std.proofs.Common.{◌≡◌, ◌∙◌, List, length, rules, ap, sym}
 use Rattle.std.proofs.lemmas.List.{nil_from_length}
-use Rattle.trace_know.specs.View.{View, join}
 use Rattle.trace_wire.specs.declared.packed.joining.Level.{Level}
 use Rattle.trace_wire.specs.Joining.{joined}
 use Rattle.trace_wire.proofs.Levels.{joined_all, joined_down, joined_last}

@@ -1,4 +1,4 @@
-use Rattle.std.proofs.Common.{◌≡◌, ◌∙◌, List, ap, sym}
+use Rattle.std.proofs.Common.{◌∙◌, List, ap}
 use Rattle.trace_know.specs.View.{View, join}
 use Rattle.trace_wire.specs.declared.packed.joining.Level.{Level}
 use Rattle.trace_wire.specs.Joining.{joined}
