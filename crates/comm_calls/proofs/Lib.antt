@@ -1,0 +1,3 @@
+pub mod Names
+pub mod ByParameter
+pub mod Ranges
