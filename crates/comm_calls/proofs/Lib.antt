@@ -1,3 +1,4 @@
 pub mod Names
 pub mod ByParameter
 pub mod Ranges
+pub mod InTurn

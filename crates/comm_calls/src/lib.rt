@@ -9,7 +9,7 @@
 //!   [`lists`]: ranks, dimensions, ranges
 //! - [`making`], [`group`], [`action`]: what a call does
 //! - [`beside`]: the number that stands beside a name
-//! - [`calls`]: the calls of a text
+//! - [`calls`]: the calls of a text; [`laws`]: what holds of all of them
 #![tactic(auto)]
 
 mod action;
@@ -18,6 +18,7 @@ mod calls;
 mod fault;
 mod function;
 mod group;
+mod laws;
 mod lists;
 mod making;
 mod number;
@@ -25,3 +26,4 @@ mod parameter;
 
 pub use calls::CommCalls;
 pub use fault::Memory;
+pub use laws::calls_read_in_turn;
