@@ -1,2 +1,5 @@
 pub mod Doubles
 pub mod Places
+pub mod Runs
+pub mod Apart
+pub mod Sizes

@@ -1,10 +1,16 @@
 //! Groups and the communicators that are made of them, as plain lists of ranks (MPI 4.0, chapters 7 and 8).
 //!
 //! - [`group`]: groups made of others (7.3.2); [`range`]: ranges of ranks
-//! - [`split`]: the members of one color, by key (7.4.2)
+//! - [`color`]: the members of each color, by key (7.4.2)
 //! - [`cart`]: grids of ranks and their parts (8.5)
 #![tactic(auto)]
 
 mod group;
+mod color;
+mod grid;
+mod told;
 
 pub use group::{difference, excl, incl, intersection, union};
+pub use color::{ColorGroup, Colored, split};
+pub use grid::{grid_parts, grid_size, kept_dims};
+pub use told::order_of;
