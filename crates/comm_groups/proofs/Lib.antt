@@ -3,3 +3,5 @@ pub mod Places
 pub mod Runs
 pub mod Apart
 pub mod Sizes
+pub mod Spans
+pub mod Alike

@@ -28,7 +28,7 @@ without_push : (ranks : List ℕ) (i : ℕ) → ranks_without (i + 1) ranks ≡ 
 without_push ranks i =
     let p : ℕ → Bool = λ r. not (has ranks r) in
     let more : filter p (map (λ (x : ℕ). x) (range_with_len 0 (i + 1))) ≡ filter p (map (λ (x : ℕ). x) (range_with_len 0 i)) ++ cond (p i) (i ∷ []) []
-        = filter_of_map_range_with_len_more p (λ (x : ℕ). x) 0 i i (omega arith) in
+    = filter_of_map_range_with_len_more p (λ (x : ℕ). x) 0 i i (omega arith) in
     ap (filter p) (sym (map-id (range_with_len 0 (i + 1)))) ∙ more ∙ ap (λ (l : List ℕ). filter p l ++ cond (p i) (i ∷ []) []) (map-id (range_with_len 0 i))
 
 pub without_more_kept : (group ranks : List ℕ) (i x : ℕ) → has ranks i ≡ false → slice_get group i ≡ Some x

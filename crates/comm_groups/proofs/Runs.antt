@@ -22,8 +22,8 @@ le_from_cmp a b o h = ⊎_elim (λ (l : b < a). absurd (true≢false (sym (less_
 pub by_color : (xs : List Colored) → IsSortedBy (λ x y. is_lt (split_cmp x y)) xs → IsNonDecreasingBy (λ e. e.color) xs
 by_color xs h = IsNonDecreasingBy-from_all_adjacent (λ (e : Colored). e.color) xs
     (λ k d below. le_from_cmp (get_or xs k d).color (get_or xs (k + 1) d).color
-        (ordering_then (int_cmp (get_or xs (k + 1) d).key (get_or xs k d).key) (nat_cmp (get_or xs (k + 1) d).rank (get_or xs k d).rank))
-        (h k d (omega arith) below))
+    (ordering_then (int_cmp (get_or xs (k + 1) d).key (get_or xs k d).key) (nat_cmp (get_or xs (k + 1) d).rank (get_or xs k d).rank))
+    (h k d (omega arith) below))
 
 abbrev pub pair : Colored → ℕ × ℕ
 pair e = (e.color, e.rank)
@@ -44,7 +44,7 @@ all_more gs color n rest whole same before =
     let run : List Colored = take n rest in
     let colors : colored (group_of color run) ≡ map pair run = same_colored color run (recursion_from_All (λ (e : Colored). e.color ≡ color) run same) in
     let one : flat_map colored (gs ++ group_of color run ∷ []) ≡ flat_map colored gs ++ map pair run
-        = flat_map-append colored gs (group_of color run ∷ []) ∙ ap (λ (l : List (ℕ × ℕ)). flat_map colored gs ++ l) (append-nil (colored (group_of color run)) ∙ colors) in
+    = flat_map-append colored gs (group_of color run ∷ []) ∙ ap (λ (l : List (ℕ × ℕ)). flat_map colored gs ++ l) (append-nil (colored (group_of color run)) ∙ colors) in
     let parts : map pair run ++ map pair (drop n rest) ≡ map pair rest = sym (map-append pair run (drop n rest)) ∙ ap (map pair) (take-append-drop n rest) in
     ap (λ (l : List (ℕ × ℕ)). l ++ map pair (drop n rest)) one
     ∙ append_assoc (flat_map colored gs) (map pair run) (map pair (drop n rest))
@@ -75,15 +75,15 @@ rising_push xs y up low = λ k h.
     let len : length (xs ++ y ∷ []) ≡ length xs + 1 = length_push xs y in
     let kept : get_or (xs ++ y ∷ []) k 0 ≡ get_or xs k 0 = get_or_append_left xs (y ∷ []) 0 k (omega arith) in
     ⊎_elim
-        (λ (inside : k + 1 < length xs).
-            let next : get_or (xs ++ y ∷ []) (k + 1) 0 ≡ get_or xs (k + 1) 0 = get_or_append_left xs (y ∷ []) 0 (k + 1) inside in
-            let lt : get_or xs k 0 < get_or xs (k + 1) 0 = up k inside in
-            omega arith)
-        (λ (last : length xs ≤ k + 1).
-            let next : get_or (xs ++ y ∷ []) (k + 1) 0 ≡ y = get_or_push xs y 0 (k + 1) (omega arith) in
-            let lt : get_or xs k 0 < y = low k 0 (omega arith) in
-            omega arith)
-        (cases_lt (k + 1) (length xs))
+    (λ (inside : k + 1 < length xs).
+    let next : get_or (xs ++ y ∷ []) (k + 1) 0 ≡ get_or xs (k + 1) 0 = get_or_append_left xs (y ∷ []) 0 (k + 1) inside in
+    let lt : get_or xs k 0 < get_or xs (k + 1) 0 = up k inside in
+    omega arith)
+    (λ (last : length xs ≤ k + 1).
+    let next : get_or (xs ++ y ∷ []) (k + 1) 0 ≡ y = get_or_push xs y 0 (k + 1) (omega arith) in
+    let lt : get_or xs k 0 < y = low k 0 (omega arith) in
+    omega arith)
+    (cases_lt (k + 1) (length xs))
 
 -- the groups of what came before, and what is left
 pub record Grouped (order rest : List Colored) (gs : List Group) : Type 0 where
@@ -111,14 +111,14 @@ grouped_more order rest gs n d was some within head same next =
     let g : Group = group_of d.color (take n rest) in
     let later : All (λ (e : Colored). d.color < e.color) (drop n rest) = above d.color n rest was.sorted head next in
     let kept : All (λ (g : Group). All (λ (e : Colored). g.color < e.color) (drop n rest)) gs
-        = All-weaker (λ (g : Group). All (λ (e : Colored). g.color < e.color) rest) (λ (g : Group). All (λ (e : Colored). g.color < e.color) (drop n rest))
-            (λ g h. All-drop (λ (e : Colored). g.color < e.color) n rest h) gs was.below in
+    = All-weaker (λ (g : Group). All (λ (e : Colored). g.color < e.color) rest) (λ (g : Group). All (λ (e : Colored). g.color < e.color) (drop n rest))
+    (λ g h. All-drop (λ (e : Colored). g.color < e.color) n rest h) gs was.below in
     let lower : All (λ (x : ℕ). x < d.color) (map (λ (g : Group). g.color) gs)
-        = All-map (λ (x : ℕ). x < d.color) (λ (g : Group). g.color) gs (beneath gs rest d was.below some (head d)) in
+    = All-map (λ (x : ℕ). x < d.color) (λ (g : Group). g.color) gs (beneath gs rest d was.below some (head d)) in
     record {
       all = all_more gs d.color n rest (map pair order) same was.all;
       sorted = IsNonDecreasingBy-drop (λ (e : Colored). e.color) n rest was.sorted;
       below = All-push (λ (g : Group). All (λ (e : Colored). g.color < e.color) (drop n rest)) gs g kept later;
       some = All-push (λ (g : Group). 0 < length g.ranks) gs g was.some (long_run n rest d within (some_run n rest d some (head d) (next d)));
-      rising = rw (map_push (λ (g : Group). g.color) gs g) (rising_push (map (λ (g : Group). g.color) gs) d.color was.rising lower)
+      rising = rw (map_push (λ (g : Group). g.color) gs g) (rising_push (map (λ (g : Group). g.color) gs) d.color was.rising lower);
     }

@@ -31,8 +31,8 @@ sizes_drop dims n h =
 pub size_at : (dims : List ℕ) (i : ℕ) → are_sizes dims ≡ true → i < length dims → 0 < get_or dims i 0
 size_at dims i h below =
     ⊎_elim (λ (yes : nat_lt 0 (get_or dims i 0) ≡ true). ltb-true 0 (get_or dims i 0) yes)
-        (λ (no : nat_lt 0 (get_or dims i 0) ≡ false). absurd (true≢false (sym h ∙ list_all_at (λ d. nat_lt 0 d) dims i 0 below no)))
-        (cases_Bool (nat_lt 0 (get_or dims i 0)))
+    (λ (no : nat_lt 0 (get_or dims i 0) ≡ false). absurd (true≢false (sym h ∙ list_all_at (λ d. nat_lt 0 d) dims i 0 below no)))
+    (cases_Bool (nat_lt 0 (get_or dims i 0)))
 
 grid_size-le : (dims : List ℕ) (n : ℕ) → are_sizes dims ≡ true → grid_size (take n dims) ≤ grid_size dims
 grid_size-le dims n h =
@@ -52,20 +52,20 @@ too_small limit dims i below h =
 pub too_large : (limit : ℕ) (dims : List ℕ) (i : ℕ) → i < length dims → limit < grid_size (take i dims) * get_or dims i 0 → None ≡ size_within limit dims
 too_large limit dims i below h =
     ⊎_elim
-        (λ (sizes : are_sizes dims ≡ true).
-            let more : grid_size (take (i + 1) dims) ≡ grid_size (take i dims) * get_or dims i 0 = rw (take_more dims i 0 below) (grid_size-push (take i dims) (get_or dims i 0)) in
-            let le : grid_size (take (i + 1) dims) ≤ grid_size dims = grid_size-le dims (i + 1) sizes in
-            let large : limit < grid_size dims = omega arith in
-            none_within limit dims (ap (λ (b : Bool). b && nat_le (grid_size dims) limit) sizes ∙ lt-leb (grid_size dims) limit large))
-        (λ (no : are_sizes dims ≡ false). none_within limit dims (and_left (are_sizes dims) (nat_le (grid_size dims) limit) no))
-        (cases_Bool (are_sizes dims))
+    (λ (sizes : are_sizes dims ≡ true).
+    let more : grid_size (take (i + 1) dims) ≡ grid_size (take i dims) * get_or dims i 0 = rw (take_more dims i 0 below) (grid_size-push (take i dims) (get_or dims i 0)) in
+    let le : grid_size (take (i + 1) dims) ≤ grid_size dims = grid_size-le dims (i + 1) sizes in
+    let large : limit < grid_size dims = omega arith in
+    none_within limit dims (ap (λ (b : Bool). b && nat_le (grid_size dims) limit) sizes ∙ lt-leb (grid_size dims) limit large))
+    (λ (no : are_sizes dims ≡ false). none_within limit dims (and_left (are_sizes dims) (nat_le (grid_size dims) limit) no))
+    (cases_Bool (are_sizes dims))
 
 pub beyond : (limit : ℕ) (dims : List ℕ) → limit < grid_size dims → None ≡ size_within limit dims
 beyond limit dims h =
     ⊎_elim
-        (λ (sizes : are_sizes dims ≡ true). none_within limit dims (ap (λ (b : Bool). b && nat_le (grid_size dims) limit) sizes ∙ lt-leb (grid_size dims) limit h))
-        (λ (no : are_sizes dims ≡ false). none_within limit dims (and_left (are_sizes dims) (nat_le (grid_size dims) limit) no))
-        (cases_Bool (are_sizes dims))
+    (λ (sizes : are_sizes dims ≡ true). none_within limit dims (ap (λ (b : Bool). b && nat_le (grid_size dims) limit) sizes ∙ lt-leb (grid_size dims) limit h))
+    (λ (no : are_sizes dims ≡ false). none_within limit dims (and_left (are_sizes dims) (nat_le (grid_size dims) limit) no))
+    (cases_Bool (are_sizes dims))
 
 pub within : (limit : ℕ) (dims : List ℕ) → are_sizes dims ≡ true → grid_size dims ≤ limit → Some (grid_size dims) ≡ size_within limit dims
 within limit dims sizes le = rw (sizes, le-leb (grid_size dims) limit le) refl
@@ -87,7 +87,7 @@ rest_some dims i h = some_rank (drop i dims) (sizes_drop dims i h)
 
 one_alike : (dims : List ℕ) (remain : List Bool) (i left : ℕ) → i < length dims → i < length remain
     → first_alike (drop i dims) (drop i remain) left
-        ≡ cond (get_or remain i false) 0 (left / grid_size (drop (i + 1) dims) * grid_size (drop (i + 1) dims)) + first_alike (drop (i + 1) dims) (drop (i + 1) remain) (left % grid_size (drop (i + 1) dims))
+    ≡ cond (get_or remain i false) 0 (left / grid_size (drop (i + 1) dims) * grid_size (drop (i + 1) dims)) + first_alike (drop (i + 1) dims) (drop (i + 1) remain) (left % grid_size (drop (i + 1) dims))
 one_alike dims remain i left below inside = rw (drop_more dims i 0 below, drop_more remain i false inside) refl
 
 whole_part : (n m : ℕ) → n / m * m ≡ n - n % m
@@ -97,7 +97,7 @@ pub alike_kept : (dims : List ℕ) (remain : List Bool) (i first left : ℕ) →
     → first + first_alike (drop (i + 1) dims) (drop (i + 1) remain) (left % grid_size (drop (i + 1) dims)) ≡ first + first_alike (drop i dims) (drop i remain) left
 alike_kept dims remain i first left below inside keep =
     let e : first_alike (drop i dims) (drop i remain) left ≡ cond (get_or remain i false) 0 (left / grid_size (drop (i + 1) dims) * grid_size (drop (i + 1) dims)) + first_alike (drop (i + 1) dims) (drop (i + 1) remain) (left % grid_size (drop (i + 1) dims))
-        = one_alike dims remain i left below inside in
+    = one_alike dims remain i left below inside in
     let k : cond (get_or remain i false) 0 (left / grid_size (drop (i + 1) dims) * grid_size (drop (i + 1) dims)) ≡ 0 = rw keep refl in
     omega (arith, e, k)
 
@@ -105,9 +105,9 @@ pub alike_left_out : (dims : List ℕ) (remain : List Bool) (i first left : ℕ)
     → first + (left - left % grid_size (drop (i + 1) dims)) + first_alike (drop (i + 1) dims) (drop (i + 1) remain) (left % grid_size (drop (i + 1) dims)) ≡ first + first_alike (drop i dims) (drop i remain) left
 alike_left_out dims remain i first left below inside keep =
     let e : first_alike (drop i dims) (drop i remain) left ≡ cond (get_or remain i false) 0 (left / grid_size (drop (i + 1) dims) * grid_size (drop (i + 1) dims)) + first_alike (drop (i + 1) dims) (drop (i + 1) remain) (left % grid_size (drop (i + 1) dims))
-        = one_alike dims remain i left below inside in
+    = one_alike dims remain i left below inside in
     let k : cond (get_or remain i false) 0 (left / grid_size (drop (i + 1) dims) * grid_size (drop (i + 1) dims)) ≡ left - left % grid_size (drop (i + 1) dims)
-        = rw keep (whole_part left (grid_size (drop (i + 1) dims))) in
+    = rw keep (whole_part left (grid_size (drop (i + 1) dims))) in
     omega (arith, e, k)
 
 pub kept_at : (dims : List ℕ) (remain : List Bool) (i : ℕ) → i < length dims → i < length remain

@@ -1,5 +1,5 @@
 -- Grids of ranks (MPI 4.0, 8.5).
-use Rattle.std.specs.Prelude.{◌≡◌, ℕ, ◌+◌, ◌*◌, ◌/◌, ◌%◌, ◌==◌, ◌&&◌, ◌||◌, Bool, true, false, List, [], ◌∷◌, Option, Some, None, cond, map, nat_lt, nat_le, pos, if◌then◌else◌}
+use Rattle.std.specs.Prelude.{◌≡◌, ◌↔◌, length, ℕ, ◌+◌, ◌*◌, ◌/◌, ◌%◌, ◌==◌, ◌&&◌, ◌||◌, Bool, true, false, List, [], ◌∷◌, Option, Some, None, cond, map, nat_lt, nat_le, pos, if◌then◌else◌}
 use Rattle.std.specs.List.{list_all, range_with_len}
 use Rattle.comm_groups.specs.declared.color.Colored.{Colored}
 use Rattle.comm_groups.specs.Splits.{Group, IsSplit}
@@ -47,3 +47,8 @@ placed dims remain r = record { color = first_alike dims remain r; key = pos 0; 
 -- The parts of a grid: the ranks that agree, in row-major order.
 abbrev pub AreParts : List ℕ → List Bool → List Group → Type 0
 AreParts dims remain groups = IsSplit (map (placed dims remain) (range_with_len 0 (grid_size dims))) groups
+
+-- Two ranks of a grid are in one part exactly if their coordinates agree in the dimensions that do not remain.
+abbrev pub PartsAgree : Type 0
+PartsAgree = (dims : List ℕ) (remain : List Bool) (r q : ℕ) → length remain ≡ length dims → are_sizes dims ≡ true
+    → (agree remain (coords_of dims r) (coords_of dims q) ≡ true) ↔ (first_alike dims remain r ≡ first_alike dims remain q)

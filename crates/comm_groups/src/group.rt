@@ -52,11 +52,7 @@ pub(crate) fn are_ranks(alloc: Global, size: usize, ranks: &[u32]) -> Result<boo
 }
 
 /// The members of the first group that the second has, in the first's order (MPI 4.0, 7.3.2).
-pub fn intersection(
-    alloc: Global,
-    first: &[u32],
-    second: &[u32],
-) -> Result<Vec<u32>, AllocError>
+pub fn intersection(alloc: Global, first: &[u32], second: &[u32]) -> Result<Vec<u32>, AllocError>
     ensures { IfOk result (λ v. v.items ≡ intersection_of first.now second.now) }
 {
     let set = set_of(alloc, second)?;
@@ -113,11 +109,7 @@ pub(crate) fn members_at(
 
 /// Only the members with these ranks, in the order of the ranks (MPI 4.0, 7.3.2); `None` where a rank is outside the
 /// group or named twice.
-pub fn incl(
-    alloc: Global,
-    group: &[u32],
-    ranks: &[u32],
-) -> Result<Option<Vec<u32>>, AllocError>
+pub fn incl(alloc: Global, group: &[u32], ranks: &[u32]) -> Result<Option<Vec<u32>>, AllocError>
     ensures { IfOk result (λ found. option_map (λ v. v.items) found ≡ incl_of group.now ranks.now) }
 {
     if !are_ranks(alloc, group.len(), ranks)? {
@@ -127,11 +119,7 @@ pub fn incl(
 }
 
 /// The members but those with these ranks.
-fn members_without(
-    alloc: Global,
-    group: &[u32],
-    ranks: &[u32],
-) -> Result<Vec<u32>, AllocError>
+fn members_without(alloc: Global, group: &[u32], ranks: &[u32]) -> Result<Vec<u32>, AllocError>
     ensures { IfOk result (λ v. v.items ≡ members_at group.now (ranks_without (length group.now) ranks.now)) }
 {
     let set = set_of(alloc, ranks)?;
@@ -146,11 +134,7 @@ fn members_without(
 
 /// All members but those with these ranks, in the group's order (MPI 4.0, 7.3.2); `None` where a rank is outside the
 /// group or named twice.
-pub fn excl(
-    alloc: Global,
-    group: &[u32],
-    ranks: &[u32],
-) -> Result<Option<Vec<u32>>, AllocError>
+pub fn excl(alloc: Global, group: &[u32], ranks: &[u32]) -> Result<Option<Vec<u32>>, AllocError>
     ensures { IfOk result (λ found. option_map (λ v. v.items) found ≡ excl_of group.now ranks.now) }
 {
     if !are_ranks(alloc, group.len(), ranks)? {

@@ -5,12 +5,16 @@
 //! - [`cart`]: grids of ranks and their parts (8.5)
 #![tactic(auto)]
 
-mod group;
 mod color;
 mod grid;
+mod group;
+mod laws;
+mod range;
 mod told;
 
-pub use group::{difference, excl, incl, intersection, union};
 pub use color::{ColorGroup, Colored, split};
 pub use grid::{grid_parts, grid_size, kept_dims};
+pub use group::{difference, excl, incl, intersection, union};
+pub use laws::parts_agree;
+pub use range::{RankRange, range_excl, range_incl};
 pub use told::order_of;

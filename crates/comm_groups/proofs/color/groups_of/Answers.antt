@@ -15,17 +15,17 @@ loop-first-preserved c =
     let before : Grouped c.args.order.now rest gs = record { all = was.all; sorted = was.sorted; below = was.below; some = was.some; rising = was.rising } in
     let makes : List ℕ → Group = λ ranks. record { color = d.color; ranks = ranks } in
     let made : c.new.result ≡ group_of d.color (take n rest)
-        = c.new.ensures ∙ ap makes (c.in_ok-ranks_of.ensures ∙ ap (map (λ (e : Colored). e.rank)) c.split_at.ensures.front) in
+    = c.new.ensures ∙ ap makes (c.in_ok-ranks_of.ensures ∙ ap (map (λ (e : Colored). e.rank)) c.split_at.ensures.front) in
     let items : c.push.new.self.items ≡ gs ++ group_of d.color (take n rest) ∷ []
-        = c.in_ok-push.ensures.items ∙ ap (λ (g : Group). gs ++ g ∷ []) made in
+    = c.in_ok-push.ensures.items ∙ ap (λ (g : Group). gs ++ g ∷ []) made in
     let more : Grouped c.args.order.now (drop n rest) (gs ++ group_of d.color (take n rest) ∷ [])
-        = grouped_more c.args.order.now rest gs n d before first.3.0 c.run_length.ensures.within
-            (λ e. ap (λ (x : Colored). x.color) (sym (first.3.1 e))) c.run_length.ensures.same c.run_length.ensures.next in
+    = grouped_more c.args.order.now rest gs n d before first.3.0 c.run_length.ensures.within
+    (λ e. ap (λ (x : Colored). x.color) (sym (first.3.1 e))) c.run_length.ensures.same c.run_length.ensures.next in
     let back = c.split_at.ensures.back in
     record {
       all = rw (items, back) more.all;
       sorted = rw back more.sorted;
       below = rw (items, back) more.below;
       some = rw items more.some;
-      rising = rw items more.rising
+      rising = rw items more.rising;
     }

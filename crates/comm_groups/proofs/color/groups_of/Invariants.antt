@@ -10,7 +10,7 @@ invariant-loop-first l = record {
   sorted : IsNonDecreasingBy (λ e. e.color) l.rest;
   below : All (λ g. All (λ e. g.color < e.color) l.rest) l.groups.items;
   some : All (λ g. 0 < length g.ranks) l.groups.items;
-  rising : IsStrictlyIncreasing (map (λ g. g.color) l.groups.items)
+  rising : IsStrictlyIncreasing (map (λ g. g.color) l.groups.items);
 }
 
 abbrev pub decreases-loop-first : goal.decreases-loop-first

@@ -10,5 +10,5 @@ loop-asked-preserved c =
     let below : c.loop-asked.asked-index < length c.args.rest.now = omega arith in
     record {
       counted = omega arith;
-      same = All-more (λ (e : Colored). e.color ≡ c.args.color) c.args.rest.now c.loop-asked.asked-index d below c.loop-asked.invariant.same c.if-asked-color.false
+      same = All-more (λ (e : Colored). e.color ≡ c.args.color) c.args.rest.now c.loop-asked.asked-index d below c.loop-asked.invariant.same c.if-asked-color.false;
     }

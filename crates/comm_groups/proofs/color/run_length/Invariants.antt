@@ -5,5 +5,5 @@ use Rattle.comm_groups.proofs.color.run_length.Given as goal
 abbrev pub invariant-loop-asked : goal.invariant-loop-asked
 invariant-loop-asked l = record {
   counted : l.count ≡ l.asked-index;
-  same : All (λ e. e.color ≡ l.color) (take l.asked-index l.rest)
+  same : All (λ e. e.color ≡ l.color) (take l.asked-index l.rest);
 }

@@ -16,5 +16,5 @@ loop-rank-preserved c =
     let unseen : has (take c.loop-rank.rank-index c.args.ranks.now) (get_or c.args.ranks.now c.loop-rank.rank-index 0) ≡ false = grind (arith, common_steps, c.loop-rank.invariant.seen (get_or c.args.ranks.now c.loop-rank.rank-index 0)) in
     record {
       seen = λ q. grind (arith, common_steps, c.loop-rank.invariant.seen q);
-      single = single_more c.args.ranks.now c.loop-rank.rank-index below c.loop-rank.invariant.single unseen
+      single = single_more c.args.ranks.now c.loop-rank.rank-index below c.loop-rank.invariant.single unseen;
     }

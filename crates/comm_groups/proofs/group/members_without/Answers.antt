@@ -11,11 +11,11 @@ pub loop-i-preserved : goal.loop-i-preserved
 loop-i-preserved c =
     let below : c.loop-i.i < length c.args.group.now = omega arith in
     elim c.if-not-contains.branch [
-      then-not-contains+in_ok-push w ↦
-        let lacks : has c.args.ranks.now c.loop-i.i ≡ false = grind (arith, common_steps, c.in_ok-set.ensures c.loop-i.i) in
-        let here : slice_get c.args.group.now c.loop-i.i ≡ Some (get_or c.args.group.now c.loop-i.i 0) = slice_get-get_or c.args.group.now c.loop-i.i 0 below in
-        grind (arith, common_steps, without_more_kept c.args.group.now c.args.ranks.now c.loop-i.i (get_or c.args.group.now c.loop-i.i 0) lacks here)
-    | else-not-contains w ↦
-        let named : has c.args.ranks.now c.loop-i.i ≡ true = grind (arith, common_steps, c.in_ok-set.ensures c.loop-i.i) in
-        grind (arith, common_steps, without_more_left c.args.group.now c.args.ranks.now c.loop-i.i named)
+      | then-not-contains+in_ok-push w ↦
+          let lacks : has c.args.ranks.now c.loop-i.i ≡ false = grind (arith, common_steps, c.in_ok-set.ensures c.loop-i.i) in
+          let here : slice_get c.args.group.now c.loop-i.i ≡ Some (get_or c.args.group.now c.loop-i.i 0) = slice_get-get_or c.args.group.now c.loop-i.i 0 below in
+          grind (arith, common_steps, without_more_kept c.args.group.now c.args.ranks.now c.loop-i.i (get_or c.args.group.now c.loop-i.i 0) lacks here)
+      | else-not-contains w ↦
+          let named : has c.args.ranks.now c.loop-i.i ≡ true = grind (arith, common_steps, c.in_ok-set.ensures c.loop-i.i) in
+          grind (arith, common_steps, without_more_left c.args.group.now c.args.ranks.now c.loop-i.i named)
     ]
