@@ -8,7 +8,7 @@ use crate::envelopes::{put_comm, put_probed, put_received, put_sent};
 use crate::text::Text;
 use mpi_model::{Call, Collective, CommRef, Envelope, Exchange, Kind, Mode, ProbeEnvelope};
 
-fn send_name(mode: Mode) -> &'static [u8]
+pub(crate) fn send_name(mode: Mode) -> &'static [u8]
     ensures { result.now ≡ send_name mode }
 {
     match mode {
@@ -19,7 +19,7 @@ fn send_name(mode: Mode) -> &'static [u8]
     }
 }
 
-fn immediate_name(mode: Mode) -> &'static [u8]
+pub(crate) fn immediate_name(mode: Mode) -> &'static [u8]
     ensures { result.now ≡ immediate_name mode }
 {
     match mode {
@@ -30,7 +30,7 @@ fn immediate_name(mode: Mode) -> &'static [u8]
     }
 }
 
-fn collective_name(kind: Kind) -> &'static [u8]
+pub(crate) fn collective_name(kind: Kind) -> &'static [u8]
     ensures { result.now ≡ collective_name kind }
 {
     match kind {
@@ -76,7 +76,7 @@ fn put_exchange(out: &mut Text, exchange: Exchange)
     put_received(out, exchange.receive());
 }
 
-fn put_on(out: &mut Text, name: &[u8], comm: CommRef)
+pub(crate) fn put_on(out: &mut Text, name: &[u8], comm: CommRef)
     ensures { Adds out.old out.new (on_text name.now comm) }
 {
     out.put(name);
@@ -92,7 +92,7 @@ fn put_root(out: &mut Text, root: Option<u32>)
     }
 }
 
-fn put_one_root(out: &mut Text, root: u32)
+pub(crate) fn put_one_root(out: &mut Text, root: u32)
     ensures { Adds out.old out.new (one_root_text root) }
 {
     out.put(b", root ");
