@@ -1,7 +1,7 @@
 -- The calls that were read are the first of the text's.
-use Rattle.std.proofs.Common.{◌≡◌, ◌∙◌, ◌⊎◌, ◌<◌, ◌≤◌, ◌+◌, ◌++◌, ◌∷◌, [], ℕ, zero, suc, List, Option, Some, None, Result, Ok, IfOk, option_map, slice_get, length, length-append, refl, sym, ap, inl, inr, subst, arith, append-nil, append_assoc}
+use Rattle.std.proofs.Common.{◌≡◌, ◌∙◌, ◌≤◌, ◌++◌, ◌∷◌, [], ℕ, zero, suc, List, Option, Some, None, option_map, slice_get, length, refl, sym, ap, inl, inr, arith, append-nil, append_assoc}
 use Rattle.dumpi_text.specs.Call.{TextCall}
-use Rattle.dumpi_text.specs.Grammar.{Ending, Complete, Meaning, meaning_of, start, text_meaning}
+use Rattle.dumpi_text.specs.Grammar.{Ending, Meaning, meaning_of, start, text_meaning}
 use Rattle.dumpi_text.specs.Reading.{HasRead, MeansAll}
 use Rattle.dumpi_text.specs.Source.{rest_of}
 use Rattle.dumpi_text.specs.Standing.{TextState}
@@ -46,8 +46,8 @@ line_there None calls call number view read n = tt
 line_there (Some bytes) calls call number view read n =
     let first = first_calls bytes (calls ++ call ∷ []) view read in
     sym (ap (λ (cs : List TextCall). line_in cs number) (first.1 ∙ append_assoc calls (call ∷ []) first.0)
-        ∙ ap (λ (k : ℕ). line_in (calls ++ call ∷ first.0) k) (sym n)
-        ∙ ap (λ (o : Option TextCall). option_map (λ (c : TextCall). c.line) o) (there calls call first.0))
+    ∙ ap (λ (k : ℕ). line_in (calls ++ call ∷ first.0) k) (sym n)
+    ∙ ap (λ (o : Option TextCall). option_map (λ (c : TextCall). c.line) o) (there calls call first.0))
 
 -- the text has no more calls than these
 pub line_absent : (text : Option (List ℕ)) (calls : List TextCall) (end : Ending) (number : ℕ) → MeansAll text calls end → length calls ≤ number → IsLineOf text number None

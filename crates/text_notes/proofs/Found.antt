@@ -1,9 +1,9 @@
 -- A function of a name, searched from the front of a list.
-use Rattle.std.proofs.Common.{◌≡◌, ◌∙◌, ◌<◌, ◌+◌, ◌≤◌, ◌||◌, ◌++◌, ℕ, zero, suc, Bool, true, false, cond, List, [], ◌∷◌, Option, Some, None, option_map, length, is_some, nat_lt, take, set, get_or, refl, sym, ap, subst, arith}
+use Rattle.std.proofs.Common.{◌≡◌, ◌∙◌, ◌<◌, ◌≤◌, ◌||◌, ◌++◌, ℕ, zero, suc, Bool, true, false, cond, List, [], ◌∷◌, Option, Some, None, option_map, length, is_some, nat_lt, take, set, get_or, refl, sym, ap, subst, arith}
 use Rattle.std.specs.Str.{bytes_eq}
 use Rattle.text_notes.specs.Noted.{UnreadParts, counted, with_count}
 use Rattle.std.proofs.lemmas.Bool.{le-ltb, lt-ltb}
-use Rattle.text_notes.specs.Places.{first_where, is_named, place_of}
+use Rattle.text_notes.specs.Places.{first_where, place_of}
 use Rattle.text_notes.specs.Words.{Totals, added, all_added, most_shown}
 use Rattle.text_notes.specs.Noted.{sum_of}
 

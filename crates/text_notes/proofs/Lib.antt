@@ -3,6 +3,7 @@ pub mod CallLines
 pub mod Found
 pub mod Fronts
 pub mod Lines
-pub mod Noting
+pub mod NotedMore
+pub mod Walking
 pub mod Reading
 pub mod Said

@@ -1,5 +1,5 @@
 -- What the first bytes of a text without calls say of it.
-use Rattle.std.specs.Prelude.{◌≡◌, ◌||◌, ◌==◌, ℕ, Bool, true, false, List, [], ◌∷◌, Option, Some, None, take, if◌then◌else◌}
+use Rattle.std.specs.Prelude.{◌≡◌, ◌==◌, ℕ, Bool, true, false, List, [], ◌∷◌, Option, Some, None, take, if◌then◌else◌}
 use Rattle.std.specs.List.{list_any}
 use Rattle.text_notes.specs.declared.start.Start.{Start}
 use Rattle.text_notes.specs.declared.start.Start.TheVariants.{Empty, Gzip, Utf16, Binary, Lines}

@@ -12,10 +12,11 @@ mod totals;
 mod words;
 
 pub use function::UnreadFunction;
-pub use line::line_of_call;
 pub use laws::noted_texts;
+pub use line::line_of_call;
 pub use note::{TextNote, note_of};
 pub use noting::Noting;
 pub use place::CallPlace;
 pub use start::{LONGEST_FRONT, Start, start_of};
+pub use totals::MOST_SHOWN;
 pub use words::{put_notes, put_places};

@@ -46,7 +46,9 @@ impl Noting {
         ensures unread { result.1.items ≡ self.unread }
     {
         let Noting {
-            collect, unread, ..
+            collect,
+            unread,
+            ..
         } = self;
         (collect, unread)
     }
@@ -188,16 +190,18 @@ impl CallSink for Noting {
             Some(at) => {
                 self.collect.on_unread(name, call, enter, exit)?;
                 self.unread[at].add(1);
+                self.calls = self.calls.saturating_add(1);
+                Ok(())
             }
             None => {
                 let function = UnreadFunction::new(*self.unread.allocator(), name, self.calls, 1)?;
                 self.unread.reserve(1)?;
                 self.collect.on_unread(name, call, enter, exit)?;
                 self.unread.push(function)?;
+                self.calls = self.calls.saturating_add(1);
+                Ok(())
             }
         }
-        self.calls = self.calls.saturating_add(1);
-        Ok(())
     }
 
     fn on_other(

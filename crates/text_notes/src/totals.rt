@@ -10,7 +10,7 @@ use std::alloc::{AllocError, Global};
 use std::marker::Model;
 
 /// How many of a kind are shown.
-pub(crate) const MOST_SHOWN: usize = 10;
+pub const MOST_SHOWN: usize = 10;
 
 /// The first ten functions of calls that are not read, each with how many such calls there are, and how many there are
 /// of others.

@@ -11,4 +11,4 @@ pub loop-at-preserved : goal.loop-at-preserved
 loop-at-preserved c =
     let n : suc c.loop-at.at ≡ c.loop-at.at + 1 = omega arith in
     subst (λ (k : ℕ). place_of c.args.name.now (take k c.args.functions.now) ≡ None) n
-        (none_next (is_named c.args.name.now) c.args.functions.now c.loop-at.at c.index-functions-at.result c.loop-at-test.true c.index-functions-at.is c.loop-at.invariant (sym c.is_named.ensures ∙ c.if-is_named.false))
+    (none_next (is_named c.args.name.now) c.args.functions.now c.loop-at.at c.index-functions-at.result c.loop-at-test.true c.index-functions-at.is c.loop-at.invariant (sym c.is_named.ensures ∙ c.if-is_named.false))

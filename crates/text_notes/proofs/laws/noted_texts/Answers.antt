@@ -1,4 +1,4 @@
-use Rattle.text_notes.proofs.Noting.{collects_noted, stops_noted, tells_noted}
+use Rattle.text_notes.proofs.Walking.{collects_noted, stops_noted, tells_noted}
 use Rattle.text_notes.proofs.laws.noted_texts.Goals as goal
 
 pub returns : goal.returns

@@ -11,4 +11,4 @@ pub loop-at-preserved : goal.loop-at-preserved
 loop-at-preserved c =
     let n : suc c.loop-at.at ≡ c.loop-at.at + 1 = omega arith in
     subst (λ (k : ℕ). note_of c.args.rank c.args.call (take k c.args.notes.now) ≡ None) n
-        (none_next (has_call c.args.rank c.args.call) c.args.notes.now c.loop-at.at c.index-notes-at.result c.loop-at-test.true c.index-notes-at.is c.loop-at.invariant (sym c.has_call.ensures ∙ c.if-has_call.false))
+    (none_next (has_call c.args.rank c.args.call) c.args.notes.now c.loop-at.at c.index-notes-at.result c.loop-at-test.true c.index-notes-at.is c.loop-at.invariant (sym c.has_call.ensures ∙ c.if-has_call.false))

@@ -1,4 +1,4 @@
-use Rattle.std.proofs.Common.{◌≡◌, ◌∙◌, List, sym, ap, take}
+use Rattle.std.proofs.Common.{◌∙◌, List, sym, ap, take}
 use Rattle.std.specs.List.{flat_map}
 use Rattle.text_notes.specs.Noted.{UnreadParts}
 use Rattle.text_notes.specs.Words.{Totals as TotalParts, all_added, no_totals, unread_of}

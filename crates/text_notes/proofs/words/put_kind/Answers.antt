@@ -1,4 +1,4 @@
-use Rattle.std.proofs.Common.{◌≡◌, ◌∙◌, ◌+◌, ◌≤◌, [], ℕ, List, cond, nat_lt, length, take, sym, ap, subst, arith}
+use Rattle.std.proofs.Common.{◌≡◌, ◌∙◌, ◌+◌, [], ℕ, List, cond, nat_lt, length, take, sym, ap, subst, arith}
 use Rattle.std.specs.List.{flat_map}
 use Rattle.call_words.specs.declared.text.Text.{Text}
 use Rattle.call_words.specs.Texts.{Adds}
@@ -18,17 +18,17 @@ loop-note-preserved c =
       | then-has_kind w ↦ record {
         text = subst (λ (t : Text). Adds c.args.out.now t (flat_map (line_text kind) (take most_shown (of_kind kind (take (i + 1) notes))))) (sym w.out-is)
             (reads (then c.loop-note.invariant.text
-                (reads w.put_shown.ensures (ap (λ (n : ℕ). cond (nat_lt n most_shown) (line_text kind note) []) c.loop-note.invariant.found)))
+            (reads w.put_shown.ensures (ap (λ (n : ℕ). cond (nat_lt n most_shown) (line_text kind note) []) c.loop-note.invariant.found)))
             (shown_more (line_text kind) (has_kind kind) most_shown notes i note c.loop-note-test.true c.note-item.is (sym c.has_kind.ensures ∙ w.if-has_kind.true)));
         found = w.found-is ∙ ap (λ (n : ℕ). n + 1) c.loop-note.invariant.found ∙ counted_more (has_kind kind) notes i note c.loop-note-test.true c.note-item.is (sym c.has_kind.ensures ∙ w.if-has_kind.true);
         few = omega arith;
       }
       | else-has_kind w ↦
-        (let same : of_kind kind (take (i + 1) notes) ≡ of_kind kind (take i notes) = filter_less (has_kind kind) notes i note c.loop-note-test.true c.note-item.is (sym c.has_kind.ensures ∙ w.if-has_kind.false) in
-        record {
-          text = subst (λ (t : Text). Adds c.args.out.now t (flat_map (line_text kind) (take most_shown (of_kind kind (take (i + 1) notes))))) (sym w.out-is)
-              (reads c.loop-note.invariant.text (ap (λ (l : List NoteParts). flat_map (line_text kind) (take most_shown l)) (sym same)));
-          found = w.found-is ∙ c.loop-note.invariant.found ∙ ap (λ (l : List NoteParts). length l) (sym same);
-          few = omega arith;
-        })
+          (let same : of_kind kind (take (i + 1) notes) ≡ of_kind kind (take i notes) = filter_less (has_kind kind) notes i note c.loop-note-test.true c.note-item.is (sym c.has_kind.ensures ∙ w.if-has_kind.false) in
+          record {
+            text = subst (λ (t : Text). Adds c.args.out.now t (flat_map (line_text kind) (take most_shown (of_kind kind (take (i + 1) notes))))) (sym w.out-is)
+                (reads c.loop-note.invariant.text (ap (λ (l : List NoteParts). flat_map (line_text kind) (take most_shown l)) (sym same)));
+            found = w.found-is ∙ c.loop-note.invariant.found ∙ ap (λ (l : List NoteParts). length l) (sym same);
+            few = omega arith;
+          })
     ]

@@ -1,4 +1,4 @@
-use Rattle.std.proofs.Common.{◌≡◌, ◌∙◌, ap, decimal}
+use Rattle.std.proofs.Common.{◌≡◌, ap, decimal}
 use Rattle.text_notes.specs.Noted.{sum_of}
 use Rattle.text_notes.specs.Words.{name_text}
 use Rattle.text_notes.proofs.Adding.{then, reads}

@@ -1,8 +1,8 @@
-use Rattle.std.proofs.Common.{◌≡◌, ◌∙◌, ◌<◌, ◌≤◌, ◌++◌, ◌∷◌, [], ℕ, List, Option, None, Some, sym, ap, get_or, length, set, arith}
+use Rattle.std.proofs.Common.{◌≡◌, ◌∙◌, ◌<◌, ◌++◌, ◌∷◌, [], ℕ, List, None, Some, sym, ap, get_or, length, set, arith}
 use Rattle.text_notes.specs.Noted.{UnreadParts, with_count}
 use Rattle.text_notes.specs.Places.{place_of}
 use Rattle.text_notes.specs.Words.{Totals as TotalParts, added, most_shown}
-use Rattle.text_notes.proofs.Found.{added_at, added_beside, added_last, within}
+use Rattle.text_notes.proofs.Found.{added_at, added_last, within}
 use Rattle.text_notes.proofs.totals.Totals.add.Goals as goal
 
 pub index_mut-requires : goal.index_mut-requires

@@ -1,4 +1,4 @@
-use Rattle.std.proofs.Common.{◌≡◌, ◌∙◌, ◌∷◌, [], List, sym, ap, take}
+use Rattle.std.proofs.Common.{◌∙◌, ◌∷◌, [], List, sym, ap, take}
 use Rattle.text_notes.specs.Noted.{UnreadParts}
 use Rattle.text_notes.specs.Words.{Totals as TotalParts, added, all_added}
 use Rattle.text_notes.proofs.Found.{added_more}

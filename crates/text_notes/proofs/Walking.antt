@@ -1,6 +1,5 @@
 -- A walk that notes calls.
 use Rattle.std.proofs.Common.{◌≡◌, ◌∙◌, [], ◌∷◌, ℕ, List, Option, Some, None, refl, ap}
-use Rattle.mpi_model.specs.Failures.{one_more}
 use Rattle.mpi_model.specs.declared.event.Event.{Event}
 use Rattle.dumpi_text.specs.Call.{TextCall}
 use Rattle.dumpi_calls.specs.Collected.{collected}
@@ -9,7 +8,7 @@ use Rattle.dumpi_calls.specs.Walks.{HandedOn, IsStopped, IsWalked}
 use Rattle.dumpi_calls.specs.declared.collect.Memory.{Memory}
 use Rattle.dumpi_calls.specs.declared.fault.WalkFault.{WalkFault}
 use Rattle.dumpi_calls.specs.declared.walking.Walked.{Walked}
-use Rattle.text_notes.specs.Noted.{AreNotes, Noted, TellsNotes, noted, nothing_noted, unread_from}
+use Rattle.text_notes.specs.Noted.{Noted, TellsNotes, noted, nothing_noted, unread_from}
 
 -- the events of calls that are noted
 events_after : (state : Noted) (calls : List Seen) → (after noted state calls).events ≡ after collected state.events calls
