@@ -34,11 +34,18 @@ pub enum Action {
         rank: Option<u32>,
     },
     /// MPI_Comm_free or MPI_Comm_disconnect.
-    Free { comm: Option<u32> },
+    Free {
+        comm: Option<u32>,
+    },
     /// A call that gives a group (MPI 4.0, 7.3.2).
-    Group { group: GroupCall, given: GroupName },
+    Group {
+        group: GroupCall,
+        given: GroupName,
+    },
     /// Another call that gives a communicator: nothing is derived from it.
-    GivesComm { given: Given },
+    GivesComm {
+        given: Given,
+    },
 }
 
 /// The calls that make communicators of a parent, with their parameters.
@@ -109,7 +116,9 @@ pub enum GroupName {
 #[derive(Debug, Drop)]
 pub enum GroupCall {
     /// MPI_Comm_group.
-    OfComm { comm: Option<u32> },
+    OfComm {
+        comm: Option<u32>,
+    },
     Incl {
         group: GroupName,
         ranks: Option<Vec<u32>>,

@@ -3,11 +3,11 @@
 //!
 //! It reads no text. Each rank is a plain list of its calls on communicators and groups.
 //!
-//! - [`calls`]: what a rank's calls say; [`made`]: what they make
+//! - [`calls`]: what a rank's calls say
 #![tactic(auto)]
 
 mod calls;
-mod made;
 
-pub use calls::{Action, Color, CommCall, Given, GroupCall, GroupName, Making, RankCalls, RankRange};
-pub use made::{Handle, MadeComm, MadeComms};
+pub use calls::{
+    Action, Color, CommCall, Given, GroupCall, GroupName, Making, RankCalls, RankRange,
+};
