@@ -1,6 +1,6 @@
 //! How the owner takes.
 
-ghost use Rattle.std.specs.Prelude.{◌≡◌, ◌≤◌, ◌∷◌, ◌++◌, [], List, false, IfOk, IfSome, OnOk};
+ghost use Rattle.std.specs.Prelude.{◌≡◌, ◌≤◌, ◌∷◌, ◌++◌, [], List, false, IfOk, IfSome, OnErr, OnOk};
 ghost use Rattle.crossbeam_channel.specs.Claims.{view, IsSeatAt};
 ghost use Rattle.crossbeam_channel.specs.Ends.{receives_on};
 ghost use Rattle.mpi_model.specs.Layouts.{Parts};
@@ -28,8 +28,9 @@ pub trait Keeper: Drop {
     ghost listed: { Self → List Refusal };
 
     /// Takes one item in, and answers which segment of which worker it was: None where it ends its
-    /// worker's posts.
+    /// worker's posts. Only a segment can be refused: no memory was left to list it.
     fn take_in(&mut self, item: Item) -> Result<Option<(Worker, u64)>, AllocError>
+        ensures err { OnErr result (is_end item ≡ false) }
         ensures end { IfOk result (λ taken. ends_told taken ≡ counted (is_end item)) }
         ensures sorted { OnOk result ((layout : Parts) (taken : List ItemValue) → Sorted layout taken (held self.old) (listed self.old) → Sorted layout (taken ++ item ∷ []) (held self.new) (listed self.new)) };
 

@@ -1,6 +1,6 @@
 //! What the owner keeps: the node, which it alone holds, and the segments that were refused.
 
-ghost use Rattle.std.specs.Prelude.{◌≡◌, ◌∷◌, ◌++◌, [], List, false, IfOk, OnOk};
+ghost use Rattle.std.specs.Prelude.{◌≡◌, ◌∷◌, ◌++◌, [], List, false, IfOk, OnErr, OnOk};
 ghost use Rattle.mpi_model.specs.Layouts.{Parts};
 ghost use Rattle.trace_crew.specs.declared.inbox.item.Item.{Item as ItemValue};
 ghost use Rattle.trace_crew.specs.Taking.{Handles, IsKept, Sorted, counted, ends_told, is_end};
@@ -152,6 +152,7 @@ impl<'s, 'a> Hall<'s, 'a> {
     /// worker's posts.
     #[tactic(auto, using(crate::proofs::Sorting::sorted_end))]
     fn handle(&mut self, item: Item) -> Result<Option<(Worker, u64)>, AllocError>
+        ensures err { OnErr result (is_end item ≡ false) }
         ensures end { IfOk result (λ taken. ends_told taken ≡ counted (is_end item)) }
         ensures sorted { OnOk result ((layout : Parts) (taken : List ItemValue) → Sorted layout taken self.old.node self.old.refused.items → Sorted layout (taken ++ item ∷ []) self.new.node self.new.refused.items) }
     {

@@ -1,6 +1,6 @@
 //! A crew: two workers beside the owner of a node.
 
-ghost use Rattle.std.specs.Prelude.{◌≡◌, ◌↔◌, ◌⊎◌, ◌++◌, [], List, None, Some, IsTrue, IfOk, OnOk, IsErrOf};
+ghost use Rattle.std.specs.Prelude.{◌≡◌, ◌↔◌, ◌⊎◌, ◌++◌, [], List, None, Some, IsTrue, IfErr, IfOk, OnOk, IsErrOf};
 ghost use Rattle.crossbeam_channel.specs.Claims.{view, IsSeatAt};
 ghost use Rattle.crossbeam_channel.specs.Ends.{receives_on, sends_on};
 ghost use Rattle.mpi_model.specs.Layouts.{Parts};
@@ -196,6 +196,7 @@ fn start<'s, E, R: Wait + Sync, G: Gate>(
     ensures inbox { IfOk result (λ handle. handle.promise.inbox.value ≡ sender.now) }
     ensures worker { IfOk result (λ handle. handle.promise.worker ≡ worker) }
     ensures pieces { IfOk result (λ handle. handle.promise.pieces.now ≡ pieces.now) }
+    ensures err { IfErr result (λ fault. fault ≡ CrewFault.Worker) }
 {
     let promise = Working {
         inbox: Snapshot::of(sender),
@@ -228,7 +229,8 @@ fn all_ended(first: Option<Stop>, second: Option<Stop>) -> Result<(), CrewFault>
     }
 }
 
-/// Joins the seats of both workers, and takes what is left.
+/// Joins the seats of both workers, and takes what is left. It is refused for a worker only where that found
+/// the inbox closed, and else for want of memory.
 fn finish<R: Wait, G: Gate, H: Keeper>(
     rt: &R,
     sender: &InboxSender,
@@ -238,7 +240,8 @@ fn finish<R: Wait, G: Gate, H: Keeper>(
     requires channel { receives_on ran.receiver ≡ sends_on sender.now }
     requires seats { IsSeatAt (sends_on sender.now) ran.seat × IsSeatAt (sends_on sender.now) ran.first.seat × IsSeatAt (sends_on sender.now) ran.second.seat }
     requires run { (layout : Parts) × (first : List PieceValue) × (second : List PieceValue) × HasRun layout first second (view ran.seat) (H.held ran.hall) (H.listed ran.hall) ran.first ran.second }
-    ensures { IfOk result (λ left. (layout : Parts) (first second : List PieceValue) → HasRun layout first second (view ran.seat) (H.held ran.hall) (H.listed ran.hall) ran.first ran.second → HasGathered layout first second (H.held left.hall) (H.listed left.hall) left.faults.items) }
+    ensures ok { IfOk result (λ left. (layout : Parts) (first second : List PieceValue) → HasRun layout first second (view ran.seat) (H.held ran.hall) (H.listed ran.hall) ran.first ran.second → HasGathered layout first second (H.held left.hall) (H.listed left.hall) left.faults.items) }
+    ensures worker { IsErrOf result CrewFault.Worker → IsTrue (is_closed ran.first.stop) ⊎ IsTrue (is_closed ran.second.stop) }
 {
     let Ran {
         receiver,

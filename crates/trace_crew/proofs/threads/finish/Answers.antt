@@ -7,8 +7,8 @@ use Rattle.trace_crew.specs.Views.{after_join, desk, posts_of}
 use Rattle.trace_crew.proofs.Crewing.{settled}
 use Rattle.trace_crew.proofs.threads.finish.Goals as goal
 
-pub returns : goal.returns
-returns g c layout first second h =
+pub returns-clause-ok : goal.returns-clause-ok
+returns-clause-ok g c layout first second h =
     let one = h.first_ended c.in_ok-all_ended.ensures.ok.0 in
     let other = h.second_ended c.in_ok-all_ended.ensures.ok.1 in
     let owner : view c.join_both.new.owner ≡ Owner (desk h.taken (Joined (posts_of First one.segments)) (Joined (posts_of Second other.segments))) =

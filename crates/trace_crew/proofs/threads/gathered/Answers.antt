@@ -5,4 +5,4 @@ pub finish-requires-clause-run : goal.finish-requires-clause-run
 finish-requires-clause-run g c κs outlives = (c.requires.new.0, _, _, c.in_ok-ran.ensures.4 c.requires.new.0 c.requires.new.1)
 
 pub returns : goal.returns
-returns g c = given c.finish.result (λ left h layout new. h layout _ _ (c.in_ok-ran.ensures.4 layout new)) c.finish.ensures
+returns g c = given c.finish.result (λ left h layout new. h layout _ _ (c.in_ok-ran.ensures.4 layout new)) c.finish.ensures.ok
