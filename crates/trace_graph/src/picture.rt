@@ -1,9 +1,11 @@
 //! The whole picture.
 
-ghost use Rattle.std.specs.Prelude.{◌≡◌, IfOk, decimal, map};
+ghost use Rattle.std.specs.Prelude.{◌≡◌, IfOk, Some, decimal, map, true};
 ghost use Rattle.std.specs.List.{flat_map};
+ghost use Rattle.trace_stuck.specs.Shape.{shape};
 ghost use Rattle.trace_node.specs.Stopped.{stopped};
 ghost use Rattle.call_words.specs.Texts.{Adds};
+ghost use Rattle.trace_graph.specs.Edges.{wait_text};
 ghost use Rattle.trace_graph.specs.Graph.{IsGraph, head_text, node_name, picture_text, standings_text, stuck_text};
 ghost use Rattle.trace_graph.specs.Standing.{standing};
 
@@ -64,14 +66,26 @@ fn put_all_stuck(alloc: Global, out: &mut Text, nodes: &[u32], stuck: &[Stuck])
 fn put_stuck(alloc: Global, out: &mut Text, nodes: &[u32], stuck: &Stuck)
     ensures { Adds out.old out.new (stuck_text nodes.now (stopped stuck.now)) }
 {
-    if node_at(nodes, stuck.rank) != stuck.rank {
-        return;
+    if node_at(nodes, stuck.rank) == stuck.rank {
+        put_from_node(alloc, out, nodes, stuck);
     }
-    match (name_of(alloc, stuck.rank), number_of(alloc, stuck.rank)) {
-        (Ok(name), Ok(number)) => {
-            put_wait(alloc, out, Some(nodes), true, &name, &number, &stuck.waits);
-        }
-        _ => out.give_up(),
+}
+
+fn put_from_node(alloc: Global, out: &mut Text, nodes: &[u32], stuck: &Stuck)
+    ensures { Adds out.old out.new (wait_text (Some nodes.now) true (node_name stuck.now.rank) (decimal stuck.now.rank) (shape stuck.now.waits)) }
+{
+    match name_of(alloc, stuck.rank) {
+        Ok(name) => put_from(alloc, out, nodes, &name, stuck),
+        Err(_) => out.give_up(),
+    }
+}
+
+fn put_from(alloc: Global, out: &mut Text, nodes: &[u32], name: &[u8], stuck: &Stuck)
+    ensures { Adds out.old out.new (wait_text (Some nodes.now) true name.now (decimal stuck.now.rank) (shape stuck.now.waits)) }
+{
+    match number_of(alloc, stuck.rank) {
+        Ok(number) => put_wait(alloc, out, Some(nodes), true, name, &number, &stuck.waits),
+        Err(_) => out.give_up(),
     }
 }
 

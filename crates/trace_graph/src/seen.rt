@@ -68,12 +68,18 @@ fn see_other(
     see_doing(alloc, know, rank, prefix, state)
 }
 
+fn is_of(stop: &Stuck, rank: u32) -> bool
+    ensures { result ≡ (stop.now.rank == rank) }
+{
+    stop.rank == rank
+}
+
 /// What is told of a rank that is stuck.
 fn stop_of(stuck: &[Stuck], rank: u32) -> Option<&Stuck>
     ensures { option_map (λ s. stopped s.now) result ≡ stop_of (map stopped stuck.now) rank }
 {
     for stop in stuck {
-        if stop.rank == rank {
+        if is_of(stop, rank) {
             return Some(stop);
         }
     }

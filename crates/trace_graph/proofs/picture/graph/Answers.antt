@@ -1,6 +1,7 @@
 use Rattle.std.proofs.Common.{◌≡◌, ◌∙◌, List, Option, ℕ, ap, sym, subst, map}
 use Rattle.std.proofs.lemmas.Result.{IfOk-weaker}
 use Rattle.trace_node.specs.Answer.{Stopped}
+use Rattle.trace_node.specs.Stopped.{stopped}
 use Rattle.trace_explain.specs.Hearts.{AreHearts}
 use Rattle.trace_graph.specs.Graph.{standings_text}
 use Rattle.trace_graph.specs.Nodes.{standings_below}
@@ -19,5 +20,5 @@ returns c =
     IfOk-weaker c.drawn.result _ _ (λ text e. (
       found,
       hearts,
-      e ∙ ap (λ (l : List Standing). standings_text l _) seen ∙ ap (standings_text (standings_below a c.args.know.now found a.ranks)) c.stuck-2.ensures,
+      e ∙ ap (λ (l : List Standing). standings_text l (map stopped c.stuck-2.result.now)) seen ∙ ap (standings_text (standings_below a c.args.know.now found a.ranks)) c.stuck-2.ensures,
     )) c.drawn.ensures
