@@ -7,6 +7,7 @@
 //! | `spelling` | the bytes of each kind of event in both versions, there and back |
 //! | `order` | the first cause of a refusal, byte by byte |
 //! | `devices` | a device without an end, and the longest frame of each version |
+//! | `refused` | frames that are read, joined and written where memory is refused |
 #![tactic(auto)]
 
 #[cfg(test)]
@@ -15,5 +16,7 @@ mod devices;
 mod fixture;
 #[cfg(test)]
 mod order;
+#[cfg(test)]
+mod refused;
 #[cfg(test)]
 mod spelling;
