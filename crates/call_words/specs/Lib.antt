@@ -2,3 +2,4 @@ pub mod Texts
 pub mod Seconds
 pub mod Ranges
 pub mod Words
+pub mod Functions

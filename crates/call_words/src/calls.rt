@@ -2,13 +2,13 @@
 
 ghost use Rattle.std.specs.Prelude.{◌≡◌, length};
 ghost use Rattle.call_words.specs.Texts.{Adds};
-ghost use Rattle.call_words.specs.Words.{call_text, collective_name, collective_text, exchange_text, immediate_name, of_requests_text, on_text, one_root_text, probe_text, receive_text, root_text, send_name, send_text};
+ghost use Rattle.call_words.specs.Words.{call_text, collective_name, collective_text, exchange_text, kind_text, immediate_name, of_requests_text, on_text, one_root_text, probe_text, receive_text, root_text, send_name, send_text};
 
 use crate::envelopes::{put_comm, put_probed, put_received, put_sent};
 use crate::text::Text;
 use mpi_model::{Call, Collective, CommRef, Envelope, Exchange, Kind, Mode, ProbeEnvelope};
 
-fn send_name(mode: Mode) -> &'static [u8]
+pub(crate) fn send_name(mode: Mode) -> &'static [u8]
     ensures { result.now ≡ send_name mode }
 {
     match mode {
@@ -19,7 +19,7 @@ fn send_name(mode: Mode) -> &'static [u8]
     }
 }
 
-fn immediate_name(mode: Mode) -> &'static [u8]
+pub(crate) fn immediate_name(mode: Mode) -> &'static [u8]
     ensures { result.now ≡ immediate_name mode }
 {
     match mode {
@@ -30,7 +30,7 @@ fn immediate_name(mode: Mode) -> &'static [u8]
     }
 }
 
-fn collective_name(kind: Kind) -> &'static [u8]
+pub(crate) fn collective_name(kind: Kind) -> &'static [u8]
     ensures { result.now ≡ collective_name kind }
 {
     match kind {
@@ -76,7 +76,7 @@ fn put_exchange(out: &mut Text, exchange: Exchange)
     put_received(out, exchange.receive());
 }
 
-fn put_on(out: &mut Text, name: &[u8], comm: CommRef)
+pub(crate) fn put_on(out: &mut Text, name: &[u8], comm: CommRef)
     ensures { Adds out.old out.new (on_text name.now comm) }
 {
     out.put(name);
@@ -92,7 +92,7 @@ fn put_root(out: &mut Text, root: Option<u32>)
     }
 }
 
-fn put_one_root(out: &mut Text, root: u32)
+pub(crate) fn put_one_root(out: &mut Text, root: u32)
     ensures { Adds out.old out.new (one_root_text root) }
 {
     out.put(b", root ");
@@ -104,6 +104,14 @@ fn put_collective(out: &mut Text, call: Collective)
 {
     put_on(out, collective_name(call.kind()), call.comm());
     put_root(out, call.root());
+}
+
+/// A collective call by its function and its root, as `MPI_Bcast, root 0`.
+pub fn put_kind(out: &mut Text, kind: Kind, root: Option<u32>)
+    ensures { Adds out.old out.new (kind_text kind root) }
+{
+    out.put(collective_name(kind));
+    put_root(out, root);
 }
 
 fn put_of_requests(out: &mut Text, name: &[u8], count: usize)

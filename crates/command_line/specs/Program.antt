@@ -10,7 +10,7 @@ use Rattle.command_line.specs.declared.Asked.{Asked}
 use Rattle.command_line.specs.declared.CommandFault.{CommandFault}
 use Rattle.command_line.specs.declared.CommandFault.TheVariants.{Memory, Shown, Unread}
 use Rattle.command_line.specs.declared.Verb.{Verb}
-use Rattle.command_line.specs.declared.Verb.TheVariants.{Explain, Report, ReportJson, Replay, Cluster, Check}
+use Rattle.command_line.specs.declared.Verb.TheVariants.{Explain, Graph, Report, ReportJson, Replay, Cluster, Check}
 
 -- a file that has to be named
 abbrev pub file_rule : Text → Rule
@@ -38,10 +38,11 @@ abbrev pub bare : App
 bare = on_top (λ s. record s { has_version = true; subcommand_required = true }) (new_app (codes "mpimatch"))
 
 abbrev pub program : App
-program = with_verb (with_verb (with_verb (with_report (with_verb bare (codes "explain"))) (codes "replay")) (codes "cluster")) (codes "check")
+program = with_verb (with_verb (with_verb (with_report (with_verb (with_verb bare (codes "explain")) (codes "graph"))) (codes "replay")) (codes "cluster")) (codes "check")
 
 abbrev pub verb_named : Text → Option Verb
 verb_named name = if bytes_eq name (codes "explain") then Some Explain
+    else if bytes_eq name (codes "graph") then Some Graph
     else if bytes_eq name (codes "report") then Some Report
     else if bytes_eq name (codes "replay") then Some Replay
     else if bytes_eq name (codes "cluster") then Some Cluster

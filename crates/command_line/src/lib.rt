@@ -23,6 +23,8 @@ use thiserror::Error;
 pub enum Verb {
     /// Say in words who is stuck, which of them hold up all others, and what makes the answer doubtful.
     Explain,
+    /// Draw for whom each stuck rank waits, as Graphviz DOT.
+    Graph,
     /// Print the report of a trace.
     Report,
     /// Print the report as one JSON object.
@@ -114,6 +116,17 @@ in the other way, which pieces disagree, where something is missing, and what el
 doubtful. mpimatch report has all facts, one a line.
 "#;
 
+// What the help of `graph` says below its arguments.
+const GRAPH_HELP: &str =
+    r#"Example: mpimatch graph layout.json manifest.json | dot -Tsvg >deadlock.svg
+
+It prints a graph in the language of Graphviz, whose dot draws it. Each rank stands in one node, with
+the call in which it stands. Ranks that wait for the same, in the same function on the same
+communicator, share a node. Filled nodes with a double frame hold up all others, the hearts of the
+deadlocks; gray ones are not stuck. A rank waits for each rank to which a solid arrow leads, and for one
+of those to which the dashed arrows of a small point lead.
+"#;
+
 // What the help of `report` says below its arguments.
 const REPORT_HELP: &str =
     r#"It joins the pieces of the trace, in whatever order they come, and prints:
@@ -182,7 +195,7 @@ Each piece costs a pass over all calls of its rank, so a rank in many pieces tak
 
 // What the help says below the verbs.
 const MORE_HELP: &str =
-    r#"To see what is wrong: explain. All facts: report. A check of the answer: check.
+    r#"To see what is wrong: explain. A picture: graph. All facts: report. A check of the answer: check.
 Nodes that exchange what they know: replay, cluster.
 
 Example: mpimatch explain layout.json manifest.json
@@ -218,6 +231,13 @@ fn program_command<'a>(alloc: Global) -> Result<Command<'a>, AllocError>
         "explain",
         "Says in words who is stuck, and which ranks hold up all others",
         EXPLAIN_HELP,
+    )?;
+    let command = with_verb(
+        command,
+        alloc,
+        "graph",
+        "Draws for whom each stuck rank waits, as a graph for Graphviz",
+        GRAPH_HELP,
     )?;
     let command = with_report(command, alloc)?;
     let command = with_verb(
@@ -337,6 +357,8 @@ fn verb_of(name: &str) -> Option<Verb>
 {
     if name == "explain" {
         Some(Verb::Explain)
+    } else if name == "graph" {
+        Some(Verb::Graph)
     } else if name == "report" {
         Some(Verb::Report)
     } else if name == "replay" {

@@ -16,3 +16,4 @@ pub mod Checks
 pub mod OneByOne
 pub mod Unread
 pub mod Explaining
+pub mod Drawing

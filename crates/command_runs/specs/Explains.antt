@@ -23,7 +23,7 @@ under_other l = record l { sends = other_sends l.sends }
 
 -- The text says what the answer to a view tells, beside the answer under the other kind of sends.
 abbrev pub IsTold : Parts → View → List ℕ → Type 0
-IsTold l view text = (answer other : Answered) × IsAnswer l view answer × IsAnswer (under_other l) view other × IsExplained answer view other text
+IsTold l view text = (answer other : Answered) × IsAnswer l view answer × IsAnswer (under_other l) view other × IsExplained l answer view other text
 
 -- The text says what the files tell: the facts of all pieces that the manifest names, for the layout.
 abbrev pub IsExplainOf : (List ℕ → Option (List ℕ)) → List ℕ → List ℕ → List ℕ → Type 0

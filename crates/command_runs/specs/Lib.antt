@@ -1,5 +1,6 @@
 pub mod Checks
 pub mod Explains
+pub mod Graphs
 pub mod Clusters
 pub mod Endings
 pub mod FaultLines

@@ -77,7 +77,7 @@ fn text_with<O: Opener, V: Watcher>(
         Ok(node) => node,
         Err(fault) => return Err(fault),
     };
-    match explained(alloc, node, &other) {
+    match explained(alloc, &layout, node, &other) {
         Ok(text) => Ok(text),
         Err(_) => Err(RunFault::Memory),
     }
@@ -100,8 +100,14 @@ fn other_sends(sends: Sends) -> Sends
 }
 
 // What a node tells, in words, beside what one of the other layout would tell. It lets go of the node.
-fn explained<N: Answerer>(alloc: Global, node: N, other: &Layout) -> Result<Vec<u8>, AllocError>
+fn explained<N: Answerer>(
+    alloc: Global,
+    layout: &Layout,
+    node: N,
+    other: &Layout,
+) -> Result<Vec<u8>, AllocError>
     requires fresh { (N.held node).is_stale ≡ false }
+    requires own { layout.now ≡ (N.held node).layout }
     requires other { other.now ≡ under_other (N.held node).layout }
     ensures { IfOk result (λ text. IsTold (N.held node).layout (N.held node).know text.items) }
 {
@@ -111,23 +117,24 @@ fn explained<N: Answerer>(alloc: Global, node: N, other: &Layout) -> Result<Vec<
     };
     node.known();
     let second = node_under(alloc, other, node.knowledge())?;
-    explained_beside(alloc, answer, node.knowledge(), second)
+    explained_beside(alloc, layout, answer, node.knowledge(), second)
 }
 
 // What an answer tells, in words, beside the answer of a node, which it lets go of.
 fn explained_beside<N: Answerer>(
     alloc: Global,
+    layout: &Layout,
     answer: &Answer,
     know: &Knowledge,
     second: N,
 ) -> Result<Vec<u8>, AllocError>
     requires fresh { (N.held second).is_stale ≡ false }
-    ensures { IfOk result (λ text. (other : Answered) × IsAnswer (N.held second).layout (N.held second).know other × IsExplained answer.now know.now other text.items) }
+    ensures { IfOk result (λ text. (other : Answered) × IsAnswer (N.held second).layout (N.held second).know other × IsExplained layout.now answer.now know.now other text.items) }
 {
     let Ok(other) = second.told() else {
         unreachable!()
     };
-    explain(alloc, answer, know, other)
+    explain(alloc, layout, answer, know, other)
 }
 
 // A node of the layout that knows the same.

@@ -7,7 +7,7 @@
 //! lets the workers of two nodes read their texts side by side and both nodes exchange what they know
 //! over a socket (`trace_cluster`), and writes both reports. `check` reads the pieces as `report` does, and
 //! writes whether the rules say the same (`trace_check`). `explain` reads them so too, and says the answer in words
-//! (`trace_explain`). Nothing is written before the whole run is
+//! (`trace_explain`), and `graph` draws it (`trace_graph`). Nothing is written before the whole run is
 //! good. Files come from an [`Opener`], so that a run can be proved and tested over
 //! files in memory; the program opens those of the system.
 //!
@@ -24,7 +24,7 @@
 //! - [`schedule`]: the steps that a manifest's schedule stands for; [`replay`]: their run, and the reports
 //!   of the nodes
 //! - [`answerer`]: a node as those know it who write what it tells; [`check`]: the lines of a check;
-//!   [`explain`]: an answer in words; [`json`]: a report as JSON
+//!   [`explain`]: an answer in words; [`graph`]: as a picture; [`json`]: a report as JSON
 //! - [`texts`]: the texts of a cluster; [`cluster`]: its run, and the reports of both nodes
 //! - [`run`]: a verb over its files; [`fault`]: why it is refused, and the line that says so, in which
 //!   [`file_name`] shows names of files
@@ -42,6 +42,7 @@ mod explain;
 mod fault;
 mod file_name;
 mod gatherer;
+mod graph;
 mod input;
 mod json;
 mod knowing;

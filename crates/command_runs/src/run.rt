@@ -19,6 +19,7 @@ use crate::check::check_with;
 use crate::explain::explain_with;
 use crate::fault::RunFault;
 use crate::gatherer::Gathered;
+use crate::graph::graph_with;
 use crate::input::{layout_at, manifest_at};
 use crate::json::json_with;
 use crate::knowing::know_of;
@@ -55,6 +56,7 @@ pub fn run_with<O: Opener, V: Watcher, W: Write>(
 {
     match verb {
         Verb::Explain => explain_with(alloc, layout, manifest, files, watcher, out),
+        Verb::Graph => graph_with(alloc, layout, manifest, files, watcher, out),
         Verb::Report => report_with(alloc, layout, manifest, files, watcher, out),
         Verb::ReportJson => json_with(alloc, layout, manifest, files, watcher, out),
         Verb::Replay => replay_with(alloc, layout, manifest, files, watcher, out),

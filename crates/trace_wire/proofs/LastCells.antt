@@ -18,13 +18,13 @@ use Rattle.trace_know.specs.View.{View, place_cmp}
 use Rattle.trace_wire.specs.Cells.{Entry, is_past}
 use Rattle.trace_wire.proofs.FormLaws.{chosen}
 
-places_total : IsTotalOrder place_cmp
+pub places_total : IsTotalOrder place_cmp
 places_total = then_total (on_total (λ p. p.0) nat_cmp_total) (on_total (λ p. p.1) nat_cmp_total)
 
-exact_places : IsAntisymmetric place_cmp
+pub exact_places : IsAntisymmetric place_cmp
 exact_places a b h = exact_pairs nat_cmp nat_cmp exact_unsigned exact_unsigned a b h
 
-equal : (r : Ordering) → is_eq r ≡ true → r ≡ Equal
+pub equal : (r : Ordering) → is_eq r ≡ true → r ≡ Equal
 equal Equal h = refl
 equal Less h = absurd cc
 equal Greater h = absurd cc
@@ -45,7 +45,7 @@ more_rank r p s q h = grind (arith, nat_tests)
 more_place : (r p q : ℕ) → p < q → place_cmp (r, q) (r, p) ≡ Greater
 more_place r p q h = grind (arith, nat_tests)
 
-less : (a b : ℕ × ℕ) → Before a b → place_cmp a b ≡ Less
+pub less : (a b : ℕ × ℕ) → Before a b → place_cmp a b ≡ Less
 less a b h = elim h [
   | inl lt ↦ less_rank a.0 a.1 b.0 b.1 lt
   | inr e ↦ subst (λ (s : ℕ). place_cmp (a.0, a.1) (s, b.1) ≡ Less) e.0 (less_place a.0 a.1 b.1 e.1)
@@ -68,13 +68,13 @@ AllUpTo last [] = Unit {0}
 AllUpTo None (e ∷ es) = ⊥
 AllUpTo (Some last) (e ∷ es) = (Before e.0 last ⊎ (e.0 ≡ last)) × AllUpTo (Some last) es
 
-is_before : (a b : ℕ × ℕ) → is_past (Some a) b ≡ true → Before a b
+pub is_before : (a b : ℕ × ℕ) → is_past (Some a) b ≡ true → Before a b
 is_before a b h = elim (cases_lt a.0 b.0) [
   | inl lt ↦ inl lt
   | inr le ↦ inr (grind (arith, nat_tests), grind (arith, nat_tests))
 ]
 
-before_then : (a b c : ℕ × ℕ) → Before a b → Before b c → Before a c
+pub before_then : (a b c : ℕ × ℕ) → Before a b → Before b c → Before a c
 before_then a b c h k = elim h [
   | inl lt ↦ elim k [ inl lt2 ↦ inl (omega arith) | inr e ↦ inl (omega (arith, e.0)) ]
   | inr e ↦ elim k [ inl lt2 ↦ inl (omega (arith, e.0)) | inr f ↦ inr (e.0 ∙ f.0, omega (arith, e.1, f.1)) ]

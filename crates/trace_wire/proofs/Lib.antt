@@ -17,3 +17,9 @@ pub mod Heads
 pub mod Sending
 pub mod OwnCells
 pub mod Taking
+pub mod SomeRuns
+pub mod Plans
+pub mod Levels
+pub mod Framing
+pub mod Packing
+pub mod Unpacking

@@ -9,10 +9,10 @@ use Rattle.mpi_model.specs.Side.{Side, LeavesSide}
 use Rattle.trace_wire.specs.Sending.{Page, Sends, Comes, opening, closing}
 use Rattle.trace_wire.specs.Writing.{WritesFront}
 
-leaves : (a : Side) → LeavesSide a a
+pub leaves : (a : Side) → LeavesSide a a
 leaves a = record { bytes = Keeps-refl a.bytes; failures = refl }
 
-leaves_both : (a b c : Side) → LeavesSide a b → LeavesSide b c → LeavesSide a c
+pub leaves_both : (a b c : Side) → LeavesSide a b → LeavesSide b c → LeavesSide a c
 leaves_both a b c p q = record { bytes = Keeps-trans _ _ _ p.bytes q.bytes; failures = q.failures ∙ p.failures }
 
 -- nothing was put
@@ -166,7 +166,7 @@ given_back s t bytes e f h = record {
 
 -- ---- a frame is out
 
-front_of : (xs ys : List ℕ) → take (length xs) (xs ++ ys) ≡ xs
+pub front_of : (xs ys : List ℕ) → take (length xs) (xs ++ ys) ≡ xs
 front_of [] ys = refl
 front_of (x ∷ xs) ys = ap (λ (l : List ℕ). x ∷ l) (front_of xs ys)
 
@@ -212,7 +212,7 @@ take_next {A = A} (y ∷ xs) (suc i) x h e =
     let n : suc i + 1 ≡ suc (i + 1) = omega arith in
     ap (λ (k : ℕ). take k (y ∷ xs)) n ∙ ap (λ (l : List A). y ∷ l) (take_next xs i x (omega (arith, h)) e)
 
-spelled_last : {A : Type 0} (spell : A → List ℕ) (xs : List A) (x : A) → flat_map spell (xs ++ x ∷ []) ≡ flat_map spell xs ++ spell x
+pub spelled_last : {A : Type 0} (spell : A → List ℕ) (xs : List A) (x : A) → flat_map spell (xs ++ x ∷ []) ≡ flat_map spell xs ++ spell x
 spelled_last spell [] x = append-nil (spell x)
 spelled_last spell (y ∷ xs) x = ap (λ (l : List ℕ). spell y ++ l) (spelled_last spell xs x) ∙ sym (append_assoc (spell y) (flat_map spell xs) (spell x))
 

@@ -11,3 +11,6 @@ pub mod Outcomes
 pub mod Reading
 pub mod Sending
 pub mod Writing
+pub mod Packed
+pub mod Joining
+pub mod Planning

@@ -16,6 +16,7 @@
 //! - [`size`]: how long a frame is
 //! - [`read`]: the head, the payload in pieces, and its cells or runs
 //! - [`item`]: what stands in counted lists, in both directions
+//! - [`packed`]: knowledge of any size as frames one after another, and joined again
 //! - [`laws`]: what holds of frames, as the contract of a call that does nothing
 //!
 //! Its tests are in the crate `trace_wire_tests`.
@@ -34,6 +35,7 @@ macro_rules! field {
 mod fault;
 mod item;
 mod laws;
+mod packed;
 mod read;
 mod size;
 mod version;
@@ -41,6 +43,10 @@ mod write;
 
 pub use fault::WireFault;
 pub use laws::frame_laws;
+pub use packed::fault::{PackedCause, PackedFault};
+pub use packed::joining::Joining;
+pub use packed::reading::read_frames;
+pub use packed::writing::write_frames;
 pub use read::read_frame;
 pub use size::{frame_len, frame_len_as};
 pub use version::Version;

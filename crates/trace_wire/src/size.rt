@@ -73,7 +73,7 @@ fn event_len(event: &Event) -> u64
 }
 
 /// The bytes of what is known of a place. It also tells that an event lies in its range.
-fn known_len(known: &Known) -> u64
+pub(crate) fn known_len(known: &Known) -> u64
     ensures value { result ≡ min (length (known_bytes known.now)) (2 ^ 64 - 1) }
     ensures range { IsInRange known.now }
 {

@@ -7,6 +7,7 @@
 //! | `spelling` | the bytes of each kind of event in both versions, there and back |
 //! | `order` | the first cause of a refusal, byte by byte |
 //! | `devices` | a device without an end, and the longest frame of each version |
+//! | `packed` | which of several frames is refused and why, and knowledge that one frame can't hold |
 //! | `refused` | frames that are read, joined and written where memory is refused |
 #![tactic(auto)]
 
@@ -16,6 +17,8 @@ mod devices;
 mod fixture;
 #[cfg(test)]
 mod order;
+#[cfg(test)]
+mod packed;
 #[cfg(test)]
 mod refused;
 #[cfg(test)]

@@ -13,7 +13,7 @@ use crate::write::sink::Sink;
 use trace_know::{Knowledge, Walk};
 
 /// `MPTX`, the version, and the length of the payload.
-fn put_head<S: Sink>(out: &mut S, version: Version, len: u32)
+pub(crate) fn put_head<S: Sink>(out: &mut S, version: Version, len: u32)
     ensures { Sends (S.page out.old) (S.page out.new) (head_of version len) }
 {
     out.put(&[b'M', b'P', b'T', b'X', 0]);

@@ -12,7 +12,7 @@ use crate::write::sink::Sink;
 use trace_know::Walk;
 
 /// What is known at so many cells of a walk, without their places.
-fn put_knowns<S: Sink>(out: &mut S, count: usize, cells: &mut Walk<'_>)
+pub(crate) fn put_knowns<S: Sink>(out: &mut S, count: usize, cells: &mut Walk<'_>)
     requires there { count ≤ length cells.old }
     requires short { length (knowns_bytes (knowns_of (take count cells.old))) < 2 ^ 32 }
     ensures sends { Sends (S.page out.old) (S.page out.new) (knowns_bytes (knowns_of (take count cells.old))) }

@@ -18,5 +18,6 @@ returns g c =
       said.0,
       c.in-Ok.ensures.ok,
       subst (λ (n : Held). IsAnswer n.layout n.know said.0) second said.1,
-      subst (λ (v : View). IsExplained c.in-Ok.answer.now v said.0 text.items) c.knowledge-2.ensures said.2,
+      subst (λ (l : Parts). IsExplained l c.in-Ok.answer.now h.know said.0 text.items) c.requires.own
+      (subst (λ (v : View). IsExplained c.args.layout.now c.in-Ok.answer.now v said.0 text.items) c.knowledge-2.ensures said.2),
     )) c.explained_beside.ensures

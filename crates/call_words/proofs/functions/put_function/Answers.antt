@@ -1,0 +1,33 @@
+use Rattle.std.proofs.Common.{ap, codes, sym, ◌∙◌}
+use Rattle.mpi_model.specs.declared.envelope.Envelope.{Envelope}
+use Rattle.call_words.specs.Functions.{function_text}
+use Rattle.call_words.specs.Words.{on_text}
+use Rattle.call_words.proofs.Adding.{reads}
+use Rattle.call_words.proofs.functions.put_function.Goals as goal
+
+pub returns-in-Sendrecv : goal.returns-in-Sendrecv
+returns-in-Sendrecv c = reads c.put_on-in-Sendrecv.ensures (ap (λ (e : Envelope). on_text (codes "MPI_Sendrecv") e.comm) c.send.ensures.value ∙ sym (ap function_text c.in-Sendrecv.is))
+
+pub returns-in-Waitany : goal.returns-in-Waitany
+returns-in-Waitany c = reads c.put-in-Waitany.ensures (sym (ap function_text c.in-Waitany.is))
+
+pub returns-in-Waitsome : goal.returns-in-Waitsome
+returns-in-Waitsome c = reads c.put-in-Waitsome.ensures (sym (ap function_text c.in-Waitsome.is))
+
+pub returns-in-Testany : goal.returns-in-Testany
+returns-in-Testany c = reads c.put-in-Testany.ensures (sym (ap function_text c.in-Testany.is))
+
+pub returns-in-Testsome : goal.returns-in-Testsome
+returns-in-Testsome c = reads c.put-in-Testsome.ensures (sym (ap function_text c.in-Testsome.is))
+
+pub returns-in-Cancel : goal.returns-in-Cancel
+returns-in-Cancel c = reads c.put-in-Cancel.ensures (sym (ap function_text c.in-Cancel.is))
+
+pub returns-in-Free : goal.returns-in-Free
+returns-in-Free c = reads c.put-in-Free.ensures (sym (ap function_text c.in-Free.is))
+
+pub returns-in-Ibarrier : goal.returns-in-Ibarrier
+returns-in-Ibarrier c = reads c.put_on-in-Ibarrier.ensures (ap (on_text (codes "MPI_Ibarrier")) c.comm-in-Ibarrier.ensures.value ∙ sym (ap function_text c.in-Ibarrier.is))
+
+pub returns-in-Unread : goal.returns-in-Unread
+returns-in-Unread c = reads c.put-in-Unread.ensures (sym (ap function_text c.in-Unread.is))

@@ -1,0 +1,38 @@
+//! Calls by their function.
+
+ghost use Rattle.call_words.specs.Functions.{function_text};
+ghost use Rattle.call_words.specs.Texts.{Adds};
+
+use crate::calls::{collective_name, immediate_name, put_on, send_name};
+use crate::text::Text;
+use mpi_model::Call;
+
+/// A call by its function and communicator alone, as `MPI_Send on communicator 5`: calls that differ only in
+/// peers, tags, counts or requests read alike.
+pub fn put_function(out: &mut Text, call: &Call)
+    ensures { Adds out.old out.new (function_text call.now) }
+{
+    match call {
+        Call::Local => out.put(b"a call of no other rank"),
+        Call::Finalize => out.put(b"MPI_Finalize"),
+        Call::Send(mode, envelope) => put_on(out, send_name(*mode), envelope.envelope().comm),
+        Call::Isend(mode, envelope) => put_on(out, immediate_name(*mode), envelope.envelope().comm),
+        Call::Recv(envelope) => put_on(out, b"MPI_Recv", envelope.envelope().comm),
+        Call::Irecv(envelope) => put_on(out, b"MPI_Irecv", envelope.envelope().comm),
+        Call::Sendrecv(exchange) => put_on(out, b"MPI_Sendrecv", exchange.send().comm),
+        Call::Wait(_) => out.put(b"MPI_Wait"),
+        Call::Waitall(_) => out.put(b"MPI_Waitall"),
+        Call::Waitany(_) => out.put(b"MPI_Waitany"),
+        Call::Waitsome(_) => out.put(b"MPI_Waitsome"),
+        Call::Test(_) => out.put(b"MPI_Test"),
+        Call::Testall(_) => out.put(b"MPI_Testall"),
+        Call::Testany(_) => out.put(b"MPI_Testany"),
+        Call::Testsome(_) => out.put(b"MPI_Testsome"),
+        Call::Cancel(_) => out.put(b"MPI_Cancel"),
+        Call::Free(_) => out.put(b"MPI_Request_free"),
+        Call::Collective(call) => put_on(out, collective_name(call.kind()), call.comm()),
+        Call::Probe(envelope) => put_on(out, b"MPI_Probe", envelope.comm()),
+        Call::Ibarrier(comm) => put_on(out, b"MPI_Ibarrier", comm.comm()),
+        Call::Unread => out.put(b"a call that is not read"),
+    }
+}

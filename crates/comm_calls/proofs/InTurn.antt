@@ -1,0 +1,64 @@
+-- Calls that are read one after another.
+use Rattle.std.proofs.Common.{◌≡◌, ◌∙◌, ◌<◌, ◌+◌, ◌-◌, ◌^◌, ℕ, List, [], ◌∷◌, ◌++◌, Option, Some, None, codes, length, length-append, ap, sym, subst, refl, arith}
+use Rattle.dumpi_text.specs.Call.{TextCall}
+use Rattle.mpi_model.specs.Failures.{one_more}
+use Rattle.comm_makings.specs.declared.calls.CommCall.{CommCall}
+use Rattle.comm_calls.specs.Calls.{AddsCall, AreCalls, AreCallsBy, IsCommCall, IsReadOf, ReadCalls, Reads, ReadsOneMore, beside_in, first_beside, function_of, nothing_read, or_number}
+use Rattle.comm_calls.specs.declared.function.Function.{Function}
+
+pub none_read : IsReadOf [] nothing_read
+none_read = record { place = refl; world = refl; own = refl; calls = refl }
+
+either_first : (a b c : Option ℕ) → or_number (or_number a b) c ≡ or_number a (or_number b c)
+either_first (Some n) b c = refl
+either_first None b c = refl
+
+or_none : (a : Option ℕ) → or_number a None ≡ a
+or_none (Some n) = refl
+or_none None = refl
+
+-- the first number that is said, with one call more
+beside_more : (name : List ℕ) (raws : List TextCall) (raw : TextCall) → first_beside name (raws ++ raw ∷ []) ≡ or_number (first_beside name raws) (beside_in name raw.params)
+beside_more name [] raw = or_none (beside_in name raw.params)
+beside_more name (r ∷ rs) raw =
+    ap (λ (n : Option ℕ). or_number (beside_in name r.params) n) (beside_more name rs raw)
+    ∙ sym (either_first (beside_in name r.params) (first_beside name rs) (beside_in name raw.params))
+
+-- a call that is added behind the first one is added to the others
+behind_first : (function : Option Function) (place : ℕ) (raw : TextCall) (read : CommCall) (others old new : List CommCall) → old ≡ read ∷ others → AddsCall function place raw old new
+    → (rest : List CommCall) × (new ≡ read ∷ rest) × AddsCall function place raw others rest
+behind_first None place raw read others old new e adds = (others, adds ∙ e, refl)
+behind_first (Some function) place raw read others old new e adds =
+    (others ++ adds.0 ∷ [], adds.1 ∙ ap (λ (l : List CommCall). l ++ adds.0 ∷ []) e, (adds.0, refl, adds.2))
+
+-- the last call alone
+last_alone : (function : Option Function) (place : ℕ) (raw : TextCall) (old new : List CommCall) → old ≡ [] → AddsCall function place raw old new → AreCallsBy function place raw (AreCalls (place + 1) []) new
+last_alone None place raw old new e adds = adds ∙ e
+last_alone (Some function) place raw old new e adds = (adds.0, [], adds.1 ∙ ap (λ (l : List CommCall). l ++ adds.0 ∷ []) e, adds.2, refl)
+
+-- one call more behind the first, where that is known of the others
+calls_behind : (function : Option Function) (place : ℕ) (r : TextCall) (rs : List TextCall) (raw : TextCall) (old new : List CommCall)
+    → ((before after : List CommCall) → AreCalls (place + 1) rs before → AddsCall (function_of raw) (place + 1 + length rs) raw before after → AreCalls (place + 1) (rs ++ raw ∷ []) after)
+    → AreCallsBy function place r (AreCalls (place + 1) rs) old → AddsCall (function_of raw) (place + 1 + length rs) raw old new → AreCallsBy function place r (AreCalls (place + 1) (rs ++ raw ∷ [])) new
+calls_behind None place r rs raw old new more all adds = more old new all adds
+calls_behind (Some function) place r rs raw old new more all adds =
+    let rest = behind_first (function_of raw) (place + 1 + length rs) raw all.0 all.1 old new all.2 adds in
+    (all.0, rest.0, rest.1, all.3, more all.1 rest.0 all.4 rest.2)
+
+-- one call more at the end
+calls_more : (place : ℕ) (raws : List TextCall) (raw : TextCall) (old new : List CommCall) → AreCalls place raws old → AddsCall (function_of raw) (place + length raws) raw old new → AreCalls place (raws ++ raw ∷ []) new
+calls_more place [] raw old new all adds =
+    let here : place + length {A = TextCall} [] ≡ place = omega arith in
+    last_alone (function_of raw) place raw old new all (subst (λ (at : ℕ). AddsCall (function_of raw) at raw old new) here adds)
+calls_more place (r ∷ rs) raw old new all adds =
+    let there : place + length (r ∷ rs) ≡ place + 1 + length rs = omega arith in
+    calls_behind (function_of r) place r rs raw old new (λ before after. calls_more (place + 1) rs raw before after) all
+    (subst (λ (at : ℕ). AddsCall (function_of raw) at raw old new) there adds)
+
+pub one_more_read : ReadsOneMore
+one_more_read raws raw old new few all reads = record {
+  place = (let len = length-append raws (raw ∷ []) in omega (arith, len, few, all.place, reads.place));
+  world = reads.world ∙ ap (λ (n : Option ℕ). or_number n (beside_in (codes "MPI_COMM_WORLD") raw.params)) all.world ∙ sym (beside_more (codes "MPI_COMM_WORLD") raws raw);
+  own = reads.own ∙ ap (λ (n : Option ℕ). or_number n (beside_in (codes "MPI_COMM_SELF") raw.params)) all.own ∙ sym (beside_more (codes "MPI_COMM_SELF") raws raw);
+  calls = calls_more 0 raws raw old.calls new.calls all.calls (subst (λ (at : ℕ). AddsCall (function_of raw) at raw old.calls new.calls) (let here : old.place ≡ 0 + length raws = omega (arith, all.place) in here) reads.calls);
+}

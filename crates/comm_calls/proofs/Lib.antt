@@ -1,0 +1,4 @@
+pub mod Names
+pub mod ByParameter
+pub mod Ranges
+pub mod InTurn

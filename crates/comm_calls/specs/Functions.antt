@@ -1,0 +1,92 @@
+-- The functions that make, name or free communicators and groups. Names are compared byte for byte.
+use Rattle.std.specs.Prelude.{ℕ, List, Option, Some, None, codes, option_map, if◌then◌else◌}
+use Rattle.std.specs.Str.{bytes_eq}
+use Rattle.comm_calls.specs.declared.function.Function.{Function}
+use Rattle.comm_calls.specs.declared.function.Function.TheVariants as functions
+use Rattle.comm_calls.specs.declared.function.Giver.{Giver}
+use Rattle.comm_calls.specs.declared.function.Giver.TheVariants as givers
+use Rattle.comm_calls.specs.declared.function.Grouper.{Grouper}
+use Rattle.comm_calls.specs.declared.function.Grouper.TheVariants as groupers
+use Rattle.comm_calls.specs.declared.function.Maker.{Maker}
+use Rattle.comm_calls.specs.declared.function.Maker.TheVariants as makers
+
+-- constructors of communicators (MPI 4.0, 7.4.2)
+abbrev pub maker_named : List ℕ → Option Maker
+maker_named name =
+    if bytes_eq name (codes "MPI_Comm_dup") then Some makers.Dup
+    else if bytes_eq name (codes "MPI_Comm_dup_with_info") then Some makers.DupWithInfo
+    else if bytes_eq name (codes "MPI_Comm_idup") then Some makers.Idup
+    else if bytes_eq name (codes "MPI_Comm_idup_with_info") then Some makers.IdupWithInfo
+    else if bytes_eq name (codes "MPI_Comm_split") then Some makers.Split
+    else if bytes_eq name (codes "MPI_Comm_create") then Some makers.Create
+    else if bytes_eq name (codes "MPI_Comm_create_group") then Some makers.CreateGroup
+    else None
+
+-- constructors of communicators with a topology (MPI 4.0, 8.5)
+abbrev pub grid_named : List ℕ → Option Maker
+grid_named name =
+    if bytes_eq name (codes "MPI_Cart_create") then Some makers.CartCreate
+    else if bytes_eq name (codes "MPI_Cart_sub") then Some makers.CartSub
+    else if bytes_eq name (codes "MPI_Graph_create") then Some makers.GraphCreate
+    else if bytes_eq name (codes "MPI_Dist_graph_create") then Some makers.DistGraphCreate
+    else if bytes_eq name (codes "MPI_Dist_graph_create_adjacent") then Some makers.DistGraphCreateAdjacent
+    else None
+
+-- other functions that give a group: its ranks are unknown
+abbrev pub other_group_named : List ℕ → Option Grouper
+other_group_named name =
+    if bytes_eq name (codes "MPI_Comm_remote_group") then Some groupers.Unread
+    else if bytes_eq name (codes "MPI_Win_get_group") then Some groupers.Unread
+    else if bytes_eq name (codes "MPI_File_get_group") then Some groupers.Unread
+    else if bytes_eq name (codes "MPI_Group_from_session_pset") then Some groupers.UnreadNew
+    else None
+
+-- constructors of groups (MPI 4.0, 7.3.2)
+abbrev pub group_named : List ℕ → Option Grouper
+group_named name =
+    if bytes_eq name (codes "MPI_Comm_group") then Some groupers.OfComm
+    else if bytes_eq name (codes "MPI_Group_incl") then Some groupers.Incl
+    else if bytes_eq name (codes "MPI_Group_excl") then Some groupers.Excl
+    else if bytes_eq name (codes "MPI_Group_range_incl") then Some groupers.RangeIncl
+    else if bytes_eq name (codes "MPI_Group_range_excl") then Some groupers.RangeExcl
+    else if bytes_eq name (codes "MPI_Group_union") then Some groupers.Union
+    else if bytes_eq name (codes "MPI_Group_intersection") then Some groupers.Intersection
+    else if bytes_eq name (codes "MPI_Group_difference") then Some groupers.Difference
+    else other_group_named name
+
+-- other functions that give a communicator (MPI 4.0, 7.4.2, 7.6 and 11.8 to 11.10)
+abbrev pub giver_named : List ℕ → Option Giver
+giver_named name =
+    if bytes_eq name (codes "MPI_Comm_split_type") then Some givers.NewComm
+    else if bytes_eq name (codes "MPI_Comm_accept") then Some givers.NewComm
+    else if bytes_eq name (codes "MPI_Comm_connect") then Some givers.NewComm
+    else if bytes_eq name (codes "MPI_Comm_create_from_group") then Some givers.NewComm
+    else if bytes_eq name (codes "MPI_Intercomm_create") then Some givers.NewIntercomm
+    else if bytes_eq name (codes "MPI_Intercomm_create_from_groups") then Some givers.NewIntercomm
+    else if bytes_eq name (codes "MPI_Intercomm_merge") then Some givers.Merge
+    else if bytes_eq name (codes "MPI_Comm_spawn") then Some givers.Intercomm
+    else if bytes_eq name (codes "MPI_Comm_spawn_multiple") then Some givers.Intercomm
+    else if bytes_eq name (codes "MPI_Comm_join") then Some givers.Intercomm
+    else if bytes_eq name (codes "MPI_Comm_get_parent") then Some givers.Parent
+    else None
+
+-- what tells a rank its own, and what frees (MPI 4.0, 7.4.1, 7.4.3 and 11.10.4)
+abbrev pub single_named : List ℕ → Option Function
+single_named name =
+    if bytes_eq name (codes "MPI_Comm_rank") then Some functions.Rank
+    else if bytes_eq name (codes "MPI_Comm_free") then Some functions.Free
+    else if bytes_eq name (codes "MPI_Comm_disconnect") then Some functions.Free
+    else None
+
+-- the first of two that is there
+abbrev pub first_of : Option Function → Option Function → Option Function
+first_of (Some function) next = Some function
+first_of None next = next
+
+-- the function of a name, where its calls are read
+unfoldable pub function_named : List ℕ → Option Function
+function_named name =
+    first_of (option_map functions.Make (maker_named name))
+    (first_of (option_map functions.Make (grid_named name))
+    (first_of (option_map functions.Group (group_named name))
+    (first_of (option_map functions.Give (giver_named name)) (single_named name))))

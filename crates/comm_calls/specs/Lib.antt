@@ -1,0 +1,6 @@
+pub mod Functions
+pub mod Parameters
+pub mod Numbers
+pub mod Lists
+pub mod Actions
+pub mod Calls

@@ -1,0 +1,72 @@
+//! What a call on communicators or groups does.
+
+ghost use Rattle.std.specs.Prelude.{◌≡◌, IfOk};
+ghost use Rattle.std.specs.Option.{option_copied};
+ghost use Rattle.comm_calls.specs.Actions.{IsAction, IsGroup, IsMake, other_of};
+
+use crate::fault::Memory;
+use crate::function::{Function, Giver, Grouper, Maker};
+use crate::group::{group_call_in, grouped_in};
+use crate::making::{made_of, making_in, parent_of};
+use crate::number::{comm_in, given_in, natural_in};
+use crate::parameter::{any_of, text_of};
+use comm_makings::Action;
+use dumpi_text::RawCall;
+use std::alloc::Global;
+
+fn other_of(giver: Giver, raw: &RawCall) -> Option<&[u8]>
+    ensures { option_copied result ≡ other_of giver raw.now }
+{
+    match giver {
+        Giver::NewComm => text_of(raw, "newcomm"),
+        Giver::NewIntercomm => text_of(raw, "newintercomm"),
+        Giver::Merge => any_of(raw, "newintracomm", "newintercomm", "newcomm"),
+        Giver::Intercomm => text_of(raw, "intercomm"),
+        Giver::Parent => text_of(raw, "parent"),
+    }
+}
+
+fn make_in(alloc: Global, maker: Maker, raw: &RawCall) -> Result<Action, Memory>
+    ensures { IfOk result (IsMake maker raw.now) }
+{
+    Ok(Action::Make {
+        parent: comm_in(alloc, parent_of(maker, raw))?,
+        making: making_in(alloc, maker, raw)?,
+        given: given_in(alloc, made_of(maker, raw))?,
+    })
+}
+
+fn group_in(alloc: Global, grouper: Grouper, raw: &RawCall) -> Result<Action, Memory>
+    ensures { IfOk result (IsGroup grouper raw.now) }
+{
+    Ok(Action::Group {
+        group: group_call_in(alloc, grouper, raw)?,
+        given: grouped_in(alloc, grouper, raw)?,
+    })
+}
+
+fn rank_in(alloc: Global, raw: &RawCall) -> Result<Action, Memory>
+    ensures { IfOk result (IsAction Function.Rank raw.now) }
+{
+    Ok(Action::CommRank {
+        comm: comm_in(alloc, text_of(raw, "comm"))?,
+        rank: natural_in(alloc, text_of(raw, "rank"))?,
+    })
+}
+
+/// What a call of such a function says.
+pub(crate) fn action_in(alloc: Global, function: Function, raw: &RawCall) -> Result<Action, Memory>
+    ensures { IfOk result (IsAction function raw.now) }
+{
+    match function {
+        Function::Make(maker) => make_in(alloc, maker, raw),
+        Function::Rank => rank_in(alloc, raw),
+        Function::Free => Ok(Action::Free {
+            comm: comm_in(alloc, text_of(raw, "comm"))?,
+        }),
+        Function::Group(grouper) => group_in(alloc, grouper, raw),
+        Function::Give(giver) => Ok(Action::GivesComm {
+            given: given_in(alloc, other_of(giver, raw))?,
+        }),
+    }
+}

@@ -1,0 +1,235 @@
+//! The functions that make, name or free communicators and groups, by their names.
+
+ghost use Rattle.std.specs.Prelude.{◌≡◌};
+ghost use Rattle.std.specs.Str.{bytes_eq};
+ghost use Rattle.comm_calls.specs.Functions.{function_named, giver_named, grid_named, group_named, maker_named, other_group_named, single_named};
+
+/// A function that makes communicators of the members of another (MPI 4.0, 7.4.2 and 8.5).
+#[derive(Clone, Copy, Debug, PartialEq, Eq)]
+pub(crate) enum Maker {
+    Dup,
+    DupWithInfo,
+    Idup,
+    IdupWithInfo,
+    Split,
+    Create,
+    CreateGroup,
+    CartCreate,
+    CartSub,
+    GraphCreate,
+    DistGraphCreate,
+    DistGraphCreateAdjacent,
+}
+
+/// A function that gives a group (MPI 4.0, 7.3.2).
+#[derive(Clone, Copy, Debug, PartialEq, Eq)]
+pub(crate) enum Grouper {
+    OfComm,
+    Incl,
+    Excl,
+    RangeIncl,
+    RangeExcl,
+    Union,
+    Intersection,
+    Difference,
+    /// MPI_Comm_remote_group, MPI_Win_get_group and MPI_File_get_group.
+    Unread,
+    /// MPI_Group_from_session_pset.
+    UnreadNew,
+}
+
+/// By which parameter a function gives a communicator from which nothing is derived.
+#[derive(Clone, Copy, Debug, PartialEq, Eq)]
+pub(crate) enum Giver {
+    /// `newcomm`.
+    NewComm,
+    /// `newintercomm`.
+    NewIntercomm,
+    /// MPI_Intercomm_merge: `newintracomm`, `newintercomm` or `newcomm`.
+    Merge,
+    /// `intercomm`.
+    Intercomm,
+    /// `parent`.
+    Parent,
+}
+
+/// A function whose calls are read.
+#[derive(Clone, Copy, Debug, PartialEq, Eq)]
+pub(crate) enum Function {
+    Make(Maker),
+    /// MPI_Comm_rank.
+    Rank,
+    /// MPI_Comm_free and MPI_Comm_disconnect.
+    Free,
+    Group(Grouper),
+    Give(Giver),
+}
+
+// Whether two byte strings are the same. Inlined, so that a literal's bytes are compared one by one.
+#[inline(always)]
+#[tactic(auto, using(crate::proofs::Names::not_as_long))]
+fn same(name: &[u8], word: &[u8]) -> bool
+    ensures { result ≡ bytes_eq name.now word.now }
+{
+    if name.len() != word.len() {
+        return false;
+    }
+    for (at, byte) in word.iter().enumerate() {
+        if name[at] != *byte {
+            return false;
+        }
+    }
+    true
+}
+
+/// Whether a name is this word, byte for byte.
+#[inline(always)]
+pub(crate) fn is(name: &[u8], word: &str) -> bool
+    ensures { result ≡ bytes_eq name.now word.now }
+{
+    same(name, word.as_bytes())
+}
+
+fn maker_named(name: &[u8]) -> Option<Maker>
+    ensures { result ≡ maker_named name.now }
+{
+    if is(name, "MPI_Comm_dup") {
+        Some(Maker::Dup)
+    } else if is(name, "MPI_Comm_dup_with_info") {
+        Some(Maker::DupWithInfo)
+    } else if is(name, "MPI_Comm_idup") {
+        Some(Maker::Idup)
+    } else if is(name, "MPI_Comm_idup_with_info") {
+        Some(Maker::IdupWithInfo)
+    } else if is(name, "MPI_Comm_split") {
+        Some(Maker::Split)
+    } else if is(name, "MPI_Comm_create") {
+        Some(Maker::Create)
+    } else if is(name, "MPI_Comm_create_group") {
+        Some(Maker::CreateGroup)
+    } else {
+        None
+    }
+}
+
+fn grid_named(name: &[u8]) -> Option<Maker>
+    ensures { result ≡ grid_named name.now }
+{
+    if is(name, "MPI_Cart_create") {
+        Some(Maker::CartCreate)
+    } else if is(name, "MPI_Cart_sub") {
+        Some(Maker::CartSub)
+    } else if is(name, "MPI_Graph_create") {
+        Some(Maker::GraphCreate)
+    } else if is(name, "MPI_Dist_graph_create") {
+        Some(Maker::DistGraphCreate)
+    } else if is(name, "MPI_Dist_graph_create_adjacent") {
+        Some(Maker::DistGraphCreateAdjacent)
+    } else {
+        None
+    }
+}
+
+fn group_named(name: &[u8]) -> Option<Grouper>
+    ensures { result ≡ group_named name.now }
+{
+    if is(name, "MPI_Comm_group") {
+        Some(Grouper::OfComm)
+    } else if is(name, "MPI_Group_incl") {
+        Some(Grouper::Incl)
+    } else if is(name, "MPI_Group_excl") {
+        Some(Grouper::Excl)
+    } else if is(name, "MPI_Group_range_incl") {
+        Some(Grouper::RangeIncl)
+    } else if is(name, "MPI_Group_range_excl") {
+        Some(Grouper::RangeExcl)
+    } else if is(name, "MPI_Group_union") {
+        Some(Grouper::Union)
+    } else if is(name, "MPI_Group_intersection") {
+        Some(Grouper::Intersection)
+    } else if is(name, "MPI_Group_difference") {
+        Some(Grouper::Difference)
+    } else {
+        other_group_named(name)
+    }
+}
+
+fn other_group_named(name: &[u8]) -> Option<Grouper>
+    ensures { result ≡ other_group_named name.now }
+{
+    if is(name, "MPI_Comm_remote_group") {
+        Some(Grouper::Unread)
+    } else if is(name, "MPI_Win_get_group") {
+        Some(Grouper::Unread)
+    } else if is(name, "MPI_File_get_group") {
+        Some(Grouper::Unread)
+    } else if is(name, "MPI_Group_from_session_pset") {
+        Some(Grouper::UnreadNew)
+    } else {
+        None
+    }
+}
+
+fn giver_named(name: &[u8]) -> Option<Giver>
+    ensures { result ≡ giver_named name.now }
+{
+    if is(name, "MPI_Comm_split_type") {
+        Some(Giver::NewComm)
+    } else if is(name, "MPI_Comm_accept") {
+        Some(Giver::NewComm)
+    } else if is(name, "MPI_Comm_connect") {
+        Some(Giver::NewComm)
+    } else if is(name, "MPI_Comm_create_from_group") {
+        Some(Giver::NewComm)
+    } else if is(name, "MPI_Intercomm_create") {
+        Some(Giver::NewIntercomm)
+    } else if is(name, "MPI_Intercomm_create_from_groups") {
+        Some(Giver::NewIntercomm)
+    } else if is(name, "MPI_Intercomm_merge") {
+        Some(Giver::Merge)
+    } else if is(name, "MPI_Comm_spawn") {
+        Some(Giver::Intercomm)
+    } else if is(name, "MPI_Comm_spawn_multiple") {
+        Some(Giver::Intercomm)
+    } else if is(name, "MPI_Comm_join") {
+        Some(Giver::Intercomm)
+    } else if is(name, "MPI_Comm_get_parent") {
+        Some(Giver::Parent)
+    } else {
+        None
+    }
+}
+
+fn single_named(name: &[u8]) -> Option<Function>
+    ensures { result ≡ single_named name.now }
+{
+    if is(name, "MPI_Comm_rank") {
+        Some(Function::Rank)
+    } else if is(name, "MPI_Comm_free") {
+        Some(Function::Free)
+    } else if is(name, "MPI_Comm_disconnect") {
+        Some(Function::Free)
+    } else {
+        None
+    }
+}
+
+/// The function of a name, where its calls are read.
+#[tactic(auto, unfolding(crate::specs::Functions::function_named))]
+pub(crate) fn function_named(name: &[u8]) -> Option<Function>
+    ensures { result ≡ function_named name.now }
+{
+    if let Some(maker) = maker_named(name) {
+        return Some(Function::Make(maker));
+    }
+    if let Some(maker) = grid_named(name) {
+        return Some(Function::Make(maker));
+    }
+    if let Some(grouper) = group_named(name) {
+        return Some(Function::Group(grouper));
+    }
+    if let Some(giver) = giver_named(name) {
+        return Some(Function::Give(giver));
+    }
+    single_named(name)
+}

@@ -1,0 +1,29 @@
+//! What the calls of a text say of communicators and groups.
+//!
+//! A [`CommCalls`] is given the calls of a text one after another, as `dumpi_text` reads them, and keeps of those that
+//! make, name or free communicators and groups what their parameters say. A parameter that is missing or that can't be
+//! read is unknown, and never a fault. What is kept grows with these calls alone.
+//!
+//! - [`function`]: the functions, by their names
+//! - [`parameter`]: the text of a parameter, and its note; [`number`]: a communicator, a group, a color, a number;
+//!   [`lists`]: ranks, dimensions, ranges
+//! - [`making`], [`group`], [`action`]: what a call does
+//! - [`beside`]: the number that stands beside a name
+//! - [`calls`]: the calls of a text; [`laws`]: what holds of all of them
+#![tactic(auto)]
+
+mod action;
+mod beside;
+mod calls;
+mod fault;
+mod function;
+mod group;
+mod laws;
+mod lists;
+mod making;
+mod number;
+mod parameter;
+
+pub use calls::CommCalls;
+pub use fault::Memory;
+pub use laws::calls_read_in_turn;

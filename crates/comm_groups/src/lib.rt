@@ -1,0 +1,20 @@
+//! Groups and the communicators that are made of them, as plain lists of ranks (MPI 4.0, chapters 7 and 8).
+//!
+//! - [`group`]: groups made of others (7.3.2); [`range`]: ranges of ranks
+//! - [`color`]: the members of each color, by key (7.4.2)
+//! - [`cart`]: grids of ranks and their parts (8.5)
+#![tactic(auto)]
+
+mod color;
+mod grid;
+mod group;
+mod laws;
+mod range;
+mod told;
+
+pub use color::{ColorGroup, Colored, split};
+pub use grid::{grid_parts, grid_size, kept_dims};
+pub use group::{difference, excl, incl, intersection, union};
+pub use laws::parts_agree;
+pub use range::{RankRange, range_excl, range_incl};
+pub use told::order_of;

@@ -1,0 +1,160 @@
+//! What the calls of a rank say of communicators and groups.
+
+/// What the calls of a rank say of its communicators and groups.
+#[derive(Debug, Drop)]
+pub struct RankCalls {
+    /// The number of MPI_COMM_SELF, where some call of the rank says it.
+    pub own: Option<u32>,
+    /// The calls that make, name or free communicators and groups, in the rank's order.
+    pub calls: Vec<CommCall>,
+}
+
+/// One call on communicators or groups.
+#[derive(Debug, Drop)]
+pub struct CommCall {
+    /// Its place among all calls of the rank, from 0. The places rise along a rank's list.
+    pub call: u64,
+    /// Whether it returned. What a call gives counts only then.
+    pub returned: bool,
+    pub action: Action,
+}
+
+/// What a call does. A value is `None` where the text lacks it or it can't be read.
+#[derive(Debug, Drop)]
+pub enum Action {
+    /// A call that makes communicators of the members of another (MPI 4.0, 7.4.2 and 8.5).
+    Make {
+        parent: Option<u32>,
+        making: Making,
+        given: Given,
+    },
+    /// MPI_Comm_rank, and the rank that it told.
+    CommRank {
+        comm: Option<u32>,
+        rank: Option<u32>,
+    },
+    /// MPI_Comm_free or MPI_Comm_disconnect.
+    Free {
+        comm: Option<u32>,
+    },
+    /// A call that gives a group (MPI 4.0, 7.3.2).
+    Group {
+        group: GroupCall,
+        given: GroupName,
+    },
+    /// Another call that gives a communicator: nothing is derived from it.
+    GivesComm {
+        given: Given,
+    },
+}
+
+/// The calls that make communicators of a parent, with their parameters.
+#[derive(Debug, Drop)]
+pub enum Making {
+    Dup,
+    DupWithInfo,
+    Idup,
+    IdupWithInfo,
+    Split {
+        color: Option<Color>,
+        key: Option<i32>,
+    },
+    Create {
+        group: GroupName,
+    },
+    CreateGroup {
+        group: GroupName,
+        tag: Option<i32>,
+    },
+    /// The sizes of the dimensions, where 0 stands for a size below 1.
+    CartCreate {
+        dims: Option<Vec<u32>>,
+        reorder: Option<bool>,
+    },
+    CartSub {
+        remain: Option<Vec<bool>>,
+    },
+    /// The number of nodes.
+    GraphCreate {
+        nodes: Option<i32>,
+        reorder: Option<bool>,
+    },
+    DistGraphCreate {
+        reorder: Option<bool>,
+    },
+    DistGraphCreateAdjacent {
+        reorder: Option<bool>,
+    },
+}
+
+/// The color of a split (MPI 4.0, 7.4.2): MPI_UNDEFINED, as each negative one counts, makes nothing.
+#[derive(Clone, Copy, Debug, PartialEq, Eq)]
+pub enum Color {
+    Undefined,
+    Number(u32),
+}
+
+/// The communicator that a call gives.
+#[derive(Clone, Copy, Debug, PartialEq, Eq)]
+pub enum Given {
+    /// MPI_COMM_NULL.
+    Null,
+    Number(u32),
+    Unknown,
+}
+
+/// A group by the name that a call has for it.
+#[derive(Clone, Copy, Debug, PartialEq, Eq)]
+pub enum GroupName {
+    /// MPI_GROUP_EMPTY.
+    Empty,
+    Number(u32),
+    Unknown,
+}
+
+/// The calls that give groups. A list of ranks is `None` also where one of them is negative.
+#[derive(Debug, Drop)]
+pub enum GroupCall {
+    /// MPI_Comm_group.
+    OfComm {
+        comm: Option<u32>,
+    },
+    Incl {
+        group: GroupName,
+        ranks: Option<Vec<u32>>,
+    },
+    Excl {
+        group: GroupName,
+        ranks: Option<Vec<u32>>,
+    },
+    RangeIncl {
+        group: GroupName,
+        ranges: Option<Vec<RankRange>>,
+    },
+    RangeExcl {
+        group: GroupName,
+        ranges: Option<Vec<RankRange>>,
+    },
+    Union {
+        first: GroupName,
+        second: GroupName,
+    },
+    Intersection {
+        first: GroupName,
+        second: GroupName,
+    },
+    Difference {
+        first: GroupName,
+        second: GroupName,
+    },
+    /// Another call that gives a group: its ranks are unknown.
+    Unread,
+}
+
+/// A range of ranks: `first`, `first + stride` and so on, not beyond `last` (MPI 4.0, 7.3.2).
+#[derive(Clone, Copy, Debug, PartialEq, Eq)]
+pub struct RankRange {
+    pub first: i32,
+    pub last: i32,
+    pub stride: i32,
+}

@@ -1,0 +1,32 @@
+-- What the first bytes of a text without calls say of it.
+use Rattle.std.specs.Prelude.{◌≡◌, ◌==◌, ℕ, Bool, true, false, List, [], ◌∷◌, Option, Some, None, take, if◌then◌else◌}
+use Rattle.std.specs.List.{list_any}
+use Rattle.text_notes.specs.declared.start.Start.{Start}
+use Rattle.text_notes.specs.declared.start.Start.TheVariants.{Empty, Gzip, Utf16, Binary, Lines}
+use Rattle.text_notes.specs.declared.start.TheConstants.{LONGEST_FRONT}
+
+-- the first two bytes are these
+abbrev pub begins : ℕ → ℕ → List ℕ → Bool
+begins one other (first ∷ second ∷ bytes) = if first == one then second == other else false
+begins one other _ = false
+
+-- the mark of a byte order in front of UTF-16 text
+abbrev pub is_utf16 : List ℕ → Bool
+is_utf16 front = if begins 255 254 front then true else begins 254 255 front
+
+abbrev pub has_zero : List ℕ → Bool
+has_zero front = list_any (λ byte. byte == 0) front
+
+-- what a front of some bytes is taken for
+abbrev pub guess : List ℕ → Start
+guess front = if begins 31 139 front then Gzip else if is_utf16 front then Utf16 else if has_zero front then Binary else Lines
+
+-- by its first bytes
+abbrev pub start_in : List ℕ → Start
+start_in [] = Empty
+start_in (byte ∷ bytes) = guess (byte ∷ bytes)
+
+-- The text begins so, where its bytes are told.
+abbrev pub IsStartOf : Option (List ℕ) → Start → Type 0
+IsStartOf None start = Unit {0}
+IsStartOf (Some text) start = start ≡ start_in (take LONGEST_FRONT text)

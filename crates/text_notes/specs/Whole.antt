@@ -1,0 +1,22 @@
+-- What a walk that notes calls leaves.
+use Rattle.std.specs.Prelude.{ℕ, List, [], Option}
+use Rattle.dumpi_calls.specs.Collected.{collected}
+use Rattle.dumpi_calls.specs.Walks.{IsStopped, IsWalked}
+use Rattle.dumpi_calls.specs.declared.collect.Memory.{Memory}
+use Rattle.dumpi_calls.specs.declared.fault.WalkFault.{WalkFault}
+use Rattle.dumpi_calls.specs.declared.walking.Walked.{Walked}
+use Rattle.mpi_model.specs.declared.event.Event.{Event}
+use Rattle.text_notes.specs.Noted.{Noted, TellsNotes, noted, nothing_noted}
+
+-- It keeps the events that a walk into a `Collect` keeps.
+abbrev pub CollectsNoted : Type 0
+CollectsNoted = (text : Option (List ℕ)) (new : Noted) (walked : Walked) → IsWalked noted text nothing_noted new walked → IsWalked collected text [] new.events walked
+
+-- It stops where that does.
+abbrev pub StopsNoted : Type 0
+StopsNoted = (text : Option (List ℕ)) (new : Noted) (fault : WalkFault Memory)
+    → IsStopped {S = Noted} {F = Memory} noted text nothing_noted new fault → IsStopped {S = List Event} {F = Memory} collected text [] new.events fault
+
+-- Over a whole text it notes what that tells.
+abbrev pub TellsNoted : Type 0
+TellsNoted = (text : Option (List ℕ)) (new : Noted) (walked : Walked) → IsWalked noted text nothing_noted new walked → TellsNotes text new.unread walked.calls walked.skipped

@@ -1,0 +1,174 @@
+-- What is said of the texts that were read.
+use Rattle.std.specs.Prelude.{◌-◌, ◌&&◌, ◌||◌, ◌==◌, ℕ, zero, suc, Bool, true, false, List, [], ◌∷◌, ◌++◌, length, codes, decimal, filter, take, nat_le, nat_lt, is_some, Option, Some, None, if◌then◌else◌}
+use Rattle.std.specs.List.{flat_map}
+use Rattle.text_notes.specs.Noted.{UnreadParts, counted, sum_of}
+use Rattle.text_notes.specs.Places.{first_where, place_of}
+use Rattle.text_notes.specs.declared.start.Start.{Start}
+use Rattle.text_notes.specs.declared.start.Start.TheVariants.{Empty, Gzip, Utf16, Binary, Lines}
+use Rattle.text_notes.specs.declared.words.Kind.{Kind}
+use Rattle.text_notes.specs.declared.words.Kind.TheVariants.{Unread, Callless, Skipped}
+
+-- What was noted of the text of a piece: the piece's rank and first call, the name of its file and how a line shows it, how
+-- many calls it has and how many lines were skipped, the functions of its calls that aren't read, and, where it was looked at,
+-- what a text without calls is taken for.
+pub record NoteParts : Type 0 where
+  pub rank : ℕ
+  pub first : ℕ
+  pub path : List ℕ
+  pub file : List ℕ
+  pub calls : ℕ
+  pub skipped : ℕ
+  pub unread : List UnreadParts
+  pub start : Option Start
+
+-- how many of a kind are shown
+abbrev pub most_shown : ℕ
+most_shown = 10
+
+-- `  and 3 more`
+abbrev pub more_text : ℕ → List ℕ
+more_text zero = []
+more_text (suc n) = codes "  and " ++ decimal (suc n) ++ codes " more\n"
+
+-- ---- names of functions: what isn't printed of ASCII stands as `?`, so nothing of a name is an order to a terminal
+
+abbrev pub byte_text : ℕ → List ℕ
+byte_text byte = if nat_lt 32 byte && nat_lt byte 127 then byte ∷ [] else codes "?"
+
+abbrev pub name_text : List ℕ → List ℕ
+name_text name = flat_map byte_text name
+
+-- ---- all texts together
+
+-- the first ten functions of calls that aren't read, each with its calls, and how many calls of others there are
+pub record Totals : Type 0 where
+  pub functions : List UnreadParts
+  pub others : ℕ
+
+abbrev pub no_totals : Totals
+no_totals = record { functions = []; others = 0 }
+
+-- a function is listed, or there is room for it
+abbrev pub has_room : List ℕ → List UnreadParts → Bool
+has_room name functions = is_some (place_of name functions) || nat_lt (length functions) most_shown
+
+-- the calls of a function of one text more
+abbrev pub added : Totals → UnreadParts → Totals
+added t f =
+    if has_room f.name t.functions
+    then record { functions = counted f.first f.count f.name t.functions; others = t.others }
+    else record { functions = t.functions; others = sum_of t.others f.count }
+
+abbrev pub all_added : Totals → List UnreadParts → Totals
+all_added t [] = t
+all_added t (f ∷ functions) = all_added (added t f) functions
+
+abbrev pub unread_of : NoteParts → List UnreadParts
+unread_of note = note.unread
+
+abbrev pub totals_of : List NoteParts → Totals
+totals_of notes = all_added no_totals (flat_map unread_of notes)
+
+-- `MPI_Start 4`
+abbrev pub count_text : UnreadParts → List ℕ
+count_text f = name_text f.name ++ codes " " ++ decimal f.count
+
+abbrev pub next_text : UnreadParts → List ℕ
+next_text f = codes ", " ++ count_text f
+
+abbrev pub others_text : ℕ → List ℕ
+others_text zero = []
+others_text (suc n) = codes ", others " ++ decimal (suc n)
+
+-- `  calls that are not read: MPI_Start 4, MPI_Sendrecv_replace 8`
+abbrev pub totals_text : List UnreadParts → ℕ → List ℕ
+totals_text [] others = []
+totals_text (f ∷ functions) others =
+    codes "  calls that are not read: " ++ count_text f ++ flat_map next_text functions ++ others_text others ++ codes "\n"
+
+abbrev pub functions_text : Totals → List ℕ
+functions_text t = totals_text t.functions t.others
+
+-- ---- text by text
+
+-- `  rank 0, call 17: MPI_Start is not read (r0.txt)`, of the first such call
+abbrev pub unread_text : NoteParts → List UnreadParts → List ℕ
+unread_text note [] = []
+unread_text note (f ∷ functions) =
+    codes "  rank " ++ decimal note.rank ++ codes ", call " ++ decimal (sum_of note.first f.first) ++ codes ": "
+    ++ name_text f.name ++ codes " is not read (" ++ note.file ++ codes ")\n"
+
+abbrev pub guess_text : Start → List ℕ
+guess_text Empty = codes " is empty\n"
+guess_text Gzip = codes " has no call, and begins as what gzip packed\n"
+guess_text Utf16 = codes " has no call, and begins as UTF-16\n"
+guess_text Binary = codes " has no call, and a byte 0, as a binary trace\n"
+guess_text Lines = codes " has no call\n"
+
+abbrev pub start_text : Option Start → List ℕ
+start_text None = codes " has no call\n"
+start_text (Some start) = guess_text start
+
+abbrev pub callless_text : NoteParts → List ℕ
+callless_text note = codes "  " ++ note.file ++ start_text note.start
+
+abbrev pub skipped_text : NoteParts → List ℕ
+skipped_text note = codes "  lines of " ++ note.file ++ codes " that were skipped: " ++ decimal note.skipped ++ codes "\n"
+
+-- whether there is something of a kind to say of a text
+abbrev pub has_unread : List UnreadParts → Bool
+has_unread [] = false
+has_unread (f ∷ functions) = true
+
+abbrev pub has_kind : Kind → NoteParts → Bool
+has_kind Unread note = has_unread note.unread
+has_kind Callless note = note.calls == 0
+has_kind Skipped note = nat_lt 0 note.skipped
+
+abbrev pub line_text : Kind → NoteParts → List ℕ
+line_text Unread note = unread_text note note.unread
+line_text Callless note = callless_text note
+line_text Skipped note = skipped_text note
+
+-- the texts of which something of the kind is to be said
+abbrev pub of_kind : Kind → List NoteParts → List NoteParts
+of_kind kind notes = filter (has_kind kind) notes
+
+-- a line for each of the first ten, and how many more there are
+abbrev pub kind_text : Kind → List NoteParts → List ℕ
+kind_text kind notes = flat_map (line_text kind) (take most_shown (of_kind kind notes)) ++ more_text (length (of_kind kind notes) - most_shown)
+
+-- ---- the whole
+
+abbrev pub notes_text : List NoteParts → List ℕ
+notes_text notes = functions_text (totals_of notes) ++ kind_text Unread notes ++ kind_text Callless notes ++ kind_text Skipped notes
+
+-- ---- where stuck calls stand
+
+-- the text has the call of this number of a rank
+abbrev pub has_call : ℕ → ℕ → NoteParts → Bool
+has_call rank call note = note.rank == rank && (nat_le note.first call && nat_lt (call - note.first) note.calls)
+
+-- the first text that has it
+abbrev pub note_of : ℕ → ℕ → List NoteParts → Option ℕ
+note_of rank call notes = first_where (has_call rank call) notes
+
+-- a call of a rank in a file, and the line where it begins, where that was looked up
+pub record PlaceParts : Type 0 where
+  pub rank : ℕ
+  pub call : ℕ
+  pub file : List ℕ
+  pub line : Option ℕ
+
+abbrev pub at_line_text : Option ℕ → List ℕ
+at_line_text None = []
+at_line_text (Some line) = codes ":" ++ decimal line
+
+-- `  rank 1, call 1: r1.txt:4711`
+abbrev pub place_text : PlaceParts → List ℕ
+place_text p = codes "  rank " ++ decimal p.rank ++ codes ", call " ++ decimal p.call ++ codes ": " ++ p.file ++ at_line_text p.line ++ codes "\n"
+
+-- the places that are shown, and how many more stuck calls there are
+abbrev pub places_text : List PlaceParts → ℕ → List ℕ
+places_text [] more = []
+places_text (p ∷ places) more = codes "\nThe stuck calls in the texts:\n" ++ flat_map place_text (p ∷ places) ++ more_text more

@@ -1,0 +1,269 @@
+//! What is said of the texts that were read.
+
+ghost use Rattle.std.specs.Prelude.{◌≡◌, IfOk, if◌then◌else◌, nat_lt, [], ◌∷◌};
+ghost use Rattle.std.specs.List.{flat_map};
+ghost use Rattle.call_words.specs.Texts.{Adds};
+ghost use Rattle.text_notes.specs.Words.{at_line_text, byte_text, callless_text, count_text, functions_text, guess_text, has_kind, has_unread, kind_text, line_text, more_text, most_shown, name_text, next_text, notes_text, others_text, place_text, places_text, skipped_text, start_text, totals_of, totals_text, unread_text};
+
+use crate::function::UnreadFunction;
+use crate::note::TextNote;
+use crate::place::CallPlace;
+use crate::start::Start;
+use crate::totals::{MOST_SHOWN, Totals, totals_of};
+use call_words::Text;
+use std::alloc::Global;
+
+/// What is said of a text.
+#[derive(Clone, Copy, Debug, PartialEq, Eq)]
+pub enum Kind {
+    /// The first of its calls that is not read.
+    Unread,
+    /// That it has no call.
+    Callless,
+    /// How many of its lines were skipped.
+    Skipped,
+}
+
+fn put_more(out: &mut Text, more: usize)
+    ensures { Adds out.old out.new (more_text more) }
+{
+    if more > 0 {
+        out.put(b"  and ");
+        out.put_number(more as u64);
+        out.put(b" more\n");
+    }
+}
+
+fn put_byte(out: &mut Text, byte: u8)
+    ensures { Adds out.old out.new (byte_text byte) }
+{
+    if 32 < byte && byte < 127 {
+        out.put(&[byte]);
+    } else {
+        out.put(b"?");
+    }
+}
+
+fn put_name(out: &mut Text, name: &[u8])
+    ensures { Adds out.old out.new (name_text name.now) }
+{
+    for byte in name {
+        put_byte(out, *byte);
+    }
+}
+
+fn put_count(out: &mut Text, function: &UnreadFunction)
+    ensures { Adds out.old out.new (count_text function.now) }
+{
+    put_name(out, function.name());
+    out.put(b" ");
+    out.put_number(function.count());
+}
+
+fn put_next(out: &mut Text, function: &UnreadFunction)
+    ensures { Adds out.old out.new (next_text function.now) }
+{
+    out.put(b", ");
+    put_count(out, function);
+}
+
+fn put_each_next(out: &mut Text, functions: &[UnreadFunction])
+    ensures { Adds out.old out.new (flat_map next_text functions.now) }
+{
+    for function in functions {
+        put_next(out, function);
+    }
+}
+
+fn put_others(out: &mut Text, others: u64)
+    ensures { Adds out.old out.new (others_text others) }
+{
+    if others > 0 {
+        out.put(b", others ");
+        out.put_number(others);
+    }
+}
+
+fn put_totals(out: &mut Text, functions: &[UnreadFunction], others: u64)
+    ensures { Adds out.old out.new (totals_text functions.now others) }
+{
+    if let [function, rest @ ..] = functions {
+        out.put(b"  calls that are not read: ");
+        put_count(out, function);
+        put_each_next(out, rest);
+        put_others(out, others);
+        out.put(b"\n");
+    }
+}
+
+fn put_functions(out: &mut Text, totals: &Totals)
+    ensures { Adds out.old out.new (functions_text totals.now) }
+{
+    put_totals(out, totals.functions(), totals.others());
+}
+
+fn put_unread(out: &mut Text, note: &TextNote, function: &UnreadFunction)
+    ensures { Adds out.old out.new (unread_text note.now (function.now ∷ [])) }
+{
+    out.put(b"  rank ");
+    out.put_number(note.rank() as u64);
+    out.put(b", call ");
+    out.put_number(note.first().saturating_add(function.first()));
+    out.put(b": ");
+    put_name(out, function.name());
+    out.put(b" is not read (");
+    out.put(note.file());
+    out.put(b")\n");
+}
+
+fn put_first_unread(out: &mut Text, note: &TextNote)
+    ensures { Adds out.old out.new (unread_text note.now note.now.unread) }
+{
+    if let [function, ..] = note.unread() {
+        put_unread(out, note, function);
+    }
+}
+
+fn guess_of(start: Start) -> &'static [u8]
+    ensures { result.now ≡ guess_text start }
+{
+    match start {
+        Start::Empty => b" is empty\n",
+        Start::Gzip => b" has no call, and begins as what gzip packed\n",
+        Start::Utf16 => b" has no call, and begins as UTF-16\n",
+        Start::Binary => b" has no call, and a byte 0, as a binary trace\n",
+        Start::Lines => b" has no call\n",
+    }
+}
+
+fn start_of(start: Option<Start>) -> &'static [u8]
+    ensures { result.now ≡ start_text start }
+{
+    match start {
+        None => b" has no call\n",
+        Some(start) => guess_of(start),
+    }
+}
+
+fn put_callless(out: &mut Text, note: &TextNote)
+    ensures { Adds out.old out.new (callless_text note.now) }
+{
+    out.put(b"  ");
+    out.put(note.file());
+    out.put(start_of(note.start()));
+}
+
+fn put_skipped(out: &mut Text, note: &TextNote)
+    ensures { Adds out.old out.new (skipped_text note.now) }
+{
+    out.put(b"  lines of ");
+    out.put(note.file());
+    out.put(b" that were skipped: ");
+    out.put_number(note.skipped());
+    out.put(b"\n");
+}
+
+fn has_unread(functions: &[UnreadFunction]) -> bool
+    ensures { result ≡ has_unread functions.now }
+{
+    !functions.is_empty()
+}
+
+fn has_kind(kind: Kind, note: &TextNote) -> bool
+    ensures { result ≡ has_kind kind note.now }
+{
+    match kind {
+        Kind::Unread => has_unread(note.unread()),
+        Kind::Callless => note.calls() == 0,
+        Kind::Skipped => note.skipped() > 0,
+    }
+}
+
+fn put_line(out: &mut Text, kind: Kind, note: &TextNote)
+    ensures { Adds out.old out.new (line_text kind note.now) }
+{
+    match kind {
+        Kind::Unread => put_first_unread(out, note),
+        Kind::Callless => put_callless(out, note),
+        Kind::Skipped => put_skipped(out, note),
+    }
+}
+
+// the line of a text, where fewer than ten stand before it
+fn put_shown(out: &mut Text, kind: Kind, note: &TextNote, before: usize)
+    ensures { Adds out.old out.new (if nat_lt before most_shown then line_text kind note.now else []) }
+{
+    if before < MOST_SHOWN {
+        put_line(out, kind, note);
+    }
+}
+
+fn put_kind(out: &mut Text, kind: Kind, notes: &[TextNote])
+    ensures { Adds out.old out.new (kind_text kind notes.now) }
+{
+    let mut found: usize = 0;
+    for note in notes {
+        if has_kind(kind, note) {
+            put_shown(out, kind, note, found);
+            found += 1;
+        }
+    }
+    put_more(out, found.saturating_sub(MOST_SHOWN));
+}
+
+/// Says what should make one doubt the texts that were read: the functions of calls that are not read, with how many
+/// there are, the first such call of each text, the texts without a call, and those of which lines were skipped. Nothing
+/// is said of texts of which there is nothing to say.
+pub fn put_notes(alloc: Global, out: &mut Text, notes: &[TextNote])
+    ensures { Adds out.old out.new (notes_text notes.now) }
+{
+    match totals_of(alloc, notes) {
+        Ok(totals) => put_functions(out, &totals),
+        Err(_) => out.give_up(),
+    }
+    put_kind(out, Kind::Unread, notes);
+    put_kind(out, Kind::Callless, notes);
+    put_kind(out, Kind::Skipped, notes);
+}
+
+fn put_at_line(out: &mut Text, line: Option<u64>)
+    ensures { Adds out.old out.new (at_line_text line) }
+{
+    if let Some(line) = line {
+        out.put(b":");
+        out.put_number(line);
+    }
+}
+
+fn put_place(out: &mut Text, place: &CallPlace)
+    ensures { Adds out.old out.new (place_text place.now) }
+{
+    out.put(b"  rank ");
+    out.put_number(place.rank() as u64);
+    out.put(b", call ");
+    out.put_number(place.call());
+    out.put(b": ");
+    out.put(place.file());
+    put_at_line(out, place.line());
+    out.put(b"\n");
+}
+
+fn put_each_place(out: &mut Text, places: &[CallPlace])
+    ensures { Adds out.old out.new (flat_map place_text places.now) }
+{
+    for place in places {
+        put_place(out, place);
+    }
+}
+
+/// Says where calls stand in the texts, below a head, and how many more there are that are not named. Nothing is said of
+/// no call.
+pub fn put_places(out: &mut Text, places: &[CallPlace], more: usize)
+    ensures { Adds out.old out.new (places_text places.now more) }
+{
+    if !places.is_empty() {
+        out.put(b"\nThe stuck calls in the texts:\n");
+        put_each_place(out, places);
+        put_more(out, more);
+    }
+}

@@ -1,0 +1,4 @@
+pub mod Edges
+pub mod Standing
+pub mod Nodes
+pub mod Graph

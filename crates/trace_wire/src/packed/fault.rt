@@ -1,0 +1,23 @@
+//! Why packed knowledge was not read.
+
+use crate::fault::WireFault;
+use thiserror::Error;
+
+/// Why a frame of packed knowledge is refused.
+#[derive(Clone, Copy, Debug, PartialEq, Eq, Error)]
+pub enum PackedCause {
+    /// There is no frame, or none of it was read.
+    #[error(transparent)]
+    Wire(WireFault),
+    /// It tells something of a rank that has no place.
+    #[error("N1 Rank")]
+    Rank,
+}
+
+/// Which frame of packed knowledge is refused, counted from 0, and why.
+#[derive(Clone, Copy, Debug, PartialEq, Eq, Error)]
+#[error("{cause} at frame {frame}")]
+pub struct PackedFault {
+    pub frame: u64,
+    pub cause: PackedCause,
+}

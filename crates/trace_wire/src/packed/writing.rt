@@ -1,0 +1,72 @@
+//! Writing knowledge of any size to a device.
+
+ghost use Rattle.std.specs.Prelude.{◌≡◌, ◌≤◌, ℕ, List, drop, length, take, IfErr, OnOk};
+ghost use Rattle.std.specs.Io.KnownBytes.{Appends};
+ghost use Rattle.mpi_model.specs.Side.{LeavesSide};
+ghost use Rattle.trace_wire.specs.Frames.{frame};
+ghost use Rattle.trace_wire.specs.Packed.{IsOfRanks, IsPacked, IsUnpacked, TellsPacked};
+ghost use Rattle.trace_wire.specs.Planning.{size_of};
+ghost use Rattle.trace_wire.specs.Sending.{Sends, closing, opening};
+
+use crate::fault::WireFault;
+use crate::packed::part::put_part;
+use crate::packed::plan::{PartSize, plan_of};
+use crate::write::direct::Direct;
+use crate::write::paged::Paged;
+use crate::write::sink::Sink;
+use arrayvec::ArrayVec;
+use mpi_model::Write;
+use std::alloc::Global;
+use trace_know::{Knowledge, Walk, join_laws};
+
+/// Writes the frame of the next cells of a walk, and answers whether a write failed.
+fn send_part<W: Write>(part: PartSize, cells: &mut Walk<'_>, writer: &mut W) -> bool
+    requires there { part.cells ≤ length cells.old }
+    requires size { part ≡ size_of (take part.cells cells.old) }
+    ensures sends { Sends (opening (W.written writer.old) (W.failures writer.old) (W.read_side writer.old)) (closing (W.written writer.new) (W.failures writer.new) (W.read_side writer.new) result) (frame (take part.cells cells.old)) }
+    ensures rest { cells.new ≡ drop part.cells cells.old }
+{
+    let direct = Direct {
+        writer,
+        failed: false,
+    };
+    let mut out = Paged {
+        direct,
+        page: ArrayVec::new(),
+    };
+    put_part(&mut out, part, cells);
+    out.flush();
+    out.direct.failed
+}
+
+/// Writes all that is known as frames of version 2, one after another: each of the longest front of what is left that
+/// goes into a frame, at least one. [`read_frames`](crate::read_frames) gives it back.
+///
+/// A place that goes into no frame by itself is `W4 Length`, before any byte is written, and so comes `Memory`. Where the
+/// device fails a front of the frames was written, and nothing is tried after that.
+pub fn write_frames<W: Write>(
+    alloc: Global,
+    knowledge: &Knowledge,
+    writer: &mut W,
+) -> Result<(), WireFault>
+    // What was written tells all that is known.
+    ensures ok { OnOk result ((bytes : List ℕ) × IsPacked knowledge.now bytes × Appends (W.written writer.old) (W.written writer.new) bytes) }
+    ensures again { OnOk result ((bytes : List ℕ) (ranks : ℕ) → IsPacked knowledge.now bytes → IsOfRanks ranks knowledge.now → TellsPacked ranks bytes knowledge.now) }
+    ensures no_failure { OnOk result (W.failures writer.new ≡ W.failures writer.old) }
+    ensures err { IfErr result (IsUnpacked knowledge.now (W.written writer.old) (W.written writer.new) (W.failures writer.old) (W.failures writer.new)) }
+    ensures later { W.failures writer.old ≤ W.failures writer.new }
+    ensures beside { LeavesSide (W.read_side writer.old) (W.read_side writer.new) }
+{
+    join_laws();
+    let plan = match plan_of(alloc, knowledge) {
+        Ok(plan) => plan,
+        Err(fault) => return Err(fault),
+    };
+    let mut cells = knowledge.cells();
+    for part in &plan {
+        if send_part(*part, &mut cells, writer) {
+            return Err(WireFault::Write);
+        }
+    }
+    Ok(())
+}
