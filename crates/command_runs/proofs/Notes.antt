@@ -1,7 +1,7 @@
 -- Notes, one piece more, and places, one stuck call more.
 use Rattle.std.proofs.Common.{◌≡◌, ◌<◌, ◌+◌, ◌++◌, length, map, take, get_or, ◌∷◌, [], ℕ, List, Option, Some, None, ap, sym, refl, subst, ◌∙◌, append_assoc}
 use Rattle.std.specs.Prelude.{option_to_list}
-use Rattle.std.proofs.lemmas.List.{take_more}
+use Rattle.std.proofs.lemmas.List.{length-map, take_more}
 use Rattle.trace_node.specs.Answer.{Stopped}
 use Rattle.trace_node.specs.Stopped.{stopped}
 use Rattle.trace_node.specs.declared.stuck.Stuck.{Stuck}
@@ -43,6 +43,10 @@ map_push {Y = Y} f (y ∷ xs) x = ap (λ (l : List Y). f y ∷ l) (map_push f xs
 pub stopped_next : (xs : List Stuck) (i : ℕ) (x : Stuck) → i < length xs → x ≡ get_or xs i x → map stopped (take (i + 1) xs) ≡ map stopped (take i xs) ++ stopped x ∷ []
 stopped_next xs i x lt e =
     ap (map stopped) (take_more xs i x lt ∙ ap (λ (s : Stuck). take i xs ++ s ∷ []) (sym e)) ∙ map_push stopped (take i xs) x
+
+-- how many there are
+pub stopped_count : (xs : List Stuck) (stuck : List Stopped) → map stopped xs ≡ stuck → length xs ≡ length stuck
+stopped_count xs stuck e = sym (length-map xs stopped) ∙ ap (λ (l : List Stopped). length l) e
 
 -- what the text of a file tells
 pub notes_told : (file left : Option (List ℕ)) (unread : List UnreadParts) (calls skipped : ℕ) → StandsAtFirst file left → TellsNotes left unread calls skipped → TellsNotes file unread calls skipped
