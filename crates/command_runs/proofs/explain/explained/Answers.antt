@@ -23,7 +23,7 @@ returns g c =
       say.0,
       subst (λ (v : View). IsAnswer (under_other h.layout) v say.0) c.knowledge.ensures (subst (λ (l : Parts). IsAnswer l c.knowledge.result.now say.0) c.requires.other say.1),
       subst (λ (l : Parts). IsExplained l answer h.know say.0 text) c.requires.own
-      (subst (λ (v : View). IsExplained c.args.layout.now answer v say.0 text) c.knowledge.ensures say.2),
+          (subst (λ (v : View). IsExplained c.args.layout.now answer v say.0 text) c.knowledge.ensures say.2),
     ) in
     let notes = c.args.notes.now in
     let places = c.in-Ok-places_of.places.items in
