@@ -1,5 +1,5 @@
 -- Ranks as ranges.
-use Rattle.std.specs.Prelude.{ℕ, ◌+◌, ◌==◌, Bool, if◌then◌else◌, Option, Some, None, List, [], ◌∷◌, ◌++◌, codes, decimal}
+use Rattle.std.specs.Prelude.{ℕ, ◌+◌, ◌==◌, Bool, if◌then◌else◌, Option, Some, None, List, [], ◌∷◌, ◌++◌, codes, decimal, length}
 use Rattle.call_words.specs.declared.ranges.Range.{Range}
 
 -- the rank stands directly behind the range
@@ -54,3 +54,7 @@ text_of held (rank ∷ ranks) = text_before held rank ++ text_of (next_range hel
 -- the ranks, neighbours joined: `0 to 11, 13`
 abbrev pub ranges_text : List ℕ → List ℕ
 ranges_text ranks = text_of None ranks ++ held_text (range_after None ranks)
+
+-- `rank 3`, or `ranks 0 to 11, 13`
+abbrev pub named_ranks_text : List ℕ → List ℕ
+named_ranks_text ranks = (if length ranks == 1 then codes "rank " else codes "ranks ") ++ ranges_text ranks

@@ -111,6 +111,10 @@ abbrev pub root_text : Option ℕ → List ℕ
 root_text None = []
 root_text (Some root) = one_root_text root
 
+-- a collective call by its function and its root, as `MPI_Bcast, root 0`
+abbrev pub kind_text : Kind → Option ℕ → List ℕ
+kind_text kind root = collective_name kind ++ root_text root
+
 abbrev pub collective_text : CollectiveCall → List ℕ
 collective_text c = on_text (collective_name c.kind) c.comm ++ root_text c.root
 

@@ -2,7 +2,7 @@
 
 ghost use Rattle.std.specs.Prelude.{◌≡◌, length};
 ghost use Rattle.call_words.specs.Texts.{Adds};
-ghost use Rattle.call_words.specs.Words.{call_text, collective_name, collective_text, exchange_text, immediate_name, of_requests_text, on_text, one_root_text, probe_text, receive_text, root_text, send_name, send_text};
+ghost use Rattle.call_words.specs.Words.{call_text, collective_name, collective_text, exchange_text, kind_text, immediate_name, of_requests_text, on_text, one_root_text, probe_text, receive_text, root_text, send_name, send_text};
 
 use crate::envelopes::{put_comm, put_probed, put_received, put_sent};
 use crate::text::Text;
@@ -104,6 +104,14 @@ fn put_collective(out: &mut Text, call: Collective)
 {
     put_on(out, collective_name(call.kind()), call.comm());
     put_root(out, call.root());
+}
+
+/// A collective call by its function and its root, as `MPI_Bcast, root 0`.
+pub fn put_kind(out: &mut Text, kind: Kind, root: Option<u32>)
+    ensures { Adds out.old out.new (kind_text kind root) }
+{
+    out.put(collective_name(kind));
+    put_root(out, root);
 }
 
 fn put_of_requests(out: &mut Text, name: &[u8], count: usize)

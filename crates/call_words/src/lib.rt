@@ -15,7 +15,7 @@ mod ranges;
 mod seconds;
 mod text;
 
-pub use calls::put_call;
-pub use ranges::{Range, put_held, put_next, put_ranges};
+pub use calls::{put_call, put_kind};
+pub use ranges::{Range, put_held, put_named_ranks, put_next, put_ranges};
 pub use seconds::put_seconds;
 pub use text::Text;

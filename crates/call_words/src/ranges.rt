@@ -1,7 +1,7 @@
 //! Ranks as ranges.
 
 ghost use Rattle.std.specs.Prelude.{◌≡◌, map};
-ghost use Rattle.call_words.specs.Ranges.{end_text, follows, held_text, next_range, range_behind, range_text, ranges_text, text_before, text_behind};
+ghost use Rattle.call_words.specs.Ranges.{end_text, follows, held_text, named_ranks_text, next_range, range_behind, range_text, ranges_text, text_before, text_behind};
 ghost use Rattle.call_words.specs.Texts.{Adds};
 
 use crate::text::Text;
@@ -85,4 +85,16 @@ pub fn put_ranges(out: &mut Text, ranks: &[u32])
         held = put_next(out, held, *rank);
     }
     put_held(out, held);
+}
+
+/// The ranks behind the word for them, as `rank 3`, or `ranks 0 to 11, 13`.
+pub fn put_named_ranks(out: &mut Text, ranks: &[u32])
+    ensures { Adds out.old out.new (named_ranks_text ranks.now) }
+{
+    out.put(if ranks.len() == 1 {
+        b"rank ".as_slice()
+    } else {
+        b"ranks ".as_slice()
+    });
+    put_ranges(out, ranks);
 }
