@@ -117,7 +117,8 @@ doubtful. mpimatch report has all facts, one a line.
 "#;
 
 // What the help of `graph` says below its arguments.
-const GRAPH_HELP: &str = r#"Example: mpimatch graph layout.json manifest.json | dot -Tsvg >deadlock.svg
+const GRAPH_HELP: &str =
+    r#"Example: mpimatch graph layout.json manifest.json | dot -Tsvg >deadlock.svg
 
 It prints a graph in the language of Graphviz, whose dot draws it. Each rank stands in one node, with
 the call in which it stands. Ranks that wait for the same, in the same function on the same

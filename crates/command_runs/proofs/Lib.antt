@@ -3,6 +3,7 @@ pub mod Told
 pub mod Traces
 pub mod Segments
 pub mod Nodes
+pub mod Notes
 pub mod Worlds
 pub mod Within
 pub mod Refusals

@@ -1,5 +1,5 @@
 -- What `explain` prints.
-use Rattle.std.specs.Prelude.{ℕ, List, Option}
+use Rattle.std.specs.Prelude.{◌≡◌, ◌-◌, ◌++◌, false, ℕ, List, Option, length, take}
 use Rattle.std.specs.List.{All}
 use Rattle.mpi_model.specs.Layouts.{Parts}
 use Rattle.mpi_model.specs.declared.layout.Sends.{Sends}
@@ -7,10 +7,14 @@ use Rattle.mpi_model.specs.declared.layout.Sends.TheVariants.{Wait, Buffer}
 use Rattle.trace_know.specs.Trace.{Trace, view_of}
 use Rattle.trace_know.specs.View.{View}
 use Rattle.trace_node.specs.Answer.{Answered, IsAnswer}
+use Rattle.trace_node.specs.Node.{Held, held}
 use Rattle.trace_explain.specs.Explained.{IsExplained}
+use Rattle.text_notes.specs.Words.{NoteParts, PlaceParts, most_shown, notes_text, places_text}
 use Rattle.input_files.specs.Manifests.{ManifestParts}
 use Rattle.command_runs.specs.Inputs.{TellsLayout, TellsManifest}
+use Rattle.command_runs.specs.Notes.{AreNotesOf, ArePlacesOf}
 use Rattle.command_runs.specs.Traces.{IsInside, TellTrace}
+use Rattle.command_runs.specs.declared.fault.RunFault.{RunFault}
 
 -- the other way in which sends of standard mode can complete
 abbrev pub other_sends : Sends → Sends
@@ -22,11 +26,23 @@ abbrev pub under_other : Parts → Parts
 under_other l = record l { sends = other_sends l.sends }
 
 -- The text says what the answer to a view tells, beside the answer under the other kind of sends.
-abbrev pub IsTold : Parts → View → List ℕ → Type 0
-IsTold l view text = (answer other : Answered) × IsAnswer l view answer × IsAnswer (under_other l) view other × IsExplained answer view other text
+abbrev pub SaysAnswer : Parts → View → Answered → List ℕ → Type 0
+SaysAnswer l view answer text = (other : Answered) × IsAnswer (under_other l) view other × IsExplained l answer view other text
 
--- The text says what the files tell: the facts of all pieces that the manifest names, for the layout.
+-- The text says that, then what is noted of the texts that were read, and then where the first ten stuck calls stand in them.
+abbrev pub IsTold : (List ℕ → Option (List ℕ)) → Parts → View → List NoteParts → List ℕ → Type 0
+IsTold file l view notes text = (answer : Answered) × (said : List ℕ) × (places : List PlaceParts)
+    × IsAnswer l view answer × SaysAnswer l view answer said × ArePlacesOf file notes (take most_shown answer.stuck) places
+    × (text ≡ said ++ notes_text notes ++ places_text places (length answer.stuck - length places))
+
+-- The node knows, for this layout, the facts of all pieces that the manifest names, and these are the notes of their texts.
+abbrev pub IsNotedNodeOf : (List ℕ → Option (List ℕ)) → Parts → List ℕ → Held → List NoteParts → Type 0
+IsNotedNodeOf file l manifest node notes = (m : ManifestParts) × (trace : Trace)
+    × TellsManifest (file manifest) m × TellTrace file m.pieces trace × All (IsInside file l.ranks) m.pieces × AreNotesOf file m.pieces notes
+    × (node ≡ held l (view_of trace) false)
+
+-- The text says what the files tell: the facts of all pieces that the manifest names, for the layout, and what is noted of their texts.
 abbrev pub IsExplainOf : (List ℕ → Option (List ℕ)) → List ℕ → List ℕ → List ℕ → Type 0
-IsExplainOf file layout manifest text = (l : Parts) × (m : ManifestParts) × (trace : Trace)
+IsExplainOf file layout manifest text = (l : Parts) × (m : ManifestParts) × (trace : Trace) × (notes : List NoteParts)
     × TellsLayout (file layout) l × TellsManifest (file manifest) m × TellTrace file m.pieces trace × All (IsInside file l.ranks) m.pieces
-    × IsTold l (view_of trace) text
+    × AreNotesOf file m.pieces notes × IsTold file l (view_of trace) notes text

@@ -8,6 +8,7 @@ pub mod FileNames
 pub mod Files
 pub mod Inputs
 pub mod Nodes
+pub mod Notes
 pub mod Pieces
 pub mod Refusals
 pub mod Replays

@@ -1,30 +1,35 @@
 //! An answer in words, beside the one under the other kind of sends.
 
-ghost use Rattle.std.specs.Prelude.{◌≡◌, ◌⊎◌, ℕ, false, true, IfErr, IfOk, List, OnOk};
+ghost use Rattle.std.specs.Prelude.{◌≡◌, ◌⊎◌, ◌++◌, ℕ, false, true, IfErr, IfOk, List, OnOk, take};
 ghost use Rattle.std.specs.Io.KnownBytes.{Appends, Keeps};
 ghost use Rattle.dumpi_text.specs.Failing.{Fails};
 ghost use Rattle.trace_node.specs.Answer.{Answered, IsAnswer};
 ghost use Rattle.trace_node.specs.Node.{IsWithin, held};
 ghost use Rattle.trace_explain.specs.Explained.{IsExplained};
-ghost use Rattle.command_runs.specs.Explains.{IsExplainOf, IsTold, other_sends, under_other};
+ghost use Rattle.text_notes.specs.Words.{most_shown, notes_text, places_text};
+ghost use Rattle.command_runs.specs.Explains.{IsExplainOf, IsNotedNodeOf, IsTold, other_sends, under_other};
 ghost use Rattle.command_runs.specs.Files.{NamesFailed, NamesUnreadable};
-ghost use Rattle.command_runs.specs.Refusals.{RefusesRun};
+ghost use Rattle.command_runs.specs.Refusals.{RefusesNode, RefusesRun};
 ghost use Rattle.command_runs.specs.Verbs.{BreaksOff};
 ghost use Rattle.command_runs.specs.declared.whole.TheConstants.{LONGEST_FILE};
 
 use crate::answerer::Answerer;
 use crate::fault::RunFault;
-use crate::input::layout_at;
+use crate::gatherer::Gathered;
+use crate::input::{layout_at, manifest_at};
+use crate::noted::noted_of;
 use crate::opener::Opener;
+use crate::places::places_of;
 use crate::replay::write_piece;
-use crate::run::node_with;
 use crate::watch::Watcher;
+use call_words::Text;
 use command_line::Verb;
 use mpi_model::{Layout, Sends, Write};
 use std::alloc::{AllocError, Global};
+use text_notes::{CallPlace, MOST_SHOWN, TextNote, put_notes, put_places};
 use trace_explain::explain;
 use trace_know::Knowledge;
-use trace_node::{Answer, Node, NodeFault};
+use trace_node::{Answer, Node, NodeFault, Stuck};
 
 /// Writes in words what the files tell.
 pub(crate) fn explain_with<O: Opener, V: Watcher, W: Write>(
@@ -73,13 +78,48 @@ fn text_with<O: Opener, V: Watcher>(
     let Ok(other) = under_other(alloc, &layout) else {
         return Err(RunFault::Memory);
     };
-    let node = match node_with(alloc, &layout, manifest_name, files, watcher) {
-        Ok(node) => node,
+    let noted = match noted_node_with(alloc, &layout, manifest_name, files, watcher) {
+        Ok(noted) => noted,
         Err(fault) => return Err(fault),
     };
-    match explained(alloc, node, &other) {
+    let (node, notes) = noted;
+    match explained(alloc, &layout, node, &other, &notes, files) {
         Ok(text) => Ok(text),
         Err(_) => Err(RunFault::Memory),
+    }
+}
+
+// The node of the layout that knows all that the pieces of the manifest tell, and what is noted of their texts.
+fn noted_node_with<'a, O: Opener, V: Watcher>(
+    alloc: Global,
+    layout: &'a Layout,
+    manifest_name: &str,
+    files: &mut O,
+    watcher: &mut V,
+) -> Result<(Node<'a>, Vec<TextNote>), RunFault>
+    ensures ok { IfOk result (λ noted. IsNotedNodeOf (O.file files.old) layout.now manifest_name.now noted.0 noted.1.items) }
+    ensures err { IfErr result (λ fault. RefusesNode (O.file files.old) layout.now manifest_name.now fault) }
+    ensures unread { IfErr result (λ fault. NamesUnreadable LONGEST_FILE (Fails O.R.failures) (O.file files.old) fault) }
+    ensures failed { IfErr result (NamesFailed (Fails O.R.failures)) }
+    ensures same { O.file files.new ≡ O.file files.old }
+{
+    let manifest = match manifest_at(alloc, manifest_name, files) {
+        Ok(manifest) => manifest,
+        Err(fault) => return Err(fault),
+    };
+    let nothing = Gathered::new(alloc, layout);
+    let noted = match noted_of(alloc, layout, manifest.pieces(), files, watcher, nothing) {
+        Ok(noted) => noted,
+        Err(fault) => return Err(fault),
+    };
+    let (gathered, notes) = noted;
+    let know = gathered.know.into_knowledge()?;
+    match Node::of(alloc, layout, know) {
+        Ok(node) => Ok((node, notes)),
+        Err(NodeFault::Memory) => Err(RunFault::Memory),
+        // (what is known is of ranks of the layout, and a new node isn't stale)
+        Err(NodeFault::Rank) => unreachable!(),
+        Err(NodeFault::Stale) => unreachable!(),
     }
 }
 
@@ -99,35 +139,90 @@ fn other_sends(sends: Sends) -> Sends
     }
 }
 
-// What a node tells, in words, beside what one of the other layout would tell. It lets go of the node.
-fn explained<N: Answerer>(alloc: Global, node: N, other: &Layout) -> Result<Vec<u8>, AllocError>
+// What a node tells, in words, beside what one of the other layout would tell, with what is noted of the texts. It lets
+// go of the node.
+fn explained<N: Answerer, O: Opener>(
+    alloc: Global,
+    layout: &Layout,
+    node: N,
+    other: &Layout,
+    notes: &[TextNote],
+    files: &mut O,
+) -> Result<Vec<u8>, RunFault>
     requires fresh { (N.held node).is_stale ≡ false }
+    requires own { layout.now ≡ (N.held node).layout }
     requires other { other.now ≡ under_other (N.held node).layout }
-    ensures { IfOk result (λ text. IsTold (N.held node).layout (N.held node).know text.items) }
+    ensures ok { IfOk result (λ text. IsTold (O.file files.old) (N.held node).layout (N.held node).know notes.now text.items) }
 {
     // (a new node isn't stale)
     let Ok(answer) = node.told() else {
         unreachable!()
     };
     node.known();
-    let second = node_under(alloc, other, node.knowledge())?;
-    explained_beside(alloc, answer, node.knowledge(), second)
+    let said = said_beside(alloc, layout, other, answer, node.knowledge())?;
+    let places = match places_of(alloc, shown_first(answer.stuck()), notes, files) {
+        Ok(places) => places,
+        Err(fault) => return Err(fault),
+    };
+    let more = answer.stuck().len().saturating_sub(places.len());
+    let text = text_of(alloc, &said, notes, &places, more)?;
+    Ok(text)
+}
+
+// What was said, with what is noted of the texts and where stuck calls stand in them.
+fn text_of(
+    alloc: Global,
+    said: &[u8],
+    notes: &[TextNote],
+    places: &[CallPlace],
+    more: usize,
+) -> Result<Vec<u8>, AllocError>
+    ensures { IfOk result (λ text. text.items ≡ said.now ++ notes_text notes.now ++ places_text places.now more) }
+{
+    let mut text = Text::new(alloc);
+    text.put(said);
+    put_notes(alloc, &mut text, notes);
+    put_places(&mut text, places, more);
+    text.into_bytes()
+}
+
+// the first ten stuck ranks
+fn shown_first(stuck: &[Stuck]) -> &[Stuck]
+    ensures { result.now ≡ take most_shown stuck.now }
+{
+    &stuck[..stuck.len().min(MOST_SHOWN)]
+}
+
+// What an answer tells, in words, beside the answer of a node of the other layout that knows the same.
+fn said_beside(
+    alloc: Global,
+    layout: &Layout,
+    other: &Layout,
+    answer: &Answer,
+    know: &Knowledge,
+) -> Result<Vec<u8>, AllocError>
+    requires { IsWithin other.now know.now }
+    ensures { IfOk result (λ text. (told : Answered) × IsAnswer other.now know.now told × IsExplained layout.now answer.now know.now told text.items) }
+{
+    let second = node_under(alloc, other, know)?;
+    explained_beside(alloc, layout, answer, know, second)
 }
 
 // What an answer tells, in words, beside the answer of a node, which it lets go of.
 fn explained_beside<N: Answerer>(
     alloc: Global,
+    layout: &Layout,
     answer: &Answer,
     know: &Knowledge,
     second: N,
 ) -> Result<Vec<u8>, AllocError>
     requires fresh { (N.held second).is_stale ≡ false }
-    ensures { IfOk result (λ text. (other : Answered) × IsAnswer (N.held second).layout (N.held second).know other × IsExplained answer.now know.now other text.items) }
+    ensures { IfOk result (λ text. (other : Answered) × IsAnswer (N.held second).layout (N.held second).know other × IsExplained layout.now answer.now know.now other text.items) }
 {
     let Ok(other) = second.told() else {
         unreachable!()
     };
-    explain(alloc, answer, know, other)
+    explain(alloc, layout, answer, know, other)
 }
 
 // A node of the layout that knows the same.

@@ -59,7 +59,7 @@ pub(crate) fn know_of<G: Gatherer, O: Opener, V: Watcher>(
 }
 
 // The file of the first piece that has calls of a rank outside the layout.
-fn with_stranger(
+pub(crate) fn with_stranger(
     alloc: Global,
     stranger: Option<String>,
     layout: &Layout,
@@ -90,7 +90,7 @@ fn have_calls(segments: &[Segment]) -> bool
 }
 
 // Takes segments that are not needed any more, with their events.
-fn take_all<G: Gatherer>(gatherer: G, segments: Vec<Segment>) -> Result<G, AllocError>
+pub(crate) fn take_all<G: Gatherer>(gatherer: G, segments: Vec<Segment>) -> Result<G, AllocError>
     ensures known { IfOk result (λ g. G.known g ≡ join (G.known gatherer) (view_of (facts_of_all segments.items))) }
     ensures layout { IfOk result (λ g. G.layout g ≡ G.layout gatherer) }
 {

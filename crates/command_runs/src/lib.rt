@@ -24,7 +24,9 @@
 //! - [`schedule`]: the steps that a manifest's schedule stands for; [`replay`]: their run, and the reports
 //!   of the nodes
 //! - [`answerer`]: a node as those know it who write what it tells; [`check`]: the lines of a check;
-//!   [`explain`]: an answer in words; [`graph`]: as a picture; [`json`]: a report as JSON
+//!   [`graph`]: as a picture; [`json`]: a report as JSON
+//! - [`explain`]: an answer in words, over pieces that were read with notes of their texts ([`noted`]), with the places of
+//!   its stuck calls ([`places`]), for which a text is opened a second time ([`second_look`])
 //! - [`texts`]: the texts of a cluster; [`cluster`]: its run, and the reports of both nodes
 //! - [`run`]: a verb over its files; [`fault`]: why it is refused, and the line that says so, in which
 //!   [`file_name`] shows names of files
@@ -46,12 +48,15 @@ mod graph;
 mod input;
 mod json;
 mod knowing;
+mod noted;
 mod opener;
 mod piece;
 mod pieces;
+mod places;
 mod replay;
 mod run;
 mod schedule;
+mod second_look;
 mod terminal;
 mod texts;
 mod watch;

@@ -11,3 +11,6 @@ pub mod Adding
 pub mod Lines
 pub mod Alike
 pub mod Parts
+pub mod Keys
+pub mod Matching
+pub mod Several

@@ -1,16 +1,22 @@
 -- What `explain` says.
-use Rattle.std.specs.Prelude.{◌≡◌, ℕ, zero, suc, ◌-◌, ◌/◌, ◌%◌, ◌==◌, Bool, true, false, if◌then◌else◌, Option, List, [], ◌∷◌, ◌++◌, codes, decimal, filter, length, map, slice_get, take, unwrap_or}
-use Rattle.std.specs.List.{flat_map}
+use Rattle.std.specs.Prelude.{◌≡◌, ℕ, zero, suc, ◌-◌, ◌/◌, ◌%◌, ◌==◌, ◌&&◌, ◌||◌, not, Bool, true, false, if◌then◌else◌, Option, List, [], ◌∷◌, ◌++◌, codes, decimal, filter, length, map, slice_get, take, unwrap_or}
+use Rattle.std.specs.List.{flat_map, list_any}
 use Rattle.mpi_model.specs.declared.event.OpName.{OpName}
+use Rattle.mpi_model.specs.Layouts.{Parts}
 use Rattle.mpi_model.specs.declared.layout.Sends.{Sends}
 use Rattle.mpi_model.specs.declared.layout.Sends.TheVariants.{Wait, Buffer}
 use Rattle.trace_know.specs.View.{View}
+use Rattle.trace_ops.specs.Ops.{Ops}
+use Rattle.trace_ops.specs.RankOps.{all_ops}
 use Rattle.trace_ops.specs.declared.state.State.{State}
 use Rattle.trace_ops.specs.declared.state.State.TheVariants.{Ended, Free, Waiting}
 use Rattle.trace_node.specs.Answer.{Answered, Stopped}
-use Rattle.call_words.specs.Ranges.{ranges_text}
+use Rattle.call_words.specs.Ranges.{named_ranks_text, ranges_text}
 use Rattle.trace_explain.specs.Hearts.{AreHearts}
+use Rattle.trace_explain.specs.LeftText.{left_over_text}
+use Rattle.trace_explain.specs.Mismatches.{is_mismatched, mismatched, mismatches_text}
 use Rattle.trace_explain.specs.Sections.{headed_text, lines_of}
+use Rattle.trace_explain.specs.Shown.{more_text, most_shown}
 
 -- How it stands
 
@@ -63,15 +69,6 @@ stuck_ranks a = map (λ s. s.rank) a.stuck
 
 -- What should make one doubt it
 
--- how many lines of a kind are shown
-abbrev pub most_shown : ℕ
-most_shown = 10
-
--- `  and 3 more`
-abbrev pub more_text : ℕ → List ℕ
-more_text zero = []
-more_text (suc n) = codes "  and " ++ decimal (suc n) ++ codes " more\n"
-
 abbrev pub side_text : ℕ → List ℕ
 side_text place = if place % 2 == 0 then codes " was entered\n" else codes " returned\n"
 
@@ -98,9 +95,17 @@ abbrev pub unread_below : Answered → ℕ → List ℕ
 unread_below a zero = []
 unread_below a (suc rank) = if is_unread a rank then unread_below a rank ++ rank ∷ [] else unread_below a rank
 
+-- what is known of the rank ends at a call that isn't read
+abbrev pub ends_unread : Answered → ℕ → Bool
+ends_unread a rank = unwrap_or (slice_get a.unread rank) false
+
+abbrev pub ends_unread_below : Answered → ℕ → List ℕ
+ends_unread_below a zero = []
+ends_unread_below a (suc rank) = if ends_unread a rank then ends_unread_below a rank ++ rank ∷ [] else ends_unread_below a rank
+
 -- more is known of the rank behind a gap or a contradiction
 abbrev pub is_gapped : Answered → ℕ → Bool
-is_gapped a rank = unwrap_or (slice_get a.beyond rank) false
+is_gapped a rank = unwrap_or (slice_get a.beyond rank) false && not (ends_unread a rank)
 
 abbrev pub gapped_below : Answered → ℕ → List ℕ
 gapped_below a zero = []
@@ -120,12 +125,24 @@ foreign_text n = if n == 0 then [] else some_foreign_text n
 abbrev pub unread_text : Answered → List ℕ
 unread_text a = some_ranks_text (codes "  nothing can be read of ranks ") (unread_below a a.ranks)
 
+-- `  what is known of ranks 3, 5 ends at a call that mpimatch does not read`
+abbrev pub these_end_text : List ℕ → List ℕ
+these_end_text ranks = codes "  what is known of " ++ named_ranks_text ranks ++ codes " ends at a call that mpimatch does not read\n"
+
+abbrev pub some_end_text : List ℕ → List ℕ
+some_end_text [] = []
+some_end_text (r ∷ ranks) = these_end_text (r ∷ ranks)
+
+abbrev pub ends_unread_text : Answered → List ℕ
+ends_unread_text a = some_end_text (ends_unread_below a a.ranks)
+
 abbrev pub gapped_text : Answered → List ℕ
 gapped_text a = some_ranks_text (codes "  behind a gap or a contradiction more is known, and not used, of ranks ") (gapped_below a a.ranks)
 
 abbrev pub doubts_text : Answered → List ℕ
 doubts_text a = codes "\nWhat should make one doubt this:\n"
     ++ unread_text a
+    ++ ends_unread_text a
     ++ gapped_text a
     ++ conflicts_text a.conflicts
     ++ all_postponed_text a.postponed
@@ -134,21 +151,40 @@ doubts_text a = codes "\nWhat should make one doubt this:\n"
 
 -- The whole
 
-abbrev pub heart_head : List ℕ
-heart_head = codes "\nThese hold up all others (the hearts of the deadlock):\n"
+abbrev pub head_of : Bool → List ℕ
+head_of true = codes "\nThese hold up all others (the hearts of the deadlock):\n"
+head_of false = codes "\nThese only wait for them:\n"
 
-abbrev pub rest_head : List ℕ
-rest_head = codes "\nThese only wait for them:\n"
+-- the stuck ranks that are in hearts, or all others
+abbrev pub section_of : List Ops → Answered → View → List (Option ℕ) → Bool → List ℕ
+section_of ops a view hearts in_heart = headed_text (head_of in_heart) (lines_of ops a view hearts in_heart a.stuck)
 
--- what is said of an answer, of what is known, of the hearts, and of the answer under the other kind of sends
-abbrev pub explained_text : Answered → View → List (Option ℕ) → Answered → List ℕ
-explained_text a view hearts other =
-    head_text a
-    ++ headed_text heart_head (lines_of a view hearts true a.stuck)
-    ++ headed_text rest_head (lines_of a view hearts false a.stuck)
+-- what ranks did, where it is spoken of: where a rank waits, or calls of one round don't match
+abbrev pub is_waiting : State → Bool
+is_waiting state = is_state Waiting state
+
+abbrev pub needs_ops : Answered → Bool
+needs_ops a = list_any is_waiting a.states || list_any is_mismatched a.rounds
+
+abbrev pub needed_ops : Parts → Answered → View → List Ops
+needed_ops layout a view = if needs_ops a then all_ops layout view else []
+
+-- who is stuck, and in which calls
+abbrev pub stuck_ranks_text : List Ops → Answered → View → List (Option ℕ) → List ℕ
+stuck_ranks_text ops a view hearts =
+    head_text a ++ section_of ops a view hearts true ++ section_of ops a view hearts false
+
+-- what is said of an answer, of what the ranks did, of what is known, of the hearts, and of the answer under the other
+-- kind of sends
+abbrev pub explained_text : Parts → List Ops → Answered → View → List (Option ℕ) → Answered → List ℕ
+explained_text layout ops a view hearts other =
+    stuck_ranks_text ops a view hearts
+    ++ mismatches_text layout.comms ops (mismatched a.rounds)
+    ++ left_over_text a view ops
     ++ sends_text a.sends (length a.stuck) (stuck_ranks other)
     ++ doubts_text a
 
 -- The text says so of the hearts.
-abbrev pub IsExplained : Answered → View → Answered → List ℕ → Type 0
-IsExplained a view other text = (hearts : List (Option ℕ)) × AreHearts a.stuck hearts × (text ≡ explained_text a view hearts other)
+abbrev pub IsExplained : Parts → Answered → View → Answered → List ℕ → Type 0
+IsExplained layout a view other text =
+    (hearts : List (Option ℕ)) × AreHearts a.stuck hearts × (text ≡ explained_text layout (needed_ops layout a view) a view hearts other)

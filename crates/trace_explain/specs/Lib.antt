@@ -4,5 +4,11 @@ pub mod Hearts
 pub mod Search
 pub mod Standing
 pub mod Waited
+pub mod Rounds
 pub mod Sections
+pub mod Shown
+pub mod Mismatches
+pub mod LeftOver
+pub mod LeftText
+pub mod Offers
 pub mod Explained

@@ -3,11 +3,13 @@ use Rattle.std.specs.Prelude.{ℕ, zero, suc, ◌*◌, ◌-◌, ◌^◌, ◌==�
 use Rattle.std.specs.List.{list_any}
 use Rattle.std.specs.Str.{bytes_eq}
 use Rattle.trace_know.specs.View.{View}
+use Rattle.trace_ops.specs.Ops.{Ops}
 use Rattle.trace_node.specs.Answer.{Answered, Stopped}
 use Rattle.call_words.specs.Ranges.{ranges_text}
 use Rattle.call_words.specs.Seconds.{seconds_text}
 use Rattle.trace_explain.specs.declared.line.Line.{Line}
 use Rattle.trace_explain.specs.Hearts.{heart_at}
+use Rattle.trace_explain.specs.Rounds.{not_entered_text, round_of, round_text}
 use Rattle.trace_explain.specs.Standing.{place_text, rank_text}
 use Rattle.trace_explain.specs.Waited.{wait_text}
 
@@ -26,11 +28,12 @@ abbrev pub entry_of : ℕ → ℕ
 entry_of call = min (call * 2) (2 ^ 64 - 1)
 
 -- the call, and whom the rank waits for
-abbrev pub words_of : Answered → View → Stopped → List ℕ
-words_of a view s = place_text view s.rank (entry_of s.call) ++ codes "; waits for " ++ wait_text (rank_text a view) s.waits
+abbrev pub words_of : List Ops → Answered → View → Stopped → List ℕ
+words_of ops a view s = place_text view s.rank (entry_of s.call) ++ round_text (round_of ops s) ++ codes "; waits for "
+    ++ wait_text (rank_text a view) s.waits ++ not_entered_text (round_of ops s) s.waits
 
-abbrev pub said_of : Answered → View → Stopped → Said
-said_of a view s = record { rank = s.rank; call = s.call; wall = s.wall; words = words_of a view s }
+abbrev pub said_of : List Ops → Answered → View → Stopped → Said
+said_of ops a view s = record { rank = s.rank; call = s.call; wall = s.wall; words = words_of ops a view s }
 
 -- the rank is in a heart, or in none, as is asked
 abbrev pub is_asked : List (Option ℕ) → Bool → Stopped → Bool
@@ -38,8 +41,8 @@ is_asked hearts true s = is_some (heart_at hearts s.rank)
 is_asked hearts false s = is_none (heart_at hearts s.rank)
 
 -- what is said of the stuck ranks that are in hearts, or of all others
-abbrev pub lines_of : Answered → View → List (Option ℕ) → Bool → List Stopped → List Said
-lines_of a view hearts in_heart stuck = map (said_of a view) (filter (is_asked hearts in_heart) stuck)
+abbrev pub lines_of : List Ops → Answered → View → List (Option ℕ) → Bool → List Stopped → List Said
+lines_of ops a view hearts in_heart stuck = map (said_of ops a view) (filter (is_asked hearts in_heart) stuck)
 
 -- Two ranks stand alike where the same is said of them.
 abbrev pub is_alike : Said → Said → Bool

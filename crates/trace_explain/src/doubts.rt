@@ -1,33 +1,15 @@
 //! What should make one doubt an answer.
 
-ghost use Rattle.std.specs.Prelude.{◌≡◌, IfOk, take};
+ghost use Rattle.std.specs.Prelude.{◌≡◌, IfOk};
 ghost use Rattle.std.specs.List.{flat_map};
 ghost use Rattle.call_words.specs.Texts.{Adds};
-ghost use Rattle.trace_explain.specs.Explained.{all_postponed_text, conflict_text, conflicts_text, doubts_text, foreign_text, gapped_below, gapped_text, is_gapped, is_unread, more_text, most_shown, postponed_text, side_text, some_foreign_text, some_ranks_text, unread_below, unread_text};
+ghost use Rattle.trace_explain.specs.Explained.{all_postponed_text, conflict_text, conflicts_text, doubts_text, ends_unread, ends_unread_below, ends_unread_text, foreign_text, gapped_below, gapped_text, is_gapped, is_unread, postponed_text, side_text, some_end_text, some_foreign_text, some_ranks_text, these_end_text, unread_below, unread_text};
 
-use call_words::{Text, put_ranges};
+use crate::shown::{MOST_SHOWN, put_more, shown};
+use call_words::{Text, put_named_ranks, put_ranges};
 use mpi_model::OpName;
 use std::alloc::{AllocError, Global};
 use trace_node::Answer;
-
-/// How many lines of a kind are shown.
-const MOST_SHOWN: usize = 10;
-
-fn shown<X>(items: &[X]) -> &[X]
-    ensures { result.now ≡ take most_shown items.now }
-{
-    &items[..items.len().min(MOST_SHOWN)]
-}
-
-fn put_more(out: &mut Text, more: usize)
-    ensures { Adds out.old out.new (more_text more) }
-{
-    if more > 0 {
-        out.put(b"  and ");
-        out.put_number(more as u64);
-        out.put(b" more\n");
-    }
-}
 
 fn put_conflict(out: &mut Text, at: &(u32, u64))
     ensures { Adds out.old out.new (conflict_text at.now) }
@@ -118,6 +100,26 @@ fn is_unread(answer: &Answer, rank: u32) -> bool
     answer.prefixes().get(rank as usize).copied().unwrap_or(0) == 0
 }
 
+/// The ranks whose readable events end at a call that isn't read.
+fn ends_unread_in(alloc: Global, answer: &Answer) -> Result<Vec<u32>, AllocError>
+    ensures { IfOk result (λ ranks. ranks.items ≡ ends_unread_below answer.now answer.now.ranks) }
+{
+    let mut ranks = Vec::new(alloc);
+    for rank in 0..answer.ranks() {
+        if ends_unread(answer, rank) {
+            ranks.push(rank)?;
+        }
+    }
+    Ok(ranks)
+}
+
+/// Whether the rank's readable events end at a call that isn't read.
+pub(crate) fn ends_unread(answer: &Answer, rank: u32) -> bool
+    ensures { result ≡ ends_unread answer.now rank }
+{
+    answer.unread().get(rank as usize).copied().unwrap_or(false)
+}
+
 /// The ranks of which more is known behind a gap or a contradiction.
 fn gapped(alloc: Global, answer: &Answer) -> Result<Vec<u32>, AllocError>
     ensures { IfOk result (λ ranks. ranks.items ≡ gapped_below answer.now answer.now.ranks) }
@@ -131,10 +133,11 @@ fn gapped(alloc: Global, answer: &Answer) -> Result<Vec<u32>, AllocError>
     Ok(ranks)
 }
 
-fn is_gapped(answer: &Answer, rank: u32) -> bool
+/// Whether more is known of the rank behind a gap or a contradiction.
+pub(crate) fn is_gapped(answer: &Answer, rank: u32) -> bool
     ensures { result ≡ is_gapped answer.now rank }
 {
-    answer.beyond().get(rank as usize).copied().unwrap_or(false)
+    answer.beyond().get(rank as usize).copied().unwrap_or(false) && !ends_unread(answer, rank)
 }
 
 fn put_unread(alloc: Global, out: &mut Text, answer: &Answer)
@@ -142,6 +145,31 @@ fn put_unread(alloc: Global, out: &mut Text, answer: &Answer)
 {
     match unread(alloc, answer) {
         Ok(ranks) => put_some(out, b"  nothing can be read of ranks ", &ranks),
+        Err(_) => out.give_up(),
+    }
+}
+
+fn put_these_end(out: &mut Text, ranks: &[u32])
+    ensures { Adds out.old out.new (these_end_text ranks.now) }
+{
+    out.put(b"  what is known of ");
+    put_named_ranks(out, ranks);
+    out.put(b" ends at a call that mpimatch does not read\n");
+}
+
+fn put_some_end(out: &mut Text, ranks: &[u32])
+    ensures { Adds out.old out.new (some_end_text ranks.now) }
+{
+    if !ranks.is_empty() {
+        put_these_end(out, ranks);
+    }
+}
+
+fn put_ends_unread(alloc: Global, out: &mut Text, answer: &Answer)
+    ensures { Adds out.old out.new (ends_unread_text answer.now) }
+{
+    match ends_unread_in(alloc, answer) {
+        Ok(ranks) => put_some_end(out, &ranks),
         Err(_) => out.give_up(),
     }
 }
@@ -183,6 +211,7 @@ pub(crate) fn put_doubts(alloc: Global, out: &mut Text, answer: &Answer)
 {
     out.put(b"\nWhat should make one doubt this:\n");
     put_unread(alloc, out, answer);
+    put_ends_unread(alloc, out, answer);
     put_gapped(alloc, out, answer);
     put_conflicts(out, answer.conflicts());
     put_all_postponed(out, answer.postponed());

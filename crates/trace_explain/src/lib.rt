@@ -16,12 +16,19 @@
 //!
 //! - [`graph`]: the edges, in both directions; [`search`]: from where a rank is reached
 //! - [`heart`]: the three searches, and the hearts; [`laws`]: that a rank has one heart at most
-//! - [`standing`]: what a rank does; [`waited`]: for whom it waits; [`line`]: both, of each stuck rank
+//! - [`standing`]: what a rank does; [`waited`]: for whom it waits; [`round`]: the round that its call
+//!   entered; [`line`]: all of that, of each stuck rank
 //! - [`section`]: lines, where ranks that stand alike share one
+//! - [`mismatch`]: collective calls of one round that don't match; [`shown`]: how many lines of a kind
+//!   are shown
+//! - [`left_over`]: messages without a receive and receives without a message, by [`names`] of calls and by
+//!   [`offers`] of messages; [`left_text`]: the same in words
 //! - [`head`]: how it stands, and under the other kind of sends; [`doubts`]: what makes it doubtful
 //! - [`explained`]: the whole
 //!
 //! Its words come from `call_words`. They cost what they say, and a comparison of each two stuck ranks.
+//! What the ranks did is looked at where a rank waits or collective calls don't match: one pass over all
+//! calls, with a look-up in an ordered set for each message and each receive.
 #![tactic(auto)]
 
 mod doubts;
@@ -30,9 +37,16 @@ mod graph;
 mod head;
 mod heart;
 mod laws;
+mod left_over;
+mod left_text;
 mod line;
+mod mismatch;
+mod names;
+mod offers;
+mod round;
 mod search;
 mod section;
+mod shown;
 mod standing;
 mod waited;
 

@@ -2,10 +2,10 @@
 //! gets is said by the contracts of both calls, over each device that tells its bytes.
 
 use crate::fixture::{both, frame, read};
-use mpi_model::{Call, EndlessReader, MemoryWriter, Outs, Sources, Told};
+use mpi_model::{Call, EndlessReader, Event, MemoryWriter, Outs, Sources, Stamp, Told};
 use std::alloc::Global;
 use std::process::Abort;
-use trace_know::Knowledge;
+use trace_know::{Knowledge, Segment};
 use trace_wire::{Version, WireFault, frame_len_as, read_frame, write_frame_as};
 
 #[test]
@@ -16,7 +16,7 @@ fn a_reader_without_an_end(rt: HostRuntime) {
 }
 
 /// Knowledge of one call whose outcome tells so many sources. Its frame has 70 bytes, in version 1 78, and four for each.
-fn long<R: Abort>(rt: &R, alloc: Global, sources: usize) -> Knowledge {
+pub(crate) fn long<R: Abort>(rt: &R, alloc: Global, sources: usize) -> Knowledge {
     let mut told = Vec::new(alloc);
     for _ in 0..sources {
         told.push(Told::Nothing).expect(rt, "memory");
@@ -68,4 +68,48 @@ fn refused<R: Abort>(rt: &R, alloc: Global) -> (Option<WireFault>, usize) {
 fn too_long_for_version_1(rt: HostRuntime) {
     let found = refused(&rt, rt.alloc());
     assert!(rt; found == (Some(WireFault::Length), 0));
+}
+
+/// Knowledge of so many segments of local calls, one behind the other on rank 0, of 65,536 events each. A cell of an event
+/// without fields has 30 bytes in version 1.
+fn segments<R: Abort>(rt: &R, alloc: Global, count: u64) -> Knowledge {
+    let mut know = Knowledge::new(alloc);
+    for place in 0..count {
+        let segment = local_calls(rt, alloc, place);
+        know.take_owned(segment).expect(rt, "memory");
+    }
+    know
+}
+
+/// The segment of this place, from 0.
+fn local_calls<R: Abort>(rt: &R, alloc: Global, place: u64) -> Segment {
+    let stamp = Stamp::new(0, 0).expect(rt, "a time");
+    let mut events = Vec::new(alloc);
+    for _ in 0..32_768_u32 {
+        events
+            .push(Event::Enter(Call::Local, stamp))
+            .expect(rt, "memory");
+        events
+            .push(Event::Return(Outs::Nothing, stamp))
+            .expect(rt, "memory");
+    }
+    let first = place.saturating_mul(32_768);
+    Segment::new(0, first, events).expect(rt, "a segment")
+}
+
+/// What a writer answers that is asked for version 1 of so many segments, and how much it has written then.
+fn written_of<R: Abort>(rt: &R, alloc: Global, count: u64) -> (Option<WireFault>, usize) {
+    let know = segments(rt, alloc, count);
+    let mut writer = MemoryWriter::new(alloc);
+    let fault = write_frame_as(Version::One, &know, &mut writer).err();
+    (fault, writer.bytes().len())
+}
+
+/// The frame of eight has 14 bytes and 30 for each of their events; that of nine would be longer than a frame may be.
+#[test]
+fn eight_segments_and_nine(rt: HostRuntime) {
+    let eight = written_of(&rt, rt.alloc(), 8);
+    let nine = written_of(&rt, rt.alloc(), 9);
+    assert!(rt; eight == (None, 15_728_654));
+    assert!(rt; nine == (Some(WireFault::Length), 0));
 }

@@ -8,6 +8,7 @@
 //! | `order` | the first cause of a refusal, byte by byte |
 //! | `devices` | a device without an end, and the longest frame of each version |
 //! | `packed` | which of several frames is refused and why, and knowledge that one frame can't hold |
+//! | `refused` | frames that are read, joined and written where memory is refused |
 #![tactic(auto)]
 
 #[cfg(test)]
@@ -18,5 +19,7 @@ mod fixture;
 mod order;
 #[cfg(test)]
 mod packed;
+#[cfg(test)]
+mod refused;
 #[cfg(test)]
 mod spelling;

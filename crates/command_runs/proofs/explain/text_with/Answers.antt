@@ -1,17 +1,27 @@
-use Rattle.command_runs.specs.Nodes.{IsNodeOf}
+use Rattle.std.proofs.Common.{◌≡◌, ◌∙◌, ℕ, List, Option, subst}
+use Rattle.text_notes.specs.Words.{NoteParts}
+use Rattle.command_runs.specs.Explains.{IsNotedNodeOf, IsTold}
 use Rattle.command_runs.specs.Refusals.{RefusesNode}
 use Rattle.command_runs.proofs.Explaining.{told_of_run}
 use Rattle.command_runs.proofs.Refusals.{node_refused}
 use Rattle.command_runs.proofs.explain.text_with.Goals as goal
 
-pub returns-in-Err-node_with-clause-err : goal.returns-in-Err-node_with-clause-err
-returns-in-Err-node_with-clause-err g c =
+pub returns-in-Err-noted_node_with-clause-err : goal.returns-in-Err-noted_node_with-clause-err
+returns-in-Err-noted_node_with-clause-err g c =
     let file = g.O.Opener.file c.args.files.now in
-    let refuses : RefusesNode file c.in-Ok.layout c.args.manifest_name.now c.in-Err-node_with.fault = rw c.layout_at.ensures.same at c.in-Err-node_with.ensures.err in
-    node_refused file c.in-Ok.layout c.args.layout_name.now c.args.manifest_name.now c.in-Err-node_with.fault c.in-Ok.ensures.ok refuses
+    let refuses : RefusesNode file c.in-Ok.layout c.args.manifest_name.now c.in-Err-noted_node_with.fault = rw c.layout_at.ensures.same at c.in-Err-noted_node_with.ensures.err in
+    node_refused file c.in-Ok.layout c.args.layout_name.now c.args.manifest_name.now c.in-Err-noted_node_with.fault c.in-Ok.ensures.ok refuses
 
 pub returns-in-Ok-explained-clause-ok : goal.returns-in-Ok-explained-clause-ok
 returns-in-Ok-explained-clause-ok g c =
     let file = g.O.Opener.file c.args.files.now in
-    let of : IsNodeOf file c.in-Ok.layout c.args.manifest_name.now c.in-Ok-node_with.node = rw c.layout_at.ensures.same at c.in-Ok-node_with.ensures.ok in
-    told_of_run file c.args.layout_name.now c.args.manifest_name.now c.in-Ok.layout c.in-Ok-node_with.node c.in-Ok-explained.text.items c.in-Ok.ensures.ok of c.in-Ok-explained.ensures
+    let of : IsNotedNodeOf file c.in-Ok.layout c.args.manifest_name.now c.in-Ok-noted_node_with.noted.0 c.in-Ok-noted_node_with.noted.1.items =
+    rw c.layout_at.ensures.same at c.in-Ok-noted_node_with.ensures.ok in
+    let node = c.in-Ok-noted_node_with.noted.0 in
+    let notes = c.in-Ok-noted_node_with.noted.1.items in
+    let text = c.in-Ok-explained.text.items in
+    let same : g.O.Opener.file c.noted_node_with.new.files ≡ file = c.noted_node_with.ensures.same ∙ c.layout_at.ensures.same in
+    let told : IsTold file node.layout node.know notes text =
+    subst (λ (f : List ℕ → Option (List ℕ)). IsTold f node.layout node.know notes text) same
+    (subst (λ (ns : List NoteParts). IsTold (g.O.Opener.file c.noted_node_with.new.files) node.layout node.know ns text) c.deref.ensures.value c.in-Ok-explained.ensures.ok) in
+    told_of_run file c.args.layout_name.now c.args.manifest_name.now c.in-Ok.layout node notes text c.in-Ok.ensures.ok of told

@@ -1,0 +1,62 @@
+-- Notes, one piece more, and places, one stuck call more.
+use Rattle.std.proofs.Common.{◌≡◌, ◌<◌, ◌+◌, ◌++◌, length, map, take, get_or, ◌∷◌, [], ℕ, List, Option, Some, None, ap, sym, refl, subst, ◌∙◌, append_assoc}
+use Rattle.std.specs.Prelude.{option_to_list}
+use Rattle.std.proofs.lemmas.List.{length-map, take_more}
+use Rattle.trace_node.specs.Answer.{Stopped}
+use Rattle.trace_node.specs.Stopped.{stopped}
+use Rattle.trace_node.specs.declared.stuck.Stuck.{Stuck}
+use Rattle.input_files.specs.Manifests.{PieceParts}
+use Rattle.text_notes.specs.Lines.{IsLineOf}
+use Rattle.text_notes.specs.Starts.{IsStartOf}
+use Rattle.text_notes.specs.declared.start.Start.{Start}
+use Rattle.text_notes.specs.Noted.{TellsNotes, UnreadParts}
+use Rattle.text_notes.specs.Words.{NoteParts, PlaceParts}
+use Rattle.command_runs.specs.Files.{StandsAtFirst}
+use Rattle.command_runs.specs.Notes.{AreNotesOf, ArePlacesOf, IsNoteOf, IsPlaceOf}
+
+pub notes_more : (file : List ℕ → Option (List ℕ)) (pieces : List PieceParts) (piece : PieceParts) (notes : List NoteParts) (note : NoteParts)
+    → AreNotesOf file pieces notes → IsNoteOf file piece note → AreNotesOf file (pieces ++ piece ∷ []) (notes ++ note ∷ [])
+notes_more file [] piece notes note e is = (note, [], is, refl, ap (λ (l : List NoteParts). l ++ note ∷ []) e)
+notes_more file (p ∷ ps) piece notes note h is =
+    (h.0, h.1 ++ note ∷ [], h.2, notes_more file ps piece h.1 note h.3 is, ap (λ (l : List NoteParts). l ++ note ∷ []) h.4)
+
+pub places_more : (file : List ℕ → Option (List ℕ)) (notes : List NoteParts) (stuck : List Stopped) (s : Stopped) (places : List PlaceParts) (place : Option PlaceParts)
+    → ArePlacesOf file notes stuck places → IsPlaceOf file notes s.rank s.call place → ArePlacesOf file notes (stuck ++ s ∷ []) (places ++ option_to_list place)
+places_more file notes [] s places place e is = (place, [], is, refl, ap (λ (l : List PlaceParts). l ++ option_to_list place) e ∙ last (option_to_list place))
+  where
+    last : (l : List PlaceParts) → [] ++ l ≡ l ++ []
+    last [] = refl
+    last (p ∷ l) = ap (λ (m : List PlaceParts). p ∷ m) (last l)
+places_more file notes (t ∷ stuck) s places place h is = (
+  h.0,
+  h.1 ++ option_to_list place,
+  h.2,
+  places_more file notes stuck s h.1 place h.3 is,
+  ap (λ (l : List PlaceParts). l ++ option_to_list place) h.4 ∙ append_assoc (option_to_list h.0) h.1 (option_to_list place),
+)
+
+map_push : {X Y : Type 0} (f : X → Y) (xs : List X) (x : X) → map f (xs ++ x ∷ []) ≡ map f xs ++ f x ∷ []
+map_push f [] x = refl
+map_push {Y = Y} f (y ∷ xs) x = ap (λ (l : List Y). f y ∷ l) (map_push f xs x)
+
+-- the stuck calls of a list, one more
+pub stopped_next : (xs : List Stuck) (i : ℕ) (x : Stuck) → i < length xs → x ≡ get_or xs i x → map stopped (take (i + 1) xs) ≡ map stopped (take i xs) ++ stopped x ∷ []
+stopped_next xs i x lt e =
+    ap (map stopped) (take_more xs i x lt ∙ ap (λ (s : Stuck). take i xs ++ s ∷ []) (sym e)) ∙ map_push stopped (take i xs) x
+
+-- how many there are
+pub stopped_count : (xs : List Stuck) (stuck : List Stopped) → map stopped xs ≡ stuck → length xs ≡ length stuck
+stopped_count xs stuck e = sym (length-map xs stopped) ∙ ap (λ (l : List Stopped). length l) e
+
+-- what the text of a file tells
+pub notes_told : (file left : Option (List ℕ)) (unread : List UnreadParts) (calls skipped : ℕ) → StandsAtFirst file left → TellsNotes left unread calls skipped → TellsNotes file unread calls skipped
+notes_told None left unread calls skipped told h = tt
+notes_told (Some bytes) left unread calls skipped told h = subst (λ (t : Option (List ℕ)). TellsNotes t unread calls skipped) told h
+
+pub start_told : (file left : Option (List ℕ)) (start : Start) → StandsAtFirst file left → IsStartOf left start → IsStartOf file start
+start_told None left start told h = tt
+start_told (Some bytes) left start told h = subst (λ (t : Option (List ℕ)). IsStartOf t start) told h
+
+pub line_told : (file left : Option (List ℕ)) (number : ℕ) (line : Option ℕ) → StandsAtFirst file left → IsLineOf left number line → IsLineOf file number line
+line_told None left number line told h = tt
+line_told (Some bytes) left number line told h = subst (λ (t : Option (List ℕ)). IsLineOf t number line) told h

@@ -1,0 +1,153 @@
+//! The pieces of a run, read with notes of their texts.
+
+ghost use Rattle.std.specs.Prelude.{◌≡◌, IfErr, IfOk};
+ghost use Rattle.std.specs.FinMap.{empty};
+ghost use Rattle.std.specs.List.{All};
+ghost use Rattle.dumpi_text.specs.Failing.{Fails};
+ghost use Rattle.trace_know.specs.Trace.{facts_of_all};
+ghost use Rattle.trace_node.specs.Node.{IsWithin};
+ghost use Rattle.command_runs.specs.FileNames.{shown_name};
+ghost use Rattle.command_runs.specs.Files.{NamesFailed};
+ghost use Rattle.command_runs.specs.Notes.{AreNotesOf, BeginsSo, IsNoteOf};
+ghost use Rattle.command_runs.specs.Pieces.{RefusesPiece, TellsFacts};
+ghost use Rattle.command_runs.specs.Refusals.{RefusesPieces};
+ghost use Rattle.command_runs.specs.Traces.{IsInside, IsKnown};
+
+use crate::fault::RunFault;
+use crate::file_name::FileName;
+use crate::gatherer::Gatherer;
+use crate::knowing::{take_all, with_stranger};
+use crate::opener::{OpenFault, Opener};
+use crate::piece::refusal;
+use crate::second_look::start_at;
+use crate::watch::{Watcher, announce};
+use crate::watched::Watched;
+use dumpi_calls::{walk, whole_segments, whole_texts};
+use input_files::Piece;
+use mpi_model::Layout;
+use std::alloc::{AllocError, Global};
+use text_notes::{Noting, Start, TextNote, noted_texts};
+use trace_know::{Segment, SegmentFault, join_laws, view_laws};
+
+/// A piece that was read.
+#[derive(Drop)]
+struct NotedPiece {
+    segments: Vec<Segment>,
+    note: TextNote,
+}
+
+// a file's name as a line shows it
+fn shown(alloc: Global, path: &str) -> Result<Vec<u8>, AllocError>
+    ensures { IfOk result (λ name. name.items ≡ shown_name path.now) }
+{
+    let text = format!(in alloc; "{}", FileName::new(path))?;
+    Vec::from_slice(alloc, text.as_str().as_bytes())
+}
+
+// what a text of so many calls is taken for: one without a call is looked at again
+fn start_where<O: Opener>(calls: u64, path: &str, files: &mut O) -> Option<Start>
+    ensures told { BeginsSo (O.file files.old path.now) result }
+    ensures same { O.file files.new ≡ O.file files.old }
+{
+    if calls > 0 {
+        return None;
+    }
+    start_at(path, files)
+}
+
+// The segments of a piece, none of a text without calls, and what is noted of its text.
+#[tactic(auto, using(crate::proofs::Told::facts_told, crate::proofs::Told::places_told, crate::proofs::Told::walk_told, crate::proofs::Notes::notes_told))]
+fn noted_piece<O: Opener, V: Watcher>(
+    alloc: Global,
+    piece: &Piece,
+    files: &mut O,
+    watcher: &mut V,
+) -> Result<NotedPiece, RunFault>
+    ensures ok { IfOk result (λ read. TellsFacts (O.file files.old piece.now.file) piece.now.rank piece.now.first (facts_of_all read.segments.items)) }
+    ensures note { IfOk result (λ read. IsNoteOf (O.file files.old) piece.now read.note) }
+    ensures err { IfErr result (RefusesPiece piece.now.file piece.now.first (O.file files.old piece.now.file)) }
+    ensures failed { IfErr result (NamesFailed (Fails O.R.failures)) }
+    ensures same { O.file files.new ≡ O.file files.old }
+{
+    whole_texts();
+    whole_segments();
+    noted_texts();
+    let path = piece.file();
+    let reader = match files.open(path) {
+        Ok(reader) => reader,
+        Err(OpenFault::Memory) => return Err(RunFault::Memory),
+        Err(OpenFault::File) => {
+            return Err(RunFault::File {
+                path: path.to_string(alloc)?,
+            });
+        }
+    };
+    let mut noting = Noting::new(alloc);
+    let walked = match walk(alloc, Watched::new(reader, watcher), &mut noting) {
+        Ok(walked) => walked,
+        Err(fault) => return Err(refusal(alloc, path, fault)?),
+    };
+    watcher.has_read(path, &walked);
+    let (collect, unread) = noting.into_parts();
+    let segments = match collect.into_segments(piece.rank(), piece.first()) {
+        Ok(segments) => segments,
+        Err(SegmentFault::Place) => {
+            return Err(RunFault::Place {
+                path: path.to_string(alloc)?,
+            });
+        }
+        Err(_) => return Err(RunFault::Memory),
+    };
+    let start = start_where(walked.calls, path, files);
+    let note = TextNote::new(
+        (piece.rank(), piece.first()),
+        path.to_string(alloc)?,
+        shown(alloc, path)?,
+        (walked.calls, walked.skipped),
+        unread,
+        start,
+    );
+    Ok(NotedPiece { segments, note })
+}
+
+/// What the pieces tell together, as [`know_of`](crate::knowing::know_of) gathers it, and what is noted of their texts,
+/// in the order of the pieces.
+pub(crate) fn noted_of<G: Gatherer, O: Opener, V: Watcher>(
+    alloc: Global,
+    layout: &Layout,
+    pieces: &[Piece],
+    files: &mut O,
+    watcher: &mut V,
+    gatherer: G,
+) -> Result<(G, Vec<TextNote>), RunFault>
+    requires { G.known gatherer ≡ empty }
+    ensures ok { IfOk result (λ read. IsKnown (O.file files.old) pieces.now (G.known read.0)) }
+    ensures notes { IfOk result (λ read. AreNotesOf (O.file files.old) pieces.now read.1.items) }
+    ensures inside { IfOk result (λ read. All (IsInside (O.file files.old) layout.now.ranks) pieces.now) }
+    ensures within { IfOk result (λ read. IsWithin layout.now (G.known read.0)) }
+    ensures layout { IfOk result (λ read. G.layout read.0 ≡ G.layout gatherer) }
+    ensures err { IfErr result (RefusesPieces (O.file files.old) layout.now.ranks pieces.now) }
+    ensures failed { IfErr result (NamesFailed (Fails O.R.failures)) }
+    ensures same { O.file files.new ≡ O.file files.old }
+{
+    join_laws();
+    view_laws();
+    announce(pieces, files, watcher);
+    let mut know = gatherer;
+    let mut notes = Vec::new(alloc);
+    let mut stranger = None;
+    for piece in pieces {
+        let read = match noted_piece(alloc, piece, files, watcher) {
+            Ok(read) => read,
+            Err(fault) => return Err(fault),
+        };
+        let NotedPiece { segments, note } = read;
+        stranger = with_stranger(alloc, stranger, layout, piece, &segments)?;
+        know = take_all(know, segments)?;
+        notes.push(note)?;
+    }
+    match stranger {
+        Some(path) => Err(RunFault::Rank { path }),
+        None => Ok((know, notes)),
+    }
+}

@@ -1,0 +1,10 @@
+use Rattle.std.proofs.Common.{ap}
+use Rattle.std.specs.List.{flat_map}
+use Rattle.trace_explain.specs.LeftText.{near_line}
+use Rattle.trace_explain.specs.Shown.{more_text}
+use Rattle.trace_explain.proofs.Adding.{then, reads}
+use Rattle.trace_explain.proofs.left_text.put_these_near.Goals as goal
+
+pub returns : goal.returns
+returns c =
+    then (then c.put.ensures (reads c.put_each_near.ensures (ap (flat_map (near_line c.args.know.now)) c.shown.ensures))) (reads c.put_more.ensures (ap more_text c.saturating_sub.ensures))

@@ -1,0 +1,103 @@
+-- What is left over where it may be why ranks wait: messages without a receive, and receives without a message
+-- (MPI 4.0, 3.2.3, 3.2.4 and 3.5).
+use Rattle.std.specs.Prelude.{ℕ, zero, suc, ◌==◌, ◌&&◌, not, Bool, Option, Some, None, List, [], ◌∷◌, ◌++◌, filter, map, slice_get}
+use Rattle.std.specs.List.{filter_map, find, flat_map, list_any}
+use Rattle.std.specs.Option.{option_map}
+use Rattle.mpi_model.specs.declared.call.Call.{Call}
+use Rattle.mpi_model.specs.declared.event.OpName.{OpName}
+use Rattle.mpi_model.specs.declared.message.Message.{Message}
+use Rattle.mpi_model.specs.declared.message.Receive.{Receive}
+use Rattle.mpi_model.specs.Fit.{envelopes_fit}
+use Rattle.mpi_model.specs.Trusts.{is_void}
+use Rattle.trace_ops.specs.Ops.{Ops}
+use Rattle.trace_pair.specs.declared.pair.Pair.{Pair}
+use Rattle.trace_pair.specs.Table.{same_name}
+use Rattle.trace_node.specs.Answer.{Answered}
+
+-- the name is one of these
+abbrev pub has_name : List OpName → OpName → Bool
+has_name names name = list_any (λ a. same_name a name) names
+
+-- the messages, and the receives, of pairs
+abbrev pub taken : List Pair → List OpName
+taken pairs = map (λ p. p.message) pairs
+
+abbrev pub given : List Pair → List OpName
+given pairs = map (λ p. p.receive) pairs
+
+-- A message is loose where it is in no pair, and was not cancelled.
+abbrev pub is_loose : List OpName → Message → Bool
+is_loose taken m = not (has_name taken m.name) && not (is_void m.trust)
+
+abbrev pub loose : List OpName → List Ops → List Message
+loose taken ops = flat_map (λ o. filter (is_loose taken) o.sends) ops
+
+abbrev pub named : ℕ → ℕ → OpName
+named rank call = record { rank = rank; call = call }
+
+-- the calls in which stuck ranks stand, of which more is said elsewhere
+abbrev pub standing : Answered → List OpName
+standing a = map (λ s. named s.rank s.call) a.stuck
+
+-- A loose message is left over where it isn't postponed, so that no receive which is known can have taken it, and no stuck
+-- rank stands in its call.
+abbrev pub is_left : List OpName → List OpName → Message → Bool
+is_left postponed standing m = not (has_name postponed m.name) && not (has_name standing m.name)
+
+abbrev pub left_names : List OpName → List OpName → List Message → List OpName
+left_names postponed standing messages = map (λ m. m.name) (filter (is_left postponed standing) messages)
+
+-- the calls for which a rank may wait, where it waits in a call: that call, and those that posted its active requests
+abbrev pub pending_in : ℕ → Option (ℕ × Call) → Ops → List OpName
+pending_in rank None o = []
+pending_in rank (Some w) o = named rank w.0 ∷ map (λ p. named rank p.1) o.active
+
+abbrev pub pending_of : ℕ → Ops → List OpName
+pending_of rank o = pending_in rank o.waiting o
+
+abbrev pub pending_at : ℕ → Option Ops → List OpName
+pending_at rank None = []
+pending_at rank (Some o) = pending_of rank o
+
+-- those of the ranks below a number
+abbrev pub pending_below : List Ops → ℕ → List OpName
+pending_below ops zero = []
+pending_below ops (suc rank) = pending_below ops rank ++ pending_at rank (slice_get ops rank)
+
+-- the envelope of some message fits
+abbrev pub fits_some : List Message → Receive → Bool
+fits_some messages q = list_any (λ m. envelopes_fit m q) messages
+
+-- A receive starves where a rank may wait for it, it is in no pair, was not cancelled, and no loose message fits it.
+abbrev pub is_starved : List OpName → List OpName → List Message → Receive → Bool
+is_starved pending given messages q =
+    has_name pending q.name && not (has_name given q.name) && not (is_void q.trust) && not (fits_some messages q)
+
+abbrev pub starved : List OpName → List OpName → List Message → List Ops → List Receive
+starved pending given messages ops = flat_map (λ o. filter (is_starved pending given messages) o.receives) ops
+
+-- the receives in whose call no stuck rank stands
+abbrev pub is_other : List OpName → Receive → Bool
+is_other standing q = not (has_name standing q.name)
+
+abbrev pub other_names : List OpName → List Receive → List OpName
+other_names standing receives = map (λ q. q.name) (filter (is_other standing) receives)
+
+-- The nearest miss of a receive that starves: the first loose message that would fit it if it took any tag. It is from a
+-- source that the receive takes, on its communicator and to its rank, and has another tag.
+abbrev pub nearest : List Message → Receive → Option Message
+nearest messages q = find (λ m. envelopes_fit m (record q { tag = None })) messages
+
+abbrev pub near_miss : List Message → Receive → Option (OpName × OpName)
+near_miss messages q = option_map (λ m. (q.name, m.name)) (nearest messages q)
+
+-- the receives that have one, each with it
+abbrev pub near_misses : List Message → List Receive → List (OpName × OpName)
+near_misses messages receives = filter_map (near_miss messages) receives
+
+-- The same of an answer, and of what the ranks did.
+abbrev pub loose_in : Answered → List Ops → List Message
+loose_in a ops = loose (taken a.pairs) ops
+
+abbrev pub starved_in : Answered → List Ops → List Receive
+starved_in a ops = starved (pending_below ops a.ranks) (given a.pairs) (loose_in a ops) ops

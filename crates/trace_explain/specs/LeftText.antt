@@ -1,0 +1,51 @@
+-- What is left over, in words.
+use Rattle.std.specs.Prelude.{ℕ, ◌-◌, ◌==◌, if◌then◌else◌, List, [], ◌∷◌, ◌++◌, codes, decimal, length, take}
+use Rattle.std.specs.List.{flat_map}
+use Rattle.mpi_model.specs.declared.event.OpName.{OpName}
+use Rattle.trace_know.specs.View.{View}
+use Rattle.trace_ops.specs.Ops.{Ops}
+use Rattle.trace_node.specs.Answer.{Answered}
+use Rattle.trace_explain.specs.LeftOver.{left_names, loose_in, near_misses, other_names, standing, starved_in}
+use Rattle.trace_explain.specs.Sections.{entry_of}
+use Rattle.trace_explain.specs.Shown.{more_text, most_shown}
+use Rattle.trace_explain.specs.Standing.{place_text}
+
+-- `rank 1, call 3: ` and the call
+abbrev pub named_call_text : View → OpName → List ℕ
+named_call_text view n = codes "rank " ++ decimal n.rank ++ codes ", call " ++ decimal n.call ++ codes ": " ++ place_text view n.rank (entry_of n.call)
+
+abbrev pub call_line : View → OpName → List ℕ
+call_line view n = codes "  " ++ named_call_text view n ++ codes "\n"
+
+-- the receive, and the message that misses it
+abbrev pub near_line : View → OpName × OpName → List ℕ
+near_line view p = codes "  " ++ named_call_text view p.0 ++ codes "; but " ++ named_call_text view p.1 ++ codes "\n"
+
+abbrev pub these_calls : View → List ℕ → List OpName → List ℕ
+these_calls view head ns = head ++ flat_map (call_line view) (take most_shown ns) ++ more_text (length ns - most_shown)
+
+-- some calls below a head, where there are any
+abbrev pub calls_below : View → List ℕ → List OpName → List ℕ
+calls_below view head [] = []
+calls_below view head (n ∷ ns) = these_calls view head (n ∷ ns)
+
+abbrev pub these_near : View → List (OpName × OpName) → List ℕ
+these_near view ps = codes "\nNearest misses (same communicator and peer, another tag):\n"
+    ++ flat_map (near_line view) (take most_shown ps) ++ more_text (length ps - most_shown)
+
+abbrev pub near_below : View → List (OpName × OpName) → List ℕ
+near_below view ps = if length ps == 0 then [] else these_near view ps
+
+abbrev pub messages_head : List ℕ
+messages_head = codes "\nLeft over are messages that no receive takes:\n"
+
+abbrev pub receives_head : List ℕ
+receives_head = codes "\nLeft over are receives of waiting ranks that no message fits:\n"
+
+-- calls of messages and of receives, and nearest misses
+abbrev pub left_text : View → List OpName → List OpName → List (OpName × OpName) → List ℕ
+left_text view messages receives near = calls_below view messages_head messages ++ calls_below view receives_head receives ++ near_below view near
+
+-- what is left over
+abbrev pub left_over_text : Answered → View → List Ops → List ℕ
+left_over_text a view ops = left_text view (left_names a.postponed (standing a) (loose_in a ops)) (other_names (standing a) (starved_in a ops)) (near_misses (loose_in a ops) (starved_in a ops))

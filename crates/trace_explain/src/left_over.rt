@@ -1,0 +1,276 @@
+//! What is left over where it may be why ranks wait.
+
+ghost use Rattle.std.specs.Prelude.{◌≡◌, ◌++◌, IfOk, OnOk, filter, map, slice_get};
+ghost use Rattle.trace_explain.specs.LeftOver.{given, is_left, is_loose, is_starved, left_names, loose, loose_in, named, near_misses, other_names, pending_at, pending_below, pending_of, standing, starved, starved_in, taken};
+
+use crate::names::Names;
+use crate::offers::Offers;
+use crate::shown::push_some;
+use mpi_model::{Message, OpName, Receive};
+use std::alloc::{AllocError, Global};
+use trace_node::Answer;
+use trace_ops::RankOps;
+use trace_pair::Pair;
+
+/// The messages of pairs.
+fn taken(alloc: Global, pairs: &[Pair]) -> Result<Vec<OpName>, AllocError>
+    ensures { IfOk result (λ names. names.items ≡ taken pairs.now) }
+{
+    pairs.iter().map(|p| p.message).collect(alloc)
+}
+
+/// The receives of pairs.
+fn given(alloc: Global, pairs: &[Pair]) -> Result<Vec<OpName>, AllocError>
+    ensures { IfOk result (λ names. names.items ≡ given pairs.now) }
+{
+    pairs.iter().map(|p| p.receive).collect(alloc)
+}
+
+fn is_loose(taken: &Names<'_>, m: &Message) -> bool
+    ensures { result ≡ is_loose taken.now m.now }
+{
+    !taken.has(m.name) && !m.trust.is_void()
+}
+
+fn push_loose(
+    taken: &Names<'_>,
+    sends: &[Message],
+    messages: &mut Vec<Message>,
+) -> Result<(), AllocError>
+    ensures { OnOk result (messages.new.items ≡ messages.old.items ++ filter (is_loose taken.now) sends.now) }
+{
+    for m in sends {
+        if is_loose(taken, m) {
+            messages.push(*m)?;
+        }
+    }
+    Ok(())
+}
+
+/// The messages that are in no pair, and were not cancelled.
+fn loose(alloc: Global, taken: &Names<'_>, ops: &[RankOps]) -> Result<Vec<Message>, AllocError>
+    ensures { IfOk result (λ messages. messages.items ≡ loose taken.now ops.now) }
+{
+    let mut messages = Vec::new(alloc);
+    for o in ops {
+        push_loose(taken, o.sends(), &mut messages)?;
+    }
+    Ok(messages)
+}
+
+fn is_left(postponed: &Names<'_>, standing: &Names<'_>, m: &Message) -> bool
+    ensures { result ≡ is_left postponed.now standing.now m.now }
+{
+    !postponed.has(m.name) && !standing.has(m.name)
+}
+
+/// Those of the messages that aren't postponed, and in whose call no stuck rank stands.
+fn left_names(
+    alloc: Global,
+    postponed: &Names<'_>,
+    standing: &Names<'_>,
+    messages: &[Message],
+) -> Result<Vec<OpName>, AllocError>
+    ensures { IfOk result (λ names. names.items ≡ left_names postponed.now standing.now messages.now) }
+{
+    let mut names = Vec::new(alloc);
+    for m in messages {
+        if is_left(postponed, standing, m) {
+            names.push(m.name)?;
+        }
+    }
+    Ok(names)
+}
+
+/// Adds the calls for which the rank may wait, where it waits.
+fn push_pending(rank: u32, o: &RankOps, names: &mut Vec<OpName>) -> Result<(), AllocError>
+    ensures { OnOk result (names.new.items ≡ names.old.items ++ pending_of rank o.now) }
+{
+    if let Some((call, _)) = o.waiting() {
+        names.push(OpName { rank, call })?;
+        push_posts(rank, o.active(), names)?;
+    }
+    Ok(())
+}
+
+fn push_posts(rank: u32, active: &[(i64, u64)], names: &mut Vec<OpName>) -> Result<(), AllocError>
+    ensures { OnOk result (names.new.items ≡ names.old.items ++ map (λ p. named rank p.1) active.now) }
+{
+    for post in active {
+        names.push(OpName { rank, call: post.1 })?;
+    }
+    Ok(())
+}
+
+fn push_pending_at(ops: &[RankOps], rank: u32, names: &mut Vec<OpName>) -> Result<(), AllocError>
+    ensures { OnOk result (names.new.items ≡ names.old.items ++ pending_at rank (slice_get ops.now rank)) }
+{
+    match ops.get(rank as usize) {
+        Some(o) => push_pending(rank, o, names),
+        None => Ok(()),
+    }
+}
+
+/// The calls for which those of the first ranks may wait that wait.
+fn pending(alloc: Global, ranks: u32, ops: &[RankOps]) -> Result<Vec<OpName>, AllocError>
+    ensures { IfOk result (λ names. names.items ≡ pending_below ops.now ranks) }
+{
+    let mut names = Vec::new(alloc);
+    for rank in 0..ranks {
+        push_pending_at(ops, rank, &mut names)?;
+    }
+    Ok(names)
+}
+
+fn is_starved(pending: &Names<'_>, given: &Names<'_>, offers: &Offers<'_>, q: &Receive) -> bool
+    ensures { result ≡ is_starved pending.now given.now offers.now q.now }
+{
+    pending.has(q.name) && !given.has(q.name) && !q.trust.is_void() && !offers.fits_some(q)
+}
+
+fn push_starved(
+    pending: &Names<'_>,
+    given: &Names<'_>,
+    offers: &Offers<'_>,
+    receives: &[Receive],
+    found: &mut Vec<Receive>,
+) -> Result<(), AllocError>
+    ensures { OnOk result (found.new.items ≡ found.old.items ++ filter (is_starved pending.now given.now offers.now) receives.now) }
+{
+    for q in receives {
+        if is_starved(pending, given, offers, q) {
+            found.push(*q)?;
+        }
+    }
+    Ok(())
+}
+
+/// The receives for which ranks may wait that are in no pair, were not cancelled, and that no message
+/// fits.
+fn starved(
+    alloc: Global,
+    pending: &Names<'_>,
+    given: &Names<'_>,
+    offers: &Offers<'_>,
+    ops: &[RankOps],
+) -> Result<Vec<Receive>, AllocError>
+    ensures { IfOk result (λ found. found.items ≡ starved pending.now given.now offers.now ops.now) }
+{
+    let mut found = Vec::new(alloc);
+    for o in ops {
+        push_starved(pending, given, offers, o.receives(), &mut found)?;
+    }
+    Ok(found)
+}
+
+/// The receives that a message misses by its tag alone, each with the first such message.
+fn near_misses(
+    alloc: Global,
+    offers: &Offers<'_>,
+    receives: &[Receive],
+) -> Result<Vec<(OpName, OpName)>, AllocError>
+    ensures { IfOk result (λ found. found.items ≡ near_misses offers.now receives.now) }
+{
+    let mut found = Vec::new(alloc);
+    for q in receives {
+        push_some(&mut found, offers.near_miss(q))?;
+    }
+    Ok(found)
+}
+
+/// What is left over: the calls of messages, those of receives, and receives with their nearest misses.
+#[derive(Debug, Drop)]
+pub(crate) struct LeftOver {
+    pub messages: Vec<OpName>,
+    pub receives: Vec<OpName>,
+    pub near: Vec<(OpName, OpName)>,
+}
+
+fn loose_in(alloc: Global, answer: &Answer, ops: &[RankOps]) -> Result<Vec<Message>, AllocError>
+    ensures { IfOk result (λ messages. messages.items ≡ loose_in answer.now ops.now) }
+{
+    let names = taken(alloc, answer.pairs())?;
+    let taken = Names::of(alloc, &names)?;
+    loose(alloc, &taken, ops)
+}
+
+fn starved_beside(
+    alloc: Global,
+    answer: &Answer,
+    ops: &[RankOps],
+    offers: &Offers<'_>,
+) -> Result<Vec<Receive>, AllocError>
+    ensures { IfOk result (λ found. found.items ≡ starved (pending_below ops.now answer.now.ranks) (given answer.now.pairs) offers.now ops.now) }
+{
+    let waited = pending(alloc, answer.ranks(), ops)?;
+    let pending = Names::of(alloc, &waited)?;
+    let names = given(alloc, answer.pairs())?;
+    let given = Names::of(alloc, &names)?;
+    starved(alloc, &pending, &given, offers, ops)
+}
+
+/// The calls in which stuck ranks stand.
+fn standing(alloc: Global, answer: &Answer) -> Result<Vec<OpName>, AllocError>
+    ensures { IfOk result (λ names. names.items ≡ standing answer.now) }
+{
+    let mut names = Vec::new(alloc);
+    for stuck in answer.stuck() {
+        names.push(OpName {
+            rank: stuck.rank,
+            call: stuck.call,
+        })?;
+    }
+    Ok(names)
+}
+
+fn left_beside(
+    alloc: Global,
+    answer: &Answer,
+    standing: &Names<'_>,
+    messages: &[Message],
+) -> Result<Vec<OpName>, AllocError>
+    ensures { IfOk result (λ names. names.items ≡ left_names answer.now.postponed standing.now messages.now) }
+{
+    let postponed = Names::of(alloc, answer.postponed())?;
+    left_names(alloc, &postponed, standing, messages)
+}
+
+/// The receives in whose call no stuck rank stands.
+fn other_names(
+    alloc: Global,
+    standing: &Names<'_>,
+    receives: &[Receive],
+) -> Result<Vec<OpName>, AllocError>
+    ensures { IfOk result (λ names. names.items ≡ other_names standing.now receives.now) }
+{
+    let mut names = Vec::new(alloc);
+    for q in receives {
+        if !standing.has(q.name) {
+            names.push(q.name)?;
+        }
+    }
+    Ok(names)
+}
+
+/// What is left over of an answer, and of what the ranks did.
+pub(crate) fn left_over(
+    alloc: Global,
+    answer: &Answer,
+    ops: &[RankOps],
+) -> Result<LeftOver, AllocError>
+    ensures messages { IfOk result (λ left. left.messages.items ≡ left_names answer.now.postponed (standing answer.now) (loose_in answer.now ops.now)) }
+    ensures receives { IfOk result (λ left. left.receives.items ≡ other_names (standing answer.now) (starved_in answer.now ops.now)) }
+    ensures near { IfOk result (λ left. left.near.items ≡ near_misses (loose_in answer.now ops.now) (starved_in answer.now ops.now)) }
+{
+    let messages = loose_in(alloc, answer, ops)?;
+    let offers = Offers::of(alloc, &messages)?;
+    let receives = starved_beside(alloc, answer, ops, &offers)?;
+    let near = near_misses(alloc, &offers, &receives)?;
+    let names = standing(alloc, answer)?;
+    let standing = Names::of(alloc, &names)?;
+    Ok(LeftOver {
+        messages: left_beside(alloc, answer, &standing, &messages)?,
+        receives: other_names(alloc, &standing, &receives)?,
+        near,
+    })
+}
