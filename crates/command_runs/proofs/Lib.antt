@@ -11,7 +11,7 @@ pub mod Reports
 pub mod Sharing
 pub mod GivenFacts
 pub mod OwnPieces
-pub mod Places
+pub mod ByPlace
 pub mod Stops
 pub mod Checks
 pub mod OneByOne

@@ -29,7 +29,7 @@ use Rattle.command_runs.specs.declared.fault.RunFault.TheVariants.{Memory, File,
 use Rattle.command_runs.specs.declared.fault.RunFault.TheVariants as faults
 use Rattle.command_runs.specs.declared.texts.AllTexts.{AllTexts}
 use Rattle.command_runs.proofs.GivenFacts.{events_told}
-use Rattle.command_runs.proofs.Places.{AreAt, Stands, all_at, sound, stands_in, stranger, traced}
+use Rattle.command_runs.proofs.ByPlace.{AreAt, Stands, all_at, sound, stands_in, stranger, traced}
 use Rattle.command_runs.proofs.Told.{walk_told}
 
 bytes_told : (file : Option (List ℕ)) (bytes : List ℕ) → IsFile file bytes → StandsAtFirst file (Some bytes)
