@@ -1,9 +1,11 @@
 -- What a group tells, field by field.
-use Rattle.std.proofs.Common.{◌≡◌, ◌∙◌, ℕ, suc, ◌+◌, ◌-◌, ◌<◌, ◌≤◌, List, [], ◌∷◌, ◌++◌, Option, Some, None, Bool, true, false, eqb, ap, sym, refl, cond, codes, length, length-append, eq-eqb, arith, inl, inr}
+use Rattle.std.proofs.Common.{◌≡◌, ◌∙◌, ℕ, suc, ◌+◌, ◌-◌, ◌<◌, ◌≤◌, List, [], ◌∷◌, ◌++◌, Option, Some, None, Bool, true, false, eqb, ap, sym, refl, pos, cond, codes, length, length-append, take, drop, arith, inl, inr}
 use Rattle.std.specs.Prelude.{if◌then◌else◌}
 use Rattle.std.specs.List.{list_all}
 use Rattle.std.specs.Str.{bytes_eq}
 use Rattle.std.proofs.lemmas.Bool.{cases_eq, false≢true}
+use Rattle.std.proofs.lemmas.List.{take-append-drop}
+use Rattle.std.proofs.lemmas.Slice.Eq.{bytes_eq-Decides}
 use Rattle.mpi_model.specs.declared.told.Told.{Told}
 use Rattle.dumpi_calls.specs.Outcomes.{first_number, groups_from, told_at, told_from, told_of}
 use Rattle.dumpi_calls.specs.Skims.{number_or, number_with, seen_with, told_with, unseen, with_told}
@@ -12,10 +14,11 @@ use Rattle.dumpi_text.specs.Items.{field_item, fields_front, many_front, next_fr
 use Rattle.dumpi_text.specs.Stamps.{◌>>=◌}
 use Rattle.dumpi_text.specs.Tokens.{after_spaces}
 use Rattle.dumpi_text.specs.Value.{after_count, field_begins, value_of}
-use Rattle.dumpi_text.specs.Number.{number_front}
-use Rattle.dumpi_text.specs.Words.{after_front, is_word_byte, word_parts}
+use Rattle.dumpi_text.specs.Number.{integer_front, number_front}
+use Rattle.dumpi_text.specs.Words.{is_word_byte, word_parts}
 use Rattle.dumpi_text.specs.declared.group.Field.{Field}
 use Rattle.dumpi_text.specs.declared.number.Num.{Num}
+use Rattle.dumpi_text.specs.declared.number.NumName.TheVariants.{Other}
 use Rattle.dumpi_calls.proofs.QuickNumber.{both_true, other_byte}
 
 -- what follows a field, by what comes next
@@ -108,23 +111,21 @@ unfolding field_item
 field_read [] text rest number some all e = absurd (omega arith)
 field_read (b ∷ bs) text rest number some all e = rw (no_space b (first_of_word b bs all), word_before (b ∷ bs) text all, e) refl
 
-front_whole : (front text rest : List ℕ) → after_front front text ≡ Some rest → text ≡ front ++ rest
-front_whole [] text rest e = cc
-front_whole (f ∷ fs) [] rest e = cc
-front_whole (f ∷ fs) (t ∷ ts) rest e =
-    elim (cases_eq t f) [
-      | inl same ↦ (let it : eqb t f ≡ true = eq-eqb t f same in let found : after_front fs ts ≡ Some rest = rw it at e in ap (λ (b : ℕ). b ∷ ts) same ∙ ap (λ (r : List ℕ). f ∷ r) (front_whole fs ts rest found))
-      | inr other ↦ (let it : eqb t f ≡ false = other_byte t f other in let found : ◌≡◌ {A = Option (List ℕ)} None (Some rest) = rw it at e in cc)
-    ]
+-- a text that begins with a front, by what follows it
+pub front_whole : (front text rest : List ℕ) → bytes_eq (take (length front) text) front ≡ true → rest ≡ drop (length front) text → text ≡ front ++ rest
+front_whole front text rest same is =
+    sym (take-append-drop (length front) text)
+    ∙ ap (λ (f : List ℕ). f ++ drop (length front) text) ((bytes_eq-Decides (take (length front) text) front).0 same)
+    ∙ ap (λ (r : List ℕ). front ++ r) (sym is)
 
-pub word_there : (word text rest : List ℕ) → after_front word text ≡ Some rest → length word ≤ length text
-word_there word text rest e = omega (arith, ap (λ (t : List ℕ). length t) (front_whole word text rest e), length-append word rest)
+pub word_there : (word text rest : List ℕ) → text ≡ word ++ rest → length word ≤ length text
+word_there word text rest e = omega (arith, ap (λ (t : List ℕ). length t) e, length-append word rest)
 
 -- a field by its word, its `=` and its number
-pub field_of_word : (word text equals after rest : List ℕ) (number : Num) → 0 < length word → list_all is_word_byte word ≡ true → after_front word text ≡ Some equals → equals ≡ 61 ∷ after
+pub field_of_word : (word text equals after rest : List ℕ) (number : Num) → 0 < length word → list_all is_word_byte word ≡ true → text ≡ word ++ equals → equals ≡ 61 ∷ after
     → number_front (after_spaces after) ≡ Some (number, rest) → field_item (after_spaces text) ≡ Some (record { word = word; number = number }, rest)
 field_of_word word text equals after rest number some all there equal e =
-    let parts : text ≡ word ++ 61 ∷ after = front_whole word text equals there ∙ ap (λ (r : List ℕ). word ++ r) equal in
+    let parts : text ≡ word ++ 61 ∷ after = there ∙ ap (λ (r : List ℕ). word ++ r) equal in
     ap (λ (t : List ℕ). field_item (after_spaces t)) parts ∙ field_read word after rest number some all e
 
 -- after a field a `,` and a space stand, and then the next field
@@ -139,21 +140,48 @@ whole_count text =
     let same : length text ≡ length text - 0 = omega arith in
     ap (λ (n : ℕ). many_front field_item 125 n text) same
 
+-- the number 0, without a name
+abbrev pub nought : Num
+nought = record { value = pos 0; name = Other }
+
+-- what was not cancelled, and no error
+not_cancelled : (t : List ℕ) → field_item (after_spaces (32 ∷ (codes "cancelled=0, " ++ t))) ≡ Some (record { word = codes "cancelled"; number = nought }, 44 ∷ 32 ∷ t)
+unfolding field_item number_front integer_front
+not_cancelled t = refl
+
+no_error : (t : List ℕ) → field_item (after_spaces (32 ∷ (codes "error=0}" ++ t))) ≡ Some (record { word = codes "error"; number = nought }, 125 ∷ t)
+unfolding field_item number_front integer_front
+no_error t = refl
+
 -- the five fields that dumpi2ascii writes, of which the second and the third tell
-pub usual_fields : (text a0 t1 a1 t2 a2 t3 a3 t4 a4 more : List ℕ) (n0 n1 n2 n3 n4 : Num) → 5 ≤ length text
-    → field_item (after_spaces text) ≡ Some (record { word = codes "bytes"; number = n0 }, a0) → a0 ≡ 44 ∷ 32 ∷ t1
-    → field_item (after_spaces t1) ≡ Some (record { word = codes "cancelled"; number = n1 }, a1) → a1 ≡ 44 ∷ 32 ∷ t2
-    → field_item (after_spaces t2) ≡ Some (record { word = codes "source"; number = n2 }, a2) → a2 ≡ 44 ∷ 32 ∷ t3
-    → field_item (after_spaces t3) ≡ Some (record { word = codes "tag"; number = n3 }, a3) → a3 ≡ 44 ∷ 32 ∷ t4
-    → field_item (after_spaces t4) ≡ Some (record { word = codes "error"; number = n4 }, a4) → a4 ≡ 125 ∷ more
-    → with_told unseen (fields_front text) ≡ Some (told_from (Some n1) (Some n2), more)
-usual_fields text a0 t1 a1 t2 a2 t3 a3 t4 a4 more n0 n1 n2 n3 n4 long e0 c0 e1 c1 e2 c2 e3 c3 e4 closes =
+pub usual_fields : (text a0 t2 a2 t3 a3 more : List ℕ) (n0 n2 n3 : Num) → 5 ≤ length text
+    → field_item (after_spaces text) ≡ Some (record { word = codes "bytes"; number = n0 }, a0) → a0 ≡ codes ", cancelled=0, " ++ t2
+    → field_item (after_spaces t2) ≡ Some (record { word = codes "source"; number = n2 }, a2) → a2 ≡ codes ", " ++ t3
+    → field_item (after_spaces t3) ≡ Some (record { word = codes "tag"; number = n3 }, a3) → a3 ≡ codes ", error=0}" ++ more
+    → with_told unseen (fields_front text) ≡ Some (told_from (Some nought) (Some n2), more)
+usual_fields text a0 t2 a2 t3 a3 more n0 n2 n3 long e0 c0 e2 c2 e3 c3 =
     let count = length text in
-    let first : Seen = record { cancelled = Some n1; source = None } in
-    let both : Seen = record { cancelled = Some n1; source = Some n2 } in
+    let first : Seen = record { cancelled = Some nought; source = None } in
+    let both : Seen = record { cancelled = Some nought; source = Some n2 } in
+    let t1 : List ℕ = codes "cancelled=0, " ++ t2 in
+    let t4 : List ℕ = codes "error=0}" ++ more in
     ap (with_told unseen) (whole_count text)
     ∙ one_more count 0 text unseen unseen (record { word = codes "bytes"; number = n0 }) a0 (32 ∷ t1) (omega arith) e0 (comma_follows a0 t1 c0) refl
-    ∙ one_more count 1 (32 ∷ t1) unseen first (record { word = codes "cancelled"; number = n1 }) a1 (32 ∷ t2) (omega arith) e1 (comma_follows a1 t2 c1) refl
+    ∙ one_more count 1 (32 ∷ t1) unseen first (record { word = codes "cancelled"; number = nought }) (44 ∷ 32 ∷ t2) (32 ∷ t2) (omega arith) (not_cancelled t2) (comma_follows (44 ∷ 32 ∷ t2) t2 refl) refl
     ∙ one_more count 2 (32 ∷ t2) first both (record { word = codes "source"; number = n2 }) a2 (32 ∷ t3) (omega arith) e2 (comma_follows a2 t3 c2) refl
     ∙ one_more count 3 (32 ∷ t3) both both (record { word = codes "tag"; number = n3 }) a3 (32 ∷ t4) (omega arith) e3 (comma_follows a3 t4 c3) refl
-    ∙ the_last count 4 (32 ∷ t4) both both (record { word = codes "error"; number = n4 }) a4 more (omega arith) e4 (brace_follows a4 more closes) refl
+    ∙ the_last count 4 (32 ∷ t4) both both (record { word = codes "error"; number = nought }) (125 ∷ more) more (omega arith) (no_error more) (brace_follows (125 ∷ more) more refl) refl
+
+-- the three fields of other traces, of which the second tells
+pub short_fields : (text a0 t1 a1 t2 a2 more : List ℕ) (n0 n1 n2 : Num) → 5 ≤ length text
+    → field_item (after_spaces text) ≡ Some (record { word = codes "bytes"; number = n0 }, a0) → a0 ≡ codes ", " ++ t1
+    → field_item (after_spaces t1) ≡ Some (record { word = codes "source"; number = n1 }, a1) → a1 ≡ codes ", " ++ t2
+    → field_item (after_spaces t2) ≡ Some (record { word = codes "tag"; number = n2 }, a2) → a2 ≡ 125 ∷ more
+    → with_told unseen (fields_front text) ≡ Some (told_from None (Some n1), more)
+short_fields text a0 t1 a1 t2 a2 more n0 n1 n2 long e0 c0 e1 c1 e2 closes =
+    let count = length text in
+    let told : Seen = record { cancelled = None; source = Some n1 } in
+    ap (with_told unseen) (whole_count text)
+    ∙ one_more count 0 text unseen unseen (record { word = codes "bytes"; number = n0 }) a0 (32 ∷ t1) (omega arith) e0 (comma_follows a0 t1 c0) refl
+    ∙ one_more count 1 (32 ∷ t1) unseen told (record { word = codes "source"; number = n1 }) a1 (32 ∷ t2) (omega arith) e1 (comma_follows a1 t2 c1) refl
+    ∙ the_last count 2 (32 ∷ t2) told told (record { word = codes "tag"; number = n2 }) a2 more (omega arith) e2 (brace_follows a2 more closes) refl

@@ -1,11 +1,13 @@
 -- Calls that are read where they stand: what their lines say of any call that has them.
-use Rattle.std.proofs.Common.{◌≡◌, ℕ, ◌+◌, ◌-◌, true, List, [], ◌∷◌, ◌++◌, length, drop, codes, Option, Some, None, Result, Ok, refl, sym, ap, ◌∙◌, subst, append_assoc, length-append, arith}
+use Rattle.std.proofs.Common.{◌≡◌, ℕ, ℤ, ◌+◌, ◌-◌, ◌&&◌, not, Bool, true, false, List, [], ◌∷◌, ◌++◌, length, drop, codes, Option, Some, None, Result, Ok, refl, sym, ap, ◌∙◌, subst, append_assoc, length-append, arith}
 use Rattle.std.specs.Str.{bytes_eq}
 use Rattle.std.proofs.Math.Seq.{drop-append_seam}
 use Rattle.std.proofs.lemmas.Slice.Eq.{bytes_eq-Decides}
+use Rattle.mpi_model.specs.Ranges.{CollectiveCall}
 use Rattle.mpi_model.specs.Times.{Times}
 use Rattle.mpi_model.specs.declared.call.Call.{Call}
 use Rattle.mpi_model.specs.declared.call.Call.TheVariants as calls
+use Rattle.mpi_model.specs.declared.collective.Kind.{Kind as GroupKind}
 use Rattle.mpi_model.specs.declared.envelope.CommRef.{CommRef}
 use Rattle.mpi_model.specs.declared.envelope.Envelope.{Envelope}
 use Rattle.mpi_model.specs.declared.envelope.Mode.{Mode}
@@ -14,17 +16,19 @@ use Rattle.mpi_model.specs.declared.outcome.Outs.{Outs}
 use Rattle.mpi_model.specs.declared.outcome.Outs.TheVariants as outcomes
 use Rattle.mpi_model.specs.declared.told.Told.{Told}
 use Rattle.mpi_model.specs.declared.told.Told.TheVariants.{Nothing}
-use Rattle.dumpi_text.specs.Call.{Param, TextCall, first_value}
+use Rattle.dumpi_text.specs.Call.{Param, TextCall, first_value, same_bytes}
 use Rattle.dumpi_text.specs.Stamps.{Entering, Kind, Returning}
 use Rattle.dumpi_text.specs.Usual.{HasCall, HasLine, Tells, TellsAll, call_after, is_word}
 use Rattle.dumpi_text.specs.Number.{integer_front, number_front}
 use Rattle.dumpi_text.specs.Value.{value_of}
 use Rattle.dumpi_text.specs.declared.number.Num.{Num}
+use Rattle.dumpi_text.specs.declared.value.Value.{Value}
 use Rattle.dumpi_text.specs.declared.value.Value.TheVariants.{Number}
-use Rattle.dumpi_calls.specs.InPlace.{IsWhole, TellsCall, TellsNumber, TellsReceive, TellsSend, TellsStatus, param_of, receive_lines, send_lines, usual_name}
-use Rattle.dumpi_calls.specs.Outcomes.{groups_by, groups_from, groups_in, outcome_in, posted, told_at}
-use Rattle.dumpi_calls.specs.Readings.{asked_tag_by, asked_tag_in, comm_by, comm_in, dest_by, dest_in, name_of, non_negative, non_negative_in, number_in, request_by, request_in, source_by, source_in, text_of}
-use Rattle.dumpi_calls.specs.Rows.{Row, envelope_of_receive, envelope_of_send, exit_in, first_missing, function_named, irecv_call, isend_call, missing_in, read_by, receive_part, recv_call, returned, row, send_call, send_part, typed_by}
+use Rattle.dumpi_calls.specs.InPlace.{IsWhole, PassesLines, TellsCall, TellsNumber, TellsReceive, TellsRequests, TellsSend, TellsStatus, TellsStatuses, is_unread, param_of, receive_lines, send_lines, usual_name}
+use Rattle.dumpi_calls.specs.Outcomes.{groups_by, groups_from, groups_in, outcome_in, posted, told_at, tolds_from}
+use Rattle.dumpi_calls.specs.Skims.{requests_from}
+use Rattle.dumpi_calls.specs.Readings.{all_numbers, asked_tag_by, asked_tag_in, comm_by, comm_in, dest_by, dest_in, name_of, non_negative, non_negative_in, number_in, numbers_in, request_by, request_in, requests_in, requests_of, source_by, source_in, text_of}
+use Rattle.dumpi_calls.specs.Rows.{Row, envelope_of_receive, envelope_of_send, exit_in, first_missing, function_named, group_call, irecv_call, isend_call, missing_in, read_by, receive_part, recv_call, returned, rooted_call, row, send_call, send_part, typed_by, wait_call, waitall_call}
 use Rattle.dumpi_calls.specs.declared.function.Function.{Function}
 use Rattle.dumpi_calls.specs.declared.function.Function.TheVariants as functions
 use Rattle.dumpi_calls.specs.declared.parameter.CallFault.{CallFault}
@@ -79,6 +83,15 @@ read_envelope envelope = Ok envelope
 
 abbrev read_status : Told → Result Outs CallFault
 read_status told = Ok (outcomes.Status told)
+
+abbrev read_statuses : List Told → Result Outs CallFault
+read_statuses tolds = Ok (outcomes.Statuses tolds)
+
+abbrev read_wait : ℤ → Result Call CallFault
+read_wait request = Ok (calls.Wait request)
+
+abbrev read_collective : CollectiveCall → Result Call CallFault
+read_collective collective = Ok (calls.Collective collective)
 
 send_says : (raw : TextCall) (more : List Param) (v_count v_datatype v_dest v_tag v_comm : List ℕ) (count datatype dest tag comm : Num) (elements asked : ℕ) (peer : Peer) (group : CommRef)
     → raw.params ≡ send_lines v_count v_datatype v_dest v_tag v_comm ++ more
@@ -290,6 +303,187 @@ status_absent text = record { params = []; tells = refl; counted = refl; says = 
 
 pub status_told : (value text rest : List ℕ) (told : Told) → Tells (param_of Status value) text rest → told_at (groups_from (value_of value)) 0 ≡ told → TellsStatus told 1 text rest
 status_told value text rest told tells says = record { params = param_of Status value ∷ []; tells = (rest, tells, refl); counted = refl; says = says }
+
+-- ---- lines that are passed over
+
+-- the first value of a name, beyond one parameter
+first_beyond : (name : List ℕ) (param : Param) (front rest : List Param) (same : Bool) → same_bytes param.name name ≡ same → first_value name (param ∷ front) ≡ None
+    → (first_value name front ≡ None → first_value name (front ++ rest) ≡ first_value name rest) → first_value name (param ∷ (front ++ rest)) ≡ first_value name rest
+first_beyond name param front rest true is none others = (let found : ◌≡◌ {A = Option (List ℕ)} (Some param.value) None = rw is at none in cc found)
+first_beyond name param front rest false is none others = (let left : first_value name front ≡ None = rw is at none in rw is (others left))
+
+-- the first value of a name that a front has not
+first_after : (name : List ℕ) (front rest : List Param) → first_value name front ≡ None → first_value name (front ++ rest) ≡ first_value name rest
+first_after name [] rest none = refl
+first_after name (param ∷ front) rest none = first_beyond name param front rest (same_bytes param.name name) refl none (λ left. first_after name front rest left)
+
+pub nothing_passed : (text : List ℕ) → PassesLines 0 text text
+nothing_passed text = record { params = []; tells = refl; counted = refl; root = refl; comm = refl; requests = refl; statuses = refl }
+
+false_first : (p q : Bool) → (not p && q) ≡ true → (p ≡ false) × (q ≡ true)
+false_first true q h = cc
+false_first false q h = (refl, h)
+
+not_true : (p : Bool) → not p ≡ true → p ≡ false
+not_true true h = cc
+not_true false h = refl
+
+pub one_passed : (name value text rest : List ℕ) → is_unread name ≡ true → Tells (record { name = name; value = value }) text rest → PassesLines 1 text rest
+one_passed name value text rest unread tells =
+    let root = false_first (same_bytes name (codes "root")) _ unread in
+    let comm = false_first (same_bytes name (codes "comm")) _ root.1 in
+    let requests = false_first (same_bytes name (codes "requests")) _ comm.1 in
+    let statuses : same_bytes name (codes "statuses") ≡ false = not_true (same_bytes name (codes "statuses")) requests.1 in
+    record {
+      params = record { name = name; value = value } ∷ [];
+      tells = (rest, tells, refl);
+      counted = refl;
+      root = rw root.0 refl;
+      comm = rw comm.0 refl;
+      requests = rw requests.0 refl;
+      statuses = rw statuses refl;
+    }
+
+pub more_passed : (first second : ℕ) (text mid rest : List ℕ) → PassesLines first text mid → PassesLines second mid rest → PassesLines (first + second) text rest
+more_passed first second text mid rest a b = record {
+  params = a.params ++ b.params;
+  tells = tells_both a.params b.params text mid rest a.tells b.tells;
+  counted = omega (arith, a.counted, b.counted, length-append a.params b.params);
+  root = first_after (name_of Root) a.params b.params a.root ∙ b.root;
+  comm = first_after (name_of Comm) a.params b.params a.comm ∙ b.comm;
+  requests = first_after (name_of Requests) a.params b.params a.requests ∙ b.requests;
+  statuses = first_after (name_of Statuses) a.params b.params a.statuses ∙ b.statuses;
+}
+
+-- ---- collective calls
+
+grouped : (kind : GroupKind) (raw : TextCall) (number : Num) (comm : CommRef) → number_in Comm raw ≡ Ok number → comm_by number.name number.value ≡ Some comm
+    → group_call kind raw ≡ Ok (calls.Collective (record { kind = kind; root = None; comm = comm }))
+unfolding group_call comm_in
+grouped kind raw number comm reads is = rw (reads, is) refl
+
+rooted : (kind : GroupKind) (raw : TextCall) (root number : Num) (rank : ℕ) (comm : CommRef) → number_in Root raw ≡ Ok root → non_negative root.value ≡ Some rank → number_in Comm raw ≡ Ok number → comm_by number.name number.value ≡ Some comm
+    → rooted_call kind raw ≡ Ok (calls.Collective (record { kind = kind; root = Some rank; comm = comm }))
+unfolding rooted_call non_negative_in comm_in
+rooted kind raw root number rank comm reads_root is_root reads is = rw (reads_root, is_root, reads, is) refl
+
+pub group_call_told : (kind : GroupKind) (passed : ℕ) (number : Num) (comm : CommRef) (collective : CollectiveCall) (text mid rest : List ℕ) → PassesLines passed text mid → TellsNumber Comm number mid rest
+    → Some comm ≡ comm_by number.name number.value → collective ≡ record { kind = kind; root = None; comm = comm }
+    → TellsCall (functions.OfAll kind) (calls.Collective collective) outcomes.Nothing (passed + 1) text rest
+group_call_told kind passed number comm collective text mid rest p n as_comm is =
+    let lines : List Param = param_of Comm n.value ∷ [] in
+    record {
+      params = p.params ++ lines;
+      tells = tells_both p.params lines text mid rest p.tells (rest, n.tells, refl);
+      counted = ap (λ (k : ℕ). k + 1) p.counted ∙ sym (length-append p.params lines);
+      says = λ raw exit params returns.
+          let row_is : Row = row (functions.OfAll kind) raw.name in
+          let there : text_of Comm raw ≡ Some n.value = text_there Comm raw _ params ∙ first_after (name_of Comm) p.params lines p.comm in
+          let entry : first_missing (Comm ∷ []) raw ≡ None = rw there refl in
+          typed_so row_is raw (calls.Collective collective) outcomes.Nothing exit
+          (none_missing row_is raw exit returns entry refl)
+          (grouped kind raw number comm (number_said Comm raw n.value number there n.means) (sym as_comm) ∙ ap read_collective (sym is)) returns refl;
+    }
+
+pub rooted_call_told : (kind : GroupKind) (passed : ℕ) (root number : Num) (rank : ℕ) (comm : CommRef) (collective : CollectiveCall) (text t1 t2 rest : List ℕ) → PassesLines passed text t1
+    → TellsNumber Root root t1 t2 → TellsNumber Comm number t2 rest → Some rank ≡ non_negative root.value → Some comm ≡ comm_by number.name number.value → collective ≡ record { kind = kind; root = Some rank; comm = comm }
+    → TellsCall (functions.Rooted kind) (calls.Collective collective) outcomes.Nothing (passed + 2) text rest
+rooted_call_told kind passed root number rank comm collective text t1 t2 rest p r n as_root as_comm is =
+    let lines : List Param = param_of Root r.value ∷ param_of Comm n.value ∷ [] in
+    record {
+      params = p.params ++ lines;
+      tells = tells_both p.params lines text t1 rest p.tells (t2, r.tells, (rest, n.tells, refl));
+      counted = ap (λ (k : ℕ). k + 2) p.counted ∙ sym (length-append p.params lines);
+      says = λ raw exit params returns.
+          let row_is : Row = row (functions.Rooted kind) raw.name in
+          let there_root : text_of Root raw ≡ Some r.value = text_there Root raw _ params ∙ first_after (name_of Root) p.params lines p.root in
+          let there : text_of Comm raw ≡ Some n.value = text_there Comm raw _ params ∙ first_after (name_of Comm) p.params lines p.comm in
+          let entry : first_missing (Root ∷ Comm ∷ []) raw ≡ None = rw (there_root, there) refl in
+          typed_so row_is raw (calls.Collective collective) outcomes.Nothing exit
+          (none_missing row_is raw exit returns entry refl)
+          (rooted kind raw root number rank comm (number_said Root raw r.value root there_root r.means) (sym as_root) (number_said Comm raw n.value number there n.means) (sym as_comm) ∙ ap read_collective (sym is))
+          returns refl;
+    }
+
+-- ---- calls that wait for requests
+
+waited : (raw : TextCall) (number : Num) → number_in Request raw ≡ Ok number → wait_call raw ≡ Ok (calls.Wait (request_by number.name number.value))
+unfolding wait_call request_in
+waited raw number reads = rw reads refl
+
+pub wait_call_told : (number : Num) (request : ℤ) (told : Told) (lines : ℕ) (text mid rest : List ℕ) → TellsNumber Request number text mid → TellsStatus told lines mid rest → request ≡ request_by number.name number.value
+    → TellsCall functions.Wait (calls.Wait request) (outcomes.Status told) (1 + lines) text rest
+wait_call_told number request told lines text mid rest n s is = record {
+  params = param_of Request n.value ∷ s.params;
+  tells = (mid, n.tells, s.tells);
+  counted = ap (λ (k : ℕ). 1 + k) s.counted ∙ sym (length-append (param_of Request n.value ∷ []) s.params);
+  says = λ raw exit params returns.
+      let row_is : Row = row functions.Wait raw.name in
+      let there : text_of Request raw ≡ Some n.value = text_there Request raw _ params in
+      let entry : first_missing (Request ∷ []) raw ≡ None = rw there refl in
+      typed_so row_is raw (calls.Wait request) (outcomes.Status told) exit
+      (none_missing row_is raw exit returns entry refl)
+      (waited raw number (number_said Request raw n.value number there n.means) ∙ ap read_wait (sym is)) returns
+      (ap read_status (status_said raw s.params told (text_there Status raw _ params) s.says));
+}
+
+pub requests_told : (value text rest : List ℕ) (requests : List ℤ) → Tells (param_of Requests value) text rest → requests_from (value_of value) ≡ Some requests → TellsRequests requests text rest
+requests_told value text rest requests tells means = record { value = value; tells = tells; means = means }
+
+pub statuses_absent : (text : List ℕ) (requests : List ℤ) (tolds : List Told) → tolds ≡ tolds_from [] 0 requests → TellsStatuses requests tolds 0 text text
+statuses_absent text requests tolds is = record { params = []; tells = refl; counted = refl; says = sym is }
+
+pub statuses_told : (value text rest : List ℕ) (requests : List ℤ) (tolds : List Told) → Tells (param_of Statuses value) text rest → tolds ≡ tolds_from (groups_from (value_of value)) 0 requests → TellsStatuses requests tolds 1 text rest
+statuses_told value text rest requests tolds tells is = record { params = param_of Statuses value ∷ []; tells = (rest, tells, refl); counted = refl; says = sym is }
+
+-- the numbers of a value that lists requests
+pub record ListsRequests (found : Option Value) (requests : List ℤ) : Type 0 where
+  pub value : Value
+  pub numbers : List Num
+  pub there : found ≡ Some value
+  pub means : all_numbers value ≡ Some numbers
+  pub named : requests_of numbers ≡ requests
+
+numbers_in_value : (value : Value) (found : Option (List Num)) (requests : List ℤ) → all_numbers value ≡ found → requests_from (Some value) ≡ Some requests → ListsRequests (Some value) requests
+numbers_in_value value None requests is means = (let none : ◌≡◌ {A = Option (List ℤ)} None (Some requests) = rw is at means in cc none)
+numbers_in_value value (Some numbers) requests is means =
+    (let both : ◌≡◌ {A = Option (List ℤ)} (Some (requests_of numbers)) (Some requests) = rw is at means in
+    let same : requests_of numbers ≡ requests = cc both in
+    record { value = value; numbers = numbers; there = refl; means = is; named = same })
+
+lists_requests : (found : Option Value) (requests : List ℤ) → requests_from found ≡ Some requests → ListsRequests found requests
+lists_requests None requests means = cc means
+lists_requests (Some value) requests means = numbers_in_value value (all_numbers value) requests refl means
+
+waited_all : (raw : TextCall) (list : List ℕ) (requests : List ℤ) → text_of Requests raw ≡ Some list → requests_from (value_of list) ≡ Some requests → waitall_call raw ≡ Ok (calls.Waitall requests)
+unfolding waitall_call requests_in numbers_in
+waited_all raw list requests there means =
+    let listed = lists_requests (value_of list) requests means in
+    rw (there, listed.there, listed.means, listed.named) refl
+
+all_told : (raw : TextCall) (params : List Param) (requests : List ℤ) (tolds : List Told) → text_of Statuses raw ≡ first_value (name_of Statuses) params → tolds_from (groups_by (first_value (name_of Statuses) params)) 0 requests ≡ tolds
+    → tolds_from (groups_in Statuses raw) 0 requests ≡ tolds
+unfolding groups_in
+all_told raw params requests tolds there says = rw there says
+
+pub waitall_call_told : (passed : ℕ) (requests : List ℤ) (tolds : List Told) (lines : ℕ) (text t1 t2 rest : List ℕ) → PassesLines passed text t1 → TellsRequests requests t1 t2 → TellsStatuses requests tolds lines t2 rest
+    → TellsCall functions.Waitall (calls.Waitall requests) (outcomes.Statuses tolds) (passed + 1 + lines) text rest
+waitall_call_told passed requests tolds lines text t1 t2 rest p r s =
+    let listed : List Param = param_of Requests r.value ∷ s.params in
+    record {
+      params = p.params ++ listed;
+      tells = tells_both p.params listed text t1 rest p.tells (t2, r.tells, s.tells);
+      counted = omega (arith, p.counted, s.counted, length-append p.params listed, length-append (param_of Requests r.value ∷ []) s.params);
+      says = λ raw exit params returns.
+          let row_is : Row = row functions.Waitall raw.name in
+          let there : text_of Requests raw ≡ Some r.value = text_there Requests raw _ params ∙ first_after (name_of Requests) p.params listed p.requests in
+          let there_statuses : text_of Statuses raw ≡ first_value (name_of Statuses) s.params = text_there Statuses raw _ params ∙ first_after (name_of Statuses) p.params listed p.statuses in
+          let entry : first_missing (Requests ∷ []) raw ≡ None = rw there refl in
+          typed_so row_is raw (calls.Waitall requests) (outcomes.Statuses tolds) exit
+          (none_missing row_is raw exit returns entry refl)
+          (waited_all raw r.value requests there r.means) returns
+          (ap read_statuses (all_told raw s.params requests tolds there_statuses s.says));
+    }
 
 -- ---- the whole call
 

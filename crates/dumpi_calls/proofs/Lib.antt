@@ -2,6 +2,7 @@ pub mod Names
 pub mod QuickNumber
 pub mod FieldByField
 pub mod GroupByGroup
+pub mod NumberByNumber
 pub mod Missing
 pub mod Tolds
 pub mod InPlace

@@ -1,6 +1,7 @@
 -- Names, byte by byte.
-use Rattle.std.proofs.Common.{◌≡◌, ◌≢◌, ◌&&◌, ℕ, suc, Bool, true, false, List, [], ◌∷◌, length, Some, ap, refl, nat_eq, ◌∙◌}
+use Rattle.std.proofs.Common.{◌≡◌, ◌≢◌, ◌&&◌, ℕ, suc, Bool, true, false, List, [], ◌∷◌, length, take, Some, ap, refl, nat_eq, arith, ◌∙◌}
 use Rattle.std.specs.Str.{bytes_eq}
+use Rattle.std.proofs.lemmas.List.{take_all}
 use Rattle.std.proofs.lemmas.Slice.Eq.{bytes_eq-Decides}
 use Rattle.dumpi_text.specs.Call.{same_bytes}
 use Rattle.dumpi_text.specs.Number.{note_front}
@@ -13,6 +14,10 @@ not_as_long [] (y ∷ ys) h = refl
 not_as_long (x ∷ xs) [] h = refl
 not_as_long (x ∷ xs) (y ∷ ys) h =
     elim (nat_eq x y) as (λ same. same && bytes_eq xs ys ≡ false) [ true ↦ not_as_long xs ys (λ e. h (ap suc e)) | false ↦ refl ]
+
+-- a byte string by its front of the other's length
+pub same_whole : (name word : List ℕ) → length name ≡ length word → bytes_eq (take (length word) name) word ≡ bytes_eq name word
+same_whole name word h = ap (λ (n : List ℕ). bytes_eq n word) (take_all (length word) name (omega arith))
 
 -- the two tests of bytes are one
 pub same_test : (xs ys : List ℕ) → bytes_eq xs ys ≡ same_bytes xs ys

@@ -1,5 +1,5 @@
 -- Numbers as dumpi2ascii writes them: digits, and a note after a space or none.
-use Rattle.std.proofs.Common.{◌≡◌, ◌≢◌, ◌&&◌, ◌∙◌, ℕ, ◌+◌, ◌-◌, ◌*◌, ◌<◌, ◌≤◌, Bool, true, false, eqb, pos, Option, Some, None, List, [], ◌∷◌, ◌++◌, length, get_or, drop, take, drop_of_length-le, nat_lt, arith, ap, sym, refl, inl, inr}
+use Rattle.std.proofs.Common.{◌≡◌, ◌≢◌, ◌&&◌, ◌∙◌, ℕ, ◌+◌, ◌-◌, ◌*◌, ◌<◌, ◌≤◌, Bool, true, false, eqb, ℤ, pos, neg_ℤ, Option, Some, None, List, [], ◌∷◌, ◌++◌, length, get_or, drop, take, drop_of_length-le, nat_lt, arith, ap, sym, refl, inl, inr}
 use Rattle.std.specs.List.{list_all}
 use Rattle.std.proofs.lemmas.Bool.{cases_eq, false≢true}
 use Rattle.std.proofs.lemmas.Grind.{common_steps}
@@ -29,7 +29,7 @@ both_true false q h = cc
 pub first_digit : (d : ℕ) (ds : List ℕ) → list_all is_digit (d ∷ ds) ≡ true → is_digit d ≡ true
 first_digit d ds all = (both_true (is_digit d) (list_all is_digit ds) all).0
 
-rest_digits : (d : ℕ) (ds : List ℕ) → list_all is_digit (d ∷ ds) ≡ true → list_all is_digit ds ≡ true
+pub rest_digits : (d : ℕ) (ds : List ℕ) → list_all is_digit (d ∷ ds) ≡ true → list_all is_digit ds ≡ true
 rest_digits d ds all = (both_true (is_digit d) (list_all is_digit ds) all).1
 
 digits_end : (digits : List ℕ) (d : ℕ) → list_all is_digit digits ≡ true → is_digit d ≡ true → list_all is_digit (digits ++ d ∷ []) ≡ true
@@ -60,7 +60,7 @@ integer_read d ds rest all small none =
     rw (unlike d 45 (first_digit d ds all) refl, digits_before (d ∷ ds) rest all none, held) refl
 
 -- the number with its note, before what is left
-number_read : (d : ℕ) (ds rest left : List ℕ) (name : NumName) → list_all is_digit (d ∷ ds) ≡ true → number_of (d ∷ ds) < 1000000000000000000 → digit_parts rest ≡ ([], rest)
+pub number_read : (d : ℕ) (ds rest left : List ℕ) (name : NumName) → list_all is_digit (d ∷ ds) ≡ true → number_of (d ∷ ds) < 1000000000000000000 → digit_parts rest ≡ ([], rest)
     → note_front (after_spaces rest) ≡ Some (name, left) → number_front (d ∷ (ds ++ rest)) ≡ Some (record { value = pos (number_of (d ∷ ds)); name = name }, left)
 unfolding number_front
 number_read d ds rest left name all small none note = rw (integer_read d ds rest all small none, note) refl
@@ -80,6 +80,34 @@ pub quick_value : (text : List ℕ) (count : ℕ) (rest : List ℕ) (name : NumN
 quick_value text count rest name some within all small is_rest none note =
     ap value_of (sym (take-append-drop count text) ∙ ap (λ (r : List ℕ). take count text ++ r) (sym is_rest))
     ∙ value_read (take count text) rest name (omega (arith, length-take-le count text)) all small none note
+
+-- the same behind a `-`
+integer_negative : (d : ℕ) (ds rest : List ℕ) → list_all is_digit (d ∷ ds) ≡ true → number_of (d ∷ ds) < 1000000000000000000 → digit_parts rest ≡ ([], rest)
+    → integer_front (45 ∷ d ∷ (ds ++ rest)) ≡ Some (neg_ℤ (pos (number_of (d ∷ ds))), rest)
+unfolding integer_front
+integer_negative d ds rest all small none =
+    let held : nat_lt 9223372036854775808 (number_of (d ∷ ds)) ≡ false = grind (arith, common_steps, small) in
+    rw (digits_before (d ∷ ds) rest all none, held) refl
+
+number_negative : (d : ℕ) (ds rest left : List ℕ) (name : NumName) → list_all is_digit (d ∷ ds) ≡ true → number_of (d ∷ ds) < 1000000000000000000 → digit_parts rest ≡ ([], rest)
+    → note_front (after_spaces rest) ≡ Some (name, left) → number_front (45 ∷ d ∷ (ds ++ rest)) ≡ Some (record { value = neg_ℤ (pos (number_of (d ∷ ds))); name = name }, left)
+unfolding number_front
+number_negative d ds rest left name all small none note = rw (integer_negative d ds rest all small none, note) refl
+
+value_negative : (digits rest : List ℕ) (name : NumName) → 0 < length digits → list_all is_digit digits ≡ true → number_of digits < 1000000000000000000 → digit_parts rest ≡ ([], rest)
+    → note_front (after_spaces rest) ≡ Some (name, []) → value_of (45 ∷ (digits ++ rest)) ≡ Some (Number (record { value = neg_ℤ (pos (number_of digits)); name = name }))
+unfolding value_of
+value_negative [] rest name some all small none note = absurd (omega arith)
+value_negative (d ∷ ds) rest name some all small none note = rw (number_negative d ds rest [] name all small none note) refl
+
+pub quick_negative : (text : List ℕ) (count : ℕ) (rest : List ℕ) (name : NumName) (value : ℤ) → 0 < count → count ≤ length text → list_all is_digit (take count text) ≡ true
+    → number_of (take count text) < 1000000000000000000 → rest ≡ drop count text → digit_parts rest ≡ ([], rest) → note_front (after_spaces rest) ≡ Some (name, [])
+    → value ≡ neg_ℤ (pos (number_of (take count text))) → value_of (45 ∷ text) ≡ Some (Number (record { value = value; name = name }))
+quick_negative text count rest name value some within all small is_rest none note is =
+    let as_number : ℤ → Option Value = λ v. Some (Number (record { value = v; name = name })) in
+    ap (λ (t : List ℕ). value_of (45 ∷ t)) (sym (take-append-drop count text) ∙ ap (λ (r : List ℕ). take count text ++ r) (sym is_rest))
+    ∙ value_negative (take count text) rest name (omega (arith, length-take-le count text)) all small none note
+    ∙ ap as_number (sym is)
 
 -- no count stands before a list, since none follows
 no_count : (d : ℕ) (ds : List ℕ) → list_all is_digit (d ∷ ds) ≡ true → after_count (d ∷ (ds ++ 93 ∷ [])) ≡ None

@@ -1,24 +1,26 @@
 -- Calls that stand whole in front of a text, read where they stand.
-use Rattle.std.specs.Prelude.{◌≡◌, ◌≤◌, ℕ, ◌+◌, List, [], ◌∷◌, ◌++◌, length, Some, Ok, codes, drop}
+use Rattle.std.specs.Prelude.{◌≡◌, ◌≤◌, ℕ, ◌+◌, ℤ, Bool, ◌&&◌, not, List, [], ◌∷◌, ◌++◌, length, Some, None, Ok, codes, drop}
 use Rattle.mpi_model.specs.Times.{Times}
 use Rattle.mpi_model.specs.declared.call.Call.{Call}
+use Rattle.mpi_model.specs.declared.collective.Kind.TheVariants.{Barrier, Bcast, Scatter, Gather, Reduce, Allreduce, Allgather, Alltoall}
 use Rattle.mpi_model.specs.declared.envelope.Envelope.{Envelope}
 use Rattle.mpi_model.specs.declared.envelope.Mode.TheVariants.{Standard, Synchronous}
 use Rattle.mpi_model.specs.declared.outcome.Outs.{Outs}
 use Rattle.mpi_model.specs.declared.told.Told.{Told}
-use Rattle.dumpi_text.specs.Call.{Param, TextCall, first_value}
+use Rattle.dumpi_text.specs.Call.{Param, TextCall, first_value, same_bytes}
 use Rattle.dumpi_text.specs.Usual.{HasCall, Tells, TellsAll, call_after}
 use Rattle.dumpi_text.specs.Value.{value_of}
 use Rattle.dumpi_text.specs.declared.number.Num.{Num}
 use Rattle.dumpi_text.specs.declared.step.Position.{Position}
 use Rattle.dumpi_text.specs.declared.value.Value.TheVariants.{Number}
-use Rattle.dumpi_calls.specs.Outcomes.{groups_by, told_at}
+use Rattle.dumpi_calls.specs.Outcomes.{groups_by, told_at, tolds_from}
 use Rattle.dumpi_calls.specs.Readings.{name_of}
 use Rattle.dumpi_calls.specs.Rows.{envelope_of_receive, envelope_of_send, function_named, row, typed, typed_by}
+use Rattle.dumpi_calls.specs.Skims.{requests_from}
 use Rattle.dumpi_calls.specs.declared.function.Function.{Function}
 use Rattle.dumpi_calls.specs.declared.function.Function.TheVariants as functions
 use Rattle.dumpi_calls.specs.declared.parameter.Parameter.{Parameter}
-use Rattle.dumpi_calls.specs.declared.parameter.Parameter.TheVariants.{Comm, Count, Datatype, Dest, Source, Status, Tag}
+use Rattle.dumpi_calls.specs.declared.parameter.Parameter.TheVariants.{Comm, Count, Datatype, Dest, Requests, Root, Source, Status, Statuses, Tag}
 use Rattle.dumpi_calls.specs.declared.typing.TypedCall.{TypedCall}
 
 -- the line of a parameter
@@ -72,6 +74,33 @@ pub record TellsStatus (told : Told) (lines : ℕ) (text rest : List ℕ) : Type
   pub counted : lines ≡ length params
   pub says : told_at (groups_by (first_value (name_of Status) params)) 0 ≡ told
 
+-- A text begins with a line that lists these requests.
+pub record TellsRequests (requests : List ℤ) (text rest : List ℕ) : Type 0 where
+  pub value : List ℕ
+  pub tells : Tells (param_of Requests value) text rest
+  pub means : requests_from (value_of value) ≡ Some requests
+
+-- A text begins with so many lines that tell statuses, one or none, which tell these sources of requests.
+pub record TellsStatuses (requests : List ℤ) (tolds : List Told) (lines : ℕ) (text rest : List ℕ) : Type 0 where
+  pub params : List Param
+  pub tells : TellsAll params text rest
+  pub counted : lines ≡ length params
+  pub says : tolds_from (groups_by (first_value (name_of Statuses) params)) 0 requests ≡ tolds
+
+-- whether a parameter of this name says nothing of a collective call and of a Waitall
+abbrev pub is_unread : List ℕ → Bool
+is_unread name = not (same_bytes name (codes "root")) && (not (same_bytes name (codes "comm")) && (not (same_bytes name (codes "requests")) && not (same_bytes name (codes "statuses"))))
+
+-- A text begins with so many lines of parameters that say nothing of such a call.
+pub record PassesLines (lines : ℕ) (text rest : List ℕ) : Type 0 where
+  pub params : List Param
+  pub tells : TellsAll params text rest
+  pub counted : lines ≡ length params
+  pub root : first_value (name_of Root) params ≡ None
+  pub comm : first_value (name_of Comm) params ≡ None
+  pub requests : first_value (name_of Requests) params ≡ None
+  pub statuses : first_value (name_of Statuses) params ≡ None
+
 -- the name of a function whose calls are read in place
 abbrev pub usual_name : Function → List ℕ
 usual_name (functions.Send Standard) = codes "MPI_Send"
@@ -80,6 +109,16 @@ usual_name (functions.Isend Standard) = codes "MPI_Isend"
 usual_name (functions.Isend Synchronous) = codes "MPI_Issend"
 usual_name functions.Recv = codes "MPI_Recv"
 usual_name functions.Irecv = codes "MPI_Irecv"
+usual_name functions.Wait = codes "MPI_Wait"
+usual_name functions.Waitall = codes "MPI_Waitall"
+usual_name (functions.OfAll Barrier) = codes "MPI_Barrier"
+usual_name (functions.OfAll Allreduce) = codes "MPI_Allreduce"
+usual_name (functions.OfAll Allgather) = codes "MPI_Allgather"
+usual_name (functions.OfAll Alltoall) = codes "MPI_Alltoall"
+usual_name (functions.Rooted Bcast) = codes "MPI_Bcast"
+usual_name (functions.Rooted Scatter) = codes "MPI_Scatter"
+usual_name (functions.Rooted Gather) = codes "MPI_Gather"
+usual_name (functions.Rooted Reduce) = codes "MPI_Reduce"
 usual_name _ = []
 
 -- So many bytes in front of a text are a whole call of a function, of so many lines, and it is typed so, wherever it stands.

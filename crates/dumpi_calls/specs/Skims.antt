@@ -1,10 +1,12 @@
--- What groups tell, field by field: of a name the first field of a group counts.
-use Rattle.std.specs.Prelude.{ℕ, List, ◌++◌, map, Option, Some, None, codes, if◌then◌else◌}
+-- What lists tell, item by item: of a group's fields of one name the first counts.
+use Rattle.std.specs.Prelude.{ℕ, ℤ, List, ◌++◌, map, Option, Some, None, codes, option_map, if◌then◌else◌}
 use Rattle.std.specs.Str.{bytes_eq}
 use Rattle.mpi_model.specs.declared.told.Told.{Told}
 use Rattle.dumpi_text.specs.declared.group.Field.{Field}
 use Rattle.dumpi_text.specs.declared.number.Num.{Num}
+use Rattle.dumpi_text.specs.declared.value.Value.{Value}
 use Rattle.dumpi_calls.specs.Outcomes.{first_number, told_from, told_of}
+use Rattle.dumpi_calls.specs.Readings.{all_numbers, requests_of}
 use Rattle.dumpi_calls.specs.declared.skim.Seen.{Seen}
 
 -- the number of the first field of a name, with one field more
@@ -38,3 +40,13 @@ unseen = record { cancelled = None; source = None }
 abbrev pub tolds_with : List Told → Option (List (List Field) × List ℕ) → Option (List Told × List ℕ)
 tolds_with tolds None = None
 tolds_with tolds (Some (groups, rest)) = Some (tolds ++ map told_of groups, rest)
+
+-- the requests that a value lists, where it is numbers
+abbrev pub requests_from : Option Value → Option (List ℤ)
+requests_from None = None
+requests_from (Some value) = option_map requests_of (all_numbers value)
+
+-- requests that were named, and those that these numbers of a list name, where there is one, and what follows it
+abbrev pub requests_with : List ℤ → Option (List Num × List ℕ) → Option (List ℤ × List ℕ)
+requests_with requests None = None
+requests_with requests (Some (numbers, rest)) = Some (requests ++ requests_of numbers, rest)

@@ -41,21 +41,19 @@ pub enum Function {
     Other,
 }
 
-/// Whether two byte strings are the same. Inlined, so that a literal's bytes are compared one by one.
+/// Whether two byte strings are the same. Inlined, so that a literal's bytes are compared at once.
 #[inline(always)]
-#[tactic(auto, using(crate::proofs::Names::not_as_long))]
+#[tactic(auto, using(crate::proofs::Names::not_as_long, crate::proofs::Names::same_whole))]
 fn same(name: &[u8], word: &[u8]) -> bool
     ensures { result ≡ bytes_eq name.now word.now }
 {
     if name.len() != word.len() {
         return false;
     }
-    for (at, byte) in word.iter().enumerate() {
-        if name[at] != *byte {
-            return false;
-        }
+    match name.strip_prefix(word) {
+        Some(_) => true,
+        None => false,
     }
-    true
 }
 
 /// Whether a name is this word, byte for byte.

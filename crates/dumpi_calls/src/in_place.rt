@@ -3,25 +3,25 @@
 
 ghost use Rattle.std.specs.Prelude.{◌≡◌, ◌≤◌, ◌<◌, ◌^◌, IfSome, true};
 ghost use Rattle.mpi_model.specs.Ranges.{IsAskedTag, IsComm, IsSource, IsTarget};
-ghost use Rattle.dumpi_calls.specs.InPlace.{IsWhole, TellsCall, TellsNumber, TellsReceive, TellsSend, TellsStatus, usual_name};
-ghost use Rattle.dumpi_calls.specs.Outcomes.{groups_from, told_at};
-ghost use Rattle.dumpi_calls.specs.Readings.{non_negative, request_by};
+ghost use Rattle.dumpi_calls.specs.InPlace.{IsWhole, TellsCall, TellsReceive, TellsSend, usual_name};
+ghost use Rattle.dumpi_calls.specs.Readings.{request_by};
 ghost use Rattle.dumpi_calls.specs.Rows.{function_named};
 ghost use Rattle.dumpi_text.specs.Usual.{is_word};
 ghost use Rattle.dumpi_text.specs.declared.texts.TheConstants.{MOST_USUAL_LINES};
-ghost use Rattle.dumpi_text.specs.Value.{value_of};
 
 use crate::envelope::{Part, receive_envelope, send_envelope};
-use crate::function::{Function, is};
-use crate::parameter::Parameter;
-use crate::quick::quick_number;
-use crate::reading::{asked_tag_of, comm_of, dest_of, non_negative_of, request_of, source_of};
-use crate::skim::quick_status;
-use crate::typing::TypedCall;
-use dumpi_text::{Num, entering_front, parameter_front, returning_front};
-use mpi_model::{
-    Call, CommRef, Exit, Mode, Outs, Peer, ReceiveEnvelope, SendEnvelope, Stamp, Told,
+use crate::function::Function;
+use crate::lines::{
+    moved_front, number_front, passed_front, requests_front, small_of, status_front, statuses_front,
 };
+use crate::parameter::Parameter;
+use crate::reading::{asked_tag_of, comm_of, dest_of, request_of, source_of};
+use crate::typing::TypedCall;
+use dumpi_text::{Num, entering_front, returning_front};
+use mpi_model::{
+    Call, Collective, CommRef, Exit, Kind, Mode, Outs, Peer, ReceiveEnvelope, SendEnvelope, Stamp,
+};
+use std::alloc::Global;
 
 /// A whole call in front of a text.
 #[derive(Debug, Drop)]
@@ -41,26 +41,6 @@ impl Whole {
     {
         self.call.enter
     }
-}
-
-// The number that the line in front of a text tells as this parameter, and what follows the line.
-#[inline(always)]
-#[tactic(auto, using(crate::proofs::InPlace::number_told, crate::proofs::InPlace::named_by_a_word))]
-fn number_front<'a>(kind: &[u8], parameter: Parameter, text: &'a [u8]) -> Option<(Num, &'a [u8])>
-    requires { is_word kind.now ≡ true }
-    ensures { IfSome result (λ x. TellsNumber parameter x.0 text.now x.1.now) }
-{
-    let (value, rest) = parameter_front(kind, parameter.name().as_bytes(), text)?;
-    let number = quick_number(value)?;
-    Some((number, rest))
-}
-
-// a count, a tag of a send or a root
-fn small_of(number: Num) -> Option<u32>
-    ensures value { result ≡ non_negative number.value }
-    ensures range { IfSome result (λ n. n < 2 ^ 31) }
-{
-    non_negative_of(number.value)
 }
 
 // the envelope of a send
@@ -142,33 +122,6 @@ fn receive_front(text: &[u8]) -> Option<(ReceiveEnvelope, &[u8])>
     Some((received(elements, datatype, peer, asked, group), rest))
 }
 
-// What the text of a status tells: `<IGNORED>` tells nothing.
-#[tactic(auto, using(crate::proofs::InPlace::ignored))]
-fn told_by(value: &[u8]) -> Option<Told>
-    ensures { IfSome result (λ told. told_at (groups_from (value_of value.now)) 0 ≡ told) }
-{
-    if is(value, "<IGNORED>") {
-        Some(Told::Nothing)
-    } else {
-        quick_status(value)
-    }
-}
-
-// What the status tells in front of a text, with how many lines, none where it is absent, and what follows.
-#[tactic(auto, using(crate::proofs::InPlace::status_absent, crate::proofs::InPlace::status_told))]
-fn status_front(text: &[u8]) -> Option<(Told, u64, &[u8])>
-    ensures says { IfSome result (λ x. TellsStatus x.0 x.1 text.now x.2.now) }
-    ensures few { IfSome result (λ x. x.1 ≤ 1) }
-{
-    match parameter_front(b"MPI_Status", b"status", text) {
-        None => Some((Told::Nothing, 0, text)),
-        Some((value, rest)) => {
-            let told = told_by(value)?;
-            Some((told, 1, rest))
-        }
-    }
-}
-
 // What the lines in front of a text say: the call, its outcome, how many lines they are, and what follows them.
 #[tactic(auto, using(crate::proofs::InPlace::send_call_told))]
 fn send_lines(mode: Mode, text: &[u8]) -> Option<(Call, Outs, u64, &[u8])>
@@ -221,8 +174,76 @@ fn irecv_lines(text: &[u8]) -> Option<(Call, Outs, u64, &[u8])>
     Some((Call::Irecv(envelope), outs, 6, rest))
 }
 
+#[tactic(auto, using(crate::proofs::InPlace::wait_call_told))]
+fn wait_lines(text: &[u8]) -> Option<(Call, Outs, u64, &[u8])>
+    ensures says { IfSome result (λ x. TellsCall Function.Wait x.0 x.1 x.2 text.now x.3.now) }
+    ensures few { IfSome result (λ x. x.2 ≤ 14) }
+{
+    let (request, rest) = number_front(b"MPI_Request", Parameter::Request, text)?;
+    let Some((told, lines, rest)) = status_front(rest) else {
+        return None;
+    };
+    let call = Call::Wait(request_of(request));
+    Some((call, Outs::Status(told), 1 + lines, rest))
+}
+
+fn waitall_lines(alloc: Global, text: &[u8]) -> Option<(Call, Outs, u64, &[u8])>
+    ensures says { IfSome result (λ x. TellsCall Function.Waitall x.0 x.1 x.2 text.now x.3.now) }
+    ensures few { IfSome result (λ x. x.2 ≤ 14) }
+{
+    let (passed, rest) = passed_front(b"int", b"count", text);
+    let Some((requests, rest)) = requests_front(alloc, rest) else {
+        return None;
+    };
+    let Some((tolds, lines, rest)) = statuses_front(alloc, requests.as_slice(), rest) else {
+        return None;
+    };
+    Some((
+        Call::Waitall(requests),
+        Outs::Statuses(tolds),
+        passed + 1 + lines,
+        rest,
+    ))
+}
+
+// a collective call without a root
+fn group_lines(kind: Kind, text: &[u8]) -> Option<(Call, Outs, u64, &[u8])>
+    ensures says { IfSome result (λ x. TellsCall (Function.OfAll kind) x.0 x.1 x.2 text.now x.3.now) }
+    ensures few { IfSome result (λ x. x.2 ≤ 14) }
+{
+    let (passed, rest) = moved_front(kind, text);
+    let (comm, rest) = number_front(b"MPI_Comm", Parameter::Comm, rest)?;
+    let group = comm_of(comm)?;
+    let collective = Collective::new(kind, None, group)?;
+    Some((
+        Call::Collective(collective),
+        Outs::Nothing,
+        passed + 1,
+        rest,
+    ))
+}
+
+// a collective call with a root
+fn rooted_lines(kind: Kind, text: &[u8]) -> Option<(Call, Outs, u64, &[u8])>
+    ensures says { IfSome result (λ x. TellsCall (Function.Rooted kind) x.0 x.1 x.2 text.now x.3.now) }
+    ensures few { IfSome result (λ x. x.2 ≤ 14) }
+{
+    let (passed, rest) = moved_front(kind, text);
+    let (root, rest) = number_front(b"int", Parameter::Root, rest)?;
+    let (comm, rest) = number_front(b"MPI_Comm", Parameter::Comm, rest)?;
+    let rank = small_of(root)?;
+    let group = comm_of(comm)?;
+    let collective = Collective::new(kind, Some(rank), group)?;
+    Some((
+        Call::Collective(collective),
+        Outs::Nothing,
+        passed + 2,
+        rest,
+    ))
+}
+
 // The same of any function whose calls are read in place.
-fn lines_front(function: Function, text: &[u8]) -> Option<(Call, Outs, u64, &[u8])>
+fn lines_front(alloc: Global, function: Function, text: &[u8]) -> Option<(Call, Outs, u64, &[u8])>
     ensures says { IfSome result (λ x. TellsCall function x.0 x.1 x.2 text.now x.3.now) }
     ensures few { IfSome result (λ x. x.2 ≤ 14) }
 {
@@ -231,6 +252,10 @@ fn lines_front(function: Function, text: &[u8]) -> Option<(Call, Outs, u64, &[u8
         Function::Isend(mode) => isend_lines(mode, text),
         Function::Recv => recv_lines(text),
         Function::Irecv => irecv_lines(text),
+        Function::Wait => wait_lines(text),
+        Function::Waitall => waitall_lines(alloc, text),
+        Function::OfAll(kind) => group_lines(kind, text),
+        Function::Rooted(kind) => rooted_lines(kind, text),
         _ => None,
     }
 }
@@ -246,6 +271,16 @@ pub fn usual_name(function: Function) -> &'static str
         Function::Isend(Mode::Synchronous) => "MPI_Issend",
         Function::Recv => "MPI_Recv",
         Function::Irecv => "MPI_Irecv",
+        Function::Wait => "MPI_Wait",
+        Function::Waitall => "MPI_Waitall",
+        Function::OfAll(Kind::Barrier) => "MPI_Barrier",
+        Function::OfAll(Kind::Allreduce) => "MPI_Allreduce",
+        Function::OfAll(Kind::Allgather) => "MPI_Allgather",
+        Function::OfAll(Kind::Alltoall) => "MPI_Alltoall",
+        Function::Rooted(Kind::Bcast) => "MPI_Bcast",
+        Function::Rooted(Kind::Scatter) => "MPI_Scatter",
+        Function::Rooted(Kind::Gather) => "MPI_Gather",
+        Function::Rooted(Kind::Reduce) => "MPI_Reduce",
         _ => "",
     }
 }
@@ -260,17 +295,28 @@ fn likely_function(text: &[u8]) -> Option<Function>
     match text {
         [_, _, _, _, b'S', b'e', ..] => Some(Function::Send(Mode::Standard)),
         [_, _, _, _, b'S', b's', ..] => Some(Function::Send(Mode::Synchronous)),
+        [_, _, _, _, b'S', b'c', ..] => Some(Function::Rooted(Kind::Scatter)),
         [_, _, _, _, b'I', b's', b'e', ..] => Some(Function::Isend(Mode::Standard)),
         [_, _, _, _, b'I', b's', ..] => Some(Function::Isend(Mode::Synchronous)),
         [_, _, _, _, b'I', b'r', ..] => Some(Function::Irecv),
-        [_, _, _, _, b'R', b'e', ..] => Some(Function::Recv),
+        [_, _, _, _, b'R', b'e', b'c', ..] => Some(Function::Recv),
+        [_, _, _, _, b'R', b'e', b'd', ..] => Some(Function::Rooted(Kind::Reduce)),
+        [_, _, _, _, b'W', _, _, _, b' ', ..] => Some(Function::Wait),
+        [_, _, _, _, b'W', _, _, _, b'a', b'l', ..] => Some(Function::Waitall),
+        [_, _, _, _, b'B', b'a', ..] => Some(Function::OfAll(Kind::Barrier)),
+        [_, _, _, _, b'B', b'c', ..] => Some(Function::Rooted(Kind::Bcast)),
+        [_, _, _, _, b'A', _, _, b'r', ..] => Some(Function::OfAll(Kind::Allreduce)),
+        [_, _, _, _, b'A', _, _, b'g', ..] => Some(Function::OfAll(Kind::Allgather)),
+        [_, _, _, _, b'A', _, _, b't', ..] => Some(Function::OfAll(Kind::Alltoall)),
+        [_, _, _, _, b'G', b'a', ..] => Some(Function::Rooted(Kind::Gather)),
         _ => None,
     }
 }
 
-/// The call in front of a text, where it stands there whole and as dumpi2ascii writes it.
+/// The call in front of a text, where it stands there whole and as dumpi2ascii writes it. Where memory is refused, there is
+/// no answer.
 #[tactic(auto, using(crate::proofs::InPlace::whole_told))]
-pub fn whole_front(text: &[u8]) -> Option<Whole>
+pub fn whole_front(alloc: Global, text: &[u8]) -> Option<Whole>
     ensures whole { IfSome result (λ w. IsWhole w.function w.call w.bytes w.lines text.now) }
     ensures few { IfSome result (λ w. w.lines ≤ MOST_USUAL_LINES) }
 {
@@ -279,7 +325,7 @@ pub fn whole_front(text: &[u8]) -> Option<Whole>
     let Some((enter, inside)) = entering_front(name, text) else {
         return None;
     };
-    let Some((call, outs, count, after)) = lines_front(function, inside) else {
+    let Some((call, outs, count, after)) = lines_front(alloc, function, inside) else {
         return None;
     };
     let Some((stamp, rest)) = returning_front(name, after) else {

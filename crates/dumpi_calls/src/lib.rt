@@ -8,10 +8,10 @@
 //! parameter that is one number takes none. A call that is refused is not handed on, and ends the walk.
 //!
 //! - [`parameter`]: the parameters and why a call is refused for one; [`reading`]: what each says; [`quick`]: numbers as
-//!   dumpi2ascii writes them, in one pass; [`skim`]: so the source of a status
+//!   dumpi2ascii writes them, in one pass; [`skim`]: so the source of a status; [`requests`]: so a list of requests
 //! - [`function`]: the functions, by their names; [`envelope`], [`outcome`]: what calls name and bring back;
 //!   [`typing`]: a call by the row of its function
-//! - [`in_place`]: calls as dumpi2ascii writes them, read whole where they stand
+//! - [`in_place`]: calls as dumpi2ascii writes them, read whole where they stand; [`lines`]: their parameter lines
 //! - [`sink`]: the callbacks; [`fault`], [`walking`]: the walk
 //! - [`collect`], over events in [`parts`], and [`tally`]: two sinks; [`laws`]: what holds of walks over whole texts
 //!
@@ -25,11 +25,13 @@ mod fault;
 mod function;
 mod in_place;
 mod laws;
+mod lines;
 mod outcome;
 mod parameter;
 mod parts;
 mod quick;
 mod reading;
+mod requests;
 mod sink;
 mod skim;
 mod tally;

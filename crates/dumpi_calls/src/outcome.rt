@@ -136,9 +136,9 @@ fn told(alloc: Global, raw: &RawCall) -> Result<Told, AllocError>
     }
 }
 
-// what the groups tell of each request, by its place
+/// What the groups tell of each request, by its place.
 #[tactic(auto, using(crate::proofs::Tolds::one_told_more))]
-fn tolds(alloc: Global, groups: &[Group], requests: &[i64]) -> Result<Sources, AllocError>
+pub fn tolds(alloc: Global, groups: &[Group], requests: &[i64]) -> Result<Sources, AllocError>
     ensures { IfOk result (λ s. s ≡ tolds_from groups.now 0 requests.now) }
 {
     let mut tolds = Vec::with_capacity(alloc, requests.len())?;
@@ -226,9 +226,9 @@ fn tolds_of_text(alloc: Global, requests: &[i64], text: &[u8]) -> Result<Sources
     tolds(alloc, groups.as_slice(), requests)
 }
 
-// the same, in place where there is one status for each request
+/// What the groups of a text tell of each request, read in place where there is one status for each.
 #[tactic(auto, using(crate::proofs::GroupByGroup::whole_list))]
-fn sources_in(alloc: Global, requests: &[i64], text: &[u8]) -> Result<Sources, AllocError>
+pub fn sources_in(alloc: Global, requests: &[i64], text: &[u8]) -> Result<Sources, AllocError>
     ensures { IfOk result (λ s. s ≡ tolds_from (groups_from (value_of text.now)) 0 requests.now) }
 {
     match quick_statuses(alloc, text) {

@@ -1,9 +1,9 @@
 //! Numbers as dumpi2ascii writes them, each read in one pass and in place. What these functions don't answer for is read
 //! as any value is.
 
-ghost use Rattle.std.specs.Prelude.{◌≡◌, ◌∷◌, ◌<◌, ◌≤◌, [], IfSome, Some, false, length, take, true};
+ghost use Rattle.std.specs.Prelude.{◌≡◌, ◌∷◌, ◌<◌, ◌≤◌, [], IfSome, Some, false, length, neg_ℤ, pos, take, true};
 ghost use Rattle.std.specs.List.{list_all, list_any};
-ghost use Rattle.dumpi_text.specs.Bytes.{closing_parenthesis, opening_bracket, opening_parenthesis};
+ghost use Rattle.dumpi_text.specs.Bytes.{closing_parenthesis, minus, opening_bracket, opening_parenthesis};
 ghost use Rattle.dumpi_text.specs.Call.{same_bytes};
 ghost use Rattle.dumpi_text.specs.Number.{is_opening, name_of, note_front};
 ghost use Rattle.dumpi_text.specs.Time.{is_digit, number_of};
@@ -147,6 +147,29 @@ fn plain_number(text: &[u8]) -> Option<Num>
     })
 }
 
+// a number below 10^18 with a `-` before it
+fn negative(number: u64) -> i64
+    requires { number < 1000000000000000000 }
+    ensures { result ≡ neg_ℤ (pos number) }
+{
+    -(number as i64)
+}
+
+// The number of a text that is a `-` and digits, with a note after a space or none, by what follows its `-`.
+fn negative_number(text: &[u8]) -> Option<Num>
+    ensures { IfSome result (λ number. value_of (minus ∷ text.now) ≡ Some (Number number)) }
+{
+    let (magnitude, digits) = digits_front(text);
+    if digits == 0 {
+        return None;
+    }
+    let name = name_after(&text[digits..])?;
+    Some(Num {
+        value: negative(magnitude),
+        name,
+    })
+}
+
 // The number of a text that is digits in brackets, by what follows its `[`.
 fn bracketed_number(text: &[u8]) -> Option<Num>
     ensures { IfSome result (λ number. value_of (opening_bracket ∷ text.now) ≡ Some (Number number)) }
@@ -161,12 +184,13 @@ fn bracketed_number(text: &[u8]) -> Option<Num>
     })
 }
 
-/// The number of a text that is its digits, with a note after a space or none, or digits in brackets.
+/// The number of a text that is its digits, after a `-` or none and with a note after a space or none, or digits in brackets.
 pub fn quick_number(text: &[u8]) -> Option<Num>
     ensures { IfSome result (λ number. value_of text.now ≡ Some (Number number)) }
 {
     match text {
         [b'[', rest @ ..] => bracketed_number(rest),
+        [b'-', rest @ ..] => negative_number(rest),
         _ => plain_number(text),
     }
 }

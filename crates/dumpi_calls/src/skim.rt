@@ -1,17 +1,17 @@
 //! Statuses as dumpi2ascii writes them, `[count] {{word=number, ..}, ..}`, of which is read in one pass and in place what they
 //! tell. What these functions don't answer for is read as any value is.
 
-ghost use Rattle.std.specs.Prelude.{◌≡◌, ◌<◌, ◌≤◌, ◌∷◌, [], IfOk, IfSome, Some, length, map, true};
+ghost use Rattle.std.specs.Prelude.{◌≡◌, ◌<◌, ◌≤◌, ◌∷◌, ◌++◌, [], IfOk, IfSome, None, Some, length, map, true};
 ghost use Rattle.std.specs.List.{list_all};
 ghost use Rattle.std.specs.Option.{option_map};
 ghost use Rattle.dumpi_calls.specs.Outcomes.{groups_from, told_at, told_of};
 ghost use Rattle.dumpi_calls.specs.Skims.{number_with, seen_with, told_with, tolds_with, unseen, with_told};
 ghost use Rattle.dumpi_text.specs.Bytes.{closing_brace, equals, opening_bracket};
 ghost use Rattle.dumpi_text.specs.Items.{field_item, fields_front, group_item, items_front, next_front};
-ghost use Rattle.dumpi_text.specs.Number.{note_front, number_front};
+ghost use Rattle.dumpi_text.specs.Number.{note_front, number_front, number_item};
 ghost use Rattle.dumpi_text.specs.Tokens.{after_byte, after_spaces, digit_parts, word_front};
 ghost use Rattle.dumpi_text.specs.Value.{all_groups, core_front, value_of};
-ghost use Rattle.dumpi_text.specs.Words.{after_front, is_word_byte, word_parts};
+ghost use Rattle.dumpi_text.specs.Words.{is_word_byte, word_parts};
 ghost use Rattle.dumpi_text.specs.declared.number.NumName.TheVariants.{Other};
 
 use crate::function::is;
@@ -28,8 +28,8 @@ struct Seen {
     source: Option<Num>,
 }
 
-// the text without the spaces in front
-fn skip_spaces(text: &[u8]) -> &[u8]
+/// The text without the spaces in front.
+pub fn skip_spaces(text: &[u8]) -> &[u8]
     ensures { result.now ≡ after_spaces text.now }
 {
     for (at, byte) in text.iter().enumerate() {
@@ -75,9 +75,9 @@ fn read_word(text: &[u8]) -> Option<(&[u8], &[u8])>
     }
 }
 
-// what follows a byte that stands in front
+/// What follows a byte that stands in front.
 #[inline(always)]
-fn strip_byte(wanted: u8, text: &[u8]) -> Option<&[u8]>
+pub fn strip_byte(wanted: u8, text: &[u8]) -> Option<&[u8]>
     ensures { IfSome result (λ rest. text.now ≡ wanted ∷ rest.now) }
 {
     match text {
@@ -96,9 +96,11 @@ fn after_equals(text: &[u8]) -> Option<&[u8]>
     }
 }
 
-// whether a `,` or a `}` stands in front, which ends a field's number
-fn ends_field(text: &[u8]) -> bool
+/// Whether a `,` or a `}` stands in front, which ends a number of a list or of a field.
+pub fn ends_number(text: &[u8]) -> bool
     ensures digits { result ≡ true → digit_parts text.now ≡ ([], text.now) }
+    ensures word { result ≡ true → word_parts text.now ≡ ([], text.now) }
+    ensures no_field { result ≡ true → after_byte equals text.now ≡ None }
     ensures note { result ≡ true → note_front (after_spaces text.now) ≡ Some (Other, text.now) }
 {
     match text {
@@ -108,16 +110,17 @@ fn ends_field(text: &[u8]) -> bool
     }
 }
 
-// the number in front, where it is digits that end the field, and what follows it
-fn split_number(text: &[u8]) -> Option<(Num, &[u8])>
-    ensures { IfSome result (λ x. number_front (after_spaces text.now) ≡ Some (x.0, x.1.now)) }
+/// The number in front, where it is digits that a `,` or a `}` ends, and what follows it.
+pub fn split_number(text: &[u8]) -> Option<(Num, &[u8])>
+    ensures number { IfSome result (λ x. number_front (after_spaces text.now) ≡ Some (x.0, x.1.now)) }
+    ensures item { IfSome result (λ x. number_item text.now ≡ Some (x.0, x.1.now)) }
 {
     let (value, count) = digits_front(text);
     if count == 0 {
         return None;
     }
     let rest = &text[count..];
-    if !ends_field(rest) {
+    if !ends_number(rest) {
         return None;
     }
     let number = Num {
@@ -138,20 +141,16 @@ fn split_field(text: &[u8]) -> Option<(&[u8], Num, &[u8])>
     Some((word, number, rest))
 }
 
-// what follows a front of the text
+// what follows a front of the text: inlined, so that a literal's bytes are compared at once
 #[inline(always)]
+#[tactic(auto, using(crate::proofs::FieldByField::front_whole))]
 fn strip<'a>(front: &[u8], text: &'a [u8]) -> Option<&'a [u8]>
-    ensures { IfSome result (λ rest. after_front front.now text.now ≡ Some rest.now) }
+    ensures { IfSome result (λ rest. text.now ≡ front.now ++ rest.now) }
 {
-    if text.len() < front.len() {
-        return None;
+    match text.strip_prefix(front) {
+        Some(rest) => Some(rest),
+        None => None,
     }
-    for (at, byte) in front.iter().enumerate() {
-        if text[at] != *byte {
-            return None;
-        }
-    }
-    Some(&text[front.len()..])
 }
 
 // the number of the field in front, where its word is this one, and what follows it
@@ -169,29 +168,37 @@ fn field_named<'a>(word: &[u8], text: &'a [u8]) -> Option<(Num, &'a [u8])>
     Some((number, rest))
 }
 
-// what follows a `,` and a space that stand in front
-#[inline(always)]
-fn after_comma(text: &[u8]) -> Option<&[u8]>
-    ensures { IfSome result (λ rest. text.now ≡ 44 ∷ 32 ∷ rest.now) }
-{
-    strip_byte(b' ', strip_byte(b',', text)?)
-}
+// the number 0, without a name
+const NOUGHT: Num = Num {
+    value: 0,
+    name: NumName::Other,
+};
 
-// what the fields of a group tell, where they are those that dumpi2ascii writes, and what follows its `}`
+// What the fields of a group tell, where they are the five that dumpi2ascii writes and nothing was cancelled, and what follows
+// its `}`.
 fn usual_front(text: &[u8]) -> Option<(Told, &[u8])>
     ensures { IfSome result (λ x. with_told unseen (fields_front text.now) ≡ Some (x.0, x.1.now)) }
 {
     let (_, rest) = field_named(b"bytes", text)?;
-    let (cancelled, rest) = field_named(b"cancelled", after_comma(rest)?)?;
-    let (source, rest) = field_named(b"source", after_comma(rest)?)?;
-    let (_, rest) = field_named(b"tag", after_comma(rest)?)?;
-    let (_, rest) = field_named(b"error", after_comma(rest)?)?;
-    let rest = strip_byte(b'}', rest)?;
-    Some((told_from(Some(cancelled), Some(source)), rest))
+    let (source, rest) = field_named(b"source", strip(b", cancelled=0, ", rest)?)?;
+    let (_, rest) = field_named(b"tag", strip(b", ", rest)?)?;
+    let rest = strip(b", error=0}", rest)?;
+    Some((told_from(Some(NOUGHT), Some(source)), rest))
 }
 
-// whether another field follows, and what follows its `,` or the group's `}`
-fn split_next(text: &[u8]) -> Option<(bool, &[u8])>
+// The same of the three fields of traces that tell neither what was cancelled nor errors.
+fn short_front(text: &[u8]) -> Option<(Told, &[u8])>
+    ensures { IfSome result (λ x. with_told unseen (fields_front text.now) ≡ Some (x.0, x.1.now)) }
+{
+    let (_, rest) = field_named(b"bytes", text)?;
+    let (source, rest) = field_named(b"source", strip(b", ", rest)?)?;
+    let (_, rest) = field_named(b"tag", strip(b", ", rest)?)?;
+    let rest = strip_byte(b'}', rest)?;
+    Some((told_from(None, Some(source)), rest))
+}
+
+/// Whether another item follows, and what follows its `,` or the `}` that closes the list.
+pub fn split_next(text: &[u8]) -> Option<(bool, &[u8])>
     ensures { option_map (λ x. (x.0, x.1.now)) result ≡ next_front closing_brace text.now }
 {
     match text {
@@ -234,7 +241,10 @@ fn told_front(text: &[u8]) -> Option<(Told, &[u8])>
 {
     match usual_front(text) {
         Some(usual) => Some(usual),
-        None => any_front(text),
+        None => match short_front(text) {
+            Some(short) => Some(short),
+            None => any_front(text),
+        },
     }
 }
 

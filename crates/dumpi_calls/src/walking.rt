@@ -147,7 +147,7 @@ fn lack<F: Drop>(fault: TextFault, line: u64, calls: u64) -> WalkFault<F>
 // The next call, where it stands at hand whole and in its usual form, which is taken then, and the line where it begins.
 #[inline(always)]
 #[tactic(auto, using(crate::proofs::Advancing::follows_whole, crate::proofs::Advancing::stands_whole))]
-fn whole_of<R: Read>(texts: &mut Texts<R>) -> Option<(Whole, u64)>
+fn whole_of<R: Read>(alloc: Global, texts: &mut Texts<R>) -> Option<(Whole, u64)>
     ensures goes_on { (text : Option (List ℕ)) (calls : List TextCall) → IsRead text calls texts.old → IfSome result (λ x. FollowsWhole text calls x.0.function x.0.call x.1 texts.new) }
     ensures none { IfNone result (texts.new ≡ texts.old) }
     ensures no_failure { texts.new.rest.failures ≡ texts.old.rest.failures }
@@ -157,7 +157,7 @@ fn whole_of<R: Read>(texts: &mut Texts<R>) -> Option<(Whole, u64)>
     reading_call_by_call();
     let line = texts.line().saturating_add(1);
     let text = texts.at_hand()?;
-    let whole = whole_front(text)?;
+    let whole = whole_front(alloc, text)?;
     texts.pass_call(whole.bytes, whole.lines, whole.enter());
     Some((whole, line))
 }
@@ -207,7 +207,7 @@ fn advance<R: Read, S: CallSink>(
     ensures progress { IfOk result (λ found. IfSome found (λ is_open. texts.old.at.line < texts.new.at.line)) }
     ensures lines { texts.new.at.line ≤ MOST_LINES }
 {
-    if let Some((whole, line)) = whole_of(texts) {
+    if let Some((whole, line)) = whole_of(alloc, texts) {
         return match take_whole(whole, line, sink, calls) {
             Ok(()) => Ok(Some(false)),
             Err(fault) => Err(fault),

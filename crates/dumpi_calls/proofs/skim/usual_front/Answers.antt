@@ -5,11 +5,9 @@ use Rattle.dumpi_calls.proofs.skim.usual_front.Goals as goal
 
 pub returns : goal.returns
 returns c =
-    let more = c.in_ok-rest-4.rest.now in
+    let more = c.in_ok-rest-3.rest.now in
     let read = usual_fields c.args.text.now
-    c.in_ok-rest.rest.now c.in_ok-after_comma.field-0.now c.in_ok-cancelled.rest.now c.in_ok-after_comma-2.field-0.now c.in_ok-source.rest.now c.in_ok-after_comma-3.field-0.now
-    c.in_ok-rest-2.rest.now c.in_ok-after_comma-4.field-0.now c.in_ok-rest-3.rest.now more
-    c.in_ok-rest.field-0-0 c.in_ok-cancelled.cancelled c.in_ok-source.source c.in_ok-rest-2.field-0-0 c.in_ok-rest-3.field-0-0 c.in_ok-rest.ensures.there
-    c.in_ok-rest.ensures.field c.in_ok-after_comma.ensures c.in_ok-cancelled.ensures.field c.in_ok-after_comma-2.ensures c.in_ok-source.ensures.field c.in_ok-after_comma-3.ensures
-    c.in_ok-rest-2.ensures.field c.in_ok-after_comma-4.ensures c.in_ok-rest-3.ensures.field c.in_ok-rest-4.ensures in
+    c.in_ok-rest.rest.now c.in_ok-strip.field-0.now c.in_ok-source.rest.now c.in_ok-strip-2.field-0.now c.in_ok-rest-2.rest.now more
+    c.in_ok-rest.field-0-0 c.in_ok-source.source c.in_ok-rest-2.field-0-0 c.in_ok-rest.ensures.there
+    c.in_ok-rest.ensures.field c.in_ok-strip.ensures c.in_ok-source.ensures.field c.in_ok-strip-2.ensures c.in_ok-rest-2.ensures.field c.in_ok-rest-3.ensures in
     read ∙ ap (λ (told : Told). Some (told, more)) (sym c.told_from.ensures)

@@ -1,6 +1,0 @@
-use Rattle.std.proofs.Common.{◌≡◌, drop}
-use Rattle.std.specs.Str.{bytes_eq}
-use Rattle.dumpi_calls.proofs.function.same.Given as goal
-
-abbrev pub invariant-loop-at : goal.invariant-loop-at
-invariant-loop-at l = bytes_eq (drop l.at l.name) (drop l.at l.word) ≡ bytes_eq l.name l.word
