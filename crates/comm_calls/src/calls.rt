@@ -101,12 +101,25 @@ impl CommCalls {
         self.world
     }
 
-    /// The calls on communicators and groups, with the first number beside MPI_COMM_SELF.
-    pub fn into_rank_calls(self) -> RankCalls
+    /// The calls on communicators and groups, with the first numbers beside MPI_COMM_WORLD and MPI_COMM_SELF. Which
+    /// calls of the profile name a number is not read.
+    pub fn into_rank_calls(self, alloc: Global) -> RankCalls
+        ensures world { result.world ≡ self.world }
         ensures own { result.own ≡ self.own }
         ensures calls { result.calls.items ≡ self.calls }
+        ensures uses { result.uses.items ≡ [] }
     {
-        let CommCalls { own, calls, .. } = self;
-        RankCalls { own, calls }
+        let CommCalls {
+            world,
+            own,
+            calls,
+            ..
+        } = self;
+        RankCalls {
+            world,
+            own,
+            calls,
+            uses: Vec::new(alloc),
+        }
     }
 }

@@ -1,0 +1,10 @@
+pub mod Selection
+pub mod Here
+pub mod Parts
+pub mod Splits
+pub mod World
+pub mod Names
+pub mod Made
+pub mod Groups
+pub mod Reordered
+pub mod Written

@@ -3,10 +3,26 @@
 /// What the calls of a rank say of its communicators and groups.
 #[derive(Debug, Drop)]
 pub struct RankCalls {
+    /// The number of MPI_COMM_WORLD, where some call of the rank says it.
+    pub world: Option<u32>,
     /// The number of MPI_COMM_SELF, where some call of the rank says it.
     pub own: Option<u32>,
     /// The calls that make, name or free communicators and groups, in the rank's order.
     pub calls: Vec<CommCall>,
+    /// Where the calls of the profile name which numbers.
+    pub uses: Vec<Uses>,
+}
+
+/// Calls of the profile that name a number, between two calls of the rank that give or free that number.
+#[derive(Clone, Copy, Debug, PartialEq, Eq)]
+pub struct Uses {
+    pub number: u32,
+    /// The first call that names it.
+    pub first: u64,
+    /// The last call that names it.
+    pub last: u64,
+    /// How many do.
+    pub count: u64,
 }
 
 /// One call on communicators or groups.

@@ -3,11 +3,40 @@
 //!
 //! It reads no text. Each rank is a plain list of its calls on communicators and groups.
 //!
-//! - [`calls`]: what a rank's calls say
+//! - [`calls`]: what a rank's calls say; [`answer`]: what is derived from them
+//! - [`handle`], [`names`]: what the numbers in a rank's calls mean; [`view`]: what a rank called on each communicator
+//! - [`state`]: what is derived so far; [`group_value`]: the groups of a rank
+//! - [`here`]: one making, as each member calls it; [`part`], [`parts`], [`splits`], [`creates`], [`grids`], [`outcomes`]: the members
+//!   of what it makes
+//! - [`by_groups`]: MPI_Comm_create_group; [`run`]: from the world to all that is made of it
+//! - [`uses`]: which calls of the profile name which communicators; [`left`]: what is left out; [`written`]: the layout's
+//!   communicators
+//! - [`derivation`]: the way from the calls to all of that
 #![tactic(auto)]
 
+mod answer;
+mod by_groups;
 mod calls;
+mod creates;
+mod derivation;
+mod grids;
+mod group_value;
+mod handle;
+mod here;
+mod left;
+mod names;
+mod outcomes;
+mod part;
+mod parts;
+mod run;
+mod splits;
+mod state;
+mod uses;
+mod view;
+mod written;
 
+pub use answer::{DeriveFault, Derived, LeftOut, MadeBy, Why};
 pub use calls::{
-    Action, Color, CommCall, Given, GroupCall, GroupName, Making, RankCalls, RankRange,
+    Action, Color, CommCall, Given, GroupCall, GroupName, Making, RankCalls, RankRange, Uses,
 };
+pub use derivation::derive;

@@ -1,0 +1,24 @@
+-- What stands at places, one place after the other.
+use Rattle.std.proofs.Common.{◌≡◌, ℕ, ◌+◌, ◌<◌, ◌++◌, List, [], ◌∷◌, Option, Some, None, map, length, take, get_or, ap, ◌∙◌, sym, append-nil, arith}
+use Rattle.std.specs.List.{cons_option, filter_map, range_with_len}
+use Rattle.std.proofs.lemmas.List.{take_more, map-id}
+use Rattle.std.proofs.lemmas.List.Elements.{filter_map-append}
+use Rattle.std.proofs.lemmas.List.FromFn.{map-range_with_len_more}
+
+pub more_some : {X : Type 0} (f : ℕ → Option X) (places : List ℕ) (i : ℕ) (x : X) → i < length places → f (get_or places i 0) ≡ Some x
+    → filter_map f (take (i + 1) places) ≡ filter_map f (take i places) ++ x ∷ []
+more_some {X} f places i x below e =
+    ap (filter_map f) (take_more places i 0 below) ∙ filter_map-append f (take i places) (get_or places i 0 ∷ [])
+    ∙ ap (λ (o : Option X). filter_map f (take i places) ++ cons_option o []) e
+
+pub more_none : {X : Type 0} (f : ℕ → Option X) (places : List ℕ) (i : ℕ) → i < length places → f (get_or places i 0) ≡ None
+    → filter_map f (take (i + 1) places) ≡ filter_map f (take i places)
+more_none {X} f places i below e =
+    ap (filter_map f) (take_more places i 0 below) ∙ filter_map-append f (take i places) (get_or places i 0 ∷ [])
+    ∙ ap (λ (o : Option X). filter_map f (take i places) ++ cons_option o []) e ∙ append-nil (filter_map f (take i places))
+
+-- one more of the numbers from 0 on
+pub numbers_more : (n : ℕ) → range_with_len 0 (n + 1) ≡ range_with_len 0 n ++ n ∷ []
+numbers_more n =
+    sym (map-id (range_with_len 0 (n + 1))) ∙ map-range_with_len_more (λ (x : ℕ). x) 0 n n (omega arith)
+    ∙ ap (λ (l : List ℕ). l ++ n ∷ []) (map-id (range_with_len 0 n))

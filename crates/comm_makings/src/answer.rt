@@ -1,0 +1,75 @@
+//! What is derived: the communicators of a layout, and what is left out of it.
+
+use mpi_model::Comm;
+
+/// The communicators that the calls of all ranks make.
+#[derive(Debug, Drop)]
+pub struct Derived {
+    /// The number of MPI_COMM_WORLD, 2 where no rank tells it.
+    pub world: u32,
+    /// The world, and the communicators that some call of the profile names, in the order of a layout.
+    pub comms: Vec<Comm>,
+    /// What is left out, by rank and then by call.
+    pub left_out: Vec<LeftOut>,
+}
+
+/// A communicator that a call of a rank gave, and from which nothing is derived: its number stays foreign.
+#[derive(Clone, Copy, Debug, PartialEq, Eq)]
+pub struct LeftOut {
+    pub rank: u32,
+    /// The call that gave it.
+    pub call: u64,
+    pub made_by: MadeBy,
+    /// The number that the call gave, where it can be read.
+    pub number: Option<u32>,
+    /// How many calls of the profile name it.
+    pub uses: u64,
+    pub why: Why,
+}
+
+/// The function that gave a communicator.
+#[derive(Clone, Copy, Debug, PartialEq, Eq)]
+pub enum MadeBy {
+    Dup,
+    DupWithInfo,
+    Idup,
+    IdupWithInfo,
+    Split,
+    Create,
+    CreateGroup,
+    CartCreate,
+    CartSub,
+    GraphCreate,
+    DistGraphCreate,
+    DistGraphCreateAdjacent,
+    /// Another function, from which nothing is derived.
+    Other,
+}
+
+/// Why a communicator is left out.
+#[derive(Clone, Copy, Debug, PartialEq, Eq)]
+pub enum Why {
+    /// Nothing is derived from calls of its function.
+    Function,
+    /// It has the number of MPI_COMM_WORLD or MPI_COMM_SELF.
+    Taken,
+    /// Its parent is unknown, or a call of the rank before it has an unknown parent.
+    UnknownParent,
+    /// Its parent is left out.
+    Parent,
+    /// A member of the parent has no such call, or no call tells the ranks of one that is reordered, or the parent has no
+    /// known dimensions.
+    Untold,
+    /// The members' calls differ where they have to agree, or a parameter is unknown.
+    Unsound,
+    /// An earlier making of the same parent is unsound.
+    Behind,
+}
+
+/// Why nothing is derived.
+#[derive(Clone, Copy, Debug, PartialEq, Eq)]
+pub enum DeriveFault {
+    Memory,
+    /// Two ranks tell different numbers of MPI_COMM_WORLD.
+    World { first: u32, second: u32 },
+}

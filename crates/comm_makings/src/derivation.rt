@@ -1,0 +1,97 @@
+//! From what the ranks called to their communicators.
+
+ghost use Rattle.std.specs.Prelude.{◌≡◌, ◌≢◌, ◌<◌, ◌^◌, IfErr, IfOk, None, OnOk, Some, length};
+ghost use Rattle.comm_makings.specs.World.{first_told, other_told, world_fault, world_of};
+ghost use Rattle.comm_makings.specs.declared.answer.DeriveFault.TheVariants.{Memory};
+
+use crate::answer::{DeriveFault, Derived};
+use crate::calls::RankCalls;
+use crate::left::left_out;
+use crate::run::{Run, run_of};
+use crate::uses::uses_of_all;
+use crate::written::written;
+use std::alloc::{AllocError, Global};
+
+impl From<AllocError> for DeriveFault {
+    ghost from_gives = { λ _ e. e ≡ Memory };
+
+    fn from(_error: AllocError) -> DeriveFault {
+        DeriveFault::Memory
+    }
+}
+
+/// The number of MPI_COMM_WORLD where no rank tells it.
+const USUAL_WORLD: u32 = 2;
+
+/// The first rank that tells the number of MPI_COMM_WORLD, and the number.
+fn first_told(ranks: &[RankCalls]) -> Option<(u32, u32)>
+    requires { length ranks.now < 2 ^ 32 }
+    ensures { result ≡ first_told 0 ranks.now }
+{
+    let mut rank = 0u32;
+    for calls in ranks {
+        if let Some(world) = calls.world {
+            return Some((rank, world));
+        }
+        rank += 1;
+    }
+    None
+}
+
+/// The first rank that tells another number.
+fn other_told(ranks: &[RankCalls], world: u32) -> Option<u32>
+    requires { length ranks.now < 2 ^ 32 }
+    ensures { result ≡ other_told world 0 ranks.now }
+{
+    let mut rank = 0u32;
+    for calls in ranks {
+        if let Some(told) = calls.world {
+            if told != world {
+                return Some(rank);
+            }
+        }
+        rank += 1;
+    }
+    None
+}
+
+fn world_of(ranks: &[RankCalls]) -> Result<u32, DeriveFault>
+    requires { length ranks.now < 2 ^ 32 }
+    ensures ok { IfOk result (λ world. world ≡ world_of ranks.now) }
+    ensures none { OnOk result (world_fault ranks.now ≡ None) }
+    ensures fault { IfErr result (λ e. world_fault ranks.now ≡ Some e) }
+{
+    match first_told(ranks) {
+        None => Ok(USUAL_WORLD),
+        Some((first, world)) => match other_told(ranks, world) {
+            None => Ok(world),
+            Some(second) => Err(DeriveFault::World { first, second }),
+        },
+    }
+}
+
+/// The communicators that the calls of the ranks make: the world, and those that calls of the profile name, as a layout
+/// has them. Time and memory grow with the calls on communicators and groups and the members of what they make, not with
+/// all calls.
+pub fn derive(alloc: Global, ranks: &[RankCalls]) -> Result<Derived, DeriveFault>
+    requires { length ranks.now < 2 ^ 32 }
+    ensures world { IfOk result (λ d. d.world ≡ world_of ranks.now) }
+    ensures none { OnOk result (world_fault ranks.now ≡ None) }
+    ensures fault { IfErr result (λ e. e ≢ Memory → world_fault ranks.now ≡ Some e) }
+{
+    let world = world_of(ranks)?;
+    let Run {
+        views,
+        standings,
+        comms,
+        ..
+    } = run_of(alloc, world, ranks)?;
+    let uses = uses_of_all(alloc, ranks, &views)?;
+    let left_out = left_out(alloc, ranks, &views, &standings, &uses)?;
+    let comms = written(alloc, world, &views, &uses, comms)?;
+    Ok(Derived {
+        world,
+        comms,
+        left_out,
+    })
+}

@@ -1,0 +1,331 @@
+//! The groups that a rank's calls give (MPI 4.0, 7.3.2).
+
+ghost use Rattle.std.specs.Prelude.{◌≡◌, IfOk, option_map};
+ghost use Rattle.std.specs.List.{slice_get};
+ghost use Rattle.std.specs.Option.{option_and_then, option_copied};
+ghost use Rattle.comm_makings.specs.Groups.{IsListed, IsMadeOfTwo, group_of_comm, is_known, made_of_one, made_of_two, ranks_at, ranks_of, unlisted, waits, waits_at};
+
+use crate::calls::{GroupCall, RankRange};
+use crate::handle::{GroupAt, Meant};
+use crate::state::{Made, Standing};
+use std::alloc::{AllocError, Global};
+
+/// A group that a call gives.
+#[derive(Debug, Drop)]
+pub(crate) enum GroupValue {
+    /// Its communicator is not derived yet.
+    Waits,
+    Unknown,
+    /// The members of the derived communicator at this place.
+    Whole(usize),
+    /// These ranks of the run, in this order.
+    Listed(Vec<u32>),
+}
+
+fn ranks_of<'a>(value: &'a GroupValue, comms: &'a [Made]) -> Option<&'a [u32]>
+    ensures { option_copied result ≡ ranks_of comms.now value.now }
+{
+    match value {
+        GroupValue::Waits => None,
+        GroupValue::Unknown => None,
+        GroupValue::Whole(place) => Some(&comms.get(*place)?.ranks),
+        GroupValue::Listed(ranks) => Some(ranks),
+    }
+}
+
+fn waits(value: &GroupValue) -> bool
+    ensures { result ≡ waits value.now }
+{
+    match value {
+        GroupValue::Waits => true,
+        GroupValue::Unknown | GroupValue::Whole(_) | GroupValue::Listed(_) => false,
+    }
+}
+
+/// The ranks of a group that a call names, where they are known.
+pub(crate) fn ranks_at<'a>(
+    values: &'a [GroupValue],
+    comms: &'a [Made],
+    group: GroupAt,
+) -> Option<&'a [u32]>
+    ensures { option_copied result ≡ ranks_at comms.now values.now group }
+{
+    match group {
+        GroupAt::Empty => Some(&[]),
+        GroupAt::Unknown => None,
+        GroupAt::Given(call) => ranks_of(values.get(call)?, comms),
+    }
+}
+
+/// Whether the ranks of a group that a call names may become known.
+pub(crate) fn waits_at(values: &[GroupValue], group: GroupAt) -> bool
+    ensures { result ≡ waits_at values.now group }
+{
+    match group {
+        GroupAt::Empty => false,
+        GroupAt::Unknown => false,
+        GroupAt::Given(call) => match values.get(call) {
+            Some(value) => waits(value),
+            None => false,
+        },
+    }
+}
+
+fn group_of(standing: Option<Standing>) -> GroupValue
+    ensures { result ≡ group_of_comm standing }
+{
+    match standing {
+        None => GroupValue::Unknown,
+        Some(Standing::Open) => GroupValue::Waits,
+        Some(Standing::Derived(place)) => GroupValue::Whole(place),
+        Some(Standing::Left(_)) => GroupValue::Unknown,
+    }
+}
+
+/// How the handle stands that a call names.
+fn standing_at(standings: &[Standing], comm: Option<usize>) -> Option<Standing>
+    ensures { result ≡ option_and_then (slice_get standings.now) comm }
+{
+    standings.get(comm?).copied()
+}
+
+/// The group of these ranks, where there is one.
+fn listed(ranks: Option<Vec<u32>>) -> GroupValue
+    ensures { IsListed (option_map (λ v. v.items) ranks) result }
+{
+    match ranks {
+        Some(ranks) => GroupValue::Listed(ranks),
+        None => GroupValue::Unknown,
+    }
+}
+
+/// The group whose ranks are not known.
+fn unlisted(waits: bool) -> GroupValue
+    ensures { result ≡ unlisted waits }
+{
+    if waits {
+        GroupValue::Waits
+    } else {
+        GroupValue::Unknown
+    }
+}
+
+/// The last rank of a range that falls to a rank below 0, where it has none below 0.
+fn last_from(first: u32, below: u32, stride: u32) -> Option<u32> {
+    if stride == 0 {
+        return None;
+    }
+    let span = u64::from(first) + u64::from(below);
+    let reached = span - span % u64::from(stride);
+    u32::try_from(u64::from(first).checked_sub(reached)?).ok()
+}
+
+/// The range as ranks of a group; `None` where it has a rank below 0.
+fn range_of(range: RankRange) -> Option<comm_groups::RankRange> {
+    let first = u32::try_from(range.first).ok()?;
+    let stride = range.stride.unsigned_abs();
+    let falls = range.stride < 0;
+    let last = if range.last >= 0 {
+        range.last.unsigned_abs()
+    } else if falls {
+        last_from(first, range.last.unsigned_abs(), stride)?
+    } else {
+        return None;
+    };
+    Some(comm_groups::RankRange {
+        first,
+        last,
+        stride,
+        falls,
+    })
+}
+
+fn ranges_of(
+    alloc: Global,
+    ranges: &[RankRange],
+) -> Result<Option<Vec<comm_groups::RankRange>>, AllocError> {
+    let mut all = Vec::new(alloc);
+    for range in ranges {
+        match range_of(*range) {
+            Some(range) => all.push(range)?,
+            None => return Ok(None),
+        }
+    }
+    Ok(Some(all))
+}
+
+fn with_ranges(
+    alloc: Global,
+    members: &[u32],
+    ranges: &[RankRange],
+) -> Result<Option<Vec<u32>>, AllocError> {
+    match ranges_of(alloc, ranges)? {
+        Some(ranges) => comm_groups::range_incl(alloc, members, &ranges),
+        None => Ok(None),
+    }
+}
+
+fn without_ranges(
+    alloc: Global,
+    members: &[u32],
+    ranges: &[RankRange],
+) -> Result<Option<Vec<u32>>, AllocError> {
+    match ranges_of(alloc, ranges)? {
+        Some(ranges) => comm_groups::range_excl(alloc, members, &ranges),
+        None => Ok(None),
+    }
+}
+
+/// A group that is made of one other, by lists of ranks. Those by ranges are [`by_ranges`].
+fn by_ranks(
+    alloc: Global,
+    group: &GroupCall,
+    members: &[u32],
+) -> Result<Option<Vec<u32>>, AllocError>
+    ensures { IfOk result (λ found. option_map (λ v. v.items) found ≡ made_of_one group.now members.now) }
+{
+    match group {
+        GroupCall::Incl { ranks, .. } => match ranks {
+            Some(ranks) => comm_groups::incl(alloc, members, ranks),
+            None => Ok(None),
+        },
+        GroupCall::Excl { ranks, .. } => match ranks {
+            Some(ranks) => comm_groups::excl(alloc, members, ranks),
+            None => Ok(None),
+        },
+        GroupCall::OfComm { .. }
+        | GroupCall::RangeIncl { .. }
+        | GroupCall::RangeExcl { .. }
+        | GroupCall::Union { .. }
+        | GroupCall::Intersection { .. }
+        | GroupCall::Difference { .. }
+        | GroupCall::Unread => Ok(None),
+    }
+}
+
+/// A group that is made of one other, by ranges.
+fn by_ranges(
+    alloc: Global,
+    group: &GroupCall,
+    members: &[u32],
+) -> Result<Option<Vec<u32>>, AllocError> {
+    match group {
+        GroupCall::RangeIncl { ranges, .. } => match ranges {
+            Some(ranges) => with_ranges(alloc, members, ranges),
+            None => Ok(None),
+        },
+        GroupCall::RangeExcl { ranges, .. } => match ranges {
+            Some(ranges) => without_ranges(alloc, members, ranges),
+            None => Ok(None),
+        },
+        _ => Ok(None),
+    }
+}
+
+/// A group that is made of two others.
+fn of_two(
+    alloc: Global,
+    group: &GroupCall,
+    first: &[u32],
+    second: &[u32],
+) -> Result<Option<Vec<u32>>, AllocError>
+    ensures { IfOk result (λ found. option_map (λ v. v.items) found ≡ made_of_two group.now first.now second.now) }
+{
+    match group {
+        GroupCall::Union { .. } => Ok(Some(comm_groups::union(alloc, first, second)?)),
+        GroupCall::Intersection { .. } => {
+            Ok(Some(comm_groups::intersection(alloc, first, second)?))
+        },
+        GroupCall::Difference { .. } => Ok(Some(comm_groups::difference(alloc, first, second)?)),
+        GroupCall::OfComm { .. }
+        | GroupCall::Incl { .. }
+        | GroupCall::Excl { .. }
+        | GroupCall::RangeIncl { .. }
+        | GroupCall::RangeExcl { .. }
+        | GroupCall::Unread => Ok(None),
+    }
+}
+
+fn is_known(ranks: Option<&[u32]>, waits: bool) -> bool
+    ensures { result ≡ is_known (option_copied ranks.entry) waits }
+{
+    match ranks {
+        Some(_) => true,
+        None => waits,
+    }
+}
+
+/// A group of two others, of which this is known.
+fn from_two(
+    alloc: Global,
+    group: &GroupCall,
+    first: Option<&[u32]>,
+    second: Option<&[u32]>,
+    waits: bool,
+) -> Result<GroupValue, AllocError>
+    ensures { IfOk result (IsMadeOfTwo group.now (option_copied first.entry) (option_copied second.entry) waits) }
+{
+    match first {
+        None => Ok(unlisted(waits)),
+        Some(first) => match second {
+            None => Ok(unlisted(waits)),
+            Some(second) => Ok(listed(of_two(alloc, group, first, second)?)),
+        },
+    }
+}
+
+/// The group that a call makes of two others.
+fn value_of_two(
+    alloc: Global,
+    group: &GroupCall,
+    meant: &Meant,
+    values: &[GroupValue],
+    comms: &[Made],
+) -> Result<GroupValue, AllocError> {
+    let first = ranks_at(values, comms, meant.group);
+    let second = ranks_at(values, comms, meant.second);
+    let waits = is_known(first, waits_at(values, meant.group))
+        && is_known(second, waits_at(values, meant.second));
+    from_two(alloc, group, first, second, waits)
+}
+
+/// The group that a call makes of one other.
+fn value_of_one(
+    alloc: Global,
+    group: &GroupCall,
+    meant: &Meant,
+    values: &[GroupValue],
+    comms: &[Made],
+) -> Result<GroupValue, AllocError> {
+    match ranks_at(values, comms, meant.group) {
+        None => Ok(unlisted(waits_at(values, meant.group))),
+        Some(members) => match group {
+            GroupCall::Incl { .. } | GroupCall::Excl { .. } => {
+                Ok(listed(by_ranks(alloc, group, members)?))
+            },
+            _ => Ok(listed(by_ranges(alloc, group, members)?)),
+        },
+    }
+}
+
+/// The group that a call gives, by what is known of the calls before it.
+pub(crate) fn value_of(
+    alloc: Global,
+    group: &GroupCall,
+    meant: &Meant,
+    values: &[GroupValue],
+    standings: &[Standing],
+    comms: &[Made],
+) -> Result<GroupValue, AllocError> {
+    match group {
+        GroupCall::OfComm { .. } => Ok(group_of(standing_at(standings, meant.comm))),
+        GroupCall::Unread => Ok(GroupValue::Unknown),
+        GroupCall::Union { .. } | GroupCall::Intersection { .. } | GroupCall::Difference { .. } => {
+            value_of_two(alloc, group, meant, values, comms)
+        },
+        GroupCall::Incl { .. }
+        | GroupCall::Excl { .. }
+        | GroupCall::RangeIncl { .. }
+        | GroupCall::RangeExcl { .. } => value_of_one(alloc, group, meant, values, comms),
+    }
+}

@@ -1,0 +1,282 @@
+//! What the numbers in a rank's calls mean.
+
+ghost use Rattle.std.specs.Prelude.{◌≡◌, ◌++◌, ◌∷◌, [], ℕ, IfOk, OnOk, Some, false, length, nat_eq};
+ghost use Rattle.std.specs.Option.{option_and_then};
+ghost use Rattle.indexmap.specs.IndexMap.{get};
+ghost use Rattle.comm_makings.specs.Names.{always, from_next, gives_of, group_at, handles_after, handles_ended, is_taken, name_after, name_ended, number_given};
+
+use crate::calls::{Action, CommCall, Given, GroupCall, GroupName, Making, RankCalls};
+use crate::handle::{Gives, GroupAt, Handle, Meant};
+use indexmap::IndexMap;
+use std::alloc::{AllocError, Global};
+
+/// What a rank's numbers mean between two of its calls.
+#[derive(Drop)]
+pub(crate) struct Names {
+    world: u32,
+    own: Option<u32>,
+    /// All handles that were given so far.
+    handles: Vec<Handle>,
+    /// The handle that each number names now.
+    comms: IndexMap<u32, usize>,
+    /// The call that gave each group that a number names now.
+    groups: IndexMap<u32, usize>,
+}
+
+/// A number over all calls of a rank.
+pub(crate) fn always(number: u32) -> Handle
+    ensures { result ≡ always number }
+{
+    Handle {
+        number,
+        first: 0,
+        end: None,
+    }
+}
+
+/// The handle at a place ends before a call.
+fn end_at(handles: &mut Vec<Handle>, place: usize, call: u64)
+    ensures { handles.new.items ≡ handles_ended false call (Some place) handles.old.items }
+{
+    if place < handles.len() {
+        handles[place].end = Some(call);
+    }
+}
+
+impl Names {
+    /// Before the first call: the world, and MPI_COMM_SELF where the rank tells its number.
+    pub(crate) fn new(alloc: Global, world: u32, own: Option<u32>) -> Result<Names, AllocError> {
+        let mut handles = Vec::new(alloc);
+        let mut comms = IndexMap::new(alloc);
+        handles.push(always(world))?;
+        if let Some(number) = own {
+            handles.push(always(number))?;
+            comms.insert(number, 1)?;
+        }
+        comms.insert(world, 0)?;
+        Ok(Names {
+            world,
+            own,
+            handles,
+            comms,
+            groups: IndexMap::new(alloc),
+        })
+    }
+
+    /// Whether it is the number of the world or of MPI_COMM_SELF.
+    fn is_taken(&self, number: u32) -> bool
+        ensures { result ≡ is_taken self.now.world self.now.own number }
+    {
+        if number == self.world {
+            return true;
+        }
+        match self.own {
+            Some(own) => number == own,
+            None => false,
+        }
+    }
+
+    /// The handle that the number names now.
+    fn comm(&self, number: Option<u32>) -> Option<usize>
+        ensures { result ≡ option_and_then (get nat_eq self.now.comms) number }
+    {
+        self.comms.get(&number?).copied()
+    }
+
+    /// The group that the name means now.
+    fn group(&self, name: GroupName) -> GroupAt
+        ensures { result ≡ group_at (get nat_eq self.now.groups) name }
+    {
+        match name {
+            GroupName::Empty => GroupAt::Empty,
+            GroupName::Unknown => GroupAt::Unknown,
+            GroupName::Number(number) => match self.groups.get(&number) {
+                Some(place) => GroupAt::Given(*place),
+                None => GroupAt::Unknown,
+            },
+        }
+    }
+
+    /// From this call on the number names nothing.
+    fn end(&mut self, number: u32, call: u64)
+        ensures names { (m : ℕ) → get nat_eq self.new.comms m ≡ name_ended (is_taken self.old.world self.old.own number) number (get nat_eq self.old.comms) m }
+        ensures handles { self.new.handles.items ≡ handles_ended (is_taken self.old.world self.old.own number) call (get nat_eq self.old.comms number) self.old.handles.items }
+        ensures groups { self.new.groups ≡ self.old.groups }
+        ensures world { self.new.world ≡ self.old.world }
+        ensures own { self.new.own ≡ self.old.own }
+    {
+        if self.is_taken(number) {
+            return;
+        }
+        if let Some(place) = self.comms.swap_remove(&number) {
+            end_at(&mut self.handles, place, call);
+        }
+    }
+
+    /// A handle from the call behind this one on.
+    fn add(&mut self, number: u32, call: u64) -> Result<usize, AllocError>
+        ensures place { IfOk result (λ place. place ≡ length self.old.handles.items) }
+        ensures handles { OnOk result (self.new.handles.items ≡ self.old.handles.items ++ from_next call number ∷ []) }
+        ensures names { self.new.comms ≡ self.old.comms }
+        ensures groups { self.new.groups ≡ self.old.groups }
+        ensures world { self.new.world ≡ self.old.world }
+        ensures own { self.new.own ≡ self.old.own }
+    {
+        let place = self.handles.len();
+        self.handles.push(Handle {
+            number,
+            first: call.saturating_add(1),
+            end: None,
+        })?;
+        Ok(place)
+    }
+
+    /// What a call gives. The number may have named another communicator: in the call itself it still does.
+    fn give(&mut self, call: &CommCall, given: Given) -> Result<Gives, AllocError>
+        ensures gives { IfOk result (λ g. g ≡ gives_of (is_taken self.old.world self.old.own) call.now.returned given (length self.old.handles.items)) }
+        ensures names { OnOk result ((m : ℕ) → get nat_eq self.new.comms m ≡ name_after (is_taken self.old.world self.old.own) (number_given call.now.returned given) (length self.old.handles.items) (get nat_eq self.old.comms) m) }
+        ensures handles { OnOk result (self.new.handles.items ≡ handles_after (is_taken self.old.world self.old.own) (number_given call.now.returned given) call.now.call (get nat_eq self.old.comms) self.old.handles.items) }
+        ensures groups { self.new.groups ≡ self.old.groups }
+        ensures world { self.new.world ≡ self.old.world }
+        ensures own { self.new.own ≡ self.old.own }
+    {
+        if !call.returned {
+            return Ok(Gives::Nothing);
+        }
+        match given {
+            Given::Null => Ok(Gives::Null),
+            Given::Unknown => Ok(Gives::Unknown),
+            Given::Number(number) => {
+                if self.is_taken(number) {
+                    return Ok(Gives::Taken(self.add(number, call.call)?));
+                }
+                self.end(number, call.call.saturating_add(1));
+                let handle = self.add(number, call.call)?;
+                self.comms.insert(number, handle)?;
+                Ok(Gives::Handle(handle))
+            },
+        }
+    }
+
+    fn give_group(
+        &mut self,
+        call: &CommCall,
+        at: usize,
+        given: GroupName,
+    ) -> Result<(), AllocError> {
+        if !call.returned {
+            return Ok(());
+        }
+        if let GroupName::Number(number) = given {
+            self.groups.insert(number, at)?;
+        }
+        Ok(())
+    }
+
+    fn made(
+        &mut self,
+        call: &CommCall,
+        parent: Option<u32>,
+        making: &Making,
+        given: Given,
+    ) -> Result<Meant, AllocError> {
+        let comm = self.comm(parent);
+        let group = match making {
+            Making::Create { group } => self.group(*group),
+            Making::CreateGroup { group, .. } => self.group(*group),
+            _ => GroupAt::Unknown,
+        };
+        let gives = self.give(call, given)?;
+        Ok(Meant {
+            comm,
+            gives,
+            group,
+            second: GroupAt::Unknown,
+        })
+    }
+
+    fn grouped(
+        &mut self,
+        call: &CommCall,
+        at: usize,
+        group: &GroupCall,
+        given: GroupName,
+    ) -> Result<Meant, AllocError> {
+        let comm = match group {
+            GroupCall::OfComm { comm } => self.comm(*comm),
+            _ => None,
+        };
+        let (first, second) = operands_of(group);
+        let meant = Meant {
+            comm,
+            gives: Gives::Nothing,
+            group: self.group(first),
+            second: self.group(second),
+        };
+        self.give_group(call, at, given)?;
+        Ok(meant)
+    }
+
+    /// Reads a call at this place of the rank's list.
+    fn read(&mut self, at: usize, call: &CommCall) -> Result<Meant, AllocError> {
+        match &call.action {
+            Action::Make {
+                parent,
+                making,
+                given,
+            } => self.made(call, *parent, making, *given),
+            Action::CommRank { comm, .. } => Ok(naming(self.comm(*comm), Gives::Nothing)),
+            Action::Free { comm } => {
+                let meant = naming(self.comm(*comm), Gives::Nothing);
+                if let Some(number) = *comm {
+                    self.end(number, call.call);
+                }
+                Ok(meant)
+            },
+            Action::Group { group, given } => self.grouped(call, at, group, *given),
+            Action::GivesComm { given } => {
+                let gives = self.give(call, *given)?;
+                Ok(naming(None, gives))
+            },
+        }
+    }
+}
+
+/// A call that names no group.
+fn naming(comm: Option<usize>, gives: Gives) -> Meant {
+    Meant {
+        comm,
+        gives,
+        group: GroupAt::Unknown,
+        second: GroupAt::Unknown,
+    }
+}
+
+/// The groups that a call names.
+fn operands_of(group: &GroupCall) -> (GroupName, GroupName) {
+    match group {
+        GroupCall::OfComm { .. } => (GroupName::Unknown, GroupName::Unknown),
+        GroupCall::Incl { group, .. } => (*group, GroupName::Unknown),
+        GroupCall::Excl { group, .. } => (*group, GroupName::Unknown),
+        GroupCall::RangeIncl { group, .. } => (*group, GroupName::Unknown),
+        GroupCall::RangeExcl { group, .. } => (*group, GroupName::Unknown),
+        GroupCall::Union { first, second } => (*first, *second),
+        GroupCall::Intersection { first, second } => (*first, *second),
+        GroupCall::Difference { first, second } => (*first, *second),
+        GroupCall::Unread => (GroupName::Unknown, GroupName::Unknown),
+    }
+}
+
+/// The handles of a rank, the world's first, and what each of its calls means.
+pub(crate) fn names_of(
+    alloc: Global,
+    world: u32,
+    rank: &RankCalls,
+) -> Result<(Vec<Handle>, Vec<Meant>), AllocError> {
+    let mut names = Names::new(alloc, world, rank.own)?;
+    let mut meant = Vec::new(alloc);
+    for (at, call) in rank.calls.iter().enumerate() {
+        meant.push(names.read(at, call)?)?;
+    }
+    Ok((names.handles, meant))
+}

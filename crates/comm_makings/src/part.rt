@@ -1,0 +1,31 @@
+//! One of the communicators that a making makes.
+
+ghost use Rattle.std.specs.Prelude.{◌≡◌, option_map};
+
+use std::marker::Model;
+
+/// A communicator that is made.
+#[derive(Debug, Drop)]
+pub(crate) struct Part {
+    /// The members' places in the parent, in the order of their new ranks.
+    pub places: Vec<u32>,
+    /// The sizes of its dimensions, where it is a grid and they are known.
+    pub dims: Option<Vec<u32>>,
+}
+
+impl Model for Part {
+    ghost use Rattle.std.specs.Prelude.{option_map};
+    ghost use Rattle.comm_makings.specs.Selection.{Selection};
+
+    ghost Value = { Selection };
+
+    ghost view = { λ p. record { places = p.places.items; dims = option_map (λ v. v.items) p.dims } };
+}
+
+impl Part {
+    pub(crate) fn new(places: Vec<u32>, dims: Option<Vec<u32>>) -> Part
+        ensures { result ≡ record { places = places.items; dims = option_map (λ v. v.items) dims } }
+    {
+        Part { places, dims }
+    }
+}

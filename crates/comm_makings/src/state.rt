@@ -1,0 +1,68 @@
+//! What is derived so far.
+
+ghost use Rattle.std.specs.Prelude.{◌≡◌, IfOk, option_map};
+
+use crate::answer::Why;
+use std::alloc::{AllocError, Global};
+
+/// How a handle of a rank stands.
+#[derive(Clone, Copy, Debug, PartialEq, Eq)]
+pub(crate) enum Standing {
+    /// Nothing is known of it yet.
+    Open,
+    /// It names the derived communicator at this place.
+    Derived(usize),
+    Left(Why),
+}
+
+/// The place of a communicator in a layout: the world first, then MPI_COMM_SELF by rank, then by the making call of the
+/// smallest member whose text has it, and then by that member.
+#[derive(Clone, Copy, Debug, PartialEq, Eq, PartialOrd, Ord)]
+pub(crate) struct Order {
+    pub class: u8,
+    pub call: u64,
+    pub rank: u32,
+}
+
+/// A member of a communicator.
+#[derive(Clone, Copy, Debug, PartialEq, Eq)]
+pub(crate) struct Member {
+    /// Its rank in the run.
+    pub rank: u32,
+    /// The handle by which it names the communicator, where its text does.
+    pub handle: Option<usize>,
+}
+
+/// A derived communicator.
+#[derive(Debug, Drop)]
+pub(crate) struct Made {
+    /// In the order of their ranks in it.
+    pub members: Vec<Member>,
+    /// Their ranks in the run.
+    pub ranks: Vec<u32>,
+    /// The sizes of its dimensions, where it is a grid and they are known.
+    pub dims: Option<Vec<u32>>,
+    pub order: Order,
+}
+
+/// A copy of the list.
+pub(crate) fn copy_of(alloc: Global, list: &[u32]) -> Result<Vec<u32>, AllocError>
+    ensures { IfOk result (λ v. v.items ≡ list.now) }
+{
+    let mut copy = Vec::new(alloc);
+    copy.extend_from_slice(list)?;
+    Ok(copy)
+}
+
+/// A copy of the dimensions.
+pub(crate) fn dims_of(
+    alloc: Global,
+    dims: &Option<Vec<u32>>,
+) -> Result<Option<Vec<u32>>, AllocError>
+    ensures { IfOk result (λ d. option_map (λ v. v.items) d ≡ option_map (λ v. v.items) dims.now) }
+{
+    match dims {
+        Some(sizes) => Ok(Some(copy_of(alloc, sizes)?)),
+        None => Ok(None),
+    }
+}
