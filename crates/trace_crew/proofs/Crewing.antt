@@ -1,5 +1,7 @@
 -- What the owner took of a worker is what the worker posted.
-use Rattle.std.proofs.Common.{◌≡◌, Result, Ok, Err, IfOk, Bool, true, false, cond, List, [], ◌∷◌, map, refl, sym, ap, ◌∙◌, subst}
+use Rattle.std.proofs.Common.{◌≡◌, ◌≤◌, ◌+◌, ℕ, Option, Some, None, Bool, true, false, cond, List, [], ◌∷◌, map, refl, sym, ap, ◌∙◌, subst, arith}
+use Rattle.std.proofs.lemmas.List.{append-nil}
+use Rattle.crossbeam_channel.specs.Claims.{view}
 use Rattle.std.specs.List.{cons_option, filter, filter_map}
 use Rattle.mpi_model.specs.Layouts.{Parts}
 use Rattle.trace_know.specs.Segment.{PlacedEvents}
@@ -9,15 +11,23 @@ use Rattle.trace_crew.specs.declared.inbox.item.Post.{Post}
 use Rattle.trace_crew.specs.declared.inbox.item.Post.TheVariants.{Segment, End}
 use Rattle.trace_crew.specs.declared.inbox.item.Worker.{Worker}
 use Rattle.trace_crew.specs.declared.inbox.item.Worker.TheVariants.{First, Second}
-use Rattle.trace_crew.specs.Views.{is_from, of, posts_of}
+use Rattle.trace_crew.specs.declared.inbox.rule.Standing.TheVariants.{Joined}
+use Rattle.trace_crew.specs.declared.inbox.rule.View.{View}
+use Rattle.trace_crew.specs.declared.inbox.rule.View.TheVariants.{Owner}
+use Rattle.trace_crew.specs.Views.{after_join, desk, is_from, of, posts_of}
+use Rattle.trace_crew.specs.Rule.{Arrived}
 use Rattle.trace_crew.specs.declared.piece.Piece.{Piece}
 use Rattle.trace_crew.specs.declared.piece.FaultyPiece.{FaultyPiece}
 use Rattle.trace_crew.specs.declared.threads.CrewOut.{CrewOut}
 use Rattle.trace_crew.specs.declared.owner.Refusal.{Refusal}
 use Rattle.trace_crew.specs.Pieces.{Gave}
-use Rattle.trace_crew.specs.Taking.{HasAll, IsKept, Taken, sent, sent_by, source}
+use Rattle.trace_crew.specs.Taking.{HasAll, IsKept, Taken, counted, ends_in, is_end, sent, sent_by, source}
 use Rattle.trace_crew.proofs.Sorting.{sorted_kept}
-use Rattle.trace_crew.specs.Crewed.{HasGathered, IsCrewOut, segments_by}
+use Rattle.trace_crew.specs.Crewed.{HasGathered, HasRun, IsCrewOut, segments_by}
+use Rattle.trace_crew.specs.Work.{ends_at, ends_posted, is_closed}
+use Rattle.trace_crew.specs.declared.worker.Worked.{Worked}
+use Rattle.trace_crew.specs.declared.worker.Stop.{Stop}
+use Rattle.trace_crew.specs.declared.worker.Stop.TheVariants.{Memory, Closed}
 
 -- the segments of one worker among segments with their workers
 abbrev by : Worker → List (Worker × PlacedEvents) → List PlacedEvents
@@ -65,10 +75,53 @@ posted_all w (s ∷ ss) = ap (λ l. s ∷ l) (posted_all w ss)
 all_of : (w : Worker) (taken : List Taken) (items : List Item) (segments : List PlacedEvents) → map source taken ≡ filter_map sent items → of w items ≡ posts_of w segments → segments_by w taken ≡ segments
 all_of w taken items segments are all = by_sources w taken ∙ ap (by w) are ∙ by_items w items ∙ ap posted all ∙ posted_all w segments
 
--- What holds of an answer, where something follows from it.
-pub given : {T E : Type 0} {P Q : T → Type 0} (r : Result T E) → ((x : T) → P x → Q x) → IfOk r P → IfOk r Q
-given (Ok x) f h = f x h
-given (Err e) f h = tt
+-- an end of one worker is none of the other's
+one_parted : (w : Worker) (item : Item) (items : List Item)
+    → counted (is_end item) + (ends_in (of First items) + ends_in (of Second items)) ≡ ends_in (cond (is_from First w) (item ∷ of First items) (of First items)) + ends_in (cond (is_from Second w) (item ∷ of Second items) (of Second items))
+one_parted First item items = omega arith
+one_parted Second item items = omega arith
+
+-- The ends among some items are those of both workers.
+ends_parted : (items : List Item) → ends_in items ≡ ends_in (of First items) + ends_in (of Second items)
+ends_parted [] = refl
+ends_parted (item ∷ items) = ap (λ n. counted (is_end item) + n) (ends_parted items) ∙ one_parted item.from item items
+
+-- Where all that two workers posted has arrived, so have the ends that they posted.
+ends_arrived : (v : View) (taken first second : List Item) → v ≡ Owner (desk taken (Joined first) (Joined second)) → Arrived v [] → ends_in taken ≡ ends_in first + ends_in second
+ends_arrived v taken first second is h =
+    let a = subst (λ (u : View). Arrived u []) is h in
+    let one : of First taken ≡ first = ap (of First) (sym (append-nil taken)) ∙ a.0 in
+    let other : of Second taken ≡ second = ap (of Second) (sym (append-nil taken)) ∙ a.1 in
+    ends_parted taken ∙ (λ i. ends_in (one i) + ends_in (other i))
+
+-- Those that were there before are no more than both posted.
+pub ends_left : (v : View) (before taken first second : List Item) → v ≡ Owner (desk taken (Joined first) (Joined second)) → ends_in before ≤ ends_in taken → Arrived v [] → ends_in before ≤ ends_in first + ends_in second
+ends_left v before taken first second is le h = let e = ends_arrived v taken first second is h in omega (arith, le, e)
+
+at_most_one : (stop : Option Stop) → ends_at stop ≤ 1
+at_most_one None = omega arith
+at_most_one (Some Memory) = omega arith
+at_most_one (Some Closed) = omega arith
+
+open_beside : (stop : Option Stop) (n : ℕ) → n ≤ 1 → 2 ≤ ends_at stop + n → is_closed stop ≡ false
+open_beside None n few h = refl
+open_beside (Some Memory) n few h = refl
+open_beside (Some Closed) n few h = absurd (omega (arith, few, h))
+
+-- Where the owner took two ends, and no more than both workers posted, neither worker found the inbox closed.
+pub neither_closed : {layout : Parts} {first second : List Piece} {owner both : View} {node : Held} {refused : List Refusal} {one other : Worked} → (h : HasRun layout first second owner node refused one other)
+    → both ≡ after_join (after_join owner (view one.seat)) (view other.seat)
+    → ((taken ones others : List Item) → both ≡ Owner (desk taken (Joined ones) (Joined others)) → ends_in taken ≤ ends_in ones + ends_in others)
+    → (is_closed one.stop ≡ false) × (is_closed other.stop ≡ false)
+neither_closed {one = one} {other = other} h joined arrived =
+    let p = h.one_worked.poster in
+    let q = h.other_worked.poster in
+    let le = arrived h.taken p.0 q.0 (joined ∙ (λ i. after_join (after_join (h.owner_is i) (p.1 i)) (q.1 i))) in
+    let first_ends : ends_in p.0 ≡ ends_at one.stop = sym (ap ends_posted p.1) ∙ h.one_worked.ends in
+    let second_ends : ends_in q.0 ≡ ends_at other.stop = sym (ap ends_posted q.1) ∙ h.other_worked.ends in
+    let two = h.two in
+    let all : 2 ≤ ends_at one.stop + ends_at other.stop = omega (arith, two, le, first_ends, second_ends) in
+    (open_beside one.stop (ends_at other.stop) (at_most_one other.stop) all, open_beside other.stop (ends_at one.stop) (at_most_one one.stop) (omega (arith, all)))
 
 -- A node that is kept has all still.
 pub settled : (layout : Parts) (ones others : List Item) (node later : Held) (refused still : List Refusal) → HasAll layout ones others node refused → IsKept node later → still ≡ refused

@@ -1,17 +1,22 @@
 -- A worker reads one text more.
-use Rattle.std.proofs.Common.{◌≡◌, ℕ, ◌+◌, ◌<◌, suc, subst, take, get_or, List, [], ◌∷◌, ◌++◌, map, length, refl, sym, ap, ◌∙◌, arith, append_assoc}
+use Rattle.std.proofs.Common.{◌≡◌, ℕ, ◌+◌, ◌<◌, Option, Some, None, inl, inr, suc, subst, take, get_or, List, [], ◌∷◌, ◌++◌, map, length, refl, sym, ap, ◌∙◌, arith, append_assoc}
 use Rattle.std.specs.List.{flat_map}
 use Rattle.std.proofs.lemmas.Grind.{flat_map-append}
 use Rattle.std.proofs.lemmas.List.{append-nil, length-take, map-append, take_more}
+use Rattle.trace_know.specs.Segment.{PlacedEvents}
 use Rattle.trace_crew.specs.declared.inbox.item.Item.{Item}
 use Rattle.trace_crew.specs.declared.inbox.item.Worker.{Worker}
 use Rattle.trace_crew.specs.declared.inbox.rule.View.{View}
-use Rattle.trace_crew.specs.declared.inbox.rule.View.TheVariants.{Poster}
-use Rattle.trace_crew.specs.Views.{end_item, segment_item}
+use Rattle.trace_crew.specs.declared.inbox.rule.View.TheVariants.{Owner, Poster, Spent}
+use Rattle.trace_crew.specs.Views.{IsPoster, after_post, end_item, segment_item}
+use Rattle.trace_crew.specs.Taking.{ends_in}
 use Rattle.trace_crew.specs.declared.piece.Piece.{Piece}
 use Rattle.trace_crew.specs.declared.piece.FaultyPiece.{FaultyPiece}
 use Rattle.trace_crew.specs.Pieces.{AreOutcomes, IsOutcome, Outcome, faults_from, faults_in, segments_in}
-use Rattle.trace_crew.specs.Work.{HasEnded, HasRead, ReadsOne, after_posts}
+use Rattle.trace_crew.specs.declared.worker.Stop.{Stop}
+use Rattle.trace_crew.specs.declared.worker.Stop.TheVariants.{Closed, Memory}
+use Rattle.trace_crew.specs.Work.{Ends, HasEnded, HasRead, HasWorked, ReadsOne, after_posts, ends_at, ends_posted}
+use Rattle.trace_crew.proofs.Sorting.{ends_more}
 
 -- one outcome more
 are_snoc : (pieces : List Piece) (outcomes : List Outcome) (piece : Piece) (o : Outcome) → AreOutcomes pieces outcomes → IsOutcome piece o → AreOutcomes (pieces ++ piece ∷ []) (outcomes ++ o ∷ [])
@@ -75,5 +80,53 @@ pub none_more : (w : Worker) (v : View) (posted : List Item) → v ≡ Poster w 
 none_more w v posted e = e ∙ ap (Poster w) (sym (append-nil posted)) ∙ sym (ap (λ u. after_posts u []) e)
 
 -- All texts were read, and the end was posted.
-pub all_read : (w : Worker) (pieces : List Piece) (old new : View) (faults : List FaultyPiece) → HasRead w pieces old faults → new ≡ after_posts old (end_item w ∷ []) → HasEnded w pieces new faults
+all_read : (w : Worker) (pieces : List Piece) (old new : View) (faults : List FaultyPiece) → HasRead w pieces old faults → new ≡ after_posts old (end_item w ∷ []) → HasEnded w pieces new faults
 all_read w pieces old new faults h e = record { segments = h.segments; posted = e ∙ ap (λ v. after_posts v (end_item w ∷ [])) h.posted; gave = h.gave }
+
+-- A segment that is posted is no end.
+pub no_end_more : (w : Worker) (segment : PlacedEvents) (v : View) → ends_posted (after_post v (segment_item w segment)) ≡ ends_posted v
+no_end_more w segment (Poster u posted) = let h = ends_more posted (segment_item w segment) in omega (arith, h)
+no_end_more w segment (Owner d) = refl
+no_end_more w segment Spent = refl
+
+-- one end more
+one_end : (w u : Worker) (posted : List Item) (old new : View) → old ≡ Poster w posted → ends_posted old ≡ 0 → new ≡ after_posts old (end_item u ∷ []) → ends_posted new ≡ 1
+one_end w u posted old new is none e =
+    let before : ends_in posted ≡ 0 = sym (ap ends_posted is) ∙ none in
+    let more = ends_more posted (end_item u) in
+    let after : ends_in (posted ++ end_item u ∷ []) ≡ 1 = omega (arith, before, more) in
+    ap ends_posted (e ∙ ap (λ v. after_posts v (end_item u ∷ [])) is) ∙ after
+
+-- what a worker leaves that has posted its end
+left_ended : (w u : Worker) (pieces : List Piece) (old new : View) (faults : List FaultyPiece) (stop : Option Stop) → ends_at stop ≡ 1 → IsPoster w old → ends_posted old ≡ 0
+    → new ≡ after_posts old (end_item u ∷ []) → (stop ≡ None → HasEnded w pieces new faults) → HasWorked w pieces new faults stop
+left_ended w u pieces old new faults stop one p none e whole = record {
+  poster = (p.0 ++ end_item u ∷ [], e ∙ ap (λ v. after_posts v (end_item u ∷ [])) p.1);
+  ends = one_end w u p.0 old new p.1 none e ∙ sym one;
+  whole = whole;
+}
+
+-- A worker whose owner had left leaves what it posted.
+pub closed_work : (w : Worker) (pieces : List Piece) (seat : View) (faults : List FaultyPiece) → IsPoster w seat → ends_posted seat ≡ 0 → HasWorked w pieces seat faults (Some Closed)
+closed_work w pieces seat faults p none = record { poster = p; ends = none; whole = λ is. absurd (cc) }
+
+-- the same, where it found that by its last post
+left_closed : (w : Worker) (pieces : List Piece) (old new : View) (faults : List FaultyPiece) (result : Option Stop) → IsPoster w old → ends_posted old ≡ 0 → result ≡ Some Closed → new ≡ old
+    → HasWorked w pieces new faults result
+left_closed w pieces old new faults result p none is same =
+    subst (λ (q : View × Option Stop). HasWorked w pieces q.0 faults q.1) (λ i. (sym same i, sym is i)) (closed_work w pieces old faults p none)
+
+-- A worker that read all its texts leaves them.
+pub ended_work : (v w : Worker) (pieces : List Piece) (old new : View) (faults more : List FaultyPiece) (result : Option Stop) → v ≡ w → IsPoster w old → ends_posted old ≡ 0 → more ≡ faults
+    → HasRead w pieces old faults → Ends v None old result new → HasWorked w pieces new more result
+ended_work v w pieces old new faults more result same p none kept read (inl h) =
+    let e : new ≡ after_posts old (end_item w ∷ []) = h.1 ∙ ap (λ u. after_posts old (end_item u ∷ [])) same in
+    subst (λ (q : List FaultyPiece × Option Stop). HasWorked w pieces new q.0 q.1) (λ i. (sym kept i, sym h.0 i)) (left_ended w w pieces old new faults None refl p none e (λ is. all_read w pieces old new faults read e))
+ended_work v w pieces old new faults more result same p none kept read (inr h) = left_closed w pieces old new more result p none h.0 h.1
+
+-- A worker that had no memory to note a fault leaves an end all the same.
+pub stopped_work : (v w : Worker) (pieces : List Piece) (old new : View) (more : List FaultyPiece) (result : Option Stop) → IsPoster w old → ends_posted old ≡ 0 → Ends v (Some Memory) old result new
+    → HasWorked w pieces new more result
+stopped_work v w pieces old new more result p none (inl h) =
+    subst (λ (s : Option Stop). HasWorked w pieces new more s) (sym h.0) (left_ended w v pieces old new more (Some Memory) refl p none h.1 (λ is. absurd (cc)))
+stopped_work v w pieces old new more result p none (inr h) = left_closed w pieces old new more result p none h.0 h.1

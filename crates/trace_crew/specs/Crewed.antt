@@ -1,5 +1,5 @@
 -- What a crew leaves.
-use Rattle.std.specs.Prelude.{◌≡◌, None, List, ◌++◌, map, All}
+use Rattle.std.specs.Prelude.{◌≡◌, List, ◌++◌, map, All}
 use Rattle.std.specs.List.{filter, flat_map}
 use Rattle.crossbeam_channel.specs.Claims.{view}
 use Rattle.mpi_model.specs.Layouts.{Parts}
@@ -19,8 +19,8 @@ use Rattle.trace_crew.specs.declared.piece.Piece.{Piece}
 use Rattle.trace_crew.specs.declared.piece.FaultyPiece.{FaultyPiece}
 use Rattle.trace_crew.specs.declared.owner.Refusal.{Refusal}
 use Rattle.trace_crew.specs.Pieces.{Gave}
-use Rattle.trace_crew.specs.Taking.{HasAll, IsFair, Sorted, Taken, joined_in, refused_in}
-use Rattle.trace_crew.specs.Work.{HasEnded}
+use Rattle.trace_crew.specs.Taking.{HasAll, IsFair, Sorted, Taken, ends_in, joined_in, refused_in}
+use Rattle.trace_crew.specs.Work.{HasWorked}
 
 -- the segments of one worker among those that were taken, in their order
 abbrev pub segments_by : Worker → List Taken → List PlacedEvents
@@ -56,10 +56,11 @@ pub record HasGathered (layout : Parts) (first second : List Piece) (node : Held
   pub faults_are : faults ≡ first_faults ++ second_faults
   pub all : HasAll layout (posts_of First ones) (posts_of Second others) node refused
 
--- The workers have ended, and the owner has taken some of what they posted.
+-- The workers have left, and the owner has taken some of what they posted, with two ends among it.
 pub record HasRun (layout : Parts) (first second : List Piece) (owner : View) (node : Held) (refused : List Refusal) (one other : Worked) : Type 0 where
   pub taken : List Item
   pub owner_is : owner ≡ Owner (desk taken Running Running)
   pub sorted : Sorted layout taken node refused
-  pub first_ended : one.stop ≡ None → HasEnded First first (view one.seat) one.faults.items
-  pub second_ended : other.stop ≡ None → HasEnded Second second (view other.seat) other.faults.items
+  pub two : ends_in taken ≡ 2
+  pub one_worked : HasWorked First first (view one.seat) one.faults.items one.stop
+  pub other_worked : HasWorked Second second (view other.seat) other.faults.items other.stop

@@ -1,11 +1,12 @@
 -- What a worker has read and posted.
-use Rattle.std.specs.Prelude.{◌≡◌, ℕ, Bool, true, false, Option, Some, None, List, [], ◌∷◌, ◌++◌, map}
+use Rattle.std.specs.Prelude.{◌≡◌, ℕ, Bool, true, false, Option, Some, None, List, [], ◌∷◌, ◌++◌, map, ◌⊎◌}
 use Rattle.trace_know.specs.Segment.{PlacedEvents}
 use Rattle.trace_crew.specs.declared.inbox.item.Item.{Item}
 use Rattle.trace_crew.specs.declared.inbox.item.Worker.{Worker}
 use Rattle.trace_crew.specs.declared.inbox.rule.View.{View}
 use Rattle.trace_crew.specs.declared.inbox.rule.View.TheVariants.{Owner, Poster, Spent}
-use Rattle.trace_crew.specs.Views.{end_item, posts_of, segment_item}
+use Rattle.trace_crew.specs.Views.{IsPoster, end_item, posts_of, segment_item}
+use Rattle.trace_crew.specs.Taking.{ends_in}
 use Rattle.trace_crew.specs.declared.piece.Piece.{Piece}
 use Rattle.trace_crew.specs.declared.piece.FaultyPiece.{FaultyPiece}
 use Rattle.trace_crew.specs.declared.worker.Stop.{Stop}
@@ -37,12 +38,31 @@ pub record HasEnded (w : Worker) (pieces : List Piece) (seat : View) (faults : L
   pub posted : seat ≡ Poster w (posts_of w segments)
   pub gave : Gave w pieces segments faults
 
--- the last that was posted is that the worker posts no more
-abbrev pub EndsPosts : Worker → View → Type 0
-EndsPosts w seat = (posted : List Item) × (seat ≡ Poster w (posted ++ end_item w ∷ []))
-
 -- the owner has left
 abbrev pub is_closed : Option Stop → Bool
 is_closed None = false
 is_closed (Some Memory) = false
 is_closed (Some Closed) = true
+
+-- how many of the items that a worker has posted say that it posts no more
+abbrev pub ends_posted : View → ℕ
+ends_posted (Poster w posted) = ends_in posted
+ends_posted (Owner d) = 0
+ends_posted Spent = 0
+
+-- how many of them a worker has posted that stopped so: none where the owner had left, and else one
+abbrev pub ends_at : Option Stop → ℕ
+ends_at None = 1
+ends_at (Some Memory) = 1
+ends_at (Some Closed) = 0
+
+-- A worker that stopped for this has posted that it posts no more; or it found that the owner had left.
+abbrev pub Ends : Worker → Option Stop → View → Option Stop → View → Type 0
+Ends w stop old result new = ((result ≡ stop) × (new ≡ after_posts old (end_item w ∷ []))) ⊎ ((result ≡ Some Closed) × (new ≡ old))
+
+-- What a worker leaves: at its seat it said once that it posts no more, unless the owner had left; and where nothing
+-- stopped it, all its texts were read.
+pub record HasWorked (w : Worker) (pieces : List Piece) (seat : View) (faults : List FaultyPiece) (stop : Option Stop) : Type 0 where
+  pub poster : IsPoster w seat
+  pub ends : ends_posted seat ≡ ends_at stop
+  pub whole : stop ≡ None → HasEnded w pieces seat faults

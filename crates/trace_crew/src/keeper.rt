@@ -1,6 +1,6 @@
 //! How the owner takes.
 
-ghost use Rattle.std.specs.Prelude.{◌≡◌, ◌≤◌, ◌∷◌, ◌++◌, [], List, false, IfOk, IfSome, OnErr, OnOk};
+ghost use Rattle.std.specs.Prelude.{◌≡◌, ◌≤◌, ◌+◌, ◌∷◌, ◌++◌, [], List, false, IfNone, IfOk, IfSome, OnErr, OnOk};
 ghost use Rattle.crossbeam_channel.specs.Claims.{view, IsSeatAt};
 ghost use Rattle.crossbeam_channel.specs.Ends.{receives_on};
 ghost use Rattle.mpi_model.specs.Layouts.{Parts};
@@ -14,7 +14,6 @@ ghost use Rattle.trace_crew.specs.Taking.{HasAll, IsKept, Sorted, counted, ends_
 
 use crate::gate::Gate;
 use crate::inbox::{InboxReceiver, Item, Seat, Worker, take, take_now};
-use crate::threads::CrewFault;
 use std::alloc::AllocError;
 use std::sync::Wait;
 
@@ -74,6 +73,7 @@ fn next_item<R: Wait, H: Keeper>(
     requires owner { IsOwner (view seat.old) }
     ensures seat { IsSeatAt (receives_on inbox.now) seat.new }
     ensures some { IfSome result (λ item. view seat.new ≡ after_take (view seat.old) item) }
+    ensures none { IfNone result (view seat.new ≡ view seat.old) }
     ensures kept { IsKept (H.held hall.old) (H.held hall.new) }
     ensures listed { H.listed hall.new ≡ H.listed hall.old }
 {
@@ -84,14 +84,15 @@ fn next_item<R: Wait, H: Keeper>(
     take(rt, inbox, seat)
 }
 
-/// Takes until both workers have ended.
+/// Takes until both workers have ended. The crew holds an end of the inbox at which items are posted, so no
+/// take of the owner finds it closed.
 pub fn own<R: Wait, G: Gate, H: Keeper>(
     rt: &R,
     inbox: &InboxReceiver,
     seat: &mut Seat,
     hall: &mut H,
     gate: &G,
-) -> Result<(), CrewFault>
+) -> Result<(), AllocError>
     requires seat { IsSeatAt (receives_on inbox.now) seat.old }
     requires new { view seat.old ≡ Owner (desk [] Running Running) }
     ensures seat { IsSeatAt (receives_on inbox.now) seat.new }
@@ -103,7 +104,7 @@ pub fn own<R: Wait, G: Gate, H: Keeper>(
             return Ok(());
         }
         let Some(item) = next_item(rt, inbox, seat, hall) else {
-            return Err(CrewFault::Worker);
+            continue;
         };
         let taken = hall.take_in(item)?;
         let count = announce(gate, taken);
@@ -122,14 +123,15 @@ pub fn drain<R: Wait, G: Gate, H: Keeper>(
 ) -> Result<(), AllocError>
     requires seat { IsSeatAt (receives_on inbox.now) seat.old }
     requires joined { (taken : List ItemValue) × (first : List ItemValue) × (second : List ItemValue) × (view seat.old ≡ Owner (desk taken (Joined first) (Joined second))) }
-    ensures { OnOk result ((layout : Parts) (taken : List ItemValue) (first : List ItemValue) (second : List ItemValue) → (view seat.old ≡ Owner (desk taken (Joined first) (Joined second))) → Sorted layout taken (H.held hall.old) (H.listed hall.old) → HasAll layout first second (H.held hall.new) (H.listed hall.new)) }
+    ensures all { OnOk result ((layout : Parts) (taken : List ItemValue) (first : List ItemValue) (second : List ItemValue) → (view seat.old ≡ Owner (desk taken (Joined first) (Joined second))) → Sorted layout taken (H.held hall.old) (H.listed hall.old) → HasAll layout first second (H.held hall.new) (H.listed hall.new)) }
+    ensures ends { OnOk result ((taken : List ItemValue) (first : List ItemValue) (second : List ItemValue) → (view seat.old ≡ Owner (desk taken (Joined first) (Joined second))) → ends_in taken ≤ ends_in first + ends_in second) }
 {
     for _ in rt.forever() {
         let Some(item) = take_now(rt, inbox, seat) else {
-            break;
+            return Ok(());
         };
         let taken = hall.take_in(item)?;
         let _ = announce(gate, taken);
     }
-    Ok(())
+    unreachable!()
 }

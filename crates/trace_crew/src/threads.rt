@@ -1,6 +1,6 @@
 //! A crew: two workers beside the owner of a node.
 
-ghost use Rattle.std.specs.Prelude.{◌≡◌, ◌↔◌, ◌⊎◌, ◌++◌, [], List, None, Some, IsTrue, IfErr, IfOk, OnOk, IsErrOf};
+ghost use Rattle.std.specs.Prelude.{◌≡◌, ◌++◌, [], List, None, Some, false, IfErr, IfOk, OnErr, OnOk};
 ghost use Rattle.crossbeam_channel.specs.Claims.{view, IsSeatAt};
 ghost use Rattle.crossbeam_channel.specs.Ends.{receives_on, sends_on};
 ghost use Rattle.mpi_model.specs.Layouts.{Parts};
@@ -11,7 +11,7 @@ ghost use Rattle.trace_crew.specs.declared.inbox.rule.Standing.TheVariants.{Runn
 ghost use Rattle.trace_crew.specs.declared.inbox.rule.View.TheVariants.{Owner, Poster};
 ghost use Rattle.trace_crew.specs.Crewed.{HasGathered, HasRun, IsCrewOut};
 ghost use Rattle.trace_crew.specs.Taking.{Sorted};
-ghost use Rattle.trace_crew.specs.Work.{HasEnded, is_closed};
+ghost use Rattle.trace_crew.specs.Work.{HasWorked, is_closed};
 ghost use Rattle.trace_crew.specs.declared.threads.CrewFault.TheVariants.{Memory};
 ghost use Rattle.trace_crew.specs.declared.piece.Piece.{Piece as PieceValue};
 
@@ -45,7 +45,7 @@ pub struct CrewOut<'a> {
 /// Why a crew leaves nothing.
 #[derive(Clone, Copy, Debug, PartialEq, Eq, Error)]
 pub enum CrewFault {
-    /// A thread couldn't be started, or an end of the inbox was refused.
+    /// A worker's thread couldn't be started.
     #[error("Y1 Worker")]
     Worker,
     /// No memory was left for the inbox, the node, or the list of the faults or of the refused
@@ -130,7 +130,7 @@ fn gathered<R: Threads + Wait + Sync, G: Gate, H: Keeper>(
     let second_seat = make_second(&sender, &mut seat);
     let seats = (seat, first_seat, second_seat);
     let ran = run(rt, alloc, &sender, receiver, seats, pieces, hall, gate)?;
-    finish(rt, &sender, ran, gate)
+    Ok(finish(rt, &sender, ran, gate)?)
 }
 
 /// Runs both workers beside the owner, and gives back what they hold.
@@ -208,7 +208,7 @@ fn start<'s, E, R: Wait + Sync, G: Gate>(
         move || -> Worked
             requires { IsSeatAt (sends_on sender.now) seat × (view seat ≡ Poster worker []) }
             ensures seat { IsSeatAt (sends_on sender.entry.now) result.seat }
-            ensures whole { result.stop ≡ None → HasEnded worker pieces.entry.now (view result.seat) result.faults.items }
+            ensures worked { HasWorked worker pieces.entry.now (view result.seat) result.faults.items result.stop }
         { work(rt, alloc, sender, worker, seat, pieces, gate) },
     ) {
         Ok(handle) => Ok(handle),
@@ -216,32 +216,42 @@ fn start<'s, E, R: Wait + Sync, G: Gate>(
     }
 }
 
-/// Whether both workers have ended; else first whether one found the inbox closed.
-fn all_ended(first: Option<Stop>, second: Option<Stop>) -> Result<(), CrewFault>
-    ensures ok { OnOk result ((first ≡ None) × (second ≡ None)) }
-    ensures worker { IsErrOf result CrewFault.Worker ↔ (IsTrue (is_closed first) ⊎ IsTrue (is_closed second)) }
-    ensures memory { IsErrOf result CrewFault.Memory → (first ≡ Some Stop.Memory) ⊎ (second ≡ Some Stop.Memory) }
+/// That a worker has read all its texts, or that it had no memory to note a fault.
+fn all_read(stop: Option<Stop>) -> Result<(), AllocError>
+    requires { is_closed stop ≡ false }
+    ensures ok { OnOk result (stop ≡ None) }
+    ensures err { OnErr result (stop ≡ Some Stop.Memory) }
 {
-    match (first, second) {
-        (None, None) => Ok(()),
-        (Some(Stop::Closed), _) | (_, Some(Stop::Closed)) => Err(CrewFault::Worker),
-        _ => Err(CrewFault::Memory),
+    match stop {
+        None => Ok(()),
+        Some(Stop::Memory) => Err(AllocError),
+        // the owner leaves after it
+        Some(Stop::Closed) => unreachable!(),
     }
 }
 
-/// Joins the seats of both workers, and takes what is left. It is refused for a worker only where that found
-/// the inbox closed, and else for want of memory.
+/// The same of both workers.
+fn both_read(first: Option<Stop>, second: Option<Stop>) -> Result<(), AllocError>
+    requires first { is_closed first ≡ false }
+    requires second { is_closed second ≡ false }
+    ensures { OnOk result ((first ≡ None) × (second ≡ None)) }
+{
+    all_read(first)?;
+    all_read(second)
+}
+
+/// Joins the seats of both workers, and takes what is left. By then each of the two ends that the owner
+/// took is seen to be of a worker of its own: so neither found the inbox closed.
 fn finish<R: Wait, G: Gate, H: Keeper>(
     rt: &R,
     sender: &InboxSender,
     ran: Ran<H>,
     gate: &G,
-) -> Result<Left<H>, CrewFault>
+) -> Result<Left<H>, AllocError>
     requires channel { receives_on ran.receiver ≡ sends_on sender.now }
     requires seats { IsSeatAt (sends_on sender.now) ran.seat × IsSeatAt (sends_on sender.now) ran.first.seat × IsSeatAt (sends_on sender.now) ran.second.seat }
     requires run { (layout : Parts) × (first : List PieceValue) × (second : List PieceValue) × HasRun layout first second (view ran.seat) (H.held ran.hall) (H.listed ran.hall) ran.first ran.second }
-    ensures ok { IfOk result (λ left. (layout : Parts) (first second : List PieceValue) → HasRun layout first second (view ran.seat) (H.held ran.hall) (H.listed ran.hall) ran.first ran.second → HasGathered layout first second (H.held left.hall) (H.listed left.hall) left.faults.items) }
-    ensures worker { IsErrOf result CrewFault.Worker → IsTrue (is_closed ran.first.stop) ⊎ IsTrue (is_closed ran.second.stop) }
+    ensures { IfOk result (λ left. (layout : Parts) (first second : List PieceValue) → HasRun layout first second (view ran.seat) (H.held ran.hall) (H.listed ran.hall) ran.first ran.second → HasGathered layout first second (H.held left.hall) (H.listed left.hall) left.faults.items) }
 {
     let Ran {
         receiver,
@@ -250,9 +260,9 @@ fn finish<R: Wait, G: Gate, H: Keeper>(
         first,
         second,
     } = ran;
-    all_ended(first.stop, second.stop)?;
     join_both(sender, &mut seat, first.seat, second.seat);
     drain(rt, &receiver, &mut seat, &mut hall, gate)?;
+    both_read(first.stop, second.stop)?;
     // (a node that stays stale for want of memory is what the crew leaves then)
     let _ = hall.settle(rt);
     let faults = both(first.faults, second.faults)?;

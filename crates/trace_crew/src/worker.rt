@@ -1,11 +1,11 @@
 //! A worker: it reads its texts in order, and posts the segments of each.
 
-ghost use Rattle.std.specs.Prelude.{◌≡◌, false, [], ◌∷◌, None, OnOk, map};
+ghost use Rattle.std.specs.Prelude.{◌≡◌, [], OnOk, map};
 ghost use Rattle.crossbeam_channel.specs.Claims.{view, IsSeatAt};
 ghost use Rattle.crossbeam_channel.specs.Ends.{sends_on};
-ghost use Rattle.trace_crew.specs.Views.{IsPoster, end_item, segment_item};
+ghost use Rattle.trace_crew.specs.Views.{IsPoster, segment_item};
 ghost use Rattle.trace_crew.specs.declared.inbox.rule.View.TheVariants.{Poster};
-ghost use Rattle.trace_crew.specs.Work.{EndsPosts, HasEnded, HasRead, ReadsOne, after_posts, is_closed};
+ghost use Rattle.trace_crew.specs.Work.{Ends, HasRead, HasWorked, ReadsOne, after_posts, ends_posted};
 
 use crate::gate::Gate;
 use crate::inbox::{Closed, InboxSender, Item, Post, Seat, Worker, post};
@@ -51,6 +51,7 @@ impl Hand {
         ensures poster { IsPoster self.old.worker (view self.new.seat) }
         ensures worker { self.new.worker ≡ self.old.worker }
         ensures faults { self.new.faults.items ≡ self.old.faults.items }
+        ensures ends { ends_posted (view self.new.seat) ≡ ends_posted (view self.old.seat) }
         ensures ok { OnOk result (view self.new.seat ≡ after_posts (view self.old.seat) (map (segment_item self.old.worker) segments.items)) }
     {
         for segment in segments {
@@ -80,6 +81,7 @@ impl Hand {
         ensures seat { IsSeatAt (sends_on inbox.now) self.new.seat }
         ensures poster { IsPoster self.old.worker (view self.new.seat) }
         ensures worker { self.new.worker ≡ self.old.worker }
+        ensures ends { ends_posted (view self.new.seat) ≡ ends_posted (view self.old.seat) }
         ensures ok { OnOk result (ReadsOne self.old.worker place piece.now (view self.old.seat) self.old.faults.items (view self.new.seat) self.new.faults.items) }
     {
         let at = PieceAt {
@@ -115,6 +117,7 @@ impl Hand {
         ensures seat { IsSeatAt (sends_on inbox.now) self.new.seat }
         ensures poster { IsPoster self.old.worker (view self.new.seat) }
         ensures worker { self.new.worker ≡ self.old.worker }
+        ensures ends { ends_posted (view self.new.seat) ≡ 0 }
         ensures ok { OnOk result (HasRead self.old.worker pieces.now (view self.new.seat) self.new.faults.items) }
     {
         for place in 0..pieces.len() {
@@ -123,19 +126,46 @@ impl Hand {
         Ok(())
     }
 
-    /// Posts that the worker ends.
-    fn end<R: Wait>(&mut self, rt: &R, inbox: &InboxSender) -> Result<(), Closed>
+    /// Posts that the worker ends, which stopped for this before: why it has stopped then.
+    fn end<R: Wait>(&mut self, rt: &R, inbox: &InboxSender, stop: Option<Stop>) -> Option<Stop>
         requires seat { IsSeatAt (sends_on inbox.now) self.old.seat }
         requires poster { IsPoster self.old.worker (view self.old.seat) }
         ensures seat { IsSeatAt (sends_on inbox.now) self.new.seat }
         ensures faults { self.new.faults.items ≡ self.old.faults.items }
-        ensures ok { OnOk result (view self.new.seat ≡ after_posts (view self.old.seat) (end_item self.old.worker ∷ [])) }
+        ensures ends { Ends self.old.worker stop (view self.old.seat) result (view self.new.seat) }
     {
         let item = Item {
             from: self.worker,
             post: Post::End,
         };
-        post(rt, inbox, &mut self.seat, item)
+        match post(rt, inbox, &mut self.seat, item) {
+            Ok(()) => stop,
+            Err(Closed) => Some(Stop::Closed),
+        }
+    }
+
+    /// Reads all texts, and then posts that the worker ends: whatever happened before, or the owner would
+    /// wait for ever. Only where the owner has left it posts no more.
+    #[tactic(auto, using(crate::proofs::Reading::closed_work))]
+    fn read_and_end<R: Wait, G: Gate>(
+        &mut self,
+        rt: &R,
+        alloc: Global,
+        inbox: &InboxSender,
+        pieces: &[Piece],
+        gate: &G,
+    ) -> Option<Stop>
+        requires seat { IsSeatAt (sends_on inbox.now) self.old.seat }
+        requires new { view self.old.seat ≡ Poster self.old.worker [] }
+        requires none { self.old.faults.items ≡ [] }
+        ensures seat { IsSeatAt (sends_on inbox.now) self.new.seat }
+        ensures worked { HasWorked self.old.worker pieces.now (view self.new.seat) self.new.faults.items result }
+    {
+        match self.read_all(rt, alloc, inbox, pieces, gate) {
+            Ok(()) => self.end(rt, inbox, None),
+            Err(Stop::Memory) => self.end(rt, inbox, Some(Stop::Memory)),
+            Err(Stop::Closed) => Some(Stop::Closed),
+        }
     }
 }
 
@@ -149,9 +179,7 @@ pub struct Worked {
     pub stop: Option<Stop>,
 }
 
-/// Reads a worker's texts, and then posts that it ends: whatever happened before, or the owner would
-/// wait for ever. Only where the owner has left it posts no more.
-#[tactic(auto, using(crate::proofs::Reading::all_read))]
+/// Reads a worker's texts, and then posts that it ends.
 pub fn work<R: Wait, G: Gate>(
     rt: &R,
     alloc: Global,
@@ -164,8 +192,7 @@ pub fn work<R: Wait, G: Gate>(
     requires seat { IsSeatAt (sends_on inbox.now) seat }
     requires new { view seat ≡ Poster worker [] }
     ensures seat { IsSeatAt (sends_on inbox.now) result.seat }
-    ensures ended { is_closed result.stop ≡ false → EndsPosts worker (view result.seat) }
-    ensures whole { result.stop ≡ None → HasEnded worker pieces.now (view result.seat) result.faults.items }
+    ensures worked { HasWorked worker pieces.now (view result.seat) result.faults.items result.stop }
 {
     let mut hand = Hand {
         worker,
@@ -173,17 +200,7 @@ pub fn work<R: Wait, G: Gate>(
         posted: 0,
         faults: Vec::new(alloc),
     };
-    let stop = match hand.read_all(rt, alloc, inbox, pieces, gate) {
-        Ok(()) => None,
-        Err(stop) => Some(stop),
-    };
-    let stop = match stop {
-        Some(Stop::Closed) => stop,
-        _ => match hand.end(rt, inbox) {
-            Ok(()) => stop,
-            Err(Closed) => Some(Stop::Closed),
-        },
-    };
+    let stop = hand.read_and_end(rt, alloc, inbox, pieces, gate);
     Worked {
         seat: hand.seat,
         faults: hand.faults,
@@ -200,10 +217,9 @@ pub struct Working<'a> {
 }
 
 impl<'a> Promise<Worked> for Working<'a> {
-    ghost use Rattle.std.specs.Prelude.{◌≡◌, None};
     ghost use Rattle.crossbeam_channel.specs.Claims.{view, IsSeatAt};
     ghost use Rattle.crossbeam_channel.specs.Ends.{sends_on};
-    ghost use Rattle.trace_crew.specs.Work.{HasEnded};
+    ghost use Rattle.trace_crew.specs.Work.{HasWorked};
 
-    ghost kept_by = { λ p r. IsSeatAt (sends_on p.inbox.value) r.seat × (r.stop ≡ None → HasEnded p.worker p.pieces.now (view r.seat) r.faults.items) };
+    ghost kept_by = { λ p r. IsSeatAt (sends_on p.inbox.value) r.seat × HasWorked p.worker p.pieces.now (view r.seat) r.faults.items r.stop };
 }

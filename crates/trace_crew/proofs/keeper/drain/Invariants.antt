@@ -1,4 +1,4 @@
-use Rattle.std.proofs.Common.{◌≡◌, List}
+use Rattle.std.proofs.Common.{◌≡◌, ◌≤◌, List}
 use Rattle.crossbeam_channel.specs.Claims.{view, IsSeatAt}
 use Rattle.crossbeam_channel.specs.Ends.{receives_on}
 use Rattle.mpi_model.specs.Layouts.{Parts}
@@ -6,12 +6,13 @@ use Rattle.trace_crew.specs.declared.inbox.item.Item.{Item}
 use Rattle.trace_crew.specs.declared.inbox.rule.Standing.TheVariants.{Joined}
 use Rattle.trace_crew.specs.declared.inbox.rule.View.TheVariants.{Owner}
 use Rattle.trace_crew.specs.Views.{desk}
-use Rattle.trace_crew.specs.Taking.{Sorted}
+use Rattle.trace_crew.specs.Taking.{Sorted, ends_in}
 use Rattle.trace_crew.proofs.keeper.drain.Given as goal
 
 abbrev pub invariant-loop : goal.invariant-loop
 invariant-loop g l = record {
   seat : IsSeatAt (receives_on l.inbox) l.seat;
   taken : (before first second : List Item) → view l.fn.seat ≡ Owner (desk before (Joined first) (Joined second)) → (taken : List Item) × (view l.seat ≡ Owner (desk taken (Joined first) (Joined second)))
-      × ((layout : Parts) → Sorted layout before (g.H.Keeper.held l.fn.hall) (g.H.Keeper.listed l.fn.hall) → Sorted layout taken (g.H.Keeper.held l.hall) (g.H.Keeper.listed l.hall));
+      × ((layout : Parts) → Sorted layout before (g.H.Keeper.held l.fn.hall) (g.H.Keeper.listed l.fn.hall) → Sorted layout taken (g.H.Keeper.held l.hall) (g.H.Keeper.listed l.hall))
+      × (ends_in before ≤ ends_in taken);
 }

@@ -4,13 +4,19 @@ use Rattle.trace_crew.specs.declared.inbox.item.Worker.TheVariants.{First, Secon
 use Rattle.trace_crew.specs.declared.inbox.rule.Standing.TheVariants.{Joined}
 use Rattle.trace_crew.specs.declared.inbox.rule.View.TheVariants.{Owner}
 use Rattle.trace_crew.specs.Views.{after_join, desk, posts_of}
-use Rattle.trace_crew.proofs.Crewing.{settled}
+use Rattle.trace_crew.proofs.Crewing.{neither_closed, settled}
 use Rattle.trace_crew.proofs.threads.finish.Goals as goal
 
-pub returns-clause-ok : goal.returns-clause-ok
-returns-clause-ok g c layout first second h =
-    let one = h.first_ended c.in_ok-all_ended.ensures.ok.0 in
-    let other = h.second_ended c.in_ok-all_ended.ensures.ok.1 in
+pub both_read-requires : goal.both_read-requires
+both_read-requires g c =
+    let h = c.requires.run.3 in
+    let open_both = neither_closed h c.join_both.ensures.joined c.in_ok-drain.ensures.ends in
+    record { first = open_both.0; second = open_both.1 }
+
+pub returns : goal.returns
+returns g c layout first second h =
+    let one = h.one_worked.whole c.in_ok-both_read.ensures.0 in
+    let other = h.other_worked.whole c.in_ok-both_read.ensures.1 in
     let owner : view c.join_both.new.owner ≡ Owner (desk h.taken (Joined (posts_of First one.segments)) (Joined (posts_of Second other.segments))) =
     c.join_both.ensures.joined ∙ (λ i. after_join (after_join (h.owner_is i) (one.posted i)) (other.posted i)) in
     record {
@@ -21,5 +27,5 @@ returns-clause-ok g c layout first second h =
       first_gave = one.gave;
       second_gave = other.gave;
       faults_are = c.in_ok-faults.ensures;
-      all = settled layout _ _ _ _ _ _ (c.in_ok-drain.ensures layout h.taken _ _ owner h.sorted) c.settle.ensures.kept c.settle.ensures.listed;
+      all = settled layout _ _ _ _ _ _ (c.in_ok-drain.ensures.all layout h.taken _ _ owner h.sorted) c.settle.ensures.kept c.settle.ensures.listed;
     }
