@@ -10,7 +10,7 @@ use Rattle.command_line.specs.declared.Asked.{Asked}
 use Rattle.command_line.specs.declared.CommandFault.{CommandFault}
 use Rattle.command_line.specs.declared.CommandFault.TheVariants.{Memory, Shown, Unread}
 use Rattle.command_line.specs.declared.Verb.{Verb}
-use Rattle.command_line.specs.declared.Verb.TheVariants.{Explain, Graph, Report, ReportJson, Replay, Cluster, Check}
+use Rattle.command_line.specs.declared.Verb.TheVariants.{Explain, Graph, Report, ReportJson, Replay, Cluster, Check, Pack}
 
 -- a file that has to be named
 abbrev pub file_rule : Text → Rule
@@ -38,7 +38,7 @@ abbrev pub bare : App
 bare = on_top (λ s. record s { has_version = true; subcommand_required = true }) (new_app (codes "mpimatch"))
 
 abbrev pub program : App
-program = with_verb (with_verb (with_verb (with_report (with_verb (with_verb bare (codes "explain")) (codes "graph"))) (codes "replay")) (codes "cluster")) (codes "check")
+program = with_verb (with_verb (with_verb (with_verb (with_report (with_verb (with_verb bare (codes "explain")) (codes "graph"))) (codes "replay")) (codes "cluster")) (codes "check")) (codes "pack")
 
 abbrev pub verb_named : Text → Option Verb
 verb_named name = if bytes_eq name (codes "explain") then Some Explain
@@ -46,7 +46,8 @@ verb_named name = if bytes_eq name (codes "explain") then Some Explain
     else if bytes_eq name (codes "report") then Some Report
     else if bytes_eq name (codes "replay") then Some Replay
     else if bytes_eq name (codes "cluster") then Some Cluster
-    else if bytes_eq name (codes "check") then Some Check else None
+    else if bytes_eq name (codes "check") then Some Check
+    else if bytes_eq name (codes "pack") then Some Pack else None
 
 -- what the words ask for
 pub record Request : Type 0 where

@@ -37,6 +37,8 @@ pub enum Verb {
     Cluster,
     /// Make what a report tells once more straight from the rules, and print whether both agree.
     Check,
+    /// Write what the pieces tell together, as bytes that are a piece of another run.
+    Pack,
 }
 
 /// A verb with the names of its two files, as the words spell them.
@@ -193,10 +195,25 @@ unequal or invalid is a fault of the program, its proof or the machine.
 Each piece costs a pass over all calls of its rank, so a rank in many pieces takes long.
 "#;
 
+// What the help of `pack` says below its arguments.
+const PACK_HELP: &str = r#"Example: mpimatch pack layout.json part.json >part.know
+
+It reads the pieces as report does and writes to standard output what they tell together, in bytes.
+A manifest takes such a file as a piece, beside texts and others, but a cluster's, and replay can't post it:
+  {"pieces":[{"packed":"part.know"},{"rank":1,"first":0,"file":"r1.txt"}]}
+So many machines can each pack a part of a trace, the files can be packed again, and one report reads
+the last ones. Their order doesn't matter, nor whether a part was packed twice or comes in two files.
+Two files one after another are one such file. A file that is refused gives a line such as
+  W5 Short at frame 3 of part.know
+                               it ends within frame 3, counted from 0: what writes it isn't done
+  N1 Rank at frame 0 of part.know
+                               it tells of a rank that the layout doesn't have
+"#;
+
 // What the help says below the verbs.
 const MORE_HELP: &str =
     r#"To see what is wrong: explain. A picture: graph. All facts: report. A check of the answer: check.
-Nodes that exchange what they know: replay, cluster.
+Nodes that exchange what they know: replay, cluster. A trace in parts, on many machines: pack.
 
 Example: mpimatch explain layout.json manifest.json
 
@@ -209,8 +226,9 @@ of each member name it, where that isn't its id: docs/formats.md says how.
 MANIFEST has the text files of the trace, each with its rank and the number of its first call:
   {"pieces":[{"rank":0,"first":0,"file":"r0.txt"},{"rank":1,"first":0,"file":"r1.txt"}]}
 and for replay also "nodes" and a "schedule", for cluster a "node" and a "worker" of each piece:
-mpimatch help replay and mpimatch help cluster say what they may hold.
-Calls of a rank are numbered from 0. Files are named from the folder in which mpimatch runs.
+mpimatch help replay and mpimatch help cluster say what they may hold. A file that pack has written
+is a piece {"packed":"FILE"}. Calls of a rank are numbered from 0. Files are named from the folder
+in which mpimatch runs.
 
 It ends with 0 and what the verb prints, with 2 for a mistake in the words, or with 1 and a line on
 standard error where an input is refused:
@@ -218,6 +236,7 @@ standard error where an input is refused:
   M2 Json in PATH   it is no JSON text in UTF-8
   M3 Shape in PATH  a field is missing, of another kind, or out of its range
   M4 Piece in PATH  the schedule posts a piece that is not listed
+  M5 Packed in PATH the schedule posts a packed piece, or the manifest of a cluster has one
 Other lines name a rule of layouts, or a file and its line: docs/formats.md has them all.
 "#;
 
@@ -254,12 +273,19 @@ fn program_command<'a>(alloc: Global) -> Result<Command<'a>, AllocError>
         "Reads the pieces of two nodes, which exchange what they know, and prints the report of each",
         CLUSTER_HELP,
     )?;
-    with_verb(
+    let command = with_verb(
         command,
         alloc,
         "check",
         "Makes pairs and stuck ranks once more straight from the rules, and prints whether they agree",
         CHECK_HELP,
+    )?;
+    with_verb(
+        command,
+        alloc,
+        "pack",
+        "Writes what the pieces tell together as bytes, which another run takes as a piece",
+        PACK_HELP,
     )
 }
 
@@ -336,7 +362,7 @@ fn verb_command<'a>(
     let manifest = file_argument(
         alloc,
         "MANIFEST",
-        "The text files of the trace, by rank (JSON)",
+        "The pieces of the trace: text files by rank, or packed ones (JSON)",
     );
     Command::new(alloc, name)
         .about(about)
@@ -367,6 +393,8 @@ fn verb_of(name: &str) -> Option<Verb>
         Some(Verb::Cluster)
     } else if name == "check" {
         Some(Verb::Check)
+    } else if name == "pack" {
+        Some(Verb::Pack)
     } else {
         None
     }

@@ -9,4 +9,4 @@ use Rattle.command_runs.specs.Inputs.{TellsLayout}
 pub checked : (file : List ℕ → Option (List ℕ)) (layout manifest : List ℕ) (l : Parts) (c : Held) (text : List ℕ) → TellsLayout (file layout) l
     → IsCheckerOf file l manifest c → checker.IsCheckOf c.layout c.know text → IsCheckOf file layout manifest text
 checked file layout manifest l c text told of is =
-    (l, of.0, of.1, told, of.2, of.3, of.4, subst (λ (h : Held). checker.IsCheckOf h.layout h.know text) of.5 is)
+    (l, of.0, told, of.1, subst (λ (h : Held). checker.IsCheckOf h.layout h.know text) of.2 is)

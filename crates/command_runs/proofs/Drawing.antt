@@ -9,4 +9,4 @@ use Rattle.command_runs.specs.Nodes.{IsNodeOf}
 pub drawn_of_run : (file : List ℕ → Option (List ℕ)) (layout manifest : List ℕ) (l : Parts) (node : Held) (text : List ℕ) → TellsLayout (file layout) l
     → IsNodeOf file l manifest node → IsDrawn node.layout node.know text → IsGraphOf file layout manifest text
 drawn_of_run file layout manifest l node text told of is =
-    (l, of.0, of.1, told, of.2, of.3, of.4, subst (λ (n : Held). IsDrawn n.layout n.know text) of.5 is)
+    (l, of.0, told, of.1, subst (λ (n : Held). IsDrawn n.layout n.know text) of.2 is)

@@ -6,6 +6,10 @@ pub mod Nodes
 pub mod Notes
 pub mod Worlds
 pub mod Within
+pub mod Unpacking
+pub mod AllTold
+pub mod Packing
+pub mod Listed
 pub mod Refusals
 pub mod Reports
 pub mod Sharing

@@ -8,7 +8,7 @@ use Rattle.trace_node.specs.Node.{Held}
 use Rattle.trace_world.specs.declared.step.Step.{Step}
 use Rattle.input_files.specs.Manifests.{ManifestParts, PieceParts, RefusesManifest}
 use Rattle.command_runs.specs.Inputs.{IsFaultOf, RefusesInput, TellsLayout, TellsManifest}
-use Rattle.command_runs.specs.Refusals.{RefusesFirst, RefusesNode, RefusesPieces, RefusesRun}
+use Rattle.command_runs.specs.Refusals.{RefusesFirst, RefusesNamed, RefusesNode, RefusesPieces, RefusesRun}
 use Rattle.command_runs.specs.Replays.{AreNodesOf, CanReplay, RefusesNodes, RefusesReplay, RefusesSteps, nodes_after}
 use Rattle.command_runs.specs.Schedules.{TellSegments, world_steps}
 use Rattle.command_runs.specs.declared.fault.RunFault.{RunFault}
@@ -22,6 +22,7 @@ fault_is_not_writing name inputs.Memory h = memory_is_not_writing h
 fault_is_not_writing name inputs.Json h = h
 fault_is_not_writing name inputs.Shape h = h
 fault_is_not_writing name inputs.Piece h = h
+fault_is_not_writing name inputs.Packed h = h
 fault_is_not_writing name (inputs.Layout broken) h = h
 
 input_is_not_writing : (refuses : List ℕ → InputFault → Type 0) (name : List ℕ) (file : Option (List ℕ)) → RefusesInput refuses name file Write → ⊥
@@ -34,17 +35,22 @@ pieces_are_not_writing file ranks pieces (inl e) = memory_is_not_writing e
 pieces_are_not_writing file ranks pieces (inr (inl h)) = h.4
 pieces_are_not_writing file ranks pieces (inr (inr h)) = h
 
+named_is_not_writing : (file : List ℕ → Option (List ℕ)) (ranks : ℕ) (m : ManifestParts) → RefusesNamed file ranks m Write → ⊥
+named_is_not_writing file ranks m (inl e) = memory_is_not_writing e
+named_is_not_writing file ranks m (inr (inl h)) = h.5
+named_is_not_writing file ranks m (inr (inr h)) = pieces_are_not_writing file ranks m.pieces h.1
+
 node_is_not_writing : (file : List ℕ → Option (List ℕ)) (l : Parts) (manifest : List ℕ) → RefusesNode file l manifest Write → ⊥
 node_is_not_writing file l manifest (inl e) = memory_is_not_writing e
 node_is_not_writing file l manifest (inr (inl h)) = input_is_not_writing RefusesManifest manifest (file manifest) h
-node_is_not_writing file l manifest (inr (inr h)) = pieces_are_not_writing file l.ranks h.0.pieces h.2
+node_is_not_writing file l manifest (inr (inr h)) = named_is_not_writing file l.ranks h.0 h.2
 
 run_is_not_writing : (file : List ℕ → Option (List ℕ)) (layout manifest : List ℕ) → RefusesRun file layout manifest Write → ⊥
 run_is_not_writing file layout manifest (inl e) = memory_is_not_writing e
 run_is_not_writing file layout manifest (inr (inl h)) = input_is_not_writing _ layout (file layout) h
 run_is_not_writing file layout manifest (inr (inr h)) = node_is_not_writing file h.0 manifest h.2
 
-one_fault : (fault : RunFault) (answer : Result Bool RunFault) → answer ≡ Err fault → answer ≡ Err Write → fault ≡ Write
+pub one_fault : (fault : RunFault) (answer : Result Bool RunFault) → answer ≡ Err fault → answer ≡ Err Write → fault ≡ Write
 one_fault fault answer is writes = cc (is, writes)
 
 -- A run that is refused for this has not failed in writing.

@@ -12,10 +12,10 @@ use Rattle.command_runs.specs.Runs.{IsJsonOf, IsReportOf}
 pub reported : (file : List ℕ → Option (List ℕ)) (layout manifest : List ℕ) (l : Parts) (node : Held) (answer : Answered) → TellsLayout (file layout) l
     → IsNodeOf file l manifest node → IsAnswer node.layout node.know answer → IsReportOf file layout manifest (report_text answer)
 reported file layout manifest l node answer told of is =
-    (l, of.0, of.1, answer, told, of.2, of.3, of.4, subst (λ (n : Held). IsAnswer n.layout n.know answer) of.5 is, refl)
+    (l, of.0, answer, told, of.1, subst (λ (n : Held). IsAnswer n.layout n.know answer) of.2 is, refl)
 
 -- The same of its JSON.
 pub reported_json : (file : List ℕ → Option (List ℕ)) (layout manifest : List ℕ) (l : Parts) (node : Held) (answer : Answered) → TellsLayout (file layout) l
     → IsNodeOf file l manifest node → IsAnswer node.layout node.know answer → IsJsonOf file layout manifest (json_text answer)
 reported_json file layout manifest l node answer told of is =
-    (l, of.0, of.1, answer, told, of.2, of.3, of.4, subst (λ (n : Held). IsAnswer n.layout n.know answer) of.5 is, refl)
+    (l, of.0, answer, told, of.1, subst (λ (n : Held). IsAnswer n.layout n.know answer) of.2 is, refl)

@@ -25,7 +25,7 @@ use Rattle.command_runs.specs.Pieces.{PassesPlaces, RefusesPiece}
 use Rattle.command_runs.specs.Refusals.{RefusesFirst}
 use Rattle.command_runs.specs.Texts.{AreShares, IsTextOf}
 use Rattle.command_runs.specs.declared.fault.RunFault.{RunFault}
-use Rattle.command_runs.specs.declared.fault.RunFault.TheVariants.{Memory, File, Json, Shape, Layout, Text, Missing, Wrong, Place, Rank, Outside, NodeCount, Step, Worker, Net, Frame, Write}
+use Rattle.command_runs.specs.declared.fault.RunFault.TheVariants.{Memory, File, Json, Shape, PackedFrame, Layout, Text, Missing, Wrong, Place, Rank, Outside, NodeCount, Step, Worker, Net, Frame, Write}
 use Rattle.command_runs.specs.declared.fault.RunFault.TheVariants as faults
 use Rattle.command_runs.specs.declared.texts.AllTexts.{AllTexts}
 use Rattle.command_runs.proofs.GivenFacts.{events_told}
@@ -47,6 +47,8 @@ text_refused file piece text (causes.Segment fault) (File path) is why names = a
 text_refused file piece text (causes.Segment fault) (Json path) is why names = absurd names
 text_refused file piece text (causes.Segment fault) (Shape path) is why names = absurd names
 text_refused file piece text (causes.Segment fault) (faults.Piece path) is why names = absurd names
+text_refused file piece text (causes.Segment fault) (faults.Packed path) is why names = absurd names
+text_refused file piece text (causes.Segment fault) (PackedFrame cause path frame) is why names = absurd names
 text_refused file piece text (causes.Segment fault) (Layout broken path) is why names = absurd names
 text_refused file piece text (causes.Segment fault) (Text cause path line) is why names = absurd names
 text_refused file piece text (causes.Segment fault) (Missing parameter path line) is why names = absurd names
@@ -126,6 +128,8 @@ crews_refused file ranks pieces name causes.Memory (File path) names h = absurd 
 crews_refused file ranks pieces name fault (Json path) names h = absurd h.4
 crews_refused file ranks pieces name fault (Shape path) names h = absurd h.4
 crews_refused file ranks pieces name fault (faults.Piece path) names h = absurd h.4
+crews_refused file ranks pieces name fault (faults.Packed path) names h = absurd h.4
+crews_refused file ranks pieces name fault (PackedFrame cause path frame) names h = absurd h.4
 crews_refused file ranks pieces name fault (Layout broken path) names h = absurd h.4
 crews_refused file ranks pieces name fault (Rank path) names h = absurd h.4
 crews_refused file ranks pieces name fault Outside names h = absurd h.4

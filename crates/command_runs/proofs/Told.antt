@@ -15,7 +15,7 @@ use Rattle.command_runs.specs.Files.{StandsAtFirst}
 use Rattle.command_runs.specs.Pieces.{IsWalkFault, PassesPlaces, RefusesPiece, StopsText, TellsFacts, TellsSegments}
 use Rattle.trace_know.specs.Trace.{facts_of_all}
 use Rattle.command_runs.specs.declared.fault.RunFault.{RunFault}
-use Rattle.command_runs.specs.declared.fault.RunFault.TheVariants.{Memory, File, Json, Shape, Piece, Layout, Text, Missing, Wrong, Place, Rank, Outside, NodeCount, Step, Worker, Net, Frame, Write}
+use Rattle.command_runs.specs.declared.fault.RunFault.TheVariants.{Memory, File, Json, Shape, Piece, Packed, PackedFrame, Layout, Text, Missing, Wrong, Place, Rank, Outside, NodeCount, Step, Worker, Net, Frame, Write}
 
 events_told : (file left : Option (List ℕ)) (events : List Event) → StandsAtFirst file left → TellsEvents left events → TellsEvents file events
 events_told None left events told h = tt
@@ -63,6 +63,8 @@ walk_told name first file left old new fault (File path) told h is = absurd is
 walk_told name first file left old new fault (Json path) told h is = absurd is
 walk_told name first file left old new fault (Shape path) told h is = absurd is
 walk_told name first file left old new fault (Piece path) told h is = absurd is
+walk_told name first file left old new fault (Packed path) told h is = absurd is
+walk_told name first file left old new fault (PackedFrame cause path frame) told h is = absurd is
 walk_told name first file left old new fault (Layout broken path) told h is = absurd is
 walk_told name first file left old new fault (Place path) told h is = absurd is
 walk_told name first file left old new fault (Rank path) told h is = absurd is

@@ -43,6 +43,7 @@ no_file name inputs.Memory path is = cc
 no_file name inputs.Json path is = is
 no_file name inputs.Shape path is = is
 no_file name inputs.Piece path is = is
+no_file name inputs.Packed path is = is
 no_file name (inputs.Layout broken) path is = is
 
 -- an input that can't be read is named
@@ -84,6 +85,7 @@ no_text name inputs.Memory path line is = cc
 no_text name inputs.Json path line is = is
 no_text name inputs.Shape path line is = is
 no_text name inputs.Piece path line is = is
+no_text name inputs.Packed path line is = is
 no_text name (inputs.Layout broken) path line is = is
 
 input_of_text : (refuses : List ℕ → InputFault → Type 0) (name : List ℕ) (file : Option (List ℕ)) (path : String Global) (line : ℕ) → RefusesInput refuses name file (Text Read path line) → ⊥

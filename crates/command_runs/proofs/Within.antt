@@ -39,7 +39,7 @@ fact_at facts rank place None is some = absurd (cc some)
 fact_at facts rank place (Some (One event)) is some = (record { rank = rank; place = place; event = event }, is.0, refl)
 fact_at facts rank place (Some Contradiction) is some = (record { rank = rank; place = place; event = is.0 }, is.3, refl)
 
-either_known : (a b : Option Known) → IsSome (join_cell a b) → IsSome a ⊎ IsSome b
+pub either_known : (a b : Option Known) → IsSome (join_cell a b) → IsSome a ⊎ IsSome b
 either_known None b some = inr some
 either_known (Some a) b some = inl refl
 

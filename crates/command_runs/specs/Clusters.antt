@@ -46,9 +46,9 @@ abbrev pub IsKnownTo : (List ℕ → Option (List ℕ)) → Held → Held → Pi
 IsKnownTo file one other piece = (facts : Trace) × TellsFacts (file piece.file) piece.rank piece.first facts
     × IsBelow (view_of facts) (known_by one other (side_of piece.node))
 
--- Two nodes of the layout, each of which knows its own pieces of the manifest.
+-- Two nodes of the layout, each of which knows its own pieces of the manifest, which lists texts alone.
 abbrev pub AreClusterNodes : (List ℕ → Option (List ℕ)) → Parts → List ℕ → Held → Held → Type 0
-AreClusterNodes file l manifest one other = (m : ManifestParts) × TellsManifest (file manifest) m
+AreClusterNodes file l manifest one other = (m : ManifestParts) × TellsManifest (file manifest) m × (m.packed ≡ [])
     × (one.layout ≡ l) × (other.layout ≡ l) × All (IsKnownTo file one other) m.pieces
 
 -- ---- what is printed
@@ -109,11 +109,16 @@ RefusesCrews file ranks pieces faults.Net = AreSound file ranks pieces
 RefusesCrews file ranks pieces (faults.Frame fault) = AreSound file ranks pieces
 RefusesCrews file ranks pieces _ = ⊥
 
--- Why there are no such nodes: the manifest is refused; or a file of a piece can't be read; or, where all were, the crews are refused.
+-- The manifest lists a packed file, and the fault names the manifest.
+abbrev pub NamesPacked : List ℕ → ManifestParts → RunFault → Type 0
+NamesPacked manifest m (faults.Packed path) = (m.packed ≢ []) × IsNamed path manifest
+NamesPacked manifest m _ = ⊥
+
+-- Why there are no such nodes: the manifest is refused; or it lists a packed file; or a file of a piece can't be read; or, where all were, the crews are refused.
 abbrev pub RefusesClusterNodes : (List ℕ → Option (List ℕ)) → Parts → List ℕ → RunFault → Type 0
 RefusesClusterNodes file l manifest fault = (fault ≡ faults.Memory)
     ⊎ (RefusesInput RefusesManifest manifest (file manifest) fault
-    ⊎ ((m : ManifestParts) × TellsManifest (file manifest) m × (RefusesBytes file m.pieces fault ⊎ RefusesCrews file l.ranks (by_node m.pieces) fault)))
+    ⊎ ((m : ManifestParts) × TellsManifest (file manifest) m × (NamesPacked manifest m fault ⊎ (RefusesBytes file m.pieces fault ⊎ RefusesCrews file l.ranks (by_node m.pieces) fault))))
 
 -- Why there is no cluster: the layout is refused, or what comes after it.
 abbrev pub RefusesCluster : (List ℕ → Option (List ℕ)) → List ℕ → List ℕ → RunFault → Type 0

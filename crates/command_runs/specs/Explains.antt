@@ -1,10 +1,8 @@
 -- What `explain` prints.
 use Rattle.std.specs.Prelude.{◌≡◌, ◌-◌, ◌++◌, false, ℕ, List, Option, length, take}
-use Rattle.std.specs.List.{All}
 use Rattle.mpi_model.specs.Layouts.{Parts}
 use Rattle.mpi_model.specs.declared.layout.Sends.{Sends}
 use Rattle.mpi_model.specs.declared.layout.Sends.TheVariants.{Wait, Buffer}
-use Rattle.trace_know.specs.Trace.{Trace, view_of}
 use Rattle.trace_know.specs.View.{View}
 use Rattle.trace_node.specs.Answer.{Answered, IsAnswer}
 use Rattle.trace_node.specs.Node.{Held, held}
@@ -12,8 +10,8 @@ use Rattle.trace_explain.specs.Explained.{IsExplained}
 use Rattle.text_notes.specs.Words.{NoteParts, PlaceParts, most_shown, notes_text, places_text}
 use Rattle.input_files.specs.Manifests.{ManifestParts}
 use Rattle.command_runs.specs.Inputs.{TellsLayout, TellsManifest}
+use Rattle.command_runs.specs.Known.{TellAll}
 use Rattle.command_runs.specs.Notes.{AreNotesOf, ArePlacesOf}
-use Rattle.command_runs.specs.Traces.{IsInside, TellTrace}
 use Rattle.command_runs.specs.declared.fault.RunFault.{RunFault}
 
 -- the other way in which sends of standard mode can complete
@@ -35,14 +33,14 @@ IsTold file l view notes text = (answer : Answered) × (said : List ℕ) × (pla
     × IsAnswer l view answer × SaysAnswer l view answer said × ArePlacesOf file notes (take most_shown answer.stuck) places
     × (text ≡ said ++ notes_text notes ++ places_text places (length answer.stuck - length places))
 
--- The node knows, for this layout, the facts of all pieces that the manifest names, and these are the notes of their texts.
+-- The node knows, for this layout, all that the pieces tell that the manifest names, and these are the notes of their texts.
 abbrev pub IsNotedNodeOf : (List ℕ → Option (List ℕ)) → Parts → List ℕ → Held → List NoteParts → Type 0
-IsNotedNodeOf file l manifest node notes = (m : ManifestParts) × (trace : Trace)
-    × TellsManifest (file manifest) m × TellTrace file m.pieces trace × All (IsInside file l.ranks) m.pieces × AreNotesOf file m.pieces notes
-    × (node ≡ held l (view_of trace) false)
+IsNotedNodeOf file l manifest node notes = (m : ManifestParts) × (view : View)
+    × TellsManifest (file manifest) m × TellAll file l.ranks m view × AreNotesOf file m.pieces notes
+    × (node ≡ held l view false)
 
--- The text says what the files tell: the facts of all pieces that the manifest names, for the layout, and what is noted of their texts.
+-- The text says what the files tell: all that the pieces tell that the manifest names, for the layout, and what is noted of their texts.
 abbrev pub IsExplainOf : (List ℕ → Option (List ℕ)) → List ℕ → List ℕ → List ℕ → Type 0
-IsExplainOf file layout manifest text = (l : Parts) × (m : ManifestParts) × (trace : Trace) × (notes : List NoteParts)
-    × TellsLayout (file layout) l × TellsManifest (file manifest) m × TellTrace file m.pieces trace × All (IsInside file l.ranks) m.pieces
-    × AreNotesOf file m.pieces notes × IsTold file l (view_of trace) notes text
+IsExplainOf file layout manifest text = (l : Parts) × (m : ManifestParts) × (view : View) × (notes : List NoteParts)
+    × TellsLayout (file layout) l × TellsManifest (file manifest) m × TellAll file l.ranks m view
+    × AreNotesOf file m.pieces notes × IsTold file l view notes text

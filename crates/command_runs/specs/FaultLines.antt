@@ -10,11 +10,13 @@ use Rattle.dumpi_text.specs.declared.fault.TextCause.TheVariants as causes
 use Rattle.dumpi_calls.specs.Readings.{name_of}
 use Rattle.trace_wire.specs.declared.fault.WireFault.{WireFault}
 use Rattle.trace_wire.specs.declared.fault.WireFault.TheVariants as wires
+use Rattle.trace_wire.specs.declared.packed.fault.PackedCause.{PackedCause}
+use Rattle.trace_wire.specs.declared.packed.fault.PackedCause.TheVariants as packs
 use Rattle.trace_world.specs.declared.step.WorldFault.{WorldFault}
 use Rattle.trace_world.specs.declared.step.WorldFault.TheVariants as worlds
 use Rattle.command_runs.specs.FileNames.{shown_name}
 use Rattle.command_runs.specs.declared.fault.RunFault.{RunFault}
-use Rattle.command_runs.specs.declared.fault.RunFault.TheVariants.{Memory, File, Json, Shape, Piece, Layout, Text, Missing, Wrong, Place, Rank, Outside, NodeCount, Step, Worker, Net, Frame, Write}
+use Rattle.command_runs.specs.declared.fault.RunFault.TheVariants.{Memory, File, Json, Shape, Piece, Packed, PackedFrame, Layout, Text, Missing, Wrong, Place, Rank, Outside, NodeCount, Step, Worker, Net, Frame, Write}
 
 abbrev pub layout_fault_name : LayoutFault → List ℕ
 layout_fault_name layouts.RankCount = codes "L1 RankCount"
@@ -65,6 +67,10 @@ wire_fault_name wires.Order = codes "W6 Order"
 wire_fault_name wires.Content = codes "W7 Content"
 wire_fault_name wires.Rest = codes "W8 Rest"
 
+abbrev pub packed_cause_name : PackedCause → List ℕ
+packed_cause_name (packs.Wire fault) = wire_fault_name fault
+packed_cause_name packs.Rank = codes "N1 Rank"
+
 -- a file's name, as it stands in a line
 abbrev pub shown_path : String Global → List ℕ
 shown_path path = shown_name (string_bytes path)
@@ -79,6 +85,8 @@ fault_text (File path) = codes "M1 File " ++ shown_path path
 fault_text (Json path) = codes "M2 Json in " ++ shown_path path
 fault_text (Shape path) = codes "M3 Shape in " ++ shown_path path
 fault_text (Piece path) = codes "M4 Piece in " ++ shown_path path
+fault_text (Packed path) = codes "M5 Packed in " ++ shown_path path
+fault_text (PackedFrame cause path frame) = packed_cause_name cause ++ codes " at frame " ++ decimal frame ++ codes " of " ++ shown_path path
 fault_text (Layout fault path) = layout_fault_name fault ++ codes " in " ++ shown_path path
 fault_text (Text cause path line) = cause_name cause ++ at_line path line
 fault_text (Missing parameter path line) = codes "C1 Missing " ++ name_of parameter ++ at_line path line

@@ -8,7 +8,7 @@ use Rattle.input_files.specs.declared.fault.InputFault.TheVariants as inputs
 use Rattle.command_runs.specs.Files.{IsFile}
 use Rattle.command_runs.specs.Pieces.{IsNamed}
 use Rattle.command_runs.specs.declared.fault.RunFault.{RunFault}
-use Rattle.command_runs.specs.declared.fault.RunFault.TheVariants.{Memory, File, Json, Shape, Piece, Layout}
+use Rattle.command_runs.specs.declared.fault.RunFault.TheVariants.{Memory, File, Json, Shape, Piece, Packed, Layout}
 
 -- The file can't be read whole, and the fault names it.
 abbrev pub RefusesFile : List ℕ → RunFault → Type 0
@@ -22,6 +22,7 @@ IsFaultOf name inputs.Memory fault = fault ≡ Memory
 IsFaultOf name inputs.Json (Json path) = IsNamed path name
 IsFaultOf name inputs.Shape (Shape path) = IsNamed path name
 IsFaultOf name inputs.Piece (Piece path) = IsNamed path name
+IsFaultOf name inputs.Packed (Packed path) = IsNamed path name
 IsFaultOf name (inputs.Layout broken) (Layout fault path) = (fault ≡ broken) × IsNamed path name
 IsFaultOf name _ _ = ⊥
 

@@ -7,8 +7,11 @@ pub mod FaultLines
 pub mod FileNames
 pub mod Files
 pub mod Inputs
+pub mod Known
 pub mod Nodes
 pub mod Notes
+pub mod Packed
+pub mod Packs
 pub mod Pieces
 pub mod Refusals
 pub mod Replays

@@ -5,6 +5,7 @@ use Rattle.trace_know.specs.View.{View}
 use Rattle.input_files.specs.Layouts.{RefusesLayout}
 use Rattle.input_files.specs.Manifests.{ManifestParts, PieceParts, RefusesManifest}
 use Rattle.command_runs.specs.Inputs.{RefusesInput, TellsLayout, TellsManifest}
+use Rattle.command_runs.specs.Packed.{RefusesFirstPacked, TellPacked}
 use Rattle.command_runs.specs.Pieces.{RefusesPiece}
 use Rattle.command_runs.specs.Traces.{Begin, IsFirstStranger, IsKnown}
 use Rattle.command_runs.specs.declared.fault.RunFault.{RunFault}
@@ -24,11 +25,16 @@ NamesStranger file ranks pieces _ = ⊥
 abbrev pub RefusesPieces : (List ℕ → Option (List ℕ)) → ℕ → List PieceParts → RunFault → Type 0
 RefusesPieces file ranks pieces fault = (fault ≡ Memory) ⊎ (RefusesFirst file pieces fault ⊎ NamesStranger file ranks pieces fault)
 
+-- Why what a manifest names is refused: a packed file is; or, where all of them were read, the texts are.
+abbrev pub RefusesNamed : (List ℕ → Option (List ℕ)) → ℕ → ManifestParts → RunFault → Type 0
+RefusesNamed file ranks m fault = (fault ≡ Memory) ⊎ (RefusesFirstPacked file ranks m.packed fault
+    ⊎ (((view : View) × TellPacked file ranks m.packed view) × RefusesPieces file ranks m.pieces fault))
+
 -- Why there is no node: the manifest is refused, or a piece that it names is.
 abbrev pub RefusesNode : (List ℕ → Option (List ℕ)) → Parts → List ℕ → RunFault → Type 0
 RefusesNode file l manifest fault = (fault ≡ Memory)
     ⊎ (RefusesInput RefusesManifest manifest (file manifest) fault
-    ⊎ ((m : ManifestParts) × TellsManifest (file manifest) m × RefusesPieces file l.ranks m.pieces fault))
+    ⊎ ((m : ManifestParts) × TellsManifest (file manifest) m × RefusesNamed file l.ranks m fault))
 
 -- Why there is no report: the layout is refused, or, under it, what comes after it.
 abbrev pub RefusesRun : (List ℕ → Option (List ℕ)) → List ℕ → List ℕ → RunFault → Type 0

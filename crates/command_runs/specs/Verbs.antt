@@ -2,11 +2,12 @@
 use Rattle.std.specs.Prelude.{ℕ, List, Option}
 use Rattle.mpi_model.specs.Failures.{HasFailed}
 use Rattle.command_line.specs.declared.Verb.{Verb}
-use Rattle.command_line.specs.declared.Verb.TheVariants.{Explain, Graph, Report, ReportJson, Replay, Cluster, Check}
+use Rattle.command_line.specs.declared.Verb.TheVariants.{Explain, Graph, Report, ReportJson, Replay, Cluster, Check, Pack}
 use Rattle.command_runs.specs.Checks.{IsCheckOf}
 use Rattle.command_runs.specs.Explains.{IsExplainOf}
 use Rattle.command_runs.specs.Graphs.{IsGraphOf}
 use Rattle.command_runs.specs.Clusters.{IsClusterOf, RefusesCluster}
+use Rattle.command_runs.specs.Packs.{IsPackOf, RefusesPack}
 use Rattle.command_runs.specs.Refusals.{RefusesRun}
 use Rattle.command_runs.specs.Replays.{AppendsFront, BeginsReplayOf, IsReplayOf, RefusesReplay}
 use Rattle.command_runs.specs.Runs.{IsJsonOf, IsReportOf}
@@ -21,8 +22,9 @@ IsOutputOf file ReportJson layout manifest text = IsJsonOf file layout manifest 
 IsOutputOf file Replay layout manifest text = IsReplayOf file layout manifest text
 IsOutputOf file Cluster layout manifest text = IsClusterOf file layout manifest text
 IsOutputOf file Check layout manifest text = IsCheckOf file layout manifest text
+IsOutputOf file Pack layout manifest text = IsPackOf file layout manifest text
 
--- What a verb prints of these files begins so: the report, the first nodes of a replay, the text of a cluster, or the lines of a check.
+-- What a verb prints of these files begins so: the report, the first nodes of a replay, the text of a cluster, the lines of a check, or the bytes of a pack.
 abbrev pub BeginsOutputOf : (List ℕ → Option (List ℕ)) → Verb → List ℕ → List ℕ → List ℕ → Type 0
 BeginsOutputOf file Explain layout manifest text = IsExplainOf file layout manifest text
 BeginsOutputOf file Graph layout manifest text = IsGraphOf file layout manifest text
@@ -31,6 +33,7 @@ BeginsOutputOf file ReportJson layout manifest text = IsJsonOf file layout manif
 BeginsOutputOf file Replay layout manifest text = BeginsReplayOf file layout manifest text
 BeginsOutputOf file Cluster layout manifest text = IsClusterOf file layout manifest text
 BeginsOutputOf file Check layout manifest text = IsCheckOf file layout manifest text
+BeginsOutputOf file Pack layout manifest text = IsPackOf file layout manifest text
 
 -- The output couldn't be written whole: the writer failed, after it had taken a front of it.
 abbrev pub BreaksOff : (List ℕ → Option (List ℕ)) → Verb → List ℕ → List ℕ → Option (List ℕ) → Option (List ℕ) → ℕ → ℕ → Type 0
@@ -46,3 +49,4 @@ RefusesVerb file ReportJson layout manifest fault = RefusesRun file layout manif
 RefusesVerb file Replay layout manifest fault = RefusesReplay file layout manifest fault
 RefusesVerb file Cluster layout manifest fault = RefusesCluster file layout manifest fault
 RefusesVerb file Check layout manifest fault = RefusesRun file layout manifest fault
+RefusesVerb file Pack layout manifest fault = RefusesPack file layout manifest fault

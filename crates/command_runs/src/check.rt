@@ -13,12 +13,14 @@ use crate::fault::RunFault;
 use crate::input::{layout_at, manifest_at};
 use crate::knowing::know_of;
 use crate::opener::Opener;
+use crate::packed::packed_of;
 use crate::replay::write_piece;
 use crate::watch::Watcher;
 use command_line::Verb;
 use mpi_model::{Layout, Write};
 use std::alloc::Global;
 use trace_check::Checker;
+use trace_know::join_laws;
 
 /// Writes the two lines of a check of what the files tell. The answer is whether both say that it held.
 pub(crate) fn check_with<O: Opener, V: Watcher, W: Write>(
@@ -55,7 +57,8 @@ pub(crate) fn check_with<O: Opener, V: Watcher, W: Write>(
     }
 }
 
-// The checker of the layout that has read all pieces of the manifest.
+// The checker of the layout that holds all that the pieces of the manifest tell. Its index follows the texts, and is made once
+// more where there are packed files too.
 fn checker_with<'a, O: Opener, V: Watcher>(
     alloc: Global,
     layout: &'a Layout,
@@ -68,15 +71,28 @@ fn checker_with<'a, O: Opener, V: Watcher>(
     ensures unread { IfErr result (λ fault. NamesUnreadable LONGEST_FILE (Fails O.R.failures) (O.file files.old) fault) }
     ensures failed { IfErr result (NamesFailed (Fails O.R.failures)) }
 {
+    join_laws();
     let manifest = match manifest_at(alloc, manifest_name, files) {
         Ok(manifest) => manifest,
         Err(fault) => return Err(fault),
     };
-    let Ok(checker) = Checker::new(alloc, layout) else {
+    let listed = manifest.packed();
+    let packed = match packed_of(alloc, layout, listed, files) {
+        Ok(packed) => packed,
+        Err(fault) => return Err(fault),
+    };
+    let Ok(nothing) = Checker::new(alloc, layout) else {
         return Err(RunFault::Memory);
     };
-    match know_of(alloc, layout, manifest.pieces(), files, watcher, checker) {
+    let checker = match know_of(alloc, layout, manifest.pieces(), files, watcher, nothing) {
+        Ok(checker) => checker,
+        Err(fault) => return Err(fault),
+    };
+    if listed.is_empty() {
+        return Ok(checker);
+    }
+    match checker.joining(&packed) {
         Ok(checker) => Ok(checker),
-        Err(fault) => Err(fault),
+        Err(_) => Err(RunFault::Memory),
     }
 }

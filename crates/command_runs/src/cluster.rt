@@ -93,6 +93,11 @@ fn nodes_with<
         Ok(manifest) => manifest,
         Err(fault) => return Err(fault),
     };
+    if !manifest.packed().is_empty() {
+        return Err(RunFault::Packed {
+            path: manifest_name.to_string(alloc)?,
+        });
+    }
     let texts = match texts_of_all(alloc, manifest.pieces(), files) {
         Ok(texts) => texts,
         Err(fault) => return Err(fault),

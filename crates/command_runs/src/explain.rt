@@ -19,6 +19,7 @@ use crate::gatherer::Gathered;
 use crate::input::{layout_at, manifest_at};
 use crate::noted::noted_of;
 use crate::opener::Opener;
+use crate::packed::{joined, packed_of};
 use crate::places::places_of;
 use crate::replay::write_piece;
 use crate::watch::Watcher;
@@ -107,13 +108,18 @@ fn noted_node_with<'a, O: Opener, V: Watcher>(
         Ok(manifest) => manifest,
         Err(fault) => return Err(fault),
     };
+    let packed = match packed_of(alloc, layout, manifest.packed(), files) {
+        Ok(packed) => packed,
+        Err(fault) => return Err(fault),
+    };
     let nothing = Gathered::new(alloc, layout);
     let noted = match noted_of(alloc, layout, manifest.pieces(), files, watcher, nothing) {
         Ok(noted) => noted,
         Err(fault) => return Err(fault),
     };
     let (gathered, notes) = noted;
-    let know = gathered.know.into_knowledge()?;
+    let texts = gathered.know.into_knowledge()?;
+    let know = joined(layout, packed, texts)?;
     match Node::of(alloc, layout, know) {
         Ok(node) => Ok((node, notes)),
         Err(NodeFault::Memory) => Err(RunFault::Memory),

@@ -1,7 +1,7 @@
 //! Why a run is refused, and the line that standard error shows.
 
 ghost use Rattle.std.specs.Prelude.{◌≡◌, IfOk, string_bytes};
-ghost use Rattle.command_runs.specs.FaultLines.{cause_name, fault_line_of, layout_fault_name, line_fault_name, wire_fault_name, world_fault_name};
+ghost use Rattle.command_runs.specs.FaultLines.{cause_name, fault_line_of, layout_fault_name, line_fault_name, packed_cause_name, wire_fault_name, world_fault_name};
 
 use crate::file_name::FileName;
 use dumpi_calls::Parameter;
@@ -9,7 +9,7 @@ use dumpi_text::{LineFault, TextCause};
 use mpi_model::LayoutFault;
 use std::alloc::{AllocError, AllocFailed, Global};
 use std::fmt;
-use trace_wire::WireFault;
+use trace_wire::{PackedCause, WireFault};
 use trace_world::WorldFault;
 
 /// The first cause that stands in the order in which files are read and refusals are tried. Each
@@ -30,6 +30,16 @@ pub enum RunFault {
     /// The schedule posts a piece that the manifest doesn't list.
     Piece {
         path: String,
+    },
+    /// The schedule posts a packed piece, or the manifest of a cluster lists one.
+    Packed {
+        path: String,
+    },
+    /// The frame of this number, from 0, of a packed file is refused.
+    PackedFrame {
+        cause: PackedCause,
+        path: String,
+        frame: u64,
     },
     Layout {
         fault: LayoutFault,
@@ -123,6 +133,11 @@ impl fmt::Display for RunFault {
             RunFault::Json { path } => write!(f, "M2 Json in {}", FileName::new(path)),
             RunFault::Shape { path } => write!(f, "M3 Shape in {}", FileName::new(path)),
             RunFault::Piece { path } => write!(f, "M4 Piece in {}", FileName::new(path)),
+            RunFault::Packed { path } => write!(f, "M5 Packed in {}", FileName::new(path)),
+            RunFault::PackedFrame { cause, path, frame } => {
+                let name = name_of_packed(*cause);
+                write!(f, "{name} at frame {frame} of {}", FileName::new(path))
+            }
             RunFault::Layout { fault, path } => {
                 let name = name_of_layout(*fault);
                 write!(f, "{name} in {}", FileName::new(path))
@@ -220,6 +235,15 @@ fn name_of_world(fault: WorldFault) -> &'static str
         WorldFault::Stale => "V6 Stale",
         WorldFault::NodeCount => "V7 NodeCount",
         WorldFault::Memory => "Memory",
+    }
+}
+
+fn name_of_packed(cause: PackedCause) -> &'static str
+    ensures { result.now ≡ packed_cause_name cause }
+{
+    match cause {
+        PackedCause::Wire(fault) => name_of_wire(fault),
+        PackedCause::Rank => "N1 Rank",
     }
 }
 

@@ -90,6 +90,7 @@ fn fault_at(alloc: Global, fault: InputFault, path: &str) -> Result<RunFault, Al
         InputFault::Json => RunFault::Json { path },
         InputFault::Shape => RunFault::Shape { path },
         InputFault::Piece => RunFault::Piece { path },
+        InputFault::Packed => RunFault::Packed { path },
         InputFault::Layout(fault) => RunFault::Layout { fault, path },
     })
 }

@@ -18,13 +18,14 @@
 //!
 //! - [`opener`]: where files come from; [`whole`]: a whole file, within its limit
 //! - [`piece`]: the segments of a piece; [`pieces`]: those of all pieces
-//! - [`input`]: the layout and the manifest; [`gatherer`], [`knowing`]: what the pieces tell together
+//! - [`input`]: the layout and the manifest; [`gatherer`], [`knowing`]: what the texts tell together; [`packed`]: what packed files
+//!   do; [`known`]: both joined; [`laws`]: that their order doesn't show
 //! - [`watch`]: who is told how the reading comes along; [`watched`]: a reader that tells it;
 //!   [`terminal`]: what a person then sees
 //! - [`schedule`]: the steps that a manifest's schedule stands for; [`replay`]: their run, and the reports
 //!   of the nodes
 //! - [`answerer`]: a node as those know it who write what it tells; [`check`]: the lines of a check;
-//!   [`graph`]: as a picture; [`json`]: a report as JSON
+//!   [`graph`]: as a picture; [`json`]: a report as JSON; [`pack`]: what is known, as frames
 //! - [`explain`]: an answer in words, over pieces that were read with notes of their texts ([`noted`]), with the places of
 //!   its stuck calls ([`places`]), for which a text is opened a second time ([`second_look`])
 //! - [`texts`]: the texts of a cluster; [`cluster`]: its run, and the reports of both nodes
@@ -48,8 +49,12 @@ mod graph;
 mod input;
 mod json;
 mod knowing;
+mod known;
+mod laws;
 mod noted;
 mod opener;
+mod pack;
+mod packed;
 mod piece;
 mod pieces;
 mod places;
@@ -66,6 +71,7 @@ mod whole;
 pub use cluster::run_cluster;
 pub use ending::{Ending, Turn, ending_of, ending_of_cluster, ending_without_words};
 pub use fault::{RunFault, fault_line};
+pub use laws::packed_laws;
 pub use opener::{Disk, OpenFault, Opener};
 pub use run::run_with;
 pub use terminal::Terminal;

@@ -18,12 +18,12 @@ use crate::answerer::Answerer;
 use crate::check::check_with;
 use crate::explain::explain_with;
 use crate::fault::RunFault;
-use crate::gatherer::Gathered;
 use crate::graph::graph_with;
-use crate::input::{layout_at, manifest_at};
+use crate::input::layout_at;
 use crate::json::json_with;
-use crate::knowing::know_of;
+use crate::known::known_with;
 use crate::opener::Opener;
+use crate::pack::pack_with;
 use crate::replay::replay_with;
 use crate::watch::Watcher;
 use command_line::Verb;
@@ -61,6 +61,7 @@ pub fn run_with<O: Opener, V: Watcher, W: Write>(
         Verb::ReportJson => json_with(alloc, layout, manifest, files, watcher, out),
         Verb::Replay => replay_with(alloc, layout, manifest, files, watcher, out),
         Verb::Check => check_with(alloc, layout, manifest, files, watcher, out),
+        Verb::Pack => pack_with(alloc, layout, manifest, files, watcher, out),
         Verb::Cluster => unreachable!(),
     }
 }
@@ -113,8 +114,7 @@ fn write_told<N: Answerer, W: Write>(node: N, out: &mut W) -> Result<(), Failed>
     }
 }
 
-// The node of the layout that knows all that the pieces of the manifest tell. They are gathered while
-// they are read, and the node takes that over once.
+// The node of the layout that knows all that the pieces of the manifest tell.
 pub(crate) fn node_with<'a, O: Opener, V: Watcher>(
     alloc: Global,
     layout: &'a Layout,
@@ -127,16 +127,10 @@ pub(crate) fn node_with<'a, O: Opener, V: Watcher>(
     ensures unread { IfErr result (λ fault. NamesUnreadable LONGEST_FILE (Fails O.R.failures) (O.file files.old) fault) }
     ensures failed { IfErr result (NamesFailed (Fails O.R.failures)) }
 {
-    let manifest = match manifest_at(alloc, manifest_name, files) {
-        Ok(manifest) => manifest,
+    let know = match known_with(alloc, layout, manifest_name, files, watcher) {
+        Ok(know) => know,
         Err(fault) => return Err(fault),
     };
-    let nothing = Gathered::new(alloc, layout);
-    let gathered = match know_of(alloc, layout, manifest.pieces(), files, watcher, nothing) {
-        Ok(gathered) => gathered,
-        Err(fault) => return Err(fault),
-    };
-    let know = gathered.know.into_knowledge()?;
     match Node::of(alloc, layout, know) {
         Ok(node) => Ok(node),
         Err(NodeFault::Memory) => Err(RunFault::Memory),

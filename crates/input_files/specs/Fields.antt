@@ -5,7 +5,7 @@ use Rattle.serde_json.specs.Data.{Data, Items, no_items, item}
 use Rattle.serde_json.specs.Find.{as_number, as_u64}
 use Rattle.serde_json.specs.Read.{read}
 use Rattle.input_files.specs.declared.fault.InputFault.{InputFault}
-use Rattle.input_files.specs.declared.fault.InputFault.TheVariants.{Memory, Json, Shape, Piece, Layout}
+use Rattle.input_files.specs.declared.fault.InputFault.TheVariants.{Memory, Json, Shape, Piece, Packed, Layout}
 
 -- The text is UTF-8 and JSON, of this value.
 pub record IsJson (text : List ℕ) (value : Data) : Type 0 where
@@ -18,6 +18,7 @@ HasNoValue text Memory = Unit {0}
 HasNoValue text Json = (value : Data) → IsJson text value → ⊥
 HasNoValue text Shape = ⊥
 HasNoValue text Piece = ⊥
+HasNoValue text Packed = ⊥
 HasNoValue text (Layout fault) = ⊥
 
 -- a whole number from 0 to 2^64 - 1

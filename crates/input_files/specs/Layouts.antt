@@ -11,7 +11,7 @@ use Rattle.mpi_model.specs.Layouts.{Holds, Parts, fault_of}
 use Rattle.input_files.specs.Fields.{IsJson, u32_in, u32s_in, with_first}
 use Rattle.input_files.specs.Numbers.{numbers_in}
 use Rattle.input_files.specs.declared.fault.InputFault.{InputFault}
-use Rattle.input_files.specs.declared.fault.InputFault.TheVariants.{Memory, Json, Shape, Piece, Layout}
+use Rattle.input_files.specs.declared.fault.InputFault.TheVariants.{Memory, Json, Shape, Piece, Packed, Layout}
 
 abbrev pub communicator_from : Option ℕ → Option (List ℕ) → Option (List (Option Stretch)) → Option Communicator
 communicator_from None members numbers = None
@@ -63,5 +63,6 @@ RefusesLayout text Memory = Unit {0}
 RefusesLayout text Json = (value : Data) → IsJson text value → ⊥
 RefusesLayout text Shape = (value : Data) × IsJson text value × (parts_in value ≡ None)
 RefusesLayout text Piece = ⊥
+RefusesLayout text Packed = ⊥
 RefusesLayout text (Layout fault) = (given : Parts) × TellsParts text given
     × (fault_of given.ranks given.world given.comms ≡ Some fault)

@@ -1,15 +1,17 @@
 -- What a manifest holds, and which manifest a text is.
-use Rattle.std.specs.Prelude.{◌≡◌, ℕ, List, [], Bool, true, false, Option, Some, None, codes, length, option_and_then}
+use Rattle.std.specs.Prelude.{◌≡◌, ◌+◌, ℕ, List, [], ◌∷◌, Bool, true, false, Option, Some, None, if◌then◌else◌, codes, is_none, is_some, length, map, option_and_then}
 use Rattle.std.specs.List.{list_any}
 use Rattle.serde_json.specs.Data.{Data, Items, no_items, item}
 use Rattle.serde_json.specs.Find.{as_array, as_str, get}
 use Rattle.input_files.specs.Fields.{IsJson, bit_in, or_absent, u32_in, u64_in, with_first}
-use Rattle.input_files.specs.Schedules.{posts_past, steps_in}
+use Rattle.input_files.specs.Schedules.{posts_packed, posts_past, renumbered, steps_in}
 use Rattle.input_files.specs.declared.fault.InputFault.{InputFault}
-use Rattle.input_files.specs.declared.fault.InputFault.TheVariants.{Memory, Json, Shape, Piece, Layout}
+use Rattle.input_files.specs.declared.fault.InputFault.TheVariants.{Memory, Json, Shape, Piece, Packed, Layout}
 use Rattle.input_files.specs.declared.schedule.PlannedStep.{PlannedStep}
 
--- a file of one rank's calls, from the call of this number on, and the node and the worker whose piece it is
+-- ---- what it holds
+
+-- a text file of one rank's calls, from the call of this number on, and the node and the worker whose piece it is
 pub record PieceParts : Type 0 where
   pub rank : ℕ
   pub first : ℕ
@@ -17,10 +19,19 @@ pub record PieceParts : Type 0 where
   pub node : ℕ
   pub worker : ℕ
 
+-- a file of packed knowledge, and the node whose piece it is
+pub record PackedParts : Type 0 where
+  pub file : List ℕ
+  pub node : ℕ
+
+-- its texts and its packed files, each in the order of its list; a step posts a text by its number among the texts
 pub record ManifestParts : Type 0 where
   pub pieces : List PieceParts
+  pub packed : List PackedParts
   pub nodes : ℕ
   pub schedule : List PlannedStep
+
+-- ---- its pieces
 
 abbrev pub piece_from : Option ℕ → Option ℕ → Option (List ℕ) → Option ℕ → Option ℕ → Option PieceParts
 piece_from None _ _ _ _ = None
@@ -37,42 +48,96 @@ piece_in value = piece_from (option_and_then u32_in (get (codes "rank") value))
     (or_absent 0 bit_in (get (codes "node") value))
     (or_absent 0 bit_in (get (codes "worker") value))
 
--- the pieces of a list, in its order
+abbrev pub packed_from : Option (List ℕ) → Option ℕ → Option PackedParts
+packed_from None _ = None
+packed_from (Some file) None = None
+packed_from (Some file) (Some at) = Some (record { file = file; node = at })
+
+-- a packed piece names no text
+abbrev pub packed_in : Data → Option PackedParts
+packed_in value = if is_none (get (codes "file") value)
+    then packed_from (option_and_then as_str (get (codes "packed") value)) (or_absent 0 bit_in (get (codes "node") value))
+    else None
+
+-- a piece with this field is a packed one, any other a text
+abbrev pub is_packed : Data → Bool
+is_packed value = is_some (get (codes "packed") value)
+
+-- the texts of a list, in its order
 abbrev pub pieces_in : Items → Option (List PieceParts)
 pieces_in no_items = Some []
-pieces_in (item value values) = with_first (piece_in value) (pieces_in values)
+pieces_in (item value values) = if is_packed value then pieces_in values else with_first (piece_in value) (pieces_in values)
+
+-- the packed files of a list, in its order
+abbrev pub all_packed_in : Items → Option (List PackedParts)
+all_packed_in no_items = Some []
+all_packed_in (item value values) = if is_packed value then with_first (packed_in value) (all_packed_in values) else all_packed_in values
+
+-- the numbers of the pieces of a list among its texts, from this one on; none of a packed one
+abbrev pub numbers_from : ℕ → Items → List (Option ℕ)
+numbers_from n no_items = []
+numbers_from n (item value values) = if is_packed value then None ∷ numbers_from n values else Some n ∷ numbers_from (n + 1) values
+
+-- ---- its fields
+
+-- the fields of a manifest; a step posts a piece by its number in the whole list
+pub record GivenParts : Type 0 where
+  pub pieces : List PieceParts
+  pub packed : List PackedParts
+  pub numbers : List (Option ℕ)
+  pub nodes : ℕ
+  pub schedule : List PlannedStep
 
 abbrev pub schedule_in : Data → Option (List PlannedStep)
 schedule_in value = option_and_then steps_in (as_array value)
 
-abbrev pub manifest_from : Option (List PieceParts) → Option ℕ → Option (List PlannedStep) → Option ManifestParts
-manifest_from None _ _ = None
-manifest_from (Some pieces) None _ = None
-manifest_from (Some pieces) (Some nodes) None = None
-manifest_from (Some pieces) (Some nodes) (Some schedule) = Some (record { pieces = pieces; nodes = nodes; schedule = schedule })
+abbrev pub given_from : Option (List PieceParts) → Option (List PackedParts) → List (Option ℕ) → Option ℕ → Option (List PlannedStep) → Option GivenParts
+given_from None _ _ _ _ = None
+given_from (Some pieces) None _ _ _ = None
+given_from (Some pieces) (Some packed) numbers None _ = None
+given_from (Some pieces) (Some packed) numbers (Some nodes) None = None
+given_from (Some pieces) (Some packed) numbers (Some nodes) (Some schedule) =
+    Some (record { pieces = pieces; packed = packed; numbers = numbers; nodes = nodes; schedule = schedule })
 
--- the fields of a manifest: without a number of nodes it has one, and without a schedule no step
-abbrev pub manifest_in : Data → Option ManifestParts
-manifest_in value = manifest_from (option_and_then pieces_in (option_and_then as_array (get (codes "pieces") value)))
+-- the fields by the list of pieces
+abbrev pub given_by : Data → Option Items → Option GivenParts
+given_by value None = None
+given_by value (Some listed) = given_from (pieces_in listed) (all_packed_in listed) (numbers_from 0 listed)
     (or_absent 1 u64_in (get (codes "nodes") value))
     (or_absent [] schedule_in (get (codes "schedule") value))
 
+-- the fields of a manifest: without a number of nodes it has one, and without a schedule no step
+abbrev pub given_in : Data → Option GivenParts
+given_in value = given_by value (option_and_then as_array (get (codes "pieces") value))
+
 -- The text tells these fields.
-abbrev pub TellsFields : List ℕ → ManifestParts → Type 0
-TellsFields text given = (value : Data) × IsJson text value × (manifest_in value ≡ Some given)
+abbrev pub TellsFields : List ℕ → GivenParts → Type 0
+TellsFields text given = (value : Data) × IsJson text value × (given_in value ≡ Some given)
+
+-- ---- which manifest a text is
 
 -- whether the schedule posts a piece that isn't listed
-abbrev pub posts_absent : ManifestParts → Bool
-posts_absent m = list_any (posts_past (length m.pieces)) m.schedule
+abbrev pub posts_absent : GivenParts → Bool
+posts_absent g = list_any (posts_past (length g.numbers)) g.schedule
 
--- The text is this manifest: it tells these fields, and each piece that is posted is listed.
+-- whether the schedule posts a packed piece
+abbrev pub posts_a_packed : GivenParts → Bool
+posts_a_packed g = list_any (posts_packed g.numbers) g.schedule
+
+-- the manifest of these fields
+abbrev pub manifest_of : GivenParts → ManifestParts
+manifest_of g = record { pieces = g.pieces; packed = g.packed; nodes = g.nodes; schedule = map (renumbered g.numbers) g.schedule }
+
+-- The text is this manifest: that of the fields that it tells, and each piece that is posted is listed, and a text.
 abbrev pub IsManifestOf : List ℕ → ManifestParts → Type 0
-IsManifestOf text m = TellsFields text m × (posts_absent m ≡ false)
+IsManifestOf text m = (given : GivenParts) × TellsFields text given
+    × (posts_absent given ≡ false) × (posts_a_packed given ≡ false) × (m ≡ manifest_of given)
 
 -- Why the text is no manifest.
 abbrev pub RefusesManifest : List ℕ → InputFault → Type 0
 RefusesManifest text Memory = Unit {0}
 RefusesManifest text Json = (value : Data) → IsJson text value → ⊥
-RefusesManifest text Shape = (value : Data) × IsJson text value × (manifest_in value ≡ None)
-RefusesManifest text Piece = (given : ManifestParts) × TellsFields text given × (posts_absent given ≡ true)
+RefusesManifest text Shape = (value : Data) × IsJson text value × (given_in value ≡ None)
+RefusesManifest text Piece = (given : GivenParts) × TellsFields text given × (posts_absent given ≡ true)
+RefusesManifest text Packed = (given : GivenParts) × TellsFields text given × (posts_absent given ≡ false) × (posts_a_packed given ≡ true)
 RefusesManifest text (Layout fault) = ⊥

@@ -1,5 +1,5 @@
 -- The steps of a manifest's schedule.
-use Rattle.std.specs.Prelude.{ℕ, List, [], Bool, false, Option, Some, None, nat_le, nat_lt, if◌then◌else◌, codes, option_and_then, option_map}
+use Rattle.std.specs.Prelude.{ℕ, List, [], Bool, false, Option, Some, None, nat_le, nat_lt, if◌then◌else◌, codes, is_none, option_and_then, option_map, slice_index_or, unwrap_or}
 use Rattle.std.specs.Str.{bytes_eq}
 use Rattle.serde_json.specs.Data.{Data, Items, no_items, item}
 use Rattle.serde_json.specs.Find.{as_array, as_str}
@@ -59,3 +59,23 @@ posts_past pieces (Take node) = false
 posts_past pieces (Ship node) = false
 posts_past pieces (Deliver mail node) = false
 posts_past pieces (Restart node) = false
+
+-- a step posts a packed piece, one without a number
+abbrev pub posts_packed : List (Option ℕ) → PlannedStep → Bool
+posts_packed numbers (Post worker node piece) = is_none (slice_index_or numbers piece (Some 0))
+posts_packed numbers (Take node) = false
+posts_packed numbers (Ship node) = false
+posts_packed numbers (Deliver mail node) = false
+posts_packed numbers (Restart node) = false
+
+-- the number of a piece among the texts, or its own where it has none
+abbrev pub number_of : List (Option ℕ) → ℕ → ℕ
+number_of numbers piece = unwrap_or (slice_index_or numbers piece None) piece
+
+-- a step that posts a piece posts the text of its number
+abbrev pub renumbered : List (Option ℕ) → PlannedStep → PlannedStep
+renumbered numbers (Post worker node piece) = Post worker node (number_of numbers piece)
+renumbered numbers (Take node) = Take node
+renumbered numbers (Ship node) = Ship node
+renumbered numbers (Deliver mail node) = Deliver mail node
+renumbered numbers (Restart node) = Restart node

@@ -17,6 +17,9 @@ pub enum InputFault {
     /// The schedule posts a piece that the manifest doesn't list.
     #[error("M4 Piece")]
     Piece,
+    /// The schedule posts a packed piece.
+    #[error("M5 Packed")]
+    Packed,
     /// The fields are there, and break a rule of layouts.
     #[error("{0}")]
     Layout(LayoutFault),

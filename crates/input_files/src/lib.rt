@@ -24,5 +24,5 @@ mod schedule;
 
 pub use fault::InputFault;
 pub use layout::layout_of;
-pub use manifest::{Manifest, Piece, manifest_of};
+pub use manifest::{Manifest, PackedPiece, Piece, manifest_of};
 pub use schedule::PlannedStep;

@@ -1,15 +1,15 @@
-//! The manifest of a run: the pieces of its trace, each a text file of one rank, and what its nodes
-//! are to do with them.
+//! The manifest of a run: the pieces of its trace, each a text file of one rank or a file of packed
+//! knowledge, and what its nodes are to do with them.
 
 ghost use Rattle.std.specs.Prelude.{◌≡◌, [], IfErr, IfOk, codes, option_map, string_bytes};
 ghost use Rattle.serde_json.specs.Find.{get};
-ghost use Rattle.input_files.specs.Fields.{or_absent};
+ghost use Rattle.input_files.specs.Fields.{bit_in, or_absent};
 ghost use Rattle.serde_json.specs.View.{items_view, view};
-ghost use Rattle.input_files.specs.Manifests.{IsManifestOf, RefusesManifest, manifest_in, piece_in, pieces_in, posts_absent, schedule_in};
+ghost use Rattle.input_files.specs.Manifests.{IsManifestOf, RefusesManifest, all_packed_in, given_in, is_packed, manifest_of, numbers_from, packed_in, piece_in, pieces_in, posts_a_packed, posts_absent, schedule_in};
 
 use crate::fault::InputFault;
 use crate::json::{bit_or_0, list_at, str_at, u32_at, u64_at, usize_or, value_of};
-use crate::schedule::{PlannedStep, posts_past_of, steps_of};
+use crate::schedule::{PlannedStep, posts_packed_of, posts_past_of, renumbered_by, steps_of};
 use serde_json::Value;
 use std::alloc::{AllocError, Global};
 use std::marker::Model;
@@ -82,10 +82,50 @@ impl Piece {
     }
 }
 
-/// What a manifest names. Each piece that its schedule posts is one of its pieces.
+/// A file of packed knowledge.
+#[derive(Debug, Drop)]
+pub struct PackedPiece {
+    file: String,
+    node: u8,
+}
+
+impl Model for PackedPiece {
+    ghost use Rattle.std.specs.Prelude.{string_bytes};
+    ghost use Rattle.input_files.specs.Manifests.{PackedParts};
+
+    ghost Value = { PackedParts };
+
+    ghost view = { λ p. record { file = string_bytes p.file; node = p.node } };
+}
+
+impl PackedPiece {
+    fn new(file: String, node: u8) -> PackedPiece
+        ensures { result ≡ record { file = string_bytes file; node = node } }
+    {
+        PackedPiece { file, node }
+    }
+
+    /// The name of the file, as the manifest spells it.
+    pub fn file(&self) -> &str
+        ensures { result.now ≡ self.now.file }
+    {
+        let file = &self.file;
+        file.as_str()
+    }
+
+    /// The node whose piece it is where each of two nodes has its own: 0 or 1.
+    pub fn node(&self) -> u8
+        ensures { result ≡ self.now.node }
+    {
+        self.node
+    }
+}
+
+/// What a manifest names. Each piece that its schedule posts is one of its texts.
 #[derive(Debug, Drop)]
 pub struct Manifest {
     pieces: Vec<Piece>,
+    packed: Vec<PackedPiece>,
     nodes: usize,
     schedule: Vec<PlannedStep>,
 }
@@ -95,25 +135,22 @@ impl Model for Manifest {
 
     ghost Value = { ManifestParts };
 
-    ghost view = { λ m. record { pieces = m.pieces.items; nodes = m.nodes; schedule = m.schedule.items } };
+    ghost view = { λ m. record { pieces = m.pieces.items; packed = m.packed.items; nodes = m.nodes; schedule = m.schedule.items } };
 }
 
 impl Manifest {
-    fn new(pieces: Vec<Piece>, nodes: usize, schedule: Vec<PlannedStep>) -> Manifest
-        ensures { result ≡ record { pieces = pieces.items; nodes = nodes; schedule = schedule.items } }
-    {
-        Manifest {
-            pieces,
-            nodes,
-            schedule,
-        }
-    }
-
-    /// The pieces, in the order in which the manifest lists them.
+    /// The texts among the pieces, in the order in which the manifest lists them.
     pub fn pieces(&self) -> &[Piece]
         ensures { result.now ≡ self.now.pieces }
     {
         &self.pieces
+    }
+
+    /// The packed files among the pieces, in the order in which the manifest lists them.
+    pub fn packed(&self) -> &[PackedPiece]
+        ensures { result.now ≡ self.now.packed }
+    {
+        &self.packed
     }
 
     /// How many nodes the schedule is for. Any number stands here: a world has 1 to 64.
@@ -123,41 +160,113 @@ impl Manifest {
         self.nodes
     }
 
-    /// The steps of the schedule, in their order.
+    /// The steps of the schedule, in their order. A piece that is posted has its number among the texts.
     pub fn schedule(&self) -> &[PlannedStep]
         ensures { result.now ≡ self.now.schedule }
     {
         &self.schedule
+    }
+}
+
+// What a manifest lists: its texts, its packed files, and the number of each piece among the texts, none of a packed one.
+#[derive(Drop)]
+struct Listed {
+    pieces: Vec<Piece>,
+    packed: Vec<PackedPiece>,
+    numbers: Vec<Option<usize>>,
+}
+
+// The fields of a manifest, whose schedule posts pieces by their numbers in the whole list.
+#[derive(Drop)]
+struct Given {
+    listed: Listed,
+    nodes: usize,
+    schedule: Vec<PlannedStep>,
+}
+
+impl Model for Given {
+    ghost use Rattle.input_files.specs.Manifests.{GivenParts};
+
+    ghost Value = { GivenParts };
+
+    ghost view = { λ g. record { pieces = g.listed.pieces.items; packed = g.listed.packed.items; numbers = g.listed.numbers.items; nodes = g.nodes; schedule = g.schedule.items } };
+}
+
+impl Given {
+    fn new(listed: Listed, nodes: usize, schedule: Vec<PlannedStep>) -> Given
+        ensures { result ≡ record { pieces = listed.pieces.items; packed = listed.packed.items; numbers = listed.numbers.items; nodes = nodes; schedule = schedule.items } }
+    {
+        Given {
+            listed,
+            nodes,
+            schedule,
+        }
     }
 
     // Whether the schedule posts a piece that isn't listed.
     fn posts_absent(&self) -> bool
         ensures { result ≡ posts_absent self.now }
     {
-        posts_past_of(&self.schedule, self.pieces.len())
+        posts_past_of(&self.schedule, self.listed.numbers.len())
+    }
+
+    // Whether the schedule posts a packed piece.
+    fn posts_a_packed(&self) -> bool
+        ensures { result ≡ posts_a_packed self.now }
+    {
+        posts_packed_of(&self.schedule, &self.listed.numbers)
+    }
+
+    // The manifest of these fields.
+    fn into_manifest(self, alloc: Global) -> Result<Manifest, AllocError>
+        ensures { IfOk result (λ m. m ≡ manifest_of self) }
+    {
+        let Given {
+            listed,
+            nodes,
+            schedule,
+        } = self;
+        let Listed {
+            pieces,
+            packed,
+            numbers,
+        } = listed;
+        let schedule = renumbered_by(alloc, &schedule, &numbers)?;
+        Ok(Manifest {
+            pieces,
+            packed,
+            nodes,
+            schedule,
+        })
     }
 }
 
 /// The manifest that a text is: [`InputFault::Json`], then [`InputFault::Shape`] for any field, then
-/// [`InputFault::Piece`].
+/// [`InputFault::Piece`], then [`InputFault::Packed`].
 pub fn manifest_of(alloc: Global, text: &[u8]) -> Result<Manifest, InputFault>
     ensures ok { IfOk result (λ m. IsManifestOf text.now m) }
     ensures err { IfErr result (RefusesManifest text.now) }
 {
     let value = value_of(alloc, text)?;
-    let manifest = match given_in(alloc, &value) {
-        Ok(Some(manifest)) => manifest,
+    let given = match given_in(alloc, &value) {
+        Ok(Some(given)) => given,
         Ok(None) => return Err(InputFault::Shape),
         Err(_) => return Err(InputFault::Memory),
     };
-    if manifest.posts_absent() {
+    if given.posts_absent() {
         return Err(InputFault::Piece);
     }
-    Ok(manifest)
+    if given.posts_a_packed() {
+        return Err(InputFault::Packed);
+    }
+    match given.into_manifest(alloc) {
+        Ok(manifest) => Ok(manifest),
+        Err(_) => Err(InputFault::Memory),
+    }
 }
 
-fn given_in(alloc: Global, value: &Value) -> Result<Option<Manifest>, AllocError>
-    ensures { IfOk result (λ o. o ≡ manifest_in (view value.now)) }
+fn given_in(alloc: Global, value: &Value) -> Result<Option<Given>, AllocError>
+    ensures { IfOk result (λ o. o ≡ given_in (view value.now)) }
 {
     let Some(values) = list_at(value, "pieces") else {
         return Ok(None);
@@ -165,13 +274,22 @@ fn given_in(alloc: Global, value: &Value) -> Result<Option<Manifest>, AllocError
     let Some(pieces) = pieces_of(alloc, values)? else {
         return Ok(None);
     };
+    let Some(packed) = all_packed_of(alloc, values)? else {
+        return Ok(None);
+    };
+    let numbers = numbers_of(alloc, values)?;
     let Some(nodes) = usize_or(value, "nodes", 1) else {
         return Ok(None);
     };
     let Some(schedule) = schedule_at(alloc, value)? else {
         return Ok(None);
     };
-    Ok(Some(Manifest::new(pieces, nodes, schedule)))
+    let listed = Listed {
+        pieces,
+        packed,
+        numbers,
+    };
+    Ok(Some(Given::new(listed, nodes, schedule)))
 }
 
 // The steps of the schedule, none where there is no schedule.
@@ -187,17 +305,69 @@ fn schedule_at(alloc: Global, value: &Value) -> Result<Option<Vec<PlannedStep>>,
     }
 }
 
+// Whether a piece is a packed one.
+fn is_packed(value: &Value) -> bool
+    ensures { result ≡ is_packed (view value.now) }
+{
+    value.get("packed").is_some()
+}
+
+// The texts among the pieces.
 fn pieces_of(alloc: Global, values: &[Value]) -> Result<Option<Vec<Piece>>, AllocError>
     ensures { IfOk result (λ o. option_map (λ v. v.items) o ≡ pieces_in (items_view values.now)) }
 {
     let mut pieces = Vec::new(alloc);
     for value in values {
+        if is_packed(value) {
+            continue;
+        }
         match piece_of(alloc, value)? {
             Some(piece) => pieces.push(piece)?,
             None => return Ok(None),
         }
     }
     Ok(Some(pieces))
+}
+
+// The packed files among the pieces.
+fn all_packed_of(alloc: Global, values: &[Value]) -> Result<Option<Vec<PackedPiece>>, AllocError>
+    ensures { IfOk result (λ o. option_map (λ v. v.items) o ≡ all_packed_in (items_view values.now)) }
+{
+    let mut packed = Vec::new(alloc);
+    for value in values {
+        if !is_packed(value) {
+            continue;
+        }
+        let Some(piece) = packed_of(alloc, value)? else {
+            return Ok(None);
+        };
+        packed.push(piece)?;
+    }
+    Ok(Some(packed))
+}
+
+// The number of each piece among the texts, none of a packed one.
+fn numbers_of(alloc: Global, values: &[Value]) -> Result<Vec<Option<usize>>, AllocError>
+    ensures { IfOk result (λ v. v.items ≡ numbers_from 0 (items_view values.now)) }
+{
+    let mut numbers = Vec::new(alloc);
+    let mut texts = 0;
+    for value in values {
+        if is_packed(value) {
+            numbers.push(None)?;
+        } else {
+            numbers.push(Some(texts))?;
+            texts += 1;
+        }
+    }
+    Ok(numbers)
+}
+
+// The node whose piece it is, 0 where it names none.
+fn node_of(value: &Value) -> Option<u8>
+    ensures { result ≡ or_absent 0 bit_in (get (codes "node") (view value.now)) }
+{
+    bit_or_0(value, "node")
 }
 
 fn piece_of(alloc: Global, value: &Value) -> Result<Option<Piece>, AllocError>
@@ -212,7 +382,7 @@ fn piece_of(alloc: Global, value: &Value) -> Result<Option<Piece>, AllocError>
     let Some(file) = str_at(value, "file") else {
         return Ok(None);
     };
-    let Some(node) = bit_or_0(value, "node") else {
+    let Some(node) = node_of(value) else {
         return Ok(None);
     };
     let Some(worker) = bit_or_0(value, "worker") else {
@@ -220,4 +390,20 @@ fn piece_of(alloc: Global, value: &Value) -> Result<Option<Piece>, AllocError>
     };
     let file = file.to_string(alloc)?;
     Ok(Some(Piece::new(rank, first, file, node, worker)))
+}
+
+fn packed_of(alloc: Global, value: &Value) -> Result<Option<PackedPiece>, AllocError>
+    ensures { IfOk result (λ o. o ≡ packed_in (view value.now)) }
+{
+    if value.get("file").is_some() {
+        return Ok(None);
+    }
+    let Some(file) = str_at(value, "packed") else {
+        return Ok(None);
+    };
+    let Some(node) = node_of(value) else {
+        return Ok(None);
+    };
+    let file = file.to_string(alloc)?;
+    Ok(Some(PackedPiece::new(file, node)))
 }

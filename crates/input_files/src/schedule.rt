@@ -1,9 +1,9 @@
 //! The schedule of a manifest: what its nodes are to do, step by step.
 
-ghost use Rattle.std.specs.Prelude.{◌≡◌, IfOk, option_and_then, option_map};
+ghost use Rattle.std.specs.Prelude.{◌≡◌, IfOk, map, option_and_then, option_map};
 ghost use Rattle.std.specs.List.{list_any};
 ghost use Rattle.serde_json.specs.View.{items_view, view};
-ghost use Rattle.input_files.specs.Schedules.{one_in, post_from, posts_past, step_from, step_in, steps_in, three_in, two_in};
+ghost use Rattle.input_files.specs.Schedules.{one_in, post_from, posts_packed, posts_past, renumbered, number_of, step_from, step_in, steps_in, three_in, two_in};
 
 use crate::json::{parted, usize_of};
 use serde_json::Value;
@@ -68,6 +68,66 @@ fn is_past(step: &PlannedStep, pieces: usize) -> bool
     match step {
         PlannedStep::Post { piece, .. } => pieces <= *piece,
         _ => false,
+    }
+}
+
+/// Whether a step posts a packed piece: one that has no number among the texts.
+pub(crate) fn posts_packed_of(steps: &[PlannedStep], numbers: &[Option<usize>]) -> bool
+    ensures { result ≡ list_any (posts_packed numbers.now) steps.now }
+{
+    steps.iter().any(|step| is_packed(step, numbers))
+}
+
+fn is_packed(step: &PlannedStep, numbers: &[Option<usize>]) -> bool
+    ensures { result ≡ posts_packed numbers.now step.now }
+{
+    let PlannedStep::Post { piece, .. } = step else {
+        return false;
+    };
+    match numbers.get(*piece) {
+        Some(number) => number.is_none(),
+        None => false,
+    }
+}
+
+/// The same steps, where each piece has its number among the texts.
+pub(crate) fn renumbered_by(
+    alloc: Global,
+    steps: &[PlannedStep],
+    numbers: &[Option<usize>],
+) -> Result<Vec<PlannedStep>, AllocError>
+    ensures { IfOk result (λ v. v.items ≡ map (renumbered numbers.now) steps.now) }
+{
+    let mut renumbered = Vec::new(alloc);
+    for step in steps {
+        renumbered.push(renumbered_step(step, numbers))?;
+    }
+    Ok(renumbered)
+}
+
+fn renumbered_step(step: &PlannedStep, numbers: &[Option<usize>]) -> PlannedStep
+    ensures { result ≡ renumbered numbers.now step.now }
+{
+    match *step {
+        PlannedStep::Post {
+            worker,
+            node,
+            piece,
+        } => PlannedStep::Post {
+            worker,
+            node,
+            piece: number_of(numbers, piece),
+        },
+        other => other,
+    }
+}
+
+fn number_of(numbers: &[Option<usize>], piece: usize) -> usize
+    ensures { result ≡ number_of numbers.now piece }
+{
+    match numbers.get(piece) {
+        Some(Some(number)) => *number,
+        _ => piece,
     }
 }
 

@@ -82,6 +82,24 @@ impl<'a> Checker<'a> {
         })
     }
 
+    /// The checker with what was read elsewhere too. The index is made once more.
+    pub fn joining(self, other: &Knowledge) -> Result<Checker<'a>, AllocError>
+        ensures { IfOk result (λ c. c ≡ held self.entry.layout (join self.entry.know other.now)) }
+    {
+        ops_laws();
+        let (alloc, layout) = (self.alloc, self.layout);
+        let mut know = self.know;
+        know.join(other)?;
+        let ops = all_ops(alloc, layout, &know)?;
+        let index = PairIndex::of_all(alloc, ops)?;
+        Ok(Checker {
+            alloc,
+            layout,
+            know,
+            index,
+        })
+    }
+
     /// How many messages and receives were read.
     pub fn size(&self) -> usize {
         let mut size = 0usize;

@@ -5,6 +5,7 @@
 //! | File | Tests |
 //! |---|---|
 //! | `spelling` | the bytes of each kind of event in both versions, there and back |
+//! | `drawn` | random knowledge in both versions, there and back |
 //! | `order` | the first cause of a refusal, byte by byte |
 //! | `devices` | a device without an end, and the longest frame of each version |
 //! | `packed` | which of several frames is refused and why, and knowledge that one frame can't hold |
@@ -13,6 +14,8 @@
 
 #[cfg(test)]
 mod devices;
+#[cfg(test)]
+mod drawn;
 #[cfg(test)]
 mod fixture;
 #[cfg(test)]

@@ -473,3 +473,79 @@ fn is_kept<R: Abort>(rt: &R, alloc: Global, version: Version, bytes: &[u8]) -> b
     let is_other = !know.same(&taken(rt, alloc, "ABC"));
     is_other && frame(rt, alloc, version, &know).as_slice() == bytes
 }
+
+/// Nothing is known.
+const NOTHING: &[u8] = b"MPTX\0\x02\0\0\0\x04\0\0\0\0";
+
+/// Contradictions at rank 1, places 2 and 3: one run.
+const RUN: &[u8] = b"MPTX\0\x02\0\0\0\x16\0\0\0\x01\0\0\0\x01\0\0\0\0\0\0\0\x02\0\0\0\x02\x01\x01";
+
+/// What the format says of the frame of nothing with another value of one byte.
+fn wanted_of_nothing(position: usize, value: u8) -> &'static str {
+    match (position, value) {
+        (0..=3, _) => "W2 Magic",
+        // In version 1 nothing is known either.
+        (5, 1) => "ok",
+        (4..=5, _) => "W3 Version",
+        // The length: past the end, above the limit, or less than the count has.
+        (6, 4..=0xFF) => "W4 Length",
+        (9, 0..=3) => "W7 Content",
+        (6..=9, _) => "W5 Short",
+        // The count: a run that isn't there.
+        _ => "W7 Content",
+    }
+}
+
+/// The same of one run.
+fn wanted_of_run(position: usize, value: u8) -> &'static str {
+    match (position, value) {
+        (0..=3, _) => "W2 Magic",
+        // Read as version 1, its event is cut off.
+        (5, 1) => "W7 Content",
+        (4..=5, _) => "W3 Version",
+        // The length: past the end, above the limit, or within the run.
+        (6, 4..=0xFF) => "W4 Length",
+        (9, 0..=0x15) => "W7 Content",
+        (6..=9, _) => "W5 Short",
+        // The count: a run behind the last byte, or bytes behind the last run.
+        (13, 0) => "W8 Rest",
+        (10..=13, _) => "W7 Content",
+        // Its rank, and its first place, from 2^40 on.
+        (14..=17, _) => "ok",
+        (18..=20, _) => "W7 Content",
+        (21..=25, _) => "ok",
+        // How many cells: one with a byte behind it, else none or more than there are.
+        (29, 1) => "W8 Rest",
+        // A cell of another kind: an unknown one, or an event that is cut off.
+        _ => "W7 Content",
+    }
+}
+
+/// Whether reading answers so where a byte of the frame has another value.
+fn answers<R: Abort>(
+    rt: &R,
+    alloc: Global,
+    whole: &[u8],
+    position: usize,
+    value: u8,
+    want: &str,
+) -> bool {
+    let mut bytes = whole.to_vec(alloc).expect(rt, "memory");
+    if let Some(byte) = bytes.get_mut(position) {
+        *byte = value;
+    }
+    bytes.as_slice() == whole || answer(alloc, &bytes) == want
+}
+
+#[test]
+fn each_byte_of_a_short_frame_turned(rt: HostRuntime) {
+    for position in 0..32_usize {
+        for value in 0..=255_u8 {
+            let want = wanted_of_nothing(position, value);
+            let nothing = answers(&rt, rt.alloc(), NOTHING, position, value, want);
+            let want = wanted_of_run(position, value);
+            let run = answers(&rt, rt.alloc(), RUN, position, value, want);
+            assert!(rt; nothing && run, "byte {position} is {value}");
+        }
+    }
+}

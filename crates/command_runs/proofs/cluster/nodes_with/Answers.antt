@@ -1,8 +1,9 @@
-use Rattle.std.proofs.Common.{◌∷◌, [], inr}
+use Rattle.std.proofs.Common.{rules, ◌≡◌, ◌∙◌, ◌∷◌, [], inr, sym, true}
 use Rattle.input_files.specs.Manifests.{RefusesManifest}
 use Rattle.command_runs.specs.Clusters.{IsFaultFor, by_node}
 use Rattle.command_runs.specs.Texts.{AreShares}
 use Rattle.command_runs.proofs.OwnPieces.{own_known}
+use Rattle.command_runs.proofs.Listed.{holds, no_packed}
 use Rattle.command_runs.proofs.Stops.{named_one, stopped}
 use Rattle.command_runs.proofs.Unread.{crews_unread, input_unread, input_untold, piece_unread, stopped_untold}
 use Rattle.command_runs.proofs.cluster.nodes_with.Goals as goal
@@ -11,9 +12,12 @@ pub returns-in-Ok-cluster-clause-ok : goal.returns-in-Ok-cluster-clause-ok
 returns-in-Ok-cluster-clause-ok g c =
     let file = g.O.Opener.file c.args.files.now in
     let are : AreShares file c.in-Ok.manifest.pieces c.in-Ok-texts_of_all.texts = rw (c.manifest_at.ensures.same, c.pieces.ensures) at c.in-Ok-texts_of_all.ensures.ok in
-    let known = c.in-Ok-cluster.ensures.ok in (
+    let known = c.in-Ok-cluster.ensures.ok in
+    let empty : c.is_empty.result ≡ true = search (rules, holds c.is_empty.result) in
+    let none : c.in-Ok.manifest.packed ≡ [] = sym c.packed.ensures ∙ no_packed c.packed.result.now c.is_empty.result c.is_empty.ensures empty in (
       c.in-Ok.manifest,
       c.in-Ok.ensures.ok,
+      none,
       known.0.layout_is,
       known.1.layout_is,
       own_known c.whole_segments.ensures file c.args.layout.now c.in-Ok.manifest.pieces c.in-Ok-texts_of_all.texts c.in-Ok-cluster.nodes.0 c.in-Ok-cluster.nodes.1 are known.0 known.1,
@@ -37,8 +41,8 @@ returns-clause-err g c =
     inr (inr (
       c.in-Ok.manifest,
       c.in-Ok.ensures.ok,
-      inr (stopped c.whole_segments.ensures file c.args.layout.now c.in-Ok.manifest.pieces c.in-Ok-texts_of_all.texts c.in-Err-cluster.fault
-          c.in_ok-fault_of-in-Err-cluster.field-0 are c.in-Err-cluster.ensures.err is),
+      inr (inr (stopped c.whole_segments.ensures file c.args.layout.now c.in-Ok.manifest.pieces c.in-Ok-texts_of_all.texts c.in-Err-cluster.fault
+          c.in_ok-fault_of-in-Err-cluster.field-0 are c.in-Err-cluster.ensures.err is)),
     ))
 
 pub returns-in-Err-clause-unread : goal.returns-in-Err-clause-unread

@@ -1,0 +1,19 @@
+-- What all pieces of a manifest tell together.
+use Rattle.std.specs.Prelude.{◌≡◌, ℕ, List, Option}
+use Rattle.std.specs.List.{All}
+use Rattle.mpi_model.specs.Layouts.{Parts}
+use Rattle.trace_know.specs.Trace.{Trace, view_of}
+use Rattle.trace_know.specs.View.{View, join}
+use Rattle.input_files.specs.Manifests.{ManifestParts}
+use Rattle.command_runs.specs.Inputs.{TellsManifest}
+use Rattle.command_runs.specs.Packed.{TellPacked}
+use Rattle.command_runs.specs.Traces.{IsInside, TellTrace}
+
+-- The view is the join of what the packed files tell and of the view of the facts of all texts, all of ranks below a number.
+abbrev pub TellAll : (List ℕ → Option (List ℕ)) → ℕ → ManifestParts → View → Type 0
+TellAll file ranks m view = (packed : View) × (trace : Trace) × TellPacked file ranks m.packed packed
+    × TellTrace file m.pieces trace × All (IsInside file ranks) m.pieces × (view ≡ join packed (view_of trace))
+
+-- All that the pieces tell that the manifest names, of ranks of the layout.
+abbrev pub IsKnownBy : (List ℕ → Option (List ℕ)) → Parts → List ℕ → View → Type 0
+IsKnownBy file l manifest view = (m : ManifestParts) × TellsManifest (file manifest) m × TellAll file l.ranks m view

@@ -1,0 +1,117 @@
+//! What the packed files of a manifest tell together.
+
+ghost use Rattle.std.specs.Prelude.{◌≡◌, ◌⊎◌, IfErr, IfOk};
+ghost use Rattle.dumpi_text.specs.Failing.{Fails};
+ghost use Rattle.trace_know.specs.View.{join};
+ghost use Rattle.trace_node.specs.Node.{IsWithin};
+ghost use Rattle.trace_wire.specs.Packed.{IsOfRanks, Unpacks};
+ghost use Rattle.command_runs.specs.Files.{NamesFailed, NamesUnreadable};
+ghost use Rattle.command_runs.specs.Packed.{IsFrameFault, RefusesFirstPacked, RefusesPackedFile, TellPacked};
+ghost use Rattle.command_runs.specs.declared.whole.TheConstants.{LONGEST_FILE};
+
+use crate::fault::RunFault;
+use crate::opener::{OpenFault, Opener};
+use input_files::PackedPiece;
+use mpi_model::Layout;
+use std::alloc::{AllocError, Global};
+use trace_know::{Knowledge, join_laws};
+use trace_wire::{Joining, PackedCause, PackedFault, WireFault, read_frames};
+
+// The fault of a run whose packed file has a refused frame.
+fn refusal(alloc: Global, path: &str, fault: PackedFault) -> Result<RunFault, AllocError>
+    ensures { IfOk result (IsFrameFault path.now fault) }
+{
+    let PackedFault { frame, cause } = fault;
+    match cause {
+        PackedCause::Wire(WireFault::Memory) => Ok(RunFault::Memory),
+        _ => Ok(RunFault::PackedFrame {
+            cause,
+            path: path.to_string(alloc)?,
+            frame,
+        }),
+    }
+}
+
+// What the frames of a file tell, all of ranks of the layout.
+fn packed_at<O: Opener>(
+    alloc: Global,
+    layout: &Layout,
+    path: &str,
+    files: &mut O,
+) -> Result<Knowledge, RunFault>
+    ensures ok { IfOk result (λ know. Unpacks layout.now.ranks (O.file files.old path.now) know) }
+    ensures of { IfOk result (λ know. IsOfRanks layout.now.ranks know) }
+    ensures err { IfErr result (RefusesPackedFile path.now layout.now.ranks (O.file files.old path.now)) }
+    ensures same { O.file files.new ≡ O.file files.old }
+{
+    let mut reader = match files.open(path) {
+        Ok(reader) => reader,
+        Err(OpenFault::Memory) => return Err(RunFault::Memory),
+        Err(OpenFault::File) => {
+            return Err(RunFault::File {
+                path: path.to_string(alloc)?,
+            });
+        }
+    };
+    match read_frames(alloc, &mut reader, layout.ranks()) {
+        Ok(know) => Ok(know),
+        Err(fault) => Err(refusal(alloc, path, fault)?),
+    }
+}
+
+/// What the packed files tell together, each read frame by frame and all of ranks of the layout.
+pub(crate) fn packed_of<O: Opener>(
+    alloc: Global,
+    layout: &Layout,
+    packed: &[PackedPiece],
+    files: &mut O,
+) -> Result<Knowledge, RunFault>
+    ensures ok { IfOk result (λ know. TellPacked (O.file files.old) layout.now.ranks packed.now know) }
+    ensures within { IfOk result (λ know. IsWithin layout.now know) }
+    ensures err { IfErr result (λ fault. (fault ≡ RunFault.Memory) ⊎ RefusesFirstPacked (O.file files.old) layout.now.ranks packed.now fault) }
+    ensures unread { IfErr result (λ fault. NamesUnreadable LONGEST_FILE (Fails O.R.failures) (O.file files.old) fault) }
+    ensures failed { IfErr result (NamesFailed (Fails O.R.failures)) }
+    ensures same { O.file files.new ≡ O.file files.old }
+{
+    join_laws();
+    let mut all = Joining::new(alloc);
+    for piece in packed {
+        let know = match packed_at(alloc, layout, piece.file(), files) {
+            Ok(know) => know,
+            Err(fault) => return Err(fault),
+        };
+        all = all.taking(know)?;
+    }
+    Ok(all.into_knowledge()?)
+}
+
+// The first with what the other tells too.
+fn with(more: Knowledge, fewer: Knowledge) -> Result<Knowledge, AllocError>
+    ensures { IfOk result (λ know. know ≡ join more fewer) }
+{
+    let mut all = more;
+    all.join(&fewer)?;
+    Ok(all)
+}
+
+/// What packed files and texts tell, of ranks of the layout. What has fewer places is joined into the other.
+pub(crate) fn joined(
+    layout: &Layout,
+    packed: Knowledge,
+    texts: Knowledge,
+) -> Result<Knowledge, AllocError>
+    requires packed { IsWithin layout.now packed }
+    requires texts { IsWithin layout.now texts }
+    ensures know { IfOk result (λ know. know ≡ join packed texts) }
+    ensures within { IfOk result (λ know. IsWithin layout.now know) }
+{
+    join_laws();
+    let _ = layout;
+    let (few, many) = (packed.count(), texts.count());
+    if few < many {
+        let swapped = with(texts, packed)?;
+        return Ok(swapped);
+    }
+    let all = with(packed, texts)?;
+    Ok(all)
+}
