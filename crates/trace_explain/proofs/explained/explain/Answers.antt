@@ -1,4 +1,4 @@
-use Rattle.std.proofs.Common.{◌≡◌, ◌∙◌, List, Option, ℕ, ap, subst}
+use Rattle.std.proofs.Common.{◌∙◌, List, Option, ℕ, ap, subst}
 use Rattle.std.proofs.lemmas.Result.{IfOk-weaker}
 use Rattle.trace_ops.specs.Ops.{Ops}
 use Rattle.trace_wait.specs.declared.round.Round.{Round}
