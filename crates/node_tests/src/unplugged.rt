@@ -1,5 +1,8 @@
 //! A network that gives no port, or no connection.
 
+ghost use Rattle.std.specs.Prelude.{◌≡◌};
+ghost use Rattle.std.specs.FinMap.{empty};
+
 use crate::crew::{CALL, pieces};
 use crate::fixture::layout;
 use std::alloc::Global;
@@ -41,7 +44,9 @@ impl<'a, R: Net<Listener = TcpListener, Stream = TcpStream>> Net for Unplugged<'
 }
 
 /// A call of a rank, as the piece of a node's first worker.
-fn workload<R: Abort>(rt: &R, alloc: Global, rank: u32) -> Workload {
+fn workload<R: Abort>(rt: &R, alloc: Global, rank: u32) -> Workload
+    ensures { result.known ≡ empty }
+{
     Workload {
         first: pieces(rt, alloc, &[(rank, 0, CALL)]),
         second: Vec::new(alloc),
