@@ -1,6 +1,7 @@
 -- What is said of the texts that were read.
-use Rattle.std.specs.Prelude.{◌-◌, ◌&&◌, ◌||◌, ◌==◌, ℕ, zero, suc, Bool, true, false, List, [], ◌∷◌, ◌++◌, length, codes, decimal, filter, take, nat_le, nat_lt, is_some, Option, Some, None, if◌then◌else◌}
-use Rattle.std.specs.List.{flat_map}
+use Rattle.std.specs.Prelude.{◌-◌, ◌&&◌, ◌||◌, ◌==◌, ℕ, zero, suc, Bool, true, false, not, List, [], ◌∷◌, ◌++◌, length, codes, decimal, filter, take, nat_le, nat_lt, is_some, Option, Some, None, if◌then◌else◌}
+use Rattle.std.specs.List.{flat_map, list_any}
+use Rattle.call_words.specs.Ranges.{named_ranks_text}
 use Rattle.text_notes.specs.Noted.{UnreadParts, counted, sum_of}
 use Rattle.text_notes.specs.Places.{first_where, place_of}
 use Rattle.text_notes.specs.declared.start.Start.{Start}
@@ -89,6 +90,26 @@ totals_text (f ∷ functions) others =
 abbrev pub functions_text : Totals → List ℕ
 functions_text t = totals_text t.functions t.others
 
+-- ---- ranks of which nothing is known
+
+abbrev pub is_of_rank : ℕ → NoteParts → Bool
+is_of_rank rank note = note.rank == rank
+
+abbrev pub has_no_text : List NoteParts → ℕ → Bool
+has_no_text notes rank = not (list_any (is_of_rank rank) notes)
+
+-- those that have no text
+abbrev pub pieceless : List NoteParts → List ℕ → List ℕ
+pieceless notes unknown = filter (has_no_text notes) unknown
+
+-- `  no piece tells anything of ranks 3, 5`
+abbrev pub these_pieceless_text : List ℕ → List ℕ
+these_pieceless_text ranks = codes "  no piece tells anything of " ++ named_ranks_text ranks ++ codes "\n"
+
+abbrev pub pieceless_text : List ℕ → List ℕ
+pieceless_text [] = []
+pieceless_text (r ∷ ranks) = these_pieceless_text (r ∷ ranks)
+
 -- ---- text by text
 
 -- `  rank 0, call 17: MPI_Start is not read (r0.txt)`, of the first such call
@@ -140,8 +161,9 @@ kind_text kind notes = flat_map (line_text kind) (take most_shown (of_kind kind 
 
 -- ---- the whole
 
-abbrev pub notes_text : List NoteParts → List ℕ
-notes_text notes = functions_text (totals_of notes) ++ kind_text Unread notes ++ kind_text Callless notes ++ kind_text Skipped notes
+-- what is said of the texts, and of the ranks of which nothing is known
+abbrev pub notes_text : List ℕ → List NoteParts → List ℕ
+notes_text unknown notes = pieceless_text (pieceless notes unknown) ++ functions_text (totals_of notes) ++ kind_text Unread notes ++ kind_text Callless notes ++ kind_text Skipped notes
 
 -- ---- where stuck calls stand
 

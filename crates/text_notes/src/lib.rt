@@ -6,6 +6,7 @@ mod laws;
 mod line;
 mod note;
 mod noting;
+mod pieceless;
 mod place;
 mod start;
 mod totals;

@@ -13,6 +13,7 @@ use Rattle.trace_ops.specs.declared.state.State.TheVariants.{Ended, Free, Waitin
 use Rattle.trace_node.specs.Answer.{Answered, Stopped}
 use Rattle.call_words.specs.Ranges.{named_ranks_text, ranges_text}
 use Rattle.trace_explain.specs.Hearts.{AreHearts}
+use Rattle.trace_explain.specs.Lacking.{lacking_text}
 use Rattle.trace_explain.specs.LeftText.{left_over_text}
 use Rattle.trace_explain.specs.Mismatches.{is_mismatched, mismatched, mismatches_text}
 use Rattle.trace_explain.specs.Sections.{headed_text, lines_of}
@@ -95,6 +96,18 @@ abbrev pub unread_below : Answered → ℕ → List ℕ
 unread_below a zero = []
 unread_below a (suc rank) = if is_unread a rank then unread_below a rank ++ rank ∷ [] else unread_below a rank
 
+-- nothing at all is known of the rank
+abbrev pub is_unknown : Answered → ℕ → Bool
+is_unknown a rank = is_unread a rank && not (unwrap_or (slice_get a.beyond rank) false)
+
+abbrev pub unknown_below : Answered → ℕ → List ℕ
+unknown_below a zero = []
+unknown_below a (suc rank) = if is_unknown a rank then unknown_below a rank ++ rank ∷ [] else unknown_below a rank
+
+-- the ranks of which nothing at all is known
+abbrev pub unknown_in : Answered → List ℕ
+unknown_in a = unknown_below a a.ranks
+
 -- what is known of the rank ends at a call that isn't read
 abbrev pub ends_unread : Answered → ℕ → Bool
 ends_unread a rank = unwrap_or (slice_get a.unread rank) false
@@ -139,14 +152,15 @@ ends_unread_text a = some_end_text (ends_unread_below a a.ranks)
 abbrev pub gapped_text : Answered → List ℕ
 gapped_text a = some_ranks_text (codes "  behind a gap or a contradiction more is known, and not used, of ranks ") (gapped_below a a.ranks)
 
-abbrev pub doubts_text : Answered → List ℕ
-doubts_text a = codes "\nWhat should make one doubt this:\n"
+abbrev pub doubts_text : Parts → Answered → View → List ℕ
+doubts_text layout a view = codes "\nWhat should make one doubt this:\n"
     ++ unread_text a
     ++ ends_unread_text a
     ++ gapped_text a
     ++ conflicts_text a.conflicts
     ++ all_postponed_text a.postponed
     ++ foreign_text a.foreign
+    ++ lacking_text layout a view
     ++ codes "  calls of functions that mpimatch doesn't know count as local\n"
 
 -- The whole
@@ -182,7 +196,7 @@ explained_text layout ops a view hearts other =
     ++ mismatches_text layout.comms ops (mismatched a.rounds)
     ++ left_over_text a view ops
     ++ sends_text a.sends (length a.stuck) (stuck_ranks other)
-    ++ doubts_text a
+    ++ doubts_text layout a view
 
 -- The text says so of the hearts.
 abbrev pub IsExplained : Parts → Answered → View → Answered → List ℕ → Type 0

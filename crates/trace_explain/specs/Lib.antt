@@ -11,4 +11,6 @@ pub mod Mismatches
 pub mod LeftOver
 pub mod LeftText
 pub mod Offers
+pub mod Lacking
 pub mod Explained
+pub mod OneRank

@@ -3,12 +3,14 @@
 ghost use Rattle.std.specs.Prelude.{◌≡◌, IfOk};
 ghost use Rattle.std.specs.List.{flat_map};
 ghost use Rattle.call_words.specs.Texts.{Adds};
-ghost use Rattle.trace_explain.specs.Explained.{all_postponed_text, conflict_text, conflicts_text, doubts_text, ends_unread, ends_unread_below, ends_unread_text, foreign_text, gapped_below, gapped_text, is_gapped, is_unread, postponed_text, side_text, some_end_text, some_foreign_text, some_ranks_text, these_end_text, unread_below, unread_text};
+ghost use Rattle.trace_explain.specs.Explained.{all_postponed_text, conflict_text, conflicts_text, doubts_text, ends_unread, ends_unread_below, ends_unread_text, foreign_text, gapped_below, gapped_text, is_gapped, is_unknown, is_unread, postponed_text, side_text, some_end_text, some_foreign_text, some_ranks_text, these_end_text, unknown_below, unknown_in, unread_below, unread_text};
 
+use crate::lacking::put_lacking;
 use crate::shown::{MOST_SHOWN, put_more, shown};
 use call_words::{Text, put_named_ranks, put_ranges};
-use mpi_model::OpName;
+use mpi_model::{Layout, OpName};
 use std::alloc::{AllocError, Global};
+use trace_know::Knowledge;
 use trace_node::Answer;
 
 fn put_conflict(out: &mut Text, at: &(u32, u64))
@@ -98,6 +100,25 @@ fn is_unread(answer: &Answer, rank: u32) -> bool
     ensures { result ≡ is_unread answer.now rank }
 {
     answer.prefixes().get(rank as usize).copied().unwrap_or(0) == 0
+}
+
+fn is_unknown(answer: &Answer, rank: u32) -> bool
+    ensures { result ≡ is_unknown answer.now rank }
+{
+    is_unread(answer, rank) && !answer.beyond().get(rank as usize).copied().unwrap_or(false)
+}
+
+/// The ranks of which nothing at all is known, in rising order: a person wants to hear whether a piece is theirs.
+pub fn unknown_ranks(alloc: Global, answer: &Answer) -> Result<Vec<u32>, AllocError>
+    ensures { IfOk result (λ ranks. ranks.items ≡ unknown_in answer.now) }
+{
+    let mut ranks = Vec::new(alloc);
+    for rank in 0..answer.ranks() {
+        if is_unknown(answer, rank) {
+            ranks.push(rank)?;
+        }
+    }
+    Ok(ranks)
 }
 
 /// The ranks whose readable events end at a call that isn't read.
@@ -206,8 +227,14 @@ fn put_some_foreign(out: &mut Text, foreign: u64)
 }
 
 /// What should make one doubt the answer.
-pub(crate) fn put_doubts(alloc: Global, out: &mut Text, answer: &Answer)
-    ensures { Adds out.old out.new (doubts_text answer.now) }
+pub(crate) fn put_doubts(
+    alloc: Global,
+    out: &mut Text,
+    layout: &Layout,
+    answer: &Answer,
+    know: &Knowledge,
+)
+    ensures { Adds out.old out.new (doubts_text layout.now answer.now know.now) }
 {
     out.put(b"\nWhat should make one doubt this:\n");
     put_unread(alloc, out, answer);
@@ -216,5 +243,6 @@ pub(crate) fn put_doubts(alloc: Global, out: &mut Text, answer: &Answer)
     put_conflicts(out, answer.conflicts());
     put_all_postponed(out, answer.postponed());
     put_foreign(out, answer.foreign());
+    put_lacking(alloc, out, layout, answer, know);
     out.put(b"  calls of functions that mpimatch doesn't know count as local\n");
 }

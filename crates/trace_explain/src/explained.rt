@@ -41,11 +41,11 @@ pub fn explain(
     put_mismatches(alloc, &mut text, layout, &ops, answer.rounds());
     put_left_over(alloc, &mut text, answer, know, &ops);
     put_sends(alloc, &mut text, answer, other);
-    put_doubts(alloc, &mut text, answer);
+    put_doubts(alloc, &mut text, layout, answer, know);
     text.into_bytes()
 }
 
-fn is_waiting(state: State) -> bool
+pub(crate) fn is_waiting(state: State) -> bool
     ensures { result ≡ is_waiting state }
 {
     match state {
@@ -74,7 +74,7 @@ fn needs_ops(answer: &Answer) -> bool
 }
 
 /// What the ranks did, where it is spoken of.
-fn needed_ops(
+pub(crate) fn needed_ops(
     alloc: Global,
     layout: &Layout,
     answer: &Answer,

@@ -23,8 +23,9 @@
 //!   are shown
 //! - [`left_over`]: messages without a receive and receives without a message, by [`names`] of calls and by
 //!   [`offers`] of messages; [`left_text`]: the same in words
-//! - [`head`]: how it stands, and under the other kind of sends; [`doubts`]: what makes it doubtful
-//! - [`explained`]: the whole
+//! - [`head`]: how it stands, and under the other kind of sends; [`doubts`]: what makes it doubtful;
+//!   [`lacking`]: communicators that calls name and the layout doesn't have
+//! - [`explained`]: the whole; [`one_rank`]: what is known of one rank
 //!
 //! Its words come from `call_words`. They cost what they say, and a comparison of each two stuck ranks.
 //! What the ranks did is looked at where a rank waits or collective calls don't match: one pass over all
@@ -36,6 +37,7 @@ mod explained;
 mod graph;
 mod head;
 mod heart;
+mod lacking;
 mod laws;
 mod left_over;
 mod left_text;
@@ -43,6 +45,7 @@ mod line;
 mod mismatch;
 mod names;
 mod offers;
+mod one_rank;
 mod round;
 mod search;
 mod section;
@@ -50,6 +53,8 @@ mod shown;
 mod standing;
 mod waited;
 
+pub use doubts::unknown_ranks;
 pub use explained::explain;
 pub use heart::hearts;
 pub use laws::hearts_are_one;
+pub use one_rank::explain_rank;

@@ -42,7 +42,7 @@ fn put_words(
     put_not_entered(out, round, &stuck.waits);
 }
 
-fn line_of(
+pub(crate) fn line_of(
     alloc: Global,
     ops: &[RankOps],
     answer: &Answer,

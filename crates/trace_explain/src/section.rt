@@ -69,7 +69,7 @@ fn put_who(out: &mut Text, line: &Line, ranks: &[u32])
     }
 }
 
-fn put_line(out: &mut Text, line: &Line, ranks: &[u32])
+pub(crate) fn put_line(out: &mut Text, line: &Line, ranks: &[u32])
     ensures { Adds out.old out.new (line_text (said line.now) ranks.now) }
 {
     out.put(b"  ");

@@ -1,0 +1,130 @@
+-- What `explain --rank R` says: what is known of one rank.
+use Rattle.std.specs.Prelude.{ℕ, zero, suc, ◌+◌, ◌-◌, ◌==◌, ◌&&◌, Bool, true, false, find, if◌then◌else◌, min, nat_lt, Option, Some, None, List, [], ◌∷◌, ◌++◌, codes, decimal, slice_get, unwrap_or}
+use Rattle.std.specs.List.{flat_map}
+use Rattle.mpi_model.specs.Failures.{one_more}
+use Rattle.mpi_model.specs.Layouts.{Parts}
+use Rattle.mpi_model.specs.declared.event.Event.{Event}
+use Rattle.mpi_model.specs.declared.event.Event.TheVariants.{Enter, Return}
+use Rattle.mpi_model.specs.declared.event.OpName.{OpName}
+use Rattle.trace_know.specs.Prefix.{event_at}
+use Rattle.trace_know.specs.View.{View}
+use Rattle.trace_ops.specs.Ops.{Ops}
+use Rattle.trace_ops.specs.declared.state.State.TheVariants.{Ended}
+use Rattle.trace_pair.specs.declared.pair.Pair.{Pair}
+use Rattle.trace_node.specs.Answer.{Answered, Stopped}
+use Rattle.call_words.specs.Seconds.{seconds_text}
+use Rattle.trace_explain.specs.Explained.{ends_unread, is_gapped, is_waiting, needed_ops}
+use Rattle.trace_explain.specs.Lacking.{calls_read}
+use Rattle.trace_explain.specs.Sections.{Said, entry_of, line_text, said_of}
+use Rattle.trace_explain.specs.Shown.{most_shown}
+use Rattle.trace_explain.specs.Standing.{place_text, rank_text}
+
+-- The messages of a call
+
+-- the name is that of this call
+abbrev pub is_call : ℕ → ℕ → OpName → Bool
+is_call rank call name = name.rank == rank && name.call == call
+
+abbrev pub named_text : OpName → List ℕ
+named_text name = codes "call " ++ decimal name.call ++ codes " of rank " ++ decimal name.rank
+
+-- `; its message went to call 5 of rank 1`
+abbrev pub went_text : ℕ → ℕ → Pair → List ℕ
+went_text rank call pair = if is_call rank call pair.message then codes "; its message went to " ++ named_text pair.receive else []
+
+-- `; its message came from call 1 of rank 0`
+abbrev pub came_text : ℕ → ℕ → Pair → List ℕ
+came_text rank call pair = if is_call rank call pair.receive then codes "; its message came from " ++ named_text pair.message else []
+
+-- what a pair tells of a call
+abbrev pub partner_text : ℕ → ℕ → Pair → List ℕ
+partner_text rank call pair = went_text rank call pair ++ came_text rank call pair
+
+abbrev pub partners_text : List Pair → ℕ → ℕ → List ℕ
+partners_text pairs rank call = flat_map (partner_text rank call) pairs
+
+-- When a call was entered and returned
+
+abbrev pub wall_of : Option Event → ℕ
+wall_of (Some (Enter call time)) = time.wall
+wall_of (Some (Return outs time)) = time.wall
+wall_of None = 0
+
+abbrev pub wall_at : View → ℕ → ℕ → ℕ
+wall_at view rank place = wall_of (event_at view rank place)
+
+abbrev pub to_text : ℕ → ℕ → List ℕ
+to_text from until = seconds_text from ++ codes " to " ++ seconds_text until
+
+abbrev pub since_text : ℕ → List ℕ
+since_text from = codes "since " ++ seconds_text from
+
+-- `1.000000000 to 1.250000000`, or `since 1.000000000`, by the place where it was entered
+abbrev pub span_text : View → ℕ → ℕ → ℕ → List ℕ
+span_text view rank prefix place =
+    if nat_lt (one_more place) prefix then to_text (wall_at view rank place) (wall_at view rank (one_more place)) else since_text (wall_at view rank place)
+
+-- The last calls
+
+-- how far a rank can be read
+abbrev pub prefix_in : Answered → ℕ → ℕ
+prefix_in a rank = unwrap_or (slice_get a.prefixes rank) 0
+
+-- `  call 3, 1.000000000 to 1.250000000: `, the call, and its messages
+abbrev pub call_line : Answered → View → ℕ → ℕ → List ℕ
+call_line a view rank call =
+    codes "  call " ++ decimal call ++ codes ", " ++ span_text view rank (prefix_in a rank) (entry_of call) ++ codes ": "
+    ++ place_text view rank (entry_of call) ++ partners_text a.pairs rank call ++ codes "\n"
+
+-- so many calls from a first one on
+abbrev pub calls_from : Answered → View → ℕ → ℕ → ℕ → List ℕ
+calls_from a view rank first zero = []
+calls_from a view rank first (suc count) = calls_from a view rank first count ++ call_line a view rank (first + count)
+
+-- the last ten of so many
+abbrev pub last_calls_text : Answered → View → ℕ → ℕ → List ℕ
+last_calls_text a view rank count =
+    codes "\nIts last calls, of " ++ decimal count ++ codes " that can be read:\n" ++ calls_from a view rank (count - most_shown) (count - (count - most_shown))
+
+abbrev pub calls_text : Answered → View → ℕ → ℕ → List ℕ
+calls_text a view rank count = if count == 0 then [] else last_calls_text a view rank count
+
+-- How it stands
+
+abbrev pub is_of : ℕ → Stopped → Bool
+is_of rank s = s.rank == rank
+
+abbrev pub not_stuck_text : Bool → List ℕ
+not_stuck_text true = codes "\nIt is not stuck: what it waits for may still come.\n"
+not_stuck_text false = []
+
+abbrev pub waits_in : Answered → ℕ → Bool
+waits_in a rank = is_waiting (unwrap_or (slice_get a.states rank) Ended)
+
+abbrev pub stuck_line : Said → List ℕ
+stuck_line s = codes "\nIt is stuck:\n" ++ line_text s (s.rank ∷ [])
+
+-- it is stuck, in that call, and waits for these; or it waits and isn't stuck
+abbrev pub standing_text : List Ops → Answered → View → Option Stopped → Bool → List ℕ
+standing_text ops a view (Some s) waiting = stuck_line (said_of ops a view s)
+standing_text ops a view None waiting = not_stuck_text waiting
+
+abbrev pub stuck_text : List Ops → Answered → View → ℕ → List ℕ
+stuck_text ops a view rank = standing_text ops a view (find (is_of rank) a.stuck) (waits_in a rank)
+
+abbrev pub end_text : Answered → ℕ → List ℕ
+end_text a rank = if ends_unread a rank then codes "\nWhat is known of it ends at a call that mpimatch does not read.\n" else []
+
+abbrev pub gap_text : Answered → ℕ → List ℕ
+gap_text a rank = if is_gapped a rank then codes "\nBehind a gap or a contradiction more of it is known, and not used.\n" else []
+
+-- The whole
+
+abbrev pub one_rank_text : List Ops → Answered → View → ℕ → List ℕ
+one_rank_text ops a view rank =
+    codes "What is known of " ++ rank_text a view rank ++ codes "\n" ++ stuck_text ops a view rank
+    ++ end_text a rank ++ gap_text a rank ++ calls_text a view rank (calls_read (prefix_in a rank))
+
+-- what is said of a rank of an answer and of what is known
+abbrev pub rank_explained_text : Parts → Answered → View → ℕ → List ℕ
+rank_explained_text layout a view rank = one_rank_text (needed_ops layout a view) a view rank

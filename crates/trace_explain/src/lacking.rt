@@ -1,0 +1,273 @@
+//! The communicators that calls name and the layout doesn't have.
+
+ghost use Rattle.std.specs.Prelude.{◌≡◌, ◌<◌, IfSome, OnOk, IfOk, length, option_map, position};
+ghost use Rattle.std.specs.List.{flat_map};
+ghost use Rattle.call_words.specs.Texts.{Adds};
+ghost use Rattle.trace_know.specs.Cell.{shown};
+ghost use Rattle.trace_know.specs.Prefix.{event_of};
+ghost use Rattle.trace_ops.specs.Foreign.{comm_of};
+ghost use Rattle.trace_explain.specs.Lacking.{calls_read, calls_word, has_number, lacked_by, lacked_number, lacked_text, lacking_below, lacking_line, lacking_line_of, lacking_text, next_lacked_text, no_lacking, once_more, other_lacked_text, with_calls, with_new, with_number, with_place};
+
+use crate::shown::MOST_SHOWN;
+use call_words::Text;
+use mpi_model::{Call, CommRef, Event, Layout};
+use std::alloc::{AllocError, Global};
+use std::marker::Model;
+use trace_know::{Cell, Knowledge};
+use trace_node::Answer;
+
+/// A number by which calls name a communicator, and how many calls do.
+#[derive(Clone, Copy, Debug)]
+pub(crate) struct Lacked {
+    pub number: u32,
+    pub count: u64,
+}
+
+impl Lacked {
+    fn add(&mut self)
+        ensures { self.new ≡ once_more self.old }
+    {
+        self.count = self.count.saturating_add(1);
+    }
+}
+
+/// The first ten numbers of communicators that the layout doesn't have, and how many calls name others.
+#[derive(Debug, Drop)]
+struct Lacking {
+    listed: Vec<Lacked>,
+    others: u64,
+}
+
+impl Model for Lacking {
+    ghost use Rattle.trace_explain.specs.Lacking.{LackingParts};
+
+    ghost Value = { LackingParts };
+
+    ghost view = { λ k. record { listed = k.listed.items; others = k.others } };
+}
+
+fn place_of(listed: &[Lacked], number: u32) -> Option<usize>
+    ensures first { result ≡ position (has_number number) listed.now }
+    ensures within { IfSome result (λ at. at < length listed.now) }
+{
+    listed.iter().position(|l| l.number == number)
+}
+
+impl Lacking {
+    fn new(alloc: Global) -> Lacking
+        ensures { result ≡ no_lacking }
+    {
+        Lacking {
+            listed: Vec::new(alloc),
+            others: 0,
+        }
+    }
+
+    // a call of a number that isn't listed
+    fn put_new(&mut self, number: u32) -> Result<(), AllocError>
+        ensures { OnOk result (self.new ≡ with_new self.old number) }
+    {
+        if self.listed.len() < MOST_SHOWN {
+            self.listed.push(Lacked { number, count: 1 })?;
+        } else {
+            self.others = self.others.saturating_add(1);
+        }
+        Ok(())
+    }
+
+    // a call more of the number
+    fn put(&mut self, number: u32) -> Result<(), AllocError>
+        ensures { OnOk result (self.new ≡ with_place (position (has_number number) self.old.listed) self.old number) }
+    {
+        match place_of(&self.listed, number) {
+            Some(at) => {
+                self.listed[at].add();
+                Ok(())
+            }
+            None => self.put_new(number),
+        }
+    }
+
+    fn put_some(&mut self, number: Option<u32>) -> Result<(), AllocError>
+        ensures { OnOk result (self.new ≡ with_number self.old number) }
+    {
+        match number {
+            Some(number) => self.put(number),
+            None => Ok(()),
+        }
+    }
+}
+
+/// The communicator that a call names.
+fn comm_of(call: &Call) -> Option<CommRef>
+    ensures { result ≡ comm_of call.now }
+{
+    match call {
+        Call::Send(_, e) | Call::Isend(_, e) => Some(e.envelope().comm),
+        Call::Recv(e) | Call::Irecv(e) => Some(e.envelope().comm),
+        Call::Sendrecv(both) => Some(both.send().comm),
+        Call::Collective(c) => Some(c.comm()),
+        Call::Probe(e) => Some(e.comm()),
+        Call::Ibarrier(c) => Some(c.comm()),
+        Call::Local
+        | Call::Finalize
+        | Call::Wait(_)
+        | Call::Waitall(_)
+        | Call::Waitany(_)
+        | Call::Waitsome(_)
+        | Call::Test(_)
+        | Call::Testall(_)
+        | Call::Testany(_)
+        | Call::Testsome(_)
+        | Call::Cancel(_)
+        | Call::Free(_)
+        | Call::Unread => None,
+    }
+}
+
+/// The number by which call `n` of the rank names a communicator that the layout doesn't have.
+fn lacked_number(layout: &Layout, rank: u32, n: u64, comm: Option<CommRef>) -> Option<u32>
+    ensures { result ≡ lacked_number layout.now rank n comm }
+{
+    match comm {
+        Some(CommRef::Id(number)) => {
+            if layout.named(rank, n, CommRef::Id(number)).is_none() {
+                Some(number)
+            } else {
+                None
+            }
+        }
+        Some(CommRef::World) => None,
+        None => None,
+    }
+}
+
+fn lacked_by(layout: &Layout, rank: u32, n: u64, cell: Cell<'_>) -> Option<u32>
+    ensures { result ≡ lacked_by layout.now rank n (event_of (shown cell.entry)) }
+{
+    match cell {
+        Cell::One(Event::Enter(call, _)) => lacked_number(layout, rank, n, comm_of(call)),
+        Cell::One(Event::Return(_, _)) => None,
+        Cell::Nothing | Cell::Contradiction => None,
+    }
+}
+
+/// How many calls can be read below a place.
+pub(crate) fn calls_read(prefix: u64) -> u64
+    ensures { result ≡ calls_read prefix }
+{
+    prefix / 2 + prefix % 2
+}
+
+// With the first calls of a rank.
+fn with_calls(
+    layout: &Layout,
+    know: &Knowledge,
+    rank: u32,
+    lacking: Lacking,
+    count: u64,
+) -> Result<Lacking, AllocError>
+    ensures { IfOk result (λ k. k ≡ with_calls layout.now know.now rank lacking count) }
+{
+    let mut lacking = lacking;
+    for n in 0..count {
+        let number = lacked_by(layout, rank, n, know.cell(rank, n.saturating_mul(2)));
+        lacking.put_some(number)?;
+    }
+    Ok(lacking)
+}
+
+fn lacking_of(
+    alloc: Global,
+    layout: &Layout,
+    answer: &Answer,
+    know: &Knowledge,
+) -> Result<Lacking, AllocError>
+    ensures { IfOk result (λ k. k ≡ lacking_below layout.now answer.now know.now answer.now.ranks) }
+{
+    let mut lacking = Lacking::new(alloc);
+    for rank in 0..answer.ranks() {
+        let prefix = answer.prefixes().get(rank as usize).copied().unwrap_or(0);
+        lacking = with_calls(layout, know, rank, lacking, calls_read(prefix))?;
+    }
+    Ok(lacking)
+}
+
+fn calls_word(count: u64) -> &'static [u8]
+    ensures { result.now ≡ calls_word count }
+{
+    if count == 1 { b" call)" } else { b" calls)" }
+}
+
+fn put_lacked(out: &mut Text, lacked: &Lacked)
+    ensures { Adds out.old out.new (lacked_text lacked.now) }
+{
+    out.put_number(lacked.number as u64);
+    out.put(b" (");
+    out.put_number(lacked.count);
+    out.put(calls_word(lacked.count));
+}
+
+fn put_next(out: &mut Text, lacked: &Lacked)
+    ensures { Adds out.old out.new (next_lacked_text lacked.now) }
+{
+    out.put(b", ");
+    put_lacked(out, lacked);
+}
+
+fn put_each_next(out: &mut Text, listed: &[Lacked])
+    ensures { Adds out.old out.new (flat_map next_lacked_text listed.now) }
+{
+    for lacked in listed {
+        put_next(out, lacked);
+    }
+}
+
+fn put_others(out: &mut Text, others: u64)
+    ensures { Adds out.old out.new (other_lacked_text others) }
+{
+    if others > 0 {
+        out.put(b", others (");
+        out.put_number(others);
+        out.put(calls_word(others));
+    }
+}
+
+fn put_line(out: &mut Text, listed: &[Lacked], others: u64)
+    ensures { Adds out.old out.new (lacking_line listed.now others) }
+{
+    if let [lacked, rest @ ..] = listed {
+        out.put(
+            b"  communicators that the layout doesn't have, by the number in the calls: ",
+        );
+        put_lacked(out, lacked);
+        put_each_next(out, rest);
+        put_others(out, others);
+        out.put(b"\n");
+    }
+}
+
+fn put_lacking_line(out: &mut Text, lacking: &Lacking)
+    ensures { Adds out.old out.new (lacking_line_of lacking.now) }
+{
+    put_line(out, &lacking.listed, lacking.others);
+}
+
+/// The communicators that calls name and the layout doesn't have, where some call is foreign.
+pub(crate) fn put_lacking(
+    alloc: Global,
+    out: &mut Text,
+    layout: &Layout,
+    answer: &Answer,
+    know: &Knowledge,
+)
+    ensures { Adds out.old out.new (lacking_text layout.now answer.now know.now) }
+{
+    if answer.foreign() == 0 {
+        return;
+    }
+    match lacking_of(alloc, layout, answer, know) {
+        Ok(lacking) => put_lacking_line(out, &lacking),
+        Err(_) => out.give_up(),
+    }
+}
