@@ -1,16 +1,20 @@
 -- The command line of the program, as clap reads it.
-use Rattle.std.specs.Prelude.{◌≡◌, ℕ, List, [], Option, Some, None, if◌then◌else◌, true, codes}
+use Rattle.std.specs.Prelude.{◌≡◌, ℕ, List, [], Option, Some, None, if◌then◌else◌, false, true, codes, option_map}
 use Rattle.std.specs.Str.{bytes_eq}
+use Rattle.std.specs.Str.Parse.{digits_value, without_leading_plus}
 use Rattle.clap.specs.Words.{App, IsAmong, Row, Rule, Text, fault_of, first_of, kind_of, new_app, new_rule, subcommand_of, with_rule, with_subcommand}
 use Rattle.clap.specs.Simple.{on_top}
+use Rattle.clap.specs.ValueTests.{accepts}
 use Rattle.clap.specs.declared.builder.action.ArgAction.TheVariants.{SetTrue}
+use Rattle.clap.specs.declared.builder.value_parser.ValueParser.{ValueParser}
+use Rattle.clap.specs.declared.builder.value_parser.ValueParser.TheVariants.{Unsigned}
 use Rattle.clap.specs.declared.error.kind.ErrorKind.{ErrorKind}
 use Rattle.clap.specs.declared.error.kind.ErrorKind.TheVariants as kinds
 use Rattle.command_line.specs.declared.Asked.{Asked}
 use Rattle.command_line.specs.declared.CommandFault.{CommandFault}
 use Rattle.command_line.specs.declared.CommandFault.TheVariants.{Memory, Shown, Unread}
 use Rattle.command_line.specs.declared.Verb.{Verb}
-use Rattle.command_line.specs.declared.Verb.TheVariants.{Explain, Graph, Report, ReportJson, Replay, Cluster, Check, Pack}
+use Rattle.command_line.specs.declared.Verb.TheVariants.{Explain, ExplainRank, Graph, Report, ReportJson, Replay, Cluster, Check, Pack}
 
 -- a file that has to be named
 abbrev pub file_rule : Text → Rule
@@ -27,6 +31,19 @@ json_rule = record (new_rule (codes "json")) { long = Some (codes "json"); actio
 abbrev pub report_app : App
 report_app = with_rule (verb_app (codes "report")) json_rule
 
+-- the rank of which `explain` tells: a number of 32 bits
+abbrev pub rank_parser : ValueParser
+rank_parser = Unsigned 0 4294967295
+
+abbrev pub rank_rule : Rule
+rank_rule = record (new_rule (codes "rank")) { long = Some (codes "rank"); parser = Some rank_parser }
+
+abbrev pub explain_app : App
+explain_app = with_rule (verb_app (codes "explain")) rank_rule
+
+abbrev pub with_explain : App → App
+with_explain app = with_subcommand app explain_app.top
+
 abbrev pub with_report : App → App
 with_report app = with_subcommand app report_app.top
 
@@ -38,7 +55,7 @@ abbrev pub bare : App
 bare = on_top (λ s. record s { has_version = true; subcommand_required = true }) (new_app (codes "mpimatch"))
 
 abbrev pub program : App
-program = with_verb (with_verb (with_verb (with_verb (with_report (with_verb (with_verb bare (codes "explain")) (codes "graph"))) (codes "replay")) (codes "cluster")) (codes "check")) (codes "pack")
+program = with_verb (with_verb (with_verb (with_verb (with_report (with_verb (with_explain bare) (codes "graph"))) (codes "replay")) (codes "cluster")) (codes "check")) (codes "pack")
 
 abbrev pub verb_named : Text → Option Verb
 verb_named name = if bytes_eq name (codes "explain") then Some Explain
@@ -62,22 +79,35 @@ request_of a = record { verb = a.verb; layout = a.layout.now; manifest = a.manif
 abbrev pub report_in : Text → Verb
 report_in flag = if bytes_eq flag (codes "true") then ReportJson else Report
 
--- a verb with the flag for JSON, where it has one
-abbrev pub in_form : Verb → Option Text → Verb
-in_form Report (Some flag) = report_in flag
-in_form verb json = verb
+-- the number that a text writes, where it is one of 32 bits
+abbrev pub rank_in : Text → Option ℕ
+rank_in text = if accepts false rank_parser text then Some (digits_value 10 (without_leading_plus text)) else None
 
--- a verb with both of its files, and the flag for JSON
-abbrev pub together : Option Verb → Option Text → Option Text → Option Text → Option Request
-together None layout manifest json = None
-together (Some verb) None manifest json = None
-together (Some verb) (Some layout) None json = None
-together (Some verb) (Some layout) (Some manifest) json = Some (record { verb = in_form verb json; layout = layout; manifest = manifest })
+-- an explanation of the rank that the value of the flag says
+abbrev pub explain_in : Text → Option Verb
+explain_in text = option_map ExplainRank (rank_in text)
+
+-- a verb with the flag for JSON or that for a rank, where it has one
+abbrev pub in_form : Verb → Option Text → Option Text → Option Verb
+in_form Explain json (Some text) = explain_in text
+in_form Report (Some flag) rank = Some (report_in flag)
+in_form verb json rank = Some verb
+
+abbrev pub with_files : Text → Text → Verb → Request
+with_files layout manifest verb = record { verb = verb; layout = layout; manifest = manifest }
+
+-- a verb with both of its files, and its flags
+abbrev pub together : Option Verb → Option Text → Option Text → Option Text → Option Text → Option Request
+together None layout manifest json rank = None
+together (Some verb) None manifest json rank = None
+together (Some verb) (Some layout) None json rank = None
+together (Some verb) (Some layout) (Some manifest) json rank = option_map (with_files layout manifest) (in_form verb json rank)
 
 -- what the subcommand that was met asks for, with its values
 abbrev pub request_in : Option (Text × List Row) → Option Request
 request_in None = None
-request_in (Some met) = together (verb_named met.0) (first_of (codes "LAYOUT") met.1) (first_of (codes "MANIFEST") met.1) (first_of (codes "json") met.1)
+request_in (Some met) = together (verb_named met.0) (first_of (codes "LAYOUT") met.1) (first_of (codes "MANIFEST") met.1)
+    (first_of (codes "json") met.1) (first_of (codes "rank") met.1)
 
 -- Why the words ask for nothing. An error that is shown has one of the kinds that clap gives for
 -- them.

@@ -11,9 +11,10 @@
 ghost use Rattle.std.specs.Prelude.{◌≡◌, [], IfErr, IfOk, OnOk, Some, codes, false, map, option_map};
 ghost use Rattle.clap.specs.Words.{app_of, fault_of, rule_of, subcommand_of, subcommand_rows_of};
 ghost use Rattle.clap.specs.declared.builder.command.Command.TheViews.{out-Command};
-ghost use Rattle.command_line.specs.Program.{Refuses, bare, file_rule, in_form, json_rule, program, report_app, report_in, request_in, request_of, shown_status_of, verb_app, verb_named, with_report as and_report, with_verb as and_verb};
+ghost use Rattle.command_line.specs.Program.{Refuses, bare, explain_app, explain_in, file_rule, in_form, json_rule, program, rank_rule, report_app, report_in, request_in, request_of, shown_status_of, verb_app, verb_named, with_explain as and_explain, with_report as and_report, with_verb as and_verb};
 
 use clap::error::ErrorKind;
+use clap::builder::ValueParser;
 use clap::{Arg, ArgAction, ArgMatches, Command};
 use std::alloc::{AllocError, Global};
 use thiserror::Error;
@@ -23,6 +24,8 @@ use thiserror::Error;
 pub enum Verb {
     /// Say in words who is stuck, which of them hold up all others, and what makes the answer doubtful.
     Explain,
+    /// Say in words what is known of one rank.
+    ExplainRank(u32),
     /// Draw for whom each stuck rank waits, as Graphviz DOT.
     Graph,
     /// Print the report of a trace.
@@ -116,6 +119,10 @@ first of those that hold up one another, the hearts of the deadlocks, and then o
 for them. Ranks that stand alike share a line. Below that it says what would be stuck if sends completed
 in the other way, which pieces disagree, where something is missing, and what else makes the answer
 doubtful. mpimatch report has all facts, one a line.
+
+With --rank it says what is known of one rank: how far it can be read, whether it is stuck and whom it
+waits for, and its last ten calls that can be read, with their times and where their messages went.
+  mpimatch explain --rank 2 layout.json manifest.json
 "#;
 
 // What the help of `graph` says below its arguments.
@@ -244,13 +251,7 @@ Other lines name a rule of layouts, or a file and its line: docs/formats.md has 
 fn program_command<'a>(alloc: Global) -> Result<Command<'a>, AllocError>
     ensures { IfOk result (λ c. app_of c ≡ program) }
 {
-    let command = with_verb(
-        bare_command(alloc),
-        alloc,
-        "explain",
-        "Says in words who is stuck, and which ranks hold up all others",
-        EXPLAIN_HELP,
-    )?;
+    let command = with_explain(bare_command(alloc), alloc)?;
     let command = with_verb(
         command,
         alloc,
@@ -312,6 +313,37 @@ fn with_verb<'a>(
 {
     let verb = verb_command(alloc, name, about, more)?;
     command.subcommand(verb)
+}
+
+/// Adds `explain`, which has a flag.
+fn with_explain<'a>(command: Command<'a>, alloc: Global) -> Result<Command<'a>, AllocError>
+    ensures { IfOk result (λ c. app_of c ≡ and_explain (app_of command.entry)) }
+{
+    let explain = explain_command(alloc)?;
+    command.subcommand(explain)
+}
+
+fn explain_command<'a>(alloc: Global) -> Result<Command<'a>, AllocError>
+    ensures shape { IfOk result (λ c. app_of c ≡ explain_app) }
+    ensures local { IfOk result (λ c. (out-Command c).has_globals ≡ false) }
+{
+    let bare = verb_command(
+        alloc,
+        "explain",
+        "Says in words who is stuck, and which ranks hold up all others",
+        EXPLAIN_HELP,
+    )?;
+    bare.arg(rank_argument(alloc))
+}
+
+fn rank_argument<'a>(alloc: Global) -> Arg<'a>
+    ensures rule { rule_of result ≡ rank_rule }
+    ensures local { result.global ≡ false }
+{
+    Arg::new(alloc, "rank")
+        .long("rank")
+        .help("Says what is known of this rank alone")
+        .value_parser(ValueParser::unsigned(0, 4294967295))
 }
 
 /// Adds `report`, which has a flag.
@@ -400,13 +432,23 @@ fn verb_of(name: &str) -> Option<Verb>
     }
 }
 
-/// The verb, where its flag is set or not.
-fn in_form(verb: Verb, json: Option<&str>) -> Verb
-    ensures { result ≡ in_form verb (option_map (λ t. t.now) json.entry) }
+/// The verb with its flag, where that is set; none where a rank is no number, which `clap` has seen to.
+fn in_form(verb: Verb, json: Option<&str>, rank: Option<&str>) -> Option<Verb>
+    ensures { result ≡ in_form verb (option_map (λ t. t.now) json.entry) (option_map (λ t. t.now) rank.entry) }
 {
-    match (verb, json) {
-        (Verb::Report, Some(text)) => report_in(text),
-        (verb, _) => verb,
+    match (verb, json, rank) {
+        (Verb::Explain, _, Some(text)) => explain_in(text),
+        (Verb::Report, Some(text), _) => Some(report_in(text)),
+        (verb, _, _) => Some(verb),
+    }
+}
+
+fn explain_in(text: &str) -> Option<Verb>
+    ensures { result ≡ explain_in text.now }
+{
+    match text.parse::<u32>() {
+        Ok(rank) => Some(Verb::ExplainRank(rank)),
+        Err(_) => None,
     }
 }
 
@@ -428,8 +470,10 @@ fn asked_in<'a>(matches: &ArgMatches<'a>) -> Option<Asked<'a>>
     let layout = inner.get_str("LAYOUT")?;
     let manifest = inner.get_str("MANIFEST")?;
     let json = inner.get_str("json");
+    let rank = inner.get_str("rank");
+    let form = in_form(verb, json, rank)?;
     Some(Asked {
-        verb: in_form(verb, json),
+        verb: form,
         layout,
         manifest,
     })

@@ -11,6 +11,7 @@ pub mod AllTold
 pub mod Packing
 pub mod Listed
 pub mod Refusals
+pub mod OneRanks
 pub mod Reports
 pub mod Sharing
 pub mod GivenFacts

@@ -1,6 +1,7 @@
 pub mod Checks
 pub mod Explains
 pub mod Graphs
+pub mod OneRanks
 pub mod Clusters
 pub mod Endings
 pub mod FaultLines

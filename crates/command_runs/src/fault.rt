@@ -70,7 +70,8 @@ pub enum RunFault {
     Rank {
         path: String,
     },
-    /// A piece has calls of a rank that the layout doesn't have, where it isn't told which piece.
+    /// A rank that the layout doesn't have: of the calls of a piece, where it isn't told which piece, or the one that was
+    /// asked for.
     Outside,
     /// A replay has 1 to 64 nodes.
     NodeCount,

@@ -27,7 +27,8 @@
 //! - [`answerer`]: a node as those know it who write what it tells; [`check`]: the lines of a check;
 //!   [`graph`]: as a picture; [`json`]: a report as JSON; [`pack`]: what is known, as frames
 //! - [`explain`]: an answer in words, over pieces that were read with notes of their texts ([`noted`]), with the places of
-//!   its stuck calls ([`places`]), for which a text is opened a second time ([`second_look`])
+//!   its stuck calls ([`places`]), for which a text is opened a second time ([`second_look`]);
+//!   [`one_rank`]: what is known of one rank
 //! - [`texts`]: the texts of a cluster; [`cluster`]: its run, and the reports of both nodes
 //! - [`run`]: a verb over its files; [`fault`]: why it is refused, and the line that says so, in which
 //!   [`file_name`] shows names of files
@@ -52,6 +53,7 @@ mod knowing;
 mod known;
 mod laws;
 mod noted;
+mod one_rank;
 mod opener;
 mod pack;
 mod packed;

@@ -1,4 +1,4 @@
-use Rattle.std.proofs.Common.{rules, refl, ap, ◌≡◌, ◌∙◌, sym, List, Option, Some, None, option_map, codes}
+use Rattle.std.proofs.Common.{rules, refl, ap, ap₂, ◌≡◌, ◌∙◌, sym, List, Option, Some, None, option_map, codes}
 use Rattle.std.specs.Box.{box_value}
 use Rattle.clap.specs.Words.{Row, Text, first_of, subcommand_rows_of}
 use Rattle.clap.specs.Walk.{rows_of}
@@ -6,7 +6,7 @@ use Rattle.clap.specs.Matches.{found_of}
 use Rattle.clap.specs.declared.parser.matches.ArgMatches.{ArgMatches}
 use Rattle.clap.specs.declared.parser.matches.ArgMatches.TheViews.{out-ArgMatches, out-SubCommand}
 use Rattle.clap.proofs.WalkLemmas.{first_value-rows}
-use Rattle.command_line.specs.Program.{in_form, request_in, request_of, together, verb_named}
+use Rattle.command_line.specs.Program.{in_form, request_in, request_of, together, verb_named, with_files}
 use Rattle.command_line.specs.declared.Verb.{Verb}
 use Rattle.command_line.proofs.asked_in.Goals as goal
 
@@ -32,7 +32,7 @@ asks : (rows : List Row) (name : Text) (asked : Option (Text × List Row)) → a
     → (verb : Option Verb) → verb_named name ≡ verb
     → (layout : Option Text) → first_of (codes "LAYOUT") rows ≡ layout
     → (manifest : Option Text) → first_of (codes "MANIFEST") rows ≡ manifest
-    → request_in asked ≡ together verb layout manifest (first_of (codes "json") rows)
+    → request_in asked ≡ together verb layout manifest (first_of (codes "json") rows) (first_of (codes "rank") rows)
 asks rows name asked e verb v layout l manifest m = rw (e, v, l, m) refl
 
 pub returns-in_err-layout : goal.returns-in_err-layout
@@ -55,6 +55,25 @@ returns-in_err-manifest c =
     let none : option_map request_of c.from_residual-in_err-manifest.result ≡ None = search rules in
     none ∙ sym (asks _ _ _ at _ verb _ layout _ manifest)
 
+pub returns-in_err-form : goal.returns-in_err-form
+returns-in_err-form c =
+    let rows = rows_of (found_of c.in_ok-name.inner.now) in
+    let at = met c.args.matches.now c.in_ok-name.name.now rows c.in_ok-name.ensures.name c.in_ok-name.ensures.rows in
+    let verb : verb_named c.in_ok-name.name.now ≡ Some c.in_ok-verb.verb = search rules in
+    let layout : first_of (codes "LAYOUT") rows ≡ Some c.in_ok-layout.layout.now =
+    sym (first_value-rows (found_of c.in_ok-name.inner.now) (codes "LAYOUT")) ∙ search rules in
+    let manifest : first_of (codes "MANIFEST") rows ≡ Some c.in_ok-manifest.manifest.now =
+    sym (first_value-rows (found_of c.in_ok-name.inner.now) (codes "MANIFEST")) ∙ search rules in
+    let flag : option_map (λ t. t.now) c.get_str-json.result ≡ first_of (codes "json") rows =
+    c.get_str-json.ensures ∙ first_value-rows (found_of c.in_ok-name.inner.now) (codes "json") in
+    let number : option_map (λ t. t.now) c.get_str-rank.result ≡ first_of (codes "rank") rows =
+    c.get_str-rank.ensures ∙ first_value-rows (found_of c.in_ok-name.inner.now) (codes "rank") in
+    let form : None ≡ in_form c.in_ok-verb.verb (first_of (codes "json") rows) (first_of (codes "rank") rows) =
+    c.in_err-form.ensures ∙ ap₂ (in_form c.in_ok-verb.verb) flag number in
+    let none : option_map request_of c.from_residual-in_err-form.result ≡ None = search rules in
+    none ∙ ap (option_map (with_files c.in_ok-layout.layout.now c.in_ok-manifest.manifest.now)) form
+    ∙ sym (asks _ _ _ at _ verb _ layout _ manifest)
+
 pub returns : goal.returns
 returns c =
     let rows = rows_of (found_of c.in_ok-name.inner.now) in
@@ -66,6 +85,9 @@ returns c =
     sym (first_value-rows (found_of c.in_ok-name.inner.now) (codes "MANIFEST")) ∙ search rules in
     let flag : option_map (λ t. t.now) c.get_str-json.result ≡ first_of (codes "json") rows =
     c.get_str-json.ensures ∙ first_value-rows (found_of c.in_ok-name.inner.now) (codes "json") in
-    let form : c.in_form.result ≡ in_form c.in_ok-verb.verb (first_of (codes "json") rows) = c.in_form.ensures ∙ ap (in_form c.in_ok-verb.verb) flag in
-    ap (λ v. Some (record { verb = v; layout = c.in_ok-layout.layout.now; manifest = c.in_ok-manifest.manifest.now })) form
+    let number : option_map (λ t. t.now) c.get_str-rank.result ≡ first_of (codes "rank") rows =
+    c.get_str-rank.ensures ∙ first_value-rows (found_of c.in_ok-name.inner.now) (codes "rank") in
+    let form : Some c.in_ok-form.form ≡ in_form c.in_ok-verb.verb (first_of (codes "json") rows) (first_of (codes "rank") rows) =
+    c.in_ok-form.ensures ∙ ap₂ (in_form c.in_ok-verb.verb) flag number in
+    ap (option_map (with_files c.in_ok-layout.layout.now c.in_ok-manifest.manifest.now)) form
     ∙ sym (asks _ _ _ at _ verb _ layout _ manifest)
