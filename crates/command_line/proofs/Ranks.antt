@@ -19,8 +19,8 @@ rank_of text n digits small e =
 
 -- any other text
 pub no_rank : (text : List ℕ) → (IsNumeral 10 (without_leading_plus text) × (digits_value 10 (without_leading_plus text) < 2 ^ 32) → ⊥) → rank_in text ≡ None
-no_rank text no = none (accepts false rank_parser text) refl
+no_rank text absent = none (accepts false rank_parser text) refl
   where
     none : (b : Bool) → accepts false rank_parser text ≡ b → rank_in text ≡ None
-    none true e = let h : Accepts false rank_parser text = accepts-Accepts false rank_parser text e in let small : digits_value 10 (without_leading_plus text) < 2 ^ 32 = omega (arith, h.3) in absurd (no (h.0, small))
+    none true e = let h : Accepts false rank_parser text = accepts-Accepts false rank_parser text e in let small : digits_value 10 (without_leading_plus text) < 2 ^ 32 = omega (arith, h.3) in absurd (absent (h.0, small))
     none false e = by_test text false e

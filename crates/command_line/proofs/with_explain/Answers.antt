@@ -6,4 +6,4 @@ use Rattle.command_line.proofs.with_explain.Goals as goal
 pub returns : goal.returns
 returns c =
     IfOk-weaker c.subcommand.result _ _ (λ r h.
-    h.shape c.in_ok-explain.ensures.local ∙ ap (with_subcommand (app_of c.args.command)) (ap (λ (a : App). a.top) c.in_ok-report.ensures.shape)) c.subcommand.ensures
+    h.shape c.in_ok-explain.ensures.local ∙ ap (with_subcommand (app_of c.args.command)) (ap (λ (a : App). a.top) c.in_ok-explain.ensures.shape)) c.subcommand.ensures
