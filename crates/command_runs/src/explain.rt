@@ -6,7 +6,7 @@ ghost use Rattle.dumpi_text.specs.Failing.{Fails};
 ghost use Rattle.trace_node.specs.Answer.{Answered, IsAnswer};
 ghost use Rattle.trace_node.specs.Node.{IsWithin, held};
 ghost use Rattle.trace_explain.specs.Explained.{IsExplained, unknown_in};
-ghost use Rattle.text_notes.specs.Words.{most_shown, notes_text, places_text};
+ghost use Rattle.text_notes.specs.Words.{most_shown, notes_text, pieceless, pieceless_text, places_text};
 ghost use Rattle.command_runs.specs.Explains.{IsExplainOf, IsNotedNodeOf, IsTold, other_sends, under_other};
 ghost use Rattle.command_runs.specs.Files.{NamesFailed, NamesUnreadable};
 ghost use Rattle.command_runs.specs.Refusals.{RefusesNode, RefusesRun};
@@ -27,7 +27,7 @@ use call_words::Text;
 use command_line::Verb;
 use mpi_model::{Layout, Sends, Write};
 use std::alloc::{AllocError, Global};
-use text_notes::{CallPlace, MOST_SHOWN, TextNote, put_notes, put_places};
+use text_notes::{CallPlace, MOST_SHOWN, TextNote, put_notes, put_pieceless, put_places};
 use trace_explain::{explain, unknown_ranks};
 use trace_know::Knowledge;
 use trace_node::{Answer, Node, NodeFault, Stuck};
@@ -185,11 +185,12 @@ fn text_of(
     places: &[CallPlace],
     more: usize,
 ) -> Result<Vec<u8>, AllocError>
-    ensures { IfOk result (λ text. text.items ≡ said.now ++ notes_text unknown.now notes.now ++ places_text places.now more) }
+    ensures { IfOk result (λ text. text.items ≡ said.now ++ pieceless_text (pieceless notes.now unknown.now) ++ notes_text notes.now ++ places_text places.now more) }
 {
     let mut text = Text::new(alloc);
     text.put(said);
-    put_notes(alloc, &mut text, unknown, notes);
+    put_pieceless(alloc, &mut text, notes, unknown);
+    put_notes(alloc, &mut text, notes);
     put_places(&mut text, places, more);
     text.into_bytes()
 }

@@ -161,9 +161,8 @@ kind_text kind notes = flat_map (line_text kind) (take most_shown (of_kind kind 
 
 -- ---- the whole
 
--- what is said of the texts, and of the ranks of which nothing is known
-abbrev pub notes_text : List ℕ → List NoteParts → List ℕ
-notes_text unknown notes = pieceless_text (pieceless notes unknown) ++ functions_text (totals_of notes) ++ kind_text Unread notes ++ kind_text Callless notes ++ kind_text Skipped notes
+abbrev pub notes_text : List NoteParts → List ℕ
+notes_text notes = functions_text (totals_of notes) ++ kind_text Unread notes ++ kind_text Callless notes ++ kind_text Skipped notes
 
 -- ---- where stuck calls stand
 

@@ -17,6 +17,7 @@ pub use laws::noted_texts;
 pub use line::line_of_call;
 pub use note::{TextNote, note_of};
 pub use noting::Noting;
+pub use pieceless::put_pieceless;
 pub use place::CallPlace;
 pub use start::{LONGEST_FRONT, Start, start_of};
 pub use totals::MOST_SHOWN;

@@ -49,8 +49,8 @@ fn put_some(out: &mut Text, ranks: &[u32])
     }
 }
 
-/// The ranks that have no text, among those of which nothing is known.
-pub(crate) fn put_pieceless(alloc: Global, out: &mut Text, notes: &[TextNote], unknown: &[u32])
+/// Says of which of the ranks of which nothing is known there is no text. Nothing is said where each has one.
+pub fn put_pieceless(alloc: Global, out: &mut Text, notes: &[TextNote], unknown: &[u32])
     ensures { Adds out.old out.new (pieceless_text (pieceless notes.now unknown.now)) }
 {
     match pieceless(alloc, notes, unknown) {

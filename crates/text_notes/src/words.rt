@@ -7,7 +7,6 @@ ghost use Rattle.text_notes.specs.Words.{at_line_text, byte_text, callless_text,
 
 use crate::function::UnreadFunction;
 use crate::note::TextNote;
-use crate::pieceless::put_pieceless;
 use crate::place::CallPlace;
 use crate::start::Start;
 use crate::totals::{MOST_SHOWN, Totals, totals_of};
@@ -212,13 +211,12 @@ fn put_kind(out: &mut Text, kind: Kind, notes: &[TextNote])
     put_more(out, found.saturating_sub(MOST_SHOWN));
 }
 
-/// Says what should make one doubt the texts that were read: which of the ranks of which nothing is known have no text,
-/// the functions of calls that are not read, with how many there are, the first such call of each text, the texts without
-/// a call, and those of which lines were skipped. Nothing is said of texts of which there is nothing to say.
-pub fn put_notes(alloc: Global, out: &mut Text, unknown: &[u32], notes: &[TextNote])
-    ensures { Adds out.old out.new (notes_text unknown.now notes.now) }
+/// Says what should make one doubt the texts that were read: the functions of calls that are not read, with how many
+/// there are, the first such call of each text, the texts without a call, and those of which lines were skipped. Nothing
+/// is said of texts of which there is nothing to say.
+pub fn put_notes(alloc: Global, out: &mut Text, notes: &[TextNote])
+    ensures { Adds out.old out.new (notes_text notes.now) }
 {
-    put_pieceless(alloc, out, notes, unknown);
     match totals_of(alloc, notes) {
         Ok(totals) => put_functions(out, &totals),
         Err(_) => out.give_up(),
