@@ -6,8 +6,8 @@ use Rattle.mpi_model.specs.declared.layout.Sends.TheVariants.{Wait, Buffer}
 use Rattle.trace_know.specs.View.{View}
 use Rattle.trace_node.specs.Answer.{Answered, IsAnswer}
 use Rattle.trace_node.specs.Node.{Held, held}
-use Rattle.trace_explain.specs.Explained.{IsExplained, unknown_in}
-use Rattle.text_notes.specs.Words.{NoteParts, PlaceParts, most_shown, notes_text, pieceless, pieceless_text, places_text}
+use Rattle.trace_explain.specs.Explained.{IsExplained}
+use Rattle.text_notes.specs.Words.{NoteParts, PlaceParts, most_shown, notes_text, places_text}
 use Rattle.input_files.specs.Manifests.{ManifestParts}
 use Rattle.command_runs.specs.Inputs.{TellsLayout, TellsManifest}
 use Rattle.command_runs.specs.Known.{TellAll}
@@ -27,11 +27,11 @@ under_other l = record l { sends = other_sends l.sends }
 abbrev pub SaysAnswer : Parts → View → Answered → List ℕ → Type 0
 SaysAnswer l view answer text = (other : Answered) × IsAnswer (under_other l) view other × IsExplained l answer view other text
 
--- The text says that, then of which unknown ranks there is no text, what is noted of the texts that were read, and then where the first ten stuck calls stand in them.
+-- The text says that, then what is noted of the texts that were read, and then where the first ten stuck calls stand in them.
 abbrev pub IsTold : (List ℕ → Option (List ℕ)) → Parts → View → List NoteParts → List ℕ → Type 0
 IsTold file l view notes text = (answer : Answered) × (said : List ℕ) × (places : List PlaceParts)
     × IsAnswer l view answer × SaysAnswer l view answer said × ArePlacesOf file notes (take most_shown answer.stuck) places
-    × (text ≡ said ++ pieceless_text (pieceless notes (unknown_in answer)) ++ notes_text notes ++ places_text places (length answer.stuck - length places))
+    × (text ≡ said ++ notes_text notes ++ places_text places (length answer.stuck - length places))
 
 -- The node knows, for this layout, all that the pieces tell that the manifest names, and these are the notes of their texts.
 abbrev pub IsNotedNodeOf : (List ℕ → Option (List ℕ)) → Parts → List ℕ → Held → List NoteParts → Type 0

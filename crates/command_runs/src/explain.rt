@@ -5,8 +5,8 @@ ghost use Rattle.std.specs.Io.KnownBytes.{Appends, Keeps};
 ghost use Rattle.dumpi_text.specs.Failing.{Fails};
 ghost use Rattle.trace_node.specs.Answer.{Answered, IsAnswer};
 ghost use Rattle.trace_node.specs.Node.{IsWithin, held};
-ghost use Rattle.trace_explain.specs.Explained.{IsExplained, unknown_in};
-ghost use Rattle.text_notes.specs.Words.{most_shown, notes_text, pieceless, pieceless_text, places_text};
+ghost use Rattle.trace_explain.specs.Explained.{IsExplained};
+ghost use Rattle.text_notes.specs.Words.{most_shown, notes_text, places_text};
 ghost use Rattle.command_runs.specs.Explains.{IsExplainOf, IsNotedNodeOf, IsTold, other_sends, under_other};
 ghost use Rattle.command_runs.specs.Files.{NamesFailed, NamesUnreadable};
 ghost use Rattle.command_runs.specs.Refusals.{RefusesNode, RefusesRun};
@@ -27,8 +27,8 @@ use call_words::Text;
 use command_line::Verb;
 use mpi_model::{Layout, Sends, Write};
 use std::alloc::{AllocError, Global};
-use text_notes::{CallPlace, MOST_SHOWN, TextNote, put_notes, put_pieceless, put_places};
-use trace_explain::{explain, unknown_ranks};
+use text_notes::{CallPlace, MOST_SHOWN, TextNote, put_notes, put_places};
+use trace_explain::explain;
 use trace_know::Knowledge;
 use trace_node::{Answer, Node, NodeFault, Stuck};
 
@@ -171,25 +171,22 @@ fn explained<N: Answerer, O: Opener>(
         Err(fault) => return Err(fault),
     };
     let more = answer.stuck().len().saturating_sub(places.len());
-    let unknown = unknown_ranks(alloc, answer)?;
-    let text = text_of(alloc, &said, &unknown, notes, &places, more)?;
+    let text = text_of(alloc, &said, notes, &places, more)?;
     Ok(text)
 }
 
-// What was said, with what is noted of the texts and of the ranks of which nothing is known, and where stuck calls stand.
+// What was said, with what is noted of the texts and where stuck calls stand in them.
 fn text_of(
     alloc: Global,
     said: &[u8],
-    unknown: &[u32],
     notes: &[TextNote],
     places: &[CallPlace],
     more: usize,
 ) -> Result<Vec<u8>, AllocError>
-    ensures { IfOk result (λ text. text.items ≡ said.now ++ pieceless_text (pieceless notes.now unknown.now) ++ notes_text notes.now ++ places_text places.now more) }
+    ensures { IfOk result (λ text. text.items ≡ said.now ++ notes_text notes.now ++ places_text places.now more) }
 {
     let mut text = Text::new(alloc);
     text.put(said);
-    put_pieceless(alloc, &mut text, notes, unknown);
     put_notes(alloc, &mut text, notes);
     put_places(&mut text, places, more);
     text.into_bytes()

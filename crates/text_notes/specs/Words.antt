@@ -1,7 +1,6 @@
 -- What is said of the texts that were read.
-use Rattle.std.specs.Prelude.{◌-◌, ◌&&◌, ◌||◌, ◌==◌, ℕ, zero, suc, Bool, true, false, not, List, [], ◌∷◌, ◌++◌, length, codes, decimal, filter, take, nat_le, nat_lt, is_some, Option, Some, None, if◌then◌else◌}
-use Rattle.std.specs.List.{flat_map, list_any}
-use Rattle.call_words.specs.Ranges.{named_ranks_text}
+use Rattle.std.specs.Prelude.{◌-◌, ◌&&◌, ◌||◌, ◌==◌, ℕ, zero, suc, Bool, true, false, List, [], ◌∷◌, ◌++◌, length, codes, decimal, filter, take, nat_le, nat_lt, is_some, Option, Some, None, if◌then◌else◌}
+use Rattle.std.specs.List.{flat_map}
 use Rattle.text_notes.specs.Noted.{UnreadParts, counted, sum_of}
 use Rattle.text_notes.specs.Places.{first_where, place_of}
 use Rattle.text_notes.specs.declared.start.Start.{Start}
@@ -89,26 +88,6 @@ totals_text (f ∷ functions) others =
 
 abbrev pub functions_text : Totals → List ℕ
 functions_text t = totals_text t.functions t.others
-
--- ---- ranks of which nothing is known
-
-abbrev pub is_of_rank : ℕ → NoteParts → Bool
-is_of_rank rank note = note.rank == rank
-
-abbrev pub has_no_text : List NoteParts → ℕ → Bool
-has_no_text notes rank = not (list_any (is_of_rank rank) notes)
-
--- those that have no text
-abbrev pub pieceless : List NoteParts → List ℕ → List ℕ
-pieceless notes unknown = filter (has_no_text notes) unknown
-
--- `  no piece tells anything of ranks 3, 5`
-abbrev pub these_pieceless_text : List ℕ → List ℕ
-these_pieceless_text ranks = codes "  no piece tells anything of " ++ named_ranks_text ranks ++ codes "\n"
-
-abbrev pub pieceless_text : List ℕ → List ℕ
-pieceless_text [] = []
-pieceless_text (r ∷ ranks) = these_pieceless_text (r ∷ ranks)
 
 -- ---- text by text
 

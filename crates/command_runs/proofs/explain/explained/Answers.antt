@@ -5,8 +5,8 @@ use Rattle.trace_know.specs.View.{View}
 use Rattle.trace_node.specs.Answer.{IsAnswer, Stopped}
 use Rattle.trace_node.specs.Stopped.{stopped}
 use Rattle.trace_node.specs.declared.stuck.Stuck.{Stuck}
-use Rattle.text_notes.specs.Words.{PlaceParts, most_shown, notes_text, pieceless, pieceless_text, places_text}
-use Rattle.trace_explain.specs.Explained.{IsExplained, unknown_in}
+use Rattle.text_notes.specs.Words.{PlaceParts, most_shown, notes_text, places_text}
+use Rattle.trace_explain.specs.Explained.{IsExplained}
 use Rattle.command_runs.specs.Explains.{SaysAnswer, under_other}
 use Rattle.command_runs.specs.Notes.{ArePlacesOf}
 use Rattle.command_runs.proofs.Notes.{stopped_count}
@@ -33,12 +33,8 @@ returns g c =
     subst (λ (l : List Stopped). ArePlacesOf file notes l places) first c.in-Ok-places_of.ensures.ok in
     let count : length c.stuck-2.result.now ≡ length answer.stuck = stopped_count c.stuck-2.result.now answer.stuck c.stuck-2.ensures in
     let more : c.saturating_sub-more.result ≡ length answer.stuck - length places = omega (arith, count, c.saturating_sub-more.ensures, c.len.ensures) in
-    let unknown = unknown_in answer in
-    let more_of = c.saturating_sub-more.result in
-    let is : c.in_ok-text.text.items ≡ text ++ pieceless_text (pieceless notes unknown) ++ notes_text notes ++ places_text places (length answer.stuck - length places) =
-    c.in_ok-text.ensures
-    ∙ ap (λ (l : List ℕ). l ++ pieceless_text (pieceless notes c.deref-2.result.now) ++ notes_text notes ++ places_text c.deref-3.result.now more_of) c.deref.ensures.value
-    ∙ ap (λ (u : List ℕ). text ++ pieceless_text (pieceless notes u) ++ notes_text notes ++ places_text c.deref-3.result.now more_of) (c.deref-2.ensures.value ∙ c.in_ok-unknown.ensures)
-    ∙ ap (λ (l : List PlaceParts). text ++ pieceless_text (pieceless notes unknown) ++ notes_text notes ++ places_text l more_of) c.deref-3.ensures.value
-    ∙ ap (λ (n : ℕ). text ++ pieceless_text (pieceless notes unknown) ++ notes_text notes ++ places_text places n) more in
+    let is : c.in_ok-text.text.items ≡ text ++ notes_text notes ++ places_text places (length answer.stuck - length places) =
+    c.in_ok-text.ensures ∙ ap (λ (l : List ℕ). l ++ notes_text notes ++ places_text c.deref-2.result.now c.saturating_sub-more.result) c.deref.ensures.value
+    ∙ ap (λ (l : List PlaceParts). text ++ notes_text notes ++ places_text l c.saturating_sub-more.result) c.deref-2.ensures.value
+    ∙ ap (λ (n : ℕ). text ++ notes_text notes ++ places_text places n) more in
     record { ok = (answer, text, places, c.in-Ok.ensures.ok, said, stand, is) }
