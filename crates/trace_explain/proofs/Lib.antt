@@ -14,3 +14,5 @@ pub mod Parts
 pub mod Keys
 pub mod Matching
 pub mod Several
+pub mod Counted
+pub mod Picked

@@ -12,6 +12,7 @@ use Rattle.trace_know.specs.View.{View}
 use Rattle.trace_ops.specs.Foreign.{comm_of}
 use Rattle.trace_node.specs.Answer.{Answered}
 use Rattle.trace_explain.specs.declared.lacking.Lacked.{Lacked}
+use Rattle.trace_explain.specs.Sections.{entry_of}
 use Rattle.trace_explain.specs.Shown.{most_shown}
 
 -- the number by which call n of a rank names a communicator, where the layout gives the rank none of that number; each rank
@@ -64,10 +65,10 @@ abbrev pub with_number : LackingParts → Option ℕ → LackingParts
 with_number k None = k
 with_number k (Some number) = with_place (position (has_number number) k.listed) k number
 
--- with the calls of a rank below this one; call n is entered at place 2n
+-- with the calls of a rank below this one
 abbrev pub with_calls : Parts → View → ℕ → LackingParts → ℕ → LackingParts
 with_calls layout view rank k zero = k
-with_calls layout view rank k (suc n) = with_number (with_calls layout view rank k n) (lacked_by layout rank n (event_at view rank (2 * n)))
+with_calls layout view rank k (suc n) = with_number (with_calls layout view rank k n) (lacked_by layout rank n (event_at view rank (entry_of n)))
 
 -- how many calls of a rank can be read
 abbrev pub calls_read : ℕ → ℕ
@@ -95,11 +96,14 @@ abbrev pub other_lacked_text : ℕ → List ℕ
 other_lacked_text zero = []
 other_lacked_text (suc n) = codes ", others (" ++ decimal (suc n) ++ calls_word (suc n)
 
-abbrev pub lacking_line : List Lacked → ℕ → List ℕ
-lacking_line [] others = []
-lacking_line (l ∷ listed) others =
+abbrev pub some_lacking_text : Lacked → List Lacked → ℕ → List ℕ
+some_lacking_text l listed others =
     codes "  communicators that the layout doesn't have, by the number in the calls: " ++ lacked_text l
     ++ flat_map next_lacked_text listed ++ other_lacked_text others ++ codes "\n"
+
+abbrev pub lacking_line : List Lacked → ℕ → List ℕ
+lacking_line [] others = []
+lacking_line (l ∷ listed) others = some_lacking_text l listed others
 
 abbrev pub lacking_line_of : LackingParts → List ℕ
 lacking_line_of k = lacking_line k.listed k.others

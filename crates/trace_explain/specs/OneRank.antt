@@ -29,12 +29,18 @@ abbrev pub named_text : OpName → List ℕ
 named_text name = codes "call " ++ decimal name.call ++ codes " of rank " ++ decimal name.rank
 
 -- `; its message went to call 5 of rank 1`
+abbrev pub to_call_text : OpName → List ℕ
+to_call_text name = codes "; its message went to " ++ named_text name
+
 abbrev pub went_text : ℕ → ℕ → Pair → List ℕ
-went_text rank call pair = if is_call rank call pair.message then codes "; its message went to " ++ named_text pair.receive else []
+went_text rank call pair = if is_call rank call pair.message then to_call_text pair.receive else []
 
 -- `; its message came from call 1 of rank 0`
+abbrev pub from_call_text : OpName → List ℕ
+from_call_text name = codes "; its message came from " ++ named_text name
+
 abbrev pub came_text : ℕ → ℕ → Pair → List ℕ
-came_text rank call pair = if is_call rank call pair.receive then codes "; its message came from " ++ named_text pair.message else []
+came_text rank call pair = if is_call rank call pair.receive then from_call_text pair.message else []
 
 -- what a pair tells of a call
 abbrev pub partner_text : ℕ → ℕ → Pair → List ℕ

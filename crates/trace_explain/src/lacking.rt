@@ -4,9 +4,10 @@ ghost use Rattle.std.specs.Prelude.{◌≡◌, ◌<◌, IfSome, OnOk, IfOk, leng
 ghost use Rattle.std.specs.List.{flat_map};
 ghost use Rattle.call_words.specs.Texts.{Adds};
 ghost use Rattle.trace_know.specs.Cell.{shown};
-ghost use Rattle.trace_know.specs.Prefix.{event_of};
+ghost use Rattle.trace_know.specs.Prefix.{event_at, event_of};
+ghost use Rattle.trace_explain.specs.Sections.{entry_of};
 ghost use Rattle.trace_ops.specs.Foreign.{comm_of};
-ghost use Rattle.trace_explain.specs.Lacking.{calls_read, calls_word, has_number, lacked_by, lacked_number, lacked_text, lacking_below, lacking_line, lacking_line_of, lacking_text, next_lacked_text, no_lacking, once_more, other_lacked_text, with_calls, with_new, with_number, with_place};
+ghost use Rattle.trace_explain.specs.Lacking.{calls_read, calls_word, has_number, lacked_by, lacked_number, lacked_text, lacking_below, lacking_line, lacking_line_of, lacking_text, next_lacked_text, no_lacking, once_more, other_lacked_text, some_lacking_text, with_calls, with_new, with_number, with_place};
 
 use crate::shown::MOST_SHOWN;
 use call_words::Text;
@@ -159,6 +160,22 @@ pub(crate) fn calls_read(prefix: u64) -> u64
     prefix / 2 + prefix % 2
 }
 
+/// That of call `n` of the rank, where it can be read.
+fn lacked_at(layout: &Layout, know: &Knowledge, rank: u32, n: u64) -> Option<u32>
+    ensures { result ≡ lacked_by layout.now rank n (event_at know.now rank (entry_of n)) }
+{
+    lacked_by(layout, rank, n, know.cell(rank, n.saturating_mul(2)))
+}
+
+// With a call more that may name one.
+fn with_number(lacking: Lacking, number: Option<u32>) -> Result<Lacking, AllocError>
+    ensures { IfOk result (λ k. k ≡ with_number lacking number) }
+{
+    let mut lacking = lacking;
+    lacking.put_some(number)?;
+    Ok(lacking)
+}
+
 // With the first calls of a rank.
 fn with_calls(
     layout: &Layout,
@@ -171,8 +188,7 @@ fn with_calls(
 {
     let mut lacking = lacking;
     for n in 0..count {
-        let number = lacked_by(layout, rank, n, know.cell(rank, n.saturating_mul(2)));
-        lacking.put_some(number)?;
+        lacking = with_number(lacking, lacked_at(layout, know, rank, n))?;
     }
     Ok(lacking)
 }
@@ -237,14 +253,20 @@ fn put_line(out: &mut Text, listed: &[Lacked], others: u64)
     ensures { Adds out.old out.new (lacking_line listed.now others) }
 {
     if let [lacked, rest @ ..] = listed {
-        out.put(
-            b"  communicators that the layout doesn't have, by the number in the calls: ",
-        );
-        put_lacked(out, lacked);
-        put_each_next(out, rest);
-        put_others(out, others);
-        out.put(b"\n");
+        put_some_lacking(out, lacked, rest, others);
     }
+}
+
+fn put_some_lacking(out: &mut Text, lacked: &Lacked, rest: &[Lacked], others: u64)
+    ensures { Adds out.old out.new (some_lacking_text lacked.now rest.now others) }
+{
+    out.put(
+        b"  communicators that the layout doesn't have, by the number in the calls: ",
+    );
+    put_lacked(out, lacked);
+    put_each_next(out, rest);
+    put_others(out, others);
+    out.put(b"\n");
 }
 
 fn put_lacking_line(out: &mut Text, lacking: &Lacking)

@@ -7,7 +7,7 @@ ghost use Rattle.trace_know.specs.Cell.{shown};
 ghost use Rattle.trace_know.specs.Prefix.{event_of};
 ghost use Rattle.trace_node.specs.Stopped.{stopped};
 ghost use Rattle.trace_explain.specs.Sections.{said, said_of};
-ghost use Rattle.trace_explain.specs.OneRank.{call_line, calls_from, calls_text, came_text, end_text, gap_text, is_call, is_of, last_calls_text, named_text, not_stuck_text, one_rank_text, partner_text, partners_text, prefix_in, rank_explained_text, since_text, span_text, standing_text, stuck_line, stuck_text, to_text, waits_in, wall_at, wall_of, went_text};
+ghost use Rattle.trace_explain.specs.OneRank.{call_line, calls_from, calls_text, came_text, end_text, from_call_text, gap_text, is_call, is_of, last_calls_text, named_text, not_stuck_text, one_rank_text, partner_text, partners_text, prefix_in, rank_explained_text, since_text, span_text, standing_text, stuck_line, stuck_text, to_call_text, to_text, waits_in, wall_at, wall_of, went_text};
 
 use crate::doubts::{ends_unread, is_gapped};
 use crate::explained::{is_waiting, needed_ops};
@@ -39,12 +39,25 @@ fn put_named(out: &mut Text, name: &OpName)
     out.put_number(name.rank as u64);
 }
 
+fn put_to_call(out: &mut Text, name: &OpName)
+    ensures { Adds out.old out.new (to_call_text name.now) }
+{
+    out.put(b"; its message went to ");
+    put_named(out, name);
+}
+
+fn put_from_call(out: &mut Text, name: &OpName)
+    ensures { Adds out.old out.new (from_call_text name.now) }
+{
+    out.put(b"; its message came from ");
+    put_named(out, name);
+}
+
 fn put_went(out: &mut Text, rank: u32, call: u64, pair: &Pair)
     ensures { Adds out.old out.new (went_text rank call pair.now) }
 {
     if is_call(rank, call, &pair.message) {
-        out.put(b"; its message went to ");
-        put_named(out, &pair.receive);
+        put_to_call(out, &pair.receive);
     }
 }
 
@@ -52,8 +65,7 @@ fn put_came(out: &mut Text, rank: u32, call: u64, pair: &Pair)
     ensures { Adds out.old out.new (came_text rank call pair.now) }
 {
     if is_call(rank, call, &pair.receive) {
-        out.put(b"; its message came from ");
-        put_named(out, &pair.message);
+        put_from_call(out, &pair.message);
     }
 }
 
@@ -173,7 +185,12 @@ fn put_calls(out: &mut Text, answer: &Answer, know: &Knowledge, rank: u32, count
 fn stuck_in(stuck: &[Stuck], rank: u32) -> Option<&Stuck>
     ensures { option_map (λ s. stopped s.now) result ≡ find (is_of rank) (map stopped stuck.now) }
 {
-    stuck.iter().find(|s| s.rank == rank)
+    for s in stuck {
+        if s.rank == rank {
+            return Some(s);
+        }
+    }
+    None
 }
 
 fn put_stuck_line(out: &mut Text, line: &Line)
