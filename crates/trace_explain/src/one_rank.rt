@@ -181,12 +181,18 @@ fn put_calls(out: &mut Text, answer: &Answer, know: &Knowledge, rank: u32, count
     }
 }
 
+fn is_of(rank: u32, stuck: &Stuck) -> bool
+    ensures { result ≡ is_of rank (stopped stuck.now) }
+{
+    stuck.rank == rank
+}
+
 /// What is told of the rank, where it is stuck.
 fn stuck_in(stuck: &[Stuck], rank: u32) -> Option<&Stuck>
     ensures { option_map (λ s. stopped s.now) result ≡ find (is_of rank) (map stopped stuck.now) }
 {
     for s in stuck {
-        if s.rank == rank {
+        if is_of(rank, s) {
             return Some(s);
         }
     }
