@@ -23,9 +23,9 @@ other_sends Buffer = Wait
 abbrev pub under_other : Parts → Parts
 under_other l = record l { sends = other_sends l.sends }
 
--- The text says what the answer to a view tells, beside the answer under the other kind of sends.
+-- The text says what the answer to a view tells, beside who is stuck under the other kind of sends.
 abbrev pub SaysAnswer : Parts → View → Answered → List ℕ → Type 0
-SaysAnswer l view answer text = (other : Answered) × IsAnswer (under_other l) view other × IsExplained l answer view other text
+SaysAnswer l view answer text = IsExplained l (under_other l) answer view text
 
 -- The text says that, then what is noted of the texts that were read, and then where the first ten stuck calls stand in them.
 abbrev pub IsTold : (List ℕ → Option (List ℕ)) → Parts → View → List NoteParts → List ℕ → Type 0

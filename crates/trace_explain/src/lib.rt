@@ -23,7 +23,7 @@
 //!   are shown
 //! - [`left_over`]: messages without a receive and receives without a message, by [`names`] of calls and by
 //!   [`offers`] of messages; [`left_text`]: the same in words
-//! - [`head`]: how it stands, and under the other kind of sends; [`doubts`]: what makes it doubtful;
+//! - [`head`]: how it stands, and under the other kind of sends, who would be stuck then ([`others`]); [`doubts`]: what makes it doubtful;
 //!   [`lacking`]: communicators that calls name and the layout doesn't have
 //! - [`explained`]: the whole; [`one_rank`]: what is known of one rank
 //!
@@ -46,6 +46,7 @@ mod mismatch;
 mod names;
 mod offers;
 mod one_rank;
+mod others;
 mod round;
 mod search;
 mod section;

@@ -1,4 +1,4 @@
-use Rattle.std.proofs.Common.{◌≡◌, ◌∙◌, ◌++◌, ◌-◌, ℕ, List, arith, ap, sym, subst, length, map, take}
+use Rattle.std.proofs.Common.{◌≡◌, ◌∙◌, refl, ◌++◌, ◌-◌, ℕ, List, arith, ap, sym, subst, length, map, take}
 use Rattle.std.proofs.lemmas.List.{take-map}
 use Rattle.mpi_model.specs.Layouts.{Parts}
 use Rattle.trace_know.specs.View.{View}
@@ -6,11 +6,24 @@ use Rattle.trace_node.specs.Answer.{IsAnswer, Stopped}
 use Rattle.trace_node.specs.Stopped.{stopped}
 use Rattle.trace_node.specs.declared.stuck.Stuck.{Stuck}
 use Rattle.text_notes.specs.Words.{PlaceParts, most_shown, notes_text, places_text}
-use Rattle.trace_explain.specs.Explained.{IsExplained}
+use Rattle.trace_explain.specs.Explained.{DifferInSends, IsExplained}
 use Rattle.command_runs.specs.Explains.{SaysAnswer, under_other}
 use Rattle.command_runs.specs.Notes.{ArePlacesOf}
 use Rattle.command_runs.proofs.Notes.{stopped_count}
 use Rattle.command_runs.proofs.explain.explained.Goals as goal
+
+pub explain-said-requires-clause-answer : goal.explain-said-requires-clause-answer
+explain-said-requires-clause-answer g c =
+    let answer = c.in-Ok.answer.now in
+    let h = g.N.Answerer.held c.args.node in
+    subst (λ (l : Parts). IsAnswer l c.knowledge.result.now answer) (sym c.requires.own)
+    (subst (λ (v : View). IsAnswer h.layout v answer) (sym c.knowledge.ensures) c.in-Ok.ensures.ok)
+
+pub explain-said-requires-clause-other : goal.explain-said-requires-clause-other
+explain-said-requires-clause-other g c =
+    let h = g.N.Answerer.held c.args.node in
+    subst (λ (l : Parts). DifferInSends l c.args.other.now) (sym c.requires.own)
+    (subst (λ (o : Parts). DifferInSends h.layout o) (sym c.requires.other) refl)
 
 pub returns : goal.returns
 returns g c =
@@ -18,13 +31,11 @@ returns g c =
     let file = g.O.Opener.file c.args.files.now in
     let answer = c.in-Ok.answer.now in
     let text = c.in_ok-said.said.items in
-    let say = c.in_ok-said.ensures in
-    let said : SaysAnswer h.layout h.know answer text = (
-      say.0,
-      subst (λ (v : View). IsAnswer (under_other h.layout) v say.0) c.knowledge.ensures (subst (λ (l : Parts). IsAnswer l c.knowledge.result.now say.0) c.requires.other say.1),
-      subst (λ (l : Parts). IsExplained l answer h.know say.0 text) c.requires.own
-          (subst (λ (v : View). IsExplained c.args.layout.now answer v say.0 text) c.knowledge.ensures say.2),
-    ) in
+    let other : c.args.other.now ≡ under_other h.layout = c.requires.other in
+    let said : SaysAnswer h.layout h.know answer text =
+    subst (λ (o : Parts). IsExplained h.layout o answer h.know text) other
+    (subst (λ (l : Parts). IsExplained l c.args.other.now answer h.know text) c.requires.own
+    (subst (λ (v : View). IsExplained c.args.layout.now c.args.other.now answer v text) c.knowledge.ensures c.in_ok-said.ensures)) in
     let notes = c.args.notes.now in
     let places = c.in-Ok-places_of.places.items in
     let first : map stopped c.shown_first.result.now ≡ take most_shown answer.stuck =
