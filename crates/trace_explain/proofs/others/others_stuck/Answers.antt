@@ -6,7 +6,7 @@ use Rattle.trace_ops.specs.Ops.{AreOwn, Ops}
 use Rattle.trace_ops.specs.RankOps.{all_ops, ops_of}
 use Rattle.trace_node.specs.Answer.{states_of}
 use Rattle.trace_wait.specs.Rounds.{rounds_of}
-use Rattle.trace_explain.proofs.Others.{needed, none_under, stuck_under}
+use Rattle.trace_explain.proofs.SameOps.{needed, none_under, stuck_under}
 use Rattle.trace_explain.proofs.others.others_stuck.Goals as goal
 
 pub returns-then-not-needs_ops : goal.returns-then-not-needs_ops

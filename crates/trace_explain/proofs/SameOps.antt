@@ -1,5 +1,5 @@
 -- What the ranks did doesn't depend on the sends of a layout, and where no rank waits none is stuck.
-use Rattle.std.proofs.Common.{◌≡◌, ◌∙◌, ◌||◌, ℕ, zero, suc, Bool, true, false, cond, Option, List, [], ◌∷◌, map, refl, sym, ap, subst}
+use Rattle.std.proofs.Common.{rules, ◌≡◌, ◌∙◌, ◌||◌, ℕ, zero, suc, Bool, true, false, cond, Option, List, [], ◌∷◌, map, refl, sym, ap, subst}
 use Rattle.std.specs.List.{list_any, range_with_len}
 use Rattle.mpi_model.specs.declared.event.Event.{Event}
 use Rattle.mpi_model.specs.declared.layout.Sends.{Sends}
