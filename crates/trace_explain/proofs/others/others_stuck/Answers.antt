@@ -1,4 +1,4 @@
-use Rattle.std.proofs.Common.{◌≡◌, ◌∙◌, ◌<◌, ◌^◌, List, ap, sym, subst, length, arith}
+use Rattle.std.proofs.Common.{◌≡◌, ◌∙◌, ◌<◌, ◌^◌, ℕ, List, ap, sym, subst, length, arith}
 use Rattle.std.proofs.lemmas.List.FromFn.{length-map-range_with_len}
 use Rattle.std.proofs.lemmas.Result.{IfOk-weaker}
 use Rattle.mpi_model.specs.Layouts.{Parts}
@@ -6,12 +6,14 @@ use Rattle.trace_ops.specs.Ops.{AreOwn, Ops}
 use Rattle.trace_ops.specs.RankOps.{all_ops, ops_of}
 use Rattle.trace_node.specs.Answer.{states_of}
 use Rattle.trace_wait.specs.Rounds.{rounds_of}
+use Rattle.trace_explain.specs.Explained.{AreStuckUnder}
 use Rattle.trace_explain.proofs.SameOps.{needed, none_under, stuck_under}
 use Rattle.trace_explain.proofs.others.others_stuck.Goals as goal
 
 pub returns-then-not-needs_ops : goal.returns-then-not-needs_ops
 returns-then-not-needs_ops c =
-    none_under c.args.layout.now c.args.other.now c.args.answer.now c.args.know.now c.requires.answer c.requires.other (sym c.needs_ops.ensures ∙ c.if-not-needs_ops.true)
+    subst (λ (rs : List ℕ). AreStuckUnder c.args.other.now c.args.know.now rs) (sym c.new.ensures.items)
+    (none_under c.args.layout.now c.args.other.now c.args.answer.now c.args.know.now c.requires.answer c.requires.other (sym c.needs_ops.ensures ∙ c.if-not-needs_ops.true))
 
 pub stuck_by-requires-clause-few : goal.stuck_by-requires-clause-few
 stuck_by-requires-clause-few c =
