@@ -1,9 +1,10 @@
 -- Calls that are read one after another.
-use Rattle.std.proofs.Common.{◌≡◌, ◌∙◌, ◌<◌, ◌+◌, ◌-◌, ◌^◌, ℕ, List, [], ◌∷◌, ◌++◌, Option, Some, None, codes, length, length-append, ap, sym, subst, refl, arith}
+use Rattle.std.proofs.Common.{◌≡◌, ◌∙◌, ◌<◌, ◌+◌, ◌-◌, ◌^◌, ℕ, List, [], ◌∷◌, ◌++◌, Option, Some, None, codes, length, length-append, append_assoc, append-nil, ap, sym, subst, refl, arith}
 use Rattle.dumpi_text.specs.Call.{TextCall}
 use Rattle.mpi_model.specs.Failures.{one_more}
 use Rattle.comm_makings.specs.declared.calls.CommCall.{CommCall}
-use Rattle.comm_calls.specs.Calls.{AddsCall, AreCalls, AreCallsBy, IsCommCall, IsReadOf, ReadCalls, Reads, ReadsOneMore, beside_in, first_beside, function_of, nothing_read, or_number}
+use Rattle.dumpi_calls.specs.RawWalks.{Taken}
+use Rattle.comm_calls.specs.Calls.{AddsCall, AreCalls, AreCallsBy, IsCommCall, IsReadOf, ReadCalls, Reads, ReadsOneMore, beside_in, first_beside, function_of, nothing_read, or_number, reading, ReadsWhole}
 use Rattle.comm_calls.specs.declared.function.Function.{Function}
 
 pub none_read : IsReadOf [] nothing_read
@@ -62,3 +63,15 @@ one_more_read raws raw old new few all reads = record {
   own = reads.own ∙ ap (λ (n : Option ℕ). or_number n (beside_in (codes "MPI_COMM_SELF") raw.params)) all.own ∙ sym (beside_more (codes "MPI_COMM_SELF") raws raw);
   calls = calls_more 0 raws raw old.calls new.calls all.calls (subst (λ (at : ℕ). AddsCall (function_of raw) at raw old.calls new.calls) (let here : old.place ≡ 0 + length raws = omega (arith, all.place) in here) reads.calls);
 }
+
+-- more calls behind those that were read
+read_behind : (before raws : List TextCall) (old new : ReadCalls) → length (before ++ raws) < 2 ^ 64 - 1 → IsReadOf before old → Taken reading raws old new → IsReadOf (before ++ raws) new
+read_behind before [] old new few all same = subst (λ (l : List TextCall). IsReadOf l new) (sym (append-nil before)) (subst (λ (r : ReadCalls). IsReadOf before r) (sym same) all)
+read_behind before (raw ∷ raws) old new few all taken =
+    let assoc : (before ++ raw ∷ []) ++ raws ≡ before ++ raw ∷ raws = append_assoc before (raw ∷ []) raws in
+    let fewer : length before < 2 ^ 64 - 1 = (let len = length-append before (raw ∷ raws) in omega (arith, len, few)) in
+    let next = one_more_read before raw old taken.1 fewer all taken.3 in
+    subst (λ (l : List TextCall). IsReadOf l new) assoc (read_behind (before ++ raw ∷ []) raws taken.1 new (subst (λ (l : List TextCall). length l < 2 ^ 64 - 1) (sym assoc) few) next taken.4)
+
+pub whole_read : ReadsWhole
+whole_read raws new few taken = read_behind [] raws nothing_read new few none_read taken

@@ -1,7 +1,9 @@
 -- What the calls of a text say of communicators and groups.
 use Rattle.std.specs.Prelude.{◌≡◌, ◌<◌, ℕ, ◌+◌, ◌-◌, ◌^◌, List, [], ◌∷◌, ◌++◌, Option, Some, None, codes, is_some, length, option_and_then, if◌then◌else◌}
 use Rattle.mpi_model.specs.Failures.{one_more}
+use Rattle.mpi_model.specs.declared.call.Call.{Call}
 use Rattle.dumpi_text.specs.Call.{Param, TextCall, pair_at}
+use Rattle.dumpi_calls.specs.RawWalks.{Taken}
 use Rattle.comm_makings.specs.declared.calls.CommCall.{CommCall}
 use Rattle.comm_calls.specs.Actions.{IsAction}
 use Rattle.comm_calls.specs.Functions.{function_named}
@@ -83,3 +85,11 @@ nothing_read = record { place = 0; world = None; own = None; calls = [] }
 -- Calls that are read one after another are read as a whole: a text has fewer than 2^64 - 1 of them.
 abbrev pub ReadsOneMore : Type 0
 ReadsOneMore = (raws : List TextCall) (raw : TextCall) (old new : ReadCalls) → length raws < 2 ^ 64 - 1 → IsReadOf raws old → Reads old raw new → IsReadOf (raws ++ raw ∷ []) new
+
+-- the next call of a walk is read; which call of the profile it is says nothing more
+abbrev pub reading : ReadCalls → TextCall → Call → ReadCalls → Type 0
+reading old raw call new = Reads old raw new
+
+-- Calls that a walk handed on, from none on, are read as a whole.
+abbrev pub ReadsWhole : Type 0
+ReadsWhole = (raws : List TextCall) (new : ReadCalls) → length raws < 2 ^ 64 - 1 → Taken reading raws nothing_read new → IsReadOf raws new

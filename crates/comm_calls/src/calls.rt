@@ -1,20 +1,24 @@
 //! The calls of a text on communicators and groups.
 
 ghost use Rattle.std.specs.Prelude.{◌≡◌, [], IfOk, IfSome, None, OnErr, OnOk, is_some};
-ghost use Rattle.comm_calls.specs.Calls.{IsCommCall, Reads, function_of};
+ghost use Rattle.comm_calls.specs.Calls.{IsCommCall, Reads, function_of, reading};
 
 use crate::action::action_in;
 use crate::beside::known_or_beside;
 use crate::fault::Memory;
 use crate::function::{Function, function_named};
 use comm_makings::{CommCall, RankCalls};
+use dumpi_calls::RawSink;
 use dumpi_text::RawCall;
+use mpi_model::Call;
 use std::alloc::Global;
 use std::marker::Model;
 
-/// What the calls of a text say of communicators and groups. It is given the calls in their order, each once.
+/// What the calls of a text say of communicators and groups. It is given the calls in their order, each once: as the sink
+/// of a walk over the text, or by [`read`](CommCalls::read).
 #[derive(Debug, Drop)]
 pub struct CommCalls {
+    alloc: Global,
     place: u64,
     world: Option<u32>,
     own: Option<u32>,
@@ -62,6 +66,7 @@ impl CommCalls {
         ensures { result ≡ record { place = 0; world = None; own = None; calls = [] } }
     {
         CommCalls {
+            alloc,
             place: 0,
             world: None,
             own: None,
@@ -71,10 +76,11 @@ impl CommCalls {
 
     /// Reads the next call of the text. Memory grows only with a call that makes, names or frees a communicator or a
     /// group.
-    pub fn read(&mut self, alloc: Global, raw: &RawCall) -> Result<(), Memory>
+    pub fn read(&mut self, raw: &RawCall) -> Result<(), Memory>
         ensures ok { OnOk result (Reads self.old raw.now self.new) }
         ensures err { OnErr result (self.new ≡ self.old) }
     {
+        let alloc = self.alloc;
         let world = known_or_beside(alloc, self.world, "MPI_COMM_WORLD", raw)?;
         let own = known_or_beside(alloc, self.own, "MPI_COMM_SELF", raw)?;
         if let Some(function) = function_of(raw) {
@@ -121,5 +127,15 @@ impl CommCalls {
             calls,
             uses: Vec::new(alloc),
         }
+    }
+}
+
+impl RawSink for CommCalls {
+    type Fault = Memory;
+
+    ghost step = { reading };
+
+    fn on_call(&mut self, raw: &RawCall, _call: Call) -> Result<(), Memory> {
+        self.read(raw)
     }
 }

@@ -174,12 +174,13 @@ const CLUSTER_HELP: &str =
 names none:
   {"pieces":[{"rank":0,"first":0,"file":"r0.txt","node":0,"worker":0},
              {"rank":1,"first":0,"file":"r1.txt","node":1,"worker":0}]}
-All files are read first. Then two workers of each node go through its texts side by side, and both
-nodes send each other what they know over a socket of this machine. It prints
+All files are read first. Then two workers of each node go through its texts side by side, the node
+joins what its packed files tell, and both nodes send each other what they know over a socket of this
+machine. It prints
   node 0                       and the report of what the first node knows then
   node 1                       and that of the second (mpimatch help report says what the lines mean)
   equal yes                    both reports tell the same; or equal no
-A file of a piece may have 1,073,741,824 bytes. A run that can't be done ends with 1 and a line:
+A text may have 1,073,741,824 bytes. A run that can't be done ends with 1 and a line:
   Y1 Worker                    a thread could not be started
   Y3 Net                       no connection could be made
   W4 Length                    a node knows too much to send, above 67,108,864 bytes
@@ -206,7 +207,7 @@ Each piece costs a pass over all calls of its rank, so a rank in many pieces tak
 const PACK_HELP: &str = r#"Example: mpimatch pack layout.json part.json >part.know
 
 It reads the pieces as report does and writes to standard output what they tell together, in bytes.
-A manifest takes such a file as a piece, beside texts and others, but a cluster's, and replay can't post it:
+A manifest takes such a file as a piece, beside texts and others, but replay can't post it:
   {"pieces":[{"packed":"part.know"},{"rank":1,"first":0,"file":"r1.txt"}]}
 So many machines can each pack a part of a trace, the files can be packed again, and one report reads
 the last ones. Their order doesn't matter, nor whether a part was packed twice or comes in two files.
@@ -243,7 +244,7 @@ standard error where an input is refused:
   M2 Json in PATH   it is no JSON text in UTF-8
   M3 Shape in PATH  a field is missing, of another kind, or out of its range
   M4 Piece in PATH  the schedule posts a piece that is not listed
-  M5 Packed in PATH the schedule posts a packed piece, or the manifest of a cluster has one
+  M5 Packed in PATH the schedule posts a packed piece
 Other lines name a rule of layouts, or a file and its line: docs/formats.md has them all.
 "#;
 

@@ -9,7 +9,7 @@ pub mod Within
 pub mod Unpacking
 pub mod AllTold
 pub mod Packing
-pub mod Listed
+pub mod PackedShares
 pub mod Refusals
 pub mod OneRanks
 pub mod Reports

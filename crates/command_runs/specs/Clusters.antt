@@ -25,9 +25,11 @@ use Rattle.input_files.specs.Layouts.{RefusesLayout}
 use Rattle.input_files.specs.Manifests.{ManifestParts, PieceParts, RefusesManifest}
 use Rattle.command_runs.specs.Files.{IsUnreadable}
 use Rattle.command_runs.specs.Inputs.{RefusesInput, TellsLayout, TellsManifest}
+use Rattle.command_runs.specs.Packed.{RefusesFirstPacked, TellPacked}
 use Rattle.command_runs.specs.Pieces.{IsNamed, IsWalkFault, TellsFacts}
 use Rattle.command_runs.specs.Refusals.{RefusesFirst}
 use Rattle.command_runs.specs.Replays.{node_text}
+use Rattle.command_runs.specs.Shares.{KnowsShare}
 use Rattle.command_runs.specs.Texts.{RefusesBytes, share_of, side_of}
 use Rattle.command_runs.specs.Traces.{IsInside, IsKnown}
 use Rattle.command_runs.specs.declared.fault.RunFault.{RunFault}
@@ -46,10 +48,11 @@ abbrev pub IsKnownTo : (List ℕ → Option (List ℕ)) → Held → Held → Pi
 IsKnownTo file one other piece = (facts : Trace) × TellsFacts (file piece.file) piece.rank piece.first facts
     × IsBelow (view_of facts) (known_by one other (side_of piece.node))
 
--- Two nodes of the layout, each of which knows its own pieces of the manifest, which lists texts alone.
+-- Two nodes of the layout, each of which knows its own pieces of the manifest: the texts, and the packed files.
 abbrev pub AreClusterNodes : (List ℕ → Option (List ℕ)) → Parts → List ℕ → Held → Held → Type 0
-AreClusterNodes file l manifest one other = (m : ManifestParts) × TellsManifest (file manifest) m × (m.packed ≡ [])
+AreClusterNodes file l manifest one other = (m : ManifestParts) × TellsManifest (file manifest) m
     × (one.layout ≡ l) × (other.layout ≡ l) × All (IsKnownTo file one other) m.pieces
+    × ((node : Side) → KnowsShare file l.ranks m.packed node (known_by one other node))
 
 -- ---- what is printed
 
@@ -109,16 +112,17 @@ RefusesCrews file ranks pieces faults.Net = AreSound file ranks pieces
 RefusesCrews file ranks pieces (faults.Frame fault) = AreSound file ranks pieces
 RefusesCrews file ranks pieces _ = ⊥
 
--- The manifest lists a packed file, and the fault names the manifest.
-abbrev pub NamesPacked : List ℕ → ManifestParts → RunFault → Type 0
-NamesPacked manifest m (faults.Packed path) = (m.packed ≢ []) × IsNamed path manifest
-NamesPacked manifest m _ = ⊥
+-- Why what a manifest names is refused: a packed file is; or, where all of them were read, a file of a text can't be read, or, where
+-- all were, the crews are refused.
+abbrev pub RefusesLoads : (List ℕ → Option (List ℕ)) → ℕ → ManifestParts → RunFault → Type 0
+RefusesLoads file ranks m fault = RefusesFirstPacked file ranks m.packed fault
+    ⊎ (((view : View) × TellPacked file ranks m.packed view) × (RefusesBytes file m.pieces fault ⊎ RefusesCrews file ranks (by_node m.pieces) fault))
 
--- Why there are no such nodes: the manifest is refused; or it lists a packed file; or a file of a piece can't be read; or, where all were, the crews are refused.
+-- Why there are no such nodes: the manifest is refused, or what it names.
 abbrev pub RefusesClusterNodes : (List ℕ → Option (List ℕ)) → Parts → List ℕ → RunFault → Type 0
 RefusesClusterNodes file l manifest fault = (fault ≡ faults.Memory)
     ⊎ (RefusesInput RefusesManifest manifest (file manifest) fault
-    ⊎ ((m : ManifestParts) × TellsManifest (file manifest) m × (NamesPacked manifest m fault ⊎ (RefusesBytes file m.pieces fault ⊎ RefusesCrews file l.ranks (by_node m.pieces) fault))))
+    ⊎ ((m : ManifestParts) × TellsManifest (file manifest) m × RefusesLoads file l.ranks m fault))
 
 -- Why there is no cluster: the layout is refused, or what comes after it.
 abbrev pub RefusesCluster : (List ℕ → Option (List ℕ)) → List ℕ → List ℕ → RunFault → Type 0

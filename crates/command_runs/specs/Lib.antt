@@ -18,6 +18,7 @@ pub mod Refusals
 pub mod Replays
 pub mod Runs
 pub mod Schedules
+pub mod Shares
 pub mod Texts
 pub mod Traces
 pub mod Verbs

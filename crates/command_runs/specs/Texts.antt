@@ -7,6 +7,7 @@ use Rattle.trace_crew.specs.declared.inbox.item.Worker.{Worker}
 use Rattle.trace_crew.specs.declared.inbox.item.Worker.TheVariants as workers
 use Rattle.trace_crew.specs.declared.piece.Piece.{Piece}
 use Rattle.trace_crew.specs.Views.{is_from}
+use Rattle.trace_know.specs.View.{View}
 use Rattle.input_files.specs.Manifests.{PieceParts}
 use Rattle.command_runs.specs.Files.{FitsIn, IsFile}
 use Rattle.command_runs.specs.Inputs.{RefusesFile}
@@ -44,6 +45,11 @@ share_in texts sides.First workers.First = texts.first.first.items
 share_in texts sides.First workers.Second = texts.first.second.items
 share_in texts sides.Second workers.First = texts.second.first.items
 share_in texts sides.Second workers.Second = texts.second.second.items
+
+-- what a node is told besides
+abbrev pub known_in : AllTexts → Side → View
+known_in texts sides.First = texts.first.known
+known_in texts sides.Second = texts.second.known
 
 -- The piece has its rank, its first call and the bytes of its file.
 abbrev pub IsTextOf : (List ℕ → Option (List ℕ)) → PieceParts → Piece → Type 0

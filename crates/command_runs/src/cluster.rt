@@ -18,6 +18,7 @@ use crate::input::{layout_at, manifest_at};
 use crate::opener::Opener;
 use crate::piece::refusal;
 use crate::replay::{write_node, write_piece};
+use crate::shares::shares_of;
 use crate::texts::{side_of, texts_of_all, worker_of};
 use command_line::Verb;
 use dumpi_calls::whole_segments;
@@ -70,7 +71,7 @@ pub fn run_cluster<
     }
 }
 
-// The two nodes of the layout that have their own pieces and what the other sent.
+// The two nodes of the layout that have their own pieces and what the other sent. Packed files are read before texts.
 fn nodes_with<
     'a,
     R: Net<Listener = TcpListener, Stream = TcpStream> + Threads + Wait + Sync,
@@ -93,12 +94,11 @@ fn nodes_with<
         Ok(manifest) => manifest,
         Err(fault) => return Err(fault),
     };
-    if !manifest.packed().is_empty() {
-        return Err(RunFault::Packed {
-            path: manifest_name.to_string(alloc)?,
-        });
-    }
-    let texts = match texts_of_all(alloc, manifest.pieces(), files) {
+    let packed = match shares_of(alloc, layout, manifest.packed(), files) {
+        Ok(packed) => packed,
+        Err(fault) => return Err(fault),
+    };
+    let texts = match texts_of_all(alloc, manifest.pieces(), packed, files) {
         Ok(texts) => texts,
         Err(fault) => return Err(fault),
     };
@@ -147,7 +147,7 @@ fn piece_at(pieces: &[Piece], node: Side, at: PieceAt) -> Option<&Piece>
 fn is_share(piece: &Piece, node: Side, worker: Worker) -> bool
     ensures { result ≡ is_share node worker piece.now }
 {
-    is_side(node, side_of(piece)) && is_worker(worker, worker_of(piece))
+    is_side(node, side_of(piece.node())) && is_worker(worker, worker_of(piece))
 }
 
 // Whether the two are one node.

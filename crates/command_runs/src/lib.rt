@@ -14,7 +14,7 @@
 //! The work is linear in the texts, but for the joins of their segments (`trace_know`) and the answer
 //! (`trace_node`). Memory holds what is known and the events of one piece; that of a replay also all
 //! pieces' segments, a copy of them for each post, and the mails, and that of a cluster the bytes of all
-//! files and a copy of each node.
+//! texts, what packed files tell, and a copy of each node.
 //!
 //! - [`opener`]: where files come from; [`whole`]: a whole file, within its limit
 //! - [`piece`]: the segments of a piece; [`pieces`]: those of all pieces
@@ -29,7 +29,8 @@
 //! - [`explain`]: an answer in words, over pieces that were read with notes of their texts ([`noted`]), with the places of
 //!   its stuck calls ([`places`]), for which a text is opened a second time ([`second_look`]);
 //!   [`one_rank`]: what is known of one rank
-//! - [`texts`]: the texts of a cluster; [`cluster`]: its run, and the reports of both nodes
+//! - [`shares`]: what the packed files of each node of a cluster tell; [`texts`]: the texts; [`cluster`]: its run, and the
+//!   reports of both nodes
 //! - [`run`]: a verb over its files; [`fault`]: why it is refused, and the line that says so, in which
 //!   [`file_name`] shows names of files
 //! - [`ending`]: from words to a status and what standard error shows
@@ -64,6 +65,7 @@ mod replay;
 mod run;
 mod schedule;
 mod second_look;
+mod shares;
 mod terminal;
 mod texts;
 mod watch;

@@ -32,8 +32,8 @@ fn refusal(alloc: Global, path: &str, fault: PackedFault) -> Result<RunFault, Al
     }
 }
 
-// What the frames of a file tell, all of ranks of the layout.
-fn packed_at<O: Opener>(
+/// What the frames of a file tell, all of ranks of the layout.
+pub(crate) fn packed_at<O: Opener>(
     alloc: Global,
     layout: &Layout,
     path: &str,

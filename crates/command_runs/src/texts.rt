@@ -7,18 +7,20 @@ ghost use Rattle.trace_crew.specs.declared.inbox.item.Worker.{Worker as WorkerVa
 ghost use Rattle.dumpi_text.specs.Failing.{Fails};
 ghost use Rattle.command_runs.specs.Files.{NamesFailed, NamesUnreadable};
 ghost use Rattle.command_runs.specs.declared.whole.TheConstants.{LONGEST_PIECE};
-ghost use Rattle.command_runs.specs.Texts.{AreShares, RefusesBytes, is_side, share_in, side_of, worker_of};
+ghost use Rattle.command_runs.specs.Shares.{told_to};
+ghost use Rattle.command_runs.specs.Texts.{AreShares, RefusesBytes, is_side, known_in, share_in, side_of, worker_of};
 
 use crate::fault::RunFault;
 use crate::input::file_at;
 use crate::opener::Opener;
+use crate::shares::PackedShares;
 use crate::whole::LONGEST_PIECE;
 use input_files::Piece;
 use std::alloc::{AllocError, Global};
 use trace_cluster::{Side, Workload};
 use trace_crew::{Piece as TextPiece, Worker};
 
-/// The texts of two nodes, of each by the worker who reads them.
+/// The texts of two nodes, of each by the worker who reads them, and what each is told besides.
 #[derive(Drop)]
 pub struct AllTexts {
     pub first: Workload,
@@ -26,24 +28,29 @@ pub struct AllTexts {
 }
 
 impl AllTexts {
-    fn new(alloc: Global) -> AllTexts
-        ensures { (node : SideValue) (worker : WorkerValue) → share_in result node worker ≡ [] }
+    // No text yet, and what packed files tell.
+    fn new(alloc: Global, packed: PackedShares) -> AllTexts
+        ensures shares { (node : SideValue) (worker : WorkerValue) → share_in result node worker ≡ [] }
+        ensures known { (node : SideValue) → known_in result node ≡ told_to packed node }
     {
         AllTexts {
             first: Workload {
                 first: Vec::new(alloc),
                 second: Vec::new(alloc),
+                known: packed.first,
             },
             second: Workload {
                 first: Vec::new(alloc),
                 second: Vec::new(alloc),
+                known: packed.second,
             },
         }
     }
 
     // Adds a text for a worker of a node.
     fn add(&mut self, node: Side, worker: Worker, text: TextPiece) -> Result<(), AllocError>
-        ensures { OnOk result ((one : SideValue) (by : WorkerValue) → share_in self.new one by ≡ share_in self.old one by ++ (if is_side one node && is_from by worker then text ∷ [] else [])) }
+        ensures shares { OnOk result ((one : SideValue) (by : WorkerValue) → share_in self.new one by ≡ share_in self.old one by ++ (if is_side one node && is_from by worker then text ∷ [] else [])) }
+        ensures known { OnOk result ((one : SideValue) → known_in self.new one ≡ known_in self.old one) }
     {
         match (node, worker) {
             (Side::First, Worker::First) => self.first.first.push(text)?,
@@ -55,15 +62,11 @@ impl AllTexts {
     }
 }
 
-/// The node that a piece names.
-pub fn side_of(piece: &Piece) -> Side
-    ensures { result ≡ side_of piece.now.node }
+/// The node of this number.
+pub fn side_of(node: u8) -> Side
+    ensures { result ≡ side_of node }
 {
-    if piece.node() == 0 {
-        Side::First
-    } else {
-        Side::Second
-    }
+    if node == 0 { Side::First } else { Side::Second }
 }
 
 /// The worker that a piece names.
@@ -77,18 +80,20 @@ pub fn worker_of(piece: &Piece) -> Worker
     }
 }
 
-/// The bytes of all pieces, which are read in the order of the pieces.
+/// The bytes of all pieces, which are read in the order of the pieces, beside what packed files tell.
 pub fn texts_of_all<O: Opener>(
     alloc: Global,
     pieces: &[Piece],
+    packed: PackedShares,
     files: &mut O,
 ) -> Result<AllTexts, RunFault>
     ensures ok { IfOk result (λ texts. AreShares (O.file files.old) pieces.now texts) }
+    ensures known { IfOk result (λ texts. (node : SideValue) → known_in texts node ≡ told_to packed node) }
     ensures err { IfErr result (RefusesBytes (O.file files.old) pieces.now) }
     ensures unread { IfErr result (λ fault. NamesUnreadable LONGEST_PIECE (Fails O.R.failures) (O.file files.old) fault) }
     ensures failed { IfErr result (NamesFailed ⊥) }
 {
-    let mut texts = AllTexts::new(alloc);
+    let mut texts = AllTexts::new(alloc, packed);
     for piece in pieces {
         let text = match file_at(alloc, piece.file(), files, LONGEST_PIECE) {
             Ok(text) => text,
@@ -96,7 +101,7 @@ pub fn texts_of_all<O: Opener>(
         };
         let (rank, first) = (piece.rank(), piece.first());
         texts.add(
-            side_of(piece),
+            side_of(piece.node()),
             worker_of(piece),
             TextPiece { rank, first, text },
         )?;

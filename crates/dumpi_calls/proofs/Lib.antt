@@ -10,6 +10,7 @@ pub mod NextCall
 pub mod Failing
 pub mod Advancing
 pub mod Handed
+pub mod RawWalks
 pub mod Alternating
 pub mod Joined
 pub mod Whole

@@ -12,7 +12,7 @@
 //! - [`function`]: the functions, by their names; [`envelope`], [`outcome`]: what calls name and bring back;
 //!   [`typing`]: a call by the row of its function
 //! - [`in_place`]: calls as dumpi2ascii writes them, read whole where they stand; [`lines`]: their parameter lines
-//! - [`sink`]: the callbacks; [`fault`], [`walking`]: the walk
+//! - [`sink`]: the callbacks; [`fault`], [`walking`]: the walk; [`raw`]: one that hands on calls as they stand in the text
 //! - [`collect`], over events in [`parts`], and [`tally`]: two sinks; [`laws`]: what holds of walks over whole texts
 //!
 //! Its tests are in the crate `reading_tests`; calls that are refused, by each parameter of each function, are in
@@ -30,6 +30,7 @@ mod outcome;
 mod parameter;
 mod parts;
 mod quick;
+mod raw;
 mod reading;
 mod requests;
 mod sink;
@@ -42,6 +43,7 @@ pub use collect::{Collect, Memory};
 pub use fault::{WalkCause, WalkFault};
 pub use laws::{whole_segments, whole_texts};
 pub use parameter::Parameter;
+pub use raw::{RawSink, walk_raw};
 pub use sink::CallSink;
 pub use tally::Tally;
 pub use walking::{Walked, walk};

@@ -29,8 +29,8 @@ pub struct Walked {
     pub unfinished: bool,
 }
 
-// Why a call is refused. One that was cut off before its last entry parameter was written is a truncated text.
-fn refusal<F: Drop>(raw: &RawCall, fault: CallFault, calls: u64) -> WalkFault<F>
+/// Why a call is refused. One that was cut off before its last entry parameter was written is a truncated text.
+pub(crate) fn refusal<F: Drop>(raw: &RawCall, fault: CallFault, calls: u64) -> WalkFault<F>
     ensures cause { typed raw.now ≡ Err fault → RefusesCall raw.now result.cause result.line }
     ensures memory { fault ≡ CallFault.Memory → RefusesCall raw.now result.cause result.line }
     ensures whole { ¬ IsReadStop result.cause }
@@ -92,8 +92,8 @@ fn take<S: CallSink>(
     }
 }
 
-// whether a call has not returned
-fn is_open(raw: &RawCall) -> bool
+/// whether a call has not returned
+pub(crate) fn is_open(raw: &RawCall) -> bool
     ensures { result ≡ lacks_exit raw.now.exit }
 {
     match raw.exit() {
@@ -102,9 +102,9 @@ fn is_open(raw: &RawCall) -> bool
     }
 }
 
-// the next call of the text, put in the place of the one before: whether there is one
+/// the next call of the text, put in the place of the one before: whether there is one
 #[tactic(auto, using(crate::proofs::Failing::fails))]
-fn next_of<R: Read>(texts: &mut Texts<R>, raw: &mut RawCall) -> Result<bool, TextFault>
+pub(crate) fn next_of<R: Read>(texts: &mut Texts<R>, raw: &mut RawCall) -> Result<bool, TextFault>
     ensures goes_on { (text : Option (List ℕ)) (calls : List TextCall) → IsRead text calls texts.old → IfOk result (λ found. Follows text calls (put_in found raw.new) texts.new) }
     ensures stops { (text : Option (List ℕ)) (calls : List TextCall) → IsRead text calls texts.old → IfErr result (λ fault. RefusesNext text calls fault texts.new.told.line) }
     ensures failed { IfErr result (λ fault. IsReadFault fault → Fails R.failures) }
@@ -123,8 +123,8 @@ fn next_of<R: Read>(texts: &mut Texts<R>, raw: &mut RawCall) -> Result<bool, Tex
     }
 }
 
-// why a text has no next call
-fn lack<F: Drop>(fault: TextFault, line: u64, calls: u64) -> WalkFault<F>
+/// why a text has no next call
+pub(crate) fn lack<F: Drop>(fault: TextFault, line: u64, calls: u64) -> WalkFault<F>
     ensures cause { (text : Option (List ℕ)) (before : List TextCall) → RefusesNext text before fault line → LacksNext text before result.cause result.line }
     ensures failed { IsReadStop result.cause → IsReadFault fault }
     ensures line { result.line ≡ line }

@@ -19,7 +19,14 @@ pub(crate) enum Does {
     Send(u32),
     Receive(u32),
     Await(u32),
+    /// It posts request 4, to receive from any rank with this tag.
+    Post(u32),
+    /// It waits for request 4, which received from rank 2, and returns so many nanoseconds after it began.
+    Complete(u64),
 }
+
+/// How long a call takes, in nanoseconds.
+const HALF: u64 = 500_000_000;
 
 /// Calls of a rank, from one of them on.
 pub(crate) type Piece = (u32, u64, &'static [Does]);
@@ -40,22 +47,32 @@ end
 
 /// Two ranks and one communicator that is the world.
 pub(crate) fn layout<R: Abort>(rt: &R, alloc: Global) -> Layout {
-    let mut members = Vec::new(alloc);
-    members.push(0).expect(rt, "memory");
-    members.push(1).expect(rt, "memory");
-    let mut comms = Vec::new(alloc);
-    comms.push((2, members)).expect(rt, "memory");
-    Layout::new(alloc, 2, 2, comms, Sends::Wait).expect(rt, "a layout")
+    layout_of(rt, alloc, 2)
 }
 
-fn envelope(peer: u32, tag: u32) -> Envelope {
+/// So many ranks and one communicator that is the world.
+pub(crate) fn layout_of<R: Abort>(rt: &R, alloc: Global, ranks: u32) -> Layout {
+    let mut members = Vec::new(alloc);
+    for rank in 0..ranks {
+        members.push(rank).expect(rt, "memory");
+    }
+    let mut comms = Vec::new(alloc);
+    comms.push((2, members)).expect(rt, "memory");
+    Layout::new(alloc, ranks, 2, comms, Sends::Wait).expect(rt, "a layout")
+}
+
+fn envelope(peer: Peer, tag: u32) -> Envelope {
     Envelope {
-        peer: Peer::Rank(peer),
+        peer,
         tag: Some(tag),
         comm: CommRef::Id(2),
         count: 4,
         datatype: 11,
     }
+}
+
+fn receive(peer: Peer, tag: u32) -> Option<ReceiveEnvelope> {
+    ReceiveEnvelope::new(envelope(peer, tag))
 }
 
 /// The call, if its peer is this rank.
@@ -64,11 +81,13 @@ fn call<R: Abort>(rt: &R, peer: u32, does: Does) -> Call {
         Does::Nothing => Call::Local,
         Does::Send(tag) => Call::Send(
             Mode::Standard,
-            SendEnvelope::new(envelope(peer, tag)).expect(rt, "a send"),
+            SendEnvelope::new(envelope(Peer::Rank(peer), tag)).expect(rt, "a send"),
         ),
         Does::Receive(tag) | Does::Await(tag) => {
-            Call::Recv(ReceiveEnvelope::new(envelope(peer, tag)).expect(rt, "a receive"))
+            Call::Recv(receive(Peer::Rank(peer), tag).expect(rt, "a receive"))
         }
+        Does::Post(tag) => Call::Irecv(receive(Peer::Any, tag).expect(rt, "a receive")),
+        Does::Complete(_) => Call::Wait(4),
     }
 }
 
@@ -78,14 +97,24 @@ fn outs<R: Abort>(rt: &R, peer: u32, does: Does) -> Option<Outs> {
         Does::Nothing | Does::Send(_) => Some(Outs::Nothing),
         Does::Receive(_) => Some(Outs::Status(Told::from_rank(peer).expect(rt, "a source"))),
         Does::Await(_) => None,
+        Does::Post(_) => Some(Outs::Posted(4)),
+        Does::Complete(_) => Some(Outs::Status(Told::from_rank(2).expect(rt, "a source"))),
     }
 }
 
-/// Adds a call that begins at as many seconds as its number says and takes half of one.
+/// How many nanoseconds the call takes, where it returns.
+fn takes(does: Does) -> u64 {
+    match does {
+        Does::Complete(long) => long,
+        _ => HALF,
+    }
+}
+
+/// Adds a call that begins at as many seconds as its number says.
 fn add_call<R: Abort>(rt: &R, events: &mut Vec<Event>, peer: u32, number: u64, does: Does) {
     let start = number.saturating_mul(1_000_000_000);
     let enter = Stamp::new(start, 0).expect(rt, "a time");
-    let leave = Stamp::new(start.saturating_add(500_000_000), 0).expect(rt, "a time");
+    let leave = Stamp::new(start.saturating_add(takes(does)), 0).expect(rt, "a time");
     events
         .push(Event::Enter(call(rt, peer, does), enter))
         .expect(rt, "memory");

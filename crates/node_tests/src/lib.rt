@@ -15,6 +15,7 @@
 //! | `storm` | `trace_world`, `trace_node`: 2,000 steps over four nodes and eight ranks, beside new nodes and the rules |
 //! | `board` | the board of `trace_crew`: what is published is shown, beside threads that ask too, and one who has seen more is told so |
 //! | `crew`, `gates` | `trace_crew`: what it leaves, and, by gates, that its threads run at the same time |
+//! | `refused` | nodes, worlds and crews that go on after a request for memory was refused |
 //! | `unplugged` | `trace_cluster`: a network that gives no port or no connection |
 //!
 //! What the program's verbs do, `replay` and `cluster` among them, is data in `tests/cases/`.
@@ -34,6 +35,8 @@ mod gates;
 mod node;
 #[cfg(test)]
 mod pipe;
+#[cfg(test)]
+mod refused;
 #[cfg(test)]
 mod socket;
 #[cfg(test)]

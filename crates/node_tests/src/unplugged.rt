@@ -9,6 +9,7 @@ use std::process::Abort;
 use std::sync::Wait;
 use std::thread::Threads;
 use trace_cluster::{ClusterFault, Workload, cluster};
+use trace_know::Knowledge;
 
 /// A runtime whose network gives ports where it is told so, and no connection.
 #[derive(Drop)]
@@ -44,6 +45,7 @@ fn workload<R: Abort>(rt: &R, alloc: Global, rank: u32) -> Workload {
     Workload {
         first: pieces(rt, alloc, &[(rank, 0, CALL)]),
         second: Vec::new(alloc),
+        known: Knowledge::new(alloc),
     }
 }
 

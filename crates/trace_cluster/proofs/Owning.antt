@@ -74,18 +74,19 @@ module _
       All-weaker (Found (IsKnown know)) (KnowsPiece know) (λ p f. (f.0, f.1, all_known f.0 know f.2)) pieces
       (All-from_recursion (Found (IsKnown know)) pieces (all_found (IsKnown know) worker pieces segments faults gave none h))
 
-  -- A node knows its own pieces, where its crew left no fault and no refused segment, and it has kept what it knew.
-  pub knows_own : (layout : Parts) (load : Workload) (out : CrewOut) (node : Held) → IsCrewOut layout load.first.items load.second.items out → out.faults.items ≡ [] → out.refused.items ≡ [] → IsMore out.node node
-      → KnowsOwn layout load node
-  knows_own layout load out node is whole joined more =
+  -- A node knows its own pieces and what it was told besides, where its crew left no fault and no refused segment, and it has kept what it knew.
+  pub knows_own : (layout : Parts) (load : Workload) (out : CrewOut) (told node : Held) → IsCrewOut layout load.first.items load.second.items out → out.faults.items ≡ [] → out.refused.items ≡ []
+      → IsMore out.node told → told.know ≡ join out.node.know load.known → IsMore told node → KnowsOwn layout load node
+  knows_own layout load out told node is whole joined learned tells more =
       let none : is.first_faults ++ is.second_faults ≡ [] = sym is.faults ∙ whole in
-      let keeps : IsBelow (view_of (flat_map joined_in is.taken)) node.know = subst (λ (v : View). IsBelow v node.know) is.know more.keeps in
+      let keeps : IsBelow (view_of (flat_map joined_in is.taken)) node.know = subst (λ (v : View). IsBelow v node.know) is.know (below_both out.node.know told.know node.know learned.keeps more.keeps) in
       let known = each_known is.taken node.know (sym is.refused ∙ joined) keeps in
       record {
-        layout_is = more.layout_is ∙ is.layout_is;
+        layout_is = more.layout_is ∙ (learned.layout_is ∙ is.layout_is);
         fresh = more.fresh;
         first = worker_known node.know First load.first.items (segments_by First is.taken) is.first_faults is.first_gave (nil_first is.first_faults is.second_faults none)
             (by_worker (IsKnown node.know) First is.taken known);
         second = worker_known node.know Second load.second.items (segments_by Second is.taken) is.second_faults is.second_gave (nil_rest is.first_faults is.second_faults none)
             (by_worker (IsKnown node.know) Second is.taken known);
+        told = below_both load.known told.know node.know (subst (λ (v : View). IsBelow load.known v) (sym tells) (above_other out.node.know load.known)) more.keeps;
       }

@@ -144,6 +144,12 @@ unmet layout first second one other fault is is' clean of =
     (within layout sides.First first one is clean.0.0 clean.1) (within layout sides.Second second other is' clean.0.1 clean.2))
     of
 
+-- What stops it where a node has no memory for what it is told besides.
+pub untold : (layout : Parts) (first second : Workload) (one other : CrewOut) (fault : ClusterFault) → IsCrewOut layout first.first.items first.second.items one
+    → IsCrewOut layout second.first.items second.second.items other → AreClean one other → fault ≡ Node nodes.Memory → IsStopped layout (all_pieces first second) fault
+untold layout first second one other fault is is' clean e =
+    subst (λ (f : ClusterFault). IsStopped layout (all_pieces first second) f) (sym e) (all_whole layout first second one other is is' clean.0.0 clean.0.1, tt)
+
 -- ---- the first of what both crews leave
 
 pub stops_first : (faults others : Faults) (refused later : List Refusal) (fault : ClusterFault) → IsFirstPiece sides.First faults fault → Stops faults others refused later fault

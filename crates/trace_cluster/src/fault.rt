@@ -25,7 +25,8 @@ pub enum ClusterFault {
         at: PieceAt,
         fault: PieceFault,
     },
-    /// A node refused a segment: the first such by node, and then in the order of taking.
+    /// A node refused a segment: the first such by node, and then in the order of taking. Or all were joined,
+    /// and a node had no memory for what it is told besides.
     #[error(transparent)]
     Node(NodeFault),
     /// There was no port to listen at, no connection, or no thread for the first node.

@@ -1,15 +1,16 @@
 //! Two nodes of one run: a crew for each, and then one exchange over a socket of this machine.
 //!
 //! [`cluster`] runs the crews one after the other, each on a board of its own. Where all pieces gave
-//! their segments, and all of these were joined, it listens on 127.0.0.1 at a port that the system
-//! gives, connects and accepts; a thread exchanges frames for the first node, which leads, while the
-//! second follows. Each node keeps what its own pieces tell, and joins what the other sends.
+//! their segments, and all of these were joined, each node learns what it is told besides its pieces. Then
+//! it listens on 127.0.0.1 at a port that the system gives, connects and accepts; a thread exchanges frames
+//! for the first node, which leads, while the second follows. Each node keeps what it was told, and joins
+//! what the other sends.
 //!
 //! Cost: both crews, a frame each way over the socket, and a merge with its answer in each node. The
 //! thread reads what the first node knows and makes no answer; what it hears is held beside both nodes
 //! until the first has joined it.
 //!
-//! - [`side`]: the two nodes; [`workload`]: the pieces of a node's workers
+//! - [`side`]: the two nodes; [`workload`]: the pieces of a node's workers, and what it is told besides
 //! - [`fault`]: why a cluster leaves nothing
 //! - [`crews`]: what both crews leave, and the first fault or refused segment
 //! - [`exchange`]: two nodes that send each other what they know over a stream

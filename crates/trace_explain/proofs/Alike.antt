@@ -1,12 +1,11 @@
 -- Lines that say the same.
-use Rattle.std.proofs.Common.{◌≡◌, ◌∙◌, ◌||◌, ◌<◌, ◌+◌, ℕ, zero, suc, Bool, true, false, cond, Option, Some, slice_get, drop, List, [], ◌∷◌, ◌++◌, arith, map, take, get_or, length, filter, refl, sym, ap, append-nil}
+use Rattle.std.proofs.Common.{◌≡◌, ◌∙◌, ◌||◌, ◌<◌, ◌+◌, ℕ, zero, suc, Bool, true, false, cond, Some, slice_get, drop, List, [], ◌∷◌, ◌++◌, arith, map, take, get_or, length, filter, refl, sym, ap, append-nil}
 use Rattle.std.specs.List.{list_any}
 use Rattle.std.proofs.lemmas.List.{drop-map, take-map}
 use Rattle.std.proofs.lemmas.List.Elements.{filter-append}
 use Rattle.std.proofs.lemmas.List.Folds.{list_any-append}
 use Rattle.trace_explain.specs.declared.line.Line.{Line}
 use Rattle.trace_explain.specs.Sections.{Said, group_text, is_alike, line_text, ranks_alike, said}
-use Rattle.trace_explain.proofs.Drawn.{or_false}
 use Rattle.trace_explain.proofs.Named.{map_next, map_push}
 use Rattle.trace_explain.proofs.Lines.{failed, passed}
 

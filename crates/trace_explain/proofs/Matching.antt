@@ -1,5 +1,5 @@
 -- The members whose calls match.
-use Rattle.std.proofs.Common.{◌≡◌, ◌∙◌, ◌<◌, ◌+◌, ◌-◌, ℕ, suc, Bool, true, false, cond, Option, Some, List, [], ◌∷◌, arith, ap, sym, length, length-drop, drop, take, get_or, slice_get}
+use Rattle.std.proofs.Common.{◌≡◌, ◌∙◌, ◌<◌, ◌+◌, ◌-◌, ℕ, suc, Bool, true, false, cond, Option, List, [], ◌∷◌, arith, ap, sym, length, length-drop, drop, take, get_or, slice_get}
 use Rattle.std.specs.List.{list_any}
 use Rattle.std.proofs.lemmas.List.{take_all}
 use Rattle.std.proofs.lemmas.Option.{slice_get-get_or}

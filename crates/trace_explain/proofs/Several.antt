@@ -1,5 +1,5 @@
 -- Conditions that name several ranks.
-use Rattle.std.proofs.Common.{◌≡◌, ◌∙◌, ℕ, suc, Bool, true, nat_lt, Vec, Global, List, [], ◌∷◌, arith, length, map, refl, sym, ap}
+use Rattle.std.proofs.Common.{◌≡◌, ◌∙◌, ℕ, suc, true, nat_lt, Vec, Global, List, [], ◌∷◌, arith, length, map, refl, sym, ap}
 use Rattle.std.specs.declared.sync.Arc.{Arc}
 use Rattle.std.proofs.lemmas.Bool.Decides.{nat_tests}
 use Rattle.trace_stuck.specs.declared.condition.Condition.{Condition}

@@ -1,5 +1,5 @@
 -- The communicators that calls name and the layout doesn't have: by the number in the call, with how many calls name it.
-use Rattle.std.specs.Prelude.{ℕ, zero, suc, ◌+◌, ◌*◌, ◌/◌, ◌%◌, ◌==◌, Bool, if◌then◌else◌, is_none, nat_lt, position, Option, Some, None, List, [], ◌∷◌, ◌++◌, codes, decimal, length, slice_get, unwrap_or}
+use Rattle.std.specs.Prelude.{ℕ, zero, suc, ◌+◌, ◌/◌, ◌%◌, ◌==◌, Bool, if◌then◌else◌, is_none, nat_lt, position, Option, Some, None, List, [], ◌∷◌, ◌++◌, codes, decimal, length, slice_get, unwrap_or}
 use Rattle.std.specs.List.{flat_map}
 use Rattle.mpi_model.specs.Failures.{one_more}
 use Rattle.mpi_model.specs.Layouts.{Parts, named}

@@ -1,6 +1,6 @@
 -- What is left over where it may be why ranks wait: messages without a receive, and receives without a message
 -- (MPI 4.0, 3.2.3, 3.2.4 and 3.5).
-use Rattle.std.specs.Prelude.{ℕ, zero, suc, ◌==◌, ◌&&◌, not, Bool, Option, Some, None, List, [], ◌∷◌, ◌++◌, filter, map, slice_get}
+use Rattle.std.specs.Prelude.{ℕ, zero, suc, ◌&&◌, not, Bool, Option, Some, None, List, [], ◌∷◌, ◌++◌, filter, map, slice_get}
 use Rattle.std.specs.List.{filter_map, find, flat_map, list_any}
 use Rattle.std.specs.Option.{option_map}
 use Rattle.mpi_model.specs.declared.call.Call.{Call}

@@ -1,5 +1,5 @@
 -- What a rank does, in words.
-use Rattle.std.specs.Prelude.{ℕ, ◌*◌, ◌-◌, ◌/◌, ◌==◌, if◌then◌else◌, Option, Some, None, List, ◌++◌, codes, decimal, slice_get, unwrap_or}
+use Rattle.std.specs.Prelude.{ℕ, ◌-◌, ◌/◌, ◌==◌, if◌then◌else◌, Option, Some, None, List, ◌++◌, codes, decimal, slice_get, unwrap_or}
 use Rattle.mpi_model.specs.declared.event.Event.{Event}
 use Rattle.mpi_model.specs.declared.event.Event.TheVariants.{Enter, Return}
 use Rattle.trace_know.specs.View.{View}

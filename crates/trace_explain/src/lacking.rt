@@ -260,9 +260,7 @@ fn put_line(out: &mut Text, listed: &[Lacked], others: u64)
 fn put_some_lacking(out: &mut Text, lacked: &Lacked, rest: &[Lacked], others: u64)
     ensures { Adds out.old out.new (some_lacking_text lacked.now rest.now others) }
 {
-    out.put(
-        b"  communicators that the layout doesn't have, by the number in the calls: ",
-    );
+    out.put(b"  communicators that the layout doesn't have, by the number in the calls: ");
     put_lacked(out, lacked);
     put_each_next(out, rest);
     put_others(out, others);

@@ -1,9 +1,7 @@
 -- Frames, read one after another.
-use Rattle.std.proofs.Common.{◌≡◌, ℕ, ◌+◌, ◌<◌, ◌≤◌, Bool, true, false, cond, List, [], ◌∷◌, ◌++◌, length, Option, Some, None, Err, refl, sym, ap, subst, ◌∙◌, append_assoc, append-nil, length-append, inl, inr, ◌⊎◌, arith}
+use Rattle.std.proofs.Common.{◌≡◌, ℕ, ◌+◌, ◌<◌, List, [], ◌∷◌, ◌++◌, length, Option, Some, None, Err, refl, sym, ap, subst, ◌∙◌, append-nil, length-append, inl, inr, ◌⊎◌, arith}
 use Rattle.std.specs.Prelude.{IfSome, IsSome}
-use Rattle.std.specs.Ordering.{eq_by_cmp}
-use Rattle.std.specs.Cmp.{eq_by_cmp_equiv}
-use Rattle.std.specs.FinMap.{empty, entries, find, get-empty, get-entries}
+use Rattle.std.specs.FinMap.{empty, entries, get-empty}
 use Rattle.std.specs.Io.KnownBytes.{Consumes, IsAtEnd}
 use Rattle.std.specs.List.{All}
 use Rattle.std.proofs.KnownBytes.{Consumes-nil, Consumes-trans}
@@ -15,61 +13,13 @@ use Rattle.trace_wire.specs.declared.fault.WireFault.{WireFault}
 use Rattle.trace_wire.specs.declared.fault.WireFault.TheVariants as faults
 use Rattle.trace_wire.specs.declared.packed.fault.PackedCause.{PackedCause}
 use Rattle.trace_wire.specs.declared.packed.fault.PackedCause.TheVariants.{Wire, Rank}
-use Rattle.trace_wire.specs.Cells.{Entry}
 use Rattle.mpi_model.specs.Failures.{one_more}
 use Rattle.trace_wire.specs.FirstFault.{frame_at}
 use Rattle.trace_wire.specs.Frames.{HasFrameAs}
 use Rattle.trace_wire.specs.Packed.{BreaksOff, BreaksOffAt, Framed, HasOther, IsOfRanks, IsSound, RefusesCause, RefusesNext, StraysOffAt, Unpacks, all_bytes, framed_bytes, told_by}
 use Rattle.trace_wire.specs.Reading.{IsUnfilled, IsUnread, ReadsFrame}
-use Rattle.trace_wire.proofs.FormLaws.{chosen}
 use Rattle.trace_wire.proofs.Heads.{no_head, short_head}
-use Rattle.trace_wire.proofs.LastCells.{equal, exact_places, places_total}
 use Rattle.trace_wire.proofs.Sending.{spelled_last}
-
--- ---- the ranks of cells
-
-abbrev pub AllBelow : ℕ → List Entry → Type 0
-AllBelow ranks [] = Unit {0}
-AllBelow ranks (e ∷ es) = (e.0.0 < ranks) × AllBelow ranks es
-
-below_more : (ranks : ℕ) (front : List Entry) (e : Entry) → AllBelow ranks front → e.0.0 < ranks → AllBelow ranks (front ++ e ∷ [])
-below_more ranks [] e a h = (h, tt)
-below_more ranks (f ∷ front) e a h = (a.0, below_more ranks front e a.1 h)
-
--- All cells before the rest are of ranks below a number.
-abbrev pub IsAfter : ℕ → List Entry → List Entry → Type 0
-IsAfter ranks all rest = (front : List Entry) × AllBelow ranks front × (all ≡ front ++ rest)
-
-pub after_none : (ranks : ℕ) (all rest : List Entry) → rest ≡ all → IsAfter ranks all rest
-after_none ranks all rest is = ([], tt, sym is)
-
-pub after_more : (ranks : ℕ) (all rest es : List Entry) (e : Entry) → IsAfter ranks all rest → rest ≡ e ∷ es → e.0.0 < ranks → IsAfter ranks all es
-after_more ranks all rest es e a is lt = (a.0 ++ e ∷ [], below_more ranks a.0 e a.1 lt, a.2 ∙ ap (λ (l : List Entry). a.0 ++ l) is ∙ sym (append_assoc a.0 (e ∷ []) es))
-
-found_below : (ranks : ℕ) (q : ℕ × ℕ) (es : List Entry) → AllBelow ranks es → IsSome (find place_cmp q es) → q.0 < ranks
-found_below ranks q [] a some = absurd cc
-found_below ranks q (e ∷ es) a some = elim (chosen (eq_by_cmp place_cmp q e.0) (Some e.1) (find place_cmp q es) (find place_cmp q (e ∷ es)) refl) [
-  | inl p ↦ subst (λ (x : ℕ × ℕ). x.0 < ranks) (sym (exact_places q e.0 (equal _ p.0))) a.0
-  | inr p ↦ found_below ranks q es a.1 (subst (λ (o : Option Known). IsSome o) (sym p.1) some)
-]
-
-pub of_ranks : (ranks : ℕ) (v : View) (rest : List Entry) → IsAfter ranks (entries v) rest → rest ≡ [] → IsOfRanks ranks v
-of_ranks ranks v rest a none = λ rank place some.
-    let all : entries v ≡ a.0 = a.2 ∙ ap (λ (l : List Entry). a.0 ++ l) none ∙ append-nil a.0 in
-    found_below ranks (rank, place) (entries v) (subst (λ (l : List Entry). AllBelow ranks l) (sym all) a.1) (subst (λ (o : Option Known). IsSome o) (get-entries v (rank, place)) some)
-
-some_either : (b : Bool) (k : Known) (o : Option Known) → IsSome o → IsSome (cond b (Some k) o)
-some_either true k o h = refl
-some_either false k o h = h
-
-found_there : (e : Entry) (front es : List Entry) → IsSome (find place_cmp e.0 (front ++ e ∷ es))
-found_there e [] es = subst (λ (b : Bool). IsSome (cond b (Some e.1) (find place_cmp e.0 es))) (sym ((eq_by_cmp_equiv places_total).refl e.0)) refl
-found_there e (f ∷ front) es = some_either (eq_by_cmp place_cmp e.0 f.0) f.1 (find place_cmp e.0 (front ++ e ∷ es)) (found_there e front es)
-
-pub strays : (ranks : ℕ) (v : View) (rest es : List Entry) (e : Entry) → IsAfter ranks (entries v) rest → rest ≡ e ∷ es → ranks ≤ e.0.0 → HasOther ranks v
-strays ranks v rest es e a is le =
-    let all : entries v ≡ a.0 ++ e ∷ es = a.2 ∙ ap (λ (l : List Entry). a.0 ++ l) is in
-    (e.0.0, e.0.1, le, subst (λ (o : Option Known). IsSome o) (sym (get-entries v e.0)) (subst (λ (l : List Entry). IsSome (find place_cmp e.0 l)) (sym all) (found_there e a.0 es)))
 
 -- ---- the next frame
 

@@ -20,6 +20,7 @@ pub mod Taking
 pub mod SomeRuns
 pub mod Plans
 pub mod Levels
+pub mod LastRank
 pub mod Framing
 pub mod Packing
 pub mod Unpacking

@@ -8,7 +8,7 @@
 //! `docs/formats.md`, and as definitions in `specs/`.
 //!
 //! A payload has at most 67,108,864 bytes, in version 1 16,777,216. Both directions are linear in its length. Writing
-//! takes no memory and calls the device once for each 4,096 bytes; reading takes memory for the bytes that really came,
+//! takes no memory and calls the device once for each 32,768 bytes; reading takes memory for the bytes that really came,
 //! whatever the length field and the counts say, and then for the knowledge.
 //!
 //! - [`version`]: the versions and their limits

@@ -81,7 +81,7 @@ fn written_again<R: Abort>(
 
 /// Whether a frame of three pages is written and read back.
 fn comes_back<R: Abort>(rt: &R, alloc: Global, version: Version) -> bool {
-    let know = long(rt, alloc, 3_000);
+    let know = long(rt, alloc, 24_000);
     let before = summary(&know);
     let writer = written_again(rt, alloc, version, &know);
     let again = read_again(rt, alloc, writer.bytes());

@@ -13,20 +13,22 @@ use crate::packed::joining::Joining;
 use crate::packed::next::next_frame;
 use mpi_model::Read;
 use std::alloc::Global;
-use trace_know::{Knowledge, join_laws};
+use trace_know::{Knowledge, join_laws, listing_laws};
 
-/// Whether something is known of ranks below a number alone.
+/// Whether something is known of ranks below a number alone. The cells go by rank, so the last one tells.
 fn is_of_ranks(know: &Knowledge, ranks: u32) -> bool
     ensures of { result ≡ true → IsOfRanks ranks know.now }
     ensures other { result ≡ false → HasOther ranks know.now }
 {
-    let mut cells = know.cells();
-    while let Some((rank, _, _)) = cells.next() {
-        if rank >= ranks {
-            return false;
-        }
+    listing_laws();
+    let count = know.count();
+    if count == 0 {
+        return true;
     }
-    true
+    match know.cell_at(count - 1) {
+        Some((rank, _, _)) => rank < ranks,
+        None => true,
+    }
 }
 
 /// Reads one frame more, of ranks below a number, or answers that no byte is left.

@@ -29,6 +29,7 @@ pub(crate) fn fault_of(fault: FieldFault) -> WireFault
 }
 
 /// What stands at a place.
+#[inline(always)]
 pub(crate) fn known_of(
     alloc: Global,
     place: u64,

@@ -16,6 +16,7 @@ use mpi_model::{
 use std::alloc::Global;
 
 /// The envelope of a receive.
+#[inline(always)]
 fn receive_field(bytes: &[u8]) -> Result<(ReceiveEnvelope, &[u8]), FieldFault>
     ensures { Reads (λ x. (x.0, x.1.now)) result (envelope.read bytes.now) }
 {
@@ -38,6 +39,7 @@ fn receive_field(bytes: &[u8]) -> Result<(ReceiveEnvelope, &[u8]), FieldFault>
 }
 
 /// The envelope of a send: one that names its peer and its tag.
+#[inline(always)]
 fn send_field(bytes: &[u8]) -> Result<(SendEnvelope, &[u8]), FieldFault>
     ensures { Reads (λ x. (x.0, x.1.now)) result (send_envelope.read bytes.now) }
 {
@@ -61,6 +63,7 @@ fn exchange_field(bytes: &[u8]) -> Result<(Exchange, &[u8]), FieldFault>
 }
 
 /// A collective call, with a root just where its kind has one.
+#[inline(always)]
 fn collective_field(bytes: &[u8]) -> Result<(Collective, &[u8]), FieldFault>
     ensures { Reads (λ x. (x.0, x.1.now)) result (gathering.read bytes.now) }
 {
@@ -144,6 +147,7 @@ fn further_call_of(alloc: Global, code: u8, bytes: &[u8]) -> Result<(Call, &[u8]
 }
 
 /// A call by the code of its kind.
+#[inline(always)]
 #[tactic(auto, unfolding(crate::specs::Events::call_at))]
 fn call_of(alloc: Global, code: u8, bytes: &[u8]) -> Result<(Call, &[u8]), FieldFault>
     ensures { Reads (λ x. (x.0, x.1.now)) result (call_at code bytes.now) }
@@ -210,6 +214,7 @@ fn call_of(alloc: Global, code: u8, bytes: &[u8]) -> Result<(Call, &[u8]), Field
 }
 
 /// An outcome by the code of its kind.
+#[inline(always)]
 #[tactic(auto, unfolding(crate::specs::Events::outs_at))]
 fn outs_of(alloc: Global, code: u8, bytes: &[u8]) -> Result<(Outs, &[u8]), FieldFault>
     ensures { Reads (λ x. (x.0, x.1.now)) result (outs_at code bytes.now) }
@@ -247,6 +252,7 @@ fn outs_of(alloc: Global, code: u8, bytes: &[u8]) -> Result<(Outs, &[u8]), Field
 }
 
 /// An Enter or a Return, behind its kind and times.
+#[inline(always)]
 fn body_of(
     alloc: Global,
     is_enter: bool,
@@ -266,6 +272,7 @@ fn body_of(
 }
 
 /// The event at a place.
+#[inline(always)]
 pub(crate) fn event_of(
     alloc: Global,
     place: u64,

@@ -16,6 +16,9 @@ use crate::read::field::{FieldFault, u32_of};
 use std::alloc::Global;
 use trace_know::{Knowledge, Known, PLACES};
 
+/// The bytes of the shortest event with its code.
+const SHORTEST_EVENT: usize = 18;
+
 /// A run as it was read.
 #[derive(Drop)]
 struct Run {
@@ -31,7 +34,13 @@ fn is_run(first: u64, count: u32) -> bool
     count > 0 && first < PLACES && count as u64 <= PLACES - first
 }
 
-/// What stands at so many places from one on. Memory grows with the cells that are there, whatever the count says.
+/// The room for so many cells: for no more than these bytes can hold of events.
+fn room_for(count: u32, bytes: usize) -> usize {
+    (count as usize).min(bytes / SHORTEST_EVENT)
+}
+
+/// What stands at so many places from one on. Memory is asked for the cells that the bytes can hold, and grows with those
+/// that are there, whatever the count says.
 fn knowns_of(
     alloc: Global,
     first: u64,
@@ -41,7 +50,7 @@ fn knowns_of(
     requires { first + count ≤ 2 ^ 40 }
     ensures { Reads (λ x. (x.0.items, x.1.now)) result (knowns_at first count bytes.now) }
 {
-    let mut cells = Vec::new(alloc);
+    let mut cells = Vec::with_capacity(alloc, room_for(count, bytes.len()))?;
     let mut rest = bytes;
     for at in 0..count {
         let (known, after) = field!(known_of(alloc, first + at as u64, rest));

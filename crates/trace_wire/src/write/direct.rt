@@ -17,6 +17,7 @@ impl<'a, W: Write> Sink for Direct<'a, W> {
 
     ghost page = { λ d. record { lent = d.writer.ghost_name; out = W.written d.writer.now; failures = W.failures d.writer.now; side = W.read_side d.writer.now; pending = []; failed = d.failed } };
 
+    #[inline(never)]
     fn put(&mut self, bytes: &[u8]) {
         if !self.failed {
             match write_all(self.writer, bytes) {
@@ -27,6 +28,10 @@ impl<'a, W: Write> Sink for Direct<'a, W> {
                 }
             }
         }
+    }
+
+    fn put_after_flush(&mut self, bytes: &[u8]) {
+        self.put(bytes);
     }
 
     fn flush(&mut self) {}

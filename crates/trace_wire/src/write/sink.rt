@@ -10,6 +10,10 @@ pub(crate) trait Sink {
     fn put(&mut self, bytes: &[u8])
         ensures { Sends (page self.old) (page self.new) bytes.now };
 
+    /// Hands on what it holds, and then puts the bytes.
+    fn put_after_flush(&mut self, bytes: &[u8])
+        ensures { Sends (page self.old) (page self.new) bytes.now };
+
     /// Hands on what it holds.
     fn flush(&mut self)
         ensures sends { Sends (page self.old) (page self.new) [] }

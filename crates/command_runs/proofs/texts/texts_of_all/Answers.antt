@@ -1,5 +1,6 @@
-use Rattle.std.proofs.Common.{arith, ◌≡◌, ◌∙◌, ◌+◌, ◌<◌, ◌++◌, ◌∷◌, [], List, ap, sym, subst, inr, length, take}
+use Rattle.std.proofs.Common.{arith, ◌≡◌, ◌∙◌, ◌+◌, ◌<◌, ◌++◌, ◌∷◌, [], ℕ, List, ap, sym, subst, inr, length, take}
 use Rattle.std.specs.List.{All}
+use Rattle.std.proofs.Math.Seq.{take-length}
 use Rattle.std.proofs.lemmas.List.Elements.{All-append, All-cons, All-nil}
 use Rattle.std.proofs.lemmas.List.{take_more}
 use Rattle.trace_crew.specs.declared.piece.Piece.{Piece}
@@ -9,7 +10,7 @@ use Rattle.command_runs.specs.Inputs.{RefusesFile}
 use Rattle.command_runs.proofs.Sharing.{Adds, shares_more}
 use Rattle.command_runs.proofs.Traces.{begins}
 use Rattle.command_runs.proofs.Unread.{file_untold, fits}
-use Rattle.command_runs.specs.Texts.{WasRead}
+use Rattle.command_runs.specs.Texts.{AreShares, WasRead}
 use Rattle.command_runs.specs.declared.whole.TheConstants.{LONGEST_PIECE}
 use Rattle.command_runs.proofs.texts.texts_of_all.Goals as goal
 
@@ -22,11 +23,12 @@ loop-piece-preserved g c =
     ∙ ap (λ (p : PieceParts). take c.loop-piece.piece-index c.args.pieces.now ++ p ∷ []) (sym c.piece-item.is) in
     let text : Piece = record { rank = c.rank-rank.result; first = c.first-first.result; text = c.in-Ok.text } in
     let bytes : IsFile (file c.piece-item.result.file) c.in-Ok.text.items = rw (c.file.ensures, c.loop-piece.invariant.files) at c.in-Ok.ensures.ok in
-    let adds : Adds c.piece-item.result text c.loop-piece.texts c.add.new.self = rw (c.side_of.ensures, c.worker_of.ensures) at c.in_ok-add.ensures in
+    let adds : Adds c.piece-item.result text c.loop-piece.texts c.add.new.self = rw (c.side_of.ensures, c.node.ensures, c.worker_of.ensures) at c.in_ok-add.ensures.shares in
     record {
       files = c.file_at.ensures.same ∙ c.loop-piece.invariant.files;
       shares = shares_more file (take c.loop-piece.piece-index c.args.pieces.now) (take (c.loop-piece.piece-index + 1) c.args.pieces.now) c.piece-item.result
           c.loop-piece.texts c.add.new.self text more c.loop-piece.invariant.shares (c.rank-rank.ensures, c.first-first.ensures, bytes) adds;
+      known = λ node. c.in_ok-add.ensures.known node ∙ c.loop-piece.invariant.known node;
       read = subst (λ (ps : List PieceParts). All (WasRead file) ps) (sym more)
           (All-append (WasRead file) (take c.loop-piece.piece-index c.args.pieces.now) (c.piece-item.result ∷ []) c.loop-piece.invariant.read
           (All-cons (WasRead file) c.piece-item.result [] (fits LONGEST_PIECE (file c.piece-item.result.file) c.in-Ok.text.items bytes c.in-Ok.ensures.limit) (All-nil (WasRead file))));
@@ -40,6 +42,14 @@ returns-in-Err-clause-err g c =
     ∙ ap (λ (p : PieceParts). take c.loop-piece.piece-index c.args.pieces.now ++ p ∷ []) (sym c.piece-item.is) in
     let refuses : RefusesFile c.piece-item.result.file c.in-Err.fault = rw c.file.ensures at c.in-Err.ensures.err in
     inr (take c.loop-piece.piece-index c.args.pieces.now, c.piece-item.result, begins c.args.pieces.now c.loop-piece.piece-index c.piece-item.result more, c.loop-piece.invariant.read, refuses)
+
+pub returns-clause-ok : goal.returns-clause-ok
+returns-clause-ok g c =
+    let file = g.O.Opener.file c.args.files.now in
+    let end : c.loop-piece.piece-index ≡ length c.args.pieces.now = omega arith in
+    let all : take c.loop-piece.piece-index c.args.pieces.now ≡ c.args.pieces.now =
+    ap (λ (n : ℕ). take n c.args.pieces.now) end ∙ take-length c.args.pieces.now in
+    subst (λ (ps : List PieceParts). AreShares file ps c.loop-piece.texts) all c.loop-piece.invariant.shares
 
 pub returns-in-Err-clause-failed : goal.returns-in-Err-clause-failed
 returns-in-Err-clause-failed g c = file_untold _ c.in-Err.fault c.in-Err.ensures.err

@@ -1,4 +1,4 @@
-use Rattle.trace_explain.proofs.Adding.{then, reads}
+use Rattle.trace_explain.proofs.Adding.{then}
 use Rattle.trace_explain.proofs.doubts.put_conflict.Goals as goal
 
 pub returns : goal.returns

@@ -1,5 +1,5 @@
 use Rattle.std.proofs.Common.{◌∙◌, ◌++◌, [], List, Option, ap, sym, take}
-use Rattle.std.specs.List.{cons_option, filter_map}
+use Rattle.std.specs.List.{cons_option}
 use Rattle.mpi_model.specs.declared.event.OpName.{OpName}
 use Rattle.trace_explain.specs.LeftOver.{near_miss, near_misses}
 use Rattle.trace_explain.proofs.Lines.{given_next}

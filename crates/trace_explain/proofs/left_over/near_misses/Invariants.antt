@@ -1,4 +1,4 @@
-use Rattle.std.proofs.Common.{◌≡◌, ◌++◌, filter, map, take}
+use Rattle.std.proofs.Common.{◌≡◌, take}
 use Rattle.trace_explain.specs.LeftOver.{near_misses}
 use Rattle.trace_explain.proofs.left_over.near_misses.Given as goal
 

@@ -1,4 +1,4 @@
-use Rattle.std.proofs.Common.{◌≡◌, ◌++◌, filter, map, take}
+use Rattle.std.proofs.Common.{◌≡◌}
 use Rattle.trace_explain.specs.LeftOver.{pending_below}
 use Rattle.trace_explain.proofs.left_over.pending.Given as goal
 

@@ -1,4 +1,4 @@
-use Rattle.std.proofs.Common.{◌≡◌, ◌++◌, filter, map, take}
+use Rattle.std.proofs.Common.{◌≡◌, ◌++◌, filter, take}
 use Rattle.trace_explain.specs.LeftOver.{is_loose}
 use Rattle.trace_explain.proofs.left_over.push_loose.Given as goal
 

@@ -1,4 +1,4 @@
-use Rattle.std.proofs.Common.{◌≡◌, ◌++◌, filter, map, take}
+use Rattle.std.proofs.Common.{◌≡◌, ◌++◌, map, take}
 use Rattle.trace_explain.specs.LeftOver.{named}
 use Rattle.trace_explain.proofs.left_over.push_posts.Given as goal
 

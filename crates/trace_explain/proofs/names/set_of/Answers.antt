@@ -1,4 +1,4 @@
-use Rattle.std.proofs.Common.{◌≡◌, ◌∙◌, ◌||◌, Bool, ap, get_or}
+use Rattle.std.proofs.Common.{◌∙◌, ◌||◌, Bool, ap, get_or}
 use Rattle.std.specs.BTreeSet.{contains}
 use Rattle.mpi_model.specs.declared.event.OpName.{OpName}
 use Rattle.trace_pair.specs.Table.{same_name}

@@ -1,7 +1,6 @@
 use Rattle.std.proofs.Common.{◌∙◌, ℕ, List, ap}
 use Rattle.trace_pair.specs.declared.pair.Pair.{Pair}
 use Rattle.trace_explain.specs.OneRank.{partners_text, prefix_in, span_text}
-use Rattle.trace_explain.specs.Sections.{entry_of}
 use Rattle.trace_explain.specs.Standing.{place_text}
 use Rattle.trace_explain.proofs.Adding.{reads, then}
 use Rattle.trace_explain.proofs.one_rank.put_call_line.Goals as goal

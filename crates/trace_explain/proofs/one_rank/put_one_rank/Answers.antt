@@ -1,4 +1,4 @@
-use Rattle.std.proofs.Common.{◌∙◌, ℕ, ap}
+use Rattle.std.proofs.Common.{◌∙◌, ap}
 use Rattle.trace_explain.specs.Lacking.{calls_read}
 use Rattle.trace_explain.specs.OneRank.{calls_text}
 use Rattle.trace_explain.proofs.Adding.{reads, then}

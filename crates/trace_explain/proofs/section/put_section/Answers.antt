@@ -1,4 +1,4 @@
-use Rattle.std.proofs.Common.{◌≡◌, ◌+◌, suc, sym, ap, arith, map}
+use Rattle.std.proofs.Common.{◌≡◌, ◌+◌, suc, ap, arith, map}
 use Rattle.trace_explain.specs.Sections.{groups_text, said}
 use Rattle.trace_explain.proofs.Adding.{then, reads}
 use Rattle.trace_explain.proofs.section.put_section.Goals as goal

@@ -1,4 +1,4 @@
-use Rattle.std.proofs.Common.{◌≡◌, ◌∙◌, Option, Some, List, ℕ, ap, sym}
+use Rattle.std.proofs.Common.{◌∙◌, Some, List, ℕ, ap, sym}
 use Rattle.trace_explain.proofs.Parts.{plain_next, plain_none}
 use Rattle.trace_explain.proofs.waited.plain_ranks_in.Goals as goal
 

@@ -1,6 +1,6 @@
 use Rattle.std.proofs.Common.{◌≡◌, ◌∙◌, ◌<◌, ℕ, List, Option, Some, position, sym, ap, get_or, length, set, arith}
 use Rattle.trace_explain.specs.declared.lacking.Lacked.{Lacked}
-use Rattle.trace_explain.specs.Lacking.{LackingParts, counted_at, has_number, once_more, with_place}
+use Rattle.trace_explain.specs.Lacking.{LackingParts, has_number, once_more, with_place}
 use Rattle.trace_explain.proofs.Counted.{counted_set}
 use Rattle.trace_explain.proofs.lacking.Lacking.put.Goals as goal
 

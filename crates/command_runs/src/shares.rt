@@ -1,0 +1,104 @@
+//! What the packed files of each of two nodes tell.
+
+ghost use Rattle.std.specs.Prelude.{◌≡◌, ◌⊎◌, if◌then◌else◌, IfErr, IfOk, OnOk};
+ghost use Rattle.std.specs.FinMap.{empty};
+ghost use Rattle.dumpi_text.specs.Failing.{Fails};
+ghost use Rattle.trace_cluster.specs.declared.side.Side.{Side as SideValue};
+ghost use Rattle.trace_know.specs.View.{View, join};
+ghost use Rattle.trace_node.specs.Node.{IsWithin};
+ghost use Rattle.command_runs.specs.Files.{NamesFailed, NamesUnreadable};
+ghost use Rattle.command_runs.specs.Packed.{RefusesFirstPacked, TellPacked};
+ghost use Rattle.command_runs.specs.Shares.{TellShares, so_far, told_to};
+ghost use Rattle.command_runs.specs.Texts.{is_side};
+ghost use Rattle.command_runs.specs.declared.whole.TheConstants.{LONGEST_PIECE};
+
+use crate::fault::RunFault;
+use crate::opener::Opener;
+use crate::packed::packed_at;
+use crate::texts::side_of;
+use input_files::PackedPiece;
+use mpi_model::Layout;
+use std::alloc::{AllocError, Global};
+use trace_cluster::Side;
+use trace_know::{Knowledge, join_laws};
+use trace_wire::Joining;
+
+/// What the packed files of two nodes tell, of each by itself.
+#[derive(Drop)]
+pub struct PackedShares {
+    pub first: Knowledge,
+    pub second: Knowledge,
+}
+
+/// What they told so far.
+#[derive(Drop)]
+struct SoFar {
+    first: Joining,
+    second: Joining,
+}
+
+impl SoFar {
+    fn new(alloc: Global) -> SoFar
+        ensures { (node : SideValue) → so_far result node ≡ empty }
+    {
+        SoFar {
+            first: Joining::new(alloc),
+            second: Joining::new(alloc),
+        }
+    }
+
+    // The same once a file of a node has told this.
+    fn taking(self, node: Side, know: Knowledge) -> Result<SoFar, AllocError>
+        ensures { IfOk result (λ more. (one : SideValue) → so_far more one ≡ (if is_side one node then join (so_far self one) know else so_far self one)) }
+    {
+        let SoFar { first, second } = self;
+        match node {
+            Side::First => {
+                let first = first.taking(know)?;
+                Ok(SoFar { first, second })
+            }
+            Side::Second => {
+                let second = second.taking(know)?;
+                Ok(SoFar { first, second })
+            }
+        }
+    }
+
+    fn into_shares(self) -> Result<PackedShares, AllocError>
+        ensures first { IfOk result (λ shares. shares.first ≡ self.first) }
+        ensures second { IfOk result (λ shares. shares.second ≡ self.second) }
+    {
+        let first = self.first.into_knowledge()?;
+        let second = self.second.into_knowledge()?;
+        Ok(PackedShares { first, second })
+    }
+}
+
+/// What the packed files of each node tell together, of ranks of the layout. They are read in the order of the list, each frame
+/// by frame.
+pub(crate) fn shares_of<O: Opener>(
+    alloc: Global,
+    layout: &Layout,
+    packed: &[PackedPiece],
+    files: &mut O,
+) -> Result<PackedShares, RunFault>
+    ensures ok { IfOk result (λ shares. TellShares (O.file files.old) layout.now.ranks packed.now (told_to shares)) }
+    ensures within { IfOk result (λ shares. (node : SideValue) → IsWithin layout.now (told_to shares node)) }
+    ensures together { OnOk result ((view : View) × TellPacked (O.file files.old) layout.now.ranks packed.now view) }
+    ensures err { IfErr result (λ fault. (fault ≡ RunFault.Memory) ⊎ RefusesFirstPacked (O.file files.old) layout.now.ranks packed.now fault) }
+    ensures unread { IfErr result (λ fault. NamesUnreadable LONGEST_PIECE (Fails O.R.failures) (O.file files.old) fault) }
+    ensures failed { IfErr result (NamesFailed ⊥) }
+    ensures same { O.file files.new ≡ O.file files.old }
+{
+    join_laws();
+    let mut told = SoFar::new(alloc);
+    for piece in packed {
+        let know = match packed_at(alloc, layout, piece.file(), files) {
+            Ok(know) => know,
+            Err(fault) => return Err(fault),
+        };
+        told = told.taking(side_of(piece.node()), know)?;
+    }
+    let shares = told.into_shares()?;
+    Ok(shares)
+}

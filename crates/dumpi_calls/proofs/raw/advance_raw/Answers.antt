@@ -1,0 +1,13 @@
+use Rattle.std.proofs.Common.{◌≡◌, true, Some}
+use Rattle.dumpi_text.specs.Shown.{put_in}
+use Rattle.dumpi_calls.specs.Walks.{Follows}
+use Rattle.dumpi_calls.proofs.Advancing.{line_refused}
+use Rattle.dumpi_calls.proofs.raw.advance_raw.Goals as goal
+
+pub returns-in-Err-take_raw-clause-err : goal.returns-in-Err-take_raw-clause-err
+returns-in-Err-take_raw-clause-err g c = λ text before is_read.
+    let raw = c.next_of.new.raw in
+    let found : Follows text before (put_in c.in-Ok-true.field-0 raw) c.next_of.new.texts = c.in-Ok-true.ensures.goes_on text before is_read in
+    let is_true : c.in-Ok-true.field-0 ≡ true = c.in-Ok-true.field-0-test in
+    let read : Follows text before (Some raw) c.next_of.new.texts = rw is_true at found in
+    line_refused text before raw c.in-Err-take_raw.fault.cause c.in-Err-take_raw.fault.line c.next_of.new.texts read c.in-Err-take_raw.ensures.err

@@ -1,0 +1,56 @@
+-- What a walk over a text does whose calls are handed on as they stand there.
+use Rattle.std.specs.Prelude.{◌≡◌, ℕ, Bool, List, [], ◌∷◌, ◌++◌, length, Option, Some, None, Ok}
+use Rattle.mpi_model.specs.declared.call.Call.{Call}
+use Rattle.dumpi_text.specs.Call.{TextCall}
+use Rattle.dumpi_text.specs.Grammar.{Complete}
+use Rattle.dumpi_text.specs.Reading.{MeansAll}
+use Rattle.dumpi_text.specs.Standing.{TextState}
+use Rattle.dumpi_text.specs.declared.step.Position.{Position}
+use Rattle.dumpi_calls.specs.Rows.{typed}
+use Rattle.dumpi_calls.specs.Walks.{IsRead, StopsWalk, is_unfinished, lacks_exit}
+use Rattle.dumpi_calls.specs.declared.fault.WalkFault.{WalkFault}
+use Rattle.dumpi_calls.specs.declared.typing.TypedCall.{TypedCall}
+use Rattle.dumpi_calls.specs.declared.walking.Walked.{Walked}
+
+-- Calls were taken in their order, each in the state that the ones before it left.
+abbrev pub Taken : {S : Type 0} → (S → TextCall → Call → S → Type 0) → List TextCall → S → S → Type 0
+Taken step [] old new = new ≡ old
+Taken {S = S} step (raw ∷ raws) old new = (call : TypedCall) × (mid : S) × (typed raw ≡ Ok call) × step old raw call.call mid × Taken step raws mid new
+
+-- These calls were handed to the sink as they stand, in order, and are counted.
+pub record HandedRaw {S : Type 0} (step : S → TextCall → Call → S → Type 0) (calls : List TextCall) (old new : S) (count : ℕ) : Type 0 where
+  pub taken : Taken step calls old new
+  pub counted : count ≡ length calls
+
+-- The sink took the call as it stands.
+pub record TakesRaw {S : Type 0} (step : S → TextCall → Call → S → Type 0) (raw : TextCall) (old new : S) : Type 0 where
+  pub call : TypedCall
+  pub typed_as : typed raw ≡ Ok call
+  pub taken : step old raw call.call new
+
+-- One call more was read, and the sink took it.
+pub record TakesNextRaw {S : Type 0} (step : S → TextCall → Call → S → Type 0) (text : Option (List ℕ)) (calls : List TextCall) (is_open : Bool) (view : TextState) (old new : S) : Type 0 where
+  pub raw : TextCall
+  pub read : IsRead text (calls ++ raw ∷ []) view
+  pub takes : TakesRaw step raw old new
+  pub exit : is_open ≡ lacks_exit raw.exit
+
+-- The sink took one call more, which has returned or not; or the text was over.
+abbrev pub AdvancesRaw : {S : Type 0} → (S → TextCall → Call → S → Type 0) → Option (List ℕ) → List TextCall → Option Bool → TextState → S → S → Type 0
+AdvancesRaw step text calls (Some is_open) view old new = TakesNextRaw step text calls is_open view old new
+AdvancesRaw step text calls None view old new = MeansAll text calls (Complete view.told) × (new ≡ old)
+
+-- The whole text was walked.
+pub record IsWalkedRaw {S : Type 0} (step : S → TextCall → Call → S → Type 0) (text : Option (List ℕ)) (old new : S) (walked : Walked) : Type 0 where
+  pub calls : List TextCall
+  pub at : Position
+  pub means : MeansAll text calls (Complete at)
+  pub handed : HandedRaw step calls old new walked.calls
+  pub skipped : walked.skipped ≡ at.skipped
+  pub unfinished : walked.unfinished ≡ is_unfinished calls
+
+-- The walk stopped at the first call that can't be had or is refused, and exactly the calls before it were handed on.
+pub record IsStoppedRaw {S F : Type 0} (step : S → TextCall → Call → S → Type 0) (text : Option (List ℕ)) (old new : S) (fault : WalkFault F) : Type 0 where
+  pub calls : List TextCall
+  pub handed : HandedRaw step calls old new fault.calls
+  pub stops : StopsWalk {F = F} text calls fault.cause fault.line

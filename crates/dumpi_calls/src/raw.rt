@@ -1,0 +1,132 @@
+//! A walk that hands on the calls of a text as they stand there, with all their parameters.
+
+ghost use Rattle.std.specs.Prelude.{◌≡◌, ◌<◌, ◌≤◌, ℕ, List, Option, IfErr, IfOk, IfSome, OnErr, OnOk};
+ghost use Rattle.mpi_model.specs.declared.call.Call.{Call};
+ghost use Rattle.dumpi_text.specs.Call.{TextCall};
+ghost use Rattle.dumpi_text.specs.Failing.{Fails};
+ghost use Rattle.dumpi_text.specs.declared.step.TheConstants.{MOST_LINES};
+ghost use Rattle.dumpi_calls.specs.RawWalks.{AdvancesRaw, IsStoppedRaw, IsWalkedRaw, TakesRaw};
+ghost use Rattle.dumpi_calls.specs.Walks.{FailsAfter, FailsIn, IsRead, IsReadStop, RefusesCall, StopsWalk};
+
+use crate::fault::{WalkCause, WalkFault};
+use crate::function::function_in;
+use crate::typing::{TypedCall, typed_call};
+use crate::walking::{Walked, is_open, lack, next_of, refusal};
+use dumpi_text::{RawCall, Texts, reading_call_by_call};
+use mpi_model::{Call, Read};
+use std::alloc::Global;
+
+/// What the calls of a text are handed to as they stand there: each with its name and its parameters, also those that its
+/// function has no use for, and as the call that it is.
+///
+/// A sink says by `step` what a call may make of it. It is so where it takes the call, and as it was where it refuses it.
+pub trait RawSink {
+    /// Why a call is refused.
+    type Fault: Drop;
+
+    /// Which states a call may leave, by the state before it.
+    ghost step: { Self → TextCall → Call → Self → Type 0 };
+
+    fn on_call(&mut self, raw: &RawCall, call: Call) -> Result<(), Self::Fault>
+        ensures ok { OnOk result (step self.old raw.now call self.new) }
+        ensures err { OnErr result (self.new ≡ self.old) };
+}
+
+// reads a call's parameters and hands it on
+fn take_raw<S: RawSink>(
+    alloc: Global,
+    raw: &RawCall,
+    sink: &mut S,
+    calls: u64,
+) -> Result<(), WalkFault<S::Fault>>
+    ensures ok { IfOk result (λ done. TakesRaw S.step raw.now sink.old sink.new) }
+    ensures err { IfErr result (λ fault. RefusesCall raw.now fault.cause fault.line) }
+    ensures whole { IfErr result (λ fault. ¬ IsReadStop fault.cause) }
+    ensures calls { IfErr result (λ fault. fault.calls ≡ calls) }
+    ensures unchanged { OnErr result (sink.new ≡ sink.old) }
+{
+    match typed_call(alloc, function_in(raw), raw) {
+        Err(fault) => Err(refusal(raw, fault, calls)),
+        Ok(TypedCall { call, .. }) => match sink.on_call(raw, call) {
+            Ok(()) => Ok(()),
+            Err(fault) => Err(WalkFault {
+                cause: WalkCause::Sink(fault),
+                line: raw.line(),
+                calls,
+            }),
+        },
+    }
+}
+
+// Hands on the next call of the text: whether it lacks its exit, or nothing at the end of the text.
+fn advance_raw<R: Read, S: RawSink>(
+    alloc: Global,
+    texts: &mut Texts<R>,
+    raw: &mut RawCall,
+    sink: &mut S,
+    calls: u64,
+) -> Result<Option<bool>, WalkFault<S::Fault>>
+    ensures ok { (text : Option (List ℕ)) (before : List TextCall) → IsRead text before texts.old → IfOk result (λ found. AdvancesRaw S.step text before found texts.new sink.old sink.new) }
+    ensures err { (text : Option (List ℕ)) (before : List TextCall) → IsRead text before texts.old → IfErr result (λ fault. StopsWalk text before fault.cause fault.line) }
+    ensures failed { IfErr result (λ fault. IsReadStop fault.cause → Fails R.failures) }
+    ensures failure { (text : Option (List ℕ)) (before : List TextCall) → IsRead text before texts.old → IfErr result (λ fault. IsReadStop fault.cause → FailsAfter R.left R.failures text texts.old.rest.failures before fault.line) }
+    ensures no_failure { OnOk result (texts.new.rest.failures ≡ texts.old.rest.failures) }
+    ensures calls { IfErr result (λ fault. fault.calls ≡ calls) }
+    ensures unchanged { OnErr result (sink.new ≡ sink.old) }
+    ensures progress { IfOk result (λ found. IfSome found (λ is_open. texts.old.at.line < texts.new.at.line)) }
+    ensures lines { texts.new.at.line ≤ MOST_LINES }
+{
+    match next_of(texts, raw) {
+        Ok(true) => match take_raw(alloc, raw, sink, calls) {
+            Ok(()) => Ok(Some(is_open(raw))),
+            Err(fault) => Err(fault),
+        },
+        Ok(false) => Ok(None),
+        Err(fault) => Err(lack(fault, texts.line(), calls)),
+    }
+}
+
+/// Hands the calls of a text to a sink as they stand there, in order, up to the first that can't be read or that the sink
+/// refuses: it ends as [`walk`](crate::walk) does. The text is read in one pass, and memory doesn't grow with it.
+#[tactic(auto, using(crate::proofs::RawWalks::advanced, crate::proofs::RawWalks::walked_all, crate::proofs::RawWalks::walk_stopped, crate::proofs::Failing::fails_in))]
+pub fn walk_raw<R: Read, S: RawSink>(
+    alloc: Global,
+    reader: R,
+    sink: &mut S,
+) -> Result<Walked, WalkFault<S::Fault>>
+    ensures ok { IfOk result (λ walked. IsWalkedRaw S.step (R.left reader) sink.old sink.new walked) }
+    ensures err { IfErr result (λ fault. IsStoppedRaw S.step (R.left reader) sink.old sink.new fault) }
+    ensures failed { IfErr result (λ fault. IsReadStop fault.cause → Fails R.failures) }
+    ensures failure { IfErr result (λ fault. IsReadStop fault.cause → FailsIn R.left R.failures reader fault.calls fault.line) }
+{
+    reading_call_by_call();
+    let mut calls: u64 = 0;
+    let mut unfinished = false;
+    let mut texts = match Texts::new(alloc, reader) {
+        Ok(texts) => texts,
+        Err(_) => {
+            return Err(WalkFault {
+                cause: WalkCause::Memory,
+                line: 0,
+                calls,
+            });
+        }
+    };
+    let mut raw = RawCall::new(alloc);
+    'each: loop {
+        match advance_raw(alloc, &mut texts, &mut raw, sink, calls) {
+            Ok(Some(is_open)) => {
+                calls += 1;
+                unfinished = is_open;
+            }
+            Ok(None) => {
+                return Ok(Walked {
+                    calls,
+                    skipped: texts.skipped(),
+                    unfinished,
+                });
+            }
+            Err(fault) => return Err(fault),
+        }
+    }
+}

@@ -1,9 +1,0 @@
-use Rattle.std.proofs.Common.{◌≡◌, [], rules, refl}
-use Rattle.trace_wire.proofs.Sending.{passed}
-use Rattle.trace_wire.proofs.write.paged.PagedSink.put.Goals as goal
-
-pub returns-then-is_err-2 : goal.returns-then-is_err-2
-returns-then-is_err-2 g c =
-    let a : c.as_slice.result.now ≡ c.args.self.now.page.items = search rules in
-    let b : c.try_extend_from_slice-then-is_err.new.self.items ≡ [] = search rules in
-    passed _ _ _ c.args.self.now.page.items _ c.try_extend_from_slice-then-is_err.new.self.items c.args.bytes.now refl refl refl a b c.put.ensures c.put-then-is_err-2.ensures
