@@ -160,7 +160,6 @@ fn explained<N: Answerer, O: Opener>(
     let Ok(answer) = node.told() else {
         unreachable!()
     };
-    node.known();
     let said = explain(alloc, layout, other, answer, node.knowledge())?;
     let places = match places_of(alloc, shown_first(answer.stuck()), notes, files) {
         Ok(places) => places,
