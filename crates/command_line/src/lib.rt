@@ -13,8 +13,8 @@ ghost use Rattle.clap.specs.Words.{app_of, fault_of, rule_of, subcommand_of, sub
 ghost use Rattle.clap.specs.declared.builder.command.Command.TheViews.{out-Command};
 ghost use Rattle.command_line.specs.Program.{Refuses, bare, explain_app, explain_in, file_rule, in_form, json_rule, program, rank_rule, report_app, report_in, request_in, request_of, shown_status_of, verb_app, verb_named, with_explain as and_explain, with_report as and_report, with_verb as and_verb};
 
-use clap::error::ErrorKind;
 use clap::builder::ValueParser;
+use clap::error::ErrorKind;
 use clap::{Arg, ArgAction, ArgMatches, Command};
 use std::alloc::{AllocError, Global};
 use thiserror::Error;

@@ -13,5 +13,5 @@ returns g c =
       answer,
       c.in-Ok.ensures.ok,
       said ∙ ap (λ (l : Parts). rank_explained_text l answer c.knowledge.result.now c.args.rank) c.requires.own
-      ∙ ap (λ (v : View). rank_explained_text h.layout answer v c.args.rank) c.knowledge.ensures,
+          ∙ ap (λ (v : View). rank_explained_text h.layout answer v c.args.rank) c.knowledge.ensures,
     )) c.explain_rank.ensures
