@@ -8,3 +8,11 @@ pub mod Made
 pub mod Groups
 pub mod Reordered
 pub mod Written
+pub mod Naming
+pub mod Views
+pub mod Makes
+pub mod Derives
+pub mod State
+pub mod Offers
+pub mod ByGroups
+pub mod Derived

@@ -1,6 +1,7 @@
 //! From what the ranks called to their communicators.
 
 ghost use Rattle.std.specs.Prelude.{◌≡◌, ◌≢◌, ◌<◌, ◌^◌, IfErr, IfOk, None, OnOk, Some, length};
+ghost use Rattle.comm_makings.specs.Derived.{IsSound};
 ghost use Rattle.comm_makings.specs.World.{first_told, other_told, world_fault, world_of};
 ghost use Rattle.comm_makings.specs.declared.answer.DeriveFault.TheVariants.{Memory};
 
@@ -78,6 +79,7 @@ pub fn derive(alloc: Global, ranks: &[RankCalls]) -> Result<Derived, DeriveFault
     ensures world { IfOk result (λ d. d.world ≡ world_of ranks.now) }
     ensures none { OnOk result (world_fault ranks.now ≡ None) }
     ensures fault { IfErr result (λ e. e ≢ Memory → world_fault ranks.now ≡ Some e) }
+    ensures sound { IfOk result (λ d. IsSound (world_of ranks.now) ranks.now d.comms.items) }
 {
     let world = world_of(ranks)?;
     let Run {
@@ -88,7 +90,7 @@ pub fn derive(alloc: Global, ranks: &[RankCalls]) -> Result<Derived, DeriveFault
     } = run_of(alloc, world, ranks)?;
     let uses = uses_of_all(alloc, ranks, &views)?;
     let left_out = left_out(alloc, ranks, &views, &standings, &uses)?;
-    let comms = written(alloc, world, &views, &uses, comms)?;
+    let comms = written(alloc, world, ranks.len() as u32, &views, &uses, &comms)?;
     Ok(Derived {
         world,
         comms,
