@@ -5,9 +5,9 @@ use Rattle.std.specs.declared.alloc.Global.{Global}
 use Rattle.std.proofs.lemmas.List.Elements.{All-push, All-weaker}
 use Rattle.comm_makings.proofs.Lists.{All-slice_get, get_keep, get_last}
 use Rattle.comm_groups.specs.Groups.{has}
-use Rattle.comm_makings.specs.ByGroups.{AreRightOffers, IsAmong, IsFound, IsRightOffer, part_at}
+use Rattle.comm_makings.specs.ByGroups.{AreFound, AreRightOffers, IsAmong, IsFound, IsRightOffer, part_at}
 use Rattle.comm_makings.specs.Derives.{ArePlaces, Derives, IsGroupCall, IsGroupMaking, IsMaking, IsOfOffered, Thing, by_group, comm_meant, communicator, created, empty, first_meant, is_of_comm, group_call_at, kth_calls, made, member_with, members_at, of_comm, of_one, of_two, own, ranks_in, ranks_of, second_meant, world, world_members}
-use Rattle.mpi_model.specs.declared.layout.comm.Comm.{Comm}
+use Rattle.mpi_model.specs.Communicators.{Communicator}
 use Rattle.comm_makings.specs.Derived.{AreDerivedIn, IsDerivedIn}
 use Rattle.comm_makings.specs.Written.{AreWrittenOf, IsWrittenOfOne}
 use Rattle.comm_makings.specs.declared.uses.HandleUses.{HandleUses}
@@ -17,7 +17,7 @@ use Rattle.comm_makings.specs.Here.{gives_later, meant_at}
 use Rattle.comm_makings.specs.Makes.{AreGiven, IsMadeBy, IsOneMaking}
 use Rattle.comm_makings.specs.Offers.{IsKnown, IsOfWanted, group_of}
 use Rattle.comm_makings.specs.Selection.{Selection}
-use Rattle.comm_makings.specs.State.{AreAllDerivedGroups, AreDerived, AreDerivedGroups, AreMembers, AreMembersIn, IsDerivedComm, IsDerivedGroup, IsFirstComm, IsFirstOf, IsMadeOf, IsMemberOf, IsMemberOfList, IsNotDerived, IsNotListed, IsRight, KeepsDerived, NamesMembers, dims_of, standing_at}
+use Rattle.comm_makings.specs.State.{AreAllDerivedGroups, AreDerived, AreDerivedGroups, AreMembers, AreMembersIn, IsDerivedComm, IsDerivedGroup, IsFirstComm, IsFirstOf, IsMadeOf, IsMemberOf, IsMemberOfList, IsDerivedOutcome, AreMadeOf, IsNotDerived, IsNotListed, IsRight, KeepsDerived, NamesMembers, SetsStanding, dims_of, parts_in}
 use Rattle.comm_makings.specs.declared.answer.MadeBy.{MadeBy}
 use Rattle.comm_makings.specs.declared.answer.MadeBy.TheVariants as functions
 use Rattle.comm_makings.specs.declared.by_groups.Offer.{Offer}
@@ -30,6 +30,8 @@ use Rattle.comm_makings.specs.declared.handle.GroupAt.{GroupAt}
 use Rattle.comm_makings.specs.declared.handle.GroupAt.TheVariants as groups
 use Rattle.comm_makings.specs.declared.handle.Meant.{Meant}
 use Rattle.comm_makings.specs.declared.here.Here.{Here}
+use Rattle.comm_makings.specs.declared.answer.Why.{Why}
+use Rattle.comm_makings.specs.declared.parts.Outcome.{Outcome}
 use Rattle.comm_makings.specs.declared.state.Made.{Made}
 use Rattle.comm_makings.specs.declared.state.Member.{Member}
 use Rattle.comm_makings.specs.declared.state.Standing.{Standing}
@@ -240,7 +242,7 @@ module _ (ranks : List RankCalls) (views : List RankView) where
           by_group members (dims_of parent) found.group found.tag found.places found.all derived.derives each making in
       record {
         derives = subst (λ (d : Option (List ℕ)). Derives ranks views (communicator comm.members.items d)) (sym found.made.dims)
-            (subst (λ (l : List Member). Derives ranks views (communicator l None)) (sym found.made.members) derives);
+            (subst (λ (l : List Member). Derives ranks views (communicator l None)) (sym found.made.chosen) derives);
         same_ranks = found.made.same_ranks;
       }
 
@@ -248,15 +250,15 @@ module _ (ranks : List RankCalls) (views : List RankView) where
       → Derives ranks views (communicator (members_at members all part.places) part.dims) → IsMadeOf members all part comm → IsDerivedComm ranks views comm
   part_derives members all part comm derives made = record {
     derives = subst (λ (d : Option (List ℕ)). Derives ranks views (communicator comm.members.items d)) (sym made.dims)
-        (subst (λ (l : List Member). Derives ranks views (communicator l part.dims)) (sym made.members) derives);
+        (subst (λ (l : List Member). Derives ranks views (communicator l part.dims)) (sym made.chosen) derives);
     same_ranks = made.same_ranks;
   }
 
   first_is : (members : List Member) (comm : Made) → Derives ranks views (communicator members None) → IsFirstComm members comm → IsDerivedComm ranks views comm
   first_is members comm derives first = record {
     derives = subst (λ (d : Option (List ℕ)). Derives ranks views (communicator comm.members.items d)) (sym first.dims)
-        (subst (λ (l : List Member). Derives ranks views (communicator l None)) (sym first.members) derives);
-    same_ranks = first.same_ranks ∙ ap ranks_in (sym first.members);
+        (subst (λ (l : List Member). Derives ranks views (communicator l None)) (sym first.same) derives);
+    same_ranks = first.same_ranks ∙ ap ranks_in (sym first.same);
   }
 
   -- what is there from the first call on
@@ -316,7 +318,7 @@ module _ (ranks : List RankCalls) (views : List RankView) where
   }
 
   -- What is written of derived communicators derives.
-  pub written_derives : (world : ℕ) (uses : List HandleUses) (made : List Made) → AreDerived ranks views made → (comms : List Comm)
+  pub written_derives : (world : ℕ) (uses : List HandleUses) (made : List Made) → AreDerived ranks views made → (comms : List Communicator)
       → AreWrittenOf world (length ranks) views uses made comms → AreDerivedIn world ranks views uses comms
   written_derives world uses made derived [] is = is
   written_derives world uses made derived (comm ∷ comms) is =
@@ -325,3 +327,49 @@ module _ (ranks : List RankCalls) (views : List RankView) where
             members = of.1.members.items; dims = dims_of of.1; derives = one.derives;
             same = of.3.members ∙ one.same_ranks; named = of.3.named })
         comms is.1)
+
+  pub firsts_derive : (comms : List Made) → All (IsFirstOf ranks) comms → AreDerived ranks views comms
+  firsts_derive comms firsts = All-weaker (IsFirstOf ranks) (IsDerivedComm ranks views) (λ c f. first_derives c f) comms firsts
+
+  -- All that is made of the parts derives.
+  pub outcome_derives : (members : List Member) (all : List (Option Here)) (outcome : Outcome) (parts : List Selection) (comms : List Made)
+      → IsDerivedOutcome ranks views members all outcome → parts_in outcome ≡ Some parts → AreMadeOf members all parts comms → AreDerived ranks views comms
+  outcome_derives members all outcome parts comms derives is of =
+      All-weaker (λ comm. (at : ℕ) × (part : Selection) × (slice_get parts at ≡ Some part) × IsMadeOf members all part comm) (IsDerivedComm ranks views)
+      (λ comm m. part_derives members all m.1 comm (derives parts m.0 m.1 is m.2) m.3) comms of
+
+  pub all_found : (comms : List Made) (values : List (Vec GroupValue Global)) (parent : Made) (offers : List Offer) → IsDerivedComm ranks views parent
+      → AreAllDerivedGroups ranks views comms values → AreRightOffers ranks views values comms parent.members.items offers
+      → (made : List Made) → AreFound offers parent.members.items parent.ranks.items made → AreDerived ranks views made
+  all_found comms values parent offers derived groups right made of =
+      All-weaker (IsFound offers parent.members.items parent.ranks.items) (IsDerivedComm ranks views)
+      (λ comm f. found_derives comms values parent offers derived groups right comm f) made of
+
+-- a member's handle is bound
+pub names_set : (members : List Member) (place : ℕ) (old mid new : List (Vec Standing Global)) (rank handle : ℕ)
+    → NamesMembers members place old mid → SetsStanding mid new rank handle (standings.Derived place) → IsMemberOfList members rank handle
+    → NamesMembers members place old new
+names_set members place old mid new rank handle names sets member r h at e = elim (sets r h (standings.Derived at) e) [
+  | inl before ↦ names r h at before
+  | inr is ↦
+      let same : at ≡ place = cc in
+      let moved : IsMemberOfList members r h = subst (λ (q : ℕ). IsMemberOfList members q h) (sym is.0) (subst (IsMemberOfList members rank) (sym is.1) member) in
+      inr (same, moved)
+]
+
+-- a handle is left out
+pub keeps_set : (old mid new : List (Vec Standing Global)) (rank handle : ℕ) (why : Why)
+    → KeepsDerived old mid → SetsStanding mid new rank handle (standings.Left why) → KeepsDerived old new
+keeps_set old mid new rank handle why keeps sets r h at e = elim (sets r h (standings.Derived at) e) [
+  | inl before ↦ keeps r h at before
+  | inr is ↦ absurd (cc)
+]
+
+abbrev member_of : ℕ → Option ℕ → Member
+member_of rank handle = record { rank = rank; handle = handle }
+
+-- the member at a place, by its handle
+pub member_is : (members : List Member) (i : ℕ) (member : Member) (handle : ℕ) → slice_get members i ≡ Some member → member.handle ≡ Some handle
+    → IsMemberOfList members member.rank handle
+member_is members i member handle here named =
+    (i, here ∙ ap (λ (o : Option ℕ). Some (member_of member.rank o)) named)

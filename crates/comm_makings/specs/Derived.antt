@@ -1,6 +1,6 @@
 -- What is written of the communicators that derive.
 use Rattle.std.specs.Prelude.{◌≡◌, ℕ, List, [], ◌∷◌, Option, All, length}
-use Rattle.mpi_model.specs.declared.layout.comm.Comm.{Comm}
+use Rattle.mpi_model.specs.Communicators.{Communicator}
 use Rattle.comm_makings.specs.Derives.{Derives, communicator, ranks_in}
 use Rattle.comm_makings.specs.Views.{AreViews}
 use Rattle.comm_makings.specs.Written.{IsNamedIn, IsWorld}
@@ -10,18 +10,18 @@ use Rattle.comm_makings.specs.declared.uses.HandleUses.{HandleUses}
 use Rattle.comm_makings.specs.declared.view.RankView.{RankView}
 
 -- A communicator of the layout is one that derives: its members are those, in their order, and each names it by its handle.
-pub record IsDerivedIn (ranks : List RankCalls) (views : List RankView) (uses : List HandleUses) (comm : Comm) : Type 0 where
+pub record IsDerivedIn (ranks : List RankCalls) (views : List RankView) (uses : List HandleUses) (comm : Communicator) : Type 0 where
   pub members : List Member
   pub dims : Option (List ℕ)
   pub derives : Derives ranks views (communicator members dims)
-  pub same : comm.members.items ≡ ranks_in members
+  pub same : comm.members ≡ ranks_in members
   pub named : IsNamedIn views uses members comm
 
 -- The world comes first, with all ranks; all others derive.
-abbrev pub AreDerivedIn : ℕ → List RankCalls → List RankView → List HandleUses → List Comm → Type 0
+abbrev pub AreDerivedIn : ℕ → List RankCalls → List RankView → List HandleUses → List Communicator → Type 0
 AreDerivedIn world ranks views uses [] = ⊥
 AreDerivedIn world ranks views uses (comm ∷ comms) = IsWorld world (length ranks) comm × All (IsDerivedIn ranks views uses) comms
 
 -- Nothing is written that isn't derived from what the ranks called.
-abbrev pub IsSound : ℕ → List RankCalls → List Comm → Type 0
+abbrev pub IsSound : ℕ → List RankCalls → List Communicator → Type 0
 IsSound world ranks comms = (views : List RankView) × (uses : List HandleUses) × AreViews world ranks views × AreDerivedIn world ranks views uses comms

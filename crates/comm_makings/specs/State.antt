@@ -32,7 +32,7 @@ AreDerived ranks views comms = All (IsDerivedComm ranks views) comms
 
 -- how a handle of a rank stands
 abbrev pub standing_at : List (Vec Standing Global) → ℕ → ℕ → Option Standing
-standing_at standings rank handle = option_and_then (λ row. slice_get row.items handle) (slice_get standings rank)
+standing_at rows rank handle = option_and_then (λ row. slice_get row.items handle) (slice_get rows rank)
 
 abbrev pub IsMemberOfList : List Member → ℕ → ℕ → Type 0
 IsMemberOfList members rank handle = (place : ℕ) × (slice_get members place ≡ Some (member_with handle rank))
@@ -42,7 +42,7 @@ abbrev pub IsMemberOf : List Made → ℕ → ℕ → ℕ → Type 0
 IsMemberOf comms place rank handle = (comm : Made) × (slice_get comms place ≡ Some comm) × IsMemberOfList comm.members.items rank handle
 
 abbrev pub AreMembers : List Made → List (Vec Standing Global) → Type 0
-AreMembers comms standings = (rank handle place : ℕ) → standing_at standings rank handle ≡ Some (standings.Derived place) → IsMemberOf comms place rank handle
+AreMembers comms rows = (rank handle place : ℕ) → standing_at rows rank handle ≡ Some (standings.Derived place) → IsMemberOf comms place rank handle
 
 -- the group that a call of a rank gives
 abbrev pub IsDerivedGroup : List RankCalls → List RankView → List Made → ℕ → ℕ → GroupValue → Type 0
@@ -71,6 +71,11 @@ abbrev pub NamesMembers : List Member → ℕ → List (Vec Standing Global) →
 NamesMembers members place old new = (rank handle at : ℕ) → standing_at new rank handle ≡ Some (standings.Derived at)
     → (standing_at old rank handle ≡ Some (standings.Derived at)) ⊎ ((at ≡ place) × IsMemberOfList members rank handle)
 
+-- The same of one member.
+abbrev pub BindsMember : Member → ℕ → List (Vec Standing Global) → List (Vec Standing Global) → Type 0
+BindsMember member place old new = (rank handle at : ℕ) → standing_at new rank handle ≡ Some (standings.Derived at)
+    → (standing_at old rank handle ≡ Some (standings.Derived at)) ⊎ ((at ≡ place) × (member ≡ member_with handle rank))
+
 -- Only this handle stands otherwise than before.
 abbrev pub SetsStanding : List (Vec Standing Global) → List (Vec Standing Global) → ℕ → ℕ → Standing → Type 0
 SetsStanding old new rank handle standing = (r h : ℕ) (s : Standing) → standing_at new r h ≡ Some s
@@ -88,7 +93,7 @@ IsDerivedOutcome ranks views members all outcome = (parts : List Selection) (at 
 
 -- the communicator of a part, as its members' calls give it
 pub record IsMadeOf (members : List Member) (all : List (Option Here)) (part : Selection) (comm : Made) : Type 0 where
-  pub members : comm.members.items ≡ members_at members all part.places
+  pub chosen : comm.members.items ≡ members_at members all part.places
   pub same_ranks : comm.ranks.items ≡ ranks_in comm.members.items
   pub dims : dims_of comm ≡ part.dims
 
@@ -111,7 +116,7 @@ AreMembersIn comms rank row = (handle place : ℕ) → slice_get row handle ≡ 
 
 -- a communicator that is there from the first call on
 pub record IsFirstComm (members : List Member) (comm : Made) : Type 0 where
-  pub members : comm.members.items ≡ members
+  pub same : comm.members.items ≡ members
   pub same_ranks : comm.ranks.items ≡ ranks_in members
   pub dims : dims_of comm ≡ None
 

@@ -1,6 +1,6 @@
 //! MPI_Comm_create_group: collective over a group, not over its parent (MPI 4.0, 7.4.2).
 
-ghost use Rattle.std.specs.Prelude.{◌≡◌, ◌≤◌, ◌++◌, [], ℕ, ℤ, IfOk, IsTrue, List, OnOk, Some, length, nat_eq, take};
+ghost use Rattle.std.specs.Prelude.{◌≡◌, ◌≤◌, ◌++◌, ◌↔◌, [], ℕ, ℤ, IfOk, IsTrue, List, OnOk, Some, length, nat_eq, take};
 ghost use Rattle.std.specs.List.{slice_get};
 ghost use Rattle.std.specs.Option.{option_copied};
 ghost use Rattle.indexmap.specs.IndexMap.{get};
@@ -185,13 +185,20 @@ fn offers_of<'a>(
     Ok(Offers { calls, waits })
 }
 
+/// Whether a call has these members and this tag.
+fn is_same(offer: Offer<'_>, ranks: &[u32], tag: i32) -> bool
+    ensures { IsTrue result ↔ ((offer.entry.ranks.now ≡ ranks.now) × (offer.entry.tag ≡ tag)) }
+{
+    offer.ranks == ranks && offer.tag == tag
+}
+
 /// How many calls at the front have these members and this tag.
 fn same_length(calls: &[Offer<'_>], ranks: &[u32], tag: i32) -> usize
     ensures within { result ≤ length calls.now }
     ensures same { AreSame (take result calls.now) ranks.now tag }
 {
     for (at, offer) in calls.iter().enumerate() {
-        if offer.ranks != ranks || offer.tag != tag {
+        if !is_same(*offer, ranks, tag) {
             return at;
         }
     }

@@ -1,6 +1,6 @@
 //! MPI_Comm_create: the groups that the members give (MPI 4.0, 7.4.2).
 
-ghost use Rattle.std.specs.Prelude.{◌≡◌, ℕ, All, IfOk, IfSome, IsTrue, List, OnOk, Some, get_or, map, nat_eq, option_map, true};
+ghost use Rattle.std.specs.Prelude.{◌≡◌, [], ℕ, All, IfOk, IfSome, IsTrue, List, OnOk, Some, get_or, map, nat_eq, option_map, true};
 ghost use Rattle.std.specs.List.{slice_get};
 ghost use Rattle.std.specs.Option.{option_copied};
 ghost use Rattle.indexmap.specs.IndexMap.{get};

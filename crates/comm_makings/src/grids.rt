@@ -133,13 +133,20 @@ fn says_nodes(ranks: &[RankCalls], nodes: i32, here: Option<Here>) -> bool
     }
 }
 
+/// Whether two lists of flags are the same.
+fn same_flags(first: &[bool], second: &[bool]) -> bool
+    ensures { IsTrue result ↔ (first.now ≡ second.now) }
+{
+    first == second
+}
+
 /// The call says that these dimensions remain, where it is there.
 fn says_remain(ranks: &[RankCalls], remain: &[bool], here: Option<Here>) -> bool
     ensures { IsTrue result ↔ Says ranks.now remain_in remain.now here }
 {
     match here {
         Some(here) => match remain_of(making_at(ranks, here.rank, here.at)) {
-            Some(said) => said == remain,
+            Some(said) => same_flags(said, remain),
             None => false,
         },
         None => true,

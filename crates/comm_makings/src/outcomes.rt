@@ -1,6 +1,6 @@
 //! What one making makes.
 
-ghost use Rattle.std.specs.Prelude.{◌≡◌, ◌≢◌, ◌<◌, ◌^◌, ◌||◌, ℕ, Bool, Contains, IfOk, IsTrue, List, Option, Some, length, option_map, true};
+ghost use Rattle.std.specs.Prelude.{◌≡◌, ◌≢◌, ◌<◌, ◌^◌, ◌||◌, ℕ, Bool, Contains, IfOk, IsTrue, List, Option, Some, length, option_map, slice_set, true};
 ghost use Rattle.std.specs.List.{slice_get};
 ghost use Rattle.comm_groups.specs.Groups.{has};
 ghost use Rattle.comm_makings.specs.Derives.{kth_calls};
@@ -63,14 +63,21 @@ fn covered(alloc: Global, parts: &[Part], count: usize) -> Result<Vec<bool>, All
     Ok(covered)
 }
 
+fn mark(covered: &mut [bool], place: u32)
+    ensures { covered.new ≡ slice_set covered.old place true }
+{
+    let place = place as usize;
+    if place < covered.len() {
+        covered[place] = true;
+    }
+}
+
+#[tactic(auto, using(crate::proofs::Marks::marked))]
 fn cover(covered: &mut [bool], places: &[u32])
     ensures { (k : ℕ) (b : Bool) → slice_get covered.new k ≡ Some b → (a : Bool) × (slice_get covered.old k ≡ Some a) × (b ≡ (a || has places.now k)) }
 {
     for place in places {
-        let place = *place as usize;
-        if place < covered.len() {
-            covered[place] = true;
-        }
+        mark(covered, *place);
     }
 }
 

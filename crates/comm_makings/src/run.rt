@@ -6,7 +6,7 @@ ghost use Rattle.std.specs.Option.{option_and_then, option_copied};
 ghost use Rattle.comm_makings.specs.Derives.{group_call_at, kth_calls, member_with, world_members};
 ghost use Rattle.comm_makings.specs.Here.{meant_at};
 ghost use Rattle.comm_makings.specs.Made.{member_at};
-ghost use Rattle.comm_makings.specs.State.{AreAllDerivedGroups, AreDerived, AreDerivedGroups, AreMadeOf, AreMembersIn, IsDerivedComm, IsDerivedGroup, IsFirstComm, IsFirstOf, IsNotDerived, IsNotListed, IsRight, KeepsDerived, NamesMembers, SetsStanding};
+ghost use Rattle.comm_makings.specs.State.{BindsMember, AreDerived, AreDerivedGroups, AreMadeOf, AreMembersIn, IsDerivedComm, IsDerivedGroup, IsFirstComm, IsFirstOf, IsNotDerived, IsNotListed, IsRight, KeepsDerived, NamesMembers, SetsStanding};
 ghost use Rattle.comm_makings.specs.Views.{AreViews, IsView};
 ghost use Rattle.comm_makings.specs.declared.view.RankView.{RankView};
 
@@ -148,14 +148,21 @@ pub(crate) fn made_of(
     })
 }
 
+/// The member's handle names the communicator at this place.
+fn bind_member(standings: &mut Vec<Vec<Standing>>, member: Member, place: usize)
+    ensures { BindsMember member place standings.old.items standings.new.items }
+{
+    if let Some(handle) = member.handle {
+        set(standings, member.rank, handle, Standing::Derived(place));
+    }
+}
+
 /// The members' handles name the communicator at this place.
 pub(crate) fn bind(standings: &mut Vec<Vec<Standing>>, comm: &Made, place: usize)
     ensures { NamesMembers comm.now.members.items place standings.old.items standings.new.items }
 {
     for member in &comm.members {
-        if let Some(handle) = member.handle {
-            set(standings, member.rank, handle, Standing::Derived(place));
-        }
+        bind_member(standings, *member, place);
     }
 }
 
