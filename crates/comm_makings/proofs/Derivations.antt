@@ -17,7 +17,7 @@ use Rattle.comm_makings.specs.Here.{gives_later, meant_at}
 use Rattle.comm_makings.specs.Makes.{AreGiven, IsMadeBy, IsOneMaking}
 use Rattle.comm_makings.specs.Offers.{IsKnown, IsOfWanted, group_of}
 use Rattle.comm_makings.specs.Selection.{Selection}
-use Rattle.comm_makings.specs.State.{AreAllDerivedGroups, AreDerived, AreDerivedGroups, AreMembers, AreMembersIn, IsDerivedComm, IsDerivedGroup, IsFirstComm, IsFirstOf, IsMadeOf, IsMemberOf, IsMemberOfList, IsDerivedOutcome, AreMadeOf, IsNotDerived, IsNotListed, IsRight, KeepsDerived, NamesMembers, SetsStanding, dims_of, parts_in}
+use Rattle.comm_makings.specs.State.{AreAllDerivedGroups, AreDerived, BindsMember, AreDerivedGroups, AreMembers, AreMembersIn, IsDerivedComm, IsDerivedGroup, IsFirstComm, IsFirstOf, IsMadeOf, IsMemberOf, IsMemberOfList, IsDerivedOutcome, AreMadeOf, IsNotDerived, IsNotListed, IsRight, KeepsDerived, NamesMembers, SetsStanding, dims_of, parts_in}
 use Rattle.comm_makings.specs.declared.answer.MadeBy.{MadeBy}
 use Rattle.comm_makings.specs.declared.answer.MadeBy.TheVariants as functions
 use Rattle.comm_makings.specs.declared.by_groups.Offer.{Offer}
@@ -355,6 +355,14 @@ names_set members place old mid new rank handle names sets member r h at e = eli
       let same : at ≡ place = cc in
       let moved : IsMemberOfList members r h = subst (λ (q : ℕ). IsMemberOfList members q h) (sym is.0) (subst (IsMemberOfList members rank) (sym is.1) member) in
       inr (same, moved)
+]
+
+-- one more member's handle is bound
+pub names_bound : (members : List Member) (place : ℕ) (old mid new : List (Vec Standing Global)) (i : ℕ) (member : Member)
+    → NamesMembers members place old mid → BindsMember member place mid new → slice_get members i ≡ Some member → NamesMembers members place old new
+names_bound members place old mid new i member names binds here r h at e = elim (binds r h at e) [
+  | inl before ↦ names r h at before
+  | inr is ↦ inr (is.0, (i, here ∙ ap Some is.1))
 ]
 
 -- a handle is left out

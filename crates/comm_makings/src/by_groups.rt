@@ -482,6 +482,7 @@ fn has_calls(run: &Run<'_>, comm: &Made) -> bool {
 }
 
 /// The communicators that the calls of MPI_Comm_create_group on a parent make, as far as their groups are known.
+#[tactic(auto, using(crate::proofs::Derivations::all_found))]
 pub(crate) fn found_at(
     alloc: Global,
     run: &Run<'_>,

@@ -92,6 +92,7 @@ impl Offers {
     }
 
     /// A rank gives a group that was given; `false` where it is another.
+    #[tactic(auto, using(crate::proofs::OfferLemmas::adds_none, crate::proofs::OfferLemmas::adds_again))]
     fn repeat(&mut self, group: usize, rank: u32, ranks: &[u32]) -> bool
         ensures { AddsOffer self.old.groups.items self.new.groups.items rank ranks.now }
     {
@@ -108,6 +109,7 @@ impl Offers {
     }
 
     /// A rank gives another group; `false` where one of its ranks is in a group that was given.
+    #[tactic(auto, using(crate::proofs::OfferLemmas::adds_one))]
     fn begin(&mut self, alloc: Global, rank: u32, ranks: &[u32]) -> Result<bool, AllocError>
         ensures { OnOk result (AddsOffer self.old.groups.items self.new.groups.items rank ranks.now) }
     {

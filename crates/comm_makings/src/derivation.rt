@@ -74,6 +74,7 @@ fn world_of(ranks: &[RankCalls]) -> Result<u32, DeriveFault>
 /// The communicators that the calls of the ranks make: the world, and those that calls of the profile name, as a layout
 /// has them. Time and memory grow with the calls on communicators and groups and the members of what they make, not with
 /// all calls.
+#[tactic(auto, using(crate::proofs::Derivations::written_derives))]
 pub fn derive(alloc: Global, ranks: &[RankCalls]) -> Result<Derived, DeriveFault>
     requires { length ranks.now < 2 ^ 32 }
     ensures world { IfOk result (λ d. d.world ≡ world_of ranks.now) }

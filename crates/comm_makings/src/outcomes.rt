@@ -158,6 +158,7 @@ fn checked(
 }
 
 /// What the calls make that all are of one function.
+#[tactic(auto, using(crate::proofs::Derivations::made_derives))]
 fn makings_outcome(
     alloc: Global,
     ranks: &[RankCalls],
@@ -176,6 +177,7 @@ fn makings_outcome(
 }
 
 /// What the calls make that all are of MPI_Comm_create.
+#[tactic(auto, using(crate::proofs::Derivations::created_derives))]
 fn creates_outcome(
     alloc: Global,
     ranks: &[RankCalls],

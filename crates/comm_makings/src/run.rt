@@ -61,6 +61,7 @@ pub(crate) fn set(standings: &mut Vec<Vec<Standing>>, rank: u32, handle: usize, 
 }
 
 /// What the calls give is left out.
+#[tactic(auto, using(crate::proofs::Derivations::keeps_set))]
 pub(crate) fn leave(standings: &mut Vec<Vec<Standing>>, all: &[Option<Here>], why: Why)
     ensures { KeepsDerived standings.old.items standings.new.items }
 {
@@ -158,6 +159,7 @@ fn bind_member(standings: &mut Vec<Vec<Standing>>, member: Member, place: usize)
 }
 
 /// The members' handles name the communicator at this place.
+#[tactic(auto, using(crate::proofs::Derivations::names_bound))]
 pub(crate) fn bind(standings: &mut Vec<Vec<Standing>>, comm: &Made, place: usize)
     ensures { NamesMembers comm.now.members.items place standings.old.items standings.new.items }
 {
@@ -206,6 +208,7 @@ fn meant_at(views: &[RankView], rank: usize, at: usize) -> Option<Meant>
 }
 
 /// The group that a call of a rank gives, by what is known of the calls before it.
+#[tactic(auto, using(crate::proofs::Derivations::given_value))]
 fn value_at(
     alloc: Global,
     ranks: &[RankCalls],
@@ -307,6 +310,7 @@ impl Run<'_> {
     }
 
     /// Reads the k-th making of a communicator.
+    #[tactic(auto, using(crate::proofs::Derivations::outcome_derives, crate::proofs::Derivations::right_kept))]
     fn step(&mut self, alloc: Global, at: usize, k: usize, last: bool) -> Result<Step, AllocError>
         requires { IsRight self.old.ranks.now self.old.views.items self.old.standings.items self.old.values.items self.old.comms.items }
         ensures right { OnOk result (IsRight self.new.ranks.now self.new.views.items self.new.standings.items self.new.values.items self.new.comms.items) }
@@ -352,6 +356,7 @@ impl Run<'_> {
     }
 
     /// What the members made of a communicator from the k-th making on is left out.
+    #[tactic(auto, using(crate::proofs::Derivations::right_kept))]
     fn leave_from(
         &mut self,
         alloc: Global,
@@ -423,6 +428,7 @@ impl Run<'_> {
     }
 
     /// Takes what was found in the calls of MPI_Comm_create_group on a communicator.
+    #[tactic(auto, using(crate::proofs::Derivations::right_kept))]
     fn take(&mut self, alloc: Global, at: usize, found: Found) -> Result<(), AllocError>
         requires right { IsRight self.old.ranks.now self.old.views.items self.old.standings.items self.old.values.items self.old.comms.items }
         requires derived { AreDerived self.old.ranks.now self.old.views.items found.made.items }
@@ -519,6 +525,7 @@ fn mark_all(taken: &mut Vec<Vec<bool>>, read: &[(u32, usize)]) {
 }
 
 /// These handles are left out: the calls that give them are unsound.
+#[tactic(auto, using(crate::proofs::Derivations::keeps_set))]
 fn leave_handles(standings: &mut Vec<Vec<Standing>>, left: &[(u32, usize)])
     ensures { KeepsDerived standings.old.items standings.new.items }
 {
@@ -697,6 +704,7 @@ fn begin_all<'a>(alloc: Global, world: u32, ranks: &'a [RankCalls]) -> Result<Ru
 }
 
 /// The world and MPI_COMM_SELF are derived.
+#[tactic(auto, using(crate::proofs::Derivations::right_first, crate::proofs::Derivations::firsts_derive))]
 fn start<'a>(alloc: Global, world: u32, ranks: &'a [RankCalls]) -> Result<Run<'a>, AllocError>
     requires { length ranks.now < 2 ^ 32 }
     ensures right { IfOk result (λ run. IsRight ranks.now run.views.items run.standings.items run.values.items run.comms.items) }
