@@ -193,6 +193,7 @@ fn is_same(offer: Offer<'_>, ranks: &[u32], tag: i32) -> bool
 }
 
 /// How many calls at the front have these members and this tag.
+#[tactic(auto, using(crate::proofs::OfferLemmas::same_more))]
 fn same_length(calls: &[Offer<'_>], ranks: &[u32], tag: i32) -> usize
     ensures within { result ≤ length calls.now }
     ensures same { AreSame (take result calls.now) ranks.now tag }
