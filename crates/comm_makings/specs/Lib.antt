@@ -8,3 +8,4 @@ pub mod Made
 pub mod Groups
 pub mod Reordered
 pub mod Written
+pub mod Naming

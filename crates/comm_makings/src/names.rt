@@ -3,6 +3,9 @@
 ghost use Rattle.std.specs.Prelude.{◌≡◌, ◌++◌, ◌∷◌, [], ℕ, IfOk, OnOk, Some, false, length, nat_eq};
 ghost use Rattle.std.specs.Option.{option_and_then};
 ghost use Rattle.indexmap.specs.IndexMap.{get};
+ghost use Rattle.comm_makings.specs.Naming.{after_given, comm_of_group, first_naming, first_of_group, group_after, group_given, group_of_making, handles_of, meant_in, meant_of, naming_after, naming_of, second_of_group};
+ghost use Rattle.comm_makings.specs.declared.handle.Gives.TheVariants as gives;
+ghost use Rattle.comm_makings.specs.declared.handle.GroupAt.TheVariants as groups;
 ghost use Rattle.comm_makings.specs.Names.{always, from_next, gives_of, group_at, handles_after, handles_ended, is_taken, name_after, name_ended, number_given};
 
 use crate::calls::{Action, CommCall, Given, GroupCall, GroupName, Making, RankCalls};
@@ -45,7 +48,11 @@ fn end_at(handles: &mut Vec<Handle>, place: usize, call: u64)
 
 impl Names {
     /// Before the first call: the world, and MPI_COMM_SELF where the rank tells its number.
-    pub(crate) fn new(alloc: Global, world: u32, own: Option<u32>) -> Result<Names, AllocError> {
+    pub(crate) fn new(alloc: Global, world: u32, own: Option<u32>) -> Result<Names, AllocError>
+        ensures naming { IfOk result (λ names. naming_of names ≡ first_naming world own) }
+        ensures world { IfOk result (λ names. names.world ≡ world) }
+        ensures own { IfOk result (λ names. names.own ≡ own) }
+    {
         let mut handles = Vec::new(alloc);
         let mut comms = IndexMap::new(alloc);
         handles.push(always(world))?;
@@ -158,12 +165,13 @@ impl Names {
         }
     }
 
-    fn give_group(
-        &mut self,
-        call: &CommCall,
-        at: usize,
-        given: GroupName,
-    ) -> Result<(), AllocError> {
+    fn give_group(&mut self, call: &CommCall, at: usize, given: GroupName) -> Result<(), AllocError>
+        ensures groups { OnOk result ((m : ℕ) → get nat_eq self.new.groups m ≡ group_after at (group_given call.now.returned given) (get nat_eq self.old.groups) m) }
+        ensures names { self.new.comms ≡ self.old.comms }
+        ensures handles { self.new.handles ≡ self.old.handles }
+        ensures world { self.new.world ≡ self.old.world }
+        ensures own { self.new.own ≡ self.old.own }
+    {
         if !call.returned {
             return Ok(());
         }
@@ -179,13 +187,14 @@ impl Names {
         parent: Option<u32>,
         making: &Making,
         given: Given,
-    ) -> Result<Meant, AllocError> {
+    ) -> Result<Meant, AllocError>
+        ensures meant { IfOk result (λ m. m ≡ record { comm = option_and_then (get nat_eq self.old.comms) parent; gives = gives_of (is_taken self.old.world self.old.own) call.now.returned given (length self.old.handles.items); group = group_at (get nat_eq self.old.groups) (group_of_making making.now); second = groups.Unknown }) }
+        ensures naming { OnOk result (naming_of self.new ≡ after_given (is_taken self.old.world self.old.own) (naming_of self.old) call.now given) }
+        ensures world { self.new.world ≡ self.old.world }
+        ensures own { self.new.own ≡ self.old.own }
+    {
         let comm = self.comm(parent);
-        let group = match making {
-            Making::Create { group } => self.group(*group),
-            Making::CreateGroup { group, .. } => self.group(*group),
-            _ => GroupAt::Unknown,
-        };
+        let group = self.group(group_of_making(making));
         let gives = self.give(call, given)?;
         Ok(Meant {
             comm,
@@ -201,24 +210,31 @@ impl Names {
         at: usize,
         group: &GroupCall,
         given: GroupName,
-    ) -> Result<Meant, AllocError> {
-        let comm = match group {
-            GroupCall::OfComm { comm } => self.comm(*comm),
-            _ => None,
-        };
-        let (first, second) = operands_of(group);
+    ) -> Result<Meant, AllocError>
+        ensures meant { IfOk result (λ m. m ≡ record { comm = option_and_then (get nat_eq self.old.comms) (comm_of_group group.now); gives = gives.Nothing; group = group_at (get nat_eq self.old.groups) (first_of_group group.now); second = group_at (get nat_eq self.old.groups) (second_of_group group.now) }) }
+        ensures groups { OnOk result ((m : ℕ) → get nat_eq self.new.groups m ≡ group_after at (group_given call.now.returned given) (get nat_eq self.old.groups) m) }
+        ensures names { self.new.comms ≡ self.old.comms }
+        ensures handles { self.new.handles ≡ self.old.handles }
+        ensures world { self.new.world ≡ self.old.world }
+        ensures own { self.new.own ≡ self.old.own }
+    {
         let meant = Meant {
-            comm,
+            comm: self.comm(comm_of_group(group)),
             gives: Gives::Nothing,
-            group: self.group(first),
-            second: self.group(second),
+            group: self.group(first_of_group(group)),
+            second: self.group(second_of_group(group)),
         };
         self.give_group(call, at, given)?;
         Ok(meant)
     }
 
     /// Reads a call at this place of the rank's list.
-    fn read(&mut self, at: usize, call: &CommCall) -> Result<Meant, AllocError> {
+    fn read(&mut self, at: usize, call: &CommCall) -> Result<Meant, AllocError>
+        ensures meant { IfOk result (λ m. m ≡ meant_in (is_taken self.old.world self.old.own) (naming_of self.old) call.now) }
+        ensures naming { OnOk result (naming_of self.new ≡ naming_after (is_taken self.old.world self.old.own) at (naming_of self.old) call.now) }
+        ensures world { self.new.world ≡ self.old.world }
+        ensures own { self.new.own ≡ self.old.own }
+    {
         match &call.action {
             Action::Make {
                 parent,
@@ -243,7 +259,9 @@ impl Names {
 }
 
 /// A call that names no group.
-fn naming(comm: Option<usize>, gives: Gives) -> Meant {
+fn naming(comm: Option<usize>, gives: Gives) -> Meant
+    ensures { result ≡ record { comm = comm; gives = gives; group = groups.Unknown; second = groups.Unknown } }
+{
     Meant {
         comm,
         gives,
@@ -252,18 +270,73 @@ fn naming(comm: Option<usize>, gives: Gives) -> Meant {
     }
 }
 
-/// The groups that a call names.
-fn operands_of(group: &GroupCall) -> (GroupName, GroupName) {
+/// The group that a making names.
+fn group_of_making(making: &Making) -> GroupName
+    ensures { result ≡ group_of_making making.now }
+{
+    match making {
+        Making::Create { group } => *group,
+        Making::CreateGroup { group, .. } => *group,
+        Making::Dup
+        | Making::DupWithInfo
+        | Making::Idup
+        | Making::IdupWithInfo
+        | Making::Split { .. }
+        | Making::CartCreate { .. }
+        | Making::CartSub { .. }
+        | Making::GraphCreate { .. }
+        | Making::DistGraphCreate { .. }
+        | Making::DistGraphCreateAdjacent { .. } => GroupName::Unknown,
+    }
+}
+
+/// The number of the communicator whose group a call gives.
+fn comm_of_group(group: &GroupCall) -> Option<u32>
+    ensures { result ≡ comm_of_group group.now }
+{
     match group {
-        GroupCall::OfComm { .. } => (GroupName::Unknown, GroupName::Unknown),
-        GroupCall::Incl { group, .. } => (*group, GroupName::Unknown),
-        GroupCall::Excl { group, .. } => (*group, GroupName::Unknown),
-        GroupCall::RangeIncl { group, .. } => (*group, GroupName::Unknown),
-        GroupCall::RangeExcl { group, .. } => (*group, GroupName::Unknown),
-        GroupCall::Union { first, second } => (*first, *second),
-        GroupCall::Intersection { first, second } => (*first, *second),
-        GroupCall::Difference { first, second } => (*first, *second),
-        GroupCall::Unread => (GroupName::Unknown, GroupName::Unknown),
+        GroupCall::OfComm { comm } => *comm,
+        GroupCall::Incl { .. }
+        | GroupCall::Excl { .. }
+        | GroupCall::RangeIncl { .. }
+        | GroupCall::RangeExcl { .. }
+        | GroupCall::Union { .. }
+        | GroupCall::Intersection { .. }
+        | GroupCall::Difference { .. }
+        | GroupCall::Unread => None,
+    }
+}
+
+/// The group that a call makes another of, or the first of two.
+fn first_of_group(group: &GroupCall) -> GroupName
+    ensures { result ≡ first_of_group group.now }
+{
+    match group {
+        GroupCall::OfComm { .. } | GroupCall::Unread => GroupName::Unknown,
+        GroupCall::Incl { group, .. } => *group,
+        GroupCall::Excl { group, .. } => *group,
+        GroupCall::RangeIncl { group, .. } => *group,
+        GroupCall::RangeExcl { group, .. } => *group,
+        GroupCall::Union { first, .. } => *first,
+        GroupCall::Intersection { first, .. } => *first,
+        GroupCall::Difference { first, .. } => *first,
+    }
+}
+
+/// The second of two groups that a call makes another of.
+fn second_of_group(group: &GroupCall) -> GroupName
+    ensures { result ≡ second_of_group group.now }
+{
+    match group {
+        GroupCall::Union { second, .. } => *second,
+        GroupCall::Intersection { second, .. } => *second,
+        GroupCall::Difference { second, .. } => *second,
+        GroupCall::OfComm { .. }
+        | GroupCall::Incl { .. }
+        | GroupCall::Excl { .. }
+        | GroupCall::RangeIncl { .. }
+        | GroupCall::RangeExcl { .. }
+        | GroupCall::Unread => GroupName::Unknown,
     }
 }
 
@@ -272,7 +345,10 @@ pub(crate) fn names_of(
     alloc: Global,
     world: u32,
     rank: &RankCalls,
-) -> Result<(Vec<Handle>, Vec<Meant>), AllocError> {
+) -> Result<(Vec<Handle>, Vec<Meant>), AllocError>
+    ensures handles { IfOk result (λ r. r.0.items ≡ handles_of world rank.now.own rank.now.calls.items) }
+    ensures meant { IfOk result (λ r. r.1.items ≡ meant_of world rank.now.own rank.now.calls.items) }
+{
     let mut names = Names::new(alloc, world, rank.own)?;
     let mut meant = Vec::new(alloc);
     for (at, call) in rank.calls.iter().enumerate() {

@@ -1,5 +1,8 @@
 //! What each rank called on each of its communicators.
 
+ghost use Rattle.std.specs.Prelude.{◌≡◌, IfOk};
+ghost use Rattle.comm_makings.specs.Naming.{handles_of, meant_of};
+
 use crate::calls::{Action, CommCall, Making, RankCalls};
 use crate::handle::{Handle, Meant};
 use crate::names::names_of;
@@ -104,7 +107,10 @@ fn told_on(
 }
 
 /// What a rank called.
-pub(crate) fn view_of(alloc: Global, world: u32, rank: &RankCalls) -> Result<RankView, AllocError> {
+pub(crate) fn view_of(alloc: Global, world: u32, rank: &RankCalls) -> Result<RankView, AllocError>
+    ensures handles { IfOk result (λ v. v.handles.items ≡ handles_of world rank.now.own rank.now.calls.items) }
+    ensures meant { IfOk result (λ v. v.meant.items ≡ meant_of world rank.now.own rank.now.calls.items) }
+{
     let (handles, meant) = names_of(alloc, world, rank)?;
     let count = handles.len();
     let (makings, by_group) = makings_by(alloc, &rank.calls, &meant, count)?;

@@ -1,0 +1,157 @@
+-- What the numbers in a rank's calls mean, from its first call on: each call is read by what the calls before it gave.
+use Rattle.std.specs.Prelude.{ℕ, ◌+◌, ◌==◌, Bool, true, false, List, [], ◌∷◌, Option, Some, None, cond, length, nat_eq}
+use Rattle.std.specs.Option.{option_and_then}
+use Rattle.indexmap.specs.IndexMap.{get}
+use Rattle.mpi_model.specs.declared.layout.comm.Stretch.{Stretch}
+use Rattle.comm_makings.specs.Names.{always, gives_of, group_at, handles_after, handles_ended, is_taken, name_after, name_ended, number_given}
+use Rattle.comm_makings.specs.declared.calls.Action.{Action}
+use Rattle.comm_makings.specs.declared.calls.Action.TheVariants as actions
+use Rattle.comm_makings.specs.declared.calls.CommCall.{CommCall}
+use Rattle.comm_makings.specs.declared.calls.Given.{Given}
+use Rattle.comm_makings.specs.declared.calls.GroupCall.{GroupCall}
+use Rattle.comm_makings.specs.declared.calls.GroupCall.TheVariants as calls
+use Rattle.comm_makings.specs.declared.calls.GroupName.{GroupName}
+use Rattle.comm_makings.specs.declared.calls.GroupName.TheVariants as named
+use Rattle.comm_makings.specs.declared.calls.Making.{Making}
+use Rattle.comm_makings.specs.declared.calls.Making.TheVariants as makings
+use Rattle.comm_makings.specs.declared.handle.Gives.{Gives}
+use Rattle.comm_makings.specs.declared.handle.Gives.TheVariants as gives
+use Rattle.comm_makings.specs.declared.handle.Meant.{Meant}
+use Rattle.comm_makings.specs.declared.names.Names.{Names}
+
+-- All handles that were given so far; which of them a number names, and which call gave the group that a number names.
+pub record Naming : Type 0 where
+  pub handles : List Stretch
+  pub comms : ℕ → Option ℕ
+  pub groups : ℕ → Option ℕ
+
+abbrev pub naming_of : Names → Naming
+naming_of names = record { handles = names.handles.items; comms = get nat_eq names.comms; groups = get nat_eq names.groups }
+
+abbrev pub first_handles : ℕ → Option ℕ → List Stretch
+first_handles world None = always world ∷ []
+first_handles world (Some own) = always world ∷ always own ∷ []
+
+abbrev pub own_name : Option ℕ → ℕ → Option ℕ
+own_name None m = None
+own_name (Some own) m = cond (own == m) (Some 1) None
+
+-- Before the first call: the world is the first handle, and MPI_COMM_SELF, where its number is told, the second.
+abbrev pub first_naming : ℕ → Option ℕ → Naming
+first_naming world own = record { handles = first_handles world own; comms = λ m. cond (world == m) (Some 0) (own_name own m); groups = λ m. None }
+
+abbrev pub comm_of_group : GroupCall → Option ℕ
+comm_of_group (calls.OfComm comm) = comm
+comm_of_group _ = None
+
+-- the number of the communicator that a call names
+abbrev pub comm_named : Action → Option ℕ
+comm_named (actions.Make parent making given) = parent
+comm_named (actions.CommRank comm rank) = comm
+comm_named (actions.Free comm) = comm
+comm_named (actions.Group group given) = comm_of_group group
+comm_named (actions.GivesComm given) = None
+
+abbrev pub group_of_making : Making → GroupName
+group_of_making (makings.Create group) = group
+group_of_making (makings.CreateGroup group tag) = group
+group_of_making _ = named.Unknown
+
+abbrev pub first_of_group : GroupCall → GroupName
+first_of_group (calls.OfComm comm) = named.Unknown
+first_of_group (calls.Incl group ranks) = group
+first_of_group (calls.Excl group ranks) = group
+first_of_group (calls.RangeIncl group ranges) = group
+first_of_group (calls.RangeExcl group ranges) = group
+first_of_group (calls.Union first second) = first
+first_of_group (calls.Intersection first second) = first
+first_of_group (calls.Difference first second) = first
+first_of_group calls.Unread = named.Unknown
+
+abbrev pub second_of_group : GroupCall → GroupName
+second_of_group (calls.Union first second) = second
+second_of_group (calls.Intersection first second) = second
+second_of_group (calls.Difference first second) = second
+second_of_group _ = named.Unknown
+
+-- the group that a call names, or the first of two
+abbrev pub group_named : Action → GroupName
+group_named (actions.Make parent making given) = group_of_making making
+group_named (actions.Group group given) = first_of_group group
+group_named _ = named.Unknown
+
+abbrev pub second_named : Action → GroupName
+second_named (actions.Group group given) = second_of_group group
+second_named _ = named.Unknown
+
+-- what a call gives
+abbrev pub gives_by : (ℕ → Bool) → ℕ → Bool → Action → Gives
+gives_by taken place returned (actions.Make parent making given) = gives_of taken returned given place
+gives_by taken place returned (actions.GivesComm given) = gives_of taken returned given place
+gives_by taken place returned _ = gives.Nothing
+
+-- what the numbers in a call mean
+abbrev pub meant_in : (ℕ → Bool) → Naming → CommCall → Meant
+meant_in taken naming call = record {
+  comm = option_and_then naming.comms (comm_named call.action);
+  gives = gives_by taken (length naming.handles) call.returned call.action;
+  group = group_at naming.groups (group_named call.action);
+  second = group_at naming.groups (second_named call.action);
+}
+
+abbrev pub after_given : (ℕ → Bool) → Naming → CommCall → Given → Naming
+after_given taken naming call given = record {
+  handles = handles_after taken (number_given call.returned given) call.call naming.comms naming.handles;
+  comms = name_after taken (number_given call.returned given) (length naming.handles) naming.comms;
+  groups = naming.groups;
+}
+
+abbrev pub after_free : (ℕ → Bool) → Naming → ℕ → Option ℕ → Naming
+after_free taken naming call None = naming
+after_free taken naming call (Some number) = record {
+  handles = handles_ended (taken number) call (naming.comms number) naming.handles;
+  comms = name_ended (taken number) number naming.comms;
+  groups = naming.groups;
+}
+
+abbrev pub group_given : Bool → GroupName → Option ℕ
+group_given false given = None
+group_given true named.Empty = None
+group_given true named.Unknown = None
+group_given true (named.Number number) = Some number
+
+abbrev pub group_after : ℕ → Option ℕ → (ℕ → Option ℕ) → ℕ → Option ℕ
+group_after at None before m = before m
+group_after at (Some number) before m = cond (number == m) (Some at) (before m)
+
+abbrev pub after_group : ℕ → Naming → CommCall → GroupName → Naming
+after_group at naming call given = record { handles = naming.handles; comms = naming.comms; groups = group_after at (group_given call.returned given) naming.groups }
+
+abbrev pub after_action : (ℕ → Bool) → ℕ → Naming → CommCall → Action → Naming
+after_action taken at naming call (actions.Make parent making given) = after_given taken naming call given
+after_action taken at naming call (actions.CommRank comm rank) = naming
+after_action taken at naming call (actions.Free comm) = after_free taken naming call.call comm
+after_action taken at naming call (actions.Group group given) = after_group at naming call given
+after_action taken at naming call (actions.GivesComm given) = after_given taken naming call given
+
+-- what the numbers mean behind a call, which stands at this place of the rank's list
+abbrev pub naming_after : (ℕ → Bool) → ℕ → Naming → CommCall → Naming
+naming_after taken at naming call = after_action taken at naming call call.action
+
+-- what each call means
+abbrev pub meant_from : (ℕ → Bool) → ℕ → Naming → List CommCall → List Meant
+meant_from taken at naming [] = []
+meant_from taken at naming (call ∷ calls) = meant_in taken naming call ∷ meant_from taken (at + 1) (naming_after taken at naming call) calls
+
+-- what the numbers mean behind the last call
+abbrev pub naming_from : (ℕ → Bool) → ℕ → Naming → List CommCall → Naming
+naming_from taken at naming [] = naming
+naming_from taken at naming (call ∷ calls) = naming_from taken (at + 1) (naming_after taken at naming call) calls
+
+-- what the calls of a rank mean
+abbrev pub meant_of : ℕ → Option ℕ → List CommCall → List Meant
+meant_of world own calls = meant_from (is_taken world own) 0 (first_naming world own) calls
+
+-- the handles of a rank, in the order in which its calls give them
+abbrev pub handles_of : ℕ → Option ℕ → List CommCall → List Stretch
+handles_of world own calls = (naming_from (is_taken world own) 0 (first_naming world own) calls).handles
