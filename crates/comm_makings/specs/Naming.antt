@@ -3,7 +3,7 @@ use Rattle.std.specs.Prelude.{ℕ, ◌+◌, ◌==◌, Bool, true, false, List, [
 use Rattle.std.specs.Option.{option_and_then}
 use Rattle.indexmap.specs.IndexMap.{get}
 use Rattle.mpi_model.specs.declared.layout.comm.Stretch.{Stretch}
-use Rattle.comm_makings.specs.Names.{always, gives_of, group_at, handles_after, handles_ended, is_own, is_taken, name_after, name_ended, number_given}
+use Rattle.comm_makings.specs.Names.{always, gives_of, group_at, handles_after, handles_ended, is_taken, name_after, name_ended, number_given}
 use Rattle.comm_makings.specs.declared.calls.Action.{Action}
 use Rattle.comm_makings.specs.declared.calls.Action.TheVariants as actions
 use Rattle.comm_makings.specs.declared.calls.CommCall.{CommCall}

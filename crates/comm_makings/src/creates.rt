@@ -189,11 +189,7 @@ fn knows_all(values: &[Vec<GroupValue>], comms: &[Made], all: &[Option<Here>]) -
             Known::No => return Known::No,
         }
     }
-    if waits {
-        Known::Waits
-    } else {
-        Known::Yes
-    }
+    if waits { Known::Waits } else { Known::Yes }
 }
 
 /// The groups that the calls name; `None` where two are neither equal nor apart.

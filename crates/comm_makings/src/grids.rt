@@ -231,13 +231,7 @@ fn nodes_within(nodes: i32, members: u32) -> Option<u32>
     ensures { IfSome result (λ n. (nodes ≡ pos n) × (n ≤ members)) }
 {
     match u32::try_from(nodes) {
-        Ok(nodes) => {
-            if nodes <= members {
-                Some(nodes)
-            } else {
-                None
-            }
-        },
+        Ok(nodes) => { if nodes <= members { Some(nodes) } else { None } },
         Err(_) => None,
     }
 }

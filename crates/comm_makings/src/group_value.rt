@@ -202,11 +202,7 @@ fn without_ranges(
 }
 
 /// A group that is made of one other.
-fn of_one(
-    alloc: Global,
-    group: &GroupCall,
-    members: &[u32],
-) -> Result<Option<Vec<u32>>, AllocError>
+fn of_one(alloc: Global, group: &GroupCall, members: &[u32]) -> Result<Option<Vec<u32>>, AllocError>
     ensures { IfOk result (λ found. option_map (λ v. v.items) found ≡ made_of_one group.now members.now) }
 {
     match group {

@@ -165,12 +165,7 @@ impl Names {
         }
     }
 
-    fn give_group(
-        &mut self,
-        call: &CommCall,
-        at: usize,
-        given: GroupName,
-    ) -> Result<(), AllocError>
+    fn give_group(&mut self, call: &CommCall, at: usize, given: GroupName) -> Result<(), AllocError>
         ensures groups { OnOk result ((m : ℕ) → get nat_eq self.new.groups m ≡ group_after at (group_given call.now.returned given) (get nat_eq self.old.groups) m) }
         ensures names { self.new.comms ≡ self.old.comms }
         ensures handles { self.new.handles ≡ self.old.handles }

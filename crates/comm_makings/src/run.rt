@@ -489,12 +489,7 @@ impl Run<'_> {
     }
 
     /// One round: what was made last, and what waits. Gives what is to be read next.
-    fn round(
-        &mut self,
-        alloc: Global,
-        todo: &[usize],
-        last: bool,
-    ) -> Result<Vec<usize>, AllocError>
+    fn round(&mut self, alloc: Global, todo: &[usize], last: bool) -> Result<Vec<usize>, AllocError>
         requires { IsRight self.old.ranks.now self.old.views.items self.old.standings.items self.old.values.items self.old.comms.items }
         ensures right { OnOk result (IsRight self.new.ranks.now self.new.views.items self.new.standings.items self.new.values.items self.new.comms.items) }
         ensures ranks { self.new.ranks ≡ self.old.ranks }

@@ -70,7 +70,11 @@ struct Named {
 }
 
 /// The communicators that are named, but for the world, in their order.
-fn named_comms(alloc: Global, uses: &[HandleUses], comms: &[Made]) -> Result<Vec<Named>, AllocError> {
+fn named_comms(
+    alloc: Global,
+    uses: &[HandleUses],
+    comms: &[Made],
+) -> Result<Vec<Named>, AllocError> {
     let mut named = Vec::new(alloc);
     for (place, comm) in comms.iter().enumerate() {
         if comm.order.class > 0 && is_named(uses, comm) {

@@ -1,18 +1,18 @@
 //! What is left out of a layout, and why.
 
-use crate::sheets::{Said, Sheet, are_comms, derived};
-use comm_makings::{DeriveFault, MadeBy, RankCalls, Why, derive};
+use crate::sheets::{Said, Sheet, are_comms, derived, derived_of};
+use comm_makings::{DeriveFault, MadeBy, RankCalls, Why};
 
 /// A rank, its call, the function, and why nothing is derived.
 type Left = (u32, u64, MadeBy, Why);
 
 /// A name, what each of three ranks called, and what is left out.
-type Case<'a> = (&'a str, [Sheet<'a>; 3], &'a [Left]);
+type Case<'a> = (&'a str, &'a [Sheet<'a>], &'a [Left]);
 
 static CASES: [Case; 4] = [
     (
         "a rank that does not call the split",
-        [
+        &[
             (&[Said::Split(2, 0, 0, 4)], &[(4, 1)]),
             (&[], &[]),
             (&[Said::Split(2, 0, 0, 4)], &[(4, 1)]),
@@ -24,7 +24,7 @@ static CASES: [Case; 4] = [
     ),
     (
         "two functions at once, and what comes behind",
-        [
+        &[
             (&[Said::Dup(2, 4), Said::Dup(2, 5)], &[(4, 2)]),
             (&[Said::Split(2, 0, 0, 4), Said::Dup(2, 5)], &[]),
             (&[Said::Dup(2, 4), Said::Dup(2, 5)], &[]),
@@ -40,7 +40,7 @@ static CASES: [Case; 4] = [
     ),
     (
         "another function, and what is made of it",
-        [
+        &[
             (&[Said::Other(9), Said::Dup(9, 4)], &[]),
             (&[], &[]),
             (&[], &[]),
@@ -52,11 +52,7 @@ static CASES: [Case; 4] = [
     ),
     (
         "a parent that nobody gave",
-        [
-            (&[Said::Dup(8, 4)], &[]),
-            (&[], &[]),
-            (&[], &[]),
-        ],
+        &[(&[Said::Dup(8, 4)], &[]), (&[], &[]), (&[], &[])],
         &[(0, 0, MadeBy::Dup, Why::UnknownParent)],
     ),
 ];
@@ -88,9 +84,15 @@ fn two_worlds(rt: HostRuntime) {
         };
         ranks.push(one).expect(&rt, "memory");
     }
-    let fault = match derive(rt.alloc(), &ranks) {
+    let fault = match derived_of(&rt, rt.alloc(), &ranks) {
         Ok(_) => None,
         Err(fault) => Some(fault),
     };
-    assert!(rt; fault == Some(DeriveFault::World { first: 1, second: 3 }));
+    assert!(rt;
+        fault
+            == Some(DeriveFault::World {
+                first: 1,
+                second: 3
+            })
+    );
 }

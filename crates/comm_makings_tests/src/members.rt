@@ -1,12 +1,9 @@
 //! The members of what ranks make together, and by which numbers they name them.
 
-use crate::sheets::{Entry, Row, Said, Sheet, are_comms, derived};
+use crate::sheets::{Row, Said, Sheet, are_comms, derived};
 
 /// A name, what each rank called, and the communicators of the layout.
 type Case<'a> = (&'a str, &'a [Sheet<'a>], &'a [Row<'a>]);
-
-static FOUR: [Option<Entry>; 2] = [Some((4, 0, None)), Some((4, 0, None))];
-static SIX: [Option<Entry>; 2] = [Some((6, 0, None)), Some((6, 0, None))];
 
 static CASES: [Case; 11] = [
     (
@@ -16,7 +13,11 @@ static CASES: [Case; 11] = [
             (&[Said::Split(2, 1, 0, 4)], &[(4, 1)]),
             (&[Said::Split(2, 0, 0, 4)], &[(4, 1)]),
         ],
-        &[(2, &[0, 1, 2], &[]), (5, &[0, 2], &FOUR), (6, &[1], &[Some((4, 0, None))])],
+        &[
+            (2, &[0, 1, 2], &[]),
+            (5, &[0, 2], &[Some((4, 0, None)), Some((4, 0, None))]),
+            (6, &[1], &[Some((4, 0, None))]),
+        ],
     ),
     (
         "the same by falling keys",
@@ -25,7 +26,11 @@ static CASES: [Case; 11] = [
             (&[Said::Split(2, 1, 1, 4)], &[(4, 1)]),
             (&[Said::Split(2, 0, 0, 4)], &[(4, 1)]),
         ],
-        &[(2, &[0, 1, 2], &[]), (5, &[2, 0], &FOUR), (6, &[1], &[Some((4, 0, None))])],
+        &[
+            (2, &[0, 1, 2], &[]),
+            (5, &[2, 0], &[Some((4, 0, None)), Some((4, 0, None))]),
+            (6, &[1], &[Some((4, 0, None))]),
+        ],
     ),
     (
         "a rank without a color",
@@ -40,8 +45,14 @@ static CASES: [Case; 11] = [
         "a part of a part, by its ranks in the run",
         &[
             (&[Said::Split(2, 1, 0, 4), Said::Quiet], &[]),
-            (&[Said::Split(2, 0, 0, 4), Said::Split(4, 0, 1, 5)], &[(5, 3)]),
-            (&[Said::Split(2, 0, 0, 4), Said::Split(4, 0, 0, 5)], &[(5, 3)]),
+            (
+                &[Said::Split(2, 0, 0, 4), Said::Split(4, 0, 1, 5)],
+                &[(5, 3)],
+            ),
+            (
+                &[Said::Split(2, 0, 0, 4), Said::Split(4, 0, 0, 5)],
+                &[(5, 3)],
+            ),
         ],
         &[(2, &[0, 1, 2], &[]), (5, &[2, 1], &[])],
     ),
@@ -66,12 +77,40 @@ static CASES: [Case; 11] = [
     (
         "the columns of a grid of 2 times 2",
         &[
-            (&[Said::Cart(2, &[2, 2], false, 5), Said::CartSub(5, &[true, false], 6)], &[(6, 3)]),
-            (&[Said::Cart(2, &[2, 2], false, 5), Said::CartSub(5, &[true, false], 6)], &[(6, 3)]),
-            (&[Said::Cart(2, &[2, 2], false, 5), Said::CartSub(5, &[true, false], 6)], &[(6, 3)]),
-            (&[Said::Cart(2, &[2, 2], false, 5), Said::CartSub(5, &[true, false], 6)], &[(6, 3)]),
+            (
+                &[
+                    Said::Cart(2, &[2, 2], false, 5),
+                    Said::CartSub(5, &[true, false], 6),
+                ],
+                &[(6, 3)],
+            ),
+            (
+                &[
+                    Said::Cart(2, &[2, 2], false, 5),
+                    Said::CartSub(5, &[true, false], 6),
+                ],
+                &[(6, 3)],
+            ),
+            (
+                &[
+                    Said::Cart(2, &[2, 2], false, 5),
+                    Said::CartSub(5, &[true, false], 6),
+                ],
+                &[(6, 3)],
+            ),
+            (
+                &[
+                    Said::Cart(2, &[2, 2], false, 5),
+                    Said::CartSub(5, &[true, false], 6),
+                ],
+                &[(6, 3)],
+            ),
         ],
-        &[(2, &[0, 1, 2, 3], &[]), (7, &[0, 2], &SIX), (8, &[1, 3], &SIX)],
+        &[
+            (2, &[0, 1, 2, 3], &[]),
+            (7, &[0, 2], &[Some((6, 0, None)), Some((6, 0, None))]),
+            (8, &[1, 3], &[Some((6, 0, None)), Some((6, 0, None))]),
+        ],
     ),
     (
         "a grid in another order",
@@ -84,27 +123,75 @@ static CASES: [Case; 11] = [
     (
         "a graph of fewer nodes, and one of all",
         &[
-            (&[Said::Graph(2, 2, false, 5), Said::DistGraph(2, false, 6)], &[(5, 3), (6, 3)]),
-            (&[Said::Graph(2, 2, false, 5), Said::DistGraph(2, false, 6)], &[]),
-            (&[Said::Graph(2, 2, false, -1), Said::DistGraph(2, false, 6)], &[]),
+            (
+                &[Said::Graph(2, 2, false, 5), Said::DistGraph(2, false, 6)],
+                &[(5, 3), (6, 3)],
+            ),
+            (
+                &[Said::Graph(2, 2, false, 5), Said::DistGraph(2, false, 6)],
+                &[],
+            ),
+            (
+                &[Said::Graph(2, 2, false, -1), Said::DistGraph(2, false, 6)],
+                &[],
+            ),
         ],
-        &[(2, &[0, 1, 2], &[]), (5, &[0, 1], &[]), (6, &[0, 1, 2], &[])],
+        &[
+            (2, &[0, 1, 2], &[]),
+            (5, &[0, 1], &[]),
+            (6, &[0, 1, 2], &[]),
+        ],
     ),
     (
         "a group without one rank",
         &[
-            (&[Said::GroupOf(2, 10), Said::Excl(10, &[1], 11), Said::Create(2, 11, 7)], &[(7, 4)]),
-            (&[Said::GroupOf(2, 10), Said::Excl(10, &[1], 11), Said::Create(2, 11, -1)], &[]),
-            (&[Said::GroupOf(2, 10), Said::Excl(10, &[1], 11), Said::Create(2, 11, 7)], &[]),
+            (
+                &[
+                    Said::GroupOf(2, 10),
+                    Said::Excl(10, &[1], 11),
+                    Said::Create(2, 11, 7),
+                ],
+                &[(7, 4)],
+            ),
+            (
+                &[
+                    Said::GroupOf(2, 10),
+                    Said::Excl(10, &[1], 11),
+                    Said::Create(2, 11, -1),
+                ],
+                &[],
+            ),
+            (
+                &[
+                    Said::GroupOf(2, 10),
+                    Said::Excl(10, &[1], 11),
+                    Said::Create(2, 11, 7),
+                ],
+                &[],
+            ),
         ],
         &[(2, &[0, 1, 2], &[]), (7, &[0, 2], &[])],
     ),
     (
         "a group in its own order, by its members alone",
         &[
-            (&[Said::GroupOf(2, 10), Said::Incl(10, &[2, 0], 11), Said::CreateGroup(2, 11, 3, 7)], &[(7, 4)]),
+            (
+                &[
+                    Said::GroupOf(2, 10),
+                    Said::Incl(10, &[2, 0], 11),
+                    Said::CreateGroup(2, 11, 3, 7),
+                ],
+                &[(7, 4)],
+            ),
             (&[Said::GroupOf(2, 10)], &[]),
-            (&[Said::GroupOf(2, 10), Said::Incl(10, &[2, 0], 11), Said::CreateGroup(2, 11, 3, 7)], &[]),
+            (
+                &[
+                    Said::GroupOf(2, 10),
+                    Said::Incl(10, &[2, 0], 11),
+                    Said::CreateGroup(2, 11, 3, 7),
+                ],
+                &[],
+            ),
         ],
         &[(2, &[0, 1, 2], &[]), (7, &[2, 0], &[])],
     ),

@@ -1,7 +1,8 @@
 //! What ranks called, as short rows, and what is compared with them.
 
 use comm_makings::{
-    Action, Color, CommCall, Derived, Given, GroupCall, GroupName, Making, RankCalls, Uses, derive,
+    Action, Color, CommCall, DeriveFault, Derived, Given, GroupCall, GroupName, Making, RankCalls,
+    Uses, derive,
 };
 use mpi_model::{Comm, Stretch};
 use std::alloc::Global;
@@ -91,11 +92,7 @@ fn grid_of<R: Abort>(rt: &R, alloc: Global, said: &Said<'_>) -> Option<Action> {
         Said::CartSub(parent, remain, given) => {
             let mut copy = Vec::new(alloc);
             copy.extend_from_slice(remain).expect(rt, "memory");
-            Some(make(
-                *parent,
-                Making::CartSub { remain: Some(copy) },
-                *given,
-            ))
+            Some(make(*parent, Making::CartSub { remain: Some(copy) }, *given))
         },
         Said::Graph(parent, nodes, reorder, given) => Some(make(
             *parent,
@@ -256,6 +253,19 @@ fn calls_of<R: Abort>(rt: &R, alloc: Global, sheet: &Sheet<'_>, world: u32) -> R
     }
 }
 
+/// What is derived of a few ranks.
+pub(crate) fn derived_of<R: Abort>(
+    rt: &R,
+    alloc: Global,
+    ranks: &[RankCalls],
+) -> Result<Derived, DeriveFault> {
+    if ranks.len() < 1000 {
+        derive(alloc, ranks)
+    } else {
+        panic!(rt; "many ranks")
+    }
+}
+
 /// What is derived from these calls, where MPI_COMM_WORLD has the number 2.
 pub(crate) fn derived<R: Abort>(rt: &R, alloc: Global, sheets: &[Sheet<'_>]) -> Derived {
     let mut ranks = Vec::new(alloc);
@@ -264,7 +274,7 @@ pub(crate) fn derived<R: Abort>(rt: &R, alloc: Global, sheets: &[Sheet<'_>]) -> 
             .push(calls_of(rt, alloc, sheet, 2))
             .expect(rt, "memory");
     }
-    match derive(alloc, &ranks) {
+    match derived_of(rt, alloc, &ranks) {
         Ok(derived) => derived,
         Err(_) => panic!(rt; "nothing is derived"),
     }
