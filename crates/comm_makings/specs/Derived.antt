@@ -23,5 +23,13 @@ AreDerivedIn world ranks views uses [] = ⊥
 AreDerivedIn world ranks views uses (comm ∷ comms) = IsWorld world (length ranks) comm × All (IsDerivedIn ranks views uses) comms
 
 -- Nothing is written that isn't derived from what the ranks called.
+--
+-- `Derives` asks for less than a communicator needs, in these points:
+-- * A making counts where its own calls agree, whether or not the parent's makings before it do.
+-- * The groups that the calls of one MPI_Comm_create name need not be equal or disjoint.
+-- * One MPI_Comm_create_group may be made of any calls of the members with its group and tag, not of the k-th of each.
+-- * A communicator that may be ordered anew can come without dimensions or nodes though all calls, or some, tell them.
+-- * `uses` is not pinned: which numbers name only one handle, and whether a call of the profile names it.
+-- Nor does this say that each communicator that derives, and that a call names, is written.
 abbrev pub IsSound : ℕ → List RankCalls → List Communicator → Type 0
 IsSound world ranks comms = (views : List RankView) × (uses : List HandleUses) × AreViews world ranks views × AreDerivedIn world ranks views uses comms
