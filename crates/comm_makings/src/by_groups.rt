@@ -124,6 +124,7 @@ fn group_waits(values: &[Vec<GroupValue>], here: Here) -> bool {
 
 /// Adds the calls of a member, as far as their groups, tags and communicators are known. Says whether a group is not known
 /// yet.
+#[tactic(auto, using(crate::proofs::GroupCalls::offer_right))]
 fn offer_all<'a>(
     run: &'a Run<'_>,
     members: &[Member],
@@ -207,6 +208,7 @@ fn same_length(calls: &[Offer<'_>], ranks: &[u32], tag: i32) -> usize
 }
 
 /// The k-th call of each of these places.
+#[tactic(auto, using(crate::proofs::GroupCalls::kth_more))]
 fn kth_of(
     alloc: Global,
     calls: &[Offer<'_>],
@@ -360,6 +362,7 @@ struct Read {
 }
 
 /// Reads the calls of one list of members and one tag, and notes those that are read.
+#[tactic(auto, using(crate::proofs::GroupCalls::found_one))]
 fn read_same(
     alloc: Global,
     parent: &Made,
@@ -401,6 +404,7 @@ fn one_made(
 }
 
 /// Reads the calls of one list of members and one tag, unless nothing more is made of them.
+#[tactic(auto, using(crate::proofs::GroupCalls::places_are))]
 fn read_key(
     alloc: Global,
     parent: &Made,
@@ -449,6 +453,7 @@ fn nothing_found(alloc: Global) -> Found
     }
 }
 
+#[tactic(auto, using(crate::proofs::GroupCalls::all_within, crate::proofs::GroupCalls::range_within))]
 fn found_in(
     alloc: Global,
     parent: &Made,

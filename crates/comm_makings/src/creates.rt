@@ -215,6 +215,7 @@ fn offers_in(
 }
 
 /// A communicator of each group that one of its own gives.
+#[tactic(auto, using(crate::proofs::GroupCalls::places_are))]
 fn offered_parts(alloc: Global, ranks: &[u32], offers: &[Offer]) -> Result<Outcome, AllocError>
     ensures { IfOk result (λ o. (parts : List Selection) (at : ℕ) (part : Selection) → parts_in o ≡ Some parts → slice_get parts at ≡ Some part → IsOfferedPart ranks.now offers.now part) }
 {
