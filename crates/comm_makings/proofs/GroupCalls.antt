@@ -1,8 +1,8 @@
 -- The calls of MPI_Comm_create_group on one parent: what is noted of each, and what is made of those of one group.
-use Rattle.std.proofs.Common.{◌≡◌, ◌⊎◌, ℕ, ℤ, ◌+◌, ◌-◌, ◌<◌, ◌≤◌, ◌++◌, false, List, [], ◌∷◌, Option, Some, None, All, Vec, length, map, set, take, drop, ap, ◌∙◌, sym, subst, inl, inr, refl}
-use Rattle.std.specs.List.{list_any, slice_get}
+use Rattle.std.proofs.Common.{◌≡◌, ◌⊎◌, ℕ, suc, ℤ, ◌+◌, ◌<◌, List, [], ◌∷◌, Option, Some, None, All, Vec, length, map, get_or, set, take, drop, ap, ◌∙◌, sym, subst, inl, inr, refl, add-one, drop-cons}
+use Rattle.std.specs.List.{slice_get}
 use Rattle.std.specs.declared.alloc.Global.{Global}
-use Rattle.std.proofs.lemmas.List.Elements.{All-push, All-weaker}
+use Rattle.std.proofs.lemmas.List.Elements.{All-cons, All-weaker}
 use Rattle.comm_makings.specs.ByGroups.{AreFound, AreSame, IsAmong, IsFound, IsKnownOffer, IsListOn, IsOneOf, IsRightOffer, IsSoundAt, part_at}
 use Rattle.comm_makings.specs.Derives.{ArePlaces, IsGroupCall}
 use Rattle.comm_makings.specs.State.{IsMadeOf}
@@ -98,3 +98,15 @@ places_are f ranks (p ∷ places) (g ∷ group) is e =
     let first : slice_get ranks p ≡ Some g = is g p looked in
     let rest : map (slice_get ranks) places ≡ map Some group = places_are f ranks places group is others in
     cc
+
+-- the call at a place, and those behind it that name the same
+pub same_from : (calls : List Offer) (at n m : ℕ) (d : Offer) → at < length calls → m ≡ suc n
+    → AreSame (take n (drop (at + 1) calls)) (get_or calls at d).ranks.now (get_or calls at d).tag
+    → AreSame (take m (drop at calls)) (get_or calls at d).ranks.now (get_or calls at d).tag
+same_from calls at n m d below e same =
+    let first : Offer = get_or calls at d in
+    let Names : Offer → Type 0 = λ o. (o.ranks.now ≡ first.ranks.now) × (o.tag ≡ first.tag) in
+    let list : drop at calls ≡ first ∷ drop (at + 1) calls =
+        drop-cons calls at d below ∙ ap (λ (k : ℕ). first ∷ drop k calls) (sym (add-one at)) in
+    let whole : All Names (first ∷ take n (drop (at + 1) calls)) = All-cons Names first (take n (drop (at + 1) calls)) (refl, refl) same in
+    subst (λ (l : List Offer). All Names (take m l)) (sym list) (subst (λ (k : ℕ). All Names (take k (first ∷ drop (at + 1) calls))) (sym e) whole)

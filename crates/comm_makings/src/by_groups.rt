@@ -453,7 +453,7 @@ fn nothing_found(alloc: Global) -> Found
     }
 }
 
-#[tactic(auto, using(crate::proofs::GroupCalls::all_within, crate::proofs::GroupCalls::range_within))]
+#[tactic(auto, using(crate::proofs::GroupCalls::all_within, crate::proofs::GroupCalls::range_within, crate::proofs::GroupCalls::same_from))]
 fn found_in(
     alloc: Global,
     parent: &Made,

@@ -231,6 +231,7 @@ fn value_at(
 }
 
 /// The groups of a rank that become known.
+#[tactic(auto, using(crate::proofs::Refreshed::group_set))]
 fn refresh(
     alloc: Global,
     ranks: &[RankCalls],
@@ -258,6 +259,7 @@ fn refresh(
 
 impl Run<'_> {
     /// The groups of all ranks that become known.
+    #[tactic(auto, using(crate::proofs::Refreshed::members_in, crate::proofs::Refreshed::right_refreshed))]
     pub(crate) fn refresh(&mut self, alloc: Global) -> Result<(), AllocError>
         requires { IsRight self.old.ranks.now self.old.views.items self.old.standings.items self.old.values.items self.old.comms.items }
         ensures right { OnOk result (IsRight self.new.ranks.now self.new.views.items self.new.standings.items self.new.values.items self.new.comms.items) }
@@ -281,6 +283,7 @@ impl Run<'_> {
     }
 
     /// Adds a communicator. Its members' handles name it.
+    #[tactic(auto, using(crate::proofs::Derivations::right_added))]
     fn add(&mut self, alloc: Global, comm: Made) -> Result<(), AllocError>
         requires right { IsRight self.old.ranks.now self.old.views.items self.old.standings.items self.old.values.items self.old.comms.items }
         requires derived { IsDerivedComm self.old.ranks.now self.old.views.items comm }
