@@ -25,7 +25,16 @@ pub offer_right : (ranks : List RankCalls) (views : List RankView) (values : Lis
 offer_right ranks views values comms members member place list k at offer is on here known =
     let found = on k at here in
     let call : IsGroupCall ranks views members offer.tag place offer.here = record {
-        member = member; is_member = is; handle = found.0; named = found.1; k = k; at = at; among = found.2; called = known.0; tagged = known.1 } in
+      member = member;
+      is_member = is;
+      handle = found.0;
+      named = found.1;
+      k = k;
+      at = at;
+      among = found.2;
+      called = known.0;
+      tagged = known.1;
+    } in
     record {
       call = subst (λ (p : ℕ). IsGroupCall ranks views members offer.tag p offer.here) (sym known.3) call;
       group = known.2;
@@ -54,9 +63,14 @@ pub found_one : (calls : List Offer) (members : List Member) (ranks : List ℕ) 
     → AreSame calls group tag → ArePlaces ranks places group → AreOfCalls calls all → IsSoundAt places all → IsMadeOf members all (part_at places) comm
     → IsFound calls members ranks comm
 found_one calls members ranks group tag places all comm same within of sound made = record {
-  group = group; tag = tag; places = places; all = all; within = within;
+  group = group;
+  tag = tag;
+  places = places;
+  all = all;
+  within = within;
   of_calls = λ place here e. among_same calls group tag place here same (of place here e);
-  sound = sound; made = made;
+  sound = sound;
+  made = made;
 }
 
 -- Those of some of the calls are of the calls.
@@ -72,9 +86,14 @@ among_within some calls within group tag place here among =
 found_within : (some calls : List Offer) → AreWithin some calls → (members : List Member) (ranks : List ℕ) (comm : Made)
     → IsFound some members ranks comm → IsFound calls members ranks comm
 found_within some calls within members ranks comm found = record {
-  group = found.group; tag = found.tag; places = found.places; all = found.all; within = found.within;
+  group = found.group;
+  tag = found.tag;
+  places = found.places;
+  all = found.all;
+  within = found.within;
   of_calls = λ place here e. among_within some calls within found.group found.tag place here (found.of_calls place here e);
-  sound = found.sound; made = found.made;
+  sound = found.sound;
+  made = found.made;
 }
 
 pub all_within : (some calls : List Offer) → AreWithin some calls → (members : List Member) (ranks : List ℕ) (made : List Made)
@@ -107,6 +126,6 @@ same_from calls at n m d below e same =
     let first : Offer = get_or calls at d in
     let Names : Offer → Type 0 = λ o. (o.ranks.now ≡ first.ranks.now) × (o.tag ≡ first.tag) in
     let list : drop at calls ≡ first ∷ drop (at + 1) calls =
-        drop-cons calls at d below ∙ ap (λ (k : ℕ). first ∷ drop k calls) (sym (add-one at)) in
+    drop-cons calls at d below ∙ ap (λ (k : ℕ). first ∷ drop k calls) (sym (add-one at)) in
     let whole : All Names (first ∷ take n (drop (at + 1) calls)) = All-cons Names first (take n (drop (at + 1) calls)) (refl, refl) same in
     subst (λ (l : List Offer). All Names (take m l)) (sym list) (subst (λ (k : ℕ). All Names (take k (first ∷ drop (at + 1) calls))) (sym e) whole)

@@ -89,7 +89,7 @@ module _ (g : Bool) (calls : List CommCall) (meant : List Meant) (at : ℕ) (cal
   other_kind lists making parent e f k are h list named =
       let rest : List ℕ = makings_on g h (at + 1) (drop (at + 1) calls) (drop (at + 1) meant) in
       let skipped : makings_on g h at (drop at calls) (drop at meant) ≡ rest =
-          rest_is h (Some making) (Some parent) e f ∙ ap (λ (b : Bool). place_if (b && (parent == h)) at rest) k in
+      rest_is h (Some making) (Some parent) e f ∙ ap (λ (b : Bool). place_if (b && (parent == h)) at rest) k in
       ap (λ (l : List ℕ). list ++ l) (sym skipped) ∙ are h list named
 
   pub one_made : (old new : List (Vec ℕ Global)) (making : Making) (parent : ℕ) → making_of call.action ≡ Some making → comm_named (slice_get meant at) ≡ Some parent
@@ -98,7 +98,7 @@ module _ (g : Bool) (calls : List CommCall) (meant : List Meant) (at : ℕ) (cal
       let rest : List ℕ = makings_on g h (at + 1) (drop (at + 1) calls) (drop (at + 1) meant) in
       let a = adds h list named in
       let first : makings_on g h at (drop at calls) (drop at meant) ≡ place_if (parent == h) at rest =
-          rest_is h (Some making) (Some parent) e f ∙ ap (λ (b : Bool). place_if (b && (parent == h)) at rest) k in
+      rest_is h (Some making) (Some parent) e f ∙ ap (λ (b : Bool). place_if (b && (parent == h)) at rest) k in
       ap (λ (l : List ℕ). l ++ rest) a.2 ∙ append_assoc a.0 (place_if (parent == h) at []) rest
       ∙ ap (λ (l : List ℕ). a.0 ++ l) (place_append (parent == h) at rest ∙ sym first) ∙ are h a.0 a.1
 

@@ -11,4 +11,4 @@ loop-member-preserved c =
     let i : ℕ = c.loop-member.member-index in
     let below : i < length members = omega arith in
     names_bound members c.args.place c.args.standings.old.items c.loop-member.standings.items c.bind_member.new.standings.items i (get_or members i d)
-      c.loop-member.invariant c.bind_member.ensures (slice_get-get_or members i d below)
+    c.loop-member.invariant c.bind_member.ensures (slice_get-get_or members i d below)

@@ -7,19 +7,19 @@ pub loop-at-preserved : goal.loop-at-preserved
 loop-at-preserved c = elim c.match-rank_told.branch [
   | in-Some+in-Some-comm_at w ↦
       let before : AreTold c.args.calls.now c.args.meant.now c.loop-at.at w.deref_mut.result.now =
-          subst (AreTold c.args.calls.now c.args.meant.now c.loop-at.at) (sym w.deref_mut.ensures.value) c.loop-at.invariant in
+      subst (AreTold c.args.calls.now c.args.meant.now c.loop-at.at) (sym w.deref_mut.ensures.value) c.loop-at.invariant in
       rw w.told-is
       (told_more c.args.calls.now c.args.meant.now c.loop-at.at c.index-calls-at.result c.loop-at-test.true c.index-calls-at.is
-        w.deref_mut.result.now w.note_told.new.told w.in-Some-comm_at.handle w.in-Some.rank (sym w.in-Some-comm_at.ensures) (sym w.in-Some.ensures)
-        before w.note_told.ensures)
+      w.deref_mut.result.now w.note_told.new.told w.in-Some-comm_at.handle w.in-Some.rank (sym w.in-Some-comm_at.ensures) (sym w.in-Some.ensures)
+      before w.note_told.ensures)
   | in-Some+in_default-comm_at w ↦
       rw w.told-is
       (untold_comm c.args.calls.now c.args.meant.now c.loop-at.at c.index-calls-at.result c.loop-at-test.true c.index-calls-at.is
-        c.loop-at.told.items (sym w.in_default-comm_at.ensures) c.loop-at.invariant)
+      c.loop-at.told.items (sym w.in_default-comm_at.ensures) c.loop-at.invariant)
   | in_default w ↦
       rw w.told-is
       (untold_rank c.args.calls.now c.args.meant.now c.loop-at.at c.index-calls-at.result c.loop-at-test.true c.index-calls-at.is
-        c.loop-at.told.items (sym w.in_default.ensures) c.loop-at.invariant)
+      c.loop-at.told.items (sym w.in_default.ensures) c.loop-at.invariant)
 ]
 
 pub returns : goal.returns
