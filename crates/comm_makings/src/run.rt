@@ -613,6 +613,7 @@ fn own_of(alloc: Global, rank: u32) -> Result<Made, AllocError>
 }
 
 /// The world, and MPI_COMM_SELF of each rank that tells its number.
+#[tactic(auto, using(crate::proofs::Begins::world_first, crate::proofs::Begins::own_first))]
 fn first_comms(alloc: Global, ranks: &[RankCalls]) -> Result<Vec<Made>, AllocError>
     requires { length ranks.now < 2 ^ 32 }
     ensures { IfOk result (λ comms. All (IsFirstOf ranks.now) comms.items) }
@@ -677,6 +678,7 @@ fn begin(alloc: Global, world: u32, run: &mut Run<'_>, rank: &RankCalls) -> Resu
 }
 
 /// All ranks before anything is derived.
+#[tactic(auto, using(crate::proofs::Begins::views_more))]
 fn begin_all<'a>(alloc: Global, world: u32, ranks: &'a [RankCalls]) -> Result<Run<'a>, AllocError>
     ensures ranks { IfOk result (λ run. run.ranks.now ≡ ranks.now) }
     ensures views { IfOk result (λ run. AreViews world ranks.now run.views.items) }
@@ -761,6 +763,7 @@ enum Step {
 }
 
 /// The communicators of the parts.
+#[tactic(auto, using(crate::proofs::Begins::made_more))]
 pub(crate) fn all_made(
     alloc: Global,
     members: &[Member],
