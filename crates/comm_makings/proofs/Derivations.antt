@@ -89,7 +89,7 @@ module _ (ranks : List RankCalls) (views : List RankView) where
     one (Some others) waits value e made =
         listed comms rank at (made_of_one call others) value made
         (λ list is. of_one rank at call meant.group others list called (ap (option_map (λ (m : Meant). m.group)) means)
-            (named_derives comms rank row all meant.group others e) is)
+        (named_derives comms rank row all meant.group others e) is)
 
     two : (first second : Option (List ℕ)) (waits : Bool) (value : GroupValue) → ranks_at comms row meant.group ≡ first → ranks_at comms row meant.second ≡ second
         → IsMadeOfTwo call first second waits value → IsDerivedGroup ranks views comms rank at value
@@ -98,8 +98,8 @@ module _ (ranks : List RankCalls) (views : List RankView) where
     two (Some ones) (Some others) waits value e f made =
         listed comms rank at (made_of_two call ones others) value made
         (λ list is. of_two rank at call meant.group meant.second ones others list called (ap (option_map (λ (m : Meant). m.group)) means)
-            (ap (option_map (λ (m : Meant). m.second)) means)
-            (named_derives comms rank row all meant.group ones e) (named_derives comms rank row all meant.second others f) is)
+        (ap (option_map (λ (m : Meant). m.second)) means)
+        (named_derives comms rank row all meant.group ones e) (named_derives comms rank row all meant.second others f) is)
 
   -- the group of a communicator
   of_standing : (comms : List Made) (rank at : ℕ) (row : List Standing) (call : GroupCall) → group_call_at ranks rank at ≡ Some call → is_of_comm call
@@ -115,7 +115,7 @@ module _ (ranks : List RankCalls) (views : List RankView) where
       let comm : Made = member.0 in
       let derived : IsDerivedComm ranks views comm = All-slice_get (IsDerivedComm ranks views) comms place comm all member.1 in
       let derives : Derives ranks views (ranks_of rank (groups.Given at) (ranks_in comm.members.items)) =
-          of_comm comm.members.items (dims_of comm) rank at handle call derived.derives member.2.0 member.2.1 called is means in
+      of_comm comm.members.items (dims_of comm) rank at handle call derived.derives member.2.0 member.2.1 called is means in
       let same = subst (λ (l : List ℕ). Derives ranks views (ranks_of rank (groups.Given at) l)) (sym derived.same_ranks) derives in
       subst (IsDerivedGroup ranks views comms rank at) (sym f) (comm, member.1, same)
 
@@ -201,20 +201,22 @@ module _ (ranks : List RankCalls) (views : List RankView) where
   created_derives members dims k all comms values parts at part e derives groups known one given here wanted =
       let offered : ℕ → List ℕ = offered_at values comms all in
       let P : List (Option Here) → Type 0 = λ calls.
-          ((place : ℕ) (here : Here) → slice_get calls place ≡ Some (Some here) → Derives ranks views (ranks_of here.rank here.group (offered place)))
-          → IsOneMaking functions.Create calls → AreGiven false calls parts → IsOfOffered members calls offered part
-          → Derives ranks views (communicator (members_at members calls part.places) part.dims) in
+      ((place : ℕ) (here : Here) → slice_get calls place ≡ Some (Some here) → Derives ranks views (ranks_of here.rank here.group (offered place)))
+      → IsOneMaking functions.Create calls → AreGiven false calls parts → IsOfOffered members calls offered part
+      → Derives ranks views (communicator (members_at members calls part.places) part.dims) in
       let step : P (kth_calls ranks views k members) = λ all_derive is gives of. created members dims k offered parts part derives all_derive is gives at here of in
       let each : (place : ℕ) (here : Here) → slice_get all place ≡ Some (Some here) → Derives ranks views (ranks_of here.rank here.group (offered place)) =
-          λ place here found. subst (λ (l : List ℕ). Derives ranks views (ranks_of here.rank here.group l)) (sym (offered_is values comms all place here found))
-              (group_derives ranks views comms values groups here (offered_of (group_of values comms here)) (offered_known (group_of values comms here) (All-slice_get (IsKnown values comms) all place (Some here) known found))) in
+      λ place here found. subst (λ (l : List ℕ). Derives ranks views (ranks_of here.rank here.group l)) (sym (offered_is values comms all place here found))
+      (group_derives ranks views comms values groups here (offered_of (group_of values comms here)) (offered_known (group_of values comms here) (All-slice_get (IsKnown values comms) all place (Some here) known found))) in
       let w = wanted.1 in
       let same : offered w.0 ≡ wanted.0 = offered_is values comms all w.0 w.1 w.2 ∙ ap offered_of w.3 in
       let of : IsOfOffered members all offered part = record {
-          place = w.0; here = w.1; called = w.2;
-          within = ap (λ (l : List ℕ). has l w.1.rank) same ∙ w.4;
-          places = subst (ArePlaces (ranks_in members) part.places) (sym same) wanted.2;
-          dims = wanted.3;
+        place = w.0;
+        here = w.1;
+        called = w.2;
+        within = ap (λ (l : List ℕ). has l w.1.rank) same ∙ w.4;
+        places = subst (ArePlaces (ranks_in members) part.places) (sym same) wanted.2;
+        dims = wanted.3;
       } in
       subst P (sym e) step each one given of
 
@@ -225,21 +227,24 @@ module _ (ranks : List RankCalls) (views : List RankView) where
   found_derives comms values parent offers derived groups right comm found =
       let members : List Member = parent.members.items in
       let calls : (place : ℕ) (here : Here) → slice_get found.all place ≡ Some (Some here) → IsGroupCall ranks views members found.tag place here =
-          λ place here e. let among = found.of_calls place here e in
-              let is = All-slice_get (IsRightOffer ranks views values comms members) offers among.0 among.1 right among.2 in
-              subst (λ (h : Here). IsGroupCall ranks views members found.tag place h) among.6
-                (subst (λ (p : ℕ). IsGroupCall ranks views members found.tag p among.1.here) among.5
-                  (subst (λ (t : ℤ). IsGroupCall ranks views members t among.1.place among.1.here) among.4 is.call)) in
+      λ place here e. let among = found.of_calls place here e in
+      let is = All-slice_get (IsRightOffer ranks views values comms members) offers among.0 among.1 right among.2 in
+      subst (λ (h : Here). IsGroupCall ranks views members found.tag place h) among.6
+      (subst (λ (p : ℕ). IsGroupCall ranks views members found.tag p among.1.here) among.5
+      (subst (λ (t : ℤ). IsGroupCall ranks views members t among.1.place among.1.here) among.4 is.call)) in
       let each : (place : ℕ) (here : Here) → slice_get found.all place ≡ Some (Some here) → Derives ranks views (ranks_of here.rank here.group found.group) =
-          λ place here e. let among = found.of_calls place here e in
-              let is = All-slice_get (IsRightOffer ranks views values comms members) offers among.0 among.1 right among.2 in
-              group_derives ranks views comms values groups here found.group
-                (subst (λ (h : Here). group_of values comms h ≡ Some found.group) among.6 (is.group ∙ ap Some among.3)) in
+      λ place here e. let among = found.of_calls place here e in
+      let is = All-slice_get (IsRightOffer ranks views values comms members) offers among.0 among.1 right among.2 in
+      group_derives ranks views comms values groups here found.group
+      (subst (λ (h : Here). group_of values comms h ≡ Some found.group) among.6 (is.group ∙ ap Some among.3)) in
       let making : IsGroupMaking ranks views members found.group found.tag found.places found.all = record {
-          within = subst (λ (l : List ℕ). ArePlaces l found.places found.group) derived.same_ranks found.within;
-          calls = calls; readable = found.sound.readable; given = found.sound.given } in
+        within = subst (λ (l : List ℕ). ArePlaces l found.places found.group) derived.same_ranks found.within;
+        calls = calls;
+        readable = found.sound.readable;
+        given = found.sound.given;
+      } in
       let derives : Derives ranks views (communicator (members_at members found.all found.places) None) =
-          by_group members (dims_of parent) found.group found.tag found.places found.all derived.derives each making in
+      by_group members (dims_of parent) found.group found.tag found.places found.all derived.derives each making in
       record {
         derives = subst (λ (d : Option (List ℕ)). Derives ranks views (communicator comm.members.items d)) (sym found.made.dims)
             (subst (λ (l : List Member). Derives ranks views (communicator l None)) (sym found.made.chosen) derives);
@@ -311,9 +316,9 @@ module _ (ranks : List RankCalls) (views : List RankView) where
   -- before anything is derived
   pub right_first : (stand : List (Vec Standing Global)) (values : List (Vec GroupValue Global)) → All (λ v. All IsNotDerived v.items) stand → All (λ v. All IsNotListed v.items) values
       → IsRight ranks views stand values []
-  right_first stand values open unlisted = record {
+  right_first stand values bare unlisted = record {
     comms_derive = λ k d below. absurd (omega arith);
-    handles_named = λ rank handle place e. absurd (none_at stand open (slice_get stand rank) rank handle place refl e);
+    handles_named = λ rank handle place e. absurd (none_at stand bare (slice_get stand rank) rank handle place refl e);
     groups_derive = λ rank row e at value f. not_listed rank at value (All-slice_get IsNotListed row.items at value (All-slice_get (λ (v : Vec GroupValue Global). All IsNotListed v.items) values rank row unlisted e) f);
   }
 
@@ -321,12 +326,18 @@ module _ (ranks : List RankCalls) (views : List RankView) where
   pub written_derives : (world : ℕ) (uses : List HandleUses) (made : List Made) → AreDerived ranks views made → (comms : List Communicator)
       → AreWrittenOf world (length ranks) views uses made comms → AreDerivedIn world ranks views uses comms
   written_derives world uses made derived [] is = is
-  written_derives world uses made derived (comm ∷ comms) is =
-      (is.0, All-weaker (IsWrittenOfOne views uses made) (IsDerivedIn ranks views uses)
+  written_derives world uses made derived (comm ∷ comms) is = (
+    is.0,
+    All-weaker (IsWrittenOfOne views uses made) (IsDerivedIn ranks views uses)
         (λ c of. let one = All-slice_get (IsDerivedComm ranks views) made of.0 of.1 derived of.2 in record {
-            members = of.1.members.items; dims = dims_of of.1; derives = one.derives;
-            same = of.3.members ∙ one.same_ranks; named = of.3.named })
-        comms is.1)
+          members = of.1.members.items;
+          dims = dims_of of.1;
+          derives = one.derives;
+          same = of.3.members ∙ one.same_ranks;
+          named = of.3.named;
+        })
+        comms is.1,
+  )
 
   pub firsts_derive : (comms : List Made) → All (IsFirstOf ranks) comms → AreDerived ranks views comms
   firsts_derive comms firsts = All-weaker (IsFirstOf ranks) (IsDerivedComm ranks views) (λ c f. first_derives c f) comms firsts
