@@ -290,6 +290,11 @@ module _ (ranks : List RankCalls) (views : List RankView) where
     groups_derive = λ rank row e at value f. group_kept comms (comm ∷ []) rank at value (right.groups_derive rank row e at value f);
   }
 
+  -- one of the communicators
+  pub right_comm : (stand : List (Vec Standing Global)) (values : List (Vec GroupValue Global)) (comms : List Made) (at : ℕ) (comm : Made)
+      → IsRight ranks views stand values comms → slice_get comms at ≡ Some comm → IsDerivedComm ranks views comm
+  right_comm stand values comms at comm right here = All-slice_get (IsDerivedComm ranks views) comms at comm right.comms_derive here
+
   -- Handles that are left out name nothing.
   pub right_kept : (stand stands : List (Vec Standing Global)) (values : List (Vec GroupValue Global)) (comms : List Made)
       → IsRight ranks views stand values comms → KeepsDerived stand stands → IsRight ranks views stands values comms

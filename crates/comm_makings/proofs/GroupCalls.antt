@@ -2,8 +2,10 @@
 use Rattle.std.proofs.Common.{◌≡◌, ◌⊎◌, ℕ, suc, ℤ, ◌+◌, ◌<◌, List, [], ◌∷◌, Option, Some, None, All, Vec, length, map, get_or, set, take, drop, ap, ◌∙◌, sym, subst, inl, inr, refl, add-one, drop-cons}
 use Rattle.std.specs.List.{slice_get}
 use Rattle.std.specs.declared.alloc.Global.{Global}
+use Rattle.std.specs.List.Sorted.{IsPermutation}
 use Rattle.std.proofs.lemmas.List.Elements.{All-cons, All-weaker}
-use Rattle.comm_makings.specs.ByGroups.{AreFound, AreSame, IsAmong, IsFound, IsKnownOffer, IsListOn, IsOneOf, IsRightOffer, IsSoundAt, part_at}
+use Rattle.std.proofs.lemmas.List.Sorted.{All-permutation}
+use Rattle.comm_makings.specs.ByGroups.{AreFound, AreRightOffers, AreSame, IsAmong, IsFound, IsKnownOffer, IsListOn, IsOneOf, IsRightOffer, IsSoundAt, part_at}
 use Rattle.comm_makings.specs.Derives.{ArePlaces, IsGroupCall}
 use Rattle.comm_makings.specs.State.{IsMadeOf}
 use Rattle.comm_makings.specs.declared.by_groups.Offer.{Offer}
@@ -39,6 +41,11 @@ offer_right ranks views values comms members member place list k at offer is on 
       call = subst (λ (p : ℕ). IsGroupCall ranks views members offer.tag p offer.here) (sym known.3) call;
       group = known.2;
     }
+
+-- The order in which the calls are noted says nothing.
+pub sorted_right : (ranks : List RankCalls) (views : List RankView) (values : List (Vec GroupValue Global)) (comms : List Made) (members : List Member) (old new : List Offer)
+    → IsPermutation old new → AreRightOffers ranks views values comms members old → AreRightOffers ranks views values comms members new
+sorted_right ranks views values comms members old new moved right = All-permutation (IsRightOffer ranks views values comms members) old new moved right
 
 -- what stands at the places is that of calls
 abbrev pub AreOfCalls : List Offer → List (Option Here) → Type 0

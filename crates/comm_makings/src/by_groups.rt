@@ -166,6 +166,7 @@ fn calls_of<'a>(run: &'a Run<'_>, member: Member) -> &'a [usize]
 }
 
 /// The calls on a parent that are not read yet, by their members, tag and place. At last no group is waited for.
+#[tactic(auto, using(crate::proofs::GroupCalls::sorted_right))]
 fn offers_of<'a>(
     alloc: Global,
     run: &'a Run<'_>,
@@ -488,7 +489,7 @@ fn has_calls(run: &Run<'_>, comm: &Made) -> bool {
 }
 
 /// The communicators that the calls of MPI_Comm_create_group on a parent make, as far as their groups are known.
-#[tactic(auto, using(crate::proofs::Derivations::all_found))]
+#[tactic(auto, using(crate::proofs::Derivations::all_found, crate::proofs::Derivations::right_comm))]
 pub(crate) fn found_at(
     alloc: Global,
     run: &Run<'_>,

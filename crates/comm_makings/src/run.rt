@@ -313,7 +313,7 @@ impl Run<'_> {
     }
 
     /// Reads the k-th making of a communicator.
-    #[tactic(auto, using(crate::proofs::Derivations::outcome_derives, crate::proofs::Derivations::right_kept))]
+    #[tactic(auto, using(crate::proofs::Derivations::outcome_derives, crate::proofs::Derivations::right_comm, crate::proofs::Derivations::right_kept))]
     fn step(&mut self, alloc: Global, at: usize, k: usize, last: bool) -> Result<Step, AllocError>
         requires { IsRight self.old.ranks.now self.old.views.items self.old.standings.items self.old.values.items self.old.comms.items }
         ensures right { OnOk result (IsRight self.new.ranks.now self.new.views.items self.new.standings.items self.new.values.items self.new.comms.items) }
