@@ -10,5 +10,5 @@ loop-member-preserved c =
     let members : List Member = c.args.comm.now.members.items in
     let i : ℕ = c.loop-member.member-index in
     let below : i < length members = omega arith in
-    names_bound members c.args.place c.args.standings.old.items c.loop-member.standings.items c.bind_member.new.standings.items i (get_or members i d)
+    names_bound members c.args.place c.args.standings.now.items c.loop-member.standings.items c.bind_member.new.standings.items i (get_or members i d)
     c.loop-member.invariant c.bind_member.ensures (slice_get-get_or members i d below)
