@@ -1,5 +1,5 @@
 -- The calls of MPI_Comm_create_group on one parent: what is noted of each, and what is made of those of one group.
-use Rattle.std.proofs.Common.{◌≡◌, ◌⊎◌, ℕ, suc, ℤ, ◌+◌, ◌<◌, List, [], ◌∷◌, Option, Some, None, All, Vec, length, map, get_or, set, take, drop, ap, ◌∙◌, sym, subst, inl, inr, refl, add-one, drop-cons}
+use Rattle.std.proofs.Common.{◌≡◌, ◌⊎◌, ℕ, suc, ℤ, ◌+◌, ◌<◌, ◌++◌, List, [], ◌∷◌, Option, Some, None, All, Vec, length, map, get_or, set, take, drop, ap, ◌∙◌, sym, subst, inl, inr, refl, add-one, append-nil, drop-cons, arith}
 use Rattle.std.specs.List.{slice_get}
 use Rattle.std.specs.declared.alloc.Global.{Global}
 use Rattle.std.specs.List.Sorted.{IsPermutation}
@@ -107,6 +107,11 @@ pub all_within : (some calls : List Offer) → AreWithin some calls → (members
     → AreFound some members ranks made → AreFound calls members ranks made
 all_within some calls within members ranks made found =
     All-weaker (IsFound some members ranks) (IsFound calls members ranks) (λ comm f. found_within some calls within members ranks comm f) made found
+
+-- Nothing more is made.
+pub no_more : (calls : List Offer) (members : List Member) (ranks : List ℕ) (old new : List Made) → new ≡ old
+    → (more : List Made) × (new ≡ old ++ more) × AreFound calls members ranks more
+no_more calls members ranks old new same = ([], same ∙ sym (append-nil old), λ k d below. absurd (omega arith))
 
 -- the calls from one place to another
 pub range_within : (calls : List Offer) (n at : ℕ) → AreWithin (take n (drop at calls)) calls

@@ -120,9 +120,6 @@ none_told : (h : ℕ) (calls : List CommCall) → first_told_on h calls [] ≡ N
 none_told h [] = refl
 none_told h (call ∷ calls) = refl
 
-no_comm : (h : ℕ) (rank : Option ℕ) (others : Option ℕ) → told_before h None rank others ≡ others
-no_comm h rank others = refl
-
 no_rank : (h : ℕ) (comm : Option ℕ) (others : Option ℕ) → told_before h comm None others ≡ others
 no_rank h None others = refl
 no_rank h (Some comm) others = refl

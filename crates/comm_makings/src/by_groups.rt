@@ -405,7 +405,7 @@ fn one_made(
 }
 
 /// Reads the calls of one list of members and one tag, unless nothing more is made of them.
-#[tactic(auto, using(crate::proofs::GroupCalls::places_are))]
+#[tactic(auto, using(crate::proofs::GroupCalls::no_more, crate::proofs::GroupCalls::places_are))]
 fn read_key(
     alloc: Global,
     parent: &Made,
