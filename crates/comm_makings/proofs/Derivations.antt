@@ -85,18 +85,18 @@ module _ (ranks : List RankCalls) (views : List RankView) where
       (all : AreDerivedGroups ranks views comms rank row) where
     one : (first : Option (List ℕ)) (waits : Bool) (value : GroupValue) → ranks_at comms row meant.group ≡ first
         → IsMadeOfOne call first waits value → IsDerivedGroup ranks views comms rank at value
-    one None waits value e made = unknown comms rank at waits value made
-    one (Some others) waits value e made =
-        listed comms rank at (made_of_one call others) value made
+    one None waits value e built = unknown comms rank at waits value built
+    one (Some others) waits value e built =
+        listed comms rank at (made_of_one call others) value built
         (λ list is. of_one rank at call meant.group others list called (ap (option_map (λ (m : Meant). m.group)) means)
         (named_derives comms rank row all meant.group others e) is)
 
     two : (first second : Option (List ℕ)) (waits : Bool) (value : GroupValue) → ranks_at comms row meant.group ≡ first → ranks_at comms row meant.second ≡ second
         → IsMadeOfTwo call first second waits value → IsDerivedGroup ranks views comms rank at value
-    two None second waits value e f made = unknown comms rank at waits value made
-    two (Some ones) None waits value e f made = unknown comms rank at waits value made
-    two (Some ones) (Some others) waits value e f made =
-        listed comms rank at (made_of_two call ones others) value made
+    two None second waits value e f built = unknown comms rank at waits value built
+    two (Some ones) None waits value e f built = unknown comms rank at waits value built
+    two (Some ones) (Some others) waits value e f built =
+        listed comms rank at (made_of_two call ones others) value built
         (λ list is. of_two rank at call meant.group meant.second ones others list called (ap (option_map (λ (m : Meant). m.group)) means)
         (ap (option_map (λ (m : Meant). m.second)) means)
         (named_derives comms rank row all meant.group ones e) (named_derives comms rank row all meant.second others f) is)
@@ -253,10 +253,10 @@ module _ (ranks : List RankCalls) (views : List RankView) where
 
   pub part_derives : (members : List Member) (all : List (Option Here)) (part : Selection) (comm : Made)
       → Derives ranks views (communicator (members_at members all part.places) part.dims) → IsMadeOf members all part comm → IsDerivedComm ranks views comm
-  part_derives members all part comm derives made = record {
-    derives = subst (λ (d : Option (List ℕ)). Derives ranks views (communicator comm.members.items d)) (sym made.dims)
-        (subst (λ (l : List Member). Derives ranks views (communicator l part.dims)) (sym made.chosen) derives);
-    same_ranks = made.same_ranks;
+  part_derives members all part comm derives built = record {
+    derives = subst (λ (d : Option (List ℕ)). Derives ranks views (communicator comm.members.items d)) (sym built.dims)
+        (subst (λ (l : List Member). Derives ranks views (communicator l part.dims)) (sym built.chosen) derives);
+    same_ranks = built.same_ranks;
   }
 
   first_is : (members : List Member) (comm : Made) → Derives ranks views (communicator members None) → IsFirstComm members comm → IsDerivedComm ranks views comm
@@ -328,13 +328,13 @@ module _ (ranks : List RankCalls) (views : List RankView) where
   }
 
   -- What is written of derived communicators derives.
-  pub written_derives : (world : ℕ) (uses : List HandleUses) (made : List Made) → AreDerived ranks views made → (comms : List Communicator)
-      → AreWrittenOf world (length ranks) views uses made comms → AreDerivedIn world ranks views uses comms
-  written_derives world uses made derived [] is = is
-  written_derives world uses made derived (comm ∷ comms) is = (
+  pub written_derives : (number : ℕ) (uses : List HandleUses) (comms_made : List Made) → AreDerived ranks views comms_made → (comms : List Communicator)
+      → AreWrittenOf number (length ranks) views uses comms_made comms → AreDerivedIn number ranks views uses comms
+  written_derives number uses comms_made derived [] is = is
+  written_derives number uses comms_made derived (comm ∷ comms) is = (
     is.0,
-    All-weaker (IsWrittenOfOne views uses made) (IsDerivedIn ranks views uses)
-        (λ c of. let one = All-slice_get (IsDerivedComm ranks views) made of.0 of.1 derived of.2 in record {
+    All-weaker (IsWrittenOfOne views uses comms_made) (IsDerivedIn ranks views uses)
+        (λ c of. let one = All-slice_get (IsDerivedComm ranks views) comms_made of.0 of.1 derived of.2 in record {
           members = of.1.members.items;
           dims = dims_of of.1;
           derives = one.derives;
@@ -356,10 +356,10 @@ module _ (ranks : List RankCalls) (views : List RankView) where
 
   pub all_found : (comms : List Made) (values : List (Vec GroupValue Global)) (parent : Made) (offers : List Offer) → IsDerivedComm ranks views parent
       → AreAllDerivedGroups ranks views comms values → AreRightOffers ranks views values comms parent.members.items offers
-      → (made : List Made) → AreFound offers parent.members.items parent.ranks.items made → AreDerived ranks views made
-  all_found comms values parent offers derived groups right made of =
+      → (comms_made : List Made) → AreFound offers parent.members.items parent.ranks.items comms_made → AreDerived ranks views comms_made
+  all_found comms values parent offers derived groups right comms_made of =
       All-weaker (IsFound offers parent.members.items parent.ranks.items) (IsDerivedComm ranks views)
-      (λ comm f. found_derives comms values parent offers derived groups right comm f) made of
+      (λ comm f. found_derives comms values parent offers derived groups right comm f) comms_made of
 
 -- a member's handle is bound
 pub names_set : (members : List Member) (place : ℕ) (old mid new : List (Vec Standing Global)) (rank handle : ℕ)

@@ -137,8 +137,8 @@ fn rank_told(call: &CommCall) -> Option<u32>
 }
 
 /// Notes the rank that is told on a handle, unless one was told before.
-fn note_told(told: &mut [Option<u32>], handle: usize, rank: u32)
-    ensures { (h : ℕ) (now : Option ℕ) → slice_get told.new h ≡ Some now → (before : Option ℕ) × (slice_get told.old h ≡ Some before) × (now ≡ told_now (handle == h) rank before) }
+fn note_told(told: &mut Vec<Option<u32>>, handle: usize, rank: u32)
+    ensures { (h : ℕ) (now : Option ℕ) → slice_get told.new.items h ≡ Some now → (before : Option ℕ) × (slice_get told.old.items h ≡ Some before) × (now ≡ told_now (handle == h) rank before) }
 {
     if handle < told.len() && told[handle].is_none() {
         told[handle] = Some(rank);

@@ -1,4 +1,4 @@
-use Rattle.std.proofs.Common.{◌≡◌, ℕ, ◌<◌, List, None, length, get_or, arith}
+use Rattle.std.proofs.Common.{◌∙◌, ℕ, ◌<◌, List, None, Some, length, get_or, ap, sym, arith}
 use Rattle.std.proofs.lemmas.Option.{slice_get-get_or}
 use Rattle.comm_makings.specs.declared.state.Member.{Member}
 use Rattle.comm_makings.proofs.Derivations.{names_bound}
@@ -10,5 +10,5 @@ loop-member-preserved c =
     let members : List Member = c.args.comm.now.members.items in
     let i : ℕ = c.loop-member.member-index in
     let below : i < length members = omega arith in
-    names_bound members c.args.place c.args.standings.now.items c.loop-member.standings.items c.bind_member.new.standings.items i (get_or members i d)
-    c.loop-member.invariant c.bind_member.ensures (slice_get-get_or members i d below)
+    names_bound members c.args.place c.args.standings.now.items c.loop-member.standings.items c.bind_member.new.standings.items i (get_or c.deref-member-items.result.now i d)
+    c.loop-member.invariant c.bind_member.ensures (slice_get-get_or members i d below ∙ ap (λ (l : List Member). Some (get_or l i d)) (sym c.deref-member-items.ensures.value))
