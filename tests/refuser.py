@@ -70,6 +70,11 @@ def fault(line):
     return 1, "", f"mpimatch: {line}\n"
 
 
+def after_notes(whole, line):
+    """How a run ends that is refused behind what it has said on standard error, as one over texts alone."""
+    return 1, "", f"{whole.err}mpimatch: {line}\n"
+
+
 class Sweep:
     """Refuses the requests of a kind in turn."""
 

@@ -1,14 +1,31 @@
 -- Calls that are read one after another.
-use Rattle.std.proofs.Common.{◌≡◌, ◌∙◌, ◌<◌, ◌+◌, ◌-◌, ◌^◌, ℕ, List, [], ◌∷◌, ◌++◌, Option, Some, None, codes, length, length-append, append_assoc, append-nil, ap, sym, subst, refl, arith}
+use Rattle.std.proofs.Common.{◌≡◌, ◌∙◌, ◌<◌, ◌+◌, ◌-◌, ◌^◌, ℕ, List, [], ◌∷◌, ◌++◌, Option, Some, None, Ok, ◌⊎◌, inl, inr, is_some, if◌then◌else◌, codes, length, length-append, append_assoc, append-nil, ap, sym, subst, refl, arith}
 use Rattle.dumpi_text.specs.Call.{TextCall}
-use Rattle.mpi_model.specs.Failures.{one_more}
 use Rattle.comm_makings.specs.declared.calls.CommCall.{CommCall}
 use Rattle.dumpi_calls.specs.RawWalks.{Taken}
-use Rattle.comm_calls.specs.Calls.{AddsCall, AreCalls, AreCallsBy, IsCommCall, IsReadOf, ReadCalls, Reads, ReadsOneMore, beside_in, first_beside, function_of, nothing_read, or_number, reading, ReadsWhole}
+use Rattle.dumpi_calls.specs.Rows.{typed}
+use Rattle.dumpi_calls.specs.declared.typing.TypedCall.{TypedCall}
+use Rattle.comm_calls.specs.Calls.{AddsCall, AreCalls, AreCallsBy, IsReadOf, ReadCalls, Reads, ReadsOneMore, beside_in, first_beside, going_at, nothing_read, or_number, reading, ReadsWhole}
+use Rattle.comm_calls.specs.Functions.{function_of}
+use Rattle.comm_calls.specs.Uses.{changed_at, changed_by, changed_of, named_as, named_at, named_by, named_in, named_number, uses_after}
 use Rattle.comm_calls.specs.declared.function.Function.{Function}
+use Rattle.comm_calls.proofs.Groups.{More}
+use Rattle.comm_calls.proofs.UsesMore.{Standing, more_at, standing_more}
 
 pub none_read : IsReadOf [] nothing_read
-none_read = record { place = refl; world = refl; own = refl; calls = refl }
+none_read = record {
+  place = refl;
+  world = refl;
+  own = refl;
+  calls = refl;
+  uses = record {
+    each = λ i u is. absurd (cc);
+    whole = λ place number names. absurd (cc);
+    rising = λ i j u v h iu jv. absurd (cc);
+    apart = λ i j u v h iu jv same. absurd (cc);
+  };
+  going = λ number i u is same. absurd (cc);
+}
 
 either_first : (a b c : Option ℕ) → or_number (or_number a b) c ≡ or_number a (or_number b c)
 either_first (Some n) b c = refl
@@ -56,22 +73,39 @@ calls_more place (r ∷ rs) raw old new all adds =
     calls_behind (function_of r) place r rs raw old new (λ before after. calls_more (place + 1) rs raw before after) all
     (subst (λ (at : ℕ). AddsCall (function_of raw) at raw old new) there adds)
 
+-- a call names a number, or gives or frees one, but not both
+one_word : (function : Option Function) (raw : TextCall) (number : Option ℕ) → ((if is_some function then None else number) ≡ None) ⊎ (changed_of raw function ≡ None)
+one_word None raw number = inr refl
+one_word (Some function) raw number = inl refl
+
+-- the groups with one call more
+standing : (raws : List TextCall) (raw : TextCall) (call : TypedCall) (old new : ReadCalls) → length raws < 2 ^ 64 - 1 → IsReadOf raws old → typed raw ≡ Ok call → Reads old raw call.call new → Standing (named_at (raws ++ raw ∷ [])) (changed_at (raws ++ raw ∷ [])) new.uses (going_at new.going)
+standing raws raw call old new few all is reads =
+    let names : named_in raw ≡ named_by raw call.call = ap (named_as raw) is in
+    let more : More (named_at raws) (named_at (raws ++ raw ∷ [])) (length raws) (named_by raw call.call)
+    = subst (λ (said : Option ℕ). More (named_at raws) (named_at (raws ++ raw ∷ [])) (length raws) said) names (more_at named_in raws raw) in
+    standing_more (named_at raws) (named_at (raws ++ raw ∷ [])) (changed_at raws) (changed_at (raws ++ raw ∷ [])) (length raws) (named_by raw call.call) (changed_by raw) old.uses new.uses (going_at old.going) (going_at new.going)
+    (one_word (function_of raw) raw (named_number call.call)) more (more_at changed_by raws raw) few all.uses all.going
+    (reads.uses ∙ ap (λ (place : ℕ). uses_after place (named_by raw call.call) (going_at old.going) old.uses) all.place) reads.going
+
 pub one_more_read : ReadsOneMore
-one_more_read raws raw old new few all reads = record {
+one_more_read raws raw call old new few all is reads = record {
   place = (let len = length-append raws (raw ∷ []) in omega (arith, len, few, all.place, reads.place));
   world = reads.world ∙ ap (λ (n : Option ℕ). or_number n (beside_in (codes "MPI_COMM_WORLD") raw.params)) all.world ∙ sym (beside_more (codes "MPI_COMM_WORLD") raws raw);
   own = reads.own ∙ ap (λ (n : Option ℕ). or_number n (beside_in (codes "MPI_COMM_SELF") raw.params)) all.own ∙ sym (beside_more (codes "MPI_COMM_SELF") raws raw);
   calls = calls_more 0 raws raw old.calls new.calls all.calls (subst (λ (at : ℕ). AddsCall (function_of raw) at raw old.calls new.calls) (let here : old.place ≡ 0 + length raws = omega (arith, all.place) in here) reads.calls);
+  uses = (standing raws raw call old new few all is reads).are;
+  going = (standing raws raw call old new few all is reads).on;
 }
 
 -- more calls behind those that were read
-read_behind : (before raws : List TextCall) (old new : ReadCalls) → length (before ++ raws) < 2 ^ 64 - 1 → IsReadOf before old → Taken reading raws old new → IsReadOf (before ++ raws) new
+read_behind : (before raws : List TextCall) (old new : ReadCalls) → length (before ++ raws) < 2 ^ 64 → IsReadOf before old → Taken reading raws old new → IsReadOf (before ++ raws) new
 read_behind before [] old new few all same = subst (λ (l : List TextCall). IsReadOf l new) (sym (append-nil before)) (subst (λ (r : ReadCalls). IsReadOf before r) (sym same) all)
 read_behind before (raw ∷ raws) old new few all taken =
     let assoc : (before ++ raw ∷ []) ++ raws ≡ before ++ raw ∷ raws = append_assoc before (raw ∷ []) raws in
     let fewer : length before < 2 ^ 64 - 1 = (let len = length-append before (raw ∷ raws) in omega (arith, len, few)) in
-    let next = one_more_read before raw old taken.1 fewer all taken.3 in
-    subst (λ (l : List TextCall). IsReadOf l new) assoc (read_behind (before ++ raw ∷ []) raws taken.1 new (subst (λ (l : List TextCall). length l < 2 ^ 64 - 1) (sym assoc) few) next taken.4)
+    let next = one_more_read before raw taken.0 old taken.1 fewer all taken.2 taken.3 in
+    subst (λ (l : List TextCall). IsReadOf l new) assoc (read_behind (before ++ raw ∷ []) raws taken.1 new (subst (λ (l : List TextCall). length l < 2 ^ 64) (sym assoc) few) next taken.4)
 
 pub whole_read : ReadsWhole
 whole_read raws new few taken = read_behind [] raws nothing_read new few none_read taken

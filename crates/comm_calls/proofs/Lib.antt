@@ -1,4 +1,11 @@
 pub mod Names
 pub mod ByParameter
 pub mod Ranges
+pub mod Elements
+pub mod Counted
+pub mod Groups
+pub mod Begun
+pub mod Longer
+pub mod UsesMore
+pub mod Changed
 pub mod InTurn

@@ -1,5 +1,5 @@
 -- Names, byte by byte.
-use Rattle.std.proofs.Common.{◌≡◌, ◌≢◌, ◌&&◌, ℕ, suc, Bool, true, false, List, [], ◌∷◌, length, ap, refl, nat_eq}
+use Rattle.std.proofs.Common.{◌≡◌, ◌≢◌, ◌&&◌, ℕ, suc, true, false, List, [], ◌∷◌, length, ap, refl, nat_eq}
 use Rattle.std.specs.Str.{bytes_eq}
 
 -- byte strings of different lengths differ

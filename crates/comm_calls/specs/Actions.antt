@@ -1,5 +1,5 @@
 -- What a call on communicators or groups says. A list is compared item by item.
-use Rattle.std.specs.Prelude.{◌≡◌, ℕ, ℤ, Bool, List, Option, Some, None, Vec, codes, option_map}
+use Rattle.std.specs.Prelude.{◌≡◌, ℕ, Bool, List, Option, Vec, codes, option_map}
 use Rattle.std.specs.declared.alloc.Global.{Global}
 use Rattle.dumpi_text.specs.Call.{TextCall}
 use Rattle.comm_makings.specs.declared.calls.Action.{Action}

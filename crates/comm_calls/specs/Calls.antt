@@ -1,22 +1,34 @@
 -- What the calls of a text say of communicators and groups.
-use Rattle.std.specs.Prelude.{◌≡◌, ◌<◌, ℕ, ◌+◌, ◌-◌, ◌^◌, List, [], ◌∷◌, ◌++◌, Option, Some, None, codes, is_some, length, option_and_then, if◌then◌else◌}
+use Rattle.std.specs.Prelude.{◌≡◌, ◌<◌, ℕ, ◌+◌, ◌-◌, ◌^◌, List, [], ◌∷◌, ◌++◌, Option, Some, None, Ok, codes, is_some, length, nat_eq, option_and_then}
+use Rattle.std.specs.Map.{lookup}
 use Rattle.mpi_model.specs.Failures.{one_more}
 use Rattle.mpi_model.specs.declared.call.Call.{Call}
 use Rattle.dumpi_text.specs.Call.{Param, TextCall, pair_at}
 use Rattle.dumpi_calls.specs.RawWalks.{Taken}
+use Rattle.dumpi_calls.specs.Rows.{typed}
+use Rattle.dumpi_calls.specs.declared.typing.TypedCall.{TypedCall}
 use Rattle.comm_makings.specs.declared.calls.CommCall.{CommCall}
+use Rattle.comm_makings.specs.declared.calls.Uses.{Uses}
 use Rattle.comm_calls.specs.Actions.{IsAction}
-use Rattle.comm_calls.specs.Functions.{function_named}
+use Rattle.comm_calls.specs.Functions.{function_of}
 use Rattle.comm_calls.specs.Numbers.{beside}
+use Rattle.comm_calls.specs.Uses.{AreOpen, AreUses, changed_at, changed_by, changed_of_call, named_at, named_by, open_after, uses_after}
 use Rattle.comm_calls.specs.declared.function.Function.{Function}
 
--- what was read of a text: how many calls, the numbers beside MPI_COMM_WORLD and MPI_COMM_SELF, and the calls on
--- communicators and groups
+-- What was read of a text: how many calls, the numbers beside MPI_COMM_WORLD and MPI_COMM_SELF, the calls on communicators
+-- and groups, and the groups of calls of the profile that name one number; of each number the group that goes on, by its
+-- place among them.
 pub record ReadCalls : Type 0 where
   pub place : ℕ
   pub world : Option ℕ
   pub own : Option ℕ
   pub calls : List CommCall
+  pub uses : List Uses
+  pub going : List (ℕ × ℕ)
+
+-- the group of a number that goes on
+abbrev pub going_at : List (ℕ × ℕ) → ℕ → Option ℕ
+going_at going number = lookup (nat_eq number) going
 
 -- the first of two that is there
 abbrev pub or_number : Option ℕ → Option ℕ → Option ℕ
@@ -32,10 +44,6 @@ abbrev pub beside_in : List ℕ → List Param → Option ℕ
 beside_in name [] = None
 beside_in name (param ∷ params) = or_number (beside name param.value) (beside_in name params)
 
--- The function of a call, where it is read. One that another thread ended isn't, whatever its name is.
-abbrev pub function_of : TextCall → Option Function
-function_of raw = if raw.threads then None else function_named raw.name
-
 -- The call at this place is read as this one.
 pub record IsCommCall (function : Function) (place : ℕ) (raw : TextCall) (read : CommCall) : Type 0 where
   pub call : read.call ≡ place
@@ -47,12 +55,34 @@ abbrev pub AddsCall : Option Function → ℕ → TextCall → List CommCall →
 AddsCall None place raw old new = new ≡ old
 AddsCall (Some function) place raw old new = (read : CommCall) × (new ≡ old ++ read ∷ []) × IsCommCall function place raw read
 
--- The next call of the text is read.
-pub record Reads (old : ReadCalls) (raw : TextCall) (new : ReadCalls) : Type 0 where
+-- A call of this function is added, and ends the group of the number that it gives or frees.
+pub record TakesCall (function : Function) (old : ReadCalls) (raw : TextCall) (new : ReadCalls) : Type 0 where
+  pub read : CommCall
+  pub is : IsCommCall function old.place raw read
+  pub calls : new.calls ≡ old.calls ++ read ∷ []
+  pub uses : new.uses ≡ old.uses
+  pub going : (number : ℕ) → going_at new.going number ≡ open_after None (changed_of_call read) (length old.uses) (going_at old.going) number
+  pub place : new.place ≡ old.place
+  pub world : new.world ≡ old.world
+  pub own : new.own ≡ old.own
+
+-- What the next call says is added, but for the numbers beside names.
+pub record AddsSaid (old : ReadCalls) (raw : TextCall) (call : Call) (new : ReadCalls) : Type 0 where
+  pub calls : AddsCall (function_of raw) old.place raw old.calls new.calls
+  pub uses : new.uses ≡ uses_after old.place (named_by raw call) (going_at old.going) old.uses
+  pub going : (number : ℕ) → going_at new.going number ≡ open_after (named_by raw call) (changed_by raw) (length old.uses) (going_at old.going) number
+  pub place : new.place ≡ old.place
+  pub world : new.world ≡ old.world
+  pub own : new.own ≡ old.own
+
+-- The next call of the text is read, which is this one of the profile or none.
+pub record Reads (old : ReadCalls) (raw : TextCall) (call : Call) (new : ReadCalls) : Type 0 where
   pub place : new.place ≡ one_more old.place
   pub world : new.world ≡ or_number old.world (beside_in (codes "MPI_COMM_WORLD") raw.params)
   pub own : new.own ≡ or_number old.own (beside_in (codes "MPI_COMM_SELF") raw.params)
   pub calls : AddsCall (function_of raw) old.place raw old.calls new.calls
+  pub uses : new.uses ≡ uses_after old.place (named_by raw call) (going_at old.going) old.uses
+  pub going : (number : ℕ) → going_at new.going number ≡ open_after (named_by raw call) (changed_by raw) (length old.uses) (going_at old.going) number
 
 -- ---- a whole text
 
@@ -77,19 +107,21 @@ pub record IsReadOf (raws : List TextCall) (read : ReadCalls) : Type 0 where
   pub world : read.world ≡ first_beside (codes "MPI_COMM_WORLD") raws
   pub own : read.own ≡ first_beside (codes "MPI_COMM_SELF") raws
   pub calls : AreCalls 0 raws read.calls
+  pub uses : AreUses (named_at raws) (changed_at raws) read.uses
+  pub going : AreOpen (changed_at raws) read.uses (going_at read.going)
 
 -- no call
 abbrev pub nothing_read : ReadCalls
-nothing_read = record { place = 0; world = None; own = None; calls = [] }
+nothing_read = record { place = 0; world = None; own = None; calls = []; uses = []; going = [] }
 
--- Calls that are read one after another are read as a whole: a text has fewer than 2^64 - 1 of them.
+-- Calls that are read one after another are read as a whole: a text has fewer than 2^64 of them.
 abbrev pub ReadsOneMore : Type 0
-ReadsOneMore = (raws : List TextCall) (raw : TextCall) (old new : ReadCalls) → length raws < 2 ^ 64 - 1 → IsReadOf raws old → Reads old raw new → IsReadOf (raws ++ raw ∷ []) new
+ReadsOneMore = (raws : List TextCall) (raw : TextCall) (call : TypedCall) (old new : ReadCalls) → length raws < 2 ^ 64 - 1 → IsReadOf raws old → typed raw ≡ Ok call → Reads old raw call.call new → IsReadOf (raws ++ raw ∷ []) new
 
--- the next call of a walk is read; which call of the profile it is says nothing more
+-- the next call of a walk is read
 abbrev pub reading : ReadCalls → TextCall → Call → ReadCalls → Type 0
-reading old raw call new = Reads old raw new
+reading old raw call new = Reads old raw call new
 
 -- Calls that a walk handed on, from none on, are read as a whole.
 abbrev pub ReadsWhole : Type 0
-ReadsWhole = (raws : List TextCall) (new : ReadCalls) → length raws < 2 ^ 64 - 1 → Taken reading raws nothing_read new → IsReadOf raws new
+ReadsWhole = (raws : List TextCall) (new : ReadCalls) → length raws < 2 ^ 64 → Taken reading raws nothing_read new → IsReadOf raws new

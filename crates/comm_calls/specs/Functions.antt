@@ -1,6 +1,7 @@
 -- The functions that make, name or free communicators and groups. Names are compared byte for byte.
 use Rattle.std.specs.Prelude.{ℕ, List, Option, Some, None, codes, option_map, if◌then◌else◌}
 use Rattle.std.specs.Str.{bytes_eq}
+use Rattle.dumpi_text.specs.Call.{TextCall}
 use Rattle.comm_calls.specs.declared.function.Function.{Function}
 use Rattle.comm_calls.specs.declared.function.Function.TheVariants as functions
 use Rattle.comm_calls.specs.declared.function.Giver.{Giver}
@@ -90,3 +91,7 @@ function_named name =
     (first_of (option_map functions.Make (grid_named name))
     (first_of (option_map functions.Group (group_named name))
     (first_of (option_map functions.Give (giver_named name)) (single_named name))))
+
+-- The function of a call, where it is read. One that another thread ended isn't, whatever its name is.
+abbrev pub function_of : TextCall → Option Function
+function_of raw = if raw.threads then None else function_named raw.name

@@ -3,4 +3,5 @@ pub mod Parameters
 pub mod Numbers
 pub mod Lists
 pub mod Actions
+pub mod Uses
 pub mod Calls

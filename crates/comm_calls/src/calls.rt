@@ -1,13 +1,17 @@
 //! The calls of a text on communicators and groups.
 
 ghost use Rattle.std.specs.Prelude.{◌≡◌, [], IfOk, IfSome, None, OnErr, OnOk, is_some};
-ghost use Rattle.comm_calls.specs.Calls.{IsCommCall, Reads, function_of, reading};
+ghost use Rattle.comm_calls.specs.Calls.{IsCommCall, Reads, reading};
+ghost use Rattle.comm_calls.specs.Functions.{function_of};
+ghost use Rattle.comm_makings.specs.Names.{number_given};
+ghost use Rattle.comm_calls.specs.Uses.{changed_of_call};
 
 use crate::action::action_in;
 use crate::beside::known_or_beside;
 use crate::fault::Memory;
 use crate::function::{Function, function_named};
-use comm_makings::{CommCall, RankCalls};
+use crate::uses::{NumberUses, named_number};
+use comm_makings::{Action, CommCall, Given, RankCalls};
 use dumpi_calls::RawSink;
 use dumpi_text::RawCall;
 use mpi_model::Call;
@@ -23,6 +27,7 @@ pub struct CommCalls {
     world: Option<u32>,
     own: Option<u32>,
     calls: Vec<CommCall>,
+    uses: NumberUses,
 }
 
 impl Model for CommCalls {
@@ -30,7 +35,7 @@ impl Model for CommCalls {
 
     ghost Value = { ReadCalls };
 
-    ghost view = { λ c. record { place = c.place; world = c.world; own = c.own; calls = c.calls.items } };
+    ghost view = { λ c. record { place = c.place; world = c.world; own = c.own; calls = c.calls.items; uses = c.uses.groups.items; going = c.uses.going.entries } };
 }
 
 // the function of a call, where it is read
@@ -58,12 +63,36 @@ fn comm_call(
     })
 }
 
+// the number that a call gives, if it returned
+fn given_number(call: &CommCall, given: Given) -> Option<u32>
+    ensures { result ≡ number_given call.now.returned given }
+{
+    if !call.returned {
+        return None;
+    }
+    match given {
+        Given::Number(number) => Some(number),
+        Given::Null | Given::Unknown => None,
+    }
+}
+
+// the number that a call gives or frees
+fn changed_of(call: &CommCall) -> Option<u32>
+    ensures { result ≡ changed_of_call call.now }
+{
+    match &call.action {
+        Action::Make { given, .. } | Action::GivesComm { given } => given_number(call, *given),
+        Action::Free { comm } => *comm,
+        Action::CommRank { .. } | Action::Group { .. } => None,
+    }
+}
+
 impl CommCalls {
-    ghost use Rattle.comm_calls.specs.Calls.{Reads};
+    ghost use Rattle.comm_calls.specs.Calls.{AddsSaid, Reads, TakesCall};
 
     /// What no call says. Takes no memory.
     pub fn new(alloc: Global) -> CommCalls
-        ensures { result ≡ record { place = 0; world = None; own = None; calls = [] } }
+        ensures { result ≡ record { place = 0; world = None; own = None; calls = []; uses = []; going = [] } }
     {
         CommCalls {
             alloc,
@@ -71,22 +100,43 @@ impl CommCalls {
             world: None,
             own: None,
             calls: Vec::new(alloc),
+            uses: NumberUses::new(alloc),
         }
     }
 
-    /// Reads the next call of the text. Memory grows only with a call that makes, names or frees a communicator or a
-    /// group.
-    pub fn read(&mut self, raw: &RawCall) -> Result<(), Memory>
-        ensures ok { OnOk result (Reads self.old raw.now self.new) }
+    // a call of this function
+    fn take(&mut self, function: Function, raw: &RawCall) -> Result<(), Memory>
+        ensures ok { OnOk result (TakesCall function self.old raw.now self.new) }
+        ensures err { OnErr result (self.new ≡ self.old) }
+    {
+        let read = comm_call(self.alloc, function, self.place, raw)?;
+        let changed = changed_of(&read);
+        self.calls.push(read)?;
+        self.uses.change(changed);
+        Ok(())
+    }
+
+    // what the next call says, but for the numbers beside names
+    fn add_said(&mut self, raw: &RawCall, call: &Call) -> Result<(), Memory>
+        ensures ok { OnOk result (AddsSaid self.old raw.now call.now self.new) }
+        ensures err { OnErr result (self.new ≡ self.old) }
+    {
+        match function_of(raw) {
+            Some(function) => self.take(function, raw),
+            None => self.uses.name(named_number(call), self.place),
+        }
+    }
+
+    /// Reads the next call of the text, which is this one of the profile or none. Memory grows only with a call that makes,
+    /// tells or frees a communicator or a group, and with the first call behind it that names the number.
+    pub fn read(&mut self, raw: &RawCall, call: &Call) -> Result<(), Memory>
+        ensures ok { OnOk result (Reads self.old raw.now call.now self.new) }
         ensures err { OnErr result (self.new ≡ self.old) }
     {
         let alloc = self.alloc;
         let world = known_or_beside(alloc, self.world, "MPI_COMM_WORLD", raw)?;
         let own = known_or_beside(alloc, self.own, "MPI_COMM_SELF", raw)?;
-        if let Some(function) = function_of(raw) {
-            let call = comm_call(alloc, function, self.place, raw)?;
-            self.calls.push(call)?;
-        }
+        self.add_said(raw, call)?;
         self.world = world;
         self.own = own;
         self.place = self.place.saturating_add(1);
@@ -107,25 +157,26 @@ impl CommCalls {
         self.world
     }
 
-    /// The calls on communicators and groups, with the first numbers beside MPI_COMM_WORLD and MPI_COMM_SELF. Which
-    /// calls of the profile name a number is not read.
-    pub fn into_rank_calls(self, alloc: Global) -> RankCalls
+    /// The calls on communicators and groups, with the first numbers beside MPI_COMM_WORLD and MPI_COMM_SELF, and which calls
+    /// of the profile name which numbers.
+    pub fn into_rank_calls(self) -> RankCalls
         ensures world { result.world ≡ self.world }
         ensures own { result.own ≡ self.own }
         ensures calls { result.calls.items ≡ self.calls }
-        ensures uses { result.uses.items ≡ [] }
+        ensures uses { result.uses.items ≡ self.uses }
     {
         let CommCalls {
             world,
             own,
             calls,
+            uses,
             ..
         } = self;
         RankCalls {
             world,
             own,
             calls,
-            uses: Vec::new(alloc),
+            uses: uses.groups,
         }
     }
 }
@@ -135,7 +186,7 @@ impl RawSink for CommCalls {
 
     ghost step = { reading };
 
-    fn on_call(&mut self, raw: &RawCall, _call: Call) -> Result<(), Memory> {
-        self.read(raw)
+    fn on_call(&mut self, raw: &RawCall, call: Call) -> Result<(), Memory> {
+        self.read(raw, &call)
     }
 }

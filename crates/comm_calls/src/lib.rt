@@ -1,14 +1,16 @@
 //! What the calls of a text say of communicators and groups.
 //!
 //! A [`CommCalls`] is given the calls of a text one after another, as `dumpi_text` reads them, and keeps of those that
-//! make, name or free communicators and groups what their parameters say. A parameter that is missing or that can't be
-//! read is unknown, and never a fault. What is kept grows with these calls alone.
+//! make, name or free communicators and groups what their parameters say, and of the others which numbers of communicators
+//! they name. A parameter that is missing or that can't be read is unknown, and never a fault. What is kept grows with the
+//! calls on communicators and groups alone, and with the numbers that are named between them.
 //!
 //! - [`function`]: the functions, by their names
 //! - [`parameter`]: the text of a parameter, and its note; [`number`]: a communicator, a group, a color, a number;
 //!   [`lists`]: ranks, dimensions, ranges
 //! - [`making`], [`group`], [`action`]: what a call does
 //! - [`beside`]: the number that stands beside a name
+//! - [`uses`]: which calls of the profile name which numbers
 //! - [`calls`]: the calls of a text; [`laws`]: what holds of all of them
 #![tactic(auto)]
 
@@ -23,6 +25,7 @@ mod lists;
 mod making;
 mod number;
 mod parameter;
+mod uses;
 
 pub use calls::CommCalls;
 pub use fault::Memory;

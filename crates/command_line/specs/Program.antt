@@ -1,44 +1,102 @@
 -- The command line of the program, as clap reads it.
-use Rattle.std.specs.Prelude.{◌≡◌, ℕ, List, [], Option, Some, None, if◌then◌else◌, true, codes}
+use Rattle.std.specs.Prelude.{◌≡◌, ◌∷◌, ℕ, Bool, List, [], Option, Some, None, if◌then◌else◌, false, true, codes, map, option_map, option_and_then}
 use Rattle.std.specs.Str.{bytes_eq}
-use Rattle.clap.specs.Words.{App, IsAmong, Row, Rule, Text, fault_of, first_of, kind_of, new_app, new_rule, subcommand_of, with_rule, with_subcommand}
+use Rattle.std.specs.Str.Parse.{digits_value, without_leading_plus}
+use Rattle.clap.specs.Words.{App, IsAmong, Row, Rule, Text, all_of, fault_of, first_of, kind_of, new_app, new_rule, subcommand_of, with_rule, with_subcommand}
 use Rattle.clap.specs.Simple.{on_top}
-use Rattle.clap.specs.declared.builder.action.ArgAction.TheVariants.{SetTrue}
+use Rattle.clap.specs.ValueTests.{accepts}
+use Rattle.clap.specs.declared.builder.action.ArgAction.TheVariants.{Append, SetTrue}
+use Rattle.clap.specs.declared.builder.value_parser.ValueParser.{ValueParser}
+use Rattle.clap.specs.declared.builder.value_parser.ValueParser.TheVariants.{Unsigned}
 use Rattle.clap.specs.declared.error.kind.ErrorKind.{ErrorKind}
 use Rattle.clap.specs.declared.error.kind.ErrorKind.TheVariants as kinds
+use Rattle.mpi_model.specs.declared.layout.Sends.{Sends}
+use Rattle.mpi_model.specs.declared.layout.Sends.TheVariants.{Wait, Buffer}
 use Rattle.command_line.specs.declared.Asked.{Asked}
+use Rattle.command_line.specs.declared.Asked.TheVariants as asked
 use Rattle.command_line.specs.declared.CommandFault.{CommandFault}
 use Rattle.command_line.specs.declared.CommandFault.TheVariants.{Memory, Shown, Unread}
+use Rattle.command_line.specs.declared.Wanted.{Wanted}
 use Rattle.command_line.specs.declared.Verb.{Verb}
-use Rattle.command_line.specs.declared.Verb.TheVariants.{Explain, Graph, Report, ReportJson, Replay, Cluster, Check, Pack}
+use Rattle.command_line.specs.declared.Verb.TheVariants.{Explain, ExplainRank, Graph, Report, ReportJson, Replay, Cluster, Check, Pack}
 
 -- a file that has to be named
 abbrev pub file_rule : Text → Rule
 file_rule id = record (new_rule id) { required = true }
 
--- a subcommand with its two files
-abbrev pub verb_app : Text → App
-verb_app name = with_rule (with_rule (new_app name) (file_rule (codes "LAYOUT"))) (file_rule (codes "MANIFEST"))
+-- one file that has to be named, or more
+abbrev pub several_rule : Text → Rule
+several_rule id = record (file_rule id) { action = Some Append }
+
+-- a verb over a layout and a manifest
+abbrev pub pair_app : Text → App
+pair_app name = with_rule (with_rule (new_app name) (file_rule (codes "LAYOUT"))) (file_rule (codes "MANIFEST"))
+
+-- a verb over its files
+abbrev pub files_app : Text → App
+files_app name = with_rule (new_app name) (several_rule (codes "FILE"))
 
 -- the flag for a report as JSON
 abbrev pub json_rule : Rule
 json_rule = record (new_rule (codes "json")) { long = Some (codes "json"); action = Some SetTrue }
 
 abbrev pub report_app : App
-report_app = with_rule (verb_app (codes "report")) json_rule
+report_app = with_rule (files_app (codes "report")) json_rule
+
+-- the rank of which `explain` tells: a number of 32 bits
+abbrev pub rank_parser : ValueParser
+rank_parser = Unsigned 0 4294967295
+
+abbrev pub rank_rule : Rule
+rank_rule = record (new_rule (codes "rank")) { long = Some (codes "rank"); parser = Some rank_parser }
+
+abbrev pub explain_app : App
+explain_app = with_rule (files_app (codes "explain")) rank_rule
+
+abbrev pub with_explain : App → App
+with_explain app = with_subcommand app explain_app.top
 
 abbrev pub with_report : App → App
 with_report app = with_subcommand app report_app.top
 
-abbrev pub with_verb : App → Text → App
-with_verb app name = with_subcommand app (verb_app name).top
+abbrev pub with_pair : App → Text → App
+with_pair app name = with_subcommand app (pair_app name).top
+
+abbrev pub with_files : App → Text → App
+with_files app name = with_subcommand app (files_app name).top
+
+-- an option for a value, which it has also without it
+abbrev pub option_rule : Text → Text → Rule
+option_rule id default = record (new_rule id) { long = Some id; value_names = 1; defaults = default ∷ [] }
+
+abbrev pub sends_rule : Rule
+sends_rule = option_rule (codes "sends") (codes "wait")
+
+abbrev pub layout_rule : Rule
+layout_rule = option_rule (codes "layout") (codes "layout.json")
+
+abbrev pub manifest_rule : Rule
+manifest_rule = option_rule (codes "manifest") (codes "manifest.json")
+
+abbrev pub force_rule : Rule
+force_rule = record (new_rule (codes "force")) { long = Some (codes "force"); action = Some SetTrue }
+
+abbrev pub init_app : App
+init_app = with_rule (with_rule (with_rule (with_rule (with_rule (new_app (codes "init")) (several_rule (codes "TEXT"))) sends_rule) layout_rule) manifest_rule) force_rule
+
+abbrev pub with_init : App → App
+with_init app = with_subcommand app init_app.top
 
 -- the program without its verbs
 abbrev pub bare : App
 bare = on_top (λ s. record s { has_version = true; subcommand_required = true }) (new_app (codes "mpimatch"))
 
+-- the program with the verbs for who asks what happened
+abbrev pub answering : App
+answering = with_report (with_files (with_explain bare) (codes "graph"))
+
 abbrev pub program : App
-program = with_verb (with_verb (with_verb (with_verb (with_report (with_verb (with_verb bare (codes "explain")) (codes "graph"))) (codes "replay")) (codes "cluster")) (codes "check")) (codes "pack")
+program = with_init (with_pair (with_files (with_pair (with_pair answering (codes "replay")) (codes "cluster")) (codes "check")) (codes "pack"))
 
 abbrev pub verb_named : Text → Option Verb
 verb_named name = if bytes_eq name (codes "explain") then Some Explain
@@ -49,35 +107,89 @@ verb_named name = if bytes_eq name (codes "explain") then Some Explain
     else if bytes_eq name (codes "check") then Some Check
     else if bytes_eq name (codes "pack") then Some Pack else None
 
--- what the words ask for
-pub record Request : Type 0 where
-  pub verb : Verb
+-- what `init` is to make: how sends complete, the names of the two files, and whether files of these names are written over
+pub record Wish : Type 0 where
+  pub sends : Sends
   pub layout : Text
   pub manifest : Text
+  pub force : Bool
+
+abbrev pub wish_of : Wanted → Wish
+wish_of m = record { sends = m.sends; layout = m.layout.now; manifest = m.manifest.now; force = m.force }
+
+-- what the words ask for: a verb over a layout and a manifest, a verb over its files, or `init` over its texts
+pub data Request : Type 0 where
+  pair : Verb → Text → Text → Request
+  files : Verb → List Text → Request
+  init : List Text → Wish → Request
 
 abbrev pub request_of : Asked → Request
-request_of a = record { verb = a.verb; layout = a.layout.now; manifest = a.manifest.now }
+request_of (asked.Pair verb layout manifest) = pair verb layout.now manifest.now
+request_of (asked.Files verb names) = files verb (map (λ n. n.now) names.items)
+request_of (asked.Init names wanted) = init (map (λ n. n.now) names.items) (wish_of wanted)
 
 -- a report, as JSON where the value of the flag says so
 abbrev pub report_in : Text → Verb
 report_in flag = if bytes_eq flag (codes "true") then ReportJson else Report
 
--- a verb with the flag for JSON, where it has one
-abbrev pub in_form : Verb → Option Text → Verb
-in_form Report (Some flag) = report_in flag
-in_form verb json = verb
+-- the number that a text writes, where it is one of 32 bits
+abbrev pub rank_in : Text → Option ℕ
+rank_in text = if accepts false rank_parser text then Some (digits_value 10 (without_leading_plus text)) else None
 
--- a verb with both of its files, and the flag for JSON
-abbrev pub together : Option Verb → Option Text → Option Text → Option Text → Option Request
-together None layout manifest json = None
-together (Some verb) None manifest json = None
-together (Some verb) (Some layout) None json = None
-together (Some verb) (Some layout) (Some manifest) json = Some (record { verb = in_form verb json; layout = layout; manifest = manifest })
+-- an explanation of the rank that the value of the flag says
+abbrev pub explain_in : Text → Option Verb
+explain_in text = option_map ExplainRank (rank_in text)
 
--- what the subcommand that was met asks for, with its values
+-- a verb with the flag for JSON or that for a rank, where it has one
+abbrev pub in_form : Verb → Option Text → Option Text → Option Verb
+in_form Explain json (Some text) = explain_in text
+in_form Report (Some flag) rank = Some (report_in flag)
+in_form verb json rank = Some verb
+
+-- the verb of this name, with its flags
+abbrev pub form_in : Text → List Row → Option Verb
+form_in name rows = option_and_then (λ verb. in_form verb (first_of (codes "json") rows) (first_of (codes "rank") rows)) (verb_named name)
+
+-- a verb over a layout and a manifest, where both are named
+abbrev pub pair_of : Verb → Option Text → Option Text → Option Request
+pair_of verb (Some layout) (Some manifest) = Some (pair verb layout manifest)
+pair_of verb layout manifest = None
+
+abbrev pub pair_in : Verb → List Row → Option Request
+pair_in verb rows = pair_of verb (first_of (codes "LAYOUT") rows) (first_of (codes "MANIFEST") rows)
+
+-- a verb over its files, where it takes any, and else over its layout and its manifest
+abbrev pub over : Verb → Option (List Text) → List Row → Option Request
+over verb (Some names) rows = Some (files verb names)
+over verb None rows = pair_in verb rows
+
+abbrev pub files_in : Verb → List Row → Option Request
+files_in verb rows = over verb (all_of (codes "FILE") rows) rows
+
+abbrev pub sends_named : Text → Option Sends
+sends_named word = if bytes_eq word (codes "wait") then Some Wait else if bytes_eq word (codes "buffer") then Some Buffer else None
+
+-- what `init` is to make by its options, where each has its value
+abbrev pub wanted_of : Option Sends → Option Text → Option Text → Option Text → Option Wish
+wanted_of (Some sends) (Some layout) (Some manifest) (Some force) =
+    Some (record { sends = sends; layout = layout; manifest = manifest; force = bytes_eq force (codes "true") })
+wanted_of sends layout manifest force = None
+
+abbrev pub wish_in : List Row → Option Wish
+wish_in rows = wanted_of (option_and_then sends_named (first_of (codes "sends") rows)) (first_of (codes "layout") rows)
+    (first_of (codes "manifest") rows) (first_of (codes "force") rows)
+
+-- `init` over its texts
+abbrev pub init_in : List Row → Option Request
+init_in rows = option_and_then (λ wish. option_map (λ texts. init texts wish) (all_of (codes "TEXT") rows)) (wish_in rows)
+
+-- what a subcommand asks for, with its values
+abbrev pub asks_for : Text → List Row → Option Request
+asks_for name rows = if bytes_eq name (codes "init") then init_in rows else option_and_then (λ verb. files_in verb rows) (form_in name rows)
+
+-- what the subcommand that was met asks for
 abbrev pub request_in : Option (Text × List Row) → Option Request
-request_in None = None
-request_in (Some met) = together (verb_named met.0) (first_of (codes "LAYOUT") met.1) (first_of (codes "MANIFEST") met.1) (first_of (codes "json") met.1)
+request_in met = option_and_then (λ m. asks_for m.0 m.1) met
 
 -- Why the words ask for nothing. An error that is shown has one of the kinds that clap gives for
 -- them.

@@ -1,20 +1,23 @@
-//! The command line of mpimatch: its verbs, each with the names of a layout and of a manifest.
+//! The command line of mpimatch: its verbs, each with the names of its files, and `init`.
 //!
 //! `clap` reads the words. `specs/Program.antt` writes the command line down by `clap`'s own
 //! builders, so what the words ask for, and the kind of each mistake, is `clap`'s meaning of that
 //! command. A verb that comes later is one line in `Verb`, in `verb_of`, in `program_command` and,
-//! in `specs/Program.antt`, in `verb_named` and in `program`.
+//! in `specs/Program.antt`, in `verb_named` and in `program`. Whether the files of a verb are a layout
+//! and a manifest or texts stands in the files, and is not asked here.
 //!
 //! Its tests are rows of `tests/inputs.txt` and cases of `tests/cases/`, which the built program runs.
 #![tactic(auto)]
 
-ghost use Rattle.std.specs.Prelude.{◌≡◌, [], IfErr, IfOk, OnOk, Some, codes, false, map, option_map};
-ghost use Rattle.clap.specs.Words.{app_of, fault_of, rule_of, subcommand_of, subcommand_rows_of};
+ghost use Rattle.std.specs.Prelude.{◌≡◌, [], IfErr, IfOk, OnOk, Some, codes, false, map, option_and_then, option_map};
+ghost use Rattle.clap.specs.Words.{app_of, fault_of, found_of, new_app, rows_of, rule_of, subcommand_of, subcommand_rows_of};
 ghost use Rattle.clap.specs.declared.builder.command.Command.TheViews.{out-Command};
-ghost use Rattle.command_line.specs.Program.{Refuses, bare, file_rule, in_form, json_rule, program, report_app, report_in, request_in, request_of, shown_status_of, verb_app, verb_named, with_report as and_report, with_verb as and_verb};
+ghost use Rattle.command_line.specs.Program.{Refuses, answering, bare, explain_app, explain_in, file_rule, files_app, files_in, force_rule, form_in, in_form, init_app, init_in, json_rule, layout_rule, wanted_of, wish_in, wish_of, manifest_rule, option_rule, pair_app, pair_in, pair_of, program, rank_rule, report_app, report_in, request_in, request_of, sends_named, sends_rule, several_rule, shown_status_of, verb_named, with_explain as and_explain, with_files as and_files, with_init as and_init, with_pair as and_pair, with_report as and_report};
 
+use clap::builder::ValueParser;
 use clap::error::ErrorKind;
 use clap::{Arg, ArgAction, ArgMatches, Command};
+use mpi_model::Sends;
 use std::alloc::{AllocError, Global};
 use thiserror::Error;
 
@@ -23,6 +26,8 @@ use thiserror::Error;
 pub enum Verb {
     /// Say in words who is stuck, which of them hold up all others, and what makes the answer doubtful.
     Explain,
+    /// Say in words what is known of one rank.
+    ExplainRank(u32),
     /// Draw for whom each stuck rank waits, as Graphviz DOT.
     Graph,
     /// Print the report of a trace.
@@ -41,12 +46,38 @@ pub enum Verb {
     Pack,
 }
 
-/// A verb with the names of its two files, as the words spell them.
-#[derive(Clone, Copy, Debug)]
-pub struct Asked<'a> {
-    pub verb: Verb,
+/// What `init` is to make of the texts.
+#[derive(Clone, Copy, Debug, PartialEq, Eq)]
+pub struct Wanted<'a> {
+    /// How sends complete in the layout.
+    pub sends: Sends,
+    /// The name of the file for the layout.
     pub layout: &'a str,
+    /// The name of the file for the manifest.
     pub manifest: &'a str,
+    /// Files of these names that are there may be written over.
+    pub force: bool,
+}
+
+/// What the words ask for, with the names of files as they spell them.
+#[derive(Debug, Drop)]
+pub enum Asked<'a> {
+    /// A verb over a layout and a manifest.
+    Pair {
+        verb: Verb,
+        layout: &'a str,
+        manifest: &'a str,
+    },
+    /// A verb over its files: a layout and a manifest, or the texts of all ranks.
+    Files {
+        verb: Verb,
+        files: Vec<&'a str>,
+    },
+    /// A layout and a manifest for the texts of all ranks.
+    Init {
+        texts: Vec<&'a str>,
+        wanted: Wanted<'a>,
+    },
 }
 
 /// Why the words ask for nothing.
@@ -57,8 +88,9 @@ pub enum CommandFault {
     /// A mistake, or a request for the help or the version: `clap` has the text and the status.
     #[error("{0}")]
     Shown(clap::Error),
-    /// The words passed, and no verb with its two files is among them. `clap` leaves no such words.
-    #[error("mpimatch: no verb with its two files\n")]
+    /// The words passed `clap` and ask for nothing: the word for sends is neither `wait` nor `buffer`.
+    /// `clap` leaves no others of that kind.
+    #[error("mpimatch: --sends is wait or buffer\n")]
     Unread,
 }
 
@@ -102,9 +134,10 @@ pub fn command_of<'a>(alloc: Global, words: &'a [&'a str]) -> Result<Asked<'a>, 
         Err(error) if error.kind() == ErrorKind::OutOfMemory => return Err(CommandFault::Memory),
         Err(error) => return Err(CommandFault::Shown(error)),
     };
-    match asked_in(&matches) {
-        Some(asked) => Ok(asked),
-        None => Err(CommandFault::Unread),
+    match asked_in(alloc, &matches) {
+        Ok(Some(asked)) => Ok(asked),
+        Ok(None) => Err(CommandFault::Unread),
+        Err(_) => Err(CommandFault::Memory),
     }
 }
 
@@ -116,6 +149,10 @@ first of those that hold up one another, the hearts of the deadlocks, and then o
 for them. Ranks that stand alike share a line. Below that it says what would be stuck if sends completed
 in the other way, which pieces disagree, where something is missing, and what else makes the answer
 doubtful. mpimatch report has all facts, one a line.
+
+With --rank it says what is known of one rank: how far it can be read, whether it is stuck and whom it
+waits for, and its last ten calls that can be read, with their times and where their messages went.
+  mpimatch explain --rank 2 layout.json manifest.json
 "#;
 
 // What the help of `graph` says below its arguments.
@@ -211,12 +248,31 @@ Two files one after another are one such file. A file that is refused gives a li
                                it tells of a rank that the layout doesn't have
 "#;
 
+// What the help of `init` says below its arguments.
+const INIT_HELP: &str = r#"Example: mpimatch init r0.txt r1.txt
+
+It reads the texts of all ranks and writes two files into the folder in which it runs:
+  layout.json      the ranks and the communicators that their calls make (mpimatch help: LAYOUT)
+  manifest.json    the texts, each as the piece of one rank from call 0 on (mpimatch help: MANIFEST)
+It writes both or none, and over a file that is there only with --force. It prints what it found: ranks,
+calls and communicators with their members, and what it left out, by the call that made it.
+The first text is that of rank 0, and so on; or the digits at each name's end are the rank, where every
+name has some and they are 0 to n-1, each once.
+To get the answer at once, give the texts to explain, graph, report or check in place of both files.
+"#;
+
 // What the help says below the verbs.
 const MORE_HELP: &str =
     r#"To see what is wrong: explain. A picture: graph. All facts: report. A check of the answer: check.
 Nodes that exchange what they know: replay, cluster. A trace in parts, on many machines: pack.
+A layout and a manifest from texts: init.
 
+Example: mpimatch explain r0.txt r1.txt
 Example: mpimatch explain layout.json manifest.json
+
+FILE... are a LAYOUT and a MANIFEST, or the texts of all ranks, rank 0 first, of which both are then
+made as init makes them, but not written. They are texts where a line of the first one, among its first
+4,096 bytes, begins with MPI_, as no line of JSON does. What comes through a pipe is not looked at.
 
 LAYOUT has the ranks and communicators of the run, in one JSON text:
   {"ranks":2,"world":2,"sends":"wait","comms":[{"id":2,"members":[0,1]}]}
@@ -245,49 +301,51 @@ Other lines name a rule of layouts, or a file and its line: docs/formats.md has 
 fn program_command<'a>(alloc: Global) -> Result<Command<'a>, AllocError>
     ensures { IfOk result (λ c. app_of c ≡ program) }
 {
-    let command = with_verb(
-        bare_command(alloc),
-        alloc,
-        "explain",
-        "Says in words who is stuck, and which ranks hold up all others",
-        EXPLAIN_HELP,
-    )?;
-    let command = with_verb(
-        command,
-        alloc,
-        "graph",
-        "Draws for whom each stuck rank waits, as a graph for Graphviz",
-        GRAPH_HELP,
-    )?;
-    let command = with_report(command, alloc)?;
-    let command = with_verb(
+    let command = answering_command(alloc)?;
+    let command = with_pair(
         command,
         alloc,
         "replay",
         "Runs a schedule of nodes that exchange what they know, and prints the report of each",
         REPLAY_HELP,
     )?;
-    let command = with_verb(
+    let command = with_pair(
         command,
         alloc,
         "cluster",
         "Reads the pieces of two nodes, which exchange what they know, and prints the report of each",
         CLUSTER_HELP,
     )?;
-    let command = with_verb(
+    let command = with_files(
         command,
         alloc,
         "check",
         "Makes pairs and stuck ranks once more straight from the rules, and prints whether they agree",
         CHECK_HELP,
     )?;
-    with_verb(
+    let command = with_pair(
         command,
         alloc,
         "pack",
         "Writes what the pieces tell together as bytes, which another run takes as a piece",
         PACK_HELP,
-    )
+    )?;
+    with_init(command, alloc)
+}
+
+/// The program with the verbs for who asks what happened.
+fn answering_command<'a>(alloc: Global) -> Result<Command<'a>, AllocError>
+    ensures { IfOk result (λ c. app_of c ≡ answering) }
+{
+    let command = with_explain(bare_command(alloc), alloc)?;
+    let command = with_files(
+        command,
+        alloc,
+        "graph",
+        "Draws for whom each stuck rank waits, as a graph for Graphviz",
+        GRAPH_HELP,
+    )?;
+    with_report(command, alloc)
 }
 
 /// The program without its verbs.
@@ -301,18 +359,63 @@ fn bare_command<'a>(alloc: Global) -> Command<'a>
         .subcommand_required(true)
 }
 
-/// Adds a verb with its two files.
-fn with_verb<'a>(
+/// Adds a verb with a layout and a manifest.
+fn with_pair<'a>(
     command: Command<'a>,
     alloc: Global,
     name: &'a str,
     about: &'a str,
     more: &'a str,
 ) -> Result<Command<'a>, AllocError>
-    ensures { IfOk result (λ c. app_of c ≡ and_verb (app_of command.entry) name.now) }
+    ensures { IfOk result (λ c. app_of c ≡ and_pair (app_of command.entry) name.now) }
 {
-    let verb = verb_command(alloc, name, about, more)?;
+    let verb = pair_command(alloc, name, about, more)?;
     command.subcommand(verb)
+}
+
+/// Adds a verb with its files.
+fn with_files<'a>(
+    command: Command<'a>,
+    alloc: Global,
+    name: &'a str,
+    about: &'a str,
+    more: &'a str,
+) -> Result<Command<'a>, AllocError>
+    ensures { IfOk result (λ c. app_of c ≡ and_files (app_of command.entry) name.now) }
+{
+    let verb = files_command(alloc, name, about, more)?;
+    command.subcommand(verb)
+}
+
+/// Adds `explain`, which has a flag.
+fn with_explain<'a>(command: Command<'a>, alloc: Global) -> Result<Command<'a>, AllocError>
+    ensures { IfOk result (λ c. app_of c ≡ and_explain (app_of command.entry)) }
+{
+    let explain = explain_command(alloc)?;
+    command.subcommand(explain)
+}
+
+fn explain_command<'a>(alloc: Global) -> Result<Command<'a>, AllocError>
+    ensures shape { IfOk result (λ c. app_of c ≡ explain_app) }
+    ensures local { IfOk result (λ c. (out-Command c).has_globals ≡ false) }
+{
+    let bare = files_command(
+        alloc,
+        "explain",
+        "Says in words who is stuck, and which ranks hold up all others",
+        EXPLAIN_HELP,
+    )?;
+    bare.arg(rank_argument(alloc))
+}
+
+fn rank_argument<'a>(alloc: Global) -> Arg<'a>
+    ensures rule { rule_of result ≡ rank_rule }
+    ensures local { result.global ≡ false }
+{
+    Arg::new(alloc, "rank")
+        .long("rank")
+        .help("Says what is known of this rank alone")
+        .value_parser(ValueParser::unsigned(0, 4294967295))
 }
 
 /// Adds `report`, which has a flag.
@@ -327,7 +430,7 @@ fn report_command<'a>(alloc: Global) -> Result<Command<'a>, AllocError>
     ensures shape { IfOk result (λ c. app_of c ≡ report_app) }
     ensures local { IfOk result (λ c. (out-Command c).has_globals ≡ false) }
 {
-    let bare = verb_command(
+    let bare = files_command(
         alloc,
         "report",
         "Prints who received what from whom, and which ranks are stuck",
@@ -346,13 +449,94 @@ fn json_argument<'a>(alloc: Global) -> Arg<'a>
         .action(ArgAction::SetTrue)
 }
 
-fn verb_command<'a>(
+/// Adds `init`.
+fn with_init<'a>(command: Command<'a>, alloc: Global) -> Result<Command<'a>, AllocError>
+    ensures { IfOk result (λ c. app_of c ≡ and_init (app_of command.entry)) }
+{
+    let init = init_command(alloc)?;
+    command.subcommand(init)
+}
+
+fn init_command<'a>(alloc: Global) -> Result<Command<'a>, AllocError>
+    ensures shape { IfOk result (λ c. app_of c ≡ init_app) }
+    ensures local { IfOk result (λ c. (out-Command c).has_globals ≡ false) }
+{
+    let named = several_argument(alloc, "TEXT", "The texts of all ranks, rank 0 first");
+    let texts = bare_init(alloc).arg(named)?;
+    let sends = texts.arg(sends_argument(alloc))?;
+    let layout = sends.arg(layout_argument(alloc))?;
+    let manifest = layout.arg(manifest_argument(alloc))?;
+    manifest.arg(force_argument(alloc))
+}
+
+fn bare_init<'a>(alloc: Global) -> Command<'a>
+    ensures shape { app_of result ≡ new_app (codes "init") }
+    ensures local { (out-Command result).has_globals ≡ false }
+{
+    Command::new(alloc, "init")
+        .about("Writes the layout and the manifest of a run, from the texts of all ranks")
+        .after_help(INIT_HELP)
+}
+
+fn sends_argument<'a>(alloc: Global) -> Arg<'a>
+    ensures rule { rule_of result ≡ sends_rule }
+    ensures local { result.global ≡ false }
+{
+    let help = "Says how a send of standard mode completes: wait or buffer";
+    option_argument(alloc, "sends", "WAY", "wait", help)
+}
+
+/// An option for a value, which it has also without it.
+fn option_argument<'a>(
+    alloc: Global,
+    id: &'a str,
+    value: &'a str,
+    default: &'a str,
+    help: &'a str,
+) -> Arg<'a>
+    ensures rule { rule_of result ≡ option_rule id.entry.now default.entry.now }
+    ensures local { result.global ≡ false }
+{
+    Arg::new(alloc, id)
+        .long(id)
+        .value_name(value)
+        .help(help)
+        .default_value(default)
+}
+
+fn layout_argument<'a>(alloc: Global) -> Arg<'a>
+    ensures rule { rule_of result ≡ layout_rule }
+    ensures local { result.global ≡ false }
+{
+    let help = "Names the file for the layout";
+    option_argument(alloc, "layout", "FILE", "layout.json", help)
+}
+
+fn manifest_argument<'a>(alloc: Global) -> Arg<'a>
+    ensures rule { rule_of result ≡ manifest_rule }
+    ensures local { result.global ≡ false }
+{
+    let help = "Names the file for the manifest";
+    option_argument(alloc, "manifest", "FILE", "manifest.json", help)
+}
+
+fn force_argument<'a>(alloc: Global) -> Arg<'a>
+    ensures rule { rule_of result ≡ force_rule }
+    ensures local { result.global ≡ false }
+{
+    Arg::new(alloc, "force")
+        .long("force")
+        .help("Writes over files of these names that are there")
+        .action(ArgAction::SetTrue)
+}
+
+fn pair_command<'a>(
     alloc: Global,
     name: &'a str,
     about: &'a str,
     more: &'a str,
 ) -> Result<Command<'a>, AllocError>
-    ensures shape { IfOk result (λ c. app_of c ≡ verb_app name.now) }
+    ensures shape { IfOk result (λ c. app_of c ≡ pair_app name.now) }
     ensures local { IfOk result (λ c. (out-Command c).has_globals ≡ false) }
 {
     let layout = file_argument(
@@ -372,11 +556,41 @@ fn verb_command<'a>(
         .arg(manifest)
 }
 
+fn files_command<'a>(
+    alloc: Global,
+    name: &'a str,
+    about: &'a str,
+    more: &'a str,
+) -> Result<Command<'a>, AllocError>
+    ensures shape { IfOk result (λ c. app_of c ≡ files_app name.now) }
+    ensures local { IfOk result (λ c. (out-Command c).has_globals ≡ false) }
+{
+    let files = several_argument(
+        alloc,
+        "FILE",
+        "A layout and a manifest (JSON), or the texts of all ranks, rank 0 first",
+    );
+    Command::new(alloc, name)
+        .about(about)
+        .after_help(more)
+        .arg(files)
+}
+
 fn file_argument<'a>(alloc: Global, name: &'a str, help: &'a str) -> Arg<'a>
     ensures rule { rule_of result ≡ file_rule name.entry.now }
     ensures local { result.global ≡ false }
 {
     Arg::new(alloc, name).help(help).required(true)
+}
+
+fn several_argument<'a>(alloc: Global, name: &'a str, help: &'a str) -> Arg<'a>
+    ensures rule { rule_of result ≡ several_rule name.entry.now }
+    ensures local { result.global ≡ false }
+{
+    Arg::new(alloc, name)
+        .help(help)
+        .required(true)
+        .action(ArgAction::Append)
 }
 
 fn verb_of(name: &str) -> Option<Verb>
@@ -401,13 +615,23 @@ fn verb_of(name: &str) -> Option<Verb>
     }
 }
 
-/// The verb, where its flag is set or not.
-fn in_form(verb: Verb, json: Option<&str>) -> Verb
-    ensures { result ≡ in_form verb (option_map (λ t. t.now) json.entry) }
+/// The verb with its flag, where that is set; none where a rank is no number, which `clap` has seen to.
+fn in_form(verb: Verb, json: Option<&str>, rank: Option<&str>) -> Option<Verb>
+    ensures { result ≡ in_form verb (option_map (λ t. t.now) json.entry) (option_map (λ t. t.now) rank.entry) }
 {
-    match (verb, json) {
-        (Verb::Report, Some(text)) => report_in(text),
-        (verb, _) => verb,
+    match (verb, json, rank) {
+        (Verb::Explain, _, Some(text)) => explain_in(text),
+        (Verb::Report, Some(text), _) => Some(report_in(text)),
+        (verb, _, _) => Some(verb),
+    }
+}
+
+fn explain_in(text: &str) -> Option<Verb>
+    ensures { result ≡ explain_in text.now }
+{
+    match text.parse::<u32>() {
+        Ok(rank) => Some(Verb::ExplainRank(rank)),
+        Err(_) => None,
     }
 }
 
@@ -421,17 +645,130 @@ fn report_in(flag: &str) -> Verb
     }
 }
 
-fn asked_in<'a>(matches: &ArgMatches<'a>) -> Option<Asked<'a>>
-    ensures { option_map request_of result ≡ request_in (subcommand_rows_of matches.now) }
+/// The verb of a name in the form that its flags give it.
+fn form_in(name: &str, inner: &ArgMatches<'_>) -> Option<Verb>
+    ensures { result ≡ form_in name.now (rows_of (found_of inner.now)) }
 {
-    let (name, inner) = matches.subcommand()?;
     let verb = verb_of(name)?;
-    let layout = inner.get_str("LAYOUT")?;
-    let manifest = inner.get_str("MANIFEST")?;
     let json = inner.get_str("json");
-    Some(Asked {
-        verb: in_form(verb, json),
-        layout,
-        manifest,
-    })
+    let rank = inner.get_str("rank");
+    in_form(verb, json, rank)
+}
+
+fn pair_of<'a>(verb: Verb, layout: Option<&'a str>, manifest: Option<&'a str>) -> Option<Asked<'a>>
+    ensures { option_map request_of result ≡ pair_of verb (option_map (λ t. t.now) layout.entry) (option_map (λ t. t.now) manifest.entry) }
+{
+    match (layout, manifest) {
+        (Some(layout), Some(manifest)) => Some(Asked::Pair {
+            verb,
+            layout,
+            manifest,
+        }),
+        _ => None,
+    }
+}
+
+fn pair_in<'a>(verb: Verb, inner: &ArgMatches<'a>) -> Option<Asked<'a>>
+    ensures { option_map request_of result ≡ pair_in verb (rows_of (found_of inner.now)) }
+{
+    let layout = inner.get_str("LAYOUT");
+    let manifest = inner.get_str("MANIFEST");
+    pair_of(verb, layout, manifest)
+}
+
+/// A verb over its files, or over its layout and its manifest.
+fn files_in<'a>(
+    alloc: Global,
+    verb: Verb,
+    inner: &ArgMatches<'a>,
+) -> Result<Option<Asked<'a>>, AllocError>
+    ensures { IfOk result (λ asked. option_map request_of asked ≡ files_in verb (rows_of (found_of inner.now))) }
+{
+    match inner.get_strs("FILE") {
+        Some(names) => {
+            let files = Vec::from_slice(alloc, names)?;
+            Ok(Some(Asked::Files { verb, files }))
+        }
+        None => Ok(pair_in(verb, inner)),
+    }
+}
+
+fn sends_of(word: &str) -> Option<Sends>
+    ensures { result ≡ sends_named word.now }
+{
+    if word == "wait" {
+        Some(Sends::Wait)
+    } else if word == "buffer" {
+        Some(Sends::Buffer)
+    } else {
+        None
+    }
+}
+
+fn named_sends(word: Option<&str>) -> Option<Sends>
+    ensures { result ≡ option_and_then sends_named (option_map (λ t. t.now) word.entry) }
+{
+    match word {
+        Some(word) => sends_of(word),
+        None => None,
+    }
+}
+
+/// What `init` is to make, where each of its options has a value; `clap` gives each one.
+fn wanted_of<'a>(
+    sends: Option<Sends>,
+    layout: Option<&'a str>,
+    manifest: Option<&'a str>,
+    force: Option<&str>,
+) -> Option<Wanted<'a>>
+    ensures { option_map wish_of result ≡ wanted_of sends (option_map (λ t. t.now) layout.entry) (option_map (λ t. t.now) manifest.entry) (option_map (λ t. t.now) force.entry) }
+{
+    match (sends, layout, manifest, force) {
+        (Some(sends), Some(layout), Some(manifest), Some(force)) => Some(Wanted {
+            sends,
+            layout,
+            manifest,
+            force: force == "true",
+        }),
+        _ => None,
+    }
+}
+
+fn wanted_in<'a>(inner: &ArgMatches<'a>) -> Option<Wanted<'a>>
+    ensures { option_map wish_of result ≡ wish_in (rows_of (found_of inner.now)) }
+{
+    let word = inner.get_str("sends");
+    let sends = named_sends(word);
+    let layout = inner.get_str("layout");
+    let manifest = inner.get_str("manifest");
+    let force = inner.get_str("force");
+    wanted_of(sends, layout, manifest, force)
+}
+
+fn init_in<'a>(alloc: Global, inner: &ArgMatches<'a>) -> Result<Option<Asked<'a>>, AllocError>
+    ensures { IfOk result (λ asked. option_map request_of asked ≡ init_in (rows_of (found_of inner.now))) }
+{
+    let Some(wanted) = wanted_in(inner) else {
+        return Ok(None);
+    };
+    let Some(texts) = inner.get_strs("TEXT") else {
+        return Ok(None);
+    };
+    let texts = Vec::from_slice(alloc, texts)?;
+    Ok(Some(Asked::Init { texts, wanted }))
+}
+
+fn asked_in<'a>(alloc: Global, matches: &ArgMatches<'a>) -> Result<Option<Asked<'a>>, AllocError>
+    ensures { IfOk result (λ asked. option_map request_of asked ≡ request_in (subcommand_rows_of matches.now)) }
+{
+    let Some((name, inner)) = matches.subcommand() else {
+        return Ok(None);
+    };
+    if name == "init" {
+        return init_in(alloc, inner);
+    }
+    match form_in(name, inner) {
+        Some(verb) => files_in(alloc, verb, inner),
+        None => Ok(None),
+    }
 }

@@ -1,24 +1,27 @@
 -- How the program ends, outcome by outcome.
-use Rattle.std.proofs.Common.{◌≡◌, ◌⊎◌, ℕ, List, [], Option, Bool, true, false, Result, Ok, Err, IfErr, IfOk, OnOk, ap, sym, subst, refl, inl, inr, string_bytes}
+use Rattle.std.proofs.Common.{◌≡◌, ◌≢◌, ◌⊎◌, ◌∷◌, ℕ, List, [], Option, Bool, true, false, Result, Ok, Err, IfErr, IfOk, OnOk, ap, ap₂, arith, sym, subst, refl, inl, inr, length, map, slice_index_or, Bor, ◌∙◌, string_bytes}
 use Rattle.std.proofs.KnownBytes.{Keeps-refl}
+use Rattle.std.proofs.lemmas.List.{length-map}
 use Rattle.std.specs.Io.KnownBytes.{Appends, Keeps}
 use Rattle.clap.specs.Words.{Text}
 use Rattle.mpi_model.specs.Failures.{HasFailed}
-use Rattle.command_line.specs.Program.{Refuses, Request}
+use Rattle.command_line.specs.Program.{Refuses, files, pair}
 use Rattle.command_line.specs.declared.CommandFault.{CommandFault}
+use Rattle.command_line.specs.declared.Verb.{Verb}
 use Rattle.command_line.specs.declared.Verb.TheVariants.{Cluster}
-use Rattle.command_runs.specs.Endings.{Ask, IsEndedBy, IsEnding, IsEndingFor, Output, of_cluster}
+use Rattle.command_runs.specs.Endings.{Ask, AskOver, IsEndedBy, IsEnding, IsEndingFor, IsTurn, Output, strange_line}
 use Rattle.command_runs.specs.FaultLines.{fault_line_of}
 use Rattle.command_runs.specs.Verbs.{BreaksOff, IsOutputOf, RefusesVerb}
 use Rattle.command_runs.specs.declared.ending.Ending.{Ending}
+use Rattle.command_runs.specs.declared.ending.Turn.{Turn}
 use Rattle.command_runs.specs.declared.fault.RunFault.{RunFault}
 use Rattle.command_runs.specs.declared.fault.RunFault.TheVariants.{Memory, Write}
 
 -- what was asked for was written
-pub reported : (file : List ℕ → Option (List ℕ)) (words : List Text) (request : Request) (text errors : List ℕ) (old new : Output)
-    → Ask words request → IsOutputOf file request.verb request.layout request.manifest text → Appends old.bytes new.bytes text → errors ≡ []
+pub reported : (file : List ℕ → Option (List ℕ)) (words : List Text) (verb : Verb) (layout manifest : List ℕ) (text errors : List ℕ) (old new : Output)
+    → AskOver words verb layout manifest → IsOutputOf file verb layout manifest text → Appends old.bytes new.bytes text → errors ≡ []
     → IsEnding file words 0 errors old new
-reported file words request text errors old new ask is appends silent = inl (refl, (silent, inl (request, ask, text, is, appends)))
+reported file words verb layout manifest text errors old new ask is appends silent = inl (refl, (silent, inl (verb, layout, manifest, ask, text, is, appends)))
 
 -- memory was wanting before the words were read, and nothing was done
 pub wanting : (file : List ℕ → Option (List ℕ)) (words : List Text) (status : ℕ) (errors : List ℕ) (now : Output)
@@ -26,30 +29,30 @@ pub wanting : (file : List ℕ → Option (List ℕ)) (words : List Text) (statu
 wanting file words status errors now one line = inr (inl (one, (Memory, line, inr (Keeps-refl now.bytes, inl refl))))
 
 -- the run is refused, or its output could not be written
-pub not_reported : (file : List ℕ → Option (List ℕ)) (words : List Text) (request : Request) (fault : RunFault) (errors : List ℕ) (old new : Output)
-    → Ask words request → errors ≡ fault_line_of fault
-    → (fault ≡ Write) ⊎ RefusesVerb file request.verb request.layout request.manifest fault → (fault ≡ Write) ⊎ Keeps old.bytes new.bytes
+pub not_reported : (file : List ℕ → Option (List ℕ)) (words : List Text) (verb : Verb) (layout manifest : List ℕ) (fault : RunFault) (errors : List ℕ) (old new : Output)
+    → AskOver words verb layout manifest → errors ≡ fault_line_of fault
+    → (fault ≡ Write) ⊎ RefusesVerb file verb layout manifest fault → (fault ≡ Write) ⊎ Keeps old.bytes new.bytes
     → (fault ≡ Write → HasFailed old.failures new.failures) → IsEnding file words 1 errors old new
-not_reported file words request fault errors old new ask line (inl writing) kept failed = inr (inl (refl, (fault, line, inl (writing, failed writing))))
-not_reported file words request fault errors old new ask line (inr refused) (inl writing) failed = inr (inl (refl, (fault, line, inl (writing, failed writing))))
-not_reported file words request fault errors old new ask line (inr refused) (inr kept) failed = inr (inl (refl, (fault, line, inr (kept, inr (request, ask, refused)))))
+not_reported file words verb layout manifest fault errors old new ask line (inl writing) kept failed = inr (inl (refl, (fault, line, inl (writing, failed writing))))
+not_reported file words verb layout manifest fault errors old new ask line (inr refused) (inl writing) failed = inr (inl (refl, (fault, line, inl (writing, failed writing))))
+not_reported file words verb layout manifest fault errors old new ask line (inr refused) (inr kept) failed = inr (inl (refl, (fault, line, inr (kept, inr (verb, layout, manifest, ask, refused)))))
 
 -- the run of what the words ask for has answered
-pub ended : (file : List ℕ → Option (List ℕ)) (words : List Text) (request : Request) (ran : Result Bool RunFault) (status : ℕ) (errors : List ℕ) (old new : Output)
-    → Ask words request
-    → OnOk ran ((text : List ℕ) × IsOutputOf file request.verb request.layout request.manifest text × Appends old.bytes new.bytes text)
+pub ended : (file : List ℕ → Option (List ℕ)) (words : List Text) (verb : Verb) (layout manifest : List ℕ) (ran : Result Bool RunFault) (status : ℕ) (errors : List ℕ) (old new : Output)
+    → AskOver words verb layout manifest
+    → OnOk ran ((text : List ℕ) × IsOutputOf file verb layout manifest text × Appends old.bytes new.bytes text)
     → IfOk ran (λ held. held ≡ true)
-    → IfErr ran (λ fault. (fault ≡ Write) ⊎ RefusesVerb file request.verb request.layout request.manifest fault)
+    → IfErr ran (λ fault. (fault ≡ Write) ⊎ RefusesVerb file verb layout manifest fault)
     → IfErr ran (λ fault. (fault ≡ Write) ⊎ Keeps old.bytes new.bytes)
-    → (ran ≡ Err Write → BreaksOff file request.verb request.layout request.manifest old.bytes new.bytes old.failures new.failures)
+    → (ran ≡ Err Write → BreaksOff file verb layout manifest old.bytes new.bytes old.failures new.failures)
     → IsEndedBy ran status errors → IsEnding file words status errors old new
-ended file words request (Ok true) status errors old new ask output held refused nothing broken is =
+ended file words verb layout manifest (Ok true) status errors old new ask output held refused nothing broken is =
     subst (λ (s : ℕ). IsEnding file words s errors old new) (sym is.0)
-    (reported file words request output.0 errors old new ask output.1 output.2 is.1)
-ended file words request (Ok false) status errors old new ask output held refused nothing broken is = absurd (cc held)
-ended file words request (Err fault) status errors old new ask output held refused nothing broken is =
+    (reported file words verb layout manifest output.0 errors old new ask output.1 output.2 is.1)
+ended file words verb layout manifest (Ok false) status errors old new ask output held refused nothing broken is = absurd (cc held)
+ended file words verb layout manifest (Err fault) status errors old new ask output held refused nothing broken is =
     subst (λ (s : ℕ). IsEnding file words s errors old new) (sym is.0)
-    (not_reported file words request fault errors old new ask is.1 refused nothing (λ w. (broken (ap (λ (f : RunFault). Err f) w)).3))
+    (not_reported file words verb layout manifest fault errors old new ask is.1 refused nothing (λ w. (broken (ap (λ (f : RunFault). Err f) w)).3))
 
 -- the same of an answer after the run of a cluster
 pub ended_cluster : {E : Type 0} (file : List ℕ → Option (List ℕ)) (layout manifest : List ℕ) (ran : Result Bool RunFault) (ending : Result Ending E) (old new : Output)
@@ -59,9 +62,9 @@ pub ended_cluster : {E : Type 0} (file : List ℕ → Option (List ℕ)) (layout
     → IfErr ran (λ fault. (fault ≡ Write) ⊎ Keeps old.bytes new.bytes)
     → (ran ≡ Err Write → BreaksOff file Cluster layout manifest old.bytes new.bytes old.failures new.failures)
     → IfOk ending (λ e. IsEndedBy ran e.status (string_bytes e.errors))
-    → IfOk ending (λ e. (words : List Text) → Ask words (of_cluster layout manifest) → IsEnding file words e.status (string_bytes e.errors) old new)
+    → IfOk ending (λ e. (words : List Text) → AskOver words Cluster layout manifest → IsEnding file words e.status (string_bytes e.errors) old new)
 ended_cluster file layout manifest ran (Ok e) old new output held refused nothing broken is =
-    λ words ask. ended file words (of_cluster layout manifest) ran e.status (string_bytes e.errors) old new ask output held refused nothing broken is
+    λ words ask. ended file words Cluster layout manifest ran e.status (string_bytes e.errors) old new ask output held refused nothing broken is
 ended_cluster file layout manifest ran (Err error) old new output held refused nothing broken is = tt
 
 -- the words ask for nothing
@@ -70,4 +73,44 @@ pub unasked : (file : List ℕ → Option (List ℕ)) (words : List Text) (fault
 unasked file words fault status errors old new refused (inl h) = inl (h.0, (h.1, inr ((fault, refused, h.2), h.3)))
 unasked file words fault status errors old new refused (inr (inl h)) = inr (inl (h.0, (Write, h.1, inl (refl, h.2))))
 unasked file words fault status errors old new refused (inr (inr (inl h))) = inr (inl (h.0, (Memory, h.1, inr (h.2, inl refl))))
-unasked file words fault status errors old new refused (inr (inr (inr h))) = inr (inr (h.0, (fault, refused, h.1), h.2))
+unasked file words fault status errors old new refused (inr (inr (inr h))) = inr (inr (h.0, inl (fault, refused, h.1), h.2))
+
+-- two files that are no texts, as a layout and a manifest
+pub turned_pair : {E : Type 0} (file now : List ℕ → Option (List ℕ)) (verb : Verb) (layout manifest : List ℕ) (names : List Text) (turn : Result Turn E) (old new : Output)
+    → now ≡ file → names ≡ layout ∷ manifest ∷ []
+    → IfOk turn (λ t. (words : List Text) → AskOver words verb layout manifest → IsTurn now words t old new)
+    → IfOk turn (λ t. (words : List Text) → Ask words (files verb names) → IsTurn file words t old new)
+turned_pair file now verb layout manifest names (Ok t) old new same is h =
+    λ words ask. subst (λ (f : List ℕ → Option (List ℕ)). IsTurn f words t old new) same (h words (inr (subst (λ (l : List Text). Ask words (files verb l)) is ask)))
+turned_pair file now verb layout manifest names (Err error) old new same is h = tt
+
+-- files that are no texts, and not two
+pub strange : (file : List ℕ → Option (List ℕ)) (words : List Text) (verb : Verb) (names : List Text) (status : ℕ) (errors : List ℕ) (now : Output)
+    → Ask words (files verb names) → length names ≢ 2 → status ≡ 2 → errors ≡ strange_line names → IsEnding file words status errors now now
+strange file words verb names status errors now ask other two line = inr (inr (two, inr (names, ((verb, ask), other), line), Keeps-refl now.bytes))
+
+-- what a verb over a layout and a manifest came to, on words that name both
+pub turned : {E : Type 0} (file : List ℕ → Option (List ℕ)) (words : List Text) (verb : Verb) (layout manifest : List ℕ) (turn : Result Turn E) (old new : Output)
+    → Ask words (pair verb layout manifest)
+    → IfOk turn (λ t. (ws : List Text) → AskOver ws verb layout manifest → IsTurn file ws t old new)
+    → IfOk turn (λ t. IsTurn file words t old new)
+turned file words verb layout manifest (Ok t) old new ask h = h words (inl ask)
+turned file words verb layout manifest (Err error) old new ask h = tt
+
+-- and a verb over its files
+pub turned_files : {E : Type 0} (file : List ℕ → Option (List ℕ)) (words : List Text) (verb : Verb) (names : List Text) (turn : Result Turn E) (old new : Output)
+    → Ask words (files verb names)
+    → IfOk turn (λ t. (ws : List Text) → Ask ws (files verb names) → IsTurn file ws t old new)
+    → IfOk turn (λ t. IsTurn file words t old new)
+turned_files file words verb names (Ok t) old new ask h = h words ask
+turned_files file words verb names (Err error) old new ask h = tt
+
+pub two_names : (names : List (Bor Text)) (first second : Bor Text) → length names ≡ 2 → first ≡ slice_index_or names 0 first → second ≡ slice_index_or names 1 second
+    → map (λ n. n.now) names ≡ first.now ∷ second.now ∷ []
+two_names [] first second two f s = absurd (omega (arith, two))
+two_names (a ∷ []) first second two f s = absurd (omega (arith, two))
+two_names (a ∷ b ∷ []) first second two f s = ap₂ (λ (x y : Bor Text). x.now ∷ y.now ∷ []) (sym f) (sym s)
+two_names (a ∷ b ∷ c ∷ names) first second two f s = absurd (omega (arith, two))
+
+pub not_two : (names : List (Bor Text)) → length names ≢ 2 → length (map (λ n. n.now) names) ≢ 2
+not_two names other = λ two. other (sym (length-map names (λ n. n.now)) ∙ two)

@@ -4,6 +4,7 @@ pub mod Traces
 pub mod Segments
 pub mod Nodes
 pub mod Notes
+pub mod Looks
 pub mod Worlds
 pub mod Within
 pub mod Unpacking
@@ -11,6 +12,7 @@ pub mod AllTold
 pub mod Packing
 pub mod PackedShares
 pub mod Refusals
+pub mod OneRanks
 pub mod Reports
 pub mod Sharing
 pub mod GivenFacts

@@ -1,5 +1,5 @@
 -- Notes, one piece more, and places, one stuck call more.
-use Rattle.std.proofs.Common.{◌≡◌, ◌<◌, ◌+◌, ◌++◌, length, map, take, get_or, ◌∷◌, [], ℕ, List, Option, Some, None, ap, sym, refl, subst, ◌∙◌, append_assoc}
+use Rattle.std.proofs.Common.{◌≡◌, ◌<◌, ◌+◌, ◌++◌, length, map, take, get_or, ◌∷◌, [], ℕ, List, Option, Some, None, ap, inl, sym, refl, subst, ◌∙◌, append_assoc}
 use Rattle.std.specs.Prelude.{option_to_list}
 use Rattle.std.proofs.lemmas.List.{length-map, take_more}
 use Rattle.trace_node.specs.Answer.{Stopped}
@@ -7,7 +7,9 @@ use Rattle.trace_node.specs.Stopped.{stopped}
 use Rattle.trace_node.specs.declared.stuck.Stuck.{Stuck}
 use Rattle.input_files.specs.Manifests.{PieceParts}
 use Rattle.text_notes.specs.Lines.{IsLineOf}
+use Rattle.text_notes.specs.Skips.{IsFirstSkip, IsReadTo}
 use Rattle.text_notes.specs.Starts.{IsStartOf}
+use Rattle.text_notes.specs.declared.skips.Skips.{Skips}
 use Rattle.text_notes.specs.declared.start.Start.{Start}
 use Rattle.text_notes.specs.Noted.{TellsNotes, UnreadParts}
 use Rattle.text_notes.specs.Words.{NoteParts, PlaceParts}
@@ -60,3 +62,19 @@ start_told (Some bytes) left start told h = subst (λ (t : Option (List ℕ)). I
 pub line_told : (file left : Option (List ℕ)) (number : ℕ) (line : Option ℕ) → StandsAtFirst file left → IsLineOf left number line → IsLineOf file number line
 line_told None left number line told h = tt
 line_told (Some bytes) left number line told h = subst (λ (t : Option (List ℕ)). IsLineOf t number line) told h
+
+pub skips_told : (file left : Option (List ℕ)) (skips : Skips) → StandsAtFirst file left → IsFirstSkip left skips → IsFirstSkip file skips
+skips_told None left skips told h = record {
+  before = h.before;
+  after = h.after;
+  at = h.at;
+  next = h.next;
+  goes_on = h.goes_on;
+  read = inl (None, tt);
+  reads_on = inl (None, tt);
+  none = h.none;
+  some = h.some;
+  behind_is = h.behind_is;
+  last_is = h.last_is;
+}
+skips_told (Some bytes) left skips told h = subst (λ (t : Option (List ℕ)). IsFirstSkip t skips) told h

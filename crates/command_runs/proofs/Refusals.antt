@@ -45,7 +45,7 @@ node_is_not_writing file l manifest (inl e) = memory_is_not_writing e
 node_is_not_writing file l manifest (inr (inl h)) = input_is_not_writing RefusesManifest manifest (file manifest) h
 node_is_not_writing file l manifest (inr (inr h)) = named_is_not_writing file l.ranks h.0 h.2
 
-run_is_not_writing : (file : List ℕ → Option (List ℕ)) (layout manifest : List ℕ) → RefusesRun file layout manifest Write → ⊥
+pub run_is_not_writing : (file : List ℕ → Option (List ℕ)) (layout manifest : List ℕ) → RefusesRun file layout manifest Write → ⊥
 run_is_not_writing file layout manifest (inl e) = memory_is_not_writing e
 run_is_not_writing file layout manifest (inr (inl h)) = input_is_not_writing _ layout (file layout) h
 run_is_not_writing file layout manifest (inr (inr h)) = node_is_not_writing file h.0 manifest h.2

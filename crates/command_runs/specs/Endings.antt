@@ -1,12 +1,15 @@
 -- How the program ends: its status, what it wrote, and the line that it showed.
-use Rattle.std.specs.Prelude.{◌≡◌, ◌⊎◌, ℕ, Bool, true, false, List, [], Option, Some, Result, Ok, Err, string_bytes}
+use Rattle.std.specs.Prelude.{◌≡◌, ◌≢◌, ◌⊎◌, ◌∷◌, ◌++◌, ℕ, Bool, true, false, List, [], Option, Some, Result, Ok, Err, codes, length, map, string_bytes}
 use Rattle.std.specs.Io.KnownBytes.{Appends, Keeps}
 use Rattle.mpi_model.specs.Failures.{HasFailed}
 use Rattle.clap.specs.Words.{Text, subcommand_of}
-use Rattle.command_line.specs.Program.{Refuses, Request, program, request_in, status_of}
+use Rattle.command_line.specs.Program.{Refuses, Request, files, init, wish_of, pair, program, request_in, status_of}
 use Rattle.command_line.specs.declared.CommandFault.{CommandFault}
+use Rattle.command_line.specs.declared.Verb.{Verb}
 use Rattle.command_line.specs.declared.Verb.TheVariants as verbs
 use Rattle.command_runs.specs.FaultLines.{fault_line_of}
+use Rattle.command_runs.specs.FileNames.{shown_name}
+use Rattle.command_runs.specs.Looks.{BeginsAsText}
 use Rattle.command_runs.specs.Verbs.{IsOutputOf, RefusesVerb}
 use Rattle.command_runs.specs.declared.ending.Turn.{Turn}
 use Rattle.command_runs.specs.declared.ending.Turn.TheVariants as turns
@@ -17,18 +20,41 @@ use Rattle.command_runs.specs.declared.fault.RunFault.TheVariants.{Memory, Write
 abbrev pub Ask : List Text → Request → Type 0
 Ask words request = request_in (subcommand_of program words) ≡ Some request
 
+-- The words ask for a verb over this layout and this manifest: they name both as such, or as its two files.
+abbrev pub AskOver : List Text → Verb → Text → Text → Type 0
+AskOver words verb layout manifest = Ask words (pair verb layout manifest) ⊎ Ask words (files verb (layout ∷ manifest ∷ []))
+
+-- The first of these files begins as the text of a trace.
+abbrev pub BeginsWithText : (List ℕ → Option (List ℕ)) → List Text → Type 0
+BeginsWithText file [] = ⊥
+BeginsWithText file (first ∷ names) = BeginsAsText (file first)
+
+-- The words ask for a verb over files that are no layout and manifest: they aren't two.
+abbrev pub AskStrange : List Text → List Text → Type 0
+AskStrange words names = ((verb : Verb) × Ask words (files verb names)) × (length names ≢ 2)
+
+-- the name of the first of some files
+abbrev pub first_name : List Text → Text
+first_name [] = []
+first_name (first ∷ names) = first
+
+-- the line that is shown of them
+abbrev pub strange_line : List Text → List ℕ
+strange_line names = codes "mpimatch: " ++ shown_name (first_name names)
+    ++ codes " can't be read as a trace text: name the texts of all ranks, or a layout and a manifest\n"
+
 -- The words ask for nothing, for a cause with this status: 0 where they ask for the help or the version, 2 where they are mistaken.
 abbrev pub AskNothing : List Text → ℕ → Type 0
 AskNothing words status = (fault : CommandFault) × Refuses words fault × (status ≡ status_of fault)
 
 -- What the words ask for was written, whole.
 abbrev pub Reports : (List ℕ → Option (List ℕ)) → List Text → Option (List ℕ) → Option (List ℕ) → Type 0
-Reports file words old new = (request : Request) × Ask words request
-    × (text : List ℕ) × IsOutputOf file request.verb request.layout request.manifest text × Appends old new text
+Reports file words old new = (verb : Verb) × (layout manifest : Text) × AskOver words verb layout manifest
+    × (text : List ℕ) × IsOutputOf file verb layout manifest text × Appends old new text
 
 -- The run that the words ask for is refused for this.
 abbrev pub IsRefusedRun : (List ℕ → Option (List ℕ)) → List Text → RunFault → Type 0
-IsRefusedRun file words fault = (request : Request) × Ask words request × RefusesVerb file request.verb request.layout request.manifest fault
+IsRefusedRun file words fault = (verb : Verb) × (layout manifest : Text) × AskOver words verb layout manifest × RefusesVerb file verb layout manifest fault
 
 -- What the standard output holds, where it tells that, and how often a write to it has failed.
 pub record Output : Type 0 where
@@ -48,14 +74,18 @@ abbrev pub EndsRefused : (List ℕ → Option (List ℕ)) → List Text → List
 EndsRefused file words errors old new = (fault : RunFault) × (errors ≡ fault_line_of fault)
     × (((fault ≡ Write) × HasFailed old.failures new.failures) ⊎ (Keeps old.bytes new.bytes × ((fault ≡ Memory) ⊎ IsRefusedRun file words fault)))
 
+-- The words are mistaken: they ask for nothing, or for a verb over files that aren't what it takes, of which a line was shown.
+abbrev pub AreMistaken : List Text → List ℕ → Type 0
+AreMistaken words errors = AskNothing words 2 ⊎ ((names : List Text) × AskStrange words names × (errors ≡ strange_line names))
+
 -- Status 2: the words are mistaken, and nothing was written.
-abbrev pub EndsMistaken : List Text → ℕ → Output → Output → Type 0
-EndsMistaken words status old new = (status ≡ 2) × AskNothing words 2 × Keeps old.bytes new.bytes
+abbrev pub EndsMistaken : List Text → ℕ → List ℕ → Output → Output → Type 0
+EndsMistaken words status errors old new = (status ≡ 2) × AreMistaken words errors × Keeps old.bytes new.bytes
 
 -- The program ends with this status on these words, over these files.
 abbrev pub IsEnding : (List ℕ → Option (List ℕ)) → List Text → ℕ → List ℕ → Output → Output → Type 0
 IsEnding file words status errors old new = ((status ≡ 0) × EndsWell file words errors old new)
-    ⊎ (((status ≡ 1) × EndsRefused file words errors old new) ⊎ EndsMistaken words status old new)
+    ⊎ (((status ≡ 1) × EndsRefused file words errors old new) ⊎ EndsMistaken words status errors old new)
 
 -- The program ends so where the words ask for nothing for this cause: its text was written, or a write failed; or memory was wanting; or its text was shown.
 abbrev pub IsEndingFor : CommandFault → ℕ → List ℕ → Output → Output → Type 0
@@ -70,11 +100,10 @@ IsEndedBy (Ok true) status errors = (status ≡ 0) × (errors ≡ [])
 IsEndedBy (Ok false) status errors = (status ≡ 1) × (errors ≡ [])
 IsEndedBy (Err fault) status errors = (status ≡ 1) × (errors ≡ fault_line_of fault)
 
--- the request of a cluster of these two files
-abbrev pub of_cluster : List ℕ → List ℕ → Request
-of_cluster layout manifest = record { verb = verbs.Cluster; layout = layout; manifest = manifest }
-
--- The program has ended so on these words; or they ask for a cluster, and nothing was done.
+-- The program has ended so on these words; or nothing was done, and they ask for a cluster, for a verb over texts, of which the first begins as one, or for `init`.
 abbrev pub IsTurn : (List ℕ → Option (List ℕ)) → List Text → Turn → Output → Output → Type 0
 IsTurn file words (turns.Ended e) old new = IsEnding file words e.status (string_bytes e.errors) old new
-IsTurn file words (turns.Cluster layout manifest) old new = Ask words (of_cluster layout.now manifest.now) × (new ≡ old)
+IsTurn file words (turns.Cluster layout manifest) old new = AskOver words verbs.Cluster layout.now manifest.now × (new ≡ old)
+IsTurn file words (turns.Texts verb texts) old new = Ask words (files verb (map (λ t. t.now) texts.items))
+    × BeginsWithText file (map (λ t. t.now) texts.items) × (new ≡ old)
+IsTurn file words (turns.Init texts wanted) old new = Ask words (init (map (λ t. t.now) texts.items) (wish_of wanted)) × (new ≡ old)

@@ -6,8 +6,8 @@ use Rattle.mpi_model.specs.declared.layout.Sends.TheVariants.{Wait, Buffer}
 use Rattle.trace_know.specs.View.{View}
 use Rattle.trace_node.specs.Answer.{Answered, IsAnswer}
 use Rattle.trace_node.specs.Node.{Held, held}
-use Rattle.trace_explain.specs.Explained.{IsExplained}
-use Rattle.text_notes.specs.Words.{NoteParts, PlaceParts, most_shown, notes_text, places_text}
+use Rattle.trace_explain.specs.Explained.{IsExplained, unknown_in}
+use Rattle.text_notes.specs.Words.{NoteParts, PlaceParts, most_shown, notes_text, pieceless, pieceless_text, places_text}
 use Rattle.input_files.specs.Manifests.{ManifestParts}
 use Rattle.command_runs.specs.Inputs.{TellsLayout, TellsManifest}
 use Rattle.command_runs.specs.Known.{TellAll}
@@ -23,15 +23,15 @@ other_sends Buffer = Wait
 abbrev pub under_other : Parts → Parts
 under_other l = record l { sends = other_sends l.sends }
 
--- The text says what the answer to a view tells, beside the answer under the other kind of sends.
+-- The text says what the answer to a view tells, beside who is stuck under the other kind of sends.
 abbrev pub SaysAnswer : Parts → View → Answered → List ℕ → Type 0
-SaysAnswer l view answer text = (other : Answered) × IsAnswer (under_other l) view other × IsExplained l answer view other text
+SaysAnswer l view answer text = IsExplained l (under_other l) answer view text
 
--- The text says that, then what is noted of the texts that were read, and then where the first ten stuck calls stand in them.
+-- The text says that, then of which ranks nothing is known and no text was given, what is noted of the texts that were read, and then where the first ten stuck calls stand in them.
 abbrev pub IsTold : (List ℕ → Option (List ℕ)) → Parts → View → List NoteParts → List ℕ → Type 0
 IsTold file l view notes text = (answer : Answered) × (said : List ℕ) × (places : List PlaceParts)
     × IsAnswer l view answer × SaysAnswer l view answer said × ArePlacesOf file notes (take most_shown answer.stuck) places
-    × (text ≡ said ++ notes_text notes ++ places_text places (length answer.stuck - length places))
+    × (text ≡ said ++ pieceless_text (pieceless notes (unknown_in answer)) ++ notes_text notes ++ places_text places (length answer.stuck - length places))
 
 -- The node knows, for this layout, all that the pieces tell that the manifest names, and these are the notes of their texts.
 abbrev pub IsNotedNodeOf : (List ℕ → Option (List ℕ)) → Parts → List ℕ → Held → List NoteParts → Type 0

@@ -1,6 +1,7 @@
 pub mod Checks
 pub mod Explains
 pub mod Graphs
+pub mod OneRanks
 pub mod Clusters
 pub mod Endings
 pub mod FaultLines
@@ -8,6 +9,7 @@ pub mod FileNames
 pub mod Files
 pub mod Inputs
 pub mod Known
+pub mod Looks
 pub mod Nodes
 pub mod Notes
 pub mod Packed

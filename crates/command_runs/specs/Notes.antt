@@ -4,8 +4,10 @@ use Rattle.trace_node.specs.Answer.{Stopped}
 use Rattle.input_files.specs.Manifests.{PieceParts}
 use Rattle.text_notes.specs.Lines.{IsLineOf}
 use Rattle.text_notes.specs.Noted.{TellsNotes}
+use Rattle.text_notes.specs.Skips.{IsFirstSkip}
 use Rattle.text_notes.specs.Starts.{IsStartOf}
 use Rattle.text_notes.specs.Words.{NoteParts, PlaceParts, note_of}
+use Rattle.text_notes.specs.declared.skips.Skips.{Skips}
 use Rattle.text_notes.specs.declared.start.Start.{Start}
 use Rattle.command_runs.specs.FileNames.{shown_name}
 
@@ -16,6 +18,11 @@ abbrev pub BeginsSo : Option (List ℕ) → Option Start → Type 0
 BeginsSo text None = Unit {0}
 BeginsSo text (Some start) = IsStartOf text start
 
+-- the first line that was skipped stands where it was looked up
+abbrev pub SkipsSo : Option (List ℕ) → Option Skips → Type 0
+SkipsSo text None = Unit {0}
+SkipsSo text (Some skips) = IsFirstSkip text skips
+
 -- The note is that of the piece: of its rank and first call, under the name of its file, and what its text tells.
 pub record IsNoteOf (file : List ℕ → Option (List ℕ)) (piece : PieceParts) (note : NoteParts) : Type 0 where
   pub rank : note.rank ≡ piece.rank
@@ -24,6 +31,7 @@ pub record IsNoteOf (file : List ℕ → Option (List ℕ)) (piece : PieceParts)
   pub name : note.file ≡ shown_name piece.file
   pub told : TellsNotes (file piece.file) note.unread note.calls note.skipped
   pub start : BeginsSo (file piece.file) note.start
+  pub skips : SkipsSo (file piece.file) note.skips
 
 -- The notes are those of these pieces, in their order.
 abbrev pub AreNotesOf : (List ℕ → Option (List ℕ)) → List PieceParts → List NoteParts → Type 0

@@ -2,11 +2,12 @@
 use Rattle.std.specs.Prelude.{ℕ, List, Option}
 use Rattle.mpi_model.specs.Failures.{HasFailed}
 use Rattle.command_line.specs.declared.Verb.{Verb}
-use Rattle.command_line.specs.declared.Verb.TheVariants.{Explain, Graph, Report, ReportJson, Replay, Cluster, Check, Pack}
+use Rattle.command_line.specs.declared.Verb.TheVariants.{Explain, ExplainRank, Graph, Report, ReportJson, Replay, Cluster, Check, Pack}
 use Rattle.command_runs.specs.Checks.{IsCheckOf}
 use Rattle.command_runs.specs.Explains.{IsExplainOf}
 use Rattle.command_runs.specs.Graphs.{IsGraphOf}
 use Rattle.command_runs.specs.Clusters.{IsClusterOf, RefusesCluster}
+use Rattle.command_runs.specs.OneRanks.{IsRankExplainOf, RefusesRank}
 use Rattle.command_runs.specs.Packs.{IsPackOf, RefusesPack}
 use Rattle.command_runs.specs.Refusals.{RefusesRun}
 use Rattle.command_runs.specs.Replays.{AppendsFront, BeginsReplayOf, IsReplayOf, RefusesReplay}
@@ -16,6 +17,7 @@ use Rattle.command_runs.specs.declared.fault.RunFault.{RunFault}
 -- What a verb prints of these files, whole.
 abbrev pub IsOutputOf : (List ℕ → Option (List ℕ)) → Verb → List ℕ → List ℕ → List ℕ → Type 0
 IsOutputOf file Explain layout manifest text = IsExplainOf file layout manifest text
+IsOutputOf file (ExplainRank rank) layout manifest text = IsRankExplainOf rank file layout manifest text
 IsOutputOf file Graph layout manifest text = IsGraphOf file layout manifest text
 IsOutputOf file Report layout manifest text = IsReportOf file layout manifest text
 IsOutputOf file ReportJson layout manifest text = IsJsonOf file layout manifest text
@@ -27,6 +29,7 @@ IsOutputOf file Pack layout manifest text = IsPackOf file layout manifest text
 -- What a verb prints of these files begins so: the report, the first nodes of a replay, the text of a cluster, the lines of a check, or the bytes of a pack.
 abbrev pub BeginsOutputOf : (List ℕ → Option (List ℕ)) → Verb → List ℕ → List ℕ → List ℕ → Type 0
 BeginsOutputOf file Explain layout manifest text = IsExplainOf file layout manifest text
+BeginsOutputOf file (ExplainRank rank) layout manifest text = IsRankExplainOf rank file layout manifest text
 BeginsOutputOf file Graph layout manifest text = IsGraphOf file layout manifest text
 BeginsOutputOf file Report layout manifest text = IsReportOf file layout manifest text
 BeginsOutputOf file ReportJson layout manifest text = IsJsonOf file layout manifest text
@@ -43,6 +46,7 @@ BreaksOff file verb layout manifest old new before now = (text : List ℕ)
 -- Why a verb prints nothing of these files.
 abbrev pub RefusesVerb : (List ℕ → Option (List ℕ)) → Verb → List ℕ → List ℕ → RunFault → Type 0
 RefusesVerb file Explain layout manifest fault = RefusesRun file layout manifest fault
+RefusesVerb file (ExplainRank rank) layout manifest fault = RefusesRank rank file layout manifest fault
 RefusesVerb file Graph layout manifest fault = RefusesRun file layout manifest fault
 RefusesVerb file Report layout manifest fault = RefusesRun file layout manifest fault
 RefusesVerb file ReportJson layout manifest fault = RefusesRun file layout manifest fault

@@ -2,7 +2,7 @@
 
 ghost use Rattle.std.specs.Prelude.{◌≡◌, ◌↔◌, IsTrue, IfOk, IsErr};
 ghost use Rattle.trace_node.specs.Answer.{IsAnswer};
-ghost use Rattle.trace_node.specs.Node.{Held, IsWithin};
+ghost use Rattle.trace_node.specs.Node.{Held};
 
 use trace_know::Knowledge;
 use trace_node::{Answer, Node, Stale};
@@ -22,10 +22,6 @@ pub(crate) trait Answerer: Drop {
     /// All that its node knows.
     fn knowledge(&self) -> &Knowledge
         ensures { result.now ≡ (held self.now).know };
-
-    /// Tells that its node knows of ranks of the layout alone. It does nothing: it is for proofs.
-    fn known(&self)
-        ensures { IsWithin (held self.now).layout (held self.now).know };
 }
 
 impl<'a> Answerer for Node<'a> {
@@ -37,9 +33,5 @@ impl<'a> Answerer for Node<'a> {
 
     fn knowledge(&self) -> &Knowledge {
         self.know()
-    }
-
-    fn known(&self) {
-        Node::known(self)
     }
 }

@@ -1,16 +1,19 @@
 //! How the program ends: from words to a status and what standard error shows.
 
-ghost use Rattle.std.specs.Prelude.{◌≡◌, [], IfOk, List, map, string_bytes};
+ghost use Rattle.std.specs.Prelude.{◌≡◌, ◌≢◌, ◌∷◌, [], IfOk, IfSome, IsTrue, List, None, length, map, string_bytes};
 ghost use Rattle.clap.specs.Words.{Text};
-ghost use Rattle.command_runs.specs.Endings.{Ask, IsEndedBy, IsEnding, IsEndingFor, IsTurn, of_cluster, output_of};
+ghost use Rattle.command_line.specs.Program.{files as over_files};
+ghost use Rattle.command_runs.specs.Endings.{Ask, AskOver, BeginsWithText, IsEndedBy, IsEnding, IsEndingFor, IsTurn, first_name, output_of, strange_line};
 ghost use Rattle.command_runs.specs.FaultLines.{fault_line_of};
 
 use crate::cluster::run_cluster;
 use crate::fault::{RunFault, fault_line};
+use crate::file_name::FileName;
+use crate::first_look::begins_as_text;
 use crate::opener::Opener;
 use crate::run::run_with;
 use crate::watch::Watcher;
-use command_line::{CommandFault, Verb, command_of};
+use command_line::{Asked, CommandFault, Verb, Wanted, command_of};
 use mpi_model::{Write, write_all};
 use std::alloc::{AllocError, Global};
 use std::net::{Net, TcpListener, TcpStream};
@@ -30,12 +33,28 @@ pub enum Turn<'a> {
     /// Nothing: the program ends so.
     Ended(Ending),
     /// A cluster of these two files, for which [`ending_of_cluster`] takes threads and a socket.
-    Cluster { layout: &'a str, manifest: &'a str },
+    Cluster {
+        layout: &'a str,
+        manifest: &'a str,
+    },
+    /// A verb over the texts of all ranks, the first of which begins as one.
+    Texts {
+        verb: Verb,
+        texts: Vec<&'a str>,
+    },
+    /// A layout and a manifest for the texts of all ranks.
+    Init {
+        texts: Vec<&'a str>,
+        wanted: Wanted<'a>,
+    },
 }
 
 /// Does what the words ask for, the first being the program's name: 0 where the run was good or
 /// help or the version was asked for, 1 for a refused input, with its fault line, and 2 for a
-/// mistake in the words. A cluster is left to do.
+/// mistake in the words. What takes more than files is left to do: a cluster, and what is made of texts.
+///
+/// Where a verb takes a layout and a manifest or texts, its words are texts if the first file begins as
+/// one, and else a layout and a manifest if they are two, and else mistaken.
 pub fn ending_of<'a, O: Opener, V: Watcher, W: Write>(
     alloc: Global,
     words: &'a [&'a str],
@@ -50,12 +69,106 @@ pub fn ending_of<'a, O: Opener, V: Watcher, W: Write>(
         Err(CommandFault::Memory) => return Ok(Turn::Ended(refused(alloc, &RunFault::Memory)?)),
         Err(fault) => return Ok(Turn::Ended(shown(alloc, &fault, out)?)),
     };
-    let (layout, manifest) = (asked.layout, asked.manifest);
-    let ran = match asked.verb {
+    match asked {
+        Asked::Pair {
+            verb,
+            layout,
+            manifest,
+        } => turn_of_pair(alloc, verb, layout, manifest, files, watcher, out),
+        Asked::Files { verb, files: names } => {
+            turn_of_files(alloc, verb, names, files, watcher, out)
+        }
+        Asked::Init { texts, wanted } => Ok(Turn::Init { texts, wanted }),
+    }
+}
+
+// Runs a verb over a layout and a manifest, or leaves a cluster of them to do.
+fn turn_of_pair<'a, O: Opener, V: Watcher, W: Write>(
+    alloc: Global,
+    verb: Verb,
+    layout: &'a str,
+    manifest: &'a str,
+    files: &mut O,
+    watcher: &mut V,
+    out: &mut W,
+) -> Result<Turn<'a>, AllocError>
+    ensures { IfOk result (λ turn. (words : List Text) → AskOver words verb layout.now manifest.now → IsTurn (O.file files.old) words turn (output_of (W.written out.old) (W.failures out.old)) (output_of (W.written out.new) (W.failures out.new))) }
+{
+    let ran = match verb {
         Verb::Cluster => return Ok(Turn::Cluster { layout, manifest }),
         verb => run_with(alloc, verb, layout, manifest, files, watcher, out),
     };
     Ok(Turn::Ended(ending_after(alloc, ran)?))
+}
+
+// A verb over its files: texts, or a layout and a manifest.
+#[tactic(auto, using(crate::proofs::Endings::turned_pair))]
+fn turn_of_files<'a, O: Opener, V: Watcher, W: Write>(
+    alloc: Global,
+    verb: Verb,
+    names: Vec<&'a str>,
+    files: &mut O,
+    watcher: &mut V,
+    out: &mut W,
+) -> Result<Turn<'a>, AllocError>
+    ensures { IfOk result (λ turn. (words : List Text) → Ask words (over_files verb (map (λ n. n.now) names.entry.items)) → IsTurn (O.file files.old) words turn (output_of (W.written out.old) (W.failures out.old)) (output_of (W.written out.new) (W.failures out.new))) }
+{
+    if are_texts(names.as_slice(), files) {
+        return Ok(Turn::Texts { verb, texts: names });
+    }
+    match two_of(names.as_slice()) {
+        Some((layout, manifest)) => {
+            turn_of_pair(alloc, verb, layout, manifest, files, watcher, out)
+        }
+        None => Ok(Turn::Ended(strange_files(alloc, names.as_slice())?)),
+    }
+}
+
+// The names, where they are two.
+#[tactic(auto, using(crate::proofs::Endings::two_names, crate::proofs::Endings::not_two))]
+fn two_of<'a>(names: &[&'a str]) -> Option<(&'a str, &'a str)>
+    ensures two { IfSome result (λ both. map (λ n. n.now) names.now ≡ both.0.now ∷ both.1.now ∷ []) }
+    ensures other { result ≡ None → length (map (λ n. n.now) names.now) ≢ 2 }
+{
+    if names.len() == 2 {
+        Some((names[0], names[1]))
+    } else {
+        None
+    }
+}
+
+// Whether the names are those of texts: the first one tells it.
+fn are_texts<O: Opener>(names: &[&str], files: &mut O) -> bool
+    ensures told { IsTrue result → BeginsWithText (O.file files.old) (map (λ n. n.now) names.now) }
+    ensures same { O.file files.new ≡ O.file files.old }
+{
+    match names {
+        [first, ..] => begins_as_text(first, files),
+        [] => false,
+    }
+}
+
+fn first_name<'a>(names: &[&'a str]) -> &'a str
+    ensures { result.now ≡ first_name (map (λ n. n.now) names.now) }
+{
+    match names {
+        [first, ..] => *first,
+        [] => "",
+    }
+}
+
+// The words are mistaken: these files are no layout and manifest, and no texts.
+fn strange_files(alloc: Global, names: &[&str]) -> Result<Ending, AllocError>
+    ensures status { IfOk result (λ e. e.status ≡ 2) }
+    ensures errors { IfOk result (λ e. string_bytes e.errors ≡ strange_line (map (λ n. n.now) names.now)) }
+{
+    let first = FileName::new(first_name(names));
+    Ok(Ending {
+        status: 2,
+        errors: format!(in alloc;
+            "mpimatch: {first} can't be read as a trace text: name the texts of all ranks, or a layout and a manifest\n"
+        )?,
+    })
 }
 
 /// Runs the cluster that the words ask for.
@@ -71,14 +184,14 @@ pub fn ending_of_cluster<
     files: &mut O,
     out: &mut W,
 ) -> Result<Ending, AllocError>
-    ensures { IfOk result (λ e. (words : List Text) → Ask words (of_cluster layout.now manifest.now) → IsEnding (O.file files.old) words e.status (string_bytes e.errors) (output_of (W.written out.old) (W.failures out.old)) (output_of (W.written out.new) (W.failures out.new))) }
+    ensures { IfOk result (λ e. (words : List Text) → AskOver words Verb.Cluster layout.now manifest.now → IsEnding (O.file files.old) words e.status (string_bytes e.errors) (output_of (W.written out.old) (W.failures out.old)) (output_of (W.written out.new) (W.failures out.new))) }
 {
     let ran = run_cluster(rt, alloc, layout, manifest, files, out);
     ending_after(alloc, ran)
 }
 
-// The ending after such a run.
-fn ending_after(alloc: Global, ran: Result<bool, RunFault>) -> Result<Ending, AllocError>
+/// The ending after such a run.
+pub fn ending_after(alloc: Global, ran: Result<bool, RunFault>) -> Result<Ending, AllocError>
     ensures { IfOk result (λ e. IsEndedBy ran e.status (string_bytes e.errors)) }
 {
     match ran {

@@ -1,12 +1,9 @@
-//! An answer in words, beside the one under the other kind of sends.
+//! An answer in words, with who would be stuck under the other kind of sends.
 
 ghost use Rattle.std.specs.Prelude.{◌≡◌, ◌⊎◌, ◌++◌, ℕ, false, true, IfErr, IfOk, List, OnOk, take};
 ghost use Rattle.std.specs.Io.KnownBytes.{Appends, Keeps};
 ghost use Rattle.dumpi_text.specs.Failing.{Fails};
-ghost use Rattle.trace_node.specs.Answer.{Answered, IsAnswer};
-ghost use Rattle.trace_node.specs.Node.{IsWithin, held};
-ghost use Rattle.trace_explain.specs.Explained.{IsExplained};
-ghost use Rattle.text_notes.specs.Words.{most_shown, notes_text, places_text};
+ghost use Rattle.text_notes.specs.Words.{most_shown, notes_text, pieceless, pieceless_text, places_text};
 ghost use Rattle.command_runs.specs.Explains.{IsExplainOf, IsNotedNodeOf, IsTold, other_sends, under_other};
 ghost use Rattle.command_runs.specs.Files.{NamesFailed, NamesUnreadable};
 ghost use Rattle.command_runs.specs.Refusals.{RefusesNode, RefusesRun};
@@ -27,10 +24,9 @@ use call_words::Text;
 use command_line::Verb;
 use mpi_model::{Layout, Sends, Write};
 use std::alloc::{AllocError, Global};
-use text_notes::{CallPlace, MOST_SHOWN, TextNote, put_notes, put_places};
-use trace_explain::explain;
-use trace_know::Knowledge;
-use trace_node::{Answer, Node, NodeFault, Stuck};
+use text_notes::{CallPlace, MOST_SHOWN, TextNote, put_notes, put_pieceless, put_places};
+use trace_explain::{explain, unknown_ranks};
+use trace_node::{Node, NodeFault, Stuck};
 
 /// Writes in words what the files tell.
 pub(crate) fn explain_with<O: Opener, V: Watcher, W: Write>(
@@ -145,8 +141,8 @@ fn other_sends(sends: Sends) -> Sends
     }
 }
 
-// What a node tells, in words, beside what one of the other layout would tell, with what is noted of the texts. It lets
-// go of the node.
+// What a node tells, in words, with who would be stuck under the other layout, and with what is noted of the texts. It
+// lets go of the node.
 fn explained<N: Answerer, O: Opener>(
     alloc: Global,
     layout: &Layout,
@@ -164,29 +160,32 @@ fn explained<N: Answerer, O: Opener>(
     let Ok(answer) = node.told() else {
         unreachable!()
     };
-    node.known();
-    let said = said_beside(alloc, layout, other, answer, node.knowledge())?;
+    let said = explain(alloc, layout, other, answer, node.knowledge())?;
+    let unknown = unknown_ranks(alloc, answer)?;
     let places = match places_of(alloc, shown_first(answer.stuck()), notes, files) {
         Ok(places) => places,
         Err(fault) => return Err(fault),
     };
     let more = answer.stuck().len().saturating_sub(places.len());
-    let text = text_of(alloc, &said, notes, &places, more)?;
+    let text = text_of(alloc, &said, &unknown, notes, &places, more)?;
     Ok(text)
 }
 
-// What was said, with what is noted of the texts and where stuck calls stand in them.
+// What was said, with which of the ranks of which nothing is known have no text, what is noted of the texts, and where
+// stuck calls stand in them.
 fn text_of(
     alloc: Global,
     said: &[u8],
+    unknown: &[u32],
     notes: &[TextNote],
     places: &[CallPlace],
     more: usize,
 ) -> Result<Vec<u8>, AllocError>
-    ensures { IfOk result (λ text. text.items ≡ said.now ++ notes_text notes.now ++ places_text places.now more) }
+    ensures { IfOk result (λ text. text.items ≡ said.now ++ pieceless_text (pieceless notes.now unknown.now) ++ notes_text notes.now ++ places_text places.now more) }
 {
     let mut text = Text::new(alloc);
     text.put(said);
+    put_pieceless(alloc, &mut text, notes, unknown);
     put_notes(alloc, &mut text, notes);
     put_places(&mut text, places, more);
     text.into_bytes()
@@ -197,55 +196,4 @@ fn shown_first(stuck: &[Stuck]) -> &[Stuck]
     ensures { result.now ≡ take most_shown stuck.now }
 {
     &stuck[..stuck.len().min(MOST_SHOWN)]
-}
-
-// What an answer tells, in words, beside the answer of a node of the other layout that knows the same.
-fn said_beside(
-    alloc: Global,
-    layout: &Layout,
-    other: &Layout,
-    answer: &Answer,
-    know: &Knowledge,
-) -> Result<Vec<u8>, AllocError>
-    requires { IsWithin other.now know.now }
-    ensures { IfOk result (λ text. (told : Answered) × IsAnswer other.now know.now told × IsExplained layout.now answer.now know.now told text.items) }
-{
-    let second = node_under(alloc, other, know)?;
-    explained_beside(alloc, layout, answer, know, second)
-}
-
-// What an answer tells, in words, beside the answer of a node, which it lets go of.
-fn explained_beside<N: Answerer>(
-    alloc: Global,
-    layout: &Layout,
-    answer: &Answer,
-    know: &Knowledge,
-    second: N,
-) -> Result<Vec<u8>, AllocError>
-    requires fresh { (N.held second).is_stale ≡ false }
-    ensures { IfOk result (λ text. (other : Answered) × IsAnswer (N.held second).layout (N.held second).know other × IsExplained layout.now answer.now know.now other text.items) }
-{
-    let Ok(other) = second.told() else {
-        unreachable!()
-    };
-    explain(alloc, layout, answer, know, other)
-}
-
-// A node of the layout that knows the same.
-fn node_under<'a>(
-    alloc: Global,
-    layout: &'a Layout,
-    know: &Knowledge,
-) -> Result<Node<'a>, AllocError>
-    requires { IsWithin layout.now know.now }
-    ensures { IfOk result (λ node. node ≡ held layout.now know.now false) }
-{
-    let copy = know.try_clone()?;
-    match Node::of(alloc, layout, copy) {
-        Ok(node) => Ok(node),
-        Err(NodeFault::Memory) => Err(AllocError),
-        // (what is known is of ranks of the layout, and a new node isn't stale)
-        Err(NodeFault::Rank) => unreachable!(),
-        Err(NodeFault::Stale) => unreachable!(),
-    }
 }

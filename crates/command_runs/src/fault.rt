@@ -70,7 +70,8 @@ pub enum RunFault {
     Rank {
         path: String,
     },
-    /// A piece has calls of a rank that the layout doesn't have, where it isn't told which piece.
+    /// A rank that the layout doesn't have: of the calls of a piece, where it isn't told which piece, or the one that was
+    /// asked for.
     Outside,
     /// A replay has 1 to 64 nodes.
     NodeCount,
@@ -181,7 +182,8 @@ impl fmt::Display for RunFault {
     }
 }
 
-fn name_of_layout(fault: LayoutFault) -> &'static str
+/// What a line calls a rule of layouts that is broken.
+pub fn name_of_layout(fault: LayoutFault) -> &'static str
     ensures { result.now ≡ layout_fault_name fault }
 {
     match fault {

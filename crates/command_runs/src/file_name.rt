@@ -8,14 +8,14 @@ use std::fmt;
 /// A file's name as a line shows it: as it stands, but for control characters, which are written as
 /// Rust escapes them. So a name is part of one line, and nothing of it is an order to a terminal.
 #[derive(Clone, Copy, Debug)]
-pub(crate) struct FileName<'a> {
+pub struct FileName<'a> {
     name: &'a str,
 }
 
 impl<'a> FileName<'a> {
     ghost use Rattle.std.specs.Prelude.{◌≡◌};
 
-    pub(crate) fn new(name: &'a str) -> Self
+    pub fn new(name: &'a str) -> Self
         ensures { result.name.now ≡ name.now }
     {
         FileName { name }

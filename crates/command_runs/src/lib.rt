@@ -27,12 +27,14 @@
 //! - [`answerer`]: a node as those know it who write what it tells; [`check`]: the lines of a check;
 //!   [`graph`]: as a picture; [`json`]: a report as JSON; [`pack`]: what is known, as frames
 //! - [`explain`]: an answer in words, over pieces that were read with notes of their texts ([`noted`]), with the places of
-//!   its stuck calls ([`places`]), for which a text is opened a second time ([`second_look`])
+//!   its stuck calls ([`places`]), for which a text is opened a second time ([`second_look`]);
+//!   [`one_rank`]: what is known of one rank
 //! - [`shares`]: what the packed files of each node of a cluster tell; [`texts`]: the texts; [`cluster`]: its run, and the
 //!   reports of both nodes
 //! - [`run`]: a verb over its files; [`fault`]: why it is refused, and the line that says so, in which
 //!   [`file_name`] shows names of files
-//! - [`ending`]: from words to a status and what standard error shows
+//! - [`ending`]: from words to a status and what standard error shows; [`first_look`]: whether a file begins as the text
+//!   of a trace
 //!
 //! Its tests are in `tests/cases/` and `tests/inputs.txt`, which the built program runs;
 //! `crates/command_runs_tests` has what only files in memory show.
@@ -45,6 +47,7 @@ mod ending;
 mod explain;
 mod fault;
 mod file_name;
+mod first_look;
 mod gatherer;
 mod graph;
 mod input;
@@ -53,6 +56,7 @@ mod knowing;
 mod known;
 mod laws;
 mod noted;
+mod one_rank;
 mod opener;
 mod pack;
 mod packed;
@@ -71,8 +75,9 @@ mod watched;
 mod whole;
 
 pub use cluster::run_cluster;
-pub use ending::{Ending, Turn, ending_of, ending_of_cluster, ending_without_words};
-pub use fault::{RunFault, fault_line};
+pub use ending::{Ending, Turn, ending_after, ending_of, ending_of_cluster, ending_without_words};
+pub use fault::{RunFault, fault_line, name_of_layout};
+pub use file_name::FileName;
 pub use laws::packed_laws;
 pub use opener::{Disk, OpenFault, Opener};
 pub use run::run_with;

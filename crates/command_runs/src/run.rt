@@ -22,6 +22,7 @@ use crate::graph::graph_with;
 use crate::input::layout_at;
 use crate::json::json_with;
 use crate::known::known_with;
+use crate::one_rank::explain_rank_with;
 use crate::opener::Opener;
 use crate::pack::pack_with;
 use crate::replay::replay_with;
@@ -56,6 +57,9 @@ pub fn run_with<O: Opener, V: Watcher, W: Write>(
 {
     match verb {
         Verb::Explain => explain_with(alloc, layout, manifest, files, watcher, out),
+        Verb::ExplainRank(rank) => {
+            explain_rank_with(alloc, rank, layout, manifest, files, watcher, out)
+        }
         Verb::Graph => graph_with(alloc, layout, manifest, files, watcher, out),
         Verb::Report => report_with(alloc, layout, manifest, files, watcher, out),
         Verb::ReportJson => json_with(alloc, layout, manifest, files, watcher, out),

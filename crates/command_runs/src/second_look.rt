@@ -1,18 +1,20 @@
-//! A second look at a text that was read: at its first bytes, or for the line of one of its calls.
+//! A second look at a text that was read: at its first bytes, for the line of one of its calls, or for the first line that
+//! was skipped.
 
 ghost use Rattle.std.specs.Prelude.{◌≡◌, IfErr, IfOk, IfSome, Some};
 ghost use Rattle.command_runs.specs.Files.{StandsAtFirst};
 ghost use Rattle.text_notes.specs.Lines.{IsLineOf};
+ghost use Rattle.text_notes.specs.Skips.{IsFirstSkip};
 ghost use Rattle.text_notes.specs.Starts.{IsStartOf};
 
 use crate::fault::RunFault;
 use crate::opener::Opener;
 use dumpi_text::TextFault;
 use std::alloc::Global;
-use text_notes::{Start, line_of_call, start_of};
+use text_notes::{Skips, Start, line_of_call, skips_of, start_of};
 
 // A file is opened a second time only where it has a length: what came through a pipe is gone.
-fn reopened<O: Opener>(path: &str, files: &mut O) -> Option<O::R>
+pub(crate) fn reopened<O: Opener>(path: &str, files: &mut O) -> Option<O::R>
     ensures told { IfSome result (λ reader. StandsAtFirst (O.file files.old path.now) (O.R.left reader)) }
     ensures same { O.file files.new ≡ O.file files.old }
 {
@@ -55,6 +57,27 @@ pub(crate) fn line_at<O: Opener>(
     };
     match line_of_call(alloc, reader, number) {
         Ok(line) => Ok(line),
+        Err(TextFault::Memory) => Err(RunFault::Memory),
+        Err(_) => Ok(None),
+    }
+}
+
+#[tactic(auto, using(crate::proofs::Notes::skips_told))]
+/// Where the first line of a text stands that was skipped, where it can be looked up.
+pub(crate) fn skips_at<O: Opener>(
+    alloc: Global,
+    path: &str,
+    files: &mut O,
+) -> Result<Option<Skips>, RunFault>
+    ensures told { IfOk result (λ found. IfSome found (IsFirstSkip (O.file files.old path.now))) }
+    ensures err { IfErr result (λ fault. fault ≡ RunFault.Memory) }
+    ensures same { O.file files.new ≡ O.file files.old }
+{
+    let Some(reader) = reopened(path, files) else {
+        return Ok(None);
+    };
+    match skips_of(alloc, reader) {
+        Ok(skips) => Ok(skips),
         Err(TextFault::Memory) => Err(RunFault::Memory),
         Err(_) => Ok(None),
     }

@@ -2,7 +2,7 @@
 use Rattle.std.proofs.Common.{◌≡◌, ◌<◌, ◌≤◌, ◌+◌, ℕ, zero, suc, List, [], ◌∷◌, ◌++◌, Result, Ok, Err, OnOk, take, get_or, length, map, refl, sym, subst, ◌∙◌, ap, arith, append_assoc, append-nil}
 use Rattle.std.specs.List.{flat_map}
 use Rattle.std.proofs.lemmas.Grind.{flat_map-append}
-use Rattle.json.specs.Json.{Json, item}
+use Rattle.json.specs.Json.{Json}
 use Rattle.json.specs.Token.{Token, begin_array, end_array}
 use Rattle.json.specs.Tree.{items_tokens, json_tokens}
 use Rattle.json.specs.Written.{Writes, Written}

@@ -6,12 +6,17 @@
 //! - [`values`]: numbers, lists and the line that a value makes
 //! - [`numbers`]: by which numbers the members of a communicator name it
 //! - [`layout`], [`manifest`]: the two files
+//! - [`store`]: where both are kept; [`folder`]: as files of the system
 #![tactic(auto)]
 
+mod folder;
 mod layout;
 mod manifest;
 mod numbers;
+mod store;
 mod values;
 
+pub use folder::Folder;
 pub use layout::layout_bytes;
 pub use manifest::manifest_bytes;
+pub use store::{NewFile, PutFault, Store, StoreFault, Which, add_both, replace_both};

@@ -1,11 +1,13 @@
 //! mpimatch: who received what from whom, and which ranks are stuck, by the trace texts of an MPI run.
 //!
 //! The program hands its words, the files of the system and standard output to `command_runs`, and to
-//! a cluster also the threads and sockets of the system, and ends with the status that comes of them.
-//! `crates/command_runs` has the rest.
+//! a cluster also the threads and sockets of the system, what is made of texts to `init_runs`, and ends
+//! with the status that comes of them. `crates/command_runs` and `crates/init_runs` have the rest.
 #![tactic(auto)]
 
 use command_runs::{Disk, Terminal, Turn, ending_of, ending_of_cluster, ending_without_words};
+use init_runs::{ending_of_init, ending_of_texts};
+use layout_files::Folder;
 use mpi_model::Device;
 use std::alloc::AllocError;
 use std::io::{self, IsTerminal};
@@ -36,6 +38,14 @@ fn main(rt: HostRuntime) -> ExitCode {
                 Ok(Turn::Ended(ending)) => Ok(ending),
                 Ok(Turn::Cluster { layout, manifest }) => {
                     ending_of_cluster(&rt, alloc, layout, manifest, &mut files, &mut out)
+                }
+                Ok(Turn::Texts { verb, texts }) => {
+                    let texts = texts.as_slice();
+                    ending_of_texts(&rt, alloc, verb, texts, &mut files, &mut watcher, &mut out)
+                }
+                Ok(Turn::Init { texts, wanted }) => {
+                    let (texts, mut folder) = (texts.as_slice(), Folder::new(&rt));
+                    ending_of_init(alloc, texts, wanted, &mut files, &mut folder, &mut out)
                 }
                 Err(error) => Err(error),
             }

@@ -7,3 +7,4 @@ pub mod NotedMore
 pub mod Walking
 pub mod Reading
 pub mod Said
+pub mod Skipping

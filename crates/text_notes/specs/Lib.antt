@@ -1,6 +1,7 @@
 pub mod Noted
 pub mod Places
 pub mod Lines
+pub mod Skips
 pub mod Starts
 pub mod Words
 pub mod Whole

@@ -1,16 +1,18 @@
 -- What is said of the texts that were read.
-use Rattle.std.specs.Prelude.{◌-◌, ◌&&◌, ◌||◌, ◌==◌, ℕ, zero, suc, Bool, true, false, List, [], ◌∷◌, ◌++◌, length, codes, decimal, filter, take, nat_le, nat_lt, is_some, Option, Some, None, if◌then◌else◌}
-use Rattle.std.specs.List.{flat_map}
+use Rattle.std.specs.Prelude.{◌-◌, ◌&&◌, ◌||◌, ◌==◌, ℕ, zero, suc, Bool, true, false, not, List, [], ◌∷◌, ◌++◌, length, codes, decimal, filter, take, nat_le, nat_lt, is_some, Option, Some, None, if◌then◌else◌}
+use Rattle.std.specs.List.{flat_map, list_any}
+use Rattle.call_words.specs.Ranges.{named_ranks_text}
 use Rattle.text_notes.specs.Noted.{UnreadParts, counted, sum_of}
 use Rattle.text_notes.specs.Places.{first_where, place_of}
+use Rattle.text_notes.specs.declared.skips.Skips.{Skips}
 use Rattle.text_notes.specs.declared.start.Start.{Start}
 use Rattle.text_notes.specs.declared.start.Start.TheVariants.{Empty, Gzip, Utf16, Binary, Lines}
 use Rattle.text_notes.specs.declared.words.Kind.{Kind}
 use Rattle.text_notes.specs.declared.words.Kind.TheVariants.{Unread, Callless, Skipped}
 
 -- What was noted of the text of a piece: the piece's rank and first call, the name of its file and how a line shows it, how
--- many calls it has and how many lines were skipped, the functions of its calls that aren't read, and, where it was looked at,
--- what a text without calls is taken for.
+-- many calls it has and how many lines were skipped, the functions of its calls that aren't read, and, where it was looked at
+-- again, what a text without calls is taken for, and where the first line stands that was skipped.
 pub record NoteParts : Type 0 where
   pub rank : ℕ
   pub first : ℕ
@@ -20,6 +22,7 @@ pub record NoteParts : Type 0 where
   pub skipped : ℕ
   pub unread : List UnreadParts
   pub start : Option Start
+  pub skips : Option Skips
 
 -- how many of a kind are shown
 abbrev pub most_shown : ℕ
@@ -89,6 +92,26 @@ totals_text (f ∷ functions) others =
 abbrev pub functions_text : Totals → List ℕ
 functions_text t = totals_text t.functions t.others
 
+-- ---- ranks of which nothing is known
+
+abbrev pub is_of_rank : ℕ → NoteParts → Bool
+is_of_rank rank note = note.rank == rank
+
+abbrev pub has_no_text : List NoteParts → ℕ → Bool
+has_no_text notes rank = not (list_any (is_of_rank rank) notes)
+
+-- those that have no text
+abbrev pub pieceless : List NoteParts → List ℕ → List ℕ
+pieceless notes unknown = filter (has_no_text notes) unknown
+
+-- `  no piece tells anything of ranks 3, 5`
+abbrev pub these_pieceless_text : List ℕ → List ℕ
+these_pieceless_text ranks = codes "  no piece tells anything of " ++ named_ranks_text ranks ++ codes "\n"
+
+abbrev pub pieceless_text : List ℕ → List ℕ
+pieceless_text [] = []
+pieceless_text (r ∷ ranks) = these_pieceless_text (r ∷ ranks)
+
 -- ---- text by text
 
 -- `  rank 0, call 17: MPI_Start is not read (r0.txt)`, of the first such call
@@ -112,8 +135,20 @@ start_text (Some start) = guess_text start
 abbrev pub callless_text : NoteParts → List ℕ
 callless_text note = codes "  " ++ note.file ++ start_text note.start
 
+-- `, the first of them in lines 9 to 16`
+abbrev pub several_text : ℕ → ℕ → List ℕ
+several_text first last = codes ", the first of them in lines " ++ decimal first ++ codes " to " ++ decimal last
+
+-- `, the first of them line 9`, where no other line stands between
+abbrev pub between_text : ℕ → ℕ → List ℕ
+between_text first last = if first == last then codes ", the first of them line " ++ decimal last else several_text first last
+
+abbrev pub skips_text : Option Skips → List ℕ
+skips_text None = []
+skips_text (Some skips) = between_text (sum_of skips.behind 1) skips.last
+
 abbrev pub skipped_text : NoteParts → List ℕ
-skipped_text note = codes "  lines of " ++ note.file ++ codes " that were skipped: " ++ decimal note.skipped ++ codes "\n"
+skipped_text note = codes "  lines of " ++ note.file ++ codes " that were skipped: " ++ decimal note.skipped ++ skips_text note.skips ++ codes "\n"
 
 -- whether there is something of a kind to say of a text
 abbrev pub has_unread : List UnreadParts → Bool

@@ -14,7 +14,7 @@ use std::alloc::Global;
 
 // the next call of the text, put in the place of the one before: whether there is one
 #[tactic(auto, using(crate::proofs::Reading::stops))]
-fn next_of<R: Read>(texts: &mut Texts<R>, raw: &mut RawCall) -> Result<bool, TextFault>
+pub(crate) fn next_of<R: Read>(texts: &mut Texts<R>, raw: &mut RawCall) -> Result<bool, TextFault>
     ensures goes_on { (text : Option (List ℕ)) (calls : List TextCall) → IsRead text calls texts.old → IfOk result (λ found. Follows text calls (put_in found raw.new) texts.new) }
     ensures stops { (text : Option (List ℕ)) (calls : List TextCall) → IsRead text calls texts.old → IfErr result (λ fault. RefusesNext text calls fault texts.new.told.line) }
     ensures failed { IfErr result (λ fault. IsReadFault fault → Fails R.failures) }

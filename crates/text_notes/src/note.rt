@@ -4,6 +4,7 @@ ghost use Rattle.std.specs.Prelude.{◌≡◌, ◌<◌, IfSome, length, string_b
 ghost use Rattle.text_notes.specs.Words.{has_call, note_of};
 
 use crate::function::UnreadFunction;
+use crate::skips::Skips;
 use crate::start::Start;
 use std::marker::Model;
 
@@ -18,6 +19,7 @@ pub struct TextNote {
     skipped: u64,
     unread: Vec<UnreadFunction>,
     start: Option<Start>,
+    skips: Option<Skips>,
 }
 
 impl Model for TextNote {
@@ -26,25 +28,26 @@ impl Model for TextNote {
 
     ghost Value = { NoteParts };
 
-    ghost view = { λ n. record { rank = n.rank; first = n.first; path = string_bytes n.path; file = n.file.items; calls = n.calls; skipped = n.skipped; unread = n.unread.items; start = n.start } };
+    ghost view = { λ n. record { rank = n.rank; first = n.first; path = string_bytes n.path; file = n.file.items; calls = n.calls; skipped = n.skipped; unread = n.unread.items; start = n.start; skips = n.skips } };
 }
 
 impl TextNote {
     /// The note of a text: the rank and the first call of its piece, the name of its file and how a line for a person shows
     /// it, how many calls it has and how many of its lines were skipped, the functions of its calls that are not read, and,
-    /// where it was looked at, what it is taken for.
+    /// where it was looked at again, what it is taken for and where the first line stands that was skipped.
     pub fn new(
         piece: (u32, u64),
         path: String,
         file: Vec<u8>,
         counts: (u64, u64),
         unread: Vec<UnreadFunction>,
-        start: Option<Start>,
+        looks: (Option<Start>, Option<Skips>),
     ) -> TextNote
-        ensures { result ≡ record { rank = piece.0; first = piece.1; path = string_bytes path; file = file.items; calls = counts.0; skipped = counts.1; unread = unread.items; start = start } }
+        ensures { result ≡ record { rank = piece.0; first = piece.1; path = string_bytes path; file = file.items; calls = counts.0; skipped = counts.1; unread = unread.items; start = looks.0; skips = looks.1 } }
     {
         let (rank, first) = piece;
         let (calls, skipped) = counts;
+        let (start, skips) = looks;
         TextNote {
             rank,
             first,
@@ -54,6 +57,7 @@ impl TextNote {
             skipped,
             unread,
             start,
+            skips,
         }
     }
 
@@ -111,6 +115,13 @@ impl TextNote {
         ensures { result ≡ self.now.start }
     {
         self.start
+    }
+
+    /// Where the first of its lines stands that was skipped, where that was looked at.
+    pub fn skips(&self) -> Option<Skips>
+        ensures { result ≡ self.now.skips }
+    {
+        self.skips
     }
 
     fn has_call(&self, rank: u32, call: u64) -> bool

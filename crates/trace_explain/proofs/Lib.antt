@@ -16,3 +16,4 @@ pub mod Matching
 pub mod Several
 pub mod Counted
 pub mod Picked
+pub mod SameOps

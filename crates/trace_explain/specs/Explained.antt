@@ -10,7 +10,7 @@ use Rattle.trace_ops.specs.Ops.{Ops}
 use Rattle.trace_ops.specs.RankOps.{all_ops}
 use Rattle.trace_ops.specs.declared.state.State.{State}
 use Rattle.trace_ops.specs.declared.state.State.TheVariants.{Ended, Free, Waiting}
-use Rattle.trace_node.specs.Answer.{Answered}
+use Rattle.trace_node.specs.Answer.{Answered, AreStuck, Stopped, states_of, waits_of}
 use Rattle.call_words.specs.Ranges.{named_ranks_text, ranges_text}
 use Rattle.trace_explain.specs.Hearts.{AreHearts}
 use Rattle.trace_explain.specs.Lacking.{lacking_text}
@@ -65,8 +65,9 @@ outcome_text sends n (r ∷ ranks) = others_text (r ∷ ranks)
 abbrev pub sends_text : Sends → ℕ → List ℕ → List ℕ
 sends_text sends n ranks = case_text sends ++ outcome_text sends n ranks
 
-abbrev pub stuck_ranks : Answered → List ℕ
-stuck_ranks a = map (λ s. s.rank) a.stuck
+-- the ranks that are stuck under a layout, of what is known
+abbrev pub AreStuckUnder : Parts → View → List ℕ → Type 0
+AreStuckUnder layout view ranks = AreStuck (states_of (all_ops layout view)) (waits_of layout (all_ops layout view)) ranks
 
 -- What should make one doubt it
 
@@ -188,17 +189,21 @@ abbrev pub stuck_ranks_text : List Ops → Answered → View → List (Option �
 stuck_ranks_text ops a view hearts =
     head_text a ++ section_of ops a view hearts true ++ section_of ops a view hearts false
 
--- what is said of an answer, of what the ranks did, of what is known, of the hearts, and of the answer under the other
--- kind of sends
-abbrev pub explained_text : Parts → List Ops → Answered → View → List (Option ℕ) → Answered → List ℕ
-explained_text layout ops a view hearts other =
+-- what is said of an answer, of what the ranks did, of what is known, of the hearts, and of the ranks that are stuck
+-- under the other kind of sends
+abbrev pub explained_text : Parts → List Ops → Answered → View → List (Option ℕ) → List ℕ → List ℕ
+explained_text layout ops a view hearts others =
     stuck_ranks_text ops a view hearts
     ++ mismatches_text layout.comms ops (mismatched a.rounds)
     ++ left_over_text a view ops
-    ++ sends_text a.sends (length a.stuck) (stuck_ranks other)
+    ++ sends_text a.sends (length a.stuck) others
     ++ doubts_text layout a view
 
--- The text says so of the hearts.
-abbrev pub IsExplained : Parts → Answered → View → Answered → List ℕ → Type 0
-IsExplained layout a view other text =
-    (hearts : List (Option ℕ)) × AreHearts a.stuck hearts × (text ≡ explained_text layout (needed_ops layout a view) a view hearts other)
+-- The text says so of the hearts, and of the ranks that are stuck under the other layout.
+abbrev pub IsExplained : Parts → Parts → Answered → View → List ℕ → Type 0
+IsExplained layout other a view text = (hearts : List (Option ℕ)) × (others : List ℕ) × AreHearts a.stuck hearts × AreStuckUnder other view others
+    × (text ≡ explained_text layout (needed_ops layout a view) a view hearts others)
+
+-- Two layouts are one, but for their sends.
+abbrev pub DifferInSends : Parts → Parts → Type 0
+DifferInSends layout other = other ≡ record layout { sends = other.sends }

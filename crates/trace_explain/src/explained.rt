@@ -2,8 +2,9 @@
 
 ghost use Rattle.std.specs.Prelude.{◌≡◌, IfOk};
 ghost use Rattle.std.specs.List.{list_any};
+ghost use Rattle.trace_node.specs.Answer.{IsAnswer};
 ghost use Rattle.call_words.specs.Texts.{Adds};
-ghost use Rattle.trace_explain.specs.Explained.{IsExplained, head_of, is_waiting, needed_ops, needs_ops, section_of, stuck_ranks_text};
+ghost use Rattle.trace_explain.specs.Explained.{DifferInSends, IsExplained, head_of, is_waiting, needed_ops, needs_ops, section_of, stuck_ranks_text};
 ghost use Rattle.trace_explain.specs.Mismatches.{is_mismatched};
 
 use crate::doubts::put_doubts;
@@ -12,6 +13,7 @@ use crate::heart::hearts;
 use crate::left_text::put_left_over;
 use crate::line::lines_of;
 use crate::mismatch::{is_mismatched, put_mismatches};
+use crate::others::others_stuck;
 use crate::section::put_headed;
 use call_words::Text;
 use mpi_model::Layout;
@@ -23,24 +25,27 @@ use trace_wait::Round;
 
 /// Says in words what an answer tells: who is stuck, first those that hold up all others, in which call
 /// and for whom each waits, which collective calls don't match, which messages and receives are left
-/// over, and what should make one doubt it. `know` is what the answer is of for this layout, and `other`
-/// the answer to it under the other kind of sends.
+/// over, who would be stuck under the layout `other`, which differs in its sends alone, and what should make
+/// one doubt it. `know` is what the answer is of for this layout.
 pub fn explain(
     alloc: Global,
     layout: &Layout,
+    other: &Layout,
     answer: &Answer,
     know: &Knowledge,
-    other: &Answer,
 ) -> Result<Vec<u8>, AllocError>
-    ensures { IfOk result (λ text. IsExplained layout.now answer.now know.now other.now text.items) }
+    requires answer { IsAnswer layout.now know.now answer.now }
+    requires other { DifferInSends layout.now other.now }
+    ensures { IfOk result (λ text. IsExplained layout.now other.now answer.now know.now text.items) }
 {
     let hearts = hearts(alloc, answer.stuck())?;
     let ops = needed_ops(alloc, layout, answer, know)?;
+    let others = others_stuck(alloc, layout, other, answer, know, &ops)?;
     let mut text = Text::new(alloc);
     put_stuck_ranks(alloc, &mut text, &ops, answer, know, &hearts);
     put_mismatches(alloc, &mut text, layout, &ops, answer.rounds());
     put_left_over(alloc, &mut text, answer, know, &ops);
-    put_sends(alloc, &mut text, answer, other);
+    put_sends(&mut text, answer, &others);
     put_doubts(alloc, &mut text, layout, answer, know);
     text.into_bytes()
 }
@@ -67,7 +72,7 @@ fn has_mismatched(rounds: &[Round]) -> bool
     rounds.iter().any(|round| is_mismatched(round))
 }
 
-fn needs_ops(answer: &Answer) -> bool
+pub(crate) fn needs_ops(answer: &Answer) -> bool
     ensures { result ≡ needs_ops answer.now }
 {
     has_waiting(answer.states()) || has_mismatched(answer.rounds())

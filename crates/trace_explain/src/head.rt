@@ -1,13 +1,11 @@
 //! How it stands, and who would be stuck under the other kind of sends.
 
-ghost use Rattle.std.specs.Prelude.{◌≡◌, IfOk, length, map};
-ghost use Rattle.trace_node.specs.Stopped.{stopped};
+ghost use Rattle.std.specs.Prelude.{◌≡◌, length};
 ghost use Rattle.call_words.specs.Texts.{Adds};
-ghost use Rattle.trace_explain.specs.Explained.{case_text, count_of, head_text, is_state, none_text, others_text, outcome_text, sends_text, states_text, stuck_ranks, stuck_text};
+ghost use Rattle.trace_explain.specs.Explained.{case_text, count_of, head_text, is_state, none_text, others_text, outcome_text, sends_text, states_text, stuck_text};
 
 use call_words::{Text, put_ranges};
 use mpi_model::Sends;
-use std::alloc::{AllocError, Global};
 use trace_node::Answer;
 use trace_ops::State;
 
@@ -109,24 +107,11 @@ fn put_outcome(out: &mut Text, sends: Sends, stuck: usize, ranks: &[u32])
     }
 }
 
-fn stuck_ranks(alloc: Global, answer: &Answer) -> Result<Vec<u32>, AllocError>
-    ensures { IfOk result (λ ranks. ranks.items ≡ stuck_ranks answer.now) }
-{
-    let mut ranks = Vec::new(alloc);
-    for stuck in answer.stuck() {
-        ranks.push(stuck.rank)?;
-    }
-    Ok(ranks)
-}
-
 /// Who would be stuck under the other kind of sends.
-pub(crate) fn put_sends(alloc: Global, out: &mut Text, answer: &Answer, other: &Answer)
-    ensures { Adds out.old out.new (sends_text answer.now.sends (length answer.now.stuck) (stuck_ranks other.now)) }
+pub(crate) fn put_sends(out: &mut Text, answer: &Answer, others: &[u32])
+    ensures { Adds out.old out.new (sends_text answer.now.sends (length answer.now.stuck) others.now) }
 {
-    match stuck_ranks(alloc, other) {
-        Ok(ranks) => put_case_of(out, answer.sends(), answer.stuck().len(), &ranks),
-        Err(_) => out.give_up(),
-    }
+    put_case_of(out, answer.sends(), answer.stuck().len(), others);
 }
 
 fn put_case_of(out: &mut Text, sends: Sends, stuck: usize, ranks: &[u32])

@@ -23,8 +23,8 @@
 //!   are shown
 //! - [`left_over`]: messages without a receive and receives without a message, by [`names`] of calls and by
 //!   [`offers`] of messages; [`left_text`]: the same in words
-//! - [`head`]: how it stands, and under the other kind of sends; [`doubts`]: what makes it doubtful;
-//!   [`lacking`]: communicators that calls name and the layout doesn't have
+//! - [`head`]: how it stands, and under the other kind of sends, with who would be stuck then ([`others`]); [`doubts`]:
+//!   what makes it doubtful; [`lacking`]: communicators that calls name and the layout doesn't have
 //! - [`explained`]: the whole; [`one_rank`]: what is known of one rank
 //!
 //! Its words come from `call_words`. They cost what they say, and a comparison of each two stuck ranks.
@@ -46,6 +46,7 @@ mod mismatch;
 mod names;
 mod offers;
 mod one_rank;
+mod others;
 mod round;
 mod search;
 mod section;

@@ -1,5 +1,5 @@
-use Rattle.std.proofs.Common.{rules, ◌≡◌, ◌∙◌, ◌⊎◌, inl, inr, ap, sym, refl, subst, List, Option, None, Some, option_map, [], true}
-use Rattle.clap.specs.Words.{App, HasKind, HasMatchesOf, IsAmong, Kinds, Text, fault_of, is_simple_and_free, kind_of, subcommand_of, subcommand_rows_of}
+use Rattle.std.proofs.Common.{rules, ◌≡◌, ◌∙◌, inl, inr, ap, sym, refl, subst, List, None, Some, option_map, [], true}
+use Rattle.clap.specs.Words.{App, HasKind, HasMatchesOf, IsAmong, Text, fault_of, is_simple_and_free, kind_of, subcommand_of, subcommand_rows_of}
 use Rattle.clap.specs.declared.error.Error.{Error}
 use Rattle.clap.specs.declared.error.kind.ErrorKind.TheVariants as kinds
 use Rattle.clap.specs.declared.parser.matches.ArgMatches.{ArgMatches}
@@ -29,17 +29,17 @@ returns-in-Err-2-clause-refused c =
     let other : kind_of c.in-Err-try_get_matches_from.error ≡ kinds.OutOfMemory → ⊥ = λ e. search rules in
     among _ c.in-Ok.ensures _ c.in-Err-try_get_matches_from.error c.in-Err-try_get_matches_from.ensures.kinds other
 
-pub returns-in-Some-clause-asked : goal.returns-in-Some-clause-asked
-returns-in-Some-clause-asked c =
-    let asked : option_map request_of (Some c.in-Some.asked) ≡ request_in (subcommand_rows_of c.in-Ok-try_get_matches_from.matches) = search rules in
+pub returns-in-Ok-Some-clause-asked : goal.returns-in-Ok-Some-clause-asked
+returns-in-Ok-Some-clause-asked c =
+    let asked : option_map request_of (Some c.in-Ok-Some.asked) ≡ request_in (subcommand_rows_of c.in-Ok-try_get_matches_from.matches) = search rules in
     sym (ap request_in (meant _ c.in-Ok.ensures _ _ c.in-Ok-try_get_matches_from.ensures.matches)) ∙ sym asked
 
-pub returns-clause-refused : goal.returns-clause-refused
-returns-clause-refused c =
+pub returns-in-Ok-None-clause-refused : goal.returns-in-Ok-None-clause-refused
+returns-in-Ok-None-clause-refused c =
     let none : request_in (subcommand_rows_of c.in-Ok-try_get_matches_from.matches) ≡ None = search rules in (
       passed _ c.in-Ok.ensures _ c.in-Ok-try_get_matches_from.ensures.kinds,
       sym (ap request_in (meant _ c.in-Ok.ensures _ _ c.in-Ok-try_get_matches_from.ensures.matches)) ∙ none,
     )
 
-pub returns-in-Some-clause-taken : goal.returns-in-Some-clause-taken
-returns-in-Some-clause-taken c = passed _ c.in-Ok.ensures _ c.in-Ok-try_get_matches_from.ensures.kinds
+pub returns-in-Ok-Some-clause-taken : goal.returns-in-Ok-Some-clause-taken
+returns-in-Ok-Some-clause-taken c = passed _ c.in-Ok.ensures _ c.in-Ok-try_get_matches_from.ensures.kinds

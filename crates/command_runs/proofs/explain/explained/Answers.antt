@@ -1,12 +1,12 @@
-use Rattle.std.proofs.Common.{◌≡◌, ◌∙◌, ◌++◌, ◌-◌, ℕ, List, arith, ap, sym, subst, length, map, take}
+use Rattle.std.proofs.Common.{◌≡◌, ◌∙◌, refl, ◌++◌, ◌-◌, ℕ, List, arith, ap, sym, subst, length, map, take}
 use Rattle.std.proofs.lemmas.List.{take-map}
 use Rattle.mpi_model.specs.Layouts.{Parts}
 use Rattle.trace_know.specs.View.{View}
 use Rattle.trace_node.specs.Answer.{IsAnswer, Stopped}
 use Rattle.trace_node.specs.Stopped.{stopped}
 use Rattle.trace_node.specs.declared.stuck.Stuck.{Stuck}
-use Rattle.text_notes.specs.Words.{PlaceParts, most_shown, notes_text, places_text}
-use Rattle.trace_explain.specs.Explained.{IsExplained}
+use Rattle.text_notes.specs.Words.{PlaceParts, most_shown, notes_text, pieceless, pieceless_text, places_text}
+use Rattle.trace_explain.specs.Explained.{DifferInSends, IsExplained, unknown_in}
 use Rattle.command_runs.specs.Explains.{SaysAnswer, under_other}
 use Rattle.command_runs.specs.Notes.{ArePlacesOf}
 use Rattle.command_runs.proofs.Notes.{stopped_count}
@@ -18,13 +18,11 @@ returns g c =
     let file = g.O.Opener.file c.args.files.now in
     let answer = c.in-Ok.answer.now in
     let text = c.in_ok-said.said.items in
-    let say = c.in_ok-said.ensures in
-    let said : SaysAnswer h.layout h.know answer text = (
-      say.0,
-      subst (λ (v : View). IsAnswer (under_other h.layout) v say.0) c.knowledge.ensures (subst (λ (l : Parts). IsAnswer l c.knowledge.result.now say.0) c.requires.other say.1),
-      subst (λ (l : Parts). IsExplained l answer h.know say.0 text) c.requires.own
-          (subst (λ (v : View). IsExplained c.args.layout.now answer v say.0 text) c.knowledge.ensures say.2),
-    ) in
+    let other : c.args.other.now ≡ under_other h.layout = c.requires.other in
+    let said : SaysAnswer h.layout h.know answer text =
+    subst (λ (o : Parts). IsExplained h.layout o answer h.know text) other
+    (subst (λ (l : Parts). IsExplained l c.args.other.now answer h.know text) c.requires.own
+    (subst (λ (v : View). IsExplained c.args.layout.now c.args.other.now answer v text) c.knowledge.ensures c.in_ok-said.ensures)) in
     let notes = c.args.notes.now in
     let places = c.in-Ok-places_of.places.items in
     let first : map stopped c.shown_first.result.now ≡ take most_shown answer.stuck =
@@ -33,8 +31,12 @@ returns g c =
     subst (λ (l : List Stopped). ArePlacesOf file notes l places) first c.in-Ok-places_of.ensures.ok in
     let count : length c.stuck-2.result.now ≡ length answer.stuck = stopped_count c.stuck-2.result.now answer.stuck c.stuck-2.ensures in
     let more : c.saturating_sub-more.result ≡ length answer.stuck - length places = omega (arith, count, c.saturating_sub-more.ensures, c.len.ensures) in
-    let is : c.in_ok-text.text.items ≡ text ++ notes_text notes ++ places_text places (length answer.stuck - length places) =
-    c.in_ok-text.ensures ∙ ap (λ (l : List ℕ). l ++ notes_text notes ++ places_text c.deref-2.result.now c.saturating_sub-more.result) c.deref.ensures.value
-    ∙ ap (λ (l : List PlaceParts). text ++ notes_text notes ++ places_text l c.saturating_sub-more.result) c.deref-2.ensures.value
-    ∙ ap (λ (n : ℕ). text ++ notes_text notes ++ places_text places n) more in
+    let unknown = unknown_in answer in
+    let more_of = c.saturating_sub-more.result in
+    let is : c.in_ok-text.text.items ≡ text ++ pieceless_text (pieceless notes unknown) ++ notes_text notes ++ places_text places (length answer.stuck - length places) =
+    c.in_ok-text.ensures
+    ∙ ap (λ (l : List ℕ). l ++ pieceless_text (pieceless notes c.deref-2.result.now) ++ notes_text notes ++ places_text c.deref-3.result.now more_of) c.deref.ensures.value
+    ∙ ap (λ (u : List ℕ). text ++ pieceless_text (pieceless notes u) ++ notes_text notes ++ places_text c.deref-3.result.now more_of) (c.deref-2.ensures.value ∙ c.in_ok-unknown.ensures)
+    ∙ ap (λ (l : List PlaceParts). text ++ pieceless_text (pieceless notes unknown) ++ notes_text notes ++ places_text l more_of) c.deref-3.ensures.value
+    ∙ ap (λ (n : ℕ). text ++ pieceless_text (pieceless notes unknown) ++ notes_text notes ++ places_text places n) more in
     record { ok = (answer, text, places, c.in-Ok.ensures.ok, said, stand, is) }

@@ -3,6 +3,17 @@ use Rattle.std.specs.Io.KnownBytes.{Appends}
 use Rattle.command_runs.specs.Verbs.{BreaksOff, IsOutputOf}
 use Rattle.command_runs.proofs.run.run_with.Goals as goal
 
+pub returns-in-ExplainRank-clause-output : goal.returns-in-ExplainRank-clause-output
+returns-in-ExplainRank-clause-output g c =
+    subst (λ v. OnOk c.explain_rank_with.result ((text : List ℕ) × IsOutputOf (g.O.Opener.file c.args.files.now) v c.args.layout.now c.args.manifest.now text
+    × Appends (g.W.Write.written c.args.out.now) (g.W.Write.written c.explain_rank_with.new.out) text)) (sym c.in-ExplainRank.is) c.explain_rank_with.ensures.output
+
+pub returns-in-ExplainRank-clause-broken_off : goal.returns-in-ExplainRank-clause-broken_off
+returns-in-ExplainRank-clause-broken_off g c = λ e.
+    subst (λ v. BreaksOff (g.O.Opener.file c.args.files.now) v c.args.layout.now c.args.manifest.now (g.W.Write.written c.args.out.now)
+    (g.W.Write.written c.explain_rank_with.new.out) (g.W.Write.failures c.args.out.now) (g.W.Write.failures c.explain_rank_with.new.out)) (sym c.in-ExplainRank.is)
+    (c.explain_rank_with.ensures.broken_off e)
+
 pub returns-in-Graph-clause-output : goal.returns-in-Graph-clause-output
 returns-in-Graph-clause-output g c =
     subst (λ v. OnOk c.graph_with.result ((text : List ℕ) × IsOutputOf (g.O.Opener.file c.args.files.now) v c.args.layout.now c.args.manifest.now text

@@ -1,0 +1,203 @@
+-- Which calls of the profile name which communicators by their numbers. A number comes back once its communicator is freed
+-- (MPI 4.0, 7.4.3), so calls that name one number are told apart where a call between them gives or frees it.
+use Rattle.std.specs.Prelude.{◌≡◌, ◌≢◌, ◌<◌, ◌≤◌, ℕ, ◌+◌, ◌-◌, ◌^◌, ◌==◌, List, [], ◌∷◌, ◌++◌, Option, Some, None, Result, Ok, Err, codes, cond, count_by, is_some, min, slice_get, slice_set, if◌then◌else◌, Bool, false}
+use Rattle.std.specs.List.{range_with_len}
+use Rattle.std.specs.Option.{option_and_then}
+use Rattle.mpi_model.specs.declared.call.Call.{Call}
+use Rattle.mpi_model.specs.declared.call.Call.TheVariants as mpi
+use Rattle.mpi_model.specs.declared.envelope.CommRef.{CommRef}
+use Rattle.mpi_model.specs.declared.envelope.CommRef.TheVariants as comms
+use Rattle.dumpi_text.specs.Call.{TextCall}
+use Rattle.dumpi_calls.specs.Rows.{typed}
+use Rattle.dumpi_calls.specs.declared.parameter.CallFault.{CallFault}
+use Rattle.dumpi_calls.specs.declared.typing.TypedCall.{TypedCall}
+use Rattle.comm_makings.specs.Names.{number_given}
+use Rattle.comm_makings.specs.declared.calls.Action.{Action}
+use Rattle.comm_makings.specs.declared.calls.Action.TheVariants as actions
+use Rattle.comm_makings.specs.declared.calls.CommCall.{CommCall}
+use Rattle.comm_makings.specs.declared.calls.Uses.{Uses}
+use Rattle.comm_calls.specs.Actions.{made_of, other_of}
+use Rattle.comm_calls.specs.Functions.{function_of}
+use Rattle.comm_calls.specs.Numbers.{comm_in, given_in}
+use Rattle.comm_calls.specs.Parameters.{text_of}
+use Rattle.comm_calls.specs.declared.function.Function.{Function}
+use Rattle.comm_calls.specs.declared.function.Function.TheVariants as functions
+
+-- ---- what one call says
+
+-- The communicator that a call of the profile names: both sides of a Sendrecv name one (MPI 4.0, 3.10).
+abbrev pub comm_of : Call → Option CommRef
+comm_of (mpi.Send mode e) = Some e.comm
+comm_of (mpi.Isend mode e) = Some e.comm
+comm_of (mpi.Recv e) = Some e.comm
+comm_of (mpi.Irecv e) = Some e.comm
+comm_of (mpi.Sendrecv both) = Some both.send.comm
+comm_of (mpi.Collective c) = Some c.comm
+comm_of (mpi.Probe e) = Some e.comm
+comm_of (mpi.Ibarrier c) = Some c
+comm_of mpi.Local = None
+comm_of mpi.Finalize = None
+comm_of (mpi.Wait request) = None
+comm_of (mpi.Waitall requests) = None
+comm_of (mpi.Waitany requests) = None
+comm_of (mpi.Waitsome requests) = None
+comm_of (mpi.Test request) = None
+comm_of (mpi.Testall requests) = None
+comm_of (mpi.Testany requests) = None
+comm_of (mpi.Testsome requests) = None
+comm_of (mpi.Cancel request) = None
+comm_of (mpi.Free request) = None
+comm_of mpi.Unread = None
+
+-- its number; MPI_COMM_WORLD is named by no number
+abbrev pub number_of : CommRef → Option ℕ
+number_of comms.World = None
+number_of (comms.Id number) = Some number
+
+abbrev pub named_number : Call → Option ℕ
+named_number call = option_and_then number_of (comm_of call)
+
+-- the number that a call names; one on communicators is none of the profile
+abbrev pub named_by : TextCall → Call → Option ℕ
+named_by raw call = if is_some (function_of raw) then None else named_number call
+
+abbrev pub named_as : TextCall → Result TypedCall CallFault → Option ℕ
+named_as raw (Ok call) = named_by raw call.call
+named_as raw (Err fault) = None
+
+-- the same of a call by its text alone
+abbrev pub named_in : TextCall → Option ℕ
+named_in raw = named_as raw (typed raw)
+
+abbrev pub changed_of_action : Bool → Action → Option ℕ
+changed_of_action returned (actions.Make parent making given) = number_given returned given
+changed_of_action returned (actions.CommRank comm rank) = None
+changed_of_action returned (actions.Free comm) = comm
+changed_of_action returned (actions.Group group given) = None
+changed_of_action returned (actions.GivesComm given) = number_given returned given
+
+-- the number that a call on communicators gives or frees
+abbrev pub changed_of_call : CommCall → Option ℕ
+changed_of_call call = changed_of_action call.returned call.action
+
+-- the number that a call of such a function gives or frees: behind it the number means another communicator, or none
+abbrev pub changed_in : Function → TextCall → Option ℕ
+changed_in (functions.Make maker) raw = number_given (is_some raw.exit) (given_in (made_of maker raw))
+changed_in functions.Rank raw = None
+changed_in functions.Free raw = comm_in (text_of (codes "comm") raw)
+changed_in (functions.Group grouper) raw = None
+changed_in (functions.Give giver) raw = number_given (is_some raw.exit) (given_in (other_of giver raw))
+
+abbrev pub changed_of : TextCall → Option Function → Option ℕ
+changed_of raw None = None
+changed_of raw (Some function) = changed_in function raw
+
+-- the number that a call gives or frees
+abbrev pub changed_by : TextCall → Option ℕ
+changed_by raw = changed_of raw (function_of raw)
+
+-- ---- what all calls say
+
+-- the number that the call at a place names
+abbrev pub named_at : List TextCall → ℕ → Option ℕ
+named_at raws place = option_and_then named_in (slice_get raws place)
+
+-- the number that the call at a place gives or frees
+abbrev pub changed_at : List TextCall → ℕ → Option ℕ
+changed_at raws place = option_and_then changed_by (slice_get raws place)
+
+abbrev pub is_number : ℕ → Option ℕ → Bool
+is_number number None = false
+is_number number (Some named) = named == number
+
+-- how many of the calls from a place on, so many in all, name a number
+abbrev pub count_named : (ℕ → Option ℕ) → ℕ → ℕ → ℕ → ℕ
+count_named named number first many = count_by (λ place. is_number number (named place)) (range_with_len first many)
+
+-- Calls from the first to the last that name one number, and between which none gives or frees it; all that name it there
+-- are counted.
+pub record IsGroup (named changed : ℕ → Option ℕ) (group : Uses) : Type 0 where
+  pub first : named group.first ≡ Some group.number
+  pub last : named group.last ≡ Some group.number
+  pub order : group.first ≤ group.last
+  pub together : (place : ℕ) → group.first ≤ place → place ≤ group.last → changed place ≢ Some group.number
+  pub count : group.count ≡ count_named named group.number group.first (group.last + 1 - group.first)
+
+-- Between two groups of one number a call gives or frees it.
+pub record IsBetween (changed : ℕ → Option ℕ) (before after : Uses) : Type 0 where
+  pub place : ℕ
+  pub above : before.last < place
+  pub below : place < after.first
+  pub changes : changed place ≡ Some before.number
+
+-- The call at this place, which names this number, is one of a group's.
+pub record IsOneOf (groups : List Uses) (place number : ℕ) : Type 0 where
+  pub at : ℕ
+  pub group : Uses
+  pub is : slice_get groups at ≡ Some group
+  pub same : group.number ≡ number
+  pub from : group.first ≤ place
+  pub to : place ≤ group.last
+
+-- The groups of all calls that name numbers, in the order of their first calls.
+pub record AreUses (named changed : ℕ → Option ℕ) (groups : List Uses) : Type 0 where
+  pub each : (i : ℕ) (group : Uses) → slice_get groups i ≡ Some group → IsGroup named changed group
+  pub whole : (place number : ℕ) → named place ≡ Some number → IsOneOf groups place number
+  pub rising : (i j : ℕ) (before after : Uses) → i < j → slice_get groups i ≡ Some before → slice_get groups j ≡ Some after → before.first < after.first
+  pub apart : (i j : ℕ) (before after : Uses) → i < j → slice_get groups i ≡ Some before → slice_get groups j ≡ Some after → before.number ≡ after.number → IsBetween changed before after
+
+-- ---- call by call
+
+-- Behind the group's last call one gives or frees its number.
+pub record IsEnded (changed : ℕ → Option ℕ) (group : Uses) : Type 0 where
+  pub place : ℕ
+  pub above : group.last < place
+  pub changes : changed place ≡ Some group.number
+
+-- The group at this place goes on: from its first call on none gives or frees its number.
+pub record GoesOn (changed : ℕ → Option ℕ) (groups : List Uses) (number at : ℕ) : Type 0 where
+  pub group : Uses
+  pub is : slice_get groups at ≡ Some group
+  pub same : group.number ≡ number
+  pub still : (place : ℕ) → group.first ≤ place → changed place ≢ Some number
+
+-- which group of a number goes on behind the last call, if any
+abbrev pub IsOpen : (ℕ → Option ℕ) → List Uses → ℕ → Option ℕ → Type 0
+IsOpen changed groups number None = (i : ℕ) (group : Uses) → slice_get groups i ≡ Some group → group.number ≡ number → IsEnded changed group
+IsOpen changed groups number (Some at) = GoesOn changed groups number at
+
+abbrev pub AreOpen : (ℕ → Option ℕ) → List Uses → (ℕ → Option ℕ) → Type 0
+AreOpen changed groups going = (number : ℕ) → IsOpen changed groups number (going number)
+
+-- a group of one call
+abbrev pub first_use : ℕ → ℕ → Uses
+first_use place number = record { number = number; first = place; last = place; count = 1 }
+
+-- the group with one call more
+abbrev pub longer : ℕ → Uses → Uses
+longer place group = record { number = group.number; first = group.first; last = place; count = min (group.count + 1) (2 ^ 64 - 1) }
+
+abbrev pub longer_at : ℕ → ℕ → Option Uses → List Uses → List Uses
+longer_at place at None groups = groups
+longer_at place at (Some group) groups = slice_set groups at (longer place group)
+
+-- a call at this place names the number: it is one of the group that goes on, or the first of a group
+abbrev pub with_use : ℕ → ℕ → Option ℕ → List Uses → List Uses
+with_use place number None groups = groups ++ first_use place number ∷ []
+with_use place number (Some at) groups = longer_at place at (slice_get groups at) groups
+
+-- the groups behind a call at this place, which names a number or not
+abbrev pub uses_after : ℕ → Option ℕ → (ℕ → Option ℕ) → List Uses → List Uses
+uses_after place None going groups = groups
+uses_after place (Some number) going groups = with_use place number (going number) groups
+
+abbrev pub open_with : ℕ → Option ℕ → ℕ → (ℕ → Option ℕ) → ℕ → Option ℕ
+open_with number None next going m = cond (number == m) (Some next) (going m)
+open_with number (Some at) next going m = going m
+
+-- Which group of a number m goes on behind a call that names one number, and gives or frees another, if any: behind one
+-- that gives or frees it, none.
+abbrev pub open_after : Option ℕ → Option ℕ → ℕ → (ℕ → Option ℕ) → ℕ → Option ℕ
+open_after (Some number) changed next going m = open_with number (going number) next going m
+open_after None (Some number) next going m = cond (number == m) None (going m)
+open_after None None next going m = going m

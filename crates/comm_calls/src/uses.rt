@@ -1,0 +1,141 @@
+//! Which calls of the profile name which communicators by their numbers.
+
+ghost use Rattle.std.specs.Prelude.{◌≡◌, ◌==◌, ◌++◌, ◌∷◌, [], ℕ, None, OnErr, OnOk, Some, cond, length, nat_eq, slice_get};
+ghost use Rattle.indexmap.specs.IndexMap.{get};
+ghost use Rattle.comm_calls.specs.Uses.{comm_of, first_use, longer_at, named_number, number_of, open_after, uses_after};
+
+use crate::fault::Memory;
+use comm_makings::Uses;
+use indexmap::IndexMap;
+use mpi_model::{Call, CommRef};
+use std::alloc::Global;
+
+fn comm_of(call: &Call) -> Option<CommRef>
+    ensures { result ≡ comm_of call.now }
+{
+    match call {
+        Call::Send(_, e) | Call::Isend(_, e) => Some(e.envelope().comm),
+        Call::Recv(e) | Call::Irecv(e) => Some(e.envelope().comm),
+        Call::Sendrecv(both) => Some(both.send().comm),
+        Call::Collective(c) => Some(c.comm()),
+        Call::Probe(e) => Some(e.comm()),
+        Call::Ibarrier(c) => Some(c.comm()),
+        Call::Local
+        | Call::Finalize
+        | Call::Wait(_)
+        | Call::Waitall(_)
+        | Call::Waitany(_)
+        | Call::Waitsome(_)
+        | Call::Test(_)
+        | Call::Testall(_)
+        | Call::Testany(_)
+        | Call::Testsome(_)
+        | Call::Cancel(_)
+        | Call::Free(_)
+        | Call::Unread => None,
+    }
+}
+
+/// The number of the communicator that a call names: MPI_COMM_WORLD is named by none.
+pub(crate) fn named_number(call: &Call) -> Option<u32>
+    ensures { result ≡ named_number call.now }
+{
+    match comm_of(call) {
+        Some(CommRef::Id(number)) => Some(number),
+        Some(CommRef::World) | None => None,
+    }
+}
+
+// a group of one call
+fn first_use(number: u32, place: u64) -> Uses
+    ensures { result ≡ first_use place number }
+{
+    Uses {
+        number,
+        first: place,
+        last: place,
+        count: 1,
+    }
+}
+
+// the group at a place has one call more
+fn longer(uses: &mut Vec<Uses>, at: usize, place: u64)
+    ensures { uses.new.items ≡ longer_at place at (slice_get uses.old.items at) uses.old.items }
+{
+    if at < uses.len() {
+        let group = uses[at];
+        uses[at] = Uses {
+            number: group.number,
+            first: group.first,
+            last: place,
+            count: group.count.saturating_add(1),
+        };
+    }
+}
+
+/// The groups of calls that name one number, in the order of their first calls.
+#[derive(Debug, Drop)]
+pub(crate) struct NumberUses {
+    pub groups: Vec<Uses>,
+    /// The group of each number that goes on.
+    pub going: IndexMap<u32, usize>,
+}
+
+impl NumberUses {
+    pub(crate) fn new(alloc: Global) -> NumberUses
+        ensures groups { result.groups.items ≡ [] }
+        ensures going { result.going.entries ≡ [] }
+    {
+        NumberUses {
+            groups: Vec::new(alloc),
+            going: IndexMap::new(alloc),
+        }
+    }
+
+    // a group with this call alone
+    fn begin(&mut self, number: u32, place: u64) -> Result<(), Memory>
+        ensures groups { OnOk result (self.new.groups.items ≡ self.old.groups.items ++ first_use place number ∷ []) }
+        ensures going { OnOk result ((m : ℕ) → get nat_eq self.new.going m ≡ cond (number == m) (Some (length self.old.groups.items)) (get nat_eq self.old.going m)) }
+        ensures same { OnErr result (self.new.groups.items ≡ self.old.groups.items) }
+        ensures still { OnErr result (self.new.going.entries ≡ self.old.going.entries) }
+    {
+        let at = self.groups.len();
+        self.groups.push(first_use(number, place))?;
+        match self.going.insert(number, at) {
+            Ok(_) => Ok(()),
+            Err(_) => {
+                self.groups.pop();
+                Err(Memory)
+            }
+        }
+    }
+
+    /// The call at a place names this number, or none.
+    pub(crate) fn name(&mut self, named: Option<u32>, place: u64) -> Result<(), Memory>
+        ensures groups { OnOk result (self.new.groups.items ≡ uses_after place named (get nat_eq self.old.going) self.old.groups.items) }
+        ensures going { OnOk result ((m : ℕ) → get nat_eq self.new.going m ≡ open_after named None (length self.old.groups.items) (get nat_eq self.old.going) m) }
+        ensures same { OnErr result (self.new.groups.items ≡ self.old.groups.items) }
+        ensures still { OnErr result (self.new.going.entries ≡ self.old.going.entries) }
+    {
+        let Some(number) = named else {
+            return Ok(());
+        };
+        match self.going.get(&number).copied() {
+            Some(at) => {
+                longer(&mut self.groups, at, place);
+                Ok(())
+            }
+            None => self.begin(number, place),
+        }
+    }
+
+    /// A call gives or frees this number, or none.
+    pub(crate) fn change(&mut self, changed: Option<u32>)
+        ensures groups { self.new.groups.items ≡ self.old.groups.items }
+        ensures going { (m : ℕ) → get nat_eq self.new.going m ≡ open_after None changed (length self.old.groups.items) (get nat_eq self.old.going) m }
+    {
+        if let Some(number) = changed {
+            self.going.swap_remove(&number);
+        }
+    }
+}

@@ -1,0 +1,20 @@
+-- What the values of a subcommand ask for, value by value.
+use Rattle.std.proofs.Common.{◌≡◌, List, Option, Some, codes, option_and_then, option_map, refl}
+use Rattle.clap.specs.Words.{Row, Text, all_of, first_of}
+use Rattle.mpi_model.specs.declared.layout.Sends.{Sends}
+use Rattle.command_line.specs.Program.{Wish, form_in, in_form, init, init_in, verb_named, wanted_of, wish_in}
+use Rattle.command_line.specs.declared.Verb.{Verb}
+
+pub formed : (name : Text) (rows : List Row) (verb : Verb) (json rank : Option Text)
+    → verb_named name ≡ Some verb → json ≡ first_of (codes "json") rows → rank ≡ first_of (codes "rank") rows
+    → in_form verb json rank ≡ form_in name rows
+formed name rows verb json rank v j r = rw (v, j, r) refl
+
+pub wanted_from : (sends other_sends : Option Sends) (layout manifest force other_layout other_manifest other_force : Option Text)
+    → sends ≡ other_sends → layout ≡ other_layout → manifest ≡ other_manifest → force ≡ other_force
+    → wanted_of sends layout manifest force ≡ wanted_of other_sends other_layout other_manifest other_force
+wanted_from sends other_sends layout manifest force other_layout other_manifest other_force s l m f = rw (s, l, m, f) refl
+
+pub init_by : (rows : List Row) (wish : Option Wish) (texts : Option (List Text)) → wish_in rows ≡ wish → all_of (codes "TEXT") rows ≡ texts
+    → init_in rows ≡ option_and_then (λ w. option_map (λ t. init t w) texts) wish
+init_by rows wish texts w t = rw (w, t) refl

@@ -1,0 +1,60 @@
+//! A look at the first bytes of a file: whether it begins as the text of a trace.
+
+ghost use Rattle.std.specs.Prelude.{◌≡◌, ◌<◌, IfOk, IsTrue, OnErr, length};
+ghost use Rattle.dumpi_text.specs.Failing.{Fails};
+ghost use Rattle.command_runs.specs.Looks.{BeginsAsText, IsLookAt, begins_call, has_call};
+
+use crate::opener::Opener;
+use crate::second_look::reopened;
+use mpi_model::{Failed, Read, ReadFault, read_exactly};
+
+/// How many bytes of a file are looked at: a text has a call among them.
+pub(crate) const LONGEST_LOOK: usize = 4096;
+
+// A line begins at this byte, and a call with it.
+fn begins_call(front: &[u8], i: usize) -> bool
+    requires { i < length front.now }
+    ensures { result ≡ begins_call front.now i }
+{
+    (i == 0 || front[i - 1] == b'\n') && front[i..].starts_with(b"MPI_")
+}
+
+fn has_call(front: &[u8]) -> bool
+    ensures { result ≡ has_call front.now }
+{
+    for i in 0..front.len() {
+        if begins_call(front, i) {
+            return true;
+        }
+    }
+    false
+}
+
+fn look_at<R: Read>(reader: R) -> Result<bool, Failed>
+    ensures ok { IfOk result (IsLookAt (R.left reader)) }
+    ensures err { OnErr result (Fails R.failures) }
+{
+    let mut reader = reader;
+    let mut front = [0; LONGEST_LOOK];
+    match read_exactly(&mut reader, &mut front) {
+        Ok(()) => Ok(has_call(&front)),
+        Err(ReadFault::Short { taken }) => Ok(has_call(&front[..taken])),
+        Err(ReadFault::Failed { .. }) => Err(Failed),
+    }
+}
+
+#[tactic(auto, using(crate::proofs::Looks::begins_told))]
+/// Whether the file begins as the text of a trace, where that can be looked at: what comes through a
+/// pipe would be gone.
+pub(crate) fn begins_as_text<O: Opener>(path: &str, files: &mut O) -> bool
+    ensures told { IsTrue result → BeginsAsText (O.file files.old path.now) }
+    ensures same { O.file files.new ≡ O.file files.old }
+{
+    let Some(reader) = reopened(path, files) else {
+        return false;
+    };
+    match look_at(reader) {
+        Ok(begins) => begins,
+        Err(_) => false,
+    }
+}

@@ -1,0 +1,37 @@
+use Rattle.std.proofs.Common.{rules, arith, ◌≡◌, ◌∙◌, ◌+◌, ◌<◌, ◌++◌, ◌∷◌, [], ℕ, List, String, Global, inr, ap, sym, subst, length, map, take, string_bytes}
+use Rattle.std.proofs.lemmas.List.{take_more}
+use Rattle.comm_makings.specs.declared.calls.RankCalls.{RankCalls}
+use Rattle.init_runs.specs.Texts.{AllSay, RefusesText, Says}
+use Rattle.init_runs.proofs.Ordered.{contains_at, map_push}
+use Rattle.init_runs.proofs.Reading.{say_more}
+use Rattle.init_runs.proofs.texts.calls_of_all.Goals as goal
+
+pub returns-in-Err-clause-err : goal.returns-in-Err-clause-err
+returns-in-Err-clause-err g c =
+    let file = g.O.Opener.file c.args.files.now in
+    let lt : c.loop-path.path-index < length c.args.texts.now = omega arith in
+    let refuses : RefusesText c.as_str.result.now (file c.as_str.result.now) c.in-Err.fault = rw c.loop-path.invariant.files at c.in-Err.ensures.err in
+    inr (
+      string_bytes c.path-item.result,
+      contains_at c.args.texts.now c.loop-path.path-index c.path-item.result lt c.path-item.is,
+      subst (λ (n : List ℕ). RefusesText n (file n) c.in-Err.fault) c.as_str.ensures.value refuses,
+    )
+
+pub loop-path-preserved : goal.loop-path-preserved
+loop-path-preserved g c =
+    let file = g.O.Opener.file c.args.files.now in
+    let i = c.loop-path.path-index in
+    let texts = c.args.texts.now in
+    let item = c.path-item.result in
+    let lt : i < length texts = omega arith in
+    let more : map string_bytes (take (i + 1) texts) ≡ map string_bytes (take i texts) ++ string_bytes item ∷ [] =
+    ap (map string_bytes) (take_more texts i item lt ∙ ap (λ (t : String Global). take i texts ++ t ∷ []) (sym c.path-item.is)) ∙ map_push string_bytes (take i texts) item in
+    let says : Says (file c.as_str.result.now) c.in-Ok.read.0 c.in-Ok.read.1 = rw c.loop-path.invariant.files at c.in-Ok.ensures.ok in
+    let said : Says (file (string_bytes item)) c.in-Ok.read.0 c.in-Ok.read.1 =
+    subst (λ (n : List ℕ). Says (file n) c.in-Ok.read.0 c.in-Ok.read.1) c.as_str.ensures.value says in
+    record {
+      files = c.calls_of.ensures.same ∙ c.loop-path.invariant.files;
+      say = subst (λ (ns : List (List ℕ)). AllSay file ns c.push.new.self.items) (sym more)
+          (subst (λ (rs : List RankCalls). AllSay file (map string_bytes (take i texts) ++ string_bytes item ∷ []) rs) (sym c.in_ok-push.ensures.items)
+          (say_more file (map string_bytes (take i texts)) (string_bytes item) c.loop-path.ranks.items c.in-Ok.read.0 c.in-Ok.read.1 c.loop-path.invariant.say said));
+    }

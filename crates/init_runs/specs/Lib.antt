@@ -1,0 +1,6 @@
+pub mod Endings
+pub mod Faults
+pub mod MadeFiles
+pub mod Prepared
+pub mod Readers
+pub mod Texts

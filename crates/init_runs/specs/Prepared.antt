@@ -1,0 +1,71 @@
+-- The layout and the manifest that are made of texts.
+use Rattle.std.specs.Prelude.{◌≡◌, ◌<◌, ◌⊎◌, ◌++◌, ℕ, Bool, true, false, List, [], Option, Some, codes, length, map, slice_get, string_bytes}
+use Rattle.mpi_model.specs.Layouts.{Holds}
+use Rattle.mpi_model.specs.declared.layout.Sends.{Sends}
+use Rattle.comm_makings.specs.World.{world_of}
+use Rattle.comm_makings.specs.declared.calls.RankCalls.{RankCalls}
+use Rattle.layout_files.specs.Values.{layout_value, manifest_value}
+use Rattle.text_layouts.specs.Making.{IsFile, RefusesMaking}
+use Rattle.text_layouts.specs.Names.{IsOrder, IsTwice, numbers_of}
+use Rattle.text_layouts.specs.Words.{notes_text}
+use Rattle.text_layouts.specs.declared.made.Made.{Made}
+use Rattle.text_layouts.specs.declared.order.Order.{Order}
+use Rattle.text_layouts.specs.declared.order.Order.TheVariants as orders
+use Rattle.init_runs.specs.Texts.{AllSay, RefusesOne}
+use Rattle.init_runs.specs.declared.fault.InitFault.{InitFault}
+use Rattle.init_runs.specs.declared.fault.InitFault.TheVariants.{Memory, TooMany, Twice, Made as NotMade}
+
+-- These are the names at those places, in their order.
+abbrev pub AreAt : List (List ℕ) → List ℕ → List (List ℕ) → Type 0
+AreAt names places ordered = map (λ place. slice_get names place) places ≡ map (λ name. Some name) ordered
+
+-- the names by rank, where which is of which rank is told so
+abbrev pub IsOrdered : List (List ℕ) → Order → List (List ℕ) → Type 0
+IsOrdered names orders.Words ordered = ordered ≡ names
+IsOrdered names (orders.Digits places) ordered = AreAt names places.items ordered
+IsOrdered names (orders.Twice first second) ordered = ⊥
+
+-- the names by rank: by the digits at their ends, or else in the order of the words
+abbrev pub IsByRank : List (List ℕ) → List (List ℕ) → Type 0
+IsByRank words names = (order : Order) × IsOrder (numbers_of words) order × IsOrdered words order names
+
+-- A layout and a manifest are made of the texts that these words name.
+pub record IsMadeOf (file : List ℕ → Option (List ℕ)) (sends : Sends) (words : List (List ℕ)) (made : Made) : Type 0 where
+  pub names : List (List ℕ)
+  pub by_rank : IsByRank words names
+  pub ranks : List RankCalls
+  pub say : AllSay file names ranks
+  pub world : made.derived.world ≡ world_of ranks
+  pub layout : Holds (length ranks) made.derived.world sends made.derived.comms.items made.layout
+  pub layout_file : IsFile (layout_value (record { ranks = length ranks; world = made.derived.world; sends = sends; comms = made.derived.comms.items })) made.layout_file.items
+  pub manifest_file : IsFile (manifest_value names) made.manifest_file.items
+
+-- ---- why nothing is made
+
+-- More texts than a layout can have ranks, or two texts of one rank by the digits of their names.
+abbrev pub RefusesNames : List (List ℕ) → InitFault → Type 0
+RefusesNames words Memory = Unit {0}
+RefusesNames words TooMany = 1024 < length words
+RefusesNames words (Twice path) = (one other : ℕ) × IsTwice (numbers_of words) one other × (slice_get words other ≡ Some (string_bytes path))
+RefusesNames words _ = ⊥
+
+-- What the texts of these ranks say makes no layout.
+abbrev pub RefusesMade : (List ℕ → Option (List ℕ)) → Sends → List (List ℕ) → InitFault → Type 0
+RefusesMade file sends names (NotMade fault) = (ranks : List RankCalls) × AllSay file names ranks × RefusesMaking sends names ranks fault
+RefusesMade file sends names _ = ⊥
+
+-- Why nothing is made of the texts that these words name: their names, one of the texts, or what they say together.
+abbrev pub RefusesWords : (List ℕ → Option (List ℕ)) → Sends → List (List ℕ) → InitFault → Type 0
+RefusesWords file sends words fault = RefusesNames words fault
+    ⊎ ((names : List (List ℕ)) × IsByRank words names × (RefusesOne file names fault ⊎ RefusesMade file sends names fault))
+
+-- ---- what is said of it
+
+abbrev pub digits_text : Bool → List ℕ
+digits_text true = codes "ranks by the digits at the ends of the names\n"
+digits_text false = []
+
+-- The notes say this of what was made: by what the texts' ranks are known, how many calls they have, and what was found.
+abbrev pub AreNotes : Made → List ℕ → Type 0
+AreNotes made notes = (by_digits : Bool) × (ranks calls : ℕ)
+    × (notes ≡ digits_text by_digits ++ notes_text ranks calls made.derived.comms.items made.derived.left_out.items)

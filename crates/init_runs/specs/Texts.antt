@@ -1,0 +1,67 @@
+-- What the texts of all ranks say, and why one is refused.
+use Rattle.std.specs.Prelude.{◌≡◌, ◌⊎◌, ◌&&◌, ◌==◌, ℕ, Bool, true, List, [], ◌∷◌, Contains, Option, Some, None, String, nat_lt, string_bytes}
+use Rattle.std.specs.declared.alloc.Global.{Global}
+use Rattle.dumpi_text.specs.declared.fault.TextFault.TheVariants.{At}
+use Rattle.dumpi_calls.specs.declared.fault.WalkCause.TheVariants as causes
+use Rattle.dumpi_calls.specs.declared.fault.WalkFault.{WalkFault}
+use Rattle.dumpi_calls.specs.declared.walking.Walked.{Walked}
+use Rattle.comm_calls.specs.declared.fault.Memory.{Memory as NoMemory}
+use Rattle.comm_makings.specs.declared.calls.RankCalls.{RankCalls}
+use Rattle.text_layouts.specs.Texts.{IsReadFrom, StopsIn}
+use Rattle.command_runs.specs.declared.fault.RunFault.{RunFault}
+use Rattle.command_runs.specs.declared.fault.RunFault.TheVariants as runs
+use Rattle.init_runs.specs.declared.fault.InitFault.{InitFault}
+use Rattle.init_runs.specs.declared.fault.InitFault.TheVariants.{Memory, Text, NoCall}
+
+-- Where its bytes are told, a text says this of communicators, and has so many calls.
+abbrev pub Says : Option (List ℕ) → RankCalls → ℕ → Type 0
+Says None rank count = Unit {0}
+Says (Some text) rank count = (walked : Walked) × IsReadFrom (Some text) rank walked × (walked.calls ≡ count)
+
+-- The texts of these files say this, each of its rank.
+abbrev pub AllSay : (List ℕ → Option (List ℕ)) → List (List ℕ) → List RankCalls → Type 0
+AllSay file [] ranks = ranks ≡ []
+AllSay file (name ∷ names) ranks = (rank : RankCalls) × (rest : List RankCalls) × ((count : ℕ) × Says (file name) rank count) × AllSay file names rest × (ranks ≡ rank ∷ rest)
+
+-- ---- why a text is refused
+
+abbrev pub IsNamed : String Global → List ℕ → Type 0
+IsNamed path name = string_bytes path ≡ name
+
+-- The fault of a run stands for the fault of a walk, and names the file.
+abbrev pub StandsFor : List ℕ → WalkFault NoMemory → RunFault → Type 0
+StandsFor name fault runs.Memory = Unit {0}
+StandsFor name fault (runs.Text cause path line) = IsNamed path name × (fault.cause ≡ causes.Text (At line cause))
+StandsFor name fault (runs.Missing parameter path line) = IsNamed path name × (fault.cause ≡ causes.Missing parameter) × (line ≡ fault.line)
+StandsFor name fault (runs.Wrong parameter path line) = IsNamed path name × (fault.cause ≡ causes.Wrong parameter) × (line ≡ fault.line)
+StandsFor name fault _ = ⊥
+
+-- where its bytes are told, the text is refused so
+abbrev pub StopsSo : Option (List ℕ) → WalkFault NoMemory → Type 0
+StopsSo None fault = Unit {0}
+StopsSo (Some text) fault = StopsIn (Some text) fault
+
+-- The file can't be opened, so that nothing tells its text, or its text is refused.
+abbrev pub RefusesRead : List ℕ → Option (List ℕ) → RunFault → Type 0
+RefusesRead name text fault = ((path : String Global) × (fault ≡ runs.File path) × IsNamed path name × (text ≡ None))
+    ⊎ ((walk : WalkFault NoMemory) × StandsFor name walk fault × StopsSo text walk)
+
+-- a text that has lines and no call is none
+abbrev pub is_no_text : Walked → Bool
+is_no_text walked = walked.calls == 0 && nat_lt 0 walked.skipped
+
+-- where its bytes are told, a text has lines and no call
+abbrev pub HasNoCall : Option (List ℕ) → Type 0
+HasNoCall None = Unit {0}
+HasNoCall (Some text) = (rank : RankCalls) × (walked : Walked) × IsReadFrom (Some text) rank walked × (is_no_text walked ≡ true)
+
+-- Why the text of a file of this name is refused.
+abbrev pub RefusesText : List ℕ → Option (List ℕ) → InitFault → Type 0
+RefusesText name text Memory = Unit {0}
+RefusesText name text (Text fault) = RefusesRead name text fault
+RefusesText name text (NoCall path) = IsNamed path name × HasNoCall text
+RefusesText name text _ = ⊥
+
+-- one of these texts is refused, or memory was wanting
+abbrev pub RefusesOne : (List ℕ → Option (List ℕ)) → List (List ℕ) → InitFault → Type 0
+RefusesOne file names fault = (fault ≡ Memory) ⊎ ((name : List ℕ) × Contains names name × RefusesText name (file name) fault)

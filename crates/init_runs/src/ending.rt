@@ -1,0 +1,168 @@
+//! How the program ends where it is given texts alone.
+
+ghost use Rattle.std.specs.Prelude.{◌≡◌, ◌≢◌, IfOk, map, string_bytes};
+ghost use Rattle.init_runs.specs.Endings.{EndsOver, EndsOverTexts};
+ghost use Rattle.init_runs.specs.Faults.{init_fault_line_of};
+
+use crate::fault::{InitFault, init_fault_line, put_fault};
+use crate::made_files::{LAYOUT_NAME, MANIFEST_NAME, MadeFiles};
+use crate::prepared::{Prepared, prepare};
+use command_line::{Verb, Wanted};
+use command_runs::{Ending, Opener, Watcher, ending_after, run_with};
+use layout_files::{NewFile, Store, add_both, replace_both};
+use mpi_model::{Sends, Write, write_all};
+use std::alloc::{AllocError, Global};
+use std::io::Eprint;
+
+// The ending after such a fault.
+fn ending_of_fault(alloc: Global, fault: &InitFault) -> Result<Ending, AllocError>
+    ensures status { IfOk result (λ e. e.status ≡ 1) }
+    ensures errors { IfOk result (λ e. string_bytes e.errors ≡ init_fault_line_of fault.now) }
+{
+    Ok(Ending {
+        status: 1,
+        errors: init_fault_line(alloc, fault)?,
+    })
+}
+
+// Runs a verb over texts, by the layout and the manifest that were made of them.
+fn run_prepared<O: Opener, V: Watcher, W: Write>(
+    alloc: Global,
+    verb: Verb,
+    prepared: &Prepared,
+    files: &mut O,
+    watcher: &mut V,
+    out: &mut W,
+) -> Result<Ending, AllocError>
+    requires alone { verb ≢ Verb.Cluster }
+    ensures { IfOk result (λ e. EndsOver (O.file files.old) verb prepared.now.made e.status (string_bytes e.errors) (W.written out.old) (W.written out.new)) }
+{
+    let mut made = MadeFiles::new(
+        &prepared.made.layout_file,
+        &prepared.made.manifest_file,
+        files,
+    );
+    let ran = run_with(
+        alloc,
+        verb,
+        LAYOUT_NAME,
+        MANIFEST_NAME,
+        &mut made,
+        watcher,
+        out,
+    );
+    ending_after(alloc, ran)
+}
+
+// Shows on standard error what was found in the texts.
+fn show<R: Eprint>(rt: &R, notes: &[u8]) {
+    if let Ok(text) = std::str::from_utf8(notes) {
+        let _ = eprint!(rt; "{text}");
+    }
+}
+
+/// Runs a verb over the texts of all ranks, by the layout and the manifest that are made of them, once it is shown on
+/// standard error what was found. `cluster` takes no texts: the status is 2.
+pub fn ending_of_texts<R: Eprint, O: Opener, V: Watcher, W: Write>(
+    rt: &R,
+    alloc: Global,
+    verb: Verb,
+    texts: &[&str],
+    files: &mut O,
+    watcher: &mut V,
+    out: &mut W,
+) -> Result<Ending, AllocError>
+    ensures { verb ≢ Verb.Cluster → IfOk result (λ e. EndsOverTexts (O.file files.old) verb (map (λ t. t.now) texts.now) e.status (string_bytes e.errors) (W.written out.old) (W.written out.new)) }
+{
+    if let Verb::Cluster = verb {
+        return no_cluster(alloc);
+    }
+    over_texts(rt, alloc, verb, texts, files, watcher, out)
+}
+
+// The pieces of a cluster name their nodes, which texts don't.
+fn no_cluster(alloc: Global) -> Result<Ending, AllocError> {
+    Ok(Ending {
+        status: 2,
+        errors: "mpimatch: cluster takes a layout and a manifest\n".to_string(alloc)?,
+    })
+}
+
+fn over_texts<R: Eprint, O: Opener, V: Watcher, W: Write>(
+    rt: &R,
+    alloc: Global,
+    verb: Verb,
+    texts: &[&str],
+    files: &mut O,
+    watcher: &mut V,
+    out: &mut W,
+) -> Result<Ending, AllocError>
+    requires alone { verb ≢ Verb.Cluster }
+    ensures { IfOk result (λ e. EndsOverTexts (O.file files.old) verb (map (λ t. t.now) texts.now) e.status (string_bytes e.errors) (W.written out.old) (W.written out.new)) }
+{
+    let prepared = match prepare(alloc, Sends::Wait, texts, files) {
+        Ok(prepared) => prepared,
+        Err(fault) => return ending_of_fault(alloc, &fault),
+    };
+    show(rt, &prepared.notes);
+    run_prepared(alloc, verb, &prepared, files, watcher, out)
+}
+
+fn keep<S: Store>(
+    alloc: Global,
+    prepared: &Prepared,
+    wanted: Wanted<'_>,
+    store: &mut S,
+) -> Result<(), InitFault> {
+    let layout = NewFile {
+        name: wanted.layout,
+        bytes: &prepared.made.layout_file,
+    };
+    let manifest = NewFile {
+        name: wanted.manifest,
+        bytes: &prepared.made.manifest_file,
+    };
+    let kept = if wanted.force {
+        replace_both(alloc, store, layout, manifest)
+    } else {
+        add_both(store, layout, manifest)
+    };
+    match kept {
+        Ok(()) => Ok(()),
+        Err(fault) => Err(put_fault(alloc, fault, wanted.layout, wanted.manifest)?),
+    }
+}
+
+fn init<O: Opener, S: Store, W: Write>(
+    alloc: Global,
+    texts: &[&str],
+    wanted: Wanted<'_>,
+    files: &mut O,
+    store: &mut S,
+    out: &mut W,
+) -> Result<(), InitFault> {
+    let prepared = prepare(alloc, wanted.sends, texts, files)?;
+    keep(alloc, &prepared, wanted, store)?;
+    match write_all(out, &prepared.notes) {
+        Ok(()) => Ok(()),
+        Err(_) => Err(InitFault::Write),
+    }
+}
+
+/// Writes the layout and the manifest that are made of texts, both or none, and then what was found.
+pub fn ending_of_init<O: Opener, S: Store, W: Write>(
+    alloc: Global,
+    texts: &[&str],
+    wanted: Wanted<'_>,
+    files: &mut O,
+    store: &mut S,
+    out: &mut W,
+) -> Result<Ending, AllocError> {
+    match init(alloc, texts, wanted, files, store, out) {
+        Ok(()) => Ok(Ending {
+            status: 0,
+            errors: String::new(alloc),
+        }),
+        Err(fault) => ending_of_fault(alloc, &fault),
+    }
+}

@@ -1,0 +1,103 @@
+//! From the words that name texts to a layout and a manifest, and what is said of them.
+
+ghost use Rattle.std.specs.Prelude.{◌≡◌, ◌<◌, ◌≤◌, ◌++◌, IfErr, IfOk, length, map, string_bytes};
+ghost use Rattle.std.specs.List.{All};
+ghost use Rattle.init_runs.specs.Prepared.{AreAt, AreNotes, IsByRank, IsMadeOf, RefusesNames, RefusesWords, digits_text};
+ghost use Rattle.text_layouts.specs.Words.{notes_text};
+
+use crate::fault::InitFault;
+use crate::texts::{AllCalls, calls_of_all};
+use call_words::Text;
+use command_runs::Opener;
+use mpi_model::{MOST_RANKS, Sends};
+use std::alloc::{AllocError, Global};
+use text_layouts::{Made, Order, made_of, order_of, put_notes};
+
+/// A layout and a manifest that were made of texts.
+#[derive(Debug, Drop)]
+pub struct Prepared {
+    pub made: Made,
+    /// What was found in the texts, and what is left out, for a person.
+    pub notes: Vec<u8>,
+}
+
+fn owned(alloc: Global, words: &[&str]) -> Result<Vec<String>, AllocError>
+    ensures { IfOk result (λ names. map string_bytes names.items ≡ map (λ w. w.now) words.now) }
+{
+    let mut names = Vec::new(alloc);
+    for word in words {
+        names.push(word.to_string(alloc)?)?;
+    }
+    Ok(names)
+}
+
+// the names at these places
+fn in_order(alloc: Global, names: &[String], places: &[usize]) -> Result<Vec<String>, AllocError>
+    requires { All (λ place. place < length names.now) places.now }
+    ensures { IfOk result (λ ordered. AreAt (map string_bytes names.now) places.now (map string_bytes ordered.items)) }
+{
+    let mut ordered = Vec::new(alloc);
+    for place in places {
+        ordered.push(names[*place].as_str().to_string(alloc)?)?;
+    }
+    Ok(ordered)
+}
+
+// The texts by rank, and whether the digits of their names say so.
+fn by_rank(alloc: Global, words: &[&str]) -> Result<(Vec<String>, bool), InitFault>
+    ensures ok { IfOk result (λ read. IsByRank (map (λ w. w.now) words.now) (map string_bytes read.0.items)) }
+    ensures few { IfOk result (λ read. length read.0.items ≤ 1024) }
+    ensures err { IfErr result (RefusesNames (map (λ w. w.now) words.now)) }
+{
+    if words.len() > MOST_RANKS as usize {
+        return Err(InitFault::TooMany);
+    }
+    let names = owned(alloc, words)?;
+    match order_of(alloc, &names)? {
+        Order::Words => Ok((names, false)),
+        Order::Digits(places) => Ok((in_order(alloc, &names, &places)?, true)),
+        Order::Twice { second, .. } => Err(InitFault::Twice {
+            path: names[second].as_str().to_string(alloc)?,
+        }),
+    }
+}
+
+fn notes_of(
+    alloc: Global,
+    by_digits: bool,
+    ranks: u32,
+    calls: u64,
+    made: &Made,
+) -> Result<Vec<u8>, AllocError>
+    ensures { IfOk result (λ notes. notes.items ≡ digits_text by_digits ++ notes_text ranks calls made.now.derived.comms.items made.now.derived.left_out.items) }
+{
+    let mut out = Text::new(alloc);
+    if by_digits {
+        out.put(b"ranks by the digits at the ends of the names\n");
+    }
+    put_notes(&mut out, ranks, calls, &made.derived);
+    out.into_bytes()
+}
+
+/// The layout and the manifest of the run of these texts, rank 0 first, or by the digits at the ends of their names where
+/// those are 0 to n - 1. Each text is read once.
+pub fn prepare<O: Opener>(
+    alloc: Global,
+    sends: Sends,
+    words: &[&str],
+    files: &mut O,
+) -> Result<Prepared, InitFault>
+    ensures made { IfOk result (λ p. IsMadeOf (O.file files.old) sends (map (λ w. w.now) words.now) p.made) }
+    ensures notes { IfOk result (λ p. AreNotes p.made p.notes.items) }
+    ensures err { IfErr result (RefusesWords (O.file files.old) sends (map (λ w. w.now) words.now)) }
+    ensures same { O.file files.new ≡ O.file files.old }
+{
+    let (texts, by_digits) = by_rank(alloc, words)?;
+    let AllCalls { ranks, calls } = calls_of_all(alloc, &texts, files)?;
+    let made = match made_of(alloc, sends, &texts, &ranks) {
+        Ok(made) => made,
+        Err(fault) => return Err(InitFault::Made(fault)),
+    };
+    let notes = notes_of(alloc, by_digits, ranks.len() as u32, calls, &made)?;
+    Ok(Prepared { made, notes })
+}

@@ -1,0 +1,109 @@
+//! The texts of all ranks, as what their calls say of communicators.
+
+ghost use Rattle.std.specs.Prelude.{◌≡◌, IfErr, IfOk, map, string_bytes};
+ghost use Rattle.init_runs.specs.Texts.{AllSay, RefusesOne, RefusesText, Says, StandsFor, is_no_text};
+
+use crate::fault::InitFault;
+use comm_calls::Memory;
+use comm_makings::RankCalls;
+use command_runs::{OpenFault, Opener, RunFault};
+use dumpi_calls::{WalkCause, WalkFault, Walked};
+use dumpi_text::TextFault;
+use std::alloc::{AllocError, Global};
+use text_layouts::rank_calls_of;
+
+/// What the texts of all ranks say.
+#[derive(Debug, Drop)]
+pub struct AllCalls {
+    /// What each rank's text says of communicators.
+    pub ranks: Vec<RankCalls>,
+    /// How many calls they have together.
+    pub calls: u64,
+}
+
+// the fault of a text whose walk was stopped
+fn refusal(alloc: Global, path: &str, fault: WalkFault<Memory>) -> Result<RunFault, AllocError>
+    ensures { IfOk result (StandsFor path.now fault) }
+{
+    let line = fault.line;
+    match fault.cause {
+        WalkCause::Text(TextFault::At { line, cause }) => Ok(RunFault::Text {
+            cause,
+            path: path.to_string(alloc)?,
+            line,
+        }),
+        WalkCause::Missing(parameter) => Ok(RunFault::Missing {
+            parameter,
+            path: path.to_string(alloc)?,
+            line,
+        }),
+        WalkCause::Wrong(parameter) => Ok(RunFault::Wrong {
+            parameter,
+            path: path.to_string(alloc)?,
+            line,
+        }),
+        _ => Ok(RunFault::Memory),
+    }
+}
+
+// a text with lines and no call is none
+fn is_no_text(walked: &Walked) -> bool
+    ensures { result ≡ is_no_text walked.now }
+{
+    walked.calls == 0 && walked.skipped > 0
+}
+
+#[tactic(auto, using(crate::proofs::Reading::said, crate::proofs::Reading::refused, crate::proofs::Reading::has_no_call))]
+fn calls_of<O: Opener>(
+    alloc: Global,
+    path: &str,
+    files: &mut O,
+) -> Result<(RankCalls, u64), InitFault>
+    ensures ok { IfOk result (λ read. Says (O.file files.old path.now) read.0 read.1) }
+    ensures err { IfErr result (RefusesText path.now (O.file files.old path.now)) }
+    ensures same { O.file files.new ≡ O.file files.old }
+{
+    let reader = match files.open(path) {
+        Ok(reader) => reader,
+        Err(OpenFault::Memory) => return Err(InitFault::Memory),
+        Err(OpenFault::File) => {
+            return Err(InitFault::Text(RunFault::File {
+                path: path.to_string(alloc)?,
+            }));
+        }
+    };
+    match rank_calls_of(alloc, reader) {
+        Ok((calls, walked)) => {
+            if is_no_text(&walked) {
+                return Err(InitFault::NoCall {
+                    path: path.to_string(alloc)?,
+                });
+            }
+            Ok((calls, walked.calls))
+        }
+        Err(fault) => Err(InitFault::Text(refusal(alloc, path, fault)?)),
+    }
+}
+
+/// What these texts say, each of the rank of its place.
+pub(crate) fn calls_of_all<O: Opener>(
+    alloc: Global,
+    texts: &[String],
+    files: &mut O,
+) -> Result<AllCalls, InitFault>
+    ensures ok { IfOk result (λ all. AllSay (O.file files.old) (map string_bytes texts.now) all.ranks.items) }
+    ensures err { IfErr result (RefusesOne (O.file files.old) (map string_bytes texts.now)) }
+    ensures same { O.file files.new ≡ O.file files.old }
+{
+    let mut ranks = Vec::new(alloc);
+    let mut calls: u64 = 0;
+    for path in texts {
+        let (of_rank, count) = match calls_of(alloc, path.as_str(), files) {
+            Ok(read) => read,
+            Err(fault) => return Err(fault),
+        };
+        ranks.push(of_rank)?;
+        calls = calls.saturating_add(count);
+    }
+    Ok(AllCalls { ranks, calls })
+}

@@ -1,0 +1,5 @@
+use Rattle.std.proofs.Common.{◌≡◌, take}
+use Rattle.text_layouts.proofs.made.copies.Given as goal
+
+abbrev pub invariant-loop-comm : goal.invariant-loop-comm
+invariant-loop-comm l = l.all.items ≡ take l.comm-index l.comms

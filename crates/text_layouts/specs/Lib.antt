@@ -1,0 +1,4 @@
+pub mod Texts
+pub mod Names
+pub mod Making
+pub mod Words

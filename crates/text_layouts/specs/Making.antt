@@ -1,0 +1,56 @@
+-- Why no layout is made of the calls of all ranks.
+use Rattle.std.specs.Prelude.{◌≡◌, ◌<◌, ◌≤◌, ◌⊎◌, ℕ, List, Some, length}
+use Rattle.json.specs.Json.{Json}
+use Rattle.mpi_model.specs.Communicators.{Communicator}
+use Rattle.mpi_model.specs.Layouts.{fault_of}
+use Rattle.mpi_model.specs.declared.layout.Sends.{Sends}
+use Rattle.comm_makings.specs.World.{world_fault, world_of}
+use Rattle.comm_makings.specs.declared.answer.DeriveFault.TheVariants as derives
+use Rattle.comm_makings.specs.declared.calls.RankCalls.{RankCalls}
+use Rattle.layout_files.specs.Values.{layout_value, line_of, manifest_value}
+use Rattle.text_layouts.specs.declared.fault.MadeFault.{MadeFault}
+use Rattle.text_layouts.specs.declared.fault.MadeFault.TheVariants as faults
+
+-- the most bytes of a file
+abbrev pub longest : ℕ
+longest = 16777216
+
+-- The file of this value: its line, which isn't too long.
+pub record IsFile (value : Json) (file : List ℕ) : Type 0 where
+  pub bytes : file ≡ line_of value
+  pub short : length file ≤ longest
+
+-- the number of MPI_COMM_WORLD is refused, unless memory was wanting
+abbrev pub RefusesWorld : List RankCalls → MadeFault → Type 0
+RefusesWorld ranks faults.Memory = Unit {0}
+RefusesWorld ranks (faults.World first second) = world_fault ranks ≡ Some (derives.World first second)
+RefusesWorld ranks _ = ⊥
+
+-- a rule of layouts refuses these communicators, unless memory was wanting
+abbrev pub RefusesLayout : ℕ → ℕ → List Communicator → MadeFault → Type 0
+RefusesLayout ranks world comms faults.Memory = Unit {0}
+RefusesLayout ranks world comms (faults.Layout fault) = fault_of ranks world comms ≡ Some fault
+RefusesLayout ranks world comms _ = ⊥
+
+abbrev pub RefusesLayoutFile : Json → MadeFault → Type 0
+RefusesLayoutFile value faults.Memory = Unit {0}
+RefusesLayoutFile value faults.LayoutFile = longest < length (line_of value)
+RefusesLayoutFile value _ = ⊥
+
+abbrev pub RefusesManifestFile : Json → MadeFault → Type 0
+RefusesManifestFile value faults.Memory = Unit {0}
+RefusesManifestFile value faults.ManifestFile = longest < length (line_of value)
+RefusesManifestFile value _ = ⊥
+
+-- Some communicators of these ranks make no layout, by a rule of layouts or since its file is too long.
+pub record RefusesComms (sends : Sends) (ranks : List RankCalls) (fault : MadeFault) : Type 0 where
+  pub comms : List Communicator
+  pub why : RefusesLayout (length ranks) (world_of ranks) comms fault ⊎ RefusesLayoutFile (layout_value (record { ranks = length ranks; world = world_of ranks; sends = sends; comms = comms })) fault
+
+-- Why no layout is made: the number of the world, the communicators, or the manifest.
+abbrev pub RefusesMaking : Sends → List (List ℕ) → List RankCalls → MadeFault → Type 0
+RefusesMaking sends files ranks faults.Memory = Unit {0}
+RefusesMaking sends files ranks (faults.World first second) = world_fault ranks ≡ Some (derives.World first second)
+RefusesMaking sends files ranks (faults.Layout fault) = RefusesComms sends ranks (faults.Layout fault)
+RefusesMaking sends files ranks faults.LayoutFile = RefusesComms sends ranks faults.LayoutFile
+RefusesMaking sends files ranks faults.ManifestFile = longest < length (line_of (manifest_value files))

@@ -1,0 +1,37 @@
+-- What a whole text says of communicators.
+use Rattle.std.specs.Prelude.{◌≡◌, ℕ, List, Option, length}
+use Rattle.dumpi_text.specs.Call.{TextCall}
+use Rattle.dumpi_text.specs.Grammar.{Complete}
+use Rattle.dumpi_text.specs.Reading.{MeansAll}
+use Rattle.dumpi_text.specs.declared.step.Position.{Position}
+use Rattle.dumpi_calls.specs.Walks.{StopsWalk, is_unfinished}
+use Rattle.dumpi_calls.specs.declared.fault.WalkFault.{WalkFault}
+use Rattle.dumpi_calls.specs.declared.walking.Walked.{Walked}
+use Rattle.comm_makings.specs.declared.calls.RankCalls.{RankCalls}
+use Rattle.comm_calls.specs.Calls.{IsReadOf, ReadCalls}
+use Rattle.comm_calls.specs.declared.fault.Memory.{Memory}
+
+-- what was read, as the calls of a rank
+pub record AreOfRank (read : ReadCalls) (rank : RankCalls) : Type 0 where
+  pub world : rank.world ≡ read.world
+  pub own : rank.own ≡ read.own
+  pub calls : rank.calls.items ≡ read.calls
+  pub uses : rank.uses.items ≡ read.uses
+
+-- All calls that the text means were read, where it is told, and they say this of communicators.
+pub record IsReadFrom (text : Option (List ℕ)) (rank : RankCalls) (walked : Walked) : Type 0 where
+  pub calls : List TextCall
+  pub at : Position
+  pub means : MeansAll text calls (Complete at)
+  pub read : ReadCalls
+  pub is_read : IsReadOf calls read
+  pub told : AreOfRank read rank
+  pub counted : walked.calls ≡ length calls
+  pub skipped : walked.skipped ≡ at.skipped
+  pub unfinished : walked.unfinished ≡ is_unfinished calls
+
+-- The text is refused behind these calls, at the first that can't be had.
+pub record StopsIn (text : Option (List ℕ)) (fault : WalkFault Memory) : Type 0 where
+  pub calls : List TextCall
+  pub counted : fault.calls ≡ length calls
+  pub stops : StopsWalk {F = Memory} text calls fault.cause fault.line

@@ -1,0 +1,70 @@
+-- What is said of a layout that was made.
+use Rattle.std.specs.Prelude.{◌-◌, ℕ, zero, suc, List, [], ◌++◌, Option, Some, None, length, codes, decimal, nat_lt, take, if◌then◌else◌}
+use Rattle.std.specs.List.{flat_map}
+use Rattle.call_words.specs.Ranges.{named_ranks_text}
+use Rattle.mpi_model.specs.Communicators.{Communicator}
+use Rattle.comm_makings.specs.declared.answer.LeftOut.{LeftOut}
+use Rattle.comm_makings.specs.declared.answer.MadeBy.{MadeBy}
+use Rattle.comm_makings.specs.declared.answer.MadeBy.TheVariants as makers
+use Rattle.comm_makings.specs.declared.answer.Why.{Why}
+use Rattle.comm_makings.specs.declared.answer.Why.TheVariants as reasons
+
+-- `  and 3 more`
+abbrev pub more_text : ℕ → List ℕ
+more_text zero = []
+more_text (suc n) = codes "  and " ++ decimal (suc n) ++ codes " more\n"
+
+-- `ranks: 4, calls: 120`
+abbrev pub counts_text : ℕ → ℕ → List ℕ
+counts_text ranks calls = codes "ranks: " ++ decimal ranks ++ codes ", calls: " ++ decimal calls ++ codes "\n"
+
+-- `  5: ranks 0, 2`, the members in their order
+abbrev pub comm_text : Communicator → List ℕ
+comm_text g = codes "  " ++ decimal g.comm ++ codes ": " ++ named_ranks_text g.members ++ codes "\n"
+
+-- how many communicators there are, and the first twenty of them
+abbrev pub comms_text : List Communicator → List ℕ
+comms_text comms = codes "communicators: " ++ decimal (length comms) ++ codes "\n" ++ flat_map comm_text (take 20 comms) ++ more_text (length comms - 20)
+
+abbrev pub function_text : MadeBy → List ℕ
+function_text makers.Dup = codes "MPI_Comm_dup"
+function_text makers.DupWithInfo = codes "MPI_Comm_dup_with_info"
+function_text makers.Idup = codes "MPI_Comm_idup"
+function_text makers.IdupWithInfo = codes "MPI_Comm_idup_with_info"
+function_text makers.Split = codes "MPI_Comm_split"
+function_text makers.Create = codes "MPI_Comm_create"
+function_text makers.CreateGroup = codes "MPI_Comm_create_group"
+function_text makers.CartCreate = codes "MPI_Cart_create"
+function_text makers.CartSub = codes "MPI_Cart_sub"
+function_text makers.GraphCreate = codes "MPI_Graph_create"
+function_text makers.DistGraphCreate = codes "MPI_Dist_graph_create"
+function_text makers.DistGraphCreateAdjacent = codes "MPI_Dist_graph_create_adjacent"
+function_text makers.Other = codes "another function"
+
+abbrev pub why_text : Why → List ℕ
+why_text reasons.Function = codes "nothing is derived from calls of this function"
+why_text reasons.Taken = codes "the number is that of MPI_COMM_WORLD or MPI_COMM_SELF"
+why_text reasons.UnknownParent = codes "its parent, or that of an earlier call, is unknown"
+why_text reasons.Parent = codes "its parent is left out"
+why_text reasons.Untold = codes "a member has no such call, or the texts don't tell the order of its ranks"
+why_text reasons.Unsound = codes "the members' calls don't agree, or a parameter is unknown"
+why_text reasons.Behind = codes "an earlier one of the same parent is left out"
+
+abbrev pub given_text : Option ℕ → List ℕ
+given_text None = codes "an unknown number"
+given_text (Some number) = decimal number
+
+-- `  rank 1, call 12, MPI_Comm_split: 5, calls that name it: 3 (its parent is left out)`
+abbrev pub left_text : LeftOut → List ℕ
+left_text l = codes "  rank " ++ decimal l.rank ++ codes ", call " ++ decimal l.call ++ codes ", " ++ function_text l.made_by ++ codes ": " ++ given_text l.number
+    ++ codes ", calls that name it: " ++ decimal l.uses ++ codes " (" ++ why_text l.why ++ codes ")\n"
+
+-- how many communicators are left out, and the first twenty of them
+abbrev pub some_left_text : List LeftOut → List ℕ
+some_left_text left_out = codes "left out: " ++ decimal (length left_out) ++ codes "\n" ++ flat_map left_text (take 20 left_out) ++ more_text (length left_out - 20)
+
+abbrev pub left_out_text : List LeftOut → List ℕ
+left_out_text left_out = if nat_lt 0 (length left_out) then some_left_text left_out else []
+
+abbrev pub notes_text : ℕ → ℕ → List Communicator → List LeftOut → List ℕ
+notes_text ranks calls comms left_out = counts_text ranks calls ++ comms_text comms ++ left_out_text left_out

@@ -1,0 +1,162 @@
+//! From what all texts say to a layout and a manifest, and the bytes of their files.
+
+ghost use Rattle.std.specs.Prelude.{◌≡◌, ◌<◌, ◌^◌, IfErr, IfOk, None, OnOk, length, map, string_bytes};
+ghost use Rattle.mpi_model.specs.Layouts.{Holds, fault_of};
+ghost use Rattle.comm_makings.specs.World.{world_fault, world_of};
+ghost use Rattle.layout_files.specs.Values.{layout_value, line_of, manifest_value};
+ghost use Rattle.text_layouts.specs.Making.{IsFile, RefusesLayout, RefusesLayoutFile, RefusesMaking, RefusesManifestFile, RefusesWorld};
+
+use crate::fault::MadeFault;
+use comm_makings::{DeriveFault, Derived, RankCalls, derive};
+use layout_files::{layout_bytes, manifest_bytes};
+use mpi_model::{Comm, Layout, LayoutFault, MOST_RANKS, Sends, Stretch};
+use std::alloc::{AllocError, Global};
+
+/// The most bytes of a layout's or a manifest's file.
+pub const LONGEST_FILE: usize = 16_777_216;
+
+/// What is made of the texts of all ranks.
+#[derive(Debug, Drop)]
+pub struct Made {
+    /// The communicators, and what is left out.
+    pub derived: Derived,
+    pub layout: Layout,
+    /// The bytes of the layout's file.
+    pub layout_file: Vec<u8>,
+    /// The bytes of the manifest's file.
+    pub manifest_file: Vec<u8>,
+}
+
+fn copy_of_members(alloc: Global, members: &[u32]) -> Result<Vec<u32>, AllocError>
+    ensures { IfOk result (λ v. v.items ≡ members.now) }
+{
+    let mut copy = Vec::new(alloc);
+    copy.extend_from_slice(members)?;
+    Ok(copy)
+}
+
+fn copy_of_numbers(
+    alloc: Global,
+    numbers: &[Option<Stretch>],
+) -> Result<Vec<Option<Stretch>>, AllocError>
+    ensures { IfOk result (λ v. v.items ≡ numbers.now) }
+{
+    let mut copy = Vec::with_capacity(alloc, numbers.len())?;
+    for number in numbers {
+        copy.push(*number)?;
+    }
+    Ok(copy)
+}
+
+fn copy_of(alloc: Global, comm: &Comm) -> Result<Comm, AllocError>
+    ensures { IfOk result (λ c. c ≡ comm.now) }
+{
+    let members = copy_of_members(alloc, &comm.members)?;
+    let numbers = copy_of_numbers(alloc, &comm.numbers)?;
+    Ok(Comm {
+        id: comm.id,
+        members,
+        numbers,
+    })
+}
+
+fn copies(alloc: Global, comms: &[Comm]) -> Result<Vec<Comm>, AllocError>
+    ensures { IfOk result (λ v. v.items ≡ comms.now) }
+{
+    let mut all = Vec::with_capacity(alloc, comms.len())?;
+    for comm in comms {
+        all.push(copy_of(alloc, comm)?)?;
+    }
+    Ok(all)
+}
+
+fn derived_of(alloc: Global, ranks: &[RankCalls]) -> Result<Derived, MadeFault>
+    requires { length ranks.now < 2 ^ 32 }
+    ensures world { IfOk result (λ d. d.world ≡ world_of ranks.now) }
+    ensures none { OnOk result (world_fault ranks.now ≡ None) }
+    ensures fault { IfErr result (λ e. RefusesWorld ranks.now e) }
+{
+    match derive(alloc, ranks) {
+        Ok(derived) => Ok(derived),
+        Err(DeriveFault::Memory) => Err(MadeFault::Memory),
+        Err(DeriveFault::World { first, second }) => Err(MadeFault::World { first, second }),
+    }
+}
+
+fn layout_of(
+    alloc: Global,
+    ranks: u32,
+    sends: Sends,
+    derived: &Derived,
+) -> Result<Layout, MadeFault>
+    ensures ok { IfOk result (λ l. Holds ranks derived.now.world sends derived.now.comms.items l) }
+    ensures none { OnOk result (fault_of ranks derived.now.world derived.now.comms.items ≡ None) }
+    ensures fault { IfErr result (λ e. RefusesLayout ranks derived.now.world derived.now.comms.items e) }
+{
+    let comms = copies(alloc, &derived.comms)?;
+    match Layout::of_comms(alloc, ranks, derived.world, comms, sends) {
+        Ok(layout) => Ok(layout),
+        Err(LayoutFault::Memory) => Err(MadeFault::Memory),
+        Err(fault) => Err(MadeFault::Layout(fault)),
+    }
+}
+
+fn layout_file_of(
+    alloc: Global,
+    ranks: u32,
+    sends: Sends,
+    derived: &Derived,
+) -> Result<Vec<u8>, MadeFault>
+    ensures ok { IfOk result (λ file. IsFile (layout_value (record { ranks = ranks; world = derived.now.world; sends = sends; comms = derived.now.comms.items })) file.items) }
+    ensures fault { IfErr result (λ e. RefusesLayoutFile (layout_value (record { ranks = ranks; world = derived.now.world; sends = sends; comms = derived.now.comms.items })) e) }
+{
+    let file = layout_bytes(alloc, ranks, derived.world, sends, &derived.comms)?;
+    if file.len() > LONGEST_FILE {
+        return Err(MadeFault::LayoutFile);
+    }
+    Ok(file)
+}
+
+fn manifest_file_of(alloc: Global, files: &[String]) -> Result<Vec<u8>, MadeFault>
+    ensures ok { IfOk result (λ file. IsFile (manifest_value (map string_bytes files.now)) file.items) }
+    ensures fault { IfErr result (λ e. RefusesManifestFile (manifest_value (map string_bytes files.now)) e) }
+{
+    let file = manifest_bytes(alloc, files)?;
+    if file.len() > LONGEST_FILE {
+        return Err(MadeFault::ManifestFile);
+    }
+    Ok(file)
+}
+
+/// The layout of the ranks whose calls these are, with the communicators that they make, and the manifest of their texts'
+/// files, by rank. Nothing is made of no rank, or of more than a layout can have.
+#[tactic(auto, using(crate::proofs::Refused::by_count, crate::proofs::Refused::by_world, crate::proofs::Refused::by_layout, crate::proofs::Refused::by_file, crate::proofs::Refused::by_manifest))]
+pub fn made_of(
+    alloc: Global,
+    sends: Sends,
+    files: &[String],
+    ranks: &[RankCalls],
+) -> Result<Made, MadeFault>
+    ensures world { IfOk result (λ m. m.derived.world ≡ world_of ranks.now) }
+    ensures told { OnOk result (world_fault ranks.now ≡ None) }
+    ensures layout { IfOk result (λ m. Holds (length ranks.now) m.derived.world sends m.derived.comms.items m.layout) }
+    ensures rules { IfOk result (λ m. fault_of (length ranks.now) m.derived.world m.derived.comms.items ≡ None) }
+    ensures layout_file { IfOk result (λ m. IsFile (layout_value (record { ranks = length ranks.now; world = m.derived.world; sends = sends; comms = m.derived.comms.items })) m.layout_file.items) }
+    ensures manifest_file { IfOk result (λ m. IsFile (manifest_value (map string_bytes files.now)) m.manifest_file.items) }
+    ensures fault { IfErr result (RefusesMaking sends (map string_bytes files.now) ranks.now) }
+{
+    if ranks.is_empty() || ranks.len() > MOST_RANKS as usize {
+        return Err(MadeFault::Layout(LayoutFault::RankCount));
+    }
+    let count = ranks.len() as u32;
+    let derived = derived_of(alloc, ranks)?;
+    let layout = layout_of(alloc, count, sends, &derived)?;
+    let layout_file = layout_file_of(alloc, count, sends, &derived)?;
+    let manifest_file = manifest_file_of(alloc, files)?;
+    Ok(Made {
+        derived,
+        layout,
+        layout_file,
+        manifest_file,
+    })
+}

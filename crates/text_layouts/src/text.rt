@@ -1,0 +1,32 @@
+//! What one text says of communicators.
+
+ghost use Rattle.std.specs.Prelude.{◌≡◌, IfErr, IfOk};
+ghost use Rattle.dumpi_text.specs.Failing.{Fails};
+ghost use Rattle.dumpi_calls.specs.Walks.{FailsIn, IsReadStop};
+ghost use Rattle.text_layouts.specs.Texts.{IsReadFrom, StopsIn};
+
+use comm_calls::{CommCalls, Memory, calls_read_in_turn};
+use comm_makings::RankCalls;
+use dumpi_calls::{WalkFault, Walked, walk_raw};
+use mpi_model::Read;
+use std::alloc::Global;
+
+/// What the calls of a whole text say of communicators and groups, and how the text was walked. The text is read in one
+/// pass; memory grows with its calls on communicators and groups, and the numbers that are named between them.
+#[tactic(auto, using(crate::proofs::Told::read_whole, crate::proofs::Told::stopped))]
+pub fn rank_calls_of<R: Read>(
+    alloc: Global,
+    reader: R,
+) -> Result<(RankCalls, Walked), WalkFault<Memory>>
+    ensures ok { IfOk result (λ read. IsReadFrom (R.left reader) read.0 read.1) }
+    ensures err { IfErr result (StopsIn (R.left reader)) }
+    ensures failed { IfErr result (λ fault. IsReadStop fault.cause → Fails R.failures) }
+    ensures failure { IfErr result (λ fault. IsReadStop fault.cause → FailsIn R.left R.failures reader fault.calls fault.line) }
+{
+    calls_read_in_turn();
+    let mut read = CommCalls::new(alloc);
+    match walk_raw(alloc, reader, &mut read) {
+        Ok(walked) => Ok((read.into_rank_calls(), walked)),
+        Err(fault) => Err(fault),
+    }
+}

@@ -1,0 +1,169 @@
+//! What is said of a layout that was made.
+
+ghost use Rattle.std.specs.Prelude.{◌≡◌, ◌-◌, length, take};
+ghost use Rattle.std.specs.List.{flat_map};
+ghost use Rattle.call_words.specs.Texts.{Adds};
+ghost use Rattle.text_layouts.specs.Words.{comm_text, comms_text, counts_text, function_text, given_text, left_out_text, left_text, more_text, notes_text, some_left_text, why_text};
+
+use call_words::{Text, put_named_ranks};
+use comm_makings::{Derived, LeftOut, MadeBy, Why};
+use mpi_model::Comm;
+
+/// How many lines of a kind are written.
+pub const MOST_SHOWN: usize = 20;
+
+fn put_more(out: &mut Text, more: usize)
+    ensures { Adds out.old out.new (more_text more) }
+{
+    if more > 0 {
+        out.put(b"  and ");
+        out.put_number(more as u64);
+        out.put(b" more\n");
+    }
+}
+
+// at most so many of the items
+fn shown<T>(items: &[T]) -> &[T]
+    ensures { result.now ≡ take 20 items.now }
+{
+    if items.len() > MOST_SHOWN {
+        &items[..MOST_SHOWN]
+    } else {
+        items
+    }
+}
+
+fn put_comm(out: &mut Text, comm: &Comm)
+    ensures { Adds out.old out.new (comm_text comm.now) }
+{
+    out.put(b"  ");
+    out.put_number(comm.id as u64);
+    out.put(b": ");
+    put_named_ranks(out, &comm.members);
+    out.put(b"\n");
+}
+
+fn put_each_comm(out: &mut Text, comms: &[Comm])
+    ensures { Adds out.old out.new (flat_map comm_text comms.now) }
+{
+    for comm in comms {
+        put_comm(out, comm);
+    }
+}
+
+fn put_comms(out: &mut Text, comms: &[Comm])
+    ensures { Adds out.old out.new (comms_text comms.now) }
+{
+    out.put(b"communicators: ");
+    out.put_number(comms.len() as u64);
+    out.put(b"\n");
+    put_each_comm(out, shown(comms));
+    put_more(out, comms.len().saturating_sub(MOST_SHOWN));
+}
+
+fn function_text(made_by: MadeBy) -> &'static [u8]
+    ensures { result.now ≡ function_text made_by }
+{
+    match made_by {
+        MadeBy::Dup => b"MPI_Comm_dup",
+        MadeBy::DupWithInfo => b"MPI_Comm_dup_with_info",
+        MadeBy::Idup => b"MPI_Comm_idup",
+        MadeBy::IdupWithInfo => b"MPI_Comm_idup_with_info",
+        MadeBy::Split => b"MPI_Comm_split",
+        MadeBy::Create => b"MPI_Comm_create",
+        MadeBy::CreateGroup => b"MPI_Comm_create_group",
+        MadeBy::CartCreate => b"MPI_Cart_create",
+        MadeBy::CartSub => b"MPI_Cart_sub",
+        MadeBy::GraphCreate => b"MPI_Graph_create",
+        MadeBy::DistGraphCreate => b"MPI_Dist_graph_create",
+        MadeBy::DistGraphCreateAdjacent => b"MPI_Dist_graph_create_adjacent",
+        MadeBy::Other => b"another function",
+    }
+}
+
+fn why_text(why: Why) -> &'static [u8]
+    ensures { result.now ≡ why_text why }
+{
+    match why {
+        Why::Function => b"nothing is derived from calls of this function",
+        Why::Taken => b"the number is that of MPI_COMM_WORLD or MPI_COMM_SELF",
+        Why::UnknownParent => b"its parent, or that of an earlier call, is unknown",
+        Why::Parent => b"its parent is left out",
+        Why::Untold => b"a member has no such call, or the texts don't tell the order of its ranks",
+        Why::Unsound => b"the members' calls don't agree, or a parameter is unknown",
+        Why::Behind => b"an earlier one of the same parent is left out",
+    }
+}
+
+fn put_given(out: &mut Text, number: Option<u32>)
+    ensures { Adds out.old out.new (given_text number) }
+{
+    match number {
+        Some(number) => out.put_number(number as u64),
+        None => out.put(b"an unknown number"),
+    }
+}
+
+fn put_left(out: &mut Text, left: &LeftOut)
+    ensures { Adds out.old out.new (left_text left.now) }
+{
+    out.put(b"  rank ");
+    out.put_number(left.rank as u64);
+    out.put(b", call ");
+    out.put_number(left.call);
+    out.put(b", ");
+    out.put(function_text(left.made_by));
+    out.put(b": ");
+    put_given(out, left.number);
+    out.put(b", calls that name it: ");
+    out.put_number(left.uses);
+    out.put(b" (");
+    out.put(why_text(left.why));
+    out.put(b")\n");
+}
+
+fn put_each_left(out: &mut Text, left_out: &[LeftOut])
+    ensures { Adds out.old out.new (flat_map left_text left_out.now) }
+{
+    for left in left_out {
+        put_left(out, left);
+    }
+}
+
+fn put_some_left(out: &mut Text, left_out: &[LeftOut])
+    ensures { Adds out.old out.new (some_left_text left_out.now) }
+{
+    out.put(b"left out: ");
+    out.put_number(left_out.len() as u64);
+    out.put(b"\n");
+    put_each_left(out, shown(left_out));
+    put_more(out, left_out.len().saturating_sub(MOST_SHOWN));
+}
+
+fn put_left_out(out: &mut Text, left_out: &[LeftOut])
+    ensures { Adds out.old out.new (left_out_text left_out.now) }
+{
+    if left_out.len() > 0 {
+        put_some_left(out, left_out);
+    }
+}
+
+fn put_counts(out: &mut Text, ranks: u32, calls: u64)
+    ensures { Adds out.old out.new (counts_text ranks calls) }
+{
+    out.put(b"ranks: ");
+    out.put_number(ranks as u64);
+    out.put(b", calls: ");
+    out.put_number(calls);
+    out.put(b"\n");
+}
+
+/// What is said of a layout that was made: how many ranks it has and how many calls their texts have, its communicators
+/// with their members, and what is left out of it.
+pub fn put_notes(out: &mut Text, ranks: u32, calls: u64, derived: &Derived)
+    ensures { Adds out.old out.new (notes_text ranks calls derived.now.comms.items derived.now.left_out.items) }
+{
+    put_counts(out, ranks, calls);
+    put_comms(out, &derived.comms);
+    put_left_out(out, &derived.left_out);
+}

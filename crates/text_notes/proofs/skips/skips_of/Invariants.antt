@@ -1,0 +1,10 @@
+use Rattle.std.proofs.Common.{◌≡◌, ◌-◌, List}
+use Rattle.dumpi_text.specs.Call.{TextCall}
+use Rattle.dumpi_calls.specs.Walks.{IsRead}
+use Rattle.text_notes.proofs.skips.skips_of.Given as goal
+
+abbrev pub invariant-each : goal.invariant-each
+invariant-each g l = (calls : List TextCall) × IsRead (g.R.Read.left l.fn.reader) calls l.texts × (l.behind ≡ l.texts.told.line) × (l.texts.told.skipped ≡ 0)
+
+abbrev pub decreases-each : goal.decreases-each
+decreases-each g l = 16777217 - l.texts.at.line

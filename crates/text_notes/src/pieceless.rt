@@ -1,0 +1,67 @@
+//! Ranks of which no piece tells anything.
+
+ghost use Rattle.std.specs.Prelude.{◌≡◌, IfOk};
+ghost use Rattle.std.specs.List.{list_any};
+ghost use Rattle.call_words.specs.Texts.{Adds};
+ghost use Rattle.text_notes.specs.Words.{has_no_text, is_of_rank, pieceless, pieceless_text, these_pieceless_text};
+
+use crate::note::TextNote;
+use call_words::{Text, put_named_ranks};
+use std::alloc::{AllocError, Global};
+
+fn is_of_rank(rank: u32, note: &TextNote) -> bool
+    ensures { result ≡ is_of_rank rank note.now }
+{
+    note.rank() == rank
+}
+
+fn has_text(notes: &[TextNote], rank: u32) -> bool
+    ensures { result ≡ list_any (is_of_rank rank) notes.now }
+{
+    notes.iter().any(|note| is_of_rank(rank, note))
+}
+
+fn has_no_text(notes: &[TextNote], rank: u32) -> bool
+    ensures { result ≡ has_no_text notes.now rank }
+{
+    !has_text(notes, rank)
+}
+
+/// Those among the ranks that have no text.
+fn pieceless(alloc: Global, notes: &[TextNote], unknown: &[u32]) -> Result<Vec<u32>, AllocError>
+    ensures { IfOk result (λ ranks. ranks.items ≡ pieceless notes.now unknown.now) }
+{
+    let mut ranks = Vec::new(alloc);
+    for rank in unknown {
+        if has_no_text(notes, *rank) {
+            ranks.push(*rank)?;
+        }
+    }
+    Ok(ranks)
+}
+
+fn put_these(out: &mut Text, ranks: &[u32])
+    ensures { Adds out.old out.new (these_pieceless_text ranks.now) }
+{
+    out.put(b"  no piece tells anything of ");
+    put_named_ranks(out, ranks);
+    out.put(b"\n");
+}
+
+fn put_some(out: &mut Text, ranks: &[u32])
+    ensures { Adds out.old out.new (pieceless_text ranks.now) }
+{
+    if !ranks.is_empty() {
+        put_these(out, ranks);
+    }
+}
+
+/// Says of which of the ranks of which nothing is known there is no text. Nothing is said where each has one.
+pub fn put_pieceless(alloc: Global, out: &mut Text, notes: &[TextNote], unknown: &[u32])
+    ensures { Adds out.old out.new (pieceless_text (pieceless notes.now unknown.now)) }
+{
+    match pieceless(alloc, notes, unknown) {
+        Ok(ranks) => put_some(out, &ranks),
+        Err(_) => out.give_up(),
+    }
+}
