@@ -2,7 +2,7 @@
 use Rattle.std.specs.Prelude.{◌<◌, ◌^◌, ℕ, ℤ, Option, IfSome, FitsSigned, All}
 use Rattle.std.specs.Int.{w64}
 use Rattle.mpi_model.specs.Times.{IsTimes}
-use Rattle.mpi_model.specs.Ranges.{IsTold, IsComm, IsSend, IsReceive, IsProbe, IsCollective, BothEnvelopes, IsExchange}
+use Rattle.mpi_model.specs.Ranges.{IsTold, IsSend, IsReceive, IsProbe, IsCollective, BothEnvelopes, IsExchange}
 use Rattle.mpi_model.specs.declared.envelope.Envelope.{Envelope}
 use Rattle.mpi_model.specs.declared.call.Call.{Call}
 use Rattle.mpi_model.specs.declared.call.Call.TheVariants as calls
@@ -47,8 +47,8 @@ IsCall (calls.Testsome requests) = All IsSigned requests
 IsCall (calls.Cancel request) = IsSigned request
 IsCall (calls.Free request) = IsSigned request
 IsCall (calls.Collective c) = IsCollective c
+IsCall (calls.Icollective c) = IsCollective c
 IsCall (calls.Probe e) = IsProbe e
-IsCall (calls.Ibarrier c) = IsComm c
 IsCall calls.Unread = Unit {0}
 
 -- a position in a call's list, where there is one
