@@ -152,25 +152,21 @@ non_negative_in parameter call = do
   number ← number_in parameter call
   or_wrong parameter (non_negative number.value)
 
--- the destination of a send
 unfoldable pub dest_in : TextCall → Result Peer CallFault
 dest_in call = do
   number ← number_in parameters.Dest call
   or_wrong parameters.Dest (dest_by number.name number.value)
 
--- the source of a receive or a probe
 unfoldable pub source_in : TextCall → Result Peer CallFault
 source_in call = do
   number ← number_in parameters.Source call
   or_wrong parameters.Source (source_by number.name number.value)
 
--- the tag that a receive or a probe asks for
 unfoldable pub asked_tag_in : Parameter → TextCall → Result (Option ℕ) CallFault
 asked_tag_in parameter call = do
   number ← number_in parameter call
   or_wrong parameter (asked_tag_by number.name number.value)
 
--- the communicator of a call
 unfoldable pub comm_in : TextCall → Result CommRef CallFault
 comm_in call = do
   number ← number_in parameters.Comm call

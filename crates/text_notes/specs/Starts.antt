@@ -14,7 +14,6 @@ begins one other _ = false
 abbrev pub is_utf16 : List ℕ → Bool
 is_utf16 front = if begins 255 254 front then true else begins 254 255 front
 
--- a byte 0 is there, which no text has
 abbrev pub has_zero : List ℕ → Bool
 has_zero front = list_any (λ byte. byte == 0) front
 
