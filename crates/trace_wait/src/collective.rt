@@ -14,7 +14,6 @@ use std::sync::Arc;
 use trace_ops::{Entered, RankOps};
 use trace_stuck::Condition;
 
-/// Adds a member that has not entered the round.
 fn push_missing(has_entered: bool, r: u32, ranks: &mut Vec<u32>) -> Result<(), AllocError>
     ensures { OnOk result (ranks.new.items ≡ ranks.old.items ++ (if has_entered then [] else r ∷ [])) }
 {

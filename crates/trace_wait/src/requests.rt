@@ -68,14 +68,12 @@ fn posted_by(o: &RankOps, x: &i64) -> Option<u64>
 /// What requests wait for that were met before, by the calls that posted them.
 type Made = IndexMap<u64, Condition>;
 
-/// The part of a request that was made already.
 fn made_before(made: &Made, n: u64) -> Option<&Condition>
     ensures { option_copied result ≡ get nat_eq made.now n }
 {
     made.get(&n)
 }
 
-/// Keeps the part of a request, for where it stands again.
 fn note_made(made: &mut Made, n: u64, part: Condition) -> Result<(), AllocError>
     ensures { OnOk result ((m : ℕ) → get nat_eq made.new m ≡ (if nat_eq n m then Some part else get nat_eq made.old m)) }
 {
@@ -131,7 +129,6 @@ pub(crate) fn requests(
     Ok(parts)
 }
 
-/// Adds what the request of a number waits for, where it is active.
 fn push_request(
     alloc: Global,
     run: &Overview,
@@ -178,7 +175,6 @@ pub(crate) fn choices(
     Ok(parts)
 }
 
-/// Adds what one number of a Waitany or Waitsome waits for, unless it is the null number.
 fn push_choice(
     alloc: Global,
     run: &Overview,

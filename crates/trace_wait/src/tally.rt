@@ -75,7 +75,6 @@ fn merge(tallies: &mut Vec<Tally>, calls: &[Entered]) -> Result<(), AllocError>
     Ok(())
 }
 
-/// The tallies of a communicator's rounds, over all members.
 fn tallies_of(
     alloc: Global,
     entries: &Entries,
@@ -103,7 +102,6 @@ fn stands(members: u32, t: &Tally) -> Standing
     }
 }
 
-/// Adds the rounds of a communicator, in order.
 fn push_rounds(
     comm: u32,
     members: u32,
@@ -133,7 +131,6 @@ pub(crate) fn members_of<'a>(layout: &'a Layout, comm: u32) -> &'a [u32]
     }
 }
 
-/// Adds the rounds of the communicator of a number.
 fn push_comm(
     alloc: Global,
     layout: &Layout,
@@ -148,7 +145,6 @@ fn push_comm(
     push_rounds(comm, members.len() as u32, &tallies, out)
 }
 
-/// The rounds of all communicators, in the layout's order.
 fn rounds_by(alloc: Global, layout: &Layout, entries: &Entries) -> Result<Vec<Round>, AllocError>
     ensures { IfOk result (λ v. v.items ≡ rounds_of layout.now.comms entries.now) }
 {
