@@ -15,6 +15,7 @@ use Rattle.mpi_model.specs.Ranges.{BothEnvelopes, CollectiveCall, Probed}
 
 -- What a call names. Peers and roots are ranks of the communicator's group.
 
+-- a communicator by its number
 abbrev pub id_text : ℕ → List ℕ
 id_text number = codes "communicator " ++ decimal number
 
@@ -23,9 +24,11 @@ abbrev pub comm_text : CommRef → List ℕ
 comm_text World = codes "MPI_COMM_WORLD"
 comm_text (Id number) = id_text number
 
+-- a peer by its rank in the communicator that is named behind it
 abbrev pub rank_of_text : ℕ → List ℕ
 rank_of_text rank = codes "rank " ++ decimal rank ++ codes " of "
 
+-- a peer up to its communicator
 abbrev pub peer_front : Peer → List ℕ
 peer_front peers.Any = codes "any rank of "
 peer_front peers.Null = codes "MPI_PROC_NULL on "
@@ -35,6 +38,7 @@ peer_front (peers.Rank rank) = rank_of_text rank
 abbrev pub peer_text : Peer → CommRef → List ℕ
 peer_text peer comm = peer_front peer ++ comm_text comm
 
+-- a tag that is named
 abbrev pub one_tag_text : ℕ → List ℕ
 one_tag_text tag = codes ", tag " ++ decimal tag
 
@@ -43,6 +47,7 @@ abbrev pub tag_text : Option ℕ → List ℕ
 tag_text None = codes ", any tag"
 tag_text (Some tag) = one_tag_text tag
 
+-- one element, and else elements
 abbrev pub elements_word : ℕ → List ℕ
 elements_word count = if count == 1 then codes " element" else codes " elements"
 
@@ -58,17 +63,20 @@ sent_text e = codes " to " ++ peer_text e.peer e.comm ++ tag_text e.tag ++ count
 abbrev pub received_text : Envelope → List ℕ
 received_text e = codes " from " ++ peer_text e.peer e.comm ++ tag_text e.tag ++ count_text (codes ", at most ") e.count
 
+-- what a Probe looks for
 abbrev pub probed_text : Probed → List ℕ
 probed_text e = codes " from " ++ peer_text e.source e.comm ++ tag_text e.tag
 
 -- Names of functions
 
+-- the function of a blocking send of a mode (MPI 4.0, 3.4)
 abbrev pub send_name : Mode → List ℕ
 send_name modes.Standard = codes "MPI_Send"
 send_name modes.Synchronous = codes "MPI_Ssend"
 send_name modes.Buffered = codes "MPI_Bsend"
 send_name modes.Ready = codes "MPI_Rsend"
 
+-- the function of a nonblocking send of a mode (MPI 4.0, 3.7.2)
 abbrev pub immediate_name : Mode → List ℕ
 immediate_name modes.Standard = codes "MPI_Isend"
 immediate_name modes.Synchronous = codes "MPI_Issend"
@@ -88,15 +96,19 @@ collective_name kinds.Ibarrier = codes "MPI_Ibarrier"
 
 -- Calls
 
+-- a call that sends, by its function and its envelope
 abbrev pub send_text : List ℕ → Envelope → List ℕ
 send_text name e = name ++ sent_text e
 
+-- a call that receives, by its function and its envelope
 abbrev pub receive_text : List ℕ → Envelope → List ℕ
 receive_text name e = name ++ received_text e
 
+-- a Probe, by what it looks for
 abbrev pub probe_text : Probed → List ℕ
 probe_text e = codes "MPI_Probe" ++ probed_text e
 
+-- a Sendrecv, by both of its envelopes
 abbrev pub exchange_text : BothEnvelopes → List ℕ
 exchange_text x = codes "MPI_Sendrecv" ++ sent_text x.send ++ codes ", and" ++ received_text x.receive
 
@@ -104,9 +116,11 @@ exchange_text x = codes "MPI_Sendrecv" ++ sent_text x.send ++ codes ", and" ++ r
 abbrev pub on_text : List ℕ → CommRef → List ℕ
 on_text name comm = name ++ codes " on " ++ comm_text comm
 
+-- a root, by its rank in the communicator
 abbrev pub one_root_text : ℕ → List ℕ
 one_root_text root = codes ", root " ++ decimal root
 
+-- the root of a call, where its kind has one
 abbrev pub root_text : Option ℕ → List ℕ
 root_text None = []
 root_text (Some root) = one_root_text root

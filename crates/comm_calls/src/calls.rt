@@ -38,7 +38,7 @@ impl Model for CommCalls {
     ghost view = { λ c. record { place = c.place; world = c.world; own = c.own; calls = c.calls.items; uses = c.uses.groups.items; going = c.uses.going.entries } };
 }
 
-// the function of a call, where it is read
+/// The function of a call, where it is read.
 fn function_of(raw: &RawCall) -> Option<Function>
     ensures { result ≡ function_of raw.now }
 {
@@ -63,7 +63,7 @@ fn comm_call(
     })
 }
 
-// the number that a call gives, if it returned
+/// The number that a call gives, if it returned.
 fn given_number(call: &CommCall, given: Given) -> Option<u32>
     ensures { result ≡ number_given call.now.returned given }
 {
@@ -76,7 +76,7 @@ fn given_number(call: &CommCall, given: Given) -> Option<u32>
     }
 }
 
-// the number that a call gives or frees
+/// The number that a call gives or frees.
 fn changed_of(call: &CommCall) -> Option<u32>
     ensures { result ≡ changed_of_call call.now }
 {
@@ -104,7 +104,7 @@ impl CommCalls {
         }
     }
 
-    // a call of this function
+    /// A call of this function.
     fn take(&mut self, function: Function, raw: &RawCall) -> Result<(), Memory>
         ensures ok { OnOk result (TakesCall function self.old raw.now self.new) }
         ensures err { OnErr result (self.new ≡ self.old) }
@@ -116,7 +116,7 @@ impl CommCalls {
         Ok(())
     }
 
-    // what the next call says, but for the numbers beside names
+    /// What the next call says, but for the numbers beside names.
     fn add_said(&mut self, raw: &RawCall, call: &Call) -> Result<(), Memory>
         ensures ok { OnOk result (AddsSaid self.old raw.now call.now self.new) }
         ensures err { OnErr result (self.new ≡ self.old) }

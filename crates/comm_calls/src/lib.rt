@@ -11,7 +11,7 @@
 //! - [`making`], [`group`], [`action`]: what a call does
 //! - [`beside`]: the number that stands beside a name
 //! - [`uses`]: which calls of the profile name which numbers
-//! - [`calls`]: the calls of a text; [`laws`]: what holds of all of them
+//! - [`calls`]: the calls of a text; [`fault`]: that memory was lacking; [`laws`]: what holds of all of them
 #![tactic(auto)]
 
 mod action;

@@ -37,6 +37,7 @@ pub record TellsNumber (parameter : Parameter) (number : Num) (text rest : List 
 abbrev pub send_lines : List ℕ → List ℕ → List ℕ → List ℕ → List ℕ → List Param
 send_lines count datatype dest tag comm = param_of Count count ∷ param_of Datatype datatype ∷ param_of Dest dest ∷ param_of Tag tag ∷ param_of Comm comm ∷ []
 
+-- the parameters of a receive, in the order of dumpi2ascii
 abbrev pub receive_lines : List ℕ → List ℕ → List ℕ → List ℕ → List ℕ → List Param
 receive_lines count datatype source tag comm = param_of Count count ∷ param_of Datatype datatype ∷ param_of Source source ∷ param_of Tag tag ∷ param_of Comm comm ∷ []
 

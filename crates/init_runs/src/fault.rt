@@ -72,7 +72,7 @@ const HALF: &str = " can not be written, and a part of what was written is left"
 
 const NOT_ONE_RUN: &str = " have two numbers for MPI_COMM_WORLD: their texts are not of one run";
 
-// Two ranks, and what is said of them.
+/// Two ranks, and what is said of them.
 fn put_ranks<W: fmt::Write>(
     f: &mut fmt::Formatter<W>,
     first: u32,
@@ -84,6 +84,7 @@ fn put_ranks<W: fmt::Write>(
     write!(f, "ranks {first} and {second}{text}")
 }
 
+/// Prints why the texts make no layout.
 fn put_made<W: fmt::Write>(f: &mut fmt::Formatter<W>, fault: &MadeFault) -> fmt::Result
     ensures { WritesOnOk W.write_str_gives f.old result (made_fault_text fault.now) f.new }
 {
@@ -99,7 +100,7 @@ fn put_made<W: fmt::Write>(f: &mut fmt::Formatter<W>, fault: &MadeFault) -> fmt:
     }
 }
 
-// A file's name and what is said of it.
+/// A file's name and what is said of it.
 fn put_file<W: fmt::Write>(f: &mut fmt::Formatter<W>, path: &str, text: &str) -> fmt::Result
     ensures { WritesOnOk W.write_str_gives f.old result (shown_name path.now ++ text.now) f.new }
 {

@@ -32,11 +32,13 @@ RefusesLayout ranks world comms faults.Memory = Unit {0}
 RefusesLayout ranks world comms (faults.Layout fault) = fault_of ranks world comms ≡ Some fault
 RefusesLayout ranks world comms _ = ⊥
 
+-- why the file of the layout isn't made: it is too long
 abbrev pub RefusesLayoutFile : Json → MadeFault → Type 0
 RefusesLayoutFile value faults.Memory = Unit {0}
 RefusesLayoutFile value faults.LayoutFile = longest < length (line_of value)
 RefusesLayoutFile value _ = ⊥
 
+-- why the file of the manifest isn't made: it is too long
 abbrev pub RefusesManifestFile : Json → MadeFault → Type 0
 RefusesManifestFile value faults.Memory = Unit {0}
 RefusesManifestFile value faults.ManifestFile = longest < length (line_of value)

@@ -70,6 +70,7 @@ fn copies(alloc: Global, comms: &[Comm]) -> Result<Vec<Comm>, AllocError>
     Ok(all)
 }
 
+/// The communicators that the calls of all ranks make.
 fn derived_of(alloc: Global, ranks: &[RankCalls]) -> Result<Derived, MadeFault>
     requires { length ranks.now < 2 ^ 32 }
     ensures world { IfOk result (λ d. d.world ≡ world_of ranks.now) }
@@ -83,6 +84,7 @@ fn derived_of(alloc: Global, ranks: &[RankCalls]) -> Result<Derived, MadeFault>
     }
 }
 
+/// The layout of these communicators, which the rules of layouts are tried on.
 fn layout_of(
     alloc: Global,
     ranks: u32,
@@ -101,6 +103,7 @@ fn layout_of(
     }
 }
 
+/// The bytes of the layout's file, where it isn't too long.
 fn layout_file_of(
     alloc: Global,
     ranks: u32,
@@ -117,6 +120,7 @@ fn layout_file_of(
     Ok(file)
 }
 
+/// The bytes of the manifest's file, where it isn't too long.
 fn manifest_file_of(alloc: Global, files: &[String]) -> Result<Vec<u8>, MadeFault>
     ensures ok { IfOk result (λ file. IsFile (manifest_value (map string_bytes files.now)) file.items) }
     ensures fault { IfErr result (λ e. RefusesManifestFile (manifest_value (map string_bytes files.now)) e) }

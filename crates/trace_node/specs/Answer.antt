@@ -116,6 +116,7 @@ wait_at waits r = unwrap_or (unwrap_or (slice_get waits r) None) OnNothing
 abbrev pub stopped_in : View → List (Option Wait) → ℕ → ℕ → Stopped
 stopped_in view waits r call = record { rank = r; call = call; wall = wall_of view r call; waits = wait_at waits r }
 
+-- where a stuck rank stands, and what it waits for
 abbrev pub stopped_at : View → List Ops → List (Option Wait) → ℕ → Stopped
 stopped_at view ops waits r = stopped_in view waits r (call_of (ops_of ops r))
 

@@ -14,9 +14,11 @@ use Rattle.trace_report.specs.Seconds.{seconds_text}
 use Rattle.trace_report.specs.Waits.{wait_text, of_json}
 use Rattle.trace_report.specs.Words.{kind_word, sends_word, state_word}
 
+-- true or false
 abbrev pub bool_text : Bool → List ℕ
 bool_text b = if b then codes "true" else codes "false"
 
+-- the comma in front of an item, but for the first
 abbrev pub comma_before : ℕ → List ℕ
 comma_before zero = []
 comma_before (suc i) = codes ","
@@ -35,6 +37,7 @@ abbrev pub rank_fields : ℕ → ℕ → State → Bool → Bool → List ℕ
 rank_fields rank prefix state beyond unread = codes "{\"rank\":" ++ decimal rank ++ codes ",\"prefix\":" ++ decimal prefix
     ++ codes ",\"state\":\"" ++ state_word state ++ codes "\",\"beyond\":" ++ bool_text beyond ++ codes ",\"unread\":" ++ bool_text unread ++ codes "}"
 
+-- the object of a rank
 abbrev pub rank_object : Answered → ℕ → List ℕ
 rank_object a rank = rank_fields rank (unwrap_or (slice_get a.prefixes rank) 0) (unwrap_or (slice_get a.states rank) Ended)
     (unwrap_or (slice_get a.beyond rank) false) (unwrap_or (slice_get a.unread rank) false)

@@ -11,6 +11,7 @@ use Rattle.trace_wait.specs.declared.round.Standing.TheVariants.{Mismatched, Com
 use Rattle.trace_ops.specs.Ops.{Ops}
 use Rattle.trace_wait.specs.Ranks.{ops_of}
 
+-- two calls have one root, or neither has one
 abbrev pub same_root : Option ℕ → Option ℕ → Bool
 same_root None None = true
 same_root (Some a) (Some b) = a == b

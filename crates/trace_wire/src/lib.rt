@@ -11,7 +11,7 @@
 //! takes no memory and calls the device once for each 32,768 bytes; reading takes memory for the bytes that really came,
 //! whatever the length field and the counts say, and then for the knowledge.
 //!
-//! - [`version`]: the versions and their limits
+//! - [`version`]: the versions and their limits; [`fault`]: why a frame is refused
 //! - [`write`]: a frame, field by field, into a page that goes to the device when it is full
 //! - [`size`]: how long a frame is
 //! - [`read`]: the head, the payload in pieces, and its cells or runs
