@@ -28,6 +28,7 @@ IsReceived e = IsReceive e × IsSigned e.datatype
 abbrev pub IsExchanged : BothEnvelopes → Type 0
 IsExchanged b = IsExchange b × IsSigned b.send.datatype × IsSigned b.receive.datatype
 
+-- Every value of the call lies in its range.
 abbrev pub IsCall : Call → Type 0
 IsCall calls.Local = Unit {0}
 IsCall calls.Finalize = Unit {0}
@@ -59,6 +60,7 @@ IsPosition position = IfSome position (λ n. n < 2 ^ 32)
 abbrev pub IsElement : Element → Type 0
 IsElement e = (e.position < 2 ^ 32) × IsTold e.told
 
+-- Every value of the outcome lies in its range.
 abbrev pub IsOutcome : Outs → Type 0
 IsOutcome outs.Nothing = Unit {0}
 IsOutcome (outs.Posted request) = IsSigned request

@@ -15,6 +15,7 @@ pub record Row : Type 0 where
   pub category : Category
   pub has_counts : Bool
 
+-- the table
 abbrev pub row : Kind → Row
 row kinds.Barrier = record { word = codes "barrier"; function = codes "MPI_Barrier"; nonblocking_function = codes "MPI_Ibarrier"; category = AllToAll; has_counts = false }
 row kinds.Bcast = record { word = codes "bcast"; function = codes "MPI_Bcast"; nonblocking_function = codes "MPI_Ibcast"; category = OneToAll; has_counts = false }
@@ -54,6 +55,7 @@ kind_number kinds.Alltoallw = 14
 kind_number kinds.Gatherv = 15
 kind_number kinds.Scatterv = 16
 
+-- the categories in which one rank, the root, sends to all or receives from all (MPI 4.0, 6.2.2)
 abbrev pub is_rooted : Category → Bool
 is_rooted AllToAll = false
 is_rooted OneToAll = true

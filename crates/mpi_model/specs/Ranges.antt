@@ -16,6 +16,7 @@ IsTold tolds.Nothing = Unit {0}
 IsTold (tolds.Source rank) = rank < 2 ^ 31
 IsTold tolds.Cancelled = Unit {0}
 
+-- a communicator: the world, or a number
 abbrev pub IsComm : CommRef → Type 0
 IsComm comms.World = Unit {0}
 IsComm (comms.Id n) = n < 2 ^ 31
@@ -31,6 +32,7 @@ abbrev pub IsNamed : Option ℕ → Type 0
 IsNamed None = ⊥
 IsNamed (Some n) = n < 2 ^ 31
 
+-- the envelope of a send
 abbrev pub IsSend : Envelope → Type 0
 IsSend e = IsTarget e.peer × IsNamed e.tag × IsComm e.comm × (e.count < 2 ^ 31)
 
@@ -44,6 +46,7 @@ IsSource (peers.Rank n) = n < 2 ^ 31
 abbrev pub IsAskedTag : Option ℕ → Type 0
 IsAskedTag tag = IfSome tag (λ n. n < 2 ^ 31)
 
+-- the envelope of a receive
 abbrev pub IsReceive : Envelope → Type 0
 IsReceive e = IsSource e.peer × IsAskedTag e.tag × IsComm e.comm × (e.count < 2 ^ 31)
 
@@ -53,6 +56,7 @@ pub record Probed : Type 0 where
   pub tag : Option ℕ
   pub comm : CommRef
 
+-- the values of a probe
 abbrev pub IsProbe : Probed → Type 0
 IsProbe e = IsSource e.source × IsAskedTag e.tag × IsComm e.comm
 
@@ -61,6 +65,7 @@ pub record BothEnvelopes : Type 0 where
   pub send : Envelope
   pub receive : Envelope
 
+-- the two envelopes are of one communicator (MPI 4.0, 3.10)
 abbrev pub IsExchange : BothEnvelopes → Type 0
 IsExchange e = IsSend e.send × IsReceive e.receive × (e.send.comm ≡ e.receive.comm)
 
@@ -76,5 +81,6 @@ abbrev pub IsRootOf : Kind → Option ℕ → Type 0
 IsRootOf kind None = Unit {0}
 IsRootOf kind (Some root) = (has_root kind ≡ true) × (root < 2 ^ 31)
 
+-- the values of a collective call
 abbrev pub IsCollective : CollectiveCall → Type 0
 IsCollective c = IsRootOf c.kind c.root × IsComm c.comm

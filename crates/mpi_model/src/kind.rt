@@ -1,7 +1,7 @@
 //! The kinds of collective calls: one table, which all crates read.
 
 ghost use Rattle.std.specs.Prelude.{◌≡◌};
-ghost use Rattle.mpi_model.specs.Kinds.{Row, row, has_root, kind_number, function_name};
+ghost use Rattle.mpi_model.specs.Kinds.{row, has_root, kind_number, function_name};
 
 /// From which members of its group a collective call brings data to which (MPI 4.0, 6.2.2).
 #[derive(Clone, Copy, Debug, PartialEq, Eq)]
