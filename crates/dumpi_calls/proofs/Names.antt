@@ -10,7 +10,7 @@ use Rattle.mpi_model.specs.declared.kind.Kind.TheVariants as kinds
 use Rattle.dumpi_text.specs.Call.{same_bytes}
 use Rattle.dumpi_text.specs.Number.{note_front}
 use Rattle.dumpi_text.specs.declared.number.NumName.{NumName}
-use Rattle.dumpi_calls.specs.Rows.{collective_named, first_named, first_of, short_name}
+use Rattle.dumpi_calls.specs.Rows.{collective_named, first_named, first_of, has_i, short_name}
 use Rattle.dumpi_calls.specs.declared.function.Function.{Function}
 use Rattle.dumpi_calls.specs.declared.function.Function.TheVariants as functions
 
@@ -38,15 +38,6 @@ pub noted : (rest word : List ℕ) (name : NumName) → bytes_eq rest word ≡ t
 noted rest word name same is = ap (λ (t : List ℕ). note_front (40 ∷ t)) ((bytes_eq-Decides rest word).0 same) ∙ is
 
 -- ---- names of collective functions: the nonblocking ones have an `I` behind their first four bytes
-
--- whether a name has an `I` there
-abbrev pub has_i : List ℕ → Bool
-has_i [] = false
-has_i (a ∷ []) = false
-has_i (a ∷ b ∷ []) = false
-has_i (a ∷ b ∷ c ∷ []) = false
-has_i (a ∷ b ∷ c ∷ d ∷ []) = false
-has_i (a ∷ b ∷ c ∷ d ∷ e ∷ rest) = nat_eq e 73
 
 abbrev name_by : Bool → Kind → List ℕ
 name_by nonblocking kind = function_name (record { kind = kind; nonblocking = nonblocking })
@@ -121,26 +112,26 @@ only_nonblocking blocking nonblocking none = sym (ap (λ (b : Option Kind). by_b
 
 of_blocking : (none : Bool) (short is : List ℕ) (found : Option Kind) (all : List Kind) → none ≡ false → short ≡ is → found ≡ first_named false short all → has_i short ≡ false
     → option_map functions.Collective found ≡ unless_none none (by_both (first_named false is all) (first_named true is all))
-of_blocking none short is found all no same names letter =
+of_blocking none short is found all other same names letter =
     only_blocking found (first_named true short all) (none_named true short all letter)
     ∙ ap (λ (f : Option Kind). by_both f (first_named true short all)) names
     ∙ ap (λ (s : List ℕ). by_both (first_named false s all) (first_named true s all)) same
-    ∙ sym (ap (λ (b : Bool). unless_none b (by_both (first_named false is all) (first_named true is all))) no)
+    ∙ sym (ap (λ (b : Bool). unless_none b (by_both (first_named false is all) (first_named true is all))) other)
 
 of_nonblocking : (none : Bool) (short is : List ℕ) (found : Option Kind) (all : List Kind) → none ≡ false → short ≡ is → found ≡ first_named true short all → has_i short ≡ true
     → option_map functions.Icollective found ≡ unless_none none (by_both (first_named false is all) (first_named true is all))
-of_nonblocking none short is found all no same names letter =
+of_nonblocking none short is found all other same names letter =
     ap (option_map functions.Icollective) names
     ∙ only_nonblocking (first_named false short all) (first_named true short all) (none_named false short all letter)
     ∙ ap (λ (s : List ℕ). by_both (first_named false s all) (first_named true s all)) same
-    ∙ sym (ap (λ (b : Bool). unless_none b (by_both (first_named false is all) (first_named true is all))) no)
+    ∙ sym (ap (λ (b : Bool). unless_none b (by_both (first_named false is all) (first_named true is all))) other)
 
 pub named_blocking : (name short : List ℕ) (found : Option Kind) → bytes_eq name (codes "MPI_Ibarrier_c") ≡ false → short ≡ short_name name → found ≡ first_named false short all_kinds → has_i short ≡ false
     → option_map functions.Collective found ≡ collective_named name
 unfolding collective_named
-named_blocking name short found no same names letter = of_blocking (bytes_eq name (codes "MPI_Ibarrier_c")) short (short_name name) found all_kinds no same names letter
+named_blocking name short found other same names letter = of_blocking (bytes_eq name (codes "MPI_Ibarrier_c")) short (short_name name) found all_kinds other same names letter
 
 pub named_nonblocking : (name short : List ℕ) (found : Option Kind) → bytes_eq name (codes "MPI_Ibarrier_c") ≡ false → short ≡ short_name name → found ≡ first_named true short all_kinds → has_i short ≡ true
     → option_map functions.Icollective found ≡ collective_named name
 unfolding collective_named
-named_nonblocking name short found no same names letter = of_nonblocking (bytes_eq name (codes "MPI_Ibarrier_c")) short (short_name name) found all_kinds no same names letter
+named_nonblocking name short found other same names letter = of_nonblocking (bytes_eq name (codes "MPI_Ibarrier_c")) short (short_name name) found all_kinds other same names letter

@@ -1,5 +1,5 @@
 -- The table of functions: its callback, its entry and outcome parameters, and how these are read.
-use Rattle.std.specs.Prelude.{ℕ, ◌-◌, List, [], ◌∷◌, length, take, drop, Option, Some, None, option_map, Result, Ok, Err, Bool, true, false, ◌||◌, codes, if◌then◌else◌}
+use Rattle.std.specs.Prelude.{ℕ, ◌-◌, List, [], ◌∷◌, length, take, drop, Option, Some, None, option_map, Result, Ok, Err, Bool, true, false, ◌||◌, ◌==◌, slice_get, codes, if◌then◌else◌}
 use Rattle.std.specs.Str.{bytes_eq}
 use Rattle.mpi_model.specs.Kinds.{all_kinds, function_name, has_root}
 use Rattle.mpi_model.specs.Ranges.{CollectiveCall}
@@ -93,6 +93,14 @@ first_named nonblocking name (kind ∷ kinds) =
 -- a name without a `_c` behind it: with that a collective function has counts of 64 bits, and its calls are the same (MPI 4.0, 6)
 abbrev pub short_name : List ℕ → List ℕ
 short_name name = if bytes_eq (drop (length name - 2) name) (codes "_c") then take (length name - 2) name else name
+
+-- whether an `I` stands behind the first four bytes of a name, as it does in `MPI_Ibcast`
+abbrev pub is_i : Option ℕ → Bool
+is_i None = false
+is_i (Some byte) = byte == 73
+
+abbrev pub has_i : List ℕ → Bool
+has_i name = is_i (slice_get name 4)
 
 -- collective functions, by the table of their kinds; MPI has none that is named `MPI_Ibarrier_c`
 unfoldable pub collective_named : List ℕ → Option Function

@@ -2,7 +2,7 @@
 
 ghost use Rattle.std.specs.Prelude.{◌≡◌, true, false};
 ghost use Rattle.std.specs.Str.{bytes_eq};
-ghost use Rattle.dumpi_calls.specs.Rows.{collective_named, completion_named, ending_named, first_named, function_in, function_named, is_long_init, is_long_receive, is_long_send, is_unread_name, isend_named, message_named, other_named, receive_named, send_named, short_name, test_named, unread_named};
+ghost use Rattle.dumpi_calls.specs.Rows.{collective_named, completion_named, ending_named, first_named, function_in, function_named, has_i, is_long_init, is_long_receive, is_long_send, is_unread_name, isend_named, message_named, other_named, receive_named, send_named, short_name, test_named, unread_named};
 ghost use Rattle.mpi_model.specs.Kinds.{all_kinds};
 
 use dumpi_text::RawCall;
@@ -258,6 +258,16 @@ fn nonblocking_kind_of(name: &[u8]) -> Option<Kind>
     }
 }
 
+// whether an `I` stands behind the first four bytes of a name
+fn has_i(name: &[u8]) -> bool
+    ensures { result ≡ has_i name.now }
+{
+    match name.get(4) {
+        Some(byte) => *byte == b'I',
+        None => false,
+    }
+}
+
 // a collective function: the nonblocking ones, and no others, have an `I` behind `MPI_`
 #[tactic(auto, unfolding(crate::specs::Rows::collective_named))]
 fn collective_of(name: &[u8]) -> Option<Function>
@@ -267,15 +277,16 @@ fn collective_of(name: &[u8]) -> Option<Function>
         return None;
     }
     let short = short_of(name);
-    match short {
-        [_, _, _, _, b'I', ..] => match nonblocking_kind_of(short) {
+    if has_i(short) {
+        match nonblocking_kind_of(short) {
             Some(kind) => Some(Function::Icollective(kind)),
             None => None,
-        },
-        _ => match kind_of(short) {
+        }
+    } else {
+        match kind_of(short) {
             Some(kind) => Some(Function::Collective(kind)),
             None => None,
-        },
+        }
     }
 }
 
