@@ -1,5 +1,5 @@
 -- What a collective call waits for, by the round that it entered (MPI 4.0, 6.1 and 6.12).
-use Rattle.std.specs.Prelude.{ℕ, Bool, true, false, ◌==◌, ◌&&◌, not, nat_lt, Option, Some, None, List, filter, map, take_while, slice_get, count_by, if◌then◌else◌}
+use Rattle.std.specs.Prelude.{ℕ, Bool, true, false, ◌==◌, ◌&&◌, not, nat_lt, Option, Some, None, List, [], ◌∷◌, filter, map, slice_get, count_by, if◌then◌else◌}
 use Rattle.std.specs.List.{list_any, find}
 use Rattle.std.specs.Option.{option_and_then}
 use Rattle.mpi_model.specs.declared.layout.Sends.{Sends}
@@ -34,9 +34,10 @@ absent_of s c k members = OnAll (waits_of (map OnRank (missing s c k members)))
 abbrev pub absent : Run → ℕ → ℕ → waits.Wait
 absent s c k = absent_of s c k (members s c)
 
--- the members of lower ranks in the group
+-- the members of lower ranks in the group: those that stand before this one
 abbrev pub lower : List ℕ → ℕ → List ℕ
-lower members r = take_while (λ m. not (m == r)) members
+lower [] r = []
+lower (m ∷ members) r = if m == r then [] else m ∷ lower members r
 
 -- under `wait` the absent members; under `buffer` nothing
 abbrev pub other_side : Run → ℕ → ℕ → waits.Wait

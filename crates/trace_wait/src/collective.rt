@@ -69,8 +69,12 @@ fn lower(members: &[u32], r: u32) -> &[u32]
     ensures is { result.now ≡ lower members.now r }
     ensures first { result.now ≡ take (length result.now) members.now }
 {
-    let place = members.iter().position(|m| *m == r);
-    &members[..place.unwrap_or(members.len())]
+    for (place, m) in members.iter().enumerate() {
+        if *m == r {
+            return &members[..place];
+        }
+    }
+    members
 }
 
 fn other_side(alloc: Global, run: &Overview, comm: u32, k: u64) -> Result<Condition, AllocError>
