@@ -2,7 +2,7 @@
 
 ghost use Rattle.std.specs.Prelude.{◌≡◌, ◌∷◌, ◌<◌, IfOk, drop, filter, length, slice_get, suc, take};
 ghost use Rattle.std.specs.List.{flat_map, list_any};
-ghost use Rattle.trace_wait.specs.Rounds.{group, on_comm, same_root};
+ghost use Rattle.trace_wait.specs.Rounds.{group, on_comm, same_function, same_root};
 ghost use Rattle.call_words.specs.Texts.{Adds};
 ghost use Rattle.trace_explain.specs.Mismatches.{calls_group, calls_line, calls_text, do_match, entrant_at, entrant_in, entrants, is_mismatched, mismatch_head, mismatch_text, mismatched, mismatches_text, ranks_matching, these_text};
 
