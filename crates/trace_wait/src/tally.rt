@@ -50,8 +50,9 @@ fn start(e: &Entered) -> Tally
 fn add(t: Tally, e: &Entered) -> Tally
     ensures { result ≡ add t e.now }
 {
-    let is_alike =
-        t.is_alike && is_same_function(t.function, e.function) && is_same_root(t.root, e.root);
+    let is_alike = t.is_alike
+        && is_same_function(t.function, e.function)
+        && is_same_root(t.root, e.root);
     Tally {
         function: t.function,
         root: t.root,
