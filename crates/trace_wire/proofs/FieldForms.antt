@@ -1,5 +1,5 @@
 -- The laws of an event's fields.
-use Rattle.std.proofs.Common.{◌≡◌, ℕ, ◌^◌, ◌<◌, ◌≤◌, Bool, true, false, cond, ltb, eqb, Option, Some, None, refl, sym, ap, subst, arith, inl, inr}
+use Rattle.std.proofs.Common.{◌≡◌, ℕ, ◌^◌, ◌<◌, ◌≤◌, Bool, true, false, not, cond, ltb, eqb, Option, Some, None, refl, sym, ap, subst, arith, inl, inr}
 use Rattle.std.specs.Prelude.{ℤ, pos, negsuc, nat_le}
 use Rattle.std.specs.Int.{w32, w64, cast_signed, cast_unsigned}
 use Rattle.std.proofs.lemmas.Bool.{ltb-true, eqb-true}
@@ -345,7 +345,7 @@ abbrev pub IsIbarrier : CollectiveCall → Type 0
 IsIbarrier g = IsCollective g × (is_barrier g.kind ≡ true)
 
 -- only Barrier has its number, and it has no root
-no_more : (k : Kind) (r : Option ℕ) (c : CommRef) → IsRootOf k r → is_barrier k ≡ true → Some (record { kind = kinds.Barrier; root = None; comm = c }) ≡ Some (record { kind = k; root = r; comm = c })
+no_more : (k : Kind) (r : Option ℕ) (c : CommRef) → IsRootOf k r → is_barrier k ≡ true → ◌≡◌ {A = Option CollectiveCall} (Some (record { kind = kinds.Barrier; root = None; comm = c })) (Some (record { kind = k; root = r; comm = c }))
 no_more kinds.Barrier None c f h = refl
 no_more kinds.Barrier (Some n) c f h = absurd (let e : false ≡ true = f.0 in cc)
 no_more k r c f h = absurd cc
