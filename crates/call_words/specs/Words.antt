@@ -1,5 +1,5 @@
 -- Calls in words.
-use Rattle.std.specs.Prelude.{ℕ, ◌==◌, if◌then◌else◌, Option, Some, None, List, [], ◌++◌, codes, decimal, length}
+use Rattle.std.specs.Prelude.{ℕ, ◌==◌, if◌then◌else◌, Bool, true, false, Option, Some, None, List, [], ◌++◌, codes, decimal, length}
 use Rattle.mpi_model.specs.declared.envelope.Envelope.{Envelope}
 use Rattle.mpi_model.specs.declared.envelope.CommRef.{CommRef}
 use Rattle.mpi_model.specs.declared.envelope.CommRef.TheVariants.{World, Id}
@@ -7,10 +7,11 @@ use Rattle.mpi_model.specs.declared.envelope.Peer.{Peer}
 use Rattle.mpi_model.specs.declared.envelope.Peer.TheVariants as peers
 use Rattle.mpi_model.specs.declared.envelope.Mode.{Mode}
 use Rattle.mpi_model.specs.declared.envelope.Mode.TheVariants as modes
-use Rattle.mpi_model.specs.declared.collective.Kind.{Kind}
-use Rattle.mpi_model.specs.declared.collective.Kind.TheVariants as kinds
+use Rattle.mpi_model.specs.declared.kind.Kind.{Kind}
+use Rattle.mpi_model.specs.declared.kind.CollectiveFunction.{CollectiveFunction}
 use Rattle.mpi_model.specs.declared.call.Call.{Call}
 use Rattle.mpi_model.specs.declared.call.Call.TheVariants as calls
+use Rattle.mpi_model.specs.Kinds.{function_name}
 use Rattle.mpi_model.specs.Ranges.{BothEnvelopes, CollectiveCall, Probed}
 
 -- What a call names. Peers and roots are ranks of the communicator's group.
@@ -83,16 +84,9 @@ immediate_name modes.Synchronous = codes "MPI_Issend"
 immediate_name modes.Buffered = codes "MPI_Ibsend"
 immediate_name modes.Ready = codes "MPI_Irsend"
 
-abbrev pub collective_name : Kind → List ℕ
-collective_name kinds.Barrier = codes "MPI_Barrier"
-collective_name kinds.Bcast = codes "MPI_Bcast"
-collective_name kinds.Scatter = codes "MPI_Scatter"
-collective_name kinds.Gather = codes "MPI_Gather"
-collective_name kinds.Reduce = codes "MPI_Reduce"
-collective_name kinds.Allreduce = codes "MPI_Allreduce"
-collective_name kinds.Allgather = codes "MPI_Allgather"
-collective_name kinds.Alltoall = codes "MPI_Alltoall"
-collective_name kinds.Ibarrier = codes "MPI_Ibarrier"
+-- by whether the function is nonblocking, and its kind
+abbrev pub collective_name : Bool → Kind → List ℕ
+collective_name nonblocking kind = function_name (record { kind = kind; nonblocking = nonblocking })
 
 -- Calls
 
@@ -126,11 +120,12 @@ root_text None = []
 root_text (Some root) = one_root_text root
 
 -- a collective call by its function and its root, as `MPI_Bcast, root 0`
-abbrev pub kind_text : Kind → Option ℕ → List ℕ
-kind_text kind root = collective_name kind ++ root_text root
+abbrev pub kind_text : CollectiveFunction → Option ℕ → List ℕ
+kind_text function root = function_name function ++ root_text root
 
-abbrev pub collective_text : CollectiveCall → List ℕ
-collective_text c = on_text (collective_name c.kind) c.comm ++ root_text c.root
+-- `MPI_Bcast on communicator 5, root 0`, or `MPI_Ibcast` where it is nonblocking
+abbrev pub collective_text : Bool → CollectiveCall → List ℕ
+collective_text nonblocking c = on_text (collective_name nonblocking c.kind) c.comm ++ root_text c.root
 
 -- `MPI_Waitall on 3 requests`
 abbrev pub of_requests_text : List ℕ → ℕ → List ℕ
@@ -155,7 +150,7 @@ call_text (calls.Testany requests) = of_requests_text (codes "MPI_Testany") (len
 call_text (calls.Testsome requests) = of_requests_text (codes "MPI_Testsome") (length requests)
 call_text (calls.Cancel request) = codes "MPI_Cancel on a request"
 call_text (calls.Free request) = codes "MPI_Request_free on a request"
-call_text (calls.Collective c) = collective_text c
+call_text (calls.Collective c) = collective_text false c
+call_text (calls.Icollective c) = collective_text true c
 call_text (calls.Probe e) = probe_text e
-call_text (calls.Ibarrier comm) = on_text (codes "MPI_Ibarrier") comm
 call_text calls.Unread = codes "a call that is not read"

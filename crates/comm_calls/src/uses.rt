@@ -17,9 +17,8 @@ fn comm_of(call: &Call) -> Option<CommRef>
         Call::Send(_, e) | Call::Isend(_, e) => Some(e.envelope().comm),
         Call::Recv(e) | Call::Irecv(e) => Some(e.envelope().comm),
         Call::Sendrecv(both) => Some(both.send().comm),
-        Call::Collective(c) => Some(c.comm()),
+        Call::Collective(c) | Call::Icollective(c) => Some(c.comm()),
         Call::Probe(e) => Some(e.comm()),
-        Call::Ibarrier(c) => Some(c.comm()),
         Call::Local
         | Call::Finalize
         | Call::Wait(_)

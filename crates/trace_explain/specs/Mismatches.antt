@@ -12,7 +12,7 @@ use Rattle.call_words.specs.Words.{kind_text}
 use Rattle.trace_explain.specs.declared.mismatch.Entrant.{Entrant}
 use Rattle.trace_explain.specs.Shown.{more_text, most_shown}
 
--- kinds or roots differ among those that have entered the round
+-- functions or roots differ among those that have entered the round
 abbrev pub is_mismatched : Round → Bool
 is_mismatched r = is_mismatch r.standing
 
@@ -38,7 +38,7 @@ do_match one other = alike one.entered other.entered
 
 -- `    ranks 0 to 11, 13: MPI_Barrier (call 5 of rank 0)`: the call of the first of ranks whose calls match
 abbrev pub calls_line : Entrant → List ℕ → List ℕ
-calls_line x ranks = codes "    " ++ named_ranks_text ranks ++ codes ": " ++ kind_text x.entered.kind x.entered.root
+calls_line x ranks = codes "    " ++ named_ranks_text ranks ++ codes ": " ++ kind_text x.entered.function x.entered.root
     ++ codes " (call " ++ decimal x.entered.call ++ codes " of rank " ++ decimal x.rank ++ codes ")\n"
 
 -- the ranks of those whose calls match this one
