@@ -107,7 +107,7 @@ unfoldable pub collective_named : List ℕ → Option Function
 collective_named name =
     if bytes_eq name (codes "MPI_Ibarrier_c") then None
     else first_of (option_map functions.Collective (first_named false (short_name name) all_kinds))
-        (option_map functions.Icollective (first_named true (short_name name) all_kinds))
+    (option_map functions.Icollective (first_named true (short_name name) all_kinds))
 
 -- ---- functions that move messages and that no row reads: what follows a call of one isn't known
 

@@ -90,6 +90,7 @@ fn put_made<W: fmt::Write>(f: &mut fmt::Formatter<W>, fault: &MadeFault) -> fmt:
 {
     match fault {
         MadeFault::Memory => write!(f, "Memory"),
+        MadeFault::Size { rank, size } => put_size(f, *rank, *size),
         MadeFault::World { first, second } => put_ranks(f, *first, *second, NOT_ONE_RUN),
         MadeFault::Layout(fault) => {
             let name = name_of_layout(*fault);
@@ -98,6 +99,16 @@ fn put_made<W: fmt::Write>(f: &mut fmt::Formatter<W>, fault: &MadeFault) -> fmt:
         MadeFault::LayoutFile => write!(f, "the layout has more than 16777216 bytes"),
         MadeFault::ManifestFile => write!(f, "the manifest has more than 16777216 bytes"),
     }
+}
+
+/// A rank and the size of the world that it tells.
+fn put_size<W: fmt::Write>(f: &mut fmt::Formatter<W>, rank: u32, size: u32) -> fmt::Result
+    ensures { WritesOnOk W.write_str_gives f.old result (codes "by rank " ++ decimal rank ++ codes " MPI_COMM_WORLD has " ++ decimal size ++ codes " ranks, and there is not one text for each") f.new }
+{
+    write!(
+        f,
+        "by rank {rank} MPI_COMM_WORLD has {size} ranks, and there is not one text for each"
+    )
 }
 
 /// A file's name and what is said of it.
