@@ -1,5 +1,5 @@
 -- What derives from what: a lemma for each step of the derivation.
-use Rattle.std.proofs.Common.{◌≡◌, ℕ, ◌++◌, false, List, [], ◌∷◌, Option, Some, None, All, length, option_map, ap, ◌∙◌, sym, inl, inr, refl, subst}
+use Rattle.std.proofs.Common.{◌≡◌, ℕ, ◌++◌, false, true, is_some, List, [], ◌∷◌, Option, Some, None, All, length, option_map, ap, ◌∙◌, sym, inl, inr, refl, subst}
 use Rattle.std.specs.List.{list_any, slice_get}
 use Rattle.mpi_model.specs.Communicators.{Communicator}
 use Rattle.comm_makings.specs.Derived.{AreDerivedIn, IsDerivedIn, IsSound}
@@ -94,6 +94,15 @@ module _ (ranks : List RankCalls) (views : List RankView) where
   pub own_derives : (rank : ℕ) (calls : RankCalls) (number : ℕ) (comm : Made) → slice_get ranks rank ≡ Some calls → calls.own ≡ Some number
       → IsFirstComm (member_with 1 rank ∷ []) comm → IsDerivedComm ranks views comm
   own_derives rank calls number comm here is first = first_is (member_with 1 rank ∷ []) comm (own rank calls number here is) first
+
+  own_by : (rank : ℕ) (calls : RankCalls) (comm : Made) (o : Option ℕ) → calls.own ≡ o → is_some o ≡ true → slice_get ranks rank ≡ Some calls
+      → IsFirstComm (member_with 1 rank ∷ []) comm → IsDerivedComm ranks views comm
+  own_by rank calls comm None e some here first = absurd (cc)
+  own_by rank calls comm (Some number) e some here first = own_derives rank calls number comm here e first
+
+  pub own_some : (rank : ℕ) (calls : RankCalls) (comm : Made) → slice_get ranks rank ≡ Some calls → is_some calls.own ≡ true
+      → IsFirstComm (member_with 1 rank ∷ []) comm → IsDerivedComm ranks views comm
+  own_some rank calls comm here some first = own_by rank calls comm calls.own refl some here first
 
   -- What is written of derived communicators derives.
   pub written_derives : (number : ℕ) (uses : List HandleUses) (comms : List Made) (all : List Communicator) → AreDerived ranks views comms

@@ -1,5 +1,8 @@
 -- Places that are marked one after the other.
-use Rattle.std.proofs.Common.{◌≡◌, ℕ, zero, suc, ◌≤◌, ◌<◌, ◌==◌, ◌||◌, Bool, true, false, List, [], ◌∷◌, Option, Some, None, length, set, ap, ◌∙◌, sym, refl, arith}
+use Rattle.std.proofs.Common.{◌≡◌, ℕ, zero, suc, ◌≤◌, ◌<◌, ◌==◌, ◌||◌, Bool, true, false, List, [], ◌∷◌, Option, Some, None, ◌+◌, length, get_or, drop, set, ap, ◌∙◌, sym, refl, arith, add-one, drop-cons}
+use Rattle.std.proofs.lemmas.List.{drop_all}
+use Rattle.comm_makings.specs.Makes.{is_covered}
+use Rattle.comm_makings.specs.Selection.{Selection}
 use Rattle.std.specs.List.{slice_get}
 use Rattle.std.proofs.lemmas.Bool.Decides.{nat_tests}
 use Rattle.std.proofs.lemmas.Option.{slice_get_within}
@@ -52,3 +55,29 @@ unmarked covered initial p rest places past are k b e =
     let other : (p == k) ≡ false = grind (arith, nat_tests) in
     let before = are k b e in
     (before.0, before.1, sym (ap (λ (t : Bool). b || (t || has rest k)) other) ∙ before.2)
+
+-- which places are in one of the first communicators
+abbrev pub AreCoveredTo : List Bool → List Bool → List Selection → ℕ → Type 0
+AreCoveredTo covered initial parts i = (k : ℕ) (b : Bool) → slice_get covered k ≡ Some b
+    → (a : Bool) × (slice_get initial k ≡ Some a) × ((b || is_covered (drop i parts) k) ≡ (a || is_covered parts k))
+
+abbrev pub Covers : List Bool → List Bool → List ℕ → Type 0
+Covers old new places = (k : ℕ) (b : Bool) → slice_get new k ≡ Some b → (a : Bool) × (slice_get old k ≡ Some a) × (b ≡ (a || has places k))
+
+pub covered_more : (covered new initial : List Bool) (parts : List Selection) (i : ℕ) (p : Selection) → i < length parts → p ≡ get_or parts i p
+    → AreCoveredTo covered initial parts i → Covers covered new p.places → AreCoveredTo new initial parts (i + 1)
+covered_more covered new initial parts i p below is are covers k b e =
+    let s = covers k b e in
+    let list : drop i parts ≡ p ∷ drop (i + 1) parts =
+    drop-cons parts i p below ∙ ap (λ (n : ℕ). get_or parts i p ∷ drop n parts) (sym (add-one i)) ∙ ap (λ (q : Selection). q ∷ drop (i + 1) parts) (sym is) in
+    let before = are k s.0 s.1 in
+    let rest : Bool = is_covered (drop (i + 1) parts) k in
+    (before.0, before.1, ap (λ (t : Bool). t || rest) s.2 ∙ or_assoc s.0 (has p.places k) rest ∙ ap (λ (l : List Selection). s.0 || is_covered l k) (sym list) ∙ before.2)
+
+-- Where none was marked before, those of the communicators are.
+pub covered_all : (covered initial : List Bool) (parts : List Selection) (i : ℕ) → length parts ≤ i → ((k : ℕ) (b : Bool) → slice_get initial k ≡ Some b → b ≡ false)
+    → AreCoveredTo covered initial parts i → (k : ℕ) (b : Bool) → slice_get covered k ≡ Some b → b ≡ is_covered parts k
+covered_all covered initial parts i past none are k b e =
+    let before = are k b e in
+    sym (or_false b) ∙ ap (λ (l : List Selection). b || is_covered l k) (sym (drop_all i parts past)) ∙ before.2
+    ∙ ap (λ (t : Bool). t || is_covered parts k) (none k before.0 before.1)

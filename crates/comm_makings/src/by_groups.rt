@@ -11,7 +11,7 @@ use crate::here::{Here, here_at, is_unreadable, making_at, some_unknown};
 use crate::outcomes::are_given;
 use crate::part::Part;
 use crate::run::{Run, made_of};
-use crate::state::{Made, Member, copy_of};
+use crate::state::{Made, Member, comm_at, copy_of};
 use crate::view::RankView;
 use indexmap::IndexMap;
 use std::alloc::{AllocError, Global};
@@ -424,7 +424,7 @@ pub(crate) fn found_at(
     requires { AreDerived ranks.now views.now run.now.comms.items }
     ensures { IfOk result (λ found. AreDerived ranks.now views.now found.made.items) }
 {
-    let Some(parent) = run.comms.get(at) else {
+    let Some(parent) = comm_at(&run.comms, at) else {
         return Ok(nothing_found(alloc));
     };
     let Some(over) = run.over.get(at) else {

@@ -505,7 +505,10 @@ pub(crate) fn cart_sub_outcome(
         return Ok(Outcome::Untold);
     };
     match agreed_remain(ranks, all) {
-        Some(remain) => grid_outcome(alloc, dims, remain, members),
+        Some(remain) => {
+            let outcome = grid_outcome(alloc, dims, remain, members)?;
+            Ok(outcome)
+        },
         None => Ok(Outcome::Unsound),
     }
 }

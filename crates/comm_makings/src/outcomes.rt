@@ -60,14 +60,21 @@ fn covered(alloc: Global, parts: &[Part], count: usize) -> Result<Vec<bool>, All
     ensures { IfOk result (λ v. (k : ℕ) (b : Bool) → slice_get v.items k ≡ Some b → b ≡ is_covered parts.now k) }
 {
     let mut covered = vec![in alloc; false; count]?;
-    for part in parts {
-        cover(&mut covered, &part.places);
-    }
+    cover_all(&mut covered, parts);
     Ok(covered)
 }
 
-fn mark(covered: &mut [bool], place: u32)
-    ensures { covered.new ≡ slice_set covered.old place true }
+fn cover_all(covered: &mut Vec<bool>, parts: &[Part])
+    requires { (k : ℕ) (b : Bool) → slice_get covered.old.items k ≡ Some b → b ≡ false }
+    ensures { (k : ℕ) (b : Bool) → slice_get covered.new.items k ≡ Some b → b ≡ is_covered parts.now k }
+{
+    for part in parts {
+        cover(covered, &part.places);
+    }
+}
+
+fn mark(covered: &mut Vec<bool>, place: u32)
+    ensures { covered.new.items ≡ slice_set covered.old.items place true }
 {
     let place = place as usize;
     if place < covered.len() {
@@ -76,8 +83,8 @@ fn mark(covered: &mut [bool], place: u32)
 }
 
 #[tactic(auto, using(crate::proofs::Marks::marked))]
-fn cover(covered: &mut [bool], places: &[u32])
-    ensures { (k : ℕ) (b : Bool) → slice_get covered.new k ≡ Some b → (a : Bool) × (slice_get covered.old k ≡ Some a) × (b ≡ (a || has places.now k)) }
+fn cover(covered: &mut Vec<bool>, places: &[u32])
+    ensures { (k : ℕ) (b : Bool) → slice_get covered.new.items k ≡ Some b → (a : Bool) × (slice_get covered.old.items k ≡ Some a) × (b ≡ (a || has places.now k)) }
 {
     for place in places {
         mark(covered, *place);

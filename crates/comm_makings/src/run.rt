@@ -15,7 +15,7 @@ use crate::here::{Here, all_kth, handle_of};
 use crate::outcomes::outcome_in;
 use crate::part::Part;
 use crate::parts::Outcome;
-use crate::state::{Made, Member, Order, Standing, dims_of};
+use crate::state::{Made, Member, Order, Standing, comm_at, dims_of};
 use crate::view::RankView;
 use std::alloc::{AllocError, Global};
 
@@ -59,6 +59,23 @@ pub(crate) fn leave(standings: &mut Vec<Vec<Standing>>, all: &[Option<Here>], wh
             }
         }
     }
+}
+
+/// What these members make from the k-th making on is left out.
+fn leave_behind(
+    alloc: Global,
+    ranks: &[RankCalls],
+    views: &[RankView],
+    members: &[Member],
+    k: usize,
+    end: usize,
+    standings: &mut Vec<Vec<Standing>>,
+) -> Result<(), AllocError> {
+    for later in k..end {
+        let all = all_kth(alloc, ranks, views, members, later)?;
+        leave(standings, &all, Why::Behind);
+    }
+    Ok(())
 }
 
 /// The making call of the smallest of these members whose text has it.
@@ -261,7 +278,7 @@ impl Run {
         requires { AreDerived ranks.now views.now self.old.comms.items }
         ensures { OnOk result (AreDerived ranks.now views.now self.new.comms.items) }
     {
-        let Some(parent) = self.comms.get(at) else {
+        let Some(parent) = comm_at(&self.comms, at) else {
             return Ok(Step::Over);
         };
         let all = all_kth(alloc, ranks, views, &parent.members, k)?;
@@ -294,14 +311,18 @@ impl Run {
     ) -> Result<(), AllocError>
         ensures { self.new.comms ≡ self.old.comms }
     {
-        let Some(parent) = self.comms.get(at) else {
+        let Some(parent) = comm_at(&self.comms, at) else {
             return Ok(());
         };
-        for later in k..end {
-            let all = all_kth(alloc, ranks, views, &parent.members, later)?;
-            leave(&mut self.standings, &all, Why::Behind);
-        }
-        Ok(())
+        leave_behind(
+            alloc,
+            ranks,
+            views,
+            &parent.members,
+            k,
+            end,
+            &mut self.standings,
+        )
     }
 
     fn note(&mut self, at: usize, next: usize)

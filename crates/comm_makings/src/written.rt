@@ -6,7 +6,7 @@ ghost use Rattle.comm_makings.specs.Written.{AreWrittenOf, IsNamedOnly, IsWorld,
 use crate::handle::Handle;
 use crate::names::always;
 use crate::parts::first_places;
-use crate::state::{Made, Member, Order, copy_of};
+use crate::state::{Made, Member, Order, comm_at, copy_of};
 use crate::uses::HandleUses;
 use crate::view::RankView;
 use indexmap::IndexMap;
@@ -290,7 +290,7 @@ fn others(
     let mut free = largest;
     let mut all = Vec::new(alloc);
     for named in named.iter() {
-        if let Some(comm) = comms.get(named.place) {
+        if let Some(comm) = comm_at(comms, named.place) {
             let id = id_of(views, uses, &owners, named.place, &comm.members);
             if id.is_none() {
                 free = free.saturating_add(1);

@@ -10,6 +10,6 @@ loop-place-preserved c =
     let below : i < length places = omega arith in
     let behind : drop i places ≡ p ∷ drop (i + 1) places =
     drop-cons places i 0 below ∙ ap (λ (n : ℕ). p ∷ drop n places) (sym (add-one i)) in
-    let before : AreMarked c.loop-place.covered c.args.covered.now (p ∷ drop (i + 1) places) places =
-    subst (λ (l : List ℕ). AreMarked c.loop-place.covered c.args.covered.now l places) behind c.loop-place.invariant in
-    rw c.mark.ensures (marked c.loop-place.covered c.args.covered.now p (drop (i + 1) places) places before)
+    let before : AreMarked c.loop-place.covered.items c.args.covered.now.items (p ∷ drop (i + 1) places) places =
+    subst (λ (l : List ℕ). AreMarked c.loop-place.covered.items c.args.covered.now.items l places) behind c.loop-place.invariant in
+    rw c.mark.ensures (marked c.loop-place.covered.items c.args.covered.now.items p (drop (i + 1) places) places before)
