@@ -1,8 +1,8 @@
 -- What derives from what: a lemma for each step of the derivation.
-use Rattle.std.proofs.Common.{◌≡◌, ℕ, ◌++◌, false, true, is_some, List, [], ◌∷◌, Option, Some, None, All, length, option_map, ap, ◌∙◌, sym, inl, inr, refl, subst}
+use Rattle.std.proofs.Common.{◌≡◌, ℕ, ◌++◌, false, true, is_some, List, [], ◌∷◌, Option, Some, None, All, length, ap, ◌∙◌, sym, inl, inr, refl, subst}
 use Rattle.std.specs.List.{list_any, slice_get}
 use Rattle.mpi_model.specs.Communicators.{Communicator}
-use Rattle.comm_makings.specs.Derived.{AreDerivedIn, IsDerivedIn, IsSound}
+use Rattle.comm_makings.specs.Derived.{IsSound}
 use Rattle.comm_makings.specs.Derives.{Derives, IsMaking, by_group, kth_calls, made, member_with, members_at, own, ranks_in, world, world_members}
 use Rattle.comm_makings.specs.Here.{HasFunction, first_of, gives_later, gives_unknown}
 use Rattle.comm_makings.specs.Makes.{AreGiven, IsMadeBy, IsOneMaking}

@@ -1,11 +1,10 @@
 -- What a rank called on a handle, one call after the other.
-use Rattle.std.proofs.Common.{◌≡◌, ℕ, zero, suc, ◌+◌, ◌≤◌, ◌<◌, ◌==◌, ◌&&◌, ◌++◌, Bool, true, false, List, [], ◌∷◌, Option, Some, None, Vec, cond, length, get_or, drop, option_and_then, option_map, ap, ◌∙◌, sym, refl, add-one, append_assoc, append-nil, drop-cons, arith}
+use Rattle.std.proofs.Common.{◌≡◌, ℕ, zero, suc, ◌+◌, ◌≤◌, ◌<◌, ◌==◌, ◌&&◌, ◌++◌, Bool, true, false, List, [], ◌∷◌, Option, Some, None, Vec, cond, length, get_or, drop, option_and_then, option_map, ap, ◌∙◌, sym, refl, add-one, append_assoc, append-nil, drop-cons}
 use Rattle.std.proofs.lemmas.List.{drop_all}
 use Rattle.std.specs.List.{slice_get}
 use Rattle.std.specs.declared.alloc.Global.{Global}
 use Rattle.comm_makings.specs.Here.{making_of}
 use Rattle.comm_makings.specs.Views.{first_told_on, is_kind, making_before, makings_on, place_if, rank_told, told_before, told_now, told_or}
-use Rattle.comm_makings.specs.declared.calls.Action.{Action}
 use Rattle.comm_makings.specs.declared.calls.CommCall.{CommCall}
 use Rattle.comm_makings.specs.declared.calls.Making.{Making}
 use Rattle.comm_makings.specs.declared.handle.Meant.{Meant}

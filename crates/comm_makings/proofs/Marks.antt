@@ -1,5 +1,5 @@
 -- Places that are marked one after the other.
-use Rattle.std.proofs.Common.{◌≡◌, ℕ, zero, suc, ◌≤◌, ◌<◌, ◌==◌, ◌||◌, Bool, true, false, List, [], ◌∷◌, Option, Some, None, ◌+◌, length, get_or, drop, set, ap, ◌∙◌, sym, refl, arith, add-one, drop-cons}
+use Rattle.std.proofs.Common.{◌≡◌, ℕ, zero, suc, ◌≤◌, ◌<◌, ◌==◌, ◌||◌, Bool, true, false, List, [], ◌∷◌, Some, ◌+◌, length, get_or, drop, set, ap, ◌∙◌, sym, refl, arith, add-one, drop-cons}
 use Rattle.std.proofs.lemmas.List.{drop_all}
 use Rattle.comm_makings.specs.Makes.{is_covered}
 use Rattle.comm_makings.specs.Selection.{Selection}

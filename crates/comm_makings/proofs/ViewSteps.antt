@@ -1,5 +1,5 @@
 -- What the ranks called, one rank after the other.
-use Rattle.std.proofs.Common.{◌≡◌, ◌≤◌, ◌⊎◌, ℕ, ◌+◌, ◌++◌, List, [], ◌∷◌, Some, length, ap, ◌∙◌, sym, inl, inr, subst, arith, length-append}
+use Rattle.std.proofs.Common.{◌≡◌, ◌≤◌, ℕ, ◌+◌, ◌++◌, List, [], ◌∷◌, Some, length, ap, ◌∙◌, sym, inl, inr, subst, arith, length-append}
 use Rattle.std.specs.List.{slice_get}
 use Rattle.comm_makings.specs.Views.{AreViews, IsView}
 use Rattle.comm_makings.specs.declared.calls.RankCalls.{RankCalls}

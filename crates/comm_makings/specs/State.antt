@@ -1,8 +1,8 @@
 -- What is derived so far.
-use Rattle.std.specs.Prelude.{◌≡◌, ◌⊎◌, ℕ, List, Option, Some, None, [], ◌∷◌, length}
+use Rattle.std.specs.Prelude.{◌≡◌, ℕ, List, Option, Some, None}
 use Rattle.std.specs.List.{slice_get}
 use Rattle.std.specs.Option.{option_map}
-use Rattle.comm_makings.specs.Derives.{Derives, member_with, members_at, ranks_in, world_members}
+use Rattle.comm_makings.specs.Derives.{Derives, members_at, ranks_in}
 use Rattle.comm_makings.specs.Selection.{Selection}
 use Rattle.comm_makings.specs.declared.calls.RankCalls.{RankCalls}
 use Rattle.comm_makings.specs.declared.here.Here.{Here}

@@ -1,4 +1,4 @@
-use Rattle.std.proofs.Common.{◌≡◌, ℕ, ◌+◌, ◌<◌, List, ◌∷◌, true, length, drop, get_or, set, sym, subst, ap, ◌∙◌, arith, add-one, drop-cons}
+use Rattle.std.proofs.Common.{◌≡◌, ℕ, ◌+◌, ◌<◌, List, ◌∷◌, length, drop, get_or, sym, subst, ap, ◌∙◌, arith, add-one, drop-cons}
 use Rattle.comm_makings.proofs.Marks.{AreMarked, marked}
 use Rattle.comm_makings.proofs.outcomes.cover.Goals as goal
 
