@@ -1,6 +1,6 @@
 -- Rounds that are gathered row by row are those of the columns.
 use Rattle.std.proofs.Common.{◌≡◌, ℕ, zero, suc, ◌+◌, ◌-◌, ◌^◌, ◌<◌, ◌≤◌, Bool, true, false, ◌&&◌, List, [], ◌∷◌, ◌++◌, take, get_or, set, refl, sym, ◌∙◌, ap, subst, arith, length, append-nil, append_assoc, Option, Some, None, min, max, length-append, ◌||◌, ◌⊎◌, inl, inr, ⊎_elim}
-use Rattle.std.specs.Prelude.{slice_get, ◌==◌, eqb, All}
+use Rattle.std.specs.Prelude.{slice_get, eqb, All}
 use Rattle.std.specs.List.{filter_map, flat_map, list_all, list_any, fold, range_with_len, cons_option}
 use Rattle.std.specs.Option.{option_map}
 use Rattle.std.proofs.lemmas.List.Folds.{list_all-append, fold-map}
