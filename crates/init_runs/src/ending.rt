@@ -4,6 +4,7 @@ ghost use Rattle.std.specs.Prelude.{◌≡◌, ◌≢◌, IfOk, map, string_byte
 ghost use Rattle.init_runs.specs.Endings.{EndsOver, EndsOverTexts};
 ghost use Rattle.init_runs.specs.Faults.{init_fault_line_of};
 
+use crate::advice::shown_init_fault;
 use crate::fault::{InitFault, init_fault_line, put_fault};
 use crate::made_files::{LAYOUT_NAME, MANIFEST_NAME, MadeFiles};
 use crate::prepared::{Prepared, prepare};
@@ -51,7 +52,7 @@ fn run_prepared<O: Opener, V: Watcher, W: Write>(
         watcher,
         out,
     );
-    ending_after(alloc, ran)
+    ending_after(alloc, verb, ran, &mut made)
 }
 
 // Shows on standard error what was found in the texts.
@@ -102,7 +103,12 @@ fn over_texts<R: Eprint, O: Opener, V: Watcher, W: Write>(
 {
     let prepared = match prepare(alloc, Sends::Wait, texts, files) {
         Ok(prepared) => prepared,
-        Err(fault) => return ending_of_fault(alloc, &fault),
+        Err(fault) => {
+            return Ok(Ending {
+                status: 1,
+                errors: shown_init_fault(alloc, verb, &fault, files)?,
+            });
+        }
     };
     show(rt, &prepared.notes);
     run_prepared(alloc, verb, &prepared, files, watcher, out)
