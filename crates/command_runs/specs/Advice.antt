@@ -68,13 +68,14 @@ layout_text layouts.MemberRange = said (codes "a member of a communicator is no 
 layout_text layouts.DoubleMember = said (codes "a rank stands twice among the members of a communicator")
 layout_text layouts.World = said (codes "no communicator has the `id` that `world` names, or its members are not all ranks in their order")
 layout_text layouts.Numbers =
-    said (codes "`numbers` has an entry for each member, or none; an end is not below its first call; and a rank names no two communicators by one number in one call")
+    said (codes "`numbers` has an entry for each member, or none")
+    ++ said (codes "the end of an entry is not below its first call, and no rank names two communicators by one number in one call")
 layout_text layouts.Memory = []
 
 abbrev pub line_text : LineFault → List ℕ
 line_text lines.LineTooLong = said (codes "a line has at most 65536 bytes")
 line_text lines.BadStamp = said (codes "a line that enters a call is: NAME entering at walltime T, cputime T seconds in thread N.")
-    ++ said (codes "and one that returns has `returning` there; T is seconds with a point and a fraction, or without")
+    ++ said (codes "and one that returns has `returning` there, and T is seconds with a point and a fraction, or without")
 line_text lines.OtherThread = said (codes "a call of another thread stands there, with an earlier time than the call above it: the calls are not in their order")
 line_text lines.ReturnOutside = said (codes "a call returns there that was not entered: the text begins inside a call, or lines are lost")
 line_text lines.NotReturned = said (codes "a call is entered there before the one above it has returned: lines are lost, or two texts are mixed")
@@ -95,7 +96,7 @@ wire_text wires.Write = []
 wire_text wires.Magic = said (codes "no frame begins there: the file is none of `mpimatch pack`, or it is damaged")
 wire_text wires.Version = said (codes "another version of `mpimatch pack` made it, or it is damaged: pack its texts again")
 wire_text wires.Length = said (codes "the frame is longer than a frame may be: the file is damaged, pack its texts again")
-wire_text wires.Short = said (codes "the file ends there: it was cut off, or it is empty; pack its texts again")
+wire_text wires.Short = said (codes "the file ends there: it was cut off, or it is empty, and its texts can be packed again")
 wire_text wires.Order = said (codes "the file is damaged: pack its texts again")
 wire_text wires.Content = said (codes "the file is damaged: pack its texts again")
 wire_text wires.Rest = said (codes "the file is damaged: pack its texts again")

@@ -179,6 +179,10 @@ pub fn begun_text(start: Option<Start>) -> &'static str
     }
 }
 
+const NUMBERS: &str = "  `numbers` has an entry for each member, or none
+  the end of an entry is not below its first call, and no rank names two communicators by one number in one call
+";
+
 /// What is said of a rule of layouts that is broken.
 pub fn layout_text(fault: LayoutFault) -> &'static str
     ensures { result.now ≡ layout_text fault }
@@ -195,15 +199,13 @@ pub fn layout_text(fault: LayoutFault) -> &'static str
         LayoutFault::World => {
             "  no communicator has the `id` that `world` names, or its members are not all ranks in their order\n"
         }
-        LayoutFault::Numbers => {
-            "  `numbers` has an entry for each member, or none; an end is not below its first call; and a rank names no two communicators by one number in one call\n"
-        }
+        LayoutFault::Numbers => NUMBERS,
         LayoutFault::Memory => "",
     }
 }
 
 const STAMPS: &str = "  a line that enters a call is: NAME entering at walltime T, cputime T seconds in thread N.
-  and one that returns has `returning` there; T is seconds with a point and a fraction, or without
+  and one that returns has `returning` there, and T is seconds with a point and a fraction, or without
 ";
 
 fn line_text(fault: LineFault) -> &'static str
@@ -264,7 +266,7 @@ fn wire_text(fault: WireFault) -> &'static str
             "  the frame is longer than a frame may be: the file is damaged, pack its texts again\n"
         }
         WireFault::Short => {
-            "  the file ends there: it was cut off, or it is empty; pack its texts again\n"
+            "  the file ends there: it was cut off, or it is empty, and its texts can be packed again\n"
         }
         WireFault::Order | WireFault::Content | WireFault::Rest => {
             "  the file is damaged: pack its texts again\n"

@@ -1,6 +1,6 @@
 //! All that the pieces of a manifest tell.
 
-ghost use Rattle.std.specs.Prelude.{IfErr, IfOk};
+ghost use Rattle.std.specs.Prelude.{◌≡◌, IfErr, IfOk};
 ghost use Rattle.dumpi_text.specs.Failing.{Fails};
 ghost use Rattle.trace_node.specs.Node.{IsWithin};
 ghost use Rattle.command_runs.specs.Files.{NamesFailed, NamesUnreadable};
