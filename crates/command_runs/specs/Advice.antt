@@ -49,6 +49,11 @@ reason_text name (Some reasons.Folder) = said (codes "it is a folder")
 reason_text name (Some (reasons.Long length)) =
     codes "  it has " ++ decimal length ++ codes " bytes, and a layout or a manifest has at most 16777216\n"
 
+-- why a file can't be read to its end
+abbrev pub unread_text : List ℕ → Option Reason → List ℕ
+unread_text name None = said (codes "the system does not let it be read to its end")
+unread_text name (Some reason) = reason_text name (Some reason)
+
 -- what a file that was read begins as
 abbrev pub begun_text : Option Start → List ℕ
 begun_text None = []
@@ -86,7 +91,7 @@ line_text lines.TooManyCalls = said (codes "a text has at most 1000000 calls: cu
 line_text lines.TooManyLines = said (codes "a text has at most 16777216 lines: cut it between two calls, as pieces of a manifest")
 
 abbrev pub cause_text : TextCause → List ℕ → Found → List ℕ
-cause_text causes.Read name found = reason_text name found.reason
+cause_text causes.Read name found = unread_text name found.reason
 cause_text (causes.Line fault) name found = line_text fault ++ begun_text found.start
 
 abbrev pub wire_text : WireFault → List ℕ

@@ -2,7 +2,7 @@
 
 ghost use Rattle.std.specs.Prelude.{◌≡◌, ◌++◌, IfOk, codes, decimal, string_bytes};
 ghost use Rattle.std.specs.Fmt.{WritesOnOk};
-ghost use Rattle.command_runs.specs.Advice.{IsShown, advice_text, begun_text, cause_text, from_text, is_absolute, is_in_words, layout_text, line_text, packed_text, plain_text, reason_text, wanted_text, wire_text};
+ghost use Rattle.command_runs.specs.Advice.{IsShown, advice_text, begun_text, cause_text, from_text, is_absolute, is_in_words, layout_text, line_text, packed_text, plain_text, reason_text, unread_text, wanted_text, wire_text};
 
 use crate::fault::{RunFault, fault_line};
 use crate::found::{Found, found_of};
@@ -57,8 +57,11 @@ fn put_advice<W: fmt::Write>(f: &mut fmt::Formatter<W>, fault: &RunFault, found:
     match fault {
         RunFault::File { path } => put_reason(f, path, found.reason),
         RunFault::Json { line, column, .. } => {
-            write!(f, "  from line {line}, column {column} on it is no JSON\n")?;
-            f.write_str(begun_text(found.start))
+            let begun = begun_text(found.start);
+            write!(
+                f,
+                "  from line {line}, column {column} on it is no JSON\n{begun}"
+            )
         }
         RunFault::Shape { .. } => f.write_str(SHAPE),
         RunFault::PackedFrame { cause, .. } => f.write_str(packed_text(*cause)),
@@ -144,6 +147,20 @@ fn put_reason<W: fmt::Write>(
     }
 }
 
+// why a file can't be read to its end
+fn put_unread<W: fmt::Write>(
+    f: &mut fmt::Formatter<W>,
+    path: &str,
+    reason: Option<Reason>,
+) -> fmt::Result
+    ensures { WritesOnOk W.write_str_gives f.old result (unread_text path.now reason) f.new }
+{
+    match reason {
+        None => f.write_str("  the system does not let it be read to its end\n"),
+        Some(reason) => put_reason(f, path, Some(reason)),
+    }
+}
+
 // why a text is refused
 fn put_cause<W: fmt::Write>(
     f: &mut fmt::Formatter<W>,
@@ -154,10 +171,10 @@ fn put_cause<W: fmt::Write>(
     ensures { WritesOnOk W.write_str_gives f.old result (cause_text cause path.now found) f.new }
 {
     match cause {
-        TextCause::Read => put_reason(f, path, found.reason),
+        TextCause::Read => put_unread(f, path, found.reason),
         TextCause::Line(fault) => {
-            f.write_str(line_text(fault))?;
-            f.write_str(begun_text(found.start))
+            let (said, begun) = (line_text(fault), begun_text(found.start));
+            write!(f, "{said}{begun}")
         }
     }
 }

@@ -48,6 +48,16 @@ fn unread<O: Opener>(path: &str, files: &O) -> Found
     }
 }
 
+// why a file can't be read to its end
+fn broken_off<O: Opener>(path: &str, files: &O) -> Found
+    ensures { result.start ≡ None }
+{
+    Found {
+        reason: files.reason(path),
+        start: None,
+    }
+}
+
 /// What a file is that was read.
 pub fn looked_at<O: Opener>(path: &str, files: &mut O) -> Found
     ensures told { BeginsSo (O.file files.old path.now) result.start }
@@ -72,7 +82,7 @@ pub fn found_of<O: Opener>(fault: &RunFault, files: &mut O) -> Found
             cause: TextCause::Read,
             path,
             ..
-        } => unread(path, files),
+        } => broken_off(path, files),
         RunFault::Text {
             cause: TextCause::Line(_),
             path,
