@@ -51,7 +51,11 @@ const SHAPE: &str = "  a field is missing, of another kind, or out of its range
   a manifest is {\"pieces\":[{\"rank\":0,\"first\":0,\"file\":\"r0.txt\"}]}
 ";
 
-fn put_advice<W: fmt::Write>(f: &mut fmt::Formatter<W>, fault: &RunFault, found: Found) -> fmt::Result
+fn put_advice<W: fmt::Write>(
+    f: &mut fmt::Formatter<W>,
+    fault: &RunFault,
+    found: Found,
+) -> fmt::Result
     ensures { WritesOnOk W.write_str_gives f.old result (advice_text fault.now found) f.new }
 {
     match fault {
@@ -221,7 +225,8 @@ pub fn layout_text(fault: LayoutFault) -> &'static str
     }
 }
 
-const STAMPS: &str = "  a line that enters a call is: NAME entering at walltime T, cputime T seconds in thread N.
+const STAMPS: &str =
+    "  a line that enters a call is: NAME entering at walltime T, cputime T seconds in thread N.
   and one that returns has `returning` there, and T is seconds with a point and a fraction, or without
 ";
 
