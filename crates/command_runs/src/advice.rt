@@ -298,10 +298,8 @@ fn wanted_text(parameter: Parameter) -> &'static str
     ensures { result.now ≡ wanted_text parameter }
 {
     match parameter {
-        Parameter::Count
-        | Parameter::SendCount
-        | Parameter::RecvCount
-        | Parameter::SendTag => "a number from 0 to 2147483647",
+        Parameter::Count | Parameter::SendCount | Parameter::RecvCount | Parameter::SendTag =>
+            "a number from 0 to 2147483647",
         Parameter::Root => {
             "a rank from 0 to 2147483647, a number below 0, or (MPI_ROOT) or (MPI_PROC_NULL) behind a number"
         }
