@@ -1,16 +1,24 @@
 //! MPI_Comm_create_group: collective over a group, not over its parent (MPI 4.0, 7.4.2).
 
-ghost use Rattle.std.specs.Prelude.{◌≤◌, length};
+ghost use Rattle.std.specs.Prelude.{◌≡◌, ◌≤◌, ◌++◌, ◌↔◌, [], ℕ, ℤ, IfOk, IsTrue, List, OnOk, Some, length, nat_eq, take};
+ghost use Rattle.std.specs.List.{slice_get};
+ghost use Rattle.std.specs.Option.{option_copied};
+ghost use Rattle.indexmap.specs.IndexMap.{get};
+ghost use Rattle.comm_makings.specs.ByGroups.{AreFound, AreRightOffers, AreSame, IsKnownOffer, IsListOn, IsOneOf, IsSoundAt, part_at};
+ghost use Rattle.comm_makings.specs.Derives.{ArePlaces, tag_in};
+ghost use Rattle.comm_makings.specs.Makes.{said_by};
+ghost use Rattle.comm_makings.specs.State.{AreDerived, IsMadeOf, IsRight};
+ghost use Rattle.comm_makings.specs.declared.here.Here.{Here};
+ghost use Rattle.comm_makings.specs.declared.state.Made.{Made};
 
 use crate::calls::Making;
-use crate::creates::{places_by_rank, places_of};
-use crate::group_value::{ranks_at, waits_at};
+use crate::creates::{group_of, places_by_rank, places_of};
+use crate::group_value::{GroupValue, waits_at};
 use crate::handle::Gives;
 use crate::here::{Here, here_at, is_unreadable, making_at, some_unknown};
-use crate::outcomes::checked;
+use crate::outcomes::are_given;
 use crate::part::Part;
-use crate::parts::Outcome;
-use crate::run::{Run, all_made};
+use crate::run::{Run, made_of};
 use crate::state::{Made, Member, copy_of};
 use indexmap::IndexMap;
 use std::alloc::{AllocError, Global};
@@ -42,10 +50,22 @@ struct Offers<'a> {
     waits: Vec<bool>,
 }
 
-fn tag_of(making: Option<&Making>) -> Option<i32> {
+fn tag_of(making: Option<&Making>) -> Option<i32>
+    ensures { result ≡ said_by tag_in (option_copied making.entry) }
+{
     match making? {
         Making::CreateGroup { tag, .. } => *tag,
-        _ => None,
+        Making::Dup
+        | Making::DupWithInfo
+        | Making::Idup
+        | Making::IdupWithInfo
+        | Making::Split { .. }
+        | Making::Create { .. }
+        | Making::CartCreate { .. }
+        | Making::CartSub { .. }
+        | Making::GraphCreate { .. }
+        | Making::DistGraphCreate { .. }
+        | Making::DistGraphCreateAdjacent { .. } => None,
     }
 }
 
@@ -59,45 +79,83 @@ fn is_read(read: &[Vec<bool>], rank: u32, at: usize) -> bool {
     }
 }
 
-/// Adds the calls of a rank, as far as their groups, tags and communicators are known. Says whether a group is not known
+/// A call of MPI_Comm_create_group, as far as it is known.
+enum Offered<'a> {
+    Known(Offer<'a>),
+    /// Its group is not known yet.
+    Waits,
+    Unknown,
+}
+
+/// A call of the member at this place of the parent, where its group and tag are known.
+fn offer_at<'a>(run: &'a Run<'_>, rank: u32, place: u32, at: usize) -> Offered<'a>
+    ensures { IsKnownOffer run.now.ranks.now run.now.views.items run.now.values.items run.now.comms.items rank place at result }
+{
+    let (Some(here), Some(tag)) = (
+        here_at(run.ranks, &run.views, rank, at),
+        tag_of(making_at(run.ranks, rank, at)),
+    ) else {
+        return Offered::Unknown;
+    };
+    match group_of(&run.values, &run.comms, here) {
+        Some(ranks) => Offered::Known(Offer {
+            ranks,
+            tag,
+            place,
+            at,
+            here,
+        }),
+        None => {
+            if group_waits(&run.values, here) {
+                Offered::Waits
+            } else {
+                Offered::Unknown
+            }
+        },
+    }
+}
+
+fn group_waits(values: &[Vec<GroupValue>], here: Here) -> bool {
+    match values.get(here.rank as usize) {
+        Some(values) => waits_at(values, here.group),
+        None => false,
+    }
+}
+
+/// Adds the calls of a member, as far as their groups, tags and communicators are known. Says whether a group is not known
 /// yet.
+#[tactic(auto, using(crate::proofs::GroupCalls::offer_right))]
 fn offer_all<'a>(
     run: &'a Run<'_>,
-    calls: &'a [usize],
-    rank: u32,
+    members: &[Member],
+    member: Member,
     place: u32,
     offers: &mut Vec<Offer<'a>>,
-) -> Result<bool, AllocError> {
-    for at in calls {
-        let Some(here) = here_at(run.ranks, &run.views, rank, *at) else {
-            return Ok(false);
-        };
-        let Some(values) = run.values.get(rank as usize) else {
-            return Ok(false);
-        };
-        let Some(tag) = tag_of(making_at(run.ranks, rank, *at)) else {
-            return Ok(false);
-        };
-        let Some(ranks) = ranks_at(values, &run.comms, here.group) else {
-            return Ok(waits_at(values, here.group));
-        };
-        if !is_read(&run.taken, rank, *at) {
-            offers.push(Offer {
-                ranks,
-                tag,
-                place,
-                at: *at,
-                here,
-            })?;
-        }
-        if is_unreadable(here.gives) {
-            return Ok(false);
+) -> Result<bool, AllocError>
+    requires member { slice_get members.now place ≡ Some member }
+    requires right { AreRightOffers run.now.ranks.now run.now.views.items run.now.values.items run.now.comms.items members.now offers.old.items }
+    ensures { OnOk result (AreRightOffers run.now.ranks.now run.now.views.items run.now.values.items run.now.comms.items members.now offers.new.items) }
+{
+    for at in calls_of(run, member) {
+        match offer_at(run, member.rank, place, *at) {
+            Offered::Known(offer) => {
+                if !is_read(&run.taken, member.rank, *at) {
+                    offers.push(offer)?;
+                }
+                if is_unreadable(offer.here.gives) {
+                    return Ok(false);
+                }
+            },
+            Offered::Waits => return Ok(true),
+            Offered::Unknown => return Ok(false),
         }
     }
     Ok(false)
 }
 
-fn calls_of<'a>(run: &'a Run<'_>, member: Member) -> &'a [usize] {
+fn calls_of<'a>(run: &'a Run<'_>, member: Member) -> &'a [usize]
+    ensures { IsListOn run.now.views.items member result.now }
+{
     match (run.views.get(member.rank as usize), member.handle) {
         (Some(view), Some(handle)) => match view.by_group.get(handle) {
             Some(calls) => calls,
@@ -108,31 +166,42 @@ fn calls_of<'a>(run: &'a Run<'_>, member: Member) -> &'a [usize] {
 }
 
 /// The calls on a parent that are not read yet, by their members, tag and place. At last no group is waited for.
+#[tactic(auto, using(crate::proofs::GroupCalls::sorted_right))]
 fn offers_of<'a>(
     alloc: Global,
     run: &'a Run<'_>,
-    parent: &Made,
+    members: &[Member],
     last: bool,
-) -> Result<Offers<'a>, AllocError> {
+) -> Result<Offers<'a>, AllocError>
+    ensures { IfOk result (λ offers. AreRightOffers run.now.ranks.now run.now.views.items run.now.values.items run.now.comms.items members.now offers.calls.items) }
+{
     let mut calls = Vec::new(alloc);
     let mut waits = Vec::new(alloc);
-    let mut place = 0u32;
-    for member in &parent.members {
-        let listed = calls_of(run, *member);
-        let waited = offer_all(run, listed, member.rank, place, &mut calls)?;
-        waits.push(waited && !last)?;
-        place = place.saturating_add(1);
+    for (at, member) in members.iter().enumerate() {
+        if let Ok(place) = u32::try_from(at) {
+            let waited = offer_all(run, members, *member, place, &mut calls)?;
+            waits.push(waited && !last)?;
+        }
     }
     calls.sort_by_key(|offer| (offer.ranks, offer.tag, offer.place))?;
     Ok(Offers { calls, waits })
 }
 
+/// Whether a call has these members and this tag.
+fn is_same(offer: Offer<'_>, ranks: &[u32], tag: i32) -> bool
+    ensures { IsTrue result ↔ ((offer.entry.ranks.now ≡ ranks.now) × (offer.entry.tag ≡ tag)) }
+{
+    offer.ranks == ranks && offer.tag == tag
+}
+
 /// How many calls at the front have these members and this tag.
+#[tactic(auto, using(crate::proofs::OfferLemmas::same_more))]
 fn same_length(calls: &[Offer<'_>], ranks: &[u32], tag: i32) -> usize
-    ensures { result ≤ length calls.now }
+    ensures within { result ≤ length calls.now }
+    ensures same { AreSame (take result calls.now) ranks.now tag }
 {
     for (at, offer) in calls.iter().enumerate() {
-        if offer.ranks != ranks || offer.tag != tag {
+        if !is_same(*offer, ranks, tag) {
             return at;
         }
     }
@@ -140,26 +209,34 @@ fn same_length(calls: &[Offer<'_>], ranks: &[u32], tag: i32) -> usize
 }
 
 /// The k-th call of each of these places.
+#[tactic(auto, using(crate::proofs::GroupCalls::kth_more))]
 fn kth_of(
     alloc: Global,
     calls: &[Offer<'_>],
     places: &[u32],
     members: usize,
     k: usize,
-) -> Result<Vec<Option<Here>>, AllocError> {
+) -> Result<Vec<Option<Here>>, AllocError>
+    ensures { IfOk result (λ v. (place : ℕ) (here : Here) → slice_get v.items place ≡ Some (Some here) → IsOneOf calls.now place here) }
+{
     let mut seen = vec![in alloc; 0usize; members]?;
     let mut kth: Vec<Option<Here>> = vec![in alloc; None; members]?;
     for offer in calls {
-        if let Some(count) = seen.get_mut(offer.place as usize) {
-            if *count == k {
-                if let Some(here) = kth.get_mut(offer.place as usize) {
-                    *here = Some(offer.here);
-                }
-            }
-            *count = count.saturating_add(1);
+        let place = offer.place as usize;
+        if count_at(&mut seen, place) == Some(k) && place < kth.len() {
+            kth[place] = Some(offer.here);
         }
     }
     only_at(alloc, &kth, places)
+}
+
+/// How often the place came before.
+fn count_at(seen: &mut Vec<usize>, place: usize) -> Option<usize> {
+    let count = *seen.get(place)?;
+    if place < seen.len() {
+        seen[place] = count.saturating_add(1);
+    }
+    Some(count)
 }
 
 /// What stands at these places, and nothing at the others.
@@ -167,14 +244,14 @@ fn only_at(
     alloc: Global,
     all: &[Option<Here>],
     places: &[u32],
-) -> Result<Vec<Option<Here>>, AllocError> {
+) -> Result<Vec<Option<Here>>, AllocError>
+    ensures { IfOk result (λ v. (place : ℕ) (here : Here) → slice_get v.items place ≡ Some (Some here) → slice_get all.now place ≡ Some (Some here)) }
+{
     let mut only: Vec<Option<Here>> = vec![in alloc; None; all.len()]?;
     for place in places {
-        if let (Some(here), Some(from)) = (
-            only.get_mut(*place as usize),
-            all.get(*place as usize),
-        ) {
-            *here = *from;
+        let place = *place as usize;
+        if place < only.len() && place < all.len() {
+            only[place] = all[place];
         }
     }
     Ok(only)
@@ -199,16 +276,15 @@ fn some_here(all: &[Option<Here>]) -> bool {
     false
 }
 
-/// What the k-th calls of a group's members make.
-fn outcome_of(alloc: Global, all: &[Option<Here>], places: &[u32]) -> Result<Outcome, AllocError> {
+/// Whether one communicator is made of the calls, with the members at these places.
+fn is_sound(alloc: Global, all: &[Option<Here>], places: &[u32]) -> Result<bool, AllocError>
+    ensures { IfOk result (λ sound. IsTrue sound → IsSoundAt places.now all.now) }
+{
     if some_unknown(all) {
-        return Ok(Outcome::Unsound);
+        return Ok(false);
     }
-    let mut copied = Vec::new(alloc);
-    copied.extend_from_slice(places)?;
-    let mut parts = Vec::new(alloc);
-    parts.push(Part::new(copied, None))?;
-    checked(alloc, Outcome::Parts(parts), all, false)
+    let parts = vec![in alloc; Part::new(copy_of(alloc, places)?, None)]?;
+    are_given(alloc, &parts, all, false)
 }
 
 fn is_over(over: &[Over], ranks: &[u32], tag: i32) -> bool {
@@ -248,7 +324,9 @@ fn note_read(
     Ok(())
 }
 
-fn note_left(calls: &[Offer<'_>], found: &mut Found) -> Result<(), AllocError> {
+fn note_left(calls: &[Offer<'_>], found: &mut Found) -> Result<(), AllocError>
+    ensures { found.new.made ≡ found.old.made }
+{
     for offer in calls {
         found.read.push((offer.here.rank, offer.at))?;
         if let Gives::Handle(handle) = offer.here.gives {
@@ -265,7 +343,9 @@ fn end(
     ranks: &[u32],
     tag: i32,
     found: &mut Found,
-) -> Result<(), AllocError> {
+) -> Result<(), AllocError>
+    ensures { found.new.made ≡ found.old.made }
+{
     note_left(calls, found)?;
     found.over.push(Over {
         ranks: copy_of(alloc, ranks)?,
@@ -274,37 +354,58 @@ fn end(
     Ok(())
 }
 
-/// Reads the calls of one list of members and one tag.
+/// What the calls of one list of members and one tag make.
+#[derive(Drop)]
+struct Read {
+    made: Vec<Made>,
+    /// Whether more may be made of them.
+    goes_on: bool,
+}
+
+/// Reads the calls of one list of members and one tag, and notes those that are read.
+#[tactic(auto, using(crate::proofs::GroupCalls::found_one))]
 fn read_same(
     alloc: Global,
     parent: &Made,
     calls: &[Offer<'_>],
     places: &[u32],
     waits: &[bool],
-    found: &mut Found,
-) -> Result<bool, AllocError> {
+    read: &mut Vec<(u32, usize)>,
+) -> Result<Read, AllocError>
+    ensures { IfOk result (λ r. (group : List ℕ) (tag : ℤ) → AreSame calls.now group tag → ArePlaces parent.now.ranks.items places.now group → AreFound calls.now parent.now.members.items parent.now.ranks.items r.made.items) }
+{
+    let mut made = Vec::new(alloc);
+    let mut goes_on = true;
     for k in 0..calls.len() {
         let all = kth_of(alloc, calls, places, parent.members.len(), k)?;
-        if may_come(&all, places, waits) {
-            return Ok(true);
+        if may_come(&all, places, waits) || !some_here(&all) {
+            break;
         }
-        if !some_here(&all) {
-            return Ok(true);
+        if !is_sound(alloc, &all, places)? {
+            goes_on = false;
+            break;
         }
-        match outcome_of(alloc, &all, places)? {
-            Outcome::Parts(parts) => {
-                note_read(calls, &all, &mut found.read)?;
-                for made in all_made(alloc, &parent.members, &all, &parts)? {
-                    found.made.push(made)?;
-                }
-            },
-            _ => return Ok(false),
-        }
+        note_read(calls, &all, read)?;
+        made.push(one_made(alloc, parent, &all, places)?)?;
     }
-    Ok(true)
+    Ok(Read { made, goes_on })
+}
+
+/// The communicator of the members at these places.
+fn one_made(
+    alloc: Global,
+    parent: &Made,
+    all: &[Option<Here>],
+    places: &[u32],
+) -> Result<Made, AllocError>
+    ensures { IfOk result (IsMadeOf parent.now.members.items all.now (part_at places.now)) }
+{
+    let part = Part::new(copy_of(alloc, places)?, None);
+    made_of(alloc, &parent.members, all, &part)
 }
 
 /// Reads the calls of one list of members and one tag, unless nothing more is made of them.
+#[tactic(auto, using(crate::proofs::GroupCalls::no_more, crate::proofs::GroupCalls::places_are))]
 fn read_key(
     alloc: Global,
     parent: &Made,
@@ -314,22 +415,36 @@ fn read_key(
     first: Offer<'_>,
     waits: &[bool],
     found: &mut Found,
-) -> Result<(), AllocError> {
+) -> Result<(), AllocError>
+    requires same { AreSame calls.now first.ranks.now first.tag }
+    requires ranked { (rank place : ℕ) → get nat_eq ranked.now rank ≡ Some place → slice_get parent.now.ranks.items place ≡ Some rank }
+    ensures { OnOk result ((more : List Made) × (found.new.made.items ≡ found.old.made.items ++ more) × AreFound calls.now parent.now.members.items parent.now.ranks.items more) }
+{
     if is_over(over, first.ranks, first.tag) {
         return note_left(calls, found);
     }
-    match places_of(alloc, ranked, first.ranks)? {
-        Some(places) => {
-            if !read_same(alloc, parent, calls, &places, waits, found)? {
-                end(alloc, calls, first.ranks, first.tag, found)?;
-            }
-            Ok(())
-        },
-        None => end(alloc, calls, first.ranks, first.tag, found),
+    let Some(places) = places_of(alloc, ranked, first.ranks)? else {
+        return end(alloc, calls, first.ranks, first.tag, found);
+    };
+    let Read { made, goes_on } = read_same(alloc, parent, calls, &places, waits, &mut found.read)?;
+    if !goes_on {
+        end(alloc, calls, first.ranks, first.tag, found)?;
     }
+    add_made(&mut found.made, made)
 }
 
-fn nothing_found(alloc: Global) -> Found {
+fn add_made(all: &mut Vec<Made>, more: Vec<Made>) -> Result<(), AllocError>
+    ensures { OnOk result (all.new.items ≡ all.old.items ++ more.items) }
+{
+    for made in more {
+        all.push(made)?;
+    }
+    Ok(())
+}
+
+fn nothing_found(alloc: Global) -> Found
+    ensures { result.made.items ≡ [] }
+{
     Found {
         made: Vec::new(alloc),
         over: Vec::new(alloc),
@@ -339,13 +454,16 @@ fn nothing_found(alloc: Global) -> Found {
     }
 }
 
+#[tactic(auto, using(crate::proofs::GroupCalls::all_within, crate::proofs::GroupCalls::range_within, crate::proofs::GroupCalls::same_from))]
 fn found_in(
     alloc: Global,
     parent: &Made,
     over: &[Over],
     calls: &[Offer<'_>],
     waits: &[bool],
-) -> Result<Found, AllocError> {
+) -> Result<Found, AllocError>
+    ensures { IfOk result (λ found. AreFound calls.now parent.now.members.items parent.now.ranks.items found.made.items) }
+{
     let ranked = places_by_rank(alloc, &parent.ranks)?;
     let mut found = nothing_found(alloc);
     let mut at = 0;
@@ -371,19 +489,23 @@ fn has_calls(run: &Run<'_>, comm: &Made) -> bool {
 }
 
 /// The communicators that the calls of MPI_Comm_create_group on a parent make, as far as their groups are known.
+#[tactic(auto, using(crate::proofs::Derivations::all_found, crate::proofs::Derivations::right_comm))]
 pub(crate) fn found_at(
     alloc: Global,
     run: &Run<'_>,
     at: usize,
     last: bool,
-) -> Result<Found, AllocError> {
+) -> Result<Found, AllocError>
+    requires { IsRight run.now.ranks.now run.now.views.items run.now.standings.items run.now.values.items run.now.comms.items }
+    ensures { IfOk result (λ found. AreDerived run.now.ranks.now run.now.views.items found.made.items) }
+{
     let (Some(parent), Some(over)) = (run.comms.get(at), run.over.get(at)) else {
         return Ok(nothing_found(alloc));
     };
     if !has_calls(run, parent) {
         return Ok(nothing_found(alloc));
     }
-    let offers = offers_of(alloc, run, parent, last)?;
+    let offers = offers_of(alloc, run, &parent.members, last)?;
     let mut found = found_in(alloc, parent, over, &offers.calls, &offers.waits)?;
     found.waits = offers.waits.iter().any(|waits| *waits);
     Ok(found)

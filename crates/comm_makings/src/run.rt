@@ -1,12 +1,18 @@
 //! From the world to all communicators that are made of it.
 
-ghost use Rattle.std.specs.Prelude.{◌≡◌, ◌<◌, ◌^◌, IfOk, length, map, option_map};
-ghost use Rattle.std.specs.List.{filter_map};
+ghost use Rattle.std.specs.Prelude.{◌≡◌, ◌<◌, ◌^◌, ◌++◌, ◌∷◌, [], ℕ, All, IfOk, List, OnOk, Some, length, map, option_map, slice_set};
+ghost use Rattle.std.specs.List.{filter_map, slice_get};
+ghost use Rattle.std.specs.Option.{option_and_then, option_copied};
+ghost use Rattle.comm_makings.specs.Derives.{group_call_at, kth_calls, member_with, world_members};
+ghost use Rattle.comm_makings.specs.Here.{meant_at};
 ghost use Rattle.comm_makings.specs.Made.{member_at};
+ghost use Rattle.comm_makings.specs.State.{BindsMember, AreDerived, AreDerivedGroups, AreMadeOf, AreMembersIn, IsDerivedComm, IsDerivedGroup, IsFirstComm, IsFirstOf, IsNotDerived, IsNotListed, IsRight, KeepsDerived, NamesMembers, SetsStanding};
+ghost use Rattle.comm_makings.specs.Views.{AreViews, IsView};
+ghost use Rattle.comm_makings.specs.declared.view.RankView.{RankView};
 
 use crate::answer::Why;
 use crate::by_groups::{Found, Over, found_at};
-use crate::calls::{Action, CommCall, RankCalls};
+use crate::calls::{Action, CommCall, GroupCall, RankCalls};
 use crate::group_value::{GroupValue, value_of};
 use crate::handle::{Gives, Meant};
 use crate::here::{Here, all_kth, handle_of};
@@ -37,21 +43,28 @@ pub(crate) struct Run<'a> {
     pub read: u64,
 }
 
-pub(crate) fn set(
-    standings: &mut Vec<Vec<Standing>>,
-    rank: u32,
-    handle: usize,
-    standing: Standing,
-) {
-    if let Some(standings) = standings.get_mut(rank as usize) {
-        if let Some(before) = standings.get_mut(handle) {
-            *before = standing;
-        }
+fn set_in(row: &mut Vec<Standing>, handle: usize, standing: Standing)
+    ensures { row.new.items ≡ slice_set row.old.items handle standing }
+{
+    if handle < row.len() {
+        row[handle] = standing;
+    }
+}
+
+pub(crate) fn set(standings: &mut Vec<Vec<Standing>>, rank: u32, handle: usize, standing: Standing)
+    ensures { SetsStanding standings.old.items standings.new.items rank handle standing }
+{
+    let rank = rank as usize;
+    if rank < standings.len() {
+        set_in(&mut standings[rank], handle, standing);
     }
 }
 
 /// What the calls give is left out.
-pub(crate) fn leave(standings: &mut Vec<Vec<Standing>>, all: &[Option<Here>], why: Why) {
+#[tactic(auto, using(crate::proofs::Derivations::keeps_set))]
+pub(crate) fn leave(standings: &mut Vec<Vec<Standing>>, all: &[Option<Here>], why: Why)
+    ensures { KeepsDerived standings.old.items standings.new.items }
+{
     for here in all {
         if let Some(here) = here {
             if let Gives::Handle(handle) = here.gives {
@@ -117,7 +130,7 @@ fn ranks_of(alloc: Global, members: &[Member]) -> Result<Vec<u32>, AllocError>
 }
 
 /// The communicator of a part.
-fn made_of(
+pub(crate) fn made_of(
     alloc: Global,
     members: &[Member],
     all: &[Option<Here>],
@@ -136,12 +149,22 @@ fn made_of(
     })
 }
 
+/// The member's handle names the communicator at this place.
+fn bind_member(standings: &mut Vec<Vec<Standing>>, member: Member, place: usize)
+    ensures { BindsMember member place standings.old.items standings.new.items }
+{
+    if let Some(handle) = member.handle {
+        set(standings, member.rank, handle, Standing::Derived(place));
+    }
+}
+
 /// The members' handles name the communicator at this place.
-pub(crate) fn bind(standings: &mut Vec<Vec<Standing>>, comm: &Made, place: usize) {
+#[tactic(auto, using(crate::proofs::Derivations::names_bound))]
+pub(crate) fn bind(standings: &mut Vec<Vec<Standing>>, comm: &Made, place: usize)
+    ensures { NamesMembers comm.now.members.items place standings.old.items standings.new.items }
+{
     for member in &comm.members {
-        if let Some(handle) = member.handle {
-            set(standings, member.rank, handle, Standing::Derived(place));
-        }
+        bind_member(standings, *member, place);
     }
 }
 
@@ -164,22 +187,70 @@ fn count_of(views: &[RankView], member: Member) -> usize {
     }
 }
 
+/// The call of a rank that gives a group, at this place of its list.
+fn group_call_at(ranks: &[RankCalls], rank: usize, at: usize) -> Option<&GroupCall>
+    ensures { option_copied result ≡ group_call_at ranks.now rank at }
+{
+    match &ranks.get(rank)?.calls.get(at)?.action {
+        Action::Group { group, .. } => Some(group),
+        Action::Make { .. }
+        | Action::CommRank { .. }
+        | Action::Free { .. }
+        | Action::GivesComm { .. } => None,
+    }
+}
+
+/// What the numbers in a call of a rank mean.
+fn meant_at(views: &[RankView], rank: usize, at: usize) -> Option<Meant>
+    ensures { result ≡ meant_at views.now rank at }
+{
+    views.get(rank)?.meant.get(at).copied()
+}
+
+/// The group that a call of a rank gives, by what is known of the calls before it.
+#[tactic(auto, using(crate::proofs::Derivations::given_value))]
+fn value_at(
+    alloc: Global,
+    ranks: &[RankCalls],
+    views: &[RankView],
+    comms: &[Made],
+    standings: &[Standing],
+    values: &[GroupValue],
+    rank: usize,
+    at: usize,
+) -> Result<GroupValue, AllocError>
+    requires comms { AreDerived ranks.now views.now comms.now }
+    requires standings { AreMembersIn comms.now rank standings.now }
+    requires groups { AreDerivedGroups ranks.now views.now comms.now rank values.now }
+    ensures { IfOk result (IsDerivedGroup ranks.now views.now comms.now rank at) }
+{
+    match (group_call_at(ranks, rank, at), meant_at(views, rank, at)) {
+        (Some(group), Some(meant)) => value_of(alloc, group, &meant, values, standings, comms),
+        _ => Ok(GroupValue::Unknown),
+    }
+}
+
 /// The groups of a rank that become known.
+#[tactic(auto, using(crate::proofs::Refreshed::group_set))]
 fn refresh(
     alloc: Global,
-    calls: &[CommCall],
-    meant: &[Meant],
-    standings: &[Standing],
+    ranks: &[RankCalls],
+    views: &[RankView],
     comms: &[Made],
+    standings: &[Standing],
+    rank: usize,
     values: &mut Vec<GroupValue>,
-) -> Result<(), AllocError> {
-    for (at, (call, meant)) in calls.iter().zip(meant.iter()).enumerate() {
-        if let Action::Group { group, .. } = &call.action {
-            if let Some(GroupValue::Waits) = values.get(at) {
-                let value = value_of(alloc, group, meant, values, standings, comms)?;
-                if let Some(before) = values.get_mut(at) {
-                    *before = value;
-                }
+) -> Result<(), AllocError>
+    requires comms { AreDerived ranks.now views.now comms.now }
+    requires standings { AreMembersIn comms.now rank standings.now }
+    requires groups { AreDerivedGroups ranks.now views.now comms.now rank values.old.items }
+    ensures { OnOk result (AreDerivedGroups ranks.now views.now comms.now rank values.new.items) }
+{
+    for at in 0..values.len() {
+        if let Some(GroupValue::Waits) = values.get(at) {
+            let value = value_at(alloc, ranks, views, comms, standings, values, rank, at)?;
+            if at < values.len() {
+                values[at] = value;
             }
         }
     }
@@ -188,39 +259,67 @@ fn refresh(
 
 impl Run<'_> {
     /// The groups of all ranks that become known.
-    pub(crate) fn refresh(&mut self, alloc: Global) -> Result<(), AllocError> {
-        for (at, values) in self.values.iter_mut().enumerate() {
-            if let (Some(rank), Some(view), Some(standings)) = (
-                self.ranks.get(at),
-                self.views.get(at),
-                self.standings.get(at),
-            ) {
+    #[tactic(auto, using(crate::proofs::Refreshed::members_in, crate::proofs::Refreshed::right_refreshed))]
+    pub(crate) fn refresh(&mut self, alloc: Global) -> Result<(), AllocError>
+        requires { IsRight self.old.ranks.now self.old.views.items self.old.standings.items self.old.values.items self.old.comms.items }
+        ensures right { OnOk result (IsRight self.new.ranks.now self.new.views.items self.new.standings.items self.new.values.items self.new.comms.items) }
+        ensures ranks { self.new.ranks ≡ self.old.ranks }
+        ensures views { self.new.views ≡ self.old.views }
+    {
+        for rank in 0..self.values.len() {
+            if let Some(standings) = self.standings.get(rank) {
                 refresh(
                     alloc,
-                    &rank.calls,
-                    &view.meant,
-                    standings,
+                    self.ranks,
+                    &self.views,
                     &self.comms,
-                    values,
+                    standings,
+                    rank,
+                    &mut self.values[rank],
                 )?;
             }
         }
         Ok(())
     }
 
-    /// Adds communicators. Their members' handles name them.
-    pub(crate) fn add(&mut self, alloc: Global, made: Vec<Made>) -> Result<(), AllocError> {
+    /// Adds a communicator. Its members' handles name it.
+    #[tactic(auto, using(crate::proofs::Derivations::right_added))]
+    fn add(&mut self, alloc: Global, comm: Made) -> Result<(), AllocError>
+        requires right { IsRight self.old.ranks.now self.old.views.items self.old.standings.items self.old.values.items self.old.comms.items }
+        requires derived { IsDerivedComm self.old.ranks.now self.old.views.items comm }
+        ensures right { OnOk result (IsRight self.new.ranks.now self.new.views.items self.new.standings.items self.new.values.items self.new.comms.items) }
+        ensures ranks { self.new.ranks ≡ self.old.ranks }
+        ensures views { self.new.views ≡ self.old.views }
+    {
+        bind(&mut self.standings, &comm, self.comms.len());
+        self.comms.push(comm)?;
+        self.next.push(0)?;
+        self.over.push(Vec::new(alloc))?;
+        Ok(())
+    }
+
+    /// Adds communicators.
+    pub(crate) fn add_all(&mut self, alloc: Global, made: Vec<Made>) -> Result<(), AllocError>
+        requires right { IsRight self.old.ranks.now self.old.views.items self.old.standings.items self.old.values.items self.old.comms.items }
+        requires derived { AreDerived self.old.ranks.now self.old.views.items made.items }
+        ensures right { OnOk result (IsRight self.new.ranks.now self.new.views.items self.new.standings.items self.new.values.items self.new.comms.items) }
+        ensures ranks { self.new.ranks ≡ self.old.ranks }
+        ensures views { self.new.views ≡ self.old.views }
+    {
         for comm in made {
-            bind(&mut self.standings, &comm, self.comms.len());
-            self.comms.push(comm)?;
-            self.next.push(0)?;
-            self.over.push(Vec::new(alloc))?;
+            self.add(alloc, comm)?;
         }
         Ok(())
     }
 
     /// Reads the k-th making of a communicator.
-    fn step(&mut self, alloc: Global, at: usize, k: usize, last: bool) -> Result<Step, AllocError> {
+    #[tactic(auto, using(crate::proofs::Derivations::outcome_derives, crate::proofs::Derivations::right_comm, crate::proofs::Derivations::right_kept))]
+    fn step(&mut self, alloc: Global, at: usize, k: usize, last: bool) -> Result<Step, AllocError>
+        requires { IsRight self.old.ranks.now self.old.views.items self.old.standings.items self.old.values.items self.old.comms.items }
+        ensures right { OnOk result (IsRight self.new.ranks.now self.new.views.items self.new.standings.items self.new.values.items self.new.comms.items) }
+        ensures ranks { self.new.ranks ≡ self.old.ranks }
+        ensures views { self.new.views ≡ self.old.views }
+    {
         let Some(parent) = self.comms.get(at) else {
             return Ok(Step::Over);
         };
@@ -237,15 +336,22 @@ impl Run<'_> {
             Outcome::Parts(parts) => {
                 let made = all_made(alloc, &parent.members, &all, &parts)?;
                 drop(all);
-                self.add(alloc, made)?;
+                self.add_all(alloc, made)?;
                 Ok(Step::Read)
             },
             Outcome::Untold => {
                 leave(&mut self.standings, &all, Why::Untold);
                 Ok(Step::Read)
             },
-            Outcome::Waits if !last => Ok(Step::Waits),
-            _ => {
+            Outcome::Waits => {
+                if last {
+                    leave(&mut self.standings, &all, Why::Unsound);
+                    Ok(Step::Over)
+                } else {
+                    Ok(Step::Waits)
+                }
+            },
+            Outcome::Unsound => {
                 leave(&mut self.standings, &all, Why::Unsound);
                 Ok(Step::Over)
             },
@@ -253,13 +359,19 @@ impl Run<'_> {
     }
 
     /// What the members made of a communicator from the k-th making on is left out.
+    #[tactic(auto, using(crate::proofs::Derivations::right_kept))]
     fn leave_from(
         &mut self,
         alloc: Global,
         at: usize,
         k: usize,
         end: usize,
-    ) -> Result<(), AllocError> {
+    ) -> Result<(), AllocError>
+        requires { IsRight self.old.ranks.now self.old.views.items self.old.standings.items self.old.values.items self.old.comms.items }
+        ensures right { OnOk result (IsRight self.new.ranks.now self.new.views.items self.new.standings.items self.new.values.items self.new.comms.items) }
+        ensures ranks { self.new.ranks ≡ self.old.ranks }
+        ensures views { self.new.views ≡ self.old.views }
+    {
         let Some(parent) = self.comms.get(at) else {
             return Ok(());
         };
@@ -270,10 +382,16 @@ impl Run<'_> {
         Ok(())
     }
 
-    fn note(&mut self, at: usize, next: usize) {
+    fn note(&mut self, at: usize, next: usize)
+        ensures ranks { self.new.ranks ≡ self.old.ranks }
+        ensures views { self.new.views ≡ self.old.views }
+        ensures standings { self.new.standings ≡ self.old.standings }
+        ensures values { self.new.values ≡ self.old.values }
+        ensures comms { self.new.comms ≡ self.old.comms }
+    {
         self.read = self.read.saturating_add(1);
-        if let Some(before) = self.next.get_mut(at) {
-            *before = next;
+        if at < self.next.len() {
+            self.next[at] = next;
         }
     }
 
@@ -291,7 +409,12 @@ impl Run<'_> {
         alloc: Global,
         at: usize,
         last: bool,
-    ) -> Result<bool, AllocError> {
+    ) -> Result<bool, AllocError>
+        requires { IsRight self.old.ranks.now self.old.views.items self.old.standings.items self.old.values.items self.old.comms.items }
+        ensures right { OnOk result (IsRight self.new.ranks.now self.new.views.items self.new.standings.items self.new.values.items self.new.comms.items) }
+        ensures ranks { self.new.ranks ≡ self.old.ranks }
+        ensures views { self.new.views ≡ self.old.views }
+    {
         let (first, end) = self.unread(at);
         for k in first..end {
             match self.step(alloc, at, k, last)? {
@@ -308,7 +431,14 @@ impl Run<'_> {
     }
 
     /// Takes what was found in the calls of MPI_Comm_create_group on a communicator.
-    fn take(&mut self, alloc: Global, at: usize, found: Found) -> Result<(), AllocError> {
+    #[tactic(auto, using(crate::proofs::Derivations::right_kept))]
+    fn take(&mut self, alloc: Global, at: usize, found: Found) -> Result<(), AllocError>
+        requires right { IsRight self.old.ranks.now self.old.views.items self.old.standings.items self.old.values.items self.old.comms.items }
+        requires derived { AreDerived self.old.ranks.now self.old.views.items found.made.items }
+        ensures right { OnOk result (IsRight self.new.ranks.now self.new.views.items self.new.standings.items self.new.values.items self.new.comms.items) }
+        ensures ranks { self.new.ranks ≡ self.old.ranks }
+        ensures views { self.new.views ≡ self.old.views }
+    {
         let Found {
             made,
             over,
@@ -316,28 +446,22 @@ impl Run<'_> {
             left,
             ..
         } = found;
-        for (rank, call) in read {
-            self.read = self.read.saturating_add(1);
-            mark(&mut self.taken, rank, call);
+        self.read = self.read.saturating_add(read.len() as u64);
+        mark_all(&mut self.taken, &read);
+        leave_handles(&mut self.standings, &left);
+        if at < self.over.len() {
+            add_over(&mut self.over[at], over)?;
         }
-        for (rank, handle) in left {
-            set(
-                &mut self.standings,
-                rank,
-                handle,
-                Standing::Left(Why::Unsound),
-            );
-        }
-        if let Some(before) = self.over.get_mut(at) {
-            for key in over {
-                before.push(key)?;
-            }
-        }
-        self.add(alloc, made)
+        self.add_all(alloc, made)
     }
 
     /// Reads the calls of MPI_Comm_create_group on a communicator, as far as they don't wait. Says whether one does.
-    fn advance_groups(&mut self, alloc: Global, at: usize, last: bool) -> Result<bool, AllocError> {
+    fn advance_groups(&mut self, alloc: Global, at: usize, last: bool) -> Result<bool, AllocError>
+        requires { IsRight self.old.ranks.now self.old.views.items self.old.standings.items self.old.values.items self.old.comms.items }
+        ensures right { OnOk result (IsRight self.new.ranks.now self.new.views.items self.new.standings.items self.new.values.items self.new.comms.items) }
+        ensures ranks { self.new.ranks ≡ self.old.ranks }
+        ensures views { self.new.views ≡ self.old.views }
+    {
         let found = found_at(alloc, self, at, last)?;
         let waits = found.waits;
         self.take(alloc, at, found)?;
@@ -350,7 +474,12 @@ impl Run<'_> {
         alloc: Global,
         todo: &[usize],
         last: bool,
-    ) -> Result<Vec<usize>, AllocError> {
+    ) -> Result<Vec<usize>, AllocError>
+        requires { IsRight self.old.ranks.now self.old.views.items self.old.standings.items self.old.values.items self.old.comms.items }
+        ensures right { OnOk result (IsRight self.new.ranks.now self.new.views.items self.new.standings.items self.new.values.items self.new.comms.items) }
+        ensures ranks { self.new.ranks ≡ self.old.ranks }
+        ensures views { self.new.views ≡ self.old.views }
+    {
         let mut waiting = Vec::new(alloc);
         for at in todo {
             let waits = self.advance(alloc, *at, last)?;
@@ -363,12 +492,12 @@ impl Run<'_> {
     }
 
     /// One round: what was made last, and what waits. Gives what is to be read next.
-    fn round(
-        &mut self,
-        alloc: Global,
-        todo: &[usize],
-        last: bool,
-    ) -> Result<Vec<usize>, AllocError> {
+    fn round(&mut self, alloc: Global, todo: &[usize], last: bool) -> Result<Vec<usize>, AllocError>
+        requires { IsRight self.old.ranks.now self.old.views.items self.old.standings.items self.old.values.items self.old.comms.items }
+        ensures right { OnOk result (IsRight self.new.ranks.now self.new.views.items self.new.standings.items self.new.values.items self.new.comms.items) }
+        ensures ranks { self.new.ranks ≡ self.old.ranks }
+        ensures views { self.new.views ≡ self.old.views }
+    {
         self.refresh(alloc)?;
         let known = self.comms.len();
         let mut next = self.advance_all(alloc, todo, last)?;
@@ -387,6 +516,29 @@ fn mark(taken: &mut Vec<Vec<bool>>, rank: u32, at: usize) {
     }
 }
 
+fn mark_all(taken: &mut Vec<Vec<bool>>, read: &[(u32, usize)]) {
+    for (rank, at) in read {
+        mark(taken, *rank, *at);
+    }
+}
+
+/// These handles are left out: the calls that give them are unsound.
+#[tactic(auto, using(crate::proofs::Derivations::keeps_set))]
+fn leave_handles(standings: &mut Vec<Vec<Standing>>, left: &[(u32, usize)])
+    ensures { KeepsDerived standings.old.items standings.new.items }
+{
+    for (rank, handle) in left {
+        set(standings, *rank, *handle, Standing::Left(Why::Unsound));
+    }
+}
+
+fn add_over(over: &mut Vec<Over>, more: Vec<Over>) -> Result<(), AllocError> {
+    for key in more {
+        over.push(key)?;
+    }
+    Ok(())
+}
+
 fn is_group(call: &CommCall) -> bool {
     match &call.action {
         Action::Group { .. } => true,
@@ -394,7 +546,9 @@ fn is_group(call: &CommCall) -> bool {
     }
 }
 
-fn first_values(alloc: Global, calls: &[CommCall]) -> Result<Vec<GroupValue>, AllocError> {
+fn first_values(alloc: Global, calls: &[CommCall]) -> Result<Vec<GroupValue>, AllocError>
+    ensures { IfOk result (λ v. All IsNotListed v.items) }
+{
     let mut values = Vec::new(alloc);
     for call in calls {
         if is_group(call) {
@@ -406,8 +560,10 @@ fn first_values(alloc: Global, calls: &[CommCall]) -> Result<Vec<GroupValue>, Al
     Ok(values)
 }
 
-/// The world: each rank has it as its first handle.
-fn world_of(alloc: Global, ranks: u32) -> Result<Made, AllocError> {
+/// Each rank has the world as its first handle.
+fn world_members(alloc: Global, ranks: u32) -> Result<Vec<Member>, AllocError>
+    ensures { IfOk result (λ v. v.items ≡ world_members ranks) }
+{
     let mut members = Vec::new(alloc);
     for rank in 0..ranks {
         members.push(Member {
@@ -415,6 +571,14 @@ fn world_of(alloc: Global, ranks: u32) -> Result<Made, AllocError> {
             handle: Some(0),
         })?;
     }
+    Ok(members)
+}
+
+/// The world.
+fn world_of(alloc: Global, ranks: u32) -> Result<Made, AllocError>
+    ensures { IfOk result (IsFirstComm (world_members ranks)) }
+{
+    let members = world_members(alloc, ranks)?;
     Ok(Made {
         ranks: ranks_of(alloc, &members)?,
         members,
@@ -428,7 +592,9 @@ fn world_of(alloc: Global, ranks: u32) -> Result<Made, AllocError> {
 }
 
 /// MPI_COMM_SELF of a rank, its second handle.
-fn own_of(alloc: Global, rank: u32) -> Result<Made, AllocError> {
+fn own_of(alloc: Global, rank: u32) -> Result<Made, AllocError>
+    ensures { IfOk result (IsFirstComm (member_with 1 rank ∷ [])) }
+{
     Ok(Made {
         members: vec![in alloc;
             Member {
@@ -447,8 +613,10 @@ fn own_of(alloc: Global, rank: u32) -> Result<Made, AllocError> {
 }
 
 /// The world, and MPI_COMM_SELF of each rank that tells its number.
+#[tactic(auto, using(crate::proofs::Begins::world_first, crate::proofs::Begins::own_first))]
 fn first_comms(alloc: Global, ranks: &[RankCalls]) -> Result<Vec<Made>, AllocError>
     requires { length ranks.now < 2 ^ 32 }
+    ensures { IfOk result (λ comms. All (IsFirstOf ranks.now) comms.items) }
 {
     let mut comms = Vec::new(alloc);
     comms.push(world_of(alloc, ranks.len() as u32)?)?;
@@ -457,18 +625,21 @@ fn first_comms(alloc: Global, ranks: &[RankCalls]) -> Result<Vec<Made>, AllocErr
         if calls.own.is_some() {
             comms.push(own_of(alloc, rank)?)?;
         }
-        rank = rank.saturating_add(1);
+        rank += 1;
     }
     Ok(comms)
 }
 
 /// A function that gives communicators from which nothing is derived leaves its handle out.
-fn leave_others(calls: &[CommCall], meant: &[Meant], standings: &mut [Standing]) {
+fn leave_others(calls: &[CommCall], meant: &[Meant], standings: &mut [Standing])
+    requires { All IsNotDerived standings.old }
+    ensures { All IsNotDerived standings.new }
+{
     for (call, meant) in calls.iter().zip(meant.iter()) {
         if let Action::GivesComm { .. } = &call.action {
             if let Gives::Handle(handle) = meant.gives {
-                if let Some(standing) = standings.get_mut(handle) {
-                    *standing = Standing::Left(Why::Function);
+                if handle < standings.len() {
+                    standings[handle] = Standing::Left(Why::Function);
                 }
             }
         }
@@ -479,14 +650,41 @@ fn first_standings(
     alloc: Global,
     calls: &[CommCall],
     view: &RankView,
-) -> Result<Vec<Standing>, AllocError> {
+) -> Result<Vec<Standing>, AllocError>
+    ensures { IfOk result (λ v. All IsNotDerived v.items) }
+{
     let mut standings = vec![in alloc; Standing::Open; view.handles.len()]?;
     leave_others(calls, &view.meant, &mut standings);
     Ok(standings)
 }
 
-fn start<'a>(alloc: Global, world: u32, ranks: &'a [RankCalls]) -> Result<Run<'a>, AllocError>
-    requires { length ranks.now < 2 ^ 32 }
+/// A rank before anything is derived.
+fn begin(alloc: Global, world: u32, run: &mut Run<'_>, rank: &RankCalls) -> Result<(), AllocError>
+    requires values { All (λ v. All IsNotListed v.items) run.old.values.items }
+    requires standings { All (λ v. All IsNotDerived v.items) run.old.standings.items }
+    ensures views { OnOk result ((view : RankView) × (run.new.views.items ≡ run.old.views.items ++ view ∷ []) × IsView world rank.now view) }
+    ensures values { OnOk result (All (λ v. All IsNotListed v.items) run.new.values.items) }
+    ensures standings { OnOk result (All (λ v. All IsNotDerived v.items) run.new.standings.items) }
+    ensures ranks { run.new.ranks ≡ run.old.ranks }
+    ensures comms { run.new.comms ≡ run.old.comms }
+{
+    let view = view_of(alloc, world, rank)?;
+    run.standings
+        .push(first_standings(alloc, &rank.calls, &view)?)?;
+    run.values.push(first_values(alloc, &rank.calls)?)?;
+    run.taken.push(vec![in alloc; false; rank.calls.len()]?)?;
+    run.views.push(view)?;
+    Ok(())
+}
+
+/// All ranks before anything is derived.
+#[tactic(auto, using(crate::proofs::Begins::views_more))]
+fn begin_all<'a>(alloc: Global, world: u32, ranks: &'a [RankCalls]) -> Result<Run<'a>, AllocError>
+    ensures ranks { IfOk result (λ run. run.ranks.now ≡ ranks.now) }
+    ensures views { IfOk result (λ run. AreViews world ranks.now run.views.items) }
+    ensures values { IfOk result (λ run. All (λ v. All IsNotListed v.items) run.values.items) }
+    ensures standings { IfOk result (λ run. All (λ v. All IsNotDerived v.items) run.standings.items) }
+    ensures comms { IfOk result (λ run. run.comms.items ≡ []) }
 {
     let mut run = Run {
         ranks,
@@ -500,14 +698,21 @@ fn start<'a>(alloc: Global, world: u32, ranks: &'a [RankCalls]) -> Result<Run<'a
         read: 0,
     };
     for rank in ranks {
-        let view = view_of(alloc, world, rank)?;
-        run.standings
-            .push(first_standings(alloc, &rank.calls, &view)?)?;
-        run.values.push(first_values(alloc, &rank.calls)?)?;
-        run.taken.push(vec![in alloc; false; rank.calls.len()]?)?;
-        run.views.push(view)?;
+        begin(alloc, world, &mut run, rank)?;
     }
-    run.add(alloc, first_comms(alloc, ranks)?)?;
+    Ok(run)
+}
+
+/// The world and MPI_COMM_SELF are derived.
+#[tactic(auto, using(crate::proofs::Derivations::right_first, crate::proofs::Derivations::firsts_derive))]
+fn start<'a>(alloc: Global, world: u32, ranks: &'a [RankCalls]) -> Result<Run<'a>, AllocError>
+    requires { length ranks.now < 2 ^ 32 }
+    ensures right { IfOk result (λ run. IsRight ranks.now run.views.items run.standings.items run.values.items run.comms.items) }
+    ensures views { IfOk result (λ run. AreViews world ranks.now run.views.items) }
+    ensures ranks { IfOk result (λ run. run.ranks.now ≡ ranks.now) }
+{
+    let mut run = begin_all(alloc, world, ranks)?;
+    run.add_all(alloc, first_comms(alloc, ranks)?)?;
     Ok(run)
 }
 
@@ -527,6 +732,8 @@ pub(crate) fn run_of<'a>(
     ranks: &'a [RankCalls],
 ) -> Result<Run<'a>, AllocError>
     requires { length ranks.now < 2 ^ 32 }
+    ensures right { IfOk result (λ run. IsRight ranks.now run.views.items run.standings.items run.values.items run.comms.items) }
+    ensures views { IfOk result (λ run. AreViews world ranks.now run.views.items) }
 {
     let mut run = start(alloc, world, ranks)?;
     let mut todo = Vec::new(alloc);
@@ -556,12 +763,15 @@ enum Step {
 }
 
 /// The communicators of the parts.
+#[tactic(auto, using(crate::proofs::Begins::made_more))]
 pub(crate) fn all_made(
     alloc: Global,
     members: &[Member],
     all: &[Option<Here>],
     parts: &[Part],
-) -> Result<Vec<Made>, AllocError> {
+) -> Result<Vec<Made>, AllocError>
+    ensures { IfOk result (λ made. AreMadeOf members.now all.now parts.now made.items) }
+{
     let mut made = Vec::new(alloc);
     for part in parts {
         made.push(made_of(alloc, members, all, part)?)?;
