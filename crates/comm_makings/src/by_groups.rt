@@ -227,7 +227,8 @@ fn kth_of(
             kth[place] = Some(offer.here);
         }
     }
-    only_at(alloc, &kth, places)
+    let only = only_at(alloc, &kth, places)?;
+    Ok(only)
 }
 
 /// How often the place came before.

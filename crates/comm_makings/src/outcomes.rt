@@ -172,8 +172,9 @@ fn makings_outcome(
     requires one { IsOneMaking function all.now }
     ensures { IfOk result (IsDerivedOutcome ranks.now views.now parent.now.members.items all.now) }
 {
-    let outcome = outcome_of(alloc, ranks, views, parent, all, function)?;
-    checked(alloc, outcome, all, gives_later(function))
+    let made = outcome_of(alloc, ranks, views, parent, all, function)?;
+    let outcome = checked(alloc, made, all, gives_later(function))?;
+    Ok(outcome)
 }
 
 /// What the calls make that all are of MPI_Comm_create.
@@ -193,8 +194,9 @@ fn creates_outcome(
     requires one { IsOneMaking functions.Create all.now }
     ensures { IfOk result (IsDerivedOutcome ranks.now views.now parent.now.members.items all.now) }
 {
-    let outcome = create_outcome(alloc, values, comms, parent, all)?;
-    checked(alloc, outcome, all, false)
+    let made = create_outcome(alloc, values, comms, parent, all)?;
+    let outcome = checked(alloc, made, all, false)?;
+    Ok(outcome)
 }
 
 /// What the calls of the members make together.

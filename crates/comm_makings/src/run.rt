@@ -225,7 +225,10 @@ fn value_at(
     ensures { IfOk result (IsDerivedGroup ranks.now views.now comms.now rank at) }
 {
     match (group_call_at(ranks, rank, at), meant_at(views, rank, at)) {
-        (Some(group), Some(meant)) => value_of(alloc, group, &meant, values, standings, comms),
+        (Some(group), Some(meant)) => {
+            let value = value_of(alloc, group, &meant, values, standings, comms)?;
+            Ok(value)
+        },
         _ => Ok(GroupValue::Unknown),
     }
 }

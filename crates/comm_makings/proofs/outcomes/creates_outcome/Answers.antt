@@ -1,0 +1,13 @@
+use Rattle.std.proofs.Common.{ℕ, List, subst}
+use Rattle.comm_makings.specs.Offers.{IsOfWanted}
+use Rattle.comm_makings.specs.State.{dims_of}
+use Rattle.comm_makings.proofs.Derivations.{created_derives}
+use Rattle.comm_makings.proofs.outcomes.creates_outcome.Goals as goal
+
+pub returns : goal.returns
+returns c = λ parts at part e here.
+    let made = c.in_ok-outcome.ensures.same parts e in
+    created_derives c.args.ranks.now c.args.views.now c.args.parent.now.members.items (dims_of c.args.parent.now) c.requires.kth.0 c.args.all.now
+    c.args.comms.now c.args.values.now parts at part c.requires.kth.1 c.requires.parent.derives c.requires.groups (c.in_ok-made.ensures.known parts made)
+    c.requires.one (c.in_ok-outcome.ensures.given parts e) here
+    (subst (λ (l : List ℕ). IsOfWanted c.args.values.now c.args.comms.now c.args.all.now l part) c.requires.parent.same_ranks (c.in_ok-made.ensures.made parts at part made here))
