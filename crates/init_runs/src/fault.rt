@@ -70,6 +70,8 @@ const NOT_WRITTEN: &str = " can not be written";
 
 const HALF: &str = " can not be written, and a part of what was written is left";
 
+const NOT_EACH_TEXT: &str = " ranks, and there is not one text for each";
+
 const NOT_ONE_RUN: &str = " have two numbers for MPI_COMM_WORLD: their texts are not of one run";
 
 /// Two ranks, and what is said of them.
@@ -90,7 +92,7 @@ fn put_made<W: fmt::Write>(f: &mut fmt::Formatter<W>, fault: &MadeFault) -> fmt:
 {
     match fault {
         MadeFault::Memory => write!(f, "Memory"),
-        MadeFault::Size { rank, size } => put_size(f, *rank, *size),
+        MadeFault::Size { rank, size } => put_size(f, *rank, *size, NOT_EACH_TEXT),
         MadeFault::World { first, second } => put_ranks(f, *first, *second, NOT_ONE_RUN),
         MadeFault::Layout(fault) => {
             let name = name_of_layout(*fault);
@@ -101,14 +103,16 @@ fn put_made<W: fmt::Write>(f: &mut fmt::Formatter<W>, fault: &MadeFault) -> fmt:
     }
 }
 
-/// A rank and the size of the world that it tells.
-fn put_size<W: fmt::Write>(f: &mut fmt::Formatter<W>, rank: u32, size: u32) -> fmt::Result
-    ensures { WritesOnOk W.write_str_gives f.old result (codes "by rank " ++ decimal rank ++ codes " MPI_COMM_WORLD has " ++ decimal size ++ codes " ranks, and there is not one text for each") f.new }
+/// A rank, the size of the world that it tells, and what is said of it.
+fn put_size<W: fmt::Write>(
+    f: &mut fmt::Formatter<W>,
+    rank: u32,
+    size: u32,
+    text: &str,
+) -> fmt::Result
+    ensures { WritesOnOk W.write_str_gives f.old result (codes "by rank " ++ decimal rank ++ codes " MPI_COMM_WORLD has " ++ decimal size ++ text.now) f.new }
 {
-    write!(
-        f,
-        "by rank {rank} MPI_COMM_WORLD has {size} ranks, and there is not one text for each"
-    )
+    write!(f, "by rank {rank} MPI_COMM_WORLD has {size}{text}")
 }
 
 /// A file's name and what is said of it.
