@@ -14,7 +14,7 @@ use Rattle.init_runs.specs.declared.fault.InitFault.TheVariants.{Memory, Text, N
 -- why texts make no layout, in words
 abbrev pub made_fault_text : MadeFault → List ℕ
 made_fault_text mades.Memory = codes "Memory"
-made_fault_text (mades.Size rank size) = codes "by rank " ++ decimal rank ++ codes " MPI_COMM_WORLD has " ++ decimal size ++ codes " ranks, and there is not one text for each"
+made_fault_text (mades.Size rank size) = codes "rank " ++ decimal rank ++ codes " tells " ++ decimal size ++ codes " ranks of MPI_COMM_WORLD, and there is not one text for each"
 made_fault_text (mades.World first second) = codes "ranks " ++ decimal first ++ codes " and " ++ decimal second ++ codes " have two numbers for MPI_COMM_WORLD: their texts are not of one run"
 made_fault_text (mades.Layout fault) = layout_fault_name fault ++ codes " in the layout of the texts"
 made_fault_text mades.LayoutFile = codes "the layout has more than 16777216 bytes"

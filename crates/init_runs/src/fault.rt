@@ -70,7 +70,7 @@ const NOT_WRITTEN: &str = " can not be written";
 
 const HALF: &str = " can not be written, and a part of what was written is left";
 
-const NOT_EACH_TEXT: &str = " ranks, and there is not one text for each";
+const NOT_EACH_TEXT: &str = " ranks of MPI_COMM_WORLD, and there is not one text for each";
 
 const NOT_ONE_RUN: &str = " have two numbers for MPI_COMM_WORLD: their texts are not of one run";
 
@@ -110,9 +110,9 @@ fn put_size<W: fmt::Write>(
     size: u32,
     text: &str,
 ) -> fmt::Result
-    ensures { WritesOnOk W.write_str_gives f.old result (codes "by rank " ++ decimal rank ++ codes " MPI_COMM_WORLD has " ++ decimal size ++ text.now) f.new }
+    ensures { WritesOnOk W.write_str_gives f.old result (codes "rank " ++ decimal rank ++ codes " tells " ++ decimal size ++ text.now) f.new }
 {
-    write!(f, "by rank {rank} MPI_COMM_WORLD has {size}{text}")
+    write!(f, "rank {rank} tells {size}{text}")
 }
 
 /// A file's name and what is said of it.
