@@ -1,5 +1,5 @@
 -- Calls by their function and communicator alone.
-use Rattle.std.specs.Prelude.{ℕ, List, codes}
+use Rattle.std.specs.Prelude.{ℕ, true, false, List, codes}
 use Rattle.mpi_model.specs.declared.call.Call.{Call}
 use Rattle.mpi_model.specs.declared.call.Call.TheVariants as calls
 use Rattle.call_words.specs.Words.{collective_name, immediate_name, on_text, send_name}
@@ -23,7 +23,7 @@ function_text (calls.Testany requests) = codes "MPI_Testany"
 function_text (calls.Testsome requests) = codes "MPI_Testsome"
 function_text (calls.Cancel request) = codes "MPI_Cancel"
 function_text (calls.Free request) = codes "MPI_Request_free"
-function_text (calls.Collective c) = on_text (collective_name c.kind) c.comm
+function_text (calls.Collective c) = on_text (collective_name false c.kind) c.comm
+function_text (calls.Icollective c) = on_text (collective_name true c.kind) c.comm
 function_text (calls.Probe e) = on_text (codes "MPI_Probe") e.comm
-function_text (calls.Ibarrier comm) = on_text (codes "MPI_Ibarrier") comm
 function_text calls.Unread = codes "a call that is not read"

@@ -6,9 +6,11 @@ use Rattle.call_words.specs.declared.ranges.Range.{Range}
 abbrev pub follows : Range → ℕ → Bool
 follows held rank = rank == held.last + 1
 
+-- the range of one rank
 abbrev pub alone : ℕ → Range
 alone rank = record { first = rank; last = rank }
 
+-- the held range up to a rank that follows it
 abbrev pub longer : Range → ℕ → Range
 longer held rank = record { first = held.first; last = rank }
 
@@ -28,10 +30,12 @@ range_behind held rank = if follows held rank then longer held rank else alone r
 abbrev pub text_behind : Range → ℕ → List ℕ
 text_behind held rank = if follows held rank then [] else range_text held ++ codes ", "
 
+-- the range that is held once a further rank is there
 abbrev pub next_range : Option Range → ℕ → Option Range
 next_range None rank = Some (alone rank)
 next_range (Some held) rank = Some (range_behind held rank)
 
+-- what is written of the ranks once a further rank is there: nothing while none is held
 abbrev pub text_before : Option Range → ℕ → List ℕ
 text_before None rank = []
 text_before (Some held) rank = text_behind held rank

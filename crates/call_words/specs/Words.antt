@@ -1,5 +1,5 @@
 -- Calls in words.
-use Rattle.std.specs.Prelude.{ℕ, ◌==◌, if◌then◌else◌, Option, Some, None, List, [], ◌++◌, codes, decimal, length}
+use Rattle.std.specs.Prelude.{ℕ, ◌==◌, if◌then◌else◌, Bool, true, false, Option, Some, None, List, [], ◌++◌, codes, decimal, length}
 use Rattle.mpi_model.specs.declared.envelope.Envelope.{Envelope}
 use Rattle.mpi_model.specs.declared.envelope.CommRef.{CommRef}
 use Rattle.mpi_model.specs.declared.envelope.CommRef.TheVariants.{World, Id}
@@ -7,14 +7,16 @@ use Rattle.mpi_model.specs.declared.envelope.Peer.{Peer}
 use Rattle.mpi_model.specs.declared.envelope.Peer.TheVariants as peers
 use Rattle.mpi_model.specs.declared.envelope.Mode.{Mode}
 use Rattle.mpi_model.specs.declared.envelope.Mode.TheVariants as modes
-use Rattle.mpi_model.specs.declared.collective.Kind.{Kind}
-use Rattle.mpi_model.specs.declared.collective.Kind.TheVariants as kinds
+use Rattle.mpi_model.specs.declared.kind.Kind.{Kind}
+use Rattle.mpi_model.specs.declared.kind.CollectiveFunction.{CollectiveFunction}
 use Rattle.mpi_model.specs.declared.call.Call.{Call}
 use Rattle.mpi_model.specs.declared.call.Call.TheVariants as calls
+use Rattle.mpi_model.specs.Kinds.{function_name}
 use Rattle.mpi_model.specs.Ranges.{BothEnvelopes, CollectiveCall, Probed}
 
 -- What a call names. Peers and roots are ranks of the communicator's group.
 
+-- a communicator by its number
 abbrev pub id_text : ℕ → List ℕ
 id_text number = codes "communicator " ++ decimal number
 
@@ -23,9 +25,11 @@ abbrev pub comm_text : CommRef → List ℕ
 comm_text World = codes "MPI_COMM_WORLD"
 comm_text (Id number) = id_text number
 
+-- a peer by its rank in the communicator that is named behind it
 abbrev pub rank_of_text : ℕ → List ℕ
 rank_of_text rank = codes "rank " ++ decimal rank ++ codes " of "
 
+-- a peer up to its communicator
 abbrev pub peer_front : Peer → List ℕ
 peer_front peers.Any = codes "any rank of "
 peer_front peers.Null = codes "MPI_PROC_NULL on "
@@ -35,6 +39,7 @@ peer_front (peers.Rank rank) = rank_of_text rank
 abbrev pub peer_text : Peer → CommRef → List ℕ
 peer_text peer comm = peer_front peer ++ comm_text comm
 
+-- a tag that is named
 abbrev pub one_tag_text : ℕ → List ℕ
 one_tag_text tag = codes ", tag " ++ decimal tag
 
@@ -43,6 +48,7 @@ abbrev pub tag_text : Option ℕ → List ℕ
 tag_text None = codes ", any tag"
 tag_text (Some tag) = one_tag_text tag
 
+-- one element, and else elements
 abbrev pub elements_word : ℕ → List ℕ
 elements_word count = if count == 1 then codes " element" else codes " elements"
 
@@ -58,45 +64,45 @@ sent_text e = codes " to " ++ peer_text e.peer e.comm ++ tag_text e.tag ++ count
 abbrev pub received_text : Envelope → List ℕ
 received_text e = codes " from " ++ peer_text e.peer e.comm ++ tag_text e.tag ++ count_text (codes ", at most ") e.count
 
+-- what a Probe looks for
 abbrev pub probed_text : Probed → List ℕ
 probed_text e = codes " from " ++ peer_text e.source e.comm ++ tag_text e.tag
 
 -- Names of functions
 
+-- the function of a blocking send of a mode (MPI 4.0, 3.4)
 abbrev pub send_name : Mode → List ℕ
 send_name modes.Standard = codes "MPI_Send"
 send_name modes.Synchronous = codes "MPI_Ssend"
 send_name modes.Buffered = codes "MPI_Bsend"
 send_name modes.Ready = codes "MPI_Rsend"
 
+-- the function of a nonblocking send of a mode (MPI 4.0, 3.7.2)
 abbrev pub immediate_name : Mode → List ℕ
 immediate_name modes.Standard = codes "MPI_Isend"
 immediate_name modes.Synchronous = codes "MPI_Issend"
 immediate_name modes.Buffered = codes "MPI_Ibsend"
 immediate_name modes.Ready = codes "MPI_Irsend"
 
-abbrev pub collective_name : Kind → List ℕ
-collective_name kinds.Barrier = codes "MPI_Barrier"
-collective_name kinds.Bcast = codes "MPI_Bcast"
-collective_name kinds.Scatter = codes "MPI_Scatter"
-collective_name kinds.Gather = codes "MPI_Gather"
-collective_name kinds.Reduce = codes "MPI_Reduce"
-collective_name kinds.Allreduce = codes "MPI_Allreduce"
-collective_name kinds.Allgather = codes "MPI_Allgather"
-collective_name kinds.Alltoall = codes "MPI_Alltoall"
-collective_name kinds.Ibarrier = codes "MPI_Ibarrier"
+-- by whether the function is nonblocking, and its kind
+abbrev pub collective_name : Bool → Kind → List ℕ
+collective_name nonblocking kind = function_name (record { kind = kind; nonblocking = nonblocking })
 
 -- Calls
 
+-- a call that sends, by its function and its envelope
 abbrev pub send_text : List ℕ → Envelope → List ℕ
 send_text name e = name ++ sent_text e
 
+-- a call that receives, by its function and its envelope
 abbrev pub receive_text : List ℕ → Envelope → List ℕ
 receive_text name e = name ++ received_text e
 
+-- a Probe, by what it looks for
 abbrev pub probe_text : Probed → List ℕ
 probe_text e = codes "MPI_Probe" ++ probed_text e
 
+-- a Sendrecv, by both of its envelopes
 abbrev pub exchange_text : BothEnvelopes → List ℕ
 exchange_text x = codes "MPI_Sendrecv" ++ sent_text x.send ++ codes ", and" ++ received_text x.receive
 
@@ -104,19 +110,22 @@ exchange_text x = codes "MPI_Sendrecv" ++ sent_text x.send ++ codes ", and" ++ r
 abbrev pub on_text : List ℕ → CommRef → List ℕ
 on_text name comm = name ++ codes " on " ++ comm_text comm
 
+-- a root, by its rank in the communicator
 abbrev pub one_root_text : ℕ → List ℕ
 one_root_text root = codes ", root " ++ decimal root
 
+-- the root of a call, where its kind has one
 abbrev pub root_text : Option ℕ → List ℕ
 root_text None = []
 root_text (Some root) = one_root_text root
 
 -- a collective call by its function and its root, as `MPI_Bcast, root 0`
-abbrev pub kind_text : Kind → Option ℕ → List ℕ
-kind_text kind root = collective_name kind ++ root_text root
+abbrev pub kind_text : CollectiveFunction → Option ℕ → List ℕ
+kind_text function root = function_name function ++ root_text root
 
-abbrev pub collective_text : CollectiveCall → List ℕ
-collective_text c = on_text (collective_name c.kind) c.comm ++ root_text c.root
+-- `MPI_Bcast on communicator 5, root 0`, or `MPI_Ibcast` where it is nonblocking
+abbrev pub collective_text : Bool → CollectiveCall → List ℕ
+collective_text nonblocking c = on_text (collective_name nonblocking c.kind) c.comm ++ root_text c.root
 
 -- `MPI_Waitall on 3 requests`
 abbrev pub of_requests_text : List ℕ → ℕ → List ℕ
@@ -141,7 +150,7 @@ call_text (calls.Testany requests) = of_requests_text (codes "MPI_Testany") (len
 call_text (calls.Testsome requests) = of_requests_text (codes "MPI_Testsome") (length requests)
 call_text (calls.Cancel request) = codes "MPI_Cancel on a request"
 call_text (calls.Free request) = codes "MPI_Request_free on a request"
-call_text (calls.Collective c) = collective_text c
+call_text (calls.Collective c) = collective_text false c
+call_text (calls.Icollective c) = collective_text true c
 call_text (calls.Probe e) = probe_text e
-call_text (calls.Ibarrier comm) = on_text (codes "MPI_Ibarrier") comm
 call_text calls.Unread = codes "a call that is not read"

@@ -6,7 +6,9 @@ ghost use Rattle.call_words.specs.Words.{call_text, collective_name, collective_
 
 use crate::envelopes::{put_comm, put_probed, put_received, put_sent};
 use crate::text::Text;
-use mpi_model::{Call, Collective, CommRef, Envelope, Exchange, Kind, Mode, ProbeEnvelope};
+use mpi_model::{
+    Call, Collective, CollectiveFunction, CommRef, Envelope, Exchange, Kind, Mode, ProbeEnvelope,
+};
 
 pub(crate) fn send_name(mode: Mode) -> &'static [u8]
     ensures { result.now ≡ send_name mode }
@@ -30,20 +32,10 @@ pub(crate) fn immediate_name(mode: Mode) -> &'static [u8]
     }
 }
 
-pub(crate) fn collective_name(kind: Kind) -> &'static [u8]
-    ensures { result.now ≡ collective_name kind }
+pub(crate) fn collective_name(nonblocking: bool, kind: Kind) -> &'static [u8]
+    ensures { result.now ≡ collective_name nonblocking kind }
 {
-    match kind {
-        Kind::Barrier => b"MPI_Barrier",
-        Kind::Bcast => b"MPI_Bcast",
-        Kind::Scatter => b"MPI_Scatter",
-        Kind::Gather => b"MPI_Gather",
-        Kind::Reduce => b"MPI_Reduce",
-        Kind::Allreduce => b"MPI_Allreduce",
-        Kind::Allgather => b"MPI_Allgather",
-        Kind::Alltoall => b"MPI_Alltoall",
-        Kind::Ibarrier => b"MPI_Ibarrier",
-    }
+    CollectiveFunction { kind, nonblocking }.name()
 }
 
 fn put_send(out: &mut Text, name: &[u8], envelope: Envelope)
@@ -99,18 +91,18 @@ pub(crate) fn put_one_root(out: &mut Text, root: u32)
     out.put_number(root as u64);
 }
 
-fn put_collective(out: &mut Text, call: Collective)
-    ensures { Adds out.old out.new (collective_text call) }
+fn put_collective(out: &mut Text, nonblocking: bool, call: Collective)
+    ensures { Adds out.old out.new (collective_text nonblocking call) }
 {
-    put_on(out, collective_name(call.kind()), call.comm());
+    put_on(out, collective_name(nonblocking, call.kind()), call.comm());
     put_root(out, call.root());
 }
 
 /// A collective call by its function and its root, as `MPI_Bcast, root 0`.
-pub fn put_kind(out: &mut Text, kind: Kind, root: Option<u32>)
-    ensures { Adds out.old out.new (kind_text kind root) }
+pub fn put_kind(out: &mut Text, function: CollectiveFunction, root: Option<u32>)
+    ensures { Adds out.old out.new (kind_text function root) }
 {
-    out.put(collective_name(kind));
+    out.put(function.name());
     put_root(out, root);
 }
 
@@ -149,9 +141,9 @@ pub fn put_call(out: &mut Text, call: &Call)
         Call::Testsome(list) => put_of_requests(out, b"MPI_Testsome", list.as_slice().len()),
         Call::Cancel(_) => out.put(b"MPI_Cancel on a request"),
         Call::Free(_) => out.put(b"MPI_Request_free on a request"),
-        Call::Collective(call) => put_collective(out, *call),
+        Call::Collective(call) => put_collective(out, false, *call),
+        Call::Icollective(call) => put_collective(out, true, *call),
         Call::Probe(envelope) => put_probe(out, *envelope),
-        Call::Ibarrier(comm) => put_on(out, b"MPI_Ibarrier", comm.comm()),
         Call::Unread => out.put(b"a call that is not read"),
     }
 }

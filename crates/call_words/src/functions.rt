@@ -30,9 +30,9 @@ pub fn put_function(out: &mut Text, call: &Call)
         Call::Testsome(_) => out.put(b"MPI_Testsome"),
         Call::Cancel(_) => out.put(b"MPI_Cancel"),
         Call::Free(_) => out.put(b"MPI_Request_free"),
-        Call::Collective(call) => put_on(out, collective_name(call.kind()), call.comm()),
+        Call::Collective(call) => put_on(out, collective_name(false, call.kind()), call.comm()),
+        Call::Icollective(call) => put_on(out, collective_name(true, call.kind()), call.comm()),
         Call::Probe(envelope) => put_on(out, b"MPI_Probe", envelope.comm()),
-        Call::Ibarrier(comm) => put_on(out, b"MPI_Ibarrier", comm.comm()),
         Call::Unread => out.put(b"a call that is not read"),
     }
 }

@@ -52,16 +52,19 @@ comm_said old new raw call function is takes = record {
   place = takes.place;
   world = takes.world;
   own = takes.own;
+  size = takes.size;
 }
 
 -- what another call says is added
 pub other_said : (old new : ReadCalls) (raw : TextCall) (call : Call) → function_of raw ≡ None → new.calls ≡ old.calls → new.uses ≡ uses_after old.place (named_number call) (going_at old.going) old.uses
-    → ((m : ℕ) → going_at new.going m ≡ open_after (named_number call) None (length old.uses) (going_at old.going) m) → new.place ≡ old.place → new.world ≡ old.world → new.own ≡ old.own → AddsSaid old raw call new
-other_said old new raw call is calls uses going place world own = record {
+    → ((m : ℕ) → going_at new.going m ≡ open_after (named_number call) None (length old.uses) (going_at old.going) m) → new.place ≡ old.place → new.world ≡ old.world → new.own ≡ old.own
+    → new.size ≡ old.size → AddsSaid old raw call new
+other_said old new raw call is calls uses going place world own size = record {
   calls = subst (λ (f : Option Function). AddsCall f old.place raw old.calls new.calls) (sym is) calls;
   uses = uses ∙ ap (λ (f : Option Function). uses_after old.place (if is_some f then None else named_number call) (going_at old.going) old.uses) (sym is);
   going = λ m. going m ∙ ap (λ (f : Option Function). open_after (if is_some f then None else named_number call) (changed_of raw f) (length old.uses) (going_at old.going) m) (sym is);
   place = place;
   world = world;
   own = own;
+  size = size;
 }

@@ -5,7 +5,7 @@ use Rattle.comm_makings.specs.declared.calls.CommCall.{CommCall}
 use Rattle.dumpi_calls.specs.RawWalks.{Taken}
 use Rattle.dumpi_calls.specs.Rows.{typed}
 use Rattle.dumpi_calls.specs.declared.typing.TypedCall.{TypedCall}
-use Rattle.comm_calls.specs.Calls.{AddsCall, AreCalls, AreCallsBy, IsReadOf, ReadCalls, Reads, ReadsOneMore, beside_in, first_beside, going_at, nothing_read, or_number, reading, ReadsWhole}
+use Rattle.comm_calls.specs.Calls.{AddsCall, AreCalls, AreCallsBy, IsReadOf, ReadCalls, Reads, ReadsOneMore, beside_in, first_beside, first_size, going_at, nothing_read, or_number, reading, size_in, ReadsWhole}
 use Rattle.comm_calls.specs.Functions.{function_of}
 use Rattle.comm_calls.specs.Uses.{changed_at, changed_by, changed_of, named_as, named_at, named_by, named_in, named_number, uses_after}
 use Rattle.comm_calls.specs.declared.function.Function.{Function}
@@ -17,6 +17,7 @@ none_read = record {
   place = refl;
   world = refl;
   own = refl;
+  size = refl;
   calls = refl;
   uses = record {
     each = λ i u is. absurd (cc);
@@ -41,6 +42,12 @@ beside_more name [] raw = or_none (beside_in name raw.params)
 beside_more name (r ∷ rs) raw =
     ap (λ (n : Option ℕ). or_number (beside_in name r.params) n) (beside_more name rs raw)
     ∙ sym (either_first (beside_in name r.params) (first_beside name rs) (beside_in name raw.params))
+
+-- the first size that is told, with one call more
+size_more : (raws : List TextCall) (raw : TextCall) → first_size (raws ++ raw ∷ []) ≡ or_number (first_size raws) (size_in raw)
+size_more [] raw = or_none (size_in raw)
+size_more (r ∷ rs) raw =
+    ap (λ (n : Option ℕ). or_number (size_in r) n) (size_more rs raw) ∙ sym (either_first (size_in r) (first_size rs) (size_in raw))
 
 -- a call that is added behind the first one is added to the others
 behind_first : (function : Option Function) (place : ℕ) (raw : TextCall) (read : CommCall) (others old new : List CommCall) → old ≡ read ∷ others → AddsCall function place raw old new
@@ -93,6 +100,7 @@ one_more_read raws raw call old new few all is reads = record {
   place = (let len = length-append raws (raw ∷ []) in omega (arith, len, few, all.place, reads.place));
   world = reads.world ∙ ap (λ (n : Option ℕ). or_number n (beside_in (codes "MPI_COMM_WORLD") raw.params)) all.world ∙ sym (beside_more (codes "MPI_COMM_WORLD") raws raw);
   own = reads.own ∙ ap (λ (n : Option ℕ). or_number n (beside_in (codes "MPI_COMM_SELF") raw.params)) all.own ∙ sym (beside_more (codes "MPI_COMM_SELF") raws raw);
+  size = reads.size ∙ ap (λ (n : Option ℕ). or_number n (size_in raw)) all.size ∙ sym (size_more raws raw);
   calls = calls_more 0 raws raw old.calls new.calls all.calls (subst (λ (at : ℕ). AddsCall (function_of raw) at raw old.calls new.calls) (let here : old.place ≡ 0 + length raws = omega (arith, all.place) in here) reads.calls);
   uses = (standing raws raw call old new few all is reads).are;
   going = (standing raws raw call old new few all is reads).on;

@@ -22,6 +22,7 @@ use Rattle.comm_calls.specs.declared.function.Grouper.TheVariants as groupers
 use Rattle.comm_calls.specs.declared.function.Maker.{Maker}
 use Rattle.comm_calls.specs.declared.function.Maker.TheVariants as makers
 
+-- the items of a list that was read
 abbrev pub items_in : {A : Type 0} → Option (Vec A Global) → Option (List A)
 items_in list = option_map (λ v. v.items) list
 
@@ -31,9 +32,11 @@ items_in list = option_map (λ v. v.items) list
 abbrev pub parent_text : TextCall → Option (List ℕ)
 parent_text raw = or_text (text_of (codes "oldcomm") raw) (text_of (codes "comm") raw)
 
+-- the parent of a grid or a graph, which three names may tell
 abbrev pub grid_parent_text : TextCall → Option (List ℕ)
 grid_parent_text raw = or_text (text_of (codes "oldcomm") raw) (or_text (text_of (codes "comm_old") raw) (text_of (codes "comm") raw))
 
+-- the parent that a call of this function names
 abbrev pub parent_of : Maker → TextCall → Option (List ℕ)
 parent_of makers.CartCreate raw = grid_parent_text raw
 parent_of makers.GraphCreate raw = grid_parent_text raw
@@ -49,6 +52,7 @@ made_of makers.DistGraphCreate raw = or_text (text_of (codes "newcomm") raw) (te
 made_of makers.DistGraphCreateAdjacent raw = or_text (text_of (codes "newcomm") raw) (text_of (codes "comm_dist_graph") raw)
 made_of _ raw = text_of (codes "newcomm") raw
 
+-- whether the ranks may be ordered anew
 abbrev pub reorder_in : TextCall → Option Bool
 reorder_in raw = flag_in (text_of (codes "reorder") raw)
 
@@ -79,22 +83,27 @@ IsMaking makers.DistGraphCreateAdjacent raw making = making ≡ makings.DistGrap
 
 -- ---- groups
 
+-- the call is a group's members at the listed ranks
 abbrev pub IsIncl : GroupName → Option (List ℕ) → GroupCall → Type 0
 IsIncl of listed (group_calls.Incl group ranks) = (group ≡ of) × (items_in ranks ≡ listed)
 IsIncl of listed _ = ⊥
 
+-- the call is a group's members without those at the listed ranks
 abbrev pub IsExcl : GroupName → Option (List ℕ) → GroupCall → Type 0
 IsExcl of listed (group_calls.Excl group ranks) = (group ≡ of) × (items_in ranks ≡ listed)
 IsExcl of listed _ = ⊥
 
+-- the call is a group's members within the listed ranges
 abbrev pub IsRangeIncl : GroupName → Option (List RankRange) → GroupCall → Type 0
 IsRangeIncl of listed (group_calls.RangeIncl group ranges) = (group ≡ of) × (items_in ranges ≡ listed)
 IsRangeIncl of listed _ = ⊥
 
+-- the call is a group's members outside the listed ranges
 abbrev pub IsRangeExcl : GroupName → Option (List RankRange) → GroupCall → Type 0
 IsRangeExcl of listed (group_calls.RangeExcl group ranges) = (group ≡ of) × (items_in ranges ≡ listed)
 IsRangeExcl of listed _ = ⊥
 
+-- the group that a parameter names
 abbrev pub group_at : List ℕ → TextCall → GroupName
 group_at name raw = group_in (text_of name raw)
 
@@ -127,10 +136,12 @@ other_of givers.Merge raw = or_text (text_of (codes "newintracomm") raw) (or_tex
 other_of givers.Intercomm raw = text_of (codes "intercomm") raw
 other_of givers.Parent raw = text_of (codes "parent") raw
 
+-- the action makes a communicator as the call's parameters say
 abbrev pub IsMake : Maker → TextCall → Action → Type 0
 IsMake maker raw (actions.Make parent making given) = (parent ≡ comm_in (parent_of maker raw)) × IsMaking maker raw making × (given ≡ given_in (made_of maker raw))
 IsMake maker raw _ = ⊥
 
+-- the action makes a group as the call's parameters say
 abbrev pub IsGroup : Grouper → TextCall → Action → Type 0
 IsGroup grouper raw (actions.Group call given) = IsGroupCall grouper raw call × (given ≡ grouped_in grouper raw)
 IsGroup grouper raw _ = ⊥

@@ -1,5 +1,6 @@
 -- What the calls of a text say of communicators and groups.
-use Rattle.std.specs.Prelude.{◌≡◌, ◌<◌, ℕ, ◌+◌, ◌-◌, ◌^◌, List, [], ◌∷◌, ◌++◌, Option, Some, None, Ok, codes, is_some, length, nat_eq, option_and_then}
+use Rattle.std.specs.Prelude.{◌≡◌, ◌<◌, ℕ, ◌+◌, ◌-◌, ◌^◌, Bool, false, not, ◌&&◌, List, [], ◌∷◌, ◌++◌, Option, Some, None, Ok, codes, is_some, length, nat_eq, option_and_then, if◌then◌else◌}
+use Rattle.std.specs.Str.{bytes_eq}
 use Rattle.std.specs.Map.{lookup}
 use Rattle.mpi_model.specs.Failures.{one_more}
 use Rattle.mpi_model.specs.declared.call.Call.{Call}
@@ -11,17 +12,19 @@ use Rattle.comm_makings.specs.declared.calls.CommCall.{CommCall}
 use Rattle.comm_makings.specs.declared.calls.Uses.{Uses}
 use Rattle.comm_calls.specs.Actions.{IsAction}
 use Rattle.comm_calls.specs.Functions.{function_of}
-use Rattle.comm_calls.specs.Numbers.{beside}
+use Rattle.comm_calls.specs.Numbers.{beside, natural_in}
+use Rattle.comm_calls.specs.Parameters.{note_of, text_of}
 use Rattle.comm_calls.specs.Uses.{AreOpen, AreUses, changed_at, changed_by, changed_of_call, named_at, named_by, open_after, uses_after}
 use Rattle.comm_calls.specs.declared.function.Function.{Function}
 
--- What was read of a text: how many calls, the numbers beside MPI_COMM_WORLD and MPI_COMM_SELF, the calls on communicators
--- and groups, and the groups of calls of the profile that name one number; of each number the group that goes on, by its
--- place among them.
+-- What was read of a text: how many calls, the numbers beside MPI_COMM_WORLD and MPI_COMM_SELF, the size of MPI_COMM_WORLD,
+-- the calls on communicators and groups, and the groups of calls of the profile that name one number; of each number the
+-- group that goes on, by its place among them.
 pub record ReadCalls : Type 0 where
   pub place : ℕ
   pub world : Option ℕ
   pub own : Option ℕ
+  pub size : Option ℕ
   pub calls : List CommCall
   pub uses : List Uses
   pub going : List (ℕ × ℕ)
@@ -44,6 +47,19 @@ abbrev pub beside_in : List ℕ → List Param → Option ℕ
 beside_in name [] = None
 beside_in name (param ∷ params) = or_number (beside name param.value) (beside_in name params)
 
+-- the communicator of this text is MPI_COMM_WORLD
+abbrev pub is_of_world : Option (List ℕ) → Bool
+is_of_world None = false
+is_of_world (Some text) = bytes_eq (note_of text) (codes "MPI_COMM_WORLD")
+
+-- a returned MPI_Comm_size of MPI_COMM_WORLD (MPI 4.0, 7.4.1)
+abbrev pub tells_size : TextCall → Bool
+tells_size raw = not raw.threads && is_some raw.exit && bytes_eq raw.name (codes "MPI_Comm_size") && is_of_world (text_of (codes "comm") raw)
+
+-- the size of MPI_COMM_WORLD that a call tells
+abbrev pub size_in : TextCall → Option ℕ
+size_in raw = if tells_size raw then natural_in (text_of (codes "size") raw) else None
+
 -- The call at this place is read as this one.
 pub record IsCommCall (function : Function) (place : ℕ) (raw : TextCall) (read : CommCall) : Type 0 where
   pub call : read.call ≡ place
@@ -65,8 +81,9 @@ pub record TakesCall (function : Function) (old : ReadCalls) (raw : TextCall) (n
   pub place : new.place ≡ old.place
   pub world : new.world ≡ old.world
   pub own : new.own ≡ old.own
+  pub size : new.size ≡ old.size
 
--- What the next call says is added, but for the numbers beside names.
+-- What the next call says is added, but for the numbers beside names and the world's size.
 pub record AddsSaid (old : ReadCalls) (raw : TextCall) (call : Call) (new : ReadCalls) : Type 0 where
   pub calls : AddsCall (function_of raw) old.place raw old.calls new.calls
   pub uses : new.uses ≡ uses_after old.place (named_by raw call) (going_at old.going) old.uses
@@ -74,12 +91,14 @@ pub record AddsSaid (old : ReadCalls) (raw : TextCall) (call : Call) (new : Read
   pub place : new.place ≡ old.place
   pub world : new.world ≡ old.world
   pub own : new.own ≡ old.own
+  pub size : new.size ≡ old.size
 
 -- The next call of the text is read, which is this one of the profile or none.
 pub record Reads (old : ReadCalls) (raw : TextCall) (call : Call) (new : ReadCalls) : Type 0 where
   pub place : new.place ≡ one_more old.place
   pub world : new.world ≡ or_number old.world (beside_in (codes "MPI_COMM_WORLD") raw.params)
   pub own : new.own ≡ or_number old.own (beside_in (codes "MPI_COMM_SELF") raw.params)
+  pub size : new.size ≡ or_number old.size (size_in raw)
   pub calls : AddsCall (function_of raw) old.place raw old.calls new.calls
   pub uses : new.uses ≡ uses_after old.place (named_by raw call) (going_at old.going) old.uses
   pub going : (number : ℕ) → going_at new.going number ≡ open_after (named_by raw call) (changed_by raw) (length old.uses) (going_at old.going) number
@@ -90,6 +109,11 @@ pub record Reads (old : ReadCalls) (raw : TextCall) (call : Call) (new : ReadCal
 abbrev pub first_beside : List ℕ → List TextCall → Option ℕ
 first_beside name [] = None
 first_beside name (raw ∷ raws) = or_number (beside_in name raw.params) (first_beside name raws)
+
+-- the size in the first of the calls that tells one
+abbrev pub first_size : List TextCall → Option ℕ
+first_size [] = None
+first_size (raw ∷ raws) = or_number (size_in raw) (first_size raws)
 
 -- the calls that are read of one and of those behind it
 abbrev pub AreCallsBy : Option Function → ℕ → TextCall → (List CommCall → Type 0) → List CommCall → Type 0
@@ -106,13 +130,14 @@ pub record IsReadOf (raws : List TextCall) (read : ReadCalls) : Type 0 where
   pub place : read.place ≡ length raws
   pub world : read.world ≡ first_beside (codes "MPI_COMM_WORLD") raws
   pub own : read.own ≡ first_beside (codes "MPI_COMM_SELF") raws
+  pub size : read.size ≡ first_size raws
   pub calls : AreCalls 0 raws read.calls
   pub uses : AreUses (named_at raws) (changed_at raws) read.uses
   pub going : AreOpen (changed_at raws) read.uses (going_at read.going)
 
 -- no call
 abbrev pub nothing_read : ReadCalls
-nothing_read = record { place = 0; world = None; own = None; calls = []; uses = []; going = [] }
+nothing_read = record { place = 0; world = None; own = None; size = None; calls = []; uses = []; going = [] }
 
 -- Calls that are read one after another are read as a whole: a text has fewer than 2^64 of them.
 abbrev pub ReadsOneMore : Type 0

@@ -7,6 +7,7 @@ use Rattle.dumpi_text.specs.declared.value.Value.TheVariants as values
 use Rattle.comm_makings.specs.declared.calls.RankRange.{RankRange}
 use Rattle.comm_calls.specs.Numbers.{int_of, is_set, natural_of}
 
+-- a list with one item more in front, where both can be read
 abbrev pub with_first : {A : Type 0} → Option A → Option (List A) → Option (List A)
 with_first None rest = None
 with_first (Some x) rest = option_map (λ xs. x ∷ xs) rest
@@ -31,6 +32,7 @@ abbrev pub naturals_of : List ℤ → Option (List ℕ)
 naturals_of [] = Some []
 naturals_of (n ∷ ns) = with_first (natural_of n) (naturals_of ns)
 
+-- a list of ranks
 abbrev pub ranks_in : Option (List ℕ) → Option (List ℕ)
 ranks_in text = option_and_then naturals_of (ints_in text)
 
@@ -39,9 +41,11 @@ abbrev pub size_of : ℤ → ℕ
 size_of (pos n) = n
 size_of (negsuc n) = 0
 
+-- the sizes of the dimensions of a grid
 abbrev pub sizes_in : Option (List ℕ) → Option (List ℕ)
 sizes_in text = option_map (λ ns. map size_of ns) (ints_in text)
 
+-- a list of flags
 abbrev pub flags_in : Option (List ℕ) → Option (List Bool)
 flags_in text = option_map (λ ns. map is_set ns) (ints_in text)
 
@@ -56,5 +60,6 @@ ranges_of (first ∷ []) = None
 ranges_of (first ∷ last ∷ []) = None
 ranges_of (first ∷ last ∷ stride ∷ ns) = option_map (λ ranges. record { first = first; last = last; stride = stride } ∷ ranges) (ranges_of ns)
 
+-- a list of ranges of ranks
 abbrev pub ranges_in : Option (List ℕ) → Option (List RankRange)
 ranges_in text = option_and_then ranges_of (ints_in text)

@@ -44,12 +44,15 @@ abbrev pub is_set : ℤ → Bool
 is_set (pos n) = not (n == 0)
 is_set (negsuc n) = true
 
+-- a rank or a number of a communicator, as a parameter's text says it
 abbrev pub natural_in : Option (List ℕ) → Option ℕ
 natural_in text = option_and_then (λ t. option_and_then natural_of (number_of t)) text
 
+-- a whole number, as a parameter's text says it
 abbrev pub int_in : Option (List ℕ) → Option ℤ
 int_in text = option_and_then (λ t. option_and_then int_of (number_of t)) text
 
+-- a flag, as a parameter's text says it
 abbrev pub flag_in : Option (List ℕ) → Option Bool
 flag_in text = option_and_then (λ t. option_map is_set (number_of t)) text
 
@@ -61,13 +64,16 @@ is_null text = bytes_eq (note_of text) (codes "MPI_COMM_NULL")
 abbrev pub comm_of : List ℕ → Option ℕ
 comm_of text = if is_null text then None else option_and_then natural_of (number_of text)
 
+-- the number of a communicator, as a parameter's text says it
 abbrev pub comm_in : Option (List ℕ) → Option ℕ
 comm_in text = option_and_then comm_of text
 
+-- a communicator that is given, by a number that can be read
 abbrev pub given_number : Option ℕ → Given
 given_number None = givens.Unknown
 given_number (Some n) = givens.Number n
 
+-- a communicator that is given: none under the note of the null one, else its number
 abbrev pub given_by : Bool → Option ℤ → Given
 given_by noted None = givens.Unknown
 given_by true (Some n) = givens.Null
@@ -78,10 +84,12 @@ abbrev pub given_in : Option (List ℕ) → Given
 given_in None = givens.Unknown
 given_in (Some text) = given_by (is_null text) (number_of text)
 
+-- a group, by a number that can be read
 abbrev pub group_number : Option ℕ → GroupName
 group_number None = groups.Unknown
 group_number (Some n) = groups.Number n
 
+-- a group: the empty one under its note, else its number
 abbrev pub group_by : Bool → Option ℤ → GroupName
 group_by noted None = groups.Unknown
 group_by true (Some n) = groups.Empty
@@ -92,10 +100,12 @@ abbrev pub group_in : Option (List ℕ) → GroupName
 group_in None = groups.Unknown
 group_in (Some text) = group_by (bytes_eq (note_of text) (codes "MPI_GROUP_EMPTY")) (number_of text)
 
+-- a color, by its number: none where that is negative
 abbrev pub color_number : ℤ → Option Color
 color_number (pos n) = if nat_lt n 2147483648 then Some (colors.Number n) else None
 color_number (negsuc n) = Some colors.Undefined
 
+-- a color: none under the note of MPI_UNDEFINED, else by its number
 abbrev pub color_by : Bool → Option ℤ → Option Color
 color_by noted None = None
 color_by true (Some n) = Some colors.Undefined

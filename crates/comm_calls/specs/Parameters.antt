@@ -13,6 +13,7 @@ abbrev pub or_text : Option (List ℕ) → Option (List ℕ) → Option (List �
 or_text (Some text) next = Some text
 or_text None next = next
 
+-- the bytes up to the closing parenthesis, behind an opening one
 abbrev pub note_after : Option (List ℕ) → List ℕ
 note_after None = []
 note_after (Some rest) = (split_at closing_parenthesis rest).0

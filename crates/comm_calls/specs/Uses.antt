@@ -33,8 +33,8 @@ comm_of (mpi.Recv e) = Some e.comm
 comm_of (mpi.Irecv e) = Some e.comm
 comm_of (mpi.Sendrecv both) = Some both.send.comm
 comm_of (mpi.Collective c) = Some c.comm
+comm_of (mpi.Icollective c) = Some c.comm
 comm_of (mpi.Probe e) = Some e.comm
-comm_of (mpi.Ibarrier c) = Some c
 comm_of mpi.Local = None
 comm_of mpi.Finalize = None
 comm_of (mpi.Wait request) = None
@@ -54,6 +54,7 @@ abbrev pub number_of : CommRef → Option ℕ
 number_of comms.World = None
 number_of (comms.Id number) = Some number
 
+-- the number by which a call of the profile names a communicator
 abbrev pub named_number : Call → Option ℕ
 named_number call = option_and_then number_of (comm_of call)
 
@@ -61,6 +62,7 @@ named_number call = option_and_then number_of (comm_of call)
 abbrev pub named_by : TextCall → Call → Option ℕ
 named_by raw call = if is_some (function_of raw) then None else named_number call
 
+-- that number, where the call can be read
 abbrev pub named_as : TextCall → Result TypedCall CallFault → Option ℕ
 named_as raw (Ok call) = named_by raw call.call
 named_as raw (Err fault) = None
@@ -69,6 +71,7 @@ named_as raw (Err fault) = None
 abbrev pub named_in : TextCall → Option ℕ
 named_in raw = named_as raw (typed raw)
 
+-- the number that an action gives or frees, once its call has returned
 abbrev pub changed_of_action : Bool → Action → Option ℕ
 changed_of_action returned (actions.Make parent making given) = number_given returned given
 changed_of_action returned (actions.CommRank comm rank) = None
@@ -88,6 +91,7 @@ changed_in functions.Free raw = comm_in (text_of (codes "comm") raw)
 changed_in (functions.Group grouper) raw = None
 changed_in (functions.Give giver) raw = number_given (is_some raw.exit) (given_in (other_of giver raw))
 
+-- the number that a call of the text gives or frees
 abbrev pub changed_of : TextCall → Option Function → Option ℕ
 changed_of raw None = None
 changed_of raw (Some function) = changed_in function raw
@@ -106,6 +110,7 @@ named_at raws place = option_and_then named_in (slice_get raws place)
 abbrev pub changed_at : List TextCall → ℕ → Option ℕ
 changed_at raws place = option_and_then changed_by (slice_get raws place)
 
+-- a call names just this number
 abbrev pub is_number : ℕ → Option ℕ → Bool
 is_number number None = false
 is_number number (Some named) = named == number
@@ -166,6 +171,7 @@ abbrev pub IsOpen : (ℕ → Option ℕ) → List Uses → ℕ → Option ℕ �
 IsOpen changed groups number None = (i : ℕ) (group : Uses) → slice_get groups i ≡ Some group → group.number ≡ number → IsEnded changed group
 IsOpen changed groups number (Some at) = GoesOn changed groups number at
 
+-- of each number, which group of it goes on behind the last call
 abbrev pub AreOpen : (ℕ → Option ℕ) → List Uses → (ℕ → Option ℕ) → Type 0
 AreOpen changed groups going = (number : ℕ) → IsOpen changed groups number (going number)
 
@@ -177,6 +183,7 @@ first_use place number = record { number = number; first = place; last = place; 
 abbrev pub longer : ℕ → Uses → Uses
 longer place group = record { number = group.number; first = group.first; last = place; count = min (group.count + 1) (2 ^ 64 - 1) }
 
+-- the groups, of which the one at a place goes on to a further call
 abbrev pub longer_at : ℕ → ℕ → Option Uses → List Uses → List Uses
 longer_at place at None groups = groups
 longer_at place at (Some group) groups = slice_set groups at (longer place group)
@@ -191,6 +198,7 @@ abbrev pub uses_after : ℕ → Option ℕ → (ℕ → Option ℕ) → List Use
 uses_after place None going groups = groups
 uses_after place (Some number) going groups = with_use place number (going number) groups
 
+-- which group of a number m goes on behind a call that names a number: where none did, the next one
 abbrev pub open_with : ℕ → Option ℕ → ℕ → (ℕ → Option ℕ) → ℕ → Option ℕ
 open_with number None next going m = cond (number == m) (Some next) (going m)
 open_with number (Some at) next going m = going m

@@ -10,6 +10,7 @@ use crate::action::action_in;
 use crate::beside::known_or_beside;
 use crate::fault::Memory;
 use crate::function::{Function, function_named};
+use crate::size::known_or_size;
 use crate::uses::{NumberUses, named_number};
 use comm_makings::{Action, CommCall, Given, RankCalls};
 use dumpi_calls::RawSink;
@@ -26,6 +27,7 @@ pub struct CommCalls {
     place: u64,
     world: Option<u32>,
     own: Option<u32>,
+    size: Option<u32>,
     calls: Vec<CommCall>,
     uses: NumberUses,
 }
@@ -35,10 +37,10 @@ impl Model for CommCalls {
 
     ghost Value = { ReadCalls };
 
-    ghost view = { λ c. record { place = c.place; world = c.world; own = c.own; calls = c.calls.items; uses = c.uses.groups.items; going = c.uses.going.entries } };
+    ghost view = { λ c. record { place = c.place; world = c.world; own = c.own; size = c.size; calls = c.calls.items; uses = c.uses.groups.items; going = c.uses.going.entries } };
 }
 
-// the function of a call, where it is read
+/// The function of a call, where it is read.
 fn function_of(raw: &RawCall) -> Option<Function>
     ensures { result ≡ function_of raw.now }
 {
@@ -63,7 +65,7 @@ fn comm_call(
     })
 }
 
-// the number that a call gives, if it returned
+/// The number that a call gives, if it returned.
 fn given_number(call: &CommCall, given: Given) -> Option<u32>
     ensures { result ≡ number_given call.now.returned given }
 {
@@ -76,7 +78,7 @@ fn given_number(call: &CommCall, given: Given) -> Option<u32>
     }
 }
 
-// the number that a call gives or frees
+/// The number that a call gives or frees.
 fn changed_of(call: &CommCall) -> Option<u32>
     ensures { result ≡ changed_of_call call.now }
 {
@@ -92,19 +94,20 @@ impl CommCalls {
 
     /// What no call says. Takes no memory.
     pub fn new(alloc: Global) -> CommCalls
-        ensures { result ≡ record { place = 0; world = None; own = None; calls = []; uses = []; going = [] } }
+        ensures { result ≡ record { place = 0; world = None; own = None; size = None; calls = []; uses = []; going = [] } }
     {
         CommCalls {
             alloc,
             place: 0,
             world: None,
             own: None,
+            size: None,
             calls: Vec::new(alloc),
             uses: NumberUses::new(alloc),
         }
     }
 
-    // a call of this function
+    /// A call of this function.
     fn take(&mut self, function: Function, raw: &RawCall) -> Result<(), Memory>
         ensures ok { OnOk result (TakesCall function self.old raw.now self.new) }
         ensures err { OnErr result (self.new ≡ self.old) }
@@ -116,7 +119,7 @@ impl CommCalls {
         Ok(())
     }
 
-    // what the next call says, but for the numbers beside names
+    /// What the next call says, but for the numbers beside names and the world's size.
     fn add_said(&mut self, raw: &RawCall, call: &Call) -> Result<(), Memory>
         ensures ok { OnOk result (AddsSaid self.old raw.now call.now self.new) }
         ensures err { OnErr result (self.new ≡ self.old) }
@@ -136,9 +139,11 @@ impl CommCalls {
         let alloc = self.alloc;
         let world = known_or_beside(alloc, self.world, "MPI_COMM_WORLD", raw)?;
         let own = known_or_beside(alloc, self.own, "MPI_COMM_SELF", raw)?;
+        let size = known_or_size(alloc, self.size, raw)?;
         self.add_said(raw, call)?;
         self.world = world;
         self.own = own;
+        self.size = size;
         self.place = self.place.saturating_add(1);
         Ok(())
     }
@@ -157,17 +162,19 @@ impl CommCalls {
         self.world
     }
 
-    /// The calls on communicators and groups, with the first numbers beside MPI_COMM_WORLD and MPI_COMM_SELF, and which calls
-    /// of the profile name which numbers.
+    /// The calls on communicators and groups, with the first numbers beside MPI_COMM_WORLD and MPI_COMM_SELF, the first size
+    /// of MPI_COMM_WORLD that is told, and which calls of the profile name which numbers.
     pub fn into_rank_calls(self) -> RankCalls
         ensures world { result.world ≡ self.world }
         ensures own { result.own ≡ self.own }
+        ensures size { result.size ≡ self.size }
         ensures calls { result.calls.items ≡ self.calls }
         ensures uses { result.uses.items ≡ self.uses }
     {
         let CommCalls {
             world,
             own,
+            size,
             calls,
             uses,
             ..
@@ -175,6 +182,7 @@ impl CommCalls {
         RankCalls {
             world,
             own,
+            size,
             calls,
             uses: uses.groups,
         }

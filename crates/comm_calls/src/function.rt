@@ -65,7 +65,7 @@ pub(crate) enum Function {
     Give(Giver),
 }
 
-// Whether two byte strings are the same. Inlined, so that a literal's bytes are compared one by one.
+/// Whether two byte strings are the same. Inlined, so that a literal's bytes are compared one by one.
 #[inline(always)]
 #[tactic(auto, using(crate::proofs::Names::not_as_long))]
 fn same(name: &[u8], word: &[u8]) -> bool

@@ -9,9 +9,9 @@
 //! - [`parameter`]: the text of a parameter, and its note; [`number`]: a communicator, a group, a color, a number;
 //!   [`lists`]: ranks, dimensions, ranges
 //! - [`making`], [`group`], [`action`]: what a call does
-//! - [`beside`]: the number that stands beside a name
+//! - [`beside`]: the number that stands beside a name; [`size`]: the size of the world
 //! - [`uses`]: which calls of the profile name which numbers
-//! - [`calls`]: the calls of a text; [`laws`]: what holds of all of them
+//! - [`calls`]: the calls of a text; [`fault`]: that memory was lacking; [`laws`]: what holds of all of them
 #![tactic(auto)]
 
 mod action;
@@ -25,6 +25,7 @@ mod lists;
 mod making;
 mod number;
 mod parameter;
+mod size;
 mod uses;
 
 pub use calls::CommCalls;

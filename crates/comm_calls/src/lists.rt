@@ -136,7 +136,7 @@ fn int_at(ints: &[i32], at: usize) -> i32
     ints[at]
 }
 
-// the range of the three numbers from a place on
+/// The range of the three numbers from a place on.
 fn range_at(ints: &[i32], at: usize) -> RankRange
     requires { at + 2 < length ints.now }
     ensures { result ≡ range_at ints.now at }

@@ -36,7 +36,7 @@ pub(crate) fn any_of<'a>(raw: &'a RawCall, name: &str, other: &str, last: &str) 
     }
 }
 
-// what stands before the first such byte
+/// What stands before the first such byte.
 fn before(stop: u8, text: &[u8]) -> &[u8]
     ensures { result.now ≡ (split_at stop text.now).0 }
 {
@@ -48,7 +48,7 @@ fn before(stop: u8, text: &[u8]) -> &[u8]
     text
 }
 
-// what stands behind the first such byte
+/// What stands behind the first such byte.
 fn behind(stop: u8, text: &[u8]) -> Option<&[u8]>
     ensures { option_copied result ≡ (split_at stop text.now).1 }
 {

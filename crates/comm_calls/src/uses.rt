@@ -17,9 +17,8 @@ fn comm_of(call: &Call) -> Option<CommRef>
         Call::Send(_, e) | Call::Isend(_, e) => Some(e.envelope().comm),
         Call::Recv(e) | Call::Irecv(e) => Some(e.envelope().comm),
         Call::Sendrecv(both) => Some(both.send().comm),
-        Call::Collective(c) => Some(c.comm()),
+        Call::Collective(c) | Call::Icollective(c) => Some(c.comm()),
         Call::Probe(e) => Some(e.comm()),
-        Call::Ibarrier(c) => Some(c.comm()),
         Call::Local
         | Call::Finalize
         | Call::Wait(_)
@@ -46,7 +45,7 @@ pub(crate) fn named_number(call: &Call) -> Option<u32>
     }
 }
 
-// a group of one call
+/// A group of one call.
 fn first_use(number: u32, place: u64) -> Uses
     ensures { result ≡ first_use place number }
 {
@@ -58,7 +57,7 @@ fn first_use(number: u32, place: u64) -> Uses
     }
 }
 
-// the group at a place has one call more
+/// The group at a place has one call more.
 fn longer(uses: &mut Vec<Uses>, at: usize, place: u64)
     ensures { uses.new.items ≡ longer_at place at (slice_get uses.old.items at) uses.old.items }
 {
@@ -92,7 +91,7 @@ impl NumberUses {
         }
     }
 
-    // a group with this call alone
+    /// A group with this call alone.
     fn begin(&mut self, number: u32, place: u64) -> Result<(), Memory>
         ensures groups { OnOk result (self.new.groups.items ≡ self.old.groups.items ++ first_use place number ∷ []) }
         ensures going { OnOk result ((m : ℕ) → get nat_eq self.new.going m ≡ cond (number == m) (Some (length self.old.groups.items)) (get nat_eq self.old.going m)) }

@@ -9,6 +9,7 @@ abbrev pub grid_size : List ℕ → ℕ
 grid_size [] = 1
 grid_size (d ∷ dims) = d * grid_size dims
 
+-- no dimension is empty
 abbrev pub are_sizes : List ℕ → Bool
 are_sizes dims = list_all (λ d. nat_lt 0 d) dims
 

@@ -16,6 +16,7 @@ span_of r = if r.falls then r.first - r.last else r.last - r.first
 abbrev pub rank_of : RankRange → ℕ → ℕ
 rank_of r k = if r.falls then r.first - k * r.stride else r.first + k * r.stride
 
+-- how many ranks a range names
 abbrev pub count_of : RankRange → ℕ
 count_of r = span_of r / r.stride + 1
 

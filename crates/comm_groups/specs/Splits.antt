@@ -15,6 +15,7 @@ pub record Group : Type 0 where
 abbrev pub split_cmp : Colored → Colored → Ordering
 split_cmp x y = ordering_then (nat_cmp x.color y.color) (ordering_then (int_cmp x.key y.key) (nat_cmp x.rank y.rank))
 
+-- the ranks of a group, each with its color
 abbrev pub colored : Group → List (ℕ × ℕ)
 colored g = map (λ r. (g.color, r)) g.ranks
 

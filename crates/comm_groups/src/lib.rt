@@ -2,7 +2,8 @@
 //!
 //! - [`group`]: groups made of others (7.3.2); [`range`]: ranges of ranks
 //! - [`color`]: the members of each color, by key (7.4.2)
-//! - [`cart`]: grids of ranks and their parts (8.5)
+//! - [`grid`]: grids of ranks and their parts (8.5); [`laws`]: which ranks are in one part
+//! - [`told`]: the order of ranks that were told theirs
 #![tactic(auto)]
 
 mod color;

@@ -48,6 +48,7 @@ fn count_of(range: RankRange) -> u64
     u64::from(span_of(range) / range.stride) + 1
 }
 
+/// The rank after so many strides.
 fn rank_at(range: RankRange, k: u64) -> u32
     requires { k * range.stride ≤ span_of range }
     ensures { result ≡ rank_of range k }
@@ -60,6 +61,7 @@ fn rank_at(range: RankRange, k: u64) -> u32
     }
 }
 
+/// Adds the ranks of a range, in its order.
 fn push_ranks(ranks: &mut Vec<u32>, range: RankRange) -> Result<(), AllocError>
     requires { 0 < range.stride }
     ensures { OnOk result (ranks.new.items ≡ ranks.old.items ++ ranks_of range) }

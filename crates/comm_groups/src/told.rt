@@ -7,6 +7,7 @@ ghost use Rattle.comm_groups.specs.Orders.{IsOrderOf};
 use crate::group::are_ranks;
 use std::alloc::{AllocError, Global};
 
+/// At each rank who was told it.
 fn places_of(alloc: Global, told: &[u32]) -> Result<Vec<usize>, AllocError>
     requires { are_ranks (length told.now) told.now ≡ true }
     ensures { IfOk result (λ v. IsOrderOf told.now v.items) }

@@ -9,3 +9,8 @@ pub mod Groups
 pub mod Reordered
 pub mod Written
 pub mod Naming
+pub mod Views
+pub mod Makes
+pub mod Derives
+pub mod State
+pub mod Derived

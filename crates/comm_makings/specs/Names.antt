@@ -1,6 +1,6 @@
 -- Which communicator of a rank a number names, from call to call: each rank numbers its communicators for itself, and a
 -- number comes back once its communicator is freed (MPI 4.0, 7.4.3).
-use Rattle.std.specs.Prelude.{ℕ, ◌+◌, ◌-◌, ◌^◌, ◌==◌, ◌||◌, ◌++◌, Bool, true, false, List, [], ◌∷◌, Option, Some, None, length, min, cond, slice_get, slice_set}
+use Rattle.std.specs.Prelude.{ℕ, ◌+◌, ◌-◌, ◌^◌, ◌==◌, ◌||◌, ◌++◌, Bool, true, false, List, [], ◌∷◌, Option, Some, None, min, cond, slice_get, slice_set}
 use Rattle.mpi_model.specs.declared.layout.comm.Stretch.{Stretch}
 use Rattle.comm_makings.specs.declared.calls.Given.{Given}
 use Rattle.comm_makings.specs.declared.calls.Given.TheVariants as givens

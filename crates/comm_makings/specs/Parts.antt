@@ -1,5 +1,5 @@
 -- The communicators that one making makes.
-use Rattle.std.specs.Prelude.{◌≡◌, ℕ, Bool, List, [], ◌∷◌, Option, Some, None, map}
+use Rattle.std.specs.Prelude.{◌≡◌, ℕ, Bool, List, [], ◌∷◌, Option, Some, map}
 use Rattle.comm_groups.specs.Grids.{AreParts, kept}
 use Rattle.comm_groups.specs.Splits.{Group}
 use Rattle.comm_makings.specs.Selection.{Selection}

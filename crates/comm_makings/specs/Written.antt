@@ -1,9 +1,11 @@
 -- By which numbers, over which calls, the members of a communicator name it in a layout.
-use Rattle.std.specs.Prelude.{ℕ, Bool, false, List, Option, Some, None, cond}
-use Rattle.std.specs.List.{slice_get}
+use Rattle.std.specs.Prelude.{◌≡◌, ◌⊎◌, ℕ, Bool, false, List, [], ◌∷◌, Option, Some, None, All, cond, map}
+use Rattle.std.specs.List.{range_with_len, slice_get}
 use Rattle.std.specs.Option.{option_and_then, option_map}
+use Rattle.mpi_model.specs.Communicators.{Communicator}
 use Rattle.mpi_model.specs.declared.layout.comm.Stretch.{Stretch}
 use Rattle.comm_makings.specs.Names.{always}
+use Rattle.comm_makings.specs.declared.state.Made.{Made}
 use Rattle.comm_makings.specs.declared.state.Member.{Member}
 use Rattle.comm_makings.specs.declared.uses.HandleUses.{HandleUses}
 use Rattle.comm_makings.specs.declared.view.RankView.{RankView}
@@ -30,3 +32,45 @@ entry_by views uses rank handle = option_map (stretch_of (is_only uses rank hand
 -- the handle's stretch.
 abbrev pub entry_of : List RankView → List HandleUses → Member → Option Stretch
 entry_of views uses member = option_and_then (entry_by views uses member.rank) member.handle
+
+abbrev pub number_of : Bool → Stretch → Option ℕ
+number_of only stretch = cond only (Some stretch.number) None
+
+abbrev pub only_by : List RankView → List HandleUses → ℕ → ℕ → Option ℕ
+only_by views uses rank handle = option_and_then (number_of (is_only uses rank handle)) (handle_at views rank handle)
+
+-- the number by which a member names the communicator, where it names nothing else
+abbrev pub only_number : List RankView → List HandleUses → Member → Option ℕ
+only_number views uses member = option_and_then (only_by views uses member.rank) member.handle
+
+abbrev pub IsNamedOnly : List RankView → List HandleUses → ℕ → Member → Type 0
+IsNamedOnly views uses number member = only_number views uses member ≡ Some number
+
+-- By its id, where each member names it by that number and names nothing else so, or by an entry for each member.
+abbrev pub IsNamedIn : List RankView → List HandleUses → List Member → Communicator → Type 0
+IsNamedIn views uses members comm = ((comm.numbers ≡ []) × All (IsNamedOnly views uses comm.comm) members) ⊎ (comm.numbers ≡ map (entry_of views uses) members)
+
+-- A communicator of a layout has the ranks of a derived one in their order.
+pub record IsWrittenOf (views : List RankView) (uses : List HandleUses) (made : Made) (comm : Communicator) : Type 0 where
+  pub members : comm.members ≡ made.ranks.items
+  pub named : IsNamedIn views uses made.members.items comm
+
+-- the world in a layout of so many ranks
+pub record IsWorld (world count : ℕ) (comm : Communicator) : Type 0 where
+  pub id : comm.comm ≡ world
+  pub members : comm.members ≡ range_with_len 0 count
+  pub numbers : comm.numbers ≡ []
+
+abbrev pub IsWrittenOfOne : List RankView → List HandleUses → List Made → Communicator → Type 0
+IsWrittenOfOne views uses made comm = (place : ℕ) × (one : Made) × (slice_get made place ≡ Some one) × IsWrittenOf views uses one comm
+
+pub record AreWrittenOf (views : List RankView) (uses : List HandleUses) (made : List Made) (comms : List Communicator) : Type 0 where
+  pub each : (at : ℕ) (comm : Communicator) → slice_get comms at ≡ Some comm → IsWrittenOfOne views uses made comm
+
+-- The world comes first, and then communicators that are derived.
+pub record IsWritten (world count : ℕ) (views : List RankView) (uses : List HandleUses) (made : List Made) (comms : List Communicator) : Type 0 where
+  pub first : Communicator
+  pub others : List Communicator
+  pub starts : comms ≡ first ∷ others
+  pub is_world : IsWorld world count first
+  pub all_made : AreWrittenOf views uses made others

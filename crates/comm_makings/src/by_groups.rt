@@ -1,17 +1,18 @@
 //! MPI_Comm_create_group: collective over a group, not over its parent (MPI 4.0, 7.4.2).
 
-ghost use Rattle.std.specs.Prelude.{◌≤◌, length};
+ghost use Rattle.std.specs.Prelude.{◌≡◌, ◌≤◌, [], IfOk, OnOk, length};
+ghost use Rattle.comm_makings.specs.State.{AreChosen, AreDerived, IsMadeOf, part_at};
 
-use crate::calls::Making;
+use crate::calls::{Making, RankCalls};
 use crate::creates::{places_by_rank, places_of};
 use crate::group_value::{ranks_at, waits_at};
 use crate::handle::Gives;
 use crate::here::{Here, here_at, is_unreadable, making_at, some_unknown};
-use crate::outcomes::checked;
+use crate::outcomes::are_given;
 use crate::part::Part;
-use crate::parts::Outcome;
-use crate::run::{Run, all_made};
-use crate::state::{Made, Member, copy_of};
+use crate::run::{Run, made_of};
+use crate::state::{Made, Member, comm_at, copy_of};
+use crate::view::RankView;
 use indexmap::IndexMap;
 use std::alloc::{AllocError, Global};
 
@@ -62,28 +63,30 @@ fn is_read(read: &[Vec<bool>], rank: u32, at: usize) -> bool {
 /// Adds the calls of a rank, as far as their groups, tags and communicators are known. Says whether a group is not known
 /// yet.
 fn offer_all<'a>(
-    run: &'a Run<'_>,
-    calls: &'a [usize],
+    ranks: &[RankCalls],
+    views: &[RankView],
+    run: &'a Run,
+    calls: &[usize],
     rank: u32,
     place: u32,
     offers: &mut Vec<Offer<'a>>,
 ) -> Result<bool, AllocError> {
     for at in calls {
-        let Some(here) = here_at(run.ranks, &run.views, rank, *at) else {
+        let Some(here) = here_at(ranks, views, rank, *at) else {
             return Ok(false);
         };
         let Some(values) = run.values.get(rank as usize) else {
             return Ok(false);
         };
-        let Some(tag) = tag_of(making_at(run.ranks, rank, *at)) else {
+        let Some(tag) = tag_of(making_at(ranks, rank, *at)) else {
             return Ok(false);
         };
-        let Some(ranks) = ranks_at(values, &run.comms, here.group) else {
+        let Some(group) = ranks_at(values, &run.comms, here.group) else {
             return Ok(waits_at(values, here.group));
         };
         if !is_read(&run.taken, rank, *at) {
             offers.push(Offer {
-                ranks,
+                ranks: group,
                 tag,
                 place,
                 at: *at,
@@ -97,8 +100,8 @@ fn offer_all<'a>(
     Ok(false)
 }
 
-fn calls_of<'a>(run: &'a Run<'_>, member: Member) -> &'a [usize] {
-    match (run.views.get(member.rank as usize), member.handle) {
+fn calls_of(views: &[RankView], member: Member) -> &[usize] {
+    match (views.get(member.rank as usize), member.handle) {
         (Some(view), Some(handle)) => match view.by_group.get(handle) {
             Some(calls) => calls,
             None => &[],
@@ -110,7 +113,9 @@ fn calls_of<'a>(run: &'a Run<'_>, member: Member) -> &'a [usize] {
 /// The calls on a parent that are not read yet, by their members, tag and place. At last no group is waited for.
 fn offers_of<'a>(
     alloc: Global,
-    run: &'a Run<'_>,
+    ranks: &[RankCalls],
+    views: &[RankView],
+    run: &'a Run,
     parent: &Made,
     last: bool,
 ) -> Result<Offers<'a>, AllocError> {
@@ -118,8 +123,8 @@ fn offers_of<'a>(
     let mut waits = Vec::new(alloc);
     let mut place = 0u32;
     for member in &parent.members {
-        let listed = calls_of(run, *member);
-        let waited = offer_all(run, listed, member.rank, place, &mut calls)?;
+        let listed = calls_of(views, *member);
+        let waited = offer_all(ranks, views, run, listed, member.rank, place, &mut calls)?;
         waits.push(waited && !last)?;
         place = place.saturating_add(1);
     }
@@ -199,16 +204,13 @@ fn some_here(all: &[Option<Here>]) -> bool {
     false
 }
 
-/// What the k-th calls of a group's members make.
-fn outcome_of(alloc: Global, all: &[Option<Here>], places: &[u32]) -> Result<Outcome, AllocError> {
+/// Whether one communicator is made of the calls, with the members at these places.
+fn is_sound(alloc: Global, all: &[Option<Here>], places: &[u32]) -> Result<bool, AllocError> {
     if some_unknown(all) {
-        return Ok(Outcome::Unsound);
+        return Ok(false);
     }
-    let mut copied = Vec::new(alloc);
-    copied.extend_from_slice(places)?;
-    let mut parts = Vec::new(alloc);
-    parts.push(Part::new(copied, None))?;
-    checked(alloc, Outcome::Parts(parts), all, false)
+    let parts = vec![in alloc; Part::new(copy_of(alloc, places)?, None)]?;
+    are_given(alloc, &parts, all, false)
 }
 
 fn is_over(over: &[Over], ranks: &[u32], tag: i32) -> bool {
@@ -248,7 +250,9 @@ fn note_read(
     Ok(())
 }
 
-fn note_left(calls: &[Offer<'_>], found: &mut Found) -> Result<(), AllocError> {
+fn note_left(calls: &[Offer<'_>], found: &mut Found) -> Result<(), AllocError>
+    ensures { found.new.made ≡ found.old.made }
+{
     for offer in calls {
         found.read.push((offer.here.rank, offer.at))?;
         if let Gives::Handle(handle) = offer.here.gives {
@@ -265,7 +269,9 @@ fn end(
     ranks: &[u32],
     tag: i32,
     found: &mut Found,
-) -> Result<(), AllocError> {
+) -> Result<(), AllocError>
+    ensures { found.new.made ≡ found.old.made }
+{
     note_left(calls, found)?;
     found.over.push(Over {
         ranks: copy_of(alloc, ranks)?,
@@ -274,32 +280,46 @@ fn end(
     Ok(())
 }
 
+/// The communicator of the members at these places.
+fn one_made(
+    alloc: Global,
+    members: &[Member],
+    all: &[Option<Here>],
+    places: &[u32],
+) -> Result<Made, AllocError>
+    ensures { IfOk result (IsMadeOf members.now all.now (part_at places.now)) }
+{
+    let part = Part::new(copy_of(alloc, places)?, None);
+    made_of(alloc, members, all, &part)
+}
+
 /// Reads the calls of one list of members and one tag.
+#[tactic(auto, using(crate::proofs::Derivations::chosen_more))]
 fn read_same(
     alloc: Global,
-    parent: &Made,
+    members: &[Member],
     calls: &[Offer<'_>],
     places: &[u32],
     waits: &[bool],
     found: &mut Found,
-) -> Result<bool, AllocError> {
+) -> Result<bool, AllocError>
+    requires { AreChosen members.now found.old.made.items }
+    ensures { OnOk result (AreChosen members.now found.new.made.items) }
+{
     for k in 0..calls.len() {
-        let all = kth_of(alloc, calls, places, parent.members.len(), k)?;
+        let all = kth_of(alloc, calls, places, members.len(), k)?;
         if may_come(&all, places, waits) {
             return Ok(true);
         }
         if !some_here(&all) {
             return Ok(true);
         }
-        match outcome_of(alloc, &all, places)? {
-            Outcome::Parts(parts) => {
-                note_read(calls, &all, &mut found.read)?;
-                for made in all_made(alloc, &parent.members, &all, &parts)? {
-                    found.made.push(made)?;
-                }
-            },
-            _ => return Ok(false),
+        if !is_sound(alloc, &all, places)? {
+            return Ok(false);
         }
+        note_read(calls, &all, &mut found.read)?;
+        let comm = one_made(alloc, members, &all, places)?;
+        found.made.push(comm)?;
     }
     Ok(true)
 }
@@ -307,29 +327,38 @@ fn read_same(
 /// Reads the calls of one list of members and one tag, unless nothing more is made of them.
 fn read_key(
     alloc: Global,
-    parent: &Made,
+    members: &[Member],
     ranked: &IndexMap<u32, u32>,
     over: &[Over],
     calls: &[Offer<'_>],
     first: Offer<'_>,
     waits: &[bool],
     found: &mut Found,
-) -> Result<(), AllocError> {
+) -> Result<(), AllocError>
+    requires { AreChosen members.now found.old.made.items }
+    ensures { OnOk result (AreChosen members.now found.new.made.items) }
+{
     if is_over(over, first.ranks, first.tag) {
-        return note_left(calls, found);
+        note_left(calls, found)?;
+        return Ok(());
     }
     match places_of(alloc, ranked, first.ranks)? {
         Some(places) => {
-            if !read_same(alloc, parent, calls, &places, waits, found)? {
+            if !read_same(alloc, members, calls, &places, waits, found)? {
                 end(alloc, calls, first.ranks, first.tag, found)?;
             }
             Ok(())
         },
-        None => end(alloc, calls, first.ranks, first.tag, found),
+        None => {
+            end(alloc, calls, first.ranks, first.tag, found)?;
+            Ok(())
+        },
     }
 }
 
-fn nothing_found(alloc: Global) -> Found {
+fn nothing_found(alloc: Global) -> Found
+    ensures { result.made.items ≡ [] }
+{
     Found {
         made: Vec::new(alloc),
         over: Vec::new(alloc),
@@ -339,13 +368,16 @@ fn nothing_found(alloc: Global) -> Found {
     }
 }
 
+#[tactic(auto, using(crate::proofs::Derivations::chosen_none))]
 fn found_in(
     alloc: Global,
     parent: &Made,
     over: &[Over],
     calls: &[Offer<'_>],
     waits: &[bool],
-) -> Result<Found, AllocError> {
+) -> Result<Found, AllocError>
+    ensures { IfOk result (λ found. AreChosen parent.now.members.items found.made.items) }
+{
     let ranked = places_by_rank(alloc, &parent.ranks)?;
     let mut found = nothing_found(alloc);
     let mut at = 0;
@@ -354,16 +386,25 @@ fn found_in(
         let behind = at + 1;
         let end = behind + same_length(&calls[behind..], first.ranks, first.tag);
         let same = &calls[at..end];
-        read_key(alloc, parent, &ranked, over, same, first, waits, &mut found)?;
+        read_key(
+            alloc,
+            &parent.members,
+            &ranked,
+            over,
+            same,
+            first,
+            waits,
+            &mut found,
+        )?;
         at = end;
     }
     Ok(found)
 }
 
 /// Whether a member calls MPI_Comm_create_group on the communicator.
-fn has_calls(run: &Run<'_>, comm: &Made) -> bool {
+fn has_calls(views: &[RankView], comm: &Made) -> bool {
     for member in &comm.members {
-        if !calls_of(run, *member).is_empty() {
+        if !calls_of(views, *member).is_empty() {
             return true;
         }
     }
@@ -371,19 +412,28 @@ fn has_calls(run: &Run<'_>, comm: &Made) -> bool {
 }
 
 /// The communicators that the calls of MPI_Comm_create_group on a parent make, as far as their groups are known.
+#[tactic(auto, using(crate::proofs::Derivations::chosen_derives, crate::proofs::Derivations::derived_at, crate::proofs::Derivations::derived_none))]
 pub(crate) fn found_at(
     alloc: Global,
-    run: &Run<'_>,
+    ranks: &[RankCalls],
+    views: &[RankView],
+    run: &Run,
     at: usize,
     last: bool,
-) -> Result<Found, AllocError> {
-    let (Some(parent), Some(over)) = (run.comms.get(at), run.over.get(at)) else {
+) -> Result<Found, AllocError>
+    requires { AreDerived ranks.now views.now run.now.comms.items }
+    ensures { IfOk result (λ found. AreDerived ranks.now views.now found.made.items) }
+{
+    let Some(parent) = comm_at(&run.comms, at) else {
         return Ok(nothing_found(alloc));
     };
-    if !has_calls(run, parent) {
+    let Some(over) = run.over.get(at) else {
+        return Ok(nothing_found(alloc));
+    };
+    if !has_calls(views, parent) {
         return Ok(nothing_found(alloc));
     }
-    let offers = offers_of(alloc, run, parent, last)?;
+    let offers = offers_of(alloc, ranks, views, run, parent, last)?;
     let mut found = found_in(alloc, parent, over, &offers.calls, &offers.waits)?;
     found.waits = offers.waits.iter().any(|waits| *waits);
     Ok(found)

@@ -7,6 +7,8 @@ pub struct RankCalls {
     pub world: Option<u32>,
     /// The number of MPI_COMM_SELF, where some call of the rank says it.
     pub own: Option<u32>,
+    /// The size of MPI_COMM_WORLD, where some call of the rank tells it.
+    pub size: Option<u32>,
     /// The calls that make, name or free communicators and groups, in the rank's order.
     pub calls: Vec<CommCall>,
     /// Where the calls of the profile name which numbers.

@@ -1,6 +1,7 @@
 //! From what the ranks called to their communicators.
 
 ghost use Rattle.std.specs.Prelude.{◌≡◌, ◌≢◌, ◌<◌, ◌^◌, IfErr, IfOk, None, OnOk, Some, length};
+ghost use Rattle.comm_makings.specs.Derived.{IsSound};
 ghost use Rattle.comm_makings.specs.World.{first_told, other_told, world_fault, world_of};
 ghost use Rattle.comm_makings.specs.declared.answer.DeriveFault.TheVariants.{Memory};
 
@@ -9,6 +10,7 @@ use crate::calls::RankCalls;
 use crate::left::left_out;
 use crate::run::{Run, run_of};
 use crate::uses::uses_of_all;
+use crate::view::views_of;
 use crate::written::written;
 use std::alloc::{AllocError, Global};
 
@@ -73,22 +75,24 @@ fn world_of(ranks: &[RankCalls]) -> Result<u32, DeriveFault>
 /// The communicators that the calls of the ranks make: the world, and those that calls of the profile name, as a layout
 /// has them. Time and memory grow with the calls on communicators and groups and the members of what they make, not with
 /// all calls.
+#[tactic(auto, using(crate::proofs::Derivations::written_derives))]
 pub fn derive(alloc: Global, ranks: &[RankCalls]) -> Result<Derived, DeriveFault>
     requires { length ranks.now < 2 ^ 32 }
     ensures world { IfOk result (λ d. d.world ≡ world_of ranks.now) }
     ensures none { OnOk result (world_fault ranks.now ≡ None) }
     ensures fault { IfErr result (λ e. e ≢ Memory → world_fault ranks.now ≡ Some e) }
+    ensures sound { IfOk result (λ d. IsSound (world_of ranks.now) ranks.now d.comms.items) }
 {
     let world = world_of(ranks)?;
+    let views = views_of(alloc, world, ranks)?;
     let Run {
-        views,
         standings,
         comms,
         ..
-    } = run_of(alloc, world, ranks)?;
+    } = run_of(alloc, ranks, &views)?;
     let uses = uses_of_all(alloc, ranks, &views)?;
     let left_out = left_out(alloc, ranks, &views, &standings, &uses)?;
-    let comms = written(alloc, world, &views, &uses, comms)?;
+    let comms = written(alloc, world, ranks.len() as u32, &views, &uses, &comms)?;
     Ok(Derived {
         world,
         comms,

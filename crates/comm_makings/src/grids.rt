@@ -1,76 +1,208 @@
 //! Makings that give a communicator a topology (MPI 4.0, chapter 8).
 
-ghost use Rattle.std.specs.Prelude.{◌≡◌, ◌<◌, ◌^◌, IfOk, false, length, option_map, true};
+ghost use Rattle.std.specs.Prelude.{◌≡◌, ◌≤◌, ◌<◌, ◌^◌, ◌⊎◌, ◌↔◌, IfOk, IfSome, IsTrue, List, Some, false, length, option_map, pos, true};
 ghost use Rattle.std.specs.List.{filter_map, list_all, slice_get};
+ghost use Rattle.std.specs.Option.{option_copied};
+ghost use Rattle.comm_makings.specs.Makes.{AllSay, IsDistGraphMade, IsKnownGraph, IsKnownGrid, IsPartOfGrid, IsTopology, IsUnknownGrid, Says, dims_in, nodes_in, remain_in, reorder_in, said_by};
+ghost use Rattle.comm_makings.specs.Selection.{Selection};
+ghost use Rattle.comm_makings.specs.State.{parts_in};
 ghost use Rattle.comm_makings.specs.Reordered.{IsInToldOrder, differs, given_places, gives_some, is_returned, told_at, told_here, told_ranks};
 ghost use Rattle.comm_makings.specs.declared.parts.Outcome.TheVariants as outcomes;
 
 use crate::calls::{Making, RankCalls};
 use crate::handle::Gives;
-use crate::here::{Here, handle_of, making_at};
+use crate::here::{Here, first_of, handle_of, making_at};
 use crate::parts::{Outcome, first_part, grid_outcome, one_part};
 use crate::state::{Made, copy_of};
 use crate::view::RankView;
 use comm_groups::{grid_size, order_of};
 use std::alloc::{AllocError, Global};
 
-/// How many members a communicator is to have, by all calls that are there.
-#[derive(Clone, Copy, Debug, PartialEq, Eq)]
-enum Count {
-    Unknown,
-    /// The calls differ, or no communicator has so many.
-    Wrong,
-    Of(u32),
-}
-
-fn reorder_of(making: Option<&Making>) -> Option<bool> {
+fn reorder_of(making: Option<&Making>) -> Option<bool>
+    ensures { result ≡ said_by reorder_in (option_copied making.entry) }
+{
     match making? {
         Making::CartCreate { reorder, .. } => *reorder,
         Making::GraphCreate { reorder, .. } => *reorder,
         Making::DistGraphCreate { reorder } => *reorder,
         Making::DistGraphCreateAdjacent { reorder } => *reorder,
-        _ => None,
+        Making::Dup
+        | Making::DupWithInfo
+        | Making::Idup
+        | Making::IdupWithInfo
+        | Making::Split { .. }
+        | Making::Create { .. }
+        | Making::CreateGroup { .. }
+        | Making::CartSub { .. } => None,
+    }
+}
+
+fn dims_of(making: Option<&Making>) -> Option<&[u32]>
+    ensures { option_copied result ≡ said_by dims_in (option_copied making.entry) }
+{
+    match making? {
+        Making::CartCreate { dims, .. } => match dims {
+            Some(dims) => Some(dims),
+            None => None,
+        },
+        Making::Dup
+        | Making::DupWithInfo
+        | Making::Idup
+        | Making::IdupWithInfo
+        | Making::Split { .. }
+        | Making::Create { .. }
+        | Making::CreateGroup { .. }
+        | Making::CartSub { .. }
+        | Making::GraphCreate { .. }
+        | Making::DistGraphCreate { .. }
+        | Making::DistGraphCreateAdjacent { .. } => None,
+    }
+}
+
+fn nodes_of(making: Option<&Making>) -> Option<i32>
+    ensures { result ≡ said_by nodes_in (option_copied making.entry) }
+{
+    match making? {
+        Making::GraphCreate { nodes, .. } => *nodes,
+        Making::Dup
+        | Making::DupWithInfo
+        | Making::Idup
+        | Making::IdupWithInfo
+        | Making::Split { .. }
+        | Making::Create { .. }
+        | Making::CreateGroup { .. }
+        | Making::CartCreate { .. }
+        | Making::CartSub { .. }
+        | Making::DistGraphCreate { .. }
+        | Making::DistGraphCreateAdjacent { .. } => None,
+    }
+}
+
+fn remain_of(making: Option<&Making>) -> Option<&[bool]>
+    ensures { option_copied result ≡ said_by remain_in (option_copied making.entry) }
+{
+    match making? {
+        Making::CartSub { remain } => match remain {
+            Some(remain) => Some(remain),
+            None => None,
+        },
+        Making::Dup
+        | Making::DupWithInfo
+        | Making::Idup
+        | Making::IdupWithInfo
+        | Making::Split { .. }
+        | Making::Create { .. }
+        | Making::CreateGroup { .. }
+        | Making::CartCreate { .. }
+        | Making::GraphCreate { .. }
+        | Making::DistGraphCreate { .. }
+        | Making::DistGraphCreateAdjacent { .. } => None,
+    }
+}
+
+/// The call says this of the order, where it is there.
+fn says_reorder(ranks: &[RankCalls], reorder: bool, here: Option<Here>) -> bool
+    ensures { IsTrue result ↔ Says ranks.now reorder_in reorder here }
+{
+    match here {
+        Some(here) => reorder_of(making_at(ranks, here.rank, here.at)) == Some(reorder),
+        None => true,
+    }
+}
+
+/// The call says these dimensions, where it is there.
+fn says_dims(ranks: &[RankCalls], dims: &[u32], here: Option<Here>) -> bool
+    ensures { IsTrue result ↔ Says ranks.now dims_in dims.now here }
+{
+    match here {
+        Some(here) => match dims_of(making_at(ranks, here.rank, here.at)) {
+            Some(said) => said == dims,
+            None => false,
+        },
+        None => true,
+    }
+}
+
+/// The call says so many nodes, where it is there.
+fn says_nodes(ranks: &[RankCalls], nodes: i32, here: Option<Here>) -> bool
+    ensures { IsTrue result ↔ Says ranks.now nodes_in nodes here }
+{
+    match here {
+        Some(here) => nodes_of(making_at(ranks, here.rank, here.at)) == Some(nodes),
+        None => true,
+    }
+}
+
+/// Whether two lists of flags are the same.
+fn same_flags(first: &[bool], second: &[bool]) -> bool
+    ensures { IsTrue result ↔ (first.now ≡ second.now) }
+{
+    first == second
+}
+
+/// The call says that these dimensions remain, where it is there.
+fn says_remain(ranks: &[RankCalls], remain: &[bool], here: Option<Here>) -> bool
+    ensures { IsTrue result ↔ Says ranks.now remain_in remain.now here }
+{
+    match here {
+        Some(here) => match remain_of(making_at(ranks, here.rank, here.at)) {
+            Some(said) => same_flags(said, remain),
+            None => false,
+        },
+        None => true,
     }
 }
 
 /// Whether the ranks may be ordered anew, where all calls say the same.
-fn reorder_in(ranks: &[RankCalls], all: &[Option<Here>]) -> Option<bool> {
-    let mut agreed = None;
-    for here in all {
-        if let Some(here) = here {
-            let reorder = reorder_of(making_at(ranks, here.rank, here.at))?;
-            match agreed {
-                None => agreed = Some(reorder),
-                Some(before) => {
-                    if before != reorder {
-                        return None;
-                    }
-                },
-            }
-        }
-    }
-    agreed
-}
-
-fn dims_in(making: Option<&Making>) -> Option<&[u32]> {
-    match making? {
-        Making::CartCreate {
-            dims: Some(dims),
-            ..
-        } => Some(dims),
-        _ => None,
+fn agreed_reorder(ranks: &[RankCalls], all: &[Option<Here>]) -> Option<bool>
+    ensures { IfSome result (λ reorder. AllSay ranks.now reorder_in reorder all.now) }
+{
+    let first = first_of(all)?;
+    let reorder = reorder_of(making_at(ranks, first.rank, first.at))?;
+    if all.iter().all(|here| says_reorder(ranks, reorder, *here)) {
+        Some(reorder)
+    } else {
+        None
     }
 }
 
-/// The dimensions that all calls say, where all say some.
-fn agreed_dims<'a>(ranks: &'a [RankCalls], all: &[Option<Here>]) -> Option<&'a [u32]> {
-    let mut agreed: Option<&'a [u32]> = None;
-    for here in all {
-        if let Some(here) = here {
-            agreed = Some(dims_in(making_at(ranks, here.rank, here.at))?);
-        }
+/// The dimensions, where all calls say the same.
+fn agreed_dims<'a>(ranks: &'a [RankCalls], all: &[Option<Here>]) -> Option<&'a [u32]>
+    ensures { IfSome (option_copied result) (λ dims. AllSay ranks.now dims_in dims all.now) }
+{
+    let first = first_of(all)?;
+    let dims = dims_of(making_at(ranks, first.rank, first.at))?;
+    if all.iter().all(|here| says_dims(ranks, dims, *here)) {
+        Some(dims)
+    } else {
+        None
     }
-    agreed
+}
+
+/// The number of nodes, where all calls say the same.
+fn agreed_nodes(ranks: &[RankCalls], all: &[Option<Here>]) -> Option<i32>
+    ensures { IfSome result (λ nodes. AllSay ranks.now nodes_in nodes all.now) }
+{
+    let first = first_of(all)?;
+    let nodes = nodes_of(making_at(ranks, first.rank, first.at))?;
+    if all.iter().all(|here| says_nodes(ranks, nodes, *here)) {
+        Some(nodes)
+    } else {
+        None
+    }
+}
+
+/// The dimensions that remain, where all calls say the same.
+fn agreed_remain<'a>(ranks: &'a [RankCalls], all: &[Option<Here>]) -> Option<&'a [bool]>
+    ensures { IfSome (option_copied result) (λ remain. AllSay ranks.now remain_in remain all.now) }
+{
+    let first = first_of(all)?;
+    let remain = remain_of(making_at(ranks, first.rank, first.at))?;
+    if all.iter().all(|here| says_remain(ranks, remain, *here)) {
+        Some(remain)
+    } else {
+        None
+    }
 }
 
 /// Whether the calls that say dimensions differ in them, or say what no grid of this many ranks has.
@@ -78,7 +210,7 @@ fn wrong_dims(ranks: &[RankCalls], all: &[Option<Here>], members: u32) -> bool {
     let mut said: Option<&[u32]> = None;
     for here in all {
         if let Some(here) = here {
-            if let Some(dims) = dims_in(making_at(ranks, here.rank, here.at)) {
+            if let Some(dims) = dims_of(making_at(ranks, here.rank, here.at)) {
                 if grid_size(dims, members).is_none() {
                     return true;
                 }
@@ -94,96 +226,35 @@ fn wrong_dims(ranks: &[RankCalls], all: &[Option<Here>], members: u32) -> bool {
     false
 }
 
-fn cart_count(ranks: &[RankCalls], all: &[Option<Here>], members: u32) -> Count {
-    if wrong_dims(ranks, all, members) {
-        return Count::Wrong;
-    }
-    match agreed_dims(ranks, all) {
-        None => Count::Unknown,
-        Some(dims) => match grid_size(dims, members) {
-            Some(size) => Count::Of(size),
-            None => Count::Wrong,
-        },
-    }
-}
-
-/// The nodes that a call says: `Wrong` where they are below 0 or above the members of the parent.
-fn nodes_in(making: Option<&Making>, members: u32) -> Count {
-    match making {
-        Some(
-            Making::GraphCreate {
-                nodes: Some(nodes),
-                ..
-            },
-        ) => count_within(*nodes, members),
-        _ => Count::Unknown,
-    }
-}
-
-fn count_within(nodes: i32, members: u32) -> Count {
+/// So many nodes, where there are none below 0 and none above the members of the parent.
+fn nodes_within(nodes: i32, members: u32) -> Option<u32>
+    ensures { IfSome result (λ n. (nodes ≡ pos n) × (n ≤ members)) }
+{
     match u32::try_from(nodes) {
-        Ok(nodes) => {
-            if nodes <= members {
-                Count::Of(nodes)
-            } else {
-                Count::Wrong
-            }
-        },
-        Err(_) => Count::Wrong,
+        Ok(nodes) => { if nodes <= members { Some(nodes) } else { None } },
+        Err(_) => None,
     }
 }
 
-/// What two calls say together.
-fn both(first: Count, second: Count) -> Count {
-    match (first, second) {
-        (Count::Wrong, _) => Count::Wrong,
-        (_, Count::Wrong) => Count::Wrong,
-        (Count::Of(first), Count::Of(second)) => {
-            if first == second {
-                Count::Of(first)
-            } else {
-                Count::Wrong
-            }
-        },
-        _ => Count::Unknown,
-    }
-}
-
+/// Whether the calls that say nodes differ in them, or say what no graph of this many ranks has.
 fn wrong_nodes(ranks: &[RankCalls], all: &[Option<Here>], members: u32) -> bool {
-    let mut said = Count::Unknown;
+    let mut said: Option<i32> = None;
     for here in all {
         if let Some(here) = here {
-            let nodes = nodes_in(making_at(ranks, here.rank, here.at), members);
-            if both(said, nodes) == Count::Wrong {
-                return true;
-            }
-            if nodes != Count::Unknown {
-                said = nodes;
+            if let Some(nodes) = nodes_of(making_at(ranks, here.rank, here.at)) {
+                if nodes_within(nodes, members).is_none() {
+                    return true;
+                }
+                if let Some(before) = said {
+                    if before != nodes {
+                        return true;
+                    }
+                }
+                said = Some(nodes);
             }
         }
     }
     false
-}
-
-fn agreed_nodes(ranks: &[RankCalls], all: &[Option<Here>], members: u32) -> Count {
-    let mut said = Count::Unknown;
-    for here in all {
-        if let Some(here) = here {
-            let nodes = nodes_in(making_at(ranks, here.rank, here.at), members);
-            if nodes == Count::Unknown {
-                return Count::Unknown;
-            }
-            said = nodes;
-        }
-    }
-    said
-}
-
-fn graph_count(ranks: &[RankCalls], all: &[Option<Here>], members: u32) -> Count {
-    if wrong_nodes(ranks, all, members) {
-        return Count::Wrong;
-    }
-    agreed_nodes(ranks, all, members)
 }
 
 fn gives_some(gives: Gives) -> bool
@@ -327,23 +398,25 @@ fn told_part(
     }
 }
 
+/// A communicator of so many members, where the number is known.
 fn topology(
     alloc: Global,
     ranks: &[RankCalls],
     views: &[RankView],
     all: &[Option<Here>],
-    count: Count,
+    count: Option<u32>,
     dims: Option<Vec<u32>>,
 ) -> Result<Outcome, AllocError>
     requires { length all.now < 2 ^ 32 }
+    ensures { IfOk result (λ o. (parts : List Selection) → parts_in o ≡ Some parts → IsTopology ranks.now views.now all.now count (option_map (λ v. v.items) dims) parts) }
 {
-    match (reorder_in(ranks, all), count) {
-        (None, _) => Ok(Outcome::Unsound),
-        (_, Count::Wrong) => Ok(Outcome::Unsound),
-        (Some(false), Count::Unknown) => Ok(Outcome::Unsound),
-        (Some(false), Count::Of(count)) => first_part(alloc, count, dims),
-        (Some(true), Count::Unknown) => reordered(alloc, views, all, None, dims),
-        (Some(true), Count::Of(count)) => reordered(alloc, views, all, Some(count), dims),
+    match agreed_reorder(ranks, all) {
+        None => Ok(Outcome::Unsound),
+        Some(false) => match count {
+            None => Ok(Outcome::Unsound),
+            Some(count) => first_part(alloc, count, dims),
+        },
+        Some(true) => reordered(alloc, views, all, count, dims),
     }
 }
 
@@ -355,20 +428,23 @@ pub(crate) fn cart_outcome(
     all: &[Option<Here>],
     members: u32,
 ) -> Result<Outcome, AllocError>
-    requires { length all.now < 2 ^ 32 }
+    requires few { length all.now < 2 ^ 32 }
+    requires members { members ≡ length all.now }
+    ensures { IfOk result (λ o. (parts : List Selection) → parts_in o ≡ Some parts → IsKnownGrid ranks.now views.now all.now parts ⊎ IsUnknownGrid ranks.now views.now all.now parts) }
 {
-    let dims = match agreed_dims(ranks, all) {
-        Some(dims) => Some(copy_of(alloc, dims)?),
-        None => None,
-    };
-    topology(
-        alloc,
-        ranks,
-        views,
-        all,
-        cart_count(ranks, all, members),
-        dims,
-    )
+    if wrong_dims(ranks, all, members) {
+        return Ok(Outcome::Unsound);
+    }
+    match agreed_dims(ranks, all) {
+        None => topology(alloc, ranks, views, all, None, None),
+        Some(dims) => match grid_size(dims, members) {
+            None => Ok(Outcome::Unsound),
+            Some(size) => {
+                let sizes = copy_of(alloc, dims)?;
+                topology(alloc, ranks, views, all, Some(size), Some(sizes))
+            },
+        },
+    }
 }
 
 /// The communicator of a MPI_Graph_create.
@@ -379,16 +455,20 @@ pub(crate) fn graph_outcome(
     all: &[Option<Here>],
     members: u32,
 ) -> Result<Outcome, AllocError>
-    requires { length all.now < 2 ^ 32 }
+    requires few { length all.now < 2 ^ 32 }
+    requires members { members ≡ length all.now }
+    ensures { IfOk result (λ o. (parts : List Selection) → parts_in o ≡ Some parts → IsKnownGraph ranks.now views.now all.now parts ⊎ IsUnknownGrid ranks.now views.now all.now parts) }
 {
-    topology(
-        alloc,
-        ranks,
-        views,
-        all,
-        graph_count(ranks, all, members),
-        None,
-    )
+    if wrong_nodes(ranks, all, members) {
+        return Ok(Outcome::Unsound);
+    }
+    match agreed_nodes(ranks, all) {
+        None => topology(alloc, ranks, views, all, None, None),
+        Some(nodes) => match nodes_within(nodes, members) {
+            None => Ok(Outcome::Unsound),
+            Some(count) => topology(alloc, ranks, views, all, Some(count), None),
+        },
+    }
 }
 
 /// The communicator of a MPI_Dist_graph_create or MPI_Dist_graph_create_adjacent: without another order all members.
@@ -399,39 +479,15 @@ pub(crate) fn dist_graph_outcome(
     all: &[Option<Here>],
     members: u32,
 ) -> Result<Outcome, AllocError>
-    requires { length all.now < 2 ^ 32 }
+    requires few { length all.now < 2 ^ 32 }
+    requires members { members ≡ length all.now }
+    ensures { IfOk result (λ o. (parts : List Selection) → parts_in o ≡ Some parts → IsDistGraphMade ranks.now views.now all.now parts) }
 {
-    match reorder_in(ranks, all) {
+    match agreed_reorder(ranks, all) {
         None => Ok(Outcome::Unsound),
         Some(false) => first_part(alloc, members, None),
         Some(true) => reordered(alloc, views, all, None, None),
     }
-}
-
-fn remain_in(making: Option<&Making>) -> Option<&[bool]> {
-    match making? {
-        Making::CartSub {
-            remain: Some(remain),
-        } => Some(remain),
-        _ => None,
-    }
-}
-
-/// The dimensions that remain, where all calls say the same.
-fn agreed_remain<'a>(ranks: &'a [RankCalls], all: &[Option<Here>]) -> Option<&'a [bool]> {
-    let mut agreed: Option<&'a [bool]> = None;
-    for here in all {
-        if let Some(here) = here {
-            let remain = remain_in(making_at(ranks, here.rank, here.at))?;
-            if let Some(before) = agreed {
-                if before != remain {
-                    return None;
-                }
-            }
-            agreed = Some(remain);
-        }
-    }
-    agreed
 }
 
 /// The communicators of a MPI_Cart_sub.
@@ -441,12 +497,18 @@ pub(crate) fn cart_sub_outcome(
     parent: &Made,
     all: &[Option<Here>],
     members: u32,
-) -> Result<Outcome, AllocError> {
+) -> Result<Outcome, AllocError>
+    requires { members ≡ length all.now }
+    ensures { IfOk result (λ o. (parts : List Selection) → parts_in o ≡ Some parts → IsPartOfGrid ranks.now (option_map (λ v. v.items) parent.now.dims) all.now parts) }
+{
     let Some(dims) = &parent.dims else {
         return Ok(Outcome::Untold);
     };
     match agreed_remain(ranks, all) {
-        Some(remain) => grid_outcome(alloc, dims, remain, members),
+        Some(remain) => {
+            let outcome = grid_outcome(alloc, dims, remain, members)?;
+            Ok(outcome)
+        },
         None => Ok(Outcome::Unsound),
     }
 }

@@ -52,7 +52,7 @@ fn call_at(ranks: &[RankCalls], rank: u32, at: usize) -> Option<&CommCall>
 }
 
 /// What an action says of the communicators that it makes.
-fn making_of(action: &Action) -> Option<&Making>
+pub(crate) fn making_of(action: &Action) -> Option<&Making>
     ensures { option_copied result ≡ making_of action.now }
 {
     match action {

@@ -1,5 +1,14 @@
 //! What one making makes.
 
+ghost use Rattle.std.specs.Prelude.{◌≡◌, ◌||◌, ℕ, Bool, IfOk, IsTrue, List, Option, Some, false, option_map, slice_set, true};
+ghost use Rattle.std.specs.List.{list_any, slice_get};
+ghost use Rattle.comm_groups.specs.Groups.{has};
+ghost use Rattle.comm_makings.specs.Derives.{kth_calls};
+ghost use Rattle.comm_makings.specs.Here.{gives_unknown};
+ghost use Rattle.comm_makings.specs.Makes.{AreGiven, IsMadeBy, IsOneMaking, gives_so, is_covered, is_given_so};
+ghost use Rattle.comm_makings.specs.Selection.{Selection};
+ghost use Rattle.comm_makings.specs.State.{IsDerivedComm, IsDerivedOutcome, parts_in};
+
 use crate::answer::MadeBy;
 use crate::calls::RankCalls;
 use crate::creates::create_outcome;
@@ -14,6 +23,7 @@ use crate::state::{Made, dims_of};
 use crate::view::RankView;
 use std::alloc::{AllocError, Global};
 
+/// What the calls of a function make.
 fn outcome_of(
     alloc: Global,
     ranks: &[RankCalls],
@@ -23,7 +33,9 @@ fn outcome_of(
     parent: &Made,
     all: &[Option<Here>],
     function: MadeBy,
-) -> Result<Outcome, AllocError> {
+) -> Result<Outcome, AllocError>
+    ensures { IfOk result (λ o. (parts : List Selection) → parts_in o ≡ Some parts → IsMadeBy ranks.now views.now (option_map (λ v. v.items) parent.now.dims) all.now function parts) }
+{
     let Ok(members) = u32::try_from(all.len()) else {
         return Ok(Outcome::Unsound);
     };
@@ -39,31 +51,51 @@ fn outcome_of(
         MadeBy::DistGraphCreate | MadeBy::DistGraphCreateAdjacent => {
             dist_graph_outcome(alloc, ranks, views, all, members)
         },
-        MadeBy::CreateGroup => Ok(Outcome::Unsound),
-        MadeBy::Other => Ok(Outcome::Unsound),
+        MadeBy::CreateGroup | MadeBy::Other => Ok(Outcome::Unsound),
     }
 }
 
 /// Of each place whether it is in a communicator that is made.
-fn covered(alloc: Global, parts: &[Part], count: usize) -> Result<Vec<bool>, AllocError> {
+fn covered(alloc: Global, parts: &[Part], count: usize) -> Result<Vec<bool>, AllocError>
+    ensures { IfOk result (λ v. (k : ℕ) (b : Bool) → slice_get v.items k ≡ Some b → b ≡ is_covered parts.now k) }
+{
     let mut covered = vec![in alloc; false; count]?;
-    for part in parts {
-        cover(&mut covered, &part.places);
-    }
+    cover_all(&mut covered, parts);
     Ok(covered)
 }
 
-fn cover(covered: &mut [bool], places: &[u32]) {
+fn cover_all(covered: &mut Vec<bool>, parts: &[Part])
+    requires { (k : ℕ) (b : Bool) → slice_get covered.old.items k ≡ Some b → b ≡ false }
+    ensures { (k : ℕ) (b : Bool) → slice_get covered.new.items k ≡ Some b → b ≡ is_covered parts.now k }
+{
+    for part in parts {
+        cover(covered, &part.places);
+    }
+}
+
+fn mark(covered: &mut Vec<bool>, place: u32)
+    ensures { covered.new.items ≡ slice_set covered.old.items place true }
+{
+    let place = place as usize;
+    if place < covered.len() {
+        covered[place] = true;
+    }
+}
+
+#[tactic(auto, using(crate::proofs::Marks::marked))]
+fn cover(covered: &mut Vec<bool>, places: &[u32])
+    ensures { (k : ℕ) (b : Bool) → slice_get covered.new.items k ≡ Some b → (a : Bool) × (slice_get covered.old.items k ≡ Some a) × (b ≡ (a || has places.now k)) }
+{
     for place in places {
-        if let Some(here) = covered.get_mut(*place as usize) {
-            *here = true;
-        }
+        mark(covered, *place);
     }
 }
 
 /// Whether a call gives a communicator where it is in one that is made, and none where it isn't.
-fn agrees(here: Here, is_covered: bool, later: bool) -> bool {
-    match here.gives {
+fn gives_so(gives: Gives, is_covered: bool, later: bool) -> bool
+    ensures { result ≡ gives_so later is_covered gives }
+{
+    match gives {
         Gives::Nothing => true,
         Gives::Handle(_) => is_covered,
         Gives::Null => !is_covered || later,
@@ -72,38 +104,99 @@ fn agrees(here: Here, is_covered: bool, later: bool) -> bool {
     }
 }
 
-fn all_agree(all: &[Option<Here>], covered: &[bool], later: bool) -> bool {
-    for (here, is_covered) in all.iter().zip(covered.iter()) {
-        if let Some(here) = here {
-            if !agrees(*here, *is_covered, later) {
-                return false;
-            }
+fn is_given_so(here: Option<Here>, is_covered: bool, later: bool) -> bool
+    ensures { result ≡ is_given_so later is_covered here }
+{
+    match here {
+        Some(here) => gives_so(here.gives, is_covered, later),
+        None => true,
+    }
+}
+
+/// Whether the calls give so, where this says of each place whether it is in a communicator.
+fn all_given(all: &[Option<Here>], covered: &[bool], later: bool) -> bool
+    ensures { IsTrue result → (k : ℕ) (here : Option _) → slice_get all.now k ≡ Some here → (b : Bool) × (slice_get covered.now k ≡ Some b) × (is_given_so later b here ≡ true) }
+{
+    for (place, here) in all.iter().enumerate() {
+        match covered.get(place) {
+            Some(is_covered) => {
+                if !is_given_so(*here, *is_covered, later) {
+                    return false;
+                }
+            },
+            None => return false,
         }
     }
     true
 }
 
+/// Whether the calls give these communicators.
+pub(crate) fn are_given(
+    alloc: Global,
+    parts: &[Part],
+    all: &[Option<Here>],
+    later: bool,
+) -> Result<bool, AllocError>
+    ensures { IfOk result (λ given. IsTrue given → AreGiven later all.now parts.now) }
+{
+    let covered = covered(alloc, parts, all.len())?;
+    Ok(all_given(all, &covered, later))
+}
+
 /// The communicators, where the calls give what was made.
-pub(crate) fn checked(
+fn checked(
     alloc: Global,
     outcome: Outcome,
     all: &[Option<Here>],
     later: bool,
-) -> Result<Outcome, AllocError> {
+) -> Result<Outcome, AllocError>
+    ensures same { IfOk result (λ o. (parts : List Selection) → parts_in o ≡ Some parts → parts_in outcome ≡ Some parts) }
+    ensures given { IfOk result (λ o. (parts : List Selection) → parts_in o ≡ Some parts → AreGiven later all.now parts) }
+{
     match outcome {
         Outcome::Parts(parts) => {
-            let covered = covered(alloc, &parts, all.len())?;
-            if all_agree(all, &covered, later) {
+            if are_given(alloc, &parts, all, later)? {
                 Ok(Outcome::Parts(parts))
             } else {
                 Ok(Outcome::Unsound)
             }
         },
-        outcome => Ok(outcome),
+        Outcome::Untold => Ok(Outcome::Untold),
+        Outcome::Unsound => Ok(Outcome::Unsound),
+        Outcome::Waits => Ok(Outcome::Waits),
     }
 }
 
+/// What the calls make that are one making of this function.
+fn making_outcome(
+    alloc: Global,
+    ranks: &[RankCalls],
+    views: &[RankView],
+    values: &[Vec<GroupValue>],
+    comms: &[Made],
+    parent: &Made,
+    all: &[Option<Here>],
+    function: MadeBy,
+) -> Result<Outcome, AllocError>
+    requires parent { IsDerivedComm ranks.now views.now parent.now }
+    requires kth { (k : ℕ) × (all.now ≡ kth_calls ranks.now views.now k parent.now.members.items) }
+    requires one { IsOneMaking function all.now }
+    ensures { IfOk result (IsDerivedOutcome ranks.now views.now parent.now.members.items all.now) }
+{
+    let made = outcome_of(alloc, ranks, views, values, comms, parent, all, function)?;
+    let outcome = checked(alloc, made, all, gives_later(function))?;
+    Ok(outcome)
+}
+
+/// Whether it can be read what the calls give, unless that may come later.
+fn are_readable(all: &[Option<Here>], later: bool) -> bool
+    ensures { IsTrue result → later ≡ false → list_any gives_unknown all.now ≡ false }
+{
+    later || !some_unknown(all)
+}
+
 /// What the calls of the members make together.
+#[tactic(auto, using(crate::proofs::Derivations::nothing_derives, crate::proofs::Derivations::one_making))]
 pub(crate) fn outcome_in(
     alloc: Global,
     ranks: &[RankCalls],
@@ -112,18 +205,20 @@ pub(crate) fn outcome_in(
     comms: &[Made],
     parent: &Made,
     all: &[Option<Here>],
-) -> Result<Outcome, AllocError> {
+) -> Result<Outcome, AllocError>
+    requires parent { IsDerivedComm ranks.now views.now parent.now }
+    requires kth { (k : ℕ) × (all.now ≡ kth_calls ranks.now views.now k parent.now.members.items) }
+    ensures { IfOk result (IsDerivedOutcome ranks.now views.now parent.now.members.items all.now) }
+{
     let Some(first) = first_of(all) else {
         return Ok(Outcome::Untold);
     };
     let function = first.function;
-    let later = gives_later(function);
     if !have_function(all, function) {
         return Ok(Outcome::Unsound);
     }
-    if some_unknown(all) && !later {
+    if !are_readable(all, gives_later(function)) {
         return Ok(Outcome::Unsound);
     }
-    let outcome = outcome_of(alloc, ranks, views, values, comms, parent, all, function)?;
-    checked(alloc, outcome, all, later)
+    making_outcome(alloc, ranks, views, values, comms, parent, all, function)
 }

@@ -23,7 +23,7 @@ pub(crate) enum Outcome {
 }
 
 /// The places from 0 on.
-fn first_places(alloc: Global, count: u32) -> Result<Vec<u32>, AllocError>
+pub(crate) fn first_places(alloc: Global, count: u32) -> Result<Vec<u32>, AllocError>
     ensures { IfOk result (λ v. v.items ≡ range_with_len 0 count) }
 {
     let mut places = Vec::new(alloc);

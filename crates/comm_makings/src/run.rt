@@ -1,8 +1,10 @@
 //! From the world to all communicators that are made of it.
 
-ghost use Rattle.std.specs.Prelude.{◌≡◌, ◌<◌, ◌^◌, IfOk, length, map, option_map};
+ghost use Rattle.std.specs.Prelude.{◌≡◌, ◌∷◌, ◌<◌, ◌^◌, [], ℕ, IfOk, OnOk, length, map, option_map};
 ghost use Rattle.std.specs.List.{filter_map};
+ghost use Rattle.comm_makings.specs.Derives.{kth_calls, member_with, world_members};
 ghost use Rattle.comm_makings.specs.Made.{member_at};
+ghost use Rattle.comm_makings.specs.State.{AreDerived, AreMadeOf, IsDerivedComm, IsFirstComm, IsOfDerived};
 
 use crate::answer::Why;
 use crate::by_groups::{Found, Over, found_at};
@@ -13,15 +15,13 @@ use crate::here::{Here, all_kth, handle_of};
 use crate::outcomes::outcome_in;
 use crate::part::Part;
 use crate::parts::Outcome;
-use crate::state::{Made, Member, Order, Standing, dims_of};
-use crate::view::{RankView, view_of};
+use crate::state::{Made, Member, Order, Standing, comm_at, dims_of};
+use crate::view::RankView;
 use std::alloc::{AllocError, Global};
 
 /// What is derived so far.
 #[derive(Drop)]
-pub(crate) struct Run<'a> {
-    pub ranks: &'a [RankCalls],
-    pub views: Vec<RankView>,
+pub(crate) struct Run {
     /// Of each rank how its handles stand.
     pub standings: Vec<Vec<Standing>>,
     /// Of each rank what its calls give, where they give groups.
@@ -59,6 +59,23 @@ pub(crate) fn leave(standings: &mut Vec<Vec<Standing>>, all: &[Option<Here>], wh
             }
         }
     }
+}
+
+/// What these members make from the k-th making on is left out.
+fn leave_behind(
+    alloc: Global,
+    ranks: &[RankCalls],
+    views: &[RankView],
+    members: &[Member],
+    k: usize,
+    end: usize,
+    standings: &mut Vec<Vec<Standing>>,
+) -> Result<(), AllocError> {
+    for later in k..end {
+        let all = all_kth(alloc, ranks, views, members, later)?;
+        leave(standings, &all, Why::Behind);
+    }
+    Ok(())
 }
 
 /// The making call of the smallest of these members whose text has it.
@@ -117,7 +134,7 @@ fn ranks_of(alloc: Global, members: &[Member]) -> Result<Vec<u32>, AllocError>
 }
 
 /// The communicator of a part.
-fn made_of(
+pub(crate) fn made_of(
     alloc: Global,
     members: &[Member],
     all: &[Option<Here>],
@@ -186,13 +203,20 @@ fn refresh(
     Ok(())
 }
 
-impl Run<'_> {
+impl Run {
     /// The groups of all ranks that become known.
-    pub(crate) fn refresh(&mut self, alloc: Global) -> Result<(), AllocError> {
+    pub(crate) fn refresh(
+        &mut self,
+        alloc: Global,
+        ranks: &[RankCalls],
+        views: &[RankView],
+    ) -> Result<(), AllocError>
+        ensures { self.new.comms ≡ self.old.comms }
+    {
         for (at, values) in self.values.iter_mut().enumerate() {
             if let (Some(rank), Some(view), Some(standings)) = (
-                self.ranks.get(at),
-                self.views.get(at),
+                ranks.get(at),
+                views.get(at),
                 self.standings.get(at),
             ) {
                 refresh(
@@ -209,10 +233,31 @@ impl Run<'_> {
     }
 
     /// Adds communicators. Their members' handles name them.
-    pub(crate) fn add(&mut self, alloc: Global, made: Vec<Made>) -> Result<(), AllocError> {
-        for comm in made {
-            bind(&mut self.standings, &comm, self.comms.len());
-            self.comms.push(comm)?;
+    #[tactic(auto, using(crate::proofs::Derivations::derived_join))]
+    pub(crate) fn add(
+        &mut self,
+        alloc: Global,
+        ranks: &[RankCalls],
+        views: &[RankView],
+        made: Vec<Made>,
+    ) -> Result<(), AllocError>
+        requires comms { AreDerived ranks.now views.now self.old.comms.items }
+        requires made { AreDerived ranks.now views.now made.items }
+        ensures { OnOk result (AreDerived ranks.now views.now self.new.comms.items) }
+    {
+        let mut made = made;
+        self.name(alloc, &made)?;
+        self.comms.append(&mut made)?;
+        Ok(())
+    }
+
+    /// The handles of the members of communicators that are added name them.
+    fn name(&mut self, alloc: Global, made: &[Made]) -> Result<(), AllocError>
+        ensures { self.new.comms ≡ self.old.comms }
+    {
+        let known = self.comms.len();
+        for (at, comm) in made.iter().enumerate() {
+            bind(&mut self.standings, comm, known.saturating_add(at));
             self.next.push(0)?;
             self.over.push(Vec::new(alloc))?;
         }
@@ -220,31 +265,33 @@ impl Run<'_> {
     }
 
     /// Reads the k-th making of a communicator.
-    fn step(&mut self, alloc: Global, at: usize, k: usize, last: bool) -> Result<Step, AllocError> {
-        let Some(parent) = self.comms.get(at) else {
+    #[tactic(auto, using(crate::proofs::Derivations::derived_at))]
+    fn step(
+        &mut self,
+        alloc: Global,
+        ranks: &[RankCalls],
+        views: &[RankView],
+        at: usize,
+        k: usize,
+        last: bool,
+    ) -> Result<Step, AllocError>
+        requires { AreDerived ranks.now views.now self.old.comms.items }
+        ensures { OnOk result (AreDerived ranks.now views.now self.new.comms.items) }
+    {
+        let Some(parent) = comm_at(&self.comms, at) else {
             return Ok(Step::Over);
         };
-        let all = all_kth(alloc, self.ranks, &self.views, &parent.members, k)?;
-        match outcome_in(
-            alloc,
-            self.ranks,
-            &self.views,
-            &self.values,
-            &self.comms,
-            parent,
-            &all,
-        )? {
-            Outcome::Parts(parts) => {
-                let made = all_made(alloc, &parent.members, &all, &parts)?;
-                drop(all);
-                self.add(alloc, made)?;
+        let all = all_kth(alloc, ranks, views, &parent.members, k)?;
+        match made_in(alloc, ranks, views, &self.values, &self.comms, parent, &all)? {
+            Gained::Comms(made) => {
+                self.add(alloc, ranks, views, made)?;
                 Ok(Step::Read)
             },
-            Outcome::Untold => {
+            Gained::Untold => {
                 leave(&mut self.standings, &all, Why::Untold);
                 Ok(Step::Read)
             },
-            Outcome::Waits if !last => Ok(Step::Waits),
+            Gained::Waits if !last => Ok(Step::Waits),
             _ => {
                 leave(&mut self.standings, &all, Why::Unsound);
                 Ok(Step::Over)
@@ -256,21 +303,31 @@ impl Run<'_> {
     fn leave_from(
         &mut self,
         alloc: Global,
+        ranks: &[RankCalls],
+        views: &[RankView],
         at: usize,
         k: usize,
         end: usize,
-    ) -> Result<(), AllocError> {
-        let Some(parent) = self.comms.get(at) else {
+    ) -> Result<(), AllocError>
+        ensures { self.new.comms ≡ self.old.comms }
+    {
+        let Some(parent) = comm_at(&self.comms, at) else {
             return Ok(());
         };
-        for later in k..end {
-            let all = all_kth(alloc, self.ranks, &self.views, &parent.members, later)?;
-            leave(&mut self.standings, &all, Why::Behind);
-        }
-        Ok(())
+        leave_behind(
+            alloc,
+            ranks,
+            views,
+            &parent.members,
+            k,
+            end,
+            &mut self.standings,
+        )
     }
 
-    fn note(&mut self, at: usize, next: usize) {
+    fn note(&mut self, at: usize, next: usize)
+        ensures { self.new.comms ≡ self.old.comms }
+    {
         self.read = self.read.saturating_add(1);
         if let Some(before) = self.next.get_mut(at) {
             *before = next;
@@ -278,9 +335,9 @@ impl Run<'_> {
     }
 
     /// The first making of a communicator that is not read, and one behind the last.
-    fn unread(&self, at: usize) -> (usize, usize) {
+    fn unread(&self, views: &[RankView], at: usize) -> (usize, usize) {
         match (self.next.get(at), self.comms.get(at)) {
-            (Some(next), Some(comm)) => (*next, longest(&self.views, comm)),
+            (Some(next), Some(comm)) => (*next, longest(views, comm)),
             _ => (0, 0),
         }
     }
@@ -289,16 +346,21 @@ impl Run<'_> {
     pub(crate) fn advance(
         &mut self,
         alloc: Global,
+        ranks: &[RankCalls],
+        views: &[RankView],
         at: usize,
         last: bool,
-    ) -> Result<bool, AllocError> {
-        let (first, end) = self.unread(at);
+    ) -> Result<bool, AllocError>
+        requires { AreDerived ranks.now views.now self.old.comms.items }
+        ensures { OnOk result (AreDerived ranks.now views.now self.new.comms.items) }
+    {
+        let (first, end) = self.unread(views, at);
         for k in first..end {
-            match self.step(alloc, at, k, last)? {
+            match self.step(alloc, ranks, views, at, k, last)? {
                 Step::Waits => return Ok(true),
                 Step::Read => self.note(at, k + 1),
                 Step::Over => {
-                    self.leave_from(alloc, at, k + 1, end)?;
+                    self.leave_from(alloc, ranks, views, at, k + 1, end)?;
                     self.note(at, end);
                     return Ok(false);
                 },
@@ -307,8 +369,48 @@ impl Run<'_> {
         Ok(false)
     }
 
+    /// Notes which calls of MPI_Comm_create_group are read, and what they leave out.
+    fn note_calls(
+        &mut self,
+        at: usize,
+        read: &[(u32, usize)],
+        left: &[(u32, usize)],
+        over: Vec<Over>,
+    ) -> Result<(), AllocError>
+        ensures { self.new.comms ≡ self.old.comms }
+    {
+        self.read = self.read.saturating_add(read.len() as u64);
+        for (rank, call) in read {
+            mark(&mut self.taken, *rank, *call);
+        }
+        for (rank, handle) in left {
+            set(
+                &mut self.standings,
+                *rank,
+                *handle,
+                Standing::Left(Why::Unsound),
+            );
+        }
+        let mut over = over;
+        if let Some(before) = self.over.get_mut(at) {
+            before.append(&mut over)?;
+        }
+        Ok(())
+    }
+
     /// Takes what was found in the calls of MPI_Comm_create_group on a communicator.
-    fn take(&mut self, alloc: Global, at: usize, found: Found) -> Result<(), AllocError> {
+    fn take(
+        &mut self,
+        alloc: Global,
+        ranks: &[RankCalls],
+        views: &[RankView],
+        at: usize,
+        found: Found,
+    ) -> Result<(), AllocError>
+        requires comms { AreDerived ranks.now views.now self.old.comms.items }
+        requires found { AreDerived ranks.now views.now found.made.items }
+        ensures { OnOk result (AreDerived ranks.now views.now self.new.comms.items) }
+    {
         let Found {
             made,
             over,
@@ -316,31 +418,25 @@ impl Run<'_> {
             left,
             ..
         } = found;
-        for (rank, call) in read {
-            self.read = self.read.saturating_add(1);
-            mark(&mut self.taken, rank, call);
-        }
-        for (rank, handle) in left {
-            set(
-                &mut self.standings,
-                rank,
-                handle,
-                Standing::Left(Why::Unsound),
-            );
-        }
-        if let Some(before) = self.over.get_mut(at) {
-            for key in over {
-                before.push(key)?;
-            }
-        }
-        self.add(alloc, made)
+        self.note_calls(at, &read, &left, over)?;
+        self.add(alloc, ranks, views, made)
     }
 
     /// Reads the calls of MPI_Comm_create_group on a communicator, as far as they don't wait. Says whether one does.
-    fn advance_groups(&mut self, alloc: Global, at: usize, last: bool) -> Result<bool, AllocError> {
-        let found = found_at(alloc, self, at, last)?;
+    fn advance_groups(
+        &mut self,
+        alloc: Global,
+        ranks: &[RankCalls],
+        views: &[RankView],
+        at: usize,
+        last: bool,
+    ) -> Result<bool, AllocError>
+        requires { AreDerived ranks.now views.now self.old.comms.items }
+        ensures { OnOk result (AreDerived ranks.now views.now self.new.comms.items) }
+    {
+        let found = found_at(alloc, ranks, views, self, at, last)?;
         let waits = found.waits;
-        self.take(alloc, at, found)?;
+        self.take(alloc, ranks, views, at, found)?;
         Ok(waits)
     }
 
@@ -348,13 +444,18 @@ impl Run<'_> {
     fn advance_all(
         &mut self,
         alloc: Global,
+        ranks: &[RankCalls],
+        views: &[RankView],
         todo: &[usize],
         last: bool,
-    ) -> Result<Vec<usize>, AllocError> {
+    ) -> Result<Vec<usize>, AllocError>
+        requires { AreDerived ranks.now views.now self.old.comms.items }
+        ensures { OnOk result (AreDerived ranks.now views.now self.new.comms.items) }
+    {
         let mut waiting = Vec::new(alloc);
         for at in todo {
-            let waits = self.advance(alloc, *at, last)?;
-            let groups_wait = self.advance_groups(alloc, *at, last)?;
+            let waits = self.advance(alloc, ranks, views, *at, last)?;
+            let groups_wait = self.advance_groups(alloc, ranks, views, *at, last)?;
             if waits || groups_wait {
                 waiting.push(*at)?;
             }
@@ -366,12 +467,17 @@ impl Run<'_> {
     fn round(
         &mut self,
         alloc: Global,
+        ranks: &[RankCalls],
+        views: &[RankView],
         todo: &[usize],
         last: bool,
-    ) -> Result<Vec<usize>, AllocError> {
-        self.refresh(alloc)?;
+    ) -> Result<Vec<usize>, AllocError>
+        requires { AreDerived ranks.now views.now self.old.comms.items }
+        ensures { OnOk result (AreDerived ranks.now views.now self.new.comms.items) }
+    {
+        self.refresh(alloc, ranks, views)?;
         let known = self.comms.len();
-        let mut next = self.advance_all(alloc, todo, last)?;
+        let mut next = self.advance_all(alloc, ranks, views, todo, last)?;
         for at in known..self.comms.len() {
             next.push(at)?;
         }
@@ -406,8 +512,10 @@ fn first_values(alloc: Global, calls: &[CommCall]) -> Result<Vec<GroupValue>, Al
     Ok(values)
 }
 
-/// The world: each rank has it as its first handle.
-fn world_of(alloc: Global, ranks: u32) -> Result<Made, AllocError> {
+/// Each rank has the world as its first handle.
+fn world_members(alloc: Global, ranks: u32) -> Result<Vec<Member>, AllocError>
+    ensures { IfOk result (λ v. v.items ≡ world_members ranks) }
+{
     let mut members = Vec::new(alloc);
     for rank in 0..ranks {
         members.push(Member {
@@ -415,6 +523,14 @@ fn world_of(alloc: Global, ranks: u32) -> Result<Made, AllocError> {
             handle: Some(0),
         })?;
     }
+    Ok(members)
+}
+
+/// The world.
+fn world_of(alloc: Global, ranks: u32) -> Result<Made, AllocError>
+    ensures { IfOk result (IsFirstComm (world_members ranks)) }
+{
+    let members = world_members(alloc, ranks)?;
     Ok(Made {
         ranks: ranks_of(alloc, &members)?,
         members,
@@ -428,7 +544,9 @@ fn world_of(alloc: Global, ranks: u32) -> Result<Made, AllocError> {
 }
 
 /// MPI_COMM_SELF of a rank, its second handle.
-fn own_of(alloc: Global, rank: u32) -> Result<Made, AllocError> {
+fn own_of(alloc: Global, rank: u32) -> Result<Made, AllocError>
+    ensures { IfOk result (IsFirstComm (member_with 1 rank ∷ [])) }
+{
     Ok(Made {
         members: vec![in alloc;
             Member {
@@ -447,8 +565,13 @@ fn own_of(alloc: Global, rank: u32) -> Result<Made, AllocError> {
 }
 
 /// The world, and MPI_COMM_SELF of each rank that tells its number.
-fn first_comms(alloc: Global, ranks: &[RankCalls]) -> Result<Vec<Made>, AllocError>
+fn first_comms(
+    alloc: Global,
+    ranks: &[RankCalls],
+    views: &[RankView],
+) -> Result<Vec<Made>, AllocError>
     requires { length ranks.now < 2 ^ 32 }
+    ensures { IfOk result (λ comms. AreDerived ranks.now views.now comms.items) }
 {
     let mut comms = Vec::new(alloc);
     comms.push(world_of(alloc, ranks.len() as u32)?)?;
@@ -457,7 +580,7 @@ fn first_comms(alloc: Global, ranks: &[RankCalls]) -> Result<Vec<Made>, AllocErr
         if calls.own.is_some() {
             comms.push(own_of(alloc, rank)?)?;
         }
-        rank = rank.saturating_add(1);
+        rank += 1;
     }
     Ok(comms)
 }
@@ -485,12 +608,22 @@ fn first_standings(
     Ok(standings)
 }
 
-fn start<'a>(alloc: Global, world: u32, ranks: &'a [RankCalls]) -> Result<Run<'a>, AllocError>
-    requires { length ranks.now < 2 ^ 32 }
+/// A rank before anything is derived.
+fn begin(alloc: Global, calls: &RankCalls, view: &RankView, run: &mut Run) -> Result<(), AllocError>
+    ensures { run.new.comms ≡ run.old.comms }
+{
+    run.standings
+        .push(first_standings(alloc, &calls.calls, view)?)?;
+    run.values.push(first_values(alloc, &calls.calls)?)?;
+    run.taken.push(vec![in alloc; false; calls.calls.len()]?)?;
+    Ok(())
+}
+
+/// All ranks before anything is derived.
+fn begin_all(alloc: Global, ranks: &[RankCalls], views: &[RankView]) -> Result<Run, AllocError>
+    ensures { IfOk result (λ run. run.comms.items ≡ []) }
 {
     let mut run = Run {
-        ranks,
-        views: Vec::new(alloc),
         standings: Vec::new(alloc),
         values: Vec::new(alloc),
         comms: Vec::new(alloc),
@@ -499,15 +632,20 @@ fn start<'a>(alloc: Global, world: u32, ranks: &'a [RankCalls]) -> Result<Run<'a
         over: Vec::new(alloc),
         read: 0,
     };
-    for rank in ranks {
-        let view = view_of(alloc, world, rank)?;
-        run.standings
-            .push(first_standings(alloc, &rank.calls, &view)?)?;
-        run.values.push(first_values(alloc, &rank.calls)?)?;
-        run.taken.push(vec![in alloc; false; rank.calls.len()]?)?;
-        run.views.push(view)?;
+    for (calls, view) in ranks.iter().zip(views.iter()) {
+        begin(alloc, calls, view, &mut run)?;
     }
-    run.add(alloc, first_comms(alloc, ranks)?)?;
+    Ok(run)
+}
+
+/// The world and MPI_COMM_SELF are derived.
+#[tactic(auto, using(crate::proofs::Derivations::derived_none))]
+fn start(alloc: Global, ranks: &[RankCalls], views: &[RankView]) -> Result<Run, AllocError>
+    requires { length ranks.now < 2 ^ 32 }
+    ensures { IfOk result (λ run. AreDerived ranks.now views.now run.comms.items) }
+{
+    let mut run = begin_all(alloc, ranks, views)?;
+    run.add(alloc, ranks, views, first_comms(alloc, ranks, views)?)?;
     Ok(run)
 }
 
@@ -521,14 +659,15 @@ fn call_count(ranks: &[RankCalls]) -> usize {
 }
 
 /// Derives all that can be: each round but the last two reads some call.
-pub(crate) fn run_of<'a>(
+pub(crate) fn run_of(
     alloc: Global,
-    world: u32,
-    ranks: &'a [RankCalls],
-) -> Result<Run<'a>, AllocError>
+    ranks: &[RankCalls],
+    views: &[RankView],
+) -> Result<Run, AllocError>
     requires { length ranks.now < 2 ^ 32 }
+    ensures { IfOk result (λ run. AreDerived ranks.now views.now run.comms.items) }
 {
-    let mut run = start(alloc, world, ranks)?;
+    let mut run = start(alloc, ranks, views)?;
     let mut todo = Vec::new(alloc);
     for at in 0..run.comms.len() {
         todo.push(at)?;
@@ -536,7 +675,7 @@ pub(crate) fn run_of<'a>(
     let mut last = false;
     for _ in 0..call_count(ranks).saturating_add(2) {
         let read = run.read;
-        todo = run.round(alloc, &todo, last)?;
+        todo = run.round(alloc, ranks, views, &todo, last)?;
         if run.read == read {
             if last {
                 return Ok(run);
@@ -556,15 +695,50 @@ enum Step {
 }
 
 /// The communicators of the parts.
-pub(crate) fn all_made(
+#[tactic(auto, using(crate::proofs::Derivations::made_none, crate::proofs::Derivations::made_more))]
+fn all_made(
     alloc: Global,
     members: &[Member],
     all: &[Option<Here>],
     parts: &[Part],
-) -> Result<Vec<Made>, AllocError> {
+) -> Result<Vec<Made>, AllocError>
+    ensures { IfOk result (λ made. AreMadeOf members.now all.now parts.now made.items) }
+{
     let mut made = Vec::new(alloc);
     for part in parts {
         made.push(made_of(alloc, members, all, part)?)?;
     }
     Ok(made)
+}
+
+/// What the calls of a making give.
+#[derive(Drop)]
+enum Gained {
+    Comms(Vec<Made>),
+    Untold,
+    Unsound,
+    Waits,
+}
+
+/// The communicators that the k-th calls of a parent's members make.
+#[tactic(auto, using(crate::proofs::Derivations::outcome_derives))]
+fn made_in(
+    alloc: Global,
+    ranks: &[RankCalls],
+    views: &[RankView],
+    values: &[Vec<GroupValue>],
+    comms: &[Made],
+    parent: &Made,
+    all: &[Option<Here>],
+) -> Result<Gained, AllocError>
+    requires parent { IsDerivedComm ranks.now views.now parent.now }
+    requires kth { (k : ℕ) × (all.now ≡ kth_calls ranks.now views.now k parent.now.members.items) }
+    ensures { IfOk result (IsOfDerived ranks.now views.now) }
+{
+    match outcome_in(alloc, ranks, views, values, comms, parent, all)? {
+        Outcome::Parts(parts) => Ok(Gained::Comms(all_made(alloc, &parent.members, all, &parts)?)),
+        Outcome::Untold => Ok(Gained::Untold),
+        Outcome::Unsound => Ok(Gained::Unsound),
+        Outcome::Waits => Ok(Gained::Waits),
+    }
 }

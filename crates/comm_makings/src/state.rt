@@ -1,6 +1,8 @@
 //! What is derived so far.
 
 ghost use Rattle.std.specs.Prelude.{◌≡◌, IfOk, option_map};
+ghost use Rattle.std.specs.List.{slice_get};
+ghost use Rattle.std.specs.Option.{option_copied};
 
 use crate::answer::Why;
 use std::alloc::{AllocError, Global};
@@ -43,6 +45,13 @@ pub(crate) struct Made {
     /// The sizes of its dimensions, where it is a grid and they are known.
     pub dims: Option<Vec<u32>>,
     pub order: Order,
+}
+
+/// The communicator at this place.
+pub(crate) fn comm_at(comms: &[Made], place: usize) -> Option<&Made>
+    ensures { option_copied result ≡ slice_get comms.now place }
+{
+    comms.get(place)
 }
 
 /// A copy of the list.

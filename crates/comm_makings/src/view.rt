@@ -1,10 +1,13 @@
 //! What each rank called on each of its communicators.
 
-ghost use Rattle.std.specs.Prelude.{◌≡◌, IfOk};
-ghost use Rattle.comm_makings.specs.Naming.{handles_of, meant_of};
+ghost use Rattle.std.specs.Prelude.{◌≡◌, ◌==◌, ◌++◌, [], ℕ, IfOk, List, OnOk, Option, Some, length, option_map};
+ghost use Rattle.std.specs.List.{slice_get};
+ghost use Rattle.std.specs.Option.{option_and_then};
+ghost use Rattle.comm_makings.specs.Views.{AreViews, IsView, first_told_on, is_by_group, is_kind, makings_on, place_if, rank_told, told_now};
 
 use crate::calls::{Action, CommCall, Making, RankCalls};
 use crate::handle::{Handle, Meant};
+use crate::here::making_of;
 use crate::names::names_of;
 use std::alloc::{AllocError, Global};
 
@@ -25,7 +28,9 @@ pub(crate) struct RankView {
 }
 
 /// An empty list for each of this many handles.
-fn lists(alloc: Global, count: usize) -> Result<Vec<Vec<usize>>, AllocError> {
+fn lists(alloc: Global, count: usize) -> Result<Vec<Vec<usize>>, AllocError>
+    ensures { IfOk result (λ lists. (handle : ℕ) (list : List ℕ) → option_map (λ l. l.items) (slice_get lists.items handle) ≡ Some list → list ≡ []) }
+{
     let mut lists = Vec::new(alloc);
     for _ in 0..count {
         lists.push(Vec::new(alloc))?;
@@ -33,9 +38,11 @@ fn lists(alloc: Global, count: usize) -> Result<Vec<Vec<usize>>, AllocError> {
     Ok(lists)
 }
 
-fn add_to(lists: &mut Vec<Vec<usize>>, at: usize, call: usize) -> Result<(), AllocError> {
-    if let Some(list) = lists.get_mut(at) {
-        list.push(call)?;
+fn add_to(lists: &mut Vec<Vec<usize>>, at: usize, call: usize) -> Result<(), AllocError>
+    ensures { OnOk result ((handle : ℕ) (list : List ℕ) → option_map (λ l. l.items) (slice_get lists.new.items handle) ≡ Some list → (before : List ℕ) × (option_map (λ l. l.items) (slice_get lists.old.items handle) ≡ Some before) × (list ≡ before ++ place_if (at == handle) call [])) }
+{
+    if at < lists.len() {
+        lists[at].push(call)?;
     }
     Ok(())
 }
@@ -52,54 +59,106 @@ fn end_of(calls: &[CommCall], meant: &[Meant]) -> usize {
     calls.len()
 }
 
+fn is_by_group(making: &Making) -> bool
+    ensures { result ≡ is_by_group making.now }
+{
+    match making {
+        Making::CreateGroup { .. } => true,
+        Making::Dup
+        | Making::DupWithInfo
+        | Making::Idup
+        | Making::IdupWithInfo
+        | Making::Split { .. }
+        | Making::Create { .. }
+        | Making::CartCreate { .. }
+        | Making::CartSub { .. }
+        | Making::GraphCreate { .. }
+        | Making::DistGraphCreate { .. }
+        | Making::DistGraphCreateAdjacent { .. } => false,
+    }
+}
+
+fn is_kind(by_group: bool, making: &Making) -> bool
+    ensures { result ≡ is_kind by_group making.now }
+{
+    if by_group {
+        is_by_group(making)
+    } else {
+        !is_by_group(making)
+    }
+}
+
+fn comm_at(meant: &[Meant], at: usize) -> Option<usize>
+    ensures { result ≡ option_and_then (λ m. m.comm) (slice_get meant.now at) }
+{
+    meant.get(at)?.comm
+}
+
+/// Of each handle the calls that make communicators of it: by groups, or by all its members.
 fn makings_by(
     alloc: Global,
     calls: &[CommCall],
     meant: &[Meant],
     count: usize,
-) -> Result<(Vec<Vec<usize>>, Vec<Vec<usize>>), AllocError> {
-    let mut makings = lists(alloc, count)?;
-    let mut by_group = lists(alloc, count)?;
-    for (at, (call, meant)) in calls.iter().zip(meant.iter()).enumerate() {
-        if let Action::Make { making, .. } = &call.action {
-            match meant.comm {
-                None => return Ok((makings, by_group)),
-                Some(parent) => match making {
-                    Making::CreateGroup { .. } => add_to(&mut by_group, parent, at)?,
-                    _ => add_to(&mut makings, parent, at)?,
+    by_group: bool,
+) -> Result<Vec<Vec<usize>>, AllocError>
+    ensures { IfOk result (λ lists. (handle : ℕ) (list : List ℕ) → option_map (λ l. l.items) (slice_get lists.items handle) ≡ Some list → list ≡ makings_on by_group handle 0 calls.now meant.now) }
+{
+    let mut lists = lists(alloc, count)?;
+    for (at, call) in calls.iter().enumerate() {
+        if let Some(making) = making_of(&call.action) {
+            match comm_at(meant, at) {
+                None => return Ok(lists),
+                Some(parent) => {
+                    if is_kind(by_group, making) {
+                        add_to(&mut lists, parent, at)?;
+                    }
                 },
             }
         }
     }
-    Ok((makings, by_group))
+    Ok(lists)
 }
 
-/// The rank that a call tells of a handle.
-fn told_by(call: &CommCall, meant: &Meant) -> Option<(usize, u32)> {
+/// The rank that a call of MPI_Comm_rank tells.
+fn rank_told(call: &CommCall) -> Option<u32>
+    ensures { result ≡ rank_told call.now.returned call.now.action }
+{
+    if !call.returned {
+        return None;
+    }
     match &call.action {
-        Action::CommRank { rank, .. } => {
-            if !call.returned {
-                return None;
-            }
-            Some((meant.comm?, (*rank)?))
-        },
-        _ => None,
+        Action::CommRank { rank, .. } => *rank,
+        Action::Make { .. }
+        | Action::Free { .. }
+        | Action::Group { .. }
+        | Action::GivesComm { .. } => None,
     }
 }
 
+/// Notes the rank that is told on a handle, unless one was told before.
+fn note_told(told: &mut Vec<Option<u32>>, handle: usize, rank: u32)
+    ensures { (h : ℕ) (now : Option ℕ) → slice_get told.new.items h ≡ Some now → (before : Option ℕ) × (slice_get told.old.items h ≡ Some before) × (now ≡ told_now (handle == h) rank before) }
+{
+    if handle < told.len() && told[handle].is_none() {
+        told[handle] = Some(rank);
+    }
+}
+
+/// What MPI_Comm_rank first tells on each handle.
 fn told_on(
     alloc: Global,
     calls: &[CommCall],
     meant: &[Meant],
     count: usize,
-) -> Result<Vec<Option<u32>>, AllocError> {
+) -> Result<Vec<Option<u32>>, AllocError>
+    ensures { IfOk result (λ told. (handle : ℕ) (rank : Option ℕ) → slice_get told.items handle ≡ Some rank → rank ≡ first_told_on handle calls.now meant.now) }
+{
     let mut told = vec![in alloc; None; count]?;
-    for (call, meant) in calls.iter().zip(meant.iter()) {
-        if let Some((handle, rank)) = told_by(call, meant) {
-            if let Some(first) = told.get_mut(handle) {
-                if first.is_none() {
-                    *first = Some(rank);
-                }
+    for (at, call) in calls.iter().enumerate() {
+        if let Some(rank) = rank_told(call) {
+            if let Some(handle) = comm_at(meant, at) {
+                note_told(&mut told, handle, rank);
             }
         }
     }
@@ -108,12 +167,12 @@ fn told_on(
 
 /// What a rank called.
 pub(crate) fn view_of(alloc: Global, world: u32, rank: &RankCalls) -> Result<RankView, AllocError>
-    ensures handles { IfOk result (λ v. v.handles.items ≡ handles_of world rank.now.own rank.now.calls.items) }
-    ensures meant { IfOk result (λ v. v.meant.items ≡ meant_of world rank.now.own rank.now.calls.items) }
+    ensures { IfOk result (IsView world rank.now) }
 {
     let (handles, meant) = names_of(alloc, world, rank)?;
     let count = handles.len();
-    let (makings, by_group) = makings_by(alloc, &rank.calls, &meant, count)?;
+    let makings = makings_by(alloc, &rank.calls, &meant, count, false)?;
+    let by_group = makings_by(alloc, &rank.calls, &meant, count, true)?;
     let told = told_on(alloc, &rank.calls, &meant, count)?;
     let end = end_of(&rank.calls, &meant);
     Ok(RankView {
@@ -124,4 +183,20 @@ pub(crate) fn view_of(alloc: Global, world: u32, rank: &RankCalls) -> Result<Ran
         told,
         end,
     })
+}
+
+/// What each rank called.
+#[tactic(auto, using(crate::proofs::ViewSteps::views_none, crate::proofs::ViewSteps::views_all))]
+pub(crate) fn views_of(
+    alloc: Global,
+    world: u32,
+    ranks: &[RankCalls],
+) -> Result<Vec<RankView>, AllocError>
+    ensures { IfOk result (λ views. AreViews world ranks.now views.items) }
+{
+    let mut views = Vec::new(alloc);
+    for rank in ranks {
+        views.push(view_of(alloc, world, rank)?)?;
+    }
+    Ok(views)
 }

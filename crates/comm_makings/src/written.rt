@@ -1,11 +1,12 @@
 //! The communicators as a layout has them: which are written, their ids, and by which numbers their members name them.
 
-ghost use Rattle.std.specs.Prelude.{◌≡◌, IfOk, map};
-ghost use Rattle.comm_makings.specs.Written.{entry_of, handle_at, is_only, stretch_of};
+ghost use Rattle.std.specs.Prelude.{◌≡◌, All, IfOk, IfSome, map};
+ghost use Rattle.comm_makings.specs.Written.{AreWrittenOf, IsNamedOnly, IsWorld, IsWritten, IsWrittenOf, entry_of, handle_at, is_only, only_number, stretch_of};
 
 use crate::handle::Handle;
 use crate::names::always;
-use crate::state::{Made, Member, copy_of};
+use crate::parts::first_places;
+use crate::state::{Made, Member, Order, comm_at, copy_of};
 use crate::uses::HandleUses;
 use crate::view::RankView;
 use indexmap::IndexMap;
@@ -61,15 +62,29 @@ fn is_named(uses: &[HandleUses], comm: &Made) -> bool {
     false
 }
 
+/// A communicator, by its place among all, in the order of a layout.
+#[derive(Clone, Copy, Debug, PartialEq, Eq, PartialOrd, Ord)]
+struct Named {
+    order: Order,
+    place: usize,
+}
+
 /// The communicators that are named, but for the world, in their order.
-fn named(alloc: Global, uses: &[HandleUses], comms: Vec<Made>) -> Result<Vec<Made>, AllocError> {
+fn named_comms(
+    alloc: Global,
+    uses: &[HandleUses],
+    comms: &[Made],
+) -> Result<Vec<Named>, AllocError> {
     let mut named = Vec::new(alloc);
-    for comm in comms {
-        if comm.order.class > 0 && is_named(uses, &comm) {
-            named.push(comm)?;
+    for (place, comm) in comms.iter().enumerate() {
+        if comm.order.class > 0 && is_named(uses, comm) {
+            named.push(Named {
+                order: comm.order,
+                place,
+            })?;
         }
     }
-    named.sort_by_key(|comm| comm.order)?;
+    named.sort()?;
     Ok(named)
 }
 
@@ -112,33 +127,43 @@ fn owners_of(
     alloc: Global,
     views: &[RankView],
     comms: &[Made],
+    named: &[Named],
 ) -> Result<IndexMap<u32, Owner>, AllocError> {
     let mut owners = IndexMap::new(alloc);
-    for (at, comm) in comms.iter().enumerate() {
-        note_owners(&mut owners, views, at, comm)?;
+    for named in named {
+        if let Some(comm) = comms.get(named.place) {
+            note_owners(&mut owners, views, named.place, comm)?;
+        }
     }
     Ok(owners)
 }
 
 /// The number by which all members name the communicator, and nothing else.
-fn common_number(views: &[RankView], uses: &[HandleUses], comm: &Made) -> Option<u32> {
-    let mut common = None;
-    for member in &comm.members {
-        let handle = member.handle?;
-        if !is_only(uses, member.rank, handle) {
-            return None;
-        }
-        let number = handle_at(views, member.rank, handle)?.number;
-        match common {
-            None => common = Some(number),
-            Some(before) => {
-                if before != number {
-                    return None;
-                }
-            },
-        }
+fn common_number(views: &[RankView], uses: &[HandleUses], members: &[Member]) -> Option<u32>
+    ensures { IfSome result (λ number. All (IsNamedOnly views.now uses.now number) members.now) }
+{
+    let number = only_number(views, uses, *members.first()?)?;
+    if members
+        .iter()
+        .all(|member| only_number(views, uses, *member) == Some(number))
+    {
+        Some(number)
+    } else {
+        None
     }
-    common
+}
+
+/// The number by which a member names the communicator, where it names nothing else.
+fn only_number(views: &[RankView], uses: &[HandleUses], member: Member) -> Option<u32>
+    ensures { result ≡ only_number views.now uses.now member }
+{
+    let handle = member.handle?;
+    let stretch = handle_at(views, member.rank, handle)?;
+    if is_only(uses, member.rank, handle) {
+        Some(stretch.number)
+    } else {
+        None
+    }
 }
 
 /// The number over all calls where it names nothing else, and else over the handle's stretch.
@@ -200,9 +225,11 @@ fn id_of(
     uses: &[HandleUses],
     owners: &IndexMap<u32, Owner>,
     at: usize,
-    comm: &Made,
-) -> Option<u32> {
-    let number = common_number(views, uses, comm)?;
+    members: &[Member],
+) -> Option<u32>
+    ensures { IfSome result (λ number. All (IsNamedOnly views.now uses.now number) members.now) }
+{
+    let number = common_number(views, uses, members)?;
     if owners.get(&number).copied() == Some(Owner::One(at)) {
         Some(number)
     } else {
@@ -210,51 +237,85 @@ fn id_of(
     }
 }
 
-fn world_comm(alloc: Global, world: u32, ranks: usize) -> Result<Comm, AllocError> {
-    let mut members = Vec::new(alloc);
-    let mut rank = 0u32;
-    for _ in 0..ranks {
-        members.push(rank)?;
-        rank = rank.saturating_add(1);
-    }
+fn world_comm(alloc: Global, world: u32, ranks: u32) -> Result<Comm, AllocError>
+    ensures { IfOk result (IsWorld world ranks) }
+{
     Ok(Comm {
         id: world,
-        members,
+        members: first_places(alloc, ranks)?,
         numbers: Vec::new(alloc),
     })
 }
 
+/// A communicator of the layout by its number, where it has such an id, and else by this one.
+fn written_comm(
+    alloc: Global,
+    views: &[RankView],
+    uses: &[HandleUses],
+    id: Option<u32>,
+    other: u32,
+    comm: &Made,
+) -> Result<Comm, AllocError>
+    requires { IfSome id (λ number. All (IsNamedOnly views.now uses.now number) comm.now.members.items) }
+    ensures { IfOk result (IsWrittenOf views.now uses.now comm.now) }
+{
+    let members = copy_of(alloc, &comm.ranks)?;
+    match id {
+        Some(id) => Ok(Comm {
+            id,
+            members,
+            numbers: Vec::new(alloc),
+        }),
+        None => Ok(Comm {
+            id: other,
+            members,
+            numbers: entries_of(alloc, views, uses, &comm.members)?,
+        }),
+    }
+}
+
+/// The communicators of the layout but the world. Their free ids begin above this number.
+#[tactic(auto, using(crate::proofs::Derivations::written_none, crate::proofs::Derivations::written_more))]
+fn others(
+    alloc: Global,
+    largest: u32,
+    views: &[RankView],
+    uses: &[HandleUses],
+    comms: &[Made],
+) -> Result<Vec<Comm>, AllocError>
+    ensures { IfOk result (λ all. AreWrittenOf views.now uses.now comms.now all.items) }
+{
+    let named = named_comms(alloc, uses, comms)?;
+    let owners = owners_of(alloc, views, comms, &named)?;
+    let mut free = largest;
+    let mut all = Vec::new(alloc);
+    for named in named.iter() {
+        if let Some(comm) = comm_at(comms, named.place) {
+            let id = id_of(views, uses, &owners, named.place, &comm.members);
+            if id.is_none() {
+                free = free.saturating_add(1);
+            }
+            all.push(written_comm(alloc, views, uses, id, free, comm)?)?;
+        }
+    }
+    Ok(all)
+}
+
 /// The communicators of the layout, the world first.
+#[tactic(auto, using(crate::proofs::Derivations::is_written))]
 pub(crate) fn written(
     alloc: Global,
     world: u32,
+    ranks: u32,
     views: &[RankView],
     uses: &[HandleUses],
-    comms: Vec<Made>,
-) -> Result<Vec<Comm>, AllocError> {
-    let named = named(alloc, uses, comms)?;
-    let owners = owners_of(alloc, views, &named)?;
-    let mut free = largest_number(world, views);
-    let mut all = Vec::new(alloc);
-    all.push(world_comm(alloc, world, views.len())?)?;
-    for (at, comm) in named.iter().enumerate() {
-        let members = copy_of(alloc, &comm.ranks)?;
-        match id_of(views, uses, &owners, at, comm) {
-            Some(id) => all.push(Comm {
-                id,
-                members,
-                numbers: Vec::new(alloc),
-            })?,
-            None => {
-                free = free.saturating_add(1);
-                let numbers = entries_of(alloc, views, uses, &comm.members)?;
-                all.push(Comm {
-                    id: free,
-                    members,
-                    numbers,
-                })?;
-            },
-        }
-    }
+    comms: &[Made],
+) -> Result<Vec<Comm>, AllocError>
+    ensures { IfOk result (λ all. IsWritten world ranks views.now uses.now comms.now all.items) }
+{
+    let largest = largest_number(world, views);
+    let mut others = others(alloc, largest, views, uses, comms)?;
+    let mut all = vec![in alloc; world_comm(alloc, world, ranks)?]?;
+    all.append(&mut others)?;
     Ok(all)
 }

@@ -79,6 +79,7 @@ fn two_worlds(rt: HostRuntime) {
         let one = RankCalls {
             world,
             own: None,
+            size: None,
             calls: Vec::new(rt.alloc()),
             uses: Vec::new(rt.alloc()),
         };

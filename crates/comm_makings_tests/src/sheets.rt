@@ -248,6 +248,7 @@ fn calls_of<R: Abort>(rt: &R, alloc: Global, sheet: &Sheet<'_>, world: u32) -> R
     RankCalls {
         world: Some(world),
         own: None,
+        size: None,
         calls,
         uses,
     }

@@ -40,6 +40,7 @@ files_app name = with_rule (new_app name) (several_rule (codes "FILE"))
 abbrev pub json_rule : Rule
 json_rule = record (new_rule (codes "json")) { long = Some (codes "json"); action = Some SetTrue }
 
+-- `report`, over texts or a layout and a manifest, and whether as JSON
 abbrev pub report_app : App
 report_app = with_rule (files_app (codes "report")) json_rule
 
@@ -47,21 +48,27 @@ report_app = with_rule (files_app (codes "report")) json_rule
 abbrev pub rank_parser : ValueParser
 rank_parser = Unsigned 0 4294967295
 
+-- `--rank`, a number
 abbrev pub rank_rule : Rule
 rank_rule = record (new_rule (codes "rank")) { long = Some (codes "rank"); parser = Some rank_parser }
 
+-- `explain`, over texts or a layout and a manifest, of all ranks or of one
 abbrev pub explain_app : App
 explain_app = with_rule (files_app (codes "explain")) rank_rule
 
+-- the program with `explain`
 abbrev pub with_explain : App → App
 with_explain app = with_subcommand app explain_app.top
 
+-- the program with `report`
 abbrev pub with_report : App → App
 with_report app = with_subcommand app report_app.top
 
+-- the program with a verb over a layout and a manifest
 abbrev pub with_pair : App → Text → App
 with_pair app name = with_subcommand app (pair_app name).top
 
+-- the program with a verb over texts or a layout and a manifest
 abbrev pub with_files : App → Text → App
 with_files app name = with_subcommand app (files_app name).top
 
@@ -69,21 +76,27 @@ with_files app name = with_subcommand app (files_app name).top
 abbrev pub option_rule : Text → Text → Rule
 option_rule id default = record (new_rule id) { long = Some id; value_names = 1; defaults = default ∷ [] }
 
+-- `--sends`, `wait` where it is absent
 abbrev pub sends_rule : Rule
 sends_rule = option_rule (codes "sends") (codes "wait")
 
+-- `--layout`, the name of the layout that is made
 abbrev pub layout_rule : Rule
 layout_rule = option_rule (codes "layout") (codes "layout.json")
 
+-- `--manifest`, the name of the manifest that is made
 abbrev pub manifest_rule : Rule
 manifest_rule = option_rule (codes "manifest") (codes "manifest.json")
 
+-- `--force`, which writes over files that are there
 abbrev pub force_rule : Rule
 force_rule = record (new_rule (codes "force")) { long = Some (codes "force"); action = Some SetTrue }
 
+-- `init` over texts, with its options
 abbrev pub init_app : App
 init_app = with_rule (with_rule (with_rule (with_rule (with_rule (new_app (codes "init")) (several_rule (codes "TEXT"))) sends_rule) layout_rule) manifest_rule) force_rule
 
+-- the program with `init`
 abbrev pub with_init : App → App
 with_init app = with_subcommand app init_app.top
 
@@ -95,9 +108,11 @@ bare = on_top (λ s. record s { has_version = true; subcommand_required = true }
 abbrev pub answering : App
 answering = with_report (with_files (with_explain bare) (codes "graph"))
 
+-- all verbs of the program
 abbrev pub program : App
 program = with_init (with_pair (with_files (with_pair (with_pair answering (codes "replay")) (codes "cluster")) (codes "check")) (codes "pack"))
 
+-- the verb of a name
 abbrev pub verb_named : Text → Option Verb
 verb_named name = if bytes_eq name (codes "explain") then Some Explain
     else if bytes_eq name (codes "graph") then Some Graph
@@ -114,6 +129,7 @@ pub record Wish : Type 0 where
   pub manifest : Text
   pub force : Bool
 
+-- what `init` is to make, by its words
 abbrev pub wish_of : Wanted → Wish
 wish_of m = record { sends = m.sends; layout = m.layout.now; manifest = m.manifest.now; force = m.force }
 
@@ -123,6 +139,7 @@ pub data Request : Type 0 where
   files : Verb → List Text → Request
   init : List Text → Wish → Request
 
+-- what the words ask for
 abbrev pub request_of : Asked → Request
 request_of (asked.Pair verb layout manifest) = pair verb layout.now manifest.now
 request_of (asked.Files verb names) = files verb (map (λ n. n.now) names.items)
@@ -155,6 +172,7 @@ abbrev pub pair_of : Verb → Option Text → Option Text → Option Request
 pair_of verb (Some layout) (Some manifest) = Some (pair verb layout manifest)
 pair_of verb layout manifest = None
 
+-- what the words of a verb over a layout and a manifest ask for
 abbrev pub pair_in : Verb → List Row → Option Request
 pair_in verb rows = pair_of verb (first_of (codes "LAYOUT") rows) (first_of (codes "MANIFEST") rows)
 
@@ -163,9 +181,11 @@ abbrev pub over : Verb → Option (List Text) → List Row → Option Request
 over verb (Some names) rows = Some (files verb names)
 over verb None rows = pair_in verb rows
 
+-- what the words of a verb over files ask for
 abbrev pub files_in : Verb → List Row → Option Request
 files_in verb rows = over verb (all_of (codes "FILE") rows) rows
 
+-- how sends of standard mode complete, by the word
 abbrev pub sends_named : Text → Option Sends
 sends_named word = if bytes_eq word (codes "wait") then Some Wait else if bytes_eq word (codes "buffer") then Some Buffer else None
 
@@ -175,6 +195,7 @@ wanted_of (Some sends) (Some layout) (Some manifest) (Some force) =
     Some (record { sends = sends; layout = layout; manifest = manifest; force = bytes_eq force (codes "true") })
 wanted_of sends layout manifest force = None
 
+-- what `init` is to make, where its words can be read
 abbrev pub wish_in : List Row → Option Wish
 wish_in rows = wanted_of (option_and_then sends_named (first_of (codes "sends") rows)) (first_of (codes "layout") rows)
     (first_of (codes "manifest") rows) (first_of (codes "force") rows)

@@ -38,7 +38,6 @@ line_fault_name lines.NotReturned = codes "F6 NotReturned"
 line_fault_name lines.NameDiffers = codes "F7 NameDiffers"
 line_fault_name lines.BadParameter = codes "F8 BadParameter"
 line_fault_name lines.Truncated = codes "F9 Truncated"
-line_fault_name lines.TooManyCalls = codes "F10 TooManyCalls"
 line_fault_name lines.TooManyLines = codes "F11 TooManyLines"
 
 abbrev pub cause_name : TextCause → List ℕ

@@ -220,7 +220,6 @@ fn name_of_line(fault: LineFault) -> &'static str
         LineFault::NameDiffers => "F7 NameDiffers",
         LineFault::BadParameter => "F8 BadParameter",
         LineFault::Truncated => "F9 Truncated",
-        LineFault::TooManyCalls => "F10 TooManyCalls",
         LineFault::TooManyLines => "F11 TooManyLines",
     }
 }

@@ -7,7 +7,8 @@ use Rattle.mpi_model.specs.Ranges.{CollectiveCall}
 use Rattle.mpi_model.specs.Times.{Times}
 use Rattle.mpi_model.specs.declared.call.Call.{Call}
 use Rattle.mpi_model.specs.declared.call.Call.TheVariants as calls
-use Rattle.mpi_model.specs.declared.collective.Kind.{Kind as GroupKind}
+use Rattle.mpi_model.specs.Kinds.{has_root}
+use Rattle.mpi_model.specs.declared.kind.Kind.{Kind as GroupKind}
 use Rattle.mpi_model.specs.declared.envelope.CommRef.{CommRef}
 use Rattle.mpi_model.specs.declared.envelope.Envelope.{Envelope}
 use Rattle.mpi_model.specs.declared.envelope.Mode.{Mode}
@@ -27,8 +28,8 @@ use Rattle.dumpi_text.specs.declared.value.Value.TheVariants.{Number}
 use Rattle.dumpi_calls.specs.InPlace.{IsWhole, PassesLines, TellsCall, TellsNumber, TellsReceive, TellsRequests, TellsSend, TellsStatus, TellsStatuses, is_unread, param_of, receive_lines, send_lines, usual_name}
 use Rattle.dumpi_calls.specs.Outcomes.{groups_by, groups_from, groups_in, outcome_in, posted, told_at, tolds_from}
 use Rattle.dumpi_calls.specs.Skims.{requests_from}
-use Rattle.dumpi_calls.specs.Readings.{all_numbers, asked_tag_by, asked_tag_in, comm_by, comm_in, dest_by, dest_in, name_of, non_negative, non_negative_in, number_in, numbers_in, request_by, request_in, requests_in, requests_of, source_by, source_in, text_of}
-use Rattle.dumpi_calls.specs.Rows.{Row, envelope_of_receive, envelope_of_send, exit_in, first_missing, function_named, group_call, irecv_call, isend_call, missing_in, read_by, receive_part, recv_call, returned, rooted_call, row, send_call, send_part, typed_by, wait_call, waitall_call}
+use Rattle.dumpi_calls.specs.Readings.{all_numbers, asked_tag_by, asked_tag_in, comm_by, comm_in, dest_by, dest_in, name_of, non_negative, non_negative_in, number_in, numbers_in, request_by, request_in, requests_in, requests_of, root_by, root_named, source_by, source_in, text_of}
+use Rattle.dumpi_calls.specs.Rows.{Row, collective_call, collective_in, collective_parameters, envelope_of_receive, envelope_of_send, exit_in, first_missing, function_named, irecv_call, isend_call, missing_in, read_by, receive_part, recv_call, returned, row, send_call, send_part, typed_by, wait_call, waitall_call}
 use Rattle.dumpi_calls.specs.declared.function.Function.{Function}
 use Rattle.dumpi_calls.specs.declared.function.Function.TheVariants as functions
 use Rattle.dumpi_calls.specs.declared.parameter.CallFault.{CallFault}
@@ -357,51 +358,57 @@ more_passed first second text mid rest a b = record {
 
 -- ---- collective calls
 
-grouped : (kind : GroupKind) (raw : TextCall) (number : Num) (comm : CommRef) → number_in Comm raw ≡ Ok number → comm_by number.name number.value ≡ Some comm
-    → group_call kind raw ≡ Ok (calls.Collective (record { kind = kind; root = None; comm = comm }))
-unfolding group_call comm_in
-grouped kind raw number comm reads is = rw (reads, is) refl
+-- no parameter of a call without a root is missing, and none of one with a root
+all_of_group : (kind : GroupKind) (raw : TextCall) (comm : List ℕ) → has_root kind ≡ false → text_of Comm raw ≡ Some comm → first_missing (collective_parameters kind) raw ≡ None
+all_of_group kind raw comm none there = rw none (rw there refl)
 
-rooted : (kind : GroupKind) (raw : TextCall) (root number : Num) (rank : ℕ) (comm : CommRef) → number_in Root raw ≡ Ok root → non_negative root.value ≡ Some rank → number_in Comm raw ≡ Ok number → comm_by number.name number.value ≡ Some comm
-    → rooted_call kind raw ≡ Ok (calls.Collective (record { kind = kind; root = Some rank; comm = comm }))
-unfolding rooted_call non_negative_in comm_in
-rooted kind raw root number rank comm reads_root is_root reads is = rw (reads_root, is_root, reads, is) refl
+all_of_rooted : (kind : GroupKind) (raw : TextCall) (root comm : List ℕ) → has_root kind ≡ true → text_of Root raw ≡ Some root → text_of Comm raw ≡ Some comm → first_missing (collective_parameters kind) raw ≡ None
+all_of_rooted kind raw root comm some there_root there = rw some (rw (there_root, there) refl)
 
-pub group_call_told : (kind : GroupKind) (passed : ℕ) (number : Num) (comm : CommRef) (collective : CollectiveCall) (text mid rest : List ℕ) → PassesLines passed text mid → TellsNumber Comm number mid rest
+grouped : (kind : GroupKind) (raw : TextCall) (number : Num) (comm : CommRef) → has_root kind ≡ false → number_in Comm raw ≡ Ok number → comm_by number.name number.value ≡ Some comm
+    → collective_call kind raw ≡ Ok (calls.Collective (record { kind = kind; root = None; comm = comm }))
+unfolding collective_call collective_in comm_in
+grouped kind raw number comm none reads is = rw (none, reads, is) refl
+
+rooted : (kind : GroupKind) (raw : TextCall) (root number : Num) (rank : Option ℕ) (comm : CommRef) → has_root kind ≡ true → number_in Root raw ≡ Ok root → root_by root.name root.value ≡ Some rank
+    → number_in Comm raw ≡ Ok number → comm_by number.name number.value ≡ Some comm
+    → collective_call kind raw ≡ Ok (calls.Collective (record { kind = kind; root = rank; comm = comm }))
+unfolding collective_call collective_in root_named comm_in
+rooted kind raw root number rank comm some reads_root is_root reads is = rw (some, reads_root, is_root, reads, is) refl
+
+pub group_call_told : (kind : GroupKind) (passed : ℕ) (number : Num) (comm : CommRef) (collective : CollectiveCall) (text mid rest : List ℕ) → has_root kind ≡ false → PassesLines passed text mid → TellsNumber Comm number mid rest
     → Some comm ≡ comm_by number.name number.value → collective ≡ record { kind = kind; root = None; comm = comm }
-    → TellsCall (functions.OfAll kind) (calls.Collective collective) outcomes.Nothing (passed + 1) text rest
-group_call_told kind passed number comm collective text mid rest p n as_comm is =
+    → TellsCall (functions.Collective kind) (calls.Collective collective) outcomes.Nothing (passed + 1) text rest
+group_call_told kind passed number comm collective text mid rest none p n as_comm is =
     let lines : List Param = param_of Comm n.value ∷ [] in
     record {
       params = p.params ++ lines;
       tells = tells_both p.params lines text mid rest p.tells (rest, n.tells, refl);
       counted = ap (λ (k : ℕ). k + 1) p.counted ∙ sym (length-append p.params lines);
       says = λ raw exit params returns.
-          let row_is : Row = row (functions.OfAll kind) raw.name in
+          let row_is : Row = row (functions.Collective kind) raw.name in
           let there : text_of Comm raw ≡ Some n.value = text_there Comm raw _ params ∙ first_after (name_of Comm) p.params lines p.comm in
-          let entry : first_missing (Comm ∷ []) raw ≡ None = rw there refl in
           typed_so row_is raw (calls.Collective collective) outcomes.Nothing exit
-          (none_missing row_is raw exit returns entry refl)
-          (grouped kind raw number comm (number_said Comm raw n.value number there n.means) (sym as_comm) ∙ ap read_collective (sym is)) returns refl;
+          (none_missing row_is raw exit returns (all_of_group kind raw n.value none there) refl)
+          (grouped kind raw number comm none (number_said Comm raw n.value number there n.means) (sym as_comm) ∙ ap read_collective (sym is)) returns refl;
     }
 
-pub rooted_call_told : (kind : GroupKind) (passed : ℕ) (root number : Num) (rank : ℕ) (comm : CommRef) (collective : CollectiveCall) (text t1 t2 rest : List ℕ) → PassesLines passed text t1
-    → TellsNumber Root root t1 t2 → TellsNumber Comm number t2 rest → Some rank ≡ non_negative root.value → Some comm ≡ comm_by number.name number.value → collective ≡ record { kind = kind; root = Some rank; comm = comm }
-    → TellsCall (functions.Rooted kind) (calls.Collective collective) outcomes.Nothing (passed + 2) text rest
-rooted_call_told kind passed root number rank comm collective text t1 t2 rest p r n as_root as_comm is =
+pub rooted_call_told : (kind : GroupKind) (passed : ℕ) (root number : Num) (rank : Option ℕ) (comm : CommRef) (collective : CollectiveCall) (text t1 t2 rest : List ℕ) → has_root kind ≡ true → PassesLines passed text t1
+    → TellsNumber Root root t1 t2 → TellsNumber Comm number t2 rest → Some rank ≡ root_by root.name root.value → Some comm ≡ comm_by number.name number.value → collective ≡ record { kind = kind; root = rank; comm = comm }
+    → TellsCall (functions.Collective kind) (calls.Collective collective) outcomes.Nothing (passed + 2) text rest
+rooted_call_told kind passed root number rank comm collective text t1 t2 rest some p r n as_root as_comm is =
     let lines : List Param = param_of Root r.value ∷ param_of Comm n.value ∷ [] in
     record {
       params = p.params ++ lines;
       tells = tells_both p.params lines text t1 rest p.tells (t2, r.tells, (rest, n.tells, refl));
       counted = ap (λ (k : ℕ). k + 2) p.counted ∙ sym (length-append p.params lines);
       says = λ raw exit params returns.
-          let row_is : Row = row (functions.Rooted kind) raw.name in
+          let row_is : Row = row (functions.Collective kind) raw.name in
           let there_root : text_of Root raw ≡ Some r.value = text_there Root raw _ params ∙ first_after (name_of Root) p.params lines p.root in
           let there : text_of Comm raw ≡ Some n.value = text_there Comm raw _ params ∙ first_after (name_of Comm) p.params lines p.comm in
-          let entry : first_missing (Root ∷ Comm ∷ []) raw ≡ None = rw (there_root, there) refl in
           typed_so row_is raw (calls.Collective collective) outcomes.Nothing exit
-          (none_missing row_is raw exit returns entry refl)
-          (rooted kind raw root number rank comm (number_said Root raw r.value root there_root r.means) (sym as_root) (number_said Comm raw n.value number there n.means) (sym as_comm) ∙ ap read_collective (sym is))
+          (none_missing row_is raw exit returns (all_of_rooted kind raw r.value n.value some there_root there) refl)
+          (rooted kind raw root number rank comm some (number_said Root raw r.value root there_root r.means) (sym as_root) (number_said Comm raw n.value number there n.means) (sym as_comm) ∙ ap read_collective (sym is))
           returns refl;
     }
 

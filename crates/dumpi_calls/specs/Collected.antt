@@ -6,7 +6,7 @@ use Rattle.mpi_model.specs.declared.event.Event.TheVariants.{Enter, Return}
 use Rattle.mpi_model.specs.declared.event.Exit.{Exit}
 use Rattle.trace_know.specs.Segment.{PlacedEvents, enter_place}
 use Rattle.trace_know.specs.declared.segment.TheConstants.{MOST_EVENTS}
-use Rattle.dumpi_calls.specs.Rows.{Callback, OnSend, OnIsend, OnRecv, OnIrecv, OnSendrecv, OnProbe, OnWait, OnWaitall, OnWaitany, OnWaitsome, OnTest, OnTestall, OnTestany, OnTestsome, OnCancel, OnRequestFree, OnCollective, OnIbarrier, OnUnread, OnOther}
+use Rattle.dumpi_calls.specs.Rows.{Callback, OnSend, OnIsend, OnRecv, OnIrecv, OnSendrecv, OnProbe, OnWait, OnWaitall, OnWaitany, OnWaitsome, OnTest, OnTestall, OnTestany, OnTestsome, OnCancel, OnRequestFree, OnCollective, OnIcollective, OnUnread, OnOther}
 use Rattle.dumpi_calls.specs.Seen.{Seen}
 use Rattle.dumpi_calls.specs.declared.tally.Tally.{Tally}
 
@@ -78,6 +78,6 @@ tallied t OnTestsome = record t { on_testsome = one_more t.on_testsome }
 tallied t OnCancel = record t { on_cancel = one_more t.on_cancel }
 tallied t OnRequestFree = record t { on_request_free = one_more t.on_request_free }
 tallied t OnCollective = record t { on_collective = one_more t.on_collective }
-tallied t OnIbarrier = record t { on_ibarrier = one_more t.on_ibarrier }
+tallied t OnIcollective = record t { on_icollective = one_more t.on_icollective }
 tallied t (OnUnread name) = record t { on_unread = one_more t.on_unread }
 tallied t (OnOther name) = record t { on_other = one_more t.on_other }

@@ -2,7 +2,7 @@
 use Rattle.std.specs.Prelude.{◌≡◌, ◌≤◌, ℕ, ◌+◌, ℤ, Bool, ◌&&◌, not, List, [], ◌∷◌, ◌++◌, length, Some, None, Ok, codes, drop}
 use Rattle.mpi_model.specs.Times.{Times}
 use Rattle.mpi_model.specs.declared.call.Call.{Call}
-use Rattle.mpi_model.specs.declared.collective.Kind.TheVariants.{Barrier, Bcast, Scatter, Gather, Reduce, Allreduce, Allgather, Alltoall}
+use Rattle.mpi_model.specs.declared.kind.Kind.TheVariants.{Barrier, Bcast, Scatter, Gather, Reduce, Allreduce, Allgather, Alltoall}
 use Rattle.mpi_model.specs.declared.envelope.Envelope.{Envelope}
 use Rattle.mpi_model.specs.declared.envelope.Mode.TheVariants.{Standard, Synchronous}
 use Rattle.mpi_model.specs.declared.outcome.Outs.{Outs}
@@ -37,6 +37,7 @@ pub record TellsNumber (parameter : Parameter) (number : Num) (text rest : List 
 abbrev pub send_lines : List ℕ → List ℕ → List ℕ → List ℕ → List ℕ → List Param
 send_lines count datatype dest tag comm = param_of Count count ∷ param_of Datatype datatype ∷ param_of Dest dest ∷ param_of Tag tag ∷ param_of Comm comm ∷ []
 
+-- the parameters of a receive, in the order of dumpi2ascii
 abbrev pub receive_lines : List ℕ → List ℕ → List ℕ → List ℕ → List ℕ → List Param
 receive_lines count datatype source tag comm = param_of Count count ∷ param_of Datatype datatype ∷ param_of Source source ∷ param_of Tag tag ∷ param_of Comm comm ∷ []
 
@@ -111,14 +112,14 @@ usual_name functions.Recv = codes "MPI_Recv"
 usual_name functions.Irecv = codes "MPI_Irecv"
 usual_name functions.Wait = codes "MPI_Wait"
 usual_name functions.Waitall = codes "MPI_Waitall"
-usual_name (functions.OfAll Barrier) = codes "MPI_Barrier"
-usual_name (functions.OfAll Allreduce) = codes "MPI_Allreduce"
-usual_name (functions.OfAll Allgather) = codes "MPI_Allgather"
-usual_name (functions.OfAll Alltoall) = codes "MPI_Alltoall"
-usual_name (functions.Rooted Bcast) = codes "MPI_Bcast"
-usual_name (functions.Rooted Scatter) = codes "MPI_Scatter"
-usual_name (functions.Rooted Gather) = codes "MPI_Gather"
-usual_name (functions.Rooted Reduce) = codes "MPI_Reduce"
+usual_name (functions.Collective Barrier) = codes "MPI_Barrier"
+usual_name (functions.Collective Allreduce) = codes "MPI_Allreduce"
+usual_name (functions.Collective Allgather) = codes "MPI_Allgather"
+usual_name (functions.Collective Alltoall) = codes "MPI_Alltoall"
+usual_name (functions.Collective Bcast) = codes "MPI_Bcast"
+usual_name (functions.Collective Scatter) = codes "MPI_Scatter"
+usual_name (functions.Collective Gather) = codes "MPI_Gather"
+usual_name (functions.Collective Reduce) = codes "MPI_Reduce"
 usual_name _ = []
 
 -- So many bytes in front of a text are a whole call of a function, of so many lines, and it is typed so, wherever it stands.

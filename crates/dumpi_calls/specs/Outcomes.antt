@@ -183,7 +183,7 @@ index_where_set raw = if is_flagged (number_in Flag raw) then Index ∷ [] else 
 abbrev pub brought_by : Call → TextCall → List Parameter
 brought_by (calls.Isend mode envelope) raw = Request ∷ []
 brought_by (calls.Irecv envelope) raw = Request ∷ []
-brought_by (calls.Ibarrier comm) raw = Request ∷ []
+brought_by (calls.Icollective collective) raw = Request ∷ []
 brought_by (calls.Waitany requests) raw = Index ∷ []
 brought_by (calls.Test request) raw = Flag ∷ []
 brought_by (calls.Testall requests) raw = Flag ∷ []
@@ -210,6 +210,6 @@ outcome_in (calls.Testsome requests) raw = Ok (several requests raw)
 outcome_in (calls.Cancel request) raw = Ok outcomes.Nothing
 outcome_in (calls.Free request) raw = Ok outcomes.Nothing
 outcome_in (calls.Collective collective) raw = Ok outcomes.Nothing
+outcome_in (calls.Icollective collective) raw = posted raw
 outcome_in (calls.Probe envelope) raw = Ok (status raw)
-outcome_in (calls.Ibarrier comm) raw = posted raw
 outcome_in calls.Unread raw = Ok outcomes.Nothing

@@ -10,6 +10,7 @@ abbrev pub joined : List (Vec Event Global) → List Event → List Event
 joined [] last = last
 joined (part ∷ full) last = part.items ++ joined full last
 
+-- all events that were kept, in order
 abbrev pub events_in : Parts → List Event
 events_in parts = joined parts.full.items parts.last.items
 

@@ -1,10 +1,12 @@
 -- What the parameters of a call say, one by one.
 use Rattle.std.specs.Prelude.{◌≡◌, ◌≢◌, ◌==◌, ℕ, ℤ, pos, negsuc, List, [], ◌∷◌, Option, Some, None, Result, Ok, Err, codes, nat_lt, option_map, IfErr, IfOk, IsSome, if◌then◌else◌}
+use Rattle.mpi_model.specs.Kinds.{has_root}
 use Rattle.mpi_model.specs.Requests.{null_request}
 use Rattle.mpi_model.specs.declared.envelope.CommRef.{CommRef}
 use Rattle.mpi_model.specs.declared.envelope.CommRef.TheVariants.{World, Id}
 use Rattle.mpi_model.specs.declared.envelope.Peer.{Peer}
 use Rattle.mpi_model.specs.declared.envelope.Peer.TheVariants as peers
+use Rattle.mpi_model.specs.declared.kind.Kind.{Kind}
 use Rattle.dumpi_text.specs.Call.{TextCall, first_value}
 use Rattle.dumpi_text.specs.Value.{value_of}
 use Rattle.dumpi_text.specs.declared.number.Num.{Num}
@@ -139,6 +141,18 @@ abbrev pub asked_tag_by : NumName → ℤ → Option (Option ℕ)
 asked_tag_by names.AnyTag value = Some None
 asked_tag_by _ value = asked_tag_from value
 
+-- a root without a name: `Some None` is none in the group
+abbrev pub root_from : ℤ → Option (Option ℕ)
+root_from (pos n) = option_map Some (non_negative (pos n))
+root_from (negsuc n) = Some None
+
+-- The root of a call by its name and its number: a rank of its group, or none where the call names `MPI_ROOT`, `MPI_PROC_NULL` or
+-- a number below 0, as the calls of the group that has the root do on an intercommunicator (MPI 4.0, 6.2.3).
+abbrev pub root_by : NumName → ℤ → Option (Option ℕ)
+root_by names.Root value = Some None
+root_by names.ProcNull value = Some None
+root_by _ value = root_from value
+
 -- a communicator, by its name and its number
 abbrev pub comm_by : NumName → ℤ → Option CommRef
 comm_by names.CommWorld value = Some World
@@ -146,7 +160,7 @@ comm_by _ value = option_map Id (non_negative value)
 
 -- ---- parameters, each by its value
 
--- a count, a tag of a send or a root
+-- a count or a tag of a send
 unfoldable pub non_negative_in : Parameter → TextCall → Result ℕ CallFault
 non_negative_in parameter call = do
   number ← number_in parameter call
@@ -166,6 +180,16 @@ unfoldable pub asked_tag_in : Parameter → TextCall → Result (Option ℕ) Cal
 asked_tag_in parameter call = do
   number ← number_in parameter call
   or_wrong parameter (asked_tag_by number.name number.value)
+
+-- the root that a call names
+unfoldable pub root_named : TextCall → Result (Option ℕ) CallFault
+root_named call = do
+  number ← number_in parameters.Root call
+  or_wrong parameters.Root (root_by number.name number.value)
+
+-- the root of a call of a kind, which names one where its kind has one
+abbrev pub root_in : Kind → TextCall → Result (Option ℕ) CallFault
+root_in kind call = if has_root kind then root_named call else Ok None
 
 unfoldable pub comm_in : TextCall → Result CommRef CallFault
 comm_in call = do

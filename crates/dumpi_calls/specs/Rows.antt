@@ -1,11 +1,11 @@
 -- The table of functions: its callback, its entry and outcome parameters, and how these are read.
-use Rattle.std.specs.Prelude.{ℕ, List, [], ◌∷◌, Option, Some, None, Result, Ok, Err, Bool, ◌||◌, codes, if◌then◌else◌}
+use Rattle.std.specs.Prelude.{ℕ, ◌-◌, List, [], ◌∷◌, length, take, drop, Option, Some, None, option_map, Result, Ok, Err, Bool, true, false, ◌||◌, ◌==◌, slice_get, codes, if◌then◌else◌}
 use Rattle.std.specs.Str.{bytes_eq}
-use Rattle.mpi_model.specs.Ranges.{HasRoot, IsRootOf}
+use Rattle.mpi_model.specs.Kinds.{all_kinds, function_name, has_root}
+use Rattle.mpi_model.specs.Ranges.{CollectiveCall}
 use Rattle.mpi_model.specs.declared.call.Call.{Call}
 use Rattle.mpi_model.specs.declared.call.Call.TheVariants as calls
-use Rattle.mpi_model.specs.declared.collective.Kind.{Kind}
-use Rattle.mpi_model.specs.declared.collective.Kind.TheVariants as kinds
+use Rattle.mpi_model.specs.declared.kind.Kind.{Kind}
 use Rattle.mpi_model.specs.declared.envelope.CommRef.{CommRef}
 use Rattle.mpi_model.specs.declared.envelope.Envelope.{Envelope}
 use Rattle.mpi_model.specs.declared.envelope.Mode.{Mode}
@@ -13,7 +13,7 @@ use Rattle.mpi_model.specs.declared.envelope.Mode.TheVariants.{Standard, Synchro
 use Rattle.mpi_model.specs.declared.event.Exit.{Exit}
 use Rattle.mpi_model.specs.Times.{Times}
 use Rattle.dumpi_text.specs.Call.{TextCall}
-use Rattle.dumpi_calls.specs.Readings.{◌>>=◌, asked_tag_in, comm_in, dest_in, number_in, request_in, requests_in, non_negative_in, source_in, text_of}
+use Rattle.dumpi_calls.specs.Readings.{◌>>=◌, asked_tag_in, comm_in, dest_in, number_in, request_in, requests_in, non_negative_in, root_in, source_in, text_of}
 use Rattle.dumpi_calls.specs.Outcomes.{index_where_set, outcome_in}
 use Rattle.dumpi_calls.specs.declared.envelope.Part.{Part}
 use Rattle.dumpi_calls.specs.declared.function.Function.{Function}
@@ -23,12 +23,6 @@ use Rattle.dumpi_calls.specs.declared.parameter.CallFault.{CallFault}
 use Rattle.dumpi_calls.specs.declared.parameter.CallFault.TheVariants.{Missing}
 use Rattle.dumpi_calls.specs.declared.parameter.Parameter.{Parameter}
 use Rattle.dumpi_calls.specs.declared.parameter.Parameter.TheVariants.{Count, Datatype, Dest, Source, Tag, Comm, SendCount, SendType, SendTag, RecvCount, RecvType, RecvTag, Root, Request, Requests, Index, Flag}
-
--- a blocking collective function has a root just where its kind has one
-abbrev pub HasItsKind : Function → Type 0
-HasItsKind (functions.OfAll kind) = IsRootOf kind None
-HasItsKind (functions.Rooted kind) = HasRoot kind
-HasItsKind _ = Unit {0}
 
 -- ---- names: they are compared byte for byte
 
@@ -84,28 +78,36 @@ ending_named name =
     else if bytes_eq name (codes "MPI_Request_free") then Some functions.Free
     else None
 
--- one of two names: with `_c` behind it a collective call has counts of 64 bits, and is the same call (MPI 4.0, 6)
-abbrev pub either : List ℕ → List ℕ → List ℕ → Bool
-either name short long = bytes_eq name short || bytes_eq name long
+-- the first of two functions that is there
+abbrev pub first_of : Option Function → Option Function → Option Function
+first_of (Some function) next = Some function
+first_of None next = next
 
--- collective calls without a root (MPI 4.0, 6)
-abbrev pub group_named : List ℕ → Option Function
-group_named name =
-    if either name (codes "MPI_Barrier") (codes "MPI_Barrier_c") then Some (functions.OfAll kinds.Barrier)
-    else if either name (codes "MPI_Allreduce") (codes "MPI_Allreduce_c") then Some (functions.OfAll kinds.Allreduce)
-    else if either name (codes "MPI_Allgather") (codes "MPI_Allgather_c") then Some (functions.OfAll kinds.Allgather)
-    else if either name (codes "MPI_Alltoall") (codes "MPI_Alltoall_c") then Some (functions.OfAll kinds.Alltoall)
-    else if bytes_eq name (codes "MPI_Ibarrier") then Some functions.Ibarrier
-    else None
+-- the first of these kinds whose blocking function has this name, or whose nonblocking one
+abbrev pub first_named : Bool → List ℕ → List Kind → Option Kind
+first_named nonblocking name [] = None
+first_named nonblocking name (kind ∷ kinds) =
+    if bytes_eq name (function_name (record { kind = kind; nonblocking = nonblocking })) then Some kind
+    else first_named nonblocking name kinds
 
--- collective calls with a root (MPI 4.0, 6)
-abbrev pub rooted_named : List ℕ → Option Function
-rooted_named name =
-    if either name (codes "MPI_Bcast") (codes "MPI_Bcast_c") then Some (functions.Rooted kinds.Bcast)
-    else if either name (codes "MPI_Scatter") (codes "MPI_Scatter_c") then Some (functions.Rooted kinds.Scatter)
-    else if either name (codes "MPI_Gather") (codes "MPI_Gather_c") then Some (functions.Rooted kinds.Gather)
-    else if either name (codes "MPI_Reduce") (codes "MPI_Reduce_c") then Some (functions.Rooted kinds.Reduce)
-    else None
+-- a name without a `_c` behind it: with that a collective function has counts of 64 bits, and its calls are the same (MPI 4.0, 6)
+abbrev pub short_name : List ℕ → List ℕ
+short_name name = if bytes_eq (drop (length name - 2) name) (codes "_c") then take (length name - 2) name else name
+
+-- whether an `I` stands behind the first four bytes of a name, as it does in `MPI_Ibcast`
+abbrev pub is_i : Option ℕ → Bool
+is_i None = false
+is_i (Some byte) = byte == 73
+
+abbrev pub has_i : List ℕ → Bool
+has_i name = is_i (slice_get name 4)
+
+-- collective functions, by the table of their kinds; MPI has none that is named `MPI_Ibarrier_c`
+unfoldable pub collective_named : List ℕ → Option Function
+collective_named name =
+    if bytes_eq name (codes "MPI_Ibarrier_c") then None
+    else first_of (option_map functions.Collective (first_named false (short_name name) all_kinds))
+    (option_map functions.Icollective (first_named true (short_name name) all_kinds))
 
 -- ---- functions that move messages and that no row reads: what follows a call of one isn't known
 
@@ -161,11 +163,6 @@ unread_named name = if is_unread_name name || is_long_send name || is_long_recei
 abbrev pub other_named : List ℕ → Function
 other_named name = if bytes_eq name (codes "MPI_Finalize") then functions.Finalize else functions.Other
 
--- the first of two functions that is there
-abbrev pub first_of : Option Function → Option Function → Option Function
-first_of (Some function) next = Some function
-first_of None next = next
-
 -- the function, or the next one
 abbrev pub or_else : Option Function → Function → Function
 or_else (Some function) next = function
@@ -178,7 +175,7 @@ message_named name = first_of (send_named name) (first_of (isend_named name) (fi
 -- the function of a name
 unfoldable pub function_named : List ℕ → Function
 function_named name =
-    or_else (message_named name) (or_else (group_named name) (or_else (rooted_named name) (or_else (ending_named name) (or_else (unread_named name) (other_named name)))))
+    or_else (message_named name) (or_else (collective_named name) (or_else (ending_named name) (or_else (unread_named name) (other_named name))))
 
 -- ---- envelopes (MPI 4.0, 3.2.3)
 
@@ -194,6 +191,10 @@ sendrecv_parameters = SendCount ∷ SendType ∷ Dest ∷ SendTag ∷ RecvCount 
 
 abbrev pub probe_parameters : List Parameter
 probe_parameters = Source ∷ Tag ∷ Comm ∷ []
+
+-- those of a collective call, which has a root where its kind has one
+abbrev pub collective_parameters : Kind → List Parameter
+collective_parameters kind = if has_root kind then Root ∷ Comm ∷ [] else Comm ∷ []
 
 -- what a send says apart from its communicator
 unfoldable pub send_part : Parameter → Parameter → Parameter → TextCall → Result Part CallFault
@@ -317,21 +318,22 @@ free_call call = do
   request ← request_in call
   Ok (calls.Free request)
 
-unfoldable pub group_call : Kind → TextCall → Result Call CallFault
-group_call kind call = do
+-- what a collective call of a kind names
+unfoldable pub collective_in : Kind → TextCall → Result CollectiveCall CallFault
+collective_in kind call = do
+  root ← root_in kind call
   comm ← comm_in call
-  Ok (calls.Collective (record { kind = kind; root = None; comm = comm }))
+  Ok (record { kind = kind; root = root; comm = comm })
 
-unfoldable pub rooted_call : Kind → TextCall → Result Call CallFault
-rooted_call kind call = do
-  root ← non_negative_in Root call
-  comm ← comm_in call
-  Ok (calls.Collective (record { kind = kind; root = Some root; comm = comm }))
+unfoldable pub collective_call : Kind → TextCall → Result Call CallFault
+collective_call kind call = do
+  collective ← collective_in kind call
+  Ok (calls.Collective collective)
 
-unfoldable pub ibarrier_call : TextCall → Result Call CallFault
-ibarrier_call call = do
-  comm ← comm_in call
-  Ok (calls.Ibarrier comm)
+unfoldable pub icollective_call : Kind → TextCall → Result Call CallFault
+icollective_call kind call = do
+  collective ← collective_in kind call
+  Ok (calls.Icollective collective)
 
 -- ---- the table
 
@@ -354,7 +356,7 @@ pub data Callback : Type 0 where
   OnCancel : Callback
   OnRequestFree : Callback
   OnCollective : Callback
-  OnIbarrier : Callback
+  OnIcollective : Callback
   OnUnread : (name : List ℕ) → Callback
   OnOther : (name : List ℕ) → Callback
 
@@ -388,9 +390,8 @@ row functions.Testany name = record { callback = OnTestany; entry = Requests ∷
 row functions.Testsome name = record { callback = OnTestsome; entry = Requests ∷ []; outcome = always []; call = testsome_call }
 row functions.Cancel name = record { callback = OnCancel; entry = Request ∷ []; outcome = always []; call = cancel_call }
 row functions.Free name = record { callback = OnRequestFree; entry = Request ∷ []; outcome = always []; call = free_call }
-row (functions.OfAll kind) name = record { callback = OnCollective; entry = Comm ∷ []; outcome = always []; call = group_call kind }
-row (functions.Rooted kind) name = record { callback = OnCollective; entry = Root ∷ Comm ∷ []; outcome = always []; call = rooted_call kind }
-row functions.Ibarrier name = record { callback = OnIbarrier; entry = Comm ∷ []; outcome = always (Request ∷ []); call = ibarrier_call }
+row (functions.Collective kind) name = record { callback = OnCollective; entry = collective_parameters kind; outcome = always []; call = collective_call kind }
+row (functions.Icollective kind) name = record { callback = OnIcollective; entry = collective_parameters kind; outcome = always (Request ∷ []); call = icollective_call kind }
 row functions.Unread name = record { callback = OnUnread name; entry = []; outcome = always []; call = λ raw. Ok calls.Unread }
 row functions.Finalize name = record { callback = OnOther name; entry = []; outcome = always []; call = λ raw. Ok calls.Finalize }
 row functions.Other name = record { callback = OnOther name; entry = []; outcome = always []; call = λ raw. Ok calls.Local }

@@ -15,6 +15,7 @@ pub record Seen : Type 0 where
   pub enter : Times
   pub exit : Option Exit
 
+-- one callback with its call, when it was entered and how it returned
 abbrev pub seen : Callback → Call → Times → Option Exit → Seen
 seen callback call enter exit = record { callback = callback; call = call; enter = enter; exit = exit }
 
@@ -23,9 +24,11 @@ abbrev pub after : {S : Type 0} → (S → Seen → S) → S → List Seen → S
 after step state [] = state
 after step state (call ∷ calls) = after step (step state call) calls
 
+-- what a sink sees of a call, by the row of its function
 abbrev pub seen_by : Row → TypedCall → Seen
 seen_by row call = seen row.callback call.call call.enter call.exit
 
+-- what a sink sees of calls, where each can be read
 abbrev pub with_seen : Row → Result TypedCall CallFault → Option (List Seen) → Option (List Seen)
 with_seen row (Err fault) others = None
 with_seen row (Ok call) others = option_map (λ rest. seen_by row call ∷ rest) others

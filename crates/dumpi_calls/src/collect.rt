@@ -207,7 +207,12 @@ impl CallSink for Collect {
         self.push(call, enter, exit)
     }
 
-    fn on_ibarrier(&mut self, call: Call, enter: Stamp, exit: Option<Exit>) -> Result<(), Memory> {
+    fn on_icollective(
+        &mut self,
+        call: Call,
+        enter: Stamp,
+        exit: Option<Exit>,
+    ) -> Result<(), Memory> {
         self.push(call, enter, exit)
     }
 

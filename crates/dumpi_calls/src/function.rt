@@ -1,8 +1,9 @@
 //! The functions of the profile, by their names.
 
-ghost use Rattle.std.specs.Prelude.{◌≡◌, IfSome};
+ghost use Rattle.std.specs.Prelude.{◌≡◌, true, false};
 ghost use Rattle.std.specs.Str.{bytes_eq};
-ghost use Rattle.dumpi_calls.specs.Rows.{HasItsKind, completion_named, either, ending_named, function_in, function_named, group_named, is_long_init, is_long_receive, is_long_send, is_unread_name, isend_named, message_named, other_named, receive_named, rooted_named, send_named, test_named, unread_named};
+ghost use Rattle.dumpi_calls.specs.Rows.{collective_named, completion_named, ending_named, first_named, function_in, function_named, has_i, is_long_init, is_long_receive, is_long_send, is_unread_name, isend_named, message_named, other_named, receive_named, send_named, short_name, test_named, unread_named};
+ghost use Rattle.mpi_model.specs.Kinds.{all_kinds};
 
 use dumpi_text::RawCall;
 use mpi_model::{Kind, Mode};
@@ -29,11 +30,10 @@ pub enum Function {
     Cancel,
     /// `MPI_Request_free`.
     Free,
-    /// A blocking collective call without a root.
-    OfAll(Kind),
-    /// A collective call with a root.
-    Rooted(Kind),
-    Ibarrier,
+    /// A blocking collective function.
+    Collective(Kind),
+    /// A nonblocking one (MPI 4.0, 6.12).
+    Icollective(Kind),
     /// One that moves messages and that no row reads.
     Unread,
     Finalize,
@@ -66,8 +66,7 @@ pub fn is(name: &[u8], word: &str) -> bool
 
 // a blocking send
 fn send_of(name: &[u8]) -> Option<Function>
-    ensures value { result ≡ send_named name.now }
-    ensures kind { IfSome result HasItsKind }
+    ensures { result ≡ send_named name.now }
 {
     if is(name, "MPI_Send") {
         Some(Function::Send(Mode::Standard))
@@ -84,8 +83,7 @@ fn send_of(name: &[u8]) -> Option<Function>
 
 // a nonblocking send
 fn isend_of(name: &[u8]) -> Option<Function>
-    ensures value { result ≡ isend_named name.now }
-    ensures kind { IfSome result HasItsKind }
+    ensures { result ≡ isend_named name.now }
 {
     if is(name, "MPI_Isend") {
         Some(Function::Isend(Mode::Standard))
@@ -102,8 +100,7 @@ fn isend_of(name: &[u8]) -> Option<Function>
 
 // a receive, a send and a receive at once, or a probe
 fn receive_of(name: &[u8]) -> Option<Function>
-    ensures value { result ≡ receive_named name.now }
-    ensures kind { IfSome result HasItsKind }
+    ensures { result ≡ receive_named name.now }
 {
     if is(name, "MPI_Recv") {
         Some(Function::Recv)
@@ -120,8 +117,7 @@ fn receive_of(name: &[u8]) -> Option<Function>
 
 // a call that waits for requests
 fn completion_of(name: &[u8]) -> Option<Function>
-    ensures value { result ≡ completion_named name.now }
-    ensures kind { IfSome result HasItsKind }
+    ensures { result ≡ completion_named name.now }
 {
     if is(name, "MPI_Wait") {
         Some(Function::Wait)
@@ -138,8 +134,7 @@ fn completion_of(name: &[u8]) -> Option<Function>
 
 // a call that asks whether requests are complete
 fn test_of(name: &[u8]) -> Option<Function>
-    ensures value { result ≡ test_named name.now }
-    ensures kind { IfSome result HasItsKind }
+    ensures { result ≡ test_named name.now }
 {
     if is(name, "MPI_Test") {
         Some(Function::Test)
@@ -156,8 +151,7 @@ fn test_of(name: &[u8]) -> Option<Function>
 
 // a call that gives up a request
 fn ending_of(name: &[u8]) -> Option<Function>
-    ensures value { result ≡ ending_named name.now }
-    ensures kind { IfSome result HasItsKind }
+    ensures { result ≡ ending_named name.now }
 {
     if is(name, "MPI_Cancel") {
         Some(Function::Cancel)
@@ -168,48 +162,131 @@ fn ending_of(name: &[u8]) -> Option<Function>
     }
 }
 
-// whether a name is one of two: a collective call has the same meaning with `_c` behind its name
-fn is_either(name: &[u8], short: &str, long: &str) -> bool
-    ensures { result ≡ either name.now short.now long.now }
+// a name without a `_c` behind it
+fn short_of(name: &[u8]) -> &[u8]
+    ensures { result.now ≡ short_name name.now }
 {
-    is(name, short) || is(name, long)
+    match name.strip_suffix(b"_c") {
+        Some(short) => short,
+        None => name,
+    }
 }
 
-// a collective call without a root
-fn group_of(name: &[u8]) -> Option<Function>
-    ensures value { result ≡ group_named name.now }
-    ensures kind { IfSome result HasItsKind }
+// the kind of a blocking collective function
+fn kind_of(name: &[u8]) -> Option<Kind>
+    ensures { result ≡ first_named false name.now all_kinds }
 {
-    if is_either(name, "MPI_Barrier", "MPI_Barrier_c") {
-        Some(Function::OfAll(Kind::Barrier))
-    } else if is_either(name, "MPI_Allreduce", "MPI_Allreduce_c") {
-        Some(Function::OfAll(Kind::Allreduce))
-    } else if is_either(name, "MPI_Allgather", "MPI_Allgather_c") {
-        Some(Function::OfAll(Kind::Allgather))
-    } else if is_either(name, "MPI_Alltoall", "MPI_Alltoall_c") {
-        Some(Function::OfAll(Kind::Alltoall))
-    } else if is(name, "MPI_Ibarrier") {
-        Some(Function::Ibarrier)
+    if is(name, "MPI_Barrier") {
+        Some(Kind::Barrier)
+    } else if is(name, "MPI_Bcast") {
+        Some(Kind::Bcast)
+    } else if is(name, "MPI_Scatter") {
+        Some(Kind::Scatter)
+    } else if is(name, "MPI_Gather") {
+        Some(Kind::Gather)
+    } else if is(name, "MPI_Reduce") {
+        Some(Kind::Reduce)
+    } else if is(name, "MPI_Allreduce") {
+        Some(Kind::Allreduce)
+    } else if is(name, "MPI_Allgather") {
+        Some(Kind::Allgather)
+    } else if is(name, "MPI_Alltoall") {
+        Some(Kind::Alltoall)
+    } else if is(name, "MPI_Scan") {
+        Some(Kind::Scan)
+    } else if is(name, "MPI_Exscan") {
+        Some(Kind::Exscan)
+    } else if is(name, "MPI_Reduce_scatter_block") {
+        Some(Kind::ReduceScatterBlock)
+    } else if is(name, "MPI_Reduce_scatter") {
+        Some(Kind::ReduceScatter)
+    } else if is(name, "MPI_Allgatherv") {
+        Some(Kind::Allgatherv)
+    } else if is(name, "MPI_Alltoallv") {
+        Some(Kind::Alltoallv)
+    } else if is(name, "MPI_Alltoallw") {
+        Some(Kind::Alltoallw)
+    } else if is(name, "MPI_Gatherv") {
+        Some(Kind::Gatherv)
+    } else if is(name, "MPI_Scatterv") {
+        Some(Kind::Scatterv)
     } else {
         None
     }
 }
 
-// a collective call with a root
-fn rooted_of(name: &[u8]) -> Option<Function>
-    ensures value { result ≡ rooted_named name.now }
-    ensures kind { IfSome result HasItsKind }
+// the kind of a nonblocking collective function
+fn nonblocking_kind_of(name: &[u8]) -> Option<Kind>
+    ensures { result ≡ first_named true name.now all_kinds }
 {
-    if is_either(name, "MPI_Bcast", "MPI_Bcast_c") {
-        Some(Function::Rooted(Kind::Bcast))
-    } else if is_either(name, "MPI_Scatter", "MPI_Scatter_c") {
-        Some(Function::Rooted(Kind::Scatter))
-    } else if is_either(name, "MPI_Gather", "MPI_Gather_c") {
-        Some(Function::Rooted(Kind::Gather))
-    } else if is_either(name, "MPI_Reduce", "MPI_Reduce_c") {
-        Some(Function::Rooted(Kind::Reduce))
+    if is(name, "MPI_Ibarrier") {
+        Some(Kind::Barrier)
+    } else if is(name, "MPI_Ibcast") {
+        Some(Kind::Bcast)
+    } else if is(name, "MPI_Iscatter") {
+        Some(Kind::Scatter)
+    } else if is(name, "MPI_Igather") {
+        Some(Kind::Gather)
+    } else if is(name, "MPI_Ireduce") {
+        Some(Kind::Reduce)
+    } else if is(name, "MPI_Iallreduce") {
+        Some(Kind::Allreduce)
+    } else if is(name, "MPI_Iallgather") {
+        Some(Kind::Allgather)
+    } else if is(name, "MPI_Ialltoall") {
+        Some(Kind::Alltoall)
+    } else if is(name, "MPI_Iscan") {
+        Some(Kind::Scan)
+    } else if is(name, "MPI_Iexscan") {
+        Some(Kind::Exscan)
+    } else if is(name, "MPI_Ireduce_scatter_block") {
+        Some(Kind::ReduceScatterBlock)
+    } else if is(name, "MPI_Ireduce_scatter") {
+        Some(Kind::ReduceScatter)
+    } else if is(name, "MPI_Iallgatherv") {
+        Some(Kind::Allgatherv)
+    } else if is(name, "MPI_Ialltoallv") {
+        Some(Kind::Alltoallv)
+    } else if is(name, "MPI_Ialltoallw") {
+        Some(Kind::Alltoallw)
+    } else if is(name, "MPI_Igatherv") {
+        Some(Kind::Gatherv)
+    } else if is(name, "MPI_Iscatterv") {
+        Some(Kind::Scatterv)
     } else {
         None
+    }
+}
+
+// whether an `I` stands behind the first four bytes of a name
+fn has_i(name: &[u8]) -> bool
+    ensures { result ≡ has_i name.now }
+{
+    match name.get(4) {
+        Some(byte) => *byte == b'I',
+        None => false,
+    }
+}
+
+// a collective function: the nonblocking ones, and no others, have an `I` behind `MPI_`
+#[tactic(auto, unfolding(crate::specs::Rows::collective_named))]
+fn collective_of(name: &[u8]) -> Option<Function>
+    ensures { result ≡ collective_named name.now }
+{
+    if is(name, "MPI_Ibarrier_c") {
+        return None;
+    }
+    let short = short_of(name);
+    if has_i(short) {
+        match nonblocking_kind_of(short) {
+            Some(kind) => Some(Function::Icollective(kind)),
+            None => None,
+        }
+    } else {
+        match kind_of(short) {
+            Some(kind) => Some(Function::Collective(kind)),
+            None => None,
+        }
     }
 }
 
@@ -268,8 +345,7 @@ fn is_long_init(name: &[u8]) -> bool
 
 // a function that moves messages and that no row reads
 fn unread_of(name: &[u8]) -> Option<Function>
-    ensures value { result ≡ unread_named name.now }
-    ensures kind { IfSome result HasItsKind }
+    ensures { result ≡ unread_named name.now }
 {
     if is_unread_name(name) || is_long_send(name) || is_long_receive(name) || is_long_init(name) {
         Some(Function::Unread)
@@ -280,8 +356,7 @@ fn unread_of(name: &[u8]) -> Option<Function>
 
 // every other function
 fn other_of(name: &[u8]) -> Function
-    ensures value { result ≡ other_named name.now }
-    ensures kind { HasItsKind result }
+    ensures { result ≡ other_named name.now }
 {
     if is(name, "MPI_Finalize") {
         Function::Finalize
@@ -292,8 +367,7 @@ fn other_of(name: &[u8]) -> Function
 
 // a call of a message or of requests
 fn message_of(name: &[u8]) -> Option<Function>
-    ensures value { result ≡ message_named name.now }
-    ensures kind { IfSome result HasItsKind }
+    ensures { result ≡ message_named name.now }
 {
     match send_of(name) {
         Some(function) => Some(function),
@@ -313,21 +387,17 @@ fn message_of(name: &[u8]) -> Option<Function>
 /// The function of a name.
 #[tactic(auto, unfolding(crate::specs::Rows::function_named))]
 pub fn function_of(name: &[u8]) -> Function
-    ensures value { result ≡ function_named name.now }
-    ensures kind { HasItsKind result }
+    ensures { result ≡ function_named name.now }
 {
     match message_of(name) {
         Some(function) => function,
-        None => match group_of(name) {
+        None => match collective_of(name) {
             Some(function) => function,
-            None => match rooted_of(name) {
+            None => match ending_of(name) {
                 Some(function) => function,
-                None => match ending_of(name) {
+                None => match unread_of(name) {
                     Some(function) => function,
-                    None => match unread_of(name) {
-                        Some(function) => function,
-                        None => other_of(name),
-                    },
+                    None => other_of(name),
                 },
             },
         },
@@ -336,8 +406,7 @@ pub fn function_of(name: &[u8]) -> Function
 
 /// The function of a call: where another thread ended the reading, the call isn't read, whatever its name is.
 pub fn function_in(raw: &RawCall) -> Function
-    ensures value { result ≡ function_in raw.now }
-    ensures kind { HasItsKind result }
+    ensures { result ≡ function_in raw.now }
 {
     if raw.threads() {
         Function::Unread

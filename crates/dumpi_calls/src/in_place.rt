@@ -1,7 +1,8 @@
 //! Calls as dumpi2ascii writes them, read whole where they stand at hand: no line of them is copied. What these functions
 //! don't answer for is read line by line.
 
-ghost use Rattle.std.specs.Prelude.{◌≡◌, ◌≤◌, ◌<◌, ◌^◌, IfSome, true};
+ghost use Rattle.std.specs.Prelude.{◌≡◌, ◌≤◌, ◌<◌, ◌^◌, IfSome, true, false};
+ghost use Rattle.mpi_model.specs.Kinds.{has_root};
 ghost use Rattle.mpi_model.specs.Ranges.{IsAskedTag, IsComm, IsSource, IsTarget};
 ghost use Rattle.dumpi_calls.specs.InPlace.{IsWhole, TellsCall, TellsReceive, TellsSend, usual_name};
 ghost use Rattle.dumpi_calls.specs.Readings.{request_by};
@@ -15,7 +16,7 @@ use crate::lines::{
     moved_front, number_front, passed_front, requests_front, small_of, status_front, statuses_front,
 };
 use crate::parameter::Parameter;
-use crate::reading::{asked_tag_of, comm_of, dest_of, request_of, source_of};
+use crate::reading::{asked_tag_of, comm_of, dest_of, request_of, root_of, source_of};
 use crate::typing::TypedCall;
 use dumpi_text::{Num, entering_front, returning_front};
 use mpi_model::{
@@ -208,7 +209,8 @@ fn waitall_lines(alloc: Global, text: &[u8]) -> Option<(Call, Outs, u64, &[u8])>
 
 // a collective call without a root
 fn group_lines(kind: Kind, text: &[u8]) -> Option<(Call, Outs, u64, &[u8])>
-    ensures says { IfSome result (λ x. TellsCall (Function.OfAll kind) x.0 x.1 x.2 text.now x.3.now) }
+    requires { has_root kind ≡ false }
+    ensures says { IfSome result (λ x. TellsCall (Function.Collective kind) x.0 x.1 x.2 text.now x.3.now) }
     ensures few { IfSome result (λ x. x.2 ≤ 14) }
 {
     let (passed, rest) = moved_front(kind, text);
@@ -225,15 +227,16 @@ fn group_lines(kind: Kind, text: &[u8]) -> Option<(Call, Outs, u64, &[u8])>
 
 // a collective call with a root
 fn rooted_lines(kind: Kind, text: &[u8]) -> Option<(Call, Outs, u64, &[u8])>
-    ensures says { IfSome result (λ x. TellsCall (Function.Rooted kind) x.0 x.1 x.2 text.now x.3.now) }
+    requires { has_root kind ≡ true }
+    ensures says { IfSome result (λ x. TellsCall (Function.Collective kind) x.0 x.1 x.2 text.now x.3.now) }
     ensures few { IfSome result (λ x. x.2 ≤ 14) }
 {
     let (passed, rest) = moved_front(kind, text);
     let (root, rest) = number_front(b"int", Parameter::Root, rest)?;
     let (comm, rest) = number_front(b"MPI_Comm", Parameter::Comm, rest)?;
-    let rank = small_of(root)?;
+    let rank = root_of(root)?;
     let group = comm_of(comm)?;
-    let collective = Collective::new(kind, Some(rank), group)?;
+    let collective = Collective::new(kind, rank, group)?;
     Some((
         Call::Collective(collective),
         Outs::Nothing,
@@ -254,8 +257,8 @@ fn lines_front(alloc: Global, function: Function, text: &[u8]) -> Option<(Call, 
         Function::Irecv => irecv_lines(text),
         Function::Wait => wait_lines(text),
         Function::Waitall => waitall_lines(alloc, text),
-        Function::OfAll(kind) => group_lines(kind, text),
-        Function::Rooted(kind) => rooted_lines(kind, text),
+        Function::Collective(kind) if kind.has_root() => rooted_lines(kind, text),
+        Function::Collective(kind) => group_lines(kind, text),
         _ => None,
     }
 }
@@ -273,21 +276,21 @@ pub fn usual_name(function: Function) -> &'static str
         Function::Irecv => "MPI_Irecv",
         Function::Wait => "MPI_Wait",
         Function::Waitall => "MPI_Waitall",
-        Function::OfAll(Kind::Barrier) => "MPI_Barrier",
-        Function::OfAll(Kind::Allreduce) => "MPI_Allreduce",
-        Function::OfAll(Kind::Allgather) => "MPI_Allgather",
-        Function::OfAll(Kind::Alltoall) => "MPI_Alltoall",
-        Function::Rooted(Kind::Bcast) => "MPI_Bcast",
-        Function::Rooted(Kind::Scatter) => "MPI_Scatter",
-        Function::Rooted(Kind::Gather) => "MPI_Gather",
-        Function::Rooted(Kind::Reduce) => "MPI_Reduce",
+        Function::Collective(Kind::Barrier) => "MPI_Barrier",
+        Function::Collective(Kind::Allreduce) => "MPI_Allreduce",
+        Function::Collective(Kind::Allgather) => "MPI_Allgather",
+        Function::Collective(Kind::Alltoall) => "MPI_Alltoall",
+        Function::Collective(Kind::Bcast) => "MPI_Bcast",
+        Function::Collective(Kind::Scatter) => "MPI_Scatter",
+        Function::Collective(Kind::Gather) => "MPI_Gather",
+        Function::Collective(Kind::Reduce) => "MPI_Reduce",
         _ => "",
     }
 }
 
 // The function whose entering line may stand in front of a text, by a few bytes of its name: no other of those that are
 // read in place has them.
-#[tactic(auto, unfolding(crate::specs::Rows::function_named))]
+#[tactic(auto, unfolding(crate::specs::Rows::function_named, crate::specs::Rows::collective_named))]
 fn likely_function(text: &[u8]) -> Option<Function>
     ensures word { IfSome result (λ function. is_word (usual_name function) ≡ true) }
     ensures named { IfSome result (λ function. function_named (usual_name function) ≡ function) }
@@ -295,20 +298,20 @@ fn likely_function(text: &[u8]) -> Option<Function>
     match text {
         [_, _, _, _, b'S', b'e', ..] => Some(Function::Send(Mode::Standard)),
         [_, _, _, _, b'S', b's', ..] => Some(Function::Send(Mode::Synchronous)),
-        [_, _, _, _, b'S', b'c', ..] => Some(Function::Rooted(Kind::Scatter)),
+        [_, _, _, _, b'S', b'c', ..] => Some(Function::Collective(Kind::Scatter)),
         [_, _, _, _, b'I', b's', b'e', ..] => Some(Function::Isend(Mode::Standard)),
         [_, _, _, _, b'I', b's', ..] => Some(Function::Isend(Mode::Synchronous)),
         [_, _, _, _, b'I', b'r', ..] => Some(Function::Irecv),
         [_, _, _, _, b'R', b'e', b'c', ..] => Some(Function::Recv),
-        [_, _, _, _, b'R', b'e', b'd', ..] => Some(Function::Rooted(Kind::Reduce)),
+        [_, _, _, _, b'R', b'e', b'd', ..] => Some(Function::Collective(Kind::Reduce)),
         [_, _, _, _, b'W', _, _, _, b' ', ..] => Some(Function::Wait),
         [_, _, _, _, b'W', _, _, _, b'a', b'l', ..] => Some(Function::Waitall),
-        [_, _, _, _, b'B', b'a', ..] => Some(Function::OfAll(Kind::Barrier)),
-        [_, _, _, _, b'B', b'c', ..] => Some(Function::Rooted(Kind::Bcast)),
-        [_, _, _, _, b'A', _, _, b'r', ..] => Some(Function::OfAll(Kind::Allreduce)),
-        [_, _, _, _, b'A', _, _, b'g', ..] => Some(Function::OfAll(Kind::Allgather)),
-        [_, _, _, _, b'A', _, _, b't', ..] => Some(Function::OfAll(Kind::Alltoall)),
-        [_, _, _, _, b'G', b'a', ..] => Some(Function::Rooted(Kind::Gather)),
+        [_, _, _, _, b'B', b'a', ..] => Some(Function::Collective(Kind::Barrier)),
+        [_, _, _, _, b'B', b'c', ..] => Some(Function::Collective(Kind::Bcast)),
+        [_, _, _, _, b'A', _, _, b'r', ..] => Some(Function::Collective(Kind::Allreduce)),
+        [_, _, _, _, b'A', _, _, b'g', ..] => Some(Function::Collective(Kind::Allgather)),
+        [_, _, _, _, b'A', _, _, b't', ..] => Some(Function::Collective(Kind::Alltoall)),
+        [_, _, _, _, b'G', b'a', ..] => Some(Function::Collective(Kind::Gather)),
         _ => None,
     }
 }

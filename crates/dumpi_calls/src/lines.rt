@@ -35,7 +35,7 @@ pub fn number_front<'a>(
     Some((number, rest))
 }
 
-/// A count, a tag of a send or a root.
+/// A count or a tag of a send.
 pub fn small_of(number: Num) -> Option<u32>
     ensures value { result ≡ non_negative number.value }
     ensures range { IfSome result (λ n. n < 2 ^ 31) }
@@ -89,10 +89,10 @@ pub fn moved_front(kind: Kind, text: &[u8]) -> (u64, &[u8])
     ensures few { result.0 ≤ 4 }
 {
     match kind {
-        Kind::Barrier | Kind::Ibarrier => (0, text),
         Kind::Bcast | Kind::Reduce | Kind::Allreduce => counted_front(text),
         Kind::Scatter | Kind::Gather => exchanged_front(text),
         Kind::Allgather | Kind::Alltoall => exchanged_front(text),
+        _ => (0, text),
     }
 }
 

@@ -328,7 +328,7 @@ pub fn outcome(alloc: Global, call: &Call, raw: &RawCall) -> Result<Outs, CallFa
     match call {
         Call::Local | Call::Finalize | Call::Send(..) | Call::Collective(_) => Ok(Outs::Nothing),
         Call::Cancel(_) | Call::Free(_) | Call::Unread => Ok(Outs::Nothing),
-        Call::Isend(..) | Call::Irecv(_) | Call::Ibarrier(_) => posted_in(alloc, raw),
+        Call::Isend(..) | Call::Irecv(_) | Call::Icollective(_) => posted_in(alloc, raw),
         Call::Recv(_) | Call::Sendrecv(_) => Ok(status_in(alloc, raw)?),
         Call::Probe(_) | Call::Wait(_) => Ok(status_in(alloc, raw)?),
         Call::Waitall(requests) => Ok(statuses_in(alloc, requests.as_slice(), raw)?),

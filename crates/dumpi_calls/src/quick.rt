@@ -76,6 +76,8 @@ fn name_by(note: &[u8]) -> NumName
         NumName::AnyTag
     } else if says(note, "MPI_PROC_NULL") {
         NumName::ProcNull
+    } else if says(note, "MPI_ROOT") {
+        NumName::Root
     } else if says(note, "MPI_COMM_WORLD") {
         NumName::CommWorld
     } else if says(note, "MPI_REQUEST_NULL") {

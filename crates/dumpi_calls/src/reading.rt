@@ -3,16 +3,17 @@
 //! A name that a number's note gives wins over the number where the parameter knows it; where none decides, -1 and -2
 //! stand for what has no rank. That choice is this project's own, and no constant of `dumpi2ascii`.
 
-ghost use Rattle.std.specs.Prelude.{◌≡◌, ◌∷◌, ◌<◌, ◌^◌, [], IfOk, IfSome, OnOk};
+ghost use Rattle.std.specs.Prelude.{◌≡◌, ◌∷◌, ◌<◌, ◌^◌, [], IfOk, IfSome, OnOk, true};
 ghost use Rattle.dumpi_text.specs.Value.{value_of};
-ghost use Rattle.mpi_model.specs.Ranges.{IsAskedTag, IsComm, IsSource, IsTarget};
+ghost use Rattle.mpi_model.specs.Ranges.{IsAskedTag, IsComm, IsRootOf, IsSource, IsTarget};
+ghost use Rattle.mpi_model.specs.Kinds.{has_root};
 ghost use Rattle.std.specs.Option.{option_copied};
-ghost use Rattle.dumpi_calls.specs.Readings.{AreThere, Reads, all_numbers, asked_tag_by, asked_tag_in, comm_by, comm_in, dest_by, dest_in, number_in, numbers_in, one_number, or_wrong, requests_in, non_negative, non_negative_in, request_by, request_in, requests_of, source_by, source_in, text_of, value_in};
+ghost use Rattle.dumpi_calls.specs.Readings.{AreThere, Reads, all_numbers, asked_tag_by, asked_tag_in, comm_by, comm_in, dest_by, dest_in, number_in, numbers_in, one_number, or_wrong, requests_in, non_negative, non_negative_in, request_by, request_in, requests_of, root_by, root_in, root_named, source_by, source_in, text_of, value_in};
 
 use crate::parameter::{CallFault, Parameter};
 use crate::quick::quick_number;
 use dumpi_text::{Num, NumName, Nums, RawCall, Value, ValueFault, parse_value};
-use mpi_model::{CommRef, NULL_REQUEST, Peer, Requests};
+use mpi_model::{CommRef, Kind, NULL_REQUEST, Peer, Requests};
 use std::alloc::{AllocError, Global};
 
 /// The text of a parameter.
@@ -79,7 +80,7 @@ pub fn number(alloc: Global, raw: &RawCall, parameter: Parameter) -> Result<Num,
     }
 }
 
-/// A count, a tag of a send or a root: 0 to 2^31 - 1.
+/// A count or a tag of a send: 0 to 2^31 - 1.
 #[tactic(auto, unfolding(crate::specs::Readings::non_negative_in))]
 pub fn non_negative(alloc: Global, raw: &RawCall, parameter: Parameter) -> Result<u32, CallFault>
     ensures means { Reads result (non_negative_in parameter raw.now) }
@@ -136,6 +137,33 @@ pub fn source(alloc: Global, raw: &RawCall) -> Result<Peer, CallFault>
     match source_of(number) {
         Some(peer) => Ok(peer),
         None => Err(CallFault::Wrong(Parameter::Source)),
+    }
+}
+
+// the root that a call of a kind with a root names
+#[tactic(auto, unfolding(crate::specs::Readings::root_named))]
+fn named_root(alloc: Global, raw: &RawCall) -> Result<Option<u32>, CallFault>
+    ensures means { Reads result (root_named raw.now) }
+    ensures there { OnOk result (AreThere (Parameter.Root ∷ []) raw.now) }
+    ensures range { IfOk result IsAskedTag }
+{
+    let number = number(alloc, raw, Parameter::Root)?;
+    match root_of(number) {
+        Some(root) => Ok(root),
+        None => Err(CallFault::Wrong(Parameter::Root)),
+    }
+}
+
+/// The root of a call of a kind: a rank of its group, or none.
+pub fn root(alloc: Global, kind: Kind, raw: &RawCall) -> Result<Option<u32>, CallFault>
+    ensures means { Reads result (root_in kind raw.now) }
+    ensures there { OnOk result (has_root kind ≡ true → AreThere (Parameter.Root ∷ []) raw.now) }
+    ensures range { IfOk result (IsRootOf kind) }
+{
+    if kind.has_root() {
+        named_root(alloc, raw)
+    } else {
+        Ok(None)
     }
 }
 
@@ -256,6 +284,17 @@ pub fn asked_tag_of(number: Num) -> Option<Option<u32>>
     ensures range { IfSome result IsAskedTag }
 {
     if number.name == NumName::AnyTag || number.value == -1 {
+        return Some(None);
+    }
+    Some(Some(non_negative_of(number.value)?))
+}
+
+/// The root that a number tells, by its name first: none where it is no rank of the call's group.
+pub fn root_of(number: Num) -> Option<Option<u32>>
+    ensures value { result ≡ root_by number.name number.value }
+    ensures range { IfSome result IsAskedTag }
+{
+    if number.name == NumName::Root || number.name == NumName::ProcNull || number.value < 0 {
         return Some(None);
     }
     Some(Some(non_negative_of(number.value)?))

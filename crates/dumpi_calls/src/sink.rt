@@ -1,7 +1,7 @@
 //! What calls are handed to.
 
 ghost use Rattle.std.specs.Prelude.{◌≡◌, OnErr, OnOk};
-ghost use Rattle.dumpi_calls.specs.Rows.{OnCancel, OnCollective, OnIbarrier, OnIrecv, OnIsend, OnOther, OnProbe, OnRecv, OnRequestFree, OnSend, OnSendrecv, OnTest, OnTestall, OnTestany, OnTestsome, OnUnread, OnWait, OnWaitall, OnWaitany, OnWaitsome, row};
+ghost use Rattle.dumpi_calls.specs.Rows.{OnCancel, OnCollective, OnIcollective, OnIrecv, OnIsend, OnOther, OnProbe, OnRecv, OnRequestFree, OnSend, OnSendrecv, OnTest, OnTestall, OnTestany, OnTestsome, OnUnread, OnWait, OnWaitall, OnWaitany, OnWaitsome, row};
 ghost use Rattle.dumpi_calls.specs.Seen.{Seen, seen, seen_by};
 
 use crate::function::Function;
@@ -191,8 +191,7 @@ pub trait CallSink {
         ensures ok { OnOk result (self.new ≡ step self.old (seen OnRequestFree call enter exit)) }
         ensures err { OnErr result (self.new ≡ self.old) };
 
-    /// `MPI_Barrier`, `MPI_Bcast`, `MPI_Scatter`, `MPI_Gather`, `MPI_Reduce`, `MPI_Allreduce`, `MPI_Allgather`,
-    /// `MPI_Alltoall`, each also with `_c` behind its name.
+    /// A blocking collective call of a [`Kind`](mpi_model::Kind), also with `_c` behind its name.
     fn on_collective(
         &mut self,
         call: Call,
@@ -202,14 +201,14 @@ pub trait CallSink {
         ensures ok { OnOk result (self.new ≡ step self.old (seen OnCollective call enter exit)) }
         ensures err { OnErr result (self.new ≡ self.old) };
 
-    /// `MPI_Ibarrier`.
-    fn on_ibarrier(
+    /// A nonblocking one: its end is told by its request.
+    fn on_icollective(
         &mut self,
         call: Call,
         enter: Stamp,
         exit: Option<Exit>,
     ) -> Result<(), Self::Fault>
-        ensures ok { OnOk result (self.new ≡ step self.old (seen OnIbarrier call enter exit)) }
+        ensures ok { OnOk result (self.new ≡ step self.old (seen OnIcollective call enter exit)) }
         ensures err { OnErr result (self.new ≡ self.old) };
 
     /// A function that moves messages and that isn't read, or a call at which another thread ended the reading; its name
@@ -264,9 +263,8 @@ pub fn hand_on<S: CallSink>(
         Function::Testsome => sink.on_testsome(call, enter, exit),
         Function::Cancel => sink.on_cancel(call, enter, exit),
         Function::Free => sink.on_request_free(call, enter, exit),
-        Function::OfAll(_) => sink.on_collective(call, enter, exit),
-        Function::Rooted(_) => sink.on_collective(call, enter, exit),
-        Function::Ibarrier => sink.on_ibarrier(call, enter, exit),
+        Function::Collective(_) => sink.on_collective(call, enter, exit),
+        Function::Icollective(_) => sink.on_icollective(call, enter, exit),
         Function::Unread => sink.on_unread(name, call, enter, exit),
         Function::Finalize => sink.on_other(name, call, enter, exit),
         Function::Other => sink.on_other(name, call, enter, exit),

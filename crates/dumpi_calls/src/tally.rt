@@ -26,7 +26,7 @@ pub struct Tally {
     pub on_cancel: u64,
     pub on_request_free: u64,
     pub on_collective: u64,
-    pub on_ibarrier: u64,
+    pub on_icollective: u64,
     pub on_unread: u64,
     pub on_other: u64,
 }
@@ -34,7 +34,7 @@ pub struct Tally {
 impl Tally {
     /// Every count at 0.
     pub fn new() -> Tally
-        ensures { result ≡ record { on_send = 0; on_isend = 0; on_recv = 0; on_irecv = 0; on_sendrecv = 0; on_probe = 0; on_wait = 0; on_waitall = 0; on_waitany = 0; on_waitsome = 0; on_test = 0; on_testall = 0; on_testany = 0; on_testsome = 0; on_cancel = 0; on_request_free = 0; on_collective = 0; on_ibarrier = 0; on_unread = 0; on_other = 0 } }
+        ensures { result ≡ record { on_send = 0; on_isend = 0; on_recv = 0; on_irecv = 0; on_sendrecv = 0; on_probe = 0; on_wait = 0; on_waitall = 0; on_waitany = 0; on_waitsome = 0; on_test = 0; on_testall = 0; on_testany = 0; on_testsome = 0; on_cancel = 0; on_request_free = 0; on_collective = 0; on_icollective = 0; on_unread = 0; on_other = 0 } }
     {
         Tally {
             on_send: 0,
@@ -54,7 +54,7 @@ impl Tally {
             on_cancel: 0,
             on_request_free: 0,
             on_collective: 0,
-            on_ibarrier: 0,
+            on_icollective: 0,
             on_unread: 0,
             on_other: 0,
         }
@@ -238,13 +238,13 @@ impl CallSink for Tally {
         Ok(())
     }
 
-    fn on_ibarrier(
+    fn on_icollective(
         &mut self,
         _call: Call,
         _enter: Stamp,
         _exit: Option<Exit>,
     ) -> Result<(), Infallible> {
-        self.on_ibarrier = self.on_ibarrier.saturating_add(1);
+        self.on_icollective = self.on_icollective.saturating_add(1);
         Ok(())
     }
 

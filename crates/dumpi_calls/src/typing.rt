@@ -7,16 +7,15 @@
 ghost use Rattle.std.specs.Prelude.{◌≡◌, ◌∷◌, [], IfOk, IsSome, None, OnOk};
 ghost use Rattle.dumpi_calls.specs.Outcomes.{brought_by, index_where_set};
 ghost use Rattle.dumpi_calls.specs.Readings.{AreThere, Reads};
-ghost use Rattle.dumpi_calls.specs.Rows.{HasItsKind, exit_in, first_missing, group_call, ibarrier_call, isend_call, irecv_call, missing_in, probe_call, probe_parameters, read_by, receive_parameters, recv_call, returned, rooted_call, row, send_call, send_parameters, cancel_call, free_call, test_call, testall_call, testany_call, testsome_call, typed_by, wait_call, waitall_call, waitany_call, waitsome_call};
-ghost use Rattle.mpi_model.specs.Ranges.{HasRoot, IsRootOf};
+ghost use Rattle.dumpi_calls.specs.Rows.{collective_call, collective_in, collective_parameters, exit_in, first_missing, icollective_call, isend_call, irecv_call, missing_in, probe_call, probe_parameters, read_by, receive_parameters, recv_call, returned, row, send_call, send_parameters, cancel_call, free_call, test_call, testall_call, testany_call, testsome_call, typed_by, wait_call, waitall_call, waitany_call, waitsome_call};
 
 use crate::envelope::{receive_envelope_in, send_envelope_in, sendrecv_in};
 use crate::function::Function;
 use crate::outcome::{is_flag_set, outcome};
 use crate::parameter::{CallFault, Parameter};
-use crate::reading::{asked_tag, comm, non_negative, request, requests, source, text_in};
+use crate::reading::{asked_tag, comm, request, requests, root, source, text_in};
 use dumpi_text::RawCall;
-use mpi_model::{Call, Collective, Exit, Kind, Mode, NamedComm, ProbeEnvelope, Stamp};
+use mpi_model::{Call, Collective, Exit, Kind, Mode, ProbeEnvelope, Stamp};
 use std::alloc::{AllocError, Global};
 
 /// A call with what it names, when it was entered, and how it returned, if it did.
@@ -37,6 +36,17 @@ fn first_of(raw: &RawCall, parameters: &[Parameter]) -> Option<Parameter>
         }
     }
     None
+}
+
+// the first parameter of a collective call that isn't there
+fn collective_missing(kind: Kind, raw: &RawCall) -> Option<Parameter>
+    ensures { result ≡ first_missing (collective_parameters kind) raw.now }
+{
+    if kind.has_root() {
+        first_of(raw, &[Parameter::Root, Parameter::Comm])
+    } else {
+        first_of(raw, &[Parameter::Comm])
+    }
 }
 
 // the first entry parameter of the row that isn't there
@@ -88,8 +98,7 @@ fn entry_missing(function: Function, raw: &RawCall) -> Option<Parameter>
         Function::Testall | Function::Testany | Function::Testsome => {
             first_of(raw, &[Parameter::Requests])
         }
-        Function::OfAll(_) | Function::Ibarrier => first_of(raw, &[Parameter::Comm]),
-        Function::Rooted(_) => first_of(raw, &[Parameter::Root, Parameter::Comm]),
+        Function::Collective(kind) | Function::Icollective(kind) => collective_missing(kind, raw),
         Function::Unread | Function::Finalize | Function::Other => None,
     }
 }
@@ -103,7 +112,7 @@ fn outcome_missing(
     ensures { IfOk result (λ missing. missing ≡ first_missing ((row function raw.now.name).outcome raw.now) raw.now) }
 {
     match function {
-        Function::Isend(_) | Function::Irecv | Function::Ibarrier => Ok(first_of(
+        Function::Isend(_) | Function::Irecv | Function::Icollective(_) => Ok(first_of(
             raw,
             &[Parameter::Request],
         )),
@@ -119,7 +128,7 @@ fn outcome_missing(
         Function::Send(_) | Function::Recv | Function::Sendrecv | Function::Probe => Ok(None),
         Function::Wait | Function::Waitall | Function::Waitsome | Function::Testsome => Ok(None),
         Function::Cancel | Function::Free | Function::Unread => Ok(None),
-        Function::OfAll(_) | Function::Rooted(_) => Ok(None),
+        Function::Collective(_) => Ok(None),
         Function::Finalize | Function::Other => Ok(None),
     }
 }
@@ -294,42 +303,39 @@ fn free(alloc: Global, raw: &RawCall) -> Result<Call, CallFault>
     Ok(Call::Free(request))
 }
 
-#[tactic(auto, unfolding(crate::specs::Rows::group_call))]
-fn of_all(alloc: Global, kind: Kind, raw: &RawCall) -> Result<Call, CallFault>
-    requires { IsRootOf kind None }
-    ensures means { Reads result (group_call kind raw.now) }
-    ensures there { OnOk result (AreThere (Parameter.Comm ∷ []) raw.now) }
-    ensures brings { IfOk result (λ c. brought_by c raw.now ≡ []) }
+// what a collective call names
+#[tactic(auto, unfolding(crate::specs::Rows::collective_in))]
+fn collective_of(alloc: Global, kind: Kind, raw: &RawCall) -> Result<Collective, CallFault>
+    ensures means { Reads result (collective_in kind raw.now) }
+    ensures there { OnOk result (AreThere (collective_parameters kind) raw.now) }
 {
+    let root = root(alloc, kind, raw)?;
     let comm = comm(alloc, raw)?;
-    Ok(Call::Collective(Collective::new(kind, None, comm).unwrap()))
+    Ok(Collective::new(kind, root, comm).unwrap())
 }
 
-#[tactic(auto, unfolding(crate::specs::Rows::rooted_call))]
-fn rooted(alloc: Global, kind: Kind, raw: &RawCall) -> Result<Call, CallFault>
-    requires { HasRoot kind }
-    ensures means { Reads result (rooted_call kind raw.now) }
-    ensures there { OnOk result (AreThere (Parameter.Root ∷ Parameter.Comm ∷ []) raw.now) }
+#[tactic(auto, unfolding(crate::specs::Rows::collective_call))]
+fn collective(alloc: Global, kind: Kind, raw: &RawCall) -> Result<Call, CallFault>
+    ensures means { Reads result (collective_call kind raw.now) }
+    ensures there { OnOk result (AreThere (collective_parameters kind) raw.now) }
     ensures brings { IfOk result (λ c. brought_by c raw.now ≡ []) }
 {
-    let root = non_negative(alloc, raw, Parameter::Root)?;
-    let comm = comm(alloc, raw)?;
-    Ok(Call::Collective(Collective::new(kind, Some(root), comm).unwrap()))
+    let collective = collective_of(alloc, kind, raw)?;
+    Ok(Call::Collective(collective))
 }
 
-#[tactic(auto, unfolding(crate::specs::Rows::ibarrier_call))]
-fn ibarrier(alloc: Global, raw: &RawCall) -> Result<Call, CallFault>
-    ensures means { Reads result (ibarrier_call raw.now) }
-    ensures there { OnOk result (AreThere (Parameter.Comm ∷ []) raw.now) }
+#[tactic(auto, unfolding(crate::specs::Rows::icollective_call))]
+fn icollective(alloc: Global, kind: Kind, raw: &RawCall) -> Result<Call, CallFault>
+    ensures means { Reads result (icollective_call kind raw.now) }
+    ensures there { OnOk result (AreThere (collective_parameters kind) raw.now) }
     ensures brings { IfOk result (λ c. brought_by c raw.now ≡ Parameter.Request ∷ []) }
 {
-    let comm = comm(alloc, raw)?;
-    Ok(Call::Ibarrier(NamedComm::new(comm).unwrap()))
+    let collective = collective_of(alloc, kind, raw)?;
+    Ok(Call::Icollective(collective))
 }
 
 // the call by the entry parameters of its row
 fn call_in(alloc: Global, function: Function, raw: &RawCall) -> Result<Call, CallFault>
-    requires { HasItsKind function }
     ensures means { Reads result ((row function raw.now.name).call raw.now) }
     ensures there { OnOk result (AreThere (row function raw.now.name).entry raw.now) }
     ensures brings { IfOk result (λ c. brought_by c raw.now ≡ (row function raw.now.name).outcome raw.now) }
@@ -351,9 +357,8 @@ fn call_in(alloc: Global, function: Function, raw: &RawCall) -> Result<Call, Cal
         Function::Testsome => testsome(alloc, raw),
         Function::Cancel => cancel(alloc, raw),
         Function::Free => free(alloc, raw),
-        Function::OfAll(kind) => of_all(alloc, kind, raw),
-        Function::Rooted(kind) => rooted(alloc, kind, raw),
-        Function::Ibarrier => ibarrier(alloc, raw),
+        Function::Collective(kind) => collective(alloc, kind, raw),
+        Function::Icollective(kind) => icollective(alloc, kind, raw),
         Function::Unread => Ok(Call::Unread),
         Function::Finalize => Ok(Call::Finalize),
         Function::Other => Ok(Call::Local),
@@ -387,7 +392,6 @@ fn exit_of(alloc: Global, call: &Call, raw: &RawCall) -> Result<Option<Exit>, Ca
 // the call and its exit, read in one go
 #[tactic(auto, unfolding(crate::specs::Rows::read_by), using(crate::proofs::Missing::none_missing))]
 fn read(alloc: Global, function: Function, raw: &RawCall) -> Result<TypedCall, CallFault>
-    requires { HasItsKind function }
     ensures means { Reads result (read_by (row function raw.now.name) raw.now) }
     ensures there { OnOk result (missing_in (row function raw.now.name) raw.now ≡ None) }
 {
@@ -402,7 +406,6 @@ fn read(alloc: Global, function: Function, raw: &RawCall) -> Result<TypedCall, C
 
 /// The call that a text tells, by the row of its function.
 pub fn typed_call(alloc: Global, function: Function, raw: &RawCall) -> Result<TypedCall, CallFault>
-    requires { HasItsKind function }
     ensures means { Reads result (typed_by (row function raw.now.name) raw.now) }
 {
     match read(alloc, function, raw) {

@@ -5,7 +5,7 @@ ghost use Rattle.dumpi_text.specs.Call.{TextCall};
 ghost use Rattle.dumpi_text.specs.Failing.{Fails};
 ghost use Rattle.dumpi_text.specs.Shown.{put_in};
 ghost use Rattle.dumpi_text.specs.declared.step.TheConstants.{MOST_LINES};
-ghost use Rattle.dumpi_calls.specs.Rows.{row_of, typed, typed_by, row, HasItsKind};
+ghost use Rattle.dumpi_calls.specs.Rows.{row_of, typed, typed_by, row};
 ghost use Rattle.dumpi_calls.specs.Walks.{Advances, FailsAfter, FailsIn, Follows, FollowsWhole, IsRead, IsReadFault, IsReadStop, IsStopped, IsTypedAs, IsWalked, LacksNext, RefusesCall, RefusesNext, StopsWalk, Takes, lacks_exit};
 
 use crate::fault::{WalkCause, WalkFault};

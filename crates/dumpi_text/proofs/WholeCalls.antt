@@ -20,9 +20,6 @@ feed_apart line rest more = append_assoc line (10 ∷ rest) more ∙ sym (append
 not_above : (n limit : ℕ) → n ≤ limit → nat_lt limit n ≡ false
 not_above n limit h = grind (arith, common_steps)
 
-is_below : (n limit : ℕ) → n < limit → nat_lt n limit ≡ true
-is_below n limit h = grind (arith, common_steps)
-
 same_self : (name : List ℕ) → same_bytes name name ≡ true
 same_self [] = refl
 same_self (b ∷ bs) = let itself : eqb b b ≡ true = grind arith in rw itself (same_self bs)
@@ -42,10 +39,10 @@ line_means at current kind text rest more h =
     ∙ ap (λ (t : Taken × Position). follow t (λ next still. meaning_of next still (rest ++ more))) (step_is at current h.line kind h.front.short h.is)
 
 -- the entering line
-entered : (at : Position) (name text rest more : List ℕ) (enter : Times) → HasLine (Entering name enter) text rest → at.calls < 1000000 → at.line + 1 ≤ 16777216
-    → meaning_of at None (text ++ more) ≡ meaning_of (record { line = at.line + 1; skipped = at.skipped; calls = at.calls + 1; entered = enter.wall }) (Some (record { content = record { name = name; params = [] }; enter = enter; line = at.line + 1 })) (rest ++ more)
-entered at name text rest more enter h calls lines =
-    line_means at None (Entering name enter) text rest more h ∙ rw (is_below at.calls 1000000 calls, not_above (at.line + 1) 16777216 lines) refl
+entered : (at : Position) (name text rest more : List ℕ) (enter : Times) → HasLine (Entering name enter) text rest → at.line + 1 ≤ 16777216
+    → meaning_of at None (text ++ more) ≡ meaning_of (record { line = at.line + 1; skipped = at.skipped; entered = enter.wall }) (Some (record { content = record { name = name; params = [] }; enter = enter; line = at.line + 1 })) (rest ++ more)
+entered at name text rest more enter h lines =
+    line_means at None (Entering name enter) text rest more h ∙ rw (not_above (at.line + 1) 16777216 lines) refl
 
 -- a call with one parameter more
 abbrev more : Opening → Param → Opening
@@ -99,23 +96,23 @@ returned at current text rest after exit h lines =
     ∙ rw (same_self current.content.name, not_above (at.line + 1) 16777216 lines) refl
 
 -- all of the call
-call_means : (at : Position) (content : CallContent) (enter exit : Times) (text rest after : List ℕ) → HasCall content enter exit text rest → at.calls < 1000000 → at.line + lines_of content ≤ 16777216
+call_means : (at : Position) (content : CallContent) (enter exit : Times) (text rest after : List ℕ) → HasCall content enter exit text rest → at.line + lines_of content ≤ 16777216
     → meaning_of at None (text ++ after) ≡ with_call (call_after at content enter exit) (meaning_of (place_after at (lines_of content) enter) None (rest ++ after))
-call_means at content enter exit text rest after h calls lines =
-    let first : Position = record { line = at.line + 1; skipped = at.skipped; calls = at.calls + 1; entered = enter.wall } in
+call_means at content enter exit text rest after h lines =
+    let first : Position = record { line = at.line + 1; skipped = at.skipped; entered = enter.wall } in
     let current : Opening = record { content = record { name = content.name; params = [] }; enter = enter; line = at.line + 1 } in
     let last : Position = record first { line = first.line + length content.params } in
     let whole : Opening = record { content = content; enter = enter; line = at.line + 1 } in
     let end : last.line + 1 ≡ at.line + lines_of content = omega arith in
-    entered at content.name text h.inside after enter h.enters calls (omega arith)
+    entered at content.name text h.inside after enter h.enters (omega arith)
     ∙ all_told first current content.params h.inside h.after after h.tells (omega arith)
     ∙ ap (λ (p : Position). meaning_of p (Some (with_all current content.params)) (h.after ++ after)) (lines_counted first content.params)
     ∙ ap (λ (o : Opening). meaning_of last (Some o) (h.after ++ after)) (all_put current content.params)
     ∙ returned last whole h.after rest after exit h.returns (omega arith)
-    ∙ ap (λ (line : ℕ). with_call (record { name = content.name; params = content.params; enter = enter; exit = Some exit; line = at.line + 1; last_line = line; threads = false }) (meaning_of (record { line = line; skipped = at.skipped; calls = at.calls + 1; entered = enter.wall }) None (rest ++ after))) end
+    ∙ ap (λ (line : ℕ). with_call (record { name = content.name; params = content.params; enter = enter; exit = Some exit; line = at.line + 1; last_line = line; threads = false }) (meaning_of (record { line = line; skipped = at.skipped; entered = enter.wall }) None (rest ++ after))) end
 
 -- such a call is the text's next
-pub call_is_next : (at : Position) (content : CallContent) (enter exit : Times) (text rest : List ℕ) (left : Option (List ℕ)) → HasCall content enter exit text rest → at.calls < 1000000 → at.line + lines_of content ≤ 16777216
+pub call_is_next : (at : Position) (content : CallContent) (enter exit : Times) (text rest : List ℕ) (left : Option (List ℕ)) → HasCall content enter exit text rest → at.line + lines_of content ≤ 16777216
     → IsNext at (prepend_known text left) (Some (call_after at content enter exit)) (place_after at (lines_of content) enter) (prepend_known rest left)
-call_is_next at content enter exit text rest None h calls lines = tt
-call_is_next at content enter exit text rest (Some after) h calls lines = call_means at content enter exit text rest after h calls lines
+call_is_next at content enter exit text rest None h lines = tt
+call_is_next at content enter exit text rest (Some after) h lines = call_means at content enter exit text rest after h lines

@@ -6,9 +6,9 @@ use Rattle.dumpi_text.specs.Words.{trimmed, without_last}
 use Rattle.dumpi_text.specs.Parameter.{parameter_of}
 use Rattle.dumpi_text.specs.Stamps.{Kind, Blank, Entering, Returning, Threaded, Bad, Other, kind_of, is_entering}
 use Rattle.dumpi_text.specs.declared.fault.LineFault.{LineFault}
-use Rattle.dumpi_text.specs.declared.fault.LineFault.TheVariants.{LineTooLong, OtherThread, ReturnOutside, NotReturned, NameDiffers, BadParameter, Truncated, TooManyCalls, TooManyLines}
+use Rattle.dumpi_text.specs.declared.fault.LineFault.TheVariants.{LineTooLong, OtherThread, ReturnOutside, NotReturned, NameDiffers, BadParameter, Truncated, TooManyLines}
 use Rattle.dumpi_text.specs.declared.source.TheConstants.{LONGEST_LINE}
-use Rattle.dumpi_text.specs.declared.step.TheConstants.{MOST_CALLS, MOST_LINES}
+use Rattle.dumpi_text.specs.declared.step.TheConstants.{MOST_LINES}
 use Rattle.dumpi_text.specs.declared.step.Position.{Position}
 use Rattle.dumpi_text.specs.Call.{TextCall, CallContent, Param, same_bytes}
 
@@ -45,10 +45,7 @@ threaded at current time = if nat_lt time.wall at.entered then (Refuses OtherThr
 -- One line outside a call, and inside one, at its place: what is open then, or the call that it ends, or its fault.
 abbrev pub outside : Position → Kind → Taken × Position
 outside at Blank = (Stays None, at)
-outside at (Entering name enter) =
-    if nat_lt at.calls MOST_CALLS
-    then (Stays (Some (opening name enter at.line)), record at { calls = at.calls + 1; entered = enter.wall })
-    else (Refuses TooManyCalls, at)
+outside at (Entering name enter) = (Stays (Some (opening name enter at.line)), record at { entered = enter.wall })
 outside at (Returning name exit) = (Refuses ReturnOutside, at)
 outside at (Threaded name time) = threaded at (opening name time at.line) time
 outside at (Bad fault) = (Refuses fault, at)

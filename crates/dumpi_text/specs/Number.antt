@@ -8,7 +8,7 @@ use Rattle.dumpi_text.specs.Time.{number_of}
 use Rattle.dumpi_text.specs.Tokens.{after_spaces, after_byte, digit_parts}
 use Rattle.dumpi_text.specs.Stamps.{◌>>=◌}
 use Rattle.dumpi_text.specs.declared.number.NumName.{NumName}
-use Rattle.dumpi_text.specs.declared.number.NumName.TheVariants.{AnySource, AnyTag, ProcNull, CommWorld, RequestNull, Other}
+use Rattle.dumpi_text.specs.declared.number.NumName.TheVariants.{AnySource, AnyTag, ProcNull, Root, CommWorld, RequestNull, Other}
 use Rattle.dumpi_text.specs.declared.number.Num.{Num}
 
 -- whether a `-` stands in front, and what follows it
@@ -34,8 +34,9 @@ name_of note =
     if same_bytes note (codes "MPI_ANY_SOURCE") then AnySource
     else (if same_bytes note (codes "MPI_ANY_TAG") then AnyTag
     else (if same_bytes note (codes "MPI_PROC_NULL") then ProcNull
+    else (if same_bytes note (codes "MPI_ROOT") then Root
     else (if same_bytes note (codes "MPI_COMM_WORLD") then CommWorld
-    else (if same_bytes note (codes "MPI_REQUEST_NULL") then RequestNull else Other))))
+    else (if same_bytes note (codes "MPI_REQUEST_NULL") then RequestNull else Other)))))
 
 -- a byte that opens a note
 abbrev pub is_opening : ℕ → Bool

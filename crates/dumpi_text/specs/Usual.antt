@@ -64,4 +64,4 @@ call_after at content enter exit = record { name = content.name; params = conten
 
 -- the place after a call of so many lines
 abbrev pub place_after : Position → ℕ → Times → Position
-place_after at lines enter = record at { line = at.line + lines; calls = at.calls + 1; entered = enter.wall }
+place_after at lines enter = record at { line = at.line + lines; entered = enter.wall }

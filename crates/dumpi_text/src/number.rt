@@ -20,6 +20,8 @@ pub enum NumName {
     AnyTag,
     /// `MPI_PROC_NULL`.
     ProcNull,
+    /// `MPI_ROOT`.
+    Root,
     /// `MPI_COMM_WORLD`.
     CommWorld,
     /// `MPI_REQUEST_NULL`.
@@ -144,6 +146,8 @@ fn name_by(note: &[u8]) -> NumName
         NumName::AnyTag
     } else if same(note, b"MPI_PROC_NULL") {
         NumName::ProcNull
+    } else if same(note, b"MPI_ROOT") {
+        NumName::Root
     } else if same(note, b"MPI_COMM_WORLD") {
         NumName::CommWorld
     } else if same(note, b"MPI_REQUEST_NULL") {

@@ -18,9 +18,11 @@ use Rattle.init_runs.specs.Prepared.{AreNotes, IsMadeOf, RefusesWords}
 use Rattle.init_runs.specs.declared.fault.InitFault.{InitFault}
 use Rattle.init_runs.specs.declared.fault.InitFault.TheVariants as faults
 
+-- under which name a run asks for the layout that was made: no file has a byte 0 in its name
 abbrev pub layout_name : List ℕ
 layout_name = codes "\0layout"
 
+-- under which name a run asks for the manifest that was made
 abbrev pub manifest_name : List ℕ
 manifest_name = codes "\0manifest"
 

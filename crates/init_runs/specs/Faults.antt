@@ -11,13 +11,16 @@ use Rattle.text_layouts.specs.declared.fault.MadeFault.TheVariants as mades
 use Rattle.init_runs.specs.declared.fault.InitFault.{InitFault}
 use Rattle.init_runs.specs.declared.fault.InitFault.TheVariants.{Memory, Text, NoCall, TooMany, Twice, Made, There, NotWritten, Half, OneName, Write}
 
+-- why texts make no layout, in words
 abbrev pub made_fault_text : MadeFault → List ℕ
 made_fault_text mades.Memory = codes "Memory"
+made_fault_text (mades.Size rank size) = codes "rank " ++ decimal rank ++ codes " tells " ++ decimal size ++ codes " ranks of MPI_COMM_WORLD, and there is not one text for each"
 made_fault_text (mades.World first second) = codes "ranks " ++ decimal first ++ codes " and " ++ decimal second ++ codes " have two numbers for MPI_COMM_WORLD: their texts are not of one run"
 made_fault_text (mades.Layout fault) = layout_fault_name fault ++ codes " in the layout of the texts"
 made_fault_text mades.LayoutFile = codes "the layout has more than 16777216 bytes"
 made_fault_text mades.ManifestFile = codes "the manifest has more than 16777216 bytes"
 
+-- why nothing is made, in words
 abbrev pub init_fault_text : InitFault → List ℕ
 init_fault_text Memory = codes "Memory"
 init_fault_text (Text fault) = fault_text fault
@@ -31,6 +34,7 @@ init_fault_text (Half path) = shown_name (string_bytes path) ++ codes " can not 
 init_fault_text OneName = codes "the layout and the manifest need names of their own"
 init_fault_text Write = codes "R1 Write"
 
+-- the line on standard error
 abbrev pub init_fault_line_of : InitFault → List ℕ
 init_fault_line_of fault = codes "mpimatch: " ++ init_fault_text fault ++ codes "\n"
 

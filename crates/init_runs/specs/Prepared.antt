@@ -61,6 +61,7 @@ RefusesWords file sends words fault = RefusesNames words fault
 
 -- ---- what is said of it
 
+-- that the names' digits told the ranks, where they did
 abbrev pub digits_text : Bool → List ℕ
 digits_text true = codes "ranks by the digits at the ends of the names\n"
 digits_text false = []

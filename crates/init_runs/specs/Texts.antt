@@ -25,6 +25,7 @@ AllSay file (name ∷ names) ranks = (rank : RankCalls) × (rest : List RankCall
 
 -- ---- why a text is refused
 
+-- a path is that of a word
 abbrev pub IsNamed : String Global → List ℕ → Type 0
 IsNamed path name = string_bytes path ≡ name
 

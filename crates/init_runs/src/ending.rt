@@ -14,7 +14,7 @@ use mpi_model::{Sends, Write, write_all};
 use std::alloc::{AllocError, Global};
 use std::io::Eprint;
 
-// The ending after such a fault.
+/// The ending after such a fault.
 fn ending_of_fault(alloc: Global, fault: &InitFault) -> Result<Ending, AllocError>
     ensures status { IfOk result (λ e. e.status ≡ 1) }
     ensures errors { IfOk result (λ e. string_bytes e.errors ≡ init_fault_line_of fault.now) }
@@ -25,7 +25,7 @@ fn ending_of_fault(alloc: Global, fault: &InitFault) -> Result<Ending, AllocErro
     })
 }
 
-// Runs a verb over texts, by the layout and the manifest that were made of them.
+/// Runs a verb over texts, by the layout and the manifest that were made of them.
 fn run_prepared<O: Opener, V: Watcher, W: Write>(
     alloc: Global,
     verb: Verb,
@@ -54,7 +54,7 @@ fn run_prepared<O: Opener, V: Watcher, W: Write>(
     ending_after(alloc, ran)
 }
 
-// Shows on standard error what was found in the texts.
+/// Shows on standard error what was found in the texts.
 fn show<R: Eprint>(rt: &R, notes: &[u8]) {
     if let Ok(text) = std::str::from_utf8(notes) {
         let _ = eprint!(rt; "{text}");
@@ -80,7 +80,7 @@ pub fn ending_of_texts<R: Eprint, O: Opener, V: Watcher, W: Write>(
     over_texts(rt, alloc, verb, texts, files, watcher, out)
 }
 
-// The pieces of a cluster name their nodes, which texts don't.
+/// The pieces of a cluster name their nodes, which texts don't.
 fn no_cluster(alloc: Global) -> Result<Ending, AllocError> {
     Ok(Ending {
         status: 2,
@@ -88,6 +88,7 @@ fn no_cluster(alloc: Global) -> Result<Ending, AllocError> {
     })
 }
 
+/// Makes the layout and the manifest of the texts, shows what was found, and runs the verb.
 fn over_texts<R: Eprint, O: Opener, V: Watcher, W: Write>(
     rt: &R,
     alloc: Global,
@@ -108,6 +109,7 @@ fn over_texts<R: Eprint, O: Opener, V: Watcher, W: Write>(
     run_prepared(alloc, verb, &prepared, files, watcher, out)
 }
 
+/// Keeps both files under their wanted names: over files that are there only where that is wanted.
 fn keep<S: Store>(
     alloc: Global,
     prepared: &Prepared,
@@ -133,6 +135,7 @@ fn keep<S: Store>(
     }
 }
 
+/// Makes both files of the texts, keeps them, and prints what was found.
 fn init<O: Opener, S: Store, W: Write>(
     alloc: Global,
     texts: &[&str],

@@ -70,9 +70,11 @@ const NOT_WRITTEN: &str = " can not be written";
 
 const HALF: &str = " can not be written, and a part of what was written is left";
 
+const NOT_EACH_TEXT: &str = " ranks of MPI_COMM_WORLD, and there is not one text for each";
+
 const NOT_ONE_RUN: &str = " have two numbers for MPI_COMM_WORLD: their texts are not of one run";
 
-// Two ranks, and what is said of them.
+/// Two ranks, and what is said of them.
 fn put_ranks<W: fmt::Write>(
     f: &mut fmt::Formatter<W>,
     first: u32,
@@ -84,11 +86,13 @@ fn put_ranks<W: fmt::Write>(
     write!(f, "ranks {first} and {second}{text}")
 }
 
+/// Prints why the texts make no layout.
 fn put_made<W: fmt::Write>(f: &mut fmt::Formatter<W>, fault: &MadeFault) -> fmt::Result
     ensures { WritesOnOk W.write_str_gives f.old result (made_fault_text fault.now) f.new }
 {
     match fault {
         MadeFault::Memory => write!(f, "Memory"),
+        MadeFault::Size { rank, size } => put_size(f, *rank, *size, NOT_EACH_TEXT),
         MadeFault::World { first, second } => put_ranks(f, *first, *second, NOT_ONE_RUN),
         MadeFault::Layout(fault) => {
             let name = name_of_layout(*fault);
@@ -99,7 +103,19 @@ fn put_made<W: fmt::Write>(f: &mut fmt::Formatter<W>, fault: &MadeFault) -> fmt:
     }
 }
 
-// A file's name and what is said of it.
+/// A rank, the size of the world that it tells, and what is said of it.
+fn put_size<W: fmt::Write>(
+    f: &mut fmt::Formatter<W>,
+    rank: u32,
+    size: u32,
+    text: &str,
+) -> fmt::Result
+    ensures { WritesOnOk W.write_str_gives f.old result (codes "rank " ++ decimal rank ++ codes " tells " ++ decimal size ++ text.now) f.new }
+{
+    write!(f, "rank {rank} tells {size}{text}")
+}
+
+/// A file's name and what is said of it.
 fn put_file<W: fmt::Write>(f: &mut fmt::Formatter<W>, path: &str, text: &str) -> fmt::Result
     ensures { WritesOnOk W.write_str_gives f.old result (shown_name path.now ++ text.now) f.new }
 {

@@ -21,6 +21,7 @@ pub struct Prepared {
     pub notes: Vec<u8>,
 }
 
+/// Copies of the words, as names that faults may keep.
 fn owned(alloc: Global, words: &[&str]) -> Result<Vec<String>, AllocError>
     ensures { IfOk result (λ names. map string_bytes names.items ≡ map (λ w. w.now) words.now) }
 {
@@ -31,7 +32,7 @@ fn owned(alloc: Global, words: &[&str]) -> Result<Vec<String>, AllocError>
     Ok(names)
 }
 
-// the names at these places
+/// The names at these places.
 fn in_order(alloc: Global, names: &[String], places: &[usize]) -> Result<Vec<String>, AllocError>
     requires { All (λ place. place < length names.now) places.now }
     ensures { IfOk result (λ ordered. AreAt (map string_bytes names.now) places.now (map string_bytes ordered.items)) }
@@ -43,7 +44,7 @@ fn in_order(alloc: Global, names: &[String], places: &[usize]) -> Result<Vec<Str
     Ok(ordered)
 }
 
-// The texts by rank, and whether the digits of their names say so.
+/// The texts by rank, and whether the digits of their names say so.
 fn by_rank(alloc: Global, words: &[&str]) -> Result<(Vec<String>, bool), InitFault>
     ensures ok { IfOk result (λ read. IsByRank (map (λ w. w.now) words.now) (map string_bytes read.0.items)) }
     ensures few { IfOk result (λ read. length read.0.items ≤ 1024) }
@@ -62,6 +63,7 @@ fn by_rank(alloc: Global, words: &[&str]) -> Result<(Vec<String>, bool), InitFau
     }
 }
 
+/// What is said of the texts and of what they made.
 fn notes_of(
     alloc: Global,
     by_digits: bool,

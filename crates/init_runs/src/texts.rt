@@ -21,7 +21,7 @@ pub struct AllCalls {
     pub calls: u64,
 }
 
-// the fault of a text whose walk was stopped
+/// The fault of a text whose walk was stopped.
 fn refusal(alloc: Global, path: &str, fault: WalkFault<Memory>) -> Result<RunFault, AllocError>
     ensures { IfOk result (StandsFor path.now fault) }
 {
@@ -46,7 +46,7 @@ fn refusal(alloc: Global, path: &str, fault: WalkFault<Memory>) -> Result<RunFau
     }
 }
 
-// a text with lines and no call is none
+/// A text with lines and no call is none.
 fn is_no_text(walked: &Walked) -> bool
     ensures { result ≡ is_no_text walked.now }
 {

@@ -25,6 +25,7 @@ HasNoValue text (Layout fault) = ⊥
 abbrev pub u64_in : Data → Option ℕ
 u64_in value = option_and_then as_u64 (as_number value)
 
+-- a number below 2^32
 abbrev pub below_u32 : Option ℕ → Option ℕ
 below_u32 None = None
 below_u32 (Some n) = if nat_lt n 4294967296 then Some n else None
@@ -38,6 +39,7 @@ abbrev pub below_two : Option ℕ → Option ℕ
 below_two None = None
 below_two (Some n) = if nat_lt n 2 then Some n else None
 
+-- a number that is 0 or 1
 abbrev pub bit_in : Data → Option ℕ
 bit_in value = below_two (u64_in value)
 
@@ -46,6 +48,7 @@ abbrev pub or_absent : {A : Type 0} → A → (Data → Option A) → Option Dat
 or_absent absent read None = Some absent
 or_absent absent read (Some value) = read value
 
+-- a list with one item more in front, where both can be read
 abbrev pub with_first : {A : Type 0} → Option A → Option (List A) → Option (List A)
 with_first None rest = None
 with_first (Some x) rest = option_map (λ xs. x ∷ xs) rest

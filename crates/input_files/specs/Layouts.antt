@@ -13,6 +13,7 @@ use Rattle.input_files.specs.Numbers.{numbers_in}
 use Rattle.input_files.specs.declared.fault.InputFault.{InputFault}
 use Rattle.input_files.specs.declared.fault.InputFault.TheVariants.{Memory, Json, Shape, Piece, Packed, Layout}
 
+-- a communicator, where all of its fields can be read
 abbrev pub communicator_from : Option ℕ → Option (List ℕ) → Option (List (Option Stretch)) → Option Communicator
 communicator_from None members numbers = None
 communicator_from (Some comm) None numbers = None
@@ -29,10 +30,12 @@ abbrev pub communicators_in : Items → Option (List Communicator)
 communicators_in no_items = Some []
 communicators_in (item value values) = with_first (communicator_in value) (communicators_in values)
 
+-- how sends of standard mode complete, by the word
 abbrev pub sends_named : List ℕ → Option Sends
 sends_named word = if bytes_eq word (codes "wait") then Some Wait
     else if bytes_eq word (codes "buffer") then Some Buffer else None
 
+-- a layout, where all of its fields can be read
 abbrev pub parts_from : Option ℕ → Option ℕ → Option Sends → Option (List Communicator) → Option Parts
 parts_from None world sends comms = None
 parts_from (Some ranks) None sends comms = None

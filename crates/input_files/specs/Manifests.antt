@@ -33,6 +33,7 @@ pub record ManifestParts : Type 0 where
 
 -- ---- its pieces
 
+-- a text, where all of its fields can be read
 abbrev pub piece_from : Option ℕ → Option ℕ → Option (List ℕ) → Option ℕ → Option ℕ → Option PieceParts
 piece_from None _ _ _ _ = None
 piece_from (Some rank) None _ _ _ = None
@@ -41,6 +42,7 @@ piece_from (Some rank) (Some first) (Some file) None _ = None
 piece_from (Some rank) (Some first) (Some file) (Some at) None = None
 piece_from (Some rank) (Some first) (Some file) (Some at) (Some by) = Some (record { rank = rank; first = first; file = file; node = at; worker = by })
 
+-- the text that a piece of the manifest names
 abbrev pub piece_in : Data → Option PieceParts
 piece_in value = piece_from (option_and_then u32_in (get (codes "rank") value))
     (option_and_then u64_in (get (codes "first") value))
@@ -48,6 +50,7 @@ piece_in value = piece_from (option_and_then u32_in (get (codes "rank") value))
     (or_absent 0 bit_in (get (codes "node") value))
     (or_absent 0 bit_in (get (codes "worker") value))
 
+-- a packed file, where all of its fields can be read
 abbrev pub packed_from : Option (List ℕ) → Option ℕ → Option PackedParts
 packed_from None _ = None
 packed_from (Some file) None = None
@@ -88,9 +91,11 @@ pub record GivenParts : Type 0 where
   pub nodes : ℕ
   pub schedule : List PlannedStep
 
+-- the steps of the schedule
 abbrev pub schedule_in : Data → Option (List PlannedStep)
 schedule_in value = option_and_then steps_in (as_array value)
 
+-- a manifest, where all of its fields can be read
 abbrev pub given_from : Option (List PieceParts) → Option (List PackedParts) → List (Option ℕ) → Option ℕ → Option (List PlannedStep) → Option GivenParts
 given_from None _ _ _ _ = None
 given_from (Some pieces) None _ _ _ = None

@@ -10,6 +10,7 @@ use Rattle.input_files.specs.Fields.{or_absent, u32_in, u64_in, with_first}
 abbrev pub end_in : Data → Option (Option ℕ)
 end_in value = if is_some (as_null value) then Some None else option_map (λ n. Some n) (u64_in value)
 
+-- a number over a stretch of calls, where all of its parts can be read
 abbrev pub stretch_from : Option ℕ → Option ℕ → Option (Option ℕ) → Option Stretch
 stretch_from None first end = None
 stretch_from (Some number) None end = None
@@ -21,6 +22,7 @@ abbrev pub stretch_in : Items → Option Stretch
 stretch_in (item named (item first (item end no_items))) = stretch_from (u32_in named) (u64_in first) (end_in end)
 stretch_in values = None
 
+-- an entry: a list is a number over a stretch of calls, a number one over all calls
 abbrev pub number_from : Option Items → Option ℕ → Option Stretch
 number_from None number = option_map always number
 number_from (Some values) number = stretch_in values
@@ -29,6 +31,7 @@ number_from (Some values) number = stretch_in values
 abbrev pub entry_in : Data → Option (Option Stretch)
 entry_in value = if is_some (as_null value) then Some None else option_map (λ s. Some s) (number_from (as_array value) (u32_in value))
 
+-- the entries of all members
 abbrev pub entries_in : Items → Option (List (Option Stretch))
 entries_in no_items = Some []
 entries_in (item value values) = with_first (entry_in value) (entries_in values)

@@ -7,6 +7,7 @@ use Rattle.input_files.specs.Fields.{u64_in, with_first}
 use Rattle.input_files.specs.declared.schedule.PlannedStep.{PlannedStep}
 use Rattle.input_files.specs.declared.schedule.PlannedStep.TheVariants.{Post, Take, Ship, Deliver, Restart}
 
+-- two values, where both can be read
 abbrev pub both : {A B : Type 0} → Option A → Option B → Option (A × B)
 both None second = None
 both (Some a) second = option_map (λ b. (a, b)) second
@@ -44,6 +45,7 @@ abbrev pub step_of : Items → Option PlannedStep
 step_of no_items = None
 step_of (item word numbers) = option_and_then (λ w. step_from w numbers) (as_str word)
 
+-- a step, which is a list of its word and its numbers
 abbrev pub step_in : Data → Option PlannedStep
 step_in value = option_and_then step_of (as_array value)
 

@@ -203,21 +203,21 @@ impl Given {
         }
     }
 
-    // Whether the schedule posts a piece that isn't listed.
+    /// Whether the schedule posts a piece that isn't listed.
     fn posts_absent(&self) -> bool
         ensures { result ≡ posts_absent self.now }
     {
         posts_past_of(&self.schedule, self.listed.numbers.len())
     }
 
-    // Whether the schedule posts a packed piece.
+    /// Whether the schedule posts a packed piece.
     fn posts_a_packed(&self) -> bool
         ensures { result ≡ posts_a_packed self.now }
     {
         posts_packed_of(&self.schedule, &self.listed.numbers)
     }
 
-    // The manifest of these fields.
+    /// The manifest of these fields.
     fn into_manifest(self, alloc: Global) -> Result<Manifest, AllocError>
         ensures { IfOk result (λ m. m ≡ manifest_of self) }
     {
@@ -292,7 +292,7 @@ fn given_in(alloc: Global, value: &Value) -> Result<Option<Given>, AllocError>
     Ok(Some(Given::new(listed, nodes, schedule)))
 }
 
-// The steps of the schedule, none where there is no schedule.
+/// The steps of the schedule, none where there is no schedule.
 fn schedule_at(alloc: Global, value: &Value) -> Result<Option<Vec<PlannedStep>>, AllocError>
     ensures { IfOk result (λ o. option_map (λ v. v.items) o ≡ or_absent [] schedule_in (get (codes "schedule") (view value.now))) }
 {
@@ -305,14 +305,14 @@ fn schedule_at(alloc: Global, value: &Value) -> Result<Option<Vec<PlannedStep>>,
     }
 }
 
-// Whether a piece is a packed one.
+/// Whether a piece is a packed one.
 fn is_packed(value: &Value) -> bool
     ensures { result ≡ is_packed (view value.now) }
 {
     value.get("packed").is_some()
 }
 
-// The texts among the pieces.
+/// The texts among the pieces.
 fn pieces_of(alloc: Global, values: &[Value]) -> Result<Option<Vec<Piece>>, AllocError>
     ensures { IfOk result (λ o. option_map (λ v. v.items) o ≡ pieces_in (items_view values.now)) }
 {
@@ -329,7 +329,7 @@ fn pieces_of(alloc: Global, values: &[Value]) -> Result<Option<Vec<Piece>>, Allo
     Ok(Some(pieces))
 }
 
-// The packed files among the pieces.
+/// The packed files among the pieces.
 fn all_packed_of(alloc: Global, values: &[Value]) -> Result<Option<Vec<PackedPiece>>, AllocError>
     ensures { IfOk result (λ o. option_map (λ v. v.items) o ≡ all_packed_in (items_view values.now)) }
 {
@@ -346,7 +346,7 @@ fn all_packed_of(alloc: Global, values: &[Value]) -> Result<Option<Vec<PackedPie
     Ok(Some(packed))
 }
 
-// The number of each piece among the texts, none of a packed one.
+/// The number of each piece among the texts, none of a packed one.
 fn numbers_of(alloc: Global, values: &[Value]) -> Result<Vec<Option<usize>>, AllocError>
     ensures { IfOk result (λ v. v.items ≡ numbers_from 0 (items_view values.now)) }
 {
@@ -363,7 +363,7 @@ fn numbers_of(alloc: Global, values: &[Value]) -> Result<Vec<Option<usize>>, All
     Ok(numbers)
 }
 
-// The node whose piece it is, 0 where it names none.
+/// The node whose piece it is, 0 where it names none.
 fn node_of(value: &Value) -> Option<u8>
     ensures { result ≡ or_absent 0 bit_in (get (codes "node") (view value.now)) }
 {

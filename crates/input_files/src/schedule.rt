@@ -131,7 +131,7 @@ fn number_of(numbers: &[Option<usize>], piece: usize) -> usize
     }
 }
 
-// a word and its numbers
+/// A word and its numbers.
 fn step_of(value: &Value) -> Option<PlannedStep>
     ensures { result ≡ step_in (view value.now) }
 {
@@ -176,7 +176,7 @@ fn post_of(numbers: &[Value]) -> Option<PlannedStep>
     }
 }
 
-// a list of just one number
+/// A list of just one number.
 fn one_of(values: &[Value]) -> Option<usize>
     ensures { result ≡ one_in (items_view values.now) }
 {
@@ -187,7 +187,7 @@ fn one_of(values: &[Value]) -> Option<usize>
     }
 }
 
-// a list of just two numbers
+/// A list of just two numbers.
 fn two_of(values: &[Value]) -> Option<(usize, usize)>
     ensures { result ≡ two_in (items_view values.now) }
 {
@@ -197,7 +197,7 @@ fn two_of(values: &[Value]) -> Option<(usize, usize)>
     Some((first, second))
 }
 
-// a list of just three numbers
+/// A list of just three numbers.
 fn three_of(values: &[Value]) -> Option<(usize, usize, usize)>
     ensures { option_map (λ t. (t.0, (t.1, t.2))) result ≡ three_in (items_view values.now) }
 {

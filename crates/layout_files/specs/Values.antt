@@ -11,6 +11,7 @@ use Rattle.mpi_model.specs.declared.layout.Sends.{Sends}
 use Rattle.mpi_model.specs.declared.layout.Sends.TheVariants.{Wait, Buffer}
 use Rattle.mpi_model.specs.declared.layout.comm.Stretch.{Stretch}
 
+-- a number, in decimal digits
 abbrev pub number_of : ℕ → Json
 number_of n = number (decimal n)
 
@@ -23,6 +24,7 @@ items_of value (x ∷ xs) = item (value x) (items_of value xs)
 abbrev pub is_always : Stretch → Bool
 is_always s = (s.first == 0) && not (is_some s.end)
 
+-- the end of a stretch of calls, or that it has none
 abbrev pub end_value : Option ℕ → Json
 end_value None = null
 end_value (Some call) = number_of call
@@ -45,6 +47,7 @@ numbers_field (e ∷ es) = member (codes "numbers") (array (items_of entry_value
 abbrev pub communicator_value : Communicator → Json
 communicator_value g = object (member (codes "id") (number_of g.comm) (member (codes "members") (array (items_of number_of g.members)) (numbers_field g.numbers)))
 
+-- how sends of standard mode complete
 abbrev pub sends_word : Sends → List ℕ
 sends_word Wait = codes "wait"
 sends_word Buffer = codes "buffer"

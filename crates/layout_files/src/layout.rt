@@ -76,7 +76,7 @@ fn put_comm(out: &mut Writer, comm: &Comm) -> Result<(), AllocError>
     put_field(out, comm)
 }
 
-// the entries, where there are some, and the end of the object
+/// The entries, where there are some, and the end of the object.
 fn put_field(out: &mut Writer, comm: &Comm) -> Result<(), AllocError>
     ensures { Puts result out.old out.new (members_tokens (numbers_field comm.now.numbers)) }
 {

@@ -10,7 +10,7 @@ use json::Writer;
 use mpi_model::Stretch;
 use std::alloc::AllocError;
 
-// whether a stretch holds all calls
+/// Whether a stretch holds all calls.
 fn is_always(stretch: Stretch) -> bool
     ensures { result ≡ is_always stretch }
 {

@@ -112,7 +112,7 @@ fn are_distinct(a: &str, b: &str, c: &str, d: &str) -> bool
     a != b && a != c && a != d && b != c && b != d && c != d
 }
 
-// Takes both files away again.
+/// Takes both files away again.
 fn remove_both<S: Store>(store: &mut S, one: &str, other: &str) -> Result<(), StoreFault>
     ensures { OnOk result (Goes (RemovesBoth one.now other.now) (S.files store.old) (S.files store.new)) }
 {
@@ -120,7 +120,7 @@ fn remove_both<S: Store>(store: &mut S, one: &str, other: &str) -> Result<(), St
     store.remove(other)
 }
 
-// Writes both files under spare names first, so that nothing has changed where one can't be written.
+/// Writes both files under spare names first, so that nothing has changed where one can't be written.
 fn replace_by<S: Store>(
     store: &mut S,
     one: NewFile<'_>,

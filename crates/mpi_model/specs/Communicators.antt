@@ -17,6 +17,7 @@ abbrev pub communicators : List (ℕ × Vec ℕ Global) → List Communicator
 communicators [] = []
 communicators (c ∷ cs) = record { comm = c.0; members = c.1.items; numbers = [] } ∷ communicators cs
 
+-- their ids
 abbrev pub ids : List Communicator → List ℕ
 ids gs = map (λ g. g.comm) gs
 

@@ -13,6 +13,7 @@ inside d = d.inner
 abbrev pub failed_reads : {T : Type 0} → Device T → ℕ
 failed_reads d = d.read_failures
 
+-- how many writes failed
 abbrev pub failed_writes : {T : Type 0} → Device T → ℕ
 failed_writes d = d.write_failures
 
@@ -39,6 +40,7 @@ before_failure (Some until) count = min count until
 abbrev pub count_given : MemoryReader → ℕ → ℕ
 count_given r room = before_failure (until_failure r) (min (min room (most_read r)) (length (bytes_left r)))
 
+-- how many reads of a reader in memory failed
 abbrev pub failures_of_reader : MemoryReader → ℕ
 failures_of_reader r = r.failures
 
@@ -64,5 +66,6 @@ room_of w = w.room
 abbrev pub count_taken : MemoryWriter → ℕ → ℕ
 count_taken w length_of_piece = min (min length_of_piece (most_written w)) (room_of w)
 
+-- how many writes of a writer in memory failed
 abbrev pub failures_of_writer : MemoryWriter → ℕ
 failures_of_writer w = w.failures

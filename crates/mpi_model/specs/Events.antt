@@ -2,7 +2,7 @@
 use Rattle.std.specs.Prelude.{◌<◌, ◌^◌, ℕ, ℤ, Option, IfSome, FitsSigned, All}
 use Rattle.std.specs.Int.{w64}
 use Rattle.mpi_model.specs.Times.{IsTimes}
-use Rattle.mpi_model.specs.Ranges.{IsTold, IsComm, IsSend, IsReceive, IsProbe, IsCollective, BothEnvelopes, IsExchange}
+use Rattle.mpi_model.specs.Ranges.{IsTold, IsSend, IsReceive, IsProbe, IsCollective, BothEnvelopes, IsExchange}
 use Rattle.mpi_model.specs.declared.envelope.Envelope.{Envelope}
 use Rattle.mpi_model.specs.declared.call.Call.{Call}
 use Rattle.mpi_model.specs.declared.call.Call.TheVariants as calls
@@ -28,6 +28,7 @@ IsReceived e = IsReceive e × IsSigned e.datatype
 abbrev pub IsExchanged : BothEnvelopes → Type 0
 IsExchanged b = IsExchange b × IsSigned b.send.datatype × IsSigned b.receive.datatype
 
+-- Every value of the call lies in its range.
 abbrev pub IsCall : Call → Type 0
 IsCall calls.Local = Unit {0}
 IsCall calls.Finalize = Unit {0}
@@ -47,8 +48,8 @@ IsCall (calls.Testsome requests) = All IsSigned requests
 IsCall (calls.Cancel request) = IsSigned request
 IsCall (calls.Free request) = IsSigned request
 IsCall (calls.Collective c) = IsCollective c
+IsCall (calls.Icollective c) = IsCollective c
 IsCall (calls.Probe e) = IsProbe e
-IsCall (calls.Ibarrier c) = IsComm c
 IsCall calls.Unread = Unit {0}
 
 -- a position in a call's list, where there is one
@@ -59,6 +60,7 @@ IsPosition position = IfSome position (λ n. n < 2 ^ 32)
 abbrev pub IsElement : Element → Type 0
 IsElement e = (e.position < 2 ^ 32) × IsTold e.told
 
+-- Every value of the outcome lies in its range.
 abbrev pub IsOutcome : Outs → Type 0
 IsOutcome outs.Nothing = Unit {0}
 IsOutcome (outs.Posted request) = IsSigned request

@@ -41,6 +41,7 @@ pub record Holds (ranks world : ℕ) (sends : Sends) (given : List Communicator)
   pub same_comms : IsPermutation given l.comms
   pub members : (comm : ℕ) → members_of l.comms comm ≡ members_of given comm
 
+-- a communicator without members
 abbrev pub is_empty_group : Communicator → Bool
 is_empty_group g = length g.members == 0
 
@@ -48,6 +49,7 @@ is_empty_group g = length g.members == 0
 abbrev pub has_stranger : ℕ → List ℕ → Bool
 has_stranger ranks members = list_any (λ r. nat_le ranks r) members
 
+-- a communicator that has a rank twice
 abbrev pub has_double_member : Communicator → Bool
 has_double_member g = has_double g.members
 
@@ -60,6 +62,7 @@ counts_from first (x ∷ xs) = (x == first) && counts_from (first + 1) xs
 abbrev pub is_whole : ℕ → List ℕ → Bool
 is_whole ranks members = (length members == ranks) && counts_from 0 members
 
+-- there is a list, and it is that of all ranks in their order
 abbrev pub is_some_whole : ℕ → Option (List ℕ) → Bool
 is_some_whole ranks None = false
 is_some_whole ranks (Some members) = is_whole ranks members
@@ -68,6 +71,7 @@ is_some_whole ranks (Some members) = is_whole ranks members
 abbrev pub has_world : ℕ → ℕ → List Communicator → Bool
 has_world ranks world gs = is_some_whole ranks (members_of gs world)
 
+-- there is an end, and it comes before a call
 abbrev pub ends_before : Option ℕ → ℕ → Bool
 ends_before None call = false
 ends_before (Some end) call = nat_lt end call

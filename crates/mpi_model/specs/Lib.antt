@@ -3,6 +3,7 @@ pub mod Side
 pub mod Times
 pub mod Tells
 pub mod Requests
+pub mod Kinds
 pub mod Ranges
 pub mod Whole
 pub mod Communicators

@@ -6,6 +6,7 @@ use Rattle.mpi_model.specs.declared.layout.comm.Stretch.{Stretch}
 use Rattle.mpi_model.specs.declared.layout.names.Name.{Name}
 use Rattle.mpi_model.specs.Communicators.{Communicator, has_pair}
 
+-- a call comes before the end, where there is one
 abbrev pub is_before : ℕ → Option ℕ → Bool
 is_before call None = true
 is_before call (Some end) = nat_lt call end
@@ -26,6 +27,7 @@ shares s t = (s.number == t.number) && (holds s t.first || holds t s.first)
 abbrev pub always : ℕ → Stretch
 always number = record { number = number; first = 0; end = None }
 
+-- each of these ranks names the communicator by its id
 abbrev pub names_by_id : ℕ → List ℕ → List Name
 names_by_id comm [] = []
 names_by_id comm (rank ∷ ranks) = record { rank = rank; comm = comm; stretch = always comm } ∷ names_by_id comm ranks
@@ -41,6 +43,7 @@ names_by_numbers comm [] numbers = []
 names_by_numbers comm (rank ∷ ranks) [] = []
 names_by_numbers comm (rank ∷ ranks) (number ∷ numbers) = name_by comm rank number ++ names_by_numbers comm ranks numbers
 
+-- where no numbers are given, the id is the number
 abbrev pub names_with : ℕ → List ℕ → List (Option Stretch) → List Name
 names_with comm members [] = names_by_id comm members
 names_with comm members (number ∷ numbers) = names_by_numbers comm members (number ∷ numbers)
@@ -49,6 +52,7 @@ names_with comm members (number ∷ numbers) = names_by_numbers comm members (nu
 abbrev pub names_in : Communicator → List Name
 names_in g = names_with g.comm g.members g.numbers
 
+-- all names of these communicators
 abbrev pub names_of : List Communicator → List Name
 names_of gs = flat_map names_in gs
 
@@ -56,6 +60,7 @@ names_of gs = flat_map names_in gs
 abbrev pub clashes : Name → Name → Bool
 clashes x y = (x.rank == y.rank) && shares x.stretch y.stretch
 
+-- two names of theirs clash
 abbrev pub has_clash : List Communicator → Bool
 has_clash gs = has_pair clashes (names_of gs)
 
@@ -71,6 +76,7 @@ numbered gs rank call number = option_map (λ x. x.comm) (find (is_name rank cal
 abbrev pub precedes : ℕ → ℕ → ℕ → Name → Bool
 precedes rank number call x = nat_lt x.rank rank || ((x.rank == rank) && (nat_lt x.stretch.number number || ((x.stretch.number == number) && nat_le x.stretch.first call)))
 
+-- The names stand in that order.
 abbrev pub AreOrdered : List Name → Type 0
 AreOrdered names = (i j : ℕ) (d : Name) → i ≤ j → j < length names
     → (let y = slice_index_or names j d in precedes y.rank y.stretch.number y.stretch.first (slice_index_or names i d)) ≡ true

@@ -11,6 +11,7 @@ use Rattle.mpi_model.specs.declared.envelope.CommRef.TheVariants as comms
 abbrev pub peer_of : ℕ → Peer
 peer_of n = if n == 2 ^ 31 then peers.Null else if n == 2 ^ 31 + 1 then peers.Any else peers.Rank n
 
+-- the number of a peer
 abbrev pub peer_number : Peer → ℕ
 peer_number peers.Any = 2 ^ 31 + 1
 peer_number peers.Null = 2 ^ 31
@@ -23,6 +24,7 @@ peer_number-peer_of n = grind (arith, common_steps)
 abbrev pub tag_of : ℕ → Option ℕ
 tag_of n = if n == 2 ^ 31 then None else Some n
 
+-- the number of a tag
 abbrev pub tag_number : Option ℕ → ℕ
 tag_number None = 2 ^ 31
 tag_number (Some n) = n
@@ -34,6 +36,7 @@ tag_number-tag_of n = grind (arith, common_steps)
 abbrev pub comm_of : ℕ → CommRef
 comm_of n = if n == 2 ^ 31 then comms.World else comms.Id n
 
+-- the number of a communicator
 abbrev pub comm_number : CommRef → ℕ
 comm_number comms.World = 2 ^ 31
 comm_number (comms.Id n) = n

@@ -1,5 +1,5 @@
 -- The ranges of what calls and outcomes hold. The greatest number is 2^31 - 1, that of an `int`.
-use Rattle.std.specs.Prelude.{◌≡◌, ℕ, ◌<◌, ◌^◌, Option, Some, None, IfSome}
+use Rattle.std.specs.Prelude.{◌≡◌, ℕ, ◌<◌, ◌^◌, true, Option, Some, None, IfSome}
 use Rattle.mpi_model.specs.declared.told.Told.{Told}
 use Rattle.mpi_model.specs.declared.told.Told.TheVariants as tolds
 use Rattle.mpi_model.specs.declared.envelope.Peer.{Peer}
@@ -7,8 +7,8 @@ use Rattle.mpi_model.specs.declared.envelope.Peer.TheVariants as peers
 use Rattle.mpi_model.specs.declared.envelope.CommRef.{CommRef}
 use Rattle.mpi_model.specs.declared.envelope.CommRef.TheVariants as comms
 use Rattle.mpi_model.specs.declared.envelope.Envelope.{Envelope}
-use Rattle.mpi_model.specs.declared.collective.Kind.{Kind}
-use Rattle.mpi_model.specs.declared.collective.Kind.TheVariants.{Barrier, Bcast, Scatter, Gather, Reduce, Allreduce, Allgather, Alltoall, Ibarrier}
+use Rattle.mpi_model.specs.declared.kind.Kind.{Kind}
+use Rattle.mpi_model.specs.Kinds.{has_root}
 
 -- what an outcome tells of a source
 abbrev pub IsTold : Told → Type 0
@@ -16,6 +16,7 @@ IsTold tolds.Nothing = Unit {0}
 IsTold (tolds.Source rank) = rank < 2 ^ 31
 IsTold tolds.Cancelled = Unit {0}
 
+-- a communicator: the world, or a number
 abbrev pub IsComm : CommRef → Type 0
 IsComm comms.World = Unit {0}
 IsComm (comms.Id n) = n < 2 ^ 31
@@ -31,6 +32,7 @@ abbrev pub IsNamed : Option ℕ → Type 0
 IsNamed None = ⊥
 IsNamed (Some n) = n < 2 ^ 31
 
+-- the envelope of a send
 abbrev pub IsSend : Envelope → Type 0
 IsSend e = IsTarget e.peer × IsNamed e.tag × IsComm e.comm × (e.count < 2 ^ 31)
 
@@ -44,6 +46,7 @@ IsSource (peers.Rank n) = n < 2 ^ 31
 abbrev pub IsAskedTag : Option ℕ → Type 0
 IsAskedTag tag = IfSome tag (λ n. n < 2 ^ 31)
 
+-- the envelope of a receive
 abbrev pub IsReceive : Envelope → Type 0
 IsReceive e = IsSource e.peer × IsAskedTag e.tag × IsComm e.comm × (e.count < 2 ^ 31)
 
@@ -53,6 +56,7 @@ pub record Probed : Type 0 where
   pub tag : Option ℕ
   pub comm : CommRef
 
+-- the values of a probe
 abbrev pub IsProbe : Probed → Type 0
 IsProbe e = IsSource e.source × IsAskedTag e.tag × IsComm e.comm
 
@@ -61,6 +65,7 @@ pub record BothEnvelopes : Type 0 where
   pub send : Envelope
   pub receive : Envelope
 
+-- the two envelopes are of one communicator (MPI 4.0, 3.10)
 abbrev pub IsExchange : BothEnvelopes → Type 0
 IsExchange e = IsSend e.send × IsReceive e.receive × (e.send.comm ≡ e.receive.comm)
 
@@ -70,41 +75,12 @@ pub record CollectiveCall : Type 0 where
   pub root : Option ℕ
   pub comm : CommRef
 
--- the number of a kind
-abbrev pub kind_number : Kind → ℕ
-kind_number Barrier = 0
-kind_number Bcast = 1
-kind_number Scatter = 2
-kind_number Gather = 3
-kind_number Reduce = 4
-kind_number Allreduce = 5
-kind_number Allgather = 6
-kind_number Alltoall = 7
-kind_number Ibarrier = 8
-
--- Four kinds have a root.
-abbrev pub HasRoot : Kind → Type 0
-HasRoot Bcast = Unit {0}
-HasRoot Scatter = Unit {0}
-HasRoot Gather = Unit {0}
-HasRoot Reduce = Unit {0}
-HasRoot Barrier = ⊥
-HasRoot Allreduce = ⊥
-HasRoot Allgather = ⊥
-HasRoot Alltoall = ⊥
-HasRoot Ibarrier = ⊥
-
--- A root just where the kind has one. No call has the kind Ibarrier: it is of rounds alone.
+-- A root is named only where the kind has one. A call of such a kind that names no rank of its group names `MPI_ROOT`,
+-- `MPI_PROC_NULL` or a number below 0 (MPI 4.0, 6.2.3).
 abbrev pub IsRootOf : Kind → Option ℕ → Type 0
-IsRootOf Bcast root = IsNamed root
-IsRootOf Scatter root = IsNamed root
-IsRootOf Gather root = IsNamed root
-IsRootOf Reduce root = IsNamed root
-IsRootOf Barrier root = root ≡ None
-IsRootOf Allreduce root = root ≡ None
-IsRootOf Allgather root = root ≡ None
-IsRootOf Alltoall root = root ≡ None
-IsRootOf Ibarrier root = ⊥
+IsRootOf kind None = Unit {0}
+IsRootOf kind (Some root) = (has_root kind ≡ true) × (root < 2 ^ 31)
 
+-- the values of a collective call
 abbrev pub IsCollective : CollectiveCall → Type 0
 IsCollective c = IsRootOf c.kind c.root × IsComm c.comm

@@ -4,16 +4,19 @@ use Rattle.mpi_model.specs.declared.message.Trust.{Trust}
 use Rattle.mpi_model.specs.declared.message.Trust.TheVariants.{Sure, Doubtful, Void}
 use Rattle.mpi_model.specs.declared.message.Receive.{Receive}
 
+-- a message or a receive that no Cancel leaves in doubt
 abbrev pub is_sure : Trust → Bool
 is_sure Sure = true
 is_sure Doubtful = false
 is_sure Void = false
 
+-- a Cancel names it, and no outcome tells what became of it
 abbrev pub is_doubtful : Trust → Bool
 is_doubtful Sure = false
 is_doubtful Doubtful = true
 is_doubtful Void = false
 
+-- an outcome tells that it was cancelled
 abbrev pub is_void : Trust → Bool
 is_void Sure = false
 is_void Doubtful = false

@@ -4,7 +4,7 @@ ghost use Rattle.std.specs.Prelude.{◌≡◌, ◌↔◌, IsTrue, IfOk};
 ghost use Rattle.mpi_model.specs.Events.{IsCall};
 
 use crate::collective::Collective;
-use crate::envelope::{Exchange, Mode, NamedComm, ProbeEnvelope, ReceiveEnvelope, SendEnvelope};
+use crate::envelope::{Exchange, Mode, ProbeEnvelope, ReceiveEnvelope, SendEnvelope};
 use crate::list::Requests;
 use std::alloc::AllocError;
 
@@ -35,11 +35,12 @@ pub enum Call {
     Cancel(i64),
     /// The number then names no request, though its operation goes on (MPI 4.0, 3.7.3).
     Free(i64),
+    /// A blocking collective call.
     Collective(Collective),
+    /// A collective call whose end its request tells (MPI 4.0, 6.12).
+    Icollective(Collective),
     /// It waits for a message and leaves it where it is (MPI 4.0, 3.8.1).
     Probe(ProbeEnvelope),
-    /// A barrier whose end its request tells (MPI 4.0, 6.12.1).
-    Ibarrier(NamedComm),
     /// A function that moves messages and isn't read: what follows it isn't known.
     Unread,
 }
@@ -67,8 +68,8 @@ impl Call {
             Call::Cancel(request) => Call::Cancel(*request),
             Call::Free(request) => Call::Free(*request),
             Call::Collective(collective) => Call::Collective(*collective),
+            Call::Icollective(collective) => Call::Icollective(*collective),
             Call::Probe(envelope) => Call::Probe(*envelope),
-            Call::Ibarrier(comm) => Call::Ibarrier(*comm),
             Call::Unread => Call::Unread,
         })
     }
@@ -94,11 +95,8 @@ impl Call {
             | Call::Testall(requests)
             | Call::Testany(requests)
             | Call::Testsome(requests) => requests.known(),
-            Call::Collective(collective) => collective.known(),
+            Call::Collective(collective) | Call::Icollective(collective) => collective.known(),
             Call::Probe(envelope) => envelope.known(),
-            Call::Ibarrier(comm) => {
-                let _comm = comm.comm();
-            }
         }
     }
 
@@ -125,8 +123,8 @@ impl Call {
             (Call::Cancel(r), Call::Cancel(s)) => *r == *s,
             (Call::Free(r), Call::Free(s)) => *r == *s,
             (Call::Collective(c), Call::Collective(d)) => c.same(*d),
+            (Call::Icollective(c), Call::Icollective(d)) => c.same(*d),
             (Call::Probe(e), Call::Probe(f)) => e.same(*f),
-            (Call::Ibarrier(c), Call::Ibarrier(d)) => c.same(*d),
             (Call::Unread, Call::Unread) => true,
             _ => false,
         }

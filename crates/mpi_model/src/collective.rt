@@ -1,56 +1,14 @@
 //! Collective calls (MPI 4.0, chapter 6).
 
 ghost use Rattle.std.specs.Prelude.{◌≡◌, ◌↔◌, IsTrue, SomeIff};
-ghost use Rattle.mpi_model.specs.Ranges.{HasRoot, IsRootOf, kind_number};
+ghost use Rattle.mpi_model.specs.Ranges.{IsRootOf};
 
 use crate::envelope::CommRef;
+use crate::kind::Kind;
 use std::marker::Model;
 
-/// The kind of a collective call, or of a round of them.
-#[derive(Clone, Copy, Debug, PartialEq, Eq)]
-pub enum Kind {
-    Barrier,
-    Bcast,
-    Scatter,
-    Gather,
-    Reduce,
-    Allreduce,
-    Allgather,
-    Alltoall,
-    /// Of rounds alone: an `MPI_Ibarrier` is no [`Collective`].
-    Ibarrier,
-}
-
-impl Kind {
-    /// The number of the kind, each its own. Those of a [`Collective`] are its codes in a frame.
-    pub fn number(self) -> u8
-        ensures { result ≡ kind_number self }
-    {
-        match self {
-            Kind::Barrier => 0,
-            Kind::Bcast => 1,
-            Kind::Scatter => 2,
-            Kind::Gather => 3,
-            Kind::Reduce => 4,
-            Kind::Allreduce => 5,
-            Kind::Allgather => 6,
-            Kind::Alltoall => 7,
-            Kind::Ibarrier => 8,
-        }
-    }
-
-    /// Whether a call of this kind names a root.
-    pub fn has_root(self) -> bool
-        ensures { IsTrue result ↔ HasRoot self }
-    {
-        matches!(
-            self,
-            Kind::Bcast | Kind::Scatter | Kind::Gather | Kind::Reduce
-        )
-    }
-}
-
-/// A blocking collective call, with a root, a rank in the group, just where its kind has one.
+/// A collective call. Its root is a rank in the group: none where its kind has no root, or where
+/// the call names `MPI_ROOT`, `MPI_PROC_NULL` or a number below 0 (MPI 4.0, 6.2.3).
 #[derive(Clone, Copy, Debug, PartialEq, Eq)]
 pub struct Collective {
     kind: Kind,
@@ -97,7 +55,7 @@ impl Collective {
         self.kind
     }
 
-    /// The root's rank in the group, where the kind has a root.
+    /// The root's rank in the group, where the call names one.
     pub fn root(self) -> Option<u32>
         ensures value { result ≡ self.root }
         ensures range { IsRootOf self.kind result }
@@ -123,12 +81,8 @@ impl Collective {
 fn is_root_of(kind: Kind, root: Option<u32>) -> bool
     ensures { IsTrue result ↔ IsRootOf kind root }
 {
-    match kind {
-        Kind::Barrier | Kind::Allreduce | Kind::Allgather | Kind::Alltoall => root.is_none(),
-        Kind::Bcast | Kind::Scatter | Kind::Gather | Kind::Reduce => matches!(
-            root,
-            Some(0..=0x7FFF_FFFF)
-        ),
-        Kind::Ibarrier => false,
+    match root {
+        None => true,
+        Some(rank) => kind.has_root() && rank < 0x8000_0000,
     }
 }

@@ -2,14 +2,12 @@
 
 ghost use Rattle.std.specs.Prelude.{◌≡◌, ◌↔◌, IsTrue};
 
-mod comm;
 mod exchange;
 mod packed;
 mod probe;
 mod receive;
 mod send;
 
-pub use comm::NamedComm;
 pub use exchange::Exchange;
 pub use probe::ProbeEnvelope;
 pub use receive::ReceiveEnvelope;

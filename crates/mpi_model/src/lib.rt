@@ -10,7 +10,7 @@
 //!
 //! - [`device`]: bytes in and out, one call at a time; [`memory`]: devices in memory;
 //!   [`whole`]: whole pieces over devices
-//! - [`stamp`], [`told`], [`envelope`], [`collective`], [`list`]: what calls are made of
+//! - [`stamp`], [`told`], [`envelope`], [`kind`], [`collective`], [`list`]: what calls are made of
 //! - [`call`], [`outcome`], [`event`]: what a rank does, and when
 //! - [`message`]: what is matched, and which messages a receive can take
 //! - [`layout`]: the ranks of a run and its communicators
@@ -23,6 +23,7 @@ mod collective;
 mod device;
 mod envelope;
 mod event;
+mod kind;
 mod layout;
 mod list;
 mod memory;
@@ -33,13 +34,13 @@ mod told;
 mod whole;
 
 pub use call::Call;
-pub use collective::{Collective, Kind};
+pub use collective::Collective;
 pub use device::{Device, Failed, Read, Write};
 pub use envelope::{
-    CommRef, Envelope, Exchange, Mode, NamedComm, Peer, ProbeEnvelope, ReceiveEnvelope,
-    SendEnvelope,
+    CommRef, Envelope, Exchange, Mode, Peer, ProbeEnvelope, ReceiveEnvelope, SendEnvelope,
 };
 pub use event::{Event, Exit, OpName};
+pub use kind::{Category, CollectiveFunction, Kind, KindRow};
 pub use layout::comm::{Comm, Stretch};
 pub use layout::fault::LayoutFault;
 pub use layout::{Layout, MOST_COMMS, MOST_RANKS, Sends};

@@ -12,7 +12,7 @@ use std::alloc::AllocError;
 #[derive(Debug, Drop)]
 pub enum Outs {
     Nothing,
-    /// The request that an Isend, Irecv or Ibarrier posted.
+    /// The request that an Isend, Irecv or nonblocking collective call posted.
     Posted(i64),
     /// What the status of a Recv, Sendrecv, Probe or Wait tells.
     Status(Told),

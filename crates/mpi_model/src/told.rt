@@ -2,7 +2,7 @@
 
 ghost use Rattle.std.specs.Prelude.{◌≡◌, ◌<◌, ◌^◌, SomeIff};
 ghost use Rattle.mpi_model.specs.Ranges.{IsTold};
-ghost use Rattle.mpi_model.specs.Tells.{told_rank, is_cancelled};
+ghost use Rattle.mpi_model.specs.Tells.{told_rank};
 ghost use Rattle.mpi_model.specs.declared.told.Told.TheVariants.{Source};
 
 use std::marker::Model;
@@ -73,12 +73,5 @@ impl Told {
             Told::Source(rank) => Some(rank.number()),
             Told::Nothing | Told::Cancelled => None,
         }
-    }
-
-    /// Whether it is told that the operation was cancelled.
-    pub fn is_cancelled(self) -> bool
-        ensures { result ≡ is_cancelled self }
-    {
-        matches!(self, Told::Cancelled)
     }
 }

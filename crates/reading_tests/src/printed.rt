@@ -25,7 +25,7 @@ fn faults_of_layouts(rt: HostRuntime) -> Result<(), Fail> {
     Ok(())
 }
 
-static LINES: [(LineFault, &str); 10] = [
+static LINES: [(LineFault, &str); 9] = [
     (LineFault::LineTooLong, "F2 LineTooLong at line 3"),
     (LineFault::BadStamp, "F3 BadStamp at line 3"),
     (LineFault::OtherThread, "F4 OtherThread at line 3"),
@@ -34,7 +34,6 @@ static LINES: [(LineFault, &str); 10] = [
     (LineFault::NameDiffers, "F7 NameDiffers at line 3"),
     (LineFault::BadParameter, "F8 BadParameter at line 3"),
     (LineFault::Truncated, "F9 Truncated at line 3"),
-    (LineFault::TooManyCalls, "F10 TooManyCalls at line 3"),
     (LineFault::TooManyLines, "F11 TooManyLines at line 3"),
 ];
 

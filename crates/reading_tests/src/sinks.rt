@@ -145,7 +145,12 @@ impl CallSink for SentTo {
         self.add(&call)
     }
 
-    fn on_ibarrier(&mut self, call: Call, _enter: Stamp, _exit: Option<Exit>) -> Result<(), Full> {
+    fn on_icollective(
+        &mut self,
+        call: Call,
+        _enter: Stamp,
+        _exit: Option<Exit>,
+    ) -> Result<(), Full> {
         self.add(&call)
     }
 

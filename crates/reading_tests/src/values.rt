@@ -6,7 +6,7 @@ use std::fmt::Write;
 use std::test::Fail;
 
 /// Texts, and what they say.
-static VALUES: [(&str, &str); 14] = [
+static VALUES: [(&str, &str); 16] = [
     ("2 (MPI_COMM_WORLD)", "2 world"),
     ("2 ( MPI_COMM_WORLD)", "2"),
     ("[4 (MPI_ANY_TAG)] (x)", "4 any tag"),
@@ -18,6 +18,8 @@ static VALUES: [(&str, &str); 14] = [
         "numbers 4 any tag 5 null",
     ),
     ("1 (MPI_REQUEST_NULL)", "1 no request"),
+    ("-3 (MPI_ROOT)", "-3 root"),
+    ("-3 (MPI_ROOTS)", "-3"),
     ("{a=1}", "groups {a=1;}"),
     (
         "{source=3 (MPI_ANY_SOURCE), tag = -1}",
@@ -34,6 +36,7 @@ fn name_of(name: NumName) -> &'static str {
         NumName::AnySource => " any source",
         NumName::AnyTag => " any tag",
         NumName::ProcNull => " null",
+        NumName::Root => " root",
         NumName::CommWorld => " world",
         NumName::RequestNull => " no request",
         NumName::Other => "",

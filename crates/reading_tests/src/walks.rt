@@ -27,7 +27,7 @@ static FUNCTIONS: [&str; 20] = [
     "MPI_Cancel",
     "MPI_Request_free",
     "MPI_Reduce_c",
-    "MPI_Ibarrier",
+    "MPI_Iscatterv_c",
     "MPI_Isendrecv",
     "MPI_Iprobe",
 ];
@@ -65,7 +65,7 @@ fn counts(tally: Tally) -> [u64; 20] {
         tally.on_cancel,
         tally.on_request_free,
         tally.on_collective,
-        tally.on_ibarrier,
+        tally.on_icollective,
         tally.on_unread,
         tally.on_other,
     ]

@@ -21,6 +21,7 @@ by_count sends files ranks h = record { comms = []; why = inl (no_ranks (length 
 
 pub by_world : (sends : Sends) (files : List (List ℕ)) (ranks : List RankCalls) (fault : MadeFault) → RefusesWorld ranks fault → RefusesMaking sends files ranks fault
 by_world sends files ranks faults.Memory h = tt
+by_world sends files ranks (faults.Size rank size) h = absurd h
 by_world sends files ranks (faults.World first second) h = h
 by_world sends files ranks (faults.Layout fault) h = absurd h
 by_world sends files ranks faults.LayoutFile h = absurd h
@@ -28,6 +29,7 @@ by_world sends files ranks faults.ManifestFile h = absurd h
 
 layout_refused : (sends : Sends) (files : List (List ℕ)) (ranks : List RankCalls) (comms : List Communicator) (fault : MadeFault) → RefusesLayout (length ranks) (world_of ranks) comms fault → RefusesMaking sends files ranks fault
 layout_refused sends files ranks comms faults.Memory h = tt
+layout_refused sends files ranks comms (faults.Size rank size) h = absurd h
 layout_refused sends files ranks comms (faults.World first second) h = absurd h
 layout_refused sends files ranks comms (faults.Layout fault) h = record { comms = comms; why = inl h }
 layout_refused sends files ranks comms faults.LayoutFile h = absurd h
@@ -40,6 +42,7 @@ by_layout sends files ranks n world comms fault n_is world_is h =
 file_refused : (sends : Sends) (files : List (List ℕ)) (ranks : List RankCalls) (comms : List Communicator) (fault : MadeFault)
     → RefusesLayoutFile (layout_value (record { ranks = length ranks; world = world_of ranks; sends = sends; comms = comms })) fault → RefusesMaking sends files ranks fault
 file_refused sends files ranks comms faults.Memory h = tt
+file_refused sends files ranks comms (faults.Size rank size) h = absurd h
 file_refused sends files ranks comms (faults.World first second) h = absurd h
 file_refused sends files ranks comms (faults.Layout fault) h = absurd h
 file_refused sends files ranks comms faults.LayoutFile h = record { comms = comms; why = inr h }
@@ -54,6 +57,7 @@ by_file sends files ranks n world comms fault n_is world_is h =
 
 pub by_manifest : (sends : Sends) (files : List (List ℕ)) (ranks : List RankCalls) (fault : MadeFault) → RefusesManifestFile (manifest_value files) fault → RefusesMaking sends files ranks fault
 by_manifest sends files ranks faults.Memory h = tt
+by_manifest sends files ranks (faults.Size rank size) h = absurd h
 by_manifest sends files ranks (faults.World first second) h = absurd h
 by_manifest sends files ranks (faults.Layout fault) h = absurd h
 by_manifest sends files ranks faults.LayoutFile h = absurd h

@@ -1,4 +1,5 @@
 pub mod Texts
 pub mod Names
+pub mod Sizes
 pub mod Making
 pub mod Words

@@ -8,6 +8,7 @@ use Rattle.comm_makings.specs.World.{world_fault, world_of}
 use Rattle.comm_makings.specs.declared.answer.DeriveFault.TheVariants as derives
 use Rattle.comm_makings.specs.declared.calls.RankCalls.{RankCalls}
 use Rattle.layout_files.specs.Values.{layout_value, line_of, manifest_value}
+use Rattle.text_layouts.specs.Sizes.{size_fault}
 use Rattle.text_layouts.specs.declared.fault.MadeFault.{MadeFault}
 use Rattle.text_layouts.specs.declared.fault.MadeFault.TheVariants as faults
 
@@ -32,11 +33,13 @@ RefusesLayout ranks world comms faults.Memory = Unit {0}
 RefusesLayout ranks world comms (faults.Layout fault) = fault_of ranks world comms ≡ Some fault
 RefusesLayout ranks world comms _ = ⊥
 
+-- why the file of the layout isn't made: it is too long
 abbrev pub RefusesLayoutFile : Json → MadeFault → Type 0
 RefusesLayoutFile value faults.Memory = Unit {0}
 RefusesLayoutFile value faults.LayoutFile = longest < length (line_of value)
 RefusesLayoutFile value _ = ⊥
 
+-- why the file of the manifest isn't made: it is too long
 abbrev pub RefusesManifestFile : Json → MadeFault → Type 0
 RefusesManifestFile value faults.Memory = Unit {0}
 RefusesManifestFile value faults.ManifestFile = longest < length (line_of value)
@@ -47,9 +50,10 @@ pub record RefusesComms (sends : Sends) (ranks : List RankCalls) (fault : MadeFa
   pub comms : List Communicator
   pub why : RefusesLayout (length ranks) (world_of ranks) comms fault ⊎ RefusesLayoutFile (layout_value (record { ranks = length ranks; world = world_of ranks; sends = sends; comms = comms })) fault
 
--- Why no layout is made: the number of the world, the communicators, or the manifest.
+-- Why no layout is made: the size or the number of the world, the communicators, or the manifest.
 abbrev pub RefusesMaking : Sends → List (List ℕ) → List RankCalls → MadeFault → Type 0
 RefusesMaking sends files ranks faults.Memory = Unit {0}
+RefusesMaking sends files ranks (faults.Size rank size) = size_fault ranks ≡ Some (rank, size)
 RefusesMaking sends files ranks (faults.World first second) = world_fault ranks ≡ Some (derives.World first second)
 RefusesMaking sends files ranks (faults.Layout fault) = RefusesComms sends ranks (faults.Layout fault)
 RefusesMaking sends files ranks faults.LayoutFile = RefusesComms sends ranks faults.LayoutFile

@@ -4,9 +4,11 @@ use Rattle.text_layouts.specs.declared.order.Ends.{Ends}
 use Rattle.text_layouts.specs.declared.order.Order.{Order}
 use Rattle.text_layouts.specs.declared.order.Order.TheVariants as orders
 
+-- the greatest number that digits count up to
 abbrev pub most : ℕ
 most = 2 ^ 64 - 1
 
+-- the number so far, 0 in front of the first digit
 abbrev pub or_zero : Option ℕ → ℕ
 or_zero None = 0
 or_zero (Some n) = n
@@ -24,9 +26,11 @@ byte_after ends byte =
     else if byte == 47 then record { run = None; stem = None }
     else record { run = None; stem = ends.stem }
 
+-- a name without a byte
 abbrev pub nothing : Ends
 nothing = record { run = None; stem = None }
 
+-- the first number where there is one, else the second
 abbrev pub first_of : Option ℕ → Option ℕ → Option ℕ
 first_of None next = next
 first_of (Some n) next = Some n
@@ -36,12 +40,15 @@ first_of (Some n) next = Some n
 abbrev pub number_in : Ends → Option ℕ
 number_in ends = first_of ends.run ends.stem
 
+-- the number of a file's name
 abbrev pub number_of : List ℕ → Option ℕ
 number_of name = number_in (fold byte_after nothing name)
 
+-- the numbers of all names
 abbrev pub numbers_of : List (List ℕ) → List (Option ℕ)
 numbers_of names = map number_of names
 
+-- a name has just this number
 abbrev pub is_number : ℕ → Option ℕ → Bool
 is_number number None = false
 is_number number (Some named) = named == number
@@ -51,10 +58,12 @@ abbrev pub first_from : ℕ → ℕ → List (Option ℕ) → Option ℕ
 first_from number place [] = None
 first_from number place (named ∷ names) = if is_number number named then Some place else first_from number (place + 1) names
 
+-- each name has a number
 abbrev pub are_numbered : List (Option ℕ) → Bool
 are_numbered [] = true
 are_numbered (number ∷ numbers) = is_some number && are_numbered numbers
 
+-- where a name's number stands once more
 abbrev pub again_for : ℕ → Option ℕ → List (Option ℕ) → Option ℕ
 again_for place None numbers = None
 again_for place (Some number) numbers = first_from number (place + 1) numbers
@@ -64,6 +73,7 @@ abbrev pub again_at : ℕ → List (Option ℕ) → Option ℕ
 again_at place [] = None
 again_at place (number ∷ numbers) = again_for place number numbers
 
+-- the first name whose number stands once more, with the place where it does
 abbrev pub or_later : ℕ → Option ℕ → Option (ℕ × ℕ) → Option (ℕ × ℕ)
 or_later place None later = later
 or_later place (Some again) later = Some (place, again)
@@ -84,6 +94,7 @@ pub record LacksRank (numbers : List (Option ℕ)) : Type 0 where
   pub below : rank < length numbers
   pub none : (place : ℕ) → slice_get numbers place ≢ Some (Some rank)
 
+-- each name has a number
 abbrev pub AreNumbered : List (Option ℕ) → Type 0
 AreNumbered numbers = (place : ℕ) → slice_get numbers place ≢ Some None
 

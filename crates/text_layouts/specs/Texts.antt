@@ -15,6 +15,7 @@ use Rattle.comm_calls.specs.declared.fault.Memory.{Memory}
 pub record AreOfRank (read : ReadCalls) (rank : RankCalls) : Type 0 where
   pub world : rank.world ≡ read.world
   pub own : rank.own ≡ read.own
+  pub size : rank.size ≡ read.size
   pub calls : rank.calls.items ≡ read.calls
   pub uses : rank.uses.items ≡ read.uses
 

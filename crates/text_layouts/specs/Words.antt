@@ -26,6 +26,7 @@ comm_text g = codes "  " ++ decimal g.comm ++ codes ": " ++ named_ranks_text g.m
 abbrev pub comms_text : List Communicator → List ℕ
 comms_text comms = codes "communicators: " ++ decimal (length comms) ++ codes "\n" ++ flat_map comm_text (take 20 comms) ++ more_text (length comms - 20)
 
+-- the function that gave a communicator
 abbrev pub function_text : MadeBy → List ℕ
 function_text makers.Dup = codes "MPI_Comm_dup"
 function_text makers.DupWithInfo = codes "MPI_Comm_dup_with_info"
@@ -41,6 +42,7 @@ function_text makers.DistGraphCreate = codes "MPI_Dist_graph_create"
 function_text makers.DistGraphCreateAdjacent = codes "MPI_Dist_graph_create_adjacent"
 function_text makers.Other = codes "another function"
 
+-- why a communicator is left out
 abbrev pub why_text : Why → List ℕ
 why_text reasons.Function = codes "nothing is derived from calls of this function"
 why_text reasons.Taken = codes "the number is that of MPI_COMM_WORLD or MPI_COMM_SELF"
@@ -50,6 +52,7 @@ why_text reasons.Untold = codes "a member has no such call, or the texts don't t
 why_text reasons.Unsound = codes "the members' calls don't agree, or a parameter is unknown"
 why_text reasons.Behind = codes "an earlier one of the same parent is left out"
 
+-- the number of a communicator that is left out
 abbrev pub given_text : Option ℕ → List ℕ
 given_text None = codes "an unknown number"
 given_text (Some number) = decimal number
@@ -63,8 +66,10 @@ left_text l = codes "  rank " ++ decimal l.rank ++ codes ", call " ++ decimal l.
 abbrev pub some_left_text : List LeftOut → List ℕ
 some_left_text left_out = codes "left out: " ++ decimal (length left_out) ++ codes "\n" ++ flat_map left_text (take 20 left_out) ++ more_text (length left_out - 20)
 
+-- what is said of communicators that are left out: nothing where there is none
 abbrev pub left_out_text : List LeftOut → List ℕ
 left_out_text left_out = if nat_lt 0 (length left_out) then some_left_text left_out else []
 
+-- all that is said of a layout
 abbrev pub notes_text : ℕ → ℕ → List Communicator → List LeftOut → List ℕ
 notes_text ranks calls comms left_out = counts_text ranks calls ++ comms_text comms ++ left_out_text left_out

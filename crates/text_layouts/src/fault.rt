@@ -14,6 +14,9 @@ pub enum MadeFault {
     /// Two ranks tell different numbers of MPI_COMM_WORLD.
     #[error("ranks {first} and {second} name MPI_COMM_WORLD by different numbers: they are not of one run")]
     World { first: u32, second: u32 },
+    /// A rank tells another size of MPI_COMM_WORLD than there are texts.
+    #[error("by rank {rank} MPI_COMM_WORLD has {size} ranks, and there is not one text for each")]
+    Size { rank: u32, size: u32 },
     /// The layout would break a rule of layouts.
     #[error("{0}")]
     Layout(LayoutFault),

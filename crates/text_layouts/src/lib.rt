@@ -3,6 +3,7 @@
 //! It opens no file: a text is any reader, and what is written is bytes in memory.
 //!
 //! - [`text`]: what one text says of communicators; [`order`]: which text is of which rank, by the files' names
+//! - [`size`]: whether the texts are those of all ranks, by the size of the world that they tell
 //! - [`made`]: from what all texts say to the layout and both files; [`fault`]: why there are none
 //! - [`words`]: what is said of them to a person
 #![tactic(auto)]
@@ -10,6 +11,7 @@
 mod fault;
 mod made;
 mod order;
+mod size;
 mod text;
 mod words;
 

@@ -4,9 +4,11 @@ ghost use Rattle.std.specs.Prelude.{◌≡◌, ◌<◌, ◌^◌, IfErr, IfOk, No
 ghost use Rattle.mpi_model.specs.Layouts.{Holds, fault_of};
 ghost use Rattle.comm_makings.specs.World.{world_fault, world_of};
 ghost use Rattle.layout_files.specs.Values.{layout_value, line_of, manifest_value};
+ghost use Rattle.text_layouts.specs.Sizes.{other_size, size_fault};
 ghost use Rattle.text_layouts.specs.Making.{IsFile, RefusesLayout, RefusesLayoutFile, RefusesMaking, RefusesManifestFile, RefusesWorld};
 
 use crate::fault::MadeFault;
+use crate::size::other_size;
 use comm_makings::{DeriveFault, Derived, RankCalls, derive};
 use layout_files::{layout_bytes, manifest_bytes};
 use mpi_model::{Comm, Layout, LayoutFault, MOST_RANKS, Sends, Stretch};
@@ -70,6 +72,7 @@ fn copies(alloc: Global, comms: &[Comm]) -> Result<Vec<Comm>, AllocError>
     Ok(all)
 }
 
+/// The communicators that the calls of all ranks make.
 fn derived_of(alloc: Global, ranks: &[RankCalls]) -> Result<Derived, MadeFault>
     requires { length ranks.now < 2 ^ 32 }
     ensures world { IfOk result (λ d. d.world ≡ world_of ranks.now) }
@@ -83,6 +86,7 @@ fn derived_of(alloc: Global, ranks: &[RankCalls]) -> Result<Derived, MadeFault>
     }
 }
 
+/// The layout of these communicators, which the rules of layouts are tried on.
 fn layout_of(
     alloc: Global,
     ranks: u32,
@@ -101,6 +105,7 @@ fn layout_of(
     }
 }
 
+/// The bytes of the layout's file, where it isn't too long.
 fn layout_file_of(
     alloc: Global,
     ranks: u32,
@@ -117,6 +122,7 @@ fn layout_file_of(
     Ok(file)
 }
 
+/// The bytes of the manifest's file, where it isn't too long.
 fn manifest_file_of(alloc: Global, files: &[String]) -> Result<Vec<u8>, MadeFault>
     ensures ok { IfOk result (λ file. IsFile (manifest_value (map string_bytes files.now)) file.items) }
     ensures fault { IfErr result (λ e. RefusesManifestFile (manifest_value (map string_bytes files.now)) e) }
@@ -129,7 +135,8 @@ fn manifest_file_of(alloc: Global, files: &[String]) -> Result<Vec<u8>, MadeFaul
 }
 
 /// The layout of the ranks whose calls these are, with the communicators that they make, and the manifest of their texts'
-/// files, by rank. Nothing is made of no rank, or of more than a layout can have.
+/// files, by rank. Nothing is made of no rank, of more than a layout can have, or where a rank tells another size of
+/// MPI_COMM_WORLD (MPI 4.0, 7.4.1).
 #[tactic(auto, using(crate::proofs::Refused::by_count, crate::proofs::Refused::by_world, crate::proofs::Refused::by_layout, crate::proofs::Refused::by_file, crate::proofs::Refused::by_manifest))]
 pub fn made_of(
     alloc: Global,
@@ -139,6 +146,7 @@ pub fn made_of(
 ) -> Result<Made, MadeFault>
     ensures world { IfOk result (λ m. m.derived.world ≡ world_of ranks.now) }
     ensures told { OnOk result (world_fault ranks.now ≡ None) }
+    ensures sizes { OnOk result (size_fault ranks.now ≡ None) }
     ensures layout { IfOk result (λ m. Holds (length ranks.now) m.derived.world sends m.derived.comms.items m.layout) }
     ensures rules { IfOk result (λ m. fault_of (length ranks.now) m.derived.world m.derived.comms.items ≡ None) }
     ensures layout_file { IfOk result (λ m. IsFile (layout_value (record { ranks = length ranks.now; world = m.derived.world; sends = sends; comms = m.derived.comms.items })) m.layout_file.items) }
@@ -149,6 +157,9 @@ pub fn made_of(
         return Err(MadeFault::Layout(LayoutFault::RankCount));
     }
     let count = ranks.len() as u32;
+    if let Some((rank, size)) = other_size(ranks, count) {
+        return Err(MadeFault::Size { rank, size });
+    }
     let derived = derived_of(alloc, ranks)?;
     let layout = layout_of(alloc, count, sends, &derived)?;
     let layout_file = layout_file_of(alloc, count, sends, &derived)?;

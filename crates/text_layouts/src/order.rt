@@ -99,7 +99,7 @@ fn is_number(number: u64, named: Option<u64>) -> bool
     }
 }
 
-// the first place from this one on at which the number stands
+/// The first place from this one on at which the number stands.
 fn first_from(numbers: &[Option<u64>], number: u64, from: usize) -> Option<usize>
     ensures { result ≡ first_from number from (drop from numbers.now) }
 {
@@ -111,7 +111,7 @@ fn first_from(numbers: &[Option<u64>], number: u64, from: usize) -> Option<usize
     None
 }
 
-// the place of each rank's text
+/// The place of each rank's text.
 #[tactic(auto, using(crate::proofs::Orders::one_rank_more, crate::proofs::Orders::no_rank_yet, crate::proofs::Orders::all_ranks, crate::proofs::Orders::lacks_rank))]
 fn by_digits(alloc: Global, numbers: &[Option<u64>]) -> Result<Option<Vec<usize>>, AllocError>
     ensures some { IfOk result (λ order. IfSome order (λ o. IsByDigits numbers.now o.items)) }
@@ -138,7 +138,7 @@ fn are_numbered(numbers: &[Option<u64>]) -> bool
     true
 }
 
-// where the number of this place stands again
+/// Where the number of this place stands again.
 fn again_at(numbers: &[Option<u64>], place: usize) -> Option<usize>
     requires { place < length numbers.now }
     ensures { result ≡ again_at place (drop place numbers.now) }

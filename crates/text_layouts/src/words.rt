@@ -22,7 +22,7 @@ fn put_more(out: &mut Text, more: usize)
     }
 }
 
-// at most so many of the items
+/// At most so many of the items.
 fn shown<T>(items: &[T]) -> &[T]
     ensures { result.now ≡ take 20 items.now }
 {

@@ -20,6 +20,7 @@ pub record UnreadParts : Type 0 where
 abbrev pub sum_of : ℕ → ℕ → ℕ
 sum_of one other = min (one + other) (2 ^ 64 - 1)
 
+-- a function with so many calls more
 abbrev pub with_count : ℕ → UnreadParts → UnreadParts
 with_count count f = record f { count = sum_of f.count count }
 
@@ -49,6 +50,7 @@ pub record Noted : Type 0 where
   pub calls : ℕ
   pub unread : List UnreadParts
 
+-- what is noted in front of a text
 abbrev pub nothing_noted : Noted
 nothing_noted = record { events = []; calls = 0; unread = [] }
 

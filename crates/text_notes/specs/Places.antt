@@ -8,6 +8,7 @@ abbrev pub first_where : {X : Type 0} → (X → Bool) → List X → Option ℕ
 first_where p [] = None
 first_where p (x ∷ xs) = if p x then Some zero else option_map suc (first_where p xs)
 
+-- a function of this name
 abbrev pub is_named : List ℕ → UnreadParts → Bool
 is_named name f = bytes_eq f.name name
 

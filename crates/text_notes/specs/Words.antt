@@ -35,9 +35,11 @@ more_text (suc n) = codes "  and " ++ decimal (suc n) ++ codes " more\n"
 
 -- ---- names of functions: what isn't printed of ASCII stands as `?`, so nothing of a name is an order to a terminal
 
+-- a byte of a name: a printed character of ASCII, or `?`
 abbrev pub byte_text : ℕ → List ℕ
 byte_text byte = if nat_lt 32 byte && nat_lt byte 127 then byte ∷ [] else codes "?"
 
+-- the name of a function
 abbrev pub name_text : List ℕ → List ℕ
 name_text name = flat_map byte_text name
 
@@ -48,6 +50,7 @@ pub record Totals : Type 0 where
   pub functions : List UnreadParts
   pub others : ℕ
 
+-- the calls of no text
 abbrev pub no_totals : Totals
 no_totals = record { functions = []; others = 0 }
 
@@ -62,13 +65,16 @@ added t f =
     then record { functions = counted f.first f.count f.name t.functions; others = t.others }
     else record { functions = t.functions; others = sum_of t.others f.count }
 
+-- the calls with those of further functions
 abbrev pub all_added : Totals → List UnreadParts → Totals
 all_added t [] = t
 all_added t (f ∷ functions) = all_added (added t f) functions
 
+-- the functions of a text that aren't read
 abbrev pub unread_of : NoteParts → List UnreadParts
 unread_of note = note.unread
 
+-- the functions that aren't read, over all texts
 abbrev pub totals_of : List NoteParts → Totals
 totals_of notes = all_added no_totals (flat_map unread_of notes)
 
@@ -76,9 +82,11 @@ totals_of notes = all_added no_totals (flat_map unread_of notes)
 abbrev pub count_text : UnreadParts → List ℕ
 count_text f = name_text f.name ++ codes " " ++ decimal f.count
 
+-- a further function with its calls
 abbrev pub next_text : UnreadParts → List ℕ
 next_text f = codes ", " ++ count_text f
 
+-- how many calls of others there are, behind those that are named
 abbrev pub others_text : ℕ → List ℕ
 others_text zero = []
 others_text (suc n) = codes ", others " ++ decimal (suc n)
@@ -89,14 +97,17 @@ totals_text [] others = []
 totals_text (f ∷ functions) others =
     codes "  calls that are not read: " ++ count_text f ++ flat_map next_text functions ++ others_text others ++ codes "\n"
 
+-- the line of all functions that aren't read
 abbrev pub functions_text : Totals → List ℕ
 functions_text t = totals_text t.functions t.others
 
 -- ---- ranks of which nothing is known
 
+-- a text of this rank
 abbrev pub is_of_rank : ℕ → NoteParts → Bool
 is_of_rank rank note = note.rank == rank
 
+-- no text of the rank was given
 abbrev pub has_no_text : List NoteParts → ℕ → Bool
 has_no_text notes rank = not (list_any (is_of_rank rank) notes)
 
@@ -108,6 +119,7 @@ pieceless notes unknown = filter (has_no_text notes) unknown
 abbrev pub these_pieceless_text : List ℕ → List ℕ
 these_pieceless_text ranks = codes "  no piece tells anything of " ++ named_ranks_text ranks ++ codes "\n"
 
+-- the ranks without a text: nothing where each has one
 abbrev pub pieceless_text : List ℕ → List ℕ
 pieceless_text [] = []
 pieceless_text (r ∷ ranks) = these_pieceless_text (r ∷ ranks)
@@ -121,6 +133,7 @@ unread_text note (f ∷ functions) =
     codes "  rank " ++ decimal note.rank ++ codes ", call " ++ decimal (sum_of note.first f.first) ++ codes ": "
     ++ name_text f.name ++ codes " is not read (" ++ note.file ++ codes ")\n"
 
+-- what a text without calls is taken for
 abbrev pub guess_text : Start → List ℕ
 guess_text Empty = codes " is empty\n"
 guess_text Gzip = codes " has no call, and begins as what gzip packed\n"
@@ -128,10 +141,12 @@ guess_text Utf16 = codes " has no call, and begins as UTF-16\n"
 guess_text Binary = codes " has no call, and a byte 0, as a binary trace\n"
 guess_text Lines = codes " has no call\n"
 
+-- the same, also where the text can't be looked at
 abbrev pub start_text : Option Start → List ℕ
 start_text None = codes " has no call\n"
 start_text (Some start) = guess_text start
 
+-- the line of a text without calls
 abbrev pub callless_text : NoteParts → List ℕ
 callless_text note = codes "  " ++ note.file ++ start_text note.start
 
@@ -143,10 +158,12 @@ several_text first last = codes ", the first of them in lines " ++ decimal first
 abbrev pub between_text : ℕ → ℕ → List ℕ
 between_text first last = if first == last then codes ", the first of them line " ++ decimal last else several_text first last
 
+-- between which lines the first skipped one stands, where that is known
 abbrev pub skips_text : Option Skips → List ℕ
 skips_text None = []
 skips_text (Some skips) = between_text (sum_of skips.behind 1) skips.last
 
+-- the line of a text of which lines were skipped
 abbrev pub skipped_text : NoteParts → List ℕ
 skipped_text note = codes "  lines of " ++ note.file ++ codes " that were skipped: " ++ decimal note.skipped ++ skips_text note.skips ++ codes "\n"
 
@@ -155,11 +172,13 @@ abbrev pub has_unread : List UnreadParts → Bool
 has_unread [] = false
 has_unread (f ∷ functions) = true
 
+-- a text has something of this kind to note
 abbrev pub has_kind : Kind → NoteParts → Bool
 has_kind Unread note = has_unread note.unread
 has_kind Callless note = note.calls == 0
 has_kind Skipped note = nat_lt 0 note.skipped
 
+-- the line of a text, of one kind
 abbrev pub line_text : Kind → NoteParts → List ℕ
 line_text Unread note = unread_text note note.unread
 line_text Callless note = callless_text note
@@ -175,6 +194,7 @@ kind_text kind notes = flat_map (line_text kind) (take most_shown (of_kind kind 
 
 -- ---- the whole
 
+-- all that is noted of the texts
 abbrev pub notes_text : List NoteParts → List ℕ
 notes_text notes = functions_text (totals_of notes) ++ kind_text Unread notes ++ kind_text Callless notes ++ kind_text Skipped notes
 
@@ -195,6 +215,7 @@ pub record PlaceParts : Type 0 where
   pub file : List ℕ
   pub line : Option ℕ
 
+-- at which line a call stands, where that is known
 abbrev pub at_line_text : Option ℕ → List ℕ
 at_line_text None = []
 at_line_text (Some line) = codes ":" ++ decimal line

@@ -1,4 +1,15 @@
 //! What is noted of trace texts while they are read, for a person who doubts an answer.
+//!
+//! A walk into [`Noting`] keeps the events that one into `dumpi_calls::Collect` keeps, and notes beside them which
+//! functions aren't read. A text is opened once more where a line of it is asked for. Work is in proportion to the texts,
+//! memory to the functions that are noted.
+//!
+//! - [`function`]: a function whose calls aren't read; [`noting`]: the sink; [`note`]: what was noted of one text
+//! - [`line`]: at which line a call begins; [`skips`]: where the first skipped line stands; [`start`]: what a text without
+//!   calls is taken for
+//! - [`totals`]: the functions of all texts; [`pieceless`]: the ranks without a text; [`place`]: where a call stands
+//! - [`words`]: what is said of it
+//! - [`laws`]: that a walk into the sink collects what one without notes does
 #![tactic(auto)]
 
 mod function;

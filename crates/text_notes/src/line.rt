@@ -12,7 +12,7 @@ use dumpi_text::{RawCall, TextCause, TextFault, Texts, reading_call_by_call};
 use mpi_model::Read;
 use std::alloc::Global;
 
-// the next call of the text, put in the place of the one before: whether there is one
+/// The next call of the text, put in the place of the one before: whether there is one.
 #[tactic(auto, using(crate::proofs::Reading::stops))]
 pub(crate) fn next_of<R: Read>(texts: &mut Texts<R>, raw: &mut RawCall) -> Result<bool, TextFault>
     ensures goes_on { (text : Option (List ℕ)) (calls : List TextCall) → IsRead text calls texts.old → IfOk result (λ found. Follows text calls (put_in found raw.new) texts.new) }
@@ -61,7 +61,7 @@ pub fn line_of_call<R: Read>(
     }
 }
 
-// A text that is refused at a line has no call more.
+/// A text that is refused at a line has no call more.
 fn unless_refused(fault: TextFault) -> Result<Option<u64>, TextFault>
     ensures ok { (text : Option (List ℕ)) (calls : List TextCall) (line number : ℕ) → RefusesNext text calls fault line → length calls ≤ number → IfOk result (IsLineOf text number) }
     ensures err { IfErr result (λ refused. (refused ≡ TextFault.Memory) ⊎ IsReadFault refused) }

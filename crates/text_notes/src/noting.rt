@@ -173,8 +173,13 @@ impl CallSink for Noting {
         Ok(())
     }
 
-    fn on_ibarrier(&mut self, call: Call, enter: Stamp, exit: Option<Exit>) -> Result<(), Memory> {
-        self.collect.on_ibarrier(call, enter, exit)?;
+    fn on_icollective(
+        &mut self,
+        call: Call,
+        enter: Stamp,
+        exit: Option<Exit>,
+    ) -> Result<(), Memory> {
+        self.collect.on_icollective(call, enter, exit)?;
         self.calls = self.calls.saturating_add(1);
         Ok(())
     }

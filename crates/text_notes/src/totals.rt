@@ -50,7 +50,7 @@ impl Totals {
         self.others
     }
 
-    // the calls of a function of one text more
+    /// The calls of a function of one text more.
     fn add(&mut self, function: &UnreadFunction) -> Result<(), AllocError>
         ensures { OnOk result (self.new ≡ added self.old function.now) }
     {
@@ -68,7 +68,7 @@ impl Totals {
         Ok(())
     }
 
-    // those of all functions of one text more
+    /// Those of all functions of one text more.
     fn add_all(&mut self, functions: &[UnreadFunction]) -> Result<(), AllocError>
         ensures { OnOk result (self.new ≡ all_added self.old functions.now) }
     {

@@ -219,7 +219,7 @@ fn put_line(out: &mut Text, kind: Kind, note: &TextNote)
     }
 }
 
-// the line of a text, where fewer than ten stand before it
+/// The line of a text, where fewer than ten stand before it.
 fn put_shown(out: &mut Text, kind: Kind, note: &TextNote, before: usize)
     ensures { Adds out.old out.new (if nat_lt before most_shown then line_text kind note.now else []) }
 {

@@ -17,6 +17,7 @@ pub record Held : Type 0 where
   pub layout : Parts
   pub know : View
 
+-- what a checker holds
 abbrev pub held : Parts → View → Held
 held layout know = record { layout = layout; know = know }
 

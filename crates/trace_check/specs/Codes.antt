@@ -7,6 +7,7 @@ use Rattle.trace_know.specs.View.{View}
 use Rattle.trace_know.specs.contracts.knowledge.Knowledge as knowledge
 use Rattle.trace_check.specs.Checker.{Held}
 
+-- what a checker holds, as a tree of numbers
 abbrev pub coded_held : Coded Held
 coded_held = code_by (Parts × View) (coded× layout.the_row.coded knowledge.the_row.coded)
     (λ h. (h.layout, h.know)) (λ p. record { layout = p.0; know = p.1 }) (λ _. refl)

@@ -14,12 +14,14 @@ pub(crate) fn are_same_tables(first: &PairTable, second: &PairTable) -> bool
         && are_same_names(first.postponed(), second.postponed())
 }
 
+/// Whether the pairs are the same: `==` of slices, as a call whose contract says what it means.
 fn are_same_pairs(first: &[Pair], second: &[Pair]) -> bool
     ensures { IsTrue result ↔ (first.now ≡ second.now) }
 {
     first == second
 }
 
+/// The same of names.
 fn are_same_names(first: &[OpName], second: &[OpName]) -> bool
     ensures { IsTrue result ↔ (first.now ≡ second.now) }
 {

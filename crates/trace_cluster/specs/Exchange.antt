@@ -61,6 +61,7 @@ IsOfFrame fault = ⊤
 abbrev pub with_more : Held → View → Held
 with_more node heard = held node.layout (join node.know heard) false
 
+-- the node with what was heard, and without an answer
 abbrev pub stale_with_more : Held → View → Held
 stale_with_more node heard = held node.layout (join node.know heard) true
 

@@ -17,6 +17,7 @@ pub record Placed : Type 0 where
   pub at : PieceAt
   pub piece : Piece
 
+-- a piece with its node, its worker and its place
 abbrev pub placed : Side → PieceAt → Piece → Placed
 placed node at piece = record { node = node; at = at; piece = piece }
 

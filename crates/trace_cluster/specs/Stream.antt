@@ -11,6 +11,7 @@ pub record Stream : Type 0 where
   pub reads : Side
   pub writes : Side
 
+-- a stream of what can be read and what was written
 abbrev pub halves : Side → Side → Stream
 halves reads writes = record { reads = reads; writes = writes }
 

@@ -9,6 +9,7 @@ use Rattle.trace_node.specs.Answer.{Answered}
 use Rattle.trace_node.specs.Codes.{coded_answered}
 use Rattle.trace_crew.specs.Showing.{Showing}
 
+-- what a board shows, as a tree of numbers
 abbrev pub coded_showing : Coded Showing
 coded_showing = code_by (Parts × (View × Answered)) (coded× layout.the_row.coded (coded× knowledge.the_row.coded coded_answered))
     (λ s. (s.layout, (s.know, s.answer))) (λ p. record { layout = p.0; know = p.1.0; answer = p.1.1 }) (λ _. refl)

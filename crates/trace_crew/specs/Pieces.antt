@@ -26,10 +26,12 @@ use Rattle.trace_crew.specs.declared.piece.PieceFault.TheVariants as pieces
 abbrev pub GivesSegments : Piece → List PlacedEvents → Type 0
 GivesSegments piece segments = (events : List Event) × AreEvents piece.text.items events × AreSegments piece.rank piece.first events segments
 
+-- a cause that a line of the text gives, and no reader
 abbrev pub IsOfLine : TextCause → Type 0
 IsOfLine (causes.Line fault) = ⊤
 IsOfLine causes.Read = ⊥
 
+-- the fault is the text's own
 abbrev pub IsOfText : TextFault → Type 0
 IsOfText (faults.At line cause) = IsOfLine cause
 IsOfText faults.Memory = ⊥
@@ -55,6 +57,7 @@ IsRefusedFor piece pieces.Memory = ⊤
 abbrev pub Outcome : Type 0
 Outcome = Result (List PlacedEvents) PieceFault
 
+-- what became of a piece: its segments, or why it has none
 abbrev pub IsOutcome : Piece → Outcome → Type 0
 IsOutcome piece (Ok segments) = GivesSegments piece segments
 IsOutcome piece (Err fault) = IsRefusedFor piece fault
@@ -66,6 +69,7 @@ AreOutcomes [] (o ∷ os) = ⊥
 AreOutcomes (piece ∷ pieces) [] = ⊥
 AreOutcomes (piece ∷ pieces) (o ∷ os) = IsOutcome piece o × AreOutcomes pieces os
 
+-- the segments of a piece, none where it was refused
 abbrev pub segments_in : Outcome → List PlacedEvents
 segments_in (Ok segments) = segments
 segments_in (Err fault) = []

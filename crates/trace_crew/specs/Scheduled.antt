@@ -19,14 +19,17 @@ pub data Move : Type 0 where
   Posts : (segment : PlacedEvents) → Move
   Takes : Move
 
+-- the node of a schedule after one move
 abbrev pub after : Move → NodeState → NodeState
 after (Posts segment) s = with_post segment s
 after Takes s = with_take s
 
+-- the node of a schedule after all of these
 abbrev pub after_all : List Move → NodeState → NodeState
 after_all [] s = s
 after_all (move ∷ moves) s = after_all moves (after move s)
 
+-- a segment waits in the inbox
 abbrev pub HasFront : List PlacedEvents → Type 0
 HasFront inbox = (front : PlacedEvents) × (rest : List PlacedEvents) × (inbox ≡ front ∷ rest)
 
@@ -55,6 +58,7 @@ abbrev pub waiting_in : Parts → Post → List PlacedEvents
 waiting_in layout (Segment segment) = if nat_lt segment.rank layout.ranks then segment ∷ [] else []
 waiting_in layout End = []
 
+-- what reached the node: nothing where the segment was refused
 abbrev pub reached_for : PlacedEvents → Option NodeFault → List PlacedEvents
 reached_for segment None = segment ∷ []
 reached_for segment (Some fault) = []

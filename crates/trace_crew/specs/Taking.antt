@@ -24,6 +24,7 @@ pub record Taken : Type 0 where
   pub segment : PlacedEvents
   pub fault : Option NodeFault
 
+-- a segment with its worker, and why it wasn't joined
 abbrev pub taken_as : Worker → PlacedEvents → Option NodeFault → Taken
 taken_as from segment fault = record { from = from; segment = segment; fault = fault }
 
@@ -34,6 +35,7 @@ IsFairFor layout rank (Some Rank) = layout.ranks ≤ rank
 IsFairFor layout rank (Some Memory) = rank < layout.ranks
 IsFairFor layout rank (Some Stale) = ⊥
 
+-- a segment is refused only for a rank that the layout lacks, or for memory
 abbrev pub IsFair : Parts → Taken → Type 0
 IsFair layout t = IsFairFor layout t.segment.rank t.fault
 
@@ -55,6 +57,7 @@ refused_for from segment (Some fault) = refused_as from segment fault ∷ []
 abbrev pub refused_in : Taken → List Refusal
 refused_in t = refused_for t.from t.segment t.fault
 
+-- the facts that were joined: none where the segment was refused
 abbrev pub joined_for : PlacedEvents → Option NodeFault → Trace
 joined_for segment None = facts_of segment
 joined_for segment (Some fault) = []
@@ -88,9 +91,11 @@ abbrev pub sent_by : Worker → Post → Option (Worker × PlacedEvents)
 sent_by from (Segment segment) = Some (from, segment)
 sent_by from End = None
 
+-- the segment that an item carries, with its worker: none where it is an end
 abbrev pub sent : Item → Option (Worker × PlacedEvents)
 sent item = sent_by item.from item.post
 
+-- the segment that was taken, with its worker
 abbrev pub source : Taken → Worker × PlacedEvents
 source t = (t.from, t.segment)
 
@@ -103,6 +108,7 @@ pub record Sorts (layout : Parts) (items : List Item) (segments : List Taken) (n
   pub layout_is : node.layout ≡ layout
   pub know : node.know ≡ view_of (flat_map joined_in segments)
 
+-- the items were taken in some order, which left this node and these refusals
 abbrev pub Sorted : Parts → List Item → Held → List Refusal → Type 0
 Sorted layout items node refused = (segments : List Taken) × Sorts layout items segments node refused
 
@@ -115,6 +121,7 @@ pub record HasAll (layout : Parts) (first second : List Item) (node : Held) (ref
 
 -- ---- ends
 
+-- the worker posts no more
 abbrev pub is_end_post : Post → Bool
 is_end_post (Segment segment) = false
 is_end_post End = true
@@ -123,6 +130,7 @@ is_end_post End = true
 abbrev pub is_end : Item → Bool
 is_end item = is_end_post item.post
 
+-- 1 for one end, and 0 for none
 abbrev pub counted : Bool → ℕ
 counted true = 1
 counted false = 0

@@ -25,9 +25,11 @@ is_from Second Second = true
 abbrev pub of : Worker → List Item → List Item
 of w items = filter (λ i. is_from w i.from) items
 
+-- an item that is a segment
 abbrev pub segment_item : Worker → PlacedEvents → Item
 segment_item w segment = record { from = w; post = Segment segment }
 
+-- an item that says that its worker posts no more
 abbrev pub end_item : Worker → Item
 end_item w = record { from = w; post = End }
 
@@ -37,6 +39,7 @@ posts_of w segments = map (segment_item w) segments ++ end_item w ∷ []
 
 -- ---- what a seat knows
 
+-- what the owner knows: the items that were taken, and how both workers stand
 abbrev pub desk : List Item → Standing → Standing → Desk
 desk taken first second = record { taken = taken; first = first; second = second }
 
@@ -45,6 +48,7 @@ abbrev pub standing : Desk → Worker → Standing
 standing d First = d.first
 standing d Second = d.second
 
+-- the desk once a worker stands so
 abbrev pub with_standing : Desk → Worker → Standing → Desk
 with_standing d First s = desk d.taken s d.second
 with_standing d Second s = desk d.taken d.first s
@@ -63,26 +67,31 @@ IsPoster w v = (posted : List Item) × (v ≡ Poster w posted)
 
 -- ---- steps: each by the role of its seat, and nothing at another role
 
+-- the seat of a worker that has posted an item
 abbrev pub after_post : View → Item → View
 after_post (Poster w posted) item = Poster w (posted ++ item ∷ [])
 after_post (Owner d) item = Owner d
 after_post Spent item = Spent
 
+-- the seat of the owner that has taken an item
 abbrev pub after_take : View → Item → View
 after_take (Owner d) item = Owner (desk (d.taken ++ item ∷ []) d.first d.second)
 after_take (Poster w posted) item = Poster w posted
 after_take Spent item = Spent
 
+-- the seat of the owner that has made a worker
 abbrev pub after_make : Worker → View → View
 after_make w (Owner d) = Owner (with_standing d w Running)
 after_make w (Poster u posted) = Poster u posted
 after_make w Spent = Spent
 
+-- the seat of the owner once a worker's is handed over
 abbrev pub joined_with : Desk → View → View
 joined_with d (Poster w posted) = Owner (with_standing d w (Joined posted))
 joined_with d (Owner e) = Owner d
 joined_with d Spent = Owner d
 
+-- the seat of the owner that has joined a worker
 abbrev pub after_join : View → View → View
 after_join (Owner d) other = joined_with d other
 after_join (Poster u posted) other = Poster u posted

@@ -33,12 +33,15 @@ pub record LackingParts : Type 0 where
   pub listed : List Lacked
   pub others : ℕ
 
+-- no communicator is lacking
 abbrev pub no_lacking : LackingParts
 no_lacking = record { listed = []; others = 0 }
 
+-- a communicator that calls name by this number
 abbrev pub has_number : ℕ → Lacked → Bool
 has_number number l = l.number == number
 
+-- a communicator that one call more names
 abbrev pub once_more : Lacked → Lacked
 once_more l = record l { count = one_more l.count }
 
@@ -82,6 +85,7 @@ lacking_below layout a view (suc rank) =
 
 -- In words
 
+-- one call, and else calls
 abbrev pub calls_word : ℕ → List ℕ
 calls_word count = if count == 1 then codes " call)" else codes " calls)"
 
@@ -89,22 +93,27 @@ calls_word count = if count == 1 then codes " call)" else codes " calls)"
 abbrev pub lacked_text : Lacked → List ℕ
 lacked_text l = decimal l.number ++ codes " (" ++ decimal l.count ++ calls_word l.count
 
+-- a further communicator with its calls
 abbrev pub next_lacked_text : Lacked → List ℕ
 next_lacked_text l = codes ", " ++ lacked_text l
 
+-- how many calls name others, behind those that are listed
 abbrev pub other_lacked_text : ℕ → List ℕ
 other_lacked_text zero = []
 other_lacked_text (suc n) = codes ", others (" ++ decimal (suc n) ++ calls_word (suc n)
 
+-- the line of the communicators that the layout doesn't have
 abbrev pub some_lacking_text : Lacked → List Lacked → ℕ → List ℕ
 some_lacking_text l listed others =
     codes "  communicators that the layout doesn't have, by the number in the calls: " ++ lacked_text l
     ++ flat_map next_lacked_text listed ++ other_lacked_text others ++ codes "\n"
 
+-- the same: nothing where none is lacking
 abbrev pub lacking_line : List Lacked → ℕ → List ℕ
 lacking_line [] others = []
 lacking_line (l ∷ listed) others = some_lacking_text l listed others
 
+-- the line of what is lacking
 abbrev pub lacking_line_of : LackingParts → List ℕ
 lacking_line_of k = lacking_line k.listed k.others
 

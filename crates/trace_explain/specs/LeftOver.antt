@@ -22,6 +22,7 @@ has_name names name = list_any (λ a. same_name a name) names
 abbrev pub taken : List Pair → List OpName
 taken pairs = map (λ p. p.message) pairs
 
+-- the receives that are in pairs
 abbrev pub given : List Pair → List OpName
 given pairs = map (λ p. p.receive) pairs
 
@@ -29,9 +30,11 @@ given pairs = map (λ p. p.receive) pairs
 abbrev pub is_loose : List OpName → Message → Bool
 is_loose taken m = not (has_name taken m.name) && not (is_void m.trust)
 
+-- all loose messages
 abbrev pub loose : List OpName → List Ops → List Message
 loose taken ops = flat_map (λ o. filter (is_loose taken) o.sends) ops
 
+-- the operation of a rank's call
 abbrev pub named : ℕ → ℕ → OpName
 named rank call = record { rank = rank; call = call }
 
@@ -44,6 +47,7 @@ standing a = map (λ s. named s.rank s.call) a.stuck
 abbrev pub is_left : List OpName → List OpName → Message → Bool
 is_left postponed standing m = not (has_name postponed m.name) && not (has_name standing m.name)
 
+-- the messages that are left over
 abbrev pub left_names : List OpName → List OpName → List Message → List OpName
 left_names postponed standing messages = map (λ m. m.name) (filter (is_left postponed standing) messages)
 
@@ -52,9 +56,11 @@ abbrev pub pending_in : ℕ → Option (ℕ × Call) → Ops → List OpName
 pending_in rank None o = []
 pending_in rank (Some w) o = named rank w.0 ∷ map (λ p. named rank p.1) o.active
 
+-- the receives that a rank may wait for
 abbrev pub pending_of : ℕ → Ops → List OpName
 pending_of rank o = pending_in rank o.waiting o
 
+-- the same of the rank at a place
 abbrev pub pending_at : ℕ → Option Ops → List OpName
 pending_at rank None = []
 pending_at rank (Some o) = pending_of rank o
@@ -73,6 +79,7 @@ abbrev pub is_starved : List OpName → List OpName → List Message → Receive
 is_starved pending given messages q =
     has_name pending q.name && not (has_name given q.name) && not (is_void q.trust) && not (fits_some messages q)
 
+-- all receives that starve
 abbrev pub starved : List OpName → List OpName → List Message → List Ops → List Receive
 starved pending given messages ops = flat_map (λ o. filter (is_starved pending given messages) o.receives) ops
 
@@ -80,6 +87,7 @@ starved pending given messages ops = flat_map (λ o. filter (is_starved pending 
 abbrev pub is_other : List OpName → Receive → Bool
 is_other standing q = not (has_name standing q.name)
 
+-- the receives that starve, but for those of the calls in which stuck ranks stand
 abbrev pub other_names : List OpName → List Receive → List OpName
 other_names standing receives = map (λ q. q.name) (filter (is_other standing) receives)
 
@@ -88,6 +96,7 @@ other_names standing receives = map (λ q. q.name) (filter (is_other standing) r
 abbrev pub nearest : List Message → Receive → Option Message
 nearest messages q = find (λ m. envelopes_fit m (record q { tag = None })) messages
 
+-- a receive with its nearest miss
 abbrev pub near_miss : List Message → Receive → Option (OpName × OpName)
 near_miss messages q = option_map (λ m. (q.name, m.name)) (nearest messages q)
 
@@ -99,5 +108,6 @@ near_misses messages receives = filter_map (near_miss messages) receives
 abbrev pub loose_in : Answered → List Ops → List Message
 loose_in a ops = loose (taken a.pairs) ops
 
+-- the receives that starve under an answer
 abbrev pub starved_in : Answered → List Ops → List Receive
 starved_in a ops = starved (pending_below ops a.ranks) (given a.pairs) (loose_in a ops) ops

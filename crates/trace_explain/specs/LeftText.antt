@@ -14,6 +14,7 @@ use Rattle.trace_explain.specs.Standing.{place_text}
 abbrev pub named_call_text : View → OpName → List ℕ
 named_call_text view n = codes "rank " ++ decimal n.rank ++ codes ", call " ++ decimal n.call ++ codes ": " ++ place_text view n.rank (entry_of n.call)
 
+-- the line of one operation
 abbrev pub call_line : View → OpName → List ℕ
 call_line view n = codes "  " ++ named_call_text view n ++ codes "\n"
 
@@ -21,6 +22,7 @@ call_line view n = codes "  " ++ named_call_text view n ++ codes "\n"
 abbrev pub near_line : View → OpName × OpName → List ℕ
 near_line view p = codes "  " ++ named_call_text view p.0 ++ codes "; but " ++ named_call_text view p.1 ++ codes "\n"
 
+-- the first operations below a head, and how many more there are
 abbrev pub these_calls : View → List ℕ → List OpName → List ℕ
 these_calls view head ns = head ++ flat_map (call_line view) (take most_shown ns) ++ more_text (length ns - most_shown)
 
@@ -29,16 +31,20 @@ abbrev pub calls_below : View → List ℕ → List OpName → List ℕ
 calls_below view head [] = []
 calls_below view head (n ∷ ns) = these_calls view head (n ∷ ns)
 
+-- the first nearest misses, and how many more there are
 abbrev pub these_near : View → List (OpName × OpName) → List ℕ
 these_near view ps = codes "\nNearest misses (same communicator and peer, another tag):\n"
     ++ flat_map (near_line view) (take most_shown ps) ++ more_text (length ps - most_shown)
 
+-- the nearest misses: nothing where there is none
 abbrev pub near_below : View → List (OpName × OpName) → List ℕ
 near_below view ps = if length ps == 0 then [] else these_near view ps
 
+-- the head of the messages that are left over
 abbrev pub messages_head : List ℕ
 messages_head = codes "\nLeft over are messages that no receive takes:\n"
 
+-- the head of the receives that starve
 abbrev pub receives_head : List ℕ
 receives_head = codes "\nLeft over are receives of waiting ranks that no message fits:\n"
 

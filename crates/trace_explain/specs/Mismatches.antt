@@ -12,10 +12,11 @@ use Rattle.call_words.specs.Words.{kind_text}
 use Rattle.trace_explain.specs.declared.mismatch.Entrant.{Entrant}
 use Rattle.trace_explain.specs.Shown.{more_text, most_shown}
 
--- kinds or roots differ among those that have entered the round
+-- functions or roots differ among those that have entered the round
 abbrev pub is_mismatched : Round → Bool
 is_mismatched r = is_mismatch r.standing
 
+-- the rounds that don't match
 abbrev pub mismatched : List Round → List Round
 mismatched rounds = filter is_mismatched rounds
 
@@ -23,6 +24,7 @@ mismatched rounds = filter is_mismatched rounds
 abbrev pub entrant_in : ℕ → ℕ → ℕ → Ops → Option Entrant
 entrant_in c k r o = option_map (λ e. record { rank = r; entered = e }) (slice_get (on_comm c o.rounds) k)
 
+-- the call by which a rank entered a round
 abbrev pub entrant_at : List Ops → ℕ → ℕ → ℕ → Option Entrant
 entrant_at ops c k r = option_and_then (entrant_in c k r) (slice_get ops r)
 
@@ -36,7 +38,7 @@ do_match one other = alike one.entered other.entered
 
 -- `    ranks 0 to 11, 13: MPI_Barrier (call 5 of rank 0)`: the call of the first of ranks whose calls match
 abbrev pub calls_line : Entrant → List ℕ → List ℕ
-calls_line x ranks = codes "    " ++ named_ranks_text ranks ++ codes ": " ++ kind_text x.entered.kind x.entered.root
+calls_line x ranks = codes "    " ++ named_ranks_text ranks ++ codes ": " ++ kind_text x.entered.function x.entered.root
     ++ codes " (call " ++ decimal x.entered.call ++ codes " of rank " ++ decimal x.rank ++ codes ")\n"
 
 -- the ranks of those whose calls match this one
@@ -53,6 +55,7 @@ abbrev pub calls_groups : List Entrant → ℕ → List ℕ
 calls_groups xs zero = []
 calls_groups xs (suc i) = calls_groups xs i ++ calls_group (take i xs) (slice_get xs i) (drop (suc i) xs)
 
+-- who called what, those whose calls match on one line
 abbrev pub calls_text : List Entrant → List ℕ
 calls_text xs = calls_groups xs (length xs)
 
@@ -64,10 +67,12 @@ mismatch_head r = codes "  round " ++ decimal r.k ++ codes " of communicator " +
 abbrev pub mismatch_text : List Communicator → List Ops → Round → List ℕ
 mismatch_text comms ops r = mismatch_head r ++ calls_text (entrants comms ops r)
 
+-- the first mismatched rounds, and how many more there are
 abbrev pub these_text : List Communicator → List Ops → List Round → List ℕ
 these_text comms ops rs = codes "\nCollective calls of one round that don't match:\n"
     ++ flat_map (mismatch_text comms ops) (take most_shown rs) ++ more_text (length rs - most_shown)
 
+-- the mismatched rounds: nothing where there is none
 abbrev pub mismatches_text : List Communicator → List Ops → List Round → List ℕ
 mismatches_text comms ops [] = []
 mismatches_text comms ops (r ∷ rs) = these_text comms ops (r ∷ rs)

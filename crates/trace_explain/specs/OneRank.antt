@@ -25,6 +25,7 @@ use Rattle.trace_explain.specs.Standing.{place_text, rank_text}
 abbrev pub is_call : ℕ → ℕ → OpName → Bool
 is_call rank call name = name.rank == rank && name.call == call
 
+-- a call by its number and its rank
 abbrev pub named_text : OpName → List ℕ
 named_text name = codes "call " ++ decimal name.call ++ codes " of rank " ++ decimal name.rank
 
@@ -32,6 +33,7 @@ named_text name = codes "call " ++ decimal name.call ++ codes " of rank " ++ dec
 abbrev pub to_call_text : OpName → List ℕ
 to_call_text name = codes "; its message went to " ++ named_text name
 
+-- where the message of a call went, by one pair
 abbrev pub went_text : ℕ → ℕ → Pair → List ℕ
 went_text rank call pair = if is_call rank call pair.message then to_call_text pair.receive else []
 
@@ -39,6 +41,7 @@ went_text rank call pair = if is_call rank call pair.message then to_call_text p
 abbrev pub from_call_text : OpName → List ℕ
 from_call_text name = codes "; its message came from " ++ named_text name
 
+-- where the message that a call received came from, by one pair
 abbrev pub came_text : ℕ → ℕ → Pair → List ℕ
 came_text rank call pair = if is_call rank call pair.receive then from_call_text pair.message else []
 
@@ -46,22 +49,27 @@ came_text rank call pair = if is_call rank call pair.receive then from_call_text
 abbrev pub partner_text : ℕ → ℕ → Pair → List ℕ
 partner_text rank call pair = went_text rank call pair ++ came_text rank call pair
 
+-- all partners of a call
 abbrev pub partners_text : List Pair → ℕ → ℕ → List ℕ
 partners_text pairs rank call = flat_map (partner_text rank call) pairs
 
 -- When a call was entered and returned
 
+-- the wall time of an event
 abbrev pub wall_of : Option Event → ℕ
 wall_of (Some (Enter call time)) = time.wall
 wall_of (Some (Return outs time)) = time.wall
 wall_of None = 0
 
+-- the wall time of what is known of a place
 abbrev pub wall_at : View → ℕ → ℕ → ℕ
 wall_at view rank place = wall_of (event_at view rank place)
 
+-- from when to when a call lasted
 abbrev pub to_text : ℕ → ℕ → List ℕ
 to_text from until = seconds_text from ++ codes " to " ++ seconds_text until
 
+-- since when a rank stands in a call
 abbrev pub since_text : ℕ → List ℕ
 since_text from = codes "since " ++ seconds_text from
 
@@ -92,21 +100,26 @@ abbrev pub last_calls_text : Answered → View → ℕ → ℕ → List ℕ
 last_calls_text a view rank count =
     codes "\nIts last calls, of " ++ decimal count ++ codes " that can be read:\n" ++ calls_from a view rank (count - most_shown) (count - (count - most_shown))
 
+-- the last calls of a rank: nothing where none can be read
 abbrev pub calls_text : Answered → View → ℕ → ℕ → List ℕ
 calls_text a view rank count = if count == 0 then [] else last_calls_text a view rank count
 
 -- How it stands
 
+-- a stuck rank is this one
 abbrev pub is_of : ℕ → Stopped → Bool
 is_of rank s = s.rank == rank
 
+-- that a rank which waits isn't stuck
 abbrev pub not_stuck_text : Bool → List ℕ
 not_stuck_text true = codes "\nIt is not stuck: what it waits for may still come.\n"
 not_stuck_text false = []
 
+-- whether a rank waits
 abbrev pub waits_in : Answered → ℕ → Bool
 waits_in a rank = is_waiting (unwrap_or (slice_get a.states rank) Ended)
 
+-- that the rank is stuck, and whom it waits for
 abbrev pub stuck_line : Said → List ℕ
 stuck_line s = codes "\nIt is stuck:\n" ++ line_text s (s.rank ∷ [])
 
@@ -115,17 +128,21 @@ abbrev pub standing_text : List Ops → Answered → View → Option Stopped →
 standing_text ops a view (Some s) waiting = stuck_line (said_of ops a view s)
 standing_text ops a view None waiting = not_stuck_text waiting
 
+-- whether the rank is stuck, where it waits
 abbrev pub stuck_text : List Ops → Answered → View → ℕ → List ℕ
 stuck_text ops a view rank = standing_text ops a view (find (is_of rank) a.stuck) (waits_in a rank)
 
+-- that what is known of the rank ends at a call that isn't read
 abbrev pub end_text : Answered → ℕ → List ℕ
 end_text a rank = if ends_unread a rank then codes "\nWhat is known of it ends at a call that mpimatch does not read.\n" else []
 
+-- that more is known of the rank behind a gap or a contradiction
 abbrev pub gap_text : Answered → ℕ → List ℕ
 gap_text a rank = if is_gapped a rank then codes "\nBehind a gap or a contradiction more of it is known, and not used.\n" else []
 
 -- The whole
 
+-- all that is said of one rank
 abbrev pub one_rank_text : List Ops → Answered → View → ℕ → List ℕ
 one_rank_text ops a view rank =
     codes "What is known of " ++ rank_text a view rank ++ codes "\n" ++ stuck_text ops a view rank

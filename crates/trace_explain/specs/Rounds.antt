@@ -16,6 +16,7 @@ round_in o call = option_map (round_number o) (find (λ e. e.call == call) o.rou
 abbrev pub round_of : List Ops → Stopped → Option ℕ
 round_of ops s = option_and_then (λ o. round_in o s.call) (slice_get ops s.rank)
 
+-- the number of a round
 abbrev pub one_round_text : ℕ → List ℕ
 one_round_text k = codes " (round " ++ decimal k ++ codes ")"
 
@@ -24,6 +25,7 @@ abbrev pub round_text : Option ℕ → List ℕ
 round_text None = []
 round_text (Some k) = one_round_text k
 
+-- a condition has two parts at least
 abbrev pub has_two : Waits → Bool
 has_two none = false
 has_two (and one none) = false

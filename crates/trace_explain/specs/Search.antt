@@ -49,6 +49,7 @@ abbrev pub LabelledAs : Bool → ℕ → ℕ → List (Option ℕ) → List ℕ 
 LabelledAs true l x labels stack labels_after stack_after = (labels_after ≡ set labels x (Some l)) × (stack_after ≡ stack ++ x ∷ [])
 LabelledAs false l x labels stack labels_after stack_after = (labels_after ≡ labels) × (stack_after ≡ stack)
 
+-- what labelling a rank leaves
 abbrev pub Labelled : ℕ → ℕ → List (Option ℕ) → List ℕ → List (Option ℕ) → List ℕ → Type 0
 Labelled l x labels stack = LabelledAs (is_bare labels x) l x labels stack
 

@@ -20,6 +20,7 @@ pub record Said : Type 0 where
   pub wall : ℕ
   pub words : List ℕ
 
+-- what is said of a stuck rank, as its line holds it
 abbrev pub said : Line → Said
 said l = record { rank = l.rank; call = l.call; wall = l.wall; words = l.words.items }
 
@@ -32,6 +33,7 @@ abbrev pub words_of : List Ops → Answered → View → Stopped → List ℕ
 words_of ops a view s = place_text view s.rank (entry_of s.call) ++ round_text (round_of ops s) ++ codes "; waits for "
     ++ wait_text (rank_text a view) s.waits ++ not_entered_text (round_of ops s) s.waits
 
+-- what is said of a stuck rank
 abbrev pub said_of : List Ops → Answered → View → Stopped → Said
 said_of ops a view s = record { rank = s.rank; call = s.call; wall = s.wall; words = words_of ops a view s }
 
@@ -48,9 +50,11 @@ lines_of ops a view hearts in_heart stuck = map (said_of ops a view) (filter (is
 abbrev pub is_alike : Said → Said → Bool
 is_alike one other = bytes_eq one.words other.words
 
+-- a stuck rank that shares its line with no other, with its call and since when it stands there
 abbrev pub alone_text : Said → List ℕ
 alone_text s = codes "rank " ++ decimal s.rank ++ codes ", call " ++ decimal s.call ++ codes ", since " ++ seconds_text s.wall
 
+-- the stuck ranks of one line
 abbrev pub together_text : List ℕ → List ℕ
 together_text ranks = codes "ranks " ++ ranges_text ranks
 
@@ -76,6 +80,7 @@ abbrev pub groups_text : List Said → ℕ → List ℕ
 groups_text lines zero = []
 groups_text lines (suc i) = groups_text lines i ++ group_text (take i lines) (slice_get lines i) (drop (suc i) lines)
 
+-- the lines of a section
 abbrev pub section_text : List Said → List ℕ
 section_text lines = groups_text lines (length lines)
 

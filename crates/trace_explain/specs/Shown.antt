@@ -1,6 +1,7 @@
 -- How many lines of a kind are shown.
 use Rattle.std.specs.Prelude.{ℕ, zero, suc, List, [], ◌++◌, codes, decimal}
 
+-- how many lines of one kind are shown
 abbrev pub most_shown : ℕ
 most_shown = 10
 

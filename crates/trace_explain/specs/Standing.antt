@@ -23,6 +23,7 @@ place_text view rank place = event_text (event_at view rank place)
 abbrev pub last_call : ℕ → ℕ
 last_call prefix = (prefix - 1) / 2
 
+-- how far a rank can be read that isn't seen to wait
 abbrev pub read_text : ℕ → List ℕ
 read_text prefix = codes ", which is not seen to wait; it can be read through call " ++ decimal (last_call prefix)
 
@@ -34,11 +35,13 @@ free_text prefix = if prefix == 0 then codes ", of which nothing can be read" el
 abbrev pub waiting_text : View → ℕ → ℕ → List ℕ
 waiting_text view rank prefix = codes ", which stands in call " ++ decimal (last_call prefix) ++ codes ": " ++ place_text view rank (prefix - 1)
 
+-- what a rank does where its prefix ends
 abbrev pub doing_text : View → ℕ → ℕ → State → List ℕ
 doing_text view rank prefix Ended = codes ", which has ended"
 doing_text view rank prefix Waiting = waiting_text view rank prefix
 doing_text view rank prefix Free = free_text prefix
 
+-- a rank with what it does
 abbrev pub rank_doing_text : View → ℕ → ℕ → State → List ℕ
 rank_doing_text view rank prefix state = codes "rank " ++ decimal rank ++ doing_text view rank prefix state
 

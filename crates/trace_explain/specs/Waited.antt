@@ -9,6 +9,7 @@ abbrev pub rank_of : waits.Wait → Option ℕ
 rank_of (OnRank r) = Some r
 rank_of w = None
 
+-- the ranks with one more in front, where all parts are ranks
 abbrev pub with_rank : Option ℕ → Option (List ℕ) → Option (List ℕ)
 with_rank (Some r) (Some ranks) = Some (r ∷ ranks)
 with_rank (Some r) None = None
@@ -29,6 +30,7 @@ ranks_text does word (r ∷ s ∷ more) = word ++ codes " ranks " ++ ranges_text
 abbrev pub nested_text : List ℕ → List ℕ → List ℕ
 nested_text word parts = word ++ codes " (" ++ parts ++ codes ")"
 
+-- all of or one of some parts: of plain ranks their list
 abbrev pub list_text : (ℕ → List ℕ) → List ℕ → Option (List ℕ) → List ℕ → List ℕ
 list_text does word (Some ranks) parts = ranks_text does word ranks
 list_text does word None parts = nested_text word parts

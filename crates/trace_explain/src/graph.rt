@@ -151,6 +151,7 @@ fn draw_condition(
     }
 }
 
+/// Draws the edges of a rank to all ranks that stand in the parts of its condition.
 #[cycle(edges)]
 fn draw_parts(
     flags: &[bool],
@@ -170,6 +171,7 @@ fn draw_parts(
     Ok(())
 }
 
+/// A graph of so many ranks without an edge.
 fn no_edges(alloc: Global, count: usize) -> Result<Vec<Vec<u32>>, AllocError>
     ensures len { IfOk result (λ v. vec_len v ≡ count) }
     ensures none { IfOk result (λ v. (r : ℕ) → at_rank v.items r ≡ []) }

@@ -114,6 +114,7 @@ pub(crate) fn put_sends(out: &mut Text, answer: &Answer, others: &[u32])
     put_case_of(out, answer.sends(), answer.stuck().len(), others);
 }
 
+/// The paragraph on the other kind of sends.
 fn put_case_of(out: &mut Text, sends: Sends, stuck: usize, ranks: &[u32])
     ensures { Adds out.old out.new (sends_text sends stuck ranks.now) }
 {

@@ -46,6 +46,7 @@ fn leaks_of(
     Ok(leaks)
 }
 
+/// Whether a rank names a heart: it is its own least one, and none that leads out of it.
 fn is_root(least: &[Option<u32>], strays: &[Option<u32>], r: u32) -> bool
     ensures { RootIs least.now strays.now r result }
 {

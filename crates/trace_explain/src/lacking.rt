@@ -64,7 +64,7 @@ impl Lacking {
         }
     }
 
-    // a call of a number that isn't listed
+    /// A call of a number that isn't listed.
     fn put_new(&mut self, number: u32) -> Result<(), AllocError>
         ensures { OnOk result (self.new ≡ with_new self.old number) }
     {
@@ -76,7 +76,7 @@ impl Lacking {
         Ok(())
     }
 
-    // a call more of the number
+    /// A call more of the number.
     fn put(&mut self, number: u32) -> Result<(), AllocError>
         ensures { OnOk result (self.new ≡ with_place (position (has_number number) self.old.listed) self.old number) }
     {
@@ -107,9 +107,8 @@ fn comm_of(call: &Call) -> Option<CommRef>
         Call::Send(_, e) | Call::Isend(_, e) => Some(e.envelope().comm),
         Call::Recv(e) | Call::Irecv(e) => Some(e.envelope().comm),
         Call::Sendrecv(both) => Some(both.send().comm),
-        Call::Collective(c) => Some(c.comm()),
+        Call::Collective(c) | Call::Icollective(c) => Some(c.comm()),
         Call::Probe(e) => Some(e.comm()),
-        Call::Ibarrier(c) => Some(c.comm()),
         Call::Local
         | Call::Finalize
         | Call::Wait(_)
@@ -167,7 +166,7 @@ fn lacked_at(layout: &Layout, know: &Knowledge, rank: u32, n: u64) -> Option<u32
     lacked_by(layout, rank, n, know.cell(rank, n.saturating_mul(2)))
 }
 
-// With a call more that may name one.
+/// With a call more that may name one.
 fn with_number(lacking: Lacking, number: Option<u32>) -> Result<Lacking, AllocError>
     ensures { IfOk result (λ k. k ≡ with_number lacking number) }
 {
@@ -176,7 +175,7 @@ fn with_number(lacking: Lacking, number: Option<u32>) -> Result<Lacking, AllocEr
     Ok(lacking)
 }
 
-// With the first calls of a rank.
+/// With the first calls of a rank.
 fn with_calls(
     layout: &Layout,
     know: &Knowledge,

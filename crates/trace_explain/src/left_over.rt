@@ -32,6 +32,7 @@ fn is_loose(taken: &Names<'_>, m: &Message) -> bool
     !taken.has(m.name) && !m.trust.is_void()
 }
 
+/// Adds the loose messages among these.
 fn push_loose(
     taken: &Names<'_>,
     sends: &[Message],
@@ -93,6 +94,7 @@ fn push_pending(rank: u32, o: &RankOps, names: &mut Vec<OpName>) -> Result<(), A
     Ok(())
 }
 
+/// Adds the calls that posted active requests.
 fn push_posts(rank: u32, active: &[(i64, u64)], names: &mut Vec<OpName>) -> Result<(), AllocError>
     ensures { OnOk result (names.new.items ≡ names.old.items ++ map (λ p. named rank p.1) active.now) }
 {
@@ -102,6 +104,7 @@ fn push_posts(rank: u32, active: &[(i64, u64)], names: &mut Vec<OpName>) -> Resu
     Ok(())
 }
 
+/// Adds the calls for which a rank may wait.
 fn push_pending_at(ops: &[RankOps], rank: u32, names: &mut Vec<OpName>) -> Result<(), AllocError>
     ensures { OnOk result (names.new.items ≡ names.old.items ++ pending_at rank (slice_get ops.now rank)) }
 {
@@ -128,6 +131,7 @@ fn is_starved(pending: &Names<'_>, given: &Names<'_>, offers: &Offers<'_>, q: &R
     pending.has(q.name) && !given.has(q.name) && !q.trust.is_void() && !offers.fits_some(q)
 }
 
+/// Adds the receives that starve among these.
 fn push_starved(
     pending: &Names<'_>,
     given: &Names<'_>,
@@ -194,6 +198,7 @@ fn loose_in(alloc: Global, answer: &Answer, ops: &[RankOps]) -> Result<Vec<Messa
     loose(alloc, &taken, ops)
 }
 
+/// The receives that starve beside these messages.
 fn starved_beside(
     alloc: Global,
     answer: &Answer,
@@ -223,6 +228,7 @@ fn standing(alloc: Global, answer: &Answer) -> Result<Vec<OpName>, AllocError>
     Ok(names)
 }
 
+/// The messages that are left over among these.
 fn left_beside(
     alloc: Global,
     answer: &Answer,

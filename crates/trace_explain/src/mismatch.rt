@@ -2,13 +2,13 @@
 
 ghost use Rattle.std.specs.Prelude.{◌≡◌, ◌∷◌, ◌<◌, IfOk, drop, filter, length, slice_get, suc, take};
 ghost use Rattle.std.specs.List.{flat_map, list_any};
-ghost use Rattle.trace_wait.specs.Rounds.{group, on_comm, same_root};
+ghost use Rattle.trace_wait.specs.Rounds.{group, on_comm, same_function, same_root};
 ghost use Rattle.call_words.specs.Texts.{Adds};
 ghost use Rattle.trace_explain.specs.Mismatches.{calls_group, calls_line, calls_text, do_match, entrant_at, entrant_in, entrants, is_mismatched, mismatch_head, mismatch_text, mismatched, mismatches_text, ranks_matching, these_text};
 
 use crate::shown::{MOST_SHOWN, push_some, put_more, shown};
 use call_words::{Text, put_kind, put_named_ranks};
-use mpi_model::Layout;
+use mpi_model::{CollectiveFunction, Layout};
 use std::alloc::{AllocError, Global};
 use trace_ops::{Entered, RankOps};
 use trace_wait::{Round, Standing};
@@ -20,7 +20,7 @@ struct Entrant {
     entered: Entered,
 }
 
-/// Whether kinds or roots differ among those that have entered the round.
+/// Whether functions or roots differ among those that have entered the round.
 pub(crate) fn is_mismatched(round: &Round) -> bool
     ensures { result ≡ is_mismatched round.now }
 {
@@ -127,10 +127,16 @@ fn is_same_root(a: Option<u32>, b: Option<u32>) -> bool
     }
 }
 
+fn is_same_function(a: CollectiveFunction, b: CollectiveFunction) -> bool
+    ensures { result ≡ same_function a b }
+{
+    a.kind.number() == b.kind.number() && a.nonblocking == b.nonblocking
+}
+
 fn do_match(one: &Entrant, other: &Entrant) -> bool
     ensures { result ≡ do_match one.now other.now }
 {
-    one.entered.kind.number() == other.entered.kind.number()
+    is_same_function(one.entered.function, other.entered.function)
         && is_same_root(one.entered.root, other.entered.root)
 }
 
@@ -165,7 +171,7 @@ fn put_line(out: &mut Text, entrant: &Entrant, ranks: &[u32])
     out.put(b"    ");
     put_named_ranks(out, ranks);
     out.put(b": ");
-    put_kind(out, entrant.entered.kind, entrant.entered.root);
+    put_kind(out, entrant.entered.function, entrant.entered.root);
     out.put(b" (call ");
     out.put_number(entrant.entered.call);
     out.put(b" of rank ");

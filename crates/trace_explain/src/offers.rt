@@ -64,6 +64,7 @@ fn offer(first: &mut BTreeMap<Pattern, OpName>, m: &Message) -> Result<(), Alloc
     Ok(())
 }
 
+/// Of each pattern that a receive may name, the first message that suits it.
 fn firsts(alloc: Global, messages: &[Message]) -> Result<BTreeMap<Pattern, OpName>, AllocError>
     ensures { IfOk result (λ first. (p : Named) → get pattern_cmp first p ≡ first_suiting messages.now p) }
 {

@@ -10,7 +10,7 @@ use crate::explained::needs_ops;
 use mpi_model::Layout;
 use std::alloc::{AllocError, Global};
 use trace_know::Knowledge;
-use trace_node::Answer;
+use trace_node::{Answer, stuck_go_by_shape};
 use trace_ops::{RankOps, State, ops_laws};
 use trace_pair::pair_all;
 use trace_wait::{Round, conditions, stuck};
@@ -32,6 +32,7 @@ fn stuck_by(
     let table = pair_all(alloc, ops)?;
     let conditions = conditions(alloc, layout, ops, &table, rounds)?;
     let verdict = stuck(alloc, states, &conditions)?;
+    stuck_go_by_shape();
     Ok(verdict.stuck)
 }
 

@@ -90,6 +90,7 @@ fn spread(
     Ok(())
 }
 
+/// So many ranks without a label.
 fn no_labels(alloc: Global, count: usize) -> Result<Vec<Option<u32>>, AllocError>
     ensures len { IfOk result (λ v. vec_len v ≡ count) }
     ensures none { IfOk result (λ v. (x : ℕ) → heart_at v.items x ≡ None) }

@@ -18,6 +18,7 @@ tip_text false = codes " [style=dashed];\n"
 abbrev pub edge_text : Bool → List ℕ → ℕ → List ℕ
 edge_text all from n = codes "  " ++ from ++ codes " -> r" ++ decimal n ++ tip_text all
 
+-- an edge to this node was drawn just before
 abbrev pub is_last : Option ℕ → ℕ → Bool
 is_last None n = false
 is_last (Some last) n = last == n
@@ -40,6 +41,7 @@ abbrev pub edges_text : Option (List ℕ) → Bool → List ℕ → List ℕ →
 edges_text None all from ranks = numbers_text all from ranks
 edges_text (Some nodes) all from ranks = behind_text all from None (map (node_at nodes) ranks)
 
+-- the point of a choice, by its place
 abbrev pub point_name : List ℕ → List ℕ
 point_name place = codes "p" ++ place
 
@@ -58,6 +60,7 @@ is_apart false false = false
 abbrev pub opening_text : Bool → Bool → List ℕ → List ℕ → List ℕ
 opening_text outer all from place = if is_apart outer all then point_text from place else []
 
+-- where the edges of some parts begin: at their point, where they have one
 abbrev pub origin : Bool → Bool → List ℕ → List ℕ → List ℕ
 origin outer all from place = if is_apart outer all then point_name place else from
 
@@ -102,6 +105,7 @@ abbrev mutual
 abbrev pub parts_text : Option (List ℕ) → Bool → List ℕ → List ℕ → Waits → List ℕ
 parts_text nodes all from place parts = edges_text nodes all from (ranks_among parts) ++ nested_text nodes all from place 0 parts
 
+-- the edges of some parts, with their point, where they have one
 abbrev pub list_text : Option (List ℕ) → Bool → Bool → List ℕ → List ℕ → Waits → List ℕ
 list_text nodes outer all from place parts = opening_text outer all from place ++ parts_text nodes all (origin outer all from place) place parts
 

@@ -8,9 +8,11 @@ use Rattle.trace_graph.specs.Edges.{node_at, wait_text}
 use Rattle.trace_graph.specs.Standing.{Standing}
 use Rattle.trace_graph.specs.Nodes.{first_text, nodes_of, standings_below}
 
+-- the first lines of a picture
 abbrev pub head_text : List ℕ
 head_text = codes "strict digraph deadlock {\n  node [shape=box];\n"
 
+-- a node, by its least rank
 abbrev pub node_name : ℕ → List ℕ
 node_name rank = codes "r" ++ decimal rank
 
@@ -22,6 +24,7 @@ stuck_text nodes s = if node_at nodes s.rank == s.rank then wait_text (Some node
 abbrev pub picture_text : List ℕ → List Standing → List Stopped → List ℕ
 picture_text nodes ranks stuck = head_text ++ flat_map (first_text nodes ranks) ranks ++ flat_map (stuck_text nodes) stuck ++ codes "}\n"
 
+-- the picture of ranks that stand so
 abbrev pub standings_text : List Standing → List Stopped → List ℕ
 standings_text ranks stuck = picture_text (nodes_of ranks) ranks stuck
 

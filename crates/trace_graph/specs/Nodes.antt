@@ -22,6 +22,7 @@ is_alike one other = bytes_eq one.whom other.whom && bytes_eq one.together other
 abbrev pub node_of : List Standing → Standing → ℕ
 node_of ranks s = unwrap_or (option_map (λ t. t.rank) (find (is_alike s) ranks)) s.rank
 
+-- of each rank its node
 abbrev pub nodes_of : List Standing → List ℕ
 nodes_of ranks = map (node_of ranks) ranks
 
@@ -37,9 +38,11 @@ alone_text s = codes "rank " ++ decimal s.rank ++ s.alone
 abbrev pub together_text : Standing → List ℕ → List ℕ
 together_text s ranks = codes "ranks " ++ ranges_text ranks ++ s.together
 
+-- what a node says, of one rank or of several
 abbrev pub label_text : Standing → List ℕ → List ℕ
 label_text s ranks = if length ranks == 1 then alone_text s else together_text s ranks
 
+-- a node with its label
 abbrev pub node_text : Standing → List ℕ → List ℕ
 node_text s ranks = codes "  r" ++ decimal s.rank ++ codes " [label=\"" ++ label_text s ranks
 

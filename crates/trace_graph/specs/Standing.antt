@@ -21,6 +21,7 @@ pub record Standing : Type 0 where
   pub together : List ℕ
   pub whom : List ℕ
 
+-- how a rank stands, as it is held
 abbrev pub standing : Seen → Standing
 standing s = record { rank = s.rank; alone = s.alone.items; together = s.together.items; whom = s.whom.items }
 
@@ -32,6 +33,7 @@ call_of (Some (Enter call time)) = call_text call
 call_of (Some (Return outs time)) = codes "a call"
 call_of None = codes "a call"
 
+-- the function of the call that a rank entered
 abbrev pub function_of : Option Event → List ℕ
 function_of (Some (Enter call time)) = function_text call
 function_of (Some (Return outs time)) = codes "a call"
@@ -56,12 +58,15 @@ stuck_end false = codes "\"];\n"
 abbrev pub place_of : ℕ → ℕ
 place_of call = min (call * 2) (2 ^ 64 - 1)
 
+-- a stuck rank that stands alone in its node
 abbrev pub stuck_alone : View → Bool → ℕ → ℕ → List ℕ
 stuck_alone view in_heart rank call = numbered_text view rank call (place_of call) ++ stuck_end in_heart
 
+-- stuck ranks that share a node
 abbrev pub stuck_together : View → Bool → ℕ → ℕ → List ℕ
 stuck_together view in_heart rank call = unnumbered_text view rank (place_of call) ++ stuck_end in_heart
 
+-- how a stuck rank stands
 abbrev pub stuck_standing : View → Bool → ℕ → Stopped → Standing
 stuck_standing view in_heart rank s = record {
   rank = rank;
@@ -76,19 +81,23 @@ stuck_standing view in_heart rank s = record {
 abbrev pub other_end : List ℕ
 other_end = codes "\", color=gray50, fontcolor=gray50];\n"
 
+-- the last call of a readable prefix
 abbrev pub last_call : ℕ → ℕ
 last_call prefix = (prefix - 1) / 2
 
+-- a rank that isn't stuck and stands alone in its node
 abbrev pub doing_alone : View → ℕ → ℕ → State → List ℕ
 doing_alone view rank prefix Ended = codes "\\nhas ended"
 doing_alone view rank prefix Free = codes "\\nnot seen to wait"
 doing_alone view rank prefix Waiting = numbered_text view rank (last_call prefix) (prefix - 1) ++ codes "\\nmay go on"
 
+-- ranks that aren't stuck and share a node
 abbrev pub doing_together : View → ℕ → ℕ → State → List ℕ
 doing_together view rank prefix Ended = codes "\\nhave ended"
 doing_together view rank prefix Free = codes "\\nnot seen to wait"
 doing_together view rank prefix Waiting = unnumbered_text view rank (prefix - 1) ++ codes "\\nmay go on"
 
+-- how a rank stands that isn't stuck
 abbrev pub doing_standing : View → ℕ → ℕ → State → Standing
 doing_standing view rank prefix state = record {
   rank = rank;
@@ -97,6 +106,7 @@ doing_standing view rank prefix state = record {
   whom = [];
 }
 
+-- the same, by the answer
 abbrev pub other_standing : Answered → View → ℕ → Standing
 other_standing a view rank = doing_standing view rank (unwrap_or (slice_get a.prefixes rank) 0) (unwrap_or (slice_get a.states rank) Ended)
 
@@ -106,6 +116,7 @@ other_standing a view rank = doing_standing view rank (unwrap_or (slice_get a.pr
 abbrev pub stop_of : List Stopped → ℕ → Option Stopped
 stop_of stuck rank = find (λ s. s.rank == rank) stuck
 
+-- how a rank stands, stuck or not
 abbrev pub standing_by : Answered → View → Bool → ℕ → Option Stopped → Standing
 standing_by a view in_heart rank (Some s) = stuck_standing view in_heart rank s
 standing_by a view in_heart rank None = other_standing a view rank

@@ -47,6 +47,7 @@ fn put_next(out: &mut Text, all: bool, from: &[u8], last: Option<u32>, node: u32
     }
 }
 
+/// Edges to the nodes of these ranks, where a node that comes twice in a row has one.
 fn put_to_nodes(out: &mut Text, nodes: &[u32], all: bool, from: &[u8], ranks: &[u32])
     ensures { Adds out.old out.new (behind_text all from.now None (map (node_at nodes.now) ranks.now)) }
 {

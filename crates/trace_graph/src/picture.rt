@@ -30,6 +30,7 @@ pub fn graph(alloc: Global, answer: &Answer, know: &Knowledge) -> Result<Vec<u8>
     drawn(alloc, &ranks, answer.stuck())
 }
 
+/// The picture of ranks that are seen so.
 fn drawn(alloc: Global, ranks: &[Seen], stuck: &[Stuck]) -> Result<Vec<u8>, AllocError>
     ensures { IfOk result (λ text. text.items ≡ standings_text (map standing ranks.now) (map stopped stuck.now)) }
 {
@@ -71,6 +72,7 @@ fn put_stuck(alloc: Global, out: &mut Text, nodes: &[u32], stuck: &Stuck)
     }
 }
 
+/// What a rank waits for, drawn from its node.
 fn put_from_node(alloc: Global, out: &mut Text, nodes: &[u32], stuck: &Stuck)
     ensures { Adds out.old out.new (wait_text (Some nodes.now) true (node_name stuck.now.rank) (decimal stuck.now.rank) (shape stuck.now.waits)) }
 {
@@ -80,6 +82,7 @@ fn put_from_node(alloc: Global, out: &mut Text, nodes: &[u32], stuck: &Stuck)
     }
 }
 
+/// What a rank waits for, drawn from a node of this name.
 fn put_from(alloc: Global, out: &mut Text, nodes: &[u32], name: &[u8], stuck: &Stuck)
     ensures { Adds out.old out.new (wait_text (Some nodes.now) true name.now (decimal stuck.now.rank) (shape stuck.now.waits)) }
 {

@@ -20,6 +20,7 @@ pub(crate) struct Seen {
     pub whom: Vec<u8>,
 }
 
+/// How a stuck rank is seen.
 fn see_stuck(
     alloc: Global,
     know: &Knowledge,
@@ -37,6 +38,7 @@ fn see_stuck(
     })
 }
 
+/// How a rank that isn't stuck is seen, by its prefix and its state.
 fn see_doing(
     alloc: Global,
     know: &Knowledge,
@@ -54,6 +56,7 @@ fn see_doing(
     })
 }
 
+/// How a rank that isn't stuck is seen.
 fn see_other(
     alloc: Global,
     answer: &Answer,
@@ -93,6 +96,7 @@ fn is_in_heart(hearts: &[Option<u32>], rank: u32) -> bool
     heart.is_some()
 }
 
+/// How a rank is seen.
 fn see(
     alloc: Global,
     answer: &Answer,

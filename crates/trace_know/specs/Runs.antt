@@ -24,9 +24,11 @@ of_runs (run ∷ runs) = join (of_run run) (of_runs runs)
 abbrev pub spot : ℕ → ℕ → ℕ
 spot rank place = rank * 2 ^ 41 + place + 1
 
+-- where a run begins
 abbrev pub start_of : Run → ℕ
 start_of run = spot run.rank run.first
 
+-- where a run ends, behind its last place
 abbrev pub end_of : Run → ℕ
 end_of run = spot run.rank (run.first + length run.cells.items)
 

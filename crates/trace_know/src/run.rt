@@ -213,6 +213,7 @@ pub(crate) fn make_room(run: &mut Run, piece: &Run) -> Result<(), AllocError>
     run.cells.reserve((to - from) as usize - held)
 }
 
+/// Joins a piece that begins within the run, or right behind it, and for which there is room.
 fn absorb_back(run: &mut Run, piece: Run)
     requires rank { piece.rank ≡ run.old.rank }
     requires touches { (run.old.first ≤ piece.first) × (piece.first ≤ run.old.first + length run.old.cells.items) }
@@ -234,6 +235,7 @@ fn absorb_back(run: &mut Run, piece: Run)
     }
 }
 
+/// Joins a piece that begins no later than the run and ends within it, or right before it.
 fn absorb_front(run: &mut Run, piece: Run)
     requires rank { piece.rank ≡ run.old.rank }
     requires touches { (piece.first ≤ run.old.first) × (run.old.first ≤ piece.first + length piece.cells.items) }

@@ -94,6 +94,11 @@ pub record AreStuck (states : List State) (waits : List (Option Wait)) (ranks : 
   pub rising : IsStrictlyIncreasing ranks
   pub stuck : (r : ℕ) → (among ranks r ≡ true) ↔ IsStuckBy states waits r
 
+-- A rising list of the ranks that are stuck under some conditions tells those that are stuck under their shapes.
+abbrev pub StuckGoByShape : Type 0
+StuckGoByShape = (ranks : List ℕ) (states : List State) (conditions : List (Option Condition)) → IsStrictlyIncreasing ranks
+    → ((r : ℕ) → (among ranks r ≡ true) ↔ IsStuck states conditions r) → AreStuck states (map (option_map shape) conditions) ranks
+
 -- the number of the call in which a rank waits
 abbrev pub call_of : Ops → ℕ
 call_of o = unwrap_or (option_map (λ w. w.0) o.waiting) 0
@@ -116,6 +121,7 @@ wait_at waits r = unwrap_or (unwrap_or (slice_get waits r) None) OnNothing
 abbrev pub stopped_in : View → List (Option Wait) → ℕ → ℕ → Stopped
 stopped_in view waits r call = record { rank = r; call = call; wall = wall_of view r call; waits = wait_at waits r }
 
+-- where a stuck rank stands, and what it waits for
 abbrev pub stopped_at : View → List Ops → List (Option Wait) → ℕ → Stopped
 stopped_at view ops waits r = stopped_in view waits r (call_of (ops_of ops r))
 

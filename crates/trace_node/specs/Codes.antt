@@ -33,6 +33,7 @@ abbrev mutual
   trees none = gnil
   trees (and first rest) = gcons (tree first) (trees rest)
 
+-- a wait of some parts, by the number of its kind
 abbrev pub of_kind : Gv → Waits → Wait
 of_kind gnil parts = OnAll parts
 of_kind (gnum n) parts = OnOne parts
@@ -61,13 +62,16 @@ mutual
   waits-trees none = refl
   waits-trees (and first rest) = λ i. and (wait-tree first i) (waits-trees rest i)
 
+-- a wait, as a tree of numbers
 abbrev pub coded_wait : Coded Wait
 coded_wait = record { code = tree; inj = λ x y p. sym (wait-tree x) ∙ ap wait_in p ∙ wait-tree y }
 
+-- a stuck rank, as a tree of numbers
 abbrev pub coded_stopped : Coded Stopped
 coded_stopped = code_by (ℕ × (ℕ × (ℕ × Wait))) (coded× coded_ℕ (coded× coded_ℕ (coded× coded_ℕ coded_wait)))
     (λ s. (s.rank, (s.call, (s.wall, s.waits)))) (λ p. record { rank = p.0; call = p.1.0; wall = p.1.1.0; waits = p.1.1.1 }) (λ _. refl)
 
+-- an answer, as a tree of numbers
 abbrev pub coded_answered : Coded Answered
 coded_answered = code_by (ℕ × (Sends × (List ℕ × (List Bool × (List Bool × (List (ℕ × ℕ) × (List Pair × (List OpName × (List Round × (List State × (List Stopped × ℕ)))))))))))
     (coded× coded_ℕ (coded× sends.the_row.coded (coded× (coded_list coded_ℕ) (coded× (coded_list coded_bool) (coded× (coded_list coded_bool) (coded× (coded_list (coded× coded_ℕ coded_ℕ))
@@ -90,6 +94,7 @@ coded_answered = code_by (ℕ × (Sends × (List ℕ × (List Bool × (List Bool
     })
     (λ _. refl)
 
+-- what a node holds, as a tree of numbers
 abbrev pub coded_held : Coded Held
 coded_held = code_by (Parts × (View × Bool)) (coded× layout.the_row.coded (coded× knowledge.the_row.coded coded_bool))
     (λ h. (h.layout, (h.know, h.is_stale))) (λ p. record { layout = p.0; know = p.1.0; is_stale = p.1.1 }) (λ _. refl)

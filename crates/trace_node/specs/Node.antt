@@ -10,6 +10,7 @@ pub record Held : Type 0 where
   pub know : View
   pub is_stale : Bool
 
+-- what a node holds
 abbrev pub held : Parts → View → Bool → Held
 held layout know is_stale = record { layout = layout; know = know; is_stale = is_stale }
 

@@ -7,6 +7,7 @@ pub record NodeState : Type 0 where
   pub inbox : List PlacedEvents
   pub reached : List PlacedEvents
 
+-- a node of a schedule
 abbrev pub node_state : List PlacedEvents → List PlacedEvents → NodeState
 node_state inbox reached = record { inbox = inbox; reached = reached }
 

@@ -4,7 +4,7 @@ ghost use Rattle.mpi_model.specs.Layouts.{Parts};
 ghost use Rattle.trace_know.specs.View.{View};
 ghost use Rattle.trace_ops.specs.RankOps.{all_ops};
 ghost use Rattle.trace_pair.specs.Certainty.{AreAllSettled, AreCertain, AreLegal, AreTheOnlyLegal};
-ghost use Rattle.trace_node.specs.Answer.{AnswersAreOne, Answered, IsAnswer};
+ghost use Rattle.trace_node.specs.Answer.{AnswersAreOne, Answered, IsAnswer, StuckGoByShape};
 
 use trace_ops::ops_laws;
 use trace_pair::tables_are_certain;
@@ -16,6 +16,12 @@ pub fn answers_are_one()
 {
     rising_lists_are_one();
 }
+
+/// The ranks that are stuck under some conditions are those that are stuck under their shapes: where the parts of a
+/// condition lie in memory is left out. It does nothing: it is for proofs.
+pub fn stuck_go_by_shape()
+    ensures { StuckGoByShape }
+{}
 
 /// The pairs of an answer are certain: each is a couple of every matching that MPI allows, however the ranks
 /// go on and their open receives are told, where no later Cancel names what is sure. Where no receive is open

@@ -25,7 +25,7 @@
 //! - [`follow`]: the index of the pairs, as more is known, and how far each rank was known in it
 //! - [`shared`]: what is known, and an answer, each by one owner or more
 //! - [`node`]: knowledge with its answer
-//! - [`laws`]: that there is one answer, and that its pairs are certain, as contracts of calls that do nothing
+//! - [`laws`]: that there is one answer, that its pairs are certain, and that shapes tell who is stuck, as contracts of calls that do nothing
 //!
 //! Its tests are in `crates/node_tests/src/node.rt`.
 #![tactic(auto)]
@@ -41,7 +41,7 @@ mod stuck;
 
 pub use answer::Answer;
 pub use fault::{NodeFault, Stale};
-pub use laws::{answers_are_certain, answers_are_one};
+pub use laws::{answers_are_certain, answers_are_one, stuck_go_by_shape};
 pub use node::Node;
 pub use shared::{SharedAnswer, SharedKnowledge};
 pub use stuck::Stuck;

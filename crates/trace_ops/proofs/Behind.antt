@@ -6,7 +6,7 @@ use Rattle.std.specs.Ordering.{int_eq}
 use Rattle.std.proofs.lemmas.List.{drop_more}
 use Rattle.std.proofs.lemmas.Option.{slice_get_read}
 use Rattle.mpi_model.specs.declared.call.Call.{Call}
-use Rattle.mpi_model.specs.declared.call.Call.TheVariants.{Isend, Irecv, Ibarrier, Cancel}
+use Rattle.mpi_model.specs.declared.call.Call.TheVariants.{Isend, Irecv, Icollective, Cancel}
 use Rattle.mpi_model.specs.declared.outcome.Outs.{Outs}
 use Rattle.mpi_model.specs.declared.told.Told.{Told}
 use Rattle.mpi_model.specs.declared.told.Told.TheVariants.{Nothing, Source, Cancelled}
@@ -24,7 +24,7 @@ use Rattle.trace_ops.specs.Trust.{cancel_of, cancels, has_cancel, said_in, said_
 quiet : (call : Call) (outs : Option Outs) (x : ℤ) → post_of call outs ≡ Some x → completions call outs ≡ []
 quiet (Isend mode e) outs x h = refl
 quiet (Irecv e) outs x h = refl
-quiet (Ibarrier c) outs x h = refl
+quiet (Icollective c) outs x h = refl
 quiet call outs x h = absurd (cc)
 
 -- a Cancel posts and completes nothing

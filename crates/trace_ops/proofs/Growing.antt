@@ -10,7 +10,7 @@ use Rattle.mpi_model.specs.declared.envelope.Mode.TheVariants.{Standard}
 use Rattle.mpi_model.specs.declared.envelope.Peer.{Peer}
 use Rattle.mpi_model.specs.declared.envelope.Peer.TheVariants.{Any, Null, Rank}
 use Rattle.mpi_model.specs.declared.call.Call.{Call}
-use Rattle.mpi_model.specs.declared.call.Call.TheVariants.{Send, Recv, Irecv, Isend, Ibarrier, Sendrecv, Wait, Waitall, Waitany, Waitsome, Test, Testall, Testany, Testsome, Free}
+use Rattle.mpi_model.specs.declared.call.Call.TheVariants.{Send, Recv, Irecv, Isend, Icollective, Sendrecv, Wait, Waitall, Waitany, Waitsome, Test, Testall, Testany, Testsome, Free}
 use Rattle.mpi_model.specs.declared.outcome.Outs.{Outs}
 use Rattle.mpi_model.specs.declared.message.Trust.{Trust}
 use Rattle.mpi_model.specs.declared.message.Trust.TheVariants.{Sure}
@@ -77,7 +77,7 @@ module _ {Y : Type 0} (R : Y → Y → Type 0) where
 post_none : (call : Call) → post_of call None ≡ None
 post_none (Isend mode e) = refl
 post_none (Irecv e) = refl
-post_none (Ibarrier c) = refl
+post_none (Icollective c) = refl
 post_none call = refl
 
 complete_none : (call : Call) → completions call None ≡ []

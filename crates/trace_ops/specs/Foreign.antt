@@ -1,11 +1,13 @@
 -- The communicators that calls name, and the calls that the layout doesn't know.
-use Rattle.std.specs.Prelude.{ℕ, Bool, true, ◌&&◌, nat_lt, if◌then◌else◌, Option, Some, None, is_some, is_none, List, length}
+use Rattle.std.specs.Prelude.{ℕ, Bool, true, ◌&&◌, ◌||◌, not, nat_lt, if◌then◌else◌, Option, Some, None, is_some, is_none, List, length}
 use Rattle.std.specs.Option.{option_map, option_and_then}
 use Rattle.mpi_model.specs.declared.envelope.Peer.{Peer}
 use Rattle.mpi_model.specs.declared.envelope.Peer.TheVariants as peers
 use Rattle.mpi_model.specs.declared.envelope.CommRef.{CommRef}
 use Rattle.mpi_model.specs.declared.call.Call.{Call}
 use Rattle.mpi_model.specs.declared.call.Call.TheVariants as calls
+use Rattle.mpi_model.specs.Kinds.{has_root}
+use Rattle.mpi_model.specs.Ranges.{CollectiveCall}
 use Rattle.mpi_model.specs.Communicators.{members_of}
 use Rattle.mpi_model.specs.Layouts.{Parts, named}
 
@@ -31,8 +33,8 @@ comm_of (calls.Recv e) = Some e.comm
 comm_of (calls.Irecv e) = Some e.comm
 comm_of (calls.Sendrecv x) = Some x.send.comm
 comm_of (calls.Collective c) = Some c.comm
+comm_of (calls.Icollective c) = Some c.comm
 comm_of (calls.Probe e) = Some e.comm
-comm_of (calls.Ibarrier c) = Some c
 comm_of calls.Local = None
 comm_of calls.Finalize = None
 comm_of (calls.Wait request) = None
@@ -58,6 +60,11 @@ abbrev pub is_within : List ℕ → Option ℕ → Bool
 is_within members None = true
 is_within members (Some n) = nat_lt n (length members)
 
+-- The root is a rank in the group, where the kind of the call has one. `MPI_ROOT` and `MPI_PROC_NULL` name none in it (MPI
+-- 4.0, 6.2.3).
+abbrev pub is_root_within : List ℕ → CollectiveCall → Bool
+is_root_within members c = is_within members c.root && (is_some c.root || not (has_root c.kind))
+
 -- the ranks that a call names, its peers or its root, are ranks in the group
 abbrev pub are_within : List ℕ → Call → Bool
 are_within members (calls.Send mode e) = is_within members (peer_rank e.peer)
@@ -65,7 +72,8 @@ are_within members (calls.Isend mode e) = is_within members (peer_rank e.peer)
 are_within members (calls.Recv e) = is_within members (peer_rank e.peer)
 are_within members (calls.Irecv e) = is_within members (peer_rank e.peer)
 are_within members (calls.Sendrecv x) = is_within members (peer_rank x.send.peer) && is_within members (peer_rank x.receive.peer)
-are_within members (calls.Collective c) = is_within members c.root
+are_within members (calls.Collective c) = is_root_within members c
+are_within members (calls.Icollective c) = is_root_within members c
 are_within members (calls.Probe e) = is_within members (peer_rank e.source)
 are_within members call = true
 

@@ -21,6 +21,7 @@ abbrev pub tag_of : Option ℕ → ℕ
 tag_of None = 0
 tag_of (Some tag) = tag
 
+-- the message of a call's envelope to a rank of the trace
 abbrev pub message_to : Group → ℕ → ℕ → Mode → Envelope → Trust → ℕ → Message
 message_to g rank n mode e trust to = record {
   name = record { rank = rank; call = n };
@@ -46,6 +47,7 @@ sent_by g rank n c later (Isend mode e) = sent_with g rank n mode e (trust_of_se
 sent_by g rank n c later (Sendrecv x) = sent_with g rank n Standard x.send Sure
 sent_by g rank n c later call = None
 
+-- the message of a call, where the layout has the communicator that it names
 abbrev pub message_in : Option Group → ℕ → Numbered → Option Message
 message_in None rank c = None
 message_in (Some g) rank c = sent_by g rank c.number c.entry c.later c.entry.call

@@ -30,6 +30,7 @@ is_waiting_call layout rank n call = may_block call && not (is_foreign layout ra
 abbrev pub waits_in : Parts → ℕ → ℕ → Entry → Bool
 waits_in layout rank n c = is_none c.outs && is_waiting_call layout rank n c.call
 
+-- the call is MPI_Finalize
 abbrev pub is_finalize : Call → Bool
 is_finalize Finalize = true
 is_finalize call = false
@@ -42,6 +43,7 @@ state_after layout rank n c = if is_finalize c.call then Ended else if waits_in 
 abbrev pub last_of : List Entry → Option (ℕ × Entry)
 last_of calls = option_map (λ c. (length calls - 1, c)) (slice_get calls (length calls - 1))
 
+-- the state by the last readable call: free where there is none
 abbrev pub state_at : Parts → ℕ → Option (ℕ × Entry) → State
 state_at layout rank None = Free
 state_at layout rank (Some last) = state_after layout rank last.0 last.1
@@ -51,6 +53,7 @@ state_at layout rank (Some last) = state_after layout rank last.0 last.1
 abbrev pub state_of : Parts → ℕ → Bool → List Entry → State
 state_of layout rank beyond calls = if beyond then Free else state_at layout rank (last_of calls)
 
+-- the call in which a waiting rank stands
 abbrev pub waiting_at : State → Option (ℕ × Entry) → Option (ℕ × Call)
 waiting_at Free last = None
 waiting_at Ended last = None

@@ -18,6 +18,7 @@ use Rattle.trace_ops.specs.Request.{posted_by}
 use Rattle.trace_ops.specs.Source.{told_of_own, told_of_post}
 use Rattle.trace_ops.specs.Trust.{trust_of_receive}
 
+-- the receive of a call's envelope, with its source as far as that is told
 abbrev pub receive_from : Group → ℕ → ℕ → Envelope → Trust → Option ℕ → Receive
 receive_from g rank n e trust source = record {
   name = record { rank = rank; call = n };
@@ -37,9 +38,11 @@ taken_from g rank n e trust told Null = None
 taken_from g rank n e trust told Any = Some (receive_from g rank n e trust told)
 taken_from g rank n e trust told (Rank p) = Some (receive_from g rank n e trust (slice_get g.members p))
 
+-- the receive as which a call looks for a message
 abbrev pub taken_with : Group → ℕ → ℕ → Envelope → Trust → Option ℕ → Option Receive
 taken_with g rank n e trust told = taken_from g rank n e trust told e.peer
 
+-- the receive that a Probe looks as: it takes no message
 abbrev pub probed_in : ℕ → ℕ → Probed → Group → Option Receive
 probed_in rank n e g = taken_with g rank n (record { peer = e.source; tag = e.tag; comm = e.comm; count = 0; datatype = pos 0 }) Sure None
 
@@ -54,6 +57,7 @@ taken_by g rank n c later (Sendrecv x) = taken_with g rank n x.receive Sure (tol
 taken_by g rank n c later (Irecv e) = taken_with g rank n e (trust_of_receive g.members later (posted_by c)) (told_of_post g.members later (posted_by c))
 taken_by g rank n c later call = None
 
+-- the receive of a call, where the layout has the communicator that it names
 abbrev pub receive_in : Option Group → ℕ → Numbered → Option Receive
 receive_in None rank c = None
 receive_in (Some g) rank c = taken_by g rank c.number c.entry c.later c.entry.call

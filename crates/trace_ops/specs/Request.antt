@@ -5,7 +5,7 @@ use Rattle.std.specs.List.{list_any, filter_map, cons_option}
 use Rattle.std.specs.Option.{option_map}
 use Rattle.std.specs.Ordering.{int_eq}
 use Rattle.mpi_model.specs.declared.call.Call.{Call}
-use Rattle.mpi_model.specs.declared.call.Call.TheVariants.{Isend, Irecv, Ibarrier, Wait, Waitall, Waitany, Waitsome, Test, Testall, Testany, Testsome, Free}
+use Rattle.mpi_model.specs.declared.call.Call.TheVariants.{Isend, Irecv, Icollective, Wait, Waitall, Waitany, Waitsome, Test, Testall, Testany, Testsome, Free}
 use Rattle.mpi_model.specs.declared.outcome.Outs.{Outs}
 use Rattle.mpi_model.specs.declared.outcome.Outs.TheVariants.{Posted, Status, Statuses, Index, Several, Flag}
 use Rattle.mpi_model.specs.declared.list.elements.Element.{Element}
@@ -19,11 +19,11 @@ use Rattle.trace_ops.specs.Calls.{Entry, Numbered, numbered}
 abbrev pub number_for : ℤ → Option ℤ
 number_for request = if int_eq request null_request then None else Some request
 
--- the number that a returned call posts: that of an Isend, Irecv or Ibarrier, foreign or not
+-- the number that a returned call posts: that of an Isend, an Irecv or a nonblocking collective call, foreign or not
 abbrev pub post_of : Call → Option Outs → Option ℤ
 post_of (Isend mode e) (Some (Posted request)) = number_for request
 post_of (Irecv e) (Some (Posted request)) = number_for request
-post_of (Ibarrier c) (Some (Posted request)) = number_for request
+post_of (Icollective c) (Some (Posted request)) = number_for request
 post_of call outs = None
 
 abbrev pub posted_by : Entry → Option ℤ

@@ -1,18 +1,22 @@
 -- The entries of a rank into collective calls (MPI 4.0, 6.1, 6.12 and 6.14).
-use Rattle.std.specs.Prelude.{ℕ, Option, Some, None, List}
+use Rattle.std.specs.Prelude.{ℕ, Bool, true, false, Option, Some, None, List}
 use Rattle.std.specs.List.{filter_map}
 use Rattle.mpi_model.specs.declared.call.Call.{Call}
-use Rattle.mpi_model.specs.declared.call.Call.TheVariants.{Collective, Ibarrier}
-use Rattle.mpi_model.specs.declared.collective.Kind.TheVariants as kinds
+use Rattle.mpi_model.specs.declared.call.Call.TheVariants.{Collective, Icollective}
+use Rattle.mpi_model.specs.Ranges.{CollectiveCall}
 use Rattle.mpi_model.specs.Layouts.{Parts}
 use Rattle.trace_ops.specs.declared.entered.Entered.{Entered}
 use Rattle.trace_ops.specs.Calls.{Entry, numbered}
 use Rattle.trace_ops.specs.Foreign.{Group, group_of}
 
--- the entry of a call into a round of its communicator
+-- the entry of a collective call into a round of its communicator
+abbrev pub entry_of : Group → ℕ → CollectiveCall → Bool → Entered
+entry_of g n c nonblocking = record { comm = g.comm; function = record { kind = c.kind; nonblocking = nonblocking }; root = c.root; call = n }
+
+-- the entry of a call, where it is collective, blocking or not
 abbrev pub entered_by : Group → ℕ → Call → Option Entered
-entered_by g n (Collective c) = Some (record { comm = g.comm; kind = c.kind; root = c.root; call = n })
-entered_by g n (Ibarrier c) = Some (record { comm = g.comm; kind = kinds.Ibarrier; root = None; call = n })
+entered_by g n (Collective c) = Some (entry_of g n c false)
+entered_by g n (Icollective c) = Some (entry_of g n c true)
 entered_by g n call = None
 
 abbrev pub entered_in : Option Group → ℕ → Call → Option Entered

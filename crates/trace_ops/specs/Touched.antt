@@ -18,6 +18,7 @@ use Rattle.trace_ops.specs.Trust.{has_cancel, said_by}
 abbrev pub ends_at : ℕ → ℕ → Touch
 ends_at call place = record { end = Some (record { call = call; place = place; void = false }); cancelled = false }
 
+-- an end that a status calls cancelled
 abbrev pub voided_end : End → End
 voided_end e = record { call = e.call; place = e.place; void = true }
 
@@ -31,6 +32,7 @@ with_told call place Nothing touch = touch
 with_told call place (Source rank) touch = Some (ends_at call place)
 with_told call place Cancelled touch = option_map voided touch
 
+-- what one completion of a call makes of what is kept of the number
 abbrev pub with_telling : ℕ → ℕ → ℤ → Completed → Option Touch → Option Touch
 with_telling call place x c touch = if int_eq c.request x then with_told call place c.told touch else touch
 
@@ -39,6 +41,7 @@ abbrev pub with_tellings : ℕ → ℕ → List Completed → ℤ → Option Tou
 with_tellings call place [] x touch = touch
 with_tellings call place (c ∷ done) x touch = with_telling call place x c (with_tellings call (place + 1) done x touch)
 
+-- the call that ends a number, where one does
 abbrev pub end_of : Option Touch → Option End
 end_of touch = option_and_then (λ t. t.end) touch
 
@@ -46,14 +49,17 @@ end_of touch = option_and_then (λ t. t.end) touch
 abbrev pub marked : Option Touch → Touch
 marked touch = record { end = end_of touch; cancelled = true }
 
+-- a later Cancel names the number
 abbrev pub is_marked : Option Touch → Bool
 is_marked None = false
 is_marked (Some t) = t.cancelled
 
+-- a status says that the request was cancelled
 abbrev pub is_void_end : Option End → Bool
 is_void_end None = false
 is_void_end (Some e) = e.void
 
+-- the requests that a call completes, none where there is no call
 abbrev pub completed_at : Option Entry → List Completed
 completed_at None = []
 completed_at (Some c) = completed_by c

@@ -20,6 +20,7 @@ abbrev pub cancel_of : Call → Option ℤ
 cancel_of (Cancel request) = Some request
 cancel_of call = None
 
+-- the call asks that this request be cancelled (MPI 4.0, 3.8.4)
 abbrev pub cancels : ℤ → Entry → Bool
 cancels x c = is_posted (cancel_of c.call) x
 
@@ -71,6 +72,7 @@ abbrev pub cancelled_with : ℕ → ℕ → List Entry → Option ℤ → Option
 cancelled_with rank n later None = None
 cancelled_with rank n later (Some x) = if has_cancel x later then Some (record { rank = rank; call = n }) else None
 
+-- the request that a call posts, where a Cancel names it
 abbrev pub cancelled_post : ℕ → Numbered → Option OpName
 cancelled_post rank c = cancelled_with rank c.number c.later (posted_by c.entry)
 

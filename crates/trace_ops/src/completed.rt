@@ -33,7 +33,7 @@ pub(crate) fn post_of(call: &Call, outs: Option<&Outs>) -> Option<i64>
     match (call, outs) {
         (Call::Isend(_, _), Some(Outs::Posted(request))) => number_for(*request),
         (Call::Irecv(_), Some(Outs::Posted(request))) => number_for(*request),
-        (Call::Ibarrier(_), Some(Outs::Posted(request))) => number_for(*request),
+        (Call::Icollective(_), Some(Outs::Posted(request))) => number_for(*request),
         _ => None,
     }
 }

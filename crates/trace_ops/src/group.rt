@@ -2,10 +2,10 @@
 
 ghost use Rattle.std.specs.Prelude.{◌≡◌};
 ghost use Rattle.std.specs.Option.{option_map};
-ghost use Rattle.trace_ops.specs.Foreign.{are_within, comm_of, group_named, group_of, is_foreign, is_foreign_in, is_within, peer_rank};
+ghost use Rattle.trace_ops.specs.Foreign.{are_within, comm_of, group_named, group_of, is_foreign, is_foreign_in, is_root_within, is_within, peer_rank};
 ghost use Rattle.trace_ops.specs.Groups.{plain};
 
-use mpi_model::{Call, CommRef, Layout, Peer};
+use mpi_model::{Call, Collective, CommRef, Layout, Peer};
 
 /// The group of a communicator: ranks of the trace in the order of their ranks in it (MPI 4.0,
 /// 7.2.1).
@@ -37,9 +37,8 @@ fn comm_of(call: &Call) -> Option<CommRef>
         Call::Send(_, e) | Call::Isend(_, e) => Some(e.envelope().comm),
         Call::Recv(e) | Call::Irecv(e) => Some(e.envelope().comm),
         Call::Sendrecv(both) => Some(both.send().comm),
-        Call::Collective(c) => Some(c.comm()),
+        Call::Collective(c) | Call::Icollective(c) => Some(c.comm()),
         Call::Probe(e) => Some(e.comm()),
-        Call::Ibarrier(c) => Some(c.comm()),
         Call::Local
         | Call::Finalize
         | Call::Wait(_)
@@ -75,6 +74,13 @@ fn is_within(members: &[u32], other: Option<u32>) -> bool
     }
 }
 
+/// Whether the root is a rank in the group, where the kind of the call has one.
+fn is_root_within(members: &[u32], c: Collective) -> bool
+    ensures { result ≡ is_root_within members.now c }
+{
+    is_within(members, c.root()) && (c.root().is_some() || !c.kind().has_root())
+}
+
 fn are_within(members: &[u32], call: &Call) -> bool
     ensures { result ≡ are_within members.now call.now }
 {
@@ -85,7 +91,7 @@ fn are_within(members: &[u32], call: &Call) -> bool
             is_within(members, peer_rank(both.send().peer))
                 && is_within(members, peer_rank(both.receive().peer))
         }
-        Call::Collective(c) => is_within(members, c.root()),
+        Call::Collective(c) | Call::Icollective(c) => is_root_within(members, *c),
         Call::Probe(e) => is_within(members, peer_rank(e.source())),
         _ => true,
     }

@@ -7,14 +7,14 @@ ghost use Rattle.trace_ops.specs.Fate.{IsFateOf};
 ghost use Rattle.trace_ops.specs.Groups.{plain};
 ghost use Rattle.trace_ops.specs.Message.{message_in, message_to, sent_by, sent_with, tag_of};
 ghost use Rattle.trace_ops.specs.Request.{posted_by};
-ghost use Rattle.trace_ops.specs.Round.{entered_by, entered_in};
+ghost use Rattle.trace_ops.specs.Round.{entered_by, entered_in, entry_of};
 
 use crate::called::Called;
 use crate::entered::Entered;
 use crate::fate::Fate;
 use crate::group::{Group, peer_rank};
 use crate::trust::trust_of_post;
-use mpi_model::{Call, Envelope, Kind, Message, Mode, OpName, Trust};
+use mpi_model::{Call, Collective, CollectiveFunction, Envelope, Message, Mode, OpName, Trust};
 
 fn tag_of(tag: Option<u32>) -> u32
     ensures { result ≡ tag_of tag }
@@ -100,22 +100,27 @@ pub(crate) fn message_in(
     sent_by(group?, rank, n, called, fate)
 }
 
+fn entry_of(group: Group<'_>, n: u64, c: Collective, nonblocking: bool) -> Entered
+    ensures { result ≡ entry_of (plain group.entry) n c nonblocking }
+{
+    let function = CollectiveFunction {
+        kind: c.kind(),
+        nonblocking,
+    };
+    Entered {
+        comm: group.comm,
+        function,
+        root: c.root(),
+        call: n,
+    }
+}
+
 fn entered_by(group: Group<'_>, n: u64, call: &Call) -> Option<Entered>
     ensures { result ≡ entered_by (plain group.entry) n call.now }
 {
     match call {
-        Call::Collective(c) => Some(Entered {
-            comm: group.comm,
-            kind: c.kind(),
-            root: c.root(),
-            call: n,
-        }),
-        Call::Ibarrier(_) => Some(Entered {
-            comm: group.comm,
-            kind: Kind::Ibarrier,
-            root: None,
-            call: n,
-        }),
+        Call::Collective(c) => Some(entry_of(group, n, *c, false)),
+        Call::Icollective(c) => Some(entry_of(group, n, *c, true)),
         _ => None,
     }
 }

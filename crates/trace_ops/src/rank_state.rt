@@ -24,7 +24,7 @@ fn may_block(call: &Call) -> bool
         | Call::Waitsome(_)
         | Call::Collective(_) => true,
         Call::Local | Call::Finalize | Call::Unread => false,
-        Call::Isend(_, _) | Call::Irecv(_) | Call::Ibarrier(_) => false,
+        Call::Isend(_, _) | Call::Irecv(_) | Call::Icollective(_) => false,
         Call::Test(_) | Call::Testall(_) | Call::Testany(_) | Call::Testsome(_) => false,
         Call::Cancel(_) | Call::Free(_) => false,
     }

@@ -50,5 +50,6 @@ pub record IsNew (couples : List Couple) (c : Couple) : Type 0 where
 abbrev pub IsOneMessage : List Couple → Message → Type 0
 IsOneMessage couples m = (d : Couple) → Has couples d → d.message.name ≡ m.name → d.message ≡ m
 
+-- a couple with a receive of this name has just this receive
 abbrev pub IsOneReceive : List Couple → Receive → Type 0
 IsOneReceive couples q = (d : Couple) → Has couples d → d.receive.name ≡ q.name → d.receive ≡ q

@@ -8,6 +8,7 @@ use Rattle.trace_pair.specs.Indexed.{IsIndexed}
 use Rattle.trace_pair.specs.Table.{sends_of, receives_of}
 use Rattle.trace_pair.specs.declared.matched.Matched.{Matched}
 
+-- what is kept is the index of these messages and receives
 abbrev pub Indexes : List Message → List Receive → Matched → Type 0
 Indexes ms qs s = IsIndexed ms qs s.waiting s.free s.opened s.couples
 

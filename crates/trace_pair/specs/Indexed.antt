@@ -18,6 +18,7 @@ IsUnpaired ms qs m = (q : Receive) → Has qs q → Paired ms qs m q → ⊥
 abbrev pub IsFree : List Message → List Receive → Receive → Type 0
 IsFree ms qs q = (m : Message) → Has ms m → Paired ms qs m q → ⊥
 
+-- a message with the receive that takes it
 abbrev pub couple_of : Message → Receive → Couple
 couple_of m q = record { message = m; receive = q }
 

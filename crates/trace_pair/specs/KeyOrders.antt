@@ -11,18 +11,23 @@ use Rattle.mpi_model.specs.declared.message.Message.{Message}
 use Rattle.mpi_model.specs.declared.message.Receive.{Receive}
 use Rattle.mpi_model.specs.declared.message.Trust.{Trust}
 
+-- operations by their ranks, and then by their calls
 abbrev pub name_cmp : OpName → OpName → Ordering
 name_cmp a b = ordering_then (nat_cmp a.rank b.rank) (nat_cmp a.call b.call)
 
+-- modes, in the order of their type
 abbrev pub mode_cmp : Mode → Mode → Ordering
 mode_cmp = (mode_ord.ghosts).cmp
 
+-- trusts, in the order of their type
 abbrev pub trust_cmp : Trust → Trust → Ordering
 trust_cmp = (trust_ord.ghosts).cmp
 
+-- messages by their names, and then by all else
 abbrev pub message_cmp : Message → Message → Ordering
 message_cmp a b = ordering_then (name_cmp a.name b.name) (ordering_then (nat_cmp a.comm b.comm) (ordering_then (nat_cmp a.from b.from) (ordering_then (nat_cmp a.to b.to) (ordering_then (nat_cmp a.tag b.tag) (ordering_then (mode_cmp a.mode b.mode) (ordering_then (trust_cmp a.trust b.trust) (ordering_then (nat_cmp a.count b.count) (int_cmp a.datatype b.datatype))))))))
 
+-- receives by their names, and then by all else
 abbrev pub receive_cmp : Receive → Receive → Ordering
 receive_cmp a b = ordering_then (name_cmp a.name b.name) (ordering_then (nat_cmp a.comm b.comm) (ordering_then (nat_cmp a.at b.at) (ordering_then (option_cmp nat_cmp a.source b.source) (ordering_then (option_cmp nat_cmp a.tag b.tag) (ordering_then (nat_cmp a.count b.count) (ordering_then (trust_cmp a.trust b.trust) (int_cmp a.datatype b.datatype)))))))
 
@@ -30,9 +35,11 @@ receive_cmp a b = ordering_then (name_cmp a.name b.name) (ordering_then (nat_cmp
 abbrev pub Queue : Type 0
 Queue = ℕ × ℕ × ℕ × ℕ
 
+-- queues by their numbers, one after another
 abbrev pub queue_cmp : Queue → Queue → Ordering
 queue_cmp a b = ordering_then (ordering_then (ordering_then (nat_cmp a.0 b.0) (nat_cmp a.1 b.1)) (nat_cmp a.2 b.2)) (nat_cmp a.3 b.3)
 
+-- the queue of a message: its communicator, sender, destination and tag
 abbrev pub queue_of : Message → Queue
 queue_of m = (m.comm, m.from, m.to, m.tag)
 
@@ -40,9 +47,11 @@ queue_of m = (m.comm, m.from, m.to, m.tag)
 abbrev pub Lane : Type 0
 Lane = ℕ × ℕ × ℕ
 
+-- lanes by their numbers, one after another
 abbrev pub lane_cmp : Lane → Lane → Ordering
 lane_cmp a b = ordering_then (ordering_then (nat_cmp a.0 b.0) (nat_cmp a.1 b.1)) (nat_cmp a.2 b.2)
 
+-- the lane of a message: its communicator, its sender and its destination
 abbrev pub lane_of : Message → Lane
 lane_of m = (m.comm, m.from, m.to)
 
@@ -50,8 +59,10 @@ lane_of m = (m.comm, m.from, m.to)
 abbrev pub ReceiveKey : Type 0
 ReceiveKey = ℕ × ℕ × Option ℕ × Option ℕ
 
+-- keys of receives by their numbers, one after another
 abbrev pub receive_key_cmp : ReceiveKey → ReceiveKey → Ordering
 receive_key_cmp a b = ordering_then (ordering_then (ordering_then (nat_cmp a.0 b.0) (nat_cmp a.1 b.1)) (option_cmp nat_cmp a.2 b.2)) (option_cmp nat_cmp a.3 b.3)
 
+-- the key of a receive: its communicator, rank, source and tag
 abbrev pub receive_key_of : Receive → ReceiveKey
 receive_key_of q = (q.comm, q.at, q.source, q.tag)

@@ -42,6 +42,7 @@ paired_below (suc bound) ms qs m q = obeys ms qs (paired_below bound ms qs) m q
 unfoldable pub paired : List Message → List Receive → Message → Receive → Bool
 paired ms qs m q = paired_below (suc (m.name.call + q.name.call)) ms qs m q
 
+-- the message and the receive are a pair of the rules
 abbrev pub Paired : List Message → List Receive → Message → Receive → Type 0
 Paired ms qs m q = paired ms qs m q ≡ true
 

@@ -24,6 +24,7 @@ pair_named pairs name = find (λ p. same_name p.message name) pairs
 abbrev pub receive_at : List Pair → ℕ → Option OpName
 receive_at pairs place = option_map (λ p. p.receive) (slice_get pairs place)
 
+-- the message of the pair at a place
 abbrev pub message_at : List Pair → ℕ → Option OpName
 message_at pairs place = option_map (λ p. p.message) (slice_get pairs place)
 

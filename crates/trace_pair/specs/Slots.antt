@@ -31,11 +31,13 @@ pub record IsGapAt {V : Type 0} (row : List (Slot V)) (i call : ℕ) : Type 0 wh
 abbrev pub Slots : Type 0 → Type 0
 Slots V = List (Vec (Slot V) Global)
 
+-- the slots of a rank
 abbrev pub slots_at : {V : Type 0} → Slots V → ℕ → List (Slot V)
 slots_at [] rank = []
 slots_at (row ∷ rows) zero = row.items
 slots_at (row ∷ rows) (suc rank) = slots_at rows rank
 
+-- in each rank the slots stand in order of their calls
 pub record AreSlots {V : Type 0} (rows : Slots V) : Type 0 where
   pub rise : (rank : ℕ) → Rises (slots_at rows rank)
 
@@ -47,6 +49,7 @@ value_of rows name = value_in (slots_at rows name.rank) name.call
 abbrev pub named : {V : Type 0} → ℕ → ℕ → V → OpName × V
 named rank call v = (record { rank = rank; call = call }, v)
 
+-- what a slot of a rank holds, under the name of its call
 abbrev pub entry_in : {V : Type 0} → ℕ → Slot V → Option (OpName × V)
 entry_in rank s = option_map (named rank s.call) s.value
 
@@ -55,5 +58,6 @@ abbrev pub entries_from : {V : Type 0} → ℕ → Slots V → List (OpName × V
 entries_from rank [] = []
 entries_from rank (row ∷ rows) = filter_map (entry_in rank) row.items ++ entries_from (suc rank) rows
 
+-- what the slots of all ranks hold, in order
 abbrev pub entries_of : {V : Type 0} → Slots V → List (OpName × V)
 entries_of rows = entries_from zero rows

@@ -18,6 +18,7 @@ use Rattle.trace_pair.specs.declared.pair.Side.TheVariants.{Sent, Received}
 abbrev pub sends_of : List Ops → List Message
 sends_of held = flat_map (λ o. o.sends) held
 
+-- the receives of all ranks
 abbrev pub receives_of : List Ops → List Receive
 receives_of held = flat_map (λ o. o.receives) held
 
@@ -54,6 +55,7 @@ pub record Table : Type 0 where
   pub pairs : List Pair
   pub postponed : List OpName
 
+-- the table of these messages and receives
 abbrev pub table_with : List Message → List Receive → Table
 table_with ms qs = record { pairs = pairs_of ms qs; postponed = postponed_of ms qs }
 
@@ -61,6 +63,7 @@ table_with ms qs = record { pairs = pairs_of ms qs; postponed = postponed_of ms 
 abbrev pub table_of : List Ops → Table
 table_of held = table_with (sends_of held) (receives_of held)
 
+-- two names are one
 abbrev pub same_name : OpName → OpName → Bool
 same_name a b = (a.rank == b.rank) && (a.call == b.call)
 

@@ -55,6 +55,7 @@ is_waiting None = false
 is_waiting (Some None) = true
 is_waiting (Some (Some t)) = false
 
+-- nothing takes the message at a place
 abbrev pub waits_at : List (Option Taker) → ℕ → Bool
 waits_at takers place = is_waiting (slice_get takers place)
 
@@ -63,6 +64,7 @@ abbrev pub from_waiting : List (Option Taker) → List ℕ → List ℕ
 from_waiting takers [] = []
 from_waiting takers (i ∷ places) = cond (waits_at takers i) (i ∷ places) (from_waiting takers places)
 
+-- the places that are listed, none where there is no list
 abbrev pub items_of : Option (List ℕ) → List ℕ
 items_of None = []
 items_of (Some places) = places
@@ -107,5 +109,6 @@ abbrev pub taker_in : Option (Option Taker) → Option Taker
 taker_in None = None
 taker_in (Some taker) = taker
 
+-- what takes the message at a place
 abbrev pub taker_at : Takings → ℕ → Option Taker
 taker_at t place = taker_in (slice_get t.takers place)

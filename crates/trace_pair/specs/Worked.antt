@@ -9,6 +9,7 @@ use Rattle.mpi_model.specs.declared.message.Trust.TheVariants.{Sure, Doubtful, V
 use Rattle.trace_pair.specs.declared.pair.Pair.{Pair}
 use Rattle.trace_pair.specs.Table.{Table, table_with}
 
+-- a call of a rank
 abbrev op : ℕ → ℕ → OpName
 op rank call = record { rank = rank; call = call }
 
@@ -16,12 +17,15 @@ op rank call = record { rank = rank; call = call }
 abbrev sends : ℕ → ℕ → ℕ → ℕ → Message
 sends rank call to tag = record { name = op rank call; comm = 2; from = rank; to = to; tag = tag; mode = Standard; trust = Sure; count = 1; datatype = pos 11 }
 
+-- a receive on communicator 2, of a source or any, of a tag or any
 abbrev receives : ℕ → ℕ → Option ℕ → Option ℕ → Receive
 receives rank call source tag = record { name = op rank call; comm = 2; at = rank; source = source; tag = tag; count = 1; trust = Sure; datatype = pos 11 }
 
+-- a pair, by the message's call and the receive's
 abbrev pair : ℕ → ℕ → ℕ → ℕ → Pair
 pair rank call at by = record { message = op rank call; receive = op at by; over = false }
 
+-- a table of these pairs and postponed messages
 abbrev table : List Pair → List OpName → Table
 table pairs postponed = record { pairs = pairs; postponed = postponed }
 
@@ -76,6 +80,7 @@ TwoCommunicators = table_with (sends 0 0 1 7 ∷ (record (sends 0 1 1 7) { comm 
 abbrev left : ℕ → ℕ → ℕ → Trust → Message
 left rank call to trust = record (sends rank call to 7) { trust = trust }
 
+-- a receive of tag 7, sure or not
 abbrev posted : ℕ → ℕ → Option ℕ → Trust → Receive
 posted rank call source trust = record (receives rank call source (Some 7)) { trust = trust }
 

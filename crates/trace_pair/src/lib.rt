@@ -20,7 +20,7 @@
 //!   and the other end of each
 //! - [`one_or_many`]: a set that has no tree of its own while it has one member; [`groups`],
 //!   [`queues`]: sets of calls, found by a few probes of an ordered map; [`couples`]: the pairs by
-//!   either name
+//!   either name; [`slots`]: flat lists of values by such names
 //! - [`matched`]: the sets of an index, as one call comes or goes; [`follow`]: as a rank's calls do;
 //!   [`together`]: as those of all ranks come
 //! - [`index`]: the index

@@ -127,6 +127,7 @@ fn taken_by(state: &Matched, q: &Receive) -> Option<Message>
     Some(m)
 }
 
+/// Adds a rank's next message: it goes to the first receive that the rules allow, or waits.
 fn push_message(state: &mut Matched, m: Message) -> Result<(), AllocError>
     ensures { OnOk result ((ms more : List Message) (qs : List Receive) → AddsMessage ms more m → Indexes ms qs state.old → Indexes more qs state.new) }
 {
@@ -146,6 +147,7 @@ fn push_message(state: &mut Matched, m: Message) -> Result<(), AllocError>
     Ok(())
 }
 
+/// Adds a rank's next receive: it takes the first message that the rules allow, or waits.
 fn push_receive(state: &mut Matched, q: Receive) -> Result<(), AllocError>
     ensures { OnOk result ((ms : List Message) (qs more : List Receive) → AddsReceive qs more q → Indexes ms qs state.old → Indexes ms more state.new) }
 {
@@ -169,6 +171,7 @@ fn push_receive(state: &mut Matched, q: Receive) -> Result<(), AllocError>
     Ok(())
 }
 
+/// Takes a rank's last message back, with what it had taken.
 pub(crate) fn pop_message(state: &mut Matched, m: &Message) -> Result<(), AllocError>
     ensures { OnOk result ((ms more : List Message) (qs : List Receive) → AddsMessage ms more m.now → Indexes more qs state.old → Indexes ms qs state.new) }
 {
@@ -186,6 +189,7 @@ pub(crate) fn pop_message(state: &mut Matched, m: &Message) -> Result<(), AllocE
     Ok(())
 }
 
+/// Takes a rank's last receive back, with what it had taken.
 pub(crate) fn pop_receive(state: &mut Matched, q: &Receive) -> Result<(), AllocError>
     ensures { OnOk result ((ms : List Message) (qs more : List Receive) → AddsReceive qs more q.now → Indexes ms more state.old → Indexes ms qs state.new) }
 {

@@ -6,6 +6,7 @@ use Rattle.trace_report.specs.declared.form.Form.TheVariants.{Lines, Json}
 use Rattle.trace_report.specs.Report.{report_text}
 use Rattle.trace_report.specs.Json.{json_text}
 
+-- the report in a form
 abbrev pub text_in : Form → Answered → List ℕ
 text_in Lines answer = report_text answer
 text_in Json answer = json_text answer

@@ -1,7 +1,7 @@
 -- The report of an answer as one JSON object: a key for each kind of line, and a function for each object.
 use Rattle.std.specs.Prelude.{ℕ, zero, suc, Bool, false, Option, Some, None, List, [], ◌∷◌, ◌++◌, codes, decimal, if◌then◌else◌, slice_get, unwrap_or}
 use Rattle.std.specs.List.{flat_map}
-use Rattle.mpi_model.specs.declared.collective.Kind.{Kind}
+use Rattle.mpi_model.specs.declared.kind.CollectiveFunction.{CollectiveFunction}
 use Rattle.mpi_model.specs.declared.event.OpName.{OpName}
 use Rattle.trace_ops.specs.declared.state.State.{State}
 use Rattle.trace_ops.specs.declared.state.State.TheVariants.{Ended}
@@ -12,11 +12,13 @@ use Rattle.trace_wait.specs.declared.round.Standing.TheVariants.{Mismatched, Com
 use Rattle.trace_node.specs.Answer.{Answered, Stopped}
 use Rattle.trace_report.specs.Seconds.{seconds_text}
 use Rattle.trace_report.specs.Waits.{wait_text, of_json}
-use Rattle.trace_report.specs.Words.{kind_word, sends_word, state_word}
+use Rattle.trace_report.specs.Words.{function_word, sends_word, state_word}
 
+-- true or false
 abbrev pub bool_text : Bool → List ℕ
 bool_text b = if b then codes "true" else codes "false"
 
+-- the comma in front of an item, but for the first
 abbrev pub comma_before : ℕ → List ℕ
 comma_before zero = []
 comma_before (suc i) = codes ","
@@ -35,6 +37,7 @@ abbrev pub rank_fields : ℕ → ℕ → State → Bool → Bool → List ℕ
 rank_fields rank prefix state beyond unread = codes "{\"rank\":" ++ decimal rank ++ codes ",\"prefix\":" ++ decimal prefix
     ++ codes ",\"state\":\"" ++ state_word state ++ codes "\",\"beyond\":" ++ bool_text beyond ++ codes ",\"unread\":" ++ bool_text unread ++ codes "}"
 
+-- the object of a rank
 abbrev pub rank_object : Answered → ℕ → List ℕ
 rank_object a rank = rank_fields rank (unwrap_or (slice_get a.prefixes rank) 0) (unwrap_or (slice_get a.states rank) Ended)
     (unwrap_or (slice_get a.beyond rank) false) (unwrap_or (slice_get a.unread rank) false)
@@ -58,21 +61,21 @@ abbrev pub root_value : Option ℕ → List ℕ
 root_value (Some root) = decimal root
 root_value None = codes "null"
 
-abbrev pub kind_fields : Kind → Option ℕ → List ℕ
-kind_fields kind root = codes ",\"kind\":\"" ++ kind_word kind ++ codes "\",\"root\":" ++ root_value root
+abbrev pub called_fields : CollectiveFunction → Option ℕ → List ℕ
+called_fields function root = codes ",\"kind\":\"" ++ function_word function ++ codes "\",\"root\":" ++ root_value root
 
-abbrev pub complete_fields : Kind → Option ℕ → List ℕ
-complete_fields kind root = codes "complete\"" ++ kind_fields kind root
+abbrev pub complete_fields : CollectiveFunction → Option ℕ → List ℕ
+complete_fields function root = codes "complete\"" ++ called_fields function root
 
-abbrev pub open_fields : Kind → Option ℕ → ℕ → ℕ → List ℕ
-open_fields kind root entered members = codes "open\"" ++ kind_fields kind root
+abbrev pub open_fields : CollectiveFunction → Option ℕ → ℕ → ℕ → List ℕ
+open_fields function root entered members = codes "open\"" ++ called_fields function root
     ++ codes ",\"entered\":" ++ decimal entered ++ codes ",\"members\":" ++ decimal members
 
--- how a round stands: its kind and root where the members agree, and how many of them have entered where not all have
+-- how a round stands: its function and root where the members agree, and how many of them have entered where not all have
 abbrev pub standing_fields : Standing → List ℕ
 standing_fields Mismatched = codes "mismatched\""
-standing_fields (Complete kind root) = complete_fields kind root
-standing_fields (Partial kind root entered members) = open_fields kind root entered members
+standing_fields (Complete function root) = complete_fields function root
+standing_fields (Partial function root entered members) = open_fields function root entered members
 
 -- a round: `{"comm":C,"k":K,"standing":"complete","kind":"bcast","root":0}`
 abbrev pub round_object : Round → List ℕ

@@ -10,6 +10,7 @@ pub record Outlet : Type 0 where
   pub failures : ℕ
   pub other : Side
 
+-- what a device has taken, how often it has failed, and its reading side
 abbrev pub outlet : Option (List ℕ) → ℕ → Side → Outlet
 outlet bytes failures other = record { bytes = bytes; failures = failures; other = other }
 

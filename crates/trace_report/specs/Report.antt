@@ -1,7 +1,7 @@
 -- The report of an answer: a function for each of its lines, and the lines in their order.
 use Rattle.std.specs.Prelude.{ℕ, zero, suc, Bool, false, Option, Some, None, List, [], ◌∷◌, ◌++◌, codes, decimal, slice_get, unwrap_or}
 use Rattle.std.specs.List.{flat_map}
-use Rattle.mpi_model.specs.declared.collective.Kind.{Kind}
+use Rattle.mpi_model.specs.declared.kind.CollectiveFunction.{CollectiveFunction}
 use Rattle.mpi_model.specs.declared.event.OpName.{OpName}
 use Rattle.trace_ops.specs.declared.state.State.{State}
 use Rattle.trace_ops.specs.declared.state.State.TheVariants.{Ended}
@@ -12,7 +12,7 @@ use Rattle.trace_wait.specs.declared.round.Standing.TheVariants.{Mismatched, Com
 use Rattle.trace_node.specs.Answer.{Answered, Stopped}
 use Rattle.trace_report.specs.Seconds.{seconds_text}
 use Rattle.trace_report.specs.Waits.{wait_text, of_lines}
-use Rattle.trace_report.specs.Words.{kind_word, sends_word, state_word, where_so}
+use Rattle.trace_report.specs.Words.{function_word, sends_word, state_word, where_so}
 
 -- `mpimatch report 1`, and `ranks N sends wait`
 abbrev pub head_lines : Answered → List ℕ
@@ -61,23 +61,23 @@ abbrev pub root_text : Option ℕ → List ℕ
 root_text (Some root) = codes " " ++ decimal root
 root_text None = []
 
--- `bcast 0`, `barrier`
-abbrev pub kind_text : Kind → Option ℕ → List ℕ
-kind_text kind root = kind_word kind ++ root_text root
+-- `bcast 0`, `ibcast 0`, `barrier`
+abbrev pub called_text : CollectiveFunction → Option ℕ → List ℕ
+called_text function root = function_word function ++ root_text root
 
 -- `bcast 0 complete`
-abbrev pub complete_text : Kind → Option ℕ → List ℕ
-complete_text kind root = kind_text kind root ++ codes " complete"
+abbrev pub complete_text : CollectiveFunction → Option ℕ → List ℕ
+complete_text function root = called_text function root ++ codes " complete"
 
 -- `barrier open E of M`: so many of all members have entered
-abbrev pub open_text : Kind → Option ℕ → ℕ → ℕ → List ℕ
-open_text kind root entered members = kind_text kind root ++ codes " open " ++ decimal entered ++ codes " of " ++ decimal members
+abbrev pub open_text : CollectiveFunction → Option ℕ → ℕ → ℕ → List ℕ
+open_text function root entered members = called_text function root ++ codes " open " ++ decimal entered ++ codes " of " ++ decimal members
 
 -- how a round stands
 abbrev pub standing_text : Standing → List ℕ
 standing_text Mismatched = codes "mismatched"
-standing_text (Complete kind root) = complete_text kind root
-standing_text (Partial kind root entered members) = open_text kind root entered members
+standing_text (Complete function root) = complete_text function root
+standing_text (Partial function root entered members) = open_text function root entered members
 
 -- `round COMM:K` and how it stands
 abbrev pub round_line : Round → List ℕ

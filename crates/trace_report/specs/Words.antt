@@ -1,7 +1,7 @@
 -- The words of a report.
-use Rattle.std.specs.Prelude.{Bool, List, [], ℕ, codes, if◌then◌else◌}
-use Rattle.mpi_model.specs.declared.collective.Kind.{Kind}
-use Rattle.mpi_model.specs.declared.collective.Kind.TheVariants.{Barrier, Bcast, Scatter, Gather, Reduce, Allreduce, Allgather, Alltoall, Ibarrier}
+use Rattle.std.specs.Prelude.{Bool, List, [], ◌++◌, ℕ, codes, if◌then◌else◌}
+use Rattle.mpi_model.specs.Kinds.{row}
+use Rattle.mpi_model.specs.declared.kind.CollectiveFunction.{CollectiveFunction}
 use Rattle.mpi_model.specs.declared.layout.Sends.{Sends}
 use Rattle.mpi_model.specs.declared.layout.Sends.TheVariants.{Wait, Buffer}
 use Rattle.trace_ops.specs.declared.state.State.{State}
@@ -18,18 +18,10 @@ state_word Free = codes "free"
 state_word Waiting = codes "waiting"
 state_word Ended = codes "ended"
 
--- a kind of collective call
-abbrev pub kind_word : Kind → List ℕ
-kind_word Barrier = codes "barrier"
-kind_word Bcast = codes "bcast"
-kind_word Scatter = codes "scatter"
-kind_word Gather = codes "gather"
-kind_word Reduce = codes "reduce"
-kind_word Allreduce = codes "allreduce"
-kind_word Allgather = codes "allgather"
-kind_word Alltoall = codes "alltoall"
-kind_word Ibarrier = codes "ibarrier"
-
 -- a word that stands only where it applies
 abbrev pub where_so : Bool → List ℕ → List ℕ
 where_so applies word = if applies then word else []
+
+-- a collective function: the word of its kind, behind an `i` where it is nonblocking, as `bcast` and `ibcast`
+abbrev pub function_word : CollectiveFunction → List ℕ
+function_word f = where_so f.nonblocking (codes "i") ++ (row f.kind).word

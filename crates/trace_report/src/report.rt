@@ -53,6 +53,7 @@ pub fn write_json<W: Write>(answer: &Answer, writer: &mut W) -> Result<u64, Repo
     write_as(Form::Json, answer, writer)
 }
 
+/// Writes the report in a form, through a page.
 fn write_as<W: Write>(form: Form, answer: &Answer, writer: &mut W) -> Result<u64, ReportFault>
     ensures ok { OnOk result (Appends (W.written writer.old) (W.written writer.new) (text_in form answer.now)) }
     ensures length { IfOk result (λ n. n ≡ capped (length (text_in form answer.now))) }
@@ -68,7 +69,7 @@ fn write_as<W: Write>(form: Form, answer: &Answer, writer: &mut W) -> Result<u64
     }
 }
 
-// Prints the report, and answers how many bytes the device took, and whether a write failed.
+/// Prints the report, and answers how many bytes the device took, and whether a write failed.
 fn print<W: Write>(form: Form, answer: &Answer, writer: &mut W) -> (u64, bool)
     ensures { Prints (opening (outlet (W.written writer.old) (W.failures writer.old) (W.read_side writer.old))) (closing (outlet (W.written writer.new) (W.failures writer.new) (W.read_side writer.new)) result.0 result.1) (text_in form answer.now) }
 {
@@ -86,6 +87,7 @@ fn print<W: Write>(form: Form, answer: &Answer, writer: &mut W) -> (u64, bool)
     (out.direct.written, out.direct.failed)
 }
 
+/// Puts the report in a form.
 fn put_form<S: Sink>(out: &mut S, form: Form, answer: &Answer)
     ensures { Prints (S.page out.old) (S.page out.new) (text_in form answer.now) }
 {

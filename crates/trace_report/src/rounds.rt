@@ -3,11 +3,11 @@
 ghost use Rattle.std.specs.Prelude.{◌++◌, codes, decimal};
 ghost use Rattle.std.specs.List.{flat_map};
 ghost use Rattle.trace_report.specs.Page.{Prints};
-ghost use Rattle.trace_report.specs.Report.{complete_text, kind_text, open_text, root_text, round_line, standing_text};
+ghost use Rattle.trace_report.specs.Report.{called_text, complete_text, open_text, root_text, round_line, standing_text};
 
 use crate::sink::Sink;
-use crate::words::{kind_word, put_number};
-use mpi_model::Kind;
+use crate::words::{put_function, put_number};
+use mpi_model::CollectiveFunction;
 use trace_wait::{Round, Standing};
 
 #[tactic(auto, using(crate::proofs::Printing::nothing))]
@@ -36,34 +36,40 @@ fn put_standing<S: Sink>(out: &mut S, standing: Standing)
 {
     match standing {
         Standing::Mismatched => out.put(b"mismatched"),
-        Standing::Complete(kind, root) => put_complete(out, kind, root),
-        Standing::Partial(kind, root, entered, members) => {
-            put_open(out, kind, root, entered, members)
+        Standing::Complete(function, root) => put_complete(out, function, root),
+        Standing::Partial(function, root, entered, members) => {
+            put_open(out, function, root, entered, members)
         }
     }
 }
 
-fn put_complete<S: Sink>(out: &mut S, kind: Kind, root: Option<u32>)
-    ensures { Prints (S.page out.old) (S.page out.new) (complete_text kind root) }
+fn put_complete<S: Sink>(out: &mut S, function: CollectiveFunction, root: Option<u32>)
+    ensures { Prints (S.page out.old) (S.page out.new) (complete_text function root) }
 {
-    put_kind(out, kind, root);
+    put_called(out, function, root);
     out.put(b" complete");
 }
 
-fn put_open<S: Sink>(out: &mut S, kind: Kind, root: Option<u32>, entered: u32, members: u32)
-    ensures { Prints (S.page out.old) (S.page out.new) (open_text kind root entered members) }
+fn put_open<S: Sink>(
+    out: &mut S,
+    function: CollectiveFunction,
+    root: Option<u32>,
+    entered: u32,
+    members: u32,
+)
+    ensures { Prints (S.page out.old) (S.page out.new) (open_text function root entered members) }
 {
-    put_kind(out, kind, root);
+    put_called(out, function, root);
     out.put(b" open ");
     put_number(out, entered as u64);
     out.put(b" of ");
     put_number(out, members as u64);
 }
 
-fn put_kind<S: Sink>(out: &mut S, kind: Kind, root: Option<u32>)
-    ensures { Prints (S.page out.old) (S.page out.new) (kind_text kind root) }
+fn put_called<S: Sink>(out: &mut S, function: CollectiveFunction, root: Option<u32>)
+    ensures { Prints (S.page out.old) (S.page out.new) (called_text function root) }
 {
-    out.put(kind_word(kind));
+    put_function(out, function);
     put_root(out, root);
 }
 

@@ -25,6 +25,7 @@ pub(crate) fn put_wait<S: Sink>(out: &mut S, form: Form, condition: &Condition)
     }
 }
 
+/// All of, or one of, these parts, behind its head.
 #[cycle(wait)]
 fn put_list<S: Sink>(out: &mut S, form: Form, head: &[u8], parts: &[Condition])
     ensures { Prints (S.page out.old) (S.page out.new) (head.now ++ parts_text (words_of form) (waits_of (map shape parts.now)) ++ (words_of form).close) }
@@ -51,6 +52,7 @@ fn put_part<S: Sink>(out: &mut S, form: Form, i: usize, part: &Condition)
     put_wait(out, form, part);
 }
 
+/// The same of parts that are plain ranks.
 fn put_rank_list<S: Sink>(out: &mut S, form: Form, head: &[u8], ranks: &[u32])
     ensures { Prints (S.page out.old) (S.page out.new) (head.now ++ parts_text (words_of form) (waits_of (map OnRank ranks.now)) ++ (words_of form).close) }
 {

@@ -2,11 +2,11 @@
 
 ghost use Rattle.std.specs.Prelude.{◌≡◌, decimal};
 ghost use Rattle.trace_report.specs.Page.{Prints};
-ghost use Rattle.trace_report.specs.Words.{kind_word, sends_word, state_word, where_so};
+ghost use Rattle.trace_report.specs.Words.{function_word, sends_word, state_word, where_so};
 
 use crate::sink::Sink;
 use itoa::Buffer;
-use mpi_model::{Kind, Sends};
+use mpi_model::{CollectiveFunction, Sends};
 use trace_ops::State;
 
 pub(crate) fn put_number<S: Sink>(out: &mut S, n: u64)
@@ -42,18 +42,10 @@ pub(crate) fn state_word(state: State) -> &'static [u8]
     }
 }
 
-pub(crate) fn kind_word(kind: Kind) -> &'static [u8]
-    ensures { result.now ≡ kind_word kind }
+/// The word of a kind, behind an `i` where the function is nonblocking: `bcast`, or `ibcast`.
+pub(crate) fn put_function<S: Sink>(out: &mut S, function: CollectiveFunction)
+    ensures { Prints (S.page out.old) (S.page out.new) (function_word function) }
 {
-    match kind {
-        Kind::Barrier => b"barrier",
-        Kind::Bcast => b"bcast",
-        Kind::Scatter => b"scatter",
-        Kind::Gather => b"gather",
-        Kind::Reduce => b"reduce",
-        Kind::Allreduce => b"allreduce",
-        Kind::Allgather => b"allgather",
-        Kind::Alltoall => b"alltoall",
-        Kind::Ibarrier => b"ibarrier",
-    }
+    put_where(out, function.nonblocking, b"i");
+    out.put(function.kind.row().word);
 }

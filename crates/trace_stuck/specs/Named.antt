@@ -42,6 +42,7 @@ pub record NotesAll (before after : List (Vec ℕ Global)) (ranks : List ℕ) (r
   pub kept : (t x : ℕ) → among (at_rank before t) x ≡ true → among (at_rank after t) x ≡ true
   pub noted : (s : ℕ) → s < length before → among ranks s ≡ true → among (at_rank after s) r ≡ true
 
+-- the rank r was noted at the rank s
 abbrev pub Asks : List (Vec ℕ Global) → List (Vec ℕ Global) → ℕ → ℕ → Type 0
 Asks before after s r = NotesAll before after (s ∷ []) r
 

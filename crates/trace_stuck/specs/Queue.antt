@@ -34,6 +34,7 @@ abbrev pub TriedAs : Bool → ℕ → List Bool → List ℕ → List Bool → L
 TriedAs true r able release able_after release_after = (able_after ≡ set able r true) × (release_after ≡ release ++ r ∷ [])
 TriedAs false r able release able_after release_after = (able_after ≡ able) × (release_after ≡ release)
 
+-- what a try of the rank leaves
 abbrev pub Tried : List State → List (Option Condition) → ℕ → List Bool → List ℕ → List Bool → List ℕ → Type 0
 Tried states conditions r able release able_after release_after = TriedAs (is_next states conditions able r) r able release able_after release_after
 

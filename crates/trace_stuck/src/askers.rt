@@ -17,6 +17,7 @@ fn is_last_noted(askers: &[Vec<u32>], s: u32, r: u32) -> bool
     count > 0 && noted[count - 1] == r
 }
 
+/// Notes that the rank r asks for s.
 fn push_asker(askers: &mut [Vec<u32>], s: u32, r: u32) -> Result<(), AllocError>
     ensures { OnOk result (Asks askers.old askers.new s r) }
 {
@@ -39,6 +40,7 @@ fn note(askers: &mut [Vec<u32>], s: u32, r: u32) -> Result<(), AllocError>
     }
 }
 
+/// Notes that the rank r asks for each of these ranks.
 fn note_all(askers: &mut [Vec<u32>], ranks: &[u32], r: u32) -> Result<(), AllocError>
     ensures { OnOk result (NotesAll askers.old askers.new ranks.now r) }
 {
@@ -63,6 +65,7 @@ fn note_named(askers: &mut [Vec<u32>], condition: &Condition, r: u32) -> Result<
     }
 }
 
+/// Notes that the rank r asks for each rank that these parts name.
 #[cycle(names)]
 fn note_each_named(askers: &mut [Vec<u32>], parts: &[Condition], r: u32) -> Result<(), AllocError>
     ensures { OnOk result (NotesAll askers.old askers.new (flat_map named parts.now) r) }
@@ -87,6 +90,7 @@ fn note_names(
     }
 }
 
+/// So many ranks for which nobody asks.
 fn no_askers(alloc: Global, count: usize) -> Result<Vec<Vec<u32>>, AllocError>
     ensures { IfOk result (λ a. vec_len a ≡ count) }
 {

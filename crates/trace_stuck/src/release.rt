@@ -15,6 +15,7 @@ use crate::state::is_rank_waiting;
 use std::alloc::{AllocError, Global};
 use trace_ops::State;
 
+/// Which ranks are free.
 fn free_flags(alloc: Global, states: &[State]) -> Result<Vec<bool>, AllocError>
     ensures flags { IfOk result (λ flags. (r : ℕ) → flag flags.items r ≡ is_free states.now r) }
     ensures len { IfOk result (λ flags. vec_len flags ≡ length states.now) }
@@ -26,6 +27,7 @@ fn free_flags(alloc: Global, states: &[State]) -> Result<Vec<bool>, AllocError>
     Ok(flags)
 }
 
+/// Whether a rank waits, was not released, and may go on.
 fn is_rank_next(states: &[State], conditions: &[Option<Condition>], able: &[bool], r: usize) -> bool
     ensures { result ≡ is_next states.now conditions.now able.now r }
 {

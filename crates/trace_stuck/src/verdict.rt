@@ -37,6 +37,7 @@ fn flags_of(alloc: Global, count: usize, ranks: &[u32]) -> Result<Vec<bool>, All
     Ok(flags)
 }
 
+/// Raises the flags of these ranks.
 fn raise(flags: &mut [bool], ranks: &[u32])
     ensures { (r : ℕ) → r < length flags.old → flag flags.new r ≡ (flag flags.old r || among ranks.now r) }
 {
@@ -48,6 +49,7 @@ fn raise(flags: &mut [bool], ranks: &[u32])
     }
 }
 
+/// Whether a rank waits and is in no list.
 fn is_rank_left(states: &[State], listed: &[bool], r: usize) -> bool
     ensures { result ≡ (is_waiting states.now r && not (flag listed.now r)) }
 {

@@ -1,6 +1,6 @@
 -- Rounds that are gathered row by row are those of the columns.
 use Rattle.std.proofs.Common.{◌≡◌, ℕ, zero, suc, ◌+◌, ◌-◌, ◌^◌, ◌<◌, ◌≤◌, Bool, true, false, ◌&&◌, List, [], ◌∷◌, ◌++◌, take, get_or, set, refl, sym, ◌∙◌, ap, subst, arith, length, append-nil, append_assoc, Option, Some, None, min, max, length-append, ◌||◌, ◌⊎◌, inl, inr, ⊎_elim}
-use Rattle.std.specs.Prelude.{slice_get, ◌==◌, eqb, All}
+use Rattle.std.specs.Prelude.{slice_get, eqb, All}
 use Rattle.std.specs.List.{filter_map, flat_map, list_all, list_any, fold, range_with_len, cons_option}
 use Rattle.std.specs.Option.{option_map}
 use Rattle.std.proofs.lemmas.List.Folds.{list_all-append, fold-map}
@@ -9,14 +9,13 @@ use Rattle.std.proofs.lemmas.Map.Steps.{length-le_from_distinct_below}
 use Rattle.std.proofs.lemmas.Bool.Decides.{nat_tests}
 use Rattle.mpi_model.specs.Layouts.{IsGroup}
 use Rattle.mpi_model.specs.Communicators.{Communicator}
-use Rattle.mpi_model.specs.Ranges.{kind_number}
 use Rattle.trace_ops.specs.declared.entered.Entered.{Entered}
 use Rattle.trace_wait.specs.declared.round.Round.{Round}
 use Rattle.trace_wait.specs.declared.round.Standing.{Standing}
 use Rattle.trace_wait.specs.declared.tally.Tally.{Tally}
 use Rattle.trace_ops.specs.Ops.{Ops}
 use Rattle.trace_wait.specs.Ranks.{ops_of}
-use Rattle.trace_wait.specs.Rounds.{same_root, alike, on_comm, rows, column, round_of, depth, rounds_on, group}
+use Rattle.trace_wait.specs.Rounds.{same_function, same_root, alike, on_comm, rows, column, round_of, depth, rounds_on, group}
 use Rattle.trace_wait.specs.Tallies.{start, add, put, merged, tallied, stands, rounds_from}
 
 -- one call more at the end of the row
@@ -44,7 +43,7 @@ put_push (t ∷ ts) (suc k) e h = ap (λ (l : List Tally). t ∷ l) (put_push ts
 -- the tally of a round that these have entered
 abbrev tally_of : List Entered → Option Tally
 tally_of [] = None
-tally_of (e ∷ es) = Some (record { kind = e.kind; root = e.root; is_alike = list_all (alike e) es; entered = min (length es + 1) (2 ^ 32 - 1) })
+tally_of (e ∷ es) = Some (record { function = e.function; root = e.root; is_alike = list_all (alike e) es; entered = min (length es + 1) (2 ^ 32 - 1) })
 
 abbrev added : Option Tally → Option Entered → Option Tally
 added t None = t
@@ -69,7 +68,7 @@ and_more true false c = refl
 and_more false b c = refl
 
 abbrev made : Entered → Bool → ℕ → Option Tally
-made e b n = Some (record { kind = e.kind; root = e.root; is_alike = b; entered = n })
+made e b n = Some (record { function = e.function; root = e.root; is_alike = b; entered = n })
 
 counted_more : (n m : ℕ) → m ≡ n + 1 → min (min (n + 1) (2 ^ 32 - 1) + 1) (2 ^ 32 - 1) ≡ min (m + 1) (2 ^ 32 - 1)
 counted_more n m e = omega arith
@@ -80,7 +79,7 @@ tally_push xs None = added_none (tally_of xs) ∙ ap tally_of (sym (append-nil x
 tally_push [] (Some e) = refl
 tally_push (x ∷ xs) (Some e) =
     ap (λ b. made x b (min (min (length xs + 1) (2 ^ 32 - 1) + 1) (2 ^ 32 - 1)))
-    (and_more (list_all (alike x) xs) (kind_number x.kind == kind_number e.kind) (same_root x.root e.root) ∙ sym (list_all-append (alike x) xs (e ∷ [])))
+    (and_more (list_all (alike x) xs) (same_function x.function e.function) (same_root x.root e.root) ∙ sym (list_all-append (alike x) xs (e ∷ [])))
     ∙ ap (λ n. made x (list_all (alike x) (xs ++ e ∷ [])) n) (counted_more (length xs) (length (xs ++ e ∷ [])) (length-append xs (e ∷ [])))
 
 regroup : (xs : List Entered) (o : Option Entered) (rest : List Entered) → (xs ++ cons_option o []) ++ rest ≡ xs ++ cons_option o rest
@@ -120,9 +119,9 @@ column_short (row ∷ calls) k = let rest = column_short calls k in omega (arith
 stands_at : (c members k : ℕ) (xs : List Entered) (t : Tally) → Some t ≡ tally_of xs → length xs < 2 ^ 32 → round_of c members k xs ≡ Some (record { comm = c; k = k; standing = stands members t })
 stands_at c members k [] t h lt = absurd (cc)
 stands_at c members k (e ∷ es) t h lt =
-    let u : t ≡ record { kind = e.kind; root = e.root; is_alike = list_all (alike e) es; entered = min (length es + 1) (2 ^ 32 - 1) } = cc in
+    let u : t ≡ record { function = e.function; root = e.root; is_alike = list_all (alike e) es; entered = min (length es + 1) (2 ^ 32 - 1) } = cc in
     let n : length es + 1 ≡ min (length es + 1) (2 ^ 32 - 1) = omega (arith, lt) in
-    ap (λ (w : ℕ). Some (record { comm = c; k = k; standing = stands members (record { kind = e.kind; root = e.root; is_alike = list_all (alike e) es; entered = w }) })) n
+    ap (λ (w : ℕ). Some (record { comm = c; k = k; standing = stands members (record { function = e.function; root = e.root; is_alike = list_all (alike e) es; entered = w }) })) n
     ∙ ap (λ (w : Tally). Some (record { comm = c; k = k; standing = stands members w })) (sym u)
 
 emitted : (c members : ℕ) (col : ℕ → List Entered) → ((k : ℕ) → length (col k) < 2 ^ 32) → (first : ℕ) (ts : List Tally) → ((j : ℕ) → slice_get ts j ≡ tally_of (col (first + j))) →

@@ -1,14 +1,15 @@
 -- One element more, at the end of a list.
-use Rattle.std.proofs.Common.{◌≡◌, ℕ, ◌+◌, ◌<◌, Bool, true, false, List, [], ◌∷◌, ◌++◌, map, take, get_or, refl, sym, ◌∙◌, ap, arith, length, ℤ, zero, suc}
-use Rattle.std.specs.Prelude.{filter, not, nat_lt, slice_index, if◌then◌else◌, Option}
+use Rattle.std.proofs.Common.{◌≡◌, ℕ, ◌+◌, ◌<◌, ◌≤◌, eq-eqb, Bool, true, false, List, [], ◌∷◌, ◌++◌, map, take, get_or, refl, sym, ◌∙◌, ap, arith, length, ℤ, zero, suc}
+use Rattle.std.specs.Prelude.{◌==◌, not, nat_lt, slice_index, if◌then◌else◌, Option}
 use Rattle.std.specs.Option.{option_map}
+use Rattle.std.proofs.lemmas.Bool.Decides.{nat_tests}
 use Rattle.std.proofs.lemmas.List.{take_more}
 use Rattle.std.proofs.lemmas.List.Elements.{filter_map-append, filter-append}
 use Rattle.trace_stuck.specs.declared.condition.Condition.{Condition}
 use Rattle.trace_stuck.specs.Shape.{Wait, shape}
 use Rattle.trace_ops.specs.Ops.{Ops}
 use Rattle.trace_wait.specs.Parts.{Run}
-use Rattle.trace_wait.specs.Collectives.{has_entered}
+use Rattle.trace_wait.specs.Collectives.{has_entered, missing, lower}
 use Rattle.trace_wait.specs.Requests.{post_part, posted_by, requests, choice, choices}
 use Rattle.trace_wait.specs.Conditions.{condition_of, conditions_from}
 use Rattle.trace_wait.specs.Calls.{calls_of}
@@ -43,10 +44,7 @@ conditions_step s ops r o out c lt e h k =
 
 -- one member more that has entered the round, or has not
 module _ (s : Run) (c k : ℕ) where
-  abbrev pub missing_of : List ℕ → List ℕ
-  missing_of members = filter (λ r. not (has_entered s c k r)) members
-
-  missing_one : (r : ℕ) (b : Bool) → has_entered s c k r ≡ b → missing_of (r ∷ []) ≡ (if b then [] else r ∷ [])
+  missing_one : (r : ℕ) (b : Bool) → has_entered s c k r ≡ b → missing s c k (r ∷ []) ≡ (if b then [] else r ∷ [])
   missing_one r b h = one (has_entered s c k r) b h
     where
       one : (a b : Bool) → a ≡ b → (if not a then r ∷ [] else []) ≡ (if b then [] else r ∷ [])
@@ -56,8 +54,28 @@ module _ (s : Run) (c k : ℕ) where
       one false true h = absurd (cc)
 
   pub missing_more : (members : List ℕ) (i r : ℕ) (b : Bool) → i < length members → r ≡ get_or members i 0 → b ≡ nat_lt k (slice_index (map (calls_of s.ops c) members) i) →
-      missing_of (take (i + 1) members) ≡ missing_of (take i members) ++ (if b then [] else r ∷ [])
+      missing s c k (take (i + 1) members) ≡ missing s c k (take i members) ++ (if b then [] else r ∷ [])
   missing_more members i r b lt e h =
       let n : has_entered s c k (get_or members i 0) ≡ b = ap (nat_lt k) (sym (count_at s.ops c members i 0 lt)) ∙ sym h in
-      ap missing_of (take_more members i 0 lt) ∙ filter-append (λ r. not (has_entered s c k r)) (take i members) (get_or members i 0 ∷ [])
-      ∙ ap (λ (l : List ℕ). missing_of (take i members) ++ l) (missing_one (get_or members i 0) b n ∙ ap (λ (m : ℕ). if b then [] else m ∷ []) (sym e))
+      ap (missing s c k) (take_more members i 0 lt) ∙ filter-append (λ r. not (has_entered s c k r)) (take i members) (get_or members i 0 ∷ [])
+      ∙ ap (λ (l : List ℕ). missing s c k (take i members) ++ l) (missing_one (get_or members i 0) b n ∙ ap (λ (m : ℕ). if b then [] else m ∷ []) (sym e))
+
+-- what is told of a member is told of it among the first of them
+pub front_at : (f : ℕ → ℕ) (xs : List ℕ) (n i : ℕ) → i < n → slice_index (map f xs) i ≡ slice_index (map f (take n xs)) i
+front_at f xs zero i lt = absurd (omega (arith, lt))
+front_at f [] (suc n) i lt = refl
+front_at f (x ∷ xs) (suc n) zero lt = refl
+front_at f (x ∷ xs) (suc n) (suc i) lt = front_at f xs n i (omega (arith, lt))
+
+-- the first members, up to one that is this rank, or all
+pub lower_is : (members : List ℕ) (r i : ℕ) → i ≤ length members → ((k : ℕ) → k < i → get_or members k 0 ≡ r → ⊥) → (i < length members → get_or members i 0 ≡ r) →
+    lower members r ≡ take i members
+lower_is [] r zero le none here = refl
+lower_is [] r (suc i) le none here = refl
+lower_is (m ∷ members) r zero le none here = let e : (m == r) ≡ true = eq-eqb m r (here (omega arith)) in rw e refl
+lower_is (m ∷ members) r (suc i) le none here =
+    let e : (m == r) ≡ false = other m r (none 0 (omega arith)) in
+    rw e (ap (λ (l : List ℕ). m ∷ l) (lower_is members r i (omega (arith, le)) (λ k lt. none (suc k) (omega (arith, lt))) (λ lt. here (omega (arith, lt)))))
+  where
+    other : (a b : ℕ) → (a ≡ b → ⊥) → (a == b) ≡ false
+    other a b h = grind (arith, nat_tests)

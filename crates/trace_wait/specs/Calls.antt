@@ -11,12 +11,15 @@ pub record CallsOn : Type 0 where
   pub comm : ℕ
   pub calls : List ℕ
 
+-- how many collective calls a rank has entered on a communicator
 abbrev pub calls_of : List Ops → ℕ → ℕ → ℕ
 calls_of ops c r = count_by (λ e. e.comm == c) (ops_of ops r).rounds
 
+-- the same of each member, in group order
 abbrev pub counts : List Communicator → List Ops → ℕ → List ℕ
 counts comms ops c = map (calls_of ops c) (group comms c)
 
+-- the same of each communicator
 abbrev pub table : List Communicator → List Ops → List Communicator → List CallsOn
 table comms ops [] = []
 table comms ops (g ∷ gs) = record { comm = g.comm; calls = counts comms ops g.comm } ∷ table comms ops gs

@@ -1,11 +1,13 @@
 -- What a collective call waits for, by the round that it entered (MPI 4.0, 6.1 and 6.12).
-use Rattle.std.specs.Prelude.{ℕ, Bool, true, false, ◌==◌, ◌&&◌, not, nat_lt, Option, Some, None, List, filter, map, slice_get, count_by, if◌then◌else◌}
+use Rattle.std.specs.Prelude.{ℕ, Bool, true, false, ◌==◌, ◌&&◌, not, nat_lt, Option, Some, None, List, [], ◌∷◌, filter, map, slice_get, count_by, if◌then◌else◌}
 use Rattle.std.specs.List.{list_any, find}
 use Rattle.std.specs.Option.{option_and_then}
 use Rattle.mpi_model.specs.declared.layout.Sends.{Sends}
 use Rattle.mpi_model.specs.declared.layout.Sends.TheVariants as sends
-use Rattle.mpi_model.specs.declared.collective.Kind.{Kind}
-use Rattle.mpi_model.specs.declared.collective.Kind.TheVariants.{Barrier, Bcast, Scatter, Gather, Reduce, Allreduce, Allgather, Alltoall, Ibarrier}
+use Rattle.mpi_model.specs.declared.kind.Category.{Category}
+use Rattle.mpi_model.specs.declared.kind.Category.TheVariants.{AllToAll, OneToAll, AllToOne, Scan}
+use Rattle.mpi_model.specs.declared.kind.Kind.{Kind}
+use Rattle.mpi_model.specs.Kinds.{row}
 use Rattle.trace_stuck.specs.Shape as waits
 use Rattle.trace_stuck.specs.Shape.{OnNothing, OnRank, OnAll, waits_of}
 use Rattle.trace_ops.specs.declared.entered.Entered.{Entered}
@@ -20,13 +22,22 @@ use Rattle.trace_wait.specs.Parts.{Run, members}
 abbrev pub has_entered : Run → ℕ → ℕ → ℕ → Bool
 has_entered s c k r = nat_lt k (count_by (λ e. e.comm == c) (ops_of s.ops r).rounds)
 
--- the members that have not entered the round
-abbrev pub missing : Run → ℕ → ℕ → List ℕ
-missing s c k = filter (λ r. not (has_entered s c k r)) (members s c)
+-- those of these members that have not entered the round
+abbrev pub missing : Run → ℕ → ℕ → List ℕ → List ℕ
+missing s c k members = filter (λ r. not (has_entered s c k r)) members
 
--- all of them
+-- all of those
+abbrev pub absent_of : Run → ℕ → ℕ → List ℕ → waits.Wait
+absent_of s c k members = OnAll (waits_of (map OnRank (missing s c k members)))
+
+-- all members that have not entered
 abbrev pub absent : Run → ℕ → ℕ → waits.Wait
-absent s c k = OnAll (waits_of (map OnRank (missing s c k)))
+absent s c k = absent_of s c k (members s c)
+
+-- the members of lower ranks in the group: those that stand before this one
+abbrev pub lower : List ℕ → ℕ → List ℕ
+lower [] r = []
+lower (m ∷ members) r = if m == r then [] else m ∷ lower members r
 
 -- under `wait` the absent members; under `buffer` nothing
 abbrev pub other_side : Run → ℕ → ℕ → waits.Wait
@@ -36,6 +47,15 @@ other_side s c k = by s.layout.sends
     by sends.Wait = absent s c k
     by sends.Buffer = OnNothing
 
+-- In a scan each member takes what those of lower ranks give. Under `wait` the absent members; under `buffer` those of
+-- lower ranks alone.
+abbrev pub scanned : Run → ℕ → ℕ → ℕ → waits.Wait
+scanned s r c k = by s.layout.sends
+  where
+    by : Sends → waits.Wait
+    by sends.Wait = absent s c k
+    by sends.Buffer = absent_of s c k (lower (members s c) r)
+
 -- the root, where it has not entered
 abbrev pub root_first : Run → ℕ → ℕ → ℕ → waits.Wait
 root_first s c k root = if has_entered s c k root then OnNothing else OnRank root
@@ -44,11 +64,11 @@ root_first s c k root = if has_entered s c k root then OnNothing else OnRank roo
 abbrev pub root_rank : Run → Entered → Option ℕ
 root_rank s e = option_and_then (slice_get (members s e.comm)) e.root
 
--- kinds or roots differ
+-- functions or roots differ
 abbrev pub is_mismatch : Standing → Bool
 is_mismatch Mismatched = true
-is_mismatch (Complete kind root) = false
-is_mismatch (Partial kind root entered all) = false
+is_mismatch (Complete function root) = false
+is_mismatch (Partial function root entered all) = false
 
 -- this round is round k of communicator c, and is mismatched
 abbrev pub is_mismatched_at : ℕ → ℕ → Round → Bool
@@ -57,7 +77,7 @@ is_mismatched_at c k r = (r.comm == c) && (r.k == k) && is_mismatch r.standing
 abbrev pub is_mismatched : Run → ℕ → ℕ → Bool
 is_mismatched s c k = list_any (is_mismatched_at c k) s.rounds
 
--- from the root (Bcast, Scatter): the root, and the others
+-- from the root: the root, and the others
 abbrev pub from_root : Run → ℕ → Entered → ℕ → waits.Wait
 from_root s r e k = by (root_rank s e)
   where
@@ -65,7 +85,7 @@ from_root s r e k = by (root_rank s e)
     by None = OnNothing
     by (Some root) = if root == r then other_side s e.comm k else root_first s e.comm k root
 
--- to the root (Reduce, Gather): the root, and the others
+-- to the root: the root, and the others
 abbrev pub to_root : Run → ℕ → Entered → ℕ → waits.Wait
 to_root s r e k = by (root_rank s e)
   where
@@ -73,19 +93,23 @@ to_root s r e k = by (root_rank s e)
     by None = OnNothing
     by (Some root) = if root == r then absent s e.comm k else other_side s e.comm k
 
-abbrev pub by_kind : Run → ℕ → Entered → ℕ → waits.Wait
-by_kind s r e k = of e.kind
+abbrev pub by_category : Run → ℕ → Entered → ℕ → waits.Wait
+by_category s r e k = of (row e.function.kind).category
   where
-    of : Kind → waits.Wait
-    of Barrier = absent s e.comm k
-    of Allreduce = absent s e.comm k
-    of Allgather = absent s e.comm k
-    of Alltoall = absent s e.comm k
-    of Ibarrier = absent s e.comm k
-    of Bcast = from_root s r e k
-    of Scatter = from_root s r e k
-    of Reduce = to_root s r e k
-    of Gather = to_root s r e k
+    of : Category → waits.Wait
+    of AllToAll = absent s e.comm k
+    of OneToAll = from_root s r e k
+    of AllToOne = to_root s r e k
+    of Scan = scanned s r e.comm k
+
+-- Each rank has a count of its own in a call of this kind. It may be 0, and then the rank is owed nothing: so where sends are
+-- buffered, it may go on.
+abbrev pub may_be_owed_nothing : Sends → Kind → Bool
+may_be_owed_nothing sends.Wait kind = false
+may_be_owed_nothing sends.Buffer kind = (row kind).has_counts
+
+abbrev pub by_kind : Run → ℕ → Entered → ℕ → waits.Wait
+by_kind s r e k = if may_be_owed_nothing s.layout.sends e.function.kind then OnNothing else by_category s r e k
 
 -- the number of the round that a call of the rank entered: so many calls of it on the communicator came before
 abbrev pub round_number : Ops → Entered → ℕ

@@ -3,7 +3,7 @@ use Rattle.std.specs.Prelude.{ℕ, ◌+◌, Option, List, [], ◌∷◌}
 use Rattle.std.specs.Option.{option_map}
 use Rattle.mpi_model.specs.declared.call.Call.{Call}
 use Rattle.mpi_model.specs.declared.call.Call.TheVariants as calls
-use Rattle.mpi_model.specs.declared.call.Call.TheVariants.{Local, Finalize, Send, Isend, Recv, Irecv, Sendrecv, Waitall, Waitany, Waitsome, Test, Testall, Testany, Testsome, Cancel, Free, Collective, Probe, Ibarrier, Unread}
+use Rattle.mpi_model.specs.declared.call.Call.TheVariants.{Local, Finalize, Send, Isend, Recv, Irecv, Sendrecv, Waitall, Waitany, Waitsome, Test, Testall, Testany, Testsome, Cancel, Free, Collective, Icollective, Probe, Unread}
 use Rattle.trace_stuck.specs.Shape.{Wait, OnNothing, OnAll, waits_of}
 use Rattle.trace_ops.specs.Ops.{Ops}
 use Rattle.trace_ops.specs.Receive.{probed}
@@ -26,7 +26,7 @@ waits_for s r o n Local = OnNothing
 waits_for s r o n Finalize = OnNothing
 waits_for s r o n (Isend mode e) = OnNothing
 waits_for s r o n (Irecv e) = OnNothing
-waits_for s r o n (Ibarrier c) = OnNothing
+waits_for s r o n (Icollective c) = OnNothing
 waits_for s r o n (Test x) = OnNothing
 waits_for s r o n (Testall xs) = OnNothing
 waits_for s r o n (Testany xs) = OnNothing

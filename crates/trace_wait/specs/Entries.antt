@@ -11,6 +11,7 @@ use Rattle.trace_wait.specs.Rounds.{on_comm}
 abbrev pub Row : Type 0
 Row = BTreeMap ℕ (Vec Entered Global)
 
+-- the entries that are listed, none where there is no list
 abbrev pub items_of : Option (Vec Entered Global) → List Entered
 items_of None = []
 items_of (Some v) = v.items

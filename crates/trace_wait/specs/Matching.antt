@@ -7,9 +7,11 @@ use Rattle.trace_ops.specs.Ops.{Ops}
 use Rattle.trace_pair.specs.declared.pair.Pair.{Pair}
 use Rattle.trace_pair.specs.Table.{taken_by, given_by}
 
+-- the message is in no pair
 abbrev pub is_unpaired_message : List Pair → Message → Bool
 is_unpaired_message pairs m = is_none (taken_by pairs m.name)
 
+-- the receive is in no pair
 abbrev pub is_unpaired_receive : List Pair → Receive → Bool
 is_unpaired_receive pairs q = is_none (given_by pairs q.name)
 

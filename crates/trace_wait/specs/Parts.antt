@@ -41,6 +41,7 @@ is_buffered sends.Wait Ready = false
 abbrev pub may_send : Run → Message → Bool
 may_send s m = is_buffered s.layout.sends m.mode || is_some (taken_by s.pairs m.name) || list_any (λ q. fits m q) (unpaired_receives s.ops s.pairs)
 
+-- what a send waits for: its destination, or nothing
 abbrev pub send_part : Run → Message → Wait
 send_part s m = if may_send s m then OnNothing else OnRank m.to
 
@@ -56,6 +57,7 @@ source_part s q = from q.source
 abbrev pub may_receive : Run → Receive → Bool
 may_receive s q = is_some (given_by s.pairs q.name) || list_any (λ m. fits m q) (unpaired_messages s.ops s.pairs)
 
+-- what a receive waits for: its source, or nothing
 abbrev pub receive_part : Run → Receive → Wait
 receive_part s q = if may_receive s q then OnNothing else source_part s q
 
@@ -64,6 +66,7 @@ receive_part s q = if may_receive s q then OnNothing else source_part s q
 abbrev pub may_probe : Run → Receive → Bool
 may_probe s q = list_any (λ m. envelopes_fit m q) (unpaired_messages s.ops s.pairs)
 
+-- what a Probe waits for: its source, or nothing
 abbrev pub probe_part : Run → Option Receive → Wait
 probe_part s None = OnNothing
 probe_part s (Some q) = if may_probe s q then OnNothing else source_part s q
@@ -72,9 +75,11 @@ probe_part s (Some q) = if may_probe s q then OnNothing else source_part s q
 abbrev pub send_of : Ops → ℕ → Option Message
 send_of o n = find (λ m. m.name.call == n) o.sends
 
+-- the receive that a call posted
 abbrev pub receive_of : Ops → ℕ → Option Receive
 receive_of o n = find (λ q. q.name.call == n) o.receives
 
+-- what the send of a call waits for: nothing where it started no message
 abbrev pub send_of_call : Run → Ops → ℕ → Wait
 send_of_call s o n = part (send_of o n)
   where
@@ -82,6 +87,7 @@ send_of_call s o n = part (send_of o n)
     part (Some m) = send_part s m
     part None = OnNothing
 
+-- what the receive of a call waits for: nothing where it posted none
 abbrev pub receive_of_call : Run → Ops → ℕ → Wait
 receive_of_call s o n = part (receive_of o n)
   where

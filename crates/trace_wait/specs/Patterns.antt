@@ -27,6 +27,7 @@ same_option None (Some b) = false
 same_option (Some a) None = false
 same_option (Some a) (Some b) = a == b
 
+-- two patterns are one
 abbrev pub same_pattern : Pattern → Pattern → Bool
 same_pattern a b = (a.0 == b.0) && (a.1 == b.1) && same_option a.2 b.2 && same_option a.3 b.3
 
@@ -50,5 +51,6 @@ asks q p = same_pattern (pattern_of q) p && not (is_void q.trust)
 abbrev pub Place : Type 0
 Place = ℕ × ℕ
 
+-- places by rank, and then by call
 abbrev pub place_cmp : Place → Place → Ordering
 place_cmp a b = ordering_then (nat_cmp a.0 b.0) (nat_cmp a.1 b.1)

@@ -3,7 +3,8 @@
 use Rattle.std.specs.Prelude.{ℕ, ◌+◌, Bool, true, false, ◌==◌, ◌&&◌, not, Option, Some, None, List, [], ◌∷◌, filter, map, length, slice_get, if◌then◌else◌, max, unwrap_or}
 use Rattle.std.specs.List.{list_all, flat_map, filter_map, range_with_len}
 use Rattle.mpi_model.specs.Communicators.{Communicator, members_of}
-use Rattle.mpi_model.specs.Ranges.{kind_number}
+use Rattle.mpi_model.specs.Kinds.{kind_number}
+use Rattle.mpi_model.specs.declared.kind.CollectiveFunction.{CollectiveFunction}
 use Rattle.trace_ops.specs.declared.entered.Entered.{Entered}
 use Rattle.trace_wait.specs.declared.round.Round.{Round}
 use Rattle.trace_wait.specs.declared.round.Standing.{Standing}
@@ -11,15 +12,24 @@ use Rattle.trace_wait.specs.declared.round.Standing.TheVariants.{Mismatched, Com
 use Rattle.trace_ops.specs.Ops.{Ops}
 use Rattle.trace_wait.specs.Ranks.{ops_of}
 
+-- two calls have one root, or neither has one
 abbrev pub same_root : Option ℕ → Option ℕ → Bool
 same_root None None = true
 same_root (Some a) (Some b) = a == b
 same_root (Some a) None = false
 same_root None (Some b) = false
 
--- the two calls have one kind and one root
+abbrev pub same_flag : Bool → Bool → Bool
+same_flag true b = b
+same_flag false b = not b
+
+-- the functions are of one kind, and both block or neither does
+abbrev pub same_function : CollectiveFunction → CollectiveFunction → Bool
+same_function a b = (kind_number a.kind == kind_number b.kind) && same_flag a.nonblocking b.nonblocking
+
+-- the two calls have one function and one root
 abbrev pub alike : Entered → Entered → Bool
-alike a b = (kind_number a.kind == kind_number b.kind) && same_root a.root b.root
+alike a b = same_function a.function b.function && same_root a.root b.root
 
 -- the members of a communicator, in group order
 abbrev pub group : List Communicator → ℕ → List ℕ
@@ -41,8 +51,8 @@ column k calls = filter_map (λ row. slice_get row k) calls
 abbrev pub standing : ℕ → Entered → List Entered → Standing
 standing members e others =
     if not (list_all (alike e) others) then Mismatched
-    else if length others + 1 == members then Complete e.kind e.root
-    else Partial e.kind e.root (length others + 1) members
+    else if length others + 1 == members then Complete e.function e.root
+    else Partial e.function e.root (length others + 1) members
 
 -- the k-th round, where some member has entered it
 abbrev pub round_of : ℕ → ℕ → ℕ → List Entered → Option Round

@@ -8,17 +8,18 @@ use Rattle.trace_wait.specs.declared.round.Standing.TheVariants.{Mismatched, Com
 use Rattle.trace_wait.specs.declared.tally.Tally.{Tally}
 use Rattle.trace_ops.specs.Ops.{Ops}
 use Rattle.trace_wait.specs.Ranks.{ops_of}
-use Rattle.mpi_model.specs.Ranges.{kind_number}
-use Rattle.trace_wait.specs.Rounds.{same_root, on_comm}
+use Rattle.trace_wait.specs.Rounds.{same_function, same_root, on_comm}
 
+-- the tally of a round that one member has entered
 abbrev pub start : Entered → Tally
-start e = record { kind = e.kind; root = e.root; is_alike = true; entered = 1 }
+start e = record { function = e.function; root = e.root; is_alike = true; entered = 1 }
 
+-- the tally once one member more has entered
 abbrev pub add : Tally → Entered → Tally
 add t e = record {
-  kind = t.kind;
+  function = t.function;
   root = t.root;
-  is_alike = t.is_alike && (kind_number t.kind == kind_number e.kind) && same_root t.root e.root;
+  is_alike = t.is_alike && same_function t.function e.function && same_root t.root e.root;
   entered = min (t.entered + 1) (2 ^ 32 - 1);
 }
 
@@ -34,12 +35,15 @@ merged [] ts = ts
 merged (e ∷ es) [] = start e ∷ merged es []
 merged (e ∷ es) (t ∷ ts) = add t e ∷ merged es ts
 
+-- the tallies of a communicator's rounds, over all members
 abbrev pub tallied : List Ops → ℕ → List ℕ → List Tally
 tallied ops c members = fold (λ ts r. merged (on_comm c (ops_of ops r).rounds) ts) [] members
 
+-- how a round of so many members stands
 abbrev pub stands : ℕ → Tally → Standing
-stands members t = if not t.is_alike then Mismatched else if t.entered == members then Complete t.kind t.root else Partial t.kind t.root t.entered members
+stands members t = if not t.is_alike then Mismatched else if t.entered == members then Complete t.function t.root else Partial t.function t.root t.entered members
 
+-- the rounds of a communicator, from number k on
 abbrev pub rounds_from : ℕ → ℕ → ℕ → List Tally → List Round
 rounds_from c members k [] = []
 rounds_from c members k (t ∷ ts) = record { comm = c; k = k; standing = stands members t } ∷ rounds_from c members (k + 1) ts

@@ -29,6 +29,7 @@ impl<'a> Model for Posts<'a> {
     ghost invariant = { λ s. (x : ℤ) → get int_eq s.calls x ≡ posted_in s.active.now x };
 }
 
+/// Notes which call posted an active request.
 fn note_post(calls: &mut IndexMap<i64, u64>, post: &(i64, u64)) -> Result<(), AllocError>
     ensures { OnOk result ((x : ℤ) → get int_eq calls.new x ≡ (if int_eq post.now.0 x then Some post.now.1 else get int_eq calls.old x)) }
 {

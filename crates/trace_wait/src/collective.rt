@@ -1,14 +1,14 @@
 //! The conditions of collective calls, a function for each row of their table.
 
-ghost use Rattle.std.specs.Prelude.{Some, IfSome, option_map, ◌≡◌, ◌==◌, ◌++◌, ◌∷◌, [], if◌then◌else◌, slice_get, IfOk, OnOk};
+ghost use Rattle.std.specs.Prelude.{Some, IfSome, take, length, ◌≤◌, option_map, ◌≡◌, ◌==◌, ◌++◌, ◌∷◌, [], if◌then◌else◌, slice_get, IfOk, OnOk};
 ghost use Rattle.std.specs.List.{find};
 ghost use Rattle.trace_wait.specs.Parts.{members};
 ghost use Rattle.trace_stuck.specs.Shape.{shape};
-ghost use Rattle.trace_wait.specs.Collectives.{has_entered, missing, absent, other_side, root_first, root_rank, from_root, to_root, by_kind, round_part, collective_of_call};
+ghost use Rattle.trace_wait.specs.Collectives.{has_entered, missing, absent, absent_of, lower, other_side, scanned, root_first, root_rank, from_root, to_root, by_category, may_be_owed_nothing, by_kind, round_part, collective_of_call};
 
 use crate::counts::has_more;
 use crate::overview::{Overview, round_number};
-use mpi_model::{Kind, Sends};
+use mpi_model::{Category, Kind, Sends};
 use std::alloc::{AllocError, Global};
 use std::sync::Arc;
 use trace_ops::{Entered, RankOps};
@@ -23,25 +23,58 @@ fn push_missing(has_entered: bool, r: u32, ranks: &mut Vec<u32>) -> Result<(), A
     Ok(())
 }
 
-/// The members that have not entered.
-fn missing(alloc: Global, run: &Overview, comm: u32, k: u64) -> Result<Vec<u32>, AllocError>
-    ensures { IfOk result (λ ranks. ranks.items ≡ missing run.now comm k) }
+/// Those of the ranks that have not entered. They are the first members of the group.
+fn missing(
+    alloc: Global,
+    run: &Overview,
+    comm: u32,
+    k: u64,
+    ranks: &[u32],
+) -> Result<Vec<u32>, AllocError>
+    requires { ranks.now ≡ take (length ranks.now) (members run.now comm) }
+    ensures { IfOk result (λ found. found.items ≡ missing run.now comm k ranks.now) }
 {
-    let mut ranks = Vec::new(alloc);
-    let members = run.members(comm);
+    let mut found = Vec::new(alloc);
     let calls = run.calls_on(comm);
-    for (place, r) in members.iter().enumerate() {
-        push_missing(has_more(calls, place, k), *r, &mut ranks)?;
+    for (place, r) in ranks.iter().enumerate() {
+        push_missing(has_more(calls, place, k), *r, &mut found)?;
     }
-    Ok(ranks)
+    Ok(found)
 }
 
-/// All members that have not entered, in a list that copies of the condition share.
+/// All of these that have not entered, in a list that copies of the condition share.
+fn absent_of(
+    alloc: Global,
+    run: &Overview,
+    comm: u32,
+    k: u64,
+    ranks: &[u32],
+) -> Result<Condition, AllocError>
+    requires { ranks.now ≡ take (length ranks.now) (members run.now comm) }
+    ensures { IfOk result (λ c. shape c ≡ absent_of run.now comm k ranks.now) }
+{
+    let found = missing(alloc, run, comm, k, ranks)?;
+    Ok(Condition::all_ranks(Arc::new(alloc, found)?))
+}
+
+/// All members that have not entered.
 fn absent(alloc: Global, run: &Overview, comm: u32, k: u64) -> Result<Condition, AllocError>
     ensures { IfOk result (λ c. shape c ≡ absent run.now comm k) }
 {
-    let ranks = missing(alloc, run, comm, k)?;
-    Ok(Condition::all_ranks(Arc::new(alloc, ranks)?))
+    absent_of(alloc, run, comm, k, run.members(comm))
+}
+
+/// The members of lower ranks in the group.
+fn lower(members: &[u32], r: u32) -> &[u32]
+    ensures is { result.now ≡ lower members.now r }
+    ensures first { result.now ≡ take (length result.now) members.now }
+{
+    for (place, m) in members.iter().enumerate() {
+        if *m == r {
+            return &members[..place];
+        }
+    }
+    members
 }
 
 fn other_side(alloc: Global, run: &Overview, comm: u32, k: u64) -> Result<Condition, AllocError>
@@ -50,6 +83,22 @@ fn other_side(alloc: Global, run: &Overview, comm: u32, k: u64) -> Result<Condit
     match run.layout.sends() {
         Sends::Wait => absent(alloc, run, comm, k),
         Sends::Buffer => Ok(Condition::yes()),
+    }
+}
+
+/// What a member of a scan waits for.
+fn scanned(
+    alloc: Global,
+    run: &Overview,
+    r: u32,
+    comm: u32,
+    k: u64,
+) -> Result<Condition, AllocError>
+    ensures { IfOk result (λ c. shape c ≡ scanned run.now r comm k) }
+{
+    match run.layout.sends() {
+        Sends::Wait => absent(alloc, run, comm, k),
+        Sends::Buffer => absent_of(alloc, run, comm, k, lower(run.members(comm), r)),
     }
 }
 
@@ -126,6 +175,33 @@ fn to_root(
     }
 }
 
+fn by_category(
+    alloc: Global,
+    run: &Overview,
+    r: u32,
+    entered: &Entered,
+    k: u64,
+) -> Result<Condition, AllocError>
+    ensures { IfOk result (λ c. shape c ≡ by_category run.now r entered.now k) }
+{
+    match entered.function.kind.row().category {
+        Category::AllToAll => absent(alloc, run, entered.comm, k),
+        Category::OneToAll => from_root(alloc, run, r, entered, k),
+        Category::AllToOne => to_root(alloc, run, r, entered, k),
+        Category::Scan => scanned(alloc, run, r, entered.comm, k),
+    }
+}
+
+/// Whether a rank in a call of this kind may be owed nothing, since its count may be 0.
+fn may_be_owed_nothing(sends: Sends, kind: Kind) -> bool
+    ensures { result ≡ may_be_owed_nothing sends kind }
+{
+    match sends {
+        Sends::Wait => false,
+        Sends::Buffer => kind.row().has_counts,
+    }
+}
+
 fn by_kind(
     alloc: Global,
     run: &Overview,
@@ -135,11 +211,10 @@ fn by_kind(
 ) -> Result<Condition, AllocError>
     ensures { IfOk result (λ c. shape c ≡ by_kind run.now r entered.now k) }
 {
-    match entered.kind {
-        Kind::Barrier | Kind::Ibarrier => absent(alloc, run, entered.comm, k),
-        Kind::Allreduce | Kind::Allgather | Kind::Alltoall => absent(alloc, run, entered.comm, k),
-        Kind::Bcast | Kind::Scatter => from_root(alloc, run, r, entered, k),
-        Kind::Reduce | Kind::Gather => to_root(alloc, run, r, entered, k),
+    if may_be_owed_nothing(run.layout.sends(), entered.function.kind) {
+        Ok(Condition::yes())
+    } else {
+        by_category(alloc, run, r, entered, k)
     }
 }
 

@@ -74,6 +74,7 @@ fn row(
     Ok(CommCalls { comm, calls })
 }
 
+/// How many collective calls each member of each communicator has entered.
 fn rows_of(alloc: Global, layout: &Layout, entries: &Entries) -> Result<Vec<CommCalls>, AllocError>
     ensures { IfOk result (λ v. v.items ≡ table layout.now.comms entries.now layout.now.comms) }
 {

@@ -12,6 +12,7 @@ use std::sync::Arc;
 /// The number of a communicator, and its members in a list with many owners.
 pub(crate) type Group = (u32, Arc<Vec<u32>>);
 
+/// A list of ranks that parts may share.
 fn shared(alloc: Global, ranks: &[u32]) -> Result<Arc<Vec<u32>>, AllocError>
     ensures { IfOk result (λ list. list.value.items ≡ ranks.now) }
 {

@@ -21,6 +21,7 @@ fn is_mismatch(standing: Standing) -> bool
     }
 }
 
+/// Notes a round that is mismatched.
 fn note_round(round: &Round, set: &mut BTreeSet<(u32, u64)>) -> Result<(), AllocError>
     ensures { OnOk result ((c k : ℕ) → contains place_cmp set.new (c, k) ≡ (is_mismatched_at c k round.now || contains place_cmp set.old (c, k))) }
 {

@@ -1,22 +1,28 @@
 //! The rounds of all communicators. Each member's calls on a communicator are gone through once.
 
 ghost use Rattle.std.specs.Prelude.{◌≡◌, ◌==◌, ◌≤◌, ◌<◌, ◌^◌, ◌++◌, IfOk, OnOk, length};
-ghost use Rattle.trace_wait.specs.Rounds.{same_root, group, rounds_on, rounds_of};
+ghost use Rattle.trace_wait.specs.Rounds.{same_function, same_root, group, rounds_on, rounds_of};
 ghost use Rattle.trace_wait.specs.Tallies.{start, add, put, merged, tallied, stands, rounds_from};
 
 use crate::entries::{Entries, entries_of};
 use crate::round::{Round, Standing};
-use mpi_model::{Kind, Layout};
+use mpi_model::{CollectiveFunction, Layout};
 use std::alloc::{AllocError, Global};
 use trace_ops::{Entered, RankOps};
 
 /// What is known of a round while its calls come in.
 #[derive(Clone, Copy, Debug)]
 struct Tally {
-    kind: Kind,
+    function: CollectiveFunction,
     root: Option<u32>,
     is_alike: bool,
     entered: u32,
+}
+
+fn is_same_function(a: CollectiveFunction, b: CollectiveFunction) -> bool
+    ensures { result ≡ same_function a b }
+{
+    a.kind.number() == b.kind.number() && a.nonblocking == b.nonblocking
 }
 
 fn is_same_root(a: Option<u32>, b: Option<u32>) -> bool
@@ -34,7 +40,7 @@ fn start(e: &Entered) -> Tally
     ensures { result ≡ start e.now }
 {
     Tally {
-        kind: e.kind,
+        function: e.function,
         root: e.root,
         is_alike: true,
         entered: 1,
@@ -44,9 +50,11 @@ fn start(e: &Entered) -> Tally
 fn add(t: Tally, e: &Entered) -> Tally
     ensures { result ≡ add t e.now }
 {
-    let is_alike = t.is_alike && t.kind.number() == e.kind.number() && is_same_root(t.root, e.root);
+    let is_alike = t.is_alike
+        && is_same_function(t.function, e.function)
+        && is_same_root(t.root, e.root);
     Tally {
-        kind: t.kind,
+        function: t.function,
         root: t.root,
         is_alike,
         entered: t.entered.saturating_add(1),
@@ -96,9 +104,9 @@ fn stands(members: u32, t: &Tally) -> Standing
     if !t.is_alike {
         Standing::Mismatched
     } else if t.entered == members {
-        Standing::Complete(t.kind, t.root)
+        Standing::Complete(t.function, t.root)
     } else {
-        Standing::Partial(t.kind, t.root, t.entered, members)
+        Standing::Partial(t.function, t.root, t.entered, members)
     }
 }
 

@@ -43,6 +43,7 @@ fn is_void_or_not(void: bool, m: &Message) -> bool
     }
 }
 
+/// Notes what suits a message that is in no pair, and is void or not as is asked.
 fn offer_unpaired(
     pairs: &PairTable,
     void: bool,
@@ -62,6 +63,7 @@ fn offer_unpaired(
     Ok(())
 }
 
+/// Notes the same of all these messages.
 fn offer_all(
     pairs: &PairTable,
     void: bool,
@@ -105,6 +107,7 @@ fn ask(q: &Receive, set: &mut BTreeSet<Pattern>) -> Result<(), AllocError>
     Ok(())
 }
 
+/// Notes what a receive asks for that is in no pair.
 fn ask_unpaired(
     pairs: &PairTable,
     q: &Receive,
@@ -120,6 +123,7 @@ fn ask_unpaired(
     Ok(())
 }
 
+/// Notes the same of all these receives.
 fn ask_all(
     pairs: &PairTable,
     receives: &[Receive],

@@ -62,7 +62,7 @@ fn waits_for(
         | Call::Finalize
         | Call::Isend(_, _)
         | Call::Irecv(_)
-        | Call::Ibarrier(_)
+        | Call::Icollective(_)
         | Call::Test(_)
         | Call::Testall(_)
         | Call::Testany(_)

@@ -1,11 +1,11 @@
 -- The laws of events.
-use Rattle.std.proofs.Common.{◌≡◌, ℕ, ◌^◌, ◌<◌, Bool, true, false, eqb, List, [], ◌∷◌, ◌++◌, length, Option, Some, None, refl, sym, ap, subst, ◌∙◌, append_assoc, arith}
+use Rattle.std.proofs.Common.{◌≡◌, ℕ, ◌^◌, ◌<◌, Bool, true, false, cond, eqb, List, [], ◌∷◌, ◌++◌, length, Option, Some, None, refl, sym, ap, subst, ◌∙◌, append_assoc, arith}
 use Rattle.std.specs.List.{All}
 use Rattle.std.specs.Int.{w32}
 use Rattle.std.proofs.lemmas.List.{length-append}
 use Rattle.std.proofs.lemmas.Bool.Decides.{nat_tests}
 use Rattle.mpi_model.specs.Times.{Times, IsTimes}
-use Rattle.mpi_model.specs.Ranges.{IsTold}
+use Rattle.mpi_model.specs.Ranges.{IsTold, IsCollective, CollectiveCall}
 use Rattle.mpi_model.specs.declared.call.Call.{Call}
 use Rattle.mpi_model.specs.declared.call.Call.TheVariants as calls
 use Rattle.mpi_model.specs.declared.outcome.Outs.{Outs}
@@ -13,11 +13,11 @@ use Rattle.mpi_model.specs.declared.outcome.Outs.TheVariants as outs
 use Rattle.mpi_model.specs.declared.event.Event.{Event}
 use Rattle.mpi_model.specs.declared.event.Event.TheVariants as events
 use Rattle.trace_wire.specs.Forms.{◌>>=◌, Form, number, byte, pair, list, signed, IsBytes}
-use Rattle.trace_wire.specs.Events.{call_code, call_fields, call_at, further_call_at, outs_code, outs_fields, outs_at, body_at, is_even, event_at, event_bytes, event}
-use Rattle.trace_wire.specs.Fields.{comm, mode, flag, told, stamp, envelope, send_envelope, exchange, gathering, probe, made, index, element, index_fields, index_at, index_behind}
+use Rattle.trace_wire.specs.Events.{icollective_code, icollective_fields, call_code, call_fields, call_at, further_call_at, outs_code, outs_fields, outs_at, body_at, is_even, event_at, event_bytes, event}
+use Rattle.trace_wire.specs.Fields.{mode, flag, told, stamp, envelope, send_envelope, exchange, gathering, is_barrier, ibarrier, igathering, probe, made, index, element, index_fields, index_at, index_behind}
 use Rattle.mpi_model.specs.Events.{IsSigned, IsCall, IsOutcome, IsPosition, IsElement, IsEvent}
 use Rattle.trace_wire.proofs.FormLaws.{IsBytes-rest, Takes, Takes-then, IsForm, wide32, number_form, byte_form, pair_form, record_form, list_form, choose, no_value, some_is, bind_some}
-use Rattle.trace_wire.proofs.FieldForms.{mode_form, flag_form, signed_form, stamp_form, told_form, envelope_form, send_form, exchange_form, gathering_form, comm_form, probe_form}
+use Rattle.trace_wire.proofs.FieldForms.{mode_form, flag_form, signed_form, stamp_form, told_form, envelope_form, send_form, exchange_form, gathering_form, IsOtherCall, ibarrier_form, igathering_form, probe_form}
 
 -- what was read behind the code of a kind
 abbrev Behind : {B : Type 0} → (B → ℕ) → (B → List ℕ) → (B → Type 0) → List ℕ → B × List ℕ → ℕ → Type 0
@@ -29,43 +29,53 @@ bare {B} code spell Fits bytes x n b fits is none ok e =
     subst (λ (y : B × List ℕ). Behind code spell Fits bytes y n) (some_is (b, bytes) x e) (is, record { parts = ap (λ (t : List ℕ). t ++ bytes) (sym none); rest_fits = fits }, ok)
 
 -- a kind with fields
-filled : {A B : Type 0} (form : Form A) (FitsA : A → Type 0) (is : IsForm form FitsA) (make : A → B) (code : B → ℕ) (spell : B → List ℕ) (Fits : B → Type 0) (bytes : List ℕ) (x : B × List ℕ) (n : ℕ) → IsBytes bytes → ((a : A) → code (make a) ≡ n) → ((a : A) → spell (make a) ≡ form.spell a) → ((a : A) → FitsA a → Fits (make a)) → made make (form.read bytes) ≡ Some x → Behind code spell Fits bytes x n
+filled : {A B : Type 0} (form : Form A) (FitsA : A → Type 0) (is : IsForm form FitsA) (make : A → B) (code : B → ℕ) (spell : B → List ℕ) (Fits : B → Type 0) (bytes : List ℕ) (x : B × List ℕ) (n : ℕ) → IsBytes bytes → ((a : A) → FitsA a → code (make a) ≡ n) → ((a : A) → FitsA a → spell (make a) ≡ form.spell a) → ((a : A) → FitsA a → Fits (make a)) → made make (form.read bytes) ≡ Some x → Behind code spell Fits bytes x n
 filled {A} {B} form FitsA is make code spell Fits bytes x n fits code-is spell-is fits-is e =
     let p = bind_some (form.read bytes) (λ y. Some (make y.0, y.1)) x e in
     let t = is.takes bytes p.0 fits p.1 in
-    subst (λ (y : B × List ℕ). Behind code spell Fits bytes y n) (some_is (make p.0.0, p.0.1) x p.2) (code-is p.0.0, subst (λ (s : List ℕ). Takes bytes s p.0.1) (sym (spell-is p.0.0)) t.0, fits-is p.0.0 t.1)
+    subst (λ (y : B × List ℕ). Behind code spell Fits bytes y n) (some_is (make p.0.0, p.0.1) x p.2) (code-is p.0.0 t.1, subst (λ (s : List ℕ). Takes bytes s p.0.1) (sym (spell-is p.0.0 t.1)) t.0, fits-is p.0.0 t.1)
 
 requests_form : IsForm (list signed) (All IsSigned)
 requests_form = list_form signed IsSigned signed_form (λ z. omega arith)
 
+is_other : (g : CollectiveCall) → IsOtherCall g → is_barrier g.kind ≡ false
+is_other g ok = grind (arith, ok.1)
+
 further_takes : (n : ℕ) (bytes : List ℕ) (x : Call × List ℕ) → IsBytes bytes → further_call_at n bytes ≡ Some x → Behind call_code call_fields IsCall bytes x n
 unfolding further_call_at
 further_takes n bytes x fits e15 =
-    choose (Behind call_code call_fields IsCall bytes x) n 15 _ _ x e15 (filled (list signed) _ (requests_form) (λ r. calls.Testall r) call_code call_fields IsCall bytes x 15 fits (λ a. refl) (λ a. refl) (λ a ok. ok)) (λ e16.
-    choose (Behind call_code call_fields IsCall bytes x) n 16 _ _ x e16 (filled (list signed) _ (requests_form) (λ r. calls.Testany r) call_code call_fields IsCall bytes x 16 fits (λ a. refl) (λ a. refl) (λ a ok. ok)) (λ e17.
-    choose (Behind call_code call_fields IsCall bytes x) n 17 _ _ x e17 (filled (list signed) _ (requests_form) (λ r. calls.Testsome r) call_code call_fields IsCall bytes x 17 fits (λ a. refl) (λ a. refl) (λ a ok. ok)) (λ e18.
-    choose (Behind call_code call_fields IsCall bytes x) n 18 _ _ x e18 (filled (signed) _ (signed_form) (λ r. calls.Cancel r) call_code call_fields IsCall bytes x 18 fits (λ a. refl) (λ a. refl) (λ a ok. ok)) (λ e19.
-    choose (Behind call_code call_fields IsCall bytes x) n 19 _ _ x e19 (filled (signed) _ (signed_form) (λ r. calls.Free r) call_code call_fields IsCall bytes x 19 fits (λ a. refl) (λ a. refl) (λ a ok. ok)) (λ e20.
-    choose (Behind call_code call_fields IsCall bytes x) n 20 _ _ x e20 (bare call_code call_fields IsCall bytes x 20 calls.Unread fits refl refl tt) (λ e21. no_value _ x e21))))))
+    choose (Behind call_code call_fields IsCall bytes x) n 15 _ _ x e15 (filled (list signed) _ (requests_form) (λ r. calls.Testall r) call_code call_fields IsCall bytes x 15 fits (λ a ok. refl) (λ a ok. refl) (λ a ok. ok)) (λ e16.
+    choose (Behind call_code call_fields IsCall bytes x) n 16 _ _ x e16 (filled (list signed) _ (requests_form) (λ r. calls.Testany r) call_code call_fields IsCall bytes x 16 fits (λ a ok. refl) (λ a ok. refl) (λ a ok. ok)) (λ e17.
+    choose (Behind call_code call_fields IsCall bytes x) n 17 _ _ x e17 (filled (list signed) _ (requests_form) (λ r. calls.Testsome r) call_code call_fields IsCall bytes x 17 fits (λ a ok. refl) (λ a ok. refl) (λ a ok. ok)) (λ e18.
+    choose (Behind call_code call_fields IsCall bytes x) n 18 _ _ x e18 (filled (signed) _ (signed_form) (λ r. calls.Cancel r) call_code call_fields IsCall bytes x 18 fits (λ a ok. refl) (λ a ok. refl) (λ a ok. ok)) (λ e19.
+    choose (Behind call_code call_fields IsCall bytes x) n 19 _ _ x e19 (filled (signed) _ (signed_form) (λ r. calls.Free r) call_code call_fields IsCall bytes x 19 fits (λ a ok. refl) (λ a ok. refl) (λ a ok. ok)) (λ e20.
+    choose (Behind call_code call_fields IsCall bytes x) n 20 _ _ x e20 (bare call_code call_fields IsCall bytes x 20 calls.Unread fits refl refl tt) (λ e21.
+    choose (Behind call_code call_fields IsCall bytes x) n 28 _ _ x e21 (filled (igathering) _ (igathering_form) (λ g. calls.Icollective g) call_code call_fields IsCall bytes x 28 fits (λ a ok. rw (is_other a ok) refl) (λ a ok. rw (is_other a ok) refl) (λ a ok. ok.0)) (λ e22. no_value _ x e22)))))))
 
 pub call_takes : (n : ℕ) (bytes : List ℕ) (x : Call × List ℕ) → IsBytes bytes → call_at n bytes ≡ Some x → Behind call_code call_fields IsCall bytes x n
 unfolding call_at
 call_takes n bytes x fits e0 =
     choose (Behind call_code call_fields IsCall bytes x) n 0 _ _ x e0 (bare call_code call_fields IsCall bytes x 0 calls.Local fits refl refl tt) (λ e1.
     choose (Behind call_code call_fields IsCall bytes x) n 1 _ _ x e1 (bare call_code call_fields IsCall bytes x 1 calls.Finalize fits refl refl tt) (λ e2.
-    choose (Behind call_code call_fields IsCall bytes x) n 2 _ _ x e2 (filled (pair mode send_envelope) _ (pair_form mode send_envelope _ _ mode_form send_form) (λ x. calls.Send x.0 x.1) call_code call_fields IsCall bytes x 2 fits (λ a. refl) (λ a. refl) (λ a ok. ok.1)) (λ e3.
-    choose (Behind call_code call_fields IsCall bytes x) n 3 _ _ x e3 (filled (pair mode send_envelope) _ (pair_form mode send_envelope _ _ mode_form send_form) (λ x. calls.Isend x.0 x.1) call_code call_fields IsCall bytes x 3 fits (λ a. refl) (λ a. refl) (λ a ok. ok.1)) (λ e4.
-    choose (Behind call_code call_fields IsCall bytes x) n 4 _ _ x e4 (filled (envelope) _ (envelope_form) (λ e. calls.Recv e) call_code call_fields IsCall bytes x 4 fits (λ a. refl) (λ a. refl) (λ a ok. ok)) (λ e5.
-    choose (Behind call_code call_fields IsCall bytes x) n 5 _ _ x e5 (filled (envelope) _ (envelope_form) (λ e. calls.Irecv e) call_code call_fields IsCall bytes x 5 fits (λ a. refl) (λ a. refl) (λ a ok. ok)) (λ e6.
-    choose (Behind call_code call_fields IsCall bytes x) n 6 _ _ x e6 (filled (exchange) _ (exchange_form) (λ b. calls.Sendrecv b) call_code call_fields IsCall bytes x 6 fits (λ a. refl) (λ a. refl) (λ a ok. ok)) (λ e7.
-    choose (Behind call_code call_fields IsCall bytes x) n 7 _ _ x e7 (filled (signed) _ (signed_form) (λ r. calls.Wait r) call_code call_fields IsCall bytes x 7 fits (λ a. refl) (λ a. refl) (λ a ok. ok)) (λ e8.
-    choose (Behind call_code call_fields IsCall bytes x) n 8 _ _ x e8 (filled (list signed) _ (requests_form) (λ r. calls.Waitall r) call_code call_fields IsCall bytes x 8 fits (λ a. refl) (λ a. refl) (λ a ok. ok)) (λ e9.
-    choose (Behind call_code call_fields IsCall bytes x) n 9 _ _ x e9 (filled (list signed) _ (requests_form) (λ r. calls.Waitany r) call_code call_fields IsCall bytes x 9 fits (λ a. refl) (λ a. refl) (λ a ok. ok)) (λ e10.
-    choose (Behind call_code call_fields IsCall bytes x) n 10 _ _ x e10 (filled (list signed) _ (requests_form) (λ r. calls.Waitsome r) call_code call_fields IsCall bytes x 10 fits (λ a. refl) (λ a. refl) (λ a ok. ok)) (λ e11.
-    choose (Behind call_code call_fields IsCall bytes x) n 11 _ _ x e11 (filled (signed) _ (signed_form) (λ r. calls.Test r) call_code call_fields IsCall bytes x 11 fits (λ a. refl) (λ a. refl) (λ a ok. ok)) (λ e12.
-    choose (Behind call_code call_fields IsCall bytes x) n 12 _ _ x e12 (filled (gathering) _ (gathering_form) (λ g. calls.Collective g) call_code call_fields IsCall bytes x 12 fits (λ a. refl) (λ a. refl) (λ a ok. ok)) (λ e13.
-    choose (Behind call_code call_fields IsCall bytes x) n 13 _ _ x e13 (filled (probe) _ (probe_form) (λ e. calls.Probe e) call_code call_fields IsCall bytes x 13 fits (λ a. refl) (λ a. refl) (λ a ok. ok)) (λ e14.
-    choose (Behind call_code call_fields IsCall bytes x) n 14 _ _ x e14 (filled (comm) _ (comm_form) (λ c. calls.Ibarrier c) call_code call_fields IsCall bytes x 14 fits (λ a. refl) (λ a. refl) (λ a ok. ok)) (λ e15. further_takes n bytes x fits e15)))))))))))))))
+    choose (Behind call_code call_fields IsCall bytes x) n 2 _ _ x e2 (filled (pair mode send_envelope) _ (pair_form mode send_envelope _ _ mode_form send_form) (λ x. calls.Send x.0 x.1) call_code call_fields IsCall bytes x 2 fits (λ a ok. refl) (λ a ok. refl) (λ a ok. ok.1)) (λ e3.
+    choose (Behind call_code call_fields IsCall bytes x) n 3 _ _ x e3 (filled (pair mode send_envelope) _ (pair_form mode send_envelope _ _ mode_form send_form) (λ x. calls.Isend x.0 x.1) call_code call_fields IsCall bytes x 3 fits (λ a ok. refl) (λ a ok. refl) (λ a ok. ok.1)) (λ e4.
+    choose (Behind call_code call_fields IsCall bytes x) n 4 _ _ x e4 (filled (envelope) _ (envelope_form) (λ e. calls.Recv e) call_code call_fields IsCall bytes x 4 fits (λ a ok. refl) (λ a ok. refl) (λ a ok. ok)) (λ e5.
+    choose (Behind call_code call_fields IsCall bytes x) n 5 _ _ x e5 (filled (envelope) _ (envelope_form) (λ e. calls.Irecv e) call_code call_fields IsCall bytes x 5 fits (λ a ok. refl) (λ a ok. refl) (λ a ok. ok)) (λ e6.
+    choose (Behind call_code call_fields IsCall bytes x) n 6 _ _ x e6 (filled (exchange) _ (exchange_form) (λ b. calls.Sendrecv b) call_code call_fields IsCall bytes x 6 fits (λ a ok. refl) (λ a ok. refl) (λ a ok. ok)) (λ e7.
+    choose (Behind call_code call_fields IsCall bytes x) n 7 _ _ x e7 (filled (signed) _ (signed_form) (λ r. calls.Wait r) call_code call_fields IsCall bytes x 7 fits (λ a ok. refl) (λ a ok. refl) (λ a ok. ok)) (λ e8.
+    choose (Behind call_code call_fields IsCall bytes x) n 8 _ _ x e8 (filled (list signed) _ (requests_form) (λ r. calls.Waitall r) call_code call_fields IsCall bytes x 8 fits (λ a ok. refl) (λ a ok. refl) (λ a ok. ok)) (λ e9.
+    choose (Behind call_code call_fields IsCall bytes x) n 9 _ _ x e9 (filled (list signed) _ (requests_form) (λ r. calls.Waitany r) call_code call_fields IsCall bytes x 9 fits (λ a ok. refl) (λ a ok. refl) (λ a ok. ok)) (λ e10.
+    choose (Behind call_code call_fields IsCall bytes x) n 10 _ _ x e10 (filled (list signed) _ (requests_form) (λ r. calls.Waitsome r) call_code call_fields IsCall bytes x 10 fits (λ a ok. refl) (λ a ok. refl) (λ a ok. ok)) (λ e11.
+    choose (Behind call_code call_fields IsCall bytes x) n 11 _ _ x e11 (filled (signed) _ (signed_form) (λ r. calls.Test r) call_code call_fields IsCall bytes x 11 fits (λ a ok. refl) (λ a ok. refl) (λ a ok. ok)) (λ e12.
+    choose (Behind call_code call_fields IsCall bytes x) n 12 _ _ x e12 (filled (gathering) _ (gathering_form) (λ g. calls.Collective g) call_code call_fields IsCall bytes x 12 fits (λ a ok. refl) (λ a ok. refl) (λ a ok. ok)) (λ e13.
+    choose (Behind call_code call_fields IsCall bytes x) n 13 _ _ x e13 (filled (probe) _ (probe_form) (λ e. calls.Probe e) call_code call_fields IsCall bytes x 13 fits (λ a ok. refl) (λ a ok. refl) (λ a ok. ok)) (λ e14.
+    choose (Behind call_code call_fields IsCall bytes x) n 14 _ _ x e14 (filled (ibarrier) _ (ibarrier_form) (λ g. calls.Icollective g) call_code call_fields IsCall bytes x 14 fits (λ a ok. rw ok.1 refl) (λ a ok. rw ok.1 refl) (λ a ok. ok.0)) (λ e15. further_takes n bytes x fits e15)))))))))))))))
+
+-- by the kind, one spelling or the other
+icollective_again : (g : CollectiveCall) (b : Bool) (rest : List ℕ) → is_barrier g.kind ≡ b → IsCollective g → length (icollective_fields g) < 2 ^ 32 → call_at (icollective_code g.kind) (icollective_fields g ++ rest) ≡ Some (calls.Icollective g, rest)
+unfolding call_at further_call_at
+icollective_again g true rest is fits short = rw is (ap (made (λ g. calls.Icollective g)) (ibarrier_form.again g rest (fits, is) (omega arith)))
+icollective_again g false rest is fits short = rw is (ap (made (λ g. calls.Icollective g)) (igathering_form.again g rest (fits, grind (arith, is)) (omega arith)))
 
 pub call_again : (c : Call) (rest : List ℕ) → IsCall c → length (call_fields c) < 2 ^ 32 → call_at (call_code c) (call_fields c ++ rest) ≡ Some (c, rest)
 unfolding call_at further_call_at
@@ -83,7 +93,7 @@ call_again (calls.Waitsome a) rest fits short = ap (made (λ r. calls.Waitsome r
 call_again (calls.Test a) rest fits short = ap (made (λ r. calls.Test r)) ((signed_form).again a rest fits short)
 call_again (calls.Collective a) rest fits short = ap (made (λ g. calls.Collective g)) ((gathering_form).again a rest fits short)
 call_again (calls.Probe a) rest fits short = ap (made (λ e. calls.Probe e)) ((probe_form).again a rest fits short)
-call_again (calls.Ibarrier a) rest fits short = ap (made (λ c. calls.Ibarrier c)) ((comm_form).again a rest fits short)
+call_again (calls.Icollective a) rest fits short = icollective_again a (is_barrier a.kind) rest refl fits short
 call_again (calls.Testall a) rest fits short = ap (made (λ r. calls.Testall r)) ((requests_form).again a rest fits short)
 call_again (calls.Testany a) rest fits short = ap (made (λ r. calls.Testany r)) ((requests_form).again a rest fits short)
 call_again (calls.Testsome a) rest fits short = ap (made (λ r. calls.Testsome r)) ((requests_form).again a rest fits short)
@@ -94,7 +104,7 @@ call_again calls.Unread rest fits short = refl
 past : (n k : ℕ) → k < n → eqb n k ≡ false
 past n k lt = grind (arith, nat_tests)
 
--- the kinds behind Ibarrier have greater codes than those up to it
+-- the kinds behind MPI_Ibarrier have greater codes than those up to it
 pub further : (n : ℕ) (bytes : List ℕ) → 14 < n → call_at n bytes ≡ further_call_at n bytes
 unfolding call_at
 further n bytes lt =
@@ -116,6 +126,10 @@ further n bytes lt =
       past n 14 (omega (arith, lt)),
     ) refl
 
+icollective_small : (b : Bool) → cond b 14 28 < 256
+icollective_small true = omega arith
+icollective_small false = omega arith
+
 call_small : (c : Call) → call_code c < 256
 call_small calls.Local = omega arith
 call_small calls.Finalize = omega arith
@@ -131,7 +145,7 @@ call_small (calls.Waitsome a) = omega arith
 call_small (calls.Test a) = omega arith
 call_small (calls.Collective a) = omega arith
 call_small (calls.Probe a) = omega arith
-call_small (calls.Ibarrier a) = omega arith
+call_small (calls.Icollective a) = icollective_small (is_barrier a.kind)
 call_small (calls.Testall a) = omega arith
 call_small (calls.Testany a) = omega arith
 call_small (calls.Testsome a) = omega arith
@@ -173,12 +187,12 @@ pub outs_takes : (n : ℕ) (bytes : List ℕ) (x : Outs × List ℕ) → IsBytes
 unfolding outs_at
 outs_takes n bytes x fits e0 =
     choose (Behind outs_code outs_fields IsOutcome bytes x) n 0 _ _ x e0 (bare outs_code outs_fields IsOutcome bytes x 0 outs.Nothing fits refl refl tt) (λ e1.
-    choose (Behind outs_code outs_fields IsOutcome bytes x) n 1 _ _ x e1 (filled (signed) _ (signed_form) (λ r. outs.Posted r) outs_code outs_fields IsOutcome bytes x 1 fits (λ a. refl) (λ a. refl) (λ a ok. ok)) (λ e2.
-    choose (Behind outs_code outs_fields IsOutcome bytes x) n 2 _ _ x e2 (filled (told) _ (told_form) (λ t. outs.Status t) outs_code outs_fields IsOutcome bytes x 2 fits (λ a. refl) (λ a. refl) (λ a ok. ok)) (λ e3.
-    choose (Behind outs_code outs_fields IsOutcome bytes x) n 3 _ _ x e3 (filled (list told) _ (sources_form) (λ t. outs.Statuses t) outs_code outs_fields IsOutcome bytes x 3 fits (λ a. refl) (λ a. refl) (λ a ok. ok)) (λ e4.
-    choose (Behind outs_code outs_fields IsOutcome bytes x) n 4 _ _ x e4 (filled (pair index told) _ (pair_form index told _ _ index_form told_form) (λ x. outs.Index x.0 x.1) outs_code outs_fields IsOutcome bytes x 4 fits (λ a. refl) (λ a. refl) (λ a ok. ok)) (λ e5.
-    choose (Behind outs_code outs_fields IsOutcome bytes x) n 5 _ _ x e5 (filled (list element) _ (elements_form) (λ t. outs.Several t) outs_code outs_fields IsOutcome bytes x 5 fits (λ a. refl) (λ a. refl) (λ a ok. ok)) (λ e6.
-    choose (Behind outs_code outs_fields IsOutcome bytes x) n 6 _ _ x e6 (filled (pair flag told) _ (pair_form flag told _ _ flag_form told_form) (λ x. outs.Flag x.0 x.1) outs_code outs_fields IsOutcome bytes x 6 fits (λ a. refl) (λ a. refl) (λ a ok. ok.1)) (λ e7. no_value _ x e7)))))))
+    choose (Behind outs_code outs_fields IsOutcome bytes x) n 1 _ _ x e1 (filled (signed) _ (signed_form) (λ r. outs.Posted r) outs_code outs_fields IsOutcome bytes x 1 fits (λ a ok. refl) (λ a ok. refl) (λ a ok. ok)) (λ e2.
+    choose (Behind outs_code outs_fields IsOutcome bytes x) n 2 _ _ x e2 (filled (told) _ (told_form) (λ t. outs.Status t) outs_code outs_fields IsOutcome bytes x 2 fits (λ a ok. refl) (λ a ok. refl) (λ a ok. ok)) (λ e3.
+    choose (Behind outs_code outs_fields IsOutcome bytes x) n 3 _ _ x e3 (filled (list told) _ (sources_form) (λ t. outs.Statuses t) outs_code outs_fields IsOutcome bytes x 3 fits (λ a ok. refl) (λ a ok. refl) (λ a ok. ok)) (λ e4.
+    choose (Behind outs_code outs_fields IsOutcome bytes x) n 4 _ _ x e4 (filled (pair index told) _ (pair_form index told _ _ index_form told_form) (λ x. outs.Index x.0 x.1) outs_code outs_fields IsOutcome bytes x 4 fits (λ a ok. refl) (λ a ok. refl) (λ a ok. ok)) (λ e5.
+    choose (Behind outs_code outs_fields IsOutcome bytes x) n 5 _ _ x e5 (filled (list element) _ (elements_form) (λ t. outs.Several t) outs_code outs_fields IsOutcome bytes x 5 fits (λ a ok. refl) (λ a ok. refl) (λ a ok. ok)) (λ e6.
+    choose (Behind outs_code outs_fields IsOutcome bytes x) n 6 _ _ x e6 (filled (pair flag told) _ (pair_form flag told _ _ flag_form told_form) (λ x. outs.Flag x.0 x.1) outs_code outs_fields IsOutcome bytes x 6 fits (λ a ok. refl) (λ a ok. refl) (λ a ok. ok.1)) (λ e7. no_value _ x e7)))))))
 
 pub outs_again : (c : Outs) (rest : List ℕ) → IsOutcome c → length (outs_fields c) < 2 ^ 32 → outs_at (outs_code c) (outs_fields c ++ rest) ≡ Some (c, rest)
 unfolding outs_at

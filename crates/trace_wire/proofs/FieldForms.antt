@@ -1,25 +1,26 @@
 -- The laws of an event's fields.
-use Rattle.std.proofs.Common.{◌≡◌, ℕ, ◌^◌, ◌<◌, ◌≤◌, Bool, true, false, cond, ltb, eqb, Option, Some, None, refl, sym, ap, subst, arith, inl, inr}
+use Rattle.std.proofs.Common.{◌≡◌, ℕ, ◌^◌, ◌<◌, ◌≤◌, Bool, true, false, not, cond, ltb, eqb, Option, Some, None, refl, sym, ap, subst, arith, inl, inr}
 use Rattle.std.specs.Prelude.{ℤ, pos, negsuc, nat_le}
 use Rattle.std.specs.Int.{w32, w64, cast_signed, cast_unsigned}
 use Rattle.std.proofs.lemmas.Bool.{ltb-true, eqb-true}
 use Rattle.std.proofs.lemmas.Bool.Decides.{nat_tests}
 use Rattle.std.proofs.lemmas.Int.{ints, to_z-of_z, of_z-to_z}
 use Rattle.mpi_model.specs.Times.{latest, IsTimes}
-use Rattle.mpi_model.specs.Ranges.{IsTold, IsAskedTag, IsComm, IsSource, IsNamed, IsTarget, IsRootOf, IsCollective, IsProbe, kind_number}
+use Rattle.mpi_model.specs.Ranges.{IsTold, IsAskedTag, IsComm, IsSource, IsNamed, IsTarget, IsRootOf, IsCollective, IsProbe, CollectiveCall}
+use Rattle.mpi_model.specs.Kinds.{kind_number}
 use Rattle.mpi_model.specs.declared.envelope.Peer.{Peer}
 use Rattle.mpi_model.specs.declared.envelope.Peer.TheVariants as peers
 use Rattle.mpi_model.specs.declared.envelope.CommRef.{CommRef}
 use Rattle.mpi_model.specs.declared.envelope.CommRef.TheVariants as comms
 use Rattle.mpi_model.specs.declared.envelope.Mode.{Mode}
 use Rattle.mpi_model.specs.declared.envelope.Mode.TheVariants as modes
-use Rattle.mpi_model.specs.declared.collective.Kind.{Kind}
-use Rattle.mpi_model.specs.declared.collective.Kind.TheVariants as kinds
+use Rattle.mpi_model.specs.declared.kind.Kind.{Kind}
+use Rattle.mpi_model.specs.declared.kind.Kind.TheVariants as kinds
 use Rattle.mpi_model.specs.declared.envelope.Envelope.{Envelope}
 use Rattle.mpi_model.specs.declared.told.Told.{Told}
 use Rattle.mpi_model.specs.declared.told.Told.TheVariants as tolds
 use Rattle.trace_wire.specs.Forms.{◌>>=◌, number, byte, mapped, guarded, pair, small, marked, signed, small_of, marked_of, marked_code}
-use Rattle.trace_wire.specs.Fields.{peer_code, peer_of, told_code, told_of, comm_code, comm_of, mode_code, mode_of, kind_of, flag_code, flag_of, peer, told, comm, mode, kind, flag, moment, stamp, envelope, named, send_envelope, same_comm, exchange, rooted, gathering, probe}
+use Rattle.trace_wire.specs.Fields.{peer_code, peer_of, told_code, told_of, comm_code, comm_of, mode_code, mode_of, kind_of, flag_code, flag_of, peer, told, comm, mode, kind, flag, moment, stamp, envelope, named, send_envelope, same_comm, exchange, rooted, gathering, is_barrier, ibarrier, igathering, probe}
 use Rattle.mpi_model.specs.Events.{IsSigned, IsSent, IsReceived, IsExchanged}
 use Rattle.trace_wire.proofs.FormLaws.{IsForm, wide32, wide64, number_form, byte_form, mapped_form, pair_form, guarded_form, record_form, refit, chosen, choose, no_value, some_is, bind_some}
 
@@ -185,7 +186,15 @@ kind_back n m e =
     step kind_number n 5 kinds.Allreduce _ m refl e5 (λ e6.
     step kind_number n 6 kinds.Allgather _ m refl e6 (λ e7.
     step kind_number n 7 kinds.Alltoall _ m refl e7 (λ e8.
-    step kind_number n 8 kinds.Ibarrier _ m refl e8 (no_value _ m)))))))))
+    step kind_number n 8 kinds.Scan _ m refl e8 (λ e9.
+    step kind_number n 9 kinds.Exscan _ m refl e9 (λ e10.
+    step kind_number n 10 kinds.ReduceScatterBlock _ m refl e10 (λ e11.
+    step kind_number n 11 kinds.ReduceScatter _ m refl e11 (λ e12.
+    step kind_number n 12 kinds.Allgatherv _ m refl e12 (λ e13.
+    step kind_number n 13 kinds.Alltoallv _ m refl e13 (λ e14.
+    step kind_number n 14 kinds.Alltoallw _ m refl e14 (λ e15.
+    step kind_number n 15 kinds.Gatherv _ m refl e15 (λ e16.
+    step kind_number n 16 kinds.Scatterv _ m refl e16 (no_value _ m)))))))))))))))))
 
 kind_again : (m : Kind) → kind_of (kind_number m) ≡ Some m
 kind_again kinds.Barrier = refl
@@ -196,7 +205,15 @@ kind_again kinds.Reduce = refl
 kind_again kinds.Allreduce = refl
 kind_again kinds.Allgather = refl
 kind_again kinds.Alltoall = refl
-kind_again kinds.Ibarrier = refl
+kind_again kinds.Scan = refl
+kind_again kinds.Exscan = refl
+kind_again kinds.ReduceScatterBlock = refl
+kind_again kinds.ReduceScatter = refl
+kind_again kinds.Allgatherv = refl
+kind_again kinds.Alltoallv = refl
+kind_again kinds.Alltoallw = refl
+kind_again kinds.Gatherv = refl
+kind_again kinds.Scatterv = refl
 
 kind_fits : (m : Kind) → kind_number m < 256
 kind_fits kinds.Barrier = omega arith
@@ -207,7 +224,15 @@ kind_fits kinds.Reduce = omega arith
 kind_fits kinds.Allreduce = omega arith
 kind_fits kinds.Allgather = omega arith
 kind_fits kinds.Alltoall = omega arith
-kind_fits kinds.Ibarrier = omega arith
+kind_fits kinds.Scan = omega arith
+kind_fits kinds.Exscan = omega arith
+kind_fits kinds.ReduceScatterBlock = omega arith
+kind_fits kinds.ReduceScatter = omega arith
+kind_fits kinds.Allgatherv = omega arith
+kind_fits kinds.Alltoallv = omega arith
+kind_fits kinds.Alltoallw = omega arith
+kind_fits kinds.Gatherv = omega arith
+kind_fits kinds.Scatterv = omega arith
 
 pub kind_form : IsForm kind (λ _. Unit {0})
 kind_form = few_form kind_number kind_of kind_back kind_again kind_fits
@@ -276,42 +301,12 @@ received (peers.Rank r) None a b = absurd b
 received (peers.Rank r) (Some n) a b = (a, b, refl)
 
 rooted_there : (k : Kind) (r : Option ℕ) → IsAskedTag r → rooted k r ≡ true → IsRootOf k r
-rooted_there kinds.Barrier None f h = refl
-rooted_there kinds.Barrier (Some n) f h = absurd cc
-rooted_there kinds.Allreduce None f h = refl
-rooted_there kinds.Allreduce (Some n) f h = absurd cc
-rooted_there kinds.Allgather None f h = refl
-rooted_there kinds.Allgather (Some n) f h = absurd cc
-rooted_there kinds.Alltoall None f h = refl
-rooted_there kinds.Alltoall (Some n) f h = absurd cc
-rooted_there kinds.Bcast None f h = absurd cc
-rooted_there kinds.Bcast (Some n) f h = f
-rooted_there kinds.Scatter None f h = absurd cc
-rooted_there kinds.Scatter (Some n) f h = f
-rooted_there kinds.Gather None f h = absurd cc
-rooted_there kinds.Gather (Some n) f h = f
-rooted_there kinds.Reduce None f h = absurd cc
-rooted_there kinds.Reduce (Some n) f h = f
-rooted_there kinds.Ibarrier r f h = absurd cc
+rooted_there k None f h = tt
+rooted_there k (Some n) f h = (h, f)
 
 rooted_here : (k : Kind) (r : Option ℕ) → IsRootOf k r → IsAskedTag r × (rooted k r ≡ true)
-rooted_here kinds.Barrier None f = (tt, refl)
-rooted_here kinds.Barrier (Some n) f = absurd cc
-rooted_here kinds.Allreduce None f = (tt, refl)
-rooted_here kinds.Allreduce (Some n) f = absurd cc
-rooted_here kinds.Allgather None f = (tt, refl)
-rooted_here kinds.Allgather (Some n) f = absurd cc
-rooted_here kinds.Alltoall None f = (tt, refl)
-rooted_here kinds.Alltoall (Some n) f = absurd cc
-rooted_here kinds.Bcast None f = absurd f
-rooted_here kinds.Bcast (Some n) f = (f, refl)
-rooted_here kinds.Scatter None f = absurd f
-rooted_here kinds.Scatter (Some n) f = (f, refl)
-rooted_here kinds.Gather None f = absurd f
-rooted_here kinds.Gather (Some n) f = (f, refl)
-rooted_here kinds.Reduce None f = absurd f
-rooted_here kinds.Reduce (Some n) f = (f, refl)
-rooted_here kinds.Ibarrier r f = absurd f
+rooted_here k None f = (tt, refl)
+rooted_here k (Some n) f = (f.1, f.0)
 
 -- A send names its peer and its tag.
 send_there : (e : Envelope) → IsReceived e × (named e.peer e.tag ≡ true) → IsSent e
@@ -344,6 +339,30 @@ gathering_form = record_form (guarded (pair kind (pair marked comm)) (λ x. root
     (λ a fits. (rooted_there a.0 a.1.0 fits.0.1.0 fits.1, fits.0.1.1))
     (λ b fits. let r = rooted_here b.kind b.root fits.0 in ((tt, (r.0, fits.1)), r.1))
     (guarded_form (pair kind (pair marked comm)) (λ x. rooted x.0 x.1.0) _ (pair_form kind (pair marked comm) _ _ kind_form (pair_form marked comm _ _ marked_form comm_form)))
+
+-- MPI_Ibarrier
+abbrev pub IsIbarrier : CollectiveCall → Type 0
+IsIbarrier g = IsCollective g × (is_barrier g.kind ≡ true)
+
+-- only Barrier has its number, and it has no root
+no_more : (k : Kind) (r : Option ℕ) (c : CommRef) → IsRootOf k r → is_barrier k ≡ true → ◌≡◌ {A = Option CollectiveCall} (Some (record { kind = kinds.Barrier; root = None; comm = c })) (Some (record { kind = k; root = r; comm = c }))
+no_more kinds.Barrier None c f h = refl
+no_more kinds.Barrier (Some n) c f h = absurd (let e : false ≡ true = f.0 in cc)
+no_more k r c f h = absurd cc
+
+pub ibarrier_form : IsForm ibarrier IsIbarrier
+ibarrier_form = mapped_form comm (λ g. g.comm) (λ c. Some (record { kind = kinds.Barrier; root = None; comm = c })) IsComm IsIbarrier comm_form (record {
+  back = λ c g fits e. subst (λ (h : CollectiveCall). (h.comm ≡ c) × IsIbarrier h) (some_is _ g e) (refl, ((tt, fits), refl));
+  again = λ g fits. no_more g.kind g.root g.comm fits.0.0 fits.1;
+  fits = λ g fits. fits.0.1;
+})
+
+-- every other nonblocking call
+abbrev pub IsOtherCall : CollectiveCall → Type 0
+IsOtherCall g = IsCollective g × (not (is_barrier g.kind) ≡ true)
+
+pub igathering_form : IsForm igathering IsOtherCall
+igathering_form = guarded_form gathering (λ g. not (is_barrier g.kind)) IsCollective gathering_form
 
 pub probe_form : IsForm probe IsProbe
 probe_form = record_form (pair peer (pair marked comm)) (λ e. (e.source, (e.tag, e.comm))) (λ x. record { source = x.0; tag = x.1.0; comm = x.1.1 }) _ IsProbe (λ a. refl) (λ b. refl)

@@ -48,6 +48,7 @@ abbrev pub IsInRange : Known → Type 0
 IsInRange (knowns.One event) = IsEvent event
 IsInRange knowns.Contradiction = ⊤
 
+-- all cells have values in their ranges
 abbrev pub AreInRange : List Entry → Type 0
 AreInRange [] = ⊤
 AreInRange (e ∷ es) = IsInRange e.1 × AreInRange es

@@ -1,16 +1,17 @@
 -- The fields of calls and outcomes, as forms.
-use Rattle.std.specs.Prelude.{ℕ, Bool, true, false, List, [], ◌∷◌, Option, Some, None, nat_le, ◌==◌, if◌then◌else◌}
+use Rattle.std.specs.Prelude.{ℕ, Bool, true, false, List, [], ◌∷◌, Option, Some, None, nat_le, not, ◌==◌, if◌then◌else◌}
 use Rattle.std.specs.Int.{w32, w64}
 use Rattle.mpi_model.specs.Times.{Times, latest}
-use Rattle.mpi_model.specs.Ranges.{BothEnvelopes, CollectiveCall, Probed, kind_number}
+use Rattle.mpi_model.specs.Kinds.{has_root, kind_number}
+use Rattle.mpi_model.specs.Ranges.{BothEnvelopes, CollectiveCall, Probed}
 use Rattle.mpi_model.specs.declared.envelope.Peer.{Peer}
 use Rattle.mpi_model.specs.declared.envelope.Peer.TheVariants as peers
 use Rattle.mpi_model.specs.declared.envelope.CommRef.{CommRef}
 use Rattle.mpi_model.specs.declared.envelope.CommRef.TheVariants as comms
 use Rattle.mpi_model.specs.declared.envelope.Mode.{Mode}
 use Rattle.mpi_model.specs.declared.envelope.Mode.TheVariants as modes
-use Rattle.mpi_model.specs.declared.collective.Kind.{Kind}
-use Rattle.mpi_model.specs.declared.collective.Kind.TheVariants as kinds
+use Rattle.mpi_model.specs.declared.kind.Kind.{Kind}
+use Rattle.mpi_model.specs.declared.kind.Kind.TheVariants as kinds
 use Rattle.mpi_model.specs.declared.envelope.Envelope.{Envelope}
 use Rattle.mpi_model.specs.declared.list.elements.Element.{Element}
 use Rattle.mpi_model.specs.declared.told.Told.{Told}
@@ -59,7 +60,7 @@ mode_of n =
     if n == 2 then Some modes.Buffered else (
     if n == 3 then Some modes.Ready else None)))
 
--- the kind of a collective call, by its number (MPI 4.0, chapter 6); that of Ibarrier stands in no call
+-- the kind of a collective call, by its number (MPI 4.0, chapter 6)
 abbrev pub kind_of : ℕ → Option Kind
 kind_of n =
     if n == 0 then Some kinds.Barrier else (
@@ -70,7 +71,15 @@ kind_of n =
     if n == 5 then Some kinds.Allreduce else (
     if n == 6 then Some kinds.Allgather else (
     if n == 7 then Some kinds.Alltoall else (
-    if n == 8 then Some kinds.Ibarrier else None))))))))
+    if n == 8 then Some kinds.Scan else (
+    if n == 9 then Some kinds.Exscan else (
+    if n == 10 then Some kinds.ReduceScatterBlock else (
+    if n == 11 then Some kinds.ReduceScatter else (
+    if n == 12 then Some kinds.Allgatherv else (
+    if n == 13 then Some kinds.Alltoallv else (
+    if n == 14 then Some kinds.Alltoallw else (
+    if n == 15 then Some kinds.Gatherv else (
+    if n == 16 then Some kinds.Scatterv else None))))))))))))))))
 
 -- whether a test found its request completed
 abbrev pub flag_code : Bool → ℕ
@@ -136,30 +145,26 @@ abbrev pub exchange : Form BothEnvelopes
 exchange = mapped (guarded (pair send_envelope envelope) (λ x. same_comm x.0.comm x.1.comm))
     (λ b. (b.send, b.receive)) (λ x. Some (record { send = x.0; receive = x.1 }))
 
--- Four kinds of collective calls have a root, and the others have none. No call has the kind Ibarrier.
+-- A kind without a root has the mark of none. A call of another kind may name none.
 abbrev pub rooted : Kind → Option ℕ → Bool
-rooted kinds.Barrier None = true
-rooted kinds.Barrier (Some n) = false
-rooted kinds.Allreduce None = true
-rooted kinds.Allreduce (Some n) = false
-rooted kinds.Allgather None = true
-rooted kinds.Allgather (Some n) = false
-rooted kinds.Alltoall None = true
-rooted kinds.Alltoall (Some n) = false
-rooted kinds.Bcast None = false
-rooted kinds.Bcast (Some n) = true
-rooted kinds.Scatter None = false
-rooted kinds.Scatter (Some n) = true
-rooted kinds.Gather None = false
-rooted kinds.Gather (Some n) = true
-rooted kinds.Reduce None = false
-rooted kinds.Reduce (Some n) = true
-rooted kinds.Ibarrier root = false
+rooted k None = true
+rooted k (Some root) = has_root k
 
 -- a collective call: kind, root, communicator
 abbrev pub gathering : Form CollectiveCall
 gathering = mapped (guarded (pair kind (pair marked comm)) (λ x. rooted x.0 x.1.0))
     (λ g. (g.kind, (g.root, g.comm))) (λ x. Some (record { kind = x.0; root = x.1.0; comm = x.1.1 }))
+
+-- MPI_Ibarrier is spelled by its communicator alone, and no other nonblocking call is.
+abbrev pub is_barrier : Kind → Bool
+is_barrier kind = kind_number kind == kind_number kinds.Barrier
+
+abbrev pub ibarrier : Form CollectiveCall
+ibarrier = mapped comm (λ g. g.comm) (λ c. Some (record { kind = kinds.Barrier; root = None; comm = c }))
+
+-- every other nonblocking collective call
+abbrev pub igathering : Form CollectiveCall
+igathering = guarded gathering (λ g. not (is_barrier g.kind))
 
 -- what a probe looks for: peer, tag, communicator
 abbrev pub probe : Form Probed

@@ -47,15 +47,19 @@ HasFrameAs version es = AreCells None es × (length (payload_as version es) ≤ 
 
 -- ---- version 2, which is written where no version is asked for
 
+-- the payload of version 2
 abbrev pub payload : List Entry → List ℕ
 payload es = payload_as Two es
 
+-- the frame of version 2
 abbrev pub frame : List Entry → List ℕ
 frame es = frame_as Two es
 
+-- the limit of version 2
 abbrev pub longest : ℕ
 longest = longest_of Two
 
+-- the cells have a frame of version 2
 abbrev pub HasFrame : List Entry → Type 0
 HasFrame es = HasFrameAs Two es
 

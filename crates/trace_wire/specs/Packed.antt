@@ -59,9 +59,11 @@ IsUnpacked view old new before now fault = ⊥
 abbrev pub Framed : Type 0
 Framed = Version × View
 
+-- the bytes of one frame
 abbrev pub framed_bytes : Framed → List ℕ
 framed_bytes f = frame_as f.0 (entries f.1)
 
+-- the bytes of frames, one after another
 abbrev pub all_bytes : List Framed → List ℕ
 all_bytes frames = flat_map framed_bytes frames
 
@@ -123,6 +125,7 @@ abbrev pub BreaksOffAt : ℕ → Option (List ℕ) → ℕ → WireFault → Typ
 BreaksOffAt ranks None count fault = Unit {0}
 BreaksOffAt ranks (Some bytes) count fault = BreaksAt ranks bytes count fault
 
+-- the same, of a reader that tells its bytes
 abbrev pub StraysOffAt : ℕ → Option (List ℕ) → ℕ → Type 0
 StraysOffAt ranks None count = Unit {0}
 StraysOffAt ranks (Some bytes) count = StraysAt ranks bytes count

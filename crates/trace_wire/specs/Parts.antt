@@ -82,9 +82,11 @@ pub record Part (A : Type 0) : Type 0 where
   pub read : Option (ℕ × ℕ) → List ℕ → Result (A × List ℕ) WireFault
   pub end : A → ℕ × ℕ
 
+-- the parts of version 1
 abbrev pub cell : Part Entry
 cell = record { spell = cell_bytes; read = cell_at; end = λ e. e.0 }
 
+-- the parts of version 2
 abbrev pub run : Part PlacedRun
 run = record { spell = run_bytes; read = run_at; end = behind }
 

@@ -15,6 +15,7 @@ pub record PlacedRun : Type 0 where
   pub first : ℕ
   pub cells : List Known
 
+-- a run from a place of a rank on
 abbrev pub placed_run : ℕ × ℕ → List Known → PlacedRun
 placed_run here cells = record { rank = here.0; first = here.1; cells = cells }
 
@@ -32,6 +33,7 @@ runs_of (e ∷ es) = in_front e (runs_of es)
 abbrev pub run_cells : PlacedRun → List Entry
 run_cells r = placed_cells r.rank r.first r.cells
 
+-- all cells of some runs
 abbrev pub cells_in : List PlacedRun → List Entry
 cells_in rs = flat_map run_cells rs
 

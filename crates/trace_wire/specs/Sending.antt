@@ -32,6 +32,7 @@ pub record Sends (s t : Page) (bytes : List ℕ) : Type 0 where
 abbrev pub opening : Option (List ℕ) → ℕ → Side → Page
 opening out failures side = record { lent = 0; out = out; failures = failures; side = side; pending = []; failed = false }
 
+-- the device after a frame
 abbrev pub closing : Option (List ℕ) → ℕ → Side → Bool → Page
 closing out failures side failed = record { lent = 0; out = out; failures = failures; side = side; pending = []; failed = failed }
 

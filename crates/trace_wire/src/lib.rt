@@ -11,10 +11,11 @@
 //! takes no memory and calls the device once for each 32,768 bytes; reading takes memory for the bytes that really came,
 //! whatever the length field and the counts say, and then for the knowledge.
 //!
-//! - [`version`]: the versions and their limits
+//! - [`version`]: the versions and their limits; [`fault`]: why a frame is refused
 //! - [`write`]: a frame, field by field, into a page that goes to the device when it is full
 //! - [`size`]: how long a frame is
 //! - [`read`]: the head, the payload in pieces, and its cells or runs
+//! - [`kind`]: which nonblocking collective calls have a spelling of their own
 //! - [`item`]: what stands in counted lists, in both directions
 //! - [`packed`]: knowledge of any size as frames one after another, and joined again
 //! - [`laws`]: what holds of frames, as the contract of a call that does nothing
@@ -34,6 +35,7 @@ macro_rules! field {
 
 mod fault;
 mod item;
+mod kind;
 mod laws;
 mod packed;
 mod read;

@@ -1,15 +1,17 @@
 //! How many bytes a frame has. A number too large for a `u64` stays at the greatest.
 
-ghost use Rattle.std.specs.Prelude.{◌≡◌, ◌+◌, ◌*◌, ◌-◌, ◌^◌, None, min, length};
+ghost use Rattle.std.specs.Prelude.{◌≡◌, ◌+◌, ◌*◌, ◌-◌, ◌^◌, None, min, length, if◌then◌else◌};
 ghost use Rattle.std.specs.FinMap.{entries};
 ghost use Rattle.trace_wire.specs.declared.version.Version.TheVariants.{Two};
+ghost use Rattle.trace_wire.specs.Fields.{is_barrier};
 ghost use Rattle.trace_wire.specs.Events.{call_fields, event_bytes, outs_fields};
 ghost use Rattle.trace_wire.specs.Cells.{AreCells, AreInRange, IsInRange, known_bytes, knowns_bytes, knowns_of};
 ghost use Rattle.trace_wire.specs.Frames.{frame_as, parts_in, payload_as};
 ghost use Rattle.trace_wire.specs.Sizes.{head_len, part_end};
 
+use crate::kind::is_barrier;
 use crate::version::Version;
-use mpi_model::{Call, Event, Outs};
+use mpi_model::{Call, Event, Kind, Outs};
 use trace_know::{Knowledge, Known, Walk, listing_laws};
 
 /// The bytes of a head: what stands before the payload.
@@ -20,6 +22,13 @@ fn list_len(count: usize, each: u64) -> u64
     ensures { result ≡ min (4 + count * each) (2 ^ 64 - 1) }
 {
     (count as u64).saturating_mul(each).saturating_add(4)
+}
+
+/// The bytes behind the code and the times of a nonblocking collective call.
+fn icollective_len(kind: Kind) -> u64
+    ensures { result ≡ (if is_barrier kind then 4 else 9) }
+{
+    if is_barrier(kind) { 4 } else { 9 }
 }
 
 /// The bytes behind the code and the times of a call.
@@ -40,8 +49,8 @@ fn call_len(call: &Call) -> u64
         | Call::Testany(requests)
         | Call::Testsome(requests) => list_len(requests.as_slice().len(), 8),
         Call::Collective(_) => 9,
+        Call::Icollective(call) => icollective_len(call.kind()),
         Call::Probe(_) => 12,
-        Call::Ibarrier(_) => 4,
     }
 }
 

@@ -2,8 +2,8 @@
 
 use crate::fixture::{LATEST, WORKED, WORKED_ONE, both, frame, read, taken};
 use mpi_model::{
-    Call, Collective, CommRef, Element, Elements, Envelope, Exchange, Kind, Mode, NamedComm, Outs,
-    Peer, ProbeEnvelope, ReceiveEnvelope, Requests, SendEnvelope, Sources, Told,
+    Call, Collective, CommRef, Element, Elements, Envelope, Exchange, Kind, Mode, Outs, Peer,
+    ProbeEnvelope, ReceiveEnvelope, Requests, SendEnvelope, Sources, Told,
 };
 use std::alloc::Global;
 use std::process::Abort;
@@ -265,21 +265,21 @@ fn probes(rt: HostRuntime) {
 
 #[test]
 fn ibarriers(rt: HostRuntime) {
-    let world = NamedComm::new(CommRef::World).expect(&rt, "the world");
+    let world = Collective::new(Kind::Barrier, None, CommRef::World).expect(&rt, "a call");
     assert!(rt;
         enters(
             &rt,
             rt.alloc(),
-            Call::Ibarrier(world),
+            Call::Icollective(world),
             (14, b"\xFF\xFF\xFF\xFF")
         )
     );
-    let last = NamedComm::new(CommRef::Id(MOST)).expect(&rt, "a communicator");
+    let last = Collective::new(Kind::Barrier, None, CommRef::Id(MOST)).expect(&rt, "a call");
     assert!(rt;
         enters(
             &rt,
             rt.alloc(),
-            Call::Ibarrier(last),
+            Call::Icollective(last),
             (14, b"\x7F\xFF\xFF\xFF")
         )
     );
@@ -355,28 +355,55 @@ fn waits(rt: HostRuntime) {
     }
 }
 
-/// The kinds of collective calls in the order of their codes, each with its root.
-static KINDS: [(Kind, Option<u32>); 8] = [
-    (Kind::Barrier, None),
-    (Kind::Bcast, Some(0)),
-    (Kind::Scatter, Some(1)),
-    (Kind::Gather, Some(MOST)),
-    (Kind::Reduce, Some(2)),
-    (Kind::Allreduce, None),
-    (Kind::Allgather, None),
-    (Kind::Alltoall, None),
+/// The kinds of collective calls with their codes, each with a root where it can have one, and without.
+static KINDS: [(u8, Kind, Option<u32>); 23] = [
+    (0, Kind::Barrier, None),
+    (1, Kind::Bcast, Some(0)),
+    (1, Kind::Bcast, None),
+    (2, Kind::Scatter, Some(1)),
+    (2, Kind::Scatter, None),
+    (3, Kind::Gather, Some(MOST)),
+    (3, Kind::Gather, None),
+    (4, Kind::Reduce, Some(2)),
+    (4, Kind::Reduce, None),
+    (5, Kind::Allreduce, None),
+    (6, Kind::Allgather, None),
+    (7, Kind::Alltoall, None),
+    (8, Kind::Scan, None),
+    (9, Kind::Exscan, None),
+    (10, Kind::ReduceScatterBlock, None),
+    (11, Kind::ReduceScatter, None),
+    (12, Kind::Allgatherv, None),
+    (13, Kind::Alltoallv, None),
+    (14, Kind::Alltoallw, None),
+    (15, Kind::Gatherv, Some(3)),
+    (15, Kind::Gatherv, None),
+    (16, Kind::Scatterv, Some(MOST)),
+    (16, Kind::Scatterv, None),
 ];
+
+/// A row on communicator 5, and its fields.
+fn collective<R: Abort>(rt: &R, row: &(u8, Kind, Option<u32>)) -> (Collective, [u8; 9]) {
+    let call = Collective::new(row.1, row.2, CommRef::Id(5)).expect(rt, "a call");
+    let [a, b, c, d] = row.2.unwrap_or(u32::MAX).to_be_bytes();
+    (call, [row.0, a, b, c, d, 0, 0, 0, 5])
+}
 
 #[test]
 fn collective_calls(rt: HostRuntime) {
-    let mut code: u8 = 0;
-    for (kind, root) in KINDS {
-        let call = Collective::new(kind, root, CommRef::Id(5)).expect(&rt, "a call");
-        let [a, b, c, d] = root.unwrap_or(u32::MAX).to_be_bytes();
-        let fields = [code, a, b, c, d, 0, 0, 0, 5];
+    for row in &KINDS {
+        let (call, fields) = collective(&rt, row);
         let is_so = enters(&rt, rt.alloc(), Call::Collective(call), (12, &fields));
-        assert!(rt; is_so, "{code}");
-        code = code.saturating_add(1);
+        assert!(rt; is_so, "{}", row.0);
+    }
+}
+
+#[test]
+fn nonblocking_collective_calls(rt: HostRuntime) {
+    for row in KINDS.iter().skip(1) {
+        let (call, fields) = collective(&rt, row);
+        let is_so = enters(&rt, rt.alloc(), Call::Icollective(call), (28, &fields));
+        assert!(rt; is_so, "{}", row.0);
     }
 }
 

@@ -9,6 +9,7 @@ use Rattle.trace_node.specs.Codes.{coded_held}
 use Rattle.trace_node.specs.Node.{Held}
 use Rattle.trace_world.specs.Shows.{WorldState}
 
+-- a world, as a tree of numbers
 abbrev pub coded_world : Coded WorldState
 coded_world = code_by (Parts × (List Held × (List (List PlacedEvents) × List (List ℕ))))
     (coded× layout.the_row.coded (coded× (coded_list coded_held) (coded× (coded_list (coded_list segment.the_row.coded)) (coded_list (coded_list coded_ℕ)))))

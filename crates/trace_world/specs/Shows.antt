@@ -27,6 +27,7 @@ pub record WorldState : Type 0 where
   pub inboxes : List (List PlacedEvents)
   pub mails : List (List ℕ)
 
+-- what a world holds
 abbrev pub world_state : Parts → List Held → List (List PlacedEvents) → List (List ℕ) → WorldState
 world_state layout nodes inboxes mails = record { layout = layout; nodes = nodes; inboxes = inboxes; mails = mails }
 

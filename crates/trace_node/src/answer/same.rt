@@ -6,7 +6,7 @@ ghost use Rattle.trace_node.specs.Stopped.{stopped};
 
 use crate::answer::Answer;
 use crate::stuck::Stuck;
-use mpi_model::{Kind, OpName};
+use mpi_model::{CollectiveFunction, OpName};
 use trace_ops::State;
 use trace_pair::Pair;
 use trace_wait::{Round, Standing};
@@ -47,7 +47,7 @@ fn are_same_pairs(first: &[Pair], second: &[Pair]) -> bool
     first == second
 }
 
-fn is_same_kind(first: Kind, second: Kind) -> bool
+fn is_same_function(first: CollectiveFunction, second: CollectiveFunction) -> bool
     ensures { IsTrue result ↔ (first ≡ second) }
 {
     first == second
@@ -69,10 +69,10 @@ fn is_same_standing(first: Standing, second: Standing) -> bool
     match (first, second) {
         (Standing::Mismatched, Standing::Mismatched) => true,
         (Standing::Complete(a, r), Standing::Complete(b, s)) => {
-            is_same_kind(a, b) && is_same_root(r, s)
+            is_same_function(a, b) && is_same_root(r, s)
         }
         (Standing::Partial(a, r, n, m), Standing::Partial(b, s, o, p)) => {
-            is_same_kind(a, b) && is_same_root(r, s) && n == o && m == p
+            is_same_function(a, b) && is_same_root(r, s) && n == o && m == p
         }
         _ => false,
     }

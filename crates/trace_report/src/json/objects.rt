@@ -1,6 +1,6 @@
 //! The objects of contradictions, pairs, postponed messages, rounds and stuck ranks.
 
-ghost use Rattle.trace_report.specs.Json.{complete_fields, kind_fields, open_fields, root_value, standing_fields};
+ghost use Rattle.trace_report.specs.Json.{called_fields, complete_fields, open_fields, root_value, standing_fields};
 ghost use Rattle.trace_report.specs.Page.{Prints};
 
 use crate::form::Form;
@@ -9,8 +9,8 @@ use crate::json::ranks::bool_text;
 use crate::seconds::put_seconds;
 use crate::sink::Sink;
 use crate::waits::put_wait;
-use crate::words::{kind_word, put_number};
-use mpi_model::{Kind, OpName};
+use crate::words::{put_function, put_number};
+use mpi_model::{CollectiveFunction, OpName};
 use trace_node::Stuck;
 use trace_pair::Pair;
 use trace_wait::{Round, Standing};
@@ -99,36 +99,42 @@ fn put_standing<S: Sink>(out: &mut S, standing: Standing)
 {
     match standing {
         Standing::Mismatched => out.put(b"mismatched\""),
-        Standing::Complete(kind, root) => put_complete(out, kind, root),
-        Standing::Partial(kind, root, entered, members) => {
-            put_open(out, kind, root, entered, members)
+        Standing::Complete(function, root) => put_complete(out, function, root),
+        Standing::Partial(function, root, entered, members) => {
+            put_open(out, function, root, entered, members)
         }
     }
 }
 
-fn put_complete<S: Sink>(out: &mut S, kind: Kind, root: Option<u32>)
-    ensures { Prints (S.page out.old) (S.page out.new) (complete_fields kind root) }
+fn put_complete<S: Sink>(out: &mut S, function: CollectiveFunction, root: Option<u32>)
+    ensures { Prints (S.page out.old) (S.page out.new) (complete_fields function root) }
 {
     out.put(b"complete\"");
-    put_kind(out, kind, root);
+    put_called(out, function, root);
 }
 
-fn put_open<S: Sink>(out: &mut S, kind: Kind, root: Option<u32>, entered: u32, members: u32)
-    ensures { Prints (S.page out.old) (S.page out.new) (open_fields kind root entered members) }
+fn put_open<S: Sink>(
+    out: &mut S,
+    function: CollectiveFunction,
+    root: Option<u32>,
+    entered: u32,
+    members: u32,
+)
+    ensures { Prints (S.page out.old) (S.page out.new) (open_fields function root entered members) }
 {
     out.put(b"open\"");
-    put_kind(out, kind, root);
+    put_called(out, function, root);
     out.put(b",\"entered\":");
     put_number(out, entered as u64);
     out.put(b",\"members\":");
     put_number(out, members as u64);
 }
 
-fn put_kind<S: Sink>(out: &mut S, kind: Kind, root: Option<u32>)
-    ensures { Prints (S.page out.old) (S.page out.new) (kind_fields kind root) }
+fn put_called<S: Sink>(out: &mut S, function: CollectiveFunction, root: Option<u32>)
+    ensures { Prints (S.page out.old) (S.page out.new) (called_fields function root) }
 {
     out.put(b",\"kind\":\"");
-    out.put(kind_word(kind));
+    put_function(out, function);
     out.put(b"\",\"root\":");
     put_root(out, root);
 }

@@ -2,15 +2,16 @@
 
 ghost use Rattle.trace_wire.specs.Outcomes.{Reads};
 ghost use Rattle.trace_wire.specs.Events.{call_at, further_call_at, outs_at, event_at, body_at};
-ghost use Rattle.trace_wire.specs.Fields.{comm, envelope, send_envelope, exchange, gathering, probe, index};
+ghost use Rattle.trace_wire.specs.Fields.{envelope, send_envelope, exchange, gathering, ibarrier, igathering, probe, index};
 
+use crate::kind::is_barrier;
 use crate::read::field::{
     FieldFault, byte_of, comm_field, flag_field, kind_field, marked_field, mode_field, peer_field,
     signed_of, small_field, stamp_field, told_field, u32_of,
 };
 use crate::read::list::list_of;
 use mpi_model::{
-    Call, Collective, Elements, Envelope, Event, Exchange, NamedComm, Outs, ProbeEnvelope,
+    Call, Collective, Elements, Envelope, Event, Exchange, Kind, Outs, ProbeEnvelope,
     ReceiveEnvelope, Requests, SendEnvelope, Sources, Stamp,
 };
 use std::alloc::Global;
@@ -62,7 +63,7 @@ fn exchange_field(bytes: &[u8]) -> Result<(Exchange, &[u8]), FieldFault>
     }
 }
 
-/// A collective call, with a root just where its kind has one.
+/// A collective call, with a root only where its kind has one.
 #[inline(always)]
 fn collective_field(bytes: &[u8]) -> Result<(Collective, &[u8]), FieldFault>
     ensures { Reads (λ x. (x.0, x.1.now)) result (gathering.read bytes.now) }
@@ -76,6 +77,28 @@ fn collective_field(bytes: &[u8]) -> Result<(Collective, &[u8]), FieldFault>
     }
 }
 
+/// `MPI_Ibarrier`, which names nothing but its communicator.
+fn ibarrier_field(bytes: &[u8]) -> Result<(Collective, &[u8]), FieldFault>
+    ensures { Reads (λ x. (x.0, x.1.now)) result (ibarrier.read bytes.now) }
+{
+    let (comm, rest) = comm_field(bytes)?;
+    match Collective::new(Kind::Barrier, None, comm) {
+        Some(found) => Ok((found, rest)),
+        None => Err(FieldFault::Content),
+    }
+}
+
+/// Every other nonblocking collective call.
+fn icollective_field(bytes: &[u8]) -> Result<(Collective, &[u8]), FieldFault>
+    ensures { Reads (λ x. (x.0, x.1.now)) result (igathering.read bytes.now) }
+{
+    let (found, rest) = field!(collective_field(bytes));
+    if is_barrier(found.kind()) {
+        return Err(FieldFault::Content);
+    }
+    Ok((found, rest))
+}
+
 /// What a probe looks for.
 fn probe_field(bytes: &[u8]) -> Result<(ProbeEnvelope, &[u8]), FieldFault>
     ensures { Reads (λ x. (x.0, x.1.now)) result (probe.read bytes.now) }
@@ -84,17 +107,6 @@ fn probe_field(bytes: &[u8]) -> Result<(ProbeEnvelope, &[u8]), FieldFault>
     let (tag, rest) = marked_field(rest)?;
     let (comm, rest) = comm_field(rest)?;
     match ProbeEnvelope::new(source, tag, comm) {
-        Some(found) => Ok((found, rest)),
-        None => Err(FieldFault::Content),
-    }
-}
-
-/// The communicator of a call that names nothing else.
-fn named_comm_field(bytes: &[u8]) -> Result<(NamedComm, &[u8]), FieldFault>
-    ensures { Reads (λ x. (x.0, x.1.now)) result (comm.read bytes.now) }
-{
-    let (found, rest) = comm_field(bytes)?;
-    match NamedComm::new(found) {
         Some(found) => Ok((found, rest)),
         None => Err(FieldFault::Content),
     }
@@ -115,7 +127,7 @@ fn index_field(bytes: &[u8]) -> Result<(Option<u32>, &[u8]), FieldFault>
     }
 }
 
-/// A call behind Ibarrier, by the code of its kind.
+/// A call behind `MPI_Ibarrier`, by the code of its kind.
 #[tactic(auto, unfolding(crate::specs::Events::further_call_at))]
 fn further_call_of(alloc: Global, code: u8, bytes: &[u8]) -> Result<(Call, &[u8]), FieldFault>
     ensures { Reads (λ x. (x.0, x.1.now)) result (further_call_at code bytes.now) }
@@ -142,6 +154,10 @@ fn further_call_of(alloc: Global, code: u8, bytes: &[u8]) -> Result<(Call, &[u8]
             Ok((Call::Free(request), rest))
         }
         20 => Ok((Call::Unread, bytes)),
+        28 => {
+            let (call, rest) = field!(icollective_field(bytes));
+            Ok((Call::Icollective(call), rest))
+        }
         _ => Err(FieldFault::Content),
     }
 }
@@ -206,8 +222,8 @@ fn call_of(alloc: Global, code: u8, bytes: &[u8]) -> Result<(Call, &[u8]), Field
             Ok((Call::Probe(envelope), rest))
         }
         14 => {
-            let (comm, rest) = field!(named_comm_field(bytes));
-            Ok((Call::Ibarrier(comm), rest))
+            let (call, rest) = field!(ibarrier_field(bytes));
+            Ok((Call::Icollective(call), rest))
         }
         _ => further_call_of(alloc, code, bytes),
     }

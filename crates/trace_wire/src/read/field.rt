@@ -233,7 +233,15 @@ fn kind_from(n: u8) -> Option<Kind>
         5 => Some(Kind::Allreduce),
         6 => Some(Kind::Allgather),
         7 => Some(Kind::Alltoall),
-        8 => Some(Kind::Ibarrier),
+        8 => Some(Kind::Scan),
+        9 => Some(Kind::Exscan),
+        10 => Some(Kind::ReduceScatterBlock),
+        11 => Some(Kind::ReduceScatter),
+        12 => Some(Kind::Allgatherv),
+        13 => Some(Kind::Alltoallv),
+        14 => Some(Kind::Alltoallw),
+        15 => Some(Kind::Gatherv),
+        16 => Some(Kind::Scatterv),
         _ => None,
     }
 }

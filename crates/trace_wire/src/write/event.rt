@@ -4,16 +4,17 @@ ghost use Rattle.std.specs.Prelude.{◌≡◌, ◌<◌, ◌^◌, length};
 ghost use Rattle.std.specs.List.{flat_map};
 ghost use Rattle.trace_wire.specs.Forms.{byte, list, pair};
 ghost use Rattle.trace_wire.specs.Fields.{stamp};
-ghost use Rattle.trace_wire.specs.Events.{call_code, call_fields, event_bytes, outs_code, outs_fields};
+ghost use Rattle.trace_wire.specs.Events.{call_code, call_fields, event_bytes, icollective_code, outs_code, outs_fields};
 ghost use Rattle.trace_wire.specs.Sending.{Sends};
 
 use crate::item::Item;
+use crate::kind::is_barrier;
 use crate::write::field::{
-    put_byte, put_collective, put_comm, put_envelope, put_exchange, put_flag, put_i64, put_indexed,
-    put_probe, put_sent, put_stamp, put_told, put_u32,
+    put_byte, put_collective, put_envelope, put_exchange, put_flag, put_i64, put_icollective,
+    put_indexed, put_probe, put_sent, put_stamp, put_told, put_u32,
 };
 use crate::write::sink::Sink;
-use mpi_model::{Call, Event, Outs, Stamp};
+use mpi_model::{Call, Event, Kind, Outs, Stamp};
 
 /// Items one after another.
 fn put_items<T: Item, S: Sink>(out: &mut S, items: &[T])
@@ -53,8 +54,8 @@ fn put_call<S: Sink>(out: &mut S, call: &Call)
         | Call::Testany(requests)
         | Call::Testsome(requests) => put_list(out, requests.as_slice()),
         Call::Collective(call) => put_collective(out, *call),
+        Call::Icollective(call) => put_icollective(out, *call),
         Call::Probe(e) => put_probe(out, *e),
-        Call::Ibarrier(named) => put_comm(out, named.comm()),
     }
 }
 
@@ -73,6 +74,13 @@ fn put_outs<S: Sink>(out: &mut S, outs: &Outs)
         Outs::Several(elements) => put_list(out, elements.as_slice()),
         Outs::Flag(done, source) => put_flag(out, *done, *source),
     }
+}
+
+/// The code of a nonblocking collective call.
+fn byte_of_icollective(kind: Kind) -> u8
+    ensures { result ≡ icollective_code kind }
+{
+    if is_barrier(kind) { 14 } else { 28 }
 }
 
 /// The code of a call.
@@ -94,7 +102,7 @@ fn byte_of_call(call: &Call) -> u8
         Call::Test(_) => 11,
         Call::Collective(_) => 12,
         Call::Probe(_) => 13,
-        Call::Ibarrier(_) => 14,
+        Call::Icollective(call) => byte_of_icollective(call.kind()),
         Call::Testall(_) => 15,
         Call::Testany(_) => 16,
         Call::Testsome(_) => 17,

@@ -4,8 +4,10 @@ ghost use Rattle.std.specs.Prelude.{◌≡◌};
 ghost use Rattle.std.specs.Int.{w32, w64};
 ghost use Rattle.trace_wire.specs.Forms.{byte, marked, number, pair, signed};
 ghost use Rattle.trace_wire.specs.Fields.{comm, element, envelope, exchange, flag, gathering, index, mode, mode_code, peer, probe, send_envelope, stamp, told};
+ghost use Rattle.trace_wire.specs.Events.{icollective_fields};
 ghost use Rattle.trace_wire.specs.Sending.{Sends};
 
+use crate::kind::is_barrier;
 use crate::write::sink::Sink;
 use mpi_model::{
     Collective, CommRef, Element, Envelope, Exchange, Mode, Peer, ProbeEnvelope, SendEnvelope,
@@ -93,7 +95,7 @@ fn put_peer<S: Sink>(out: &mut S, end: Peer)
 }
 
 /// A communicator.
-pub(crate) fn put_comm<S: Sink>(out: &mut S, named: CommRef)
+fn put_comm<S: Sink>(out: &mut S, named: CommRef)
     ensures { Sends (S.page out.old) (S.page out.new) (comm.spell named) }
 {
     let code = match named {
@@ -149,6 +151,17 @@ pub(crate) fn put_collective<S: Sink>(out: &mut S, call: Collective)
     put_byte(out, call.kind().number());
     put_marked(out, call.root());
     put_comm(out, call.comm());
+}
+
+/// A nonblocking collective call: `MPI_Ibarrier` by its communicator alone.
+pub(crate) fn put_icollective<S: Sink>(out: &mut S, call: Collective)
+    ensures { Sends (S.page out.old) (S.page out.new) (icollective_fields call) }
+{
+    if is_barrier(call.kind()) {
+        put_comm(out, call.comm());
+    } else {
+        put_collective(out, call);
+    }
 }
 
 /// What a probe looks for: peer, tag and communicator.

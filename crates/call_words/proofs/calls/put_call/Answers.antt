@@ -1,5 +1,5 @@
 use Rattle.std.proofs.Common.{ℤ, List, ap, codes, length, sym, ◌∙◌}
-use Rattle.call_words.specs.Words.{call_text, of_requests_text, on_text}
+use Rattle.call_words.specs.Words.{call_text, of_requests_text}
 use Rattle.call_words.proofs.Adding.{reads}
 use Rattle.call_words.proofs.calls.put_call.Goals as goal
 
@@ -35,6 +35,3 @@ returns-in-Free c = reads c.put-in-Free.ensures (sym (ap call_text c.in-Free.is)
 
 pub returns-in-Unread : goal.returns-in-Unread
 returns-in-Unread c = reads c.put-in-Unread.ensures (sym (ap call_text c.in-Unread.is))
-
-pub returns-in-Ibarrier : goal.returns-in-Ibarrier
-returns-in-Ibarrier c = reads c.put_on.ensures (ap (on_text (codes "MPI_Ibarrier")) c.comm.ensures.value ∙ sym (ap call_text c.in-Ibarrier.is))

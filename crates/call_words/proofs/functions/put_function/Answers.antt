@@ -26,8 +26,5 @@ returns-in-Cancel c = reads c.put-in-Cancel.ensures (sym (ap function_text c.in-
 pub returns-in-Free : goal.returns-in-Free
 returns-in-Free c = reads c.put-in-Free.ensures (sym (ap function_text c.in-Free.is))
 
-pub returns-in-Ibarrier : goal.returns-in-Ibarrier
-returns-in-Ibarrier c = reads c.put_on-in-Ibarrier.ensures (ap (on_text (codes "MPI_Ibarrier")) c.comm-in-Ibarrier.ensures.value ∙ sym (ap function_text c.in-Ibarrier.is))
-
 pub returns-in-Unread : goal.returns-in-Unread
 returns-in-Unread c = reads c.put-in-Unread.ensures (sym (ap function_text c.in-Unread.is))

@@ -1,4 +1,4 @@
-use Rattle.std.proofs.Common.{◌≡◌, ◌∙◌, ◌+◌, ℕ, None, List, take, ap, sym, refl, arith, get_or}
+use Rattle.std.proofs.Common.{◌≡◌, ◌∙◌, None, take, ap, sym, refl, get_or}
 use Rattle.call_words.specs.Ranges.{next_range, range_after, text_before, text_of}
 use Rattle.call_words.proofs.Adding.{then, reads}
 use Rattle.call_words.proofs.Ranging.{range_push, take_next, text_push}

@@ -1,4 +1,4 @@
-use Rattle.std.proofs.Common.{◌≡◌, ℕ, ◌<◌, Some, None, length, get_or, arith, ap, ◌∙◌, sym}
+use Rattle.std.proofs.Common.{ℕ, ◌<◌, Some, length, get_or, arith, ap, ◌∙◌, sym}
 use Rattle.std.specs.List.{slice_get}
 use Rattle.std.proofs.lemmas.Option.{slice_get-get_or, slice_get_past}
 use Rattle.comm_makings.proofs.Places.{more_none, more_some}

@@ -1,4 +1,4 @@
-use Rattle.std.proofs.Common.{◌≡◌, ◌++◌, ◌∷◌, [], ℕ, List, ap, sym, ◌∙◌}
+use Rattle.std.proofs.Common.{◌++◌, ◌∷◌, [], ℕ, List, ap, sym, ◌∙◌}
 use Rattle.comm_makings.proofs.Places.{numbers_more}
 use Rattle.comm_makings.proofs.parts.first_places.Goals as goal
 

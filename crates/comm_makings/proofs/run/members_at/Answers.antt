@@ -1,4 +1,4 @@
-use Rattle.std.proofs.Common.{◌≡◌, ℕ, ◌<◌, Some, None, length, get_or, arith, sym}
+use Rattle.std.proofs.Common.{◌<◌, length, arith, sym}
 use Rattle.comm_makings.specs.Made.{member_at}
 use Rattle.comm_makings.proofs.Places.{more_none, more_some}
 use Rattle.comm_makings.proofs.run.members_at.Goals as goal

@@ -1,0 +1,75 @@
+-- What a rank called on each of its communicators.
+use Rattle.std.specs.Prelude.{◌≡◌, ℕ, ◌+◌, ◌==◌, ◌&&◌, Bool, true, false, not, List, [], ◌∷◌, Option, Some, None, cond, length}
+use Rattle.std.specs.List.{slice_get}
+use Rattle.std.specs.Option.{option_map}
+use Rattle.comm_makings.specs.Here.{making_of}
+use Rattle.comm_makings.specs.Naming.{handles_of, meant_of}
+use Rattle.comm_makings.specs.declared.calls.Action.{Action}
+use Rattle.comm_makings.specs.declared.calls.Action.TheVariants as actions
+use Rattle.comm_makings.specs.declared.calls.CommCall.{CommCall}
+use Rattle.comm_makings.specs.declared.calls.Making.{Making}
+use Rattle.comm_makings.specs.declared.calls.Making.TheVariants as makings
+use Rattle.comm_makings.specs.declared.calls.RankCalls.{RankCalls}
+use Rattle.comm_makings.specs.declared.handle.Meant.{Meant}
+use Rattle.comm_makings.specs.declared.view.RankView.{RankView}
+
+-- MPI_Comm_create_group: collective over a group and not over the parent
+abbrev pub is_by_group : Making → Bool
+is_by_group (makings.CreateGroup group tag) = true
+is_by_group _ = false
+
+abbrev pub is_kind : Bool → Making → Bool
+is_kind by_group making = cond by_group (is_by_group making) (not (is_by_group making))
+
+abbrev pub place_if : Bool → ℕ → List ℕ → List ℕ
+place_if counts at others = cond counts (at ∷ others) others
+
+abbrev pub making_before : Bool → ℕ → ℕ → Option Making → Option ℕ → List ℕ → List ℕ
+making_before by_group handle at None parent others = others
+making_before by_group handle at (Some making) None others = []
+making_before by_group handle at (Some making) (Some parent) others = place_if (is_kind by_group making && (parent == handle)) at others
+
+-- The calls that make communicators of a handle, the first of which stands at this place of the rank's list: those before
+-- the first whose parent is unknown.
+abbrev pub makings_on : Bool → ℕ → ℕ → List CommCall → List Meant → List ℕ
+makings_on by_group handle at [] meant = []
+makings_on by_group handle at (call ∷ calls) [] = []
+makings_on by_group handle at (call ∷ calls) (here ∷ meant) = making_before by_group handle at (making_of call.action) here.comm (makings_on by_group handle (at + 1) calls meant)
+
+-- the rank that a call of MPI_Comm_rank tells
+abbrev pub rank_told : Bool → Action → Option ℕ
+rank_told true (actions.CommRank comm rank) = rank
+rank_told _ _ = None
+
+abbrev pub told_before : ℕ → Option ℕ → Option ℕ → Option ℕ → Option ℕ
+told_before handle None told others = others
+told_before handle (Some comm) None others = others
+told_before handle (Some comm) (Some rank) others = cond (comm == handle) (Some rank) others
+
+abbrev pub told_or : Option ℕ → Option ℕ → Option ℕ
+told_or None others = others
+told_or (Some rank) others = Some rank
+
+-- what is told after a call told a rank
+abbrev pub told_now : Bool → ℕ → Option ℕ → Option ℕ
+told_now here rank (Some told) = Some told
+told_now here rank None = cond here (Some rank) None
+
+-- what MPI_Comm_rank first tells on a handle
+abbrev pub first_told_on : ℕ → List CommCall → List Meant → Option ℕ
+first_told_on handle [] meant = None
+first_told_on handle (call ∷ calls) [] = None
+first_told_on handle (call ∷ calls) (here ∷ meant) = told_before handle here.comm (rank_told call.returned call.action) (first_told_on handle calls meant)
+
+-- What a rank's numbers mean, and what it called on each handle.
+pub record IsView (world : ℕ) (calls : RankCalls) (view : RankView) : Type 0 where
+  pub handles : view.handles.items ≡ handles_of world calls.own calls.calls.items
+  pub meant : view.meant.items ≡ meant_of world calls.own calls.calls.items
+  pub makings : (handle : ℕ) (list : List ℕ) → option_map (λ l. l.items) (slice_get view.makings.items handle) ≡ Some list → list ≡ makings_on false handle 0 calls.calls.items view.meant.items
+  pub by_group : (handle : ℕ) (list : List ℕ) → option_map (λ l. l.items) (slice_get view.by_group.items handle) ≡ Some list → list ≡ makings_on true handle 0 calls.calls.items view.meant.items
+  pub told : (handle : ℕ) (told : Option ℕ) → slice_get view.told.items handle ≡ Some told → told ≡ first_told_on handle calls.calls.items view.meant.items
+
+-- those of all ranks
+pub record AreViews (world : ℕ) (ranks : List RankCalls) (views : List RankView) : Type 0 where
+  pub same : length views ≡ length ranks
+  pub each : (rank : ℕ) (view : RankView) (calls : RankCalls) → slice_get views rank ≡ Some view → slice_get ranks rank ≡ Some calls → IsView world calls view
