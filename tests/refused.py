@@ -1,9 +1,10 @@
 """The record of what was refused: edits/refused.txt, one line a crate.
 
 A line says by which digest of the crate all of its edits were refused, how many these were, and on which day. The digest is
-of the crate's src/ without comments, its specs/ and its edits, and of the public contracts of the crates below it: their
-specs/, and their sources without private functions, bodies, imports and comments. So a line is stale where something changed on which it
-rests that an edit could notice. Only tests/try_edits writes a line, and only where it saw every edit refused.
+of the crate's src/ and specs/ without comments and its edits, and of the public contracts of the crates below it: their
+specs/, and their sources without private functions, bodies, imports and comments. So a line is stale where something
+changed on which it rests that an edit could notice. Only tests/try_edits writes a line, and only where it saw every edit
+refused.
 """
 import datetime
 import functools
@@ -46,13 +47,13 @@ def contracts_in(file, text):
     return [it for _, it in sorted(kept.items()) if it.strip() and not it.lstrip().startswith(ASIDE)]
 
 
-def without_comments(text):
-    return [it for it in text.split("\n") if it.strip() and not it.lstrip().startswith("//")]
+def without_comments(text, sign):
+    return [it for it in text.split("\n") if it.strip() and not it.lstrip().startswith(sign)]
 
 
 def specs_of(name):
     home = TOP / "crates" / name
-    return [(str(it.relative_to(home)), it.read_text()) for it in sorted(home.glob("specs/**/*.antt"))]
+    return [(str(it.relative_to(home)), without_comments(it.read_text(), "--")) for it in sorted(home.glob("specs/**/*.antt"))]
 
 
 @functools.cache
@@ -63,7 +64,7 @@ def promises_of(name):
 
 def digest_of(name, uses):
     """What a line of the record rests on, as 16 digits."""
-    parts = [[(file, without_comments(text)) for file, text in sources_of(name).items()], specs_of(name), [(it.name, it.read_text()) for it in edit_files(name)]]
+    parts = [[(file, without_comments(text, "//")) for file, text in sources_of(name).items()], specs_of(name), [(it.name, it.read_text()) for it in edit_files(name)]]
     parts += [(low, promises_of(low)) for low in sorted(below(name, uses))]
     return hashlib.sha256(repr(parts).encode()).hexdigest()[:16]
 
