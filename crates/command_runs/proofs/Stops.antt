@@ -44,7 +44,7 @@ text_refused file piece text (causes.Segment fault) (Place path) is why names =
     (names, subst (λ (first : ℕ). PassesPlaces first (file piece.file)) is.1 (why.1.0, events_told (file piece.file) text.text.items why.1.0 is.2 why.1.1, why.1.2))
 text_refused file piece text (causes.Segment fault) Memory is why names = absurd names
 text_refused file piece text (causes.Segment fault) (File path) is why names = absurd names
-text_refused file piece text (causes.Segment fault) (Json path) is why names = absurd names
+text_refused file piece text (causes.Segment fault) (Json path at along) is why names = absurd names
 text_refused file piece text (causes.Segment fault) (Shape path) is why names = absurd names
 text_refused file piece text (causes.Segment fault) (faults.Piece path) is why names = absurd names
 text_refused file piece text (causes.Segment fault) (faults.Packed path) is why names = absurd names
@@ -125,7 +125,7 @@ crews_refused file ranks pieces name fault (Place path) names h = h
 crews_refused file ranks pieces name (causes.Walk fault) (File path) names h = absurd names
 crews_refused file ranks pieces name (causes.Segment fault) (File path) names h = absurd names
 crews_refused file ranks pieces name causes.Memory (File path) names h = absurd (cc names)
-crews_refused file ranks pieces name fault (Json path) names h = absurd h.4
+crews_refused file ranks pieces name fault (Json path at along) names h = absurd h.4
 crews_refused file ranks pieces name fault (Shape path) names h = absurd h.4
 crews_refused file ranks pieces name fault (faults.Piece path) names h = absurd h.4
 crews_refused file ranks pieces name fault (faults.Packed path) names h = absurd h.4

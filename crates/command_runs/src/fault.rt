@@ -21,8 +21,11 @@ pub enum RunFault {
     File {
         path: String,
     },
+    /// The file is no JSON from this line and column on, both from 1.
     Json {
         path: String,
+        line: u64,
+        column: u64,
     },
     Shape {
         path: String,
@@ -131,7 +134,7 @@ impl fmt::Display for RunFault {
         match self {
             RunFault::Memory => write!(f, "Memory"),
             RunFault::File { path } => write!(f, "M1 File {}", FileName::new(path)),
-            RunFault::Json { path } => write!(f, "M2 Json in {}", FileName::new(path)),
+            RunFault::Json { path, .. } => write!(f, "M2 Json in {}", FileName::new(path)),
             RunFault::Shape { path } => write!(f, "M3 Shape in {}", FileName::new(path)),
             RunFault::Piece { path } => write!(f, "M4 Piece in {}", FileName::new(path)),
             RunFault::Packed { path } => write!(f, "M5 Packed in {}", FileName::new(path)),

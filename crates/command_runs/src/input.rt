@@ -87,7 +87,7 @@ fn fault_at(alloc: Global, fault: InputFault, path: &str) -> Result<RunFault, Al
     let path = path.to_string(alloc)?;
     Ok(match fault {
         InputFault::Memory => RunFault::Memory,
-        InputFault::Json => RunFault::Json { path },
+        InputFault::Json { line, column } => RunFault::Json { path, line, column },
         InputFault::Shape => RunFault::Shape { path },
         InputFault::Piece => RunFault::Piece { path },
         InputFault::Packed => RunFault::Packed { path },

@@ -15,7 +15,7 @@ pub record IsJson (text : List ℕ) (value : Data) : Type 0 where
 -- Why a text has no value.
 abbrev pub HasNoValue : List ℕ → InputFault → Type 0
 HasNoValue text Memory = Unit {0}
-HasNoValue text Json = (value : Data) → IsJson text value → ⊥
+HasNoValue text (Json line column) = (value : Data) → IsJson text value → ⊥
 HasNoValue text Shape = ⊥
 HasNoValue text Piece = ⊥
 HasNoValue text Packed = ⊥

@@ -63,7 +63,7 @@ IsLayoutOf text l = (given : Parts) × TellsParts text given
 -- Why the text is no layout.
 abbrev pub RefusesLayout : List ℕ → InputFault → Type 0
 RefusesLayout text Memory = Unit {0}
-RefusesLayout text Json = (value : Data) → IsJson text value → ⊥
+RefusesLayout text (Json line column) = (value : Data) → IsJson text value → ⊥
 RefusesLayout text Shape = (value : Data) × IsJson text value × (parts_in value ≡ None)
 RefusesLayout text Piece = ⊥
 RefusesLayout text Packed = ⊥

@@ -141,7 +141,7 @@ IsManifestOf text m = (given : GivenParts) × TellsFields text given
 -- Why the text is no manifest.
 abbrev pub RefusesManifest : List ℕ → InputFault → Type 0
 RefusesManifest text Memory = Unit {0}
-RefusesManifest text Json = (value : Data) → IsJson text value → ⊥
+RefusesManifest text (Json line column) = (value : Data) → IsJson text value → ⊥
 RefusesManifest text Shape = (value : Data) × IsJson text value × (given_in value ≡ None)
 RefusesManifest text Piece = (given : GivenParts) × TellsFields text given × (posts_absent given ≡ true)
 RefusesManifest text Packed = (given : GivenParts) × TellsFields text given × (posts_absent given ≡ false) × (posts_a_packed given ≡ true)

@@ -8,9 +8,9 @@ use thiserror::Error;
 pub enum InputFault {
     #[error("Memory")]
     Memory,
-    /// The bytes are no JSON, or no UTF-8.
+    /// The bytes are no JSON, or no UTF-8, as far as `serde_json` says from this line and column on, both from 1.
     #[error("M2 Json")]
-    Json,
+    Json { line: u64, column: u64 },
     /// A field is missing, of another kind, or out of its range.
     #[error("M3 Shape")]
     Shape,
