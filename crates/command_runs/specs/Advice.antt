@@ -1,169 +1,56 @@
 -- What is said below the line of a fault to a person who asked for words: what was found, and what to do.
-use Rattle.std.specs.Prelude.{◌≡◌, ◌==◌, ◌++◌, ℕ, Bool, true, false, List, [], ◌∷◌, Option, Some, None, String, codes, decimal, string_bytes}
+use Rattle.std.specs.Prelude.{◌≡◌, ◌++◌, ℕ, Bool, true, false, List, Option, Some, None, String, codes, decimal, string_bytes}
 use Rattle.std.specs.declared.alloc.Global.{Global}
-use Rattle.mpi_model.specs.declared.layout.fault.LayoutFault.{LayoutFault}
-use Rattle.mpi_model.specs.declared.layout.fault.LayoutFault.TheVariants as layouts
-use Rattle.dumpi_text.specs.declared.fault.LineFault.{LineFault}
-use Rattle.dumpi_text.specs.declared.fault.LineFault.TheVariants as lines
 use Rattle.dumpi_text.specs.declared.fault.TextCause.{TextCause}
 use Rattle.dumpi_text.specs.declared.fault.TextCause.TheVariants as causes
-use Rattle.dumpi_calls.specs.declared.parameter.Parameter.{Parameter}
-use Rattle.dumpi_calls.specs.declared.parameter.Parameter.TheVariants as parameters
-use Rattle.trace_wire.specs.declared.fault.WireFault.{WireFault}
-use Rattle.trace_wire.specs.declared.fault.WireFault.TheVariants as wires
-use Rattle.trace_wire.specs.declared.packed.fault.PackedCause.{PackedCause}
-use Rattle.trace_wire.specs.declared.packed.fault.PackedCause.TheVariants as packs
 use Rattle.text_notes.specs.declared.start.Start.{Start}
-use Rattle.text_notes.specs.declared.start.Start.TheVariants as starts
 use Rattle.command_line.specs.declared.Verb.{Verb}
 use Rattle.command_line.specs.declared.Verb.TheVariants as verbs
 use Rattle.command_runs.specs.FaultLines.{fault_line_of}
 use Rattle.command_runs.specs.Notes.{BeginsSo}
+use Rattle.command_runs.specs.Sentences.{begun_text, folder_text, layout_text, line_text, packed_text, plain_text, said, shape_text, wanted_text}
 use Rattle.command_runs.specs.declared.fault.RunFault.{RunFault}
-use Rattle.command_runs.specs.declared.fault.RunFault.TheVariants.{Memory, File, Json, Shape, Piece, Packed, PackedFrame, Layout, Text, Missing, Wrong, Place, Rank, Outside, NodeCount, Step, Worker, Net, Frame, Write}
+use Rattle.command_runs.specs.declared.fault.RunFault.TheVariants.{File, Json, Shape, PackedFrame, Layout, Text, Wrong}
 use Rattle.command_runs.specs.declared.found.Found.{Found}
 use Rattle.command_runs.specs.declared.reason.Reason.{Reason}
 use Rattle.command_runs.specs.declared.reason.Reason.TheVariants as reasons
 
--- ---- the words, each line behind two spaces
-
-abbrev pub said : List ℕ → List ℕ
-said text = codes "  " ++ text ++ codes "\n"
-
--- whether a name says where the file is from the top of the system's folders
-abbrev pub is_absolute : List ℕ → Bool
-is_absolute [] = false
-is_absolute (c ∷ name) = c == 47
-
--- from where other names are looked up
-abbrev pub from_text : Bool → List ℕ
-from_text true = []
-from_text false = said (codes "names of files are looked up from the folder in which mpimatch was started")
+-- ---- what is said
 
 -- why a file can't be read
 abbrev pub reason_text : List ℕ → Option Reason → List ℕ
-reason_text name None = said (codes "the system does not let it be opened or read, or it is longer than it may be")
-reason_text name (Some reasons.Absent) = said (codes "no file has this name") ++ from_text (is_absolute name)
+reason_text name None = said (codes "the system does not let it be opened or read to its end, or it is longer than a layout or a manifest may be")
+reason_text name (Some reasons.Absent) = said (codes "no file has this name") ++ folder_text name
 reason_text name (Some reasons.Denied) = said (codes "it may not be read: look at the rights of the file and of the folders above it")
 reason_text name (Some reasons.Folder) = said (codes "it is a folder")
 reason_text name (Some (reasons.Long length)) =
     codes "  it has " ++ decimal length ++ codes " bytes, and a layout or a manifest has at most 16777216\n"
 
--- why a file can't be read to its end
-abbrev pub unread_text : List ℕ → Option Reason → List ℕ
-unread_text name None = said (codes "the system does not let it be read to its end")
-unread_text name (Some reason) = reason_text name (Some reason)
+-- where a file is no JSON
+abbrev pub json_text : ℕ → ℕ → Option Start → List ℕ
+json_text line column start =
+    codes "  it is not JSON: look at line " ++ decimal line ++ codes ", column " ++ decimal column ++ codes "\n" ++ begun_text start
 
--- what a file that was read begins as
-abbrev pub begun_text : Option Start → List ℕ
-begun_text None = []
-begun_text (Some starts.Empty) = said (codes "it is empty")
-begun_text (Some starts.Gzip) = said (codes "it begins as what gzip packed: unpack it")
-begun_text (Some starts.Utf16) = said (codes "it begins as UTF-16: write it as UTF-8")
-begun_text (Some starts.Mark) = said (codes "it begins with a byte order mark: take its first three bytes away")
-begun_text (Some starts.Binary) = said (codes "it has a byte 0 near its begin, as a file that is no text")
-begun_text (Some starts.Lines) = []
-
-abbrev pub layout_text : LayoutFault → List ℕ
-layout_text layouts.RankCount = said (codes "`ranks` is a number from 1 to 1024")
-layout_text layouts.CommCount = said (codes "there are more than 65536 communicators")
-layout_text layouts.DoubleComm = said (codes "two communicators have one `id`")
-layout_text layouts.EmptyComm = said (codes "a communicator has no member")
-layout_text layouts.MemberRange = said (codes "a member of a communicator is no rank of the run: ranks begin at 0")
-layout_text layouts.DoubleMember = said (codes "a rank stands twice among the members of a communicator")
-layout_text layouts.World = said (codes "no communicator has the `id` that `world` names, or its members are not all ranks in their order")
-layout_text layouts.Numbers =
-    said (codes "`numbers` has an entry for each member, or none")
-    ++ said (codes "the end of an entry is not below its first call, and no rank names two communicators by one number in one call")
-layout_text layouts.Memory = []
-
-abbrev pub line_text : LineFault → List ℕ
-line_text lines.LineTooLong = said (codes "a line has at most 65536 bytes")
-line_text lines.BadStamp = said (codes "a line that enters a call is: NAME entering at walltime T, cputime T seconds in thread N.")
-    ++ said (codes "and one that returns has `returning` there, and T is seconds with a point and a fraction, or without")
-line_text lines.OtherThread = said (codes "a call of another thread stands there, with an earlier time than the call above it: the calls are not in their order")
-line_text lines.ReturnOutside = said (codes "a call returns there that was not entered: the text begins inside a call, or lines are lost")
-line_text lines.NotReturned = said (codes "a call is entered there before the one above it has returned: lines are lost, or two texts are mixed")
-line_text lines.NameDiffers = said (codes "a call returns there under another name than it was entered: lines are lost, or two texts are mixed")
-line_text lines.BadParameter = said (codes "a parameter has a name in front of its `=`")
-line_text lines.Truncated = said (codes "the text is cut off there: without its last call, which is not whole, it can be read")
-line_text lines.TooManyLines = said (codes "a text has at most 16777216 lines: cut it between two calls, as pieces of a manifest")
-
+-- why a text is refused
 abbrev pub cause_text : TextCause → List ℕ → Found → List ℕ
-cause_text causes.Read name found = unread_text name found.reason
+cause_text causes.Read name found = reason_text name found.reason
 cause_text (causes.Line fault) name found = line_text fault ++ begun_text found.start
 
-abbrev pub wire_text : WireFault → List ℕ
-wire_text wires.Memory = []
-wire_text wires.Read = said (codes "the system does not let it be read to its end")
-wire_text wires.Write = []
-wire_text wires.Magic = said (codes "no frame begins there: the file is none of `mpimatch pack`, or it is damaged")
-wire_text wires.Version = said (codes "another version of `mpimatch pack` made it, or it is damaged: pack its texts again")
-wire_text wires.Length = said (codes "the frame is longer than a frame may be: the file is damaged, pack its texts again")
-wire_text wires.Short = said (codes "the file ends there: it was cut off, or it is empty, and its texts can be packed again")
-wire_text wires.Order = said (codes "the file is damaged: pack its texts again")
-wire_text wires.Content = said (codes "the file is damaged: pack its texts again")
-wire_text wires.Rest = said (codes "the file is damaged: pack its texts again")
-
-abbrev pub packed_text : PackedCause → List ℕ
-packed_text (packs.Wire fault) = wire_text fault
-packed_text packs.Rank = said (codes "it tells of a rank that the layout does not have: it was packed by another layout")
-
--- which values a parameter may have
-abbrev pub wanted_text : Parameter → List ℕ
-wanted_text parameters.Count = codes "a number from 0 to 2147483647"
-wanted_text parameters.Datatype = codes "a number"
-wanted_text parameters.Dest = codes "a rank from 0 to 2147483647, or -1 or -2 or (MPI_PROC_NULL)"
-wanted_text parameters.Source = codes "a rank from 0 to 2147483647, -1 or (MPI_ANY_SOURCE), or -2 or (MPI_PROC_NULL)"
-wanted_text parameters.Tag = codes "a number from 0 to 2147483647, and of a receive also -1 or (MPI_ANY_TAG)"
-wanted_text parameters.Comm = codes "a number from 0 to 2147483647, or (MPI_COMM_WORLD) behind a number"
-wanted_text parameters.SendCount = codes "a number from 0 to 2147483647"
-wanted_text parameters.SendType = codes "a number"
-wanted_text parameters.SendTag = codes "a number from 0 to 2147483647"
-wanted_text parameters.RecvCount = codes "a number from 0 to 2147483647"
-wanted_text parameters.RecvType = codes "a number"
-wanted_text parameters.RecvTag = codes "a number from 0 to 2147483647, or -1 or (MPI_ANY_TAG)"
-wanted_text parameters.Root = codes "a rank from 0 to 2147483647, a number below 0, or (MPI_ROOT) or (MPI_PROC_NULL) behind a number"
-wanted_text parameters.Request = codes "a number"
-wanted_text parameters.Requests = codes "a list of numbers, as [2] {4, 5}"
-wanted_text parameters.Index = codes "a number"
-wanted_text parameters.Indices = codes "a list of numbers, as [2] {0, 1}"
-wanted_text parameters.Flag = codes "a number"
-wanted_text parameters.Status = codes "a group, as {source=0, tag=7}"
-wanted_text parameters.Statuses = codes "a list of groups"
-
--- what is said of the faults of which nothing is looked at but their kind
-abbrev pub plain_text : RunFault → List ℕ
-plain_text (Piece path) = said (codes "a step of the schedule posts a piece that is not in the list: its numbers begin at 0")
-plain_text (Packed path) = said (codes "a step of the schedule posts a packed piece: it may post texts alone")
-plain_text (Missing parameter path line) = said (codes "the call that is entered there has no line of this parameter")
-plain_text (Place path) = said (codes "a call of the piece has a number above 549755813887: look at `first` in the manifest")
-plain_text (Rank path) = said (codes "the layout does not have the rank of this piece: look at `rank` in the manifest, and at `ranks` in the layout")
-plain_text Outside = said (codes "the layout does not have this rank: look at its `ranks`")
-plain_text Write = said (codes "standard output did not take all of it")
-plain_text fault = []
-
-abbrev pub shape_text : List ℕ
-shape_text = said (codes "a field is missing, of another kind, or out of its range")
-    ++ said (codes "a layout is {\"ranks\":2,\"world\":2,\"sends\":\"wait\",\"comms\":[{\"id\":2,\"members\":[0,1]}]}, with `buffer` for `wait` where sends are buffered")
-    ++ said (codes "a manifest is {\"pieces\":[{\"rank\":0,\"first\":0,\"file\":\"r0.txt\"}]}")
-
--- What is said below the line of a fault: what was found, and what to do. Of want of memory nothing is, nor of what only
--- other verbs are refused for.
+-- What is said below the line of a fault. Of want of memory nothing is, nor of what only other verbs are refused for.
 abbrev pub advice_text : RunFault → Found → List ℕ
 advice_text (File path) found = reason_text (string_bytes path) found.reason
-advice_text (Json path line column) found =
-    codes "  from line " ++ decimal line ++ codes ", column " ++ decimal column ++ codes " on it is no JSON\n" ++ begun_text found.start
+advice_text (Json path line column) found = json_text line column found.start
 advice_text (Shape path) found = shape_text
 advice_text (PackedFrame cause path frame) found = packed_text cause
 advice_text (Layout fault path) found = layout_text fault
 advice_text (Text cause path line) found = cause_text cause (string_bytes path) found
-advice_text (Wrong parameter path line) found = codes "  of the call that is entered there it is " ++ wanted_text parameter ++ codes "\n"
+advice_text (Wrong parameter path line) found = codes "  of the call that is entered there it must be " ++ wanted_text parameter ++ codes "\n"
 advice_text fault found = plain_text fault
 
 -- ---- what was found
 
--- What was found is of the file that the fault names: why it can't be read, or what it begins as where it was read; of all others nothing.
+-- What was found is of the file that the fault names: what it begins as, where it was read and could be looked at again. Why the
+-- system gives no file no clause says.
 abbrev pub IsFound : (List ℕ → Option (List ℕ)) → RunFault → Found → Type 0
 IsFound file (Json path line column) found = BeginsSo (file (string_bytes path)) found.start
 IsFound file (Text causes.Read path line) found = found.start ≡ None
@@ -176,13 +63,7 @@ IsFound file fault found = found.start ≡ None
 abbrev pub is_in_words : Verb → Bool
 is_in_words verbs.Explain = true
 is_in_words (verbs.ExplainRank rank) = true
-is_in_words verbs.Graph = false
-is_in_words verbs.Report = false
-is_in_words verbs.ReportJson = false
-is_in_words verbs.Replay = false
-is_in_words verbs.Cluster = false
-is_in_words verbs.Check = false
-is_in_words verbs.Pack = false
+is_in_words _ = false
 
 -- The line of the fault is shown, and below it, where it is to be in words, what was found and what to do.
 abbrev pub IsShownIn : Bool → (List ℕ → Option (List ℕ)) → RunFault → List ℕ → Type 0

@@ -21,7 +21,7 @@ pub enum RunFault {
     File {
         path: String,
     },
-    /// The file is no JSON from this line and column on, both from 1.
+    /// The file is no JSON, as is noticed at this line and column, both from 1; column 0 is before the line's first byte.
     Json {
         path: String,
         line: u64,

@@ -32,8 +32,8 @@
 //! - [`shares`]: what the packed files of each node of a cluster tell; [`texts`]: the texts; [`cluster`]: its run, and the
 //!   reports of both nodes
 //! - [`run`]: a verb over its files; [`fault`]: why it is refused, and the line that says so, in which
-//!   [`file_name`] shows names of files; [`advice`]: what is said below that line in words, by what is [`found`] out of the
-//!   file that it names, as the [`reason`] of the system
+//!   [`file_name`] shows names of files; [`advice`]: what is said below that line in [`sentences`], by what is
+//!   [`found`] out of the file that it names, as the [`reason`] of the system
 //! - [`ending`]: from words to a status and what standard error shows; [`first_look`]: whether a file begins as the text
 //!   of a trace
 //!
@@ -71,6 +71,7 @@ mod replay;
 mod run;
 mod schedule;
 mod second_look;
+mod sentences;
 mod shares;
 mod terminal;
 mod texts;
@@ -78,7 +79,7 @@ mod watch;
 mod watched;
 mod whole;
 
-pub use advice::{Advice, begun_text, is_in_words, layout_text};
+pub use advice::{Advice, is_in_words};
 pub use cluster::run_cluster;
 pub use ending::{Ending, Turn, ending_after, ending_of, ending_of_cluster, ending_without_words};
 pub use fault::{RunFault, fault_line, name_of_layout};
@@ -88,6 +89,7 @@ pub use laws::packed_laws;
 pub use opener::{Disk, OpenFault, Opener};
 pub use reason::Reason;
 pub use run::run_with;
+pub use sentences::{begun_text, layout_text};
 pub use terminal::Terminal;
 pub use watch::{Unwatched, Watcher};
 pub use whole::LONGEST_FILE;

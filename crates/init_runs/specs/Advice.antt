@@ -1,8 +1,9 @@
 -- What is said below the line of a fault of texts: what was found, and what to do.
 use Rattle.std.specs.Prelude.{◌≡◌, ◌++◌, ℕ, Bool, true, false, List, [], Option, None, string_bytes}
 use Rattle.command_line.specs.declared.Verb.{Verb}
-use Rattle.command_runs.specs.Advice.{IsFound, advice_text, begun_text, is_in_words, layout_text}
+use Rattle.command_runs.specs.Advice.{IsFound, advice_text, is_in_words}
 use Rattle.command_runs.specs.Notes.{BeginsSo}
+use Rattle.command_runs.specs.Sentences.{begun_text, layout_text}
 use Rattle.command_runs.specs.declared.found.Found.{Found}
 use Rattle.text_layouts.specs.declared.fault.MadeFault.TheVariants as mades
 use Rattle.init_runs.specs.Faults.{init_fault_line_of}

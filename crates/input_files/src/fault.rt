@@ -8,7 +8,8 @@ use thiserror::Error;
 pub enum InputFault {
     #[error("Memory")]
     Memory,
-    /// The bytes are no JSON, or no UTF-8, as far as `serde_json` says from this line and column on, both from 1.
+    /// The bytes are no JSON, or no UTF-8, as `serde_json` notices at this line and column, both from 1; column 0 is before the
+    /// line's first byte.
     #[error("M2 Json")]
     Json { line: u64, column: u64 },
     /// A field is missing, of another kind, or out of its range.
