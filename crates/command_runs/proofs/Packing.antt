@@ -37,7 +37,7 @@ pub unwritten_refused : (file : List ℕ → Option (List ℕ)) (layout manifest
 unwritten_refused file layout manifest l view old new before now Memory told known h = inr (inl (inl refl))
 unwritten_refused file layout manifest l view old new before now (File path) told known h = absurd h
 unwritten_refused file layout manifest l view old new before now (Json path at along) told known h = absurd h
-unwritten_refused file layout manifest l view old new before now (Shape path) told known h = absurd h
+unwritten_refused file layout manifest l view old new before now (Shape path field) told known h = absurd h
 unwritten_refused file layout manifest l view old new before now (faults.Piece path) told known h = absurd h
 unwritten_refused file layout manifest l view old new before now (faults.Packed path) told known h = absurd h
 unwritten_refused file layout manifest l view old new before now (PackedFrame cause path frame) told known h = absurd h
@@ -69,7 +69,7 @@ pub unwritten_kept : (view : View) (old new : Option (List ℕ)) (before now : �
 unwritten_kept view old new before now Memory h = inr h
 unwritten_kept view old new before now (File path) h = absurd h
 unwritten_kept view old new before now (Json path at along) h = absurd h
-unwritten_kept view old new before now (Shape path) h = absurd h
+unwritten_kept view old new before now (Shape path field) h = absurd h
 unwritten_kept view old new before now (faults.Piece path) h = absurd h
 unwritten_kept view old new before now (faults.Packed path) h = absurd h
 unwritten_kept view old new before now (PackedFrame cause path frame) h = absurd h

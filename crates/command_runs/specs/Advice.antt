@@ -8,7 +8,7 @@ use Rattle.command_line.specs.declared.Verb.{Verb}
 use Rattle.command_line.specs.declared.Verb.TheVariants as verbs
 use Rattle.command_runs.specs.FaultLines.{fault_line_of}
 use Rattle.command_runs.specs.Notes.{BeginsSo}
-use Rattle.command_runs.specs.Sentences.{begun_text, folder_text, layout_text, line_text, packed_text, plain_text, said, shape_text, wanted_text}
+use Rattle.command_runs.specs.Sentences.{begun_text, field_text, folder_text, layout_text, line_text, packed_text, plain_text, said, wanted_text}
 use Rattle.command_runs.specs.declared.fault.RunFault.{RunFault}
 use Rattle.command_runs.specs.declared.fault.RunFault.TheVariants.{File, Json, Shape, PackedFrame, Layout, Text, Wrong}
 use Rattle.command_runs.specs.declared.found.Found.{Found}
@@ -40,7 +40,7 @@ cause_text (causes.Line fault) name found = line_text fault ++ begun_text found.
 abbrev pub advice_text : RunFault → Found → List ℕ
 advice_text (File path) found = reason_text (string_bytes path) found.reason
 advice_text (Json path line column) found = json_text line column found.start
-advice_text (Shape path) found = shape_text
+advice_text (Shape path field) found = field_text field
 advice_text (PackedFrame cause path frame) found = packed_text cause
 advice_text (Layout fault path) found = layout_text fault
 advice_text (Text cause path line) found = cause_text cause (string_bytes path) found

@@ -6,6 +6,8 @@ use Rattle.dumpi_text.specs.declared.fault.LineFault.{LineFault}
 use Rattle.dumpi_text.specs.declared.fault.LineFault.TheVariants as lines
 use Rattle.dumpi_calls.specs.declared.parameter.Parameter.{Parameter}
 use Rattle.dumpi_calls.specs.declared.parameter.Parameter.TheVariants as parameters
+use Rattle.input_files.specs.declared.fault.Field.{Field}
+use Rattle.input_files.specs.declared.fault.Field.TheVariants as fields
 use Rattle.trace_wire.specs.declared.fault.WireFault.{WireFault}
 use Rattle.trace_wire.specs.declared.fault.WireFault.TheVariants as wires
 use Rattle.trace_wire.specs.declared.packed.fault.PackedCause.{PackedCause}
@@ -43,11 +45,16 @@ begun_text (Some starts.Lines) = []
 
 -- ---- of layouts and manifests
 
--- a layout or a manifest has not the fields that it must have
-abbrev pub shape_text : List ℕ
-shape_text = said (codes "a field is missing, of another kind, or out of its range")
-    ++ said (codes "a layout is {\"ranks\":2,\"world\":2,\"sends\":\"wait\",\"comms\":[{\"id\":2,\"members\":[0,1]}]}, with `buffer` for `wait` where sends are buffered")
-    ++ said (codes "a manifest is {\"pieces\":[{\"rank\":0,\"first\":0,\"file\":\"r0.txt\"}]}")
+-- the field that can't be read
+abbrev pub field_text : Field → List ℕ
+field_text fields.Ranks = said (codes "`ranks` must be a number from 1 to 1024")
+field_text fields.World = said (codes "`world` must be the `id` of a communicator, a number from 0 to 4294967295")
+field_text fields.Sends = said (codes "`sends` must be \"wait\", or \"buffer\" where sends are buffered")
+field_text fields.Comms = said (codes "`comms` must be a list of communicators, each as {\"id\":2,\"members\":[0,1]}, with a list `numbers` or without")
+field_text fields.Pieces = said (codes "`pieces` must be a list of texts, each as {\"rank\":0,\"first\":0,\"file\":\"r0.txt\"}, and of packed files, each as {\"packed\":\"part.know\"}")
+    ++ said (codes "where a piece has a `node` or a `worker` it is 0 or 1")
+field_text fields.Nodes = said (codes "`nodes` must be a number from 1 to 64")
+field_text fields.Schedule = said (codes "`schedule` must be a list of steps, each as [\"post\",0,0,0], [\"take\",0], [\"ship\",0], [\"deliver\",0,1] or [\"restart\",0]")
 
 -- the rule of layouts that is broken
 abbrev pub layout_text : LayoutFault → List ℕ

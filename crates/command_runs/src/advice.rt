@@ -10,7 +10,8 @@ use crate::found::{Found, found_of};
 use crate::opener::Opener;
 use crate::reason::Reason;
 use crate::sentences::{
-    SHAPE, begun_text, folder_text, layout_text, line_text, packed_text, plain_text, wanted_text,
+    begun_text, field_text, folder_text, layout_text, line_text, packed_text, plain_text,
+    wanted_text,
 };
 use command_line::Verb;
 use dumpi_text::TextCause;
@@ -57,7 +58,7 @@ fn put_advice<W: fmt::Write>(
     match fault {
         RunFault::File { path } => put_reason(f, path, found.reason),
         RunFault::Json { line, column, .. } => put_json(f, *line, *column, found.start),
-        RunFault::Shape { .. } => f.write_str(SHAPE),
+        RunFault::Shape { field, .. } => f.write_str(field_text(*field)),
         RunFault::PackedFrame { cause, .. } => f.write_str(packed_text(*cause)),
         RunFault::Layout { fault, .. } => f.write_str(layout_text(*fault)),
         RunFault::Text { cause, path, .. } => put_cause(f, *cause, path, found),

@@ -88,7 +88,7 @@ fn fault_at(alloc: Global, fault: InputFault, path: &str) -> Result<RunFault, Al
     Ok(match fault {
         InputFault::Memory => RunFault::Memory,
         InputFault::Json { line, column } => RunFault::Json { path, line, column },
-        InputFault::Shape => RunFault::Shape { path },
+        InputFault::Shape(field) => RunFault::Shape { path, field },
         InputFault::Piece => RunFault::Piece { path },
         InputFault::Packed => RunFault::Packed { path },
         InputFault::Layout(fault) => RunFault::Layout { fault, path },

@@ -1,20 +1,38 @@
 //! The sentences that are said below the line of a fault, each on a line of its own behind two spaces.
 
 ghost use Rattle.std.specs.Prelude.{◌≡◌};
-ghost use Rattle.command_runs.specs.Sentences.{begun_text, folder_text, is_absolute, layout_text, line_text, packed_text, plain_text, wanted_text, wire_text};
+ghost use Rattle.command_runs.specs.Sentences.{begun_text, field_text, folder_text, is_absolute, layout_text, line_text, packed_text, plain_text, wanted_text, wire_text};
 
 use crate::fault::RunFault;
 use dumpi_calls::Parameter;
 use dumpi_text::LineFault;
+use input_files::Field;
 use mpi_model::LayoutFault;
 use text_notes::Start;
 use trace_wire::{PackedCause, WireFault};
 
-/// What is said of a layout or a manifest that has not the fields that it must have.
-pub(crate) const SHAPE: &str = "  a field is missing, of another kind, or out of its range
-  a layout is {\"ranks\":2,\"world\":2,\"sends\":\"wait\",\"comms\":[{\"id\":2,\"members\":[0,1]}]}, with `buffer` for `wait` where sends are buffered
-  a manifest is {\"pieces\":[{\"rank\":0,\"first\":0,\"file\":\"r0.txt\"}]}
+const PIECES: &str =
+    "  `pieces` must be a list of texts, each as {\"rank\":0,\"first\":0,\"file\":\"r0.txt\"}, and of packed files, each as {\"packed\":\"part.know\"}
+  where a piece has a `node` or a `worker` it is 0 or 1
 ";
+
+/// What is said of a field that can't be read.
+pub(crate) fn field_text(field: Field) -> &'static str
+    ensures { result.now ≡ field_text field }
+{
+    match field {
+        Field::Ranks => "  `ranks` must be a number from 1 to 1024\n",
+        Field::World =>
+            "  `world` must be the `id` of a communicator, a number from 0 to 4294967295\n",
+        Field::Sends => "  `sends` must be \"wait\", or \"buffer\" where sends are buffered\n",
+        Field::Comms =>
+            "  `comms` must be a list of communicators, each as {\"id\":2,\"members\":[0,1]}, with a list `numbers` or without\n",
+        Field::Pieces => PIECES,
+        Field::Nodes => "  `nodes` must be a number from 1 to 64\n",
+        Field::Schedule =>
+            "  `schedule` must be a list of steps, each as [\"post\",0,0,0], [\"take\",0], [\"ship\",0], [\"deliver\",0,1] or [\"restart\",0]\n",
+    }
+}
 
 /// What is said of the faults of which nothing but their kind matters.
 pub(crate) fn plain_text(fault: &RunFault) -> &'static str

@@ -16,7 +16,7 @@ pub record IsJson (text : List ℕ) (value : Data) : Type 0 where
 abbrev pub HasNoValue : List ℕ → InputFault → Type 0
 HasNoValue text Memory = Unit {0}
 HasNoValue text (Json line column) = (value : Data) → IsJson text value → ⊥
-HasNoValue text Shape = ⊥
+HasNoValue text (Shape field) = ⊥
 HasNoValue text Piece = ⊥
 HasNoValue text Packed = ⊥
 HasNoValue text (Layout fault) = ⊥

@@ -3,6 +3,18 @@
 use mpi_model::LayoutFault;
 use thiserror::Error;
 
+/// A field of a layout or of a manifest.
+#[derive(Clone, Copy, Debug, PartialEq, Eq)]
+pub enum Field {
+    Ranks,
+    World,
+    Sends,
+    Comms,
+    Pieces,
+    Nodes,
+    Schedule,
+}
+
 /// The first cause that stands, in this order; want of memory where it comes.
 #[derive(Clone, Copy, Debug, PartialEq, Eq, Error)]
 pub enum InputFault {
@@ -12,9 +24,9 @@ pub enum InputFault {
     /// line's first byte.
     #[error("M2 Json")]
     Json { line: u64, column: u64 },
-    /// A field is missing, of another kind, or out of its range.
+    /// This field is missing, of another kind, or out of its range, or a field in it is.
     #[error("M3 Shape")]
-    Shape,
+    Shape(Field),
     /// The schedule posts a piece that the manifest doesn't list.
     #[error("M4 Piece")]
     Piece,

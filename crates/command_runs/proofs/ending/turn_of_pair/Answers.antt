@@ -8,7 +8,7 @@ returns g c = λ words ask.
     let status = c.in_ok-ending_after.field-0.status in
     let errors = string_bytes c.in_ok-ending_after.field-0.errors in
     let is : IsEndedBy (g.O.Opener.file c.args.files.now) c.args.verb c.run_with-ran.result status errors =
-        subst (λ (f : List ℕ → Option (List ℕ)). IsEndedBy f c.args.verb c.run_with-ran.result status errors) c.run_with-ran.ensures.same c.in_ok-ending_after.ensures in
+    subst (λ (f : List ℕ → Option (List ℕ)). IsEndedBy f c.args.verb c.run_with-ran.result status errors) c.run_with-ran.ensures.same c.in_ok-ending_after.ensures in
     ended (g.O.Opener.file c.args.files.now) words c.args.verb c.args.layout.now c.args.manifest.now c.run_with-ran.result status errors
     (output_of (g.W.Write.written c.args.out.now) (g.W.Write.failures c.args.out.now))
     (output_of (g.W.Write.written c.run_with-ran.new.out) (g.W.Write.failures c.run_with-ran.new.out))
