@@ -1,6 +1,6 @@
 //! What is said below the line of a fault to a person who asked for words.
 
-ghost use Rattle.std.specs.Prelude.{◌≡◌, ◌++◌, IfOk, codes, decimal, string_bytes};
+ghost use Rattle.std.specs.Prelude.{◌≡◌, ◌++◌, IfOk, string_bytes};
 ghost use Rattle.std.specs.Fmt.{WritesOnOk};
 ghost use Rattle.command_runs.specs.Advice.{IsShown, advice_text, cause_text, is_in_words, json_text, reason_text};
 ghost use Rattle.command_runs.specs.FaultLines.{fault_line_of};

@@ -1,8 +1,9 @@
 //! What is said below the line of a fault of texts to a person who asked for words.
 
-ghost use Rattle.std.specs.Prelude.{◌≡◌, IfOk, string_bytes};
+ghost use Rattle.std.specs.Prelude.{◌≡◌, ◌++◌, IfOk, string_bytes};
 ghost use Rattle.std.specs.Fmt.{WritesOnOk};
 ghost use Rattle.init_runs.specs.Advice.{IsInitFound, IsInitShown, init_advice_text};
+ghost use Rattle.init_runs.specs.Faults.{init_fault_line_of};
 
 use crate::fault::{InitFault, init_fault_line};
 use command_line::Verb;
@@ -13,22 +14,11 @@ use std::alloc::{AllocError, Global};
 use std::fmt;
 use text_layouts::MadeFault;
 
-/// What was found, and what to do, for a person who reads of a fault of texts.
+// What is said of a fault of texts by what was found out of its file.
 #[derive(Clone, Copy, Debug)]
-pub struct InitAdvice<'a> {
+struct InitAdvice<'a> {
     fault: &'a InitFault,
     found: Found,
-}
-
-impl<'a> InitAdvice<'a> {
-    ghost use Rattle.std.specs.Prelude.{◌≡◌};
-
-    /// What is said of this fault by what was found out of its file.
-    pub fn new(fault: &'a InitFault, found: Found) -> Self
-        ensures { (result.fault.now ≡ fault.now) × (result.found ≡ found) }
-    {
-        InitAdvice { fault, found }
-    }
 }
 
 impl<'a> fmt::Display for InitAdvice<'a> {
@@ -72,6 +62,15 @@ fn init_found_of<O: Opener>(fault: &InitFault, files: &mut O) -> Found
     }
 }
 
+// the line of a fault, and below it what is said by what was found
+fn in_words(alloc: Global, fault: &InitFault, found: Found) -> Result<String, AllocError>
+    ensures { IfOk result (λ text. string_bytes text ≡ init_fault_line_of fault.now ++ init_advice_text fault.now found) }
+{
+    let line = init_fault_line(alloc, fault)?;
+    let advice = InitAdvice { fault, found };
+    format!(in alloc; "{line}{advice}")
+}
+
 /// What a verb shows of a fault of texts: its line, and in words, where the verb answers so, what was found of the text that it
 /// names.
 pub(crate) fn shown_init_fault<O: Opener>(
@@ -83,9 +82,10 @@ pub(crate) fn shown_init_fault<O: Opener>(
     ensures shown { IfOk result (λ text. IsInitShown (O.file files.old) verb fault.now (string_bytes text)) }
     ensures same { O.file files.new ≡ O.file files.old }
 {
-    if !is_in_words(verb) {
-        return init_fault_line(alloc, fault);
+    if is_in_words(verb) {
+        let found = init_found_of(fault, files);
+        in_words(alloc, fault, found)
+    } else {
+        init_fault_line(alloc, fault)
     }
-    let advice = InitAdvice::new(fault, init_found_of(fault, files));
-    format!(in alloc; "mpimatch: {fault}\n{advice}")
 }
