@@ -3,6 +3,7 @@ import itertools
 import mmap
 import os
 import pathlib
+import re
 import shutil
 import struct
 import subprocess
@@ -65,8 +66,14 @@ def ended(ran):
     return ran.status, ran.out, ran.err
 
 
+def without_words(end):
+    """How a run ended, without the words that `explain` says below a fault's line."""
+    status, out, err = end
+    return status, out, re.sub(r"(?m)^(mpimatch: .*\n)(?:  .*\n)+\Z", r"\1", err)
+
+
 def fault(line):
-    """How a run ends that is refused."""
+    """How a run ends that is refused, without words below the line."""
     return 1, "", f"mpimatch: {line}\n"
 
 
@@ -83,7 +90,8 @@ class Sweep:
 
     def over(self, case, kind, how, wanted, numbers=None, note=None):
         """Refuses the requests of these numbers (None: each) until a run meets none, and looks how each run ends. `wanted` tells
-        by the case, the run without a refusal and the one with it, how that may end; `note` gets the latter."""
+        by the case, the run without a refusal and the one with it, how that may end, with words below a fault's line or
+        without; `note` gets the latter."""
         whole, wrong = self.refuser.run(case, kind), []
         for at in numbers(whole) if numbers else itertools.count(1):
             ran = self.refuser.run(case, kind, at, how)
@@ -92,7 +100,7 @@ class Sweep:
             self.refused[kind, how] += 1
             if note:
                 note(ran)
-            if ended(ran) not in wanted(case, whole, ran):
+            if not {ended(ran), without_words(ended(ran))} & {*wanted(case, whole, ran)}:
                 wrong.append(f"{kind} {at} {ran.file} {ran.moved}: came {ended(ran)}, wanted {wanted(case, whole, ran)}")
         if not ran.refused and ended(ran) != ended(whole):
             wrong.append(f"none of {kind}: came {ended(ran)}, wanted {ended(whole)}")

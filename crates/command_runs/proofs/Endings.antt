@@ -10,6 +10,7 @@ use Rattle.command_line.specs.declared.CommandFault.{CommandFault}
 use Rattle.command_line.specs.declared.Verb.{Verb}
 use Rattle.command_line.specs.declared.Verb.TheVariants.{Cluster}
 use Rattle.command_runs.specs.Endings.{Ask, AskOver, IsEndedBy, IsEnding, IsEndingFor, IsTurn, Output, strange_line}
+use Rattle.command_runs.specs.Advice.{IsShown}
 use Rattle.command_runs.specs.FaultLines.{fault_line_of}
 use Rattle.command_runs.specs.Verbs.{BreaksOff, IsOutputOf, RefusesVerb}
 use Rattle.command_runs.specs.declared.ending.Ending.{Ending}
@@ -26,16 +27,19 @@ reported file words verb layout manifest text errors old new ask is appends sile
 -- memory was wanting before the words were read, and nothing was done
 pub wanting : (file : List ℕ → Option (List ℕ)) (words : List Text) (status : ℕ) (errors : List ℕ) (now : Output)
     → status ≡ 1 → errors ≡ fault_line_of Memory → IsEnding file words status errors now now
-wanting file words status errors now one line = inr (inl (one, (Memory, line, inr (Keeps-refl now.bytes, inl refl))))
+wanting file words status errors now one line = inr (inl (one, (Memory, inr (line, inl refl), inr (Keeps-refl now.bytes, inl refl))))
 
 -- the run is refused, or its output could not be written
 pub not_reported : (file : List ℕ → Option (List ℕ)) (words : List Text) (verb : Verb) (layout manifest : List ℕ) (fault : RunFault) (errors : List ℕ) (old new : Output)
-    → AskOver words verb layout manifest → errors ≡ fault_line_of fault
+    → AskOver words verb layout manifest → IsShown file verb fault errors
     → (fault ≡ Write) ⊎ RefusesVerb file verb layout manifest fault → (fault ≡ Write) ⊎ Keeps old.bytes new.bytes
     → (fault ≡ Write → HasFailed old.failures new.failures) → IsEnding file words 1 errors old new
-not_reported file words verb layout manifest fault errors old new ask line (inl writing) kept failed = inr (inl (refl, (fault, line, inl (writing, failed writing))))
-not_reported file words verb layout manifest fault errors old new ask line (inr refused) (inl writing) failed = inr (inl (refl, (fault, line, inl (writing, failed writing))))
-not_reported file words verb layout manifest fault errors old new ask line (inr refused) (inr kept) failed = inr (inl (refl, (fault, line, inr (kept, inr (verb, layout, manifest, ask, refused)))))
+not_reported file words verb layout manifest fault errors old new ask shown (inl writing) kept failed =
+    inr (inl (refl, (fault, inl (verb, layout, manifest, ask, shown), inl (writing, failed writing))))
+not_reported file words verb layout manifest fault errors old new ask shown (inr refused) (inl writing) failed =
+    inr (inl (refl, (fault, inl (verb, layout, manifest, ask, shown), inl (writing, failed writing))))
+not_reported file words verb layout manifest fault errors old new ask shown (inr refused) (inr kept) failed =
+    inr (inl (refl, (fault, inl (verb, layout, manifest, ask, shown), inr (kept, inr (verb, layout, manifest, ask, refused)))))
 
 -- the run of what the words ask for has answered
 pub ended : (file : List ℕ → Option (List ℕ)) (words : List Text) (verb : Verb) (layout manifest : List ℕ) (ran : Result Bool RunFault) (status : ℕ) (errors : List ℕ) (old new : Output)
@@ -45,7 +49,7 @@ pub ended : (file : List ℕ → Option (List ℕ)) (words : List Text) (verb : 
     → IfErr ran (λ fault. (fault ≡ Write) ⊎ RefusesVerb file verb layout manifest fault)
     → IfErr ran (λ fault. (fault ≡ Write) ⊎ Keeps old.bytes new.bytes)
     → (ran ≡ Err Write → BreaksOff file verb layout manifest old.bytes new.bytes old.failures new.failures)
-    → IsEndedBy ran status errors → IsEnding file words status errors old new
+    → IsEndedBy file verb ran status errors → IsEnding file words status errors old new
 ended file words verb layout manifest (Ok true) status errors old new ask output held refused nothing broken is =
     subst (λ (s : ℕ). IsEnding file words s errors old new) (sym is.0)
     (reported file words verb layout manifest output.0 errors old new ask output.1 output.2 is.1)
@@ -55,24 +59,30 @@ ended file words verb layout manifest (Err fault) status errors old new ask outp
     (not_reported file words verb layout manifest fault errors old new ask is.1 refused nothing (λ w. (broken (ap (λ (f : RunFault). Err f) w)).3))
 
 -- the same of an answer after the run of a cluster
-pub ended_cluster : {E : Type 0} (file : List ℕ → Option (List ℕ)) (layout manifest : List ℕ) (ran : Result Bool RunFault) (ending : Result Ending E) (old new : Output)
+pub ended_cluster : {E : Type 0} (file now : List ℕ → Option (List ℕ)) (layout manifest : List ℕ) (ran : Result Bool RunFault) (ending : Result Ending E) (old new : Output)
     → OnOk ran ((text : List ℕ) × IsOutputOf file Cluster layout manifest text × Appends old.bytes new.bytes text)
     → IfOk ran (λ held. held ≡ true)
     → IfErr ran (λ fault. (fault ≡ Write) ⊎ RefusesVerb file Cluster layout manifest fault)
     → IfErr ran (λ fault. (fault ≡ Write) ⊎ Keeps old.bytes new.bytes)
     → (ran ≡ Err Write → BreaksOff file Cluster layout manifest old.bytes new.bytes old.failures new.failures)
-    → IfOk ending (λ e. IsEndedBy ran e.status (string_bytes e.errors))
+    → IfOk ending (λ e. IsEndedBy now Cluster ran e.status (string_bytes e.errors))
     → IfOk ending (λ e. (words : List Text) → AskOver words Cluster layout manifest → IsEnding file words e.status (string_bytes e.errors) old new)
-ended_cluster file layout manifest ran (Ok e) old new output held refused nothing broken is =
-    λ words ask. ended file words Cluster layout manifest ran e.status (string_bytes e.errors) old new ask output held refused nothing broken is
-ended_cluster file layout manifest ran (Err error) old new output held refused nothing broken is = tt
+ended_cluster file now layout manifest ran (Ok e) old new output held refused nothing broken is =
+    λ words ask. ended file words Cluster layout manifest ran e.status (string_bytes e.errors) old new ask output held refused nothing broken (alike ran e is)
+  where
+    alike : (ran : Result Bool RunFault) (e : Ending) → IsEndedBy now Cluster ran e.status (string_bytes e.errors) → IsEndedBy file Cluster ran e.status (string_bytes e.errors)
+    alike (Ok true) e h = h
+    alike (Ok false) e h = h
+    alike (Err fault) e h = h
+ended_cluster file now layout manifest ran (Err error) old new output held refused nothing broken is = tt
 
 -- the words ask for nothing
 pub unasked : (file : List ℕ → Option (List ℕ)) (words : List Text) (fault : CommandFault) (status : ℕ) (errors : List ℕ) (old new : Output)
     → Refuses words fault → IsEndingFor fault status errors old new → IsEnding file words status errors old new
 unasked file words fault status errors old new refused (inl h) = inl (h.0, (h.1, inr ((fault, refused, h.2), h.3)))
-unasked file words fault status errors old new refused (inr (inl h)) = inr (inl (h.0, (Write, h.1, inl (refl, h.2))))
-unasked file words fault status errors old new refused (inr (inr (inl h))) = inr (inl (h.0, (Memory, h.1, inr (h.2, inl refl))))
+unasked file words fault status errors old new refused (inr (inl h)) =
+    inr (inl (h.0, (Write, inr (h.1, inr (refl, (fault, refused, h.2))), inl (refl, h.3))))
+unasked file words fault status errors old new refused (inr (inr (inl h))) = inr (inl (h.0, (Memory, inr (h.1, inl refl), inr (h.2, inl refl))))
 unasked file words fault status errors old new refused (inr (inr (inr h))) = inr (inr (h.0, inl (fault, refused, h.1), h.2))
 
 -- two files that are no texts, as a layout and a manifest

@@ -36,8 +36,8 @@ pub unwritten_refused : (file : List ℕ → Option (List ℕ)) (layout manifest
     → TellsLayout (file layout) l → IsKnownBy file l manifest view → IsUnwritten view old new before now fault → (fault ≡ Write) ⊎ RefusesPack file layout manifest fault
 unwritten_refused file layout manifest l view old new before now Memory told known h = inr (inl (inl refl))
 unwritten_refused file layout manifest l view old new before now (File path) told known h = absurd h
-unwritten_refused file layout manifest l view old new before now (Json path) told known h = absurd h
-unwritten_refused file layout manifest l view old new before now (Shape path) told known h = absurd h
+unwritten_refused file layout manifest l view old new before now (Json path at along) told known h = absurd h
+unwritten_refused file layout manifest l view old new before now (Shape path field) told known h = absurd h
 unwritten_refused file layout manifest l view old new before now (faults.Piece path) told known h = absurd h
 unwritten_refused file layout manifest l view old new before now (faults.Packed path) told known h = absurd h
 unwritten_refused file layout manifest l view old new before now (PackedFrame cause path frame) told known h = absurd h
@@ -68,8 +68,8 @@ unwritten_refused file layout manifest l view old new before now Write told know
 pub unwritten_kept : (view : View) (old new : Option (List ℕ)) (before now : ℕ) (fault : RunFault) → IsUnwritten view old new before now fault → (fault ≡ Write) ⊎ Keeps old new
 unwritten_kept view old new before now Memory h = inr h
 unwritten_kept view old new before now (File path) h = absurd h
-unwritten_kept view old new before now (Json path) h = absurd h
-unwritten_kept view old new before now (Shape path) h = absurd h
+unwritten_kept view old new before now (Json path at along) h = absurd h
+unwritten_kept view old new before now (Shape path field) h = absurd h
 unwritten_kept view old new before now (faults.Piece path) h = absurd h
 unwritten_kept view old new before now (faults.Packed path) h = absurd h
 unwritten_kept view old new before now (PackedFrame cause path frame) h = absurd h

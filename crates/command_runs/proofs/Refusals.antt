@@ -19,8 +19,8 @@ memory_is_not_writing e = cc
 
 fault_is_not_writing : (name : List ℕ) (cause : InputFault) → IsFaultOf name cause Write → ⊥
 fault_is_not_writing name inputs.Memory h = memory_is_not_writing h
-fault_is_not_writing name inputs.Json h = h
-fault_is_not_writing name inputs.Shape h = h
+fault_is_not_writing name (inputs.Json line column) h = h
+fault_is_not_writing name (inputs.Shape field) h = h
 fault_is_not_writing name inputs.Piece h = h
 fault_is_not_writing name inputs.Packed h = h
 fault_is_not_writing name (inputs.Layout broken) h = h

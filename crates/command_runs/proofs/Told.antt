@@ -60,8 +60,8 @@ walk_told name first file left old new fault (Missing parameter path line) told 
 walk_told name first file left old new fault (Wrong parameter path line) told h is =
     (is.0, subst (λ (n : ℕ). StopsText file (causes.Wrong parameter) n) (sym is.2) (subst (λ (c : WalkCause NoMemory). StopsText file c fault.line) is.1 (stops_told file left old new fault told h)))
 walk_told name first file left old new fault (File path) told h is = absurd is
-walk_told name first file left old new fault (Json path) told h is = absurd is
-walk_told name first file left old new fault (Shape path) told h is = absurd is
+walk_told name first file left old new fault (Json path at along) told h is = absurd is
+walk_told name first file left old new fault (Shape path field) told h is = absurd is
 walk_told name first file left old new fault (Piece path) told h is = absurd is
 walk_told name first file left old new fault (Packed path) told h is = absurd is
 walk_told name first file left old new fault (PackedFrame cause path frame) told h is = absurd is

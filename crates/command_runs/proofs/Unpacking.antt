@@ -53,8 +53,8 @@ pub file_refused : (name : List ℕ) (ranks count : ℕ) (file left : Option (Li
     → count ≡ ranks → RefusesPacked count left before now fault → IsFrameFault name fault run → RefusesPackedFile name ranks file run
 file_refused name ranks count file left before now fault Memory stands e h is = tt
 file_refused name ranks count file left before now fault (File path) stands e h is = absurd is
-file_refused name ranks count file left before now fault (Json path) stands e h is = absurd is
-file_refused name ranks count file left before now fault (Shape path) stands e h is = absurd is
+file_refused name ranks count file left before now fault (Json path at along) stands e h is = absurd is
+file_refused name ranks count file left before now fault (Shape path field) stands e h is = absurd is
 file_refused name ranks count file left before now fault (faults.Piece path) stands e h is = absurd is
 file_refused name ranks count file left before now fault (faults.Packed path) stands e h is = absurd is
 file_refused name ranks count file left before now fault (PackedFrame cause path frame) stands e h is = (

@@ -40,8 +40,8 @@ fits most (Some told) bytes is short = subst (λ (b : List ℕ). length b ≤ mo
 -- the text of an input names no file as one that can't be read
 no_file : (name : List ℕ) (cause : InputFault) (path : String Global) → IsFaultOf name cause (File path) → ⊥
 no_file name inputs.Memory path is = cc
-no_file name inputs.Json path is = is
-no_file name inputs.Shape path is = is
+no_file name (inputs.Json line column) path is = is
+no_file name (inputs.Shape field) path is = is
 no_file name inputs.Piece path is = is
 no_file name inputs.Packed path is = is
 no_file name (inputs.Layout broken) path is = is
@@ -82,8 +82,8 @@ more_names name names fails file fault unread path e = elim (unread path e) [
 
 no_text : (name : List ℕ) (cause : InputFault) (path : String Global) (line : ℕ) → IsFaultOf name cause (Text Read path line) → ⊥
 no_text name inputs.Memory path line is = cc
-no_text name inputs.Json path line is = is
-no_text name inputs.Shape path line is = is
+no_text name (inputs.Json at along) path line is = is
+no_text name (inputs.Shape field) path line is = is
 no_text name inputs.Piece path line is = is
 no_text name inputs.Packed path line is = is
 no_text name (inputs.Layout broken) path line is = is

@@ -1,4 +1,4 @@
--- How the program ends: its status, what it wrote, and the line that it showed.
+-- How the program ends: its status, what it wrote, and what it showed.
 use Rattle.std.specs.Prelude.{◌≡◌, ◌≢◌, ◌⊎◌, ◌∷◌, ◌++◌, ℕ, Bool, true, false, List, [], Option, Some, Result, Ok, Err, codes, length, map, string_bytes}
 use Rattle.std.specs.Io.KnownBytes.{Appends, Keeps}
 use Rattle.mpi_model.specs.Failures.{HasFailed}
@@ -7,6 +7,7 @@ use Rattle.command_line.specs.Program.{Refuses, Request, files, init, wish_of, p
 use Rattle.command_line.specs.declared.CommandFault.{CommandFault}
 use Rattle.command_line.specs.declared.Verb.{Verb}
 use Rattle.command_line.specs.declared.Verb.TheVariants as verbs
+use Rattle.command_runs.specs.Advice.{IsShown}
 use Rattle.command_runs.specs.FaultLines.{fault_line_of}
 use Rattle.command_runs.specs.FileNames.{shown_name}
 use Rattle.command_runs.specs.Looks.{BeginsAsText}
@@ -69,9 +70,15 @@ abbrev pub EndsWell : (List ℕ → Option (List ℕ)) → List Text → List �
 EndsWell file words errors old new = (errors ≡ [])
     × (Reports file words old.bytes new.bytes ⊎ (AskNothing words 0 × (new.failures ≡ old.failures)))
 
--- Status 1: the line of a fault was shown. Either a write failed, or nothing was written, and memory was wanting or the run is refused for that fault.
+-- A fault was shown: as the verb shows it for which the words ask, or by its line alone, where memory was wanting or the help
+-- or the version was not written.
+abbrev pub ShowsFault : (List ℕ → Option (List ℕ)) → List Text → RunFault → List ℕ → Type 0
+ShowsFault file words fault errors = ((verb : Verb) × (layout manifest : Text) × AskOver words verb layout manifest × IsShown file verb fault errors)
+    ⊎ ((errors ≡ fault_line_of fault) × ((fault ≡ Memory) ⊎ ((fault ≡ Write) × AskNothing words 0)))
+
+-- Status 1: a fault was shown. Either a write failed, or nothing was written, and memory was wanting or the run is refused for that fault.
 abbrev pub EndsRefused : (List ℕ → Option (List ℕ)) → List Text → List ℕ → Output → Output → Type 0
-EndsRefused file words errors old new = (fault : RunFault) × (errors ≡ fault_line_of fault)
+EndsRefused file words errors old new = (fault : RunFault) × ShowsFault file words fault errors
     × (((fault ≡ Write) × HasFailed old.failures new.failures) ⊎ (Keeps old.bytes new.bytes × ((fault ≡ Memory) ⊎ IsRefusedRun file words fault)))
 
 -- The words are mistaken: they ask for nothing, or for a verb over files that aren't what it takes, of which a line was shown.
@@ -90,15 +97,15 @@ IsEnding file words status errors old new = ((status ≡ 0) × EndsWell file wor
 -- The program ends so where the words ask for nothing for this cause: its text was written, or a write failed; or memory was wanting; or its text was shown.
 abbrev pub IsEndingFor : CommandFault → ℕ → List ℕ → Output → Output → Type 0
 IsEndingFor fault status errors old new = ((status ≡ 0) × (errors ≡ []) × (0 ≡ status_of fault) × (new.failures ≡ old.failures))
-    ⊎ (((status ≡ 1) × (errors ≡ fault_line_of Write) × HasFailed old.failures new.failures)
+    ⊎ (((status ≡ 1) × (errors ≡ fault_line_of Write) × (0 ≡ status_of fault) × HasFailed old.failures new.failures)
     ⊎ (((status ≡ 1) × (errors ≡ fault_line_of Memory) × Keeps old.bytes new.bytes)
     ⊎ ((status ≡ 2) × (2 ≡ status_of fault) × Keeps old.bytes new.bytes)))
 
--- The status after a run that answered so, and the line that is shown: that of its fault.
-abbrev pub IsEndedBy : Result Bool RunFault → ℕ → List ℕ → Type 0
-IsEndedBy (Ok true) status errors = (status ≡ 0) × (errors ≡ [])
-IsEndedBy (Ok false) status errors = (status ≡ 1) × (errors ≡ [])
-IsEndedBy (Err fault) status errors = (status ≡ 1) × (errors ≡ fault_line_of fault)
+-- The status after a run of a verb that answered so, and what is shown: its fault.
+abbrev pub IsEndedBy : (List ℕ → Option (List ℕ)) → Verb → Result Bool RunFault → ℕ → List ℕ → Type 0
+IsEndedBy file verb (Ok true) status errors = (status ≡ 0) × (errors ≡ [])
+IsEndedBy file verb (Ok false) status errors = (status ≡ 1) × (errors ≡ [])
+IsEndedBy file verb (Err fault) status errors = (status ≡ 1) × IsShown file verb fault errors
 
 -- The program has ended so on these words; or nothing was done, and they ask for a cluster, for a verb over texts, of which the first begins as one, or for `init`.
 abbrev pub IsTurn : (List ℕ → Option (List ℕ)) → List Text → Turn → Output → Output → Type 0

@@ -81,8 +81,8 @@ at_line path line = codes " at " ++ shown_path path ++ codes ":" ++ decimal line
 abbrev pub fault_text : RunFault → List ℕ
 fault_text Memory = codes "Memory"
 fault_text (File path) = codes "M1 File " ++ shown_path path
-fault_text (Json path) = codes "M2 Json in " ++ shown_path path
-fault_text (Shape path) = codes "M3 Shape in " ++ shown_path path
+fault_text (Json path line column) = codes "M2 Json in " ++ shown_path path
+fault_text (Shape path field) = codes "M3 Shape in " ++ shown_path path
 fault_text (Piece path) = codes "M4 Piece in " ++ shown_path path
 fault_text (Packed path) = codes "M5 Packed in " ++ shown_path path
 fault_text (PackedFrame cause path frame) = packed_cause_name cause ++ codes " at frame " ++ decimal frame ++ codes " of " ++ shown_path path

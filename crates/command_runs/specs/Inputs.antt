@@ -19,8 +19,8 @@ RefusesFile name _ = ⊥
 -- The fault is that of the file's text, and names it.
 abbrev pub IsFaultOf : List ℕ → InputFault → RunFault → Type 0
 IsFaultOf name inputs.Memory fault = fault ≡ Memory
-IsFaultOf name inputs.Json (Json path) = IsNamed path name
-IsFaultOf name inputs.Shape (Shape path) = IsNamed path name
+IsFaultOf name (inputs.Json at along) (Json path line column) = IsNamed path name × (line ≡ at) × (column ≡ along)
+IsFaultOf name (inputs.Shape unreadable) (Shape path field) = IsNamed path name × (field ≡ unreadable)
 IsFaultOf name inputs.Piece (Piece path) = IsNamed path name
 IsFaultOf name inputs.Packed (Packed path) = IsNamed path name
 IsFaultOf name (inputs.Layout broken) (Layout fault path) = (fault ≡ broken) × IsNamed path name

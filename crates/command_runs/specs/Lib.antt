@@ -1,3 +1,4 @@
+pub mod Advice
 pub mod Checks
 pub mod Explains
 pub mod Graphs
@@ -19,6 +20,7 @@ pub mod Refusals
 pub mod Replays
 pub mod Runs
 pub mod Schedules
+pub mod Sentences
 pub mod Shares
 pub mod Texts
 pub mod Traces

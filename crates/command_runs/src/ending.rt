@@ -6,6 +6,7 @@ ghost use Rattle.command_line.specs.Program.{files as over_files};
 ghost use Rattle.command_runs.specs.Endings.{Ask, AskOver, BeginsWithText, IsEndedBy, IsEnding, IsEndingFor, IsTurn, first_name, output_of, strange_line};
 ghost use Rattle.command_runs.specs.FaultLines.{fault_line_of};
 
+use crate::advice::shown_fault;
 use crate::cluster::run_cluster;
 use crate::fault::{RunFault, fault_line};
 use crate::file_name::FileName;
@@ -98,7 +99,7 @@ fn turn_of_pair<'a, O: Opener, V: Watcher, W: Write>(
         Verb::Cluster => return Ok(Turn::Cluster { layout, manifest }),
         verb => run_with(alloc, verb, layout, manifest, files, watcher, out),
     };
-    Ok(Turn::Ended(ending_after(alloc, ran)?))
+    Ok(Turn::Ended(ending_after(alloc, verb, ran, files)?))
 }
 
 // A verb over its files: texts, or a layout and a manifest.
@@ -187,17 +188,25 @@ pub fn ending_of_cluster<
     ensures { IfOk result (λ e. (words : List Text) → AskOver words Verb.Cluster layout.now manifest.now → IsEnding (O.file files.old) words e.status (string_bytes e.errors) (output_of (W.written out.old) (W.failures out.old)) (output_of (W.written out.new) (W.failures out.new))) }
 {
     let ran = run_cluster(rt, alloc, layout, manifest, files, out);
-    ending_after(alloc, ran)
+    ending_after(alloc, Verb::Cluster, ran, files)
 }
 
-/// The ending after such a run.
-pub fn ending_after(alloc: Global, ran: Result<bool, RunFault>) -> Result<Ending, AllocError>
-    ensures { IfOk result (λ e. IsEndedBy ran e.status (string_bytes e.errors)) }
+/// The ending after such a run of a verb over these files.
+pub fn ending_after<O: Opener>(
+    alloc: Global,
+    verb: Verb,
+    ran: Result<bool, RunFault>,
+    files: &mut O,
+) -> Result<Ending, AllocError>
+    ensures { IfOk result (λ e. IsEndedBy (O.file files.old) verb ran e.status (string_bytes e.errors)) }
 {
     match ran {
         Ok(true) => Ok(silent(alloc, 0)),
         Ok(false) => Ok(silent(alloc, 1)),
-        Err(fault) => refused(alloc, &fault),
+        Err(fault) => Ok(Ending {
+            status: 1,
+            errors: shown_fault(alloc, verb, &fault, files)?,
+        }),
     }
 }
 

@@ -44,6 +44,7 @@ pub(crate) fn explain_with<O: Opener, V: Watcher, W: Write>(
     ensures failed { IfErr result (NamesFailed (Fails O.R.failures)) }
     ensures nothing { IfErr result (λ fault. (fault ≡ RunFault.Write) ⊎ Keeps (W.written out.old) (W.written out.new)) }
     ensures broken_off { result ≡ Err RunFault.Write → BreaksOff (O.file files.old) Verb.Explain layout_name.now manifest_name.now (W.written out.old) (W.written out.new) (W.failures out.old) (W.failures out.new) }
+    ensures same { O.file files.new ≡ O.file files.old }
 {
     let text = match text_with(alloc, layout_name, manifest_name, files, watcher) {
         Ok(text) => text,
@@ -67,6 +68,7 @@ fn text_with<O: Opener, V: Watcher>(
     ensures err { IfErr result (λ fault. RefusesRun (O.file files.old) layout_name.now manifest_name.now fault) }
     ensures unread { IfErr result (λ fault. NamesUnreadable LONGEST_FILE (Fails O.R.failures) (O.file files.old) fault) }
     ensures failed { IfErr result (NamesFailed (Fails O.R.failures)) }
+    ensures same { O.file files.new ≡ O.file files.old }
 {
     let layout = match layout_at(alloc, layout_name, files) {
         Ok(layout) => layout,
@@ -155,6 +157,7 @@ fn explained<N: Answerer, O: Opener>(
     requires own { layout.now ≡ (N.held node).layout }
     requires other { other.now ≡ under_other (N.held node).layout }
     ensures ok { IfOk result (λ text. IsTold (O.file files.old) (N.held node).layout (N.held node).know notes.now text.items) }
+    ensures same { O.file files.new ≡ O.file files.old }
 {
     // (a new node isn't stale)
     let Ok(answer) = node.told() else {

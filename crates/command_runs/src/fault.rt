@@ -6,6 +6,7 @@ ghost use Rattle.command_runs.specs.FaultLines.{cause_name, fault_line_of, layou
 use crate::file_name::FileName;
 use dumpi_calls::Parameter;
 use dumpi_text::{LineFault, TextCause};
+use input_files::Field;
 use mpi_model::LayoutFault;
 use std::alloc::{AllocError, AllocFailed, Global};
 use std::fmt;
@@ -21,11 +22,16 @@ pub enum RunFault {
     File {
         path: String,
     },
+    /// The file is no JSON, as is noticed at this line and column, both from 1; column 0 is before the line's first byte.
     Json {
         path: String,
+        line: u64,
+        column: u64,
     },
+    /// This field of a layout or a manifest is missing, of another kind, or out of its range, or a field in it is.
     Shape {
         path: String,
+        field: Field,
     },
     /// The schedule posts a piece that the manifest doesn't list.
     Piece {
@@ -131,8 +137,8 @@ impl fmt::Display for RunFault {
         match self {
             RunFault::Memory => write!(f, "Memory"),
             RunFault::File { path } => write!(f, "M1 File {}", FileName::new(path)),
-            RunFault::Json { path } => write!(f, "M2 Json in {}", FileName::new(path)),
-            RunFault::Shape { path } => write!(f, "M3 Shape in {}", FileName::new(path)),
+            RunFault::Json { path, .. } => write!(f, "M2 Json in {}", FileName::new(path)),
+            RunFault::Shape { path, .. } => write!(f, "M3 Shape in {}", FileName::new(path)),
             RunFault::Piece { path } => write!(f, "M4 Piece in {}", FileName::new(path)),
             RunFault::Packed { path } => write!(f, "M5 Packed in {}", FileName::new(path)),
             RunFault::PackedFrame { cause, path, frame } => {

@@ -43,9 +43,9 @@ fn look_at<R: Read>(reader: R) -> Result<bool, Failed>
     }
 }
 
-#[tactic(auto, using(crate::proofs::Looks::begins_told))]
 /// Whether the file begins as the text of a trace, where that can be looked at: what comes through a
 /// pipe would be gone.
+#[tactic(auto, using(crate::proofs::Looks::begins_told))]
 pub(crate) fn begins_as_text<O: Opener>(path: &str, files: &mut O) -> bool
     ensures told { IsTrue result → BeginsAsText (O.file files.old path.now) }
     ensures same { O.file files.new ≡ O.file files.old }

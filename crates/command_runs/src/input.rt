@@ -87,8 +87,8 @@ fn fault_at(alloc: Global, fault: InputFault, path: &str) -> Result<RunFault, Al
     let path = path.to_string(alloc)?;
     Ok(match fault {
         InputFault::Memory => RunFault::Memory,
-        InputFault::Json => RunFault::Json { path },
-        InputFault::Shape => RunFault::Shape { path },
+        InputFault::Json { line, column } => RunFault::Json { path, line, column },
+        InputFault::Shape(field) => RunFault::Shape { path, field },
         InputFault::Piece => RunFault::Piece { path },
         InputFault::Packed => RunFault::Packed { path },
         InputFault::Layout(fault) => RunFault::Layout { fault, path },

@@ -40,6 +40,7 @@ pub(crate) fn json_with<O: Opener, V: Watcher, W: Write>(
     ensures failed { IfErr result (NamesFailed (Fails O.R.failures)) }
     ensures nothing { IfErr result (λ fault. (fault ≡ RunFault.Write) ⊎ Keeps (W.written out.old) (W.written out.new)) }
     ensures broken_off { result ≡ Err RunFault.Write → BreaksOff (O.file files.old) Verb.ReportJson layout_name.now manifest_name.now (W.written out.old) (W.written out.new) (W.failures out.old) (W.failures out.new) }
+    ensures same { O.file files.new ≡ O.file files.old }
 {
     let layout = match layout_at(alloc, layout_name, files) {
         Ok(layout) => layout,

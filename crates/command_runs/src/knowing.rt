@@ -38,6 +38,7 @@ pub(crate) fn know_of<G: Gatherer, O: Opener, V: Watcher>(
     ensures layout { IfOk result (λ g. G.layout g ≡ G.layout gatherer) }
     ensures err { IfErr result (RefusesPieces (O.file files.old) layout.now.ranks pieces.now) }
     ensures failed { IfErr result (NamesFailed (Fails O.R.failures)) }
+    ensures same { O.file files.new ≡ O.file files.old }
 {
     join_laws();
     view_laws();

@@ -1,6 +1,6 @@
 //! All that the pieces of a manifest tell.
 
-ghost use Rattle.std.specs.Prelude.{IfErr, IfOk};
+ghost use Rattle.std.specs.Prelude.{◌≡◌, IfErr, IfOk};
 ghost use Rattle.dumpi_text.specs.Failing.{Fails};
 ghost use Rattle.trace_node.specs.Node.{IsWithin};
 ghost use Rattle.command_runs.specs.Files.{NamesFailed, NamesUnreadable};
@@ -33,6 +33,7 @@ pub(crate) fn known_with<O: Opener, V: Watcher>(
     ensures err { IfErr result (λ fault. RefusesNode (O.file files.old) layout.now manifest_name.now fault) }
     ensures unread { IfErr result (λ fault. NamesUnreadable LONGEST_FILE (Fails O.R.failures) (O.file files.old) fault) }
     ensures failed { IfErr result (NamesFailed (Fails O.R.failures)) }
+    ensures same { O.file files.new ≡ O.file files.old }
 {
     let manifest = match manifest_at(alloc, manifest_name, files) {
         Ok(manifest) => manifest,

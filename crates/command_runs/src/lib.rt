@@ -32,7 +32,8 @@
 //! - [`shares`]: what the packed files of each node of a cluster tell; [`texts`]: the texts; [`cluster`]: its run, and the
 //!   reports of both nodes
 //! - [`run`]: a verb over its files; [`fault`]: why it is refused, and the line that says so, in which
-//!   [`file_name`] shows names of files
+//!   [`file_name`] shows names of files; [`advice`]: what is said below that line in [`sentences`], by what is
+//!   [`found`] out of the file that it names, as the [`reason`] of the system
 //! - [`ending`]: from words to a status and what standard error shows; [`first_look`]: whether a file begins as the text
 //!   of a trace
 //!
@@ -40,6 +41,7 @@
 //! `crates/command_runs_tests` has what only files in memory show.
 #![tactic(auto)]
 
+mod advice;
 mod answerer;
 mod check;
 mod cluster;
@@ -48,6 +50,7 @@ mod explain;
 mod fault;
 mod file_name;
 mod first_look;
+mod found;
 mod gatherer;
 mod graph;
 mod input;
@@ -63,10 +66,12 @@ mod packed;
 mod piece;
 mod pieces;
 mod places;
+mod reason;
 mod replay;
 mod run;
 mod schedule;
 mod second_look;
+mod sentences;
 mod shares;
 mod terminal;
 mod texts;
@@ -74,13 +79,17 @@ mod watch;
 mod watched;
 mod whole;
 
+pub use advice::{Advice, is_in_words};
 pub use cluster::run_cluster;
 pub use ending::{Ending, Turn, ending_after, ending_of, ending_of_cluster, ending_without_words};
 pub use fault::{RunFault, fault_line, name_of_layout};
 pub use file_name::FileName;
+pub use found::{Found, NOTHING, found_of, looked_at};
 pub use laws::packed_laws;
 pub use opener::{Disk, OpenFault, Opener};
+pub use reason::Reason;
 pub use run::run_with;
+pub use sentences::{begun_text, layout_text};
 pub use terminal::Terminal;
 pub use watch::{Unwatched, Watcher};
 pub use whole::LONGEST_FILE;

@@ -3,6 +3,7 @@
 ghost use Rattle.std.specs.Prelude.{◌≡◌, ℕ, IfOk, List, None, Option};
 ghost use Rattle.command_runs.specs.Files.{StandsAtFirst};
 
+use crate::reason::Reason;
 use mpi_model::{Device, Read};
 use std::fs::Files;
 use std::io;
@@ -37,6 +38,12 @@ pub trait Opener: Drop {
     fn length(&self, _path: &str) -> Option<u64> {
         None
     }
+
+    /// Why no file of a name can be read now, where the system says so. It is for a person who reads why a run was refused, and
+    /// nothing else that a run answers hangs on it.
+    fn reason(&self, _path: &str) -> Option<Reason> {
+        None
+    }
 }
 
 /// The files of the system.
@@ -69,5 +76,26 @@ impl<'a, F: Files> Opener for Disk<'a, F> {
         } else {
             None
         }
+    }
+
+    fn reason(&self, path: &str) -> Option<Reason> {
+        match std::fs::metadata(self.rt, path) {
+            Ok(metadata) if metadata.is_dir() => Some(Reason::Folder),
+            // (a pipe that is opened would wait for its writer)
+            Ok(metadata) if metadata.is_file() => match std::fs::open(self.rt, path) {
+                Ok(_) => None,
+                Err(error) => reason_of(error.kind()),
+            },
+            Ok(_) => None,
+            Err(error) => reason_of(error.kind()),
+        }
+    }
+}
+
+fn reason_of(kind: io::ErrorKind) -> Option<Reason> {
+    match kind {
+        io::ErrorKind::NotFound => Some(Reason::Absent),
+        io::ErrorKind::PermissionDenied => Some(Reason::Denied),
+        _ => None,
     }
 }

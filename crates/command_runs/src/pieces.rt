@@ -26,6 +26,7 @@ pub fn segments_of_all<O: Opener, V: Watcher>(
     ensures ok { IfOk result (λ lists. TellSegments (O.file files.old) pieces.now (held_lists lists.items)) }
     ensures err { IfErr result (λ fault. (fault ≡ RunFault.Memory) ⊎ RefusesFirst (O.file files.old) pieces.now fault) }
     ensures failed { IfErr result (NamesFailed (Fails O.R.failures)) }
+    ensures same { O.file files.new ≡ O.file files.old }
 {
     whole_segments();
     announce(pieces, files, watcher);

@@ -40,6 +40,7 @@ pub(crate) fn replay_with<O: Opener, V: Watcher, W: Write>(
     ensures failed { IfErr result (NamesFailed (Fails O.R.failures)) }
     ensures nothing { IfErr result (λ fault. (fault ≡ RunFault.Write) ⊎ Keeps (W.written out.old) (W.written out.new)) }
     ensures broken_off { result ≡ Err RunFault.Write → BreaksOff (O.file files.old) Verb.Replay layout_name.now manifest_name.now (W.written out.old) (W.written out.new) (W.failures out.old) (W.failures out.new) }
+    ensures same { O.file files.new ≡ O.file files.old }
 {
     let layout = match layout_at(alloc, layout_name, files) {
         Ok(layout) => layout,
@@ -68,6 +69,7 @@ fn world_with<'a, O: Opener, V: Watcher>(
     ensures err { IfErr result (λ fault. RefusesNodes (O.file files.old) layout.now manifest_name.now fault) }
     ensures unread { IfErr result (λ fault. NamesUnreadable LONGEST_FILE (Fails O.R.failures) (O.file files.old) fault) }
     ensures failed { IfErr result (NamesFailed (Fails O.R.failures)) }
+    ensures same { O.file files.new ≡ O.file files.old }
 {
     let manifest = match manifest_at(alloc, manifest_name, files) {
         Ok(manifest) => manifest,

@@ -54,6 +54,7 @@ pub fn run_with<O: Opener, V: Watcher, W: Write>(
     ensures failed { IfErr result (NamesFailed (Fails O.R.failures)) }
     ensures nothing { IfErr result (λ fault. (fault ≡ RunFault.Write) ⊎ Keeps (W.written out.old) (W.written out.new)) }
     ensures broken_off { result ≡ Err RunFault.Write → BreaksOff (O.file files.old) verb layout.now manifest.now (W.written out.old) (W.written out.new) (W.failures out.old) (W.failures out.new) }
+    ensures same { O.file files.new ≡ O.file files.old }
 {
     match verb {
         Verb::Explain => explain_with(alloc, layout, manifest, files, watcher, out),
@@ -86,6 +87,7 @@ fn report_with<O: Opener, V: Watcher, W: Write>(
     ensures failed { IfErr result (NamesFailed (Fails O.R.failures)) }
     ensures nothing { IfErr result (λ fault. (fault ≡ RunFault.Write) ⊎ Keeps (W.written out.old) (W.written out.new)) }
     ensures broken_off { result ≡ Err RunFault.Write → BreaksOff (O.file files.old) Verb.Report layout_name.now manifest_name.now (W.written out.old) (W.written out.new) (W.failures out.old) (W.failures out.new) }
+    ensures same { O.file files.new ≡ O.file files.old }
 {
     let layout = match layout_at(alloc, layout_name, files) {
         Ok(layout) => layout,
@@ -130,6 +132,7 @@ pub(crate) fn node_with<'a, O: Opener, V: Watcher>(
     ensures err { IfErr result (λ fault. RefusesNode (O.file files.old) layout.now manifest_name.now fault) }
     ensures unread { IfErr result (λ fault. NamesUnreadable LONGEST_FILE (Fails O.R.failures) (O.file files.old) fault) }
     ensures failed { IfErr result (NamesFailed (Fails O.R.failures)) }
+    ensures same { O.file files.new ≡ O.file files.old }
 {
     let know = match known_with(alloc, layout, manifest_name, files, watcher) {
         Ok(know) => know,

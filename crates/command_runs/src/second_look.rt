@@ -27,8 +27,8 @@ pub(crate) fn reopened<O: Opener>(path: &str, files: &mut O) -> Option<O::R>
     }
 }
 
-#[tactic(auto, using(crate::proofs::Notes::start_told))]
 /// What a text is taken for by its first bytes, where they can be looked at.
+#[tactic(auto, using(crate::proofs::Notes::start_told))]
 pub(crate) fn start_at<O: Opener>(path: &str, files: &mut O) -> Option<Start>
     ensures told { IfSome result (IsStartOf (O.file files.old path.now)) }
     ensures same { O.file files.new ≡ O.file files.old }
@@ -40,8 +40,8 @@ pub(crate) fn start_at<O: Opener>(path: &str, files: &mut O) -> Option<Start>
     }
 }
 
-#[tactic(auto, using(crate::proofs::Notes::line_told))]
 /// The line at which the call of a number of a text begins, where it can be looked up.
+#[tactic(auto, using(crate::proofs::Notes::line_told))]
 pub(crate) fn line_at<O: Opener>(
     alloc: Global,
     path: &str,
@@ -62,8 +62,8 @@ pub(crate) fn line_at<O: Opener>(
     }
 }
 
-#[tactic(auto, using(crate::proofs::Notes::skips_told))]
 /// Where the first line of a text stands that was skipped, where it can be looked up.
+#[tactic(auto, using(crate::proofs::Notes::skips_told))]
 pub(crate) fn skips_at<O: Opener>(
     alloc: Global,
     path: &str,

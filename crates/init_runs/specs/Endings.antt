@@ -12,7 +12,7 @@ use Rattle.command_runs.specs.Verbs.{IsOutputOf, RefusesVerb}
 use Rattle.command_runs.specs.declared.fault.RunFault.{RunFault}
 use Rattle.command_runs.specs.declared.fault.RunFault.TheVariants as runs
 use Rattle.text_layouts.specs.declared.made.Made.{Made}
-use Rattle.init_runs.specs.Faults.{init_fault_line_of}
+use Rattle.init_runs.specs.Advice.{IsInitShown}
 use Rattle.init_runs.specs.MadeFiles.{with_made}
 use Rattle.init_runs.specs.Prepared.{AreNotes, IsMadeOf, RefusesWords}
 use Rattle.init_runs.specs.declared.fault.InitFault.{InitFault}
@@ -31,19 +31,19 @@ abbrev pub files_of : (List ℕ → Option (List ℕ)) → Made → List ℕ →
 files_of file made = with_made file layout_name made.layout_file.items manifest_name made.manifest_file.items
 
 -- A verb ran over a layout and a manifest that were made, and the program ends so: with what the verb prints of them, or
--- the line of the fault for which it refuses them.
+-- what it shows of the fault for which it refuses them.
 pub record EndsOver (file : List ℕ → Option (List ℕ)) (verb : Verb) (made : Made) (status : ℕ) (errors : List ℕ) (old new : Option (List ℕ)) : Type 0 where
   pub ran : Result Bool RunFault
-  pub ended : IsEndedBy ran status errors
+  pub ended : IsEndedBy (files_of file made) verb ran status errors
   pub output : OnOk ran ((text : List ℕ) × IsOutputOf (files_of file made) verb layout_name manifest_name text × Appends old new text)
   pub refused : IfErr ran (λ fault. (fault ≡ runs.Write) ⊎ RefusesVerb (files_of file made) verb layout_name manifest_name fault)
   pub nothing : IfErr ran (λ fault. (fault ≡ runs.Write) ⊎ Keeps old new)
 
--- The texts that these words name are refused, and the program ends with the line that says why.
-abbrev pub EndsRefused : (List ℕ → Option (List ℕ)) → Sends → List (List ℕ) → ℕ → List ℕ → Type 0
-EndsRefused file sends words status errors = (fault : InitFault) × (status ≡ 1) × (errors ≡ init_fault_line_of fault) × RefusesWords file sends words fault
+-- The texts that these words name are refused, and the program ends with what the verb shows of the fault.
+abbrev pub EndsRefused : (List ℕ → Option (List ℕ)) → Verb → Sends → List (List ℕ) → ℕ → List ℕ → Type 0
+EndsRefused file verb sends words status errors = (fault : InitFault) × (status ≡ 1) × IsInitShown file verb fault errors × RefusesWords file sends words fault
 
 -- A verb over texts ends so: they are refused and nothing is written, or it ran over what was made of them.
 abbrev pub EndsOverTexts : (List ℕ → Option (List ℕ)) → Verb → List (List ℕ) → ℕ → List ℕ → Option (List ℕ) → Option (List ℕ) → Type 0
-EndsOverTexts file verb words status errors old new = (EndsRefused file Wait words status errors × Keeps old new)
+EndsOverTexts file verb words status errors old new = (EndsRefused file verb Wait words status errors × Keeps old new)
     ⊎ ((made : Made) × IsMadeOf file Wait words made × EndsOver file verb made status errors old new)

@@ -1,3 +1,4 @@
+pub mod Advice
 pub mod Endings
 pub mod Faults
 pub mod MadeFiles

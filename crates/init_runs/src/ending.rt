@@ -1,9 +1,11 @@
 //! How the program ends where it is given texts alone.
 
 ghost use Rattle.std.specs.Prelude.{◌≡◌, ◌≢◌, IfOk, map, string_bytes};
+ghost use Rattle.init_runs.specs.Advice.{IsInitShown};
 ghost use Rattle.init_runs.specs.Endings.{EndsOver, EndsOverTexts};
 ghost use Rattle.init_runs.specs.Faults.{init_fault_line_of};
 
+use crate::advice::shown_init_fault;
 use crate::fault::{InitFault, init_fault_line, put_fault};
 use crate::made_files::{LAYOUT_NAME, MANIFEST_NAME, MadeFiles};
 use crate::prepared::{Prepared, prepare};
@@ -23,6 +25,20 @@ fn ending_of_fault(alloc: Global, fault: &InitFault) -> Result<Ending, AllocErro
         status: 1,
         errors: init_fault_line(alloc, fault)?,
     })
+}
+
+/// The ending of a verb after such a fault.
+fn ending_shown<O: Opener>(
+    alloc: Global,
+    verb: Verb,
+    fault: &InitFault,
+    files: &mut O,
+) -> Result<Ending, AllocError>
+    ensures status { IfOk result (λ e. e.status ≡ 1) }
+    ensures shown { IfOk result (λ e. IsInitShown (O.file files.old) verb fault.now (string_bytes e.errors)) }
+{
+    let errors = shown_init_fault(alloc, verb, fault, files)?;
+    Ok(Ending { status: 1, errors })
 }
 
 /// Runs a verb over texts, by the layout and the manifest that were made of them.
@@ -51,7 +67,7 @@ fn run_prepared<O: Opener, V: Watcher, W: Write>(
         watcher,
         out,
     );
-    ending_after(alloc, ran)
+    ending_after(alloc, verb, ran, &mut made)
 }
 
 /// Shows on standard error what was found in the texts.
@@ -103,7 +119,7 @@ fn over_texts<R: Eprint, O: Opener, V: Watcher, W: Write>(
 {
     let prepared = match prepare(alloc, Sends::Wait, texts, files) {
         Ok(prepared) => prepared,
-        Err(fault) => return ending_of_fault(alloc, &fault),
+        Err(fault) => return ending_shown(alloc, verb, &fault, files),
     };
     show(rt, &prepared.notes);
     run_prepared(alloc, verb, &prepared, files, watcher, out)

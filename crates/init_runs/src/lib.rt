@@ -3,9 +3,10 @@
 //!
 //! - [`texts`]: what each text says of communicators; [`prepared`]: the layout and the manifest of all of them
 //! - [`made_files`], with the readers of [`reader`]: both as files of a run, in memory
-//! - [`fault`]: why nothing is made, and the line that says so; [`ending`]: how the program ends
+//! - [`fault`]: why nothing is made, and the line that says so; [`advice`]: what is said below it in words; [`ending`]: how the program ends
 #![tactic(auto)]
 
+mod advice;
 mod ending;
 mod fault;
 mod made_files;

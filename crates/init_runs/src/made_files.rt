@@ -6,7 +6,7 @@ ghost use Rattle.init_runs.specs.MadeFiles.{with_made};
 ghost use Rattle.init_runs.specs.declared.made_files.TheConstants.{LAYOUT_NAME, MANIFEST_NAME};
 
 use crate::reader::MadeReader;
-use command_runs::{OpenFault, Opener};
+use command_runs::{OpenFault, Opener, Reason};
 use mpi_model::MemoryReader;
 
 /// By this name a run opens the layout that was made: no file of the system has it, and no word.
@@ -55,5 +55,9 @@ impl<'a, O: Opener> Opener for MadeFiles<'a, O> {
 
     fn length(&self, path: &str) -> Option<u64> {
         self.files.length(path)
+    }
+
+    fn reason(&self, path: &str) -> Option<Reason> {
+        self.files.reason(path)
     }
 }

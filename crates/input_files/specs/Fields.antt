@@ -15,8 +15,8 @@ pub record IsJson (text : List ℕ) (value : Data) : Type 0 where
 -- Why a text has no value.
 abbrev pub HasNoValue : List ℕ → InputFault → Type 0
 HasNoValue text Memory = Unit {0}
-HasNoValue text Json = (value : Data) → IsJson text value → ⊥
-HasNoValue text Shape = ⊥
+HasNoValue text (Json line column) = (value : Data) → IsJson text value → ⊥
+HasNoValue text (Shape field) = ⊥
 HasNoValue text Piece = ⊥
 HasNoValue text Packed = ⊥
 HasNoValue text (Layout fault) = ⊥

@@ -10,6 +10,8 @@ use Rattle.mpi_model.specs.Communicators.{Communicator}
 use Rattle.mpi_model.specs.Layouts.{Holds, Parts, fault_of}
 use Rattle.input_files.specs.Fields.{IsJson, u32_in, u32s_in, with_first}
 use Rattle.input_files.specs.Numbers.{numbers_in}
+use Rattle.input_files.specs.declared.fault.Field.{Field}
+use Rattle.input_files.specs.declared.fault.Field.TheVariants as fields
 use Rattle.input_files.specs.declared.fault.InputFault.{InputFault}
 use Rattle.input_files.specs.declared.fault.InputFault.TheVariants.{Memory, Json, Shape, Piece, Packed, Layout}
 
@@ -50,6 +52,19 @@ parts_in value = parts_from (option_and_then u32_in (get (codes "ranks") value))
     (option_and_then sends_named (option_and_then as_str (get (codes "sends") value)))
     (option_and_then communicators_in (option_and_then as_array (get (codes "comms") value)))
 
+-- which field can't be read: `comms` where the three before it can
+abbrev pub unreadable_from : Option ℕ → Option ℕ → Option Sends → Field
+unreadable_from None world sends = fields.Ranks
+unreadable_from (Some ranks) None sends = fields.World
+unreadable_from (Some ranks) (Some world) None = fields.Sends
+unreadable_from (Some ranks) (Some world) (Some sends) = fields.Comms
+
+-- the first field that can't be read of a layout of which one can't
+abbrev pub unreadable_field : Data → Field
+unreadable_field value = unreadable_from (option_and_then u32_in (get (codes "ranks") value))
+    (option_and_then u32_in (get (codes "world") value))
+    (option_and_then sends_named (option_and_then as_str (get (codes "sends") value)))
+
 -- The text tells these fields.
 abbrev pub TellsParts : List ℕ → Parts → Type 0
 TellsParts text given = (value : Data) × IsJson text value × (parts_in value ≡ Some given)
@@ -63,8 +78,8 @@ IsLayoutOf text l = (given : Parts) × TellsParts text given
 -- Why the text is no layout.
 abbrev pub RefusesLayout : List ℕ → InputFault → Type 0
 RefusesLayout text Memory = Unit {0}
-RefusesLayout text Json = (value : Data) → IsJson text value → ⊥
-RefusesLayout text Shape = (value : Data) × IsJson text value × (parts_in value ≡ None)
+RefusesLayout text (Json line column) = (value : Data) → IsJson text value → ⊥
+RefusesLayout text (Shape field) = (value : Data) × IsJson text value × (parts_in value ≡ None) × (field ≡ unreadable_field value)
 RefusesLayout text Piece = ⊥
 RefusesLayout text Packed = ⊥
 RefusesLayout text (Layout fault) = (given : Parts) × TellsParts text given

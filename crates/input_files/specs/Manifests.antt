@@ -5,6 +5,8 @@ use Rattle.serde_json.specs.Data.{Data, Items, no_items, item}
 use Rattle.serde_json.specs.Find.{as_array, as_str, get}
 use Rattle.input_files.specs.Fields.{IsJson, bit_in, or_absent, u32_in, u64_in, with_first}
 use Rattle.input_files.specs.Schedules.{posts_packed, posts_past, renumbered, steps_in}
+use Rattle.input_files.specs.declared.fault.Field.{Field}
+use Rattle.input_files.specs.declared.fault.Field.TheVariants as fields
 use Rattle.input_files.specs.declared.fault.InputFault.{InputFault}
 use Rattle.input_files.specs.declared.fault.InputFault.TheVariants.{Memory, Json, Shape, Piece, Packed, Layout}
 use Rattle.input_files.specs.declared.schedule.PlannedStep.{PlannedStep}
@@ -115,6 +117,16 @@ given_by value (Some listed) = given_from (pieces_in listed) (all_packed_in list
 abbrev pub given_in : Data → Option GivenParts
 given_in value = given_by value (option_and_then as_array (get (codes "pieces") value))
 
+-- which field can't be read: `pieces` where the others can
+abbrev pub unreadable_from : Option ℕ → Option (List PlannedStep) → Field
+unreadable_from None schedule = fields.Nodes
+unreadable_from (Some nodes) None = fields.Schedule
+unreadable_from (Some nodes) (Some schedule) = fields.Pieces
+
+-- a field that can't be read of a manifest of which one can't
+abbrev pub unreadable_field : Data → Field
+unreadable_field value = unreadable_from (or_absent 1 u64_in (get (codes "nodes") value)) (or_absent [] schedule_in (get (codes "schedule") value))
+
 -- The text tells these fields.
 abbrev pub TellsFields : List ℕ → GivenParts → Type 0
 TellsFields text given = (value : Data) × IsJson text value × (given_in value ≡ Some given)
@@ -141,8 +153,8 @@ IsManifestOf text m = (given : GivenParts) × TellsFields text given
 -- Why the text is no manifest.
 abbrev pub RefusesManifest : List ℕ → InputFault → Type 0
 RefusesManifest text Memory = Unit {0}
-RefusesManifest text Json = (value : Data) → IsJson text value → ⊥
-RefusesManifest text Shape = (value : Data) × IsJson text value × (given_in value ≡ None)
+RefusesManifest text (Json line column) = (value : Data) → IsJson text value → ⊥
+RefusesManifest text (Shape field) = (value : Data) × IsJson text value × (given_in value ≡ None) × (field ≡ unreadable_field value)
 RefusesManifest text Piece = (given : GivenParts) × TellsFields text given × (posts_absent given ≡ true)
 RefusesManifest text Packed = (given : GivenParts) × TellsFields text given × (posts_absent given ≡ false) × (posts_a_packed given ≡ true)
 RefusesManifest text (Layout fault) = ⊥

@@ -21,7 +21,10 @@ pub(crate) fn value_of(alloc: Global, text: &[u8]) -> Result<Value, InputFault>
     match Value::from_slice(alloc, text) {
         Ok(value) => Ok(value),
         Err(error) if error.is_memory() => Err(InputFault::Memory),
-        Err(_) => Err(InputFault::Json),
+        Err(error) => Err(InputFault::Json {
+            line: error.line() as u64,
+            column: error.column() as u64,
+        }),
     }
 }
 

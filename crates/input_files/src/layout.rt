@@ -3,9 +3,9 @@
 ghost use Rattle.std.specs.Prelude.{◌≡◌, IfErr, IfOk, option_and_then, option_map};
 ghost use Rattle.serde_json.specs.Find.{as_str, get};
 ghost use Rattle.serde_json.specs.View.{items_view, view};
-ghost use Rattle.input_files.specs.Layouts.{IsLayoutOf, RefusesLayout, communicator_in, communicators_in, parts_in, sends_named};
+ghost use Rattle.input_files.specs.Layouts.{IsLayoutOf, RefusesLayout, communicator_in, communicators_in, parts_in, sends_named, unreadable_field};
 
-use crate::fault::InputFault;
+use crate::fault::{Field, InputFault};
 use crate::json::{list_at, str_at, u32_at, u32s_of, value_of};
 use crate::numbers::numbers_at;
 use mpi_model::{Comm, Layout, LayoutFault, Sends};
@@ -21,7 +21,7 @@ pub fn layout_of(alloc: Global, text: &[u8]) -> Result<Layout, InputFault>
     let value = value_of(alloc, text)?;
     let given = match given_in(alloc, &value) {
         Ok(Some(given)) => given,
-        Ok(None) => return Err(InputFault::Shape),
+        Ok(None) => return Err(InputFault::Shape(unreadable_field(&value))),
         Err(_) => return Err(InputFault::Memory),
     };
     let fault = match Layout::of_comms(alloc, given.ranks, given.world, given.comms, given.sends) {
@@ -66,6 +66,22 @@ fn given_in(alloc: Global, value: &Value) -> Result<Option<Given>, AllocError>
             comms,
         })),
         None => Ok(None),
+    }
+}
+
+// the first field that can't be read of a layout of which one can't
+fn unreadable_field(value: &Value) -> Field
+    ensures { result ≡ unreadable_field (view value.now) }
+{
+    let Some(_) = u32_at(value, "ranks") else {
+        return Field::Ranks;
+    };
+    let Some(_) = u32_at(value, "world") else {
+        return Field::World;
+    };
+    match sends_at(value, "sends") {
+        Some(_) => Field::Comms,
+        None => Field::Sends,
     }
 }
 

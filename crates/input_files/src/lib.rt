@@ -22,7 +22,7 @@ mod manifest;
 mod numbers;
 mod schedule;
 
-pub use fault::InputFault;
+pub use fault::{Field, InputFault};
 pub use layout::layout_of;
 pub use manifest::{Manifest, PackedPiece, Piece, manifest_of};
 pub use schedule::PlannedStep;

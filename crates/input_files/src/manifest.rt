@@ -5,9 +5,9 @@ ghost use Rattle.std.specs.Prelude.{◌≡◌, [], IfErr, IfOk, codes, option_ma
 ghost use Rattle.serde_json.specs.Find.{get};
 ghost use Rattle.input_files.specs.Fields.{bit_in, or_absent};
 ghost use Rattle.serde_json.specs.View.{items_view, view};
-ghost use Rattle.input_files.specs.Manifests.{IsManifestOf, RefusesManifest, all_packed_in, given_in, is_packed, manifest_of, numbers_from, packed_in, piece_in, pieces_in, posts_a_packed, posts_absent, schedule_in};
+ghost use Rattle.input_files.specs.Manifests.{IsManifestOf, RefusesManifest, all_packed_in, given_in, is_packed, manifest_of, numbers_from, packed_in, piece_in, pieces_in, posts_a_packed, posts_absent, schedule_in, unreadable_field};
 
-use crate::fault::InputFault;
+use crate::fault::{Field, InputFault};
 use crate::json::{bit_or_0, list_at, str_at, u32_at, u64_at, usize_or, value_of};
 use crate::schedule::{PlannedStep, posts_packed_of, posts_past_of, renumbered_by, steps_of};
 use serde_json::Value;
@@ -250,7 +250,12 @@ pub fn manifest_of(alloc: Global, text: &[u8]) -> Result<Manifest, InputFault>
     let value = value_of(alloc, text)?;
     let given = match given_in(alloc, &value) {
         Ok(Some(given)) => given,
-        Ok(None) => return Err(InputFault::Shape),
+        Ok(None) => {
+            return match unreadable_field(alloc, &value) {
+                Ok(field) => Err(InputFault::Shape(field)),
+                Err(_) => Err(InputFault::Memory),
+            };
+        }
         Err(_) => return Err(InputFault::Memory),
     };
     if given.posts_absent() {
@@ -290,6 +295,19 @@ fn given_in(alloc: Global, value: &Value) -> Result<Option<Given>, AllocError>
         numbers,
     };
     Ok(Some(Given::new(listed, nodes, schedule)))
+}
+
+/// A field that can't be read of a manifest of which one can't.
+fn unreadable_field(alloc: Global, value: &Value) -> Result<Field, AllocError>
+    ensures { IfOk result (λ field. field ≡ unreadable_field (view value.now)) }
+{
+    let Some(_) = usize_or(value, "nodes", 1) else {
+        return Ok(Field::Nodes);
+    };
+    match schedule_at(alloc, value)? {
+        Some(_) => Ok(Field::Pieces),
+        None => Ok(Field::Schedule),
+    }
 }
 
 /// The steps of the schedule, none where there is no schedule.

@@ -2,7 +2,7 @@
 use Rattle.std.specs.Prelude.{◌≡◌, ◌==◌, ℕ, Bool, true, false, List, [], ◌∷◌, Option, Some, None, take, if◌then◌else◌}
 use Rattle.std.specs.List.{list_any}
 use Rattle.text_notes.specs.declared.start.Start.{Start}
-use Rattle.text_notes.specs.declared.start.Start.TheVariants.{Empty, Gzip, Utf16, Binary, Lines}
+use Rattle.text_notes.specs.declared.start.Start.TheVariants.{Empty, Gzip, Utf16, Mark, Binary, Lines}
 use Rattle.text_notes.specs.declared.start.TheConstants.{LONGEST_FRONT}
 
 -- the first two bytes are these
@@ -14,12 +14,17 @@ begins one other _ = false
 abbrev pub is_utf16 : List ℕ → Bool
 is_utf16 front = if begins 255 254 front then true else begins 254 255 front
 
+-- and of UTF-8
+abbrev pub is_marked : List ℕ → Bool
+is_marked (first ∷ second ∷ third ∷ bytes) = if first == 239 then (if second == 187 then third == 191 else false) else false
+is_marked _ = false
+
 abbrev pub has_zero : List ℕ → Bool
 has_zero front = list_any (λ byte. byte == 0) front
 
 -- what a front of some bytes is taken for
 abbrev pub guess : List ℕ → Start
-guess front = if begins 31 139 front then Gzip else if is_utf16 front then Utf16 else if has_zero front then Binary else Lines
+guess front = if begins 31 139 front then Gzip else if is_utf16 front then Utf16 else if is_marked front then Mark else if has_zero front then Binary else Lines
 
 -- by its first bytes
 abbrev pub start_in : List ℕ → Start

@@ -6,7 +6,7 @@ use Rattle.text_notes.specs.Noted.{UnreadParts, counted, sum_of}
 use Rattle.text_notes.specs.Places.{first_where, place_of}
 use Rattle.text_notes.specs.declared.skips.Skips.{Skips}
 use Rattle.text_notes.specs.declared.start.Start.{Start}
-use Rattle.text_notes.specs.declared.start.Start.TheVariants.{Empty, Gzip, Utf16, Binary, Lines}
+use Rattle.text_notes.specs.declared.start.Start.TheVariants.{Empty, Gzip, Utf16, Mark, Binary, Lines}
 use Rattle.text_notes.specs.declared.words.Kind.{Kind}
 use Rattle.text_notes.specs.declared.words.Kind.TheVariants.{Unread, Callless, Skipped}
 
@@ -138,6 +138,7 @@ abbrev pub guess_text : Start → List ℕ
 guess_text Empty = codes " is empty\n"
 guess_text Gzip = codes " has no call, and begins as what gzip packed\n"
 guess_text Utf16 = codes " has no call, and begins as UTF-16\n"
+guess_text Mark = codes " has no call, and begins with a byte order mark\n"
 guess_text Binary = codes " has no call, and a byte 0, as a binary trace\n"
 guess_text Lines = codes " has no call\n"
 

@@ -2,7 +2,7 @@
 
 ghost use Rattle.std.specs.Prelude.{◌≡◌, IfOk, OnErr};
 ghost use Rattle.dumpi_text.specs.Failing.{Fails};
-ghost use Rattle.text_notes.specs.Starts.{IsStartOf, begins, guess, has_zero, is_utf16, start_in};
+ghost use Rattle.text_notes.specs.Starts.{IsStartOf, begins, guess, has_zero, is_marked, is_utf16, start_in};
 
 use mpi_model::{Failed, Read, ReadFault, read_exactly};
 
@@ -18,6 +18,8 @@ pub enum Start {
     Gzip,
     /// The byte order mark of UTF-16, in either order.
     Utf16,
+    /// The byte order mark of UTF-8.
+    Mark,
     /// A byte 0, as a binary trace has.
     Binary,
     /// None of these.
@@ -39,6 +41,15 @@ fn is_utf16(front: &[u8]) -> bool
     begins(0xff, 0xfe, front) || begins(0xfe, 0xff, front)
 }
 
+fn is_marked(front: &[u8]) -> bool
+    ensures { result ≡ is_marked front.now }
+{
+    match front {
+        [first, second, third, ..] => *first == 0xef && *second == 0xbb && *third == 0xbf,
+        _ => false,
+    }
+}
+
 fn has_zero(front: &[u8]) -> bool
     ensures { result ≡ has_zero front.now }
 {
@@ -57,6 +68,8 @@ fn guess(front: &[u8]) -> Start
         Start::Gzip
     } else if is_utf16(front) {
         Start::Utf16
+    } else if is_marked(front) {
+        Start::Mark
     } else if has_zero(front) {
         Start::Binary
     } else {

@@ -132,6 +132,7 @@ fn guess_of(start: Start) -> &'static [u8]
         Start::Empty => b" is empty\n",
         Start::Gzip => b" has no call, and begins as what gzip packed\n",
         Start::Utf16 => b" has no call, and begins as UTF-16\n",
+        Start::Mark => b" has no call, and begins with a byte order mark\n",
         Start::Binary => b" has no call, and a byte 0, as a binary trace\n",
         Start::Lines => b" has no call\n",
     }

@@ -12,8 +12,8 @@ use Rattle.command_runs.specs.Notes.{ArePlacesOf}
 use Rattle.command_runs.proofs.Notes.{stopped_count}
 use Rattle.command_runs.proofs.explain.explained.Goals as goal
 
-pub returns : goal.returns
-returns g c =
+pub returns-clause-ok : goal.returns-clause-ok
+returns-clause-ok g c =
     let h = g.N.Answerer.held c.args.node in
     let file = g.O.Opener.file c.args.files.now in
     let answer = c.in-Ok.answer.now in
@@ -39,4 +39,4 @@ returns g c =
     ∙ ap (λ (u : List ℕ). text ++ pieceless_text (pieceless notes u) ++ notes_text notes ++ places_text c.deref-3.result.now more_of) (c.deref-2.ensures.value ∙ c.in_ok-unknown.ensures)
     ∙ ap (λ (l : List PlaceParts). text ++ pieceless_text (pieceless notes unknown) ++ notes_text notes ++ places_text l more_of) c.deref-3.ensures.value
     ∙ ap (λ (n : ℕ). text ++ pieceless_text (pieceless notes unknown) ++ notes_text notes ++ places_text places n) more in
-    record { ok = (answer, text, places, c.in-Ok.ensures.ok, said, stand, is) }
+    (answer, text, places, c.in-Ok.ensures.ok, said, stand, is)

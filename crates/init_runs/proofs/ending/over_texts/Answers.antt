@@ -1,14 +1,23 @@
 use Rattle.std.proofs.Common.{◌≡◌, ℕ, List, Option, inl, inr, string_bytes, subst}
 use Rattle.std.proofs.lemmas.Result.{IfOk-weaker}
+use Rattle.init_runs.specs.Advice.{IsInitShown}
 use Rattle.init_runs.specs.Endings.{EndsOver}
 use Rattle.init_runs.proofs.Ended.{if_both, keeps_same}
 use Rattle.init_runs.proofs.ending.over_texts.Goals as goal
 
 pub returns-in-Err : goal.returns-in-Err
 returns-in-Err g c =
-    if_both c.ending_of_fault.result _ _ _
-    (λ e status line. inl ((c.in-Err.fault, status, line, c.in-Err.ensures.err), keeps_same (g.W.Write.written c.args.out.now)))
-    c.ending_of_fault.ensures.status c.ending_of_fault.ensures.errors
+    if_both c.ending_shown.result _ _ _
+    (λ e status shown. inl (
+      (
+        c.in-Err.fault,
+        status,
+        subst (λ (f : List ℕ → Option (List ℕ)). IsInitShown f c.args.verb c.in-Err.fault (string_bytes e.errors)) c.prepare.ensures.same shown,
+        c.in-Err.ensures.err,
+      ),
+      keeps_same (g.W.Write.written c.args.out.now),
+    ))
+    c.ending_shown.ensures.status c.ending_shown.ensures.shown
 
 pub returns : goal.returns
 returns g c =

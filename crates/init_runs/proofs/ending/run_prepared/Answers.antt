@@ -1,6 +1,7 @@
 use Rattle.std.proofs.Common.{◌≡◌, ◌∙◌, ◌⊎◌, ℕ, List, Option, IfErr, OnOk, ap, subst}
 use Rattle.std.specs.Io.KnownBytes.{Appends}
 use Rattle.std.proofs.lemmas.Result.{IfOk-weaker}
+use Rattle.command_runs.specs.Endings.{IsEndedBy}
 use Rattle.command_runs.specs.Verbs.{IsOutputOf, RefusesVerb}
 use Rattle.command_runs.specs.declared.fault.RunFault.TheVariants as runs
 use Rattle.init_runs.specs.Endings.{files_of, layout_name, manifest_name}
@@ -19,7 +20,7 @@ returns g c =
     ∙ ap (λ f. with_made (g.O.Opener.file f) layout_name made.layout_file.items manifest_name made.manifest_file.items) c.new-made.ensures.2 in
     IfOk-weaker c.ending_after.result _ _ (λ e h. record {
       ran = ran;
-      ended = h;
+      ended = subst (λ (f : List ℕ → Option (List ℕ)). IsEndedBy f c.args.verb ran e.status (string_bytes e.errors)) (c.run_with-ran.ensures.same ∙ same) h;
       output = subst (λ (f : List ℕ → Option (List ℕ)). OnOk ran ((text : List ℕ) × IsOutputOf f c.args.verb layout_name manifest_name text × Appends (g.W.Write.written c.args.out.now) (g.W.Write.written c.run_with-ran.new.out) text))
           same c.run_with-ran.ensures.output;
       refused = subst (λ (f : List ℕ → Option (List ℕ)). IfErr ran (λ fault. (fault ≡ runs.Write) ⊎ RefusesVerb f c.args.verb layout_name manifest_name fault))

@@ -1,0 +1,178 @@
+//! What is said below the line of a fault to a person who asked for words.
+
+ghost use Rattle.std.specs.Prelude.{◌≡◌, ◌++◌, IfOk, string_bytes};
+ghost use Rattle.std.specs.Fmt.{WritesOnOk};
+ghost use Rattle.command_runs.specs.Advice.{IsShown, advice_text, cause_text, is_in_words, json_text, reason_text};
+ghost use Rattle.command_runs.specs.FaultLines.{fault_line_of};
+
+use crate::fault::{RunFault, fault_line};
+use crate::found::{Found, found_of};
+use crate::opener::Opener;
+use crate::reason::Reason;
+use crate::sentences::{
+    begun_text, field_text, folder_text, layout_text, line_text, packed_text, plain_text,
+    wanted_text,
+};
+use command_line::Verb;
+use dumpi_text::TextCause;
+use std::alloc::{AllocError, Global};
+use std::fmt;
+use text_notes::Start;
+
+/// What was found, and what to do, for a person who reads of a fault: nothing, or lines of two spaces and a sentence.
+#[derive(Clone, Copy, Debug)]
+pub struct Advice<'a> {
+    fault: &'a RunFault,
+    found: Found,
+}
+
+impl<'a> Advice<'a> {
+    ghost use Rattle.std.specs.Prelude.{◌≡◌};
+
+    /// What is said of this fault by what was found out of its file.
+    pub fn new(fault: &'a RunFault, found: Found) -> Self
+        ensures { (result.fault.now ≡ fault.now) × (result.found ≡ found) }
+    {
+        Advice { fault, found }
+    }
+}
+
+impl<'a> fmt::Display for Advice<'a> {
+    ghost use Rattle.std.specs.Prelude.{Some};
+    ghost use Rattle.command_runs.specs.Advice.{advice_text};
+
+    ghost output = { λ advice. Some (advice_text advice.fault.now advice.found) };
+
+    fn fmt<W: fmt::Write>(&self, f: &mut fmt::Formatter<W>) -> fmt::Result {
+        put_advice(f, self.fault, self.found)
+    }
+}
+
+fn put_advice<W: fmt::Write>(
+    f: &mut fmt::Formatter<W>,
+    fault: &RunFault,
+    found: Found,
+) -> fmt::Result
+    ensures { WritesOnOk W.write_str_gives f.old result (advice_text fault.now found) f.new }
+{
+    match fault {
+        RunFault::File { path } => put_reason(f, path, found.reason),
+        RunFault::Json { line, column, .. } => put_json(f, *line, *column, found.start),
+        RunFault::Shape { field, .. } => f.write_str(field_text(*field)),
+        RunFault::PackedFrame { cause, .. } => f.write_str(packed_text(*cause)),
+        RunFault::Layout { fault, .. } => f.write_str(layout_text(*fault)),
+        RunFault::Text { cause, path, .. } => put_cause(f, *cause, path, found),
+        RunFault::Wrong { parameter, .. } => {
+            let wanted = wanted_text(*parameter);
+            write!(
+                f,
+                "  of the call that is entered there it must be {wanted}\n"
+            )
+        }
+        _ => f.write_str(plain_text(fault)),
+    }
+}
+
+// from where on a file is no JSON
+fn put_json<W: fmt::Write>(
+    f: &mut fmt::Formatter<W>,
+    line: u64,
+    column: u64,
+    start: Option<Start>,
+) -> fmt::Result
+    ensures { WritesOnOk W.write_str_gives f.old result (json_text line column start) f.new }
+{
+    let begun = begun_text(start);
+    write!(
+        f,
+        "  it is not JSON: look at line {line}, column {column}\n{begun}"
+    )
+}
+
+// why a file can't be read
+fn put_reason<W: fmt::Write>(
+    f: &mut fmt::Formatter<W>,
+    path: &str,
+    reason: Option<Reason>,
+) -> fmt::Result
+    ensures { WritesOnOk W.write_str_gives f.old result (reason_text path.now reason) f.new }
+{
+    match reason {
+        None => f.write_str(
+            "  the system does not let it be opened or read to its end, or it is longer than a layout or a manifest may be\n",
+        ),
+        Some(Reason::Absent) => {
+            let folder = folder_text(path);
+            write!(f, "  no file has this name\n{folder}")
+        }
+        Some(Reason::Denied) => f.write_str(
+            "  it may not be read: look at the rights of the file and of the folders above it\n",
+        ),
+        Some(Reason::Folder) => f.write_str("  it is a folder\n"),
+        Some(Reason::Long(length)) => write!(
+            f,
+            "  it has {length} bytes, and a layout or a manifest has at most 16777216\n"
+        ),
+    }
+}
+
+// why a text is refused
+fn put_cause<W: fmt::Write>(
+    f: &mut fmt::Formatter<W>,
+    cause: TextCause,
+    path: &str,
+    found: Found,
+) -> fmt::Result
+    ensures { WritesOnOk W.write_str_gives f.old result (cause_text cause path.now found) f.new }
+{
+    match cause {
+        TextCause::Read => put_reason(f, path, found.reason),
+        TextCause::Line(fault) => {
+            let (said, begun) = (line_text(fault), begun_text(found.start));
+            write!(f, "{said}{begun}")
+        }
+    }
+}
+
+/// Whether a verb answers a person in words.
+pub fn is_in_words(verb: Verb) -> bool
+    ensures { result ≡ is_in_words verb }
+{
+    match verb {
+        Verb::Explain | Verb::ExplainRank(_) => true,
+        Verb::Graph
+        | Verb::Report
+        | Verb::ReportJson
+        | Verb::Replay
+        | Verb::Cluster
+        | Verb::Check
+        | Verb::Pack => false,
+    }
+}
+
+// the line of a fault, and below it what is said by what was found
+fn in_words(alloc: Global, fault: &RunFault, found: Found) -> Result<String, AllocError>
+    ensures { IfOk result (λ text. string_bytes text ≡ fault_line_of fault.now ++ advice_text fault.now found) }
+{
+    let line = fault_line(alloc, fault)?;
+    let advice = Advice { fault, found };
+    format!(in alloc; "{line}{advice}")
+}
+
+/// What a verb shows of a fault: its line, and in words, where the verb answers so, what was found of the file that it names.
+pub fn shown_fault<O: Opener>(
+    alloc: Global,
+    verb: Verb,
+    fault: &RunFault,
+    files: &mut O,
+) -> Result<String, AllocError>
+    ensures shown { IfOk result (λ text. IsShown (O.file files.old) verb fault.now (string_bytes text)) }
+    ensures same { O.file files.new ≡ O.file files.old }
+{
+    if is_in_words(verb) {
+        let found = found_of(fault, files);
+        in_words(alloc, fault, found)
+    } else {
+        fault_line(alloc, fault)
+    }
+}

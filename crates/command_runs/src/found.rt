@@ -1,0 +1,94 @@
+//! What is found out of a file once it was refused.
+
+ghost use Rattle.std.specs.Prelude.{◌≡◌, None};
+ghost use Rattle.command_runs.specs.Advice.{IsFound};
+ghost use Rattle.command_runs.specs.Notes.{BeginsSo};
+
+use crate::fault::RunFault;
+use crate::opener::Opener;
+use crate::reason::Reason;
+use crate::second_look::start_at;
+use crate::whole::LONGEST_FILE;
+use dumpi_text::TextCause;
+use text_notes::Start;
+
+/// What a look at a refused file tells.
+#[derive(Clone, Copy, Debug, PartialEq, Eq)]
+pub struct Found {
+    /// Why the file can't be read, where the system says it.
+    pub reason: Option<Reason>,
+    /// What the file is taken for by its first bytes, where it was looked at.
+    pub start: Option<Start>,
+}
+
+/// No file was looked at.
+pub const NOTHING: Found = Found {
+    reason: None,
+    start: None,
+};
+
+// why a file can't be read that may have so many bytes as a layout
+fn reason_at<O: Opener>(path: &str, files: &O) -> Option<Reason> {
+    if let Some(reason) = files.reason(path) {
+        return Some(reason);
+    }
+    match files.length(path) {
+        Some(length) if length > LONGEST_FILE as u64 => Some(Reason::Long(length)),
+        _ => None,
+    }
+}
+
+// why a file can't be read
+fn unread<O: Opener>(path: &str, files: &O) -> Found
+    ensures { result.start ≡ None }
+{
+    Found {
+        reason: reason_at(path, files),
+        start: None,
+    }
+}
+
+// why a file can't be read to its end
+fn broken_off<O: Opener>(path: &str, files: &O) -> Found
+    ensures { result.start ≡ None }
+{
+    Found {
+        reason: files.reason(path),
+        start: None,
+    }
+}
+
+/// What a file is that was read.
+pub fn looked_at<O: Opener>(path: &str, files: &mut O) -> Found
+    ensures told { BeginsSo (O.file files.old path.now) result.start }
+    ensures reason { result.reason ≡ None }
+    ensures same { O.file files.new ≡ O.file files.old }
+{
+    Found {
+        reason: None,
+        start: start_at(path, files),
+    }
+}
+
+/// What is found out of the file that the fault names. One that can't be read isn't looked at, nor one of another kind than
+/// a text, a layout or a manifest.
+pub fn found_of<O: Opener>(fault: &RunFault, files: &mut O) -> Found
+    ensures told { IsFound (O.file files.old) fault.now result }
+    ensures same { O.file files.new ≡ O.file files.old }
+{
+    match fault {
+        RunFault::File { path } => unread(path, files),
+        RunFault::Text {
+            cause: TextCause::Read,
+            path,
+            ..
+        } => broken_off(path, files),
+        RunFault::Text {
+            cause: TextCause::Line(_),
+            path,
+            ..
+        } => looked_at(path, files),
+        RunFault::Json { path, .. } => looked_at(path, files),
+        _ => NOTHING,
+    }
+}
