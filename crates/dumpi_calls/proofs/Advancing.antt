@@ -1,9 +1,10 @@
 -- One call more of a text that is walked: read whole, and handed on.
-use Rattle.std.proofs.Common.{◌≡◌, ◌+◌, ◌++◌, ◌∷◌, [], ℕ, List, Bool, Option, Some, Result, IsOk, IsSome, None, false, subst, sym, ap, refl, inl, inr, ◌∙◌}
+use Rattle.std.proofs.Common.{◌≡◌, ◌+◌, ◌++◌, ◌∷◌, [], ℕ, List, Option, Some, Result, IsOk, IsSome, None, subst, sym, ap, refl, inl, inr, ◌∙◌}
 use Rattle.dumpi_text.specs.Call.{TextCall}
 use Rattle.dumpi_text.specs.Next.{IsNext}
 use Rattle.dumpi_text.specs.Grammar.{Complete}
 use Rattle.dumpi_text.specs.Reading.{HasRead, MeansAll, ReadsOneMore}
+use Rattle.dumpi_text.specs.Skips.{IsFirstSkipped, TellsFirstSkipped}
 use Rattle.dumpi_text.specs.Source.{rest_of}
 use Rattle.dumpi_text.specs.Standing.{TextState}
 use Rattle.dumpi_text.specs.Usual.{StandsWhole, call_after}
@@ -13,7 +14,7 @@ use Rattle.dumpi_text.specs.declared.step.Position.{Position}
 use Rattle.dumpi_calls.specs.InPlace.{IsWhole, usual_name}
 use Rattle.dumpi_calls.specs.Rows.{Row, row}
 use Rattle.dumpi_calls.specs.Seen.{Seen, seen_by}
-use Rattle.dumpi_calls.specs.Walks.{Begins, Follows, FollowsWhole, HandedOn, IsRead, IsStopped, IsTypedAs, IsWalked, RefusesCall, StopsWalk, Takes, TakesNext, is_unfinished, lacks_exit}
+use Rattle.dumpi_calls.specs.Walks.{Begins, Follows, FollowsWhole, HandedOn, IsRead, IsStopped, IsTypedAs, IsWalked, RefusesCall, StopsWalk, Takes, TakesNext, open_line, unfinished_line, unless_returned}
 use Rattle.mpi_model.specs.Times.{Times}
 use Rattle.dumpi_calls.specs.declared.fault.WalkCause.{WalkCause}
 use Rattle.dumpi_calls.specs.declared.fault.WalkCause.TheVariants.{Sink}
@@ -65,24 +66,25 @@ pub refuses_whole : {F : Type 0} → (raw : TextCall) (function : Function) (cal
 refuses_whole raw function call line fault is = (sym is.line_is, subst (λ (r : Result TypedCall CallFault). IsOk r) (sym is.typed_as) refl)
 
 -- A walk with one call more.
-pub advanced : {S : Type 0} → (step : S → Seen → S) (text : Option (List ℕ)) (calls : List TextCall) (is_open : Bool) (view : TextState) (first old new : S) (count : ℕ) → HandedOn step calls first old count
-    → TakesNext step text calls is_open view old new → (all : List TextCall) × IsRead text all view × HandedOn step all first new (count + 1) × (is_open ≡ is_unfinished all)
-advanced step text calls is_open view first old new count handed next =
-    (calls ++ next.raw ∷ [], next.read, one_handed step calls next.raw first old new count handed next.takes, next.exit ∙ sym (last_unfinished calls next.raw))
+pub advanced : {S : Type 0} → (step : S → Seen → S) (text : Option (List ℕ)) (calls : List TextCall) (open_at : Option ℕ) (view : TextState) (first old new : S) (count : ℕ) → HandedOn step calls first old count
+    → TakesNext step text calls open_at view old new → (all : List TextCall) × IsRead text all view × HandedOn step all first new (count + 1) × (open_at ≡ unfinished_line all)
+advanced step text calls open_at view first old new count handed next =
+    (calls ++ next.raw ∷ [], next.read, one_handed step calls next.raw first old new count handed next.takes, next.open_is ∙ sym (last_unfinished calls next.raw))
 
 -- handed on as before, where the sink is as it was
 still_handed : {S : Type 0} → (step : S → Seen → S) (calls : List TextCall) (first old new : S) (count total : ℕ) → HandedOn step calls first old count → new ≡ old → total ≡ count → HandedOn step calls first new total
 still_handed step calls first old new count total handed same counted = record { seen = handed.seen; typed_as = handed.typed_as; state = same ∙ handed.state; counted = counted ∙ handed.counted }
 
 -- The text is over.
-pub walked_all : {S : Type 0} → (step : S → Seen → S) (text : Option (List ℕ)) (calls : List TextCall) (view : TextState) (first old new : S) (walked : Walked) → HandedOn step calls first old walked.calls
-    → MeansAll text calls (Complete view.told) → new ≡ old → walked.skipped ≡ view.told.skipped → walked.unfinished ≡ is_unfinished calls → IsWalked step text first new walked
-walked_all step text calls view first old new walked handed means same skipped unfinished = record {
+pub walked_all : {S : Type 0} → TellsFirstSkipped → (step : S → Seen → S) (text : Option (List ℕ)) (calls : List TextCall) (view : TextState) (first old new : S) (walked : Walked) → HandedOn step calls first old walked.calls
+    → MeansAll text calls (Complete view.told) → new ≡ old → walked.skipped ≡ view.told.skipped → walked.first_skipped ≡ view.told.first_skipped → walked.unfinished ≡ unfinished_line calls → IsWalked step text first new walked
+walked_all law step text calls view first old new walked handed means same skipped first_skipped unfinished = record {
   calls = calls;
   at = view.told;
   means = means;
   handed = still_handed step calls first old new walked.calls walked.calls handed same refl;
   skipped = skipped;
+  first_skipped = subst (λ (line : Option ℕ). IsFirstSkipped text line) (sym first_skipped) (law text calls view.told means);
   unfinished = unfinished;
 }
 
@@ -105,19 +107,19 @@ still_read text calls view reading is_read = elim is_read.stands [ inl e ↦ e.1
 
 -- ---- the next call, read whole or line by line
 
--- a call that has returned doesn't lack its exit
-has_exit : (exit : Option Times) → IsSome exit → false ≡ lacks_exit exit
-has_exit None h = cc
-has_exit (Some stamp) h = refl
+-- a call that has returned isn't open at a line
+has_exit : (exit : Option Times) (line : ℕ) → IsSome exit → None ≡ unless_returned exit line
+has_exit None line h = cc
+has_exit (Some stamp) line h = refl
 
 -- the call was read whole and taken
 pub whole_next : {S : Type 0} → (step : S → Seen → S) (text : Option (List ℕ)) (calls : List TextCall) (function : Function) (call : TypedCall) (line : ℕ) (view : TextState) (old new : S)
-    → FollowsWhole text calls function call line view → ((raw : TextCall) → IsTypedAs raw function call line → Takes step raw old new) → TakesNext step text calls false view old new
+    → FollowsWhole text calls function call line view → ((raw : TextCall) → IsTypedAs raw function call line → Takes step raw old new) → TakesNext step text calls None view old new
 whole_next step text calls function call line view old new follows takes = record {
   raw = follows.raw;
   read = follows.read;
   takes = takes follows.raw follows.is;
-  exit = has_exit follows.raw.exit follows.is.exit_is;
+  open_is = has_exit follows.raw.exit follows.raw.line follows.is.exit_is;
 }
 
 -- or refused
@@ -131,9 +133,9 @@ pub as_it_was : (text : Option (List ℕ)) (calls : List TextCall) (old mid : Te
 as_it_was text calls old mid same read = subst (λ (view : TextState). IsRead text calls view) (sym same) read
 
 -- the call was read line by line and taken
-pub line_next : {S : Type 0} → (step : S → Seen → S) (text : Option (List ℕ)) (calls : List TextCall) (raw : TextCall) (is_open : Bool) (view : TextState) (old new : S)
-    → Follows text calls (Some raw) view → Takes step raw old new → is_open ≡ lacks_exit raw.exit → TakesNext step text calls is_open view old new
-line_next step text calls raw is_open view old new follows takes exit = record { raw = raw; read = follows; takes = takes; exit = exit }
+pub line_next : {S : Type 0} → (step : S → Seen → S) (text : Option (List ℕ)) (calls : List TextCall) (raw : TextCall) (open_at : Option ℕ) (view : TextState) (old new : S)
+    → Follows text calls (Some raw) view → Takes step raw old new → open_at ≡ open_line raw → TakesNext step text calls open_at view old new
+line_next step text calls raw open_at view old new follows takes open_is = record { raw = raw; read = follows; takes = takes; open_is = open_is }
 
 -- or refused
 pub line_refused : {F : Type 0} → (text : Option (List ℕ)) (calls : List TextCall) (raw : TextCall) (cause : WalkCause F) (line : ℕ) (view : TextState)

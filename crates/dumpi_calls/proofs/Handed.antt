@@ -6,7 +6,7 @@ use Rattle.dumpi_calls.specs.Seen.{Seen, after, seen_by, seen_in, with_seen}
 use Rattle.dumpi_text.specs.Grammar.{start}
 use Rattle.dumpi_text.specs.declared.standing.Standing.TheVariants.{Reading}
 use Rattle.dumpi_text.specs.Reading.{StartsUnread}
-use Rattle.dumpi_calls.specs.Walks.{HandedOn, IsRead, IsStopped, Takes, is_unfinished, lacks_exit}
+use Rattle.dumpi_calls.specs.Walks.{HandedOn, IsRead, IsStopped, Takes, open_line, unfinished_line}
 use Rattle.dumpi_calls.specs.declared.fault.WalkCause.TheVariants.{Memory}
 use Rattle.dumpi_calls.specs.declared.parameter.CallFault.{CallFault}
 use Rattle.dumpi_calls.specs.declared.typing.TypedCall.{TypedCall}
@@ -52,8 +52,8 @@ one_handed {S = S} step calls raw old mid new count h t = record {
   counted = omega (arith, h.counted, length-append calls (raw ∷ []));
 }
 
--- whether the last call has not returned, after one more
-pub last_unfinished : (calls : List TextCall) (raw : TextCall) → is_unfinished (calls ++ raw ∷ []) ≡ lacks_exit raw.exit
+-- the line of the last call, where it has not returned, after one more
+pub last_unfinished : (calls : List TextCall) (raw : TextCall) → unfinished_line (calls ++ raw ∷ []) ≡ open_line raw
 last_unfinished [] raw = refl
 last_unfinished (c ∷ []) raw = refl
 last_unfinished (c ∷ d ∷ cs) raw = last_unfinished (d ∷ cs) raw

@@ -1,13 +1,14 @@
 -- Calls that are handed on as they stand in the text, one call more.
-use Rattle.std.proofs.Common.{◌≡◌, ◌∙◌, ◌+◌, ◌++◌, ◌∷◌, [], ℕ, List, Bool, length-append, Option, Ok, sym, subst, refl, inl, arith}
+use Rattle.std.proofs.Common.{◌≡◌, ◌∙◌, ◌+◌, ◌++◌, ◌∷◌, [], ℕ, List, length-append, Option, Ok, sym, subst, refl, inl, arith}
 use Rattle.mpi_model.specs.declared.call.Call.{Call}
 use Rattle.dumpi_text.specs.Call.{TextCall}
 use Rattle.dumpi_text.specs.Grammar.{Complete, start}
 use Rattle.dumpi_text.specs.Reading.{MeansAll, StartsUnread}
+use Rattle.dumpi_text.specs.Skips.{IsFirstSkipped, TellsFirstSkipped}
 use Rattle.dumpi_text.specs.Standing.{TextState}
 use Rattle.dumpi_calls.specs.RawWalks.{HandedRaw, IsStoppedRaw, IsWalkedRaw, TakesNextRaw, TakesRaw, Taken}
 use Rattle.dumpi_calls.specs.Rows.{typed}
-use Rattle.dumpi_calls.specs.Walks.{IsRead, StopsWalk, is_unfinished}
+use Rattle.dumpi_calls.specs.Walks.{IsRead, StopsWalk, unfinished_line}
 use Rattle.dumpi_calls.specs.declared.fault.WalkCause.TheVariants.{Memory}
 use Rattle.dumpi_calls.specs.declared.fault.WalkFault.{WalkFault}
 use Rattle.dumpi_calls.specs.declared.typing.TypedCall.{TypedCall}
@@ -37,24 +38,25 @@ one_handed step calls raw old mid new count h t = record {
 }
 
 -- A walk with one call more.
-pub advanced : {S : Type 0} → (step : S → TextCall → Call → S → Type 0) (text : Option (List ℕ)) (calls : List TextCall) (is_open : Bool) (view : TextState) (first old new : S) (count : ℕ) → HandedRaw step calls first old count
-    → TakesNextRaw step text calls is_open view old new → (all : List TextCall) × IsRead text all view × HandedRaw step all first new (count + 1) × (is_open ≡ is_unfinished all)
-advanced step text calls is_open view first old new count handed next =
-    (calls ++ next.raw ∷ [], next.read, one_handed step calls next.raw first old new count handed next.takes, next.exit ∙ sym (last_unfinished calls next.raw))
+pub advanced : {S : Type 0} → (step : S → TextCall → Call → S → Type 0) (text : Option (List ℕ)) (calls : List TextCall) (open_at : Option ℕ) (view : TextState) (first old new : S) (count : ℕ) → HandedRaw step calls first old count
+    → TakesNextRaw step text calls open_at view old new → (all : List TextCall) × IsRead text all view × HandedRaw step all first new (count + 1) × (open_at ≡ unfinished_line all)
+advanced step text calls open_at view first old new count handed next =
+    (calls ++ next.raw ∷ [], next.read, one_handed step calls next.raw first old new count handed next.takes, next.open_is ∙ sym (last_unfinished calls next.raw))
 
 -- handed on as before, where the sink is as it was
 still_handed : {S : Type 0} → (step : S → TextCall → Call → S → Type 0) (calls : List TextCall) (first old new : S) (count total : ℕ) → HandedRaw step calls first old count → new ≡ old → total ≡ count → HandedRaw step calls first new total
 still_handed step calls first old new count total handed same counted = record { taken = same_end step calls first old new handed.taken same; counted = counted ∙ handed.counted }
 
 -- The text is over.
-pub walked_all : {S : Type 0} → (step : S → TextCall → Call → S → Type 0) (text : Option (List ℕ)) (calls : List TextCall) (view : TextState) (first old new : S) (walked : Walked) → HandedRaw step calls first old walked.calls
-    → MeansAll text calls (Complete view.told) → new ≡ old → walked.skipped ≡ view.told.skipped → walked.unfinished ≡ is_unfinished calls → IsWalkedRaw step text first new walked
-walked_all step text calls view first old new walked handed means same skipped unfinished = record {
+pub walked_all : {S : Type 0} → TellsFirstSkipped → (step : S → TextCall → Call → S → Type 0) (text : Option (List ℕ)) (calls : List TextCall) (view : TextState) (first old new : S) (walked : Walked) → HandedRaw step calls first old walked.calls
+    → MeansAll text calls (Complete view.told) → new ≡ old → walked.skipped ≡ view.told.skipped → walked.first_skipped ≡ view.told.first_skipped → walked.unfinished ≡ unfinished_line calls → IsWalkedRaw step text first new walked
+walked_all law step text calls view first old new walked handed means same skipped first_skipped unfinished = record {
   calls = calls;
   at = view.told;
   means = means;
   handed = still_handed step calls first old new walked.calls walked.calls handed same refl;
   skipped = skipped;
+  first_skipped = subst (λ (line : Option ℕ). IsFirstSkipped text line) (sym first_skipped) (law text calls view.told means);
   unfinished = unfinished;
 }
 

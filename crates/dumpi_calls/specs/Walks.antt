@@ -1,5 +1,5 @@
 -- What a walk over a text does.
-use Rattle.std.specs.Prelude.{◌≡◌, ◌⊎◌, ℕ, ◌+◌, Bool, true, false, List, [], ◌∷◌, ◌++◌, length, Option, Some, None, Ok, Err, IsSome, IsOk}
+use Rattle.std.specs.Prelude.{◌≡◌, ◌⊎◌, ℕ, ◌+◌, List, [], ◌∷◌, ◌++◌, length, Option, Some, None, Ok, Err, IsSome, IsOk}
 use Rattle.std.specs.Io.KnownBytes.{prepend_known}
 use Rattle.mpi_model.specs.Failures.{one_more}
 use Rattle.mpi_model.specs.Times.{Times}
@@ -8,6 +8,7 @@ use Rattle.dumpi_text.specs.Grammar.{Complete, Stopped}
 use Rattle.dumpi_text.specs.Lines.{CountsLines}
 use Rattle.dumpi_text.specs.Next.{ReadsInto}
 use Rattle.dumpi_text.specs.Reading.{HasRead, MeansAll}
+use Rattle.dumpi_text.specs.Skips.{IsFirstSkipped}
 use Rattle.dumpi_text.specs.Source.{rest_of}
 use Rattle.dumpi_text.specs.Standing.{TextState}
 use Rattle.dumpi_text.specs.declared.standing.Standing.TheVariants.{Reading, Finished}
@@ -27,6 +28,7 @@ use Rattle.dumpi_calls.specs.declared.typing.TypedCall.{TypedCall}
 use Rattle.dumpi_calls.specs.declared.fault.WalkCause.{WalkCause}
 use Rattle.dumpi_calls.specs.declared.fault.WalkCause.TheVariants.{Text, Missing, Wrong, Sink, Memory}
 use Rattle.dumpi_calls.specs.declared.fault.WalkFault.{WalkFault}
+use Rattle.dumpi_calls.specs.declared.walking.HandedCall.{HandedCall}
 use Rattle.dumpi_calls.specs.declared.walking.Walked.{Walked}
 
 -- ---- a text that is read
@@ -81,16 +83,20 @@ pub record FailsAfter {R : Type 0} (left : R → Option (List ℕ)) (failures : 
 
 -- ---- calls
 
--- whether a call has not returned
-abbrev pub lacks_exit : Option Times → Bool
-lacks_exit None = true
-lacks_exit (Some stamp) = false
+-- a line, unless the call that begins there has returned
+abbrev pub unless_returned : Option Times → ℕ → Option ℕ
+unless_returned None line = Some line
+unless_returned (Some stamp) line = None
 
--- whether the last of the calls has not returned
-abbrev pub is_unfinished : List TextCall → Bool
-is_unfinished [] = false
-is_unfinished (call ∷ []) = lacks_exit call.exit
-is_unfinished (call ∷ other ∷ calls) = is_unfinished (other ∷ calls)
+-- the line where a call begins, where it has not returned
+abbrev pub open_line : TextCall → Option ℕ
+open_line call = unless_returned call.exit call.line
+
+-- the line where the last of the calls begins, where it has not returned
+abbrev pub unfinished_line : List TextCall → Option ℕ
+unfinished_line [] = None
+unfinished_line (call ∷ []) = open_line call
+unfinished_line (call ∷ other ∷ calls) = unfinished_line (other ∷ calls)
 
 -- The sink took the call.
 pub record Takes {S : Type 0} (step : S → Seen → S) (raw : TextCall) (old new : S) : Type 0 where
@@ -112,15 +118,15 @@ pub record FollowsWhole (text : Option (List ℕ)) (calls : List TextCall) (func
   pub is : IsTypedAs raw function call line
 
 -- One call more was read, and the sink took it.
-pub record TakesNext {S : Type 0} (step : S → Seen → S) (text : Option (List ℕ)) (calls : List TextCall) (is_open : Bool) (view : TextState) (old new : S) : Type 0 where
+pub record TakesNext {S : Type 0} (step : S → Seen → S) (text : Option (List ℕ)) (calls : List TextCall) (open_at : Option ℕ) (view : TextState) (old new : S) : Type 0 where
   pub raw : TextCall
   pub read : IsRead text (calls ++ raw ∷ []) view
   pub takes : Takes step raw old new
-  pub exit : is_open ≡ lacks_exit raw.exit
+  pub open_is : open_at ≡ open_line raw
 
 -- The sink took one call more, which has returned or not; or the text was over.
-abbrev pub Advances : {S : Type 0} → (S → Seen → S) → Option (List ℕ) → List TextCall → Option Bool → TextState → S → S → Type 0
-Advances step text calls (Some is_open) view old new = TakesNext step text calls is_open view old new
+abbrev pub Advances : {S : Type 0} → (S → Seen → S) → Option (List ℕ) → List TextCall → Option HandedCall → TextState → S → S → Type 0
+Advances step text calls (Some handed) view old new = TakesNext step text calls handed.open_line view old new
 Advances step text calls None view old new = MeansAll text calls (Complete view.told) × (new ≡ old)
 
 -- Why a call is refused, and at which line. One that was cut off before its last entry parameter was written is a
@@ -157,7 +163,8 @@ pub record IsWalked {S : Type 0} (step : S → Seen → S) (text : Option (List 
   pub means : MeansAll text calls (Complete at)
   pub handed : HandedOn step calls old new walked.calls
   pub skipped : walked.skipped ≡ at.skipped
-  pub unfinished : walked.unfinished ≡ is_unfinished calls
+  pub first_skipped : IsFirstSkipped text walked.first_skipped
+  pub unfinished : walked.unfinished ≡ unfinished_line calls
 
 -- The text has no next call after these.
 abbrev pub LacksNext : {F : Type 0} → Option (List ℕ) → List TextCall → WalkCause F → ℕ → Type 0

@@ -11,8 +11,8 @@ ghost use Rattle.dumpi_calls.specs.Walks.{FailsAfter, FailsIn, IsRead, IsReadSto
 use crate::fault::{WalkCause, WalkFault};
 use crate::function::function_in;
 use crate::typing::{TypedCall, typed_call};
-use crate::walking::{Walked, is_open, lack, next_of, refusal};
-use dumpi_text::{RawCall, Texts, reading_call_by_call};
+use crate::walking::{HandedCall, Walked, handed, lack, next_of, refusal};
+use dumpi_text::{RawCall, Texts, reading_call_by_call, skipped_lines};
 use mpi_model::{Call, Read};
 use std::alloc::Global;
 
@@ -32,7 +32,7 @@ pub trait RawSink {
         ensures err { OnErr result (self.new ≡ self.old) };
 }
 
-// reads a call's parameters and hands it on
+/// Reads a call's parameters and hands it on.
 fn take_raw<S: RawSink>(
     alloc: Global,
     raw: &RawCall,
@@ -58,14 +58,14 @@ fn take_raw<S: RawSink>(
     }
 }
 
-// Hands on the next call of the text: whether it lacks its exit, or nothing at the end of the text.
+/// Hands on the next call of the text, or nothing at the end of the text.
 fn advance_raw<R: Read, S: RawSink>(
     alloc: Global,
     texts: &mut Texts<R>,
     raw: &mut RawCall,
     sink: &mut S,
     calls: u64,
-) -> Result<Option<bool>, WalkFault<S::Fault>>
+) -> Result<Option<HandedCall>, WalkFault<S::Fault>>
     ensures ok { (text : Option (List ℕ)) (before : List TextCall) → IsRead text before texts.old → IfOk result (λ found. AdvancesRaw S.step text before found texts.new sink.old sink.new) }
     ensures err { (text : Option (List ℕ)) (before : List TextCall) → IsRead text before texts.old → IfErr result (λ fault. StopsWalk text before fault.cause fault.line) }
     ensures failed { IfErr result (λ fault. IsReadStop fault.cause → Fails R.failures) }
@@ -73,12 +73,12 @@ fn advance_raw<R: Read, S: RawSink>(
     ensures no_failure { OnOk result (texts.new.rest.failures ≡ texts.old.rest.failures) }
     ensures calls { IfErr result (λ fault. fault.calls ≡ calls) }
     ensures unchanged { OnErr result (sink.new ≡ sink.old) }
-    ensures progress { IfOk result (λ found. IfSome found (λ is_open. texts.old.at.line < texts.new.at.line)) }
+    ensures progress { IfOk result (λ found. IfSome found (λ handed. texts.old.at.line < texts.new.at.line)) }
     ensures lines { texts.new.at.line ≤ MOST_LINES }
 {
     match next_of(texts, raw) {
         Ok(true) => match take_raw(alloc, raw, sink, calls) {
-            Ok(()) => Ok(Some(is_open(raw))),
+            Ok(()) => Ok(Some(handed(raw))),
             Err(fault) => Err(fault),
         },
         Ok(false) => Ok(None),
@@ -100,8 +100,9 @@ pub fn walk_raw<R: Read, S: RawSink>(
     ensures failure { IfErr result (λ fault. IsReadStop fault.cause → FailsIn R.left R.failures reader fault.calls fault.line) }
 {
     reading_call_by_call();
+    skipped_lines();
     let mut calls: u64 = 0;
-    let mut unfinished = false;
+    let mut unfinished = None;
     let mut texts = match Texts::new(alloc, reader) {
         Ok(texts) => texts,
         Err(_) => {
@@ -115,14 +116,15 @@ pub fn walk_raw<R: Read, S: RawSink>(
     let mut raw = RawCall::new(alloc);
     'each: loop {
         match advance_raw(alloc, &mut texts, &mut raw, sink, calls) {
-            Ok(Some(is_open)) => {
+            Ok(Some(handed)) => {
                 calls += 1;
-                unfinished = is_open;
+                unfinished = handed.open_line;
             }
             Ok(None) => {
                 return Ok(Walked {
                     calls,
                     skipped: texts.skipped(),
+                    first_skipped: texts.first_skipped(),
                     unfinished,
                 });
             }

@@ -6,7 +6,7 @@ ghost use Rattle.dumpi_text.specs.Failing.{Fails};
 ghost use Rattle.dumpi_text.specs.Shown.{put_in};
 ghost use Rattle.dumpi_text.specs.declared.step.TheConstants.{MOST_LINES};
 ghost use Rattle.dumpi_calls.specs.Rows.{row_of, typed, typed_by, row};
-ghost use Rattle.dumpi_calls.specs.Walks.{Advances, FailsAfter, FailsIn, Follows, FollowsWhole, IsRead, IsReadFault, IsReadStop, IsStopped, IsTypedAs, IsWalked, LacksNext, RefusesCall, RefusesNext, StopsWalk, Takes, lacks_exit};
+ghost use Rattle.dumpi_calls.specs.Walks.{Advances, FailsAfter, FailsIn, Follows, FollowsWhole, IsRead, IsReadFault, IsReadStop, IsStopped, IsTypedAs, IsWalked, LacksNext, RefusesCall, RefusesNext, StopsWalk, Takes, open_line};
 
 use crate::fault::{WalkCause, WalkFault};
 use crate::function::function_in;
@@ -14,7 +14,9 @@ use crate::in_place::{Whole, usual_name, whole_front};
 use crate::parameter::CallFault;
 use crate::sink::{CallSink, hand_on};
 use crate::typing::typed_call;
-use dumpi_text::{LineFault, RawCall, TextCause, TextFault, Texts, reading_call_by_call};
+use dumpi_text::{
+    LineFault, RawCall, TextCause, TextFault, Texts, reading_call_by_call, skipped_lines,
+};
 use mpi_model::Read;
 use std::alloc::Global;
 
@@ -25,8 +27,17 @@ pub struct Walked {
     pub calls: u64,
     /// How many nonblank lines were skipped.
     pub skipped: u64,
-    /// Whether the text, or its reading, ends before its last call has returned.
-    pub unfinished: bool,
+    /// The first of them.
+    pub first_skipped: Option<u64>,
+    /// The line where the last call begins, where the text, or its reading, ends before that has returned.
+    pub unfinished: Option<u64>,
+}
+
+/// A call that was handed on.
+#[derive(Clone, Copy, Debug, PartialEq, Eq)]
+pub(crate) struct HandedCall {
+    /// The line where it begins, where it has not returned.
+    pub(crate) open_line: Option<u64>,
 }
 
 /// Why a call is refused. One that was cut off before its last entry parameter was written is a truncated text.
@@ -65,7 +76,7 @@ pub(crate) fn refusal<F: Drop>(raw: &RawCall, fault: CallFault, calls: u64) -> W
     }
 }
 
-// reads a call's parameters and hands it on
+/// Reads a call's parameters and hands it on.
 fn take<S: CallSink>(
     alloc: Global,
     raw: &RawCall,
@@ -92,17 +103,18 @@ fn take<S: CallSink>(
     }
 }
 
-/// whether a call has not returned
-pub(crate) fn is_open(raw: &RawCall) -> bool
-    ensures { result ≡ lacks_exit raw.now.exit }
+/// The call that was handed on.
+pub(crate) fn handed(raw: &RawCall) -> HandedCall
+    ensures { result.open_line ≡ open_line raw.now }
 {
-    match raw.exit() {
-        None => true,
-        Some(_) => false,
-    }
+    let open_line = match raw.exit() {
+        None => Some(raw.line()),
+        Some(_) => None,
+    };
+    HandedCall { open_line }
 }
 
-/// the next call of the text, put in the place of the one before: whether there is one
+/// The next call of the text, put in the place of the one before: whether there is one.
 #[tactic(auto, using(crate::proofs::Failing::fails))]
 pub(crate) fn next_of<R: Read>(texts: &mut Texts<R>, raw: &mut RawCall) -> Result<bool, TextFault>
     ensures goes_on { (text : Option (List ℕ)) (calls : List TextCall) → IsRead text calls texts.old → IfOk result (λ found. Follows text calls (put_in found raw.new) texts.new) }
@@ -123,7 +135,7 @@ pub(crate) fn next_of<R: Read>(texts: &mut Texts<R>, raw: &mut RawCall) -> Resul
     }
 }
 
-/// why a text has no next call
+/// Why a text has no next call.
 pub(crate) fn lack<F: Drop>(fault: TextFault, line: u64, calls: u64) -> WalkFault<F>
     ensures cause { (text : Option (List ℕ)) (before : List TextCall) → RefusesNext text before fault line → LacksNext text before result.cause result.line }
     ensures failed { IsReadStop result.cause → IsReadFault fault }
@@ -144,7 +156,7 @@ pub(crate) fn lack<F: Drop>(fault: TextFault, line: u64, calls: u64) -> WalkFaul
     }
 }
 
-// The next call, where it stands at hand whole and in its usual form, which is taken then, and the line where it begins.
+/// The next call, where it stands at hand whole and in its usual form, which is taken then, and the line where it begins.
 #[inline(always)]
 #[tactic(auto, using(crate::proofs::Advancing::follows_whole, crate::proofs::Advancing::stands_whole))]
 fn whole_of<R: Read>(alloc: Global, texts: &mut Texts<R>) -> Option<(Whole, u64)>
@@ -162,7 +174,7 @@ fn whole_of<R: Read>(alloc: Global, texts: &mut Texts<R>) -> Option<(Whole, u64)
     Some((whole, line))
 }
 
-// hands on a call that was read whole
+/// Hands on a call that was read whole.
 #[inline(always)]
 #[tactic(auto, using(crate::proofs::Advancing::takes_whole, crate::proofs::Advancing::refuses_whole))]
 fn take_whole<S: CallSink>(
@@ -188,7 +200,7 @@ fn take_whole<S: CallSink>(
     }
 }
 
-// Hands on the next call of the text: whether it lacks its exit, or nothing at the end of the text.
+/// Hands on the next call of the text, or nothing at the end of the text.
 #[inline(always)]
 fn advance<R: Read, S: CallSink>(
     alloc: Global,
@@ -196,7 +208,7 @@ fn advance<R: Read, S: CallSink>(
     raw: &mut RawCall,
     sink: &mut S,
     calls: u64,
-) -> Result<Option<bool>, WalkFault<S::Fault>>
+) -> Result<Option<HandedCall>, WalkFault<S::Fault>>
     ensures ok { (text : Option (List ℕ)) (before : List TextCall) → IsRead text before texts.old → IfOk result (λ found. Advances S.step text before found texts.new sink.old sink.new) }
     ensures err { (text : Option (List ℕ)) (before : List TextCall) → IsRead text before texts.old → IfErr result (λ fault. StopsWalk text before fault.cause fault.line) }
     ensures failed { IfErr result (λ fault. IsReadStop fault.cause → Fails R.failures) }
@@ -204,18 +216,18 @@ fn advance<R: Read, S: CallSink>(
     ensures no_failure { OnOk result (texts.new.rest.failures ≡ texts.old.rest.failures) }
     ensures calls { IfErr result (λ fault. fault.calls ≡ calls) }
     ensures unchanged { OnErr result (sink.new ≡ sink.old) }
-    ensures progress { IfOk result (λ found. IfSome found (λ is_open. texts.old.at.line < texts.new.at.line)) }
+    ensures progress { IfOk result (λ found. IfSome found (λ handed. texts.old.at.line < texts.new.at.line)) }
     ensures lines { texts.new.at.line ≤ MOST_LINES }
 {
     if let Some((whole, line)) = whole_of(alloc, texts) {
         return match take_whole(whole, line, sink, calls) {
-            Ok(()) => Ok(Some(false)),
+            Ok(()) => Ok(Some(HandedCall { open_line: None })),
             Err(fault) => Err(fault),
         };
     }
     match next_of(texts, raw) {
         Ok(true) => match take(alloc, raw, sink, calls) {
-            Ok(()) => Ok(Some(is_open(raw))),
+            Ok(()) => Ok(Some(handed(raw))),
             Err(fault) => Err(fault),
         },
         Ok(false) => Ok(None),
@@ -238,8 +250,9 @@ pub fn walk<R: Read, S: CallSink>(
     ensures failure { IfErr result (λ fault. IsReadStop fault.cause → FailsIn R.left R.failures reader fault.calls fault.line) }
 {
     reading_call_by_call();
+    skipped_lines();
     let mut calls: u64 = 0;
-    let mut unfinished = false;
+    let mut unfinished = None;
     let mut texts = match Texts::new(alloc, reader) {
         Ok(texts) => texts,
         Err(_) => {
@@ -253,14 +266,15 @@ pub fn walk<R: Read, S: CallSink>(
     let mut raw = RawCall::new(alloc);
     'each: loop {
         match advance(alloc, &mut texts, &mut raw, sink, calls) {
-            Ok(Some(is_open)) => {
+            Ok(Some(handed)) => {
                 calls += 1;
-                unfinished = is_open;
+                unfinished = handed.open_line;
             }
             Ok(None) => {
                 return Ok(Walked {
                     calls,
                     skipped: texts.skipped(),
+                    first_skipped: texts.first_skipped(),
                     unfinished,
                 });
             }

@@ -40,7 +40,7 @@ line_means at current kind text rest more h =
 
 -- the entering line
 entered : (at : Position) (name text rest more : List ℕ) (enter : Times) → HasLine (Entering name enter) text rest → at.line + 1 ≤ 16777216
-    → meaning_of at None (text ++ more) ≡ meaning_of (record { line = at.line + 1; skipped = at.skipped; entered = enter.wall }) (Some (record { content = record { name = name; params = [] }; enter = enter; line = at.line + 1 })) (rest ++ more)
+    → meaning_of at None (text ++ more) ≡ meaning_of (record { line = at.line + 1; skipped = at.skipped; first_skipped = at.first_skipped; entered = enter.wall }) (Some (record { content = record { name = name; params = [] }; enter = enter; line = at.line + 1 })) (rest ++ more)
 entered at name text rest more enter h lines =
     line_means at None (Entering name enter) text rest more h ∙ rw (not_above (at.line + 1) 16777216 lines) refl
 
@@ -99,7 +99,7 @@ returned at current text rest after exit h lines =
 call_means : (at : Position) (content : CallContent) (enter exit : Times) (text rest after : List ℕ) → HasCall content enter exit text rest → at.line + lines_of content ≤ 16777216
     → meaning_of at None (text ++ after) ≡ with_call (call_after at content enter exit) (meaning_of (place_after at (lines_of content) enter) None (rest ++ after))
 call_means at content enter exit text rest after h lines =
-    let first : Position = record { line = at.line + 1; skipped = at.skipped; entered = enter.wall } in
+    let first : Position = record { line = at.line + 1; skipped = at.skipped; first_skipped = at.first_skipped; entered = enter.wall } in
     let current : Opening = record { content = record { name = content.name; params = [] }; enter = enter; line = at.line + 1 } in
     let last : Position = record first { line = first.line + length content.params } in
     let whole : Opening = record { content = content; enter = enter; line = at.line + 1 } in
@@ -109,7 +109,7 @@ call_means at content enter exit text rest after h lines =
     ∙ ap (λ (p : Position). meaning_of p (Some (with_all current content.params)) (h.after ++ after)) (lines_counted first content.params)
     ∙ ap (λ (o : Opening). meaning_of last (Some o) (h.after ++ after)) (all_put current content.params)
     ∙ returned last whole h.after rest after exit h.returns (omega arith)
-    ∙ ap (λ (line : ℕ). with_call (record { name = content.name; params = content.params; enter = enter; exit = Some exit; line = at.line + 1; last_line = line; threads = false }) (meaning_of (record { line = line; skipped = at.skipped; entered = enter.wall }) None (rest ++ after))) end
+    ∙ ap (λ (line : ℕ). with_call (record { name = content.name; params = content.params; enter = enter; exit = Some exit; line = at.line + 1; last_line = line; threads = false }) (meaning_of (record { line = line; skipped = at.skipped; first_skipped = at.first_skipped; entered = enter.wall }) None (rest ++ after))) end
 
 -- such a call is the text's next
 pub call_is_next : (at : Position) (content : CallContent) (enter exit : Times) (text rest : List ℕ) (left : Option (List ℕ)) → HasCall content enter exit text rest → at.line + lines_of content ≤ 16777216

@@ -1,5 +1,6 @@
 -- What a line of a text does, at its place.
 use Rattle.std.specs.Prelude.{ℕ, ◌+◌, true, false, List, [], ◌∷◌, ◌++◌, length, Option, Some, None, nat_lt, if◌then◌else◌}
+use Rattle.std.specs.Option.{option_or}
 use Rattle.mpi_model.specs.Times.{Times}
 use Rattle.dumpi_text.specs.Bytes.{carriage_return}
 use Rattle.dumpi_text.specs.Words.{trimmed, without_last}
@@ -42,6 +43,10 @@ opening name enter line = record { content = record { name = name; params = [] }
 abbrev pub threaded : Position → Opening → Times → Taken × Position
 threaded at current time = if nat_lt time.wall at.entered then (Refuses OtherThread, at) else (Ends (cut_call current at.line), at)
 
+-- the place after a line that is skipped: one more was, and the first of them is told
+abbrev pub skip_line : Position → Position
+skip_line at = record at { skipped = at.skipped + 1; first_skipped = option_or at.first_skipped (Some at.line) }
+
 -- One line outside a call, and inside one, at its place: what is open then, or the call that it ends, or its fault.
 abbrev pub outside : Position → Kind → Taken × Position
 outside at Blank = (Stays None, at)
@@ -49,7 +54,7 @@ outside at (Entering name enter) = (Stays (Some (opening name enter at.line)), r
 outside at (Returning name exit) = (Refuses ReturnOutside, at)
 outside at (Threaded name time) = threaded at (opening name time at.line) time
 outside at (Bad fault) = (Refuses fault, at)
-outside at (Other content) = (Stays None, record at { skipped = at.skipped + 1 })
+outside at (Other content) = (Stays None, skip_line at)
 
 -- one parameter more, at the end
 abbrev pub more_params : CallContent → Param → CallContent
@@ -57,7 +62,7 @@ more_params content param = record content { params = content.params ++ param �
 
 -- a line inside a call that is no stamp line, by the parameter on it
 abbrev pub with_param : Position → Opening → Option (List ℕ × List ℕ) → Taken × Position
-with_param at current None = (Stays (Some current), record at { skipped = at.skipped + 1 })
+with_param at current None = (Stays (Some current), skip_line at)
 with_param at current (Some ([], value)) = (Refuses BadParameter, at)
 with_param at current (Some (byte ∷ name, value)) = (Stays (Some (record current { content = more_params current.content (record { name = byte ∷ name; value = value }) })), at)
 

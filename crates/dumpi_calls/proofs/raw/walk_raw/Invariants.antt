@@ -1,14 +1,14 @@
 use Rattle.std.proofs.Common.{◌≡◌, ◌≤◌, ◌-◌, List}
 use Rattle.dumpi_text.specs.Call.{TextCall}
 use Rattle.dumpi_calls.specs.RawWalks.{HandedRaw}
-use Rattle.dumpi_calls.specs.Walks.{IsRead, is_unfinished}
+use Rattle.dumpi_calls.specs.Walks.{IsRead, unfinished_line}
 use Rattle.dumpi_calls.proofs.raw.walk_raw.Given as goal
 
 abbrev pub invariant-each : goal.invariant-each
 invariant-each g l = record {
   far : l.calls ≤ l.texts.at.line;
   unfailed : l.texts.rest.failures ≡ g.R.Read.failures l.fn.reader;
-  done : (calls : List TextCall) × IsRead (g.R.Read.left l.fn.reader) calls l.texts × HandedRaw g.S.RawSink.step calls l.fn.sink l.sink l.calls × (l.unfinished ≡ is_unfinished calls);
+  done : (calls : List TextCall) × IsRead (g.R.Read.left l.fn.reader) calls l.texts × HandedRaw g.S.RawSink.step calls l.fn.sink l.sink l.calls × (l.unfinished ≡ unfinished_line calls);
 }
 
 abbrev pub decreases-each : goal.decreases-each

@@ -1,5 +1,6 @@
-use Rattle.std.proofs.Common.{[], ◌∙◌, ◌<◌, Bool, Option, IfSome, refl, subst, zero-le, arith}
+use Rattle.std.proofs.Common.{[], ◌∙◌, ◌<◌, Option, IfSome, refl, subst, zero-le, arith}
 use Rattle.dumpi_calls.specs.Walks.{Advances, IsRead, TakesNext}
+use Rattle.dumpi_calls.specs.declared.walking.HandedCall.{HandedCall}
 use Rattle.dumpi_calls.proofs.Advancing.{advanced}
 use Rattle.dumpi_calls.proofs.Handed.{is_begun, not_begun, nothing_handed}
 use Rattle.dumpi_calls.proofs.walking.walk.Goals as goal
@@ -18,11 +19,11 @@ each-preserved g c =
     let text = g.R.Read.left c.args.reader in
     let inv = c.each.invariant.done in
     let is = c.in-Ok-Some.field-0-is in
-    let next : TakesNext g.S.CallSink.step text inv.0 c.in-Ok-Some.is_open c.advance.new.texts c.each.sink c.advance.new.sink =
-    subst (λ (o : Option Bool). Advances g.S.CallSink.step text inv.0 o c.advance.new.texts c.each.sink c.advance.new.sink) is (c.in-Ok-Some.ensures.ok text inv.0 inv.1) in
-    let progress : c.each.texts.at.line < c.advance.new.texts.at.line = subst (λ (o : Option Bool). IfSome o (λ (b : Bool). c.each.texts.at.line < c.advance.new.texts.at.line)) is c.in-Ok-Some.ensures.progress in
+    let next : TakesNext g.S.CallSink.step text inv.0 c.in-Ok-Some.handed.open_line c.advance.new.texts c.each.sink c.advance.new.sink =
+    subst (λ (o : Option HandedCall). Advances g.S.CallSink.step text inv.0 o c.advance.new.texts c.each.sink c.advance.new.sink) is (c.in-Ok-Some.ensures.ok text inv.0 inv.1) in
+    let progress : c.each.texts.at.line < c.advance.new.texts.at.line = subst (λ (o : Option HandedCall). IfSome o (λ (h : HandedCall). c.each.texts.at.line < c.advance.new.texts.at.line)) is c.in-Ok-Some.ensures.progress in
     record {
       far = omega (arith, c.each.invariant.far, progress);
       unfailed = c.in-Ok-Some.ensures.no_failure ∙ c.each.invariant.unfailed;
-      done = advanced g.S.CallSink.step text inv.0 c.in-Ok-Some.is_open c.advance.new.texts c.args.sink.now c.each.sink c.advance.new.sink c.each.calls inv.2 next;
+      done = advanced g.S.CallSink.step text inv.0 c.in-Ok-Some.handed.open_line c.advance.new.texts c.args.sink.now c.each.sink c.advance.new.sink c.each.calls inv.2 next;
     }
