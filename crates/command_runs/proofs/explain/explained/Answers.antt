@@ -13,9 +13,8 @@ use Rattle.command_runs.proofs.Notes.{stopped_count}
 use Rattle.command_runs.proofs.explain.explained.Goals as goal
 
 pub returns : goal.returns
-returns g c =
+returns g c = λ file notes_true.
     let h = g.N.Answerer.held c.args.node in
-    let file = g.O.Opener.file c.args.files.now in
     let answer = c.in-Ok.answer.now in
     let text = c.in_ok-said.said.items in
     let other : c.args.other.now ≡ under_other h.layout = c.requires.other in
@@ -24,11 +23,11 @@ returns g c =
     (subst (λ (l : Parts). IsExplained l c.args.other.now answer h.know text) c.requires.own
     (subst (λ (v : View). IsExplained c.args.layout.now c.args.other.now answer v text) c.knowledge.ensures c.in_ok-said.ensures)) in
     let notes = c.args.notes.now in
-    let places = c.in-Ok-places_of.places.items in
+    let places = c.in_ok-places.places.items in
     let first : map stopped c.shown_first.result.now ≡ take most_shown answer.stuck =
     ap (λ (l : List Stuck). map stopped l) c.shown_first.ensures ∙ sym (take-map stopped most_shown c.stuck.result.now) ∙ ap (λ (l : List Stopped). take most_shown l) c.stuck.ensures in
     let stand : ArePlacesOf file notes (take most_shown answer.stuck) places =
-    subst (λ (l : List Stopped). ArePlacesOf file notes l places) first c.in-Ok-places_of.ensures.ok in
+    subst (λ (l : List Stopped). ArePlacesOf file notes l places) first (c.in_ok-places.ensures file notes_true) in
     let count : length c.stuck-2.result.now ≡ length answer.stuck = stopped_count c.stuck-2.result.now answer.stuck c.stuck-2.ensures in
     let more : c.saturating_sub-more.result ≡ length answer.stuck - length places = omega (arith, count, c.saturating_sub-more.ensures, c.len.ensures) in
     let unknown = unknown_in answer in
@@ -39,4 +38,4 @@ returns g c =
     ∙ ap (λ (u : List ℕ). text ++ pieceless_text (pieceless notes u) ++ notes_text notes ++ places_text c.deref-3.result.now more_of) (c.deref-2.ensures.value ∙ c.in_ok-unknown.ensures)
     ∙ ap (λ (l : List PlaceParts). text ++ pieceless_text (pieceless notes unknown) ++ notes_text notes ++ places_text l more_of) c.deref-3.ensures.value
     ∙ ap (λ (n : ℕ). text ++ pieceless_text (pieceless notes unknown) ++ notes_text notes ++ places_text places n) more in
-    record { ok = (answer, text, places, c.in-Ok.ensures.ok, said, stand, is) }
+    (answer, text, places, c.in-Ok.ensures.ok, said, stand, is)
