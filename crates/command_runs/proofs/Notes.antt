@@ -1,20 +1,20 @@
 -- Notes, one piece more, and places, one stuck call more.
-use Rattle.std.proofs.Common.{◌≡◌, ◌<◌, ◌+◌, ◌++◌, length, map, take, get_or, ◌∷◌, [], ℕ, List, Option, Some, None, ap, inl, sym, refl, subst, ◌∙◌, append_assoc}
+use Rattle.std.proofs.Common.{◌≡◌, ◌<◌, ◌+◌, ◌++◌, length, map, take, get_or, ◌∷◌, [], ℕ, List, Option, Some, None, ap, arith, sym, refl, subst, ◌∙◌, append_assoc}
 use Rattle.std.specs.Prelude.{option_to_list}
+use Rattle.std.specs.List.{All}
 use Rattle.std.proofs.lemmas.List.{length-map, take_more}
+use Rattle.std.proofs.lemmas.List.Elements.{All-cons}
 use Rattle.trace_node.specs.Answer.{Stopped}
 use Rattle.trace_node.specs.Stopped.{stopped}
 use Rattle.trace_node.specs.declared.stuck.Stuck.{Stuck}
+use Rattle.dumpi_calls.specs.declared.walking.Walked.{Walked}
 use Rattle.input_files.specs.Manifests.{PieceParts}
-use Rattle.text_notes.specs.Lines.{IsLineOf}
-use Rattle.text_notes.specs.Skips.{IsFirstSkip, IsReadTo}
 use Rattle.text_notes.specs.Starts.{IsStartOf}
-use Rattle.text_notes.specs.declared.skips.Skips.{Skips}
 use Rattle.text_notes.specs.declared.start.Start.{Start}
 use Rattle.text_notes.specs.Noted.{TellsNotes, UnreadParts}
-use Rattle.text_notes.specs.Words.{NoteParts, PlaceParts}
+use Rattle.text_notes.specs.Words.{NoteParts, PlaceParts, walked_in}
 use Rattle.command_runs.specs.Files.{StandsAtFirst}
-use Rattle.command_runs.specs.Notes.{AreNotesOf, ArePlacesOf, IsNoteOf, IsPlaceOf}
+use Rattle.command_runs.specs.Notes.{AreNotesOf, ArePlacesOf, IsNoteOf, IsPlaceOf, IsTrueOf}
 
 pub notes_more : (file : List ℕ → Option (List ℕ)) (pieces : List PieceParts) (piece : PieceParts) (notes : List NoteParts) (note : NoteParts)
     → AreNotesOf file pieces notes → IsNoteOf file piece note → AreNotesOf file (pieces ++ piece ∷ []) (notes ++ note ∷ [])
@@ -51,30 +51,17 @@ pub stopped_count : (xs : List Stuck) (stuck : List Stopped) → map stopped xs 
 stopped_count xs stuck e = sym (length-map xs stopped) ∙ ap (λ (l : List Stopped). length l) e
 
 -- what the text of a file tells
-pub notes_told : (file left : Option (List ℕ)) (unread : List UnreadParts) (calls skipped : ℕ) → StandsAtFirst file left → TellsNotes left unread calls skipped → TellsNotes file unread calls skipped
-notes_told None left unread calls skipped told h = tt
-notes_told (Some bytes) left unread calls skipped told h = subst (λ (t : Option (List ℕ)). TellsNotes t unread calls skipped) told h
+pub notes_told : (file left : Option (List ℕ)) (unread : List UnreadParts) (walked : Walked) → StandsAtFirst file left → TellsNotes left unread walked → TellsNotes file unread walked
+notes_told None left unread walked told h = tt
+notes_told (Some bytes) left unread walked told h = subst (λ (t : Option (List ℕ)). TellsNotes t unread walked) told h
 
 pub start_told : (file left : Option (List ℕ)) (start : Start) → StandsAtFirst file left → IsStartOf left start → IsStartOf file start
 start_told None left start told h = tt
 start_told (Some bytes) left start told h = subst (λ (t : Option (List ℕ)). IsStartOf t start) told h
 
-pub line_told : (file left : Option (List ℕ)) (number : ℕ) (line : Option ℕ) → StandsAtFirst file left → IsLineOf left number line → IsLineOf file number line
-line_told None left number line told h = tt
-line_told (Some bytes) left number line told h = subst (λ (t : Option (List ℕ)). IsLineOf t number line) told h
-
-pub skips_told : (file left : Option (List ℕ)) (skips : Skips) → StandsAtFirst file left → IsFirstSkip left skips → IsFirstSkip file skips
-skips_told None left skips told h = record {
-  before = h.before;
-  after = h.after;
-  at = h.at;
-  next = h.next;
-  goes_on = h.goes_on;
-  read = inl (None, tt);
-  reads_on = inl (None, tt);
-  none = h.none;
-  some = h.some;
-  behind_is = h.behind_is;
-  last_is = h.last_is;
-}
-skips_told (Some bytes) left skips told h = subst (λ (t : Option (List ℕ)). IsFirstSkip t skips) told h
+-- the notes of pieces tell what their texts do
+pub notes_true : (file : List ℕ → Option (List ℕ)) (pieces : List PieceParts) (notes : List NoteParts) → AreNotesOf file pieces notes → All (IsTrueOf file) notes
+notes_true file [] notes e = subst (λ (ns : List NoteParts). All (IsTrueOf file) ns) (sym e) (λ k d h. absurd (omega arith))
+notes_true file (piece ∷ pieces) notes h =
+    let told : IsTrueOf file h.0 = subst (λ (path : List ℕ). TellsNotes (file path) h.0.unread (walked_in h.0)) (sym h.2.path) h.2.told in
+    subst (λ (ns : List NoteParts). All (IsTrueOf file) ns) (sym h.4) (All-cons (IsTrueOf file) h.0 h.1 told (notes_true file pieces h.1 h.3))

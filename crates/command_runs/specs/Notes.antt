@@ -1,13 +1,11 @@
 -- What is noted of the texts of a run, and where its stuck calls stand in them.
-use Rattle.std.specs.Prelude.{◌≡◌, ◌-◌, ℕ, List, [], ◌∷◌, ◌++◌, Option, Some, None, option_to_list, slice_get}
+use Rattle.std.specs.Prelude.{◌≡◌, ◌-◌, ℕ, List, [], ◌∷◌, ◌++◌, IfSome, Option, Some, None, option_to_list, slice_get}
 use Rattle.trace_node.specs.Answer.{Stopped}
 use Rattle.input_files.specs.Manifests.{PieceParts}
 use Rattle.text_notes.specs.Lines.{IsLineOf}
 use Rattle.text_notes.specs.Noted.{TellsNotes}
-use Rattle.text_notes.specs.Skips.{IsFirstSkip}
 use Rattle.text_notes.specs.Starts.{IsStartOf}
-use Rattle.text_notes.specs.Words.{NoteParts, PlaceParts, note_of}
-use Rattle.text_notes.specs.declared.skips.Skips.{Skips}
+use Rattle.text_notes.specs.Words.{NoteParts, PlaceParts, line_in_note, note_of, walked_in}
 use Rattle.text_notes.specs.declared.start.Start.{Start}
 use Rattle.command_runs.specs.FileNames.{shown_name}
 
@@ -18,10 +16,9 @@ abbrev pub BeginsSo : Option (List ℕ) → Option Start → Type 0
 BeginsSo text None = Unit {0}
 BeginsSo text (Some start) = IsStartOf text start
 
--- the first line that was skipped stands where it was looked up
-abbrev pub SkipsSo : Option (List ℕ) → Option Skips → Type 0
-SkipsSo text None = Unit {0}
-SkipsSo text (Some skips) = IsFirstSkip text skips
+-- The note tells what the text of its file does.
+abbrev pub IsTrueOf : (List ℕ → Option (List ℕ)) → NoteParts → Type 0
+IsTrueOf file note = TellsNotes (file note.path) note.unread (walked_in note)
 
 -- The note is that of the piece: of its rank and first call, under the name of its file, and what its text tells.
 pub record IsNoteOf (file : List ℕ → Option (List ℕ)) (piece : PieceParts) (note : NoteParts) : Type 0 where
@@ -29,9 +26,8 @@ pub record IsNoteOf (file : List ℕ → Option (List ℕ)) (piece : PieceParts)
   pub first : note.first ≡ piece.first
   pub path : note.path ≡ piece.file
   pub name : note.file ≡ shown_name piece.file
-  pub told : TellsNotes (file piece.file) note.unread note.calls note.skipped
+  pub told : TellsNotes (file piece.file) note.unread (walked_in note)
   pub start : BeginsSo (file piece.file) note.start
-  pub skips : SkipsSo (file piece.file) note.skips
 
 -- The notes are those of these pieces, in their order.
 abbrev pub AreNotesOf : (List ℕ → Option (List ℕ)) → List PieceParts → List NoteParts → Type 0
@@ -41,17 +37,13 @@ AreNotesOf file (piece ∷ pieces) notes = (note : NoteParts) × (rest : List No
 
 -- ---- where stuck calls stand
 
--- a call begins at the line that was looked up
-abbrev pub BeginsAt : Option (List ℕ) → ℕ → Option ℕ → Type 0
-BeginsAt text number None = Unit {0}
-BeginsAt text number (Some line) = IsLineOf text number (Some line)
-
--- The place is that of a rank's call in the text of this note.
+-- The place is that of a rank's call in the text of this note, and its line the one that the note tells, where the call begins.
 pub record IsPlaceIn (file : List ℕ → Option (List ℕ)) (rank call : ℕ) (note : NoteParts) (place : PlaceParts) : Type 0 where
   pub rank_is : place.rank ≡ rank
   pub call_is : place.call ≡ call
   pub name : place.file ≡ note.file
-  pub line : BeginsAt (file note.path) (call - note.first) place.line
+  pub line_is : place.line ≡ line_in_note (call - note.first) note
+  pub begins : IfSome place.line (λ line. IsLineOf (file note.path) (call - note.first) (Some line))
 
 -- a place, by where the note stands of the first text that has the call
 abbrev pub IsPlaceAt : (List ℕ → Option (List ℕ)) → List NoteParts → ℕ → ℕ → Option ℕ → Option PlaceParts → Type 0

@@ -1,11 +1,13 @@
 //! An answer in words, with who would be stuck under the other kind of sends.
 
-ghost use Rattle.std.specs.Prelude.{◌≡◌, ◌⊎◌, ◌++◌, ℕ, false, true, IfErr, IfOk, List, OnOk, take};
+ghost use Rattle.std.specs.Prelude.{◌≡◌, ◌⊎◌, ◌++◌, ℕ, false, true, IfErr, IfOk, List, OnOk, Option, take};
 ghost use Rattle.std.specs.Io.KnownBytes.{Appends, Keeps};
+ghost use Rattle.std.specs.List.{All};
 ghost use Rattle.dumpi_text.specs.Failing.{Fails};
 ghost use Rattle.text_notes.specs.Words.{most_shown, notes_text, pieceless, pieceless_text, places_text};
 ghost use Rattle.command_runs.specs.Explains.{IsExplainOf, IsNotedNodeOf, IsTold, other_sends, under_other};
 ghost use Rattle.command_runs.specs.Files.{NamesFailed, NamesUnreadable};
+ghost use Rattle.command_runs.specs.Notes.{IsTrueOf};
 ghost use Rattle.command_runs.specs.Refusals.{RefusesNode, RefusesRun};
 ghost use Rattle.command_runs.specs.Verbs.{BreaksOff};
 ghost use Rattle.command_runs.specs.declared.whole.TheConstants.{LONGEST_FILE};
@@ -82,7 +84,7 @@ fn text_with<O: Opener, V: Watcher>(
         Err(fault) => return Err(fault),
     };
     let (node, notes) = noted;
-    match explained(alloc, &layout, node, &other, &notes, files) {
+    match explained(alloc, &layout, node, &other, &notes) {
         Ok(text) => Ok(text),
         Err(_) => Err(RunFault::Memory),
     }
@@ -145,19 +147,17 @@ fn other_sends(sends: Sends) -> Sends
 
 // What a node tells, in words, with who would be stuck under the other layout, and with what is noted of the texts. It
 // lets go of the node.
-fn explained<N: Answerer, O: Opener>(
+fn explained<N: Answerer>(
     alloc: Global,
     layout: &Layout,
     node: N,
     other: &Layout,
     notes: &[TextNote],
-    files: &mut O,
-) -> Result<Vec<u8>, RunFault>
+) -> Result<Vec<u8>, AllocError>
     requires fresh { (N.held node).is_stale ≡ false }
     requires own { layout.now ≡ (N.held node).layout }
     requires other { other.now ≡ under_other (N.held node).layout }
-    ensures ok { IfOk result (λ text. IsTold (O.file files.old) (N.held node).layout (N.held node).know notes.now text.items) }
-    ensures same { O.file files.new ≡ O.file files.old }
+    ensures { (file : List ℕ → Option (List ℕ)) → All (IsTrueOf file) notes.now → IfOk result (λ text. IsTold file (N.held node).layout (N.held node).know notes.now text.items) }
 {
     // (a new node isn't stale)
     let Ok(answer) = node.told() else {
@@ -165,13 +165,9 @@ fn explained<N: Answerer, O: Opener>(
     };
     let said = explain(alloc, layout, other, answer, node.knowledge())?;
     let unknown = unknown_ranks(alloc, answer)?;
-    let places = match places_of(alloc, shown_first(answer.stuck()), notes, files) {
-        Ok(places) => places,
-        Err(fault) => return Err(fault),
-    };
+    let places = places_of(alloc, shown_first(answer.stuck()), notes)?;
     let more = answer.stuck().len().saturating_sub(places.len());
-    let text = text_of(alloc, &said, &unknown, notes, &places, more)?;
-    Ok(text)
+    text_of(alloc, &said, &unknown, notes, &places, more)
 }
 
 // What was said, with which of the ranks of which nothing is known have no text, what is noted of the texts, and where

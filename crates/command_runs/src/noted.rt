@@ -1,6 +1,6 @@
 //! The pieces of a run, read with notes of their texts.
 
-ghost use Rattle.std.specs.Prelude.{◌≡◌, ◌≤◌, IfErr, IfOk};
+ghost use Rattle.std.specs.Prelude.{◌≡◌, IfErr, IfOk};
 ghost use Rattle.std.specs.FinMap.{empty};
 ghost use Rattle.std.specs.List.{All};
 ghost use Rattle.dumpi_text.specs.Failing.{Fails};
@@ -8,7 +8,7 @@ ghost use Rattle.trace_know.specs.Trace.{facts_of_all};
 ghost use Rattle.trace_node.specs.Node.{IsWithin};
 ghost use Rattle.command_runs.specs.FileNames.{shown_name};
 ghost use Rattle.command_runs.specs.Files.{NamesFailed};
-ghost use Rattle.command_runs.specs.Notes.{AreNotesOf, BeginsSo, IsNoteOf, SkipsSo};
+ghost use Rattle.command_runs.specs.Notes.{AreNotesOf, BeginsSo, IsNoteOf};
 ghost use Rattle.command_runs.specs.Pieces.{RefusesPiece, TellsFacts};
 ghost use Rattle.command_runs.specs.Refusals.{RefusesPieces};
 ghost use Rattle.command_runs.specs.Traces.{IsInside, IsKnown};
@@ -19,14 +19,14 @@ use crate::gatherer::Gatherer;
 use crate::knowing::{take_all, with_stranger};
 use crate::opener::{OpenFault, Opener};
 use crate::piece::refusal;
-use crate::second_look::{skips_at, start_at};
+use crate::second_look::start_at;
 use crate::watch::{Watcher, announce};
 use crate::watched::Watched;
 use dumpi_calls::{walk, whole_segments, whole_texts};
 use input_files::Piece;
 use mpi_model::Layout;
 use std::alloc::{AllocError, Global};
-use text_notes::{MOST_SHOWN, Noting, Skips, Start, TextNote, noted_texts};
+use text_notes::{Noting, Start, TextNote, noted_texts};
 use trace_know::{Segment, SegmentFault, join_laws, view_laws};
 
 /// A piece that was read.
@@ -55,42 +55,11 @@ fn start_where<O: Opener>(calls: u64, path: &str, files: &mut O) -> Option<Start
     start_at(path, files)
 }
 
-// Where the first line of a text stands of which so many were skipped: the first ten such texts are looked at again.
-fn skips_where<O: Opener>(
-    alloc: Global,
-    skipped: u64,
-    before: usize,
-    path: &str,
-    files: &mut O,
-) -> Result<Option<Skips>, RunFault>
-    ensures told { IfOk result (SkipsSo (O.file files.old path.now)) }
-    ensures err { IfErr result (λ fault. fault ≡ RunFault.Memory) }
-    ensures same { O.file files.new ≡ O.file files.old }
-{
-    if skipped == 0 || before >= MOST_SHOWN {
-        return Ok(None);
-    }
-    skips_at(alloc, path, files)
-}
-
-// one text more, where lines of it were skipped
-fn with_skipping(skipping: usize, note: &TextNote) -> usize
-    ensures { skipping ≤ result }
-{
-    if note.skipped() > 0 {
-        skipping.saturating_add(1)
-    } else {
-        skipping
-    }
-}
-
-// The segments of a piece, none of a text without calls, and what is noted of its text; of so many texts before it lines
-// were skipped.
+// The segments of a piece, none of a text without calls, and what is noted of its text.
 #[tactic(auto, using(crate::proofs::Told::facts_told, crate::proofs::Told::places_told, crate::proofs::Told::walk_told, crate::proofs::Notes::notes_told))]
 fn noted_piece<O: Opener, V: Watcher>(
     alloc: Global,
     piece: &Piece,
-    skipping: usize,
     files: &mut O,
     watcher: &mut V,
 ) -> Result<NotedPiece, RunFault>
@@ -130,17 +99,13 @@ fn noted_piece<O: Opener, V: Watcher>(
         Err(_) => return Err(RunFault::Memory),
     };
     let start = start_where(walked.calls, path, files);
-    let skips = match skips_where(alloc, walked.skipped, skipping, path, files) {
-        Ok(skips) => skips,
-        Err(fault) => return Err(fault),
-    };
     let note = TextNote::new(
         (piece.rank(), piece.first()),
         path.to_string(alloc)?,
         shown(alloc, path)?,
-        (walked.calls, walked.skipped),
+        walked,
         unread,
-        (start, skips),
+        start,
     );
     Ok(NotedPiece { segments, note })
 }
@@ -171,16 +136,14 @@ pub(crate) fn noted_of<G: Gatherer, O: Opener, V: Watcher>(
     let mut know = gatherer;
     let mut notes = Vec::new(alloc);
     let mut stranger = None;
-    let mut skipping: usize = 0;
     for piece in pieces {
-        let read = match noted_piece(alloc, piece, skipping, files, watcher) {
+        let read = match noted_piece(alloc, piece, files, watcher) {
             Ok(read) => read,
             Err(fault) => return Err(fault),
         };
         let NotedPiece { segments, note } = read;
         stranger = with_stranger(alloc, stranger, layout, piece, &segments)?;
         know = take_all(know, segments)?;
-        skipping = with_skipping(skipping, &note);
         notes.push(note)?;
     }
     match stranger {

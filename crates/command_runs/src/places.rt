@@ -1,37 +1,29 @@
 //! Where the stuck calls of an answer stand in the texts.
 
-ghost use Rattle.std.specs.Prelude.{◌≡◌, ◌++◌, IfErr, IfOk, OnOk, map, option_to_list};
+ghost use Rattle.std.specs.Prelude.{◌≡◌, ◌++◌, ℕ, IfOk, List, OnOk, Option, map, option_to_list};
+ghost use Rattle.std.specs.List.{All};
 ghost use Rattle.trace_node.specs.Stopped.{stopped};
-ghost use Rattle.command_runs.specs.Notes.{ArePlacesOf, IsPlaceOf};
+ghost use Rattle.command_runs.specs.Notes.{ArePlacesOf, IsPlaceOf, IsTrueOf};
 
-use crate::fault::RunFault;
-use crate::opener::Opener;
-use crate::second_look::line_at;
 use std::alloc::{AllocError, Global};
-use text_notes::{CallPlace, TextNote, note_of};
+use text_notes::{CallPlace, TextNote, note_of, noted_texts};
 use trace_node::Stuck;
 
 // where a call of a rank stands, in the first text that has it
-fn place_of<O: Opener>(
+fn place_of(
     alloc: Global,
     rank: u32,
     call: u64,
     notes: &[TextNote],
-    files: &mut O,
-) -> Result<Option<CallPlace>, RunFault>
-    ensures ok { IfOk result (IsPlaceOf (O.file files.old) notes.now rank call) }
-    ensures err { IfErr result (λ fault. fault ≡ RunFault.Memory) }
-    ensures same { O.file files.new ≡ O.file files.old }
+) -> Result<Option<CallPlace>, AllocError>
+    ensures { (file : List ℕ → Option (List ℕ)) → All (IsTrueOf file) notes.now → IfOk result (IsPlaceOf file notes.now rank call) }
 {
+    noted_texts();
     let Some(at) = note_of(notes, rank, call) else {
         return Ok(None);
     };
     let note = &notes[at];
-    let number = call.saturating_sub(note.first());
-    let line = match line_at(alloc, note.path(), number, files) {
-        Ok(line) => line,
-        Err(fault) => return Err(fault),
-    };
+    let line = note.line_of(call.saturating_sub(note.first()));
     let file = Vec::from_slice(alloc, note.file())?;
     Ok(Some(CallPlace::new(rank, call, file, line)))
 }
@@ -45,23 +37,17 @@ fn push_some(places: &mut Vec<CallPlace>, place: Option<CallPlace>) -> Result<()
     Ok(())
 }
 
-/// Where the calls of these stuck ranks stand.
-pub(crate) fn places_of<O: Opener>(
+/// Where the calls of these stuck ranks stand, by notes that tell what their texts do.
+pub(crate) fn places_of(
     alloc: Global,
     stuck: &[Stuck],
     notes: &[TextNote],
-    files: &mut O,
-) -> Result<Vec<CallPlace>, RunFault>
-    ensures ok { IfOk result (λ places. ArePlacesOf (O.file files.old) notes.now (map stopped stuck.now) places.items) }
-    ensures err { IfErr result (λ fault. fault ≡ RunFault.Memory) }
-    ensures same { O.file files.new ≡ O.file files.old }
+) -> Result<Vec<CallPlace>, AllocError>
+    ensures { (file : List ℕ → Option (List ℕ)) → All (IsTrueOf file) notes.now → IfOk result (λ places. ArePlacesOf file notes.now (map stopped stuck.now) places.items) }
 {
     let mut places = Vec::new(alloc);
     for one in stuck {
-        let place = match place_of(alloc, one.rank, one.call, notes, files) {
-            Ok(place) => place,
-            Err(fault) => return Err(fault),
-        };
+        let place = place_of(alloc, one.rank, one.call, notes)?;
         push_some(&mut places, place)?;
     }
     Ok(places)

@@ -19,6 +19,7 @@ read_whole text new rank walked law w few told = record {
   told = told;
   counted = w.handed.counted;
   skipped = w.skipped;
+  first_skipped = w.first_skipped;
   unfinished = w.unfinished;
 }
 

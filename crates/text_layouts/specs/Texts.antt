@@ -3,8 +3,9 @@ use Rattle.std.specs.Prelude.{◌≡◌, ℕ, List, Option, length}
 use Rattle.dumpi_text.specs.Call.{TextCall}
 use Rattle.dumpi_text.specs.Grammar.{Complete}
 use Rattle.dumpi_text.specs.Reading.{MeansAll}
+use Rattle.dumpi_text.specs.Skips.{IsFirstSkipped}
 use Rattle.dumpi_text.specs.declared.step.Position.{Position}
-use Rattle.dumpi_calls.specs.Walks.{StopsWalk, is_unfinished}
+use Rattle.dumpi_calls.specs.Walks.{StopsWalk, unfinished_line}
 use Rattle.dumpi_calls.specs.declared.fault.WalkFault.{WalkFault}
 use Rattle.dumpi_calls.specs.declared.walking.Walked.{Walked}
 use Rattle.comm_makings.specs.declared.calls.RankCalls.{RankCalls}
@@ -29,7 +30,8 @@ pub record IsReadFrom (text : Option (List ℕ)) (rank : RankCalls) (walked : Wa
   pub told : AreOfRank read rank
   pub counted : walked.calls ≡ length calls
   pub skipped : walked.skipped ≡ at.skipped
-  pub unfinished : walked.unfinished ≡ is_unfinished calls
+  pub first_skipped : IsFirstSkipped text walked.first_skipped
+  pub unfinished : walked.unfinished ≡ unfinished_line calls
 
 -- The text is refused behind these calls, at the first that can't be had.
 pub record StopsIn (text : Option (List ℕ)) (fault : WalkFault Memory) : Type 0 where

@@ -1,10 +1,7 @@
 pub mod Adding
-pub mod CallLines
 pub mod Found
 pub mod Fronts
 pub mod Lines
 pub mod NotedMore
 pub mod Walking
-pub mod Reading
 pub mod Said
-pub mod Skipping

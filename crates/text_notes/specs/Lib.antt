@@ -1,7 +1,6 @@
 pub mod Noted
 pub mod Places
 pub mod Lines
-pub mod Skips
 pub mod Starts
 pub mod Words
 pub mod Whole

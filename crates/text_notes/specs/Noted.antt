@@ -5,10 +5,13 @@ use Rattle.mpi_model.specs.declared.event.Event.{Event}
 use Rattle.mpi_model.specs.Failures.{one_more}
 use Rattle.dumpi_text.specs.Call.{TextCall}
 use Rattle.dumpi_text.specs.Grammar.{Complete, text_meaning}
+use Rattle.dumpi_text.specs.Skips.{IsFirstSkipped}
 use Rattle.dumpi_text.specs.declared.step.Position.{Position}
 use Rattle.dumpi_calls.specs.Collected.{collected}
 use Rattle.dumpi_calls.specs.Rows.{Callback, OnUnread}
 use Rattle.dumpi_calls.specs.Seen.{Seen, seen_in}
+use Rattle.dumpi_calls.specs.Walks.{unfinished_line}
+use Rattle.dumpi_calls.specs.declared.walking.Walked.{Walked}
 
 -- a function of calls that aren't read: its name, the number of its first such call, and how many there are
 pub record UnreadParts : Type 0 where
@@ -58,18 +61,21 @@ nothing_noted = record { events = []; calls = 0; unread = [] }
 abbrev pub noted : Noted → Seen → Noted
 noted n call = record { events = collected n.events call; calls = one_more n.calls; unread = with_call n.calls call.callback n.unread }
 
--- These are the functions of the text's calls that aren't read, so many calls has it, and so many nonblank lines were skipped.
-pub record AreNotes (text : List ℕ) (unread : List UnreadParts) (count skipped : ℕ) : Type 0 where
+-- These are the functions of the text's calls that aren't read, so many calls has it, so many nonblank lines were skipped, this one
+-- first, and its last call begins at this line, where it has not returned.
+pub record AreNotes (text : List ℕ) (unread : List UnreadParts) (walked : Walked) : Type 0 where
   pub calls : List TextCall
   pub seen : List Seen
   pub at : Position
   pub whole : text_meaning text ≡ record { calls = calls; end = Complete at }
   pub typed_as : seen_in calls ≡ Some seen
   pub unread_is : unread ≡ unread_in seen
-  pub counted_is : count ≡ length calls
-  pub skipped_is : skipped ≡ at.skipped
+  pub counted_is : walked.calls ≡ length calls
+  pub skipped_is : walked.skipped ≡ at.skipped
+  pub first_skipped_is : IsFirstSkipped (Some text) walked.first_skipped
+  pub unfinished_is : walked.unfinished ≡ unfinished_line calls
 
 -- the same, where the text's bytes are told
-abbrev pub TellsNotes : Option (List ℕ) → List UnreadParts → ℕ → ℕ → Type 0
-TellsNotes None unread count skipped = Unit {0}
-TellsNotes (Some text) unread count skipped = AreNotes text unread count skipped
+abbrev pub TellsNotes : Option (List ℕ) → List UnreadParts → Walked → Type 0
+TellsNotes None unread walked = Unit {0}
+TellsNotes (Some text) unread walked = AreNotes text unread walked

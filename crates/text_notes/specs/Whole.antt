@@ -1,12 +1,14 @@
 -- What a walk that notes calls leaves.
-use Rattle.std.specs.Prelude.{ℕ, List, [], Option}
+use Rattle.std.specs.Prelude.{ℕ, List, [], IfSome, Option, Some}
 use Rattle.dumpi_calls.specs.Collected.{collected}
 use Rattle.dumpi_calls.specs.Walks.{IsStopped, IsWalked}
 use Rattle.dumpi_calls.specs.declared.collect.Memory.{Memory}
 use Rattle.dumpi_calls.specs.declared.fault.WalkFault.{WalkFault}
 use Rattle.dumpi_calls.specs.declared.walking.Walked.{Walked}
 use Rattle.mpi_model.specs.declared.event.Event.{Event}
+use Rattle.text_notes.specs.Lines.{IsLineOf}
 use Rattle.text_notes.specs.Noted.{Noted, TellsNotes, noted, nothing_noted}
+use Rattle.text_notes.specs.Words.{NoteParts, line_in_note, walked_in}
 
 -- It keeps the events that a walk into a `Collect` keeps.
 abbrev pub CollectsNoted : Type 0
@@ -19,4 +21,8 @@ StopsNoted = (text : Option (List ℕ)) (new : Noted) (fault : WalkFault Memory)
 
 -- Over a whole text it notes what that tells.
 abbrev pub TellsNoted : Type 0
-TellsNoted = (text : Option (List ℕ)) (new : Noted) (walked : Walked) → IsWalked noted text nothing_noted new walked → TellsNotes text new.unread walked.calls walked.skipped
+TellsNoted = (text : Option (List ℕ)) (new : Noted) (walked : Walked) → IsWalked noted text nothing_noted new walked → TellsNotes text new.unread walked
+
+-- The line that a note tells of a call is the one where it begins.
+abbrev pub TellsLine : Type 0
+TellsLine = (text : Option (List ℕ)) (note : NoteParts) (number : ℕ) → TellsNotes text note.unread (walked_in note) → IfSome (line_in_note number note) (λ line. IsLineOf text number (Some line))

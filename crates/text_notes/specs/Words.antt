@@ -1,18 +1,18 @@
 -- What is said of the texts that were read.
-use Rattle.std.specs.Prelude.{◌-◌, ◌&&◌, ◌||◌, ◌==◌, ℕ, zero, suc, Bool, true, false, not, List, [], ◌∷◌, ◌++◌, length, codes, decimal, filter, take, nat_le, nat_lt, is_some, Option, Some, None, if◌then◌else◌}
+use Rattle.std.specs.Prelude.{◌+◌, ◌-◌, ◌&&◌, ◌||◌, ◌==◌, ℕ, zero, suc, Bool, true, false, not, List, [], ◌∷◌, ◌++◌, length, codes, decimal, filter, take, nat_le, nat_lt, is_some, Option, Some, None, if◌then◌else◌}
 use Rattle.std.specs.List.{flat_map, list_any}
 use Rattle.call_words.specs.Ranges.{named_ranks_text}
 use Rattle.text_notes.specs.Noted.{UnreadParts, counted, sum_of}
 use Rattle.text_notes.specs.Places.{first_where, place_of}
-use Rattle.text_notes.specs.declared.skips.Skips.{Skips}
+use Rattle.dumpi_calls.specs.declared.walking.Walked.{Walked}
 use Rattle.text_notes.specs.declared.start.Start.{Start}
 use Rattle.text_notes.specs.declared.start.Start.TheVariants.{Empty, Gzip, Utf16, Mark, Binary, Lines}
 use Rattle.text_notes.specs.declared.words.Kind.{Kind}
 use Rattle.text_notes.specs.declared.words.Kind.TheVariants.{Unread, Callless, Skipped}
 
 -- What was noted of the text of a piece: the piece's rank and first call, the name of its file and how a line shows it, how
--- many calls it has and how many lines were skipped, the functions of its calls that aren't read, and, where it was looked at
--- again, what a text without calls is taken for, and where the first line stands that was skipped.
+-- many calls it has and how many lines were skipped, the first of these, the line of its last call, where that has not returned,
+-- the functions of its calls that aren't read, and, where it was looked at again, what a text without calls is taken for.
 pub record NoteParts : Type 0 where
   pub rank : ℕ
   pub first : ℕ
@@ -20,9 +20,14 @@ pub record NoteParts : Type 0 where
   pub file : List ℕ
   pub calls : ℕ
   pub skipped : ℕ
+  pub first_skipped : Option ℕ
+  pub unfinished : Option ℕ
   pub unread : List UnreadParts
   pub start : Option Start
-  pub skips : Option Skips
+
+-- what a walk over the text told
+abbrev pub walked_in : NoteParts → Walked
+walked_in note = record { calls = note.calls; skipped = note.skipped; first_skipped = note.first_skipped; unfinished = note.unfinished }
 
 -- how many of a kind are shown
 abbrev pub most_shown : ℕ
@@ -151,22 +156,14 @@ start_text (Some start) = guess_text start
 abbrev pub callless_text : NoteParts → List ℕ
 callless_text note = codes "  " ++ note.file ++ start_text note.start
 
--- `, the first of them in lines 9 to 16`
-abbrev pub several_text : ℕ → ℕ → List ℕ
-several_text first last = codes ", the first of them in lines " ++ decimal first ++ codes " to " ++ decimal last
-
--- `, the first of them line 9`, where no other line stands between
-abbrev pub between_text : ℕ → ℕ → List ℕ
-between_text first last = if first == last then codes ", the first of them line " ++ decimal last else several_text first last
-
--- between which lines the first skipped one stands, where that is known
-abbrev pub skips_text : Option Skips → List ℕ
-skips_text None = []
-skips_text (Some skips) = between_text (sum_of skips.behind 1) skips.last
+-- `, the first of them line 9`
+abbrev pub first_skipped_text : Option ℕ → List ℕ
+first_skipped_text None = []
+first_skipped_text (Some line) = codes ", the first of them line " ++ decimal line
 
 -- the line of a text of which lines were skipped
 abbrev pub skipped_text : NoteParts → List ℕ
-skipped_text note = codes "  lines of " ++ note.file ++ codes " that were skipped: " ++ decimal note.skipped ++ skips_text note.skips ++ codes "\n"
+skipped_text note = codes "  lines of " ++ note.file ++ codes " that were skipped: " ++ decimal note.skipped ++ first_skipped_text note.first_skipped ++ codes "\n"
 
 -- whether there is something of a kind to say of a text
 abbrev pub has_unread : List UnreadParts → Bool
@@ -209,7 +206,11 @@ has_call rank call note = note.rank == rank && (nat_le note.first call && nat_lt
 abbrev pub note_of : ℕ → ℕ → List NoteParts → Option ℕ
 note_of rank call notes = first_where (has_call rank call) notes
 
--- a call of a rank in a file, and the line where it begins, where that was looked up
+-- the line where a call of this number of the text begins, where it is told: the last call's, unless it has returned
+abbrev pub line_in_note : ℕ → NoteParts → Option ℕ
+line_in_note number note = if number + 1 == note.calls then note.unfinished else None
+
+-- a call of a rank in a file, and the line where it begins, where that is told
 pub record PlaceParts : Type 0 where
   pub rank : ℕ
   pub call : ℕ

@@ -1,12 +1,10 @@
 //! What is noted of trace texts while they are read, for a person who doubts an answer.
 //!
 //! A walk into [`Noting`] keeps the events that one into `dumpi_calls::Collect` keeps, and notes beside them which
-//! functions aren't read. A text is opened once more where a line of it is asked for. Work is in proportion to the texts,
-//! memory to the functions that are noted.
+//! functions aren't read. Work is in proportion to the texts, memory to the functions that are noted.
 //!
-//! - [`function`]: a function whose calls aren't read; [`noting`]: the sink; [`note`]: what was noted of one text
-//! - [`line`]: at which line a call begins; [`skips`]: where the first skipped line stands; [`start`]: what a text without
-//!   calls is taken for
+//! - [`function`]: a function whose calls aren't read; [`noting`]: the sink; [`note`]: what was noted of one text;
+//!   [`start`]: what a text without calls is taken for
 //! - [`totals`]: the functions of all texts; [`pieceless`]: the ranks without a text; [`place`]: where a call stands
 //! - [`words`]: what is said of it
 //! - [`laws`]: that a walk into the sink collects what one without notes does
@@ -14,24 +12,20 @@
 
 mod function;
 mod laws;
-mod line;
 mod note;
 mod noting;
 mod pieceless;
 mod place;
-mod skips;
 mod start;
 mod totals;
 mod words;
 
 pub use function::UnreadFunction;
 pub use laws::noted_texts;
-pub use line::line_of_call;
 pub use note::{TextNote, note_of};
 pub use noting::Noting;
 pub use pieceless::put_pieceless;
 pub use place::CallPlace;
-pub use skips::{Skips, skips_of};
 pub use start::{LONGEST_FRONT, Start, start_of};
 pub use totals::MOST_SHOWN;
 pub use words::{put_notes, put_places};

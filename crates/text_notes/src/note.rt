@@ -1,11 +1,11 @@
 //! What was noted of one text.
 
 ghost use Rattle.std.specs.Prelude.{◌≡◌, ◌<◌, IfSome, length, string_bytes};
-ghost use Rattle.text_notes.specs.Words.{has_call, note_of};
+ghost use Rattle.text_notes.specs.Words.{has_call, line_in_note, note_of};
 
 use crate::function::UnreadFunction;
-use crate::skips::Skips;
 use crate::start::Start;
+use dumpi_calls::Walked;
 use std::marker::Model;
 
 /// What was noted of the text of a piece.
@@ -15,11 +15,9 @@ pub struct TextNote {
     first: u64,
     path: String,
     file: Vec<u8>,
-    calls: u64,
-    skipped: u64,
+    walked: Walked,
     unread: Vec<UnreadFunction>,
     start: Option<Start>,
-    skips: Option<Skips>,
 }
 
 impl Model for TextNote {
@@ -28,36 +26,32 @@ impl Model for TextNote {
 
     ghost Value = { NoteParts };
 
-    ghost view = { λ n. record { rank = n.rank; first = n.first; path = string_bytes n.path; file = n.file.items; calls = n.calls; skipped = n.skipped; unread = n.unread.items; start = n.start; skips = n.skips } };
+    ghost view = { λ n. record { rank = n.rank; first = n.first; path = string_bytes n.path; file = n.file.items; calls = n.walked.calls; skipped = n.walked.skipped; first_skipped = n.walked.first_skipped; unfinished = n.walked.unfinished; unread = n.unread.items; start = n.start } };
 }
 
 impl TextNote {
     /// The note of a text: the rank and the first call of its piece, the name of its file and how a line for a person shows
-    /// it, how many calls it has and how many of its lines were skipped, the functions of its calls that are not read, and,
-    /// where it was looked at again, what it is taken for and where the first line stands that was skipped.
+    /// it, what a walk over it told, the functions of its calls that are not read, and, where it was looked at again, what it
+    /// is taken for.
     pub fn new(
         piece: (u32, u64),
         path: String,
         file: Vec<u8>,
-        counts: (u64, u64),
+        walked: Walked,
         unread: Vec<UnreadFunction>,
-        looks: (Option<Start>, Option<Skips>),
+        start: Option<Start>,
     ) -> TextNote
-        ensures { result ≡ record { rank = piece.0; first = piece.1; path = string_bytes path; file = file.items; calls = counts.0; skipped = counts.1; unread = unread.items; start = looks.0; skips = looks.1 } }
+        ensures { result ≡ record { rank = piece.0; first = piece.1; path = string_bytes path; file = file.items; calls = walked.calls; skipped = walked.skipped; first_skipped = walked.first_skipped; unfinished = walked.unfinished; unread = unread.items; start = start } }
     {
         let (rank, first) = piece;
-        let (calls, skipped) = counts;
-        let (start, skips) = looks;
         TextNote {
             rank,
             first,
             path,
             file,
-            calls,
-            skipped,
+            walked,
             unread,
             start,
-            skips,
         }
     }
 
@@ -93,14 +87,21 @@ impl TextNote {
     pub fn calls(&self) -> u64
         ensures { result ≡ self.now.calls }
     {
-        self.calls
+        self.walked.calls
     }
 
     /// How many of its nonblank lines were skipped.
     pub fn skipped(&self) -> u64
         ensures { result ≡ self.now.skipped }
     {
-        self.skipped
+        self.walked.skipped
+    }
+
+    /// The first of these lines.
+    pub(crate) fn first_skipped(&self) -> Option<u64>
+        ensures { result ≡ self.now.first_skipped }
+    {
+        self.walked.first_skipped
     }
 
     /// The functions of its calls that are not read, in the order of their first such calls.
@@ -117,17 +118,21 @@ impl TextNote {
         self.start
     }
 
-    /// Where the first of its lines stands that was skipped, where that was looked at.
-    pub fn skips(&self) -> Option<Skips>
-        ensures { result ≡ self.now.skips }
+    /// The line where the call of a number begins, where the walk told it: that of the last call, unless it has returned.
+    pub fn line_of(&self, number: u64) -> Option<u64>
+        ensures { result ≡ line_in_note number self.now }
     {
-        self.skips
+        if number < self.walked.calls && self.walked.calls - number == 1 {
+            self.walked.unfinished
+        } else {
+            None
+        }
     }
 
     fn has_call(&self, rank: u32, call: u64) -> bool
         ensures { result ≡ has_call rank call self.now }
     {
-        self.rank == rank && self.first <= call && call - self.first < self.calls
+        self.rank == rank && self.first <= call && call - self.first < self.walked.calls
     }
 }
 

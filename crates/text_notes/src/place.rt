@@ -4,7 +4,7 @@ ghost use Rattle.std.specs.Prelude.{◌≡◌};
 
 use std::marker::Model;
 
-/// A call of a rank, and the file and, where it was looked up, the line where it begins.
+/// A call of a rank, and the file and, where it is told, the line where it begins.
 #[derive(Debug, Drop)]
 pub struct CallPlace {
     rank: u32,

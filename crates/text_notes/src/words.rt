@@ -3,12 +3,11 @@
 ghost use Rattle.std.specs.Prelude.{◌≡◌, IfOk, if◌then◌else◌, nat_lt, [], ◌∷◌};
 ghost use Rattle.std.specs.List.{flat_map};
 ghost use Rattle.call_words.specs.Texts.{Adds};
-ghost use Rattle.text_notes.specs.Words.{at_line_text, between_text, byte_text, callless_text, count_text, functions_text, guess_text, has_kind, has_unread, kind_text, line_text, more_text, most_shown, name_text, next_text, notes_text, others_text, place_text, places_text, several_text, skipped_text, skips_text, start_text, totals_of, totals_text, unread_text};
+ghost use Rattle.text_notes.specs.Words.{at_line_text, byte_text, callless_text, count_text, first_skipped_text, functions_text, guess_text, has_kind, has_unread, kind_text, line_text, more_text, most_shown, name_text, next_text, notes_text, others_text, place_text, places_text, skipped_text, start_text, totals_of, totals_text, unread_text};
 
 use crate::function::UnreadFunction;
 use crate::note::TextNote;
 use crate::place::CallPlace;
-use crate::skips::Skips;
 use crate::start::Start;
 use crate::totals::{MOST_SHOWN, Totals, totals_of};
 use call_words::Text;
@@ -155,31 +154,12 @@ fn put_callless(out: &mut Text, note: &TextNote)
     out.put(start_of(note.start()));
 }
 
-fn put_several(out: &mut Text, first: u64, last: u64)
-    ensures { Adds out.old out.new (several_text first last) }
+fn put_first_skipped(out: &mut Text, line: Option<u64>)
+    ensures { Adds out.old out.new (first_skipped_text line) }
 {
-    out.put(b", the first of them in lines ");
-    out.put_number(first);
-    out.put(b" to ");
-    out.put_number(last);
-}
-
-fn put_between(out: &mut Text, first: u64, last: u64)
-    ensures { Adds out.old out.new (between_text first last) }
-{
-    if first == last {
+    if let Some(line) = line {
         out.put(b", the first of them line ");
-        out.put_number(last);
-    } else {
-        put_several(out, first, last);
-    }
-}
-
-fn put_skips(out: &mut Text, skips: Option<Skips>)
-    ensures { Adds out.old out.new (skips_text skips) }
-{
-    if let Some(skips) = skips {
-        put_between(out, skips.behind.saturating_add(1), skips.last);
+        out.put_number(line);
     }
 }
 
@@ -190,7 +170,7 @@ fn put_skipped(out: &mut Text, note: &TextNote)
     out.put(note.file());
     out.put(b" that were skipped: ");
     out.put_number(note.skipped());
-    put_skips(out, note.skips());
+    put_first_skipped(out, note.first_skipped());
     out.put(b"\n");
 }
 

@@ -12,10 +12,9 @@ use Rattle.command_runs.specs.Notes.{ArePlacesOf}
 use Rattle.command_runs.proofs.Notes.{stopped_count}
 use Rattle.command_runs.proofs.explain.explained.Goals as goal
 
-pub returns-clause-ok : goal.returns-clause-ok
-returns-clause-ok g c =
+pub returns : goal.returns
+returns g c = λ file notes_true.
     let h = g.N.Answerer.held c.args.node in
-    let file = g.O.Opener.file c.args.files.now in
     let answer = c.in-Ok.answer.now in
     let text = c.in_ok-said.said.items in
     let other : c.args.other.now ≡ under_other h.layout = c.requires.other in
@@ -24,11 +23,11 @@ returns-clause-ok g c =
     (subst (λ (l : Parts). IsExplained l c.args.other.now answer h.know text) c.requires.own
     (subst (λ (v : View). IsExplained c.args.layout.now c.args.other.now answer v text) c.knowledge.ensures c.in_ok-said.ensures)) in
     let notes = c.args.notes.now in
-    let places = c.in-Ok-places_of.places.items in
+    let places = c.in_ok-places.places.items in
     let first : map stopped c.shown_first.result.now ≡ take most_shown answer.stuck =
     ap (λ (l : List Stuck). map stopped l) c.shown_first.ensures ∙ sym (take-map stopped most_shown c.stuck.result.now) ∙ ap (λ (l : List Stopped). take most_shown l) c.stuck.ensures in
     let stand : ArePlacesOf file notes (take most_shown answer.stuck) places =
-    subst (λ (l : List Stopped). ArePlacesOf file notes l places) first c.in-Ok-places_of.ensures.ok in
+    subst (λ (l : List Stopped). ArePlacesOf file notes l places) first (c.in_ok-places.ensures file notes_true) in
     let count : length c.stuck-2.result.now ≡ length answer.stuck = stopped_count c.stuck-2.result.now answer.stuck c.stuck-2.ensures in
     let more : c.saturating_sub-more.result ≡ length answer.stuck - length places = omega (arith, count, c.saturating_sub-more.ensures, c.len.ensures) in
     let unknown = unknown_in answer in

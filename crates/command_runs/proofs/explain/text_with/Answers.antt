@@ -1,8 +1,11 @@
-use Rattle.std.proofs.Common.{◌≡◌, ◌∙◌, ℕ, List, Option, subst}
+use Rattle.std.proofs.Common.{List, subst}
+use Rattle.std.specs.List.{All}
 use Rattle.text_notes.specs.Words.{NoteParts}
 use Rattle.command_runs.specs.Explains.{IsNotedNodeOf, IsTold}
+use Rattle.command_runs.specs.Notes.{IsTrueOf}
 use Rattle.command_runs.specs.Refusals.{RefusesNode}
 use Rattle.command_runs.proofs.Explaining.{told_of_run}
+use Rattle.command_runs.proofs.Notes.{notes_true}
 use Rattle.command_runs.proofs.Refusals.{node_refused}
 use Rattle.command_runs.proofs.explain.text_with.Goals as goal
 
@@ -20,8 +23,6 @@ returns-in-Ok-explained-clause-ok g c =
     let node = c.in-Ok-noted_node_with.noted.0 in
     let notes = c.in-Ok-noted_node_with.noted.1.items in
     let text = c.in-Ok-explained.text.items in
-    let same : g.O.Opener.file c.noted_node_with.new.files ≡ file = c.noted_node_with.ensures.same ∙ c.layout_at.ensures.same in
     let told : IsTold file node.layout node.know notes text =
-    subst (λ (f : List ℕ → Option (List ℕ)). IsTold f node.layout node.know notes text) same
-    (subst (λ (ns : List NoteParts). IsTold (g.O.Opener.file c.noted_node_with.new.files) node.layout node.know ns text) c.deref.ensures.value c.in-Ok-explained.ensures.ok) in
+    subst (λ (ns : List NoteParts). All (IsTrueOf file) ns → IsTold file node.layout node.know ns text) c.deref.ensures.value (c.in-Ok-explained.ensures file) (notes_true file of.0.pieces notes of.4) in
     told_of_run file c.args.layout_name.now c.args.manifest_name.now c.in-Ok.layout node notes text c.in-Ok.ensures.ok of told
