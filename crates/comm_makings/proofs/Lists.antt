@@ -1,5 +1,5 @@
 -- Elements of lists, by their places.
-use Rattle.std.proofs.Common.{◌≡◌, ◌⊎◌, ℕ, zero, suc, ◌++◌, List, [], ◌∷◌, Some, All, length, get_or, take, drop, set, ap, inl, inr, refl, subst}
+use Rattle.std.proofs.Common.{◌≡◌, ◌⊎◌, ℕ, zero, suc, ◌++◌, List, [], ◌∷◌, Some, All, length, get_or, take, drop, set, ap, sym, inl, inr, refl, subst}
 use Rattle.std.specs.List.{slice_get}
 use Rattle.std.proofs.lemmas.Option.{get_or_from_slice_get, slice_get-get_or, slice_get_within}
 
@@ -52,3 +52,8 @@ pub get_join : {X : Type 0} (xs ys : List X) (k : ℕ) (y : X) → slice_get (xs
 get_join [] ys k y e = inr (k, e)
 get_join (x ∷ xs) ys zero y e = inl e
 get_join (x ∷ xs) ys (suc k) y e = get_join xs ys k y e
+
+-- what holds of each of a list and of one more
+pub each_more : {X : Type 0} (P : X → Type 0) (xs : List X) (x : X) → ((at : ℕ) (y : X) → slice_get xs at ≡ Some y → P y) → P x
+    → (at : ℕ) (y : X) → slice_get (xs ++ x ∷ []) at ≡ Some y → P y
+each_more P xs x each here at y e = elim (get_more xs x at y e) [ inl before ↦ each at y before | inr is ↦ subst P (sym is.1) here ]

@@ -2,7 +2,7 @@
 use Rattle.std.specs.Prelude.{◌≡◌, ℕ, List, ◌∷◌, Option, Some, length}
 use Rattle.std.specs.List.{slice_get}
 use Rattle.mpi_model.specs.Communicators.{Communicator}
-use Rattle.comm_makings.specs.Derives.{Derives, ranks_in}
+use Rattle.comm_makings.specs.Derives.{Derives, communicator, ranks_in}
 use Rattle.comm_makings.specs.Views.{AreViews}
 use Rattle.comm_makings.specs.Written.{IsNamedIn, IsWorld}
 use Rattle.comm_makings.specs.declared.calls.RankCalls.{RankCalls}
@@ -14,7 +14,7 @@ use Rattle.comm_makings.specs.declared.view.RankView.{RankView}
 pub record IsDerivedIn (ranks : List RankCalls) (views : List RankView) (uses : List HandleUses) (comm : Communicator) : Type 0 where
   pub members : List Member
   pub dims : Option (List ℕ)
-  pub derives : Derives ranks views members dims
+  pub derives : Derives ranks views (communicator members dims)
   pub same : comm.members ≡ ranks_in members
   pub named : IsNamedIn views uses members comm
 
@@ -29,8 +29,9 @@ pub record AreDerivedIn (world : ℕ) (ranks : List RankCalls) (views : List Ran
 -- Nothing is written that isn't derived from what the ranks called.
 --
 -- `Derives` asks for less than a communicator needs, in these points:
--- * Of what MPI_Comm_create and MPI_Comm_create_group make it says only that the members are some of the parent's.
 -- * A making counts where its own calls agree, whether or not the parent's makings before it do.
+-- * The groups that the calls of one MPI_Comm_create name need not be equal or disjoint.
+-- * One MPI_Comm_create_group may be made of any calls of the members with its group and tag, not of the k-th of each.
 -- * A communicator that may be ordered anew can come without dimensions or nodes though all calls, or some, tell them.
 -- * `uses` is not pinned: which numbers name only one handle, and whether a call of the profile names it.
 -- Nor does this say that each communicator that derives, and that a call names, is written.

@@ -1,15 +1,34 @@
--- The communicators that the calls of all ranks make, from the world on (MPI 4.0, chapters 7 and 8).
-use Rattle.std.specs.Prelude.{◌≡◌, ℕ, List, [], ◌∷◌, Option, Some, None, length, map}
-use Rattle.std.specs.List.{filter_map, range_with_len, slice_get}
-use Rattle.comm_makings.specs.Here.{gives_later, kth_at}
+-- The communicators and groups that the calls of all ranks make, from the world on (MPI 4.0, chapters 7 and 8).
+use Rattle.std.specs.Prelude.{◌≡◌, ℕ, ℤ, List, [], ◌∷◌, Option, Some, None, length, map, true, false}
+use Rattle.std.specs.List.{filter_map, list_any, range_with_len, slice_get}
+use Rattle.std.specs.Option.{option_and_then, option_map}
+use Rattle.comm_groups.specs.Groups.{has}
+use Rattle.comm_makings.specs.Groups.{made_of_one, made_of_two}
+use Rattle.comm_makings.specs.Here.{call_at, gives_later, gives_unknown, here_at, kth_at, making_at, meant_at}
 use Rattle.comm_makings.specs.Made.{member_at}
-use Rattle.comm_makings.specs.Makes.{AreGiven, IsMadeBy, IsOneMaking}
+use Rattle.comm_makings.specs.Makes.{AreGiven, IsMadeBy, IsOneMaking, said_by}
 use Rattle.comm_makings.specs.Selection.{Selection}
 use Rattle.comm_makings.specs.declared.answer.MadeBy.{MadeBy}
+use Rattle.comm_makings.specs.declared.answer.MadeBy.TheVariants as functions
+use Rattle.comm_makings.specs.declared.calls.Action.{Action}
+use Rattle.comm_makings.specs.declared.calls.Action.TheVariants as actions
+use Rattle.comm_makings.specs.declared.calls.CommCall.{CommCall}
+use Rattle.comm_makings.specs.declared.calls.GroupCall.{GroupCall}
+use Rattle.comm_makings.specs.declared.calls.GroupCall.TheVariants as calls
+use Rattle.comm_makings.specs.declared.calls.Making.{Making}
+use Rattle.comm_makings.specs.declared.calls.Making.TheVariants as makings
 use Rattle.comm_makings.specs.declared.calls.RankCalls.{RankCalls}
+use Rattle.comm_makings.specs.declared.handle.GroupAt.{GroupAt}
+use Rattle.comm_makings.specs.declared.handle.GroupAt.TheVariants as groups
+use Rattle.comm_makings.specs.declared.handle.Meant.{Meant}
 use Rattle.comm_makings.specs.declared.here.Here.{Here}
 use Rattle.comm_makings.specs.declared.state.Member.{Member}
 use Rattle.comm_makings.specs.declared.view.RankView.{RankView}
+
+-- a communicator, by its members in order and its dimensions, or a group that a call of a rank names, by its ranks
+pub data Thing : Type 0 where
+  communicator : List Member → Option (List ℕ) → Thing
+  ranks_of : ℕ → GroupAt → List ℕ → Thing
 
 abbrev pub member_with : ℕ → ℕ → Member
 member_with handle rank = record { rank = rank; handle = Some handle }
@@ -29,6 +48,38 @@ kth_calls ranks views k members = map (kth_at ranks views k) members
 abbrev pub members_at : List Member → List (Option Here) → List ℕ → List Member
 members_at members all places = filter_map (member_at members all) places
 
+-- At these places of a list of ranks stand those of a group, in its order.
+abbrev pub ArePlaces : List ℕ → List ℕ → List ℕ → Type 0
+ArePlaces ranks places group = map (slice_get ranks) places ≡ map Some group
+
+-- the group call of a rank at a place of its list
+abbrev pub group_call : Action → Option GroupCall
+group_call (actions.Group group given) = Some group
+group_call _ = None
+
+abbrev pub group_call_at : List RankCalls → ℕ → ℕ → Option GroupCall
+group_call_at ranks rank at = option_and_then (λ call. group_call call.action) (call_at ranks rank at)
+
+abbrev pub comm_meant : List RankView → ℕ → ℕ → Option ℕ
+comm_meant views rank at = option_and_then (λ m. m.comm) (meant_at views rank at)
+
+abbrev pub first_meant : List RankView → ℕ → ℕ → Option GroupAt
+first_meant views rank at = option_map (λ m. m.group) (meant_at views rank at)
+
+abbrev pub second_meant : List RankView → ℕ → ℕ → Option GroupAt
+second_meant views rank at = option_map (λ m. m.second) (meant_at views rank at)
+
+abbrev pub is_of_comm : GroupCall → Type 0
+is_of_comm (calls.OfComm comm) = Unit {0}
+is_of_comm _ = ⊥
+
+abbrev pub by_group_at : List RankView → ℕ → ℕ → ℕ → Option ℕ
+by_group_at views rank handle k = option_and_then (λ v. option_and_then (λ calls. slice_get calls.items k) (slice_get v.by_group.items handle)) (slice_get views rank)
+
+abbrev pub tag_in : Making → Option ℤ
+tag_in (makings.CreateGroup group tag) = tag
+tag_in _ = None
+
 -- One making of all members of a parent, with what its k-th calls make.
 pub record IsMaking (ranks : List RankCalls) (views : List RankView) (dims : Option (List ℕ)) (all : List (Option Here)) (parts : List Selection) : Type 0 where
   pub function : MadeBy
@@ -36,17 +87,74 @@ pub record IsMaking (ranks : List RankCalls) (views : List RankView) (dims : Opt
   pub made : IsMadeBy ranks views dims all function parts
   pub given : AreGiven (gives_later function) all parts
 
--- A communicator derives: its members in order, and its dimensions where it is a grid and they are known.
-pub data Derives (ranks : List RankCalls) (views : List RankView) : List Member → Option (List ℕ) → Type 0 where
+-- A communicator of a MPI_Comm_create: a group that the calls offer, in its order, where one of its own offers it.
+pub record IsOfOffered (members : List Member) (all : List (Option Here)) (offered : ℕ → List ℕ) (part : Selection) : Type 0 where
+  pub place : ℕ
+  pub here : Here
+  pub called : slice_get all place ≡ Some (Some here)
+  pub within : has (offered place) here.rank ≡ true
+  pub places : ArePlaces (ranks_in members) part.places (offered place)
+  pub dims : part.dims ≡ None
+
+-- One MPI_Comm_create of all members of a parent, with what is made of the groups that its calls offer.
+pub record IsCreation (members : List Member) (all : List (Option Here)) (offered : ℕ → List ℕ) (parts : List Selection) : Type 0 where
+  pub one : IsOneMaking functions.Create all
+  pub made : (at : ℕ) (part : Selection) → slice_get parts at ≡ Some part → IsOfOffered members all offered part
+  pub given : AreGiven false all parts
+
+-- a call of MPI_Comm_create_group of the member at this place of the parent, on the parent and with this tag
+pub record IsGroupCall (ranks : List RankCalls) (views : List RankView) (members : List Member) (tag : ℤ) (place : ℕ) (here : Here) : Type 0 where
+  pub member : Member
+  pub is_member : slice_get members place ≡ Some member
+  pub handle : ℕ
+  pub named : member.handle ≡ Some handle
+  pub k : ℕ
+  pub at : ℕ
+  pub among : by_group_at views member.rank handle k ≡ Some at
+  pub called : here_at ranks views member.rank at ≡ Some here
+  pub tagged : said_by tag_in (making_at ranks member.rank at) ≡ Some tag
+
+-- One MPI_Comm_create_group: calls of members of one group, which lies in the parent, with one tag.
+pub record IsGroupMaking (ranks : List RankCalls) (views : List RankView) (members : List Member) (group : List ℕ) (tag : ℤ) (places : List ℕ) (all : List (Option Here)) : Type 0 where
+  pub within : ArePlaces (ranks_in members) places group
+  pub calls : (place : ℕ) (here : Here) → slice_get all place ≡ Some (Some here) → IsGroupCall ranks views members tag place here
+  pub readable : list_any gives_unknown all ≡ false
+  pub given : AreGiven false all (record { places = places; dims = None } ∷ [])
+
+pub data Derives (ranks : List RankCalls) (views : List RankView) : Thing → Type 0 where
   -- the world, and MPI_COMM_SELF of a rank that tells its number
-  world : Derives ranks views (world_members (length ranks)) None
+  world : Derives ranks views (communicator (world_members (length ranks)) None)
   own : (rank : ℕ) (calls : RankCalls) (number : ℕ) → slice_get ranks rank ≡ Some calls → calls.own ≡ Some number
-      → Derives ranks views (member_with 1 rank ∷ []) None
-  -- one of those that the k-th calls of all members of a parent make
+      → Derives ranks views (communicator (member_with 1 rank ∷ []) None)
+  -- the k-th calls of all members of a parent
   made : (members : List Member) (dims : Option (List ℕ)) (k : ℕ) (parts : List Selection) (at : ℕ) (part : Selection)
-      → Derives ranks views members dims → IsMaking ranks views dims (kth_calls ranks views k members) parts
-      → slice_get parts at ≡ Some part
-      → Derives ranks views (members_at members (kth_calls ranks views k members) part.places) part.dims
-  -- what calls of MPI_Comm_create_group make: some members of a parent
-  by_group : (members : List Member) (dims : Option (List ℕ)) (places : List ℕ) (all : List (Option Here))
-      → Derives ranks views members dims → Derives ranks views (members_at members all places) None
+      → Derives ranks views (communicator members dims)
+      → IsMaking ranks views dims (kth_calls ranks views k members) parts → slice_get parts at ≡ Some part
+      → Derives ranks views (communicator (members_at members (kth_calls ranks views k members) part.places) part.dims)
+  -- the same of MPI_Comm_create, with the group that each call names
+  created : (members : List Member) (dims : Option (List ℕ)) (k : ℕ) (offered : ℕ → List ℕ) (parts : List Selection) (at : ℕ) (part : Selection)
+      → Derives ranks views (communicator members dims)
+      → ((place : ℕ) (here : Here) → slice_get (kth_calls ranks views k members) place ≡ Some (Some here) → Derives ranks views (ranks_of here.rank here.group (offered place)))
+      → IsCreation members (kth_calls ranks views k members) offered parts → slice_get parts at ≡ Some part
+      → Derives ranks views (communicator (members_at members (kth_calls ranks views k members) part.places) part.dims)
+  -- the calls of MPI_Comm_create_group that name one group
+  by_group : (members : List Member) (dims : Option (List ℕ)) (group : List ℕ) (tag : ℤ) (places : List ℕ) (all : List (Option Here))
+      → Derives ranks views (communicator members dims)
+      → ((place : ℕ) (here : Here) → slice_get all place ≡ Some (Some here) → Derives ranks views (ranks_of here.rank here.group group))
+      → IsGroupMaking ranks views members group tag places all
+      → Derives ranks views (communicator (members_at members all places) None)
+  -- the group of a communicator
+  of_comm : (members : List Member) (dims : Option (List ℕ)) (rank at handle : ℕ) (call : GroupCall)
+      → Derives ranks views (communicator members dims) → (place : ℕ) → slice_get members place ≡ Some (member_with handle rank)
+      → group_call_at ranks rank at ≡ Some call → is_of_comm call → comm_meant views rank at ≡ Some handle
+      → Derives ranks views (ranks_of rank (groups.Given at) (ranks_in members))
+  empty : (rank : ℕ) → Derives ranks views (ranks_of rank groups.Empty [])
+  -- a group that is made of one or two others
+  of_one : (rank at : ℕ) (call : GroupCall) (group : GroupAt) (others made : List ℕ)
+      → group_call_at ranks rank at ≡ Some call → first_meant views rank at ≡ Some group
+      → Derives ranks views (ranks_of rank group others) → made_of_one call others ≡ Some made
+      → Derives ranks views (ranks_of rank (groups.Given at) made)
+  of_two : (rank at : ℕ) (call : GroupCall) (first second : GroupAt) (ones others made : List ℕ)
+      → group_call_at ranks rank at ≡ Some call → first_meant views rank at ≡ Some first → second_meant views rank at ≡ Some second
+      → Derives ranks views (ranks_of rank first ones) → Derives ranks views (ranks_of rank second others) → made_of_two call ones others ≡ Some made
+      → Derives ranks views (ranks_of rank (groups.Given at) made)

@@ -1,10 +1,13 @@
 -- The groups that a rank's calls give (MPI 4.0, 7.3.2), as far as the communicators are derived.
-use Rattle.std.specs.Prelude.{◌≡◌, ℕ, Bool, true, false, List, [], Option, Some, None, cond}
+use Rattle.std.specs.Prelude.{◌≡◌, ◌+◌, ◌-◌, ◌%◌, ◌==◌, ℕ, ℤ, suc, pos, negsuc, nat_abs, nat_le, Bool, true, false, List, [], ◌∷◌, Option, Some, None, cond}
 use Rattle.std.specs.List.{slice_get}
 use Rattle.std.specs.Option.{option_and_then, option_map}
 use Rattle.comm_groups.specs.Groups.{difference_of, excl_of, incl_of, intersection_of, union_of}
+use Rattle.comm_groups.specs.Ranges.{range_excl_of, range_incl_of}
+use Rattle.comm_groups.specs.declared.range.RankRange.{RankRange as Ranks}
 use Rattle.comm_makings.specs.declared.calls.GroupCall.{GroupCall}
 use Rattle.comm_makings.specs.declared.calls.GroupCall.TheVariants as calls
+use Rattle.comm_makings.specs.declared.calls.RankRange.{RankRange}
 use Rattle.comm_makings.specs.declared.group_value.GroupValue.{GroupValue}
 use Rattle.comm_makings.specs.declared.group_value.GroupValue.TheVariants as values
 use Rattle.comm_makings.specs.declared.handle.GroupAt.{GroupAt}
@@ -56,10 +59,45 @@ IsListed None value = value ≡ values.Unknown
 IsListed (Some ranks) (values.Listed list) = list.items ≡ ranks
 IsListed (Some ranks) _ = ⊥
 
--- a group that is made of one other, by a list of ranks
+-- A rank that isn't below 0.
+abbrev pub rank_in : ℤ → Option ℕ
+rank_in (pos rank) = Some rank
+rank_in (negsuc n) = None
+
+-- The last rank of a range that falls from the first to one so far below 0; none where that is below 0.
+abbrev pub last_from : ℕ → ℕ → ℕ → Option ℕ
+last_from first below stride =
+    cond (stride == 0) None (cond (nat_le ((first + below) - (first + below) % stride) first) (Some (first - ((first + below) - (first + below) % stride))) None)
+
+abbrev pub is_below_zero : ℤ → Bool
+is_below_zero (pos n) = false
+is_below_zero (negsuc n) = true
+
+abbrev pub last_of : ℕ → ℤ → ℕ → Bool → Option ℕ
+last_of first (pos last) stride falls = Some last
+last_of first (negsuc n) stride falls = cond falls (last_from first (suc n) stride) None
+
+abbrev pub with_last : ℕ → ℤ → ℕ → Ranks
+with_last first stride last = record { first = first; last = last; stride = nat_abs stride; falls = is_below_zero stride }
+
+abbrev pub with_first : RankRange → ℕ → Option Ranks
+with_first range first = option_map (with_last first range.stride) (last_of first range.last (nat_abs range.stride) (is_below_zero range.stride))
+
+-- the range by ranks that aren't below 0
+abbrev pub range_of : RankRange → Option Ranks
+range_of range = option_and_then (with_first range) (rank_in range.first)
+
+-- the ranges, where all are
+abbrev pub ranges_of : List RankRange → Option (List Ranks)
+ranges_of [] = Some []
+ranges_of (range ∷ ranges) = option_and_then (λ r. option_map (λ rs. r ∷ rs) (ranges_of ranges)) (range_of range)
+
+-- a group that is made of one other
 abbrev pub made_of_one : GroupCall → List ℕ → Option (List ℕ)
 made_of_one (calls.Incl group ranks) members = option_and_then (λ r. incl_of members r.items) ranks
 made_of_one (calls.Excl group ranks) members = option_and_then (λ r. excl_of members r.items) ranks
+made_of_one (calls.RangeIncl group ranges) members = option_and_then (λ r. option_and_then (range_incl_of members) (ranges_of r.items)) ranges
+made_of_one (calls.RangeExcl group ranges) members = option_and_then (λ r. option_and_then (range_excl_of members) (ranges_of r.items)) ranges
 made_of_one _ members = None
 
 -- a group that is made of two others
@@ -77,3 +115,19 @@ abbrev pub IsMadeOfTwo : GroupCall → Option (List ℕ) → Option (List ℕ) �
 IsMadeOfTwo call None second waits value = value ≡ unlisted waits
 IsMadeOfTwo call (Some first) None waits value = value ≡ unlisted waits
 IsMadeOfTwo call (Some first) (Some second) waits value = IsListed (made_of_two call first second) value
+
+abbrev pub IsMadeOfOne : GroupCall → Option (List ℕ) → Bool → GroupValue → Type 0
+IsMadeOfOne call None waits value = value ≡ unlisted waits
+IsMadeOfOne call (Some members) waits value = IsListed (made_of_one call members) value
+
+-- The group that a call gives: of a communicator, by how its handle stands, or of one or two groups, where they are known.
+abbrev pub IsValueOf : GroupCall → Option Standing → Option (List ℕ) → Option (List ℕ) → GroupValue → Type 0
+IsValueOf (calls.OfComm comm) standing first second value = value ≡ group_of_comm standing
+IsValueOf calls.Unread standing first second value = value ≡ values.Unknown
+IsValueOf (calls.Union a b) standing first second value = (waits : Bool) × IsMadeOfTwo (calls.Union a b) first second waits value
+IsValueOf (calls.Intersection a b) standing first second value = (waits : Bool) × IsMadeOfTwo (calls.Intersection a b) first second waits value
+IsValueOf (calls.Difference a b) standing first second value = (waits : Bool) × IsMadeOfTwo (calls.Difference a b) first second waits value
+IsValueOf (calls.Incl group ranks) standing first second value = (waits : Bool) × IsMadeOfOne (calls.Incl group ranks) first waits value
+IsValueOf (calls.Excl group ranks) standing first second value = (waits : Bool) × IsMadeOfOne (calls.Excl group ranks) first waits value
+IsValueOf (calls.RangeIncl group ranges) standing first second value = (waits : Bool) × IsMadeOfOne (calls.RangeIncl group ranges) first waits value
+IsValueOf (calls.RangeExcl group ranges) standing first second value = (waits : Bool) × IsMadeOfOne (calls.RangeExcl group ranges) first waits value

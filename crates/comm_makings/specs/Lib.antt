@@ -12,5 +12,7 @@ pub mod Naming
 pub mod Views
 pub mod Makes
 pub mod Derives
+pub mod Offers
 pub mod State
+pub mod ByGroups
 pub mod Derived

@@ -1,5 +1,5 @@
 -- What the calls of a communicator's members make together (MPI 4.0, chapters 7 and 8).
-use Rattle.std.specs.Prelude.{◌≡◌, ◌≤◌, ◌⊎◌, ◌||◌, ℕ, ℤ, pos, Bool, true, false, not, List, Option, Some, None, All, length, map, is_some}
+use Rattle.std.specs.Prelude.{◌≡◌, ◌≤◌, ◌⊎◌, ◌||◌, ℕ, ℤ, pos, Bool, true, false, not, List, [], ◌∷◌, Option, Some, None, All, length, map, is_some}
 use Rattle.std.specs.List.{filter_map, list_all, list_any, range_with_len, slice_get}
 use Rattle.std.specs.Option.{option_map}
 use Rattle.comm_groups.specs.Grids.{AreParts, kept, size_within}
@@ -126,7 +126,7 @@ pub record IsPartOfGrid (ranks : List RankCalls) (dims : Option (List ℕ)) (all
   pub agree : AreParts sizes remain groups
   pub made : parts ≡ map (part_with (Some (kept remain sizes))) groups
 
--- What a function makes of a parent of these dimensions. Of MPI_Comm_create this says nothing, since it takes groups.
+-- What a function makes of a parent of these dimensions. MPI_Comm_create is another matter, since it takes groups.
 abbrev pub IsMadeBy : List RankCalls → List RankView → Option (List ℕ) → List (Option Here) → MadeBy → List Selection → Type 0
 IsMadeBy ranks views dims all functions.Dup parts = parts ≡ one_of (range_with_len 0 (length all)) dims
 IsMadeBy ranks views dims all functions.DupWithInfo parts = parts ≡ one_of (range_with_len 0 (length all)) dims
@@ -138,7 +138,7 @@ IsMadeBy ranks views dims all functions.CartSub parts = IsPartOfGrid ranks dims 
 IsMadeBy ranks views dims all functions.GraphCreate parts = IsKnownGraph ranks views all parts ⊎ IsUnknownGrid ranks views all parts
 IsMadeBy ranks views dims all functions.DistGraphCreate parts = IsDistGraphMade ranks views all parts
 IsMadeBy ranks views dims all functions.DistGraphCreateAdjacent parts = IsDistGraphMade ranks views all parts
-IsMadeBy ranks views dims all functions.Create parts = Unit {0}
+IsMadeBy ranks views dims all functions.Create parts = ⊥
 IsMadeBy ranks views dims all functions.CreateGroup parts = ⊥
 IsMadeBy ranks views dims all functions.Other parts = ⊥
 

@@ -1,10 +1,15 @@
--- What is derived so far.
-use Rattle.std.specs.Prelude.{◌≡◌, ℕ, List, Option, Some, None}
+-- What is derived so far is right: each communicator and each group is one that derives, and a handle that stands for a
+-- derived communicator is that of one of its members.
+use Rattle.std.specs.Prelude.{◌≡◌, ◌⊎◌, ℕ, List, Option, Some, None, Vec}
 use Rattle.std.specs.List.{slice_get}
-use Rattle.std.specs.Option.{option_map}
-use Rattle.comm_makings.specs.Derives.{Derives, members_at, ranks_in}
+use Rattle.std.specs.Option.{option_and_then, option_map}
+use Rattle.std.specs.declared.alloc.Global.{Global}
+use Rattle.comm_makings.specs.Derives.{Derives, communicator, ranks_of, member_with, members_at, ranks_in}
 use Rattle.comm_makings.specs.Selection.{Selection}
 use Rattle.comm_makings.specs.declared.calls.RankCalls.{RankCalls}
+use Rattle.comm_makings.specs.declared.group_value.GroupValue.{GroupValue}
+use Rattle.comm_makings.specs.declared.group_value.GroupValue.TheVariants as values
+use Rattle.comm_makings.specs.declared.handle.GroupAt.TheVariants as groups
 use Rattle.comm_makings.specs.declared.here.Here.{Here}
 use Rattle.comm_makings.specs.declared.parts.Outcome.{Outcome}
 use Rattle.comm_makings.specs.declared.parts.Outcome.TheVariants as outcomes
@@ -12,6 +17,8 @@ use Rattle.comm_makings.specs.declared.run.Gained.{Gained}
 use Rattle.comm_makings.specs.declared.run.Gained.TheVariants as gains
 use Rattle.comm_makings.specs.declared.state.Made.{Made}
 use Rattle.comm_makings.specs.declared.state.Member.{Member}
+use Rattle.comm_makings.specs.declared.state.Standing.{Standing}
+use Rattle.comm_makings.specs.declared.state.Standing.TheVariants as standings
 use Rattle.comm_makings.specs.declared.view.RankView.{RankView}
 
 abbrev pub dims_of : Made → Option (List ℕ)
@@ -19,11 +26,88 @@ dims_of comm = option_map (λ v. v.items) comm.dims
 
 -- a communicator that derives, with its ranks beside its members
 pub record IsDerivedComm (ranks : List RankCalls) (views : List RankView) (comm : Made) : Type 0 where
-  pub derives : Derives ranks views comm.members.items (dims_of comm)
+  pub derives : Derives ranks views (communicator comm.members.items (dims_of comm))
   pub same_ranks : comm.ranks.items ≡ ranks_in comm.members.items
 
 pub record AreDerived (ranks : List RankCalls) (views : List RankView) (comms : List Made) : Type 0 where
   pub each : (at : ℕ) (comm : Made) → slice_get comms at ≡ Some comm → IsDerivedComm ranks views comm
+
+-- how a handle of a rank stands
+abbrev pub standing_at : List (Vec Standing Global) → ℕ → ℕ → Option Standing
+standing_at rows rank handle = option_and_then (λ row. slice_get row.items handle) (slice_get rows rank)
+
+abbrev pub StandsFor : List (Vec Standing Global) → ℕ → ℕ → ℕ → Type 0
+StandsFor rows rank handle place = standing_at rows rank handle ≡ Some (standings.Derived place)
+
+-- The rank is a member, by this handle.
+abbrev pub IsMember : List Member → ℕ → ℕ → Type 0
+IsMember members rank handle = (place : ℕ) × (slice_get members place ≡ Some (member_with handle rank))
+
+pub record IsMemberOf (comms : List Made) (place rank handle : ℕ) : Type 0 where
+  pub comm : Made
+  pub here : slice_get comms place ≡ Some comm
+  pub member : IsMember comm.members.items rank handle
+
+-- A handle stands for a communicator only where it is that of a member.
+pub record AreMembersIn (comms : List Made) (rank : ℕ) (row : List Standing) : Type 0 where
+  pub each : (handle place : ℕ) → slice_get row handle ≡ Some (standings.Derived place) → IsMemberOf comms place rank handle
+
+pub record AreMembers (comms : List Made) (rows : List (Vec Standing Global)) : Type 0 where
+  pub each : (rank handle place : ℕ) → StandsFor rows rank handle place → IsMemberOf comms place rank handle
+
+-- the group that a call of a rank gives
+abbrev pub IsDerivedGroup : List RankCalls → List RankView → List Made → ℕ → ℕ → GroupValue → Type 0
+IsDerivedGroup ranks views comms rank at values.Waits = Unit {0}
+IsDerivedGroup ranks views comms rank at values.Unknown = Unit {0}
+IsDerivedGroup ranks views comms rank at (values.Whole place) = (comm : Made) × (slice_get comms place ≡ Some comm) × Derives ranks views (ranks_of rank (groups.Given at) comm.ranks.items)
+IsDerivedGroup ranks views comms rank at (values.Listed list) = Derives ranks views (ranks_of rank (groups.Given at) list.items)
+
+pub record AreDerivedGroups (ranks : List RankCalls) (views : List RankView) (comms : List Made) (rank : ℕ) (row : List GroupValue) : Type 0 where
+  pub each : (at : ℕ) (value : GroupValue) → slice_get row at ≡ Some value → IsDerivedGroup ranks views comms rank at value
+
+pub record AreAllDerivedGroups (ranks : List RankCalls) (views : List RankView) (comms : List Made) (rows : List (Vec GroupValue Global)) : Type 0 where
+  pub each : (rank : ℕ) (row : Vec GroupValue Global) → slice_get rows rank ≡ Some row → AreDerivedGroups ranks views comms rank row.items
+
+pub record IsRight (ranks : List RankCalls) (views : List RankView) (stand : List (Vec Standing Global)) (groups : List (Vec GroupValue Global)) (comms : List Made) : Type 0 where
+  pub comms_derive : AreDerived ranks views comms
+  pub handles_named : AreMembers comms stand
+  pub groups_derive : AreAllDerivedGroups ranks views comms groups
+
+-- A handle stands for a derived communicator only where it did before.
+pub record KeepsDerived (old new : List (Vec Standing Global)) : Type 0 where
+  pub each : (rank handle place : ℕ) → StandsFor new rank handle place → StandsFor old rank handle place
+
+-- Only this handle stands otherwise than before.
+pub record SetsStanding (old new : List (Vec Standing Global)) (rank handle : ℕ) (standing : Standing) : Type 0 where
+  pub each : (r h : ℕ) (s : Standing) → standing_at new r h ≡ Some s → (standing_at old r h ≡ Some s) ⊎ ((r ≡ rank) × (h ≡ handle) × (s ≡ standing))
+
+-- The member's handle may stand for the communicator at this place, and otherwise none that did not before.
+pub record BindsMember (member : Member) (place : ℕ) (old new : List (Vec Standing Global)) : Type 0 where
+  pub each : (rank handle at : ℕ) → StandsFor new rank handle at → StandsFor old rank handle at ⊎ ((at ≡ place) × (member ≡ member_with handle rank))
+
+-- The same of all members.
+pub record NamesMembers (members : List Member) (place : ℕ) (old new : List (Vec Standing Global)) : Type 0 where
+  pub each : (rank handle at : ℕ) → StandsFor new rank handle at → StandsFor old rank handle at ⊎ ((at ≡ place) × IsMember members rank handle)
+
+-- No handle of a rank stands for a communicator.
+pub record NoneStands (row : List Standing) : Type 0 where
+  pub each : (handle place : ℕ) → slice_get row handle ≡ Some (standings.Derived place) → ⊥
+
+pub record NoneStandsAt (rows : List (Vec Standing Global)) : Type 0 where
+  pub each : (rank : ℕ) (row : Vec Standing Global) → slice_get rows rank ≡ Some row → NoneStands row.items
+
+abbrev pub IsNotListed : GroupValue → Type 0
+IsNotListed values.Waits = Unit {0}
+IsNotListed values.Unknown = Unit {0}
+IsNotListed (values.Whole place) = ⊥
+IsNotListed (values.Listed list) = ⊥
+
+-- No group is known.
+pub record NoneListed (row : List GroupValue) : Type 0 where
+  pub each : (at : ℕ) (value : GroupValue) → slice_get row at ≡ Some value → IsNotListed value
+
+pub record NoneListedAt (rows : List (Vec GroupValue Global)) : Type 0 where
+  pub each : (rank : ℕ) (row : Vec GroupValue Global) → slice_get rows rank ≡ Some row → NoneListed row.items
 
 -- the communicators that are made, where some are
 abbrev pub parts_in : Outcome → Option (List Selection)
@@ -33,7 +117,7 @@ parts_in _ = None
 -- Each communicator of the outcome derives.
 pub record IsDerivedOutcome (ranks : List RankCalls) (views : List RankView) (members : List Member) (all : List (Option Here)) (outcome : Outcome) : Type 0 where
   pub each : (parts : List Selection) (at : ℕ) (part : Selection) → parts_in outcome ≡ Some parts → slice_get parts at ≡ Some part
-      → Derives ranks views (members_at members all part.places) part.dims
+      → Derives ranks views (communicator (members_at members all part.places) part.dims)
 
 -- the communicator of a part, as its members' calls give it
 pub record IsMadeOf (members : List Member) (all : List (Option Here)) (part : Selection) (comm : Made) : Type 0 where
@@ -46,16 +130,6 @@ IsOfPart members all parts comm = (i : ℕ) × (part : Selection) × (slice_get 
 
 pub record AreMadeOf (members : List Member) (all : List (Option Here)) (parts : List Selection) (made : List Made) : Type 0 where
   pub each : (at : ℕ) (comm : Made) → slice_get made at ≡ Some comm → IsOfPart members all parts comm
-
-abbrev pub part_at : List ℕ → Selection
-part_at places = record { places = places; dims = None }
-
--- a communicator of some members
-abbrev pub IsChosen : List Member → Made → Type 0
-IsChosen members comm = (all : List (Option Here)) × (places : List ℕ) × IsMadeOf members all (part_at places) comm
-
-pub record AreChosen (members : List Member) (made : List Made) : Type 0 where
-  pub each : (at : ℕ) (comm : Made) → slice_get made at ≡ Some comm → IsChosen members comm
 
 -- the communicators that a making gives
 abbrev pub IsOfDerived : List RankCalls → List RankView → Gained → Type 0

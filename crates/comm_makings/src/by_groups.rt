@@ -1,11 +1,18 @@
 //! MPI_Comm_create_group: collective over a group, not over its parent (MPI 4.0, 7.4.2).
 
-ghost use Rattle.std.specs.Prelude.{◌≡◌, ◌≤◌, [], IfOk, OnOk, length};
-ghost use Rattle.comm_makings.specs.State.{AreChosen, AreDerived, IsMadeOf, part_at};
+ghost use Rattle.std.specs.Prelude.{◌≡◌, ◌≤◌, ◌↔◌, [], IfOk, IsTrue, OnOk, Some, length, nat_eq, slice_set};
+ghost use Rattle.std.specs.List.{slice_get};
+ghost use Rattle.std.specs.Option.{option_copied};
+ghost use Rattle.indexmap.specs.IndexMap.{get};
+ghost use Rattle.comm_makings.specs.ByGroups.{AreFound, AreFoundSame, AreOfCalls, AreRightOffers, AreSame, AreSameTo, AreSomeOf, IsKnownOffer, IsListOn, IsSoundAt, part_at};
+ghost use Rattle.comm_makings.specs.Derives.{tag_in};
+ghost use Rattle.comm_makings.specs.Makes.{said_by};
+ghost use Rattle.comm_makings.specs.Offers.{AreRanked};
+ghost use Rattle.comm_makings.specs.State.{AreDerived, IsMadeOf, IsRight};
 
 use crate::calls::{Making, RankCalls};
-use crate::creates::{places_by_rank, places_of};
-use crate::group_value::{ranks_at, waits_at};
+use crate::creates::{group_of, places_by_rank, places_of};
+use crate::group_value::{GroupValue, waits_at};
 use crate::handle::Gives;
 use crate::here::{Here, here_at, is_unreadable, making_at, some_unknown};
 use crate::outcomes::are_given;
@@ -43,10 +50,22 @@ struct Offers<'a> {
     waits: Vec<bool>,
 }
 
-fn tag_of(making: Option<&Making>) -> Option<i32> {
+fn tag_of(making: Option<&Making>) -> Option<i32>
+    ensures { result ≡ said_by tag_in (option_copied making.entry) }
+{
     match making? {
         Making::CreateGroup { tag, .. } => *tag,
-        _ => None,
+        Making::Dup
+        | Making::DupWithInfo
+        | Making::Idup
+        | Making::IdupWithInfo
+        | Making::Split { .. }
+        | Making::Create { .. }
+        | Making::CartCreate { .. }
+        | Making::CartSub { .. }
+        | Making::GraphCreate { .. }
+        | Making::DistGraphCreate { .. }
+        | Making::DistGraphCreateAdjacent { .. } => None,
     }
 }
 
@@ -60,47 +79,101 @@ fn is_read(read: &[Vec<bool>], rank: u32, at: usize) -> bool {
     }
 }
 
-/// Adds the calls of a rank, as far as their groups, tags and communicators are known. Says whether a group is not known
+/// A call of MPI_Comm_create_group, as far as it is known.
+enum Offered<'a> {
+    Known(Offer<'a>),
+    /// Its group is not known yet.
+    Waits,
+    Unknown,
+}
+
+fn group_waits(values: &[Vec<GroupValue>], here: Here) -> bool {
+    match values.get(here.rank as usize) {
+        Some(values) => waits_at(values, here.group),
+        None => false,
+    }
+}
+
+/// A call of the member at this place of the parent, where its group and tag are known.
+fn offer_at<'a>(
+    ranks: &[RankCalls],
+    views: &[RankView],
+    values: &'a [Vec<GroupValue>],
+    comms: &'a [Made],
+    rank: u32,
+    place: u32,
+    at: usize,
+) -> Offered<'a>
+    ensures { IsKnownOffer ranks.now views.now values.now comms.now rank place at result }
+{
+    let Some(here) = here_at(ranks, views, rank, at) else {
+        return Offered::Unknown;
+    };
+    let Some(tag) = tag_of(making_at(ranks, rank, at)) else {
+        return Offered::Unknown;
+    };
+    match group_of(values, comms, here) {
+        Some(ranks) => Offered::Known(Offer {
+            ranks,
+            tag,
+            place,
+            at,
+            here,
+        }),
+        None => {
+            if group_waits(values, here) {
+                Offered::Waits
+            } else {
+                Offered::Unknown
+            }
+        },
+    }
+}
+
+/// Adds the calls of a member, as far as their groups, tags and communicators are known. Says whether a group is not known
 /// yet.
+#[tactic(auto, using(crate::proofs::GroupCalls::offer_more))]
 fn offer_all<'a>(
     ranks: &[RankCalls],
     views: &[RankView],
     run: &'a Run,
-    calls: &[usize],
-    rank: u32,
+    members: &[Member],
+    member: Member,
     place: u32,
     offers: &mut Vec<Offer<'a>>,
-) -> Result<bool, AllocError> {
-    for at in calls {
-        let Some(here) = here_at(ranks, views, rank, *at) else {
-            return Ok(false);
-        };
-        let Some(values) = run.values.get(rank as usize) else {
-            return Ok(false);
-        };
-        let Some(tag) = tag_of(making_at(ranks, rank, *at)) else {
-            return Ok(false);
-        };
-        let Some(group) = ranks_at(values, &run.comms, here.group) else {
-            return Ok(waits_at(values, here.group));
-        };
-        if !is_read(&run.taken, rank, *at) {
-            offers.push(Offer {
-                ranks: group,
-                tag,
-                place,
-                at: *at,
-                here,
-            })?;
-        }
-        if is_unreadable(here.gives) {
-            return Ok(false);
+) -> Result<bool, AllocError>
+    requires member { slice_get members.now place ≡ Some member }
+    requires offers { AreRightOffers ranks.now views.now run.now.values.items run.now.comms.items members.now offers.old.items }
+    ensures { OnOk result (AreRightOffers ranks.now views.now run.now.values.items run.now.comms.items members.now offers.new.items) }
+{
+    for at in calls_of(views, member) {
+        match offer_at(
+            ranks,
+            views,
+            &run.values,
+            &run.comms,
+            member.rank,
+            place,
+            *at,
+        ) {
+            Offered::Known(offer) => {
+                if !is_read(&run.taken, member.rank, *at) {
+                    offers.push(offer)?;
+                }
+                if is_unreadable(offer.here.gives) {
+                    return Ok(false);
+                }
+            },
+            Offered::Waits => return Ok(true),
+            Offered::Unknown => return Ok(false),
         }
     }
     Ok(false)
 }
 
-fn calls_of(views: &[RankView], member: Member) -> &[usize] {
+fn calls_of(views: &[RankView], member: Member) -> &[usize]
+    ensures { IsListOn views.now member result.now }
+{
     match (views.get(member.rank as usize), member.handle) {
         (Some(view), Some(handle)) => match view.by_group.get(handle) {
             Some(calls) => calls,
@@ -111,37 +184,78 @@ fn calls_of(views: &[RankView], member: Member) -> &[usize] {
 }
 
 /// The calls on a parent that are not read yet, by their members, tag and place. At last no group is waited for.
+#[tactic(auto, using(crate::proofs::GroupCalls::sorted_right))]
 fn offers_of<'a>(
     alloc: Global,
     ranks: &[RankCalls],
     views: &[RankView],
     run: &'a Run,
-    parent: &Made,
+    members: &[Member],
     last: bool,
-) -> Result<Offers<'a>, AllocError> {
+) -> Result<Offers<'a>, AllocError>
+    ensures { IfOk result (λ offers. AreRightOffers ranks.now views.now run.now.values.items run.now.comms.items members.now offers.calls.items) }
+{
     let mut calls = Vec::new(alloc);
     let mut waits = Vec::new(alloc);
-    let mut place = 0u32;
-    for member in &parent.members {
-        let listed = calls_of(views, *member);
-        let waited = offer_all(ranks, views, run, listed, member.rank, place, &mut calls)?;
-        waits.push(waited && !last)?;
-        place = place.saturating_add(1);
+    for (at, member) in members.iter().enumerate() {
+        if let Ok(place) = u32::try_from(at) {
+            let waited = offer_all(ranks, views, run, members, *member, place, &mut calls)?;
+            waits.push(waited && !last)?;
+        }
     }
     calls.sort_by_key(|offer| (offer.ranks, offer.tag, offer.place))?;
     Ok(Offers { calls, waits })
 }
 
-/// How many calls at the front have these members and this tag.
-fn same_length(calls: &[Offer<'_>], ranks: &[u32], tag: i32) -> usize
-    ensures { result ≤ length calls.now }
+/// Whether a call has the members and the tag of another.
+fn is_same(offer: Offer<'_>, first: Offer<'_>) -> bool
+    ensures { IsTrue result ↔ ((offer.entry.ranks.now ≡ first.entry.ranks.now) × (offer.entry.tag ≡ first.entry.tag)) }
+{
+    offer.ranks == first.ranks && offer.tag == first.tag
+}
+
+/// How many calls at the front have the members and the tag of this one.
+#[tactic(auto, using(crate::proofs::GroupCalls::same_more))]
+fn same_length(calls: &[Offer<'_>], first: Offer<'_>) -> usize
+    ensures within { result ≤ length calls.now }
+    ensures same { AreSameTo calls.now first.entry.ranks.now first.entry.tag result }
 {
     for (at, offer) in calls.iter().enumerate() {
-        if offer.ranks != ranks || offer.tag != tag {
+        if !is_same(*offer, first) {
             return at;
         }
     }
     calls.len()
+}
+
+/// How often the place came before.
+fn count_at(seen: &mut Vec<usize>, place: usize) -> Option<usize> {
+    let count = *seen.get(place)?;
+    if let Some(before) = seen.get_mut(place) {
+        *before = count.saturating_add(1);
+    }
+    Some(count)
+}
+
+/// The k-th call of each place.
+#[tactic(auto, using(crate::proofs::GroupCalls::of_calls_more))]
+fn kth_calls(
+    alloc: Global,
+    calls: &[Offer<'_>],
+    members: usize,
+    k: usize,
+) -> Result<Vec<Option<Here>>, AllocError>
+    ensures { IfOk result (λ v. AreOfCalls calls.now v.items) }
+{
+    let mut seen = vec![in alloc; 0usize; members]?;
+    let mut kth: Vec<Option<Here>> = vec![in alloc; None; members]?;
+    for offer in calls {
+        let place = offer.place as usize;
+        if count_at(&mut seen, place) == Some(k) && place < kth.len() {
+            kth[place] = Some(offer.here);
+        }
+    }
+    Ok(kth)
 }
 
 /// The k-th call of each of these places.
@@ -151,35 +265,42 @@ fn kth_of(
     places: &[u32],
     members: usize,
     k: usize,
-) -> Result<Vec<Option<Here>>, AllocError> {
-    let mut seen = vec![in alloc; 0usize; members]?;
-    let mut kth: Vec<Option<Here>> = vec![in alloc; None; members]?;
-    for offer in calls {
-        if let Some(count) = seen.get_mut(offer.place as usize) {
-            if *count == k {
-                if let Some(here) = kth.get_mut(offer.place as usize) {
-                    *here = Some(offer.here);
-                }
-            }
-            *count = count.saturating_add(1);
-        }
-    }
+) -> Result<Vec<Option<Here>>, AllocError>
+    ensures { IfOk result (λ v. AreOfCalls calls.now v.items) }
+{
+    let kth = kth_calls(alloc, calls, members, k)?;
     only_at(alloc, &kth, places)
 }
 
+fn put(all: &mut Vec<Option<Here>>, place: usize, here: Option<Here>)
+    ensures { all.new.items ≡ slice_set all.old.items place here }
+{
+    if place < all.len() {
+        all[place] = here;
+    }
+}
+
+/// What stands at this place.
+fn at_place(all: &[Option<Here>], place: usize) -> Option<Option<Here>>
+    ensures { result ≡ slice_get all.now place }
+{
+    all.get(place).copied()
+}
+
 /// What stands at these places, and nothing at the others.
+#[tactic(auto, using(crate::proofs::GroupCalls::some_none))]
 fn only_at(
     alloc: Global,
     all: &[Option<Here>],
     places: &[u32],
-) -> Result<Vec<Option<Here>>, AllocError> {
+) -> Result<Vec<Option<Here>>, AllocError>
+    ensures { IfOk result (λ v. AreSomeOf all.now v.items) }
+{
     let mut only: Vec<Option<Here>> = vec![in alloc; None; all.len()]?;
     for place in places {
-        if let (Some(here), Some(from)) = (
-            only.get_mut(*place as usize),
-            all.get(*place as usize),
-        ) {
-            *here = *from;
+        let place = *place as usize;
+        if let Some(here) = at_place(all, place) {
+            put(&mut only, place, here);
         }
     }
     Ok(only)
@@ -205,12 +326,15 @@ fn some_here(all: &[Option<Here>]) -> bool {
 }
 
 /// Whether one communicator is made of the calls, with the members at these places.
-fn is_sound(alloc: Global, all: &[Option<Here>], places: &[u32]) -> Result<bool, AllocError> {
+fn is_sound(alloc: Global, all: &[Option<Here>], places: &[u32]) -> Result<bool, AllocError>
+    ensures { IfOk result (λ sound. IsTrue sound → IsSoundAt places.now all.now) }
+{
     if some_unknown(all) {
         return Ok(false);
     }
     let parts = vec![in alloc; Part::new(copy_of(alloc, places)?, None)]?;
-    are_given(alloc, &parts, all, false)
+    let given = are_given(alloc, &parts, all, false)?;
+    Ok(given)
 }
 
 fn is_over(over: &[Over], ranks: &[u32], tag: i32) -> bool {
@@ -293,67 +417,81 @@ fn one_made(
     made_of(alloc, members, all, &part)
 }
 
-/// Reads the calls of one list of members and one tag.
-#[tactic(auto, using(crate::proofs::Derivations::chosen_more))]
+/// What the calls of one list of members and one tag make.
+#[derive(Drop)]
+struct Read {
+    made: Vec<Made>,
+    /// Whether more may be made of them.
+    goes_on: bool,
+}
+
+/// Reads the calls of one list of members and one tag, and notes those that are read.
+#[tactic(auto, using(crate::proofs::GroupCalls::found_more))]
 fn read_same(
     alloc: Global,
-    members: &[Member],
+    parent: &Made,
     calls: &[Offer<'_>],
     places: &[u32],
     waits: &[bool],
-    found: &mut Found,
-) -> Result<bool, AllocError>
-    requires { AreChosen members.now found.old.made.items }
-    ensures { OnOk result (AreChosen members.now found.new.made.items) }
+    read: &mut Vec<(u32, usize)>,
+) -> Result<Read, AllocError>
+    ensures { IfOk result (λ r. AreFoundSame calls.now parent.now.members.items parent.now.ranks.items places.now r.made.items) }
 {
+    let mut made = Vec::new(alloc);
     for k in 0..calls.len() {
-        let all = kth_of(alloc, calls, places, members.len(), k)?;
-        if may_come(&all, places, waits) {
-            return Ok(true);
-        }
-        if !some_here(&all) {
-            return Ok(true);
+        let all = kth_of(alloc, calls, places, parent.members.len(), k)?;
+        if may_come(&all, places, waits) || !some_here(&all) {
+            return Ok(Read {
+                made,
+                goes_on: true,
+            });
         }
         if !is_sound(alloc, &all, places)? {
-            return Ok(false);
+            return Ok(Read {
+                made,
+                goes_on: false,
+            });
         }
-        note_read(calls, &all, &mut found.read)?;
-        let comm = one_made(alloc, members, &all, places)?;
-        found.made.push(comm)?;
+        note_read(calls, &all, read)?;
+        let comm = one_made(alloc, &parent.members, &all, places)?;
+        made.push(comm)?;
     }
-    Ok(true)
+    Ok(Read {
+        made,
+        goes_on: true,
+    })
 }
 
 /// Reads the calls of one list of members and one tag, unless nothing more is made of them.
+#[tactic(auto, using(crate::proofs::GroupCalls::found_none, crate::proofs::OfferLemmas::places_are))]
 fn read_key(
     alloc: Global,
-    members: &[Member],
+    parent: &Made,
     ranked: &IndexMap<u32, u32>,
     over: &[Over],
     calls: &[Offer<'_>],
     first: Offer<'_>,
     waits: &[bool],
     found: &mut Found,
-) -> Result<(), AllocError>
-    requires { AreChosen members.now found.old.made.items }
-    ensures { OnOk result (AreChosen members.now found.new.made.items) }
+) -> Result<Vec<Made>, AllocError>
+    requires same { AreSame calls.now first.ranks.now first.tag }
+    requires ranked { AreRanked (get nat_eq ranked.now) parent.now.ranks.items }
+    ensures made { IfOk result (λ made. AreFound calls.now parent.now.members.items parent.now.ranks.items made.items) }
+    ensures kept { found.new.made ≡ found.old.made }
 {
     if is_over(over, first.ranks, first.tag) {
         note_left(calls, found)?;
-        return Ok(());
+        return Ok(Vec::new(alloc));
     }
-    match places_of(alloc, ranked, first.ranks)? {
-        Some(places) => {
-            if !read_same(alloc, members, calls, &places, waits, found)? {
-                end(alloc, calls, first.ranks, first.tag, found)?;
-            }
-            Ok(())
-        },
-        None => {
-            end(alloc, calls, first.ranks, first.tag, found)?;
-            Ok(())
-        },
+    let Some(places) = places_of(alloc, ranked, first.ranks)? else {
+        end(alloc, calls, first.ranks, first.tag, found)?;
+        return Ok(Vec::new(alloc));
+    };
+    let Read { made, goes_on } = read_same(alloc, parent, calls, &places, waits, &mut found.read)?;
+    if !goes_on {
+        end(alloc, calls, first.ranks, first.tag, found)?;
     }
+    Ok(made)
 }
 
 fn nothing_found(alloc: Global) -> Found
@@ -368,7 +506,7 @@ fn nothing_found(alloc: Global) -> Found
     }
 }
 
-#[tactic(auto, using(crate::proofs::Derivations::chosen_none))]
+#[tactic(auto, using(crate::proofs::GroupCalls::found_none, crate::proofs::GroupCalls::found_from, crate::proofs::GroupCalls::same_from))]
 fn found_in(
     alloc: Global,
     parent: &Made,
@@ -376,7 +514,7 @@ fn found_in(
     calls: &[Offer<'_>],
     waits: &[bool],
 ) -> Result<Found, AllocError>
-    ensures { IfOk result (λ found. AreChosen parent.now.members.items found.made.items) }
+    ensures { IfOk result (λ found. AreFound calls.now parent.now.members.items parent.now.ranks.items found.made.items) }
 {
     let ranked = places_by_rank(alloc, &parent.ranks)?;
     let mut found = nothing_found(alloc);
@@ -384,18 +522,10 @@ fn found_in(
     while at < calls.len() {
         let first = calls[at];
         let behind = at + 1;
-        let end = behind + same_length(&calls[behind..], first.ranks, first.tag);
+        let end = behind + same_length(&calls[behind..], first);
         let same = &calls[at..end];
-        read_key(
-            alloc,
-            &parent.members,
-            &ranked,
-            over,
-            same,
-            first,
-            waits,
-            &mut found,
-        )?;
+        let mut made = read_key(alloc, parent, &ranked, over, same, first, waits, &mut found)?;
+        found.made.append(&mut made)?;
         at = end;
     }
     Ok(found)
@@ -412,7 +542,7 @@ fn has_calls(views: &[RankView], comm: &Made) -> bool {
 }
 
 /// The communicators that the calls of MPI_Comm_create_group on a parent make, as far as their groups are known.
-#[tactic(auto, using(crate::proofs::Derivations::chosen_derives, crate::proofs::Derivations::derived_at, crate::proofs::Derivations::derived_none))]
+#[tactic(auto, using(crate::proofs::Derivations::all_found, crate::proofs::Derivations::derived_none))]
 pub(crate) fn found_at(
     alloc: Global,
     ranks: &[RankCalls],
@@ -421,7 +551,7 @@ pub(crate) fn found_at(
     at: usize,
     last: bool,
 ) -> Result<Found, AllocError>
-    requires { AreDerived ranks.now views.now run.now.comms.items }
+    requires { IsRight ranks.now views.now run.now.standings.items run.now.values.items run.now.comms.items }
     ensures { IfOk result (λ found. AreDerived ranks.now views.now found.made.items) }
 {
     let Some(parent) = comm_at(&run.comms, at) else {
@@ -433,7 +563,7 @@ pub(crate) fn found_at(
     if !has_calls(views, parent) {
         return Ok(nothing_found(alloc));
     }
-    let offers = offers_of(alloc, ranks, views, run, parent, last)?;
+    let offers = offers_of(alloc, ranks, views, run, &parent.members, last)?;
     let mut found = found_in(alloc, parent, over, &offers.calls, &offers.waits)?;
     found.waits = offers.waits.iter().any(|waits| *waits);
     Ok(found)

@@ -1,25 +1,34 @@
 //! MPI_Comm_create: the groups that the members give (MPI 4.0, 7.4.2).
 
+ghost use Rattle.std.specs.Prelude.{◌≡◌, [], IfOk, IfSome, IsTrue, List, OnOk, Some, map, nat_eq, true};
+ghost use Rattle.std.specs.Option.{option_copied};
+ghost use Rattle.indexmap.specs.IndexMap.{get};
+ghost use Rattle.comm_groups.specs.Groups.{has};
+ghost use Rattle.comm_makings.specs.Offers.{AddsOffer, AreKnown, AreOfWanted, AreOfferedParts, AreRanked, AreWanted, IsKnown, group_of};
+ghost use Rattle.comm_makings.specs.Selection.{Selection};
+ghost use Rattle.comm_makings.specs.State.{parts_in};
+ghost use Rattle.comm_makings.specs.declared.creates.Known.TheVariants as knowing;
+
 use crate::group_value::{GroupValue, ranks_at, waits_at};
 use crate::here::Here;
 use crate::part::Part;
 use crate::parts::Outcome;
-use crate::state::Made;
+use crate::state::{Made, copy_of};
 use indexmap::IndexMap;
 use std::alloc::{AllocError, Global};
 
 /// A group that some member gives.
-#[derive(Clone, Copy, Debug)]
-struct Offer<'a> {
-    ranks: &'a [u32],
+#[derive(Debug, Drop)]
+struct Offer {
+    ranks: Vec<u32>,
     /// Whether one of its own gives it.
     wanted: bool,
 }
 
 /// The groups that members give. Of any two that are kept none share a rank.
 #[derive(Drop)]
-struct Offers<'a> {
-    groups: Vec<Offer<'a>>,
+struct Offers {
+    groups: Vec<Offer>,
     /// The group of each rank that is in one.
     by_rank: IndexMap<u32, usize>,
 }
@@ -28,12 +37,15 @@ struct Offers<'a> {
 pub(crate) fn places_by_rank(
     alloc: Global,
     members: &[u32],
-) -> Result<IndexMap<u32, u32>, AllocError> {
+) -> Result<IndexMap<u32, u32>, AllocError>
+    ensures { IfOk result (λ places. AreRanked (get nat_eq places) members.now) }
+{
     let mut places = IndexMap::new(alloc);
-    let mut place = 0u32;
-    for member in members {
+    for (at, member) in members.iter().enumerate() {
+        let Ok(place) = u32::try_from(at) else {
+            return Ok(places);
+        };
         places.insert(*member, place)?;
-        place = place.saturating_add(1);
     }
     Ok(places)
 }
@@ -43,7 +55,9 @@ pub(crate) fn places_of(
     alloc: Global,
     places: &IndexMap<u32, u32>,
     ranks: &[u32],
-) -> Result<Option<Vec<u32>>, AllocError> {
+) -> Result<Option<Vec<u32>>, AllocError>
+    ensures { IfOk result (λ found. IfSome found (λ v. map Some v.items ≡ map (get nat_eq places.now) ranks.now)) }
+{
     let mut found = Vec::new(alloc);
     for rank in ranks {
         match places.get(rank) {
@@ -54,8 +68,23 @@ pub(crate) fn places_of(
     Ok(Some(found))
 }
 
-impl<'a> Offers<'a> {
-    fn new(alloc: Global) -> Offers<'a> {
+fn has_rank(ranks: &[u32], rank: u32) -> bool
+    ensures { IsTrue result → has ranks.now rank ≡ true }
+{
+    ranks.contains(&rank)
+}
+
+/// Whether it is the group of these ranks, in this order.
+fn is_of(offer: &Offer, ranks: &[u32]) -> bool
+    ensures { IsTrue result → offer.now.ranks.items ≡ ranks.now }
+{
+    offer.ranks.as_slice() == ranks
+}
+
+impl Offers {
+    fn new(alloc: Global) -> Offers
+        ensures { result.groups.items ≡ [] }
+    {
         Offers {
             groups: Vec::new(alloc),
             by_rank: IndexMap::new(alloc),
@@ -63,7 +92,9 @@ impl<'a> Offers<'a> {
     }
 
     /// Notes whose group each of these ranks is in; `false` where one is in another.
-    fn take(&mut self, ranks: &[u32], group: usize) -> Result<bool, AllocError> {
+    fn take(&mut self, ranks: &[u32], group: usize) -> Result<bool, AllocError>
+        ensures { self.new.groups ≡ self.old.groups }
+    {
         for rank in ranks {
             if self.by_rank.insert(*rank, group)?.is_some() {
                 return Ok(false);
@@ -72,94 +103,140 @@ impl<'a> Offers<'a> {
         Ok(true)
     }
 
+    /// A rank gives a group that was given; `false` where it is another.
+    #[tactic(auto, using(crate::proofs::OfferLemmas::adds_none))]
+    fn repeat(&mut self, group: usize, rank: u32, ranks: &[u32]) -> bool
+        ensures { AddsOffer self.old.groups.items self.new.groups.items rank ranks.now }
+    {
+        if group >= self.groups.len() {
+            return false;
+        }
+        if !is_of(&self.groups[group], ranks) {
+            return false;
+        }
+        if has_rank(ranks, rank) {
+            self.groups[group].wanted = true;
+        }
+        true
+    }
+
+    /// A rank gives another group; `false` where one of its ranks is in a group that was given.
+    #[tactic(auto, using(crate::proofs::OfferLemmas::adds_one))]
+    fn begin(&mut self, alloc: Global, rank: u32, ranks: &[u32]) -> Result<bool, AllocError>
+        ensures { OnOk result (AddsOffer self.old.groups.items self.new.groups.items rank ranks.now) }
+    {
+        let group = self.groups.len();
+        self.groups.push(Offer {
+            ranks: copy_of(alloc, ranks)?,
+            wanted: has_rank(ranks, rank),
+        })?;
+        self.take(ranks, group)
+    }
+
     /// Notes the group that a rank gives; `false` where it is neither equal to one before it nor apart from all.
-    fn add(&mut self, rank: u32, ranks: &'a [u32]) -> Result<bool, AllocError> {
+    #[tactic(auto, using(crate::proofs::OfferLemmas::adds_none))]
+    fn add(&mut self, alloc: Global, rank: u32, ranks: &[u32]) -> Result<bool, AllocError>
+        ensures { OnOk result (AddsOffer self.old.groups.items self.new.groups.items rank ranks.now) }
+    {
         let Some(first) = ranks.first() else {
             return Ok(true);
         };
-        if let Some(group) = self.by_rank.get(first).copied() {
-            if let Some(offer) = self.groups.get(group) {
-                if offer.ranks != ranks {
-                    return Ok(false);
-                }
-            }
-        } else {
-            let group = self.groups.len();
-            self.groups.push(Offer {
-                ranks,
-                wanted: false,
-            })?;
-            if !self.take(ranks, group)? {
-                return Ok(false);
-            }
-        }
-        self.want(rank, *first);
-        Ok(true)
-    }
-
-    /// A rank gives the group that this one is first in: it makes a communicator where both are in it.
-    fn want(&mut self, rank: u32, first: u32) {
-        let Some(group) = self.by_rank.get(&first).copied() else {
-            return;
-        };
-        if self.by_rank.get(&rank).copied() == Some(group) {
-            if let Some(offer) = self.groups.get_mut(group) {
-                offer.wanted = true;
-            }
+        match self.by_rank.get(first) {
+            Some(group) => {
+                let group = *group;
+                Ok(self.repeat(group, rank, ranks))
+            },
+            None => self.begin(alloc, rank, ranks),
         }
     }
 }
 
-/// What the members' groups are together.
-enum Together<'a> {
-    Known(Offers<'a>),
-    Unsound,
+/// Whether the groups are known that calls name.
+#[derive(Clone, Copy, Debug, PartialEq, Eq)]
+enum Known {
+    Yes,
     Waits,
+    No,
 }
 
-fn offers_in<'a>(
-    alloc: Global,
+/// The ranks of the group that a call names, where they are known.
+pub(crate) fn group_of<'a>(
     values: &'a [Vec<GroupValue>],
     comms: &'a [Made],
-    all: &[Option<Here>],
-) -> Result<Together<'a>, AllocError> {
-    let mut offers = Offers::new(alloc);
+    here: Here,
+) -> Option<&'a [u32]>
+    ensures { option_copied result ≡ group_of values.now comms.now here }
+{
+    ranks_at(values.get(here.rank as usize)?, comms, here.group)
+}
+
+fn knows(values: &[Vec<GroupValue>], comms: &[Made], here: Option<Here>) -> Known
+    ensures { result ≡ knowing.Yes → IsKnown values.now comms.now here }
+{
+    let Some(here) = here else {
+        return Known::Yes;
+    };
+    if group_of(values, comms, here).is_some() {
+        return Known::Yes;
+    }
+    match values.get(here.rank as usize) {
+        Some(values) => {
+            if waits_at(values, here.group) {
+                Known::Waits
+            } else {
+                Known::No
+            }
+        },
+        None => Known::No,
+    }
+}
+
+fn knows_all(values: &[Vec<GroupValue>], comms: &[Made], all: &[Option<Here>]) -> Known
+    ensures { result ≡ knowing.Yes → AreKnown values.now comms.now all.now }
+{
     let mut waits = false;
     for here in all {
+        match knows(values, comms, *here) {
+            Known::Yes => {},
+            Known::Waits => waits = true,
+            Known::No => return Known::No,
+        }
+    }
+    if waits { Known::Waits } else { Known::Yes }
+}
+
+/// The groups that the calls name; `None` where two are neither equal nor apart.
+#[tactic(auto, using(crate::proofs::OfferLemmas::wanted_none))]
+fn offers_in(
+    alloc: Global,
+    values: &[Vec<GroupValue>],
+    comms: &[Made],
+    all: &[Option<Here>],
+) -> Result<Option<Vec<Offer>>, AllocError>
+    ensures { IfOk result (λ found. IfSome found (λ offers. AreWanted values.now comms.now all.now offers.items)) }
+{
+    let mut offers = Offers::new(alloc);
+    for here in all {
         if let Some(here) = here {
-            let Some(values) = values.get(here.rank as usize) else {
-                return Ok(Together::Unsound);
-            };
-            match ranks_at(values, comms, here.group) {
-                Some(ranks) => {
-                    if !offers.add(here.rank, ranks)? {
-                        return Ok(Together::Unsound);
-                    }
-                },
-                None => {
-                    if !waits_at(values, here.group) {
-                        return Ok(Together::Unsound);
-                    }
-                    waits = true;
-                },
+            if let Some(ranks) = group_of(values, comms, *here) {
+                if !offers.add(alloc, here.rank, ranks)? {
+                    return Ok(None);
+                }
             }
         }
     }
-    if waits {
-        return Ok(Together::Waits);
-    }
-    Ok(Together::Known(offers))
+    Ok(Some(offers.groups))
 }
 
-fn offered_parts(
-    alloc: Global,
-    parent: &Made,
-    offers: &[Offer<'_>],
-) -> Result<Outcome, AllocError> {
-    let places = places_by_rank(alloc, &parent.ranks)?;
+/// A communicator of each group that one of its own gives.
+#[tactic(auto, using(crate::proofs::OfferLemmas::places_are))]
+fn offered_parts(alloc: Global, ranks: &[u32], offers: &[Offer]) -> Result<Outcome, AllocError>
+    ensures { IfOk result (λ o. (parts : List Selection) → parts_in o ≡ Some parts → AreOfferedParts ranks.now offers.now parts) }
+{
+    let places = places_by_rank(alloc, ranks)?;
     let mut parts = Vec::new(alloc);
     for offer in offers {
-        match places_of(alloc, &places, offer.ranks)? {
+        match places_of(alloc, &places, &offer.ranks)? {
             None => return Ok(Outcome::Unsound),
             Some(places) => {
                 if offer.wanted {
@@ -172,16 +249,26 @@ fn offered_parts(
 }
 
 /// The communicators of a MPI_Comm_create.
+#[tactic(auto, using(crate::proofs::OfferLemmas::of_wanted))]
 pub(crate) fn create_outcome(
     alloc: Global,
     values: &[Vec<GroupValue>],
     comms: &[Made],
     parent: &Made,
     all: &[Option<Here>],
-) -> Result<Outcome, AllocError> {
-    match offers_in(alloc, values, comms, all)? {
-        Together::Waits => Ok(Outcome::Waits),
-        Together::Unsound => Ok(Outcome::Unsound),
-        Together::Known(offers) => offered_parts(alloc, parent, &offers.groups),
+) -> Result<Outcome, AllocError>
+    ensures known { IfOk result (λ o. (parts : List Selection) → parts_in o ≡ Some parts → AreKnown values.now comms.now all.now) }
+    ensures made { IfOk result (λ o. (parts : List Selection) → parts_in o ≡ Some parts → AreOfWanted values.now comms.now all.now parent.now.ranks.items parts) }
+{
+    match knows_all(values, comms, all) {
+        Known::Waits => Ok(Outcome::Waits),
+        Known::No => Ok(Outcome::Unsound),
+        Known::Yes => match offers_in(alloc, values, comms, all)? {
+            Some(offers) => {
+                let outcome = offered_parts(alloc, &parent.ranks, &offers)?;
+                Ok(outcome)
+            },
+            None => Ok(Outcome::Unsound),
+        },
     }
 }

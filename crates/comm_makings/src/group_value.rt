@@ -1,9 +1,10 @@
 //! The groups that a rank's calls give (MPI 4.0, 7.3.2).
 
-ghost use Rattle.std.specs.Prelude.{◌≡◌, IfOk, option_map};
+ghost use Rattle.std.specs.Prelude.{◌≡◌, Bool, IfOk, option_map};
+ghost use Rattle.comm_groups.specs.Ranges.{range_excl_of, range_incl_of};
 ghost use Rattle.std.specs.List.{slice_get};
 ghost use Rattle.std.specs.Option.{option_and_then, option_copied};
-ghost use Rattle.comm_makings.specs.Groups.{IsListed, IsMadeOfTwo, group_of_comm, is_known, made_of_one, made_of_two, ranks_at, ranks_of, unlisted, waits, waits_at};
+ghost use Rattle.comm_makings.specs.Groups.{IsListed, IsMadeOfOne, IsMadeOfTwo, IsValueOf, group_of_comm, is_known, last_from, last_of, made_of_one, made_of_two, range_of, ranges_of, ranks_at, ranks_of, unlisted, waits, waits_at};
 
 use crate::calls::{GroupCall, RankRange};
 use crate::handle::{GroupAt, Meant};
@@ -111,27 +112,45 @@ fn unlisted(waits: bool) -> GroupValue
 }
 
 /// The last rank of a range that falls to a rank below 0, where it has none below 0.
-fn last_from(first: u32, below: u32, stride: u32) -> Option<u32> {
+fn last_from(first: u32, below: u32, stride: u32) -> Option<u32>
+    ensures { result ≡ last_from first below stride }
+{
     if stride == 0 {
         return None;
     }
     let span = u64::from(first) + u64::from(below);
     let reached = span - span % u64::from(stride);
-    u32::try_from(u64::from(first).checked_sub(reached)?).ok()
+    if reached > u64::from(first) {
+        return None;
+    }
+    Some((u64::from(first) - reached) as u32)
+}
+
+/// The last rank of a range, where it isn't below 0.
+fn last_of(first: u32, last: i32, stride: u32, falls: bool) -> Option<u32>
+    ensures { result ≡ last_of first last stride falls }
+{
+    if last >= 0 {
+        return Some(last.unsigned_abs());
+    }
+    if falls {
+        last_from(first, last.unsigned_abs(), stride)
+    } else {
+        None
+    }
 }
 
 /// The range as ranks of a group; `None` where it has a rank below 0.
-fn range_of(range: RankRange) -> Option<comm_groups::RankRange> {
-    let first = u32::try_from(range.first).ok()?;
+fn range_of(range: RankRange) -> Option<comm_groups::RankRange>
+    ensures { result ≡ range_of range }
+{
+    if range.first < 0 {
+        return None;
+    }
+    let first = range.first.unsigned_abs();
     let stride = range.stride.unsigned_abs();
     let falls = range.stride < 0;
-    let last = if range.last >= 0 {
-        range.last.unsigned_abs()
-    } else if falls {
-        last_from(first, range.last.unsigned_abs(), stride)?
-    } else {
-        return None;
-    };
+    let last = last_of(first, range.last, stride, falls)?;
     Some(comm_groups::RankRange {
         first,
         last,
@@ -143,7 +162,9 @@ fn range_of(range: RankRange) -> Option<comm_groups::RankRange> {
 fn ranges_of(
     alloc: Global,
     ranges: &[RankRange],
-) -> Result<Option<Vec<comm_groups::RankRange>>, AllocError> {
+) -> Result<Option<Vec<comm_groups::RankRange>>, AllocError>
+    ensures { IfOk result (λ found. option_map (λ v. v.items) found ≡ ranges_of ranges.now) }
+{
     let mut all = Vec::new(alloc);
     for range in ranges {
         match range_of(*range) {
@@ -158,7 +179,9 @@ fn with_ranges(
     alloc: Global,
     members: &[u32],
     ranges: &[RankRange],
-) -> Result<Option<Vec<u32>>, AllocError> {
+) -> Result<Option<Vec<u32>>, AllocError>
+    ensures { IfOk result (λ found. option_map (λ v. v.items) found ≡ option_and_then (range_incl_of members.now) (ranges_of ranges.now)) }
+{
     match ranges_of(alloc, ranges)? {
         Some(ranges) => comm_groups::range_incl(alloc, members, &ranges),
         None => Ok(None),
@@ -169,19 +192,17 @@ fn without_ranges(
     alloc: Global,
     members: &[u32],
     ranges: &[RankRange],
-) -> Result<Option<Vec<u32>>, AllocError> {
+) -> Result<Option<Vec<u32>>, AllocError>
+    ensures { IfOk result (λ found. option_map (λ v. v.items) found ≡ option_and_then (range_excl_of members.now) (ranges_of ranges.now)) }
+{
     match ranges_of(alloc, ranges)? {
         Some(ranges) => comm_groups::range_excl(alloc, members, &ranges),
         None => Ok(None),
     }
 }
 
-/// A group that is made of one other, by lists of ranks. Those by ranges are [`by_ranges`].
-fn by_ranks(
-    alloc: Global,
-    group: &GroupCall,
-    members: &[u32],
-) -> Result<Option<Vec<u32>>, AllocError>
+/// A group that is made of one other.
+fn of_one(alloc: Global, group: &GroupCall, members: &[u32]) -> Result<Option<Vec<u32>>, AllocError>
     ensures { IfOk result (λ found. option_map (λ v. v.items) found ≡ made_of_one group.now members.now) }
 {
     match group {
@@ -193,23 +214,6 @@ fn by_ranks(
             Some(ranks) => comm_groups::excl(alloc, members, ranks),
             None => Ok(None),
         },
-        GroupCall::OfComm { .. }
-        | GroupCall::RangeIncl { .. }
-        | GroupCall::RangeExcl { .. }
-        | GroupCall::Union { .. }
-        | GroupCall::Intersection { .. }
-        | GroupCall::Difference { .. }
-        | GroupCall::Unread => Ok(None),
-    }
-}
-
-/// A group that is made of one other, by ranges.
-fn by_ranges(
-    alloc: Global,
-    group: &GroupCall,
-    members: &[u32],
-) -> Result<Option<Vec<u32>>, AllocError> {
-    match group {
         GroupCall::RangeIncl { ranges, .. } => match ranges {
             Some(ranges) => with_ranges(alloc, members, ranges),
             None => Ok(None),
@@ -218,7 +222,11 @@ fn by_ranges(
             Some(ranges) => without_ranges(alloc, members, ranges),
             None => Ok(None),
         },
-        _ => Ok(None),
+        GroupCall::OfComm { .. }
+        | GroupCall::Union { .. }
+        | GroupCall::Intersection { .. }
+        | GroupCall::Difference { .. }
+        | GroupCall::Unread => Ok(None),
     }
 }
 
@@ -281,7 +289,9 @@ fn value_of_two(
     meant: &Meant,
     values: &[GroupValue],
     comms: &[Made],
-) -> Result<GroupValue, AllocError> {
+) -> Result<GroupValue, AllocError>
+    ensures { IfOk result (λ value. (waits : Bool) × IsMadeOfTwo group.now (ranks_at comms.now values.now meant.now.group) (ranks_at comms.now values.now meant.now.second) waits value) }
+{
     let first = ranks_at(values, comms, meant.group);
     let second = ranks_at(values, comms, meant.second);
     let waits = is_known(first, waits_at(values, meant.group))
@@ -296,15 +306,12 @@ fn value_of_one(
     meant: &Meant,
     values: &[GroupValue],
     comms: &[Made],
-) -> Result<GroupValue, AllocError> {
+) -> Result<GroupValue, AllocError>
+    ensures { IfOk result (λ value. (waits : Bool) × IsMadeOfOne group.now (ranks_at comms.now values.now meant.now.group) waits value) }
+{
     match ranks_at(values, comms, meant.group) {
         None => Ok(unlisted(waits_at(values, meant.group))),
-        Some(members) => match group {
-            GroupCall::Incl { .. } | GroupCall::Excl { .. } => {
-                Ok(listed(by_ranks(alloc, group, members)?))
-            },
-            _ => Ok(listed(by_ranges(alloc, group, members)?)),
-        },
+        Some(members) => Ok(listed(of_one(alloc, group, members)?)),
     }
 }
 
@@ -316,7 +323,9 @@ pub(crate) fn value_of(
     values: &[GroupValue],
     standings: &[Standing],
     comms: &[Made],
-) -> Result<GroupValue, AllocError> {
+) -> Result<GroupValue, AllocError>
+    ensures { IfOk result (IsValueOf group.now (option_and_then (slice_get standings.now) meant.now.comm) (ranks_at comms.now values.now meant.now.group) (ranks_at comms.now values.now meant.now.second)) }
+{
     match group {
         GroupCall::OfComm { .. } => Ok(group_of(standing_at(standings, meant.comm))),
         GroupCall::Unread => Ok(GroupValue::Unknown),

@@ -7,7 +7,8 @@ ghost use Rattle.comm_makings.specs.Derives.{kth_calls};
 ghost use Rattle.comm_makings.specs.Here.{gives_unknown};
 ghost use Rattle.comm_makings.specs.Makes.{AreGiven, IsMadeBy, IsOneMaking, gives_so, is_covered, is_given_so};
 ghost use Rattle.comm_makings.specs.Selection.{Selection};
-ghost use Rattle.comm_makings.specs.State.{IsDerivedComm, IsDerivedOutcome, parts_in};
+ghost use Rattle.comm_makings.specs.State.{AreAllDerivedGroups, IsDerivedComm, IsDerivedOutcome, parts_in};
+ghost use Rattle.comm_makings.specs.declared.answer.MadeBy.TheVariants as functions;
 
 use crate::answer::MadeBy;
 use crate::calls::RankCalls;
@@ -23,13 +24,11 @@ use crate::state::{Made, dims_of};
 use crate::view::RankView;
 use std::alloc::{AllocError, Global};
 
-/// What the calls of a function make.
+/// What the calls of a function make that takes no groups.
 fn outcome_of(
     alloc: Global,
     ranks: &[RankCalls],
     views: &[RankView],
-    values: &[Vec<GroupValue>],
-    comms: &[Made],
     parent: &Made,
     all: &[Option<Here>],
     function: MadeBy,
@@ -44,14 +43,13 @@ fn outcome_of(
             first_part(alloc, members, dims_of(alloc, &parent.dims)?)
         },
         MadeBy::Split => split_outcome(alloc, ranks, all),
-        MadeBy::Create => create_outcome(alloc, values, comms, parent, all),
         MadeBy::CartCreate => cart_outcome(alloc, ranks, views, all, members),
         MadeBy::CartSub => cart_sub_outcome(alloc, ranks, parent, all, members),
         MadeBy::GraphCreate => graph_outcome(alloc, ranks, views, all, members),
         MadeBy::DistGraphCreate | MadeBy::DistGraphCreateAdjacent => {
             dist_graph_outcome(alloc, ranks, views, all, members)
         },
-        MadeBy::CreateGroup | MadeBy::Other => Ok(Outcome::Unsound),
+        MadeBy::Create | MadeBy::CreateGroup | MadeBy::Other => Ok(Outcome::Unsound),
     }
 }
 
@@ -167,13 +165,11 @@ fn checked(
     }
 }
 
-/// What the calls make that are one making of this function.
+/// What the calls make that are one making of this function, which takes no groups.
 fn making_outcome(
     alloc: Global,
     ranks: &[RankCalls],
     views: &[RankView],
-    values: &[Vec<GroupValue>],
-    comms: &[Made],
     parent: &Made,
     all: &[Option<Here>],
     function: MadeBy,
@@ -183,8 +179,29 @@ fn making_outcome(
     requires one { IsOneMaking function all.now }
     ensures { IfOk result (IsDerivedOutcome ranks.now views.now parent.now.members.items all.now) }
 {
-    let made = outcome_of(alloc, ranks, views, values, comms, parent, all, function)?;
+    let made = outcome_of(alloc, ranks, views, parent, all, function)?;
     let outcome = checked(alloc, made, all, gives_later(function))?;
+    Ok(outcome)
+}
+
+/// What the calls make that are one MPI_Comm_create.
+fn creation_outcome(
+    alloc: Global,
+    ranks: &[RankCalls],
+    views: &[RankView],
+    values: &[Vec<GroupValue>],
+    comms: &[Made],
+    parent: &Made,
+    all: &[Option<Here>],
+) -> Result<Outcome, AllocError>
+    requires parent { IsDerivedComm ranks.now views.now parent.now }
+    requires groups { AreAllDerivedGroups ranks.now views.now comms.now values.now }
+    requires kth { (k : ℕ) × (all.now ≡ kth_calls ranks.now views.now k parent.now.members.items) }
+    requires one { IsOneMaking functions.Create all.now }
+    ensures { IfOk result (IsDerivedOutcome ranks.now views.now parent.now.members.items all.now) }
+{
+    let made = create_outcome(alloc, values, comms, parent, all)?;
+    let outcome = checked(alloc, made, all, false)?;
     Ok(outcome)
 }
 
@@ -207,6 +224,7 @@ pub(crate) fn outcome_in(
     all: &[Option<Here>],
 ) -> Result<Outcome, AllocError>
     requires parent { IsDerivedComm ranks.now views.now parent.now }
+    requires groups { AreAllDerivedGroups ranks.now views.now comms.now values.now }
     requires kth { (k : ℕ) × (all.now ≡ kth_calls ranks.now views.now k parent.now.members.items) }
     ensures { IfOk result (IsDerivedOutcome ranks.now views.now parent.now.members.items all.now) }
 {
@@ -220,5 +238,9 @@ pub(crate) fn outcome_in(
     if !are_readable(all, gives_later(function)) {
         return Ok(Outcome::Unsound);
     }
-    making_outcome(alloc, ranks, views, values, comms, parent, all, function)
+    if function == MadeBy::Create {
+        creation_outcome(alloc, ranks, views, values, comms, parent, all)
+    } else {
+        making_outcome(alloc, ranks, views, parent, all, function)
+    }
 }

@@ -1,14 +1,16 @@
 //! From the world to all communicators that are made of it.
 
-ghost use Rattle.std.specs.Prelude.{◌≡◌, ◌∷◌, ◌<◌, ◌^◌, [], ℕ, IfOk, OnOk, length, map, option_map};
+ghost use Rattle.std.specs.Prelude.{◌≡◌, ◌∷◌, ◌<◌, ◌^◌, [], ℕ, IfOk, OnOk, length, map, option_map, slice_set};
 ghost use Rattle.std.specs.List.{filter_map};
-ghost use Rattle.comm_makings.specs.Derives.{kth_calls, member_with, world_members};
+ghost use Rattle.std.specs.Option.{option_copied};
+ghost use Rattle.comm_makings.specs.Derives.{group_call_at, kth_calls, member_with, world_members};
+ghost use Rattle.comm_makings.specs.Here.{meant_at};
 ghost use Rattle.comm_makings.specs.Made.{member_at};
-ghost use Rattle.comm_makings.specs.State.{AreDerived, AreMadeOf, IsDerivedComm, IsFirstComm, IsOfDerived};
+ghost use Rattle.comm_makings.specs.State.{AreAllDerivedGroups, AreDerived, AreDerivedGroups, AreMadeOf, AreMembers, AreMembersIn, BindsMember, IsDerivedComm, IsDerivedGroup, IsFirstComm, IsOfDerived, IsRight, KeepsDerived, NamesMembers, NoneListed, NoneListedAt, NoneStands, NoneStandsAt, SetsStanding};
 
 use crate::answer::Why;
 use crate::by_groups::{Found, Over, found_at};
-use crate::calls::{Action, CommCall, RankCalls};
+use crate::calls::{Action, CommCall, GroupCall, RankCalls};
 use crate::group_value::{GroupValue, value_of};
 use crate::handle::{Gives, Meant};
 use crate::here::{Here, all_kth, handle_of};
@@ -37,31 +39,48 @@ pub(crate) struct Run {
     pub read: u64,
 }
 
-pub(crate) fn set(
-    standings: &mut Vec<Vec<Standing>>,
-    rank: u32,
-    handle: usize,
-    standing: Standing,
-) {
-    if let Some(standings) = standings.get_mut(rank as usize) {
-        if let Some(before) = standings.get_mut(handle) {
-            *before = standing;
-        }
+fn set_in(row: &mut Vec<Standing>, handle: usize, standing: Standing)
+    ensures { row.new.items ≡ slice_set row.old.items handle standing }
+{
+    if handle < row.len() {
+        row[handle] = standing;
     }
 }
 
+#[tactic(auto, using(crate::proofs::Standings::set_one, crate::proofs::Standings::set_none))]
+pub(crate) fn set(standings: &mut Vec<Vec<Standing>>, rank: u32, handle: usize, standing: Standing)
+    ensures { SetsStanding standings.old.items standings.new.items rank handle standing }
+{
+    let rank = rank as usize;
+    if rank < standings.len() {
+        set_in(&mut standings[rank], handle, standing);
+    }
+}
+
+/// A handle is left out.
+#[tactic(auto, using(crate::proofs::Standings::keeps_set))]
+fn leave_one(standings: &mut Vec<Vec<Standing>>, rank: u32, handle: usize, why: Why)
+    ensures { KeepsDerived standings.old.items standings.new.items }
+{
+    set(standings, rank, handle, Standing::Left(why));
+}
+
 /// What the calls give is left out.
-pub(crate) fn leave(standings: &mut Vec<Vec<Standing>>, all: &[Option<Here>], why: Why) {
+#[tactic(auto, using(crate::proofs::Standings::keeps_all, crate::proofs::Standings::keeps_more))]
+pub(crate) fn leave(standings: &mut Vec<Vec<Standing>>, all: &[Option<Here>], why: Why)
+    ensures { KeepsDerived standings.old.items standings.new.items }
+{
     for here in all {
         if let Some(here) = here {
             if let Gives::Handle(handle) = here.gives {
-                set(standings, here.rank, handle, Standing::Left(why));
+                leave_one(standings, here.rank, handle, why);
             }
         }
     }
 }
 
 /// What these members make from the k-th making on is left out.
+#[tactic(auto, using(crate::proofs::Standings::keeps_all, crate::proofs::Standings::keeps_more))]
 fn leave_behind(
     alloc: Global,
     ranks: &[RankCalls],
@@ -70,7 +89,9 @@ fn leave_behind(
     k: usize,
     end: usize,
     standings: &mut Vec<Vec<Standing>>,
-) -> Result<(), AllocError> {
+) -> Result<(), AllocError>
+    ensures { KeepsDerived standings.old.items standings.new.items }
+{
     for later in k..end {
         let all = all_kth(alloc, ranks, views, members, later)?;
         leave(standings, &all, Why::Behind);
@@ -153,12 +174,23 @@ pub(crate) fn made_of(
     })
 }
 
+/// The member's handle names the communicator at this place.
+#[tactic(auto, using(crate::proofs::Standings::binds_set, crate::proofs::Standings::binds_none))]
+fn bind_member(standings: &mut Vec<Vec<Standing>>, member: Member, place: usize)
+    ensures { BindsMember member place standings.old.items standings.new.items }
+{
+    if let Some(handle) = member.handle {
+        set(standings, member.rank, handle, Standing::Derived(place));
+    }
+}
+
 /// The members' handles name the communicator at this place.
-pub(crate) fn bind(standings: &mut Vec<Vec<Standing>>, comm: &Made, place: usize) {
-    for member in &comm.members {
-        if let Some(handle) = member.handle {
-            set(standings, member.rank, handle, Standing::Derived(place));
-        }
+#[tactic(auto, using(crate::proofs::Standings::names_none, crate::proofs::Standings::names_bound))]
+pub(crate) fn bind(standings: &mut Vec<Vec<Standing>>, members: &[Member], place: usize)
+    ensures { NamesMembers members.now place standings.old.items standings.new.items }
+{
+    for member in members {
+        bind_member(standings, *member, place);
     }
 }
 
@@ -181,23 +213,106 @@ fn count_of(views: &[RankView], member: Member) -> usize {
     }
 }
 
+/// The call of a rank that gives a group, at this place of its list.
+fn group_call_at(ranks: &[RankCalls], rank: usize, at: usize) -> Option<&GroupCall>
+    ensures { option_copied result ≡ group_call_at ranks.now rank at }
+{
+    match &ranks.get(rank)?.calls.get(at)?.action {
+        Action::Group { group, .. } => Some(group),
+        Action::Make { .. }
+        | Action::CommRank { .. }
+        | Action::Free { .. }
+        | Action::GivesComm { .. } => None,
+    }
+}
+
+/// What the numbers in a call of a rank mean.
+fn meant_at(views: &[RankView], rank: usize, at: usize) -> Option<Meant>
+    ensures { result ≡ meant_at views.now rank at }
+{
+    views.get(rank)?.meant.get(at).copied()
+}
+
+/// The group that a call of a rank gives, by what is known of the calls before it.
+#[tactic(auto, using(crate::proofs::Values::given_value))]
+fn value_at(
+    alloc: Global,
+    ranks: &[RankCalls],
+    views: &[RankView],
+    comms: &[Made],
+    standings: &[Standing],
+    values: &[GroupValue],
+    rank: usize,
+    at: usize,
+) -> Result<GroupValue, AllocError>
+    requires comms { AreDerived ranks.now views.now comms.now }
+    requires standings { AreMembersIn comms.now rank standings.now }
+    requires groups { AreDerivedGroups ranks.now views.now comms.now rank values.now }
+    ensures { IfOk result (IsDerivedGroup ranks.now views.now comms.now rank at) }
+{
+    let Some(group) = group_call_at(ranks, rank, at) else {
+        return Ok(GroupValue::Unknown);
+    };
+    let Some(meant) = meant_at(views, rank, at) else {
+        return Ok(GroupValue::Unknown);
+    };
+    let value = value_of(alloc, group, &meant, values, standings, comms)?;
+    Ok(value)
+}
+
 /// The groups of a rank that become known.
+#[tactic(auto, using(crate::proofs::Values::group_set))]
 fn refresh(
     alloc: Global,
-    calls: &[CommCall],
-    meant: &[Meant],
-    standings: &[Standing],
+    ranks: &[RankCalls],
+    views: &[RankView],
     comms: &[Made],
+    standings: &[Standing],
+    rank: usize,
     values: &mut Vec<GroupValue>,
-) -> Result<(), AllocError> {
-    for (at, (call, meant)) in calls.iter().zip(meant.iter()).enumerate() {
-        if let Action::Group { group, .. } = &call.action {
-            if let Some(GroupValue::Waits) = values.get(at) {
-                let value = value_of(alloc, group, meant, values, standings, comms)?;
-                if let Some(before) = values.get_mut(at) {
-                    *before = value;
-                }
+) -> Result<(), AllocError>
+    requires comms { AreDerived ranks.now views.now comms.now }
+    requires standings { AreMembersIn comms.now rank standings.now }
+    requires groups { AreDerivedGroups ranks.now views.now comms.now rank values.old.items }
+    ensures { OnOk result (AreDerivedGroups ranks.now views.now comms.now rank values.new.items) }
+{
+    for at in 0..values.len() {
+        if let Some(GroupValue::Waits) = values.get(at) {
+            let value = value_at(alloc, ranks, views, comms, standings, values, rank, at)?;
+            if at < values.len() {
+                values[at] = value;
             }
+        }
+    }
+    Ok(())
+}
+
+/// The groups of all ranks that become known.
+#[tactic(auto, using(crate::proofs::Values::members_in, crate::proofs::Values::groups_at, crate::proofs::Values::groups_set))]
+fn refresh_all(
+    alloc: Global,
+    ranks: &[RankCalls],
+    views: &[RankView],
+    comms: &[Made],
+    standings: &[Vec<Standing>],
+    values: &mut Vec<Vec<GroupValue>>,
+) -> Result<(), AllocError>
+    requires comms { AreDerived ranks.now views.now comms.now }
+    requires standings { AreMembers comms.now standings.now }
+    requires groups { AreAllDerivedGroups ranks.now views.now comms.now values.old.items }
+    ensures { OnOk result (AreAllDerivedGroups ranks.now views.now comms.now values.new.items) }
+{
+    for rank in 0..values.len() {
+        if rank < standings.len() && rank < values.len() {
+            refresh(
+                alloc,
+                ranks,
+                views,
+                comms,
+                &standings[rank],
+                rank,
+                &mut values[rank],
+            )?;
         }
     }
     Ok(())
@@ -205,35 +320,47 @@ fn refresh(
 
 impl Run {
     /// The groups of all ranks that become known.
+    #[tactic(auto, using(crate::proofs::Right::right_refreshed))]
     pub(crate) fn refresh(
         &mut self,
         alloc: Global,
         ranks: &[RankCalls],
         views: &[RankView],
     ) -> Result<(), AllocError>
-        ensures { self.new.comms ≡ self.old.comms }
+        requires { IsRight ranks.now views.now self.old.standings.items self.old.values.items self.old.comms.items }
+        ensures { OnOk result (IsRight ranks.now views.now self.new.standings.items self.new.values.items self.new.comms.items) }
     {
-        for (at, values) in self.values.iter_mut().enumerate() {
-            if let (Some(rank), Some(view), Some(standings)) = (
-                ranks.get(at),
-                views.get(at),
-                self.standings.get(at),
-            ) {
-                refresh(
-                    alloc,
-                    &rank.calls,
-                    &view.meant,
-                    standings,
-                    &self.comms,
-                    values,
-                )?;
-            }
-        }
+        refresh_all(
+            alloc,
+            ranks,
+            views,
+            &self.comms,
+            &self.standings,
+            &mut self.values,
+        )
+    }
+
+    /// Adds a communicator. Its members' handles name it.
+    #[tactic(auto, using(crate::proofs::Right::right_added))]
+    fn add_one(
+        &mut self,
+        alloc: Global,
+        ranks: &[RankCalls],
+        views: &[RankView],
+        comm: Made,
+    ) -> Result<(), AllocError>
+        requires right { IsRight ranks.now views.now self.old.standings.items self.old.values.items self.old.comms.items }
+        requires comm { IsDerivedComm ranks.now views.now comm }
+        ensures { OnOk result (IsRight ranks.now views.now self.new.standings.items self.new.values.items self.new.comms.items) }
+    {
+        bind(&mut self.standings, &comm.members, self.comms.len());
+        self.comms.push(comm)?;
+        self.next.push(0)?;
+        self.over.push(Vec::new(alloc))?;
         Ok(())
     }
 
     /// Adds communicators. Their members' handles name them.
-    #[tactic(auto, using(crate::proofs::Derivations::derived_join))]
     pub(crate) fn add(
         &mut self,
         alloc: Global,
@@ -241,31 +368,18 @@ impl Run {
         views: &[RankView],
         made: Vec<Made>,
     ) -> Result<(), AllocError>
-        requires comms { AreDerived ranks.now views.now self.old.comms.items }
+        requires right { IsRight ranks.now views.now self.old.standings.items self.old.values.items self.old.comms.items }
         requires made { AreDerived ranks.now views.now made.items }
-        ensures { OnOk result (AreDerived ranks.now views.now self.new.comms.items) }
+        ensures { OnOk result (IsRight ranks.now views.now self.new.standings.items self.new.values.items self.new.comms.items) }
     {
-        let mut made = made;
-        self.name(alloc, &made)?;
-        self.comms.append(&mut made)?;
-        Ok(())
-    }
-
-    /// The handles of the members of communicators that are added name them.
-    fn name(&mut self, alloc: Global, made: &[Made]) -> Result<(), AllocError>
-        ensures { self.new.comms ≡ self.old.comms }
-    {
-        let known = self.comms.len();
-        for (at, comm) in made.iter().enumerate() {
-            bind(&mut self.standings, comm, known.saturating_add(at));
-            self.next.push(0)?;
-            self.over.push(Vec::new(alloc))?;
+        for comm in made {
+            self.add_one(alloc, ranks, views, comm)?;
         }
         Ok(())
     }
 
     /// Reads the k-th making of a communicator.
-    #[tactic(auto, using(crate::proofs::Derivations::derived_at))]
+    #[tactic(auto, using(crate::proofs::Right::right_comm, crate::proofs::Right::right_left))]
     fn step(
         &mut self,
         alloc: Global,
@@ -275,8 +389,8 @@ impl Run {
         k: usize,
         last: bool,
     ) -> Result<Step, AllocError>
-        requires { AreDerived ranks.now views.now self.old.comms.items }
-        ensures { OnOk result (AreDerived ranks.now views.now self.new.comms.items) }
+        requires { IsRight ranks.now views.now self.old.standings.items self.old.values.items self.old.comms.items }
+        ensures { OnOk result (IsRight ranks.now views.now self.new.standings.items self.new.values.items self.new.comms.items) }
     {
         let Some(parent) = comm_at(&self.comms, at) else {
             return Ok(Step::Over);
@@ -300,6 +414,7 @@ impl Run {
     }
 
     /// What the members made of a communicator from the k-th making on is left out.
+    #[tactic(auto, using(crate::proofs::Right::right_left))]
     fn leave_from(
         &mut self,
         alloc: Global,
@@ -309,7 +424,8 @@ impl Run {
         k: usize,
         end: usize,
     ) -> Result<(), AllocError>
-        ensures { self.new.comms ≡ self.old.comms }
+        requires { IsRight ranks.now views.now self.old.standings.items self.old.values.items self.old.comms.items }
+        ensures { OnOk result (IsRight ranks.now views.now self.new.standings.items self.new.values.items self.new.comms.items) }
     {
         let Some(parent) = comm_at(&self.comms, at) else {
             return Ok(());
@@ -326,7 +442,9 @@ impl Run {
     }
 
     fn note(&mut self, at: usize, next: usize)
-        ensures { self.new.comms ≡ self.old.comms }
+        ensures standings { self.new.standings ≡ self.old.standings }
+        ensures values { self.new.values ≡ self.old.values }
+        ensures comms { self.new.comms ≡ self.old.comms }
     {
         self.read = self.read.saturating_add(1);
         if let Some(before) = self.next.get_mut(at) {
@@ -351,8 +469,8 @@ impl Run {
         at: usize,
         last: bool,
     ) -> Result<bool, AllocError>
-        requires { AreDerived ranks.now views.now self.old.comms.items }
-        ensures { OnOk result (AreDerived ranks.now views.now self.new.comms.items) }
+        requires { IsRight ranks.now views.now self.old.standings.items self.old.values.items self.old.comms.items }
+        ensures { OnOk result (IsRight ranks.now views.now self.new.standings.items self.new.values.items self.new.comms.items) }
     {
         let (first, end) = self.unread(views, at);
         for k in first..end {
@@ -370,30 +488,25 @@ impl Run {
     }
 
     /// Notes which calls of MPI_Comm_create_group are read, and what they leave out.
+    #[tactic(auto, using(crate::proofs::Right::right_left))]
     fn note_calls(
         &mut self,
+        ranks: &[RankCalls],
+        views: &[RankView],
         at: usize,
         read: &[(u32, usize)],
         left: &[(u32, usize)],
         over: Vec<Over>,
     ) -> Result<(), AllocError>
-        ensures { self.new.comms ≡ self.old.comms }
+        requires { IsRight ranks.now views.now self.old.standings.items self.old.values.items self.old.comms.items }
+        ensures { OnOk result (IsRight ranks.now views.now self.new.standings.items self.new.values.items self.new.comms.items) }
     {
         self.read = self.read.saturating_add(read.len() as u64);
-        for (rank, call) in read {
-            mark(&mut self.taken, *rank, *call);
-        }
-        for (rank, handle) in left {
-            set(
-                &mut self.standings,
-                *rank,
-                *handle,
-                Standing::Left(Why::Unsound),
-            );
-        }
+        mark_all(&mut self.taken, read);
+        leave_handles(&mut self.standings, left);
         let mut over = over;
-        if let Some(before) = self.over.get_mut(at) {
-            before.append(&mut over)?;
+        if at < self.over.len() {
+            self.over[at].append(&mut over)?;
         }
         Ok(())
     }
@@ -407,9 +520,9 @@ impl Run {
         at: usize,
         found: Found,
     ) -> Result<(), AllocError>
-        requires comms { AreDerived ranks.now views.now self.old.comms.items }
+        requires right { IsRight ranks.now views.now self.old.standings.items self.old.values.items self.old.comms.items }
         requires found { AreDerived ranks.now views.now found.made.items }
-        ensures { OnOk result (AreDerived ranks.now views.now self.new.comms.items) }
+        ensures { OnOk result (IsRight ranks.now views.now self.new.standings.items self.new.values.items self.new.comms.items) }
     {
         let Found {
             made,
@@ -418,7 +531,7 @@ impl Run {
             left,
             ..
         } = found;
-        self.note_calls(at, &read, &left, over)?;
+        self.note_calls(ranks, views, at, &read, &left, over)?;
         self.add(alloc, ranks, views, made)
     }
 
@@ -431,8 +544,8 @@ impl Run {
         at: usize,
         last: bool,
     ) -> Result<bool, AllocError>
-        requires { AreDerived ranks.now views.now self.old.comms.items }
-        ensures { OnOk result (AreDerived ranks.now views.now self.new.comms.items) }
+        requires { IsRight ranks.now views.now self.old.standings.items self.old.values.items self.old.comms.items }
+        ensures { OnOk result (IsRight ranks.now views.now self.new.standings.items self.new.values.items self.new.comms.items) }
     {
         let found = found_at(alloc, ranks, views, self, at, last)?;
         let waits = found.waits;
@@ -449,8 +562,8 @@ impl Run {
         todo: &[usize],
         last: bool,
     ) -> Result<Vec<usize>, AllocError>
-        requires { AreDerived ranks.now views.now self.old.comms.items }
-        ensures { OnOk result (AreDerived ranks.now views.now self.new.comms.items) }
+        requires { IsRight ranks.now views.now self.old.standings.items self.old.values.items self.old.comms.items }
+        ensures { OnOk result (IsRight ranks.now views.now self.new.standings.items self.new.values.items self.new.comms.items) }
     {
         let mut waiting = Vec::new(alloc);
         for at in todo {
@@ -472,8 +585,8 @@ impl Run {
         todo: &[usize],
         last: bool,
     ) -> Result<Vec<usize>, AllocError>
-        requires { AreDerived ranks.now views.now self.old.comms.items }
-        ensures { OnOk result (AreDerived ranks.now views.now self.new.comms.items) }
+        requires { IsRight ranks.now views.now self.old.standings.items self.old.values.items self.old.comms.items }
+        ensures { OnOk result (IsRight ranks.now views.now self.new.standings.items self.new.values.items self.new.comms.items) }
     {
         self.refresh(alloc, ranks, views)?;
         let known = self.comms.len();
@@ -493,6 +606,22 @@ fn mark(taken: &mut Vec<Vec<bool>>, rank: u32, at: usize) {
     }
 }
 
+fn mark_all(taken: &mut Vec<Vec<bool>>, read: &[(u32, usize)]) {
+    for (rank, at) in read {
+        mark(taken, *rank, *at);
+    }
+}
+
+/// These handles are left out: the calls that give them are unsound.
+#[tactic(auto, using(crate::proofs::Standings::keeps_all, crate::proofs::Standings::keeps_more))]
+fn leave_handles(standings: &mut Vec<Vec<Standing>>, left: &[(u32, usize)])
+    ensures { KeepsDerived standings.old.items standings.new.items }
+{
+    for (rank, handle) in left {
+        leave_one(standings, *rank, *handle, Why::Unsound);
+    }
+}
+
 fn is_group(call: &CommCall) -> bool {
     match &call.action {
         Action::Group { .. } => true,
@@ -500,7 +629,10 @@ fn is_group(call: &CommCall) -> bool {
     }
 }
 
-fn first_values(alloc: Global, calls: &[CommCall]) -> Result<Vec<GroupValue>, AllocError> {
+#[tactic(auto, using(crate::proofs::Right::listed_none, crate::proofs::Right::listed_more))]
+fn first_values(alloc: Global, calls: &[CommCall]) -> Result<Vec<GroupValue>, AllocError>
+    ensures { IfOk result (λ v. NoneListed v.items) }
+{
     let mut values = Vec::new(alloc);
     for call in calls {
         if is_group(call) {
@@ -586,31 +718,41 @@ fn first_comms(
 }
 
 /// A function that gives communicators from which nothing is derived leaves its handle out.
-fn leave_others(calls: &[CommCall], meant: &[Meant], standings: &mut [Standing]) {
+#[tactic(auto, using(crate::proofs::Right::stands_set))]
+fn leave_others(calls: &[CommCall], meant: &[Meant], standings: &mut Vec<Standing>)
+    requires { NoneStands standings.old.items }
+    ensures { NoneStands standings.new.items }
+{
     for (call, meant) in calls.iter().zip(meant.iter()) {
         if let Action::GivesComm { .. } = &call.action {
             if let Gives::Handle(handle) = meant.gives {
-                if let Some(standing) = standings.get_mut(handle) {
-                    *standing = Standing::Left(Why::Function);
-                }
+                set_in(standings, handle, Standing::Left(Why::Function));
             }
         }
     }
 }
 
+#[tactic(auto, using(crate::proofs::Right::stands_open))]
 fn first_standings(
     alloc: Global,
     calls: &[CommCall],
     view: &RankView,
-) -> Result<Vec<Standing>, AllocError> {
+) -> Result<Vec<Standing>, AllocError>
+    ensures { IfOk result (λ v. NoneStands v.items) }
+{
     let mut standings = vec![in alloc; Standing::Open; view.handles.len()]?;
     leave_others(calls, &view.meant, &mut standings);
     Ok(standings)
 }
 
 /// A rank before anything is derived.
+#[tactic(auto, using(crate::proofs::Right::stands_more, crate::proofs::Right::all_listed_more))]
 fn begin(alloc: Global, calls: &RankCalls, view: &RankView, run: &mut Run) -> Result<(), AllocError>
-    ensures { run.new.comms ≡ run.old.comms }
+    requires standings { NoneStandsAt run.old.standings.items }
+    requires values { NoneListedAt run.old.values.items }
+    ensures standings { OnOk result (NoneStandsAt run.new.standings.items) }
+    ensures values { OnOk result (NoneListedAt run.new.values.items) }
+    ensures comms { run.new.comms ≡ run.old.comms }
 {
     run.standings
         .push(first_standings(alloc, &calls.calls, view)?)?;
@@ -620,8 +762,11 @@ fn begin(alloc: Global, calls: &RankCalls, view: &RankView, run: &mut Run) -> Re
 }
 
 /// All ranks before anything is derived.
+#[tactic(auto, using(crate::proofs::Right::stands_none, crate::proofs::Right::all_listed_none))]
 fn begin_all(alloc: Global, ranks: &[RankCalls], views: &[RankView]) -> Result<Run, AllocError>
-    ensures { IfOk result (λ run. run.comms.items ≡ []) }
+    ensures standings { IfOk result (λ run. NoneStandsAt run.standings.items) }
+    ensures values { IfOk result (λ run. NoneListedAt run.values.items) }
+    ensures comms { IfOk result (λ run. run.comms.items ≡ []) }
 {
     let mut run = Run {
         standings: Vec::new(alloc),
@@ -639,10 +784,10 @@ fn begin_all(alloc: Global, ranks: &[RankCalls], views: &[RankView]) -> Result<R
 }
 
 /// The world and MPI_COMM_SELF are derived.
-#[tactic(auto, using(crate::proofs::Derivations::derived_none))]
+#[tactic(auto, using(crate::proofs::Right::right_first))]
 fn start(alloc: Global, ranks: &[RankCalls], views: &[RankView]) -> Result<Run, AllocError>
     requires { length ranks.now < 2 ^ 32 }
-    ensures { IfOk result (λ run. AreDerived ranks.now views.now run.comms.items) }
+    ensures { IfOk result (λ run. IsRight ranks.now views.now run.standings.items run.values.items run.comms.items) }
 {
     let mut run = begin_all(alloc, ranks, views)?;
     run.add(alloc, ranks, views, first_comms(alloc, ranks, views)?)?;
@@ -665,7 +810,7 @@ pub(crate) fn run_of(
     views: &[RankView],
 ) -> Result<Run, AllocError>
     requires { length ranks.now < 2 ^ 32 }
-    ensures { IfOk result (λ run. AreDerived ranks.now views.now run.comms.items) }
+    ensures { IfOk result (λ run. IsRight ranks.now views.now run.standings.items run.values.items run.comms.items) }
 {
     let mut run = start(alloc, ranks, views)?;
     let mut todo = Vec::new(alloc);
@@ -732,6 +877,7 @@ fn made_in(
     all: &[Option<Here>],
 ) -> Result<Gained, AllocError>
     requires parent { IsDerivedComm ranks.now views.now parent.now }
+    requires groups { AreAllDerivedGroups ranks.now views.now comms.now values.now }
     requires kth { (k : ℕ) × (all.now ≡ kth_calls ranks.now views.now k parent.now.members.items) }
     ensures { IfOk result (IsOfDerived ranks.now views.now) }
 {

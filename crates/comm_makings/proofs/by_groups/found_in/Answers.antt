@@ -1,0 +1,8 @@
+use Rattle.std.proofs.Common.{arith}
+use Rattle.comm_makings.proofs.GroupCalls.{same_behind, same_from}
+use Rattle.comm_makings.proofs.by_groups.found_in.Goals as goal
+
+pub read_key-requires-clause-same : goal.read_key-requires-clause-same
+read_key-requires-clause-same c =
+    same_from c.args.calls.now c.loop-at.at c.same_length.result _ _ c.loop-at-test.true (omega arith)
+    (same_behind c.args.calls.now c.loop-at.at c.same_length.result _ _ c.same_length.ensures.same)
