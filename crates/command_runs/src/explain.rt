@@ -167,7 +167,8 @@ fn explained<N: Answerer>(
     let unknown = unknown_ranks(alloc, answer)?;
     let places = places_of(alloc, shown_first(answer.stuck()), notes)?;
     let more = answer.stuck().len().saturating_sub(places.len());
-    text_of(alloc, &said, &unknown, notes, &places, more)
+    let text = text_of(alloc, &said, &unknown, notes, &places, more)?;
+    Ok(text)
 }
 
 // What was said, with which of the ranks of which nothing is known have no text, what is noted of the texts, and where
