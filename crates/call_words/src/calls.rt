@@ -59,8 +59,8 @@ fn put_probe(out: &mut Text, envelope: ProbeEnvelope)
     put_probed(out, envelope);
 }
 
-fn put_exchange(out: &mut Text, exchange: Exchange)
-    ensures { Adds out.old out.new (exchange_text exchange) }
+fn put_exchange(out: &mut Text, exchange: &Exchange)
+    ensures { Adds out.old out.new (exchange_text exchange.now) }
 {
     out.put(b"MPI_Sendrecv");
     put_sent(out, exchange.send());
@@ -130,7 +130,7 @@ pub fn put_call(out: &mut Text, call: &Call)
         Call::Isend(mode, envelope) => put_send(out, immediate_name(*mode), envelope.envelope()),
         Call::Recv(envelope) => put_receive(out, b"MPI_Recv", envelope.envelope()),
         Call::Irecv(envelope) => put_receive(out, b"MPI_Irecv", envelope.envelope()),
-        Call::Sendrecv(exchange) => put_exchange(out, *exchange),
+        Call::Sendrecv(exchange) => put_exchange(out, exchange),
         Call::Wait(_) => out.put(b"MPI_Wait on a request"),
         Call::Waitall(list) => put_of_requests(out, b"MPI_Waitall", list.as_slice().len()),
         Call::Waitany(list) => put_of_requests(out, b"MPI_Waitany", list.as_slice().len()),

@@ -289,7 +289,8 @@ fn ibarriers(rt: HostRuntime) {
 fn sendrecv(rt: HostRuntime) {
     let send = sent(&rt, &(Mode::Standard, Peer::Rank(1), 7, CommRef::World, 11));
     let receive = received(&rt, &(Peer::Any, Some(8), CommRef::World));
-    let both = Exchange::new(send, receive).expect(&rt, "one communicator");
+    let made = Exchange::new(rt.alloc(), send, receive).expect(&rt, "memory");
+    let both = made.expect(&rt, "one communicator");
     let fields =
         b"\0\0\0\x01\0\0\0\x07\xFF\xFF\xFF\xFF\0\0\0\x01\0\0\0\0\0\0\0\x0B\xFF\xFF\xFF\xFF\0\0\0\x08\xFF\xFF\xFF\xFF\x7F\xFF\xFF\xFF\x80\0\0\0\0\0\0\0";
     assert!(rt; enters(&rt, rt.alloc(), Call::Sendrecv(both), (6, fields)));
