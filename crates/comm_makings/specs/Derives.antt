@@ -11,6 +11,7 @@ use Rattle.comm_makings.specs.declared.here.Here.{Here}
 use Rattle.comm_makings.specs.declared.state.Member.{Member}
 use Rattle.comm_makings.specs.declared.view.RankView.{RankView}
 
+-- the member of this rank in the run, which names the communicator by this handle
 abbrev pub member_with : ℕ → ℕ → Member
 member_with handle rank = record { rank = rank; handle = Some handle }
 
@@ -18,6 +19,7 @@ member_with handle rank = record { rank = rank; handle = Some handle }
 abbrev pub world_members : ℕ → List Member
 world_members count = map (member_with 0) (range_with_len 0 count)
 
+-- the ranks of the members in the run
 abbrev pub ranks_in : List Member → List ℕ
 ranks_in members = map (λ m. m.rank) members
 
