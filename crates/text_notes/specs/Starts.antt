@@ -14,6 +14,7 @@ begins one other _ = false
 abbrev pub is_utf16 : List ℕ → Bool
 is_utf16 front = if begins 255 254 front then true else begins 254 255 front
 
+-- One of the bytes is 0.
 abbrev pub has_zero : List ℕ → Bool
 has_zero front = list_any (λ byte. byte == 0) front
 
