@@ -53,7 +53,7 @@ impl Model for Collect {
     ghost invariant = { λ c. AreParts c.parts × (alternate true (events_in c.parts) ≡ true) × (c.is_open ≡ ends_open (events_in c.parts)) };
 }
 
-// whether so many events, from a call on, have a place past the last
+/// Whether so many events, from a call on, have a place past the last.
 fn has_places_past(first_call: u64, count: u64) -> bool
     ensures { IsTrue result ↔ (PLACES < enter_place first_call + count) }
 {
@@ -98,7 +98,7 @@ impl Collect {
         }
     }
 
-    // keeps the events of one call, unless a call before it has not returned
+    /// Keeps the events of one call, unless a call before it has not returned.
     fn push(&mut self, call: Call, enter: Stamp, exit: Option<Exit>) -> Result<(), Memory>
         ensures ok { OnOk result (self.new ≡ collected self.old (seen OnCollective call enter exit)) }
         ensures err { OnErr result (self.new ≡ self.old) }

@@ -21,7 +21,7 @@ pub struct Part {
     pub tag: Option<u32>,
 }
 
-// a part with its communicator
+/// A part with its communicator.
 fn envelope(part: Part, comm: CommRef) -> Envelope
     ensures { result ≡ envelope_of part comm }
 {
@@ -34,7 +34,7 @@ fn envelope(part: Part, comm: CommRef) -> Envelope
     }
 }
 
-// what a send says, by these parameters and `dest`
+/// What a send says, by these parameters and `dest`.
 #[tactic(auto, unfolding(crate::specs::Rows::send_part))]
 fn part_of_send(
     alloc: Global,
@@ -59,7 +59,7 @@ fn part_of_send(
     })
 }
 
-// what a receive asks for, by these parameters and `source`
+/// What a receive asks for, by these parameters and `source`.
 #[tactic(auto, unfolding(crate::specs::Rows::receive_part))]
 fn part_of_receive(
     alloc: Global,

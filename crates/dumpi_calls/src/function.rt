@@ -64,7 +64,7 @@ pub fn is(name: &[u8], word: &str) -> bool
     same(name, word.as_bytes())
 }
 
-// a blocking send
+/// A blocking send.
 fn send_of(name: &[u8]) -> Option<Function>
     ensures { result ≡ send_named name.now }
 {
@@ -81,7 +81,7 @@ fn send_of(name: &[u8]) -> Option<Function>
     }
 }
 
-// a nonblocking send
+/// A nonblocking send.
 fn isend_of(name: &[u8]) -> Option<Function>
     ensures { result ≡ isend_named name.now }
 {
@@ -98,7 +98,7 @@ fn isend_of(name: &[u8]) -> Option<Function>
     }
 }
 
-// a receive, a send and a receive at once, or a probe
+/// A receive, a send and a receive at once, or a probe.
 fn receive_of(name: &[u8]) -> Option<Function>
     ensures { result ≡ receive_named name.now }
 {
@@ -115,7 +115,7 @@ fn receive_of(name: &[u8]) -> Option<Function>
     }
 }
 
-// a call that waits for requests
+/// A call that waits for requests.
 fn completion_of(name: &[u8]) -> Option<Function>
     ensures { result ≡ completion_named name.now }
 {
@@ -132,7 +132,7 @@ fn completion_of(name: &[u8]) -> Option<Function>
     }
 }
 
-// a call that asks whether requests are complete
+/// A call that asks whether requests are complete.
 fn test_of(name: &[u8]) -> Option<Function>
     ensures { result ≡ test_named name.now }
 {
@@ -149,7 +149,7 @@ fn test_of(name: &[u8]) -> Option<Function>
     }
 }
 
-// a call that gives up a request
+/// A call that gives up a request.
 fn ending_of(name: &[u8]) -> Option<Function>
     ensures { result ≡ ending_named name.now }
 {
@@ -162,7 +162,7 @@ fn ending_of(name: &[u8]) -> Option<Function>
     }
 }
 
-// a name without a `_c` behind it
+/// A name without a `_c` behind it.
 fn short_of(name: &[u8]) -> &[u8]
     ensures { result.now ≡ short_name name.now }
 {
@@ -172,7 +172,7 @@ fn short_of(name: &[u8]) -> &[u8]
     }
 }
 
-// the kind of a blocking collective function
+/// The kind of a blocking collective function.
 fn kind_of(name: &[u8]) -> Option<Kind>
     ensures { result ≡ first_named false name.now all_kinds }
 {
@@ -215,7 +215,7 @@ fn kind_of(name: &[u8]) -> Option<Kind>
     }
 }
 
-// the kind of a nonblocking collective function
+/// The kind of a nonblocking collective function.
 fn nonblocking_kind_of(name: &[u8]) -> Option<Kind>
     ensures { result ≡ first_named true name.now all_kinds }
 {
@@ -258,7 +258,7 @@ fn nonblocking_kind_of(name: &[u8]) -> Option<Kind>
     }
 }
 
-// whether an `I` stands behind the first four bytes of a name
+/// Whether an `I` stands behind the first four bytes of a name.
 fn has_i(name: &[u8]) -> bool
     ensures { result ≡ has_i name.now }
 {
@@ -268,7 +268,7 @@ fn has_i(name: &[u8]) -> bool
     }
 }
 
-// a collective function: the nonblocking ones, and no others, have an `I` behind `MPI_`
+/// A collective function: the nonblocking ones, and no others, have an `I` behind `MPI_`.
 #[tactic(auto, unfolding(crate::specs::Rows::collective_named))]
 fn collective_of(name: &[u8]) -> Option<Function>
     ensures { result ≡ collective_named name.now }
@@ -290,8 +290,8 @@ fn collective_of(name: &[u8]) -> Option<Function>
     }
 }
 
-// whether a name is of a nonblocking exchange, of partitioned or persistent communication, of a matched probe, or of an
-// exchange in place
+/// Whether a name is of a nonblocking exchange, of partitioned or persistent communication, of a matched probe, or of
+/// an exchange in place.
 fn is_unread_name(name: &[u8]) -> bool
     ensures { result ≡ is_unread_name name.now }
 {
@@ -306,7 +306,7 @@ fn is_unread_name(name: &[u8]) -> bool
         || is(name, "MPI_Sendrecv_replace")
 }
 
-// whether a name is of a send with counts of 64 bits
+/// Whether a name is of a send with counts of 64 bits.
 fn is_long_send(name: &[u8]) -> bool
     ensures { result ≡ is_long_send name.now }
 {
@@ -320,7 +320,7 @@ fn is_long_send(name: &[u8]) -> bool
         || is(name, "MPI_Irsend_c")
 }
 
-// whether a name is of a receive or an exchange with such counts
+/// Whether a name is of a receive or an exchange with such counts.
 fn is_long_receive(name: &[u8]) -> bool
     ensures { result ≡ is_long_receive name.now }
 {
@@ -332,7 +332,7 @@ fn is_long_receive(name: &[u8]) -> bool
         || is(name, "MPI_Isendrecv_replace_c")
 }
 
-// whether a name is of a persistent request with such counts
+/// Whether a name is of a persistent request with such counts.
 fn is_long_init(name: &[u8]) -> bool
     ensures { result ≡ is_long_init name.now }
 {
@@ -343,7 +343,7 @@ fn is_long_init(name: &[u8]) -> bool
         || is(name, "MPI_Recv_init_c")
 }
 
-// a function that moves messages and that no row reads
+/// A function that moves messages and that no row reads.
 fn unread_of(name: &[u8]) -> Option<Function>
     ensures { result ≡ unread_named name.now }
 {
@@ -354,7 +354,7 @@ fn unread_of(name: &[u8]) -> Option<Function>
     }
 }
 
-// every other function
+/// Every other function.
 fn other_of(name: &[u8]) -> Function
     ensures { result ≡ other_named name.now }
 {
@@ -365,7 +365,7 @@ fn other_of(name: &[u8]) -> Function
     }
 }
 
-// a call of a message or of requests
+/// A call of a message or of requests.
 fn message_of(name: &[u8]) -> Option<Function>
     ensures { result ≡ message_named name.now }
 {

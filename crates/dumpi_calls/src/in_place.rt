@@ -44,7 +44,7 @@ impl Whole {
     }
 }
 
-// the envelope of a send
+/// The envelope of a send.
 fn sent(count: u32, datatype: Num, peer: Peer, tag: u32, comm: CommRef) -> SendEnvelope
     requires peer { IsTarget peer }
     requires tag { tag < 2 ^ 31 }
@@ -61,7 +61,7 @@ fn sent(count: u32, datatype: Num, peer: Peer, tag: u32, comm: CommRef) -> SendE
     send_envelope(part, comm)
 }
 
-// the envelope of a receive
+/// The envelope of a receive.
 fn received(
     count: u32,
     datatype: Num,
@@ -84,14 +84,14 @@ fn received(
     receive_envelope(part, comm)
 }
 
-// the request that a call started
+/// The request that a call started.
 fn posted(request: Num) -> Outs
     ensures { result ≡ Outs.Posted (request_by request.name request.value) }
 {
     Outs::Posted(request_of(request))
 }
 
-// The envelope that the lines of a send say in front of a text, and what follows them.
+/// The envelope that the lines of a send say in front of a text, and what follows them.
 fn send_front(text: &[u8]) -> Option<(SendEnvelope, &[u8])>
     ensures { IfSome result (λ x. TellsSend x.0 text.now x.1.now) }
 {
@@ -107,7 +107,7 @@ fn send_front(text: &[u8]) -> Option<(SendEnvelope, &[u8])>
     Some((sent(elements, datatype, peer, asked, group), rest))
 }
 
-// The envelope that the lines of a receive say in front of a text, and what follows them.
+/// The envelope that the lines of a receive say in front of a text, and what follows them.
 fn receive_front(text: &[u8]) -> Option<(ReceiveEnvelope, &[u8])>
     ensures { IfSome result (λ x. TellsReceive x.0 text.now x.1.now) }
 {
@@ -123,7 +123,7 @@ fn receive_front(text: &[u8]) -> Option<(ReceiveEnvelope, &[u8])>
     Some((received(elements, datatype, peer, asked, group), rest))
 }
 
-// What the lines in front of a text say: the call, its outcome, how many lines they are, and what follows them.
+/// What the lines in front of a text say: the call, its outcome, how many lines they are, and what follows them.
 #[tactic(auto, using(crate::proofs::InPlace::send_call_told))]
 fn send_lines(mode: Mode, text: &[u8]) -> Option<(Call, Outs, u64, &[u8])>
     ensures says { IfSome result (λ x. TellsCall (Function.Send mode) x.0 x.1 x.2 text.now x.3.now) }
@@ -207,7 +207,7 @@ fn waitall_lines(alloc: Global, text: &[u8]) -> Option<(Call, Outs, u64, &[u8])>
     ))
 }
 
-// a collective call without a root
+/// A collective call without a root.
 fn group_lines(kind: Kind, text: &[u8]) -> Option<(Call, Outs, u64, &[u8])>
     requires { has_root kind ≡ false }
     ensures says { IfSome result (λ x. TellsCall (Function.Collective kind) x.0 x.1 x.2 text.now x.3.now) }
@@ -225,7 +225,7 @@ fn group_lines(kind: Kind, text: &[u8]) -> Option<(Call, Outs, u64, &[u8])>
     ))
 }
 
-// a collective call with a root
+/// A collective call with a root.
 fn rooted_lines(kind: Kind, text: &[u8]) -> Option<(Call, Outs, u64, &[u8])>
     requires { has_root kind ≡ true }
     ensures says { IfSome result (λ x. TellsCall (Function.Collective kind) x.0 x.1 x.2 text.now x.3.now) }
@@ -245,7 +245,7 @@ fn rooted_lines(kind: Kind, text: &[u8]) -> Option<(Call, Outs, u64, &[u8])>
     ))
 }
 
-// The same of any function whose calls are read in place.
+/// The same of any function whose calls are read in place.
 fn lines_front(alloc: Global, function: Function, text: &[u8]) -> Option<(Call, Outs, u64, &[u8])>
     ensures says { IfSome result (λ x. TellsCall function x.0 x.1 x.2 text.now x.3.now) }
     ensures few { IfSome result (λ x. x.2 ≤ 14) }
@@ -288,8 +288,8 @@ pub fn usual_name(function: Function) -> &'static str
     }
 }
 
-// The function whose entering line may stand in front of a text, by a few bytes of its name: no other of those that are
-// read in place has them.
+/// The function whose entering line may stand in front of a text, by a few bytes of its name: no other of those that
+/// are read in place has them.
 #[tactic(auto, unfolding(crate::specs::Rows::function_named, crate::specs::Rows::collective_named))]
 fn likely_function(text: &[u8]) -> Option<Function>
     ensures word { IfSome result (λ function. is_word (usual_name function) ≡ true) }

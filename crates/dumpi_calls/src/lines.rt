@@ -59,7 +59,7 @@ pub fn passed_front<'a>(kind: &[u8], name: &[u8], text: &'a [u8]) -> (u64, &'a [
     }
 }
 
-// the lines of a call that moves one count of elements
+/// The lines of a call that moves one count of elements.
 fn counted_front(text: &[u8]) -> (u64, &[u8])
     ensures says { PassesLines result.0 text.now result.1.now }
     ensures few { result.0 ≤ 4 }
@@ -70,7 +70,7 @@ fn counted_front(text: &[u8]) -> (u64, &[u8])
     (count + datatype + op, rest)
 }
 
-// the lines of a call that moves one count of elements from a rank and another to it
+/// The lines of a call that moves one count of elements from a rank and another to it.
 fn exchanged_front(text: &[u8]) -> (u64, &[u8])
     ensures says { PassesLines result.0 text.now result.1.now }
     ensures few { result.0 ≤ 4 }
@@ -96,7 +96,7 @@ pub fn moved_front(kind: Kind, text: &[u8]) -> (u64, &[u8])
     }
 }
 
-// What the text of a status tells: `<IGNORED>` tells nothing.
+/// What the text of a status tells: `<IGNORED>` tells nothing.
 #[tactic(auto, using(crate::proofs::InPlace::ignored))]
 fn told_by(value: &[u8]) -> Option<Told>
     ensures { IfSome result (λ told. told_at (groups_from (value_of value.now)) 0 ≡ told) }

@@ -19,7 +19,7 @@ use dumpi_text::{
 use mpi_model::{Call, Element, Elements, Outs, Sources, Told};
 use std::alloc::{AllocError, Global};
 
-// the source that a number tells, unless its name says that it is none
+/// The source that a number tells, unless its name says that it is none.
 fn source_of(number: Num) -> Option<u32>
     ensures value { result ≡ told_by number.name number.value }
     ensures range { IfSome result (λ n. n < 2 ^ 31) }
@@ -30,7 +30,7 @@ fn source_of(number: Num) -> Option<u32>
     }
 }
 
-// what the field `source` of a group tells, where it has one
+/// What the field `source` of a group tells, where it has one.
 fn told_by_source(source: Option<Num>) -> Told
     ensures { result ≡ source_told source }
 {
@@ -43,7 +43,7 @@ fn told_by_source(source: Option<Num>) -> Told
     }
 }
 
-// whether a number is true, as C reads an `int`
+/// Whether a number is true, as C reads an `int`.
 fn is_true(value: i64) -> bool
     ensures { result ≡ is_set value }
 {
@@ -60,7 +60,7 @@ pub fn told_from(cancelled: Option<Num>, source: Option<Num>) -> Told
     }
 }
 
-// the number of the first field of a name
+/// The number of the first field of a name.
 fn number_of(fields: &[Field], word: &str) -> Option<Num>
     ensures { result ≡ first_number word.now fields.now }
 {
@@ -72,14 +72,14 @@ fn number_of(fields: &[Field], word: &str) -> Option<Num>
     None
 }
 
-// what a group tells
+/// What a group tells.
 fn told_of_group(fields: &[Field]) -> Told
     ensures { result ≡ told_of fields.now }
 {
     told_from(number_of(fields, "cancelled"), number_of(fields, "source"))
 }
 
-// what the group at a place tells
+/// What the group at a place tells.
 fn told_of_place(groups: &[Group], place: usize) -> Told
     ensures { result ≡ told_at groups.now place }
 {
@@ -89,7 +89,7 @@ fn told_of_place(groups: &[Group], place: usize) -> Told
     }
 }
 
-// the groups that a text says, none where it can't be read
+/// The groups that a text says, none where it can't be read.
 fn groups_of(alloc: Global, text: &[u8]) -> Result<Groups, AllocError>
     ensures { IfOk result (λ g. g ≡ groups_from (value_of text.now)) }
 {
@@ -101,7 +101,7 @@ fn groups_of(alloc: Global, text: &[u8]) -> Result<Groups, AllocError>
     }
 }
 
-// the groups of a parameter, none where it is absent or can't be read
+/// The groups of a parameter, none where it is absent or can't be read.
 #[tactic(auto, unfolding(crate::specs::Outcomes::groups_in))]
 fn groups(alloc: Global, raw: &RawCall, parameter: Parameter) -> Result<Groups, AllocError>
     ensures { IfOk result (λ g. g ≡ groups_in parameter raw.now) }
@@ -112,7 +112,7 @@ fn groups(alloc: Global, raw: &RawCall, parameter: Parameter) -> Result<Groups, 
     }
 }
 
-// what a text tells, where it is a status
+/// What a text tells, where it is a status.
 fn told_of_text(alloc: Global, text: &[u8]) -> Result<Told, AllocError>
     ensures { IfOk result (λ t. t ≡ told_at (groups_from (value_of text.now)) 0) }
 {
@@ -125,7 +125,7 @@ fn told_of_text(alloc: Global, text: &[u8]) -> Result<Told, AllocError>
     }
 }
 
-// what `status` tells
+/// What `status` tells.
 #[tactic(auto, unfolding(crate::specs::Outcomes::groups_in))]
 fn told(alloc: Global, raw: &RawCall) -> Result<Told, AllocError>
     ensures { IfOk result (λ t. t ≡ told_at (groups_in parameters.Status raw.now) 0) }
@@ -148,7 +148,7 @@ pub fn tolds(alloc: Global, groups: &[Group], requests: &[i64]) -> Result<Source
     Ok(Sources::from_vec(tolds))
 }
 
-// a position within a list of so many
+/// A position within a list of so many.
 fn position(count: usize, value: i64) -> Option<u32>
     ensures { result ≡ position_of count value }
 {
@@ -163,7 +163,7 @@ fn position(count: usize, value: i64) -> Option<u32>
     }
 }
 
-// the numbers of `indices`, none where it is absent or can't be read
+/// The numbers of `indices`, none where it is absent or can't be read.
 #[tactic(auto, unfolding(crate::specs::Outcomes::indices_in))]
 fn indices(alloc: Global, raw: &RawCall) -> Result<Nums, AllocError>
     ensures { IfOk result (λ n. n ≡ indices_in raw.now) }
@@ -181,7 +181,7 @@ fn indices(alloc: Global, raw: &RawCall) -> Result<Nums, AllocError>
     }
 }
 
-// the indices that are positions in a list of so many, each with what the group at its own place tells
+/// The indices that are positions in a list of so many, each with what the group at its own place tells.
 fn elements(
     alloc: Global,
     groups: &[Group],
@@ -218,7 +218,7 @@ fn status_in(alloc: Global, raw: &RawCall) -> Result<Outs, AllocError>
     Ok(Outs::Status(told))
 }
 
-// what the groups of a text tell of each request
+/// What the groups of a text tell of each request.
 fn tolds_of_text(alloc: Global, requests: &[i64], text: &[u8]) -> Result<Sources, AllocError>
     ensures { IfOk result (λ s. s ≡ tolds_from (groups_from (value_of text.now)) 0 requests.now) }
 {

@@ -22,7 +22,7 @@ pub struct Parts {
     pub last: Vec<Event>,
 }
 
-// the segment of events that are one
+/// The segment of events that are one.
 fn segment(rank: u32, first: u64, events: Vec<Event>) -> Segment
     requires some { 0 < length events.items }
     requires most { length events.items ≤ MOST_EVENTS }
@@ -55,8 +55,8 @@ impl Parts {
             .saturating_add(self.last.len() as u64)
     }
 
-    // Makes room for a call's two events in the last part, which isn't full then. All room is asked for before anything
-    // is changed.
+    /// Makes room for a call's two events in the last part, which isn't full then. All room is asked for before
+    /// anything is changed.
     fn make_room(&mut self) -> Result<(), AllocError>
         requires { AreParts self.old }
         ensures same { events_in self.new ≡ events_in self.old }

@@ -36,7 +36,7 @@ pub fn digits_front(text: &[u8]) -> (u64, usize)
     (number, text.len())
 }
 
-// What stands before a `)` that ends a text, where it has no other parenthesis.
+/// What stands before a `)` that ends a text, where it has no other parenthesis.
 fn before_closing(text: &[u8]) -> Option<&[u8]>
     ensures front { IfSome result (λ note. (split_at closing_parenthesis text.now).0 ≡ note.now) }
     ensures rest { IfSome result (λ note. (split_at closing_parenthesis text.now).1 ≡ Some []) }
@@ -56,7 +56,7 @@ fn before_closing(text: &[u8]) -> Option<&[u8]>
     None
 }
 
-// whether a note is this name
+/// Whether a note is this name.
 #[inline(always)]
 #[tactic(auto, using(crate::proofs::Names::same_test))]
 fn says(note: &[u8], name: &str) -> bool
@@ -65,7 +65,7 @@ fn says(note: &[u8], name: &str) -> bool
     is(note, name)
 }
 
-// the name that a note gives its number
+/// The name that a note gives its number.
 #[tactic(auto, unfolding(dumpi_text::specs::Number::name_of))]
 fn name_by(note: &[u8]) -> NumName
     ensures { result ≡ name_of note.now }
@@ -87,7 +87,8 @@ fn name_by(note: &[u8]) -> NumName
     }
 }
 
-// The name that a note gives its number, where it is one of those that stand in most lines, by all that follows its `(`.
+/// The name that a note gives its number, where it is one of those that stand in most lines, by all that follows its
+/// `(`.
 #[tactic(auto, using(crate::proofs::Names::noted), unfolding(dumpi_text::specs::Number::name_of))]
 fn usual_note(rest: &[u8]) -> Option<NumName>
     ensures { IfSome result (λ name. note_front (opening_parenthesis ∷ rest.now) ≡ Some (name, [])) }
@@ -109,7 +110,7 @@ fn usual_note(rest: &[u8]) -> Option<NumName>
     }
 }
 
-// The name that a note gives its number, by all that follows its `(`.
+/// The name that a note gives its number, by all that follows its `(`.
 fn note_after(rest: &[u8]) -> Option<NumName>
     ensures { IfSome result (λ name. note_front (opening_parenthesis ∷ rest.now) ≡ Some (name, [])) }
 {
@@ -122,7 +123,7 @@ fn note_after(rest: &[u8]) -> Option<NumName>
     }
 }
 
-// The name of a number by what follows its digits: nothing, or a space and a note.
+/// The name of a number by what follows its digits: nothing, or a space and a note.
 fn name_after(text: &[u8]) -> Option<NumName>
     ensures digits { IfSome result (λ name. digit_parts text.now ≡ ([], text.now)) }
     ensures note { IfSome result (λ name. note_front (after_spaces text.now) ≡ Some (name, [])) }
@@ -134,7 +135,7 @@ fn name_after(text: &[u8]) -> Option<NumName>
     }
 }
 
-// The number of a text that is its digits, with a note after a space or none.
+/// The number of a text that is its digits, with a note after a space or none.
 fn plain_number(text: &[u8]) -> Option<Num>
     ensures { IfSome result (λ number. value_of text.now ≡ Some (Number number)) }
 {
@@ -149,7 +150,7 @@ fn plain_number(text: &[u8]) -> Option<Num>
     })
 }
 
-// a number below 10^18 with a `-` before it
+/// A number below 10^18 with a `-` before it.
 fn negative(number: u64) -> i64
     requires { number < 1000000000000000000 }
     ensures { result ≡ neg_ℤ (pos number) }
@@ -157,7 +158,7 @@ fn negative(number: u64) -> i64
     -(number as i64)
 }
 
-// The number of a text that is a `-` and digits, with a note after a space or none, by what follows its `-`.
+/// The number of a text that is a `-` and digits, with a note after a space or none, by what follows its `-`.
 fn negative_number(text: &[u8]) -> Option<Num>
     ensures { IfSome result (λ number. value_of (minus ∷ text.now) ≡ Some (Number number)) }
 {
@@ -172,7 +173,7 @@ fn negative_number(text: &[u8]) -> Option<Num>
     })
 }
 
-// The number of a text that is digits in brackets, by what follows its `[`.
+/// The number of a text that is digits in brackets, by what follows its `[`.
 fn bracketed_number(text: &[u8]) -> Option<Num>
     ensures { IfSome result (λ number. value_of (opening_bracket ∷ text.now) ≡ Some (Number number)) }
 {

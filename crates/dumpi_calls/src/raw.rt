@@ -32,7 +32,7 @@ pub trait RawSink {
         ensures err { OnErr result (self.new ≡ self.old) };
 }
 
-// reads a call's parameters and hands it on
+/// Reads a call's parameters and hands it on.
 fn take_raw<S: RawSink>(
     alloc: Global,
     raw: &RawCall,
@@ -58,7 +58,7 @@ fn take_raw<S: RawSink>(
     }
 }
 
-// Hands on the next call of the text: whether it lacks its exit, or nothing at the end of the text.
+/// Hands on the next call of the text: whether it lacks its exit, or nothing at the end of the text.
 fn advance_raw<R: Read, S: RawSink>(
     alloc: Global,
     texts: &mut Texts<R>,

@@ -25,7 +25,7 @@ pub fn text_in(raw: &RawCall, parameter: Parameter) -> Option<&[u8]>
     raw.param(parameter.name().as_bytes())
 }
 
-// the value of a parameter, by its text
+/// The value of a parameter, by its text.
 fn value_by(alloc: Global, parameter: Parameter, text: &[u8]) -> Result<Value, CallFault>
     ensures { Reads result (or_wrong parameter (value_of text.now)) }
 {
@@ -36,7 +36,7 @@ fn value_by(alloc: Global, parameter: Parameter, text: &[u8]) -> Result<Value, C
     }
 }
 
-// the value of a parameter
+/// The value of a parameter.
 fn value(alloc: Global, raw: &RawCall, parameter: Parameter) -> Result<Value, CallFault>
     ensures means { Reads result (value_in parameter raw.now) }
     ensures there { OnOk result (AreThere (parameter ∷ []) raw.now) }
@@ -47,7 +47,7 @@ fn value(alloc: Global, raw: &RawCall, parameter: Parameter) -> Result<Value, Ca
     }
 }
 
-// the number of a value that is one number, or a list of exactly one
+/// The number of a value that is one number, or a list of exactly one.
 fn one(value: Value) -> Option<Num>
     ensures { result ≡ one_number value }
 {
@@ -140,7 +140,7 @@ pub fn source(alloc: Global, raw: &RawCall) -> Result<Peer, CallFault>
     }
 }
 
-// the root that a call of a kind with a root names
+/// The root that a call of a kind with a root names.
 #[tactic(auto, unfolding(crate::specs::Readings::root_named))]
 fn named_root(alloc: Global, raw: &RawCall) -> Result<Option<u32>, CallFault>
     ensures means { Reads result (root_named raw.now) }
@@ -202,7 +202,7 @@ pub fn request(alloc: Global, raw: &RawCall) -> Result<i64, CallFault>
     Ok(request_of(number))
 }
 
-// the requests that numbers name
+/// The requests that numbers name.
 fn named(alloc: Global, numbers: &[Num]) -> Result<Vec<i64>, AllocError>
     ensures { IfOk result (λ v. v.items ≡ requests_of numbers.now) }
 {
@@ -228,7 +228,7 @@ pub fn listed(alloc: Global, value: Value) -> Result<Option<Nums>, AllocError>
     }
 }
 
-// the numbers that a parameter lists
+/// The numbers that a parameter lists.
 #[tactic(auto, unfolding(crate::specs::Readings::numbers_in))]
 fn number_list(alloc: Global, raw: &RawCall, parameter: Parameter) -> Result<Nums, CallFault>
     ensures means { Reads result (numbers_in parameter raw.now) }

@@ -16,7 +16,7 @@ use dumpi_text::ValueFault;
 use mpi_model::Requests;
 use std::alloc::Global;
 
-// whether digits stand in front that a `,` or a `}` ends, so that what follows a `{` is numbers
+/// Whether digits stand in front that a `,` or a `}` ends, so that what follows a `{` is numbers.
 fn begins_numbers(list: &[u8]) -> bool
     ensures { result ≡ true → brace_rest (after_spaces list.now) ≡ all_numbers (items_front number_item closing_brace list.now) }
 {
@@ -27,7 +27,7 @@ fn begins_numbers(list: &[u8]) -> bool
     ends_number(&list[count..])
 }
 
-// the list of numbers of requests, by what follows their `[`: the count, and what stands after its `] {`
+/// The list of numbers of requests, by what follows their `[`: the count, and what stands after its `] {`.
 fn counted_numbers(text: &[u8]) -> Option<(u64, &[u8])>
     ensures { IfSome result (λ x. core_front (opening_bracket ∷ text.now) ≡ all_numbers (items_front number_item closing_brace x.1.now)) }
 {
@@ -46,8 +46,8 @@ fn counted_numbers(text: &[u8]) -> Option<(u64, &[u8])>
     }
 }
 
-// The request that each number of a list names, and what follows the list's `}`; `BadValue` is no answer. There is room for so
-// many at first, but for no more than the list has bytes.
+/// The request that each number of a list names, and what follows the list's `}`; `BadValue` is no answer. There is
+/// room for so many at first, but for no more than the list has bytes.
 fn named_front(alloc: Global, room: u64, list: &[u8]) -> Result<(Vec<i64>, &[u8]), ValueFault>
     ensures { IfOk result (λ x. requests_with [] (items_front number_item closing_brace list.now) ≡ Some (x.0.items, x.1.now)) }
 {
@@ -69,7 +69,7 @@ fn named_front(alloc: Global, room: u64, list: &[u8]) -> Result<(Vec<i64>, &[u8]
     Err(ValueFault::BadValue)
 }
 
-// the request that each number of a list names that nothing follows
+/// The request that each number of a list names that nothing follows.
 fn named_in(alloc: Global, room: u64, list: &[u8]) -> Option<Vec<i64>>
     ensures { IfSome result (λ requests. requests_with [] (items_front number_item closing_brace list.now) ≡ Some (requests.items, [])) }
 {

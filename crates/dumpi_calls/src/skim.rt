@@ -40,7 +40,7 @@ pub fn skip_spaces(text: &[u8]) -> &[u8]
     &[]
 }
 
-// whether a byte is a letter, a digit or `_`
+/// Whether a byte is a letter, a digit or `_`.
 fn is_name_byte(byte: u8) -> bool
     ensures { result ≡ is_word_byte byte }
 {
@@ -50,7 +50,7 @@ fn is_name_byte(byte: u8) -> bool
         || byte == b'_'
 }
 
-// the longest front of letters, digits and `_`, and what follows it
+/// The longest front of letters, digits and `_`, and what follows it.
 fn split_word(text: &[u8]) -> (&[u8], &[u8])
     ensures word { result.0.now ≡ (word_parts text.now).0 }
     ensures rest { result.1.now ≡ (word_parts text.now).1 }
@@ -63,7 +63,7 @@ fn split_word(text: &[u8]) -> (&[u8], &[u8])
     (text, &[])
 }
 
-// one or more letters, digits and `_`, and what follows them
+/// One or more letters, digits and `_`, and what follows them.
 fn read_word(text: &[u8]) -> Option<(&[u8], &[u8])>
     ensures { option_map (λ x. (x.0.now, x.1.now)) result ≡ word_front text.now }
 {
@@ -86,7 +86,7 @@ pub fn strip_byte(wanted: u8, text: &[u8]) -> Option<&[u8]>
     }
 }
 
-// what follows a `=` that stands in front
+/// What follows a `=` that stands in front.
 fn after_equals(text: &[u8]) -> Option<&[u8]>
     ensures { IfSome result (λ rest. after_byte equals text.now ≡ Some rest.now) }
 {
@@ -130,7 +130,7 @@ pub fn split_number(text: &[u8]) -> Option<(Num, &[u8])>
     Some((number, rest))
 }
 
-// the word and the number of the field in front, and what follows it
+/// The word and the number of the field in front, and what follows it.
 #[tactic(auto, unfolding(dumpi_text::specs::Items::field_item))]
 fn split_field(text: &[u8]) -> Option<(&[u8], Num, &[u8])>
     ensures { IfSome result (λ x. field_item text.now ≡ Some (record { word = x.0.now; number = x.1 }, x.2.now)) }
@@ -141,7 +141,7 @@ fn split_field(text: &[u8]) -> Option<(&[u8], Num, &[u8])>
     Some((word, number, rest))
 }
 
-// what follows a front of the text: inlined, so that a literal's bytes are compared at once
+/// What follows a front of the text: inlined, so that a literal's bytes are compared at once.
 #[inline(always)]
 #[tactic(auto, using(crate::proofs::FieldByField::front_whole))]
 fn strip<'a>(front: &[u8], text: &'a [u8]) -> Option<&'a [u8]>
@@ -153,7 +153,7 @@ fn strip<'a>(front: &[u8], text: &'a [u8]) -> Option<&'a [u8]>
     }
 }
 
-// the number of the field in front, where its word is this one, and what follows it
+/// The number of the field in front, where its word is this one, and what follows it.
 #[inline(always)]
 #[tactic(auto, using(crate::proofs::FieldByField::field_of_word))]
 fn field_named<'a>(word: &[u8], text: &'a [u8]) -> Option<(Num, &'a [u8])>
@@ -168,14 +168,14 @@ fn field_named<'a>(word: &[u8], text: &'a [u8]) -> Option<(Num, &'a [u8])>
     Some((number, rest))
 }
 
-// the number 0, without a name
+/// The number 0, without a name.
 const NOUGHT: Num = Num {
     value: 0,
     name: NumName::Other,
 };
 
-// What the fields of a group tell, where they are the five that dumpi2ascii writes and nothing was cancelled, and what follows
-// its `}`.
+/// What the fields of a group tell, where they are the five that dumpi2ascii writes and nothing was cancelled, and what
+/// follows its `}`.
 fn usual_front(text: &[u8]) -> Option<(Told, &[u8])>
     ensures { IfSome result (λ x. with_told unseen (fields_front text.now) ≡ Some (x.0, x.1.now)) }
 {
@@ -186,7 +186,7 @@ fn usual_front(text: &[u8]) -> Option<(Told, &[u8])>
     Some((told_from(Some(NOUGHT), Some(source)), rest))
 }
 
-// The same of the three fields of traces that tell neither what was cancelled nor errors.
+/// The same of the three fields of traces that tell neither what was cancelled nor errors.
 fn short_front(text: &[u8]) -> Option<(Told, &[u8])>
     ensures { IfSome result (λ x. with_told unseen (fields_front text.now) ≡ Some (x.0, x.1.now)) }
 {
@@ -208,7 +208,7 @@ pub fn split_next(text: &[u8]) -> Option<(bool, &[u8])>
     }
 }
 
-// what was found of the fields of a name, with one field more: the first of them counts
+/// What was found of the fields of a name, with one field more: the first of them counts.
 fn number_by(wanted: &str, found: Option<Num>, word: &[u8], number: Num) -> Option<Num>
     ensures { result ≡ number_with wanted.now found (record { word = word.now; number = number }) }
 {
@@ -218,7 +218,7 @@ fn number_by(wanted: &str, found: Option<Num>, word: &[u8], number: Num) -> Opti
     }
 }
 
-// what was seen, with one field more
+/// What was seen, with one field more.
 fn seen_by(seen: Seen, word: &[u8], number: Num) -> Seen
     ensures { result ≡ seen_with seen (record { word = word.now; number = number }) }
 {
@@ -228,14 +228,14 @@ fn seen_by(seen: Seen, word: &[u8], number: Num) -> Seen
     }
 }
 
-// what was told by all fields
+/// What was told by all fields.
 fn told_by_all(seen: Seen) -> Told
     ensures { result ≡ told_with seen [] }
 {
     told_from(seen.cancelled, seen.source)
 }
 
-// what the fields of a group tell, and what follows its `}`
+/// What the fields of a group tell, and what follows its `}`.
 fn told_front(text: &[u8]) -> Option<(Told, &[u8])>
     ensures { IfSome result (λ x. with_told unseen (fields_front text.now) ≡ Some (x.0, x.1.now)) }
 {
@@ -248,7 +248,7 @@ fn told_front(text: &[u8]) -> Option<(Told, &[u8])>
     }
 }
 
-// the same of any fields, one by one
+/// The same of any fields, one by one.
 #[tactic(auto, using(crate::proofs::FieldByField::one_more, crate::proofs::FieldByField::the_last))]
 fn any_front(text: &[u8]) -> Option<(Told, &[u8])>
     ensures { IfSome result (λ x. with_told unseen (fields_front text.now) ≡ Some (x.0, x.1.now)) }
@@ -270,7 +270,7 @@ fn any_front(text: &[u8]) -> Option<(Told, &[u8])>
     None
 }
 
-// the fields of a status and what closes it: what follows `[1] {{`
+/// The fields of a status and what closes it: what follows `[1] {{`.
 fn status_fields(text: &[u8]) -> Option<&[u8]>
     ensures { IfSome result (λ fields. text.now ≡ 91 ∷ 49 ∷ 93 ∷ 32 ∷ 123 ∷ 123 ∷ fields.now) }
 {
@@ -283,7 +283,7 @@ fn status_fields(text: &[u8]) -> Option<&[u8]>
     Some(fields)
 }
 
-// whether a text is the `}` that closes a list, and nothing more
+/// Whether a text is the `}` that closes a list, and nothing more.
 fn closes_list(text: &[u8]) -> bool
     ensures { result ≡ true → text.now ≡ closing_brace ∷ [] }
 {
@@ -304,7 +304,7 @@ pub fn quick_status(text: &[u8]) -> Option<Told>
     }
 }
 
-// what the group in front tells, and what follows it
+/// What the group in front tells, and what follows it.
 fn told_group(text: &[u8]) -> Option<(Told, &[u8])>
     ensures { IfSome result (λ x. with_told unseen (group_item text.now) ≡ Some (x.0, x.1.now)) }
 {
@@ -314,7 +314,7 @@ fn told_group(text: &[u8]) -> Option<(Told, &[u8])>
     }
 }
 
-// what each group of a list tells, and what follows the list's `}`; `BadValue` is no answer
+/// What each group of a list tells, and what follows the list's `}`; `BadValue` is no answer.
 #[tactic(auto, using(crate::proofs::GroupByGroup::one_more, crate::proofs::GroupByGroup::the_last))]
 fn tolds_front(alloc: Global, list: &[u8]) -> Result<(Vec<Told>, &[u8]), ValueFault>
     ensures { IfOk result (λ x. tolds_with [] (items_front group_item closing_brace list.now) ≡ Some (x.0.items, x.1.now)) }
@@ -337,7 +337,7 @@ fn tolds_front(alloc: Global, list: &[u8]) -> Result<(Vec<Told>, &[u8]), ValueFa
     Err(ValueFault::BadValue)
 }
 
-// the list of groups of statuses, by what follows their `[`: what stands after the count, `] {`
+/// The list of groups of statuses, by what follows their `[`: what stands after the count, `] {`.
 fn counted_groups(text: &[u8]) -> Option<&[u8]>
     ensures { IfSome result (λ list. core_front (opening_bracket ∷ text.now) ≡ all_groups (items_front group_item closing_brace list.now)) }
 {
@@ -354,7 +354,7 @@ fn counted_groups(text: &[u8]) -> Option<&[u8]>
     Some(&text[count + 3..])
 }
 
-// what each group of a list tells that nothing follows; `BadValue` is no answer
+/// What each group of a list tells that nothing follows; `BadValue` is no answer.
 fn tolds_in(alloc: Global, list: &[u8]) -> Result<Vec<Told>, ValueFault>
     ensures { IfOk result (λ tolds. tolds_with [] (items_front group_item closing_brace list.now) ≡ Some (tolds.items, [])) }
 {

@@ -26,7 +26,7 @@ pub struct TypedCall {
     pub exit: Option<Exit>,
 }
 
-// the first of these parameters that isn't there
+/// The first of these parameters that isn't there.
 fn first_of(raw: &RawCall, parameters: &[Parameter]) -> Option<Parameter>
     ensures { result ≡ first_missing parameters.now raw.now }
 {
@@ -38,7 +38,7 @@ fn first_of(raw: &RawCall, parameters: &[Parameter]) -> Option<Parameter>
     None
 }
 
-// the first parameter of a collective call that isn't there
+/// The first parameter of a collective call that isn't there.
 fn collective_missing(kind: Kind, raw: &RawCall) -> Option<Parameter>
     ensures { result ≡ first_missing (collective_parameters kind) raw.now }
 {
@@ -49,7 +49,7 @@ fn collective_missing(kind: Kind, raw: &RawCall) -> Option<Parameter>
     }
 }
 
-// the first entry parameter of the row that isn't there
+/// The first entry parameter of the row that isn't there.
 fn entry_missing(function: Function, raw: &RawCall) -> Option<Parameter>
     ensures { result ≡ first_missing (row function raw.now.name).entry raw.now }
 {
@@ -103,7 +103,7 @@ fn entry_missing(function: Function, raw: &RawCall) -> Option<Parameter>
     }
 }
 
-// the first outcome parameter of the row that isn't there
+/// The first outcome parameter of the row that isn't there.
 fn outcome_missing(
     alloc: Global,
     function: Function,
@@ -133,7 +133,7 @@ fn outcome_missing(
     }
 }
 
-// the first parameter of the row that isn't there; outcome parameters are asked for where the call returned
+/// The first parameter of the row that isn't there; outcome parameters are asked for where the call returned.
 fn missing(
     alloc: Global,
     function: Function,
@@ -303,7 +303,7 @@ fn free(alloc: Global, raw: &RawCall) -> Result<Call, CallFault>
     Ok(Call::Free(request))
 }
 
-// what a collective call names
+/// What a collective call names.
 #[tactic(auto, unfolding(crate::specs::Rows::collective_in))]
 fn collective_of(alloc: Global, kind: Kind, raw: &RawCall) -> Result<Collective, CallFault>
     ensures means { Reads result (collective_in kind raw.now) }
@@ -334,7 +334,7 @@ fn icollective(alloc: Global, kind: Kind, raw: &RawCall) -> Result<Call, CallFau
     Ok(Call::Icollective(collective))
 }
 
-// the call by the entry parameters of its row
+/// The call by the entry parameters of its row.
 fn call_in(alloc: Global, function: Function, raw: &RawCall) -> Result<Call, CallFault>
     ensures means { Reads result ((row function raw.now.name).call raw.now) }
     ensures there { OnOk result (AreThere (row function raw.now.name).entry raw.now) }
@@ -365,7 +365,7 @@ fn call_in(alloc: Global, function: Function, raw: &RawCall) -> Result<Call, Cal
     }
 }
 
-// how a call returned, at this time
+/// How a call returned, at this time.
 #[tactic(auto, unfolding(crate::specs::Rows::returned))]
 fn exit_at(alloc: Global, call: &Call, stamp: Stamp, raw: &RawCall) -> Result<Exit, CallFault>
     ensures means { Reads result (returned call.now stamp raw.now) }
@@ -375,7 +375,7 @@ fn exit_at(alloc: Global, call: &Call, stamp: Stamp, raw: &RawCall) -> Result<Ex
     Ok(Exit { outs, stamp })
 }
 
-// how a call returned, if it did
+/// How a call returned, if it did.
 fn exit_of(alloc: Global, call: &Call, raw: &RawCall) -> Result<Option<Exit>, CallFault>
     ensures means { Reads result (exit_in call.now raw.now.exit raw.now) }
     ensures there { IsSome raw.now.exit → OnOk result (AreThere (brought_by call.now raw.now) raw.now) }
@@ -389,7 +389,7 @@ fn exit_of(alloc: Global, call: &Call, raw: &RawCall) -> Result<Option<Exit>, Ca
     }
 }
 
-// the call and its exit, read in one go
+/// The call and its exit, read in one go.
 #[tactic(auto, unfolding(crate::specs::Rows::read_by), using(crate::proofs::Missing::none_missing))]
 fn read(alloc: Global, function: Function, raw: &RawCall) -> Result<TypedCall, CallFault>
     ensures means { Reads result (read_by (row function raw.now.name) raw.now) }

@@ -65,7 +65,7 @@ pub(crate) fn refusal<F: Drop>(raw: &RawCall, fault: CallFault, calls: u64) -> W
     }
 }
 
-// reads a call's parameters and hands it on
+/// Reads a call's parameters and hands it on.
 fn take<S: CallSink>(
     alloc: Global,
     raw: &RawCall,
@@ -144,7 +144,8 @@ pub(crate) fn lack<F: Drop>(fault: TextFault, line: u64, calls: u64) -> WalkFaul
     }
 }
 
-// The next call, where it stands at hand whole and in its usual form, which is taken then, and the line where it begins.
+/// The next call, where it stands at hand whole and in its usual form, which is taken then, and the line where it
+/// begins.
 #[inline(always)]
 #[tactic(auto, using(crate::proofs::Advancing::follows_whole, crate::proofs::Advancing::stands_whole))]
 fn whole_of<R: Read>(alloc: Global, texts: &mut Texts<R>) -> Option<(Whole, u64)>
@@ -162,7 +163,7 @@ fn whole_of<R: Read>(alloc: Global, texts: &mut Texts<R>) -> Option<(Whole, u64)
     Some((whole, line))
 }
 
-// hands on a call that was read whole
+/// Hands on a call that was read whole.
 #[inline(always)]
 #[tactic(auto, using(crate::proofs::Advancing::takes_whole, crate::proofs::Advancing::refuses_whole))]
 fn take_whole<S: CallSink>(
@@ -188,7 +189,7 @@ fn take_whole<S: CallSink>(
     }
 }
 
-// Hands on the next call of the text: whether it lacks its exit, or nothing at the end of the text.
+/// Hands on the next call of the text: whether it lacks its exit, or nothing at the end of the text.
 #[inline(always)]
 fn advance<R: Read, S: CallSink>(
     alloc: Global,
