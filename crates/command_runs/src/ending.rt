@@ -82,7 +82,7 @@ pub fn ending_of<'a, O: Opener, V: Watcher, W: Write>(
     }
 }
 
-// Runs a verb over a layout and a manifest, or leaves a cluster of them to do.
+/// Runs a verb over a layout and a manifest, or leaves a cluster of them to do.
 fn turn_of_pair<'a, O: Opener, V: Watcher, W: Write>(
     alloc: Global,
     verb: Verb,
@@ -101,7 +101,7 @@ fn turn_of_pair<'a, O: Opener, V: Watcher, W: Write>(
     Ok(Turn::Ended(ending_after(alloc, ran)?))
 }
 
-// A verb over its files: texts, or a layout and a manifest.
+/// A verb over its files: texts, or a layout and a manifest.
 #[tactic(auto, using(crate::proofs::Endings::turned_pair))]
 fn turn_of_files<'a, O: Opener, V: Watcher, W: Write>(
     alloc: Global,
@@ -124,7 +124,7 @@ fn turn_of_files<'a, O: Opener, V: Watcher, W: Write>(
     }
 }
 
-// The names, where they are two.
+/// The names, where they are two.
 #[tactic(auto, using(crate::proofs::Endings::two_names, crate::proofs::Endings::not_two))]
 fn two_of<'a>(names: &[&'a str]) -> Option<(&'a str, &'a str)>
     ensures two { IfSome result (λ both. map (λ n. n.now) names.now ≡ both.0.now ∷ both.1.now ∷ []) }
@@ -137,7 +137,7 @@ fn two_of<'a>(names: &[&'a str]) -> Option<(&'a str, &'a str)>
     }
 }
 
-// Whether the names are those of texts: the first one tells it.
+/// Whether the names are those of texts: the first one tells it.
 fn are_texts<O: Opener>(names: &[&str], files: &mut O) -> bool
     ensures told { IsTrue result → BeginsWithText (O.file files.old) (map (λ n. n.now) names.now) }
     ensures same { O.file files.new ≡ O.file files.old }
@@ -157,7 +157,7 @@ fn first_name<'a>(names: &[&'a str]) -> &'a str
     }
 }
 
-// The words are mistaken: these files are no layout and manifest, and no texts.
+/// The words are mistaken: these files are no layout and manifest, and no texts.
 fn strange_files(alloc: Global, names: &[&str]) -> Result<Ending, AllocError>
     ensures status { IfOk result (λ e. e.status ≡ 2) }
     ensures errors { IfOk result (λ e. string_bytes e.errors ≡ strange_line (map (λ n. n.now) names.now)) }
@@ -231,7 +231,7 @@ fn refused(alloc: Global, fault: &RunFault) -> Result<Ending, AllocError>
     })
 }
 
-// Shows why the words ask for nothing; the help and the version go to standard output.
+/// Shows why the words ask for nothing; the help and the version go to standard output.
 fn shown<W: Write>(alloc: Global, fault: &CommandFault, out: &mut W) -> Result<Ending, AllocError>
     ensures { IfOk result (λ e. IsEndingFor fault.now e.status (string_bytes e.errors) (output_of (W.written out.old) (W.failures out.old)) (output_of (W.written out.new) (W.failures out.new))) }
 {

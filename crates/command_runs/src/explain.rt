@@ -55,7 +55,7 @@ pub(crate) fn explain_with<O: Opener, V: Watcher, W: Write>(
     }
 }
 
-// What the files tell, in words.
+/// What the files tell, in words.
 fn text_with<O: Opener, V: Watcher>(
     alloc: Global,
     layout_name: &str,
@@ -86,7 +86,7 @@ fn text_with<O: Opener, V: Watcher>(
     }
 }
 
-// The node of the layout that knows all that the pieces of the manifest tell, and what is noted of their texts.
+/// The node of the layout that knows all that the pieces of the manifest tell, and what is noted of their texts.
 fn noted_node_with<'a, O: Opener, V: Watcher>(
     alloc: Global,
     layout: &'a Layout,
@@ -125,7 +125,7 @@ fn noted_node_with<'a, O: Opener, V: Watcher>(
     }
 }
 
-// The layout, but for its sends, which complete in the other way.
+/// The layout, but for its sends, which complete in the other way.
 fn under_other(alloc: Global, layout: &Layout) -> Result<Layout, AllocError>
     ensures { IfOk result (λ other. other ≡ under_other layout.now) }
 {
@@ -141,8 +141,8 @@ fn other_sends(sends: Sends) -> Sends
     }
 }
 
-// What a node tells, in words, with who would be stuck under the other layout, and with what is noted of the texts. It
-// lets go of the node.
+/// What a node tells, in words, with who would be stuck under the other layout, and with what is noted of the texts. It
+/// lets go of the node.
 fn explained<N: Answerer, O: Opener>(
     alloc: Global,
     layout: &Layout,
@@ -171,8 +171,8 @@ fn explained<N: Answerer, O: Opener>(
     Ok(text)
 }
 
-// What was said, with which of the ranks of which nothing is known have no text, what is noted of the texts, and where
-// stuck calls stand in them.
+/// What was said, with which of the ranks of which nothing is known have no text, what is noted of the texts, and where
+/// stuck calls stand in them.
 fn text_of(
     alloc: Global,
     said: &[u8],
@@ -191,7 +191,7 @@ fn text_of(
     text.into_bytes()
 }
 
-// the first ten stuck ranks
+/// The first ten stuck ranks.
 fn shown_first(stuck: &[Stuck]) -> &[Stuck]
     ensures { result.now ≡ take most_shown stuck.now }
 {

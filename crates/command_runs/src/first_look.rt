@@ -11,7 +11,7 @@ use mpi_model::{Failed, Read, ReadFault, read_exactly};
 /// How many bytes of a file are looked at: a text has a call among them.
 pub(crate) const LONGEST_LOOK: usize = 4096;
 
-// A line begins at this byte, and a call with it.
+/// A line begins at this byte, and a call with it.
 fn begins_call(front: &[u8], i: usize) -> bool
     requires { i < length front.now }
     ensures { result ≡ begins_call front.now i }

@@ -36,7 +36,7 @@ struct NotedPiece {
     note: TextNote,
 }
 
-// a file's name as a line shows it
+/// A file's name as a line shows it.
 fn shown(alloc: Global, path: &str) -> Result<Vec<u8>, AllocError>
     ensures { IfOk result (λ name. name.items ≡ shown_name path.now) }
 {
@@ -44,7 +44,7 @@ fn shown(alloc: Global, path: &str) -> Result<Vec<u8>, AllocError>
     Vec::from_slice(alloc, text.as_str().as_bytes())
 }
 
-// what a text of so many calls is taken for: one without a call is looked at again
+/// What a text of so many calls is taken for: one without a call is looked at again.
 fn start_where<O: Opener>(calls: u64, path: &str, files: &mut O) -> Option<Start>
     ensures told { BeginsSo (O.file files.old path.now) result }
     ensures same { O.file files.new ≡ O.file files.old }
@@ -55,7 +55,7 @@ fn start_where<O: Opener>(calls: u64, path: &str, files: &mut O) -> Option<Start
     start_at(path, files)
 }
 
-// Where the first line of a text stands of which so many were skipped: the first ten such texts are looked at again.
+/// Where the first line of a text stands of which so many were skipped: the first ten such texts are looked at again.
 fn skips_where<O: Opener>(
     alloc: Global,
     skipped: u64,
@@ -73,7 +73,7 @@ fn skips_where<O: Opener>(
     skips_at(alloc, path, files)
 }
 
-// one text more, where lines of it were skipped
+/// One text more, where lines of it were skipped.
 fn with_skipping(skipping: usize, note: &TextNote) -> usize
     ensures { skipping ≤ result }
 {
@@ -84,8 +84,8 @@ fn with_skipping(skipping: usize, note: &TextNote) -> usize
     }
 }
 
-// The segments of a piece, none of a text without calls, and what is noted of its text; of so many texts before it lines
-// were skipped.
+/// The segments of a piece, none of a text without calls, and what is noted of its text; of so many texts before it
+/// lines were skipped.
 #[tactic(auto, using(crate::proofs::Told::facts_told, crate::proofs::Told::places_told, crate::proofs::Told::walk_told, crate::proofs::Notes::notes_told))]
 fn noted_piece<O: Opener, V: Watcher>(
     alloc: Global,

@@ -11,7 +11,7 @@ use std::alloc::{AllocError, Global};
 use text_notes::{CallPlace, TextNote, note_of};
 use trace_node::Stuck;
 
-// where a call of a rank stands, in the first text that has it
+/// Where a call of a rank stands, in the first text that has it.
 fn place_of<O: Opener>(
     alloc: Global,
     rank: u32,

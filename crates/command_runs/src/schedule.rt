@@ -60,7 +60,7 @@ fn add(steps: &mut Vec<Step>, step: Step) -> Result<(), AllocError>
     Ok(())
 }
 
-// The posts of a piece's segments, in order.
+/// The posts of a piece's segments, in order.
 fn add_posts(
     steps: &mut Vec<Step>,
     worker: u8,

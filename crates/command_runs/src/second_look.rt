@@ -13,7 +13,7 @@ use dumpi_text::TextFault;
 use std::alloc::Global;
 use text_notes::{Skips, Start, line_of_call, skips_of, start_of};
 
-// A file is opened a second time only where it has a length: what came through a pipe is gone.
+/// A file is opened a second time only where it has a length: what came through a pipe is gone.
 pub(crate) fn reopened<O: Opener>(path: &str, files: &mut O) -> Option<O::R>
     ensures told { IfSome result (λ reader. StandsAtFirst (O.file files.old path.now) (O.R.left reader)) }
     ensures same { O.file files.new ≡ O.file files.old }

@@ -47,7 +47,7 @@ impl SoFar {
         }
     }
 
-    // The same once a file of a node has told this.
+    /// The same once a file of a node has told this.
     fn taking(self, node: Side, know: Knowledge) -> Result<SoFar, AllocError>
         ensures { IfOk result (λ more. (one : SideValue) → so_far more one ≡ (if is_side one node then join (so_far self one) know else so_far self one)) }
     {
