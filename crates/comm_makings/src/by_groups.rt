@@ -43,6 +43,7 @@ struct Offers<'a> {
     waits: Vec<bool>,
 }
 
+/// The tag that a call of MPI_Comm_create_group names.
 fn tag_of(making: Option<&Making>) -> Option<i32> {
     match making? {
         Making::CreateGroup { tag, .. } => *tag,
@@ -50,6 +51,7 @@ fn tag_of(making: Option<&Making>) -> Option<i32> {
     }
 }
 
+/// Whether a call is read already, by its place in its rank's list.
 fn is_read(read: &[Vec<bool>], rank: u32, at: usize) -> bool {
     match read.get(rank as usize) {
         Some(read) => match read.get(at) {
@@ -100,6 +102,7 @@ fn offer_all<'a>(
     Ok(false)
 }
 
+/// The calls of MPI_Comm_create_group on the handle by which a member names the parent.
 fn calls_of(views: &[RankView], member: Member) -> &[usize] {
     match (views.get(member.rank as usize), member.handle) {
         (Some(view), Some(handle)) => match view.by_group.get(handle) {
@@ -195,6 +198,7 @@ fn may_come(all: &[Option<Here>], places: &[u32], waits: &[bool]) -> bool {
     false
 }
 
+/// Whether some member has its call.
 fn some_here(all: &[Option<Here>]) -> bool {
     for here in all {
         if here.is_some() {
@@ -213,6 +217,7 @@ fn is_sound(alloc: Global, all: &[Option<Here>], places: &[u32]) -> Result<bool,
     are_given(alloc, &parts, all, false)
 }
 
+/// Whether nothing more is made of these members and this tag.
 fn is_over(over: &[Over], ranks: &[u32], tag: i32) -> bool {
     for key in over {
         if key.tag == tag && key.ranks.as_slice() == ranks {
@@ -235,6 +240,7 @@ pub(crate) struct Found {
     pub waits: bool,
 }
 
+/// Notes that the calls are read of which a communicator was made.
 fn note_read(
     calls: &[Offer<'_>],
     all: &[Option<Here>],
@@ -250,6 +256,7 @@ fn note_read(
     Ok(())
 }
 
+/// Notes that the calls are read, and that the handles which they give are left out.
 fn note_left(calls: &[Offer<'_>], found: &mut Found) -> Result<(), AllocError>
     ensures { found.new.made ≡ found.old.made }
 {
@@ -356,6 +363,7 @@ fn read_key(
     }
 }
 
+/// Nothing is found yet.
 fn nothing_found(alloc: Global) -> Found
     ensures { result.made.items ≡ [] }
 {
@@ -368,6 +376,7 @@ fn nothing_found(alloc: Global) -> Found
     }
 }
 
+/// What is found in the calls on one parent, which stand in the order of their members and tags.
 #[tactic(auto, using(crate::proofs::Derivations::chosen_none))]
 fn found_in(
     alloc: Global,

@@ -55,6 +55,7 @@ pub(crate) fn places_of(
 }
 
 impl<'a> Offers<'a> {
+    /// No group yet.
     fn new(alloc: Global) -> Offers<'a> {
         Offers {
             groups: Vec::new(alloc),
@@ -117,6 +118,7 @@ enum Together<'a> {
     Waits,
 }
 
+/// What the groups of all members' calls are together.
 fn offers_in<'a>(
     alloc: Global,
     values: &'a [Vec<GroupValue>],
@@ -151,6 +153,7 @@ fn offers_in<'a>(
     Ok(Together::Known(offers))
 }
 
+/// The communicators that are made of the groups, each by its members' places in the parent.
 fn offered_parts(
     alloc: Global,
     parent: &Made,

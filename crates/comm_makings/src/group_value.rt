@@ -22,6 +22,7 @@ pub(crate) enum GroupValue {
     Listed(Vec<u32>),
 }
 
+/// The ranks of a group, where they are known.
 fn ranks_of<'a>(value: &'a GroupValue, comms: &'a [Made]) -> Option<&'a [u32]>
     ensures { option_copied result ≡ ranks_of comms.now value.now }
 {
@@ -33,6 +34,7 @@ fn ranks_of<'a>(value: &'a GroupValue, comms: &'a [Made]) -> Option<&'a [u32]>
     }
 }
 
+/// Whether the ranks of a group may become known.
 fn waits(value: &GroupValue) -> bool
     ensures { result ≡ waits value.now }
 {
@@ -71,6 +73,7 @@ pub(crate) fn waits_at(values: &[GroupValue], group: GroupAt) -> bool
     }
 }
 
+/// The group of a communicator, by how its handle stands.
 fn group_of(standing: Option<Standing>) -> GroupValue
     ensures { result ≡ group_of_comm standing }
 {
@@ -140,6 +143,7 @@ fn range_of(range: RankRange) -> Option<comm_groups::RankRange> {
     })
 }
 
+/// The ranges as ranks of a group; `None` where one has a rank below 0.
 fn ranges_of(
     alloc: Global,
     ranges: &[RankRange],
@@ -154,6 +158,7 @@ fn ranges_of(
     Ok(Some(all))
 }
 
+/// Only the members with the ranks of these ranges.
 fn with_ranges(
     alloc: Global,
     members: &[u32],
@@ -165,6 +170,7 @@ fn with_ranges(
     }
 }
 
+/// All members but those with the ranks of these ranges.
 fn without_ranges(
     alloc: Global,
     members: &[u32],
@@ -246,6 +252,7 @@ fn of_two(
     }
 }
 
+/// Whether the ranks of a group are known, or may become so.
 fn is_known(ranks: Option<&[u32]>, waits: bool) -> bool
     ensures { result ≡ is_known (option_copied ranks.entry) waits }
 {

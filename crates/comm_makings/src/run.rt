@@ -171,6 +171,7 @@ fn longest(views: &[RankView], comm: &Made) -> usize {
     longest
 }
 
+/// How many calls of a member make communicators of its handle by all its members.
 fn count_of(views: &[RankView], member: Member) -> usize {
     match (views.get(member.rank as usize), member.handle) {
         (Some(view), Some(handle)) => match view.makings.get(handle) {
@@ -325,6 +326,7 @@ impl Run {
         )
     }
 
+    /// Notes that a making was read, and which one of the communicator comes next.
     fn note(&mut self, at: usize, next: usize)
         ensures { self.new.comms ≡ self.old.comms }
     {
@@ -485,6 +487,7 @@ impl Run {
     }
 }
 
+/// Marks a call as read.
 fn mark(taken: &mut Vec<Vec<bool>>, rank: u32, at: usize) {
     if let Some(taken) = taken.get_mut(rank as usize) {
         if let Some(read) = taken.get_mut(at) {
@@ -493,6 +496,7 @@ fn mark(taken: &mut Vec<Vec<bool>>, rank: u32, at: usize) {
     }
 }
 
+/// Whether the call gives a group.
 fn is_group(call: &CommCall) -> bool {
     match &call.action {
         Action::Group { .. } => true,
@@ -500,6 +504,7 @@ fn is_group(call: &CommCall) -> bool {
     }
 }
 
+/// What a rank's calls give before anything is derived: each group waits.
 fn first_values(alloc: Global, calls: &[CommCall]) -> Result<Vec<GroupValue>, AllocError> {
     let mut values = Vec::new(alloc);
     for call in calls {
@@ -598,6 +603,7 @@ fn leave_others(calls: &[CommCall], meant: &[Meant], standings: &mut [Standing])
     }
 }
 
+/// How a rank's handles stand before anything is derived.
 fn first_standings(
     alloc: Global,
     calls: &[CommCall],
