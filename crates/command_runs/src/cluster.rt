@@ -183,6 +183,7 @@ fn of_text(alloc: Global, path: &str, fault: PieceFault) -> Result<RunFault, All
     }
 }
 
+/// What the fault of a node is to a run: a node loses its answer for want of memory alone.
 fn of_node(fault: NodeFault) -> RunFault
     ensures { result ≡ of_node fault }
 {
@@ -192,6 +193,7 @@ fn of_node(fault: NodeFault) -> RunFault
     }
 }
 
+/// What the fault of an exchange is to a run: that of its frame, or that of the node that joins it.
 fn of_exchange(fault: ExchangeFault) -> RunFault
     ensures { result ≡ of_exchange fault }
 {
@@ -201,6 +203,7 @@ fn of_exchange(fault: ExchangeFault) -> RunFault
     }
 }
 
+/// What the fault of a frame is to a run: want of memory, or that fault.
 fn of_wire(fault: WireFault) -> RunFault
     ensures { result ≡ of_wire fault }
 {
@@ -241,6 +244,7 @@ fn write_both<W: Write>(one: &Answer, other: &Answer, out: &mut W) -> Result<(),
     write_piece(line, out)
 }
 
+/// `equal yes` where both answers are the same, and `equal no` where they aren't.
 fn equal_line(one: &Answer, other: &Answer) -> &'static [u8]
     ensures { IsEqualLine one.now other.now result.now }
 {

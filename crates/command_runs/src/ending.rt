@@ -148,6 +148,7 @@ fn are_texts<O: Opener>(names: &[&str], files: &mut O) -> bool
     }
 }
 
+/// The name of the first of some files.
 fn first_name<'a>(names: &[&'a str]) -> &'a str
     ensures { result.now ≡ first_name (map (λ n. n.now) names.now) }
 {
@@ -211,6 +212,7 @@ pub fn ending_without_words(alloc: Global) -> Result<Ending, AllocError>
     })
 }
 
+/// An ending with this status, and nothing on standard error.
 fn silent(alloc: Global, status: u8) -> Ending
     ensures status { result.status ≡ status }
     ensures errors { string_bytes result.errors ≡ [] }
@@ -221,6 +223,7 @@ fn silent(alloc: Global, status: u8) -> Ending
     }
 }
 
+/// An ending with status 1, and the line of a fault on standard error.
 fn refused(alloc: Global, fault: &RunFault) -> Result<Ending, AllocError>
     ensures status { IfOk result (λ e. e.status ≡ 1) }
     ensures errors { IfOk result (λ e. string_bytes e.errors ≡ fault_line_of fault.now) }

@@ -132,6 +132,7 @@ fn under_other(alloc: Global, layout: &Layout) -> Result<Layout, AllocError>
     layout.with_sends(alloc, other_sends(layout.sends()))
 }
 
+/// The other way in which sends of standard mode can complete.
 fn other_sends(sends: Sends) -> Sends
     ensures { result ≡ other_sends sends }
 {

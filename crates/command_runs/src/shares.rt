@@ -38,6 +38,7 @@ struct SoFar {
 }
 
 impl SoFar {
+    /// Nothing is told yet.
     fn new(alloc: Global) -> SoFar
         ensures { (node : SideValue) → so_far result node ≡ empty }
     {
@@ -64,6 +65,7 @@ impl SoFar {
         }
     }
 
+    /// What they told, now that all are read.
     fn into_shares(self) -> Result<PackedShares, AllocError>
         ensures first { IfOk result (λ shares. shares.first ≡ self.first) }
         ensures second { IfOk result (λ shares. shares.second ≡ self.second) }
