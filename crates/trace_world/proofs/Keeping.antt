@@ -21,7 +21,7 @@ use Rattle.trace_world.specs.Refusals.{stale}
 use Rattle.trace_world.specs.Worlds.{AreWithin, IsWithinFrame, IsWorld}
 
 -- two numbers are equal or not
-same_or_not : (i j : ℕ) → (i ≡ j) ⊎ (i ≢ j)
+pub same_or_not : (i j : ℕ) → (i ≡ j) ⊎ (i ≢ j)
 same_or_not i j =
     ⊎_elim (λ (e : i ≡ j). inl e)
     (λ (h : (i < j) ⊎ (j < i)). ⊎_elim (λ (lt : i < j). inr (λ e. omega (arith, lt, e))) (λ (gt : j < i). inr (λ e. omega (arith, gt, e))) h)
