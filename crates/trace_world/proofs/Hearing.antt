@@ -48,7 +48,7 @@ same_heard old new mails heard e a = record {
 }
 
 -- one node joined more
-joins_heard : JoinLaws → (old new : List Held) (mails : List (List ℕ)) (heard : List Heard) (node : ℕ) (more : View) → node < length old → knows new ≡ joined (knows old) node more → AreHeard old mails heard → AreHeard new mails heard
+pub joins_heard : JoinLaws → (old new : List Held) (mails : List (List ℕ)) (heard : List Heard) (node : ℕ) (more : View) → node < length old → knows new ≡ joined (knows old) node more → AreHeard old mails heard → AreHeard new mails heard
 joins_heard laws old new mails heard node more inside e a =
     let now : View = join (slice_index_or (knows old) node empty) more in
     record {

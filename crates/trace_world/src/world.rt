@@ -59,7 +59,6 @@ impl<'a> Model for World<'a> {
 
     ghost view = { λ w. world_state w.layout.now w.nodes.items w.inboxes.items w.mails.items };
 
-    ghost use Rattle.std.specs.Prelude.{◌×◌};
     ghost use Rattle.trace_world.specs.Heard.{AreHeard};
 
     ghost invariant = { λ w. IsWorld w.layout.now w.nodes.items w.inboxes.items w.mails.items × AreHeard w.nodes.items w.mails.items w.heard.items };
@@ -315,6 +314,7 @@ impl<'a> World<'a> {
         ensures answers { HoldsMore node result (stale self.old.nodes) (stale self.new.nodes) }
         ensures same { SameNodes self.old self.new }
     {
+        join_laws();
         view_laws();
         let Some(segment) = self.inboxes[node].front() else {
             return Err(WorldFault::EmptyInbox);
@@ -441,6 +441,7 @@ fn empty_inboxes(alloc: Global, count: usize) -> Result<Vec<Inbox>, AllocError>
 }
 
 /// Of so many nodes no mail is noted.
+#[tactic(auto, using(crate::proofs::Hearing::none_heard, crate::proofs::Hearing::one_unheard))]
 fn unheard(alloc: Global, count: usize) -> Result<Vec<Heard>, AllocError>
     ensures { IfOk result (λ heard. AreUnheard count heard.items) }
 {
