@@ -54,12 +54,12 @@ joins_heard laws old new mails heard node more inside e a =
     record {
       each = a.each ∙ sym (as_many old new (joined (knows old) node more) e (length-set (knows old) node now ∙ count_of old));
       known = λ i mail other lt there.
-        let before : IsHeard mails (slice_index_or (knows old) i empty) mail = a.known i mail other lt there in
-        subst (λ (k : List View). IsHeard mails (slice_index_or k i empty) mail) (sym e) (⊎_elim
+          let before : IsHeard mails (slice_index_or (knows old) i empty) mail = a.known i mail other lt there in
+          subst (λ (k : List View). IsHeard mails (slice_index_or k i empty) mail) (sym e) (⊎_elim
           (λ (is : i ≡ node).
-            subst (λ (v : View). IsHeard mails v mail)
-              (sym (ap (λ j. get_or (set (knows old) node now) j empty) is ∙ get_or-set_same (knows old) node now empty (omega (arith, inside, count_of old))))
-              (heard_with laws mails (slice_index_or (knows old) node empty) more mail (subst (λ j. IsHeard mails (slice_index_or (knows old) j empty) mail) is before)))
+          subst (λ (v : View). IsHeard mails v mail)
+          (sym (ap (λ j. get_or (set (knows old) node now) j empty) is ∙ get_or-set_same (knows old) node now empty (omega (arith, inside, count_of old))))
+          (heard_with laws mails (slice_index_or (knows old) node empty) more mail (subst (λ j. IsHeard mails (slice_index_or (knows old) j empty) mail) is before)))
           (λ (not : i ≢ node). subst (λ (v : View). IsHeard mails v mail) (sym (get_or-set_other (knows old) node i now empty not)) before)
           (same_or_not i node));
     }
@@ -81,8 +81,8 @@ pub ships_heard : (nodes : List Held) (mails mails' : List (List ℕ)) (heard : 
 ships_heard nodes mails mails' heard mail e a = subst (λ l. AreHeard nodes l heard) (sym e) (record {
   each = a.each;
   known = λ node number other lt there.
-    let h : IsHeard mails (slice_index_or (knows nodes) node empty) number = a.known node number other lt there in
-    (omega (arith, h.0, length-append mails (mail ∷ [])), λ view is framed. h.1 view (sym (get_or-append mails (mail ∷ []) [] number h.0) ∙ is) framed);
+      let h : IsHeard mails (slice_index_or (knows nodes) node empty) number = a.known node number other lt there in
+      (omega (arith, h.0, length-append mails (mail ∷ [])), λ view is framed. h.1 view (sym (get_or-append mails (mail ∷ []) [] number h.0) ∙ is) framed);
 })
 
 -- of one node nothing is noted any more, and it knows what it may
@@ -91,14 +91,14 @@ pub renews_heard : (old new : List Held) (mails : List (List ℕ)) (heard heard'
 renews_heard old new mails heard heard' node fresh now inside e f none a = subst (λ l. AreHeard new mails l) (sym f) (record {
   each = length-set heard node fresh ∙ a.each ∙ sym (as_many old new (slice_set (knows old) node now) e (length-set (knows old) node now ∙ count_of old));
   known = λ i mail other lt there. ⊎_elim
-    (λ (is : i ≡ node).
+      (λ (is : i ≡ node).
       let same : slice_index_or (slice_set heard node fresh) i other ≡ fresh = ap (λ j. get_or (set heard node fresh) j other) is ∙ get_or-set_same heard node fresh other (omega (arith, inside, a.each)) in
       let no : false ≡ true = sym (none mail) ∙ sym (ap (λ (h : Heard). has h mail) same) ∙ there in
       absurd (cc))
-    (λ (not : i ≢ node).
+      (λ (not : i ≢ node).
       let before : IsHeard mails (slice_index_or (knows old) i empty) mail = a.known i mail other (omega (arith, lt, length-set heard node fresh)) (sym (ap (λ (h : Heard). has h mail) (get_or-set_other heard node i fresh other not)) ∙ there) in
       subst (λ (k : List View). IsHeard mails (slice_index_or k i empty) mail) (sym e) (subst (λ (v : View). IsHeard mails v mail) (sym (get_or-set_other (knows old) node i now empty not)) before))
-    (same_or_not i node);
+      (same_or_not i node);
 })
 
 -- a mail that a node knows was noted of it
@@ -107,14 +107,14 @@ notes_heard : (nodes : List Held) (mails : List (List ℕ)) (heard heard' : List
 notes_heard nodes mails heard heard' node mail before noted inside f was adds now a = subst (λ l. AreHeard nodes mails l) (sym f) (record {
   each = length-set heard node noted ∙ a.each;
   known = λ i number other lt there. ⊎_elim
-    (λ (is : i ≡ node).
+      (λ (is : i ≡ node).
       let same : slice_index_or (slice_set heard node noted) i other ≡ noted = ap (λ j. get_or (set heard node noted) j other) is ∙ get_or-set_same heard node noted other inside in
       subst (λ j. IsHeard mails (slice_index_or (knows nodes) j empty) number) (sym is) (⊎_elim
-        (λ (it : number ≡ mail). subst (λ n. IsHeard mails (slice_index_or (knows nodes) node empty) n) (sym it) now)
-        (λ (old : has before number ≡ true). a.known node number before inside (sym (ap (λ (h : Heard). has h number) was) ∙ old))
-        (adds number (sym (ap (λ (h : Heard). has h number) same) ∙ there))))
-    (λ (not : i ≢ node). a.known i number other (omega (arith, lt, length-set heard node noted)) (sym (ap (λ (h : Heard). has h number) (get_or-set_other heard node i noted other not)) ∙ there))
-    (same_or_not i node);
+      (λ (it : number ≡ mail). subst (λ n. IsHeard mails (slice_index_or (knows nodes) node empty) n) (sym it) now)
+      (λ (old : has before number ≡ true). a.known node number before inside (sym (ap (λ (h : Heard). has h number) was) ∙ old))
+      (adds number (sym (ap (λ (h : Heard). has h number) same) ∙ there))))
+      (λ (not : i ≢ node). a.known i number other (omega (arith, lt, length-set heard node noted)) (sym (ap (λ (h : Heard). has h number) (get_or-set_other heard node i noted other not)) ∙ there))
+      (same_or_not i node);
 })
 
 -- a mail that a node joined was noted of it
@@ -125,8 +125,8 @@ delivers_heard laws one old new mails heard heard' node mail more before noted i
     let now : View = join (slice_index_or (knows old) node empty) more in
     let joined_now : slice_index_or (knows new) node empty ≡ now = ap (λ (k : List View). slice_index_or k node empty) e ∙ get_or-set_same (knows old) node now empty (omega (arith, inside, count_of old)) in
     notes_heard new mails heard heard' node mail before noted (omega (arith, inside, a.each)) f was adds
-      (subst (λ (v : View). IsHeard mails v mail) (sym joined_now) (heard_now laws one mails (slice_index_or (knows old) node empty) more mail lt is framed))
-      (joins_heard laws old new mails heard node more inside e a)
+    (subst (λ (v : View). IsHeard mails v mail) (sym joined_now) (heard_now laws one mails (slice_index_or (knows old) node empty) more mail lt is framed))
+    (joins_heard laws old new mails heard node more inside e a)
 
 -- a mail that is noted of a node tells it nothing
 pub nothing_new : (nodes : List Held) (mails : List (List ℕ)) (heard : List Heard) (node mail : ℕ) (noted : Heard) (view : View) → AreHeard nodes mails heard → node < length nodes → noted ≡ slice_index_or heard node noted → has noted mail ≡ true
@@ -148,11 +148,11 @@ pub one_unheard : (count : ℕ) (heard heard' : List Heard) (fresh : Heard) → 
 one_unheard count heard heard' fresh e none a = subst (AreUnheard (count + 1)) (sym e) (record {
   each = omega (arith, a.each, length-append heard (fresh ∷ []));
   none = λ node mail other lt. ⊎_elim
-    (λ (is : node ≡ length heard). ap (λ (h : Heard). has h mail) (ap (λ j. get_or (heard ++ fresh ∷ []) j other) is ∙ get_or-append_seam heard fresh [] other) ∙ none mail)
-    (λ (not : node ≢ length heard).
+      (λ (is : node ≡ length heard). ap (λ (h : Heard). has h mail) (ap (λ j. get_or (heard ++ fresh ∷ []) j other) is ∙ get_or-append_seam heard fresh [] other) ∙ none mail)
+      (λ (not : node ≢ length heard).
       let below : node < length heard = omega (arith, not, lt, length-append heard (fresh ∷ [])) in
       ap (λ (h : Heard). has h mail) (get_or-append heard (fresh ∷ []) other node below) ∙ a.none node mail other below)
-    (same_or_not node (length heard));
+      (same_or_not node (length heard));
 })
 
 pub unheard : (nodes : List Held) (mails : List (List ℕ)) (heard : List Heard) (count : ℕ) → count ≡ length nodes → AreUnheard count heard → AreHeard nodes mails heard
