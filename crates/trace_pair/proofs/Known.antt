@@ -33,7 +33,7 @@ sure_is Doubtful h = absurd (cc)
 sure_is Void h = absurd (cc)
 
 abbrev receive : OpName → ℕ → ℕ → Option ℕ → Option ℕ → Trust → Receive → Receive
-receive n c a s g t q = record { name = n; comm = c; at = a; source = s; tag = g; count = q.count; trust = t; datatype = q.datatype }
+receive n c a s g t q = record { name = n; comm = c; at = a; source = s; tag = g; count = q.count; trust = t; datatype = q.datatype; ended = q.ended }
 
 -- A settled receive that the message fits is what the message and the rest tell of it.
 pub told_by : (m : Message) (q : Receive) → IsOwnReceive q → is_settled q ≡ true → fits m q ≡ true → q ≡ receive_by m (taker_of q)

@@ -20,6 +20,7 @@ pub mod Twice
 pub mod Slotted
 pub mod Mutual
 pub mod Known
+pub mod Afterwards
 pub mod Continued
 pub mod Beside
 pub mod Sure

@@ -3,18 +3,20 @@ use Rattle.std.specs.Prelude.{List}
 use Rattle.mpi_model.specs.declared.message.Message.{Message}
 use Rattle.mpi_model.specs.declared.message.Receive.{Receive}
 use Rattle.trace_ops.specs.Ops.{Ops}
+use Rattle.trace_pair.specs.After.{comes_after}
 use Rattle.trace_pair.specs.Calls.{between, IsSequence, IsPosting}
 use Rattle.trace_pair.specs.Indexed.{IsIndexed}
+use Rattle.trace_pair.specs.Pairing.{After}
 use Rattle.trace_pair.specs.Table.{sends_of, receives_of}
 use Rattle.trace_pair.specs.declared.matched.Matched.{Matched}
 
 -- what is kept is the index of these messages and receives
-abbrev pub Indexes : List Message → List Receive → Matched → Type 0
-Indexes ms qs s = IsIndexed ms qs s.waiting s.free s.opened s.couples
+abbrev pub Indexes : After → List Message → List Receive → Matched → Type 0
+Indexes after ms qs s = IsIndexed after ms qs s.waiting s.free s.opened s.couples
 
 -- the state stands for the calls of all ranks
 abbrev pub Follows : List Ops → Matched → Type 0
-Follows held state = Indexes (sends_of held) (receives_of held) state
+Follows held state = Indexes (comes_after held) (sends_of held) (receives_of held) state
 
 -- the state follows the calls of a rank from the old ones to the new ones, wherever they stand among those of the others
 abbrev pub Moves : Ops → Ops → Matched → Matched → Type 0

@@ -1,5 +1,6 @@
 pub mod Places
 pub mod Pairing
+pub mod After
 pub mod Matching
 pub mod Table
 pub mod Searched

@@ -52,7 +52,7 @@ mod together;
 pub use index::PairIndex;
 pub use laws::{
     doubtful_may_stand_outside, pairs_are_certain, pairs_are_the_rules, tables_are_certain,
-    worked_runs,
+    what_comes_after_stays, worked_runs,
 };
 pub use pair::{Pair, Side};
 pub use scratch::pair_all;
