@@ -1,5 +1,5 @@
 -- A message that comes after a receive does so in every continuation, and only an end that comes changes what does.
-use Rattle.std.proofs.Common.{subst, ◌≡◌, ℕ, zero, suc, ◌+◌, ◌<◌, ◌≤◌, Bool, true, false, ◌&&◌, List, [], ◌∷◌, ◌++◌, inl, inr, ⊎_elim, sym, refl, ◌∙◌, ap, arith, length, take, drop, get_or, eqb, ltb, cond, Some, None}
+use Rattle.std.proofs.Common.{subst, ◌≡◌, ℕ, zero, suc, ◌+◌, ◌<◌, ◌≤◌, Bool, true, false, ◌&&◌, List, [], ◌∷◌, ◌++◌, inl, inr, ⊎_elim, sym, refl, ◌∙◌, ap, arith, length, take, drop, get_or, eqb, ltb, cond, Option, Some, None}
 use Rattle.std.specs.Prelude.{nat_le, is_some}
 use Rattle.std.specs.List.{AllZip, list_any, flat_map}
 use Rattle.std.proofs.lemmas.Bool.Decides.{nat_tests}
@@ -8,13 +8,16 @@ use Rattle.std.proofs.lemmas.List.Elements.{AllZip-get_or}
 use Rattle.mpi_model.specs.declared.event.OpName.{OpName}
 use Rattle.mpi_model.specs.declared.message.Message.{Message}
 use Rattle.mpi_model.specs.declared.message.Receive.{Receive}
+use Rattle.mpi_model.specs.Fit.{envelopes_fit}
 use Rattle.trace_ops.specs.declared.entered.Entered.{Entered}
 use Rattle.trace_ops.specs.Ops.{Ops, no_ops, IsOwn, AreOwn, Grows, SameSend, TellsMore}
 use Rattle.trace_ops.specs.Order.{Has, AreEntered}
 use Rattle.trace_ops.specs.Round.{is_barrier}
 use Rattle.trace_pair.specs.After.{entered_before, is_left, is_own, is_after, comes_after}
+use Rattle.trace_pair.specs.Ends.{IsLastFor, NoneHides, SomeHides, ends_by}
 use Rattle.trace_pair.specs.Table.{sends_of, receives_of}
-use Rattle.trace_pair.proofs.Obeyed.{any_found, any_of, both, either, or_left, or_right}
+use Rattle.trace_pair.proofs.Fitting.{envelopes_at}
+use Rattle.trace_pair.proofs.Obeyed.{and_true, any_found, any_of, both, either, or_left, or_right}
 use Rattle.trace_pair.proofs.Ranks.{has_left, has_right, has_either}
 
 -- collective calls that come at or behind a call don't count before it
@@ -32,6 +35,48 @@ pub entered_more : (comm call : ℕ) (xs ys : List Entered) → ((x : Entered) �
 entered_more comm call [] ys h = none_entered comm call ys h
 entered_more comm call (x ∷ xs) ys h = ap (λ n. cond (eqb x.comm comm && ltb x.call call) (suc n) n) (entered_more comm call xs ys h)
 
+-- before a call no more were entered than before a later one
+entered_fewer : (comm x y : ℕ) (xs : List Entered) → x ≤ y → entered_before comm x xs ≤ entered_before comm y xs
+entered_fewer comm x y [] le = omega arith
+entered_fewer comm x y (e ∷ xs) le =
+    let more = entered_fewer comm x y xs le in
+    elim (eqb e.comm comm) as (λ b. cond (b && ltb e.call x) (suc (entered_before comm x xs)) (entered_before comm x xs) ≤ cond (b && ltb e.call y) (suc (entered_before comm y xs)) (entered_before comm y xs)) [
+      | true ↦ by (ltb e.call x) (ltb e.call y) refl refl more
+      | false ↦ more
+    ]
+  where
+    by : (b d : Bool) → ltb e.call x ≡ b → ltb e.call y ≡ d → entered_before comm x xs ≤ entered_before comm y xs →
+        cond b (suc (entered_before comm x xs)) (entered_before comm x xs) ≤ cond d (suc (entered_before comm y xs)) (entered_before comm y xs)
+    by true true h k more = omega arith
+    by true false h k more = absurd (let lt : e.call < x = grind (arith, nat_tests) in let ge : y ≤ e.call = grind (arith, nat_tests) in omega arith)
+    by false true h k more = omega arith
+    by false false h k more = more
+
+-- What comes after a receive comes after all that ended no later.
+pub sooner : (sender receiver : Ops) (m : Message) (at : ℕ) (a b : Option ℕ) → ends_by a b ≡ true → is_after sender receiver m at b ≡ true → is_after sender receiver m at a ≡ true
+sooner sender receiver m at a None h g = absurd (cc)
+sooner sender receiver m at None (Some y) h g = absurd (cc)
+sooner sender receiver m at (Some x) (Some y) h g =
+    let le : x ≤ y = grind (arith, nat_tests) in
+    let behind = list_any (is_left sender receiver m x) sender.rounds in
+    ⊎_elim
+    (λ (o : is_own m at y ≡ true).
+    let p = both (eqb m.from at) (ltb y m.name.call) o in
+    let lt : ltb x m.name.call ≡ true = let t = p.1 in grind (arith, nat_tests) in
+    or_left (is_own m at x) behind (and_true (eqb m.from at) (ltb x m.name.call) p.0 lt))
+    (λ (l : list_any (is_left sender receiver m y) sender.rounds ≡ true).
+    let w = any_found (is_left sender receiver m y) sender.rounds l in
+    let q = w.0 in
+    let a1 = is_barrier q in let a2 = ltb q.call m.name.call in
+    let a3 = list_any (λ c. eqb c q.comm) sender.comms in let a4 = list_any (λ c. eqb c q.comm) receiver.comms in
+    let few = both (a1 && a2 && a3 && a4) (nat_le (entered_before q.comm y receiver.rounds) (entered_before q.comm q.call sender.rounds)) w.2 in
+    let t = few.1 in
+    let fewer = entered_fewer q.comm x y receiver.rounds le in
+    let still : nat_le (entered_before q.comm x receiver.rounds) (entered_before q.comm q.call sender.rounds) ≡ true = grind (arith, nat_tests) in
+    or_right (is_own m at x) behind
+    (any_of (is_left sender receiver m x) sender.rounds q w.1 (and_true (a1 && a2 && a3 && a4) (nat_le (entered_before q.comm x receiver.rounds) (entered_before q.comm q.call sender.rounds)) few.0 still)))
+    (either (is_own m at y) (list_any (is_left sender receiver m y) sender.rounds) g)
+
 entered_across : (xs ys : List Entered) (x y : Entered) → AreEntered (xs ++ ys) → Has xs x → Has ys y → ltb x.call y.call ≡ true
 entered_across [] ys x y o i j = absurd i
 entered_across (z ∷ xs) ys x y o i j =
@@ -43,6 +88,20 @@ entered_same comm call old new e h =
     ap (λ (l : List Entered). entered_before comm call l) (sym (take-append-drop (length old) new))
     ∙ entered_more comm call (take (length old) new) (drop (length old) new) h
     ∙ ap (λ (l : List Entered). entered_before comm call l) e
+
+-- Where the receive that ends last of those whose envelopes fit may have taken the message, some may; where that one may
+-- not, none may.
+module _ (held : List Ops) (opened : List Receive) (m : Message) (e : Option ℕ) (last : IsLastFor opened m (Some e)) where
+  at_its_rank : (u : Receive) → envelopes_fit m u ≡ true → comes_after held m u ≡ is_after (get_or held m.from no_ops) (get_or held m.to no_ops) m m.to u.ended
+  at_its_rank u f = ap (λ x. is_after (get_or held m.from no_ops) (get_or held x no_ops) m x u.ended) (sym (envelopes_at m u f))
+
+  pub some_hides : is_after (get_or held m.from no_ops) (get_or held m.to no_ops) m m.to e ≡ false → SomeHides (comes_after held) opened m
+  some_hides h =
+      let w = last.0 in
+      (w.0, w.1, w.2, at_its_rank w.0 w.2 ∙ ap (λ o. is_after (get_or held m.from no_ops) (get_or held m.to no_ops) m m.to o) w.3 ∙ h)
+
+  pub none_hides : is_after (get_or held m.from no_ops) (get_or held m.to no_ops) m m.to e ≡ true → NoneHides (comes_after held) opened m
+  none_hides h u i f = at_its_rank u f ∙ sooner (get_or held m.from no_ops) (get_or held m.to no_ops) m m.to u.ended e (last.1 u i f) h
 
 module _ (so sn ro rn : Ops) (grows : Grows so sn) (grows_too : Grows ro rn) (entered : AreEntered sn.rounds) (m n : Message) (same : SameSend m n) (e : ℕ)
     (later : (x : Entered) → Has (drop (length ro.rounds) rn.rounds) x → e ≤ x.call) where

@@ -16,6 +16,7 @@ pub mod PutAt
 pub mod Orders
 pub mod Same
 pub mod Queued
+pub mod Latest
 pub mod Twice
 pub mod Slotted
 pub mod Mutual

@@ -1,18 +1,19 @@
 -- The couples of an index say what takes each message.
-use Rattle.std.proofs.Common.{◌≡◌, true, false, List, ⊎_elim, sym, refl, ◌∙◌, ap, Option, Some, None, ◌&&◌}
-use Rattle.std.specs.Prelude.{is_some, IfSome, IfNone}
-use Rattle.std.specs.List.{list_any}
+use Rattle.std.proofs.Common.{◌≡◌, Bool, true, false, List, ⊎_elim, sym, refl, ◌∙◌, ap, Option, Some, None, ◌&&◌}
+use Rattle.std.specs.Prelude.{not}
 use Rattle.mpi_model.specs.declared.message.Message.{Message}
 use Rattle.mpi_model.specs.declared.message.Receive.{Receive}
-use Rattle.mpi_model.specs.Fit.{envelopes_fit, fits}
+use Rattle.mpi_model.specs.Fit.{fits}
 use Rattle.mpi_model.specs.Trusts.{is_open}
 use Rattle.trace_ops.specs.Order.{posted_before, Has}
-use Rattle.trace_pair.specs.Indexed.{IsIndexed, IsFirstReceive, couple_of}
+use Rattle.trace_pair.specs.Ends.{NoneHides, SomeHides}
+use Rattle.trace_pair.specs.Indexed.{IsIndexed, couple_of}
 use Rattle.trace_pair.specs.Places.{posted_at}
 use Rattle.trace_pair.specs.Calls.{is_live, ArePostedApart}
 use Rattle.trace_pair.specs.Pairing.{After, paired, receive_of, Paired}
+use Rattle.trace_pair.specs.Table.{fits_open}
 use Rattle.trace_pair.specs.declared.pair.Couple.{Couple}
-use Rattle.trace_pair.proofs.Obeyed.{pair_obeys, any_found, any_of, both, and_true}
+use Rattle.trace_pair.proofs.Obeyed.{pair_obeys, any_found, any_of, both, and_true, not_true-elim}
 use Rattle.trace_pair.proofs.Certain.{one_receive, in_order}
 use Rattle.trace_pair.proofs.Fitting.{fits_at, fits_live, live_message, open_live, envelope_of, false_apart}
 use Rattle.trace_pair.proofs.Listed.{found, finds}
@@ -41,21 +42,30 @@ module _ (after : After) (ms : List Message) (qs : List Receive) (waiting : List
         | Some q ↦ λ e. let u = found (paired after ms qs m) qs q e in absurd (none q (held.coupled_all m q i u.0 u.1))
       ] refl
 
-  -- an open receive fits the message where the set of them has one
-  pub open_is : (m : Message) → is_live m.trust ≡ true → (o : Option Receive) → IfSome o (IsFirstReceive opened m) → IfNone o ((r : Receive) → Has opened r → envelopes_fit m r ≡ true → ⊥) → is_some o ≡ list_any (λ u. is_open u && fits m u) qs
-  open_is m live (Some q) s n =
-      let h = held.opens q s.member in
-      sym (any_of (λ u. is_open u && fits m u) qs q h.0 (and_true (is_open q) (fits m q) h.1 (fits_live m q live (open_live q h.1) s.fit)))
-  open_is m live None s n =
-      elim (list_any (λ u. is_open u && fits m u) qs) as (λ b. list_any (λ u. is_open u && fits m u) qs ≡ b → false ≡ b) [
-        | true ↦ λ e. let w = any_found (λ u. is_open u && fits m u) qs e in let p = both (is_open w.0) (fits m w.0) w.2 in absurd (n w.0 (held.opens_all w.0 w.1 p.0) (envelope_of m w.0 p.1))
+  -- An open receive may have taken the message where one of the set may.
+  pub open_is : (m : Message) → is_live m.trust ≡ true → (b : Bool) → (b ≡ true → SomeHides after opened m) → (b ≡ false → NoneHides after opened m) → b ≡ fits_open after qs m
+  open_is m live true some none =
+      let w = some refl in
+      let h = held.opens w.0 w.1 in
+      sym (any_of (λ u. is_open u && fits m u && not (after m u)) qs w.0 h.0
+      (and_true (is_open w.0 && fits m w.0) (not (after m w.0)) (and_true (is_open w.0) (fits m w.0) h.1 (fits_live m w.0 live (open_live w.0 h.1) w.2)) (ap not w.3)))
+  open_is m live false some none =
+      elim (fits_open after qs m) as (λ b. fits_open after qs m ≡ b → false ≡ b) [
+        | true ↦ λ e.
+            let w = any_found (λ u. is_open u && fits m u && not (after m u)) qs e in
+            let p' = both (is_open w.0 && fits m w.0) (not (after m w.0)) w.2 in
+            let p = both (is_open w.0) (fits m w.0) p'.0 in
+            absurd (not_true-elim (after m w.0) p'.1 (none refl w.0 (held.opens_all w.0 w.1 p.0) (envelope_of m w.0 p.1)))
         | false ↦ λ e. refl
       ] refl
 
-  -- and none fits a void one
-  pub void_fits_none : (m : Message) → is_live m.trust ≡ false → false ≡ list_any (λ u. is_open u && fits m u) qs
+  -- and none has taken a void one
+  pub void_fits_none : (m : Message) → is_live m.trust ≡ false → false ≡ fits_open after qs m
   void_fits_none m void =
-      elim (list_any (λ u. is_open u && fits m u) qs) as (λ b. list_any (λ u. is_open u && fits m u) qs ≡ b → false ≡ b) [
-        | true ↦ λ e. let w = any_found (λ u. is_open u && fits m u) qs e in let p = both (is_open w.0) (fits m w.0) w.2 in absurd (false_apart (is_live m.trust) void (live_message m w.0 p.1))
+      elim (fits_open after qs m) as (λ b. fits_open after qs m ≡ b → false ≡ b) [
+        | true ↦ λ e.
+            let w = any_found (λ u. is_open u && fits m u && not (after m u)) qs e in
+            let p = both (is_open w.0) (fits m w.0) (both (is_open w.0 && fits m w.0) (not (after m w.0)) w.2).0 in
+            absurd (false_apart (is_live m.trust) void (live_message m w.0 p.1))
         | false ↦ λ e. refl
       ] refl

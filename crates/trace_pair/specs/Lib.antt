@@ -18,6 +18,7 @@ pub mod OneOrMany
 pub mod Groups
 pub mod KeyOrders
 pub mod Queues
+pub mod Ends
 pub mod Waiting
 pub mod Settled
 pub mod Worked

@@ -6,6 +6,7 @@ ghost use Rattle.std.specs.Option.{option_map};
 ghost use Rattle.mpi_model.specs.declared.message.Message.{Message};
 ghost use Rattle.mpi_model.specs.declared.message.Receive.{Receive};
 ghost use Rattle.trace_ops.specs.Order.{Has};
+ghost use Rattle.trace_pair.specs.After.{comes_after};
 ghost use Rattle.trace_pair.specs.Followed.{Indexes, Follows};
 ghost use Rattle.trace_pair.specs.Pairing.{receive_of};
 ghost use Rattle.trace_pair.specs.Settled.{Settles};
@@ -90,16 +91,22 @@ impl Rows {
     }
 
     /// Adds what the message at a place is.
-    fn add_settled(&mut self, batch: &Batch, place: usize, m: &Message) -> Result<(), AllocError>
-        ensures pairs { OnOk result ((ms : List Message) (qs : List Receive) → Settles ms qs batch.now → slice_get ms place ≡ Some m.now →
-            self.new.pairs ≡ self.old.pairs ++ cons_option (option_map (pair_of m.now) (receive_of ms qs m.now)) []) }
-        ensures postponed { OnOk result ((ms : List Message) (qs : List Receive) → Settles ms qs batch.now → slice_get ms place ≡ Some m.now →
-            self.new.postponed ≡ self.old.postponed ++ cons_option (postponed_name ms qs m.now) []) }
+    fn add_settled(
+        &mut self,
+        batch: &Batch,
+        ops: &[RankOps],
+        place: usize,
+        m: &Message,
+    ) -> Result<(), AllocError>
+        ensures pairs { OnOk result ((ms : List Message) (qs : List Receive) → Settles (comes_after ops.now) ms qs batch.now → slice_get ms place ≡ Some m.now →
+            self.new.pairs ≡ self.old.pairs ++ cons_option (option_map (pair_of m.now) (receive_of (comes_after ops.now) ms qs m.now)) []) }
+        ensures postponed { OnOk result ((ms : List Message) (qs : List Receive) → Settles (comes_after ops.now) ms qs batch.now → slice_get ms place ≡ Some m.now →
+            self.new.postponed ≡ self.old.postponed ++ cons_option (postponed_name (comes_after ops.now) ms qs m.now) []) }
     {
         match batch.receive_of(place, m) {
             Some(receive) => self.put(make_pair(m, &receive))?,
             None => {
-                if batch.does_open_fit(m) {
+                if batch.does_open_fit(ops, m) {
                     self.postpone(m.name)?;
                 }
             }
@@ -108,13 +115,17 @@ impl Rows {
     }
 
     /// The rows of all messages of a pairing.
-    pub(crate) fn of_batch(alloc: Global, batch: &Batch) -> Result<Rows, AllocError>
-        ensures { IfOk result (λ rows. (ms : List Message) (qs : List Receive) → Settles ms qs batch.now → rows ≡ table_with ms qs) }
+    pub(crate) fn of_batch(
+        alloc: Global,
+        batch: &Batch,
+        ops: &[RankOps],
+    ) -> Result<Rows, AllocError>
+        ensures { IfOk result (λ rows. (ms : List Message) (qs : List Receive) → Settles (comes_after ops.now) ms qs batch.now → rows ≡ table_with (comes_after ops.now) ms qs) }
     {
         let messages = batch.messages();
         let mut rows = Rows::with_room(alloc, messages.len())?;
         for (place, m) in messages.iter().enumerate() {
-            rows.add_settled(batch, place, m)?;
+            rows.add_settled(batch, ops, place, m)?;
         }
         Ok(rows)
     }
