@@ -4,7 +4,7 @@ use Rattle.std.specs.BTreeMap.{get}
 use Rattle.mpi_model.specs.declared.message.Message.{Message}
 use Rattle.mpi_model.specs.declared.message.Receive.{Receive}
 use Rattle.mpi_model.specs.Fit.{envelopes_fit}
-use Rattle.trace_ops.specs.Order.{Has}
+use Rattle.trace_ops.specs.Order.{Has, posted_before}
 use Rattle.trace_pair.specs.KeyOrders.{ReceiveKey, receive_key_cmp, receive_key_of}
 use Rattle.trace_pair.specs.Pairing.{After}
 use Rattle.trace_pair.specs.Queues.{had}
@@ -52,3 +52,10 @@ SomeHides after xs m = (u : Receive) × Has xs u × (envelopes_fit m u ≡ true)
 -- None of them may have.
 abbrev pub NoneHides : After → List Receive → Message → Type 0
 NoneHides after xs m = (u : Receive) → Has xs u → envelopes_fit m u ≡ true → after m u ≡ true
+
+-- The same of those that stand before the receive.
+abbrev pub SomeHidesBefore : After → List Receive → Message → Receive → Type 0
+SomeHidesBefore after xs m q = (u : Receive) × Has xs u × (envelopes_fit m u ≡ true) × (after m u ≡ false) × (posted_before u q ≡ true)
+
+abbrev pub NoneHidesBefore : After → List Receive → Message → Receive → Type 0
+NoneHidesBefore after xs m q = (u : Receive) → Has xs u → envelopes_fit m u ≡ true → posted_before u q ≡ true → after m u ≡ true

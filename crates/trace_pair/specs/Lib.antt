@@ -12,6 +12,7 @@ pub mod Indexed
 pub mod Slots
 pub mod Coupled
 pub mod Followed
+pub mod Fronts
 pub mod Parts
 pub mod Kept
 pub mod OneOrMany

@@ -6,7 +6,7 @@ ghost use Rattle.trace_pair.specs.Certainty.{AreCertain, AreAllSettled, AreLegal
 ghost use Rattle.trace_pair.specs.Followed.{Follows};
 ghost use Rattle.trace_pair.specs.Table.{fresh, table_of};
 
-use crate::follow::set_rank;
+use crate::follow::{add_messages, add_receives, drop_messages, drop_receives, fronts_of};
 use crate::matched::Matched;
 use crate::scratch::pair_all;
 use crate::table::PairTable;
@@ -210,7 +210,12 @@ fn set_ops(
     ensures state { IfOk result (λ state. Follows held.new.items state) }
 {
     let mut state = state_or_new(*held.allocator(), held, state)?;
-    set_rank(&mut state, &held[rank as usize], &ops)?;
+    let fronts = fronts_of(&held[rank as usize], &ops);
+    drop_messages(&mut state, held[rank as usize].sends(), fronts.sends)?;
+    drop_receives(&mut state, held[rank as usize].receives(), fronts.receives)?;
     held[rank as usize] = ops;
+    let own = &held[rank as usize];
+    add_messages(&mut state, held, own.sends(), fronts.sends)?;
+    add_receives(&mut state, held, own.receives(), fronts.receives)?;
     Ok(state)
 }

@@ -40,6 +40,7 @@ mod laws;
 mod matched;
 mod near;
 mod one_or_many;
+mod opened;
 mod pair;
 mod places;
 mod queues;

@@ -73,16 +73,22 @@ impl Rows {
 
     /// Adds what the held message is: paired, postponed, or neither. `next` is where its sender's
     /// calls have come to.
-    fn add(&mut self, state: &Matched, next: &mut usize, m: &Message) -> Result<(), AllocError>
-        ensures pairs { OnOk result ((ms : List Message) (qs : List Receive) → Indexes ms qs state.now → Has ms m.now →
-            self.new.pairs ≡ self.old.pairs ++ cons_option (option_map (pair_of m.now) (receive_of ms qs m.now)) []) }
-        ensures postponed { OnOk result ((ms : List Message) (qs : List Receive) → Indexes ms qs state.now → Has ms m.now →
-            self.new.postponed ≡ self.old.postponed ++ cons_option (postponed_name ms qs m.now) []) }
+    fn add(
+        &mut self,
+        state: &Matched,
+        ops: &[RankOps],
+        next: &mut usize,
+        m: &Message,
+    ) -> Result<(), AllocError>
+        ensures pairs { OnOk result ((ms : List Message) (qs : List Receive) → Indexes (comes_after ops.now) ms qs state.now → Has ms m.now →
+            self.new.pairs ≡ self.old.pairs ++ cons_option (option_map (pair_of m.now) (receive_of (comes_after ops.now) ms qs m.now)) []) }
+        ensures postponed { OnOk result ((ms : List Message) (qs : List Receive) → Indexes (comes_after ops.now) ms qs state.now → Has ms m.now →
+            self.new.postponed ≡ self.old.postponed ++ cons_option (postponed_name (comes_after ops.now) ms qs m.now) []) }
     {
         match state.partner_of(next, m) {
             Some(q) => self.put(make_pair(m, &q))?,
             None => {
-                if state.does_open_fit(m) {
+                if state.does_open_fit(ops, m) {
                     self.postpone(m.name)?;
                 }
             }
@@ -131,15 +137,20 @@ impl Rows {
     }
 
     /// Adds what the held messages of a rank are.
-    fn add_all(&mut self, state: &Matched, some: &[Message]) -> Result<(), AllocError>
-        ensures pairs { OnOk result ((ms : List Message) (qs : List Receive) → Indexes ms qs state.now → ((m : Message) → Has some.now m → Has ms m) →
-            self.new.pairs ≡ self.old.pairs ++ filter_map (λ m. option_map (pair_of m) (receive_of ms qs m)) some.now) }
-        ensures postponed { OnOk result ((ms : List Message) (qs : List Receive) → Indexes ms qs state.now → ((m : Message) → Has some.now m → Has ms m) →
-            self.new.postponed ≡ self.old.postponed ++ filter_map (postponed_name ms qs) some.now) }
+    fn add_all(
+        &mut self,
+        state: &Matched,
+        ops: &[RankOps],
+        some: &[Message],
+    ) -> Result<(), AllocError>
+        ensures pairs { OnOk result ((ms : List Message) (qs : List Receive) → Indexes (comes_after ops.now) ms qs state.now → ((m : Message) → Has some.now m → Has ms m) →
+            self.new.pairs ≡ self.old.pairs ++ filter_map (λ m. option_map (pair_of m) (receive_of (comes_after ops.now) ms qs m)) some.now) }
+        ensures postponed { OnOk result ((ms : List Message) (qs : List Receive) → Indexes (comes_after ops.now) ms qs state.now → ((m : Message) → Has some.now m → Has ms m) →
+            self.new.postponed ≡ self.old.postponed ++ filter_map (postponed_name (comes_after ops.now) ms qs) some.now) }
     {
         let mut next = 0;
         for m in some {
-            self.add(state, &mut next, m)?;
+            self.add(state, ops, &mut next, m)?;
         }
         Ok(())
     }
@@ -153,8 +164,8 @@ impl Rows {
         ensures { IfOk result (λ rows. Follows held.now state.now → rows ≡ table_of held.now) }
     {
         let mut rows = Rows::with_room(alloc, count_sends(held))?;
-        for ops in held {
-            rows.add_all(state, ops.sends())?;
+        for own in held {
+            rows.add_all(state, held, own.sends())?;
         }
         Ok(rows)
     }
