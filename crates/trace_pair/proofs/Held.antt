@@ -102,11 +102,3 @@ module _ (after : After) (ms : List Message) (qs : List Receive) (waiting : List
       (λ (x : sent_before n m ≡ true). let w = t.first_waiting n o.0 x fit in absurd (o.2 w.0 w.1 w.2))
       (λ (e : sent_at m ≡ sent_at n). held.messages_apart m n i o.0 e) c)
       (in_order (sent_at m) (sent_at n) (same_sender m n q t.told t.fit fit))
-
--- where the first open receive whose envelope fits the message's is not before the receive, none is
-pub not_blocked : (opened : List Receive) (own : (v : Receive) → Has opened v → IsOwnReceive v) (m : Message) (u q : Receive) → IsFirstReceive opened m u → posted_before u q ≡ false → (v : Receive) → Has opened v → envelopes_fit m v ≡ true → posted_before v q ≡ true → ⊥
-not_blocked opened own m u q h b v i g p =
-    ⊎_elim (λ (x : posted_before v u ≡ true). h.first v i g (posted_name v u (own v i) (own u h.member) x))
-    (λ c. ⊎_elim (λ (x : posted_before u v ≡ true). let y = posted_along u v q x p in cc)
-    (λ (e : posted_at v ≡ posted_at u). let y = subst (λ (x : OpName). (eqb x.rank q.at && ltb x.call q.name.call) ≡ true) e p in cc) c)
-    (in_order (posted_at v) (posted_at u) (sym (envelopes_at m v g) ∙ envelopes_at m u h.fit))

@@ -1,4 +1,5 @@
 use Rattle.std.specs.Option.{option_map}
+use Rattle.trace_pair.specs.After.{comes_after}
 use Rattle.trace_pair.specs.Pairing.{receive_of}
 use Rattle.trace_pair.specs.Table.{pair_of, postponed_name}
 use Rattle.trace_pair.proofs.Tabled.{rows_next, has_at}
@@ -9,8 +10,8 @@ loop-m-preserved c =
     let i = c.loop-m.m-index in
     let lt = c.loop-m-test.true in
     record {
-      pairs = λ ms qs h w. rows_next (λ m. option_map (pair_of m) (receive_of ms qs m)) c.args.self.now.pairs c.loop-m.self.pairs c.add.new.self.pairs c.args.some.now i _ lt
+      pairs = λ ms qs h w. rows_next (λ m. option_map (pair_of m) (receive_of (comes_after c.args.ops.now) ms qs m)) c.args.self.now.pairs c.loop-m.self.pairs c.add.new.self.pairs c.args.some.now i _ lt
           (c.loop-m.invariant.pairs ms qs h w) (c.in_ok-add.ensures.pairs ms qs h (w _ (has_at c.args.some.now i _ lt)));
-      postponed = λ ms qs h w. rows_next (postponed_name ms qs) c.args.self.now.postponed c.loop-m.self.postponed c.add.new.self.postponed c.args.some.now i _ lt
+      postponed = λ ms qs h w. rows_next (postponed_name (comes_after c.args.ops.now) ms qs) c.args.self.now.postponed c.loop-m.self.postponed c.add.new.self.postponed c.args.some.now i _ lt
           (c.loop-m.invariant.postponed ms qs h w) (c.in_ok-add.ensures.postponed ms qs h (w _ (has_at c.args.some.now i _ lt)));
     }
