@@ -10,6 +10,7 @@ pub mod Ranks
 pub mod Posts
 pub mod Partners
 pub mod Ranked
+pub mod Switched
 pub mod Tabled
 pub mod Members
 pub mod PutAt
