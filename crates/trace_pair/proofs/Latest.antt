@@ -3,6 +3,7 @@ use Rattle.std.proofs.Common.{◌≡◌, ℕ, Bool, true, false, ◌||◌, List,
 use Rattle.std.specs.Prelude.{nat_lt, if◌then◌else◌}
 use Rattle.std.specs.Ordering.{is_eq}
 use Rattle.std.specs.BTreeMap.{BTreeMap, get}
+use Rattle.std.specs.Cmp.{tied_itself}
 use Rattle.std.proofs.lemmas.Bool.Decides.{nat_tests}
 use Rattle.mpi_model.specs.declared.message.Message.{Message}
 use Rattle.mpi_model.specs.declared.message.Receive.{Receive}
@@ -74,7 +75,7 @@ module _ (opened : List Receive) (old : Ends) (s : AreLast opened old) (q : Rece
   at_key =
       elim (is_eq (receive_key_cmp key key)) as (λ b. is_eq (receive_key_cmp key key) ≡ b → get receive_key_cmp new.last key ≡ Some raised) [
         | true ↦ λ e. puts key ∙ ap (λ b. cond b (Some raised) (get receive_key_cmp old.last key)) e
-        | false ↦ λ e. let r = ap is_eq (receive_keys_total.refl key) in absurd (cc)
+        | false ↦ λ e. let r = ap is_eq (tied_itself receive_keys_total key) in absurd (cc)
       ] refl
 
   raises : (e : Option ℕ) → get receive_key_cmp old.last key ≡ Some e → ends_by e raised ≡ true
@@ -128,10 +129,10 @@ module _ (opened : List Receive) (old : Ends) (s : AreLast opened old) (q : Rece
 module _ (opened : List Receive) (ends : Ends) (s : AreLast opened ends) (m : Message) (source tag : Option ℕ) (a : admits source m.from ≡ true) (b : admits tag m.tag ≡ true) where
   -- a kind that no receive had
   pub none_of_kind : had ends.kinds source tag ≡ false → IsLastAmong opened m (of_kind source tag) None
-  none_of_kind none r i g f = let x = s.marked r i in let y = had_alike ends.kinds source tag r.source r.tag g ∙ none in absurd (cc)
+  none_of_kind none = λ r i g f. let x = s.marked r i in let y = had_alike ends.kinds source tag r.source r.tag g ∙ none in absurd (cc)
 
   pub last_at : (o : Option (Option ℕ)) → o ≡ get receive_key_cmp ends.last (m.comm, m.to, source, tag) → IsLastAmong opened m (of_kind source tag) o
-  last_at None h r i g f =
+  last_at None h = λ r i g f.
       let w = s.within r i in
       let k = receive_key_fits m source tag r a b g f in
       let x : None ≡ Some w.0 = h ∙ ap (get receive_key_cmp ends.last) k ∙ w.1 in absurd (cc)

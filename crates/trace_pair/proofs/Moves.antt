@@ -441,8 +441,8 @@ module _ (after : After) (ms : List Message) (qs more : List Receive) (q : Recei
         }
 
 -- an index of no calls
-pub nothing_held : IsIndexed [] [] [] [] [] []
-nothing_held = record {
+pub nothing_held : (after : After) → IsIndexed after [] [] [] [] [] []
+nothing_held after = record {
   senders = λ m i. absurd i;
   receivers = λ q i. absurd i;
   messages_apart = λ m n i j e. absurd i;
