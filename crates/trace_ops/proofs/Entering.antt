@@ -113,12 +113,14 @@ one_end n bound lt e h = let k : n ≡ e = cc in omega (arith, lt, k)
 
 ends_within : (n : ℕ) (x : ℤ) (later : List Entry) → EndsWithin (ended_by n x later) (n + length later)
 ends_within n x [] = no_end (n + length {A = Entry} [])
-ends_within n x (c ∷ later) = by (touches x c) (is_completing c)
+ends_within n x (c ∷ later) =
+    let e : n + 1 + length later ≡ n + length (c ∷ later) = omega arith in
+    by (touches x c) (is_completing c) (subst (λ (m : ℕ). EndsWithin (ended_by (n + 1) x later) m) e (ends_within (n + 1) x later))
   where
-    by : (b d : Bool) → EndsWithin (if b then (if d then Some n else None) else ended_by (n + 1) x later) (n + length (c ∷ later))
-    by true true = one_end n (n + length (c ∷ later)) (omega arith)
-    by true false = no_end (n + length (c ∷ later))
-    by false d = let e : n + 1 + length later ≡ n + length (c ∷ later) = omega arith in subst (λ (m : ℕ). EndsWithin (ended_by (n + 1) x later) m) e (ends_within (n + 1) x later)
+    by : (b d : Bool) → EndsWithin (ended_by (n + 1) x later) (n + length (c ∷ later)) → EndsWithin (if b then (if d then Some n else None) else ended_by (n + 1) x later) (n + length (c ∷ later))
+    by true true more = one_end n (n + length (c ∷ later)) (omega arith)
+    by true false more = no_end (n + length (c ∷ later))
+    by false d more = more
 
 post_ends_within : (n : ℕ) (later : List Entry) (p : Option ℤ) → EndsWithin (ended_of_post n later p) (n + length later)
 post_ends_within n later None = no_end (n + length later)
