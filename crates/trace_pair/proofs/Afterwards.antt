@@ -1,9 +1,9 @@
 -- A message that comes after a receive does so in every continuation, and only an end that comes changes what does.
-use Rattle.std.proofs.Common.{subst, ◌≡◌, ℕ, zero, suc, ◌+◌, ◌<◌, ◌≤◌, Bool, true, false, ◌&&◌, List, [], ◌∷◌, ◌++◌, inl, inr, ⊎_elim, sym, refl, ◌∙◌, ap, arith, length, take, drop, get_or, eqb, ltb, cond, Option, Some, None}
+use Rattle.std.proofs.Common.{subst, ◌≡◌, ℕ, zero, suc, ◌+◌, ◌<◌, ◌≤◌, Bool, true, false, ◌&&◌, ◌||◌, List, [], ◌∷◌, ◌++◌, inl, inr, ⊎_elim, sym, refl, ◌∙◌, ap, arith, length, take, drop, get_or, eqb, ltb, cond, Option, Some, None}
 use Rattle.std.specs.Prelude.{nat_le, is_some}
 use Rattle.std.specs.List.{AllZip, list_any, flat_map}
 use Rattle.std.proofs.lemmas.Bool.Decides.{nat_tests}
-use Rattle.std.proofs.lemmas.List.{take-append-drop}
+use Rattle.std.proofs.lemmas.List.{get_or_past, take-append-drop}
 use Rattle.std.proofs.lemmas.List.Elements.{AllZip-get_or}
 use Rattle.mpi_model.specs.declared.event.OpName.{OpName}
 use Rattle.mpi_model.specs.declared.message.Message.{Message}
@@ -34,6 +34,25 @@ none_entered comm call (x ∷ xs) h =
 pub entered_more : (comm call : ℕ) (xs ys : List Entered) → ((x : Entered) → Has ys x → call ≤ x.call) → entered_before comm call (xs ++ ys) ≡ entered_before comm call xs
 entered_more comm call [] ys h = none_entered comm call ys h
 entered_more comm call (x ∷ xs) ys h = ap (λ n. cond (eqb x.comm comm && ltb x.call call) (suc n) n) (entered_more comm call xs ys h)
+
+-- no rank without ops enters a Barrier
+none_left : (sender : Ops) (m : Message) (e : ℕ) (rounds : List Entered) → list_any (is_left sender no_ops m e) rounds ≡ false
+none_left sender m e [] = refl
+none_left sender m e (b ∷ rounds) =
+    let a1 = is_barrier b in let a2 = ltb b.call m.name.call in let a3 = list_any (λ c. eqb c b.comm) sender.comms in
+    ap (λ v. v || list_any (is_left sender no_ops m e) rounds) (never (a1 && a2 && a3) (nat_le (entered_before b.comm e []) (entered_before b.comm b.call sender.rounds)))
+    ∙ none_left sender m e rounds
+  where
+    never : (x y : Bool) → (x && false && y) ≡ false
+    never true y = refl
+    never false y = refl
+
+-- where the receiver's rank isn't among those that are held, only its own messages come after its receives
+pub no_receiver : (held : List Ops) (m : Message) (at e : ℕ) → length held ≤ at → is_own m at e ≡ false → false ≡ is_after (get_or held m.from no_ops) (get_or held at no_ops) m at (Some e)
+no_receiver held m at e le own =
+    let s = get_or held m.from no_ops in
+    let r = get_or_past held at no_ops le in
+    sym (ap (λ v. v || list_any (is_left s (get_or held at no_ops) m e) s.rounds) own ∙ ap (λ (o : Ops). list_any (is_left s o m e) s.rounds) r ∙ none_left s m e s.rounds)
 
 -- before a call no more were entered than before a later one
 entered_fewer : (comm x y : ℕ) (xs : List Entered) → x ≤ y → entered_before comm x xs ≤ entered_before comm y xs

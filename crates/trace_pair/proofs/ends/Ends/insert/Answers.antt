@@ -11,7 +11,7 @@ pub returns : goal.returns
 returns c = λ opened s.
     let q = c.args.q.now in
     let old = c.args.self.now in
-    last_more opened old s q _ c.marked.ensures
+    last_more opened old s q _ c.marked-self.ensures
     (λ k. c.in_ok-insert.ensures.updates.0 k
     ∙ ap (λ (e : Option ℕ). cond (is_eq (receive_key_cmp (receive_key_of q) k)) (Some e) (get receive_key_cmp old.last k))
     (c.with_end-end.ensures ∙ ap (λ (o : Option (Option ℕ)). with_end o q.ended) (c.copied.ensures ∙ c.get.ensures.value)))
