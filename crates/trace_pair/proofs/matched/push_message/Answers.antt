@@ -6,7 +6,7 @@ use Rattle.trace_pair.proofs.Moves.{push_coupled, push_waits, push_void}
 use Rattle.trace_pair.proofs.matched.push_message.Goals as goal
 
 pub returns-then-is_void : goal.returns-then-is_void
-returns-then-is_void c = λ ms more qs adds held. push_void ms more qs c.args.m adds _ _ _ _ held (λ l. let e = c.is_void.ensures in let f = c.if-is_void.true in let n = ap not (sym e ∙ f) in cc)
+returns-then-is_void c = λ ms more qs adds held. push_void (comes_after c.args.ops.now) ms more qs c.args.m adds _ _ _ _ held (λ l. let e = c.is_void.ensures in let f = c.if-is_void.true in let n = ap not (sym e ∙ f) in cc)
 
 pub returns-in_ok-insert-in-Some : goal.returns-in_ok-insert-in-Some
 returns-in_ok-insert-in-Some c = λ ms more qs adds held.

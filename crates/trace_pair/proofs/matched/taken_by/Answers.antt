@@ -36,4 +36,4 @@ returns-in-Some-first_for-clause-none c = λ ms qs held m i t.
 pub returns-clause-some : goal.returns-clause-some
 returns-clause-some c = λ ms qs held.
     let f = c.in-Some.ensures.some in
-    ((held.waits c.in-Some.m f.member).0, taken_found ms qs _ _ _ _ held c.in-Some.m c.args.q.now c.requires (search rules) f (c.hides.ensures.no c.if-hides.false) c.in_default-first_for.ensures.none)
+    ((held.waits c.in-Some.m f.member).0, taken_found (comes_after c.args.ops.now) ms qs _ _ _ _ held c.in-Some.m c.args.q.now c.requires (search rules) f (c.hides.ensures.no c.if-hides.false) c.in_default-first_for.ensures.none)
