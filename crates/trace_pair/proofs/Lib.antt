@@ -11,6 +11,7 @@ pub mod Posts
 pub mod Partners
 pub mod Ranked
 pub mod Switched
+pub mod Hiding
 pub mod Tabled
 pub mod Members
 pub mod PutAt

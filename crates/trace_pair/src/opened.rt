@@ -22,6 +22,21 @@ fn may_have_taken(ops: &[RankOps], u: &Receive, m: &Message) -> bool
     envelopes_fit(m, u) && !is_after(ops, m, u.at, u.ended)
 }
 
+/// Whether some of the receives may have taken the message.
+fn some_may(ops: &[RankOps], kept: &[Receive], m: &Message) -> bool
+    ensures { result ≡ list_any (λ u. envelopes_fit m.now u && not (comes_after ops.now m.now u)) kept.now }
+{
+    kept.iter().any(|u| may_have_taken(ops, u, m))
+}
+
+/// Whether some that stand before the receive may have.
+fn some_before_may(ops: &[RankOps], kept: &[Receive], m: &Message, q: &Receive) -> bool
+    ensures { result ≡ list_any (λ u. (envelopes_fit m.now u && not (comes_after ops.now m.now u)) && posted_before u q.now) kept.now }
+{
+    kept.iter()
+        .any(|u| may_have_taken(ops, u, m) && is_posted_before(u, q))
+}
+
 /// A set of open receives.
 #[derive(Drop)]
 pub(crate) struct Opened {
@@ -64,12 +79,7 @@ impl Opened {
         ensures yes { result ≡ true → SomeHides (comes_after ops.now) self.now m.now }
         ensures no { result ≡ false → NoneHides (comes_after ops.now) self.now m.now }
     {
-        for u in &self.kept {
-            if may_have_taken(ops, u, m) {
-                return true;
-            }
-        }
-        false
+        some_may(ops, &self.kept, m)
     }
 
     /// Whether some that stand before the receive may have taken the message.
@@ -77,11 +87,6 @@ impl Opened {
         ensures yes { result ≡ true → SomeHidesBefore (comes_after ops.now) self.now m.now q.now }
         ensures no { result ≡ false → NoneHidesBefore (comes_after ops.now) self.now m.now q.now }
     {
-        for u in &self.kept {
-            if may_have_taken(ops, u, m) && is_posted_before(u, q) {
-                return true;
-            }
-        }
-        false
+        some_before_may(ops, &self.kept, m, q)
     }
 }
