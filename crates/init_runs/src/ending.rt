@@ -1,9 +1,14 @@
 //! How the program ends where it is given texts alone.
 
-ghost use Rattle.std.specs.Prelude.{◌≡◌, ◌≢◌, IfOk, map, string_bytes};
+ghost use Rattle.std.specs.Prelude.{◌≡◌, ◌≢◌, IfErr, IfOk, OnOk, map, string_bytes};
+ghost use Rattle.layout_files.specs.Stores.{Goes, Same};
+ghost use Rattle.layout_files.specs.declared.store.Which.{Which};
+ghost use Rattle.command_line.specs.Program.{wish_of};
+ghost use Rattle.command_runs.specs.Endings.{output_of};
 ghost use Rattle.init_runs.specs.Advice.{IsInitShown};
 ghost use Rattle.init_runs.specs.Endings.{EndsOver, EndsOverTexts};
 ghost use Rattle.init_runs.specs.Faults.{init_fault_line_of};
+ghost use Rattle.init_runs.specs.Inits.{EndsInit, KeepsBoth, KeepsMade, KeepsNothing, MakesFiles, RefusesInit};
 
 use crate::advice::shown_init_fault;
 use crate::fault::{InitFault, init_fault_line, put_fault};
@@ -11,7 +16,7 @@ use crate::made_files::{LAYOUT_NAME, MANIFEST_NAME, MadeFiles};
 use crate::prepared::{Prepared, prepare};
 use command_line::{Verb, Wanted};
 use command_runs::{Ending, Opener, Watcher, ending_after, run_with};
-use layout_files::{NewFile, Store, add_both, replace_both};
+use layout_files::{NewFile, PutFault, Store, add_both, replace_both};
 use mpi_model::{Sends, Write, write_all};
 use std::alloc::{AllocError, Global};
 use std::io::Eprint;
@@ -125,13 +130,34 @@ fn over_texts<R: Eprint, O: Opener, V: Watcher, W: Write>(
     run_prepared(alloc, verb, &prepared, files, watcher, out)
 }
 
-/// Keeps both files under their wanted names: over files that are there only where that is wanted.
+/// Keeps both files, over files that are there only where that is wanted.
+fn put_both<S: Store>(
+    alloc: Global,
+    store: &mut S,
+    layout: NewFile<'_>,
+    manifest: NewFile<'_>,
+    force: bool,
+) -> Result<(), PutFault>
+    ensures ok { OnOk result (KeepsBoth force layout.entry manifest.entry (S.files store.old) (S.files store.new)) }
+    ensures err { IfErr result (λ fault. ((half : Which) → fault ≢ PutFault.Half half) → Goes Same (S.files store.old) (S.files store.new)) }
+{
+    if force {
+        replace_both(alloc, store, layout, manifest)
+    } else {
+        add_both(store, layout, manifest)
+    }
+}
+
+/// Keeps what was made under the wanted names.
 fn keep<S: Store>(
     alloc: Global,
     prepared: &Prepared,
     wanted: Wanted<'_>,
     store: &mut S,
-) -> Result<(), InitFault> {
+) -> Result<(), InitFault>
+    ensures ok { OnOk result (KeepsMade (wish_of wanted.entry) prepared.now.made (S.files store.old) (S.files store.new)) }
+    ensures err { IfErr result (λ fault. KeepsNothing (wish_of wanted.entry) fault (S.files store.old) (S.files store.new)) }
+{
     let layout = NewFile {
         name: wanted.layout,
         bytes: &prepared.made.layout_file,
@@ -140,12 +166,7 @@ fn keep<S: Store>(
         name: wanted.manifest,
         bytes: &prepared.made.manifest_file,
     };
-    let kept = if wanted.force {
-        replace_both(alloc, store, layout, manifest)
-    } else {
-        add_both(store, layout, manifest)
-    };
-    match kept {
+    match put_both(alloc, store, layout, manifest, wanted.force) {
         Ok(()) => Ok(()),
         Err(fault) => Err(put_fault(alloc, fault, wanted.layout, wanted.manifest)?),
     }
@@ -159,9 +180,14 @@ fn init<O: Opener, S: Store, W: Write>(
     files: &mut O,
     store: &mut S,
     out: &mut W,
-) -> Result<(), InitFault> {
+) -> Result<(), InitFault>
+    ensures ok { OnOk result (MakesFiles (O.file files.old) (map (λ t. t.now) texts.now) (wish_of wanted.entry) (S.files store.old) (S.files store.new) (output_of (W.written out.old) (W.failures out.old)) (output_of (W.written out.new) (W.failures out.new))) }
+    ensures err { IfErr result (λ fault. RefusesInit (O.file files.old) (map (λ t. t.now) texts.now) (wish_of wanted.entry) fault (S.files store.old) (S.files store.new) (output_of (W.written out.old) (W.failures out.old)) (output_of (W.written out.new) (W.failures out.new))) }
+{
     let prepared = prepare(alloc, wanted.sends, texts, files)?;
-    keep(alloc, &prepared, wanted, store)?;
+    if let Err(fault) = keep(alloc, &prepared, wanted, store) {
+        return Err(fault);
+    }
     match write_all(out, &prepared.notes) {
         Ok(()) => Ok(()),
         Err(_) => Err(InitFault::Write),
@@ -176,7 +202,9 @@ pub fn ending_of_init<O: Opener, S: Store, W: Write>(
     files: &mut O,
     store: &mut S,
     out: &mut W,
-) -> Result<Ending, AllocError> {
+) -> Result<Ending, AllocError>
+    ensures { IfOk result (λ e. EndsInit (O.file files.old) (map (λ t. t.now) texts.now) (wish_of wanted.entry) e.status (string_bytes e.errors) (S.files store.old) (S.files store.new) (output_of (W.written out.old) (W.failures out.old)) (output_of (W.written out.new) (W.failures out.new))) }
+{
     match init(alloc, texts, wanted, files, store, out) {
         Ok(()) => Ok(Ending {
             status: 0,
