@@ -38,6 +38,7 @@ pub(crate) fn collective_name(nonblocking: bool, kind: Kind) -> &'static [u8]
     CollectiveFunction { kind, nonblocking }.name()
 }
 
+/// A call that sends, by its function and its envelope.
 fn put_send(out: &mut Text, name: &[u8], envelope: Envelope)
     ensures { Adds out.old out.new (send_text name.now envelope) }
 {
@@ -45,6 +46,7 @@ fn put_send(out: &mut Text, name: &[u8], envelope: Envelope)
     put_sent(out, envelope);
 }
 
+/// A call that receives, by its function and its envelope.
 fn put_receive(out: &mut Text, name: &[u8], envelope: Envelope)
     ensures { Adds out.old out.new (receive_text name.now envelope) }
 {
@@ -52,6 +54,7 @@ fn put_receive(out: &mut Text, name: &[u8], envelope: Envelope)
     put_received(out, envelope);
 }
 
+/// A Probe, by what it looks for.
 fn put_probe(out: &mut Text, envelope: ProbeEnvelope)
     ensures { Adds out.old out.new (probe_text envelope) }
 {
@@ -59,8 +62,8 @@ fn put_probe(out: &mut Text, envelope: ProbeEnvelope)
     put_probed(out, envelope);
 }
 
-fn put_exchange(out: &mut Text, exchange: Exchange)
-    ensures { Adds out.old out.new (exchange_text exchange) }
+fn put_exchange(out: &mut Text, exchange: &Exchange)
+    ensures { Adds out.old out.new (exchange_text exchange.now) }
 {
     out.put(b"MPI_Sendrecv");
     put_sent(out, exchange.send());
@@ -76,6 +79,7 @@ pub(crate) fn put_on(out: &mut Text, name: &[u8], comm: CommRef)
     put_comm(out, comm);
 }
 
+/// The root of a call, where its kind has one.
 fn put_root(out: &mut Text, root: Option<u32>)
     ensures { Adds out.old out.new (root_text root) }
 {
@@ -91,6 +95,7 @@ pub(crate) fn put_one_root(out: &mut Text, root: u32)
     out.put_number(root as u64);
 }
 
+/// `MPI_Bcast on communicator 5, root 0`, or `MPI_Ibcast` where it is nonblocking.
 fn put_collective(out: &mut Text, nonblocking: bool, call: Collective)
     ensures { Adds out.old out.new (collective_text nonblocking call) }
 {
@@ -106,6 +111,7 @@ pub fn put_kind(out: &mut Text, function: CollectiveFunction, root: Option<u32>)
     put_root(out, root);
 }
 
+/// `MPI_Waitall on 3 requests`.
 fn put_of_requests(out: &mut Text, name: &[u8], count: usize)
     ensures { Adds out.old out.new (of_requests_text name.now count) }
 {
@@ -130,7 +136,7 @@ pub fn put_call(out: &mut Text, call: &Call)
         Call::Isend(mode, envelope) => put_send(out, immediate_name(*mode), envelope.envelope()),
         Call::Recv(envelope) => put_receive(out, b"MPI_Recv", envelope.envelope()),
         Call::Irecv(envelope) => put_receive(out, b"MPI_Irecv", envelope.envelope()),
-        Call::Sendrecv(exchange) => put_exchange(out, *exchange),
+        Call::Sendrecv(exchange) => put_exchange(out, exchange),
         Call::Wait(_) => out.put(b"MPI_Wait on a request"),
         Call::Waitall(list) => put_of_requests(out, b"MPI_Waitall", list.as_slice().len()),
         Call::Waitany(list) => put_of_requests(out, b"MPI_Waitany", list.as_slice().len()),

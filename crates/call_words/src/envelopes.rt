@@ -16,6 +16,7 @@ pub(crate) fn put_comm(out: &mut Text, comm: CommRef)
     }
 }
 
+/// A communicator by its number.
 fn put_id(out: &mut Text, number: u32)
     ensures { Adds out.old out.new (id_text number) }
 {
@@ -23,6 +24,7 @@ fn put_id(out: &mut Text, number: u32)
     out.put_number(number as u64);
 }
 
+/// `rank 1 of communicator 5`.
 fn put_peer(out: &mut Text, peer: Peer, comm: CommRef)
     ensures { Adds out.old out.new (peer_text peer comm) }
 {
@@ -30,6 +32,7 @@ fn put_peer(out: &mut Text, peer: Peer, comm: CommRef)
     put_comm(out, comm);
 }
 
+/// A peer up to its communicator.
 fn put_peer_front(out: &mut Text, peer: Peer)
     ensures { Adds out.old out.new (peer_front peer) }
 {
@@ -40,6 +43,7 @@ fn put_peer_front(out: &mut Text, peer: Peer)
     }
 }
 
+/// A peer by its rank in the communicator that is named behind it.
 fn put_rank_of(out: &mut Text, rank: u32)
     ensures { Adds out.old out.new (rank_of_text rank) }
 {
@@ -48,6 +52,7 @@ fn put_rank_of(out: &mut Text, rank: u32)
     out.put(b" of ");
 }
 
+/// `, tag 7`, or `, any tag`.
 fn put_tag(out: &mut Text, tag: Option<u32>)
     ensures { Adds out.old out.new (tag_text tag) }
 {
@@ -57,6 +62,7 @@ fn put_tag(out: &mut Text, tag: Option<u32>)
     }
 }
 
+/// A tag that is named.
 fn put_one_tag(out: &mut Text, tag: u32)
     ensures { Adds out.old out.new (one_tag_text tag) }
 {
@@ -64,6 +70,7 @@ fn put_one_tag(out: &mut Text, tag: u32)
     out.put_number(tag as u64);
 }
 
+/// The word behind a count: `element` of one, and else `elements`.
 fn elements_word(count: u32) -> &'static [u8]
     ensures { result.now ≡ elements_word count }
 {
@@ -74,6 +81,7 @@ fn elements_word(count: u32) -> &'static [u8]
     }
 }
 
+/// `3 elements`, behind a head.
 fn put_count(out: &mut Text, head: &[u8], count: u32)
     ensures { Adds out.old out.new (count_text head.now count) }
 {

@@ -13,6 +13,7 @@ pub struct Range {
     pub last: u32,
 }
 
+/// Whether the rank stands directly behind the range.
 fn follows(held: Range, rank: u32) -> bool
     ensures { result ≡ follows held rank }
 {
@@ -33,6 +34,7 @@ pub fn put_next(out: &mut Text, held: Option<Range>, rank: u32) -> Option<Range>
     }
 }
 
+/// What is said of the range before the next rank, and the range that is held then.
 fn put_behind(out: &mut Text, held: Range, rank: u32) -> Range
     ensures text { Adds out.old out.new (text_behind held rank) }
     ensures held { result ≡ range_behind held rank }
@@ -60,6 +62,7 @@ pub fn put_held(out: &mut Text, held: Option<Range>)
     }
 }
 
+/// `4`, or `4 to 11`.
 fn put_range(out: &mut Text, range: Range)
     ensures { Adds out.old out.new (range_text range) }
 {
@@ -69,6 +72,7 @@ fn put_range(out: &mut Text, range: Range)
     }
 }
 
+/// ` to 11`, where a range has more than one rank.
 fn put_end(out: &mut Text, last: u32)
     ensures { Adds out.old out.new (end_text last) }
 {

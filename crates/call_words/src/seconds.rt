@@ -15,6 +15,7 @@ pub fn put_seconds(out: &mut Text, nanoseconds: u64)
     out.put(&nine_digits(nanoseconds));
 }
 
+/// The last nine decimal digits of a number.
 fn nine_digits(n: u64) -> [u8; 9]
     ensures { result ≡ nine_digits n }
 {
@@ -31,6 +32,7 @@ fn nine_digits(n: u64) -> [u8; 9]
     ]
 }
 
+/// The last decimal digit of a number, as a character: 48 is `0`.
 fn last_digit(n: u64) -> u8
     ensures { result ≡ last_digit n }
 {

@@ -14,6 +14,7 @@ use comm_makings::Action;
 use dumpi_text::RawCall;
 use std::alloc::Global;
 
+/// The communicator that another function gives.
 fn other_of(giver: Giver, raw: &RawCall) -> Option<&[u8]>
     ensures { option_copied result ≡ other_of giver raw.now }
 {
@@ -26,6 +27,7 @@ fn other_of(giver: Giver, raw: &RawCall) -> Option<&[u8]>
     }
 }
 
+/// What a call says that makes communicators of another.
 fn make_in(alloc: Global, maker: Maker, raw: &RawCall) -> Result<Action, Memory>
     ensures { IfOk result (IsMake maker raw.now) }
 {
@@ -36,6 +38,7 @@ fn make_in(alloc: Global, maker: Maker, raw: &RawCall) -> Result<Action, Memory>
     })
 }
 
+/// What a call says that gives a group.
 fn group_in(alloc: Global, grouper: Grouper, raw: &RawCall) -> Result<Action, Memory>
     ensures { IfOk result (IsGroup grouper raw.now) }
 {
@@ -45,6 +48,7 @@ fn group_in(alloc: Global, grouper: Grouper, raw: &RawCall) -> Result<Action, Me
     })
 }
 
+/// What a call of MPI_Comm_rank says.
 fn rank_in(alloc: Global, raw: &RawCall) -> Result<Action, Memory>
     ensures { IfOk result (IsAction Function.Rank raw.now) }
 {

@@ -8,6 +8,7 @@ use crate::number::beside;
 use dumpi_text::RawCall;
 use std::alloc::Global;
 
+/// The number beside a name in the parameter at a place.
 fn beside_at(alloc: Global, name: &str, raw: &RawCall, place: usize) -> Result<Option<u32>, Memory>
     ensures { IfOk result (λ n. n ≡ beside_at name.now raw.now.params place) }
 {

@@ -50,6 +50,7 @@ fn function_of(raw: &RawCall) -> Option<Function>
     function_named(raw.name())
 }
 
+/// A call of this function, with its place among all calls of the text.
 fn comm_call(
     alloc: Global,
     function: Function,

@@ -90,6 +90,7 @@ pub(crate) fn is(name: &[u8], word: &str) -> bool
     same(name, word.as_bytes())
 }
 
+/// A constructor of communicators (MPI 4.0, 7.4.2).
 fn maker_named(name: &[u8]) -> Option<Maker>
     ensures { result ≡ maker_named name.now }
 {
@@ -112,6 +113,7 @@ fn maker_named(name: &[u8]) -> Option<Maker>
     }
 }
 
+/// A constructor of communicators with a topology (MPI 4.0, 8.5).
 fn grid_named(name: &[u8]) -> Option<Maker>
     ensures { result ≡ grid_named name.now }
 {
@@ -130,6 +132,7 @@ fn grid_named(name: &[u8]) -> Option<Maker>
     }
 }
 
+/// A constructor of groups (MPI 4.0, 7.3.2).
 fn group_named(name: &[u8]) -> Option<Grouper>
     ensures { result ≡ group_named name.now }
 {
@@ -154,6 +157,7 @@ fn group_named(name: &[u8]) -> Option<Grouper>
     }
 }
 
+/// Another function that gives a group: its ranks are unknown.
 fn other_group_named(name: &[u8]) -> Option<Grouper>
     ensures { result ≡ other_group_named name.now }
 {
@@ -170,6 +174,7 @@ fn other_group_named(name: &[u8]) -> Option<Grouper>
     }
 }
 
+/// Another function that gives a communicator (MPI 4.0, 7.4.2, 7.6 and 11.8 to 11.10).
 fn giver_named(name: &[u8]) -> Option<Giver>
     ensures { result ≡ giver_named name.now }
 {
@@ -200,6 +205,7 @@ fn giver_named(name: &[u8]) -> Option<Giver>
     }
 }
 
+/// What tells a rank its own, or frees a communicator (MPI 4.0, 7.4.1, 7.4.3 and 11.10.4).
 fn single_named(name: &[u8]) -> Option<Function>
     ensures { result ≡ single_named name.now }
 {

@@ -12,12 +12,14 @@ use comm_makings::{GroupCall, GroupName};
 use dumpi_text::RawCall;
 use std::alloc::Global;
 
+/// The group that a parameter names.
 fn group_at(alloc: Global, name: &str, raw: &RawCall) -> Result<GroupName, Memory>
     ensures { IfOk result (λ g. g ≡ group_at name.now raw.now) }
 {
     group_in(alloc, text_of(raw, name))
 }
 
+/// What a call of MPI_Group_incl says.
 fn incl_in(alloc: Global, raw: &RawCall) -> Result<GroupCall, Memory>
     ensures { IfOk result (IsGroupCall Grouper.Incl raw.now) }
 {
@@ -27,6 +29,7 @@ fn incl_in(alloc: Global, raw: &RawCall) -> Result<GroupCall, Memory>
     })
 }
 
+/// What a call of MPI_Group_excl says.
 fn excl_in(alloc: Global, raw: &RawCall) -> Result<GroupCall, Memory>
     ensures { IfOk result (IsGroupCall Grouper.Excl raw.now) }
 {
@@ -36,6 +39,7 @@ fn excl_in(alloc: Global, raw: &RawCall) -> Result<GroupCall, Memory>
     })
 }
 
+/// What a call of MPI_Group_range_incl says.
 fn range_incl_in(alloc: Global, raw: &RawCall) -> Result<GroupCall, Memory>
     ensures { IfOk result (IsGroupCall Grouper.RangeIncl raw.now) }
 {
@@ -45,6 +49,7 @@ fn range_incl_in(alloc: Global, raw: &RawCall) -> Result<GroupCall, Memory>
     })
 }
 
+/// What a call of MPI_Group_range_excl says.
 fn range_excl_in(alloc: Global, raw: &RawCall) -> Result<GroupCall, Memory>
     ensures { IfOk result (IsGroupCall Grouper.RangeExcl raw.now) }
 {
@@ -54,6 +59,7 @@ fn range_excl_in(alloc: Global, raw: &RawCall) -> Result<GroupCall, Memory>
     })
 }
 
+/// What a call of MPI_Group_union says.
 fn union_in(alloc: Global, raw: &RawCall) -> Result<GroupCall, Memory>
     ensures { IfOk result (IsGroupCall Grouper.Union raw.now) }
 {
@@ -63,6 +69,7 @@ fn union_in(alloc: Global, raw: &RawCall) -> Result<GroupCall, Memory>
     })
 }
 
+/// What a call of MPI_Group_intersection says.
 fn intersection_in(alloc: Global, raw: &RawCall) -> Result<GroupCall, Memory>
     ensures { IfOk result (IsGroupCall Grouper.Intersection raw.now) }
 {
@@ -72,6 +79,7 @@ fn intersection_in(alloc: Global, raw: &RawCall) -> Result<GroupCall, Memory>
     })
 }
 
+/// What a call of MPI_Group_difference says.
 fn difference_in(alloc: Global, raw: &RawCall) -> Result<GroupCall, Memory>
     ensures { IfOk result (IsGroupCall Grouper.Difference raw.now) }
 {

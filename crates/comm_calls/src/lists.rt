@@ -12,6 +12,7 @@ use comm_makings::RankRange;
 use dumpi_text::{Num, Value, ValueFault, parse_value};
 use std::alloc::Global;
 
+/// The numbers of a list, where each is a C `int`.
 fn ints_of(alloc: Global, numbers: &[Num]) -> Result<Option<Vec<i32>>, Memory>
     ensures { IfOk result (λ o. option_map (λ v. v.items) o ≡ ints_of numbers.now) }
 {
@@ -25,6 +26,7 @@ fn ints_of(alloc: Global, numbers: &[Num]) -> Result<Option<Vec<i32>>, Memory>
     Ok(Some(ints))
 }
 
+/// A list of numbers: a list, or a number as a list of one.
 fn all_ints(alloc: Global, value: Value) -> Result<Option<Vec<i32>>, Memory>
     ensures { IfOk result (λ o. option_map (λ v. v.items) o ≡ all_ints value) }
 {
@@ -35,6 +37,7 @@ fn all_ints(alloc: Global, value: Value) -> Result<Option<Vec<i32>>, Memory>
     }
 }
 
+/// The numbers that a text lists.
 fn ints_by(alloc: Global, text: &[u8]) -> Result<Option<Vec<i32>>, Memory>
     ensures { IfOk result (λ o. option_map (λ v. v.items) o ≡ option_and_then all_ints (value_of text.now)) }
 {
@@ -45,6 +48,7 @@ fn ints_by(alloc: Global, text: &[u8]) -> Result<Option<Vec<i32>>, Memory>
     }
 }
 
+/// The numbers that a parameter lists.
 fn ints_in(alloc: Global, text: Option<&[u8]>) -> Result<Option<Vec<i32>>, Memory>
     ensures { IfOk result (λ o. option_map (λ v. v.items) o ≡ ints_in (option_copied text.entry)) }
 {
@@ -54,6 +58,7 @@ fn ints_in(alloc: Global, text: Option<&[u8]>) -> Result<Option<Vec<i32>>, Memor
     }
 }
 
+/// Ranks, none of them negative.
 fn naturals_of(alloc: Global, ints: &[i32]) -> Result<Option<Vec<u32>>, Memory>
     ensures { IfOk result (λ o. option_map (λ v. v.items) o ≡ naturals_of ints.now) }
 {
@@ -77,12 +82,14 @@ pub(crate) fn ranks_in(alloc: Global, text: Option<&[u8]>) -> Result<Option<Vec<
     }
 }
 
+/// A dimension's size, and 0 where it is below 1.
 fn size_of(int: i32) -> u32
     ensures { result ≡ size_of int }
 {
     if int < 0 { 0 } else { int as u32 }
 }
 
+/// The sizes of all dimensions.
 fn sizes_of(alloc: Global, ints: &[i32]) -> Result<Vec<u32>, Memory>
     ensures { IfOk result (λ v. v.items ≡ map size_of ints.now) }
 {
@@ -103,12 +110,14 @@ pub(crate) fn sizes_in(alloc: Global, text: Option<&[u8]>) -> Result<Option<Vec<
     }
 }
 
+/// Whether a flag is set.
 fn is_set(int: i32) -> bool
     ensures { result ≡ is_set int }
 {
     int != 0
 }
 
+/// Which flags are set.
 fn flags_of(alloc: Global, ints: &[i32]) -> Result<Vec<bool>, Memory>
     ensures { IfOk result (λ v. v.items ≡ map is_set ints.now) }
 {
@@ -129,6 +138,7 @@ pub(crate) fn flags_in(alloc: Global, text: Option<&[u8]>) -> Result<Option<Vec<
     }
 }
 
+/// The number at a place of the list.
 fn int_at(ints: &[i32], at: usize) -> i32
     requires { at < length ints.now }
     ensures { result ≡ slice_index_or ints.now at (pos 0) }
@@ -148,6 +158,7 @@ fn range_at(ints: &[i32], at: usize) -> RankRange
     }
 }
 
+/// Three numbers a range: its first rank, its last and the stride (MPI 4.0, 7.3.2).
 fn ranges_of(alloc: Global, ints: &[i32]) -> Result<Option<Vec<RankRange>>, Memory>
     ensures { IfOk result (λ o. option_map (λ v. v.items) o ≡ ranges_of ints.now) }
 {

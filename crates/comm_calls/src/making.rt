@@ -56,12 +56,14 @@ pub(crate) fn made_of(maker: Maker, raw: &RawCall) -> Option<&[u8]>
     }
 }
 
+/// Whether the ranks may be ordered anew.
 fn reorder_in(alloc: Global, raw: &RawCall) -> Result<Option<bool>, Memory>
     ensures { IfOk result (λ b. b ≡ reorder_in raw.now) }
 {
     flag_in(alloc, text_of(raw, "reorder"))
 }
 
+/// What a call of MPI_Comm_split says.
 fn split_in(alloc: Global, raw: &RawCall) -> Result<Making, Memory>
     ensures { IfOk result (IsMaking Maker.Split raw.now) }
 {
@@ -71,6 +73,7 @@ fn split_in(alloc: Global, raw: &RawCall) -> Result<Making, Memory>
     })
 }
 
+/// What a call of MPI_Comm_create says.
 fn create_in(alloc: Global, raw: &RawCall) -> Result<Making, Memory>
     ensures { IfOk result (IsMaking Maker.Create raw.now) }
 {
@@ -79,6 +82,7 @@ fn create_in(alloc: Global, raw: &RawCall) -> Result<Making, Memory>
     })
 }
 
+/// What a call of MPI_Comm_create_group says.
 fn create_group_in(alloc: Global, raw: &RawCall) -> Result<Making, Memory>
     ensures { IfOk result (IsMaking Maker.CreateGroup raw.now) }
 {
@@ -88,6 +92,7 @@ fn create_group_in(alloc: Global, raw: &RawCall) -> Result<Making, Memory>
     })
 }
 
+/// What a call of MPI_Cart_create says.
 fn cart_in(alloc: Global, raw: &RawCall) -> Result<Making, Memory>
     ensures { IfOk result (IsCart (sizes_in (text_of (codes "dims") raw.now)) (reorder_in raw.now)) }
 {
@@ -97,6 +102,7 @@ fn cart_in(alloc: Global, raw: &RawCall) -> Result<Making, Memory>
     })
 }
 
+/// What a call of MPI_Cart_sub says.
 fn cart_sub_in(alloc: Global, raw: &RawCall) -> Result<Making, Memory>
     ensures { IfOk result (IsCartSub (flags_in (text_of (codes "remain_dims") raw.now))) }
 {
@@ -105,6 +111,7 @@ fn cart_sub_in(alloc: Global, raw: &RawCall) -> Result<Making, Memory>
     })
 }
 
+/// What a call of MPI_Graph_create says.
 fn graph_in(alloc: Global, raw: &RawCall) -> Result<Making, Memory>
     ensures { IfOk result (IsMaking Maker.GraphCreate raw.now) }
 {

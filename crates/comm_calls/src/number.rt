@@ -10,6 +10,7 @@ use comm_makings::{Color, Given, GroupName};
 use dumpi_text::{Num, Value, ValueFault, parse_value};
 use std::alloc::Global;
 
+/// The number, where there is exactly one.
 fn only(numbers: &[Num]) -> Option<i64>
     ensures { result ≡ only numbers.now }
 {
@@ -19,6 +20,7 @@ fn only(numbers: &[Num]) -> Option<i64>
     }
 }
 
+/// One number: a number, or a list of exactly one.
 fn one_number(value: Value) -> Option<i64>
     ensures { result ≡ one_number value }
 {
@@ -62,24 +64,28 @@ pub(crate) fn natural_of(value: i64) -> Option<u32>
     }
 }
 
+/// Whether a flag is set.
 fn is_set(value: i64) -> bool
     ensures { result ≡ is_set value }
 {
     value != 0
 }
 
+/// The number, where it is one from 0 to 2^31 - 1.
 fn natural_by(number: Option<i64>) -> Option<u32>
     ensures { result ≡ option_and_then natural_of number }
 {
     natural_of(number?)
 }
 
+/// The number, where it is a C `int` (MPI 4.0, 2.6.3).
 fn int_by(number: Option<i64>) -> Option<i32>
     ensures { result ≡ option_and_then int_of number }
 {
     int_of(number?)
 }
 
+/// Whether the flag is set.
 fn flag_by(number: Option<i64>) -> Option<bool>
     ensures { result ≡ option_map is_set number }
 {
@@ -113,12 +119,14 @@ pub(crate) fn flag_in(alloc: Global, text: Option<&[u8]>) -> Result<Option<bool>
     }
 }
 
+/// Whether a note says that no communicator is meant.
 fn is_null(text: &[u8]) -> bool
     ensures { result ≡ is_null text.now }
 {
     has_note(text, "MPI_COMM_NULL")
 }
 
+/// The communicator of a text, where that is not the null one.
 fn comm_of(alloc: Global, text: &[u8]) -> Result<Option<u32>, Memory>
     ensures { IfOk result (λ n. n ≡ comm_of text.now) }
 {
@@ -138,6 +146,7 @@ pub(crate) fn comm_in(alloc: Global, text: Option<&[u8]>) -> Result<Option<u32>,
     }
 }
 
+/// A communicator that is given, by a number that can be read.
 fn given_number(number: Option<u32>) -> Given
     ensures { result ≡ given_number number }
 {
@@ -147,6 +156,7 @@ fn given_number(number: Option<u32>) -> Given
     }
 }
 
+/// A communicator that is given: none under the note of the null one, else its number.
 fn given_by(noted: bool, number: Option<i64>) -> Given
     ensures { result ≡ given_by noted number }
 {
@@ -167,6 +177,7 @@ pub(crate) fn given_in(alloc: Global, text: Option<&[u8]>) -> Result<Given, Memo
     }
 }
 
+/// A group, by a number that can be read.
 fn group_number(number: Option<u32>) -> GroupName
     ensures { result ≡ group_number number }
 {
@@ -176,6 +187,7 @@ fn group_number(number: Option<u32>) -> GroupName
     }
 }
 
+/// A group: the empty one under its note, else its number.
 fn group_by(noted: bool, number: Option<i64>) -> GroupName
     ensures { result ≡ group_by noted number }
 {
@@ -196,6 +208,7 @@ pub(crate) fn group_in(alloc: Global, text: Option<&[u8]>) -> Result<GroupName, 
     }
 }
 
+/// A color, by its number: none where that is negative.
 fn color_number(value: i64) -> Option<Color>
     ensures { result ≡ color_number value }
 {
@@ -205,6 +218,7 @@ fn color_number(value: i64) -> Option<Color>
     Some(Color::Number(natural_of(value)?))
 }
 
+/// A color: none under the note of MPI_UNDEFINED, else by its number.
 fn color_by(noted: bool, number: Option<i64>) -> Option<Color>
     ensures { result ≡ color_by noted number }
 {

@@ -60,6 +60,7 @@ fn behind(stop: u8, text: &[u8]) -> Option<&[u8]>
     None
 }
 
+/// The note of a number: what stands between its parentheses, and nothing where it has none.
 fn note_of(text: &[u8]) -> &[u8]
     ensures { result.now ≡ note_of text.now }
 {

@@ -11,6 +11,7 @@ use crate::parameter::{has_note, text_of};
 use dumpi_text::RawCall;
 use std::alloc::Global;
 
+/// Whether the communicator of this text is MPI_COMM_WORLD.
 fn is_of_world(text: Option<&[u8]>) -> bool
     ensures { result ≡ is_of_world (option_copied text.entry) }
 {
@@ -20,6 +21,7 @@ fn is_of_world(text: Option<&[u8]>) -> bool
     }
 }
 
+/// Whether it is a returned MPI_Comm_size of MPI_COMM_WORLD (MPI 4.0, 7.4.1).
 fn tells_size(raw: &RawCall) -> bool
     ensures { result ≡ tells_size raw.now }
 {
@@ -29,6 +31,7 @@ fn tells_size(raw: &RawCall) -> bool
         && is_of_world(text_of(raw, "comm"))
 }
 
+/// The size of MPI_COMM_WORLD that a call tells.
 fn size_in(alloc: Global, raw: &RawCall) -> Result<Option<u32>, Memory>
     ensures { IfOk result (λ n. n ≡ size_in raw.now) }
 {

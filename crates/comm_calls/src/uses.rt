@@ -10,6 +10,7 @@ use indexmap::IndexMap;
 use mpi_model::{Call, CommRef};
 use std::alloc::Global;
 
+/// The communicator that a call of the profile names.
 fn comm_of(call: &Call) -> Option<CommRef>
     ensures { result ≡ comm_of call.now }
 {

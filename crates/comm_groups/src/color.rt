@@ -56,6 +56,7 @@ fn run_length(rest: &[Colored], color: u32) -> usize
     count
 }
 
+/// The ranks of these members, in their order.
 fn ranks_of(alloc: Global, run: &[Colored]) -> Result<Vec<u32>, AllocError>
     ensures { IfOk result (λ v. v.items ≡ map (λ e. e.rank) run.now) }
 {

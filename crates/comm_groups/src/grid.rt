@@ -46,6 +46,7 @@ fn first_alike(dims: &[u32], remain: &[bool], size: u32, rank: u32) -> u32
     first
 }
 
+/// All ranks of the grid, each by the first that agrees with it.
 fn placed(
     alloc: Global,
     dims: &[u32],

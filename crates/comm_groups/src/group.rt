@@ -34,6 +34,7 @@ pub(crate) fn has_double(alloc: Global, ranks: &[u32]) -> Result<bool, AllocErro
     Ok(false)
 }
 
+/// Whether all ranks are in a group of this size.
 fn are_within(size: usize, ranks: &[u32]) -> bool
     ensures { result ≡ list_all (λ r. nat_lt r size) ranks.now }
 {

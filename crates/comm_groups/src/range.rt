@@ -17,6 +17,7 @@ pub struct RankRange {
     pub falls: bool,
 }
 
+/// Whether the range has a stride, and its last rank is not behind its first.
 fn is_range(range: RankRange) -> bool
     ensures { result ≡ is_range range }
 {
@@ -30,6 +31,7 @@ fn is_range(range: RankRange) -> bool
     }
 }
 
+/// How far the range goes.
 fn span_of(range: RankRange) -> u32
     ensures { result ≡ span_of range }
 {

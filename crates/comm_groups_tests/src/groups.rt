@@ -179,6 +179,7 @@ static TOLD: [Told; 4] = [
     ("a rank left out", &[0, 2], None),
 ];
 
+/// Whether this order was found, or none where none is wanted.
 fn is_order(found: &Option<Vec<usize>>, wanted: Option<&[usize]>) -> bool {
     match (found, wanted) {
         (None, None) => true,

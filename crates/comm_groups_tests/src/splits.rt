@@ -52,6 +52,7 @@ static SPLITS: [Row; 4] = [
     ("nobody", &[], &[]),
 ];
 
+/// What the ranks of these rows ask: each with its color and its key.
 fn asked_of<R: Abort>(rt: &R, alloc: Global, rows: &[(u32, u32, i32)]) -> Vec<Colored> {
     let mut asked = Vec::new(alloc);
     for (rank, color, key) in rows {

@@ -37,6 +37,7 @@ member_with handle rank = record { rank = rank; handle = Some handle }
 abbrev pub world_members : ℕ → List Member
 world_members count = map (member_with 0) (range_with_len 0 count)
 
+-- the ranks of the members in the run
 abbrev pub ranks_in : List Member → List ℕ
 ranks_in members = map (λ m. m.rank) members
 

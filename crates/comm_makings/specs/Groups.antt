@@ -28,6 +28,7 @@ abbrev pub waits : GroupValue → Bool
 waits values.Waits = true
 waits _ = false
 
+-- the same, where there is such a group
 abbrev pub waits_some : Option GroupValue → Bool
 waits_some None = false
 waits_some (Some value) = waits value
@@ -38,6 +39,7 @@ ranks_at comms values groups.Empty = Some []
 ranks_at comms values groups.Unknown = None
 ranks_at comms values (groups.Given call) = option_and_then (ranks_of comms) (slice_get values call)
 
+-- The ranks of a group that a call names may become known.
 abbrev pub waits_at : List GroupValue → GroupAt → Bool
 waits_at values groups.Empty = false
 waits_at values groups.Unknown = false
@@ -50,6 +52,7 @@ group_of_comm (Some standings.Open) = values.Waits
 group_of_comm (Some (standings.Derived place)) = values.Whole place
 group_of_comm (Some (standings.Left why)) = values.Unknown
 
+-- a group whose ranks are not known: they may become so, or not
 abbrev pub unlisted : Bool → GroupValue
 unlisted waits = cond waits values.Waits values.Unknown
 
@@ -107,10 +110,12 @@ made_of_two (calls.Intersection a b) first second = Some (intersection_of first 
 made_of_two (calls.Difference a b) first second = Some (difference_of first second)
 made_of_two _ first second = None
 
+-- The ranks of a group are known, or they may become so.
 abbrev pub is_known : Option (List ℕ) → Bool → Bool
 is_known None waits = waits
 is_known (Some ranks) waits = true
 
+-- the group that a call makes of two others, by their ranks, where those of both are known
 abbrev pub IsMadeOfTwo : GroupCall → Option (List ℕ) → Option (List ℕ) → Bool → GroupValue → Type 0
 IsMadeOfTwo call None second waits value = value ≡ unlisted waits
 IsMadeOfTwo call (Some first) None waits value = value ≡ unlisted waits

@@ -17,6 +17,7 @@ use Rattle.comm_makings.specs.declared.here.Here.{Here}
 use Rattle.comm_makings.specs.declared.state.Member.{Member}
 use Rattle.comm_makings.specs.declared.view.RankView.{RankView}
 
+-- the function of a making
 abbrev pub function_of : Making → MadeBy
 function_of makings.Dup = functions.Dup
 function_of makings.DupWithInfo = functions.DupWithInfo
@@ -35,6 +36,7 @@ function_of (makings.DistGraphCreateAdjacent reorder) = functions.DistGraphCreat
 abbrev pub call_at : List RankCalls → ℕ → ℕ → Option CommCall
 call_at ranks rank at = option_and_then (λ c. slice_get c.calls.items at) (slice_get ranks rank)
 
+-- what an action says of the communicators that it makes
 abbrev pub making_of : Action → Option Making
 making_of (actions.Make parent making given) = Some making
 making_of _ = None
@@ -47,9 +49,11 @@ making_at ranks rank at = option_and_then (λ c. making_of c.action) (call_at ra
 abbrev pub meant_at : List RankView → ℕ → ℕ → Option Meant
 meant_at views rank at = option_and_then (λ v. slice_get v.meant.items at) (slice_get views rank)
 
+-- the call of a rank at this place of its list, by what it makes and what its numbers mean
 abbrev pub here_of : ℕ → ℕ → CommCall → Making → Meant → Here
 here_of rank at call making meant = record { rank = rank; at = at; call = call.call; function = function_of making; gives = meant.gives; group = meant.group }
 
+-- the same, where the call makes communicators
 abbrev pub here_by : List RankView → ℕ → ℕ → CommCall → Option Here
 here_by views rank at call = option_and_then (λ making. option_and_then (λ meant. Some (here_of rank at call making meant)) (meant_at views rank at)) (making_of call.action)
 
@@ -57,6 +61,7 @@ here_by views rank at call = option_and_then (λ making. option_and_then (λ mea
 abbrev pub here_at : List RankCalls → List RankView → ℕ → ℕ → Option Here
 here_at ranks views rank at = option_and_then (here_by views rank at) (call_at ranks rank at)
 
+-- the place of the k-th call of a rank that makes communicators of the handle by all its members
 abbrev pub kth_of : List RankView → ℕ → ℕ → ℕ → Option ℕ
 kth_of views k rank handle = option_and_then (λ v. option_and_then (λ calls. slice_get calls.items k) (slice_get v.makings.items handle)) (slice_get views rank)
 
@@ -85,6 +90,7 @@ gives_later functions.Idup = true
 gives_later functions.IdupWithInfo = true
 gives_later _ = false
 
+-- What is given can't be read, or no call can be known to mean it.
 abbrev pub is_unreadable : Gives → Bool
 is_unreadable gives.Unknown = true
 is_unreadable (gives.Taken handle) = true
@@ -95,6 +101,7 @@ abbrev pub gives_unknown : Option Here → Bool
 gives_unknown None = false
 gives_unknown (Some here) = is_unreadable here.gives
 
+-- the handle that is given, where calls can be known to mean it
 abbrev pub handle_given : Gives → Option ℕ
 handle_given (gives.Handle handle) = Some handle
 handle_given _ = None

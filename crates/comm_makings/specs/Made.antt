@@ -6,6 +6,7 @@ use Rattle.comm_makings.specs.Here.{handle_of}
 use Rattle.comm_makings.specs.declared.here.Here.{Here}
 use Rattle.comm_makings.specs.declared.state.Member.{Member}
 
+-- a member of the parent, with the handle that its own call gives
 abbrev pub member_by : Member → Option Here → Member
 member_by member here = record { rank = member.rank; handle = handle_of here }
 

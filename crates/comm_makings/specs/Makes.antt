@@ -26,10 +26,12 @@ abbrev pub dims_in : Making → Option (List ℕ)
 dims_in (makings.CartCreate dims reorder) = option_map (λ v. v.items) dims
 dims_in _ = None
 
+-- which dimensions remain, as a call says
 abbrev pub remain_in : Making → Option (List Bool)
 remain_in (makings.CartSub remain) = option_map (λ v. v.items) remain
 remain_in _ = None
 
+-- whether the ranks may be ordered anew, as a call says
 abbrev pub reorder_in : Making → Option Bool
 reorder_in (makings.CartCreate dims reorder) = reorder
 reorder_in (makings.GraphCreate nodes reorder) = reorder
@@ -37,10 +39,12 @@ reorder_in (makings.DistGraphCreate reorder) = reorder
 reorder_in (makings.DistGraphCreateAdjacent reorder) = reorder
 reorder_in _ = None
 
+-- the number of nodes that a call says
 abbrev pub nodes_in : Making → Option ℤ
 nodes_in (makings.GraphCreate nodes reorder) = nodes
 nodes_in _ = None
 
+-- what a call says, where it makes communicators
 abbrev pub said_by : {X : Type 0} → (Making → Option X) → Option Making → Option X
 said_by said None = None
 said_by said (Some making) = said making
@@ -92,10 +96,12 @@ pub record IsKnownGrid (ranks : List RankCalls) (views : List RankView) (all : L
   pub same_reorder : AllSay ranks reorder_in reorder all
   pub made : IsOfMany views all reorder size (Some dims) parts
 
+-- A grid or a graph, whatever dimensions or nodes its calls say: all of them say that its members may be ordered anew.
 pub record IsUnknownGrid (ranks : List RankCalls) (views : List RankView) (all : List (Option Here)) (parts : List Selection) : Type 0 where
   pub reorders : AllSay ranks reorder_in true all
   pub made : IsReordered views all None parts
 
+-- A graph, of as many members as it has nodes.
 pub record IsKnownGraph (ranks : List RankCalls) (views : List RankView) (all : List (Option Here)) (parts : List Selection) : Type 0 where
   pub nodes : ℕ
   pub same_nodes : AllSay ranks nodes_in (pos nodes) all
@@ -104,10 +110,12 @@ pub record IsKnownGraph (ranks : List RankCalls) (views : List RankView) (all : 
   pub same_reorder : AllSay ranks reorder_in reorder all
   pub made : IsOfMany views all reorder nodes None parts
 
+-- A distributed graph: all members of the parent, or where they may be ordered anew those that get it.
 abbrev pub IsDistGraph : List RankView → List (Option Here) → Bool → List Selection → Type 0
 IsDistGraph views all false parts = parts ≡ one_of (range_with_len 0 (length all)) None
 IsDistGraph views all true parts = IsReordered views all None parts
 
+-- A distributed graph, of which all calls say the same of the order.
 pub record IsDistGraphMade (ranks : List RankCalls) (views : List RankView) (all : List (Option Here)) (parts : List Selection) : Type 0 where
   pub reorder : Bool
   pub same_reorder : AllSay ranks reorder_in reorder all
@@ -162,6 +170,7 @@ gives_so later covered gives.Null = not covered || later
 gives_so later covered gives.Unknown = later
 gives_so later covered (gives.Taken handle) = later
 
+-- So does the call of a member, where it is there.
 abbrev pub is_given_so : Bool → Bool → Option Here → Bool
 is_given_so later covered None = true
 is_given_so later covered (Some here) = gives_so later covered here.gives

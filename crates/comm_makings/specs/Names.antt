@@ -23,6 +23,7 @@ next_call call = min (call + 1) (2 ^ 64 - 1)
 abbrev pub from_next : ℕ → ℕ → Stretch
 from_next call number = record { number = number; first = next_call call; end = None }
 
+-- the number of MPI_COMM_SELF, where it is told
 abbrev pub is_own : Option ℕ → ℕ → Bool
 is_own None number = false
 is_own (Some own) number = number == own
@@ -31,6 +32,7 @@ is_own (Some own) number = number == own
 abbrev pub is_taken : ℕ → Option ℕ → ℕ → Bool
 is_taken world own number = (number == world) || is_own own number
 
+-- the group of a number, by the call that gave it, where one did
 abbrev pub given_at : Option ℕ → GroupAt
 given_at None = groups.Unknown
 given_at (Some call) = groups.Given call
@@ -41,6 +43,7 @@ group_at given named.Empty = groups.Empty
 group_at given named.Unknown = groups.Unknown
 group_at given (named.Number number) = given_at (given number)
 
+-- The handle that stands at this place, where one does, ends before a call.
 abbrev pub ended_at : ℕ → ℕ → Option Stretch → List Stretch → List Stretch
 ended_at call place None handles = handles
 ended_at call place (Some handle) handles = slice_set handles place (record { number = handle.number; first = handle.first; end = Some call })
@@ -54,6 +57,7 @@ ended call (Some place) handles = ended_at call place (slice_get handles place) 
 abbrev pub handles_ended : Bool → ℕ → Option ℕ → List Stretch → List Stretch
 handles_ended taken call place handles = cond taken handles (ended call place handles)
 
+-- An ended number names nothing, unless it is the world's or that of MPI_COMM_SELF; the others mean what they meant.
 abbrev pub name_ended : Bool → ℕ → (ℕ → Option ℕ) → ℕ → Option ℕ
 name_ended taken number before m = cond taken (before m) (cond (number == m) None (before m))
 
@@ -76,6 +80,7 @@ abbrev pub name_after : (ℕ → Bool) → Option ℕ → ℕ → (ℕ → Optio
 name_after taken None place before m = before m
 name_after taken (Some number) place before m = cond (taken number) (before m) (cond (number == m) (Some place) (before m))
 
+-- the handles behind a call that gives a number: the one that it named before is ended, and a new one begins
 abbrev pub handles_after : (ℕ → Bool) → Option ℕ → ℕ → (ℕ → Option ℕ) → List Stretch → List Stretch
 handles_after taken None call before handles = handles
 handles_after taken (Some number) call before handles = handles_ended (taken number) (next_call call) (before number) handles ++ from_next call number ∷ []

@@ -25,13 +25,16 @@ pub record Naming : Type 0 where
   pub comms : ℕ → Option ℕ
   pub groups : ℕ → Option ℕ
 
+-- what the numbers mean as these names say
 abbrev pub naming_of : Names → Naming
 naming_of names = record { handles = names.handles.items; comms = get nat_eq names.comms; groups = get nat_eq names.groups }
 
+-- the handles before the first call: the world's, and that of MPI_COMM_SELF where its number is told
 abbrev pub first_handles : ℕ → Option ℕ → List Stretch
 first_handles world None = always world ∷ []
 first_handles world (Some own) = always world ∷ always own ∷ []
 
+-- The number of MPI_COMM_SELF, where it is told, names the second handle.
 abbrev pub own_name : Option ℕ → ℕ → Option ℕ
 own_name None m = None
 own_name (Some own) m = cond (own == m) (Some 1) None
@@ -40,6 +43,7 @@ own_name (Some own) m = cond (own == m) (Some 1) None
 abbrev pub first_naming : ℕ → Option ℕ → Naming
 first_naming world own = record { handles = first_handles world own; comms = λ m. cond (world == m) (Some 0) (own_name own m); groups = λ m. None }
 
+-- the number of the communicator whose group a call gives
 abbrev pub comm_of_group : GroupCall → Option ℕ
 comm_of_group (calls.OfComm comm) = comm
 comm_of_group _ = None
@@ -52,11 +56,13 @@ comm_named (actions.Free comm) = comm
 comm_named (actions.Group group given) = comm_of_group group
 comm_named (actions.GivesComm given) = None
 
+-- the group that a making names
 abbrev pub group_of_making : Making → GroupName
 group_of_making (makings.Create group) = group
 group_of_making (makings.CreateGroup group tag) = group
 group_of_making _ = named.Unknown
 
+-- the group that a call makes another of, or the first of two
 abbrev pub first_of_group : GroupCall → GroupName
 first_of_group (calls.OfComm comm) = named.Unknown
 first_of_group (calls.Incl group ranks) = group
@@ -68,6 +74,7 @@ first_of_group (calls.Intersection first second) = first
 first_of_group (calls.Difference first second) = first
 first_of_group calls.Unread = named.Unknown
 
+-- the second of two groups that a call makes another of
 abbrev pub second_of_group : GroupCall → GroupName
 second_of_group (calls.Union first second) = second
 second_of_group (calls.Intersection first second) = second
@@ -80,6 +87,7 @@ group_named (actions.Make parent making given) = group_of_making making
 group_named (actions.Group group given) = first_of_group group
 group_named _ = named.Unknown
 
+-- the second of two groups that a call names
 abbrev pub second_named : Action → GroupName
 second_named (actions.Group group given) = second_of_group group
 second_named _ = named.Unknown
@@ -99,6 +107,7 @@ meant_in taken naming call = record {
   second = group_at naming.groups (second_named call.action);
 }
 
+-- what the numbers mean behind a call that gives a communicator
 abbrev pub after_given : (ℕ → Bool) → Naming → CommCall → Given → Naming
 after_given taken naming call given = record {
   handles = handles_after taken (number_given call.returned given) call.call naming.comms naming.handles;
@@ -106,6 +115,7 @@ after_given taken naming call given = record {
   groups = naming.groups;
 }
 
+-- what the numbers mean behind a call that frees a communicator
 abbrev pub after_free : (ℕ → Bool) → Naming → ℕ → Option ℕ → Naming
 after_free taken naming call None = naming
 after_free taken naming call (Some number) = record {
@@ -114,19 +124,23 @@ after_free taken naming call (Some number) = record {
   groups = naming.groups;
 }
 
+-- the number of the group that a call gives
 abbrev pub group_given : Bool → GroupName → Option ℕ
 group_given false given = None
 group_given true named.Empty = None
 group_given true named.Unknown = None
 group_given true (named.Number number) = Some number
 
+-- Behind the call that gives it a number names the new group.
 abbrev pub group_after : ℕ → Option ℕ → (ℕ → Option ℕ) → ℕ → Option ℕ
 group_after at None before m = before m
 group_after at (Some number) before m = cond (number == m) (Some at) (before m)
 
+-- what the numbers mean behind a call that gives a group
 abbrev pub after_group : ℕ → Naming → CommCall → GroupName → Naming
 after_group at naming call given = record { handles = naming.handles; comms = naming.comms; groups = group_after at (group_given call.returned given) naming.groups }
 
+-- what the numbers mean behind a call, by what it does
 abbrev pub after_action : (ℕ → Bool) → ℕ → Naming → CommCall → Action → Naming
 after_action taken at naming call (actions.Make parent making given) = after_given taken naming call given
 after_action taken at naming call (actions.CommRank comm rank) = naming

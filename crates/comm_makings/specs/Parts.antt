@@ -16,9 +16,11 @@ abbrev pub one_of : List ℕ → Option (List ℕ) → List Selection
 one_of [] dims = []
 one_of (place ∷ places) dims = record { places = place ∷ places; dims = dims } ∷ []
 
+-- One communicator is made, where it has a member.
 abbrev pub IsOne : List ℕ → Option (List ℕ) → Outcome → Type 0
 IsOne places dims outcome = IsParts (one_of places dims) outcome
 
+-- the communicator of a group, with these dimensions where it is a grid
 abbrev pub part_with : Option (List ℕ) → Group → Selection
 part_with dims group = record { places = group.ranks; dims = dims }
 

@@ -13,10 +13,12 @@ use Rattle.comm_makings.specs.declared.parts.Outcome.{Outcome}
 use Rattle.comm_makings.specs.declared.parts.Outcome.TheVariants as outcomes
 use Rattle.comm_makings.specs.declared.view.RankView.{RankView}
 
+-- The call returned.
 abbrev pub gives_some : Gives → Bool
 gives_some gives.Nothing = false
 gives_some _ = true
 
+-- The member has a call that returned.
 abbrev pub is_returned : Option Here → Bool
 is_returned None = false
 is_returned (Some here) = gives_some here.gives
@@ -30,10 +32,12 @@ given_places place (here ∷ all) = cond (is_some (handle_of here)) (place ∷ g
 abbrev pub told_at : List RankView → ℕ → ℕ → Option ℕ
 told_at views rank handle = option_and_then (λ v. option_and_then (λ told. told) (slice_get v.told.items handle)) (slice_get views rank)
 
+-- what a member is told on the communicator that it gets
 abbrev pub told_here : List RankView → Option Here → ℕ → Option ℕ
 told_here views None handle = None
 told_here views (Some here) handle = told_at views here.rank handle
 
+-- what a member is told, where it gets a communicator, in front of what the others are told
 abbrev pub told_before : List RankView → Option Here → Option ℕ → Option (List ℕ) → Option (List ℕ)
 told_before views here None others = others
 told_before views here (Some handle) others = option_and_then (λ rank. option_map (λ ranks. rank ∷ ranks) others) (told_here views here handle)
@@ -43,6 +47,7 @@ abbrev pub told_ranks : List RankView → List (Option Here) → Option (List �
 told_ranks views [] = Some []
 told_ranks views (here ∷ all) = told_before views here (handle_of here) (told_ranks views all)
 
+-- The number of members is known, and not as many get the communicator.
 abbrev pub differs : Option ℕ → ℕ → Bool
 differs None given = false
 differs (Some count) given = not (given == count)
@@ -51,6 +56,7 @@ differs (Some count) given = not (given == count)
 abbrev pub IsOrdered : List ℕ → List ℕ → Option (List ℕ) → Outcome → Type 0
 IsOrdered places told dims outcome = (order : List ℕ) × IsOrderOf told order × IsOne (filter_map (slice_get places) order) dims outcome
 
+-- The same, where the ranks told are those from 0 on, each once; else the making is unsound.
 abbrev pub IsOrderedBy : Bool → List ℕ → List ℕ → Option (List ℕ) → Outcome → Type 0
 IsOrderedBy false places told dims outcome = outcome ≡ outcomes.Unsound
 IsOrderedBy true places told dims outcome = IsOrdered places told dims outcome

@@ -21,10 +21,12 @@ asked_with (Some colors.Undefined) key = asks.Nothing
 asked_with (Some (colors.Number color)) None = asks.Unknown
 asked_with (Some (colors.Number color)) (Some key) = asks.Part color key
 
+-- what a making asks: only a split says a color and a key
 abbrev pub asked_in : Making → Asked
 asked_in (makings.Split color key) = asked_with color key
 asked_in _ = asks.Unknown
 
+-- the same, where the call makes communicators
 abbrev pub asked_of : Option Making → Asked
 asked_of (Some making) = asked_in making
 asked_of None = asks.Unknown
@@ -34,6 +36,7 @@ abbrev pub asked_by : List RankCalls → Option Here → Asked
 asked_by ranks None = asks.Missing
 asked_by ranks (Some here) = asked_of (making_at ranks here.rank here.at)
 
+-- What is asked can't be read.
 abbrev pub tells_nothing : Asked → Bool
 tells_nothing asks.Unknown = true
 tells_nothing _ = false

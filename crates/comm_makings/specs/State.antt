@@ -21,6 +21,7 @@ use Rattle.comm_makings.specs.declared.state.Standing.{Standing}
 use Rattle.comm_makings.specs.declared.state.Standing.TheVariants as standings
 use Rattle.comm_makings.specs.declared.view.RankView.{RankView}
 
+-- the sizes of a communicator's dimensions, where it is a grid and they are known
 abbrev pub dims_of : Made → Option (List ℕ)
 dims_of comm = option_map (λ v. v.items) comm.dims
 
@@ -29,6 +30,7 @@ pub record IsDerivedComm (ranks : List RankCalls) (views : List RankView) (comm 
   pub derives : Derives ranks views (communicator comm.members.items (dims_of comm))
   pub same_ranks : comm.ranks.items ≡ ranks_in comm.members.items
 
+-- Each of these communicators derives.
 pub record AreDerived (ranks : List RankCalls) (views : List RankView) (comms : List Made) : Type 0 where
   pub each : (at : ℕ) (comm : Made) → slice_get comms at ≡ Some comm → IsDerivedComm ranks views comm
 
@@ -125,9 +127,11 @@ pub record IsMadeOf (members : List Member) (all : List (Option Here)) (part : S
   pub same_ranks : comm.ranks.items ≡ ranks_in comm.members.items
   pub dims : dims_of comm ≡ part.dims
 
+-- the communicator of one of these parts
 abbrev pub IsOfPart : List Member → List (Option Here) → List Selection → Made → Type 0
 IsOfPart members all parts comm = (i : ℕ) × (part : Selection) × (slice_get parts i ≡ Some part) × IsMadeOf members all part comm
 
+-- Each communicator is that of one of these parts.
 pub record AreMadeOf (members : List Member) (all : List (Option Here)) (parts : List Selection) (made : List Made) : Type 0 where
   pub each : (at : ℕ) (comm : Made) → slice_get made at ≡ Some comm → IsOfPart members all parts comm
 

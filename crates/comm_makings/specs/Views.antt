@@ -18,12 +18,15 @@ abbrev pub is_by_group : Making → Bool
 is_by_group (makings.CreateGroup group tag) = true
 is_by_group _ = false
 
+-- a making by a group, or else one by all members of the parent
 abbrev pub is_kind : Bool → Making → Bool
 is_kind by_group making = cond by_group (is_by_group making) (not (is_by_group making))
 
+-- the place of a call before the others, where it counts
 abbrev pub place_if : Bool → ℕ → List ℕ → List ℕ
 place_if counts at others = cond counts (at ∷ others) others
 
+-- A call counts where it makes communicators of the handle, and from the first on whose parent is unknown none does.
 abbrev pub making_before : Bool → ℕ → ℕ → Option Making → Option ℕ → List ℕ → List ℕ
 making_before by_group handle at None parent others = others
 making_before by_group handle at (Some making) None others = []
@@ -41,11 +44,13 @@ abbrev pub rank_told : Bool → Action → Option ℕ
 rank_told true (actions.CommRank comm rank) = rank
 rank_told _ _ = None
 
+-- what a call tells on the handle, or else what the later ones tell
 abbrev pub told_before : ℕ → Option ℕ → Option ℕ → Option ℕ → Option ℕ
 told_before handle None told others = others
 told_before handle (Some comm) None others = others
 told_before handle (Some comm) (Some rank) others = cond (comm == handle) (Some rank) others
 
+-- the rank that is told, or else what the others tell
 abbrev pub told_or : Option ℕ → Option ℕ → Option ℕ
 told_or None others = others
 told_or (Some rank) others = Some rank

@@ -14,6 +14,7 @@ use Rattle.comm_makings.specs.declared.view.RankView.{RankView}
 abbrev pub handle_at : List RankView → ℕ → ℕ → Option Stretch
 handle_at views rank handle = option_and_then (λ v. slice_get v.handles.items handle) (slice_get views rank)
 
+-- a flag, which counts as not set where it is missing
 abbrev pub or_false : Option Bool → Bool
 or_false None = false
 or_false (Some b) = b
@@ -22,9 +23,11 @@ or_false (Some b) = b
 abbrev pub is_only : List HandleUses → ℕ → ℕ → Bool
 is_only uses rank handle = or_false (option_and_then (λ u. slice_get u.only.items handle) (slice_get uses rank))
 
+-- a number over all calls where it names nothing else, and else over the handle's stretch
 abbrev pub stretch_of : Bool → Stretch → Stretch
 stretch_of only stretch = cond only (always stretch.number) stretch
 
+-- by which number, over which calls, a rank names the communicator of a handle
 abbrev pub entry_by : List RankView → List HandleUses → ℕ → ℕ → Option Stretch
 entry_by views uses rank handle = option_map (stretch_of (is_only uses rank handle)) (handle_at views rank handle)
 
@@ -33,9 +36,11 @@ entry_by views uses rank handle = option_map (stretch_of (is_only uses rank hand
 abbrev pub entry_of : List RankView → List HandleUses → Member → Option Stretch
 entry_of views uses member = option_and_then (entry_by views uses member.rank) member.handle
 
+-- the number of a handle, where it names nothing else
 abbrev pub number_of : Bool → Stretch → Option ℕ
 number_of only stretch = cond only (Some stretch.number) None
 
+-- the number by which a rank names the communicator of a handle, where it names nothing else
 abbrev pub only_by : List RankView → List HandleUses → ℕ → ℕ → Option ℕ
 only_by views uses rank handle = option_and_then (number_of (is_only uses rank handle)) (handle_at views rank handle)
 
@@ -43,6 +48,7 @@ only_by views uses rank handle = option_and_then (number_of (is_only uses rank h
 abbrev pub only_number : List RankView → List HandleUses → Member → Option ℕ
 only_number views uses member = option_and_then (only_by views uses member.rank) member.handle
 
+-- The member names the communicator by this number, which names nothing else.
 abbrev pub IsNamedOnly : List RankView → List HandleUses → ℕ → Member → Type 0
 IsNamedOnly views uses number member = only_number views uses member ≡ Some number
 
@@ -61,9 +67,11 @@ pub record IsWorld (world count : ℕ) (comm : Communicator) : Type 0 where
   pub members : comm.members ≡ range_with_len 0 count
   pub numbers : comm.numbers ≡ []
 
+-- A communicator of a layout is one of these derived ones.
 abbrev pub IsWrittenOfOne : List RankView → List HandleUses → List Made → Communicator → Type 0
 IsWrittenOfOne views uses made comm = (place : ℕ) × (one : Made) × (slice_get made place ≡ Some one) × IsWrittenOf views uses one comm
 
+-- Each of these communicators of a layout is a derived one.
 pub record AreWrittenOf (views : List RankView) (uses : List HandleUses) (made : List Made) (comms : List Communicator) : Type 0 where
   pub each : (at : ℕ) (comm : Communicator) → slice_get comms at ≡ Some comm → IsWrittenOfOne views uses made comm
 

@@ -69,6 +69,7 @@ fn tag_of(making: Option<&Making>) -> Option<i32>
     }
 }
 
+/// Whether a call is read already, by its place in its rank's list.
 fn is_read(read: &[Vec<bool>], rank: u32, at: usize) -> bool {
     match read.get(rank as usize) {
         Some(read) => match read.get(at) {
@@ -316,6 +317,7 @@ fn may_come(all: &[Option<Here>], places: &[u32], waits: &[bool]) -> bool {
     false
 }
 
+/// Whether some member has its call.
 fn some_here(all: &[Option<Here>]) -> bool {
     for here in all {
         if here.is_some() {
@@ -337,6 +339,7 @@ fn is_sound(alloc: Global, all: &[Option<Here>], places: &[u32]) -> Result<bool,
     Ok(given)
 }
 
+/// Whether nothing more is made of these members and this tag.
 fn is_over(over: &[Over], ranks: &[u32], tag: i32) -> bool {
     for key in over {
         if key.tag == tag && key.ranks.as_slice() == ranks {
@@ -359,6 +362,7 @@ pub(crate) struct Found {
     pub waits: bool,
 }
 
+/// Notes that the calls are read of which a communicator was made.
 fn note_read(
     calls: &[Offer<'_>],
     all: &[Option<Here>],
@@ -374,6 +378,7 @@ fn note_read(
     Ok(())
 }
 
+/// Notes that the calls are read, and that the handles which they give are left out.
 fn note_left(calls: &[Offer<'_>], found: &mut Found) -> Result<(), AllocError>
     ensures { found.new.made ≡ found.old.made }
 {
@@ -494,6 +499,7 @@ fn read_key(
     Ok(made)
 }
 
+/// Nothing is found yet.
 fn nothing_found(alloc: Global) -> Found
     ensures { result.made.items ≡ [] }
 {

@@ -57,6 +57,7 @@ fn other_told(ranks: &[RankCalls], world: u32) -> Option<u32>
     None
 }
 
+/// The number of the world, or the ranks that tell different ones.
 fn world_of(ranks: &[RankCalls]) -> Result<u32, DeriveFault>
     requires { length ranks.now < 2 ^ 32 }
     ensures ok { IfOk result (λ world. world ≡ world_of ranks.now) }

@@ -18,6 +18,7 @@ use crate::view::RankView;
 use comm_groups::{grid_size, order_of};
 use std::alloc::{AllocError, Global};
 
+/// Whether the ranks may be ordered anew, as a making says.
 fn reorder_of(making: Option<&Making>) -> Option<bool>
     ensures { result ≡ said_by reorder_in (option_copied making.entry) }
 {
@@ -37,6 +38,7 @@ fn reorder_of(making: Option<&Making>) -> Option<bool>
     }
 }
 
+/// The sizes of the dimensions that a making says.
 fn dims_of(making: Option<&Making>) -> Option<&[u32]>
     ensures { option_copied result ≡ said_by dims_in (option_copied making.entry) }
 {
@@ -59,6 +61,7 @@ fn dims_of(making: Option<&Making>) -> Option<&[u32]>
     }
 }
 
+/// The number of nodes that a making says.
 fn nodes_of(making: Option<&Making>) -> Option<i32>
     ensures { result ≡ said_by nodes_in (option_copied making.entry) }
 {
@@ -78,6 +81,7 @@ fn nodes_of(making: Option<&Making>) -> Option<i32>
     }
 }
 
+/// Which dimensions remain, as a making says.
 fn remain_of(making: Option<&Making>) -> Option<&[bool]>
     ensures { option_copied result ≡ said_by remain_in (option_copied making.entry) }
 {
@@ -257,6 +261,7 @@ fn wrong_nodes(ranks: &[RankCalls], all: &[Option<Here>], members: u32) -> bool 
     false
 }
 
+/// Whether the call returned.
 fn gives_some(gives: Gives) -> bool
     ensures { result ≡ gives_some gives }
 {

@@ -23,6 +23,7 @@ pub(crate) enum GroupValue {
     Listed(Vec<u32>),
 }
 
+/// The ranks of a group, where they are known.
 fn ranks_of<'a>(value: &'a GroupValue, comms: &'a [Made]) -> Option<&'a [u32]>
     ensures { option_copied result ≡ ranks_of comms.now value.now }
 {
@@ -34,6 +35,7 @@ fn ranks_of<'a>(value: &'a GroupValue, comms: &'a [Made]) -> Option<&'a [u32]>
     }
 }
 
+/// Whether the ranks of a group may become known.
 fn waits(value: &GroupValue) -> bool
     ensures { result ≡ waits value.now }
 {
@@ -72,6 +74,7 @@ pub(crate) fn waits_at(values: &[GroupValue], group: GroupAt) -> bool
     }
 }
 
+/// The group of a communicator, by how its handle stands.
 fn group_of(standing: Option<Standing>) -> GroupValue
     ensures { result ≡ group_of_comm standing }
 {
@@ -159,6 +162,7 @@ fn range_of(range: RankRange) -> Option<comm_groups::RankRange>
     })
 }
 
+/// The ranges as ranks of a group; `None` where one has a rank below 0.
 fn ranges_of(
     alloc: Global,
     ranges: &[RankRange],
@@ -175,6 +179,7 @@ fn ranges_of(
     Ok(Some(all))
 }
 
+/// Only the members with the ranks of these ranges.
 fn with_ranges(
     alloc: Global,
     members: &[u32],
@@ -188,6 +193,7 @@ fn with_ranges(
     }
 }
 
+/// All members but those with the ranks of these ranges.
 fn without_ranges(
     alloc: Global,
     members: &[u32],
@@ -254,6 +260,7 @@ fn of_two(
     }
 }
 
+/// Whether the ranks of a group are known, or may become so.
 fn is_known(ranks: Option<&[u32]>, waits: bool) -> bool
     ensures { result ≡ is_known (option_copied ranks.entry) waits }
 {

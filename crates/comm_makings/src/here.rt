@@ -45,6 +45,7 @@ pub(crate) fn function_of(making: &Making) -> MadeBy
     }
 }
 
+/// A call of a rank, by its place in the rank's list.
 fn call_at(ranks: &[RankCalls], rank: u32, at: usize) -> Option<&CommCall>
     ensures { option_copied result ≡ call_at ranks.now rank at }
 {
@@ -137,6 +138,7 @@ pub(crate) fn first_of(all: &[Option<Here>]) -> Option<Here>
     None
 }
 
+/// Whether the call has this function, where it is there.
 fn has_function(function: MadeBy, here: Option<Here>) -> bool
     ensures { IsTrue result ↔ HasFunction function here }
 {
@@ -183,6 +185,7 @@ pub(crate) fn is_unreadable(gives: Gives) -> bool
     }
 }
 
+/// Whether the call gives what can't be read.
 fn gives_unknown(here: Option<Here>) -> bool
     ensures { result ≡ gives_unknown here }
 {
@@ -199,6 +202,7 @@ pub(crate) fn some_unknown(all: &[Option<Here>]) -> bool
     all.iter().any(|here| gives_unknown(*here))
 }
 
+/// The handle that is given, where calls can be known to mean it.
 fn handle_given(gives: Gives) -> Option<usize>
     ensures { result ≡ handle_given gives }
 {

@@ -18,6 +18,7 @@ fn giving(action: &Action) -> Option<(MadeBy, Option<u32>)> {
     }
 }
 
+/// The number of the communicator that is given, where it has one that can be read.
 fn number_of(given: Given) -> Option<u32> {
     match given {
         Given::Number(number) => Some(number),
@@ -67,6 +68,7 @@ fn why_of(
     }
 }
 
+/// How many calls of the profile name the handle.
 fn count_of(uses: &HandleUses, handle: Option<usize>) -> u64 {
     match handle {
         Some(handle) => match uses.counts.get(handle) {
@@ -77,6 +79,7 @@ fn count_of(uses: &HandleUses, handle: Option<usize>) -> u64 {
     }
 }
 
+/// What a call gives, where that is left out.
 fn left_by(
     rank: u32,
     call: &CommCall,
@@ -97,6 +100,7 @@ fn left_by(
     })
 }
 
+/// Adds what the calls of a rank give that is left out.
 fn add_left(
     rank: u32,
     calls: &[CommCall],

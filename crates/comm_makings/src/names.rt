@@ -165,6 +165,7 @@ impl Names {
         }
     }
 
+    /// Behind the call that gives it a number names the new group.
     fn give_group(&mut self, call: &CommCall, at: usize, given: GroupName) -> Result<(), AllocError>
         ensures groups { OnOk result ((m : ℕ) → get nat_eq self.new.groups m ≡ group_after at (group_given call.now.returned given) (get nat_eq self.old.groups) m) }
         ensures names { self.new.comms ≡ self.old.comms }
@@ -181,6 +182,7 @@ impl Names {
         Ok(())
     }
 
+    /// What a call means that makes communicators.
     fn made(
         &mut self,
         call: &CommCall,
@@ -204,6 +206,7 @@ impl Names {
         })
     }
 
+    /// What a call means that gives a group.
     fn grouped(
         &mut self,
         call: &CommCall,

@@ -62,6 +62,7 @@ fn covered(alloc: Global, parts: &[Part], count: usize) -> Result<Vec<bool>, All
     Ok(covered)
 }
 
+/// Marks the places that are in one of the communicators.
 fn cover_all(covered: &mut Vec<bool>, parts: &[Part])
     requires { (k : ℕ) (b : Bool) → slice_get covered.old.items k ≡ Some b → b ≡ false }
     ensures { (k : ℕ) (b : Bool) → slice_get covered.new.items k ≡ Some b → b ≡ is_covered parts.now k }
@@ -71,6 +72,7 @@ fn cover_all(covered: &mut Vec<bool>, parts: &[Part])
     }
 }
 
+/// Marks a place.
 fn mark(covered: &mut Vec<bool>, place: u32)
     ensures { covered.new.items ≡ slice_set covered.old.items place true }
 {
@@ -80,6 +82,7 @@ fn mark(covered: &mut Vec<bool>, place: u32)
     }
 }
 
+/// Marks these places.
 #[tactic(auto, using(crate::proofs::Marks::marked))]
 fn cover(covered: &mut Vec<bool>, places: &[u32])
     ensures { (k : ℕ) (b : Bool) → slice_get covered.new.items k ≡ Some b → (a : Bool) × (slice_get covered.old.items k ≡ Some a) × (b ≡ (a || has places.now k)) }
@@ -102,6 +105,7 @@ fn gives_so(gives: Gives, is_covered: bool, later: bool) -> bool
     }
 }
 
+/// Whether the call of a member gives so, where it is there.
 fn is_given_so(here: Option<Here>, is_covered: bool, later: bool) -> bool
     ensures { result ≡ is_given_so later is_covered here }
 {

@@ -59,6 +59,7 @@ pub(crate) fn first_part(
     one_part(alloc, first_places(alloc, count)?, dims)
 }
 
+/// The communicator of a group, with these dimensions where it is a grid.
 fn part_of(alloc: Global, group: ColorGroup, dims: &Option<Vec<u32>>) -> Result<Part, AllocError>
     ensures { IfOk result (λ p. p ≡ part_with (option_map (λ v. v.items) dims.now) group) }
 {

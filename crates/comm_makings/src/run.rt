@@ -203,6 +203,7 @@ fn longest(views: &[RankView], comm: &Made) -> usize {
     longest
 }
 
+/// How many calls of a member make communicators of its handle by all its members.
 fn count_of(views: &[RankView], member: Member) -> usize {
     match (views.get(member.rank as usize), member.handle) {
         (Some(view), Some(handle)) => match view.makings.get(handle) {
@@ -441,6 +442,7 @@ impl Run {
         )
     }
 
+    /// Notes that a making was read, and which one of the communicator comes next.
     fn note(&mut self, at: usize, next: usize)
         ensures standings { self.new.standings ≡ self.old.standings }
         ensures values { self.new.values ≡ self.old.values }
@@ -598,6 +600,7 @@ impl Run {
     }
 }
 
+/// Marks a call as read.
 fn mark(taken: &mut Vec<Vec<bool>>, rank: u32, at: usize) {
     if let Some(taken) = taken.get_mut(rank as usize) {
         if let Some(read) = taken.get_mut(at) {

@@ -23,6 +23,7 @@ pub(crate) enum Asked {
     Unknown,
 }
 
+/// What a color and a key ask: the key counts only where the color is a number.
 fn asked_with(color: Option<Color>, key: Option<i32>) -> Asked
     ensures { result ≡ asked_with color key }
 {
@@ -36,6 +37,7 @@ fn asked_with(color: Option<Color>, key: Option<i32>) -> Asked
     }
 }
 
+/// What a making asks: only a split says a color and a key.
 fn asked_in(making: &Making) -> Asked
     ensures { result ≡ asked_in making.now }
 {
@@ -55,6 +57,7 @@ fn asked_in(making: &Making) -> Asked
     }
 }
 
+/// What a call asks, where it makes communicators.
 fn asked_of(making: Option<&Making>) -> Asked
     ensures { result ≡ asked_of (option_copied making.entry) }
 {
@@ -64,6 +67,7 @@ fn asked_of(making: Option<&Making>) -> Asked
     }
 }
 
+/// What a member asks.
 fn asked_by(ranks: &[RankCalls], here: Option<Here>) -> Asked
     ensures { result ≡ asked_by ranks.now here }
 {
@@ -73,6 +77,7 @@ fn asked_by(ranks: &[RankCalls], here: Option<Here>) -> Asked
     }
 }
 
+/// Whether it can't be read what is asked.
 fn tells_nothing(asked: Asked) -> bool
     ensures { result ≡ tells_nothing asked }
 {

@@ -22,6 +22,7 @@ struct Place {
     handle: usize,
 }
 
+/// The handles in the order of their numbers and first calls.
 fn places_of(alloc: Global, handles: &[Handle]) -> Result<Vec<Place>, AllocError> {
     let mut places = Vec::new(alloc);
     for (handle, stretch) in handles.iter().enumerate() {
@@ -72,6 +73,7 @@ fn holder(handles: &[Handle], places: &[Place], number: u32, call: u64) -> Optio
     }
 }
 
+/// The number of this handle doesn't name it alone.
 fn forget(only: &mut [bool], at: usize) {
     if let Some(only) = only.get_mut(at) {
         *only = false;
@@ -92,6 +94,7 @@ fn forget_doubles(places: &[Place], only: &mut [bool]) {
     }
 }
 
+/// So many more calls name a handle.
 fn count(counts: &mut [u64], at: usize, more: u64) {
     if let Some(count) = counts.get_mut(at) {
         *count = count.saturating_add(more);

@@ -38,6 +38,7 @@ fn lists(alloc: Global, count: usize) -> Result<Vec<Vec<usize>>, AllocError>
     Ok(lists)
 }
 
+/// Adds a call to the list of a handle.
 fn add_to(lists: &mut Vec<Vec<usize>>, at: usize, call: usize) -> Result<(), AllocError>
     ensures { OnOk result ((handle : ℕ) (list : List ℕ) → option_map (λ l. l.items) (slice_get lists.new.items handle) ≡ Some list → (before : List ℕ) × (option_map (λ l. l.items) (slice_get lists.old.items handle) ≡ Some before) × (list ≡ before ++ place_if (at == handle) call [])) }
 {
@@ -59,6 +60,7 @@ fn end_of(calls: &[CommCall], meant: &[Meant]) -> usize {
     calls.len()
 }
 
+/// Whether a making is collective over a group and not over the parent.
 fn is_by_group(making: &Making) -> bool
     ensures { result ≡ is_by_group making.now }
 {
@@ -78,6 +80,7 @@ fn is_by_group(making: &Making) -> bool
     }
 }
 
+/// Whether a making is one by a group, or else one by all members of the parent, as is asked.
 fn is_kind(by_group: bool, making: &Making) -> bool
     ensures { result ≡ is_kind by_group making.now }
 {
@@ -88,6 +91,7 @@ fn is_kind(by_group: bool, making: &Making) -> bool
     }
 }
 
+/// The handle that the call at this place names.
 fn comm_at(meant: &[Meant], at: usize) -> Option<usize>
     ensures { result ≡ option_and_then (λ m. m.comm) (slice_get meant.now at) }
 {

@@ -40,6 +40,7 @@ fn is_only(uses: &[HandleUses], rank: u32, handle: usize) -> bool
     }
 }
 
+/// How many calls of the profile name a handle of a rank.
 fn count_at(uses: &[HandleUses], rank: u32, handle: usize) -> u64 {
     match uses.get(rank as usize) {
         Some(uses) => match uses.counts.get(handle) {
@@ -88,6 +89,7 @@ fn named_comms(
     Ok(named)
 }
 
+/// Notes that a number is of this communicator of the layout.
 fn note_owner(
     owners: &mut IndexMap<u32, Owner>,
     number: u32,
@@ -106,6 +108,7 @@ fn note_owner(
     Ok(())
 }
 
+/// Notes of which communicator the numbers are by which its members name it.
 fn note_owners(
     owners: &mut IndexMap<u32, Owner>,
     views: &[RankView],
@@ -186,6 +189,7 @@ fn entry_of(views: &[RankView], uses: &[HandleUses], member: Member) -> Option<S
     Some(stretch_of(is_only(uses, member.rank, handle), stretch))
 }
 
+/// By which numbers, over which calls, the members name the communicator.
 fn entries_of(
     alloc: Global,
     views: &[RankView],
@@ -237,6 +241,7 @@ fn id_of(
     }
 }
 
+/// The world in a layout of so many ranks.
 fn world_comm(alloc: Global, world: u32, ranks: u32) -> Result<Comm, AllocError>
     ensures { IfOk result (IsWorld world ranks) }
 {

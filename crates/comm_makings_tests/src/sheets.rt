@@ -44,6 +44,7 @@ pub(crate) type Entry = (u32, u64, Option<u64>);
 /// A communicator of a layout.
 pub(crate) type Row<'a> = (u32, &'a [u32], &'a [Option<Entry>]);
 
+/// The communicator of a number, and MPI_COMM_NULL of -1.
 fn given_of(number: i32) -> Given {
     match u32::try_from(number) {
         Ok(number) => Given::Number(number),
@@ -57,6 +58,7 @@ fn list_of<R: Abort>(rt: &R, alloc: Global, list: &[u32]) -> Vec<u32> {
     copy
 }
 
+/// A call that makes a communicator of a parent.
 fn make(parent: u32, making: Making, given: i32) -> Action {
     Action::Make {
         parent: Some(parent),
@@ -65,6 +67,7 @@ fn make(parent: u32, making: Making, given: i32) -> Action {
     }
 }
 
+/// A call that gives a group.
 fn group(group: GroupCall, given: u32) -> Action {
     Action::Group {
         group,
@@ -72,6 +75,7 @@ fn group(group: GroupCall, given: u32) -> Action {
     }
 }
 
+/// The color of a number, and MPI_UNDEFINED of a negative one.
 fn color_of(color: i32) -> Color {
     match u32::try_from(color) {
         Ok(color) => Color::Number(color),
@@ -79,6 +83,7 @@ fn color_of(color: i32) -> Color {
     }
 }
 
+/// What a row does that makes a communicator with a topology.
 fn grid_of<R: Abort>(rt: &R, alloc: Global, said: &Said<'_>) -> Option<Action> {
     match said {
         Said::Cart(parent, dims, reorder, given) => Some(make(
@@ -113,6 +118,7 @@ fn grid_of<R: Abort>(rt: &R, alloc: Global, said: &Said<'_>) -> Option<Action> {
     }
 }
 
+/// What a row does that makes another communicator.
 fn making_of(said: &Said<'_>) -> Option<Action> {
     match said {
         Said::Dup(parent, given) => Some(make(*parent, Making::Dup, *given)),
@@ -143,6 +149,7 @@ fn making_of(said: &Said<'_>) -> Option<Action> {
     }
 }
 
+/// What a row does that gives a group of a communicator or of one other group.
 fn group_of<R: Abort>(rt: &R, alloc: Global, said: &Said<'_>) -> Option<Action> {
     match said {
         Said::GroupOf(comm, given) => Some(group(GroupCall::OfComm { comm: Some(*comm) }, *given)),
@@ -164,6 +171,7 @@ fn group_of<R: Abort>(rt: &R, alloc: Global, said: &Said<'_>) -> Option<Action> 
     }
 }
 
+/// What a row does that gives a group of two others.
 fn group_of_two(said: &Said<'_>) -> Option<Action> {
     match said {
         Said::Union(first, second, given) => Some(group(
@@ -191,6 +199,7 @@ fn group_of_two(said: &Said<'_>) -> Option<Action> {
     }
 }
 
+/// What a row does that makes nothing of a parent and gives no group.
 fn plain_of(said: &Said<'_>) -> Option<Action> {
     match said {
         Said::Rank(comm, rank) => Some(Action::CommRank {
@@ -205,6 +214,7 @@ fn plain_of(said: &Said<'_>) -> Option<Action> {
     }
 }
 
+/// What a row does, unless it is on no communicator.
 fn action_of<R: Abort>(rt: &R, alloc: Global, said: &Said<'_>) -> Option<Action> {
     if let Some(action) = making_of(said) {
         return Some(action);
@@ -221,6 +231,7 @@ fn action_of<R: Abort>(rt: &R, alloc: Global, said: &Said<'_>) -> Option<Action>
     plain_of(said)
 }
 
+/// What a rank's calls say, by its sheet.
 fn calls_of<R: Abort>(rt: &R, alloc: Global, sheet: &Sheet<'_>, world: u32) -> RankCalls {
     let mut calls = Vec::new(alloc);
     let mut call = 0u64;
@@ -281,6 +292,7 @@ pub(crate) fn derived<R: Abort>(rt: &R, alloc: Global, sheets: &[Sheet<'_>]) -> 
     }
 }
 
+/// Whether this entry was found.
 fn is_entry(found: &Option<Stretch>, wanted: &Option<Entry>) -> bool {
     match (found, wanted) {
         (Some(found), Some(wanted)) => {
@@ -291,6 +303,7 @@ fn is_entry(found: &Option<Stretch>, wanted: &Option<Entry>) -> bool {
     }
 }
 
+/// Whether these entries were found, in their order.
 fn are_entries(found: &[Option<Stretch>], wanted: &[Option<Entry>]) -> bool {
     if found.len() != wanted.len() {
         return false;

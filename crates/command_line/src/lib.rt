@@ -110,6 +110,7 @@ impl CommandFault {
     }
 }
 
+/// The status of what `clap` shows: help and the version are no mistake.
 fn shown_status(kind: ErrorKind) -> u8
     ensures { result ≡ shown_status_of kind }
 {
@@ -395,6 +396,7 @@ fn with_explain<'a>(command: Command<'a>, alloc: Global) -> Result<Command<'a>, 
     command.subcommand(explain)
 }
 
+/// `explain`, over texts or a layout and a manifest, of all ranks or of one.
 fn explain_command<'a>(alloc: Global) -> Result<Command<'a>, AllocError>
     ensures shape { IfOk result (λ c. app_of c ≡ explain_app) }
     ensures local { IfOk result (λ c. (out-Command c).has_globals ≡ false) }
@@ -408,6 +410,7 @@ fn explain_command<'a>(alloc: Global) -> Result<Command<'a>, AllocError>
     bare.arg(rank_argument(alloc))
 }
 
+/// `--rank`, a number.
 fn rank_argument<'a>(alloc: Global) -> Arg<'a>
     ensures rule { rule_of result ≡ rank_rule }
     ensures local { result.global ≡ false }
@@ -426,6 +429,7 @@ fn with_report<'a>(command: Command<'a>, alloc: Global) -> Result<Command<'a>, A
     command.subcommand(report)
 }
 
+/// `report`, over texts or a layout and a manifest, and whether as JSON.
 fn report_command<'a>(alloc: Global) -> Result<Command<'a>, AllocError>
     ensures shape { IfOk result (λ c. app_of c ≡ report_app) }
     ensures local { IfOk result (λ c. (out-Command c).has_globals ≡ false) }
@@ -439,6 +443,7 @@ fn report_command<'a>(alloc: Global) -> Result<Command<'a>, AllocError>
     bare.arg(json_argument(alloc))
 }
 
+/// The flag for a report as JSON.
 fn json_argument<'a>(alloc: Global) -> Arg<'a>
     ensures rule { rule_of result ≡ json_rule }
     ensures local { result.global ≡ false }
@@ -457,6 +462,7 @@ fn with_init<'a>(command: Command<'a>, alloc: Global) -> Result<Command<'a>, All
     command.subcommand(init)
 }
 
+/// `init` over texts, with its options.
 fn init_command<'a>(alloc: Global) -> Result<Command<'a>, AllocError>
     ensures shape { IfOk result (λ c. app_of c ≡ init_app) }
     ensures local { IfOk result (λ c. (out-Command c).has_globals ≡ false) }
@@ -469,6 +475,7 @@ fn init_command<'a>(alloc: Global) -> Result<Command<'a>, AllocError>
     manifest.arg(force_argument(alloc))
 }
 
+/// `init`, without its texts and options.
 fn bare_init<'a>(alloc: Global) -> Command<'a>
     ensures shape { app_of result ≡ new_app (codes "init") }
     ensures local { (out-Command result).has_globals ≡ false }
@@ -478,6 +485,7 @@ fn bare_init<'a>(alloc: Global) -> Command<'a>
         .after_help(INIT_HELP)
 }
 
+/// `--sends`, `wait` where it is absent.
 fn sends_argument<'a>(alloc: Global) -> Arg<'a>
     ensures rule { rule_of result ≡ sends_rule }
     ensures local { result.global ≡ false }
@@ -504,6 +512,7 @@ fn option_argument<'a>(
         .default_value(default)
 }
 
+/// `--layout`, the name of the layout that is made.
 fn layout_argument<'a>(alloc: Global) -> Arg<'a>
     ensures rule { rule_of result ≡ layout_rule }
     ensures local { result.global ≡ false }
@@ -512,6 +521,7 @@ fn layout_argument<'a>(alloc: Global) -> Arg<'a>
     option_argument(alloc, "layout", "FILE", "layout.json", help)
 }
 
+/// `--manifest`, the name of the manifest that is made.
 fn manifest_argument<'a>(alloc: Global) -> Arg<'a>
     ensures rule { rule_of result ≡ manifest_rule }
     ensures local { result.global ≡ false }
@@ -520,6 +530,7 @@ fn manifest_argument<'a>(alloc: Global) -> Arg<'a>
     option_argument(alloc, "manifest", "FILE", "manifest.json", help)
 }
 
+/// `--force`, which writes over files that are there.
 fn force_argument<'a>(alloc: Global) -> Arg<'a>
     ensures rule { rule_of result ≡ force_rule }
     ensures local { result.global ≡ false }
@@ -530,6 +541,7 @@ fn force_argument<'a>(alloc: Global) -> Arg<'a>
         .action(ArgAction::SetTrue)
 }
 
+/// A verb over a layout and a manifest.
 fn pair_command<'a>(
     alloc: Global,
     name: &'a str,
@@ -556,6 +568,7 @@ fn pair_command<'a>(
         .arg(manifest)
 }
 
+/// A verb over its files.
 fn files_command<'a>(
     alloc: Global,
     name: &'a str,
@@ -576,6 +589,7 @@ fn files_command<'a>(
         .arg(files)
 }
 
+/// A file that has to be named.
 fn file_argument<'a>(alloc: Global, name: &'a str, help: &'a str) -> Arg<'a>
     ensures rule { rule_of result ≡ file_rule name.entry.now }
     ensures local { result.global ≡ false }
@@ -583,6 +597,7 @@ fn file_argument<'a>(alloc: Global, name: &'a str, help: &'a str) -> Arg<'a>
     Arg::new(alloc, name).help(help).required(true)
 }
 
+/// One file that has to be named, or more.
 fn several_argument<'a>(alloc: Global, name: &'a str, help: &'a str) -> Arg<'a>
     ensures rule { rule_of result ≡ several_rule name.entry.now }
     ensures local { result.global ≡ false }
@@ -593,6 +608,7 @@ fn several_argument<'a>(alloc: Global, name: &'a str, help: &'a str) -> Arg<'a>
         .action(ArgAction::Append)
 }
 
+/// The verb of a name.
 fn verb_of(name: &str) -> Option<Verb>
     ensures { result ≡ verb_named name.now }
 {
@@ -626,6 +642,7 @@ fn in_form(verb: Verb, json: Option<&str>, rank: Option<&str>) -> Option<Verb>
     }
 }
 
+/// An explanation of the rank that the value of the flag says.
 fn explain_in(text: &str) -> Option<Verb>
     ensures { result ≡ explain_in text.now }
 {
@@ -635,6 +652,7 @@ fn explain_in(text: &str) -> Option<Verb>
     }
 }
 
+/// A report, as JSON where the value of the flag says so.
 fn report_in(flag: &str) -> Verb
     ensures { result ≡ report_in flag.now }
 {
@@ -655,6 +673,7 @@ fn form_in(name: &str, inner: &ArgMatches<'_>) -> Option<Verb>
     in_form(verb, json, rank)
 }
 
+/// A verb over a layout and a manifest, where both are named.
 fn pair_of<'a>(verb: Verb, layout: Option<&'a str>, manifest: Option<&'a str>) -> Option<Asked<'a>>
     ensures { option_map request_of result ≡ pair_of verb (option_map (λ t. t.now) layout.entry) (option_map (λ t. t.now) manifest.entry) }
 {
@@ -668,6 +687,7 @@ fn pair_of<'a>(verb: Verb, layout: Option<&'a str>, manifest: Option<&'a str>) -
     }
 }
 
+/// A verb over its layout and its manifest.
 fn pair_in<'a>(verb: Verb, inner: &ArgMatches<'a>) -> Option<Asked<'a>>
     ensures { option_map request_of result ≡ pair_in verb (rows_of (found_of inner.now)) }
 {
@@ -693,6 +713,7 @@ fn files_in<'a>(
     }
 }
 
+/// How sends of standard mode complete, by the word.
 fn sends_of(word: &str) -> Option<Sends>
     ensures { result ≡ sends_named word.now }
 {
@@ -705,6 +726,7 @@ fn sends_of(word: &str) -> Option<Sends>
     }
 }
 
+/// How sends of standard mode complete, where a word says it.
 fn named_sends(word: Option<&str>) -> Option<Sends>
     ensures { result ≡ option_and_then sends_named (option_map (λ t. t.now) word.entry) }
 {
@@ -734,6 +756,7 @@ fn wanted_of<'a>(
     }
 }
 
+/// What `init` is to make, by its words.
 fn wanted_in<'a>(inner: &ArgMatches<'a>) -> Option<Wanted<'a>>
     ensures { option_map wish_of result ≡ wish_in (rows_of (found_of inner.now)) }
 {
@@ -745,6 +768,7 @@ fn wanted_in<'a>(inner: &ArgMatches<'a>) -> Option<Wanted<'a>>
     wanted_of(sends, layout, manifest, force)
 }
 
+/// `init` over its texts, with what it is to make.
 fn init_in<'a>(alloc: Global, inner: &ArgMatches<'a>) -> Result<Option<Asked<'a>>, AllocError>
     ensures { IfOk result (λ asked. option_map request_of asked ≡ init_in (rows_of (found_of inner.now))) }
 {
@@ -758,6 +782,7 @@ fn init_in<'a>(alloc: Global, inner: &ArgMatches<'a>) -> Result<Option<Asked<'a>
     Ok(Some(Asked::Init { texts, wanted }))
 }
 
+/// What the words ask for.
 fn asked_in<'a>(alloc: Global, matches: &ArgMatches<'a>) -> Result<Option<Asked<'a>>, AllocError>
     ensures { IfOk result (λ asked. option_map request_of asked ≡ request_in (subcommand_rows_of matches.now)) }
 {

@@ -151,10 +151,12 @@ of_node nodes.Rank = faults.Outside
 of_node nodes.Memory = faults.Memory
 of_node nodes.Stale = faults.Memory
 
+-- what the fault of a frame is to a run: want of memory, or that fault
 abbrev pub of_wire : WireFault → RunFault
 of_wire wires.Memory = faults.Memory
 of_wire fault = faults.Frame fault
 
+-- what the fault of an exchange is to a run: that of its frame, or that of the node that joins it
 abbrev pub of_exchange : ExchangeFault → RunFault
 of_exchange (exchanges.Write fault) = of_wire fault
 of_exchange (exchanges.Read fault) = of_wire fault

@@ -62,6 +62,7 @@ pub record Output : Type 0 where
   pub bytes : Option (List ℕ)
   pub failures : ℕ
 
+-- the standard output with these bytes, where it tells them, and so many failed writes
 abbrev pub output_of : Option (List ℕ) → ℕ → Output
 output_of bytes failures = record { bytes = bytes; failures = failures }
 

@@ -18,6 +18,7 @@ use Rattle.command_runs.specs.FileNames.{shown_name}
 use Rattle.command_runs.specs.declared.fault.RunFault.{RunFault}
 use Rattle.command_runs.specs.declared.fault.RunFault.TheVariants.{Memory, File, Json, Shape, Piece, Packed, PackedFrame, Layout, Text, Missing, Wrong, Place, Rank, Outside, NodeCount, Step, Worker, Net, Frame, Write}
 
+-- the name of a layout's fault
 abbrev pub layout_fault_name : LayoutFault → List ℕ
 layout_fault_name layouts.RankCount = codes "L1 RankCount"
 layout_fault_name layouts.CommCount = codes "L2 CommCount"
@@ -29,6 +30,7 @@ layout_fault_name layouts.World = codes "L7 World"
 layout_fault_name layouts.Numbers = codes "L8 Numbers"
 layout_fault_name layouts.Memory = codes "Memory"
 
+-- the name of the fault of a text's line
 abbrev pub line_fault_name : LineFault → List ℕ
 line_fault_name lines.LineTooLong = codes "F2 LineTooLong"
 line_fault_name lines.BadStamp = codes "F3 BadStamp"
@@ -40,10 +42,12 @@ line_fault_name lines.BadParameter = codes "F8 BadParameter"
 line_fault_name lines.Truncated = codes "F9 Truncated"
 line_fault_name lines.TooManyLines = codes "F11 TooManyLines"
 
+-- the name of the cause for which a text is refused
 abbrev pub cause_name : TextCause → List ℕ
 cause_name causes.Read = codes "F1 Read"
 cause_name (causes.Line fault) = line_fault_name fault
 
+-- the name of the fault for which a world or one of its steps is refused
 abbrev pub world_fault_name : WorldFault → List ℕ
 world_fault_name worlds.NoNode = codes "V1 NoNode"
 world_fault_name worlds.NoMail = codes "V2 NoMail"
@@ -54,6 +58,7 @@ world_fault_name worlds.Stale = codes "V6 Stale"
 world_fault_name worlds.NodeCount = codes "V7 NodeCount"
 world_fault_name worlds.Memory = codes "Memory"
 
+-- the name of a frame's fault
 abbrev pub wire_fault_name : WireFault → List ℕ
 wire_fault_name wires.Memory = codes "Memory"
 wire_fault_name wires.Read = codes "W1 Read"
@@ -66,6 +71,7 @@ wire_fault_name wires.Order = codes "W6 Order"
 wire_fault_name wires.Content = codes "W7 Content"
 wire_fault_name wires.Rest = codes "W8 Rest"
 
+-- the name of the cause for which a packed file is refused
 abbrev pub packed_cause_name : PackedCause → List ℕ
 packed_cause_name (packs.Wire fault) = wire_fault_name fault
 packed_cause_name packs.Rank = codes "N1 Rank"
@@ -78,6 +84,7 @@ shown_path path = shown_name (string_bytes path)
 abbrev pub at_line : String Global → ℕ → List ℕ
 at_line path line = codes " at " ++ shown_path path ++ codes ":" ++ decimal line
 
+-- the name of a run's fault, and where it is: in which file, and at which line, frame or step
 abbrev pub fault_text : RunFault → List ℕ
 fault_text Memory = codes "Memory"
 fault_text (File path) = codes "M1 File " ++ shown_path path
@@ -100,5 +107,6 @@ fault_text Net = codes "Y3 Net"
 fault_text (Frame fault) = wire_fault_name fault
 fault_text Write = codes "R1 Write"
 
+-- the line of a run's fault
 abbrev pub fault_line_of : RunFault → List ℕ
 fault_line_of fault = codes "mpimatch: " ++ fault_text fault ++ codes "\n"

@@ -13,5 +13,6 @@ shown_char c =
     (cond (is_control c) (codes "\\u{" ++ digits 16 false c ++ codes "}")
     (encode_utf8 c)))))
 
+-- a file's name, with its control characters as escapes
 abbrev pub shown_name : List ℕ → List ℕ
 shown_name bytes = flat_map shown_char (chars bytes)

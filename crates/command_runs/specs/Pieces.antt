@@ -27,6 +27,7 @@ TellsSegments text rank first segments = (events : List Event) × TellsEvents te
 
 -- ---- why a piece is refused
 
+-- The path is this name.
 abbrev pub IsNamed : String Global → List ℕ → Type 0
 IsNamed path name = string_bytes path ≡ name
 

@@ -65,6 +65,7 @@ abbrev pub node_texts : ℕ → List Answered → List ℕ
 node_texts n [] = []
 node_texts n (answer ∷ answers) = node_text n answer ++ node_texts (suc n) answers
 
+-- the text of a replay: all nodes, from 0 on
 abbrev pub replay_text : List Answered → List ℕ
 replay_text answers = node_texts 0 answers
 

@@ -14,11 +14,12 @@ use Rattle.command_runs.specs.declared.shares.SoFar.{SoFar}
 abbrev pub packed_share_of : Side → List PackedParts → List PackedParts
 packed_share_of node packed = filter (λ piece. is_side node (side_of piece.node)) packed
 
--- what a node's packed files tell, and what they told so far
+-- what a node's packed files tell
 abbrev pub told_to : PackedShares → Side → View
 told_to shares sides.First = shares.first
 told_to shares sides.Second = shares.second
 
+-- what a node's packed files told so far
 abbrev pub so_far : SoFar → Side → View
 so_far told sides.First = told.first
 so_far told sides.Second = told.second

@@ -17,10 +17,11 @@ use Rattle.command_runs.specs.declared.fault.RunFault.TheVariants.{Memory}
 use Rattle.command_runs.specs.declared.texts.AllTexts.{AllTexts}
 use Rattle.command_runs.specs.declared.whole.TheConstants.{LONGEST_PIECE}
 
--- the node of a number, and the worker: 0 is the first
+-- the node of a number: 0 is the first
 abbrev pub side_of : ℕ → Side
 side_of node = if node == 0 then sides.First else sides.Second
 
+-- the worker of a number: 0 is the first
 abbrev pub worker_of : ℕ → Worker
 worker_of worker = if worker == 0 then workers.First else workers.Second
 

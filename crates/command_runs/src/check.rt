@@ -58,8 +58,8 @@ pub(crate) fn check_with<O: Opener, V: Watcher, W: Write>(
     }
 }
 
-// The checker of the layout that holds all that the pieces of the manifest tell. Its index follows the texts, and is made once
-// more where there are packed files too.
+/// The checker of the layout that holds all that the pieces of the manifest tell. Its index follows the texts, and is
+/// made once more where there are packed files too.
 fn checker_with<'a, O: Opener, V: Watcher>(
     alloc: Global,
     layout: &'a Layout,

@@ -71,7 +71,7 @@ pub fn run_cluster<
     }
 }
 
-// The two nodes of the layout that have their own pieces and what the other sent. Packed files are read before texts.
+/// The two nodes of the layout that have their own pieces and what the other sent. Packed files are read before texts.
 fn nodes_with<
     'a,
     R: Net<Listener = TcpListener, Stream = TcpStream> + Threads + Wait + Sync,
@@ -108,7 +108,7 @@ fn nodes_with<
     }
 }
 
-// The fault of a run that stands for that of a cluster of these pieces.
+/// The fault of a run that stands for that of a cluster of these pieces.
 fn fault_of(alloc: Global, pieces: &[Piece], fault: ClusterFault) -> Result<RunFault, AllocError>
     requires named { NamesOne pieces.now fault }
     ensures { IfOk result (IsFaultFor pieces.now fault) }
@@ -127,7 +127,7 @@ fn fault_of(alloc: Global, pieces: &[Piece], fault: ClusterFault) -> Result<RunF
     }
 }
 
-// The piece at a place of a worker of a node.
+/// The piece at a place of a worker of a node.
 fn piece_at(pieces: &[Piece], node: Side, at: PieceAt) -> Option<&Piece>
     ensures { option_map (λ piece. piece.now) result ≡ piece_at pieces.entry.now node at }
 {
@@ -143,14 +143,14 @@ fn piece_at(pieces: &[Piece], node: Side, at: PieceAt) -> Option<&Piece>
     None
 }
 
-// Whether the piece is one of this worker of this node.
+/// Whether the piece is one of this worker of this node.
 fn is_share(piece: &Piece, node: Side, worker: Worker) -> bool
     ensures { result ≡ is_share node worker piece.now }
 {
     is_side(node, side_of(piece.node())) && is_worker(worker, worker_of(piece))
 }
 
-// Whether the two are one node.
+/// Whether the two are one node.
 fn is_side(one: Side, other: Side) -> bool
     ensures { result ≡ is_side one other }
 {
@@ -160,7 +160,7 @@ fn is_side(one: Side, other: Side) -> bool
     }
 }
 
-// Whether the two are one worker.
+/// Whether the two are one worker.
 fn is_worker(one: Worker, other: Worker) -> bool
     ensures { result ≡ is_from one other }
 {
@@ -170,7 +170,7 @@ fn is_worker(one: Worker, other: Worker) -> bool
     }
 }
 
-// The fault of a text of this file.
+/// The fault of a text of this file.
 fn of_text(alloc: Global, path: &str, fault: PieceFault) -> Result<RunFault, AllocError>
     ensures { IfOk result (IsTextFault path.now fault) }
 {
@@ -183,6 +183,7 @@ fn of_text(alloc: Global, path: &str, fault: PieceFault) -> Result<RunFault, All
     }
 }
 
+/// What the fault of a node is to a run: a node loses its answer for want of memory alone.
 fn of_node(fault: NodeFault) -> RunFault
     ensures { result ≡ of_node fault }
 {
@@ -192,6 +193,7 @@ fn of_node(fault: NodeFault) -> RunFault
     }
 }
 
+/// What the fault of an exchange is to a run: that of its frame, or that of the node that joins it.
 fn of_exchange(fault: ExchangeFault) -> RunFault
     ensures { result ≡ of_exchange fault }
 {
@@ -201,6 +203,7 @@ fn of_exchange(fault: ExchangeFault) -> RunFault
     }
 }
 
+/// What the fault of a frame is to a run: want of memory, or that fault.
 fn of_wire(fault: WireFault) -> RunFault
     ensures { result ≡ of_wire fault }
 {
@@ -210,7 +213,7 @@ fn of_wire(fault: WireFault) -> RunFault
     }
 }
 
-// Writes what two nodes with their answers say, and lets go of them.
+/// Writes what two nodes with their answers say, and lets go of them.
 fn write_nodes<N: Answerer, W: Write>(nodes: (N, N), out: &mut W) -> Result<(), Failed>
     requires one { (N.held nodes.0).is_stale ≡ false }
     requires other { (N.held nodes.1).is_stale ≡ false }
@@ -229,7 +232,7 @@ fn write_nodes<N: Answerer, W: Write>(nodes: (N, N), out: &mut W) -> Result<(), 
     write_both(first, second, out)
 }
 
-// Writes the line and the report of both nodes, and whether both say the same.
+/// Writes the line and the report of both nodes, and whether both say the same.
 fn write_both<W: Write>(one: &Answer, other: &Answer, out: &mut W) -> Result<(), Failed>
     ensures ok { OnOk result ((text : List ℕ) × IsBothText one.now other.now text × Appends (W.written out.old) (W.written out.new) text) }
     ensures err { OnErr result ((text : List ℕ) × IsBothText one.now other.now text × AppendsFront (W.written out.old) (W.written out.new) text) }
@@ -241,6 +244,7 @@ fn write_both<W: Write>(one: &Answer, other: &Answer, out: &mut W) -> Result<(),
     write_piece(line, out)
 }
 
+/// `equal yes` where both answers are the same, and `equal no` where they aren't.
 fn equal_line(one: &Answer, other: &Answer) -> &'static [u8]
     ensures { IsEqualLine one.now other.now result.now }
 {

@@ -83,7 +83,7 @@ pub fn ending_of<'a, O: Opener, V: Watcher, W: Write>(
     }
 }
 
-// Runs a verb over a layout and a manifest, or leaves a cluster of them to do.
+/// Runs a verb over a layout and a manifest, or leaves a cluster of them to do.
 fn turn_of_pair<'a, O: Opener, V: Watcher, W: Write>(
     alloc: Global,
     verb: Verb,
@@ -102,7 +102,7 @@ fn turn_of_pair<'a, O: Opener, V: Watcher, W: Write>(
     Ok(Turn::Ended(ending_after(alloc, verb, ran, files)?))
 }
 
-// A verb over its files: texts, or a layout and a manifest.
+/// A verb over its files: texts, or a layout and a manifest.
 #[tactic(auto, using(crate::proofs::Endings::turned_pair))]
 fn turn_of_files<'a, O: Opener, V: Watcher, W: Write>(
     alloc: Global,
@@ -125,7 +125,7 @@ fn turn_of_files<'a, O: Opener, V: Watcher, W: Write>(
     }
 }
 
-// The names, where they are two.
+/// The names, where they are two.
 #[tactic(auto, using(crate::proofs::Endings::two_names, crate::proofs::Endings::not_two))]
 fn two_of<'a>(names: &[&'a str]) -> Option<(&'a str, &'a str)>
     ensures two { IfSome result (λ both. map (λ n. n.now) names.now ≡ both.0.now ∷ both.1.now ∷ []) }
@@ -138,7 +138,7 @@ fn two_of<'a>(names: &[&'a str]) -> Option<(&'a str, &'a str)>
     }
 }
 
-// Whether the names are those of texts: the first one tells it.
+/// Whether the names are those of texts: the first one tells it.
 fn are_texts<O: Opener>(names: &[&str], files: &mut O) -> bool
     ensures told { IsTrue result → BeginsWithText (O.file files.old) (map (λ n. n.now) names.now) }
     ensures same { O.file files.new ≡ O.file files.old }
@@ -149,6 +149,7 @@ fn are_texts<O: Opener>(names: &[&str], files: &mut O) -> bool
     }
 }
 
+/// The name of the first of some files.
 fn first_name<'a>(names: &[&'a str]) -> &'a str
     ensures { result.now ≡ first_name (map (λ n. n.now) names.now) }
 {
@@ -158,7 +159,7 @@ fn first_name<'a>(names: &[&'a str]) -> &'a str
     }
 }
 
-// The words are mistaken: these files are no layout and manifest, and no texts.
+/// The words are mistaken: these files are no layout and manifest, and no texts.
 fn strange_files(alloc: Global, names: &[&str]) -> Result<Ending, AllocError>
     ensures status { IfOk result (λ e. e.status ≡ 2) }
     ensures errors { IfOk result (λ e. string_bytes e.errors ≡ strange_line (map (λ n. n.now) names.now)) }
@@ -220,6 +221,7 @@ pub fn ending_without_words(alloc: Global) -> Result<Ending, AllocError>
     })
 }
 
+/// An ending with this status, and nothing on standard error.
 fn silent(alloc: Global, status: u8) -> Ending
     ensures status { result.status ≡ status }
     ensures errors { string_bytes result.errors ≡ [] }
@@ -230,6 +232,7 @@ fn silent(alloc: Global, status: u8) -> Ending
     }
 }
 
+/// An ending with status 1, and the line of a fault on standard error.
 fn refused(alloc: Global, fault: &RunFault) -> Result<Ending, AllocError>
     ensures status { IfOk result (λ e. e.status ≡ 1) }
     ensures errors { IfOk result (λ e. string_bytes e.errors ≡ fault_line_of fault.now) }
@@ -240,7 +243,7 @@ fn refused(alloc: Global, fault: &RunFault) -> Result<Ending, AllocError>
     })
 }
 
-// Shows why the words ask for nothing; the help and the version go to standard output.
+/// Shows why the words ask for nothing; the help and the version go to standard output.
 fn shown<W: Write>(alloc: Global, fault: &CommandFault, out: &mut W) -> Result<Ending, AllocError>
     ensures { IfOk result (λ e. IsEndingFor fault.now e.status (string_bytes e.errors) (output_of (W.written out.old) (W.failures out.old)) (output_of (W.written out.new) (W.failures out.new))) }
 {

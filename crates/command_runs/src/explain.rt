@@ -58,7 +58,7 @@ pub(crate) fn explain_with<O: Opener, V: Watcher, W: Write>(
     }
 }
 
-// What the files tell, in words.
+/// What the files tell, in words.
 fn text_with<O: Opener, V: Watcher>(
     alloc: Global,
     layout_name: &str,
@@ -90,7 +90,7 @@ fn text_with<O: Opener, V: Watcher>(
     }
 }
 
-// The node of the layout that knows all that the pieces of the manifest tell, and what is noted of their texts.
+/// The node of the layout that knows all that the pieces of the manifest tell, and what is noted of their texts.
 fn noted_node_with<'a, O: Opener, V: Watcher>(
     alloc: Global,
     layout: &'a Layout,
@@ -129,13 +129,14 @@ fn noted_node_with<'a, O: Opener, V: Watcher>(
     }
 }
 
-// The layout, but for its sends, which complete in the other way.
+/// The layout, but for its sends, which complete in the other way.
 fn under_other(alloc: Global, layout: &Layout) -> Result<Layout, AllocError>
     ensures { IfOk result (λ other. other ≡ under_other layout.now) }
 {
     layout.with_sends(alloc, other_sends(layout.sends()))
 }
 
+/// The other way in which sends of standard mode can complete.
 fn other_sends(sends: Sends) -> Sends
     ensures { result ≡ other_sends sends }
 {
@@ -171,8 +172,8 @@ fn explained<N: Answerer>(
     Ok(text)
 }
 
-// What was said, with which of the ranks of which nothing is known have no text, what is noted of the texts, and where
-// stuck calls stand in them.
+/// What was said, with which of the ranks of which nothing is known have no text, what is noted of the texts, and where
+/// stuck calls stand in them.
 fn text_of(
     alloc: Global,
     said: &[u8],
@@ -191,7 +192,7 @@ fn text_of(
     text.into_bytes()
 }
 
-// the first ten stuck ranks
+/// The first ten stuck ranks.
 fn shown_first(stuck: &[Stuck]) -> &[Stuck]
     ensures { result.now ≡ take most_shown stuck.now }
 {

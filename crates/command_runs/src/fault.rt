@@ -205,6 +205,7 @@ pub fn name_of_layout(fault: LayoutFault) -> &'static str
     }
 }
 
+/// The name of the cause for which a text is refused.
 fn name_of_cause(cause: TextCause) -> &'static str
     ensures { result.now ≡ cause_name cause }
 {
@@ -214,6 +215,7 @@ fn name_of_cause(cause: TextCause) -> &'static str
     }
 }
 
+/// The name of the fault of a text's line.
 fn name_of_line(fault: LineFault) -> &'static str
     ensures { result.now ≡ line_fault_name fault }
 {
@@ -230,6 +232,7 @@ fn name_of_line(fault: LineFault) -> &'static str
     }
 }
 
+/// The name of the fault for which a world or one of its steps is refused.
 fn name_of_world(fault: WorldFault) -> &'static str
     ensures { result.now ≡ world_fault_name fault }
 {
@@ -245,6 +248,7 @@ fn name_of_world(fault: WorldFault) -> &'static str
     }
 }
 
+/// The name of the cause for which a packed file is refused.
 fn name_of_packed(cause: PackedCause) -> &'static str
     ensures { result.now ≡ packed_cause_name cause }
 {
@@ -254,6 +258,7 @@ fn name_of_packed(cause: PackedCause) -> &'static str
     }
 }
 
+/// The name of a frame's fault.
 fn name_of_wire(fault: WireFault) -> &'static str
     ensures { result.now ≡ wire_fault_name fault }
 {

@@ -33,6 +33,7 @@ impl<'a> fmt::Display for FileName<'a> {
     }
 }
 
+/// A file's name, with its control characters as escapes.
 fn put_name<W: fmt::Write>(f: &mut fmt::Formatter<W>, name: &str) -> fmt::Result
     ensures { WritesOnOk W.write_str_gives f.old result (shown_name name.now) f.new }
 {
@@ -42,6 +43,7 @@ fn put_name<W: fmt::Write>(f: &mut fmt::Formatter<W>, name: &str) -> fmt::Result
     Ok(())
 }
 
+/// A control character as an escape of Rust, any other as it stands.
 fn put_char<W: fmt::Write>(f: &mut fmt::Formatter<W>, c: char) -> fmt::Result
     ensures { WritesOnOk W.write_str_gives f.old result (shown_char c) f.new }
 {

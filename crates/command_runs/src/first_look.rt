@@ -11,7 +11,7 @@ use mpi_model::{Failed, Read, ReadFault, read_exactly};
 /// How many bytes of a file are looked at: a text has a call among them.
 pub(crate) const LONGEST_LOOK: usize = 4096;
 
-// A line begins at this byte, and a call with it.
+/// A line begins at this byte, and a call with it.
 fn begins_call(front: &[u8], i: usize) -> bool
     requires { i < length front.now }
     ensures { result ≡ begins_call front.now i }
@@ -19,6 +19,7 @@ fn begins_call(front: &[u8], i: usize) -> bool
     (i == 0 || front[i - 1] == b'\n') && front[i..].starts_with(b"MPI_")
 }
 
+/// Whether a call begins somewhere in these bytes.
 fn has_call(front: &[u8]) -> bool
     ensures { result ≡ has_call front.now }
 {
@@ -30,6 +31,7 @@ fn has_call(front: &[u8]) -> bool
     false
 }
 
+/// Whether a call begins in the first bytes of a file.
 fn look_at<R: Read>(reader: R) -> Result<bool, Failed>
     ensures ok { IfOk result (IsLookAt (R.left reader)) }
     ensures err { OnErr result (Fails R.failures) }

@@ -49,7 +49,7 @@ pub(crate) fn graph_with<O: Opener, V: Watcher, W: Write>(
     }
 }
 
-// What the files tell, as a picture.
+/// What the files tell, as a picture.
 fn picture_with<O: Opener, V: Watcher>(
     alloc: Global,
     layout_name: &str,
@@ -77,7 +77,7 @@ fn picture_with<O: Opener, V: Watcher>(
     }
 }
 
-// What a node tells, as a picture. It lets go of the node.
+/// What a node tells, as a picture. It lets go of the node.
 fn drawn<N: Answerer>(alloc: Global, node: N) -> Result<Vec<u8>, AllocError>
     requires fresh { (N.held node).is_stale ≡ false }
     ensures { IfOk result (λ text. IsDrawn (N.held node).layout (N.held node).know text.items) }

@@ -80,7 +80,7 @@ pub fn file_at<O: Opener>(
     }
 }
 
-// the fault of a file's text
+/// The fault of a file's text.
 fn fault_at(alloc: Global, fault: InputFault, path: &str) -> Result<RunFault, AllocError>
     ensures { IfOk result (IsFaultOf path.now fault) }
 {

@@ -56,7 +56,7 @@ pub(crate) fn json_with<O: Opener, V: Watcher, W: Write>(
     }
 }
 
-// Writes the report of a node with its answer, as JSON, and lets go of it.
+/// Writes the report of a node with its answer, as JSON, and lets go of it.
 fn write_told_json<N: Answerer, W: Write>(node: N, out: &mut W) -> Result<(), Failed>
     requires fresh { (N.held node).is_stale ≡ false }
     ensures ok { OnOk result ((answer : Answered) × IsAnswer (N.held node).layout (N.held node).know answer × Appends (W.written out.old) (W.written out.new) (json_text answer)) }

@@ -59,7 +59,7 @@ pub(crate) fn know_of<G: Gatherer, O: Opener, V: Watcher>(
     }
 }
 
-// The file of the first piece that has calls of a rank outside the layout.
+/// The file of the first piece that has calls of a rank outside the layout.
 pub(crate) fn with_stranger(
     alloc: Global,
     stranger: Option<String>,
@@ -78,7 +78,7 @@ pub(crate) fn with_stranger(
     Ok(Some(piece.file().to_string(alloc)?))
 }
 
-// Whether the segments tell anything: each has an event.
+/// Whether the segments tell anything: each has an event.
 fn have_calls(segments: &[Segment]) -> bool
     ensures some { result ≡ true → facts_of_all segments.now ≢ [] }
     ensures none { result ≡ false → facts_of_all segments.now ≡ [] }
@@ -90,7 +90,7 @@ fn have_calls(segments: &[Segment]) -> bool
     true
 }
 
-// Takes segments that are not needed any more, with their events.
+/// Takes segments that are not needed any more, with their events.
 pub(crate) fn take_all<G: Gatherer>(gatherer: G, segments: Vec<Segment>) -> Result<G, AllocError>
     ensures known { IfOk result (λ g. G.known g ≡ join (G.known gatherer) (view_of (facts_of_all segments.items))) }
     ensures layout { IfOk result (λ g. G.layout g ≡ G.layout gatherer) }

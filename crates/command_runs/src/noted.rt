@@ -36,7 +36,7 @@ struct NotedPiece {
     note: TextNote,
 }
 
-// a file's name as a line shows it
+/// A file's name as a line shows it.
 fn shown(alloc: Global, path: &str) -> Result<Vec<u8>, AllocError>
     ensures { IfOk result (λ name. name.items ≡ shown_name path.now) }
 {
@@ -44,7 +44,7 @@ fn shown(alloc: Global, path: &str) -> Result<Vec<u8>, AllocError>
     Vec::from_slice(alloc, text.as_str().as_bytes())
 }
 
-// what a text of so many calls is taken for: one without a call is looked at again
+/// What a text of so many calls is taken for: one without a call is looked at again.
 fn start_where<O: Opener>(calls: u64, path: &str, files: &mut O) -> Option<Start>
     ensures told { BeginsSo (O.file files.old path.now) result }
     ensures same { O.file files.new ≡ O.file files.old }

@@ -49,7 +49,7 @@ pub(crate) fn explain_rank_with<O: Opener, V: Watcher, W: Write>(
     }
 }
 
-// What the files tell of one rank, in words.
+/// What the files tell of one rank, in words.
 fn rank_text_with<O: Opener, V: Watcher>(
     alloc: Global,
     rank: u32,
@@ -81,7 +81,7 @@ fn rank_text_with<O: Opener, V: Watcher>(
     }
 }
 
-// What a node tells of one rank, in words. It lets go of the node.
+/// What a node tells of one rank, in words. It lets go of the node.
 fn told<N: Answerer>(
     alloc: Global,
     layout: &Layout,

@@ -52,7 +52,7 @@ pub(crate) fn pack_with<O: Opener, V: Watcher, W: Write>(
     }
 }
 
-// Writes what is known as frames.
+/// Writes what is known as frames.
 fn write_known<W: Write>(alloc: Global, know: &Knowledge, out: &mut W) -> Result<(), RunFault>
     ensures ok { OnOk result ((bytes : List ℕ) × IsPacked know.now bytes × Appends (W.written out.old) (W.written out.new) bytes) }
     ensures err { IfErr result (IsUnwritten know.now (W.written out.old) (W.written out.new) (W.failures out.old) (W.failures out.new)) }

@@ -17,7 +17,7 @@ use std::alloc::{AllocError, Global};
 use trace_know::{Knowledge, join_laws};
 use trace_wire::{Joining, PackedCause, PackedFault, WireFault, read_frames};
 
-// The fault of a run whose packed file has a refused frame.
+/// The fault of a run whose packed file has a refused frame.
 fn refusal(alloc: Global, path: &str, fault: PackedFault) -> Result<RunFault, AllocError>
     ensures { IfOk result (IsFrameFault path.now fault) }
 {
@@ -85,7 +85,7 @@ pub(crate) fn packed_of<O: Opener>(
     Ok(all.into_knowledge()?)
 }
 
-// The first with what the other tells too.
+/// The first with what the other tells too.
 fn with(more: Knowledge, fewer: Knowledge) -> Result<Knowledge, AllocError>
     ensures { IfOk result (λ know. know ≡ join more fewer) }
 {

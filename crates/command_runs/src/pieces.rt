@@ -41,7 +41,7 @@ pub fn segments_of_all<O: Opener, V: Watcher>(
     Ok(lists)
 }
 
-// The same segments, to be shared.
+/// The same segments, to be shared.
 fn shared(alloc: Global, segments: Vec<Segment>) -> Result<Vec<SharedSegment>, AllocError>
     ensures { IfOk result (λ list. list.items ≡ segments.items) }
 {

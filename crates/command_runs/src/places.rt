@@ -28,6 +28,7 @@ fn place_of(
     Ok(Some(CallPlace::new(rank, call, file, line)))
 }
 
+/// Adds a place, where there is one.
 fn push_some(places: &mut Vec<CallPlace>, place: Option<CallPlace>) -> Result<(), AllocError>
     ensures { OnOk result (places.new.items ≡ places.old.items ++ option_to_list place) }
 {

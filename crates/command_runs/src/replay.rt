@@ -56,7 +56,7 @@ pub(crate) fn replay_with<O: Opener, V: Watcher, W: Write>(
     }
 }
 
-// The world of the layout that the manifest's schedule leaves, with the pieces of their files.
+/// The world of the layout that the manifest's schedule leaves, with the pieces of their files.
 fn world_with<'a, O: Opener, V: Watcher>(
     alloc: Global,
     layout: &'a Layout,
@@ -85,7 +85,7 @@ fn world_with<'a, O: Opener, V: Watcher>(
     world_after(alloc, layout, manifest.nodes(), &steps)
 }
 
-// So many nodes after these steps.
+/// So many nodes after these steps.
 fn world_after<'a>(
     alloc: Global,
     layout: &'a Layout,
@@ -112,7 +112,7 @@ fn world_after<'a>(
     }
 }
 
-// What a run that ended at a step is to a replay: a node loses its answer for want of memory alone.
+/// What a run that ended at a step is to a replay: a node loses its answer for want of memory alone.
 fn stop_of(fault: WorldFault, step: usize) -> RunFault
     ensures { result ≡ stop_of fault step }
 {
@@ -122,7 +122,7 @@ fn stop_of(fault: WorldFault, step: usize) -> RunFault
     }
 }
 
-// Writes the line and the report of each node.
+/// Writes the line and the report of each node.
 fn write_nodes<W: Write>(world: &World<'_>, out: &mut W) -> Result<(), Failed>
     requires fresh { NoneStale world.now.nodes }
     ensures ok { OnOk result ((text : List ℕ) × IsTextOf world.now.nodes text × Appends (W.written out.old) (W.written out.new) text) }
@@ -141,7 +141,7 @@ fn write_nodes<W: Write>(world: &World<'_>, out: &mut W) -> Result<(), Failed>
     Ok(())
 }
 
-// Writes the line and the report of one node.
+/// Writes the line and the report of one node.
 pub(crate) fn write_node<W: Write>(n: usize, answer: &Answer, out: &mut W) -> Result<(), Failed>
     ensures ok { OnOk result (Appends (W.written out.old) (W.written out.new) (node_text n answer.now)) }
     ensures err { OnErr result (AppendsFront (W.written out.old) (W.written out.new) (node_text n answer.now)) }
@@ -154,7 +154,7 @@ pub(crate) fn write_node<W: Write>(n: usize, answer: &Answer, out: &mut W) -> Re
     }
 }
 
-// `node N`, in memory of its own: after the first node no memory can be lacking.
+/// `node N`, in memory of its own: after the first node no memory can be lacking.
 fn write_line<W: Write>(n: usize, out: &mut W) -> Result<(), Failed>
     ensures ok { OnOk result (Appends (W.written out.old) (W.written out.new) (node_line n)) }
     ensures err { OnErr result (AppendsFront (W.written out.old) (W.written out.new) (node_line n)) }

@@ -71,7 +71,7 @@ pub fn run_with<O: Opener, V: Watcher, W: Write>(
     }
 }
 
-// Writes the report of what the files tell.
+/// Writes the report of what the files tell.
 fn report_with<O: Opener, V: Watcher, W: Write>(
     alloc: Global,
     layout_name: &str,
@@ -103,7 +103,7 @@ fn report_with<O: Opener, V: Watcher, W: Write>(
     }
 }
 
-// Writes the report of a node with its answer, and lets go of it.
+/// Writes the report of a node with its answer, and lets go of it.
 fn write_told<N: Answerer, W: Write>(node: N, out: &mut W) -> Result<(), Failed>
     requires fresh { (N.held node).is_stale ≡ false }
     ensures ok { OnOk result ((answer : Answered) × IsAnswer (N.held node).layout (N.held node).know answer × Appends (W.written out.old) (W.written out.new) (report_text answer)) }
@@ -120,7 +120,7 @@ fn write_told<N: Answerer, W: Write>(node: N, out: &mut W) -> Result<(), Failed>
     }
 }
 
-// The node of the layout that knows all that the pieces of the manifest tell.
+/// The node of the layout that knows all that the pieces of the manifest tell.
 pub(crate) fn node_with<'a, O: Opener, V: Watcher>(
     alloc: Global,
     layout: &'a Layout,

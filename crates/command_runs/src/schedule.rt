@@ -22,6 +22,7 @@ pub fn world_steps(
     Ok(steps)
 }
 
+/// Adds what a step of the schedule does: it posts each segment of its piece, or is itself.
 fn add_steps(
     steps: &mut Vec<Step>,
     planned: &PlannedStep,
@@ -53,6 +54,7 @@ fn add_steps(
     }
 }
 
+/// Adds a step.
 fn add(steps: &mut Vec<Step>, step: Step) -> Result<(), AllocError>
     ensures { OnOk result (steps.new.items ≡ steps.old.items ++ step ∷ []) }
 {
@@ -60,7 +62,7 @@ fn add(steps: &mut Vec<Step>, step: Step) -> Result<(), AllocError>
     Ok(())
 }
 
-// The posts of a piece's segments, in order.
+/// The posts of a piece's segments, in order.
 fn add_posts(
     steps: &mut Vec<Step>,
     worker: u8,

@@ -7,7 +7,7 @@ ghost use Rattle.text_notes.specs.Starts.{IsStartOf};
 use crate::opener::Opener;
 use text_notes::{Start, start_of};
 
-// A file is opened a second time only where it has a length: what came through a pipe is gone.
+/// A file is opened a second time only where it has a length: what came through a pipe is gone.
 pub(crate) fn reopened<O: Opener>(path: &str, files: &mut O) -> Option<O::R>
     ensures told { IfSome result (λ reader. StandsAtFirst (O.file files.old path.now) (O.R.left reader)) }
     ensures same { O.file files.new ≡ O.file files.old }

@@ -38,6 +38,7 @@ struct SoFar {
 }
 
 impl SoFar {
+    /// Nothing is told yet.
     fn new(alloc: Global) -> SoFar
         ensures { (node : SideValue) → so_far result node ≡ empty }
     {
@@ -47,7 +48,7 @@ impl SoFar {
         }
     }
 
-    // The same once a file of a node has told this.
+    /// The same once a file of a node has told this.
     fn taking(self, node: Side, know: Knowledge) -> Result<SoFar, AllocError>
         ensures { IfOk result (λ more. (one : SideValue) → so_far more one ≡ (if is_side one node then join (so_far self one) know else so_far self one)) }
     {
@@ -64,6 +65,7 @@ impl SoFar {
         }
     }
 
+    /// What they told, now that all are read.
     fn into_shares(self) -> Result<PackedShares, AllocError>
         ensures first { IfOk result (λ shares. shares.first ≡ self.first) }
         ensures second { IfOk result (λ shares. shares.second ≡ self.second) }

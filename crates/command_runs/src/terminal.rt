@@ -39,7 +39,7 @@ impl<'a, R: Eprint + Clock> Terminal<'a, R> {
         }
     }
 
-    // Whether so much time has gone that a line is due.
+    /// Whether so much time has gone that a line is due.
     fn is_due(&self) -> bool {
         let Some(shown) = self.shown else {
             return false;
@@ -50,7 +50,7 @@ impl<'a, R: Eprint + Clock> Terminal<'a, R> {
         }
     }
 
-    // Shows how far the run is, where that is due.
+    /// Shows how far the run is, where that is due.
     fn show(&mut self) {
         if !self.is_due() {
             return;

@@ -28,7 +28,7 @@ pub struct AllTexts {
 }
 
 impl AllTexts {
-    // No text yet, and what packed files tell.
+    /// No text yet, and what packed files tell.
     fn new(alloc: Global, packed: PackedShares) -> AllTexts
         ensures shares { (node : SideValue) (worker : WorkerValue) → share_in result node worker ≡ [] }
         ensures known { (node : SideValue) → known_in result node ≡ told_to packed node }
@@ -47,7 +47,7 @@ impl AllTexts {
         }
     }
 
-    // Adds a text for a worker of a node.
+    /// Adds a text for a worker of a node.
     fn add(&mut self, node: Side, worker: Worker, text: TextPiece) -> Result<(), AllocError>
         ensures shares { OnOk result ((one : SideValue) (by : WorkerValue) → share_in self.new one by ≡ share_in self.old one by ++ (if is_side one node && is_from by worker then text ∷ [] else [])) }
         ensures known { OnOk result ((one : SideValue) → known_in self.new one ≡ known_in self.old one) }

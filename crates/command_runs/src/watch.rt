@@ -52,7 +52,7 @@ pub(crate) fn announce<O: Opener, V: Watcher>(pieces: &[Piece], files: &O, watch
     watcher.begin(pieces.len(), bytes);
 }
 
-// How many bytes the files of these pieces have together, where each tells its length.
+/// How many bytes the files of these pieces have together, where each tells its length.
 fn bytes_of_all<O: Opener>(pieces: &[Piece], files: &O) -> Option<u64> {
     let mut bytes: u64 = 0;
     for piece in pieces {

@@ -23,8 +23,8 @@ use Rattle.dumpi_calls.specs.declared.parameter.Parameter.TheVariants as paramet
 abbrev pub Reads : {A : Type 0} → Result A CallFault → Result A CallFault → Type 0
 Reads result meant = IfOk result (λ value. meant ≡ Ok value) × IfErr result (λ fault. fault ≢ Memory → meant ≡ Err fault)
 
--- what is read first, and then the rest by its value; the first fault is the whole's
 infixl 10 ◌>>=◌
+-- what is read first, and then the rest by its value; the first fault is the whole's
 abbrev pub ◌>>=◌ : {A B : Type 0} → Result A CallFault → (A → Result B CallFault) → Result B CallFault
 (Ok value) >>= f = f value
 (Err fault) >>= f = Err fault
@@ -166,16 +166,19 @@ non_negative_in parameter call = do
   number ← number_in parameter call
   or_wrong parameter (non_negative number.value)
 
+-- the destination that a send names
 unfoldable pub dest_in : TextCall → Result Peer CallFault
 dest_in call = do
   number ← number_in parameters.Dest call
   or_wrong parameters.Dest (dest_by number.name number.value)
 
+-- the source that a receive or a probe names
 unfoldable pub source_in : TextCall → Result Peer CallFault
 source_in call = do
   number ← number_in parameters.Source call
   or_wrong parameters.Source (source_by number.name number.value)
 
+-- the tag that a receive or a probe names
 unfoldable pub asked_tag_in : Parameter → TextCall → Result (Option ℕ) CallFault
 asked_tag_in parameter call = do
   number ← number_in parameter call
@@ -191,6 +194,7 @@ root_named call = do
 abbrev pub root_in : Kind → TextCall → Result (Option ℕ) CallFault
 root_in kind call = if has_root kind then root_named call else Ok None
 
+-- the communicator that a call names
 unfoldable pub comm_in : TextCall → Result CommRef CallFault
 comm_in call = do
   number ← number_in parameters.Comm call

@@ -99,6 +99,7 @@ abbrev pub is_i : Option ℕ → Bool
 is_i None = false
 is_i (Some byte) = byte == 73
 
+-- The name has that `I`.
 abbrev pub has_i : List ℕ → Bool
 has_i name = is_i (slice_get name 4)
 
@@ -179,16 +180,19 @@ function_named name =
 
 -- ---- envelopes (MPI 4.0, 3.2.3)
 
--- the parameters that a send has to have, a receive, a call that is both, and a probe
+-- the parameters that a send has to have
 abbrev pub send_parameters : List Parameter
 send_parameters = Count ∷ Datatype ∷ Dest ∷ Tag ∷ Comm ∷ []
 
+-- those of a receive
 abbrev pub receive_parameters : List Parameter
 receive_parameters = Count ∷ Datatype ∷ Source ∷ Tag ∷ Comm ∷ []
 
+-- those of a Sendrecv, which is both
 abbrev pub sendrecv_parameters : List Parameter
 sendrecv_parameters = SendCount ∷ SendType ∷ Dest ∷ SendTag ∷ RecvCount ∷ RecvType ∷ Source ∷ RecvTag ∷ Comm ∷ []
 
+-- those of a probe
 abbrev pub probe_parameters : List Parameter
 probe_parameters = Source ∷ Tag ∷ Comm ∷ []
 
@@ -234,26 +238,31 @@ envelope_of_receive call = do
 
 -- ---- the readings of the entry parameters, in their order
 
+-- a blocking send of a mode
 unfoldable pub send_call : Mode → TextCall → Result Call CallFault
 send_call mode call = do
   envelope ← envelope_of_send call
   Ok (calls.Send mode envelope)
 
+-- a nonblocking send of a mode
 unfoldable pub isend_call : Mode → TextCall → Result Call CallFault
 isend_call mode call = do
   envelope ← envelope_of_send call
   Ok (calls.Isend mode envelope)
 
+-- a blocking receive
 unfoldable pub recv_call : TextCall → Result Call CallFault
 recv_call call = do
   envelope ← envelope_of_receive call
   Ok (calls.Recv envelope)
 
+-- a nonblocking receive
 unfoldable pub irecv_call : TextCall → Result Call CallFault
 irecv_call call = do
   envelope ← envelope_of_receive call
   Ok (calls.Irecv envelope)
 
+-- a Sendrecv: a send and a receive on one communicator
 unfoldable pub sendrecv_call : TextCall → Result Call CallFault
 sendrecv_call call = do
   send ← send_part SendCount SendType SendTag call
@@ -261,6 +270,7 @@ sendrecv_call call = do
   comm ← comm_in call
   Ok (calls.Sendrecv (record { send = envelope_of send comm; receive = envelope_of receive comm }))
 
+-- a probe: what it looks for
 unfoldable pub probe_call : TextCall → Result Call CallFault
 probe_call call = do
   source ← source_in call
@@ -268,51 +278,61 @@ probe_call call = do
   comm ← comm_in call
   Ok (calls.Probe (record { source = source; tag = tag; comm = comm }))
 
+-- a Wait for one request
 unfoldable pub wait_call : TextCall → Result Call CallFault
 wait_call call = do
   request ← request_in call
   Ok (calls.Wait request)
 
+-- a Waitall for all requests of a list
 unfoldable pub waitall_call : TextCall → Result Call CallFault
 waitall_call call = do
   requests ← requests_in call
   Ok (calls.Waitall requests)
 
+-- a Waitany for one of a list
 unfoldable pub waitany_call : TextCall → Result Call CallFault
 waitany_call call = do
   requests ← requests_in call
   Ok (calls.Waitany requests)
 
+-- a Waitsome for some of a list
 unfoldable pub waitsome_call : TextCall → Result Call CallFault
 waitsome_call call = do
   requests ← requests_in call
   Ok (calls.Waitsome requests)
 
+-- a Test of one request
 unfoldable pub test_call : TextCall → Result Call CallFault
 test_call call = do
   request ← request_in call
   Ok (calls.Test request)
 
+-- a Testall of all requests of a list
 unfoldable pub testall_call : TextCall → Result Call CallFault
 testall_call call = do
   requests ← requests_in call
   Ok (calls.Testall requests)
 
+-- a Testany of one of a list
 unfoldable pub testany_call : TextCall → Result Call CallFault
 testany_call call = do
   requests ← requests_in call
   Ok (calls.Testany requests)
 
+-- a Testsome of some of a list
 unfoldable pub testsome_call : TextCall → Result Call CallFault
 testsome_call call = do
   requests ← requests_in call
   Ok (calls.Testsome requests)
 
+-- a Cancel of a request
 unfoldable pub cancel_call : TextCall → Result Call CallFault
 cancel_call call = do
   request ← request_in call
   Ok (calls.Cancel request)
 
+-- an MPI_Request_free of a request
 unfoldable pub free_call : TextCall → Result Call CallFault
 free_call call = do
   request ← request_in call
@@ -325,11 +345,13 @@ collective_in kind call = do
   comm ← comm_in call
   Ok (record { kind = kind; root = root; comm = comm })
 
+-- a blocking collective call of a kind
 unfoldable pub collective_call : Kind → TextCall → Result Call CallFault
 collective_call kind call = do
   collective ← collective_in kind call
   Ok (calls.Collective collective)
 
+-- a nonblocking collective call of a kind
 unfoldable pub icollective_call : Kind → TextCall → Result Call CallFault
 icollective_call kind call = do
   collective ← collective_in kind call

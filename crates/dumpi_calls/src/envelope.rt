@@ -158,6 +158,8 @@ pub fn sendrecv_in(alloc: Global, raw: &RawCall) -> Result<Call, CallFault>
         Parameter::RecvTag,
     )?;
     let comm = comm(alloc, raw)?;
-    let exchange = Exchange::new(send_envelope(send, comm), receive_envelope(receive, comm));
+    let sent = send_envelope(send, comm);
+    let received = receive_envelope(receive, comm);
+    let exchange = Exchange::new(alloc, sent, received)?;
     Ok(Call::Sendrecv(exchange.unwrap()))
 }

@@ -135,6 +135,7 @@ fn send_lines(mode: Mode, text: &[u8]) -> Option<(Call, Outs, u64, &[u8])>
     Some((Call::Send(mode, envelope), Outs::Nothing, 5, rest))
 }
 
+/// The same of a nonblocking send.
 #[tactic(auto, using(crate::proofs::InPlace::isend_lines_told))]
 fn isend_lines(mode: Mode, text: &[u8]) -> Option<(Call, Outs, u64, &[u8])>
     ensures says { IfSome result (λ x. TellsCall (Function.Isend mode) x.0 x.1 x.2 text.now x.3.now) }
@@ -148,6 +149,7 @@ fn isend_lines(mode: Mode, text: &[u8]) -> Option<(Call, Outs, u64, &[u8])>
     Some((Call::Isend(mode, envelope), outs, 6, rest))
 }
 
+/// The same of a blocking receive.
 #[tactic(auto, using(crate::proofs::InPlace::recv_call_told))]
 fn recv_lines(text: &[u8]) -> Option<(Call, Outs, u64, &[u8])>
     ensures says { IfSome result (λ x. TellsCall Function.Recv x.0 x.1 x.2 text.now x.3.now) }
@@ -162,6 +164,7 @@ fn recv_lines(text: &[u8]) -> Option<(Call, Outs, u64, &[u8])>
     Some((Call::Recv(envelope), Outs::Status(told), 5 + lines, rest))
 }
 
+/// The same of a nonblocking receive.
 #[tactic(auto, using(crate::proofs::InPlace::irecv_lines_told))]
 fn irecv_lines(text: &[u8]) -> Option<(Call, Outs, u64, &[u8])>
     ensures says { IfSome result (λ x. TellsCall Function.Irecv x.0 x.1 x.2 text.now x.3.now) }
@@ -175,6 +178,7 @@ fn irecv_lines(text: &[u8]) -> Option<(Call, Outs, u64, &[u8])>
     Some((Call::Irecv(envelope), outs, 6, rest))
 }
 
+/// The same of a Wait.
 #[tactic(auto, using(crate::proofs::InPlace::wait_call_told))]
 fn wait_lines(text: &[u8]) -> Option<(Call, Outs, u64, &[u8])>
     ensures says { IfSome result (λ x. TellsCall Function.Wait x.0 x.1 x.2 text.now x.3.now) }
@@ -188,6 +192,7 @@ fn wait_lines(text: &[u8]) -> Option<(Call, Outs, u64, &[u8])>
     Some((call, Outs::Status(told), 1 + lines, rest))
 }
 
+/// The same of a Waitall.
 fn waitall_lines(alloc: Global, text: &[u8]) -> Option<(Call, Outs, u64, &[u8])>
     ensures says { IfSome result (λ x. TellsCall Function.Waitall x.0 x.1 x.2 text.now x.3.now) }
     ensures few { IfSome result (λ x. x.2 ≤ 14) }

@@ -202,6 +202,7 @@ fn elements(
     Ok(Elements::from_vec(elements))
 }
 
+/// The request that a call started.
 #[tactic(auto, unfolding(crate::specs::Outcomes::posted))]
 fn posted_in(alloc: Global, raw: &RawCall) -> Result<Outs, CallFault>
     ensures means { Reads result (posted raw.now) }
@@ -211,6 +212,7 @@ fn posted_in(alloc: Global, raw: &RawCall) -> Result<Outs, CallFault>
     Ok(Outs::Posted(request))
 }
 
+/// What the first group of `status` tells.
 fn status_in(alloc: Global, raw: &RawCall) -> Result<Outs, AllocError>
     ensures { IfOk result (λ o. o ≡ status raw.now) }
 {
@@ -244,6 +246,7 @@ pub fn sources_in(alloc: Global, requests: &[i64], text: &[u8]) -> Result<Source
     }
 }
 
+/// What `statuses` tells of each request, in the call's order.
 #[tactic(auto, unfolding(crate::specs::Outcomes::groups_in))]
 fn statuses_in(alloc: Global, requests: &[i64], raw: &RawCall) -> Result<Outs, AllocError>
     ensures { IfOk result (λ o. o ≡ statuses requests.now raw.now) }
@@ -254,6 +257,7 @@ fn statuses_in(alloc: Global, requests: &[i64], raw: &RawCall) -> Result<Outs, A
     }
 }
 
+/// The request that completed, by its position in the call's list, and what `status` tells.
 #[tactic(auto, unfolding(crate::specs::Outcomes::index))]
 fn index_in(alloc: Global, requests: &[i64], raw: &RawCall) -> Result<Outs, CallFault>
     ensures means { Reads result (index requests.now raw.now) }
@@ -264,6 +268,7 @@ fn index_in(alloc: Global, requests: &[i64], raw: &RawCall) -> Result<Outs, Call
     Ok(Outs::Index(position(requests.len(), number.value), told))
 }
 
+/// The requests that completed, by their positions in the call's list, each with what its status tells.
 fn several_in(alloc: Global, requests: &[i64], raw: &RawCall) -> Result<Outs, AllocError>
     ensures { IfOk result (λ o. o ≡ several requests.now raw.now) }
 {
@@ -273,6 +278,7 @@ fn several_in(alloc: Global, requests: &[i64], raw: &RawCall) -> Result<Outs, Al
     Ok(Outs::Several(elements))
 }
 
+/// Whether the request is done, and what `status` tells.
 #[tactic(auto, unfolding(crate::specs::Outcomes::flag))]
 fn flag_in(alloc: Global, raw: &RawCall) -> Result<Outs, CallFault>
     ensures means { Reads result (flag raw.now) }
@@ -283,6 +289,7 @@ fn flag_in(alloc: Global, raw: &RawCall) -> Result<Outs, CallFault>
     Ok(Outs::Flag(is_true(number.value), told))
 }
 
+/// What `statuses` tells where all requests are done, and nothing where they are not (MPI 4.0, 3.7.5).
 #[tactic(auto, unfolding(crate::specs::Outcomes::all_done))]
 fn all_done_in(alloc: Global, requests: &[i64], raw: &RawCall) -> Result<Outs, CallFault>
     ensures means { Reads result (all_done requests.now raw.now) }
@@ -296,6 +303,7 @@ fn all_done_in(alloc: Global, requests: &[i64], raw: &RawCall) -> Result<Outs, C
     }
 }
 
+/// The request that completed, where one did.
 #[tactic(auto, unfolding(crate::specs::Outcomes::any_done))]
 fn any_done_in(alloc: Global, requests: &[i64], raw: &RawCall) -> Result<Outs, CallFault>
     ensures means { Reads result (any_done requests.now raw.now) }

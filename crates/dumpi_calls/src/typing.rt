@@ -150,6 +150,7 @@ fn missing(
     }
 }
 
+/// A blocking send of a mode.
 #[tactic(auto, unfolding(crate::specs::Rows::send_call))]
 fn send(alloc: Global, mode: Mode, raw: &RawCall) -> Result<Call, CallFault>
     ensures means { Reads result (send_call mode raw.now) }
@@ -160,6 +161,7 @@ fn send(alloc: Global, mode: Mode, raw: &RawCall) -> Result<Call, CallFault>
     Ok(Call::Send(mode, envelope))
 }
 
+/// A nonblocking send of a mode.
 #[tactic(auto, unfolding(crate::specs::Rows::isend_call))]
 fn isend(alloc: Global, mode: Mode, raw: &RawCall) -> Result<Call, CallFault>
     ensures means { Reads result (isend_call mode raw.now) }
@@ -170,6 +172,7 @@ fn isend(alloc: Global, mode: Mode, raw: &RawCall) -> Result<Call, CallFault>
     Ok(Call::Isend(mode, envelope))
 }
 
+/// A blocking receive.
 #[tactic(auto, unfolding(crate::specs::Rows::recv_call))]
 fn recv(alloc: Global, raw: &RawCall) -> Result<Call, CallFault>
     ensures means { Reads result (recv_call raw.now) }
@@ -180,6 +183,7 @@ fn recv(alloc: Global, raw: &RawCall) -> Result<Call, CallFault>
     Ok(Call::Recv(envelope))
 }
 
+/// A nonblocking receive.
 #[tactic(auto, unfolding(crate::specs::Rows::irecv_call))]
 fn irecv(alloc: Global, raw: &RawCall) -> Result<Call, CallFault>
     ensures means { Reads result (irecv_call raw.now) }
@@ -190,6 +194,7 @@ fn irecv(alloc: Global, raw: &RawCall) -> Result<Call, CallFault>
     Ok(Call::Irecv(envelope))
 }
 
+/// A probe: what it looks for.
 #[tactic(auto, unfolding(crate::specs::Rows::probe_call))]
 fn probe(alloc: Global, raw: &RawCall) -> Result<Call, CallFault>
     ensures means { Reads result (probe_call raw.now) }
@@ -203,6 +208,7 @@ fn probe(alloc: Global, raw: &RawCall) -> Result<Call, CallFault>
     Ok(Call::Probe(envelope.unwrap()))
 }
 
+/// A Wait for one request.
 #[tactic(auto, unfolding(crate::specs::Rows::wait_call))]
 fn wait(alloc: Global, raw: &RawCall) -> Result<Call, CallFault>
     ensures means { Reads result (wait_call raw.now) }
@@ -213,6 +219,7 @@ fn wait(alloc: Global, raw: &RawCall) -> Result<Call, CallFault>
     Ok(Call::Wait(request))
 }
 
+/// A Test of one request.
 #[tactic(auto, unfolding(crate::specs::Rows::test_call))]
 fn test(alloc: Global, raw: &RawCall) -> Result<Call, CallFault>
     ensures means { Reads result (test_call raw.now) }
@@ -223,6 +230,7 @@ fn test(alloc: Global, raw: &RawCall) -> Result<Call, CallFault>
     Ok(Call::Test(request))
 }
 
+/// A Waitall for all requests of a list.
 #[tactic(auto, unfolding(crate::specs::Rows::waitall_call))]
 fn waitall(alloc: Global, raw: &RawCall) -> Result<Call, CallFault>
     ensures means { Reads result (waitall_call raw.now) }
@@ -233,6 +241,7 @@ fn waitall(alloc: Global, raw: &RawCall) -> Result<Call, CallFault>
     Ok(Call::Waitall(requests))
 }
 
+/// A Waitany for one of a list.
 #[tactic(auto, unfolding(crate::specs::Rows::waitany_call))]
 fn waitany(alloc: Global, raw: &RawCall) -> Result<Call, CallFault>
     ensures means { Reads result (waitany_call raw.now) }
@@ -243,6 +252,7 @@ fn waitany(alloc: Global, raw: &RawCall) -> Result<Call, CallFault>
     Ok(Call::Waitany(requests))
 }
 
+/// A Waitsome for some of a list.
 #[tactic(auto, unfolding(crate::specs::Rows::waitsome_call))]
 fn waitsome(alloc: Global, raw: &RawCall) -> Result<Call, CallFault>
     ensures means { Reads result (waitsome_call raw.now) }
@@ -253,6 +263,7 @@ fn waitsome(alloc: Global, raw: &RawCall) -> Result<Call, CallFault>
     Ok(Call::Waitsome(requests))
 }
 
+/// A Testall of all requests of a list.
 #[tactic(auto, unfolding(crate::specs::Rows::testall_call))]
 fn testall(alloc: Global, raw: &RawCall) -> Result<Call, CallFault>
     ensures means { Reads result (testall_call raw.now) }
@@ -263,6 +274,7 @@ fn testall(alloc: Global, raw: &RawCall) -> Result<Call, CallFault>
     Ok(Call::Testall(requests))
 }
 
+/// A Testany of one of a list.
 #[tactic(auto, unfolding(crate::specs::Rows::testany_call))]
 fn testany(alloc: Global, raw: &RawCall) -> Result<Call, CallFault>
     ensures means { Reads result (testany_call raw.now) }
@@ -273,6 +285,7 @@ fn testany(alloc: Global, raw: &RawCall) -> Result<Call, CallFault>
     Ok(Call::Testany(requests))
 }
 
+/// A Testsome of some of a list.
 #[tactic(auto, unfolding(crate::specs::Rows::testsome_call))]
 fn testsome(alloc: Global, raw: &RawCall) -> Result<Call, CallFault>
     ensures means { Reads result (testsome_call raw.now) }
@@ -283,6 +296,7 @@ fn testsome(alloc: Global, raw: &RawCall) -> Result<Call, CallFault>
     Ok(Call::Testsome(requests))
 }
 
+/// A Cancel of a request.
 #[tactic(auto, unfolding(crate::specs::Rows::cancel_call))]
 fn cancel(alloc: Global, raw: &RawCall) -> Result<Call, CallFault>
     ensures means { Reads result (cancel_call raw.now) }
@@ -293,6 +307,7 @@ fn cancel(alloc: Global, raw: &RawCall) -> Result<Call, CallFault>
     Ok(Call::Cancel(request))
 }
 
+/// An MPI_Request_free of a request.
 #[tactic(auto, unfolding(crate::specs::Rows::free_call))]
 fn free(alloc: Global, raw: &RawCall) -> Result<Call, CallFault>
     ensures means { Reads result (free_call raw.now) }
@@ -314,6 +329,7 @@ fn collective_of(alloc: Global, kind: Kind, raw: &RawCall) -> Result<Collective,
     Ok(Collective::new(kind, root, comm).unwrap())
 }
 
+/// A blocking collective call of a kind.
 #[tactic(auto, unfolding(crate::specs::Rows::collective_call))]
 fn collective(alloc: Global, kind: Kind, raw: &RawCall) -> Result<Call, CallFault>
     ensures means { Reads result (collective_call kind raw.now) }
@@ -324,6 +340,7 @@ fn collective(alloc: Global, kind: Kind, raw: &RawCall) -> Result<Call, CallFaul
     Ok(Call::Collective(collective))
 }
 
+/// A nonblocking collective call of a kind.
 #[tactic(auto, unfolding(crate::specs::Rows::icollective_call))]
 fn icollective(alloc: Global, kind: Kind, raw: &RawCall) -> Result<Call, CallFault>
     ensures means { Reads result (icollective_call kind raw.now) }

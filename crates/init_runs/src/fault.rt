@@ -155,6 +155,7 @@ pub fn init_fault_line(alloc: Global, fault: &InitFault) -> Result<String, Alloc
     format!(in alloc; "mpimatch: {fault}\n")
 }
 
+/// The name of one of two files.
 fn name_of<'a>(which: Which, layout: &'a str, manifest: &'a str) -> &'a str
     ensures { result.now ≡ name_of which layout.now manifest.now }
 {

@@ -53,6 +53,7 @@ fn is_no_text(walked: &Walked) -> bool
     walked.calls == 0 && walked.skipped > 0
 }
 
+/// What a text says of communicators, and how many calls it has.
 #[tactic(auto, using(crate::proofs::Reading::said, crate::proofs::Reading::refused, crate::proofs::Reading::has_no_call))]
 fn calls_of<O: Opener>(
     alloc: Global,

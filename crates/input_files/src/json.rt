@@ -116,6 +116,7 @@ pub(crate) fn usize_of(value: &Value) -> Option<usize>
     Some(value.as_u64()? as usize)
 }
 
+/// A number that is 0 or 1.
 fn bit_of(value: &Value) -> Option<u8>
     ensures { result ≡ bit_in (view value.now) }
 {

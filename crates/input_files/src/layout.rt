@@ -43,6 +43,7 @@ struct Given {
     comms: Vec<Comm>,
 }
 
+/// The fields of a layout, its communicators in the order of the file.
 fn given_in(alloc: Global, value: &Value) -> Result<Option<Given>, AllocError>
     ensures { IfOk result (λ o. option_map (λ g. record { ranks = g.ranks; world = g.world; sends = g.sends; comms = g.comms.items }) o ≡ parts_in (view value.now)) }
 {
@@ -98,6 +99,7 @@ fn sends_at(value: &Value, name: &str) -> Option<Sends>
     }
 }
 
+/// The communicators of a list, in its order.
 fn communicators_of(alloc: Global, values: &[Value]) -> Result<Option<Vec<Comm>>, AllocError>
     ensures { IfOk result (λ o. option_map (λ v. v.items) o ≡ communicators_in (items_view values.now)) }
 {
@@ -111,6 +113,7 @@ fn communicators_of(alloc: Global, values: &[Value]) -> Result<Option<Vec<Comm>>
     Ok(Some(found))
 }
 
+/// A communicator: its id, its members, and by which numbers these name it.
 fn communicator_of(alloc: Global, value: &Value) -> Result<Option<Comm>, AllocError>
     ensures { IfOk result (λ o. o ≡ communicator_in (view value.now)) }
 {

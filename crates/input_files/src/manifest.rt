@@ -270,6 +270,7 @@ pub fn manifest_of(alloc: Global, text: &[u8]) -> Result<Manifest, InputFault>
     }
 }
 
+/// The fields of a manifest: without a number of nodes it has one, and without a schedule no step.
 fn given_in(alloc: Global, value: &Value) -> Result<Option<Given>, AllocError>
     ensures { IfOk result (λ o. o ≡ given_in (view value.now)) }
 {
@@ -388,6 +389,7 @@ fn node_of(value: &Value) -> Option<u8>
     bit_or_0(value, "node")
 }
 
+/// The text that a piece of the manifest names.
 fn piece_of(alloc: Global, value: &Value) -> Result<Option<Piece>, AllocError>
     ensures { IfOk result (λ o. o ≡ piece_in (view value.now)) }
 {
@@ -410,6 +412,7 @@ fn piece_of(alloc: Global, value: &Value) -> Result<Option<Piece>, AllocError>
     Ok(Some(Piece::new(rank, first, file, node, worker)))
 }
 
+/// The packed file that a piece of the manifest names.
 fn packed_of(alloc: Global, value: &Value) -> Result<Option<PackedPiece>, AllocError>
     ensures { IfOk result (λ o. o ≡ packed_in (view value.now)) }
 {

@@ -12,6 +12,7 @@ use mpi_model::Stretch;
 use serde_json::Value;
 use std::alloc::{AllocError, Global};
 
+/// The number of a call, or null where a stretch has no end.
 fn end_of(value: &Value) -> Option<Option<u64>>
     ensures { result ≡ end_in (view value.now) }
 {
@@ -21,6 +22,7 @@ fn end_of(value: &Value) -> Option<Option<u64>>
     Some(Some(u64_of(value)?))
 }
 
+/// A number, the first call and the end.
 fn stretch_of(values: &[Value]) -> Option<Stretch>
     ensures { result ≡ stretch_in (items_view values.now) }
 {
@@ -37,6 +39,7 @@ fn stretch_of(values: &[Value]) -> Option<Stretch>
     })
 }
 
+/// A number over all calls.
 fn always(number: u32) -> Stretch
     ensures { result ≡ always number }
 {
@@ -47,6 +50,7 @@ fn always(number: u32) -> Stretch
     }
 }
 
+/// An entry: a list is a number over a stretch of calls, a number one over all calls.
 fn number_of(value: &Value) -> Option<Stretch>
     ensures { result ≡ number_from (as_array (view value.now)) (u32_in (view value.now)) }
 {
@@ -56,6 +60,7 @@ fn number_of(value: &Value) -> Option<Stretch>
     }
 }
 
+/// A member's entry: null, a stretch, or a number over all calls.
 fn entry_of(value: &Value) -> Option<Option<Stretch>>
     ensures { result ≡ entry_in (view value.now) }
 {
@@ -65,6 +70,7 @@ fn entry_of(value: &Value) -> Option<Option<Stretch>>
     Some(Some(number_of(value)?))
 }
 
+/// The entries of all members.
 fn entries_of(alloc: Global, values: &[Value]) -> Result<Option<Vec<Option<Stretch>>>, AllocError>
     ensures { IfOk result (λ o. option_map (λ v. v.items) o ≡ entries_in (items_view values.now)) }
 {

@@ -62,6 +62,7 @@ pub(crate) fn posts_past_of(steps: &[PlannedStep], pieces: usize) -> bool
     steps.iter().any(|step| is_past(step, pieces))
 }
 
+/// Whether a step posts a piece past the last of so many.
 fn is_past(step: &PlannedStep, pieces: usize) -> bool
     ensures { result ≡ posts_past pieces step.now }
 {
@@ -78,6 +79,7 @@ pub(crate) fn posts_packed_of(steps: &[PlannedStep], numbers: &[Option<usize>]) 
     steps.iter().any(|step| is_packed(step, numbers))
 }
 
+/// Whether a step posts a packed piece, one without a number.
 fn is_packed(step: &PlannedStep, numbers: &[Option<usize>]) -> bool
     ensures { result ≡ posts_packed numbers.now step.now }
 {
@@ -105,6 +107,7 @@ pub(crate) fn renumbered_by(
     Ok(renumbered)
 }
 
+/// A step that posts a piece posts the text of its number.
 fn renumbered_step(step: &PlannedStep, numbers: &[Option<usize>]) -> PlannedStep
     ensures { result ≡ renumbered numbers.now step.now }
 {
@@ -122,6 +125,7 @@ fn renumbered_step(step: &PlannedStep, numbers: &[Option<usize>]) -> PlannedStep
     }
 }
 
+/// The number of a piece among the texts, or its own where it has none.
 fn number_of(numbers: &[Option<usize>], piece: usize) -> usize
     ensures { result ≡ number_of numbers.now piece }
 {
@@ -139,6 +143,7 @@ fn step_of(value: &Value) -> Option<PlannedStep>
     step_named(word.as_str()?, numbers)
 }
 
+/// A step by its word and its numbers.
 fn step_named(word: &str, numbers: &[Value]) -> Option<PlannedStep>
     ensures { result ≡ step_from word.now (items_view numbers.now) }
 {
@@ -161,6 +166,7 @@ fn step_named(word: &str, numbers: &[Value]) -> Option<PlannedStep>
     }
 }
 
+/// A worker's number, a node's and a piece's; a worker is at most 255.
 fn post_of(numbers: &[Value]) -> Option<PlannedStep>
     ensures { result ≡ option_and_then post_from (three_in (items_view numbers.now)) }
 {

@@ -17,6 +17,7 @@ impl<'a, F: Files> Folder<'a, F> {
     }
 }
 
+/// Why a file wasn't added: one of its name is there, or the system failed.
 fn fault_of(error: &io::Error) -> StoreFault {
     match error.kind() {
         io::ErrorKind::AlreadyExists => StoreFault::There,

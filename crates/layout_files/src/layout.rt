@@ -28,6 +28,7 @@ pub fn layout_bytes(
     line_of(out)
 }
 
+/// How sends of standard mode complete.
 fn sends_word(sends: Sends) -> &'static str
     ensures { result.now ≡ sends_word sends }
 {
@@ -37,6 +38,7 @@ fn sends_word(sends: Sends) -> &'static str
     }
 }
 
+/// Puts the value of a layout.
 fn put_layout(
     out: &mut Writer,
     ranks: u32,
@@ -55,6 +57,7 @@ fn put_layout(
     out.end_object()
 }
 
+/// Puts the communicators, in their order.
 #[tactic(auto, using(crate::proofs::Putting::next_tokens, crate::proofs::Putting::array_tokens))]
 fn put_comms(out: &mut Writer, comms: &[Comm]) -> Result<(), AllocError>
     ensures { Puts result out.old out.new (begin_array ∷ items_tokens (items_of communicator_value comms.now)) }
@@ -66,6 +69,7 @@ fn put_comms(out: &mut Writer, comms: &[Comm]) -> Result<(), AllocError>
     out.end_array()
 }
 
+/// Puts a communicator: its id, its members, and their entries where it has some.
 fn put_comm(out: &mut Writer, comm: &Comm) -> Result<(), AllocError>
     ensures { Puts result out.old out.new (json_tokens (communicator_value comm.now)) }
 {

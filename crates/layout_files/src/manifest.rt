@@ -19,6 +19,7 @@ pub fn manifest_bytes(alloc: Global, files: &[String]) -> Result<Vec<u8>, AllocE
     line_of(out)
 }
 
+/// Puts the value of a manifest.
 fn put_manifest(out: &mut Writer, files: &[String]) -> Result<(), AllocError>
     ensures { Puts result out.old out.new (json_tokens (manifest_value (map string_bytes files.now))) }
 {
@@ -28,6 +29,7 @@ fn put_manifest(out: &mut Writer, files: &[String]) -> Result<(), AllocError>
     out.end_object()
 }
 
+/// Puts a piece for each file.
 fn put_pieces(out: &mut Writer, files: &[String]) -> Result<(), AllocError>
     ensures { Puts result out.old out.new (begin_array ∷ items_tokens (pieces_from 0 (map string_bytes files.now))) }
 {
@@ -38,6 +40,7 @@ fn put_pieces(out: &mut Writer, files: &[String]) -> Result<(), AllocError>
     out.end_array()
 }
 
+/// Puts a piece: the whole text of a rank.
 fn put_piece(out: &mut Writer, rank: u64, file: &str) -> Result<(), AllocError>
     ensures { Puts result out.old out.new (json_tokens (piece_value rank file.now)) }
 {

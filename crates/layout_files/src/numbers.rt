@@ -17,6 +17,7 @@ fn is_always(stretch: Stretch) -> bool
     stretch.first == 0 && stretch.end.is_none()
 }
 
+/// Puts the end of a stretch.
 fn put_end(out: &mut Writer, end: Option<u64>) -> Result<(), AllocError>
     ensures { Puts result out.old out.new (json_tokens (end_value end)) }
 {
@@ -26,6 +27,7 @@ fn put_end(out: &mut Writer, end: Option<u64>) -> Result<(), AllocError>
     }
 }
 
+/// Puts a number with its first call and its end.
 fn put_stretch(out: &mut Writer, stretch: Stretch) -> Result<(), AllocError>
     ensures { Puts result out.old out.new (json_tokens (stretch_value stretch)) }
 {
@@ -39,6 +41,7 @@ fn put_stretch(out: &mut Writer, stretch: Stretch) -> Result<(), AllocError>
     out.end_array()
 }
 
+/// Puts a member's entry.
 fn put_entry(out: &mut Writer, entry: Option<Stretch>) -> Result<(), AllocError>
     ensures { Puts result out.old out.new (json_tokens (entry_value entry)) }
 {

@@ -76,6 +76,7 @@ impl From<AllocError> for PutFault {
     }
 }
 
+/// Why one of two files wasn't added.
 fn fault_of(fault: StoreFault, which: Which) -> PutFault
     ensures { (half : Which) → result ≢ PutFault.Half half }
 {
@@ -106,6 +107,7 @@ pub fn add_both<S: Store>(
     }
 }
 
+/// Whether no two of these names are the same.
 fn are_distinct(a: &str, b: &str, c: &str, d: &str) -> bool
     ensures { result ≡ true → AreDistinct a.now b.now c.now d.now }
 {

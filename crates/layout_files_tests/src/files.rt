@@ -33,11 +33,13 @@ static BACK: [Row; 3] = [
 const BACK_FILE: &str =
     "{\"ranks\":2,\"world\":2,\"sends\":\"buffer\",\"comms\":[{\"id\":2,\"members\":[0,1]},{\"id\":9,\"members\":[1,0],\"numbers\":[[4,4,13],null]},{\"id\":10,\"members\":[0,1],\"numbers\":[[4,16,null],[4,13,null]]}]}\n";
 
+/// A member's entry, where it has one.
 fn stretch_of(entry: Entry) -> Option<Stretch> {
     let (number, first, end) = entry?;
     Some(Stretch { number, first, end })
 }
 
+/// The communicators of these rows.
 fn comms_of(alloc: Global, rows: &[Row]) -> Result<Vec<Comm>, AllocError> {
     let mut comms = Vec::new(alloc);
     for (id, ranks, entries) in rows {
@@ -56,11 +58,13 @@ fn comms_of(alloc: Global, rows: &[Row]) -> Result<Vec<Comm>, AllocError> {
     Ok(comms)
 }
 
+/// The file of a layout with these communicators, whose world is 2.
 fn file_of<R: Abort>(rt: &R, alloc: Global, ranks: u32, sends: Sends, rows: &[Row]) -> Vec<u8> {
     let comms = comms_of(alloc, rows).expect(rt, "memory");
     layout_bytes(alloc, ranks, 2, sends, &comms).expect(rt, "memory")
 }
 
+/// The layout that a file tells.
 fn read<R: Abort>(rt: &R, alloc: Global, file: &[u8]) -> Layout {
     layout_of(alloc, file).expect(rt, "a layout")
 }

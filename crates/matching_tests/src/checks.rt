@@ -14,6 +14,7 @@ static STATES: [State; 5] = [
     State::Ended,
 ];
 
+/// Two conditions as parts of one.
 fn both(alloc: Global, one: Condition, other: Condition) -> Result<Vec<Condition>, AllocError> {
     let mut parts = Vec::new(alloc);
     parts.push(one)?;

@@ -40,6 +40,7 @@ fn envelope(comm: u32, peer: Peer, tag: Option<u32>, count: u32) -> Envelope {
     }
 }
 
+/// The call that a rank did.
 fn call_of(did: Did) -> Option<Call> {
     Some(match did {
         Did::Send(comm, to, tag, count) => {
@@ -62,6 +63,7 @@ fn call_of(did: Did) -> Option<Call> {
     })
 }
 
+/// What that call brought back.
 fn outs_of(did: Did) -> Option<Outs> {
     Some(match did {
         Did::Isend(request, _, _) | Did::Irecv(request, _, _) => Outs::Posted(request),
@@ -86,6 +88,7 @@ fn events_of(alloc: Global, calls: &[Did]) -> Result<Vec<Event>, Fail> {
     Ok(events)
 }
 
+/// Takes all calls of a rank, from its first on.
 fn take(alloc: Global, know: &mut Knowledge, rank: u32, calls: &[Did]) -> Result<(), Fail> {
     let events = events_of(alloc, calls)?;
     if !events.is_empty() {

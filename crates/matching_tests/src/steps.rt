@@ -71,6 +71,7 @@ fn change(draw: &mut Draw, own: &mut Vec<Did>) -> Result<(), Fail> {
     Ok(())
 }
 
+/// The pairs of what is known, without an index.
 fn from_scratch(alloc: Global, layout: &Layout, know: &Knowledge) -> Result<PairTable, Fail> {
     ops_laws();
     let ops = all_ops(alloc, layout, know)?;
@@ -139,6 +140,7 @@ struct Run {
     changes: Changes,
 }
 
+/// Four ranks without calls.
 fn begin(alloc: Global) -> Result<Run, Fail> {
     let mut calls: Vec<Vec<Did>> = Vec::new(alloc);
     for _ in 0..4 {
@@ -182,6 +184,7 @@ struct Sums {
     changes: usize,
 }
 
+/// Takes so many steps.
 fn steps(alloc: Global, count: u32) -> Result<Sums, Fail> {
     let mut draw = Draw { state: 7 };
     let mut run = begin(alloc)?;

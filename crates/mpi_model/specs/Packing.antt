@@ -17,6 +17,7 @@ peer_number peers.Any = 2 ^ 31 + 1
 peer_number peers.Null = 2 ^ 31
 peer_number (peers.Rank n) = n
 
+-- Each number is that of the peer that it stands for.
 pub peer_number-peer_of : (n : ℕ) → peer_number (peer_of n) ≡ n
 peer_number-peer_of n = grind (arith, common_steps)
 
@@ -29,6 +30,7 @@ abbrev pub tag_number : Option ℕ → ℕ
 tag_number None = 2 ^ 31
 tag_number (Some n) = n
 
+-- Each number is that of the tag that it stands for.
 pub tag_number-tag_of : (n : ℕ) → tag_number (tag_of n) ≡ n
 tag_number-tag_of n = grind (arith, common_steps)
 
@@ -41,5 +43,6 @@ abbrev pub comm_number : CommRef → ℕ
 comm_number comms.World = 2 ^ 31
 comm_number (comms.Id n) = n
 
+-- Each number is that of the communicator that it stands for.
 pub comm_number-comm_of : (n : ℕ) → comm_number (comm_of n) ≡ n
 comm_number-comm_of n = grind (arith, common_steps)

@@ -78,6 +78,7 @@ impl Collective {
     }
 }
 
+/// Whether a call of the kind can have this root: none, or a rank to 2^31 - 1 where the kind has one.
 fn is_root_of(kind: Kind, root: Option<u32>) -> bool
     ensures { IsTrue result ↔ IsRootOf kind root }
 {

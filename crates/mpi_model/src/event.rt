@@ -15,7 +15,7 @@ pub enum Event {
     Return(Outs, Stamp),
 }
 
-const _: () = prove!(size_of::<Event>() <= 80);
+const _: () = prove!(size_of::<Event>() <= 56);
 
 impl Event {
     pub fn try_clone(&self) -> Result<Event, AllocError>

@@ -180,6 +180,7 @@ impl Layout {
         }
     }
 
+    /// Whether it is a rank of the run.
     fn has_rank(&self, rank: u32) -> bool
         ensures { result ≡ nat_lt rank self.now.ranks }
     {

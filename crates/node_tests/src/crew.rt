@@ -51,6 +51,7 @@ pub(crate) fn pieces<R: Abort>(rt: &R, alloc: Global, rows: &[Row]) -> Vec<Piece
 /// many texts had a fault, and how many segments were refused.
 pub(crate) type Told = ((u64, u64), (u64, u64), usize, usize);
 
+/// What a crew leaves, and what the board shows of it.
 fn told(out: &CrewOut<'_>, shown: &Shown<'_>) -> Told {
     let (node, seen) = (out.node.know(), shown.know());
     (

@@ -19,6 +19,7 @@ struct Bell<'a, R: Wait + Clock> {
 }
 
 impl<'a, R: Wait + Clock> Bell<'a, R> {
+    /// Nothing was announced yet.
     fn new(rt: &'a R) -> Bell<'a, R> {
         Bell {
             rt,
@@ -26,6 +27,7 @@ impl<'a, R: Wait + Clock> Bell<'a, R> {
         }
     }
 
+    /// Announces it once more.
     fn ring(&self) {
         let mut count = self.count.lock(self.rt);
         *count = count.saturating_add(1);

@@ -83,6 +83,7 @@ enum Whose {
     Refreshed,
 }
 
+/// The report that is asked for.
 fn report_by<R: Abort>(rt: &R, alloc: Global, node: &mut Node, whose: Whose) -> Vec<u8> {
     match whose {
         Whose::Own => report_of(rt, alloc, node),

@@ -211,6 +211,7 @@ static SHOWN: [Shows; 9] = [
     ((2, 2, 0), (2, 0, 0), 1),
 ];
 
+/// The readable prefixes of both ranks at a node, and how many segments lie in its inbox.
 fn shows_at(world: &World, node: usize) -> Option<(u64, u64, usize)> {
     let know = world.node(node)?.know();
     let waiting = world.inbox_len(node)?;
@@ -244,6 +245,7 @@ fn schedule<R: Abort>(rt: &R, alloc: Global) -> Vec<Step> {
     steps
 }
 
+/// A delivery of mail 0 to node 1, a restart of that node, and the delivery once more.
 fn add_deliveries<R: Abort>(rt: &R, steps: &mut Vec<Step>) {
     let delivery = (0, 1);
     for is_restart in [false, true, false] {

@@ -138,10 +138,12 @@ struct Lists {
     mails: Vec<Vec<bool>>,
 }
 
+/// No segment is marked.
 fn nothing<R: Abort>(rt: &R, alloc: Global) -> Vec<bool> {
     Vec::from_elem(alloc, false, SEGMENTS).expect(rt, "memory")
 }
 
+/// The lists before the first step: all are empty.
 fn no_lists<R: Abort>(rt: &R, alloc: Global) -> Lists {
     let mut inboxes = Vec::new(alloc);
     let mut reached = Vec::new(alloc);
@@ -163,6 +165,7 @@ fn mark_all(marked: &mut Vec<bool>, others: &[bool]) {
     }
 }
 
+/// Marks the segment of this number.
 fn mark<R: Abort>(rt: &R, marked: &mut Vec<bool>, number: usize) {
     *marked.get_mut(number).expect(rt, "a segment") = true;
 }

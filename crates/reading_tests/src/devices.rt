@@ -146,6 +146,7 @@ fn first_other_read(
     Ok(None)
 }
 
+/// The first write that answers otherwise than it should, where one does.
 fn first_other_write(
     alloc: Global,
     steps: &'static [Step],

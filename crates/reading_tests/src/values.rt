@@ -31,6 +31,7 @@ static VALUES: [(&str, &str); 16] = [
     ("{4, {a=1}}", "X4 BadValue"),
 ];
 
+/// The name of a number, in words.
 fn name_of(name: NumName) -> &'static str {
     match name {
         NumName::AnySource => " any source",
@@ -43,12 +44,14 @@ fn name_of(name: NumName) -> &'static str {
     }
 }
 
+/// A number and its name.
 fn put_number(told: &mut String, number: &Num) -> Result<(), Fail> {
     let name = name_of(number.name);
     write!(told, "{}{name}", number.value)?;
     Ok(())
 }
 
+/// The fields of a group, each with its word.
 fn put_fields(told: &mut String, fields: &[Field]) -> Result<(), Fail> {
     told.push_str(" {")?;
     for field in fields {

@@ -26,6 +26,7 @@ fn is_read_up_to(taken: usize) -> bool {
     fault == Err(ReadFault::Failed { taken }) && buffer.get(..taken) == TEXT.get(..taken)
 }
 
+/// Whether a reader without an end fills a buffer.
 fn is_endless() -> bool {
     let mut buffer = [0; 5];
     read_exactly(&mut EndlessReader::new(b'a'), &mut buffer) == Ok(()) && &buffer == b"aaaaa"

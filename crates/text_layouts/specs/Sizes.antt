@@ -12,5 +12,6 @@ abbrev pub other_size : ℕ → ℕ → List RankCalls → Option (ℕ × ℕ)
 other_size count rank [] = None
 other_size count rank (calls ∷ ranks) = other_or count rank calls.size (other_size count (rank + 1) ranks)
 
+-- the first rank that tells another size than the number of ranks, and that size
 abbrev pub size_fault : List RankCalls → Option (ℕ × ℕ)
 size_fault ranks = other_size (length ranks) 0 ranks

@@ -62,6 +62,7 @@ fn copy_of(alloc: Global, comm: &Comm) -> Result<Comm, AllocError>
     })
 }
 
+/// Copies of the communicators, in their order.
 fn copies(alloc: Global, comms: &[Comm]) -> Result<Vec<Comm>, AllocError>
     ensures { IfOk result (λ v. v.items ≡ comms.now) }
 {

@@ -23,6 +23,7 @@ pub(crate) struct Ends {
     pub stem: Option<u64>,
 }
 
+/// The number that digits spell, with one digit more; what is above 2^64 - 1 counts as that.
 fn digit_after(run: Option<u64>, byte: u8) -> u64
     requires { 48 ≤ byte }
     ensures { result ≡ digit_after run byte }
@@ -36,6 +37,8 @@ fn digit_after(run: Option<u64>, byte: u8) -> u64
         .saturating_add(u64::from(byte - b'0'))
 }
 
+/// The number of the digits at the end of a name, and of those before its extension, with one byte more: a dot begins
+/// an extension, and behind a slash a name begins anew.
 fn byte_after(ends: Ends, byte: u8) -> Ends
     ensures { result ≡ byte_after ends byte }
 {
@@ -80,6 +83,7 @@ fn number_of(name: &[u8]) -> Option<u64>
     }
 }
 
+/// The numbers of all names.
 fn numbers_of(alloc: Global, names: &[String]) -> Result<Vec<Option<u64>>, AllocError>
     ensures { IfOk result (λ numbers. numbers.items ≡ numbers_of (map string_bytes names.now)) }
 {
@@ -90,6 +94,7 @@ fn numbers_of(alloc: Global, names: &[String]) -> Result<Vec<Option<u64>>, Alloc
     Ok(numbers)
 }
 
+/// Whether a name has just this number.
 fn is_number(number: u64, named: Option<u64>) -> bool
     ensures { result ≡ is_number number named }
 {
@@ -127,6 +132,7 @@ fn by_digits(alloc: Global, numbers: &[Option<u64>]) -> Result<Option<Vec<usize>
     Ok(Some(order))
 }
 
+/// Whether each name has a number.
 fn are_numbered(numbers: &[Option<u64>]) -> bool
     ensures { result ≡ are_numbered numbers.now }
 {
@@ -149,6 +155,7 @@ fn again_at(numbers: &[Option<u64>], place: usize) -> Option<usize>
     }
 }
 
+/// The first two places at which one number stands.
 #[tactic(auto, using(crate::proofs::Orders::one_alone))]
 fn twice_in(numbers: &[Option<u64>]) -> Option<(usize, usize)>
     ensures { result ≡ twice_from 0 numbers.now }

@@ -12,6 +12,7 @@ use mpi_model::Comm;
 /// How many lines of a kind are written.
 pub const MOST_SHOWN: usize = 20;
 
+/// How many more there are, as `  and 3 more`.
 fn put_more(out: &mut Text, more: usize)
     ensures { Adds out.old out.new (more_text more) }
 {
@@ -33,6 +34,7 @@ fn shown<T>(items: &[T]) -> &[T]
     }
 }
 
+/// `  5: ranks 0, 2`, the members in their order.
 fn put_comm(out: &mut Text, comm: &Comm)
     ensures { Adds out.old out.new (comm_text comm.now) }
 {
@@ -43,6 +45,7 @@ fn put_comm(out: &mut Text, comm: &Comm)
     out.put(b"\n");
 }
 
+/// The line of each communicator.
 fn put_each_comm(out: &mut Text, comms: &[Comm])
     ensures { Adds out.old out.new (flat_map comm_text comms.now) }
 {
@@ -51,6 +54,7 @@ fn put_each_comm(out: &mut Text, comms: &[Comm])
     }
 }
 
+/// How many communicators there are, and the first twenty of them.
 fn put_comms(out: &mut Text, comms: &[Comm])
     ensures { Adds out.old out.new (comms_text comms.now) }
 {
@@ -61,6 +65,7 @@ fn put_comms(out: &mut Text, comms: &[Comm])
     put_more(out, comms.len().saturating_sub(MOST_SHOWN));
 }
 
+/// The function that gave a communicator.
 fn function_text(made_by: MadeBy) -> &'static [u8]
     ensures { result.now ≡ function_text made_by }
 {
@@ -81,6 +86,7 @@ fn function_text(made_by: MadeBy) -> &'static [u8]
     }
 }
 
+/// Why a communicator is left out.
 fn why_text(why: Why) -> &'static [u8]
     ensures { result.now ≡ why_text why }
 {
@@ -95,6 +101,7 @@ fn why_text(why: Why) -> &'static [u8]
     }
 }
 
+/// The number of a communicator that is left out.
 fn put_given(out: &mut Text, number: Option<u32>)
     ensures { Adds out.old out.new (given_text number) }
 {
@@ -104,6 +111,7 @@ fn put_given(out: &mut Text, number: Option<u32>)
     }
 }
 
+/// `  rank 1, call 12, MPI_Comm_split: 5, calls that name it: 3 (its parent is left out)`.
 fn put_left(out: &mut Text, left: &LeftOut)
     ensures { Adds out.old out.new (left_text left.now) }
 {
@@ -122,6 +130,7 @@ fn put_left(out: &mut Text, left: &LeftOut)
     out.put(b")\n");
 }
 
+/// The line of each communicator that is left out.
 fn put_each_left(out: &mut Text, left_out: &[LeftOut])
     ensures { Adds out.old out.new (flat_map left_text left_out.now) }
 {
@@ -130,6 +139,7 @@ fn put_each_left(out: &mut Text, left_out: &[LeftOut])
     }
 }
 
+/// How many communicators are left out, and the first twenty of them.
 fn put_some_left(out: &mut Text, left_out: &[LeftOut])
     ensures { Adds out.old out.new (some_left_text left_out.now) }
 {
@@ -140,6 +150,7 @@ fn put_some_left(out: &mut Text, left_out: &[LeftOut])
     put_more(out, left_out.len().saturating_sub(MOST_SHOWN));
 }
 
+/// What is said of communicators that are left out: nothing where there is none.
 fn put_left_out(out: &mut Text, left_out: &[LeftOut])
     ensures { Adds out.old out.new (left_out_text left_out.now) }
 {
@@ -148,6 +159,7 @@ fn put_left_out(out: &mut Text, left_out: &[LeftOut])
     }
 }
 
+/// `ranks: 4, calls: 120`.
 fn put_counts(out: &mut Text, ranks: u32, calls: u64)
     ensures { Adds out.old out.new (counts_text ranks calls) }
 {

@@ -69,6 +69,7 @@ impl UnreadFunction {
         self.count = self.count.saturating_add(count);
     }
 
+    /// Whether it is the function of this name.
     fn is_named(&self, name: &[u8]) -> bool
         ensures { result ≡ is_named name.now self.now }
     {

@@ -129,6 +129,7 @@ impl TextNote {
         }
     }
 
+    /// Whether the text has the call of this number of a rank.
     fn has_call(&self, rank: u32, call: u64) -> bool
         ensures { result ≡ has_call rank call self.now }
     {

@@ -9,18 +9,21 @@ use crate::note::TextNote;
 use call_words::{Text, put_named_ranks};
 use std::alloc::{AllocError, Global};
 
+/// Whether the text is one of this rank.
 fn is_of_rank(rank: u32, note: &TextNote) -> bool
     ensures { result ≡ is_of_rank rank note.now }
 {
     note.rank() == rank
 }
 
+/// Whether there is a text of the rank.
 fn has_text(notes: &[TextNote], rank: u32) -> bool
     ensures { result ≡ list_any (is_of_rank rank) notes.now }
 {
     notes.iter().any(|note| is_of_rank(rank, note))
 }
 
+/// Whether no text of the rank was given.
 fn has_no_text(notes: &[TextNote], rank: u32) -> bool
     ensures { result ≡ has_no_text notes.now rank }
 {
@@ -40,6 +43,7 @@ fn pieceless(alloc: Global, notes: &[TextNote], unknown: &[u32]) -> Result<Vec<u
     Ok(ranks)
 }
 
+/// `  no piece tells anything of ranks 3, 5`.
 fn put_these(out: &mut Text, ranks: &[u32])
     ensures { Adds out.old out.new (these_pieceless_text ranks.now) }
 {
@@ -48,6 +52,7 @@ fn put_these(out: &mut Text, ranks: &[u32])
     out.put(b"\n");
 }
 
+/// The ranks without a text: nothing where each has one.
 fn put_some(out: &mut Text, ranks: &[u32])
     ensures { Adds out.old out.new (pieceless_text ranks.now) }
 {

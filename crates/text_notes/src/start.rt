@@ -26,6 +26,7 @@ pub enum Start {
     Lines,
 }
 
+/// Whether the first two bytes are these.
 fn begins(one: u8, other: u8, front: &[u8]) -> bool
     ensures { result ≡ begins one other front.now }
 {
@@ -35,6 +36,7 @@ fn begins(one: u8, other: u8, front: &[u8]) -> bool
     }
 }
 
+/// Whether the mark of a byte order stands in front of UTF-16 text.
 fn is_utf16(front: &[u8]) -> bool
     ensures { result ≡ is_utf16 front.now }
 {
@@ -61,6 +63,7 @@ fn has_zero(front: &[u8]) -> bool
     false
 }
 
+/// What a front of some bytes is taken for.
 fn guess(front: &[u8]) -> Start
     ensures { result ≡ guess front.now }
 {
@@ -77,6 +80,7 @@ fn guess(front: &[u8]) -> Start
     }
 }
 
+/// What a text without calls is taken for, by its first bytes.
 fn start_in(front: &[u8]) -> Start
     ensures { result ≡ start_in front.now }
 {

@@ -29,6 +29,7 @@ impl Model for Totals {
 }
 
 impl Totals {
+    /// The calls of no text.
     fn new(alloc: Global) -> Totals
         ensures { result ≡ no_totals }
     {

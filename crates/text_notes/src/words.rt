@@ -24,6 +24,7 @@ pub enum Kind {
     Skipped,
 }
 
+/// How many more there are, as `  and 3 more`.
 fn put_more(out: &mut Text, more: usize)
     ensures { Adds out.old out.new (more_text more) }
 {
@@ -34,6 +35,7 @@ fn put_more(out: &mut Text, more: usize)
     }
 }
 
+/// A byte of a name: a printed character of ASCII, or `?`.
 fn put_byte(out: &mut Text, byte: u8)
     ensures { Adds out.old out.new (byte_text byte) }
 {
@@ -44,6 +46,7 @@ fn put_byte(out: &mut Text, byte: u8)
     }
 }
 
+/// The name of a function.
 fn put_name(out: &mut Text, name: &[u8])
     ensures { Adds out.old out.new (name_text name.now) }
 {
@@ -52,6 +55,7 @@ fn put_name(out: &mut Text, name: &[u8])
     }
 }
 
+/// `MPI_Start 4`.
 fn put_count(out: &mut Text, function: &UnreadFunction)
     ensures { Adds out.old out.new (count_text function.now) }
 {
@@ -60,6 +64,7 @@ fn put_count(out: &mut Text, function: &UnreadFunction)
     out.put_number(function.count());
 }
 
+/// A further function with its calls.
 fn put_next(out: &mut Text, function: &UnreadFunction)
     ensures { Adds out.old out.new (next_text function.now) }
 {
@@ -67,6 +72,7 @@ fn put_next(out: &mut Text, function: &UnreadFunction)
     put_count(out, function);
 }
 
+/// Each further function with its calls.
 fn put_each_next(out: &mut Text, functions: &[UnreadFunction])
     ensures { Adds out.old out.new (flat_map next_text functions.now) }
 {
@@ -75,6 +81,7 @@ fn put_each_next(out: &mut Text, functions: &[UnreadFunction])
     }
 }
 
+/// How many calls of others there are, behind those that are named.
 fn put_others(out: &mut Text, others: u64)
     ensures { Adds out.old out.new (others_text others) }
 {
@@ -84,6 +91,7 @@ fn put_others(out: &mut Text, others: u64)
     }
 }
 
+/// `  calls that are not read: MPI_Start 4, MPI_Sendrecv_replace 8`.
 fn put_totals(out: &mut Text, functions: &[UnreadFunction], others: u64)
     ensures { Adds out.old out.new (totals_text functions.now others) }
 {
@@ -96,12 +104,14 @@ fn put_totals(out: &mut Text, functions: &[UnreadFunction], others: u64)
     }
 }
 
+/// The line of all functions that aren't read.
 fn put_functions(out: &mut Text, totals: &Totals)
     ensures { Adds out.old out.new (functions_text totals.now) }
 {
     put_totals(out, totals.functions(), totals.others());
 }
 
+/// `  rank 0, call 17: MPI_Start is not read (r0.txt)`, of the first such call.
 fn put_unread(out: &mut Text, note: &TextNote, function: &UnreadFunction)
     ensures { Adds out.old out.new (unread_text note.now (function.now ∷ [])) }
 {
@@ -116,6 +126,7 @@ fn put_unread(out: &mut Text, note: &TextNote, function: &UnreadFunction)
     out.put(b")\n");
 }
 
+/// The line of a text's first call that isn't read.
 fn put_first_unread(out: &mut Text, note: &TextNote)
     ensures { Adds out.old out.new (unread_text note.now note.now.unread) }
 {
@@ -124,6 +135,7 @@ fn put_first_unread(out: &mut Text, note: &TextNote)
     }
 }
 
+/// What a text without calls is taken for.
 fn guess_of(start: Start) -> &'static [u8]
     ensures { result.now ≡ guess_text start }
 {
@@ -137,6 +149,7 @@ fn guess_of(start: Start) -> &'static [u8]
     }
 }
 
+/// The same, also where the text can't be looked at.
 fn start_of(start: Option<Start>) -> &'static [u8]
     ensures { result.now ≡ start_text start }
 {
@@ -146,6 +159,7 @@ fn start_of(start: Option<Start>) -> &'static [u8]
     }
 }
 
+/// The line of a text without calls.
 fn put_callless(out: &mut Text, note: &TextNote)
     ensures { Adds out.old out.new (callless_text note.now) }
 {
@@ -163,6 +177,7 @@ fn put_first_skipped(out: &mut Text, line: Option<u64>)
     }
 }
 
+/// The line of a text of which lines were skipped.
 fn put_skipped(out: &mut Text, note: &TextNote)
     ensures { Adds out.old out.new (skipped_text note.now) }
 {
@@ -174,12 +189,14 @@ fn put_skipped(out: &mut Text, note: &TextNote)
     out.put(b"\n");
 }
 
+/// Whether some function was called that isn't read.
 fn has_unread(functions: &[UnreadFunction]) -> bool
     ensures { result ≡ has_unread functions.now }
 {
     !functions.is_empty()
 }
 
+/// Whether a text has something of this kind to note.
 fn has_kind(kind: Kind, note: &TextNote) -> bool
     ensures { result ≡ has_kind kind note.now }
 {
@@ -190,6 +207,7 @@ fn has_kind(kind: Kind, note: &TextNote) -> bool
     }
 }
 
+/// The line of a text, of one kind.
 fn put_line(out: &mut Text, kind: Kind, note: &TextNote)
     ensures { Adds out.old out.new (line_text kind note.now) }
 {
@@ -209,6 +227,7 @@ fn put_shown(out: &mut Text, kind: Kind, note: &TextNote, before: usize)
     }
 }
 
+/// A line for each of the first ten, and how many more there are.
 fn put_kind(out: &mut Text, kind: Kind, notes: &[TextNote])
     ensures { Adds out.old out.new (kind_text kind notes.now) }
 {
@@ -237,6 +256,7 @@ pub fn put_notes(alloc: Global, out: &mut Text, notes: &[TextNote])
     put_kind(out, Kind::Skipped, notes);
 }
 
+/// At which line a call stands, where that is known.
 fn put_at_line(out: &mut Text, line: Option<u64>)
     ensures { Adds out.old out.new (at_line_text line) }
 {
@@ -246,6 +266,7 @@ fn put_at_line(out: &mut Text, line: Option<u64>)
     }
 }
 
+/// `  rank 1, call 1: r1.txt:4711`.
 fn put_place(out: &mut Text, place: &CallPlace)
     ensures { Adds out.old out.new (place_text place.now) }
 {
@@ -259,6 +280,7 @@ fn put_place(out: &mut Text, place: &CallPlace)
     out.put(b"\n");
 }
 
+/// The line of each place.
 fn put_each_place(out: &mut Text, places: &[CallPlace])
     ensures { Adds out.old out.new (flat_map place_text places.now) }
 {

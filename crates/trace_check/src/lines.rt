@@ -55,6 +55,7 @@ pub fn check_lines(
     Ok((text, equal && valid))
 }
 
+/// Two lines, one behind the other.
 fn both_lines(alloc: Global, first: Line, second: Line) -> Result<String, AllocError>
     ensures { IfOk result (λ text. string_bytes text ≡ line_text first ++ line_text second) }
 {
@@ -102,12 +103,14 @@ impl fmt::Display for Count {
     }
 }
 
+/// Whether both tables are the same, in a word that ends its line.
 fn equal_word(equal: bool) -> &'static str
     ensures { result.now ≡ equal_word equal }
 {
     if equal { "equal\n" } else { "unequal\n" }
 }
 
+/// Whether the verdict is right, in a word that ends its line.
 fn valid_word(valid: bool) -> &'static str
     ensures { result.now ≡ valid_word valid }
 {

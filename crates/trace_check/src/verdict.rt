@@ -35,6 +35,7 @@ pub fn is_right_verdict(
     are_all_listed(states, stuck, release)
 }
 
+/// Whether the rank is in the list.
 fn is_among(ranks: &[u32], r: u32) -> bool
     ensures { result ≡ among ranks.now r }
 {
@@ -48,6 +49,7 @@ fn is_place_among(ranks: &[u32], place: usize) -> bool
     ranks.iter().any(|s| *s as usize == place)
 }
 
+/// Whether the rank waits.
 fn is_rank_waiting(states: &[State], r: usize) -> bool
     ensures { result ≡ is_waiting states.now r }
 {

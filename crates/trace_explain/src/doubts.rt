@@ -13,6 +13,7 @@ use std::alloc::{AllocError, Global};
 use trace_know::Knowledge;
 use trace_node::Answer;
 
+/// That two pieces tell two things of a place.
 fn put_conflict(out: &mut Text, at: &(u32, u64))
     ensures { Adds out.old out.new (conflict_text at.now) }
 {
@@ -23,6 +24,7 @@ fn put_conflict(out: &mut Text, at: &(u32, u64))
     put_side(out, at.1);
 }
 
+/// Whether an event is a call's Enter or its Return, by its place.
 fn put_side(out: &mut Text, place: u64)
     ensures { Adds out.old out.new (side_text place) }
 {
@@ -33,6 +35,7 @@ fn put_side(out: &mut Text, place: u64)
     }
 }
 
+/// A line for each contradiction.
 fn put_each_conflict(out: &mut Text, places: &[(u32, u64)])
     ensures { Adds out.old out.new (flat_map conflict_text places.now) }
 {
@@ -41,6 +44,7 @@ fn put_each_conflict(out: &mut Text, places: &[(u32, u64)])
     }
 }
 
+/// The first contradictions, and how many more there are.
 fn put_conflicts(out: &mut Text, places: &[(u32, u64)])
     ensures { Adds out.old out.new (conflicts_text places.now) }
 {
@@ -48,6 +52,7 @@ fn put_conflicts(out: &mut Text, places: &[(u32, u64)])
     put_more(out, places.len().saturating_sub(MOST_SHOWN));
 }
 
+/// A message that is in no pair, since an open receive may have taken it.
 fn put_postponed(out: &mut Text, name: &OpName)
     ensures { Adds out.old out.new (postponed_text name.now) }
 {
@@ -58,6 +63,7 @@ fn put_postponed(out: &mut Text, name: &OpName)
     out.put(b", is left out: it may belong to a receive whose source no status tells\n");
 }
 
+/// A line for each postponed message.
 fn put_each_postponed(out: &mut Text, names: &[OpName])
     ensures { Adds out.old out.new (flat_map postponed_text names.now) }
 {
@@ -66,6 +72,7 @@ fn put_each_postponed(out: &mut Text, names: &[OpName])
     }
 }
 
+/// The first postponed messages, and how many more there are.
 fn put_all_postponed(out: &mut Text, names: &[OpName])
     ensures { Adds out.old out.new (all_postponed_text names.now) }
 {
@@ -73,6 +80,7 @@ fn put_all_postponed(out: &mut Text, names: &[OpName])
     put_more(out, names.len().saturating_sub(MOST_SHOWN));
 }
 
+/// Ranks behind a head, where there are any.
 fn put_some(out: &mut Text, head: &[u8], ranks: &[u32])
     ensures { Adds out.old out.new (some_ranks_text head.now ranks.now) }
 {
@@ -96,12 +104,14 @@ fn unread(alloc: Global, answer: &Answer) -> Result<Vec<u32>, AllocError>
     Ok(ranks)
 }
 
+/// Whether nothing can be read of the rank.
 fn is_unread(answer: &Answer, rank: u32) -> bool
     ensures { result ≡ is_unread answer.now rank }
 {
     answer.prefixes().get(rank as usize).copied().unwrap_or(0) == 0
 }
 
+/// Whether nothing at all is known of the rank.
 fn is_unknown(answer: &Answer, rank: u32) -> bool
     ensures { result ≡ is_unknown answer.now rank }
 {
@@ -161,6 +171,7 @@ pub(crate) fn is_gapped(answer: &Answer, rank: u32) -> bool
     answer.beyond().get(rank as usize).copied().unwrap_or(false) && !ends_unread(answer, rank)
 }
 
+/// The ranks of which nothing can be read.
 fn put_unread(alloc: Global, out: &mut Text, answer: &Answer)
     ensures { Adds out.old out.new (unread_text answer.now) }
 {
@@ -170,6 +181,7 @@ fn put_unread(alloc: Global, out: &mut Text, answer: &Answer)
     }
 }
 
+/// `  what is known of ranks 3, 5 ends at a call that mpimatch does not read`.
 fn put_these_end(out: &mut Text, ranks: &[u32])
     ensures { Adds out.old out.new (these_end_text ranks.now) }
 {
@@ -178,6 +190,7 @@ fn put_these_end(out: &mut Text, ranks: &[u32])
     out.put(b" ends at a call that mpimatch does not read\n");
 }
 
+/// The line of the ranks whose prefix ends at a call that isn't read: none where there is no such rank.
 fn put_some_end(out: &mut Text, ranks: &[u32])
     ensures { Adds out.old out.new (some_end_text ranks.now) }
 {
@@ -186,6 +199,7 @@ fn put_some_end(out: &mut Text, ranks: &[u32])
     }
 }
 
+/// The ranks whose prefix ends at a call that isn't read.
 fn put_ends_unread(alloc: Global, out: &mut Text, answer: &Answer)
     ensures { Adds out.old out.new (ends_unread_text answer.now) }
 {
@@ -195,6 +209,7 @@ fn put_ends_unread(alloc: Global, out: &mut Text, answer: &Answer)
     }
 }
 
+/// The ranks of which more is known and not used.
 fn put_gapped(alloc: Global, out: &mut Text, answer: &Answer)
     ensures { Adds out.old out.new (gapped_text answer.now) }
 {
@@ -208,6 +223,7 @@ fn put_gapped(alloc: Global, out: &mut Text, answer: &Answer)
     }
 }
 
+/// How many calls are foreign: nothing where none is.
 fn put_foreign(out: &mut Text, foreign: u64)
     ensures { Adds out.old out.new (foreign_text foreign) }
 {
@@ -216,6 +232,7 @@ fn put_foreign(out: &mut Text, foreign: u64)
     }
 }
 
+/// How many calls are foreign.
 fn put_some_foreign(out: &mut Text, foreign: u64)
     ensures { Adds out.old out.new (some_foreign_text foreign) }
 {

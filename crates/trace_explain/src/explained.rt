@@ -60,12 +60,14 @@ pub(crate) fn is_waiting(state: State) -> bool
     }
 }
 
+/// Whether some rank waits.
 fn has_waiting(states: &[State]) -> bool
     ensures { result ≡ list_any is_waiting states.now }
 {
     states.iter().any(|state| is_waiting(*state))
 }
 
+/// Whether the calls of some round don't match.
 fn has_mismatched(rounds: &[Round]) -> bool
     ensures { result ≡ list_any is_mismatched rounds.now }
 {
@@ -94,6 +96,7 @@ pub(crate) fn needed_ops(
     }
 }
 
+/// Who is stuck, and in which calls.
 fn put_stuck_ranks(
     alloc: Global,
     out: &mut Text,
@@ -109,6 +112,7 @@ fn put_stuck_ranks(
     put_section_of(alloc, out, ops, answer, know, hearts, false);
 }
 
+/// The head of a section: of the hearts, or of those who only wait for them.
 fn head_of(in_heart: bool) -> &'static [u8]
     ensures { result.now ≡ head_of in_heart }
 {
@@ -119,6 +123,7 @@ fn head_of(in_heart: bool) -> &'static [u8]
     }
 }
 
+/// The stuck ranks that are in hearts, or all others.
 fn put_section_of(
     alloc: Global,
     out: &mut Text,

@@ -9,6 +9,7 @@ use mpi_model::Sends;
 use trace_node::Answer;
 use trace_ops::State;
 
+/// Whether two states are one.
 fn is_state(one: State, other: State) -> bool
     ensures { result ≡ is_state one other }
 {
@@ -33,6 +34,7 @@ fn count_of(state: State, states: &[State]) -> usize
     count
 }
 
+/// How many of the ranks are stuck.
 fn put_stuck(out: &mut Text, stuck: usize, ranks: u32)
     ensures { Adds out.old out.new (stuck_text stuck ranks) }
 {
@@ -46,6 +48,7 @@ fn put_stuck(out: &mut Text, stuck: usize, ranks: u32)
     }
 }
 
+/// How many ranks ended, wait, and aren't seen to wait.
 fn put_states(out: &mut Text, ranks: u32, states: &[State])
     ensures { Adds out.old out.new (states_text ranks states.now) }
 {
@@ -68,6 +71,7 @@ pub(crate) fn put_head(out: &mut Text, answer: &Answer)
     put_states(out, answer.ranks(), answer.states());
 }
 
+/// Which other kind of sends is spoken of.
 fn put_case(out: &mut Text, sends: Sends)
     ensures { Adds out.old out.new (case_text sends) }
 {
@@ -77,6 +81,7 @@ fn put_case(out: &mut Text, sends: Sends)
     });
 }
 
+/// What the difference means, where none would be stuck.
 fn put_none(out: &mut Text, sends: Sends, stuck: usize)
     ensures { Adds out.old out.new (none_text sends stuck) }
 {
@@ -89,6 +94,7 @@ fn put_none(out: &mut Text, sends: Sends, stuck: usize)
     }
 }
 
+/// The ranks that would be stuck.
 fn put_others(out: &mut Text, ranks: &[u32])
     ensures { Adds out.old out.new (others_text ranks.now) }
 {
@@ -97,6 +103,7 @@ fn put_others(out: &mut Text, ranks: &[u32])
     out.put(b".\n");
 }
 
+/// Who would be stuck under the other kind of sends.
 fn put_outcome(out: &mut Text, sends: Sends, stuck: usize, ranks: &[u32])
     ensures { Adds out.old out.new (outcome_text sends stuck ranks.now) }
 {

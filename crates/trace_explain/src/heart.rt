@@ -10,6 +10,7 @@ use crate::search::{edges_at, firsts, label_at};
 use std::alloc::{AllocError, Global};
 use trace_node::Stuck;
 
+/// Whether the two labels are one.
 fn is_same(first: Option<u32>, second: Option<u32>) -> bool
     ensures { IsTrue result ↔ (first ≡ second) }
 {

@@ -25,6 +25,7 @@ pub(crate) struct Lacked {
 }
 
 impl Lacked {
+    /// A call more names it.
     fn add(&mut self)
         ensures { self.new ≡ once_more self.old }
     {
@@ -47,6 +48,7 @@ impl Model for Lacking {
     ghost view = { λ k. record { listed = k.listed.items; others = k.others } };
 }
 
+/// Where the number stands in the list.
 fn place_of(listed: &[Lacked], number: u32) -> Option<usize>
     ensures first { result ≡ position (has_number number) listed.now }
     ensures within { IfSome result (λ at. at < length listed.now) }
@@ -55,6 +57,7 @@ fn place_of(listed: &[Lacked], number: u32) -> Option<usize>
 }
 
 impl Lacking {
+    /// No communicator is lacking.
     fn new(alloc: Global) -> Lacking
         ensures { result ≡ no_lacking }
     {
@@ -89,6 +92,7 @@ impl Lacking {
         }
     }
 
+    /// A call more of a number, where it names one.
     fn put_some(&mut self, number: Option<u32>) -> Result<(), AllocError>
         ensures { OnOk result (self.new ≡ with_number self.old number) }
     {
@@ -142,6 +146,7 @@ fn lacked_number(layout: &Layout, rank: u32, n: u64, comm: Option<CommRef>) -> O
     }
 }
 
+/// That of the call that is entered by an event.
 fn lacked_by(layout: &Layout, rank: u32, n: u64, cell: Cell<'_>) -> Option<u32>
     ensures { result ≡ lacked_by layout.now rank n (event_of (shown cell.entry)) }
 {
@@ -192,6 +197,7 @@ fn with_calls(
     Ok(lacking)
 }
 
+/// What the readable calls of all ranks name that the layout doesn't have.
 fn lacking_of(
     alloc: Global,
     layout: &Layout,
@@ -208,12 +214,14 @@ fn lacking_of(
     Ok(lacking)
 }
 
+/// The word behind a count: `call` of one, and else `calls`.
 fn calls_word(count: u64) -> &'static [u8]
     ensures { result.now ≡ calls_word count }
 {
     if count == 1 { b" call)" } else { b" calls)" }
 }
 
+/// `9 (3 calls)`.
 fn put_lacked(out: &mut Text, lacked: &Lacked)
     ensures { Adds out.old out.new (lacked_text lacked.now) }
 {
@@ -223,6 +231,7 @@ fn put_lacked(out: &mut Text, lacked: &Lacked)
     out.put(calls_word(lacked.count));
 }
 
+/// A further communicator with its calls.
 fn put_next(out: &mut Text, lacked: &Lacked)
     ensures { Adds out.old out.new (next_lacked_text lacked.now) }
 {
@@ -230,6 +239,7 @@ fn put_next(out: &mut Text, lacked: &Lacked)
     put_lacked(out, lacked);
 }
 
+/// Each further communicator with its calls.
 fn put_each_next(out: &mut Text, listed: &[Lacked])
     ensures { Adds out.old out.new (flat_map next_lacked_text listed.now) }
 {
@@ -238,6 +248,7 @@ fn put_each_next(out: &mut Text, listed: &[Lacked])
     }
 }
 
+/// How many calls name others, behind those that are listed.
 fn put_others(out: &mut Text, others: u64)
     ensures { Adds out.old out.new (other_lacked_text others) }
 {
@@ -248,6 +259,7 @@ fn put_others(out: &mut Text, others: u64)
     }
 }
 
+/// The line of what is lacking: nothing where nothing is.
 fn put_line(out: &mut Text, listed: &[Lacked], others: u64)
     ensures { Adds out.old out.new (lacking_line listed.now others) }
 {
@@ -256,6 +268,7 @@ fn put_line(out: &mut Text, listed: &[Lacked], others: u64)
     }
 }
 
+/// The line of the communicators that the layout doesn't have.
 fn put_some_lacking(out: &mut Text, lacked: &Lacked, rest: &[Lacked], others: u64)
     ensures { Adds out.old out.new (some_lacking_text lacked.now rest.now others) }
 {
@@ -266,6 +279,7 @@ fn put_some_lacking(out: &mut Text, lacked: &Lacked, rest: &[Lacked], others: u6
     out.put(b"\n");
 }
 
+/// The line of what is lacking.
 fn put_lacking_line(out: &mut Text, lacking: &Lacking)
     ensures { Adds out.old out.new (lacking_line_of lacking.now) }
 {

@@ -26,6 +26,7 @@ fn given(alloc: Global, pairs: &[Pair]) -> Result<Vec<OpName>, AllocError>
     pairs.iter().map(|p| p.receive).collect(alloc)
 }
 
+/// Whether a message is in no pair, and was not cancelled.
 fn is_loose(taken: &Names<'_>, m: &Message) -> bool
     ensures { result ≡ is_loose taken.now m.now }
 {
@@ -59,6 +60,7 @@ fn loose(alloc: Global, taken: &Names<'_>, ops: &[RankOps]) -> Result<Vec<Messag
     Ok(messages)
 }
 
+/// Whether a loose message isn't postponed, and no stuck rank stands in its call.
 fn is_left(postponed: &Names<'_>, standing: &Names<'_>, m: &Message) -> bool
     ensures { result ≡ is_left postponed.now standing.now m.now }
 {
@@ -125,6 +127,7 @@ fn pending(alloc: Global, ranks: u32, ops: &[RankOps]) -> Result<Vec<OpName>, Al
     Ok(names)
 }
 
+/// Whether a rank may wait for the receive, which is in no pair, was not cancelled, and which no loose message fits.
 fn is_starved(pending: &Names<'_>, given: &Names<'_>, offers: &Offers<'_>, q: &Receive) -> bool
     ensures { result ≡ is_starved pending.now given.now offers.now q.now }
 {
@@ -190,6 +193,7 @@ pub(crate) struct LeftOver {
     pub near: Vec<(OpName, OpName)>,
 }
 
+/// The loose messages of an answer, and of what the ranks did.
 fn loose_in(alloc: Global, answer: &Answer, ops: &[RankOps]) -> Result<Vec<Message>, AllocError>
     ensures { IfOk result (λ messages. messages.items ≡ loose_in answer.now ops.now) }
 {

@@ -27,6 +27,7 @@ pub(crate) fn put_named_call(out: &mut Text, know: &Knowledge, name: &OpName)
     put_place(out, know, name.rank, name.call.saturating_mul(2));
 }
 
+/// The line of one operation.
 fn put_call_line(out: &mut Text, know: &Knowledge, name: &OpName)
     ensures { Adds out.old out.new (call_line know.now name.now) }
 {
@@ -35,6 +36,7 @@ fn put_call_line(out: &mut Text, know: &Knowledge, name: &OpName)
     out.put(b"\n");
 }
 
+/// The receive, and the message that misses it.
 fn put_near_line(out: &mut Text, know: &Knowledge, miss: &(OpName, OpName))
     ensures { Adds out.old out.new (near_line know.now miss.now) }
 {
@@ -45,6 +47,7 @@ fn put_near_line(out: &mut Text, know: &Knowledge, miss: &(OpName, OpName))
     out.put(b"\n");
 }
 
+/// The line of each operation.
 fn put_each_call(out: &mut Text, know: &Knowledge, names: &[OpName])
     ensures { Adds out.old out.new (flat_map (call_line know.now) names.now) }
 {
@@ -53,6 +56,7 @@ fn put_each_call(out: &mut Text, know: &Knowledge, names: &[OpName])
     }
 }
 
+/// The line of each nearest miss.
 fn put_each_near(out: &mut Text, know: &Knowledge, misses: &[(OpName, OpName)])
     ensures { Adds out.old out.new (flat_map (near_line know.now) misses.now) }
 {
@@ -61,6 +65,7 @@ fn put_each_near(out: &mut Text, know: &Knowledge, misses: &[(OpName, OpName)])
     }
 }
 
+/// The first operations below a head, and how many more there are.
 fn put_these_calls(out: &mut Text, know: &Knowledge, head: &[u8], names: &[OpName])
     ensures { Adds out.old out.new (these_calls know.now head.now names.now) }
 {
@@ -69,6 +74,7 @@ fn put_these_calls(out: &mut Text, know: &Knowledge, head: &[u8], names: &[OpNam
     put_more(out, names.len().saturating_sub(MOST_SHOWN));
 }
 
+/// Some calls below a head, where there are any.
 fn put_calls_below(out: &mut Text, know: &Knowledge, head: &[u8], names: &[OpName])
     ensures { Adds out.old out.new (calls_below know.now head.now names.now) }
 {
@@ -77,6 +83,7 @@ fn put_calls_below(out: &mut Text, know: &Knowledge, head: &[u8], names: &[OpNam
     }
 }
 
+/// The first nearest misses, and how many more there are.
 fn put_these_near(out: &mut Text, know: &Knowledge, misses: &[(OpName, OpName)])
     ensures { Adds out.old out.new (these_near know.now misses.now) }
 {
@@ -85,6 +92,7 @@ fn put_these_near(out: &mut Text, know: &Knowledge, misses: &[(OpName, OpName)])
     put_more(out, misses.len().saturating_sub(MOST_SHOWN));
 }
 
+/// The nearest misses: nothing where there is none.
 fn put_near_below(out: &mut Text, know: &Knowledge, misses: &[(OpName, OpName)])
     ensures { Adds out.old out.new (near_below know.now misses.now) }
 {
@@ -93,18 +101,21 @@ fn put_near_below(out: &mut Text, know: &Knowledge, misses: &[(OpName, OpName)])
     }
 }
 
+/// The head of the messages that are left over.
 fn messages_head() -> &'static [u8]
     ensures { result.now ≡ messages_head }
 {
     b"\nLeft over are messages that no receive takes:\n"
 }
 
+/// The head of the receives that starve.
 fn receives_head() -> &'static [u8]
     ensures { result.now ≡ receives_head }
 {
     b"\nLeft over are receives of waiting ranks that no message fits:\n"
 }
 
+/// Calls of messages and of receives, and nearest misses.
 fn put_left(out: &mut Text, know: &Knowledge, left: &LeftOver)
     ensures { Adds out.old out.new (left_text know.now left.now.messages.items left.now.receives.items left.now.near.items) }
 {

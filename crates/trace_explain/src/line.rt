@@ -24,6 +24,7 @@ pub(crate) struct Line {
     pub words: Vec<u8>,
 }
 
+/// The call, and whom the rank waits for.
 fn put_words(
     alloc: Global,
     out: &mut Text,
@@ -61,6 +62,7 @@ pub(crate) fn line_of(
     })
 }
 
+/// Whether the rank is in a heart, or in none, as is asked.
 fn is_asked(hearts: &[Option<u32>], in_heart: bool, stuck: &Stuck) -> bool
     ensures { result ≡ is_asked hearts.now in_heart (stopped stuck.now) }
 {

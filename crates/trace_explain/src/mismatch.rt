@@ -31,6 +31,7 @@ pub(crate) fn is_mismatched(round: &Round) -> bool
     }
 }
 
+/// The rounds that don't match.
 fn mismatched(alloc: Global, rounds: &[Round]) -> Result<Vec<Round>, AllocError>
     ensures { IfOk result (λ found. found.items ≡ mismatched rounds.now) }
 {
@@ -54,6 +55,7 @@ fn calls_on(alloc: Global, comm: u32, entries: &[Entered]) -> Result<Vec<Entered
         .collect(alloc)
 }
 
+/// A member that has entered round k of a communicator, with its call.
 fn entrant_in(
     alloc: Global,
     comm: u32,
@@ -89,6 +91,7 @@ fn entrant_at(
     }
 }
 
+/// The members of a communicator, in group order.
 fn members_of<'a>(layout: &'a Layout, comm: u32) -> &'a [u32]
     ensures { result.now ≡ group layout.now.comms comm }
 {
@@ -116,6 +119,7 @@ fn entrants(
     Ok(found)
 }
 
+/// Whether two calls have one root, or neither has one.
 fn is_same_root(a: Option<u32>, b: Option<u32>) -> bool
     ensures { result ≡ same_root a b }
 {
@@ -127,12 +131,14 @@ fn is_same_root(a: Option<u32>, b: Option<u32>) -> bool
     }
 }
 
+/// Whether the functions are of one kind, and both block or neither does.
 fn is_same_function(a: CollectiveFunction, b: CollectiveFunction) -> bool
     ensures { result ≡ same_function a b }
 {
     a.kind.number() == b.kind.number() && a.nonblocking == b.nonblocking
 }
 
+/// Whether the two calls match.
 fn do_match(one: &Entrant, other: &Entrant) -> bool
     ensures { result ≡ do_match one.now other.now }
 {
@@ -165,6 +171,7 @@ fn ranks_matching(
     Ok(ranks)
 }
 
+/// `    ranks 0 to 11, 13: MPI_Barrier (call 5 of rank 0)`: the call of the first of ranks whose calls match.
 fn put_line(out: &mut Text, entrant: &Entrant, ranks: &[u32])
     ensures { Adds out.old out.new (calls_line entrant.now ranks.now) }
 {
@@ -194,6 +201,7 @@ fn put_group(alloc: Global, out: &mut Text, entrants: &[Entrant], i: usize)
     }
 }
 
+/// Who called what, those whose calls match on one line.
 fn put_calls(alloc: Global, out: &mut Text, entrants: &[Entrant])
     ensures { Adds out.old out.new (calls_text entrants.now) }
 {
@@ -202,6 +210,7 @@ fn put_calls(alloc: Global, out: &mut Text, entrants: &[Entrant])
     }
 }
 
+/// `  round 17 of communicator 2:`.
 fn put_head(out: &mut Text, round: &Round)
     ensures { Adds out.old out.new (mismatch_head round.now) }
 {
@@ -212,6 +221,7 @@ fn put_head(out: &mut Text, round: &Round)
     out.put(b":\n");
 }
 
+/// A round, and who called what in it.
 fn put_mismatch(alloc: Global, out: &mut Text, layout: &Layout, ops: &[RankOps], round: &Round)
     ensures { Adds out.old out.new (mismatch_text layout.now.comms ops.now round.now) }
 {
@@ -222,6 +232,7 @@ fn put_mismatch(alloc: Global, out: &mut Text, layout: &Layout, ops: &[RankOps],
     }
 }
 
+/// Each of the rounds, and who called what in it.
 fn put_each(alloc: Global, out: &mut Text, layout: &Layout, ops: &[RankOps], rounds: &[Round])
     ensures { Adds out.old out.new (flat_map (mismatch_text layout.now.comms ops.now) rounds.now) }
 {
@@ -230,6 +241,7 @@ fn put_each(alloc: Global, out: &mut Text, layout: &Layout, ops: &[RankOps], rou
     }
 }
 
+/// The first mismatched rounds, and how many more there are.
 fn put_these(alloc: Global, out: &mut Text, layout: &Layout, ops: &[RankOps], rounds: &[Round])
     ensures { Adds out.old out.new (these_text layout.now.comms ops.now rounds.now) }
 {
@@ -238,6 +250,7 @@ fn put_these(alloc: Global, out: &mut Text, layout: &Layout, ops: &[RankOps], ro
     put_more(out, rounds.len().saturating_sub(MOST_SHOWN));
 }
 
+/// The mismatched rounds: nothing where there is none.
 fn put_some(alloc: Global, out: &mut Text, layout: &Layout, ops: &[RankOps], rounds: &[Round])
     ensures { Adds out.old out.new (mismatches_text layout.now.comms ops.now rounds.now) }
 {

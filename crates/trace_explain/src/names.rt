@@ -41,6 +41,7 @@ fn note<T: Ord + Drop>(set: &mut BTreeSet<T>, x: T) -> Result<(), AllocError>
     Ok(())
 }
 
+/// The set of these names.
 fn set_of(alloc: Global, names: &[OpName]) -> Result<BTreeSet<(u32, u64)>, AllocError>
     ensures { IfOk result (λ set. (name : Name) → contains place_cmp set (name.rank, name.call) ≡ has_name names.now name) }
 {

@@ -24,12 +24,14 @@ use trace_node::{Answer, Stuck};
 use trace_ops::{RankOps, State};
 use trace_pair::Pair;
 
+/// Whether the name is that of this call.
 fn is_call(rank: u32, call: u64, name: &OpName) -> bool
     ensures { result ≡ is_call rank call name.now }
 {
     name.rank == rank && name.call == call
 }
 
+/// A call by its number and its rank.
 fn put_named(out: &mut Text, name: &OpName)
     ensures { Adds out.old out.new (named_text name.now) }
 {
@@ -39,6 +41,7 @@ fn put_named(out: &mut Text, name: &OpName)
     out.put_number(name.rank as u64);
 }
 
+/// `; its message went to call 5 of rank 1`.
 fn put_to_call(out: &mut Text, name: &OpName)
     ensures { Adds out.old out.new (to_call_text name.now) }
 {
@@ -46,6 +49,7 @@ fn put_to_call(out: &mut Text, name: &OpName)
     put_named(out, name);
 }
 
+/// `; its message came from call 1 of rank 0`.
 fn put_from_call(out: &mut Text, name: &OpName)
     ensures { Adds out.old out.new (from_call_text name.now) }
 {
@@ -53,6 +57,7 @@ fn put_from_call(out: &mut Text, name: &OpName)
     put_named(out, name);
 }
 
+/// Where the message of a call went, by one pair.
 fn put_went(out: &mut Text, rank: u32, call: u64, pair: &Pair)
     ensures { Adds out.old out.new (went_text rank call pair.now) }
 {
@@ -61,6 +66,7 @@ fn put_went(out: &mut Text, rank: u32, call: u64, pair: &Pair)
     }
 }
 
+/// Where the message that a call received came from, by one pair.
 fn put_came(out: &mut Text, rank: u32, call: u64, pair: &Pair)
     ensures { Adds out.old out.new (came_text rank call pair.now) }
 {
@@ -69,6 +75,7 @@ fn put_came(out: &mut Text, rank: u32, call: u64, pair: &Pair)
     }
 }
 
+/// What a pair tells of a call.
 fn put_partner(out: &mut Text, rank: u32, call: u64, pair: &Pair)
     ensures { Adds out.old out.new (partner_text rank call pair.now) }
 {
@@ -76,6 +83,7 @@ fn put_partner(out: &mut Text, rank: u32, call: u64, pair: &Pair)
     put_came(out, rank, call, pair);
 }
 
+/// All partners of a call.
 fn put_partners(out: &mut Text, pairs: &[Pair], rank: u32, call: u64)
     ensures { Adds out.old out.new (partners_text pairs.now rank call) }
 {
@@ -84,6 +92,7 @@ fn put_partners(out: &mut Text, pairs: &[Pair], rank: u32, call: u64)
     }
 }
 
+/// The wall time of an event.
 fn wall_of(cell: Cell<'_>) -> u64
     ensures { result ≡ wall_of (event_of (shown cell.entry)) }
 {
@@ -94,12 +103,14 @@ fn wall_of(cell: Cell<'_>) -> u64
     }
 }
 
+/// The wall time of what is known of a place.
 fn wall_at(know: &Knowledge, rank: u32, place: u64) -> u64
     ensures { result ≡ wall_at know.now rank place }
 {
     wall_of(know.cell(rank, place))
 }
 
+/// From when to when a call lasted.
 fn put_to(out: &mut Text, from: u64, until: u64)
     ensures { Adds out.old out.new (to_text from until) }
 {
@@ -108,6 +119,7 @@ fn put_to(out: &mut Text, from: u64, until: u64)
     put_seconds(out, until);
 }
 
+/// Since when a rank stands in a call.
 fn put_since(out: &mut Text, from: u64)
     ensures { Adds out.old out.new (since_text from) }
 {
@@ -128,12 +140,14 @@ fn put_span(out: &mut Text, know: &Knowledge, rank: u32, prefix: u64, place: u64
     }
 }
 
+/// How far a rank can be read.
 fn prefix_in(answer: &Answer, rank: u32) -> u64
     ensures { result ≡ prefix_in answer.now rank }
 {
     answer.prefixes().get(rank as usize).copied().unwrap_or(0)
 }
 
+/// The line of a call: when it was made, what it names, and its partners.
 fn put_call_line(out: &mut Text, answer: &Answer, know: &Knowledge, rank: u32, call: u64)
     ensures { Adds out.old out.new (call_line answer.now know.now rank call) }
 {
@@ -148,6 +162,7 @@ fn put_call_line(out: &mut Text, answer: &Answer, know: &Knowledge, rank: u32, c
     out.put(b"\n");
 }
 
+/// So many calls from a first one on.
 fn put_calls_from(
     out: &mut Text,
     answer: &Answer,
@@ -163,6 +178,7 @@ fn put_calls_from(
     }
 }
 
+/// The last ten of so many calls.
 fn put_last_calls(out: &mut Text, answer: &Answer, know: &Knowledge, rank: u32, count: u64)
     ensures { Adds out.old out.new (last_calls_text answer.now know.now rank count) }
 {
@@ -173,6 +189,7 @@ fn put_last_calls(out: &mut Text, answer: &Answer, know: &Knowledge, rank: u32, 
     put_calls_from(out, answer, know, rank, first, count);
 }
 
+/// The last calls of the rank: nothing where none can be read.
 fn put_calls(out: &mut Text, answer: &Answer, know: &Knowledge, rank: u32, count: u64)
     ensures { Adds out.old out.new (calls_text answer.now know.now rank count) }
 {
@@ -181,6 +198,7 @@ fn put_calls(out: &mut Text, answer: &Answer, know: &Knowledge, rank: u32, count
     }
 }
 
+/// Whether a stuck rank is this one.
 fn is_of(rank: u32, stuck: &Stuck) -> bool
     ensures { result ≡ is_of rank (stopped stuck.now) }
 {
@@ -199,6 +217,7 @@ fn stuck_in(stuck: &[Stuck], rank: u32) -> Option<&Stuck>
     None
 }
 
+/// That the rank is stuck, and whom it waits for.
 fn put_stuck_line(out: &mut Text, line: &Line)
     ensures { Adds out.old out.new (stuck_line (said line.now)) }
 {
@@ -206,6 +225,7 @@ fn put_stuck_line(out: &mut Text, line: &Line)
     put_line(out, line, &[line.rank]);
 }
 
+/// That the rank is stuck, and whom it waits for.
 fn put_stuck(
     alloc: Global,
     out: &mut Text,
@@ -222,6 +242,7 @@ fn put_stuck(
     }
 }
 
+/// That a rank which waits isn't stuck.
 fn put_not_stuck(out: &mut Text, waiting: bool)
     ensures { Adds out.old out.new (not_stuck_text waiting) }
 {
@@ -247,6 +268,7 @@ fn put_standing(
     }
 }
 
+/// Whether a rank waits.
 fn waits_in(answer: &Answer, rank: u32) -> bool
     ensures { result ≡ waits_in answer.now rank }
 {
@@ -259,6 +281,7 @@ fn waits_in(answer: &Answer, rank: u32) -> bool
     )
 }
 
+/// That what is known of the rank ends at a call that isn't read.
 fn put_end(out: &mut Text, answer: &Answer, rank: u32)
     ensures { Adds out.old out.new (end_text answer.now rank) }
 {
@@ -267,6 +290,7 @@ fn put_end(out: &mut Text, answer: &Answer, rank: u32)
     }
 }
 
+/// That more is known of the rank behind a gap or a contradiction.
 fn put_gap(out: &mut Text, answer: &Answer, rank: u32)
     ensures { Adds out.old out.new (gap_text answer.now rank) }
 {
@@ -275,6 +299,7 @@ fn put_gap(out: &mut Text, answer: &Answer, rank: u32)
     }
 }
 
+/// All that is said of one rank.
 fn put_one_rank(
     alloc: Global,
     out: &mut Text,

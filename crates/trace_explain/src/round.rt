@@ -13,12 +13,14 @@ use trace_node::Stuck;
 use trace_ops::{Entered, RankOps};
 use trace_stuck::Condition;
 
+/// The entry of a call into a round, where it is collective.
 fn entered_by(o: &RankOps, call: u64) -> Option<Entered>
     ensures { result ≡ find (λ e. e.call == call) o.now.rounds }
 {
     o.rounds().iter().copied().find(|e| e.call == call)
 }
 
+/// The number of the round that a call of the rank entered: so many calls of it on the communicator came before.
 fn round_number(o: &RankOps, entered: Entered) -> u64
     ensures { result ≡ round_number o.now entered }
 {
@@ -30,6 +32,7 @@ fn round_number(o: &RankOps, entered: Entered) -> u64
     before as u64
 }
 
+/// The number of the round that a call of a rank entered, where it is a collective call.
 fn round_in(o: &RankOps, call: u64) -> Option<u64>
     ensures { result ≡ round_in o.now call }
 {
@@ -47,6 +50,7 @@ pub(crate) fn round_of(ops: &[RankOps], stuck: &Stuck) -> Option<u64>
     }
 }
 
+/// The number of a round.
 fn put_one_round(out: &mut Text, k: u64)
     ensures { Adds out.old out.new (one_round_text k) }
 {
@@ -64,6 +68,7 @@ pub(crate) fn put_round(out: &mut Text, round: Option<u64>)
     }
 }
 
+/// Whether the rank waits for all of several.
 fn waits_for_several(condition: &Condition) -> bool
     ensures { result ≡ waits_for_several (shape condition.now) }
 {

@@ -30,6 +30,7 @@ pub(crate) fn edges_at(edges: &[Vec<u32>], r: u32) -> &[u32]
     }
 }
 
+/// Whether the rank is there, and has no label.
 fn is_bare(labels: &[Option<u32>], r: u32) -> bool
     ensures { result ≡ is_bare labels.now r }
 {

@@ -9,6 +9,7 @@ use crate::line::Line;
 use call_words::{Text, put_ranges, put_seconds};
 use std::alloc::{AllocError, Global};
 
+/// Whether the same is said of two ranks.
 fn is_alike(one: &Line, other: &Line) -> bool
     ensures { result ≡ is_alike (said one.now) (said other.now) }
 {
@@ -41,6 +42,7 @@ fn ranks_alike(alloc: Global, line: &Line, others: &[Line]) -> Result<Vec<u32>, 
     Ok(ranks)
 }
 
+/// A stuck rank that shares its line with no other, with its call and since when it stands there.
 fn put_alone(out: &mut Text, line: &Line)
     ensures { Adds out.old out.new (alone_text (said line.now)) }
 {
@@ -52,6 +54,7 @@ fn put_alone(out: &mut Text, line: &Line)
     put_seconds(out, line.wall);
 }
 
+/// The stuck ranks of one line.
 fn put_together(out: &mut Text, ranks: &[u32])
     ensures { Adds out.old out.new (together_text ranks.now) }
 {
@@ -59,6 +62,7 @@ fn put_together(out: &mut Text, ranks: &[u32])
     put_ranges(out, ranks);
 }
 
+/// `rank 1, call 1, since 2.125000000`, or `ranks 0 to 11, 13`.
 fn put_who(out: &mut Text, line: &Line, ranks: &[u32])
     ensures { Adds out.old out.new (who_text (said line.now) ranks.now) }
 {
@@ -94,6 +98,7 @@ fn put_group(alloc: Global, out: &mut Text, lines: &[Line], i: usize)
     }
 }
 
+/// The lines of a section.
 fn put_section(alloc: Global, out: &mut Text, lines: &[Line])
     ensures { Adds out.old out.new (section_text (map said lines.now)) }
 {

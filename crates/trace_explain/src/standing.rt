@@ -12,6 +12,7 @@ use trace_know::{Cell, Knowledge};
 use trace_node::Answer;
 use trace_ops::State;
 
+/// The call that is entered by an event.
 fn put_event(out: &mut Text, cell: Cell<'_>)
     ensures { Adds out.old out.new (event_text (event_of (shown cell.entry))) }
 {
@@ -29,12 +30,14 @@ pub(crate) fn put_place(out: &mut Text, know: &Knowledge, rank: u32, place: u64)
     put_event(out, know.cell(rank, place));
 }
 
+/// The call of the last readable place.
 fn last_call(prefix: u64) -> u64
     ensures { result ≡ last_call prefix }
 {
     prefix.saturating_sub(1) / 2
 }
 
+/// What a rank does that doesn't wait: how far it can be read.
 fn put_free(out: &mut Text, prefix: u64)
     ensures { Adds out.old out.new (free_text prefix) }
 {
@@ -45,6 +48,7 @@ fn put_free(out: &mut Text, prefix: u64)
     }
 }
 
+/// How far a rank can be read that isn't seen to wait.
 fn put_read(out: &mut Text, prefix: u64)
     ensures { Adds out.old out.new (read_text prefix) }
 {
@@ -52,6 +56,7 @@ fn put_read(out: &mut Text, prefix: u64)
     out.put_number(last_call(prefix));
 }
 
+/// `, which stands in call 2: ` and the call.
 fn put_waiting(out: &mut Text, know: &Knowledge, rank: u32, prefix: u64)
     ensures { Adds out.old out.new (waiting_text know.now rank prefix) }
 {
@@ -61,6 +66,7 @@ fn put_waiting(out: &mut Text, know: &Knowledge, rank: u32, prefix: u64)
     put_place(out, know, rank, prefix.saturating_sub(1));
 }
 
+/// What a rank does where its prefix ends.
 fn put_doing(out: &mut Text, know: &Knowledge, rank: u32, prefix: u64, state: State)
     ensures { Adds out.old out.new (doing_text know.now rank prefix state) }
 {
@@ -81,6 +87,7 @@ pub(crate) fn put_rank(out: &mut Text, answer: &Answer, know: &Knowledge, rank: 
     put_rank_doing(out, know, rank, prefix, state);
 }
 
+/// A rank with what it does.
 fn put_rank_doing(out: &mut Text, know: &Knowledge, rank: u32, prefix: u64, state: State)
     ensures { Adds out.old out.new (rank_doing_text know.now rank prefix state) }
 {

@@ -14,6 +14,7 @@ use trace_know::Knowledge;
 use trace_node::Answer;
 use trace_stuck::Condition;
 
+/// The rank for which a part waits, where it is a rank.
 fn rank_in(part: &Condition) -> Option<u32>
     ensures { result ≡ rank_of (shape part.now) }
 {
@@ -48,6 +49,7 @@ fn put_ranks(out: &mut Text, answer: &Answer, know: &Knowledge, word: &[u8], ran
     }
 }
 
+/// No rank, behind a word.
 fn put_nobody(out: &mut Text, word: &[u8])
     ensures { Adds out.old out.new (word.now ++ codes " no rank") }
 {
@@ -55,6 +57,7 @@ fn put_nobody(out: &mut Text, word: &[u8])
     out.put(b" no rank");
 }
 
+/// Several ranks behind a word, neighbours joined.
 fn put_several(out: &mut Text, word: &[u8], ranks: &[u32])
     ensures { Adds out.old out.new (word.now ++ codes " ranks " ++ ranges_text ranks.now) }
 {
@@ -84,6 +87,7 @@ pub(crate) fn put_wait(
     }
 }
 
+/// All of or one of some parts: of plain ranks their list.
 #[cycle(words)]
 fn put_list(
     alloc: Global,
@@ -102,6 +106,7 @@ fn put_list(
     }
 }
 
+/// Parts of any kind behind a word: `all of (` parts `)`.
 #[cycle(words)]
 fn put_nested(
     alloc: Global,
@@ -119,6 +124,7 @@ fn put_nested(
     out.put(b")");
 }
 
+/// The parts, one behind the other.
 #[cycle(words)]
 fn put_parts(alloc: Global, out: &mut Text, answer: &Answer, know: &Knowledge, parts: &[Condition])
     ensures { Adds out.old out.new (parts_text (rank_text answer.now know.now) (waits_of (map shape parts.now))) }
@@ -128,6 +134,7 @@ fn put_parts(alloc: Global, out: &mut Text, answer: &Answer, know: &Knowledge, p
     }
 }
 
+/// A part by its place, with what stands before it.
 #[cycle(words)]
 fn put_part(
     alloc: Global,
@@ -143,6 +150,7 @@ fn put_part(
     put_wait(alloc, out, answer, know, part);
 }
 
+/// What stands before a part, by its place among the parts.
 fn mark_before(i: usize) -> &'static [u8]
     ensures { result.now ≡ mark_before i }
 {

@@ -53,6 +53,7 @@ static ROWS: [Row; 8] = [
     ),
 ];
 
+/// All of these ranks.
 fn condition_of(alloc: Global, ranks: &[u32]) -> Result<Condition, AllocError> {
     let mut parts = Vec::new(alloc);
     for rank in ranks {
@@ -61,6 +62,7 @@ fn condition_of(alloc: Global, ranks: &[u32]) -> Result<Condition, AllocError> {
     Ok(Condition::all(parts))
 }
 
+/// A rank that is stuck in its first call, and what it waits for.
 fn stop(rank: u32, waits: Condition) -> Stuck {
     Stuck {
         rank,
@@ -70,6 +72,7 @@ fn stop(rank: u32, waits: Condition) -> Stuck {
     }
 }
 
+/// Stuck ranks, each with those for whom it waits.
 fn stuck_of(alloc: Global, ranks: &[(u32, &[u32])]) -> Result<Vec<Stuck>, AllocError> {
     let mut stuck = Vec::new(alloc);
     for (rank, named) in ranks {

@@ -14,12 +14,14 @@ pub(crate) fn node_at(nodes: &[u32], rank: u32) -> u32
     nodes.get(rank as usize).copied().unwrap_or(rank)
 }
 
+/// The end of an edge: solid where all are needed, and dashed where one is enough.
 fn tip(all: bool) -> &'static [u8]
     ensures { result.now ≡ tip_text all }
 {
     if all { b";\n" } else { b" [style=dashed];\n" }
 }
 
+/// `  r0 -> r1;`.
 fn put_edge(out: &mut Text, all: bool, from: &[u8], node: u32)
     ensures { Adds out.old out.new (edge_text all from.now node) }
 {
@@ -30,6 +32,7 @@ fn put_edge(out: &mut Text, all: bool, from: &[u8], node: u32)
     out.put(tip(all));
 }
 
+/// Whether an edge to this node was drawn just before.
 fn is_last(last: Option<u32>, node: u32) -> bool
     ensures { result ≡ is_last last node }
 {
@@ -39,6 +42,7 @@ fn is_last(last: Option<u32>, node: u32) -> bool
     }
 }
 
+/// An edge to a node, where the last one didn't go there.
 fn put_next(out: &mut Text, all: bool, from: &[u8], last: Option<u32>, node: u32)
     ensures { Adds out.old out.new (next_text all from.now last node) }
 {
@@ -59,6 +63,7 @@ fn put_to_nodes(out: &mut Text, nodes: &[u32], all: bool, from: &[u8], ranks: &[
     }
 }
 
+/// The ranks by their numbers: `   -> 0 to 1023;`.
 fn put_numbers(out: &mut Text, all: bool, from: &[u8], ranks: &[u32])
     ensures { Adds out.old out.new (numbers_text all from.now ranks.now) }
 {
@@ -85,6 +90,7 @@ pub(crate) fn put_edges(
     }
 }
 
+/// Whether it has a point of its own: a one-of below an all-of, or an all-of below a one-of.
 fn is_apart(outer: bool, all: bool) -> bool
     ensures { result ≡ is_apart outer all }
 {
@@ -96,6 +102,7 @@ fn is_apart(outer: bool, all: bool) -> bool
     }
 }
 
+/// The name of a choice's point, by its place.
 fn point_name(alloc: Global, place: &[u8]) -> Result<Vec<u8>, AllocError>
     ensures { IfOk result (λ name. name.items ≡ point_name place.now) }
 {
@@ -104,6 +111,7 @@ fn point_name(alloc: Global, place: &[u8]) -> Result<Vec<u8>, AllocError>
     text.into_bytes()
 }
 
+/// The same, added to a text.
 fn put_point_name(out: &mut Text, place: &[u8])
     ensures { Adds out.old out.new (point_name place.now) }
 {
@@ -111,6 +119,7 @@ fn put_point_name(out: &mut Text, place: &[u8])
     out.put(place);
 }
 
+/// A small point, to which a dashed line goes: `  p0 [shape=point];` and `  r0 -> p0 [style=dashed, arrowhead=none];`.
 fn put_point(out: &mut Text, from: &[u8], place: &[u8])
     ensures { Adds out.old out.new (point_text from.now place.now) }
 {
@@ -158,6 +167,7 @@ pub(crate) fn place_below(alloc: Global, place: &[u8], i: usize) -> Result<Vec<u
     text.into_bytes()
 }
 
+/// The place of a part below a place, by its number: `0_2`.
 fn put_place_below(out: &mut Text, place: &[u8], i: usize)
     ensures { Adds out.old out.new (place_below place.now i) }
 {

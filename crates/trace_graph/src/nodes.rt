@@ -11,6 +11,7 @@ use crate::seen::Seen;
 use call_words::{Text, put_ranges};
 use std::alloc::{AllocError, Global};
 
+/// Whether two ranks wait for the same, in the same function on the same communicator, in a heart or not.
 fn is_alike(one: &Seen, other: &Seen) -> bool
     ensures { result ≡ is_alike (standing one.now) (standing other.now) }
 {
@@ -54,6 +55,7 @@ fn ranks_alike(alloc: Global, ranks: &[Seen], seen: &Seen) -> Result<Vec<u32>, A
     Ok(alike)
 }
 
+/// `rank 1, call 1\nMPI_Send to rank 0 of MPI_COMM_WORLD, tag 7, 1 element`.
 fn put_alone(out: &mut Text, seen: &Seen)
     ensures { Adds out.old out.new (alone_text (standing seen.now)) }
 {
@@ -62,6 +64,7 @@ fn put_alone(out: &mut Text, seen: &Seen)
     out.put(&seen.alone);
 }
 
+/// `ranks 0 to 11, 13\nMPI_Barrier on MPI_COMM_WORLD`.
 fn put_together(out: &mut Text, seen: &Seen, ranks: &[u32])
     ensures { Adds out.old out.new (together_text (standing seen.now) ranks.now) }
 {
@@ -70,6 +73,7 @@ fn put_together(out: &mut Text, seen: &Seen, ranks: &[u32])
     out.put(&seen.together);
 }
 
+/// What a node says, of one rank or of several.
 fn put_label(out: &mut Text, seen: &Seen, ranks: &[u32])
     ensures { Adds out.old out.new (label_text (standing seen.now) ranks.now) }
 {
@@ -80,6 +84,7 @@ fn put_label(out: &mut Text, seen: &Seen, ranks: &[u32])
     }
 }
 
+/// A node with its label.
 fn put_node(out: &mut Text, seen: &Seen, ranks: &[u32])
     ensures { Adds out.old out.new (node_text (standing seen.now) ranks.now) }
 {
@@ -98,6 +103,7 @@ fn put_first(alloc: Global, out: &mut Text, nodes: &[u32], ranks: &[Seen], seen:
     }
 }
 
+/// The node of a rank and of those that stand alike.
 fn put_alike(alloc: Global, out: &mut Text, ranks: &[Seen], seen: &Seen)
     ensures { Adds out.old out.new (node_text (standing seen.now) (ranks_alike (map standing ranks.now) (standing seen.now))) }
 {

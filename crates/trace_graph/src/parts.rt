@@ -10,6 +10,7 @@ use call_words::Text;
 use std::alloc::{AllocError, Global};
 use trace_stuck::Condition;
 
+/// The rank for which a part waits, where it is a rank.
 fn rank_of(part: &Condition) -> Option<u32>
     ensures { result ≡ rank_of (shape part.now) }
 {
@@ -76,6 +77,7 @@ pub(crate) fn put_wait(
     }
 }
 
+/// The edges of some parts, with their point, where they have one.
 #[cycle(waits)]
 fn put_list(
     alloc: Global,
@@ -96,6 +98,7 @@ fn put_list(
     }
 }
 
+/// All parts: an edge for each rank, and then the others.
 #[cycle(waits)]
 fn put_parts(
     alloc: Global,
@@ -117,6 +120,7 @@ fn put_parts(
     }
 }
 
+/// The parts but for plain ranks, one behind the other.
 #[cycle(waits)]
 fn put_nested(
     alloc: Global,
@@ -134,6 +138,7 @@ fn put_nested(
     }
 }
 
+/// A part by its number, unless it is a plain rank.
 #[cycle(waits)]
 fn put_part(
     alloc: Global,

@@ -40,12 +40,14 @@ fn drawn(alloc: Global, ranks: &[Seen], stuck: &[Stuck]) -> Result<Vec<u8>, Allo
     text.into_bytes()
 }
 
+/// The first lines of a picture.
 fn put_head(out: &mut Text)
     ensures { Adds out.old out.new head_text }
 {
     out.put(b"strict digraph deadlock {\n  node [shape=box];\n");
 }
 
+/// A picture of what is said of each rank, and of the stuck ranks.
 fn put_picture(alloc: Global, out: &mut Text, nodes: &[u32], ranks: &[Seen], stuck: &[Stuck])
     ensures { Adds out.old out.new (picture_text nodes.now (map standing ranks.now) (map stopped stuck.now)) }
 {
@@ -55,6 +57,7 @@ fn put_picture(alloc: Global, out: &mut Text, nodes: &[u32], ranks: &[Seen], stu
     out.put(b"}\n");
 }
 
+/// For whom the stuck ranks wait, drawn once of those that stand alike.
 fn put_all_stuck(alloc: Global, out: &mut Text, nodes: &[u32], stuck: &[Stuck])
     ensures { Adds out.old out.new (flat_map (stuck_text nodes.now) (map stopped stuck.now)) }
 {
@@ -92,6 +95,7 @@ fn put_from(alloc: Global, out: &mut Text, nodes: &[u32], name: &[u8], stuck: &S
     }
 }
 
+/// The name of a node, by its least rank.
 fn name_of(alloc: Global, rank: u32) -> Result<Vec<u8>, AllocError>
     ensures { IfOk result (λ name. name.items ≡ node_name rank) }
 {
@@ -100,6 +104,7 @@ fn name_of(alloc: Global, rank: u32) -> Result<Vec<u8>, AllocError>
     text.into_bytes()
 }
 
+/// The same, added to a text.
 fn put_name(out: &mut Text, rank: u32)
     ensures { Adds out.old out.new (node_name rank) }
 {
@@ -107,6 +112,7 @@ fn put_name(out: &mut Text, rank: u32)
     out.put_number(rank as u64);
 }
 
+/// The number of a rank, as text.
 fn number_of(alloc: Global, rank: u32) -> Result<Vec<u8>, AllocError>
     ensures { IfOk result (λ number. number.items ≡ decimal rank) }
 {

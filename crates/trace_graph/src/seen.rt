@@ -71,6 +71,7 @@ fn see_other(
     see_doing(alloc, know, rank, prefix, state)
 }
 
+/// Whether it is told of this rank.
 fn is_of(stop: &Stuck, rank: u32) -> bool
     ensures { result ≡ (stop.now.rank == rank) }
 {
@@ -89,6 +90,7 @@ fn stop_of(stuck: &[Stuck], rank: u32) -> Option<&Stuck>
     None
 }
 
+/// Whether the rank has a heart in the list.
 fn is_in_heart(hearts: &[Option<u32>], rank: u32) -> bool
     ensures { result ≡ is_in_heart hearts.now rank }
 {

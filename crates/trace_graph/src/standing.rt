@@ -16,6 +16,7 @@ use trace_know::{Cell, Knowledge};
 use trace_ops::State;
 use trace_stuck::Condition;
 
+/// The call that is entered by an event, with what it names, or its function alone.
 fn put_call_of(out: &mut Text, cell: Cell<'_>)
     ensures { Adds out.old out.new (call_of (event_of (shown cell.entry))) }
 {
@@ -26,6 +27,7 @@ fn put_call_of(out: &mut Text, cell: Cell<'_>)
     }
 }
 
+/// The function of the call that a rank entered.
 fn put_function_of(out: &mut Text, cell: Cell<'_>)
     ensures { Adds out.old out.new (function_of (event_of (shown cell.entry))) }
 {
@@ -36,6 +38,7 @@ fn put_function_of(out: &mut Text, cell: Cell<'_>)
     }
 }
 
+/// A call by its number, with what it names: `, call 2\nMPI_Send to rank 1 of MPI_COMM_WORLD, tag 7, 1 element`.
 fn put_numbered(out: &mut Text, know: &Knowledge, rank: u32, call: u64, place: u64)
     ensures { Adds out.old out.new (numbered_text know.now rank call place) }
 {
@@ -45,6 +48,7 @@ fn put_numbered(out: &mut Text, know: &Knowledge, rank: u32, call: u64, place: u
     put_call_of(out, know.cell(rank, place));
 }
 
+/// A call by its function: `\nMPI_Send on MPI_COMM_WORLD`.
 fn put_unnumbered(out: &mut Text, know: &Knowledge, rank: u32, place: u64)
     ensures { Adds out.old out.new (unnumbered_text know.now rank place) }
 {
@@ -52,6 +56,7 @@ fn put_unnumbered(out: &mut Text, know: &Knowledge, rank: u32, place: u64)
     put_function_of(out, know.cell(rank, place));
 }
 
+/// The end of a stuck rank's label, and how its node looks: those of a heart are marked.
 fn stuck_end(in_heart: bool) -> &'static [u8]
     ensures { result.now ≡ stuck_end in_heart }
 {
@@ -62,12 +67,14 @@ fn stuck_end(in_heart: bool) -> &'static [u8]
     }
 }
 
+/// The place where a call was entered; the number stays at the greatest of 64 bits.
 fn place_of(call: u64) -> u64
     ensures { result ≡ place_of call }
 {
     call.saturating_mul(2)
 }
 
+/// A stuck rank that stands alone in its node.
 fn put_stuck_alone(out: &mut Text, know: &Knowledge, in_heart: bool, rank: u32, call: u64)
     ensures { Adds out.old out.new (stuck_alone know.now in_heart rank call) }
 {
@@ -75,6 +82,7 @@ fn put_stuck_alone(out: &mut Text, know: &Knowledge, in_heart: bool, rank: u32, 
     out.put(stuck_end(in_heart));
 }
 
+/// Stuck ranks that share a node.
 fn put_stuck_together(out: &mut Text, know: &Knowledge, in_heart: bool, rank: u32, call: u64)
     ensures { Adds out.old out.new (stuck_together know.now in_heart rank call) }
 {
@@ -121,12 +129,14 @@ pub(crate) fn whom(alloc: Global, waits: &Condition) -> Result<Vec<u8>, AllocErr
     text.into_bytes()
 }
 
+/// The last call of a readable prefix.
 fn last_call(prefix: u64) -> u64
     ensures { result ≡ last_call prefix }
 {
     prefix.saturating_sub(1) / 2
 }
 
+/// A rank that waits and isn't stuck, alone in its node, with its call.
 fn put_waiting_alone(out: &mut Text, know: &Knowledge, rank: u32, prefix: u64)
     ensures { Adds out.old out.new (doing_alone know.now rank prefix State.Waiting) }
 {
@@ -134,6 +144,7 @@ fn put_waiting_alone(out: &mut Text, know: &Knowledge, rank: u32, prefix: u64)
     out.put(b"\\nmay go on");
 }
 
+/// Ranks that wait and aren't stuck, in one node, with their function.
 fn put_waiting_together(out: &mut Text, know: &Knowledge, rank: u32, prefix: u64)
     ensures { Adds out.old out.new (doing_together know.now rank prefix State.Waiting) }
 {
@@ -141,6 +152,7 @@ fn put_waiting_together(out: &mut Text, know: &Knowledge, rank: u32, prefix: u64
     out.put(b"\\nmay go on");
 }
 
+/// A rank that isn't stuck and stands alone in its node.
 fn put_doing_alone(out: &mut Text, know: &Knowledge, rank: u32, prefix: u64, state: State)
     ensures { Adds out.old out.new (doing_alone know.now rank prefix state) }
 {
@@ -151,6 +163,7 @@ fn put_doing_alone(out: &mut Text, know: &Knowledge, rank: u32, prefix: u64, sta
     }
 }
 
+/// Ranks that aren't stuck and share a node.
 fn put_doing_together(out: &mut Text, know: &Knowledge, rank: u32, prefix: u64, state: State)
     ensures { Adds out.old out.new (doing_together know.now rank prefix state) }
 {
@@ -161,6 +174,7 @@ fn put_doing_together(out: &mut Text, know: &Knowledge, rank: u32, prefix: u64, 
     }
 }
 
+/// The end of the label of a rank that isn't stuck, and how its node looks.
 fn put_other_end(out: &mut Text)
     ensures { Adds out.old out.new other_end }
 {

@@ -25,6 +25,7 @@ pub(crate) struct Followed {
     pub reaches: Vec<Reach>,
 }
 
+/// How far a rank is known.
 fn reach_of(know: &Knowledge, rank: u32) -> Reach
     ensures { result ≡ reach_of know.now rank }
 {

@@ -17,6 +17,7 @@ pub record Group : Type 0 where
   pub comm : ℕ
   pub members : List ℕ
 
+-- the group of the communicator that has this id in the layout
 abbrev pub group_at : Parts → ℕ → Option Group
 group_at layout comm = option_map (λ members. record { comm = comm; members = members }) (members_of layout.comms comm)
 
@@ -77,6 +78,7 @@ are_within members (calls.Icollective c) = is_root_within members c
 are_within members (calls.Probe e) = is_within members (peer_rank e.source)
 are_within members call = true
 
+-- the group, where the ranks that the call names are within it
 abbrev pub group_with : Call → Group → Option Group
 group_with call g = if are_within g.members call then Some g else None
 
@@ -89,5 +91,6 @@ group_of layout rank n call = option_and_then (group_with call) (option_and_then
 abbrev pub is_foreign_in : Option Group → Call → Bool
 is_foreign_in g call = is_some (comm_of call) && is_none g
 
+-- Call n of a rank is foreign.
 abbrev pub is_foreign : Parts → ℕ → ℕ → Call → Bool
 is_foreign layout rank n call = is_foreign_in (group_of layout rank n call) call

@@ -26,9 +26,11 @@ post_of (Irecv e) (Some (Posted request)) = number_for request
 post_of (Icollective c) (Some (Posted request)) = number_for request
 post_of call outs = None
 
+-- the number that a call of a rank posts
 abbrev pub posted_by : Entry → Option ℤ
 posted_by c = post_of c.call c.outs
 
+-- a request that is completed, with what is told of it
 abbrev pub completes : ℤ → Told → Completed
 completes request told = record { request = request; told = told }
 
@@ -42,6 +44,7 @@ all_of (request ∷ requests) (told ∷ tells) = completes request told ∷ all_
 abbrev pub indexed : List ℤ → ℕ → Told → Option Completed
 indexed requests position told = option_map (λ request. completes request told) (slice_get requests position)
 
+-- the request at the position of an element, with what the element tells
 abbrev pub element_of : List ℤ → Element → Option Completed
 element_of requests e = indexed requests e.position e.told
 
@@ -67,13 +70,16 @@ completions (Testsome requests) (Some (Several elements)) = filter_map (element_
 completions (Free request) (Some outs) = completes request Nothing ∷ []
 completions call outs = []
 
+-- the requests that a call of a rank completes
 abbrev pub completed_by : Entry → List Completed
 completed_by c = completions c.call c.outs
 
+-- The number that is posted is this one.
 abbrev pub is_posted : Option ℤ → ℤ → Bool
 is_posted None x = false
 is_posted (Some request) x = int_eq request x
 
+-- This number is among the completed ones.
 abbrev pub is_completed : ℤ → List Completed → Bool
 is_completed x done = list_any (λ c. int_eq c.request x) done
 
@@ -86,6 +92,7 @@ abbrev pub still_active : ℕ → List Entry → Option ℤ → Option (ℤ × �
 still_active n later None = None
 still_active n later (Some x) = if list_any (touches x) later then None else Some (x, n)
 
+-- the number that a call posts, with the call, where no later call touches it
 abbrev pub active_post : Numbered → Option (ℤ × ℕ)
 active_post c = still_active c.number c.later (posted_by c.entry)
 

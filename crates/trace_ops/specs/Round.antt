@@ -19,6 +19,7 @@ entered_by g n (Collective c) = Some (entry_of g n c false)
 entered_by g n (Icollective c) = Some (entry_of g n c true)
 entered_by g n call = None
 
+-- the same, where the call takes part in a group
 abbrev pub entered_in : Option Group → ℕ → Call → Option Entered
 entered_in None n call = None
 entered_in (Some g) n call = entered_by g n call

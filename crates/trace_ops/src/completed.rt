@@ -67,12 +67,14 @@ pub(crate) fn completions(
     }
 }
 
+/// A request that is completed, with what is told of it.
 fn completes(request: i64, told: Told) -> Completed
     ensures { result ≡ completes request told }
 {
     Completed { request, told }
 }
 
+/// One request that is completed.
 fn one_of(alloc: Global, request: i64, told: Told) -> Result<Vec<Completed>, AllocError>
     ensures { IfOk result (λ done. done.items ≡ completes request told ∷ []) }
 {
@@ -109,6 +111,7 @@ fn indexed(requests: &[i64], position: u32, told: Told) -> Option<Completed>
     Some(completes(*request, told))
 }
 
+/// The request of a Waitany or Testany, where its outcome has an index.
 fn any_of(
     alloc: Global,
     requests: &[i64],

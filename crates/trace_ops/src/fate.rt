@@ -27,6 +27,7 @@ pub(crate) struct Fate<'a> {
     pub tellings: &'a [Completed],
 }
 
+/// What a place of an outcome tells of the request.
 fn told_at(members: &[u32], x: i64, completed: &Completed) -> Option<u32>
     ensures { result ≡ told_at members.now x completed.now }
 {
@@ -57,6 +58,7 @@ pub(crate) fn source_in(members: &[u32], told: Option<u32>) -> Option<u32>
     members.get(told? as usize).copied()
 }
 
+/// Whether a later Cancel names the number.
 fn is_marked(touch: Option<Touch>) -> bool
     ensures { result ≡ is_marked touch }
 {
@@ -66,6 +68,7 @@ fn is_marked(touch: Option<Touch>) -> bool
     }
 }
 
+/// Whether a status says that the request was cancelled.
 fn is_void_end(end: Option<End>) -> bool
     ensures { result ≡ is_void_end end }
 {
@@ -75,6 +78,7 @@ fn is_void_end(end: Option<End>) -> bool
     }
 }
 
+/// The requests that a call completes, none where there is no call.
 fn completed_at<'a>(calls: &'a [Called<'_>], call: usize) -> &'a [Completed]
     ensures { result.now ≡ completed_at (slice_get calls.now call) }
 {
@@ -96,6 +100,7 @@ fn tail_of(done: &[Completed], place: usize) -> &[Completed]
     }
 }
 
+/// The completions of a call, from the first on that tells a source of the number.
 fn tellings_of<'a>(calls: &'a [Called<'_>], end: Option<End>) -> &'a [Completed]
     ensures { result.now ≡ tellings_of calls.now end }
 {

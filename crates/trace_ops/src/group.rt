@@ -30,6 +30,7 @@ pub(crate) fn group_named<'a>(
     Some(Group { comm, members })
 }
 
+/// The communicator that a call names, where it names one; both sides of a Sendrecv name one (MPI 4.0, 3.10).
 fn comm_of(call: &Call) -> Option<CommRef>
     ensures { result ≡ comm_of call.now }
 {
@@ -65,6 +66,7 @@ pub(crate) fn peer_rank(peer: Peer) -> Option<u32>
     }
 }
 
+/// Whether the rank, where one is named, is a rank in the group.
 fn is_within(members: &[u32], other: Option<u32>) -> bool
     ensures { result ≡ is_within members.now other }
 {
@@ -81,6 +83,7 @@ fn is_root_within(members: &[u32], c: Collective) -> bool
     is_within(members, c.root()) && (c.root().is_some() || !c.kind().has_root())
 }
 
+/// Whether the ranks that a call names, its peers or its root, are ranks in the group.
 fn are_within(members: &[u32], call: &Call) -> bool
     ensures { result ≡ are_within members.now call.now }
 {

@@ -16,6 +16,7 @@ use crate::group::{Group, peer_rank};
 use crate::trust::trust_of_post;
 use mpi_model::{Call, Collective, CollectiveFunction, Envelope, Message, Mode, OpName, Trust};
 
+/// The tag of a send, which always names one.
 fn tag_of(tag: Option<u32>) -> u32
     ensures { result ≡ tag_of tag }
 {
@@ -25,6 +26,7 @@ fn tag_of(tag: Option<u32>) -> u32
     }
 }
 
+/// The message of a call's envelope to a rank of the trace.
 fn message_to(
     group: Group<'_>,
     rank: u32,
@@ -49,6 +51,7 @@ fn message_to(
     }
 }
 
+/// The message of a send to a rank of the group; a send to the null process moves nothing.
 fn sent_with(
     group: Group<'_>,
     rank: u32,
@@ -64,6 +67,7 @@ fn sent_with(
     Some(message_to(group, rank, n, mode, e, trust, *to))
 }
 
+/// The message that a call sends in its group, where it sends one.
 fn sent_by(
     group: Group<'_>,
     rank: u32,
@@ -100,6 +104,7 @@ pub(crate) fn message_in(
     sent_by(group?, rank, n, called, fate)
 }
 
+/// The entry of a collective call into a round of its communicator.
 fn entry_of(group: Group<'_>, n: u64, c: Collective, nonblocking: bool) -> Entered
     ensures { result ≡ entry_of (plain group.entry) n c nonblocking }
 {
@@ -115,6 +120,7 @@ fn entry_of(group: Group<'_>, n: u64, c: Collective, nonblocking: bool) -> Enter
     }
 }
 
+/// The entry of a call, where it is collective, blocking or not.
 fn entered_by(group: Group<'_>, n: u64, call: &Call) -> Option<Entered>
     ensures { result ≡ entered_by (plain group.entry) n call.now }
 {

@@ -10,6 +10,8 @@ use crate::state::State;
 use mpi_model::{Call, Layout};
 use std::alloc::AllocError;
 
+/// Whether the call returns only once something else has happened, or may do so (MPI 4.0, 3.4, 3.7.3, 3.7.5, 3.8.1 and
+/// 6.1).
 fn may_block(call: &Call) -> bool
     ensures { result ≡ may_block call.now }
 {
@@ -30,12 +32,14 @@ fn may_block(call: &Call) -> bool
     }
 }
 
+/// Whether the call may block, and is not foreign.
 fn is_waiting_call(layout: &Layout, rank: u32, n: u64, call: &Call) -> bool
     ensures { result ≡ is_waiting_call layout.now rank n call.now }
 {
     may_block(call) && !is_foreign(layout, rank, n, call)
 }
 
+/// Whether the call has not returned, and is a waiting call.
 fn waits_in(layout: &Layout, rank: u32, n: u64, called: &Called<'_>) -> bool
     ensures { result ≡ waits_in layout.now rank n called.now }
 {
@@ -48,6 +52,7 @@ fn is_finalize(call: &Call) -> bool
     matches!(call, Call::Finalize)
 }
 
+/// The state of a rank whose last call is this one.
 fn state_after(layout: &Layout, rank: u32, n: u64, called: &Called<'_>) -> State
     ensures { result ≡ state_after layout.now rank n called.now }
 {

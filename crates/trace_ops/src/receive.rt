@@ -15,6 +15,7 @@ use crate::group::{Group, group_named};
 use crate::trust::trust_of_post;
 use mpi_model::{Call, Envelope, Layout, OpName, Outs, Peer, ProbeEnvelope, Receive, Trust};
 
+/// The receive of a call's envelope, with its source as far as that is told.
 fn receive_from(
     group: Group<'_>,
     rank: u32,
@@ -37,6 +38,7 @@ fn receive_from(
     }
 }
 
+/// The receive as which a call looks for a message.
 fn taken_with(
     group: Group<'_>,
     rank: u32,
@@ -84,6 +86,7 @@ fn told_of_own(members: &[u32], outs: Option<&Outs>) -> Option<u32>
     }
 }
 
+/// The receive as which a call looks for a message in its group, where it does.
 fn taken_by(
     group: Group<'_>,
     rank: u32,

@@ -113,6 +113,7 @@ fn note_void(touched: &mut Touched, request: i64) -> Result<(), AllocError>
     Ok(())
 }
 
+/// The same, where the call that ends the number says that its request was cancelled.
 fn voided(touch: Touch) -> Touch
     ensures { result ≡ voided touch }
 {

@@ -9,6 +9,7 @@ ghost use Rattle.trace_ops.specs.Trust.{cancelled_post, trust_of_post, trust_wit
 use crate::fate::Fate;
 use mpi_model::{OpName, Trust};
 
+/// The trust by whether a Cancel names the request, its outcome says that it was cancelled, and a source is told.
 fn trust_with(cancelled: bool, void: bool, told: bool) -> Trust
     ensures { result ≡ trust_with cancelled void told }
 {

@@ -123,6 +123,7 @@ impl PairIndex {
     }
 }
 
+/// So many ranks without calls.
 fn fresh_ops(alloc: Global, ranks: u32) -> Result<Vec<RankOps>, AllocError>
     ensures { IfOk result (λ held. held.items ≡ fresh ranks) }
 {

@@ -31,6 +31,7 @@ impl<T: Ord> Model for Members<T> {
     ghost view = { λ m. set_of m.kept };
 }
 
+/// Puts the key into the set.
 fn put<T: Ord + Drop>(set: &mut BTreeSet<T>, x: T) -> Result<(), AllocError>
     ensures ok { OnOk result ((d : T) → contains T.cmp set.new d ≡ (is_eq (T.cmp x d) || contains T.cmp set.old d)) }
     ensures err { OnErr result ((d : T) → contains T.cmp set.new d ≡ contains T.cmp set.old d) }

@@ -36,6 +36,7 @@ impl Model for Places {
 }
 
 impl Places {
+    /// A place alone.
     fn one(alloc: Global, place: usize) -> Result<Places, AllocError>
         ensures { IfOk result (λ places. places ≡ place ∷ []) }
     {
@@ -44,6 +45,7 @@ impl Places {
         Ok(Places { kept })
     }
 
+    /// A place more, behind the others.
     fn push(&mut self, place: usize) -> Result<(), AllocError>
         ensures { OnOk result (self.new ≡ self.old ++ place ∷ []) }
     {
@@ -51,12 +53,14 @@ impl Places {
         Ok(())
     }
 
+    /// The place in front.
     fn front(&self) -> Option<usize>
         ensures { result ≡ slice_get self.now 0 }
     {
         self.kept.get(0).copied()
     }
 
+    /// Takes the place in front away.
     fn pop(&mut self)
         ensures { self.new ≡ drop 1 self.old }
     {

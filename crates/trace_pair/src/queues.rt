@@ -229,6 +229,7 @@ impl Receives {
     }
 }
 
+/// Whether the one comes before the other: by rank, and then by call.
 fn is_named_before(a: &OpName, b: &OpName) -> bool
     ensures { result ≡ name_lt a.now b.now }
 {

@@ -61,12 +61,15 @@ abbrev pub root_value : Option ℕ → List ℕ
 root_value (Some root) = decimal root
 root_value None = codes "null"
 
+-- the function of a round and its root
 abbrev pub called_fields : CollectiveFunction → Option ℕ → List ℕ
 called_fields function root = codes ",\"kind\":\"" ++ function_word function ++ codes "\",\"root\":" ++ root_value root
 
+-- a round that all members have entered
 abbrev pub complete_fields : CollectiveFunction → Option ℕ → List ℕ
 complete_fields function root = codes "complete\"" ++ called_fields function root
 
+-- a round that so many of the members have entered
 abbrev pub open_fields : CollectiveFunction → Option ℕ → ℕ → ℕ → List ℕ
 open_fields function root entered members = codes "open\"" ++ called_fields function root
     ++ codes ",\"entered\":" ++ decimal entered ++ codes ",\"members\":" ++ decimal members

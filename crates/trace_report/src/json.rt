@@ -34,6 +34,7 @@ pub(crate) fn put_json<S: Sink>(out: &mut S, answer: &Answer)
     put_last(out, answer);
 }
 
+/// The ranks and how sends complete.
 fn put_head<S: Sink>(out: &mut S, answer: &Answer)
     ensures { Prints (S.page out.old) (S.page out.new) (head_fields answer.now) }
 {
@@ -44,12 +45,14 @@ fn put_head<S: Sink>(out: &mut S, answer: &Answer)
     out.put(b"\",\"rank\":[");
 }
 
+/// The stuck ranks, with a comma between two of them.
 fn put_all_stuck<S: Sink>(out: &mut S, ranks: &[Stuck])
     ensures { Prints (S.page out.old) (S.page out.new) (joined stuck_object (map stopped ranks.now)) }
 {
     put_all(out, ranks);
 }
 
+/// How many calls are foreign, and the end of the line.
 fn put_last<S: Sink>(out: &mut S, answer: &Answer)
     ensures { Prints (S.page out.old) (S.page out.new) (last_fields answer.now) }
 {

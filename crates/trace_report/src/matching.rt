@@ -18,6 +18,7 @@ pub(crate) fn put_conflicts<S: Sink>(out: &mut S, places: &[(u32, u64)])
     }
 }
 
+/// `conflict R PLACE`: two pieces tell two things of this place.
 fn put_conflict<S: Sink>(out: &mut S, at: &(u32, u64))
     ensures { Prints (S.page out.old) (S.page out.new) (conflict_line at.now) }
 {
@@ -28,6 +29,7 @@ fn put_conflict<S: Sink>(out: &mut S, at: &(u32, u64))
     out.put(b"\n");
 }
 
+/// A call by its rank and its number, `R:CALL`.
 fn put_name<S: Sink>(out: &mut S, name: &OpName)
     ensures { Prints (S.page out.old) (S.page out.new) (name_text name.now) }
 {
@@ -45,6 +47,7 @@ pub(crate) fn put_pairs<S: Sink>(out: &mut S, pairs: &[Pair])
     }
 }
 
+/// `pair R:CALL R:CALL`, the message before the receive, with ` over` where more is sent than the receive takes.
 fn put_pair<S: Sink>(out: &mut S, pair: &Pair)
     ensures { Prints (S.page out.old) (S.page out.new) (pair_line pair.now) }
 {
@@ -65,6 +68,7 @@ pub(crate) fn put_all_postponed<S: Sink>(out: &mut S, names: &[OpName])
     }
 }
 
+/// `postponed R:CALL`.
 fn put_postponed<S: Sink>(out: &mut S, name: &OpName)
     ensures { Prints (S.page out.old) (S.page out.new) (postponed_line name.now) }
 {

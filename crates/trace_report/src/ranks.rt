@@ -58,6 +58,7 @@ pub(crate) fn is_unread(answer: &Answer, rank: u32) -> bool
     answer.unread().get(rank as usize).copied().unwrap_or(false)
 }
 
+/// The line of a rank.
 fn put_rank<S: Sink>(out: &mut S, answer: &Answer, rank: u32)
     ensures { Prints (S.page out.old) (S.page out.new) (rank_line answer.now rank) }
 {
@@ -68,6 +69,8 @@ fn put_rank<S: Sink>(out: &mut S, answer: &Answer, rank: u32)
     put_rank_text(out, rank, prefix, state, beyond, unread);
 }
 
+/// `rank R prefix P free`, with ` beyond` where something is known at or past the prefix, and ` unread` where it ends
+/// at the Enter of an unread call.
 fn put_rank_text<S: Sink>(
     out: &mut S,
     rank: u32,

@@ -97,6 +97,7 @@ fn put_form<S: Sink>(out: &mut S, form: Form, answer: &Answer)
     }
 }
 
+/// The report, line by line.
 fn put_report<S: Sink>(out: &mut S, answer: &Answer)
     ensures { Prints (S.page out.old) (S.page out.new) (report_text answer.now) }
 {

@@ -19,6 +19,7 @@ pub(crate) fn put_rounds<S: Sink>(out: &mut S, rounds: &[Round])
     }
 }
 
+/// `round COMM:K` and how it stands.
 fn put_round<S: Sink>(out: &mut S, round: &Round)
     ensures { Prints (S.page out.old) (S.page out.new) (round_line round.now) }
 {
@@ -31,6 +32,7 @@ fn put_round<S: Sink>(out: &mut S, round: &Round)
     out.put(b"\n");
 }
 
+/// How a round stands.
 fn put_standing<S: Sink>(out: &mut S, standing: Standing)
     ensures { Prints (S.page out.old) (S.page out.new) (standing_text standing) }
 {
@@ -43,6 +45,7 @@ fn put_standing<S: Sink>(out: &mut S, standing: Standing)
     }
 }
 
+/// `bcast 0 complete`.
 fn put_complete<S: Sink>(out: &mut S, function: CollectiveFunction, root: Option<u32>)
     ensures { Prints (S.page out.old) (S.page out.new) (complete_text function root) }
 {
@@ -50,6 +53,7 @@ fn put_complete<S: Sink>(out: &mut S, function: CollectiveFunction, root: Option
     out.put(b" complete");
 }
 
+/// `barrier open E of M`: so many of all members have entered.
 fn put_open<S: Sink>(
     out: &mut S,
     function: CollectiveFunction,
@@ -66,6 +70,7 @@ fn put_open<S: Sink>(
     put_number(out, members as u64);
 }
 
+/// `bcast 0`, `ibcast 0`, `barrier`.
 fn put_called<S: Sink>(out: &mut S, function: CollectiveFunction, root: Option<u32>)
     ensures { Prints (S.page out.old) (S.page out.new) (called_text function root) }
 {
@@ -73,6 +78,7 @@ fn put_called<S: Sink>(out: &mut S, function: CollectiveFunction, root: Option<u
     put_root(out, root);
 }
 
+/// The root, where the kind has one, as its rank in the group.
 fn put_root<S: Sink>(out: &mut S, root: Option<u32>)
     ensures { Prints (S.page out.old) (S.page out.new) (root_text root) }
 {
@@ -82,6 +88,7 @@ fn put_root<S: Sink>(out: &mut S, root: Option<u32>)
     }
 }
 
+/// The root's rank in the group, behind a space.
 fn put_some_root<S: Sink>(out: &mut S, root: u32)
     ensures { Prints (S.page out.old) (S.page out.new) (codes " " ++ decimal root) }
 {

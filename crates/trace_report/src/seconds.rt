@@ -16,6 +16,7 @@ pub(crate) fn put_seconds<S: Sink>(out: &mut S, nanoseconds: u64)
     out.put(&nine_digits(nanoseconds));
 }
 
+/// The last nine decimal digits of a number.
 fn nine_digits(n: u64) -> [u8; 9]
     ensures { result ≡ nine_digits n }
 {
@@ -32,6 +33,7 @@ fn nine_digits(n: u64) -> [u8; 9]
     ]
 }
 
+/// The last decimal digit of a number, as a character: 48 is `0`.
 fn last_digit(n: u64) -> u8
     ensures { result ≡ last_digit n }
 {

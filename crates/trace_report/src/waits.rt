@@ -35,6 +35,7 @@ fn put_list<S: Sink>(out: &mut S, form: Form, head: &[u8], parts: &[Condition])
     out.put(form.close());
 }
 
+/// The parts of a condition, in the words of a form.
 #[cycle(wait)]
 fn put_parts<S: Sink>(out: &mut S, form: Form, parts: &[Condition])
     ensures { Prints (S.page out.old) (S.page out.new) (parts_text (words_of form) (waits_of (map shape parts.now))) }
@@ -44,6 +45,7 @@ fn put_parts<S: Sink>(out: &mut S, form: Form, parts: &[Condition])
     }
 }
 
+/// A part by its place, with what stands before it.
 #[cycle(wait)]
 fn put_part<S: Sink>(out: &mut S, form: Form, i: usize, part: &Condition)
     ensures { Prints (S.page out.old) (S.page out.new) (part_text (words_of form) i (shape part.now)) }
@@ -61,6 +63,7 @@ fn put_rank_list<S: Sink>(out: &mut S, form: Form, head: &[u8], ranks: &[u32])
     out.put(form.close());
 }
 
+/// The ranks that are the parts of a condition.
 fn put_ranks<S: Sink>(out: &mut S, form: Form, ranks: &[u32])
     ensures { Prints (S.page out.old) (S.page out.new) (parts_text (words_of form) (waits_of (map OnRank ranks.now))) }
 {
@@ -69,6 +72,7 @@ fn put_ranks<S: Sink>(out: &mut S, form: Form, ranks: &[u32])
     }
 }
 
+/// A rank that is a part, by its place, with what stands before it.
 fn put_rank<S: Sink>(out: &mut S, form: Form, i: usize, rank: u32)
     ensures { Prints (S.page out.old) (S.page out.new) (part_text (words_of form) i (OnRank rank)) }
 {
@@ -76,6 +80,7 @@ fn put_rank<S: Sink>(out: &mut S, form: Form, i: usize, rank: u32)
     put_number(out, rank as u64);
 }
 
+/// What stands before a part, by its place among the parts.
 fn before_part(form: Form, i: usize) -> &'static [u8]
     ensures { result.now ≡ before_part (words_of form) i }
 {

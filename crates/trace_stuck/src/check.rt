@@ -44,12 +44,14 @@ impl<'a> Able for Outside<'a> {
     }
 }
 
+/// Whether the rank is in the list.
 fn is_among(ranks: &[u32], r: u32) -> bool
     ensures { result ≡ among ranks.now r }
 {
     ranks.iter().any(|s| *s == r)
 }
 
+/// Whether the rank may be released after these.
 fn is_step(states: &[State], conditions: &[Option<Condition>], before: &[u32], r: u32) -> bool
     ensures { result ≡ is_step states.now conditions.now before.now r }
 {
@@ -65,6 +67,7 @@ fn is_step(states: &[State], conditions: &[Option<Condition>], before: &[u32], r
         )
 }
 
+/// Whether the rank waits, and may not go on where just the ranks outside the list that have not ended can.
 fn is_shut(states: &[State], conditions: &[Option<Condition>], ranks: &[u32], r: u32) -> bool
     ensures { result ≡ is_shut states.now conditions.now ranks.now r }
 {

@@ -145,6 +145,7 @@ fn are_ranks(parts: &[Condition], ranks: &[u32]) -> bool
     true
 }
 
+/// Whether the two conditions say the same.
 #[cycle(same)]
 fn is_same(first: &Condition, second: &Condition) -> bool
     ensures { IsTrue result ↔ (shape first.now ≡ shape second.now) }
@@ -164,6 +165,7 @@ fn is_same(first: &Condition, second: &Condition) -> bool
     }
 }
 
+/// Whether the parts say the same, one by one.
 #[cycle(same)]
 fn are_same(first: &[Condition], second: &[Condition]) -> bool
     ensures { IsTrue result ↔ (map shape first.now ≡ map shape second.now) }

@@ -11,6 +11,7 @@ use crate::condition::Condition;
 pub(crate) trait Able {
     ghost able: { Self → ℕ → Bool };
 
+    /// Whether the rank can go on.
     fn can_go(&self, r: u32) -> bool
         ensures { result ≡ able self.now r };
 }
@@ -59,6 +60,7 @@ fn can_each_go<A: Able>(able: &A, ranks: &[u32]) -> bool
     true
 }
 
+/// Whether a condition holds where just these ranks can go on.
 #[cycle(hold)]
 fn does_hold<A: Able>(able: &A, condition: &Condition) -> bool
     ensures { result ≡ holds (A.able able.now) condition.now }
@@ -73,6 +75,7 @@ fn does_hold<A: Able>(able: &A, condition: &Condition) -> bool
     }
 }
 
+/// Whether each of the parts does.
 #[cycle(hold)]
 fn does_each_hold<A: Able>(able: &A, parts: &[Condition]) -> bool
     ensures { result ≡ list_all (holds (A.able able.now)) parts.now }
@@ -85,6 +88,7 @@ fn does_each_hold<A: Able>(able: &A, parts: &[Condition]) -> bool
     true
 }
 
+/// Whether one of the parts does.
 #[cycle(hold)]
 fn does_some_hold<A: Able>(able: &A, parts: &[Condition]) -> bool
     ensures { result ≡ list_any (holds (A.able able.now)) parts.now }

@@ -74,6 +74,7 @@ is_mismatch (Partial function root entered all) = false
 abbrev pub is_mismatched_at : ℕ → ℕ → Round → Bool
 is_mismatched_at c k r = (r.comm == c) && (r.k == k) && is_mismatch r.standing
 
+-- Round k of communicator c is mismatched.
 abbrev pub is_mismatched : Run → ℕ → ℕ → Bool
 is_mismatched s c k = list_any (is_mismatched_at c k) s.rounds
 
@@ -93,6 +94,7 @@ to_root s r e k = by (root_rank s e)
     by None = OnNothing
     by (Some root) = if root == r then absent s e.comm k else other_side s e.comm k
 
+-- what a call waits for, by the category of its kind (MPI 4.0, 6.2.2)
 abbrev pub by_category : Run → ℕ → Entered → ℕ → waits.Wait
 by_category s r e k = of (row e.function.kind).category
   where
@@ -108,6 +110,7 @@ abbrev pub may_be_owed_nothing : Sends → Kind → Bool
 may_be_owed_nothing sends.Wait kind = false
 may_be_owed_nothing sends.Buffer kind = (row kind).has_counts
 
+-- what a call waits for, which is nothing where the rank may be owed nothing
 abbrev pub by_kind : Run → ℕ → Entered → ℕ → waits.Wait
 by_kind s r e k = if may_be_owed_nothing s.layout.sends e.function.kind then OnNothing else by_category s r e k
 
@@ -115,6 +118,7 @@ by_kind s r e k = if may_be_owed_nothing s.layout.sends e.function.kind then OnN
 abbrev pub round_number : Ops → Entered → ℕ
 round_number o e = count_by (λ d. (d.comm == e.comm) && nat_lt d.call e.call) o.rounds
 
+-- what a call waits for by its round: nothing where that is mismatched
 abbrev pub round_part : Run → ℕ → Entered → ℕ → waits.Wait
 round_part s r e k = if is_mismatched s e.comm k then OnNothing else by_kind s r e k
 

@@ -19,6 +19,7 @@ same_root (Some a) (Some b) = a == b
 same_root (Some a) None = false
 same_root None (Some b) = false
 
+-- Both flags are set, or neither is.
 abbrev pub same_flag : Bool → Bool → Bool
 same_flag true b = b
 same_flag false b = not b

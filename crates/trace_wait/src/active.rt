@@ -51,6 +51,7 @@ fn calls_of(alloc: Global, active: &[(i64, u64)]) -> Result<IndexMap<i64, u64>, 
     Ok(calls)
 }
 
+/// The call that posted the request of this number.
 fn call_in(calls: &IndexMap<i64, u64>, x: i64) -> Option<u64>
     ensures { result ≡ get int_eq calls.now x }
 {

@@ -14,6 +14,7 @@ use std::sync::Arc;
 use trace_ops::{Entered, RankOps};
 use trace_stuck::Condition;
 
+/// Adds the rank, unless it has entered.
 fn push_missing(has_entered: bool, r: u32, ranks: &mut Vec<u32>) -> Result<(), AllocError>
     ensures { OnOk result (ranks.new.items ≡ ranks.old.items ++ (if has_entered then [] else r ∷ [])) }
 {
@@ -77,6 +78,7 @@ fn lower(members: &[u32], r: u32) -> &[u32]
     members
 }
 
+/// Under `wait` the absent members; under `buffer` nothing.
 fn other_side(alloc: Global, run: &Overview, comm: u32, k: u64) -> Result<Condition, AllocError>
     ensures { IfOk result (λ c. shape c ≡ other_side run.now comm k) }
 {
@@ -111,6 +113,7 @@ fn has_root_entered(run: &Overview, comm: u32, k: u64, place: u32, root: u32) ->
     has_more(run.calls_on(comm), place as usize, k)
 }
 
+/// The root, where it has not entered.
 fn root_first(run: &Overview, comm: u32, k: u64, place: u32, root: u32) -> Condition
     requires { slice_get (members run.now comm) place ≡ Some root }
     ensures { shape result ≡ root_first run.now comm k root }
@@ -122,6 +125,7 @@ fn root_first(run: &Overview, comm: u32, k: u64, place: u32, root: u32) -> Condi
     }
 }
 
+/// The member at a place of the group.
 fn member_at(members: &[u32], place: u32) -> Option<u32>
     ensures { result ≡ slice_get members.now place }
 {
@@ -137,6 +141,7 @@ fn root_rank(run: &Overview, entered: &Entered) -> Option<(u32, u32)>
     Some((place, member_at(run.members(entered.comm), place)?))
 }
 
+/// What a member waits for where data goes from the root: the root, and the others.
 fn from_root(
     alloc: Global,
     run: &Overview,
@@ -156,6 +161,7 @@ fn from_root(
     }
 }
 
+/// What a member waits for where data goes to the root: the root, and the others.
 fn to_root(
     alloc: Global,
     run: &Overview,
@@ -175,6 +181,7 @@ fn to_root(
     }
 }
 
+/// What a call waits for, by the category of its kind (MPI 4.0, 6.2.2).
 fn by_category(
     alloc: Global,
     run: &Overview,
@@ -202,6 +209,7 @@ fn may_be_owed_nothing(sends: Sends, kind: Kind) -> bool
     }
 }
 
+/// What a call waits for, which is nothing where the rank may be owed nothing.
 fn by_kind(
     alloc: Global,
     run: &Overview,
@@ -218,6 +226,7 @@ fn by_kind(
     }
 }
 
+/// What a call waits for by its round: nothing where that is mismatched.
 fn round_part(
     alloc: Global,
     run: &Overview,
@@ -234,6 +243,7 @@ fn round_part(
     }
 }
 
+/// The entry of call n into a round, where it is collective.
 fn entered_by(o: &RankOps, n: u64) -> Option<Entered>
     ensures { result ≡ find (λ e. e.call == n) o.now.rounds }
 {

@@ -47,6 +47,7 @@ fn calls_on(entries: &Entries, r: u32, comm: u32) -> usize
     entries.on(r, comm).len()
 }
 
+/// How many collective calls each of these members has entered on the communicator.
 fn counts(
     alloc: Global,
     entries: &Entries,
@@ -62,6 +63,7 @@ fn counts(
     Ok(calls)
 }
 
+/// A communicator, with how many collective calls each of its members has entered.
 fn row(
     alloc: Global,
     layout: &Layout,

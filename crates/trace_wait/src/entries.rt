@@ -46,6 +46,7 @@ fn note_entry(alloc: Global, row: &mut Row, e: &Entered) -> Result<(), AllocErro
     Ok(())
 }
 
+/// The collective calls of a rank, by communicator.
 fn row_of(alloc: Global, entries: &[Entered]) -> Result<Row, AllocError>
     ensures { IfOk result (λ row. IsRowOf row entries.now) }
 {
@@ -67,6 +68,7 @@ pub(crate) fn entries_of<'a>(alloc: Global, ops: &'a [RankOps]) -> Result<Entrie
     Ok(Entries { ops, rows })
 }
 
+/// The calls on a communicator, in their order.
 fn listed(row: &Row, comm: u32) -> &[Entered]
     ensures { result.now ≡ listed row.now comm }
 {
@@ -76,6 +78,7 @@ fn listed(row: &Row, comm: u32) -> &[Entered]
     }
 }
 
+/// The calls of a rank on a communicator, in their order.
 fn listed_at(rows: &[Row], r: u32, comm: u32) -> &[Entered]
     ensures { result.now ≡ listed_at rows.now r comm }
 {

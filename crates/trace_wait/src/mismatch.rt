@@ -11,6 +11,7 @@ use crate::sets::note;
 use std::alloc::{AllocError, Global};
 use std::collections::BTreeSet;
 
+/// Whether functions or roots differ.
 fn is_mismatch(standing: Standing) -> bool
     ensures { result ≡ is_mismatch standing }
 {

@@ -12,6 +12,7 @@ use std::alloc::{AllocError, Global};
 use trace_ops::RankOps;
 use trace_stuck::Condition;
 
+/// Whether the send is buffered, or it is standard or ready where sends are buffered.
 fn is_buffered(how: Sends, mode: Mode) -> bool
     ensures { result ≡ is_buffered how mode }
 {
@@ -22,12 +23,14 @@ fn is_buffered(how: Sends, mode: Mode) -> bool
     }
 }
 
+/// Whether a send may go on: it is buffered, is paired, or fits an unpaired receive.
 fn may_send(run: &Overview, m: &Message) -> bool
     ensures { result ≡ may_send run.now m.now }
 {
     is_buffered(run.layout.sends(), m.mode) || run.is_taken(m) || run.fits_some_receive(m)
 }
 
+/// Whether a receive may go on: it is paired, or an unpaired message fits it.
 fn may_receive(run: &Overview, q: &Receive) -> bool
     ensures { result ≡ may_receive run.now q.now }
 {
@@ -51,6 +54,7 @@ fn one_of(alloc: Global, run: &Overview, comm: u32) -> Result<Condition, AllocEr
     Ok(Condition::one_rank(run.shared_members(alloc, comm)?))
 }
 
+/// The source that a receive waits for: the told one, or one of all members.
 fn source_part(alloc: Global, run: &Overview, q: &Receive) -> Result<Condition, AllocError>
     ensures { IfOk result (λ c. shape c ≡ source_part run.now q.now) }
 {

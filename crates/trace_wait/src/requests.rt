@@ -68,12 +68,14 @@ fn posted_by(o: &RankOps, x: &i64) -> Option<u64>
 /// What requests wait for that were met before, by the calls that posted them.
 type Made = IndexMap<u64, Condition>;
 
+/// What the request waits for that call n posted, where it was met before.
 fn made_before(made: &Made, n: u64) -> Option<&Condition>
     ensures { option_copied result ≡ get nat_eq made.now n }
 {
     made.get(&n)
 }
 
+/// Notes what the request waits for that call n posted.
 fn note_made(made: &mut Made, n: u64, part: Condition) -> Result<(), AllocError>
     ensures { OnOk result ((m : ℕ) → get nat_eq made.new m ≡ (if nat_eq n m then Some part else get nat_eq made.old m)) }
 {
@@ -129,6 +131,7 @@ pub(crate) fn requests(
     Ok(parts)
 }
 
+/// Adds what the request of this number waits for, where it is active.
 fn push_request(
     alloc: Global,
     run: &Overview,
@@ -175,6 +178,7 @@ pub(crate) fn choices(
     Ok(parts)
 }
 
+/// Adds what a number of a list adds of which one request has to be completed.
 fn push_choice(
     alloc: Global,
     run: &Overview,

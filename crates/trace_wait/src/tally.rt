@@ -19,12 +19,14 @@ struct Tally {
     entered: u32,
 }
 
+/// Whether the functions are of one kind, and both block or neither does.
 fn is_same_function(a: CollectiveFunction, b: CollectiveFunction) -> bool
     ensures { result ≡ same_function a b }
 {
     a.kind.number() == b.kind.number() && a.nonblocking == b.nonblocking
 }
 
+/// Whether two calls have one root, or neither has one.
 fn is_same_root(a: Option<u32>, b: Option<u32>) -> bool
     ensures { result ≡ same_root a b }
 {
@@ -36,6 +38,7 @@ fn is_same_root(a: Option<u32>, b: Option<u32>) -> bool
     }
 }
 
+/// The tally of a round that one member has entered.
 fn start(e: &Entered) -> Tally
     ensures { result ≡ start e.now }
 {
@@ -47,6 +50,7 @@ fn start(e: &Entered) -> Tally
     }
 }
 
+/// The tally once one member more has entered.
 fn add(t: Tally, e: &Entered) -> Tally
     ensures { result ≡ add t e.now }
 {
@@ -61,6 +65,7 @@ fn add(t: Tally, e: &Entered) -> Tally
     }
 }
 
+/// Counts one more call of the k-th round.
 fn put(tallies: &mut Vec<Tally>, k: usize, e: &Entered) -> Result<(), AllocError>
     requires { k ≤ length tallies.old.items }
     ensures { OnOk result (tallies.new.items ≡ put tallies.old.items k e.now) }
@@ -83,6 +88,7 @@ fn merge(tallies: &mut Vec<Tally>, calls: &[Entered]) -> Result<(), AllocError>
     Ok(())
 }
 
+/// The tallies of a communicator's rounds, over all members.
 fn tallies_of(
     alloc: Global,
     entries: &Entries,
@@ -98,6 +104,7 @@ fn tallies_of(
     Ok(tallies)
 }
 
+/// How a round of so many members stands.
 fn stands(members: u32, t: &Tally) -> Standing
     ensures { result ≡ stands members t.now }
 {
@@ -110,6 +117,7 @@ fn stands(members: u32, t: &Tally) -> Standing
     }
 }
 
+/// Adds the rounds of a communicator, by its tallies.
 fn push_rounds(
     comm: u32,
     members: u32,
@@ -139,6 +147,7 @@ pub(crate) fn members_of<'a>(layout: &'a Layout, comm: u32) -> &'a [u32]
     }
 }
 
+/// Adds the rounds of a communicator.
 fn push_comm(
     alloc: Global,
     layout: &Layout,
@@ -153,6 +162,7 @@ fn push_comm(
     push_rounds(comm, members.len() as u32, &tallies, out)
 }
 
+/// The rounds of all communicators, by communicator and k.
 fn rounds_by(alloc: Global, layout: &Layout, entries: &Entries) -> Result<Vec<Round>, AllocError>
     ensures { IfOk result (λ v. v.items ≡ rounds_of layout.now.comms entries.now) }
 {

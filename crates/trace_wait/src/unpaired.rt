@@ -33,6 +33,7 @@ fn offer(m: &Message, set: &mut BTreeSet<Pattern>) -> Result<(), AllocError>
     Ok(())
 }
 
+/// Whether the message was cancelled, or else whether it was not, as is asked.
 fn is_void_or_not(void: bool, m: &Message) -> bool
     ensures { result ≡ is_void_or_not void m.now }
 {

@@ -22,6 +22,7 @@ use trace_ops::{RankOps, probed};
 use trace_pair::PairTable;
 use trace_stuck::Condition;
 
+/// Both of two conditions.
 fn both(alloc: Global, first: Condition, second: Condition) -> Result<Condition, AllocError>
     ensures { IfOk result (λ c. shape c ≡ OnAll (waits_of (shape first ∷ shape second ∷ []))) }
 {
@@ -31,6 +32,7 @@ fn both(alloc: Global, first: Condition, second: Condition) -> Result<Condition,
     Ok(Condition::all(parts))
 }
 
+/// What rank r waits for in its call n; the other calls don't wait.
 fn waits_for(
     alloc: Global,
     run: &Overview,
@@ -73,6 +75,7 @@ fn waits_for(
     }
 }
 
+/// The condition of rank r, whose operations these are, where it waits.
 fn condition_of(
     alloc: Global,
     run: &Overview,

@@ -26,6 +26,7 @@ peer_code peers.Any = 4294967295
 peer_code peers.Null = 4294967294
 peer_code (peers.Rank n) = n
 
+-- the peer of a code, where it is one
 abbrev pub peer_of : ℕ → Option Peer
 peer_of n = if n == 4294967295 then Some peers.Any else (if n == 4294967294 then Some peers.Null else (small_of n >>= λ m. Some (peers.Rank m)))
 
@@ -35,6 +36,7 @@ told_code tolds.Nothing = 4294967295
 told_code tolds.Cancelled = 4294967294
 told_code (tolds.Source n) = n
 
+-- what is told, by its code, where it is one
 abbrev pub told_of : ℕ → Option Told
 told_of n = if n == 4294967295 then Some tolds.Nothing else (if n == 4294967294 then Some tolds.Cancelled else (small_of n >>= λ m. Some (tolds.Source m)))
 
@@ -43,6 +45,7 @@ abbrev pub comm_code : CommRef → ℕ
 comm_code comms.World = 4294967295
 comm_code (comms.Id n) = n
 
+-- the communicator of a code, where it is one
 abbrev pub comm_of : ℕ → Option CommRef
 comm_of n = if n == 4294967295 then Some comms.World else (small_of n >>= λ m. Some (comms.Id m))
 
@@ -53,6 +56,7 @@ mode_code modes.Synchronous = 1
 mode_code modes.Buffered = 2
 mode_code modes.Ready = 3
 
+-- the mode of a code, where it is one
 abbrev pub mode_of : ℕ → Option Mode
 mode_of n =
     if n == 0 then Some modes.Standard else (
@@ -86,26 +90,33 @@ abbrev pub flag_code : Bool → ℕ
 flag_code false = 0
 flag_code true = 1
 
+-- the flag of a code, where it is one
 abbrev pub flag_of : ℕ → Option Bool
 flag_of n = if n == 0 then Some false else (if n == 1 then Some true else None)
 
 -- ---- fields, one line each
 
+-- a peer, as a number of four bytes
 abbrev pub peer : Form Peer
 peer = mapped (number w32) peer_code peer_of
 
+-- what is told, as a number of four bytes
 abbrev pub told : Form Told
 told = mapped (number w32) told_code told_of
 
+-- a communicator, as a number of four bytes
 abbrev pub comm : Form CommRef
 comm = mapped (number w32) comm_code comm_of
 
+-- a mode, as one byte
 abbrev pub mode : Form Mode
 mode = mapped byte mode_code mode_of
 
+-- a kind, as one byte
 abbrev pub kind : Form Kind
 kind = mapped byte kind_number kind_of
 
+-- a flag, as one byte
 abbrev pub flag : Form Bool
 flag = mapped byte flag_code flag_of
 
@@ -113,6 +124,7 @@ flag = mapped byte flag_code flag_of
 abbrev pub moment : Form ℕ
 moment = guarded (number w64) (λ n. nat_le n latest)
 
+-- the times of an event: wall-clock time, and then CPU time
 abbrev pub stamp : Form Times
 stamp = mapped (pair moment moment) (λ t. (t.wall, t.cpu)) (λ x. Some (record { wall = x.0; cpu = x.1 }))
 
@@ -130,6 +142,7 @@ named peers.Null (Some n) = true
 named (peers.Rank r) None = false
 named (peers.Rank r) (Some n) = true
 
+-- the envelope of a send, which names its peer and its tag
 abbrev pub send_envelope : Form Envelope
 send_envelope = guarded envelope (λ e. named e.peer e.tag)
 
@@ -159,6 +172,7 @@ gathering = mapped (guarded (pair kind (pair marked comm)) (λ x. rooted x.0 x.1
 abbrev pub is_barrier : Kind → Bool
 is_barrier kind = kind_number kind == kind_number kinds.Barrier
 
+-- MPI_Ibarrier: its communicator alone
 abbrev pub ibarrier : Form CollectiveCall
 ibarrier = mapped comm (λ g. g.comm) (λ c. Some (record { kind = kinds.Barrier; root = None; comm = c }))
 
@@ -179,16 +193,19 @@ abbrev pub index_fields : Option ℕ → List ℕ
 index_fields None = 0 ∷ []
 index_fields (Some i) = 1 ∷ (number w32).spell i
 
+-- a position in front of bytes, by the byte before it: 0 where there is none, and 1 where there is one
 abbrev pub index_at : ℕ → List ℕ → Option (Option ℕ × List ℕ)
 index_at code bytes =
     if code == 0 then Some (None, bytes) else (
     if code == 1 then made (λ i. Some i) ((number w32).read bytes) else None)
 
+-- that byte, and the position behind it
 abbrev pub index_behind : List ℕ → Option (Option ℕ × List ℕ)
 index_behind bytes = do
   code ← byte.read bytes
   index_at code.0 code.1
 
+-- a position where there is one, with a byte before it that says so
 abbrev pub index : Form (Option ℕ)
 index = record { spell = index_fields; read = index_behind }
 

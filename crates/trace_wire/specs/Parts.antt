@@ -11,8 +11,8 @@ use Rattle.trace_wire.specs.Events.{event_at}
 use Rattle.trace_wire.specs.Cells.{Entry, cell_bytes, is_past, place_form}
 use Rattle.trace_wire.specs.Runs.{PlacedRun, behind, placed_run, run_bytes}
 
--- a step, where the one before was not refused
 infixl 10 ◌>=>◌
+-- a step, where the one before was not refused
 abbrev pub ◌>=>◌ : {A B : Type 0} → Result A WireFault → (A → Result B WireFault) → Result B WireFault
 (Ok x) >=> f = f x
 (Err e) >=> f = Err e

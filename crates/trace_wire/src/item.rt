@@ -14,9 +14,11 @@ use mpi_model::{Element, Told};
 pub(crate) trait Item: Drop {
     ghost form: { Form Self };
 
+    /// The value in front of bytes, and the bytes after it.
     fn read(bytes: &[u8]) -> Result<(Self, &[u8]), FieldFault>
         ensures { Reads (λ x. (x.0, x.1.now)) result (form.read bytes.now) };
 
+    /// Puts the bytes of the value.
     fn put<S: Sink>(&self, out: &mut S)
         ensures { Sends (S.page out.old) (S.page out.new) (form.spell self.now) };
 }

@@ -408,6 +408,7 @@ fn is_cut_short(alloc: Global, len: usize) -> bool {
     is_short(alloc, WORKED, len) && is_short(alloc, WORKED_ONE, len)
 }
 
+/// Whether a front of so many bytes is refused as short, unless it is the whole frame.
 fn is_short(alloc: Global, whole: &[u8], len: usize) -> bool {
     match whole.get(..len) {
         Some(cut) => cut.len() == whole.len() || answer(alloc, cut) == "W5 Short",

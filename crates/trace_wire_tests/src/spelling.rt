@@ -26,6 +26,7 @@ fn returns<R: Abort>(rt: &R, alloc: Global, outs: Outs, spelled: Spelled<'_>) ->
     is_row(rt, alloc, Call::Local, outs, (0, b""), spelled)
 }
 
+/// Whether a call and its outcome are spelled so, in both versions.
 fn is_row<R: Abort>(
     rt: &R,
     alloc: Global,
@@ -121,6 +122,7 @@ fn calls_without_fields(rt: HostRuntime) {
 /// Of a send of one element: its mode, peer, tag, communicator and datatype.
 type Sent = (Mode, Peer, u32, CommRef, i64);
 
+/// The envelope of a row that sends.
 fn sent<R: Abort>(rt: &R, row: &Sent) -> SendEnvelope {
     let envelope = Envelope {
         peer: row.1,
@@ -178,6 +180,7 @@ static SENDS: [(&str, u8, Sent, &[u8]); 6] = [
     ),
 ];
 
+/// The send of a code: 2 is that of a Send, and else it is an Isend.
 fn send_call<R: Abort>(rt: &R, code: u8, row: &Sent) -> Call {
     match code {
         2 => Call::Send(row.0, sent(rt, row)),
@@ -197,6 +200,7 @@ fn sends(rt: HostRuntime) {
 /// Of a receive of as many elements as there can be: its peer, tag and communicator.
 type Received = (Peer, Option<u32>, CommRef);
 
+/// The envelope of a row that receives.
 fn received<R: Abort>(rt: &R, row: &Received) -> ReceiveEnvelope {
     let envelope = Envelope {
         peer: row.0,
@@ -222,6 +226,7 @@ static RECEIVES: [(u8, Received, &[u8]); 2] = [
     ),
 ];
 
+/// The receive of a code: 4 is that of a Recv, and else it is an Irecv.
 fn receive_call<R: Abort>(rt: &R, code: u8, row: &Received) -> Call {
     match code {
         4 => Call::Recv(received(rt, row)),
@@ -289,7 +294,8 @@ fn ibarriers(rt: HostRuntime) {
 fn sendrecv(rt: HostRuntime) {
     let send = sent(&rt, &(Mode::Standard, Peer::Rank(1), 7, CommRef::World, 11));
     let receive = received(&rt, &(Peer::Any, Some(8), CommRef::World));
-    let both = Exchange::new(send, receive).expect(&rt, "one communicator");
+    let made = Exchange::new(rt.alloc(), send, receive).expect(&rt, "memory");
+    let both = made.expect(&rt, "one communicator");
     let fields =
         b"\0\0\0\x01\0\0\0\x07\xFF\xFF\xFF\xFF\0\0\0\x01\0\0\0\0\0\0\0\x0B\xFF\xFF\xFF\xFF\0\0\0\x08\xFF\xFF\xFF\xFF\x7F\xFF\xFF\xFF\x80\0\0\0\0\0\0\0";
     assert!(rt; enters(&rt, rt.alloc(), Call::Sendrecv(both), (6, fields)));
@@ -321,6 +327,7 @@ static WAITS: [(u8, &[i64], &[u8]); 10] = [
     (19, &[-1], b"\xFF\xFF\xFF\xFF\xFF\xFF\xFF\xFF"),
 ];
 
+/// The call of a code on these requests, or on the first of them.
 fn wait_call<R: Abort>(rt: &R, alloc: Global, code: u8, numbers: &[i64]) -> Call {
     let first = match numbers.get(0) {
         Some(number) => *number,
@@ -423,6 +430,7 @@ fn statuses<R: Abort>(rt: &R, alloc: Global) -> Outs {
     Outs::Statuses(Sources::from_vec(two))
 }
 
+/// A request that was completed, with the source that its status tells.
 fn element<R: Abort>(rt: &R, position: u32, source: Option<u32>) -> Element {
     Element {
         position,
@@ -430,6 +438,7 @@ fn element<R: Abort>(rt: &R, position: u32, source: Option<u32>) -> Element {
     }
 }
 
+/// An outcome with two requests, whose values lie at the ends of their ranges.
 fn several<R: Abort>(rt: &R, alloc: Global) -> Outs {
     let mut two = Vec::new(alloc);
     two.push(element(rt, u32::MAX, None)).expect(rt, "memory");

@@ -3,7 +3,7 @@ use Rattle.std.proofs.Common.{◌≡◌, ◌≢◌, ◌⊎◌, Ok, Err, false, O
 use Rattle.std.specs.Prelude.{slice_set, slice_index_or, Result, replicate}
 use Rattle.std.specs.FinMap.{empty, entries}
 use Rattle.std.proofs.lemmas.Bool.{cases_order}
-use Rattle.std.proofs.lemmas.List.{get_or-set_same, get_or-set_other, length-append, length-set, length-replicate}
+use Rattle.std.proofs.lemmas.List.{get_or-set_same, get_or-set_other, length-append, length-map, length-set, length-replicate}
 use Rattle.std.proofs.Math.ListN.{get_or-append}
 use Rattle.std.proofs.Math.Seq.{get_or-append_seam}
 use Rattle.mpi_model.specs.Layouts.{Parts}
@@ -18,10 +18,10 @@ use Rattle.trace_world.proofs.Following.{OneFrameLaw}
 use Rattle.trace_world.proofs.Moving.{layouts_set}
 use Rattle.trace_world.specs.Shows.{most_nodes, Shows, world_state, knows, knowledge_of}
 use Rattle.trace_world.specs.Refusals.{stale}
-use Rattle.trace_world.specs.Worlds.{AreWithin, IsWithinFrame, IsWorld}
+use Rattle.trace_world.specs.Worlds.{AreWithin, IsWithinFrame, IsWorld, layouts}
 
 -- two numbers are equal or not
-same_or_not : (i j : ℕ) → (i ≡ j) ⊎ (i ≢ j)
+pub same_or_not : (i j : ℕ) → (i ≡ j) ⊎ (i ≢ j)
 same_or_not i j =
     ⊎_elim (λ (e : i ≡ j). inl e)
     (λ (h : (i < j) ⊎ (j < i)). ⊎_elim (λ (lt : i < j). inr (λ e. omega (arith, lt, e))) (λ (gt : j < i). inr (λ e. omega (arith, gt, e))) h)
@@ -153,3 +153,29 @@ opening_shown layout nodes ns inboxes mails e f g = record {
 -- each of them has an answer
 pub opening_fresh : (layout : Parts) (nodes : ℕ) (ns : List Held) → ns ≡ replicate nodes (held layout empty false) → stale ns ≡ replicate nodes false
 opening_fresh layout nodes ns e = ap stale e ∙ map-replicate (λ (n : Held). n.is_stale) nodes (held layout empty false)
+
+-- nodes of the same layouts in the places of others
+pub laid_keeps : (layout : Parts) (old new : List Held) (inboxes : List (List PlacedEvents)) (mails : List (List ℕ)) → layouts new ≡ layouts old → IsWorld layout old inboxes mails → IsWorld layout new inboxes mails
+laid_keeps layout old new inboxes mails e w =
+    let count : length new ≡ length old = sym (length-map new (λ (n : Held). n.layout)) ∙ ap (λ (l : List Parts). length l) e ∙ length-map old (λ (n : Held). n.layout) in
+    record {
+      some = omega (arith, w.some, count);
+      few = omega (arith, w.few, count);
+      each = w.each ∙ sym count;
+      one_layout = e ∙ w.one_layout ∙ ap (λ n. replicate n layout) (sym count);
+      posted = w.posted;
+      mailed = w.mailed;
+    }
+
+-- an inbox without its front
+pub pop_keeps : (layout : Parts) (nodes : List Held) (inboxes inboxes' : List (List PlacedEvents)) (mails : List (List ℕ)) (node : ℕ) → node < length nodes → inboxes' ≡ slice_set inboxes node (drop 1 (at inboxes node))
+    → IsWorld layout nodes inboxes mails → IsWorld layout nodes inboxes' mails
+pop_keeps layout nodes inboxes inboxes' mails node lt e w =
+    subst (λ l. IsWorld layout nodes l mails) (sym e) (record {
+      some = w.some;
+      few = w.few;
+      one_layout = w.one_layout;
+      mailed = w.mailed;
+      each = length-set inboxes node (drop 1 (at inboxes node)) ∙ w.each;
+      posted = within-set layout inboxes node (drop 1 (at inboxes node)) (omega (arith, lt, w.each)) w.posted (within-drop layout (at inboxes node) (w.posted node));
+    })

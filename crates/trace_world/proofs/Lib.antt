@@ -6,3 +6,4 @@ pub mod Mails
 pub mod Answers
 pub mod Possible
 pub mod Ending
+pub mod Hearing

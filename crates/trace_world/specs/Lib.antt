@@ -8,3 +8,4 @@ pub mod Moves
 pub mod Answers
 pub mod Possible
 pub mod Ends
+pub mod Heard

@@ -7,11 +7,12 @@
 //! answer is that of the definitions: that is the contract of [`World::run`].
 //!
 //! A run makes each node's answer once, at its end; a single step makes that of its node. A post
-//! shares its segment; a shipment copies what is known into a frame.
+//! shares its segment; a shipment copies what is known into a frame. A mail that a node has joined isn't read again for
+//! it.
 //!
 //! - [`step`]: the steps, and why one is refused; [`shared`]: a segment that steps and inboxes share
-//! - [`inbox`]: the segments that wait for a node; [`mail`]: a shipped frame; [`sheet`], [`letter`]: how it is
-//!   written and read
+//! - [`inbox`]: the segments that wait for a node; [`heard`]: the mails that it has joined; [`mail`]: a shipped frame;
+//!   [`sheet`], [`letter`]: how it is written and read
 //! - [`moves`]: what a step does to nodes and inboxes; [`copies`]: of a world's parts
 //! - [`world`]: nodes with their inboxes, and the mails
 //! - [`laws`]: nodes that the same segments reached are equal, and equal states refuse the same steps, as
@@ -21,6 +22,7 @@
 #![tactic(auto)]
 
 mod copies;
+mod heard;
 mod inbox;
 mod laws;
 mod letter;

@@ -71,6 +71,13 @@ impl Mail {
         })
     }
 
+    /// Tells that it is a frame. It does nothing: it is for proofs.
+    pub(crate) fn known(&self)
+        ensures { IsFrame self.now }
+    {
+        let _ = &self.frame;
+    }
+
     /// What was known when it was shipped.
     pub(crate) fn open(&self, alloc: Global) -> Result<Knowledge, AllocError>
         ensures { IfOk result (λ know. (self.now ≡ frame_of know) × HasFrame (entries know)) }

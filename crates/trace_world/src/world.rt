@@ -1,11 +1,12 @@
 //! Nodes with their inboxes, and the mails that were shipped.
 
-ghost use Rattle.std.specs.Prelude.{◌≡◌, ◌<◌, ◌≤◌, ◌∷◌, ◌↔◌, ◌++◌, [], ℕ, true, false, IfOk, OnOk, IfErr, IsErrOf, IsTrue, MatchResult, IfSome, IfNone, length, map, take, replicate, slice_index_or};
+ghost use Rattle.std.specs.Prelude.{◌≡◌, ◌<◌, ◌≤◌, ◌∷◌, ◌↔◌, ◌++◌, [], None, ℕ, true, false, IfOk, OnOk, IfErr, IsErrOf, IsTrue, MatchResult, IfSome, IfNone, length, map, take, replicate, slice_index_or};
 ghost use Rattle.std.specs.FinMap.{empty};
 ghost use Rattle.std.specs.List.{slice_get};
 ghost use Rattle.std.specs.Option.{option_map};
 ghost use Rattle.trace_world.specs.Answers.{AllAnswered, AnswersAfter, AnswersAgain, AnswersAnew, AnswersFresh, AnswersStill, HoldsAfter, HoldsMore, LosesOne};
 ghost use Rattle.trace_world.specs.Ends.{Ends, EndsHeld, SameButAnswers};
+ghost use Rattle.trace_world.specs.Heard.{AreUnheard};
 ghost use Rattle.trace_world.specs.Possible.{Allows};
 ghost use Rattle.trace_world.specs.Refusals.{refusal, refusal_there, IsOutcome, IsCountFault, is_done, done, stale, NoneStaler, SameNodes, StopsAt};
 ghost use Rattle.trace_node.specs.Node.{held};
@@ -14,6 +15,7 @@ ghost use Rattle.trace_world.specs.Shows.{Shows, Follows, WorldState};
 ghost use Rattle.trace_world.specs.Worlds.{IsWorld};
 
 use crate::copies::{inboxes_of, mails_of, nodes_of};
+use crate::heard::Heard;
 use crate::inbox::Inbox;
 use crate::mail::Mail;
 use crate::moves;
@@ -22,7 +24,7 @@ use crate::step::{Step, WorldFault};
 use mpi_model::Layout;
 use std::alloc::{AllocError, Global};
 use std::marker::Model;
-use trace_know::view_laws;
+use trace_know::{join_laws, view_laws};
 use trace_node::Node;
 use trace_wire::frame_laws;
 
@@ -41,6 +43,8 @@ pub struct World<'a> {
     nodes: Vec<Node<'a>>,
     inboxes: Vec<Inbox>,
     mails: Vec<Mail>,
+    /// Of each node the mails that it has joined.
+    heard: Vec<Heard>,
 }
 
 impl<'a> Model for World<'a> {
@@ -55,7 +59,9 @@ impl<'a> Model for World<'a> {
 
     ghost view = { λ w. world_state w.layout.now w.nodes.items w.inboxes.items w.mails.items };
 
-    ghost invariant = { λ w. IsWorld w.layout.now w.nodes.items w.inboxes.items w.mails.items };
+    ghost use Rattle.trace_world.specs.Heard.{AreHeard};
+
+    ghost invariant = { λ w. IsWorld w.layout.now w.nodes.items w.inboxes.items w.mails.items × AreHeard w.nodes.items w.mails.items w.heard.items };
 }
 
 impl<'a> World<'a> {
@@ -72,6 +78,9 @@ impl<'a> World<'a> {
         let Ok(inboxes) = empty_inboxes(alloc, nodes) else {
             return Err(WorldFault::Memory);
         };
+        let Ok(heard) = unheard(alloc, nodes) else {
+            return Err(WorldFault::Memory);
+        };
         let Ok(nodes) = new_nodes(alloc, layout, nodes) else {
             return Err(WorldFault::Memory);
         };
@@ -81,6 +90,7 @@ impl<'a> World<'a> {
             nodes,
             inboxes,
             mails: Vec::new(alloc),
+            heard,
         })
     }
 
@@ -265,7 +275,7 @@ impl<'a> World<'a> {
         self.try_clone().ok()
     }
 
-    /// A copy that shares what the nodes know, the segments and the mails.
+    /// A copy that shares what the nodes know, the segments and the mails. Which mails its nodes have joined isn't noted.
     fn try_clone(&self) -> Result<World<'a>, AllocError>
         ensures { IfOk result (λ copy. copy ≡ self.now) }
     {
@@ -275,6 +285,7 @@ impl<'a> World<'a> {
             nodes: nodes_of(self.alloc, &self.nodes)?,
             inboxes: inboxes_of(self.alloc, &self.inboxes)?,
             mails: mails_of(self.alloc, &self.mails)?,
+            heard: unheard(self.alloc, self.nodes.len())?,
         })
     }
 
@@ -303,6 +314,7 @@ impl<'a> World<'a> {
         ensures answers { HoldsMore node result (stale self.old.nodes) (stale self.new.nodes) }
         ensures same { SameNodes self.old self.new }
     {
+        join_laws();
         view_laws();
         let Some(segment) = self.inboxes[node].front() else {
             return Err(WorldFault::EmptyInbox);
@@ -329,7 +341,7 @@ impl<'a> World<'a> {
         add(&mut self.mails, mail)
     }
 
-    /// Joins a mail into what a node knows, and makes no answer.
+    /// Joins a mail into what a node knows, and makes no answer. One that the node has joined tells it nothing more.
     fn deliver(&mut self, mail: usize, node: usize) -> Result<(), WorldFault>
         requires there { node < length self.old.nodes }
         ensures done { is_done result ≡ true → Follows self.old (Step.Deliver mail node ∷ []) self.new }
@@ -343,10 +355,32 @@ impl<'a> World<'a> {
         if mail >= self.mails.len() {
             return Err(WorldFault::NoMail);
         }
+        self.mails[mail].known();
+        if self.heard[node].has(mail) {
+            return Ok(());
+        }
+        self.deliver_first(mail, node)
+    }
+
+    /// The same of a mail of which it isn't noted that the node has joined it.
+    fn deliver_first(&mut self, mail: usize, node: usize) -> Result<(), WorldFault>
+        requires there { node < length self.old.nodes }
+        requires mail { mail < length self.old.mails }
+        ensures done { is_done result ≡ true → Follows self.old (Step.Deliver mail node ∷ []) self.new }
+        ensures undone { is_done result ≡ false → self.new ≡ self.old }
+        ensures outcome { IsOutcome None result }
+        ensures answers { HoldsMore node result (stale self.old.nodes) (stale self.new.nodes) }
+        ensures same { SameNodes self.old self.new }
+    {
+        view_laws();
+        join_laws();
+        frame_laws();
         let Ok(know) = self.mails[mail].open(self.alloc) else {
             return Err(WorldFault::Memory);
         };
-        moves::hold_all(&mut self.nodes, node, &know)
+        moves::hold_all(&mut self.nodes, node, &know)?;
+        self.heard[node].add(mail);
+        Ok(())
     }
 
     /// A node is as a new one, with an empty inbox.
@@ -364,6 +398,7 @@ impl<'a> World<'a> {
         };
         self.nodes[node] = fresh;
         self.inboxes[node].clear();
+        self.heard[node] = Heard::new(self.alloc);
         Ok(())
     }
 }
@@ -403,4 +438,16 @@ fn empty_inboxes(alloc: Global, count: usize) -> Result<Vec<Inbox>, AllocError>
         inboxes.push(Inbox::new(alloc))?;
     }
     Ok(inboxes)
+}
+
+/// Of so many nodes no mail is noted.
+#[tactic(auto, using(crate::proofs::Hearing::none_heard, crate::proofs::Hearing::one_unheard))]
+fn unheard(alloc: Global, count: usize) -> Result<Vec<Heard>, AllocError>
+    ensures { IfOk result (λ heard. AreUnheard count heard.items) }
+{
+    let mut heard = Vec::new(alloc);
+    for _ in 0..count {
+        heard.push(Heard::new(alloc))?;
+    }
+    Ok(heard)
 }

@@ -1,21 +1,22 @@
 //! The envelopes of a send and a receive at once.
 
-ghost use Rattle.std.specs.Prelude.{◌≡◌, ◌↔◌, IsTrue, SomeIff};
+ghost use Rattle.std.specs.Prelude.{◌≡◌, ◌↔◌, IfOk, IsTrue, SomeIff};
 ghost use Rattle.mpi_model.specs.Ranges.{IsReceive, IsSend};
 ghost use Rattle.mpi_model.specs.Events.{IsExchanged};
 
 use crate::envelope::packed::Packed;
 use crate::envelope::{Envelope, ReceiveEnvelope, SendEnvelope};
+use std::alloc::{AllocError, Global};
 use std::marker::Model;
 
-/// The two envelopes of an `MPI_Sendrecv`, which name one communicator (MPI 4.0, 3.10).
+/// Two envelopes of one communicator.
 #[derive(Clone, Copy, Debug, PartialEq, Eq)]
-pub struct Exchange {
+struct Both {
     send: Packed,
     receive: Packed,
 }
 
-impl Model for Exchange {
+impl Model for Both {
     ghost use Rattle.mpi_model.specs.Ranges.{BothEnvelopes, IsExchange};
 
     ghost Value = { BothEnvelopes };
@@ -27,48 +28,81 @@ impl Model for Exchange {
     ghost inverse = { λ e. record { send = e.send; receive = e.receive } };
 }
 
+/// The two envelopes of an `MPI_Sendrecv`, which name one communicator (MPI 4.0, 3.10). They stand in memory of their own,
+/// since no other call is as long.
+#[derive(Debug, Drop)]
+pub struct Exchange {
+    both: Box<Both>,
+}
+
+impl Model for Exchange {
+    ghost use Rattle.mpi_model.specs.Ranges.{BothEnvelopes};
+    ghost use Rattle.mpi_model.specs.contracts.envelope.exchange.Both as flat;
+
+    ghost Value = { BothEnvelopes };
+
+    ghost coded = { flat.the_row.coded };
+
+    ghost view = { λ e. e.both.value };
+}
+
 impl Exchange {
     /// The two envelopes, or none where they name two communicators.
-    pub fn new(send: SendEnvelope, receive: ReceiveEnvelope) -> Option<Exchange>
-        ensures { SomeIff result (send.comm ≡ receive.comm) (record { send = send; receive = receive }) }
+    pub fn new(
+        alloc: Global,
+        send: SendEnvelope,
+        receive: ReceiveEnvelope,
+    ) -> Result<Option<Exchange>, AllocError>
+        ensures { IfOk result (λ made. SomeIff made (send.comm ≡ receive.comm) (record { send = send; receive = receive })) }
     {
         let send = send.envelope();
         let receive = receive.envelope();
-        if send.comm == receive.comm {
-            Some(Exchange {
-                send: Packed::pack(send),
-                receive: Packed::pack(receive),
-            })
-        } else {
-            None
+        if send.comm != receive.comm {
+            return Ok(None);
         }
+        let both = Both {
+            send: Packed::pack(send),
+            receive: Packed::pack(receive),
+        };
+        Ok(Some(Exchange {
+            both: Box::new(alloc, both)?,
+        }))
+    }
+
+    pub fn try_clone(&self) -> Result<Exchange, AllocError>
+        ensures { IfOk result (λ e. e ≡ self.now) }
+    {
+        let alloc = *Box::allocator(&self.both);
+        Ok(Exchange {
+            both: Box::new(alloc, *self.both)?,
+        })
     }
 
     /// Tells the range of both envelopes' values. It does nothing: it is for proofs.
-    pub fn known(self)
-        ensures { IsExchanged self }
+    pub fn known(&self)
+        ensures { IsExchanged self.now }
     {
-        let _send = self.send.unpack();
-        let _receive = self.receive.unpack();
+        let _send = self.both.send.unpack();
+        let _receive = self.both.receive.unpack();
     }
 
-    pub fn send(self) -> Envelope
-        ensures value { result ≡ self.send }
+    pub fn send(&self) -> Envelope
+        ensures value { result ≡ self.now.send }
         ensures range { IsSend result }
     {
-        self.send.unpack()
+        self.both.send.unpack()
     }
 
-    pub fn receive(self) -> Envelope
-        ensures value { result ≡ self.receive }
+    pub fn receive(&self) -> Envelope
+        ensures value { result ≡ self.now.receive }
         ensures range { IsReceive result }
     {
-        self.receive.unpack()
+        self.both.receive.unpack()
     }
 
     /// Whether the two exchanges are equal in both envelopes.
-    pub fn same(self, other: Exchange) -> bool
-        ensures { IsTrue result ↔ (self ≡ other) }
+    pub fn same(&self, other: &Exchange) -> bool
+        ensures { IsTrue result ↔ (self.now ≡ other.now) }
     {
         self.send().same(other.send()) && self.receive().same(other.receive())
     }

@@ -76,6 +76,7 @@ impl fmt::Debug for Packed {
     }
 }
 
+/// The number of a peer.
 fn peer_number(peer: Peer) -> u32
     requires { IsSource peer }
     ensures { peer_of result ≡ peer }
@@ -87,6 +88,7 @@ fn peer_number(peer: Peer) -> u32
     }
 }
 
+/// The peer that a number stands for.
 fn peer_of(number: u32) -> Peer
     ensures { result ≡ peer_of number }
 {
@@ -97,6 +99,7 @@ fn peer_of(number: u32) -> Peer
     }
 }
 
+/// The number of a tag.
 fn tag_number(tag: Option<u32>) -> u32
     requires { IsAskedTag tag }
     ensures { tag_of result ≡ tag }
@@ -104,6 +107,7 @@ fn tag_number(tag: Option<u32>) -> u32
     tag.unwrap_or(NO_NUMBER)
 }
 
+/// The tag that a number stands for.
 fn tag_of(number: u32) -> Option<u32>
     ensures { result ≡ tag_of number }
 {
@@ -113,6 +117,7 @@ fn tag_of(number: u32) -> Option<u32>
     }
 }
 
+/// The number of a communicator.
 fn comm_number(comm: CommRef) -> u32
     requires { IsComm comm }
     ensures { comm_of result ≡ comm }
@@ -123,6 +128,7 @@ fn comm_number(comm: CommRef) -> u32
     }
 }
 
+/// The communicator that a number stands for.
 fn comm_of(number: u32) -> CommRef
     ensures { result ≡ comm_of number }
 {

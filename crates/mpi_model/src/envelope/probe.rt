@@ -76,6 +76,7 @@ impl ProbeEnvelope {
     }
 }
 
+/// Whether a probe may look for these: each value is in its range.
 fn can_be_probed(source: Peer, tag: Option<u32>, comm: CommRef) -> bool
     ensures { IsTrue result ↔ (IsSource source × IsAskedTag tag × IsComm comm) }
 {

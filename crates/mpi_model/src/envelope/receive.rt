@@ -56,6 +56,7 @@ impl ReceiveEnvelope {
     }
 }
 
+/// Whether it may be the envelope of a receive: each value is in its range.
 fn can_be_received(envelope: Envelope) -> bool
     ensures { IsTrue result ↔ IsReceive envelope }
 {

@@ -56,6 +56,7 @@ impl SendEnvelope {
     }
 }
 
+/// Whether it may be the envelope of a send: it names a peer and a tag, and each value is in its range.
 fn can_be_sent(envelope: Envelope) -> bool
     ensures { IsTrue result ↔ IsSend envelope }
 {

@@ -18,6 +18,7 @@ pub(crate) struct Name {
     stretch: Stretch,
 }
 
+/// Whether a call comes before the end, where there is one.
 fn is_before(call: u64, end: Option<u64>) -> bool
     ensures { result ≡ is_before call end }
 {
@@ -27,36 +28,42 @@ fn is_before(call: u64, end: Option<u64>) -> bool
     }
 }
 
+/// Whether the stretch holds the call: from its first one on, and before its end.
 fn holds(stretch: Stretch, call: u64) -> bool
     ensures { result ≡ holds stretch call }
 {
     stretch.first <= call && is_before(call, stretch.end)
 }
 
+/// Whether the stretch holds some call.
 fn has_calls(stretch: Stretch) -> bool
     ensures { result ≡ has_calls stretch }
 {
     holds(stretch, stretch.first)
 }
 
+/// Whether two stretches that hold calls have one number and share a call.
 fn shares(a: Stretch, b: Stretch) -> bool
     ensures { result ≡ shares a b }
 {
     a.number == b.number && (holds(a, b.first) || holds(b, a.first))
 }
 
+/// Whether two names of one rank share a call, so that its number has two meanings.
 fn clashes(a: Name, b: Name) -> bool
     ensures { result ≡ clashes a b }
 {
     a.rank == b.rank && shares(a.stretch, b.stretch)
 }
 
+/// Whether the name is that of the number in the call of the rank.
 fn is_name(rank: u32, call: u64, number: u32, name: Name) -> bool
     ensures { result ≡ is_name rank call number name }
 {
     name.rank == rank && (name.stretch.number == number && holds(name.stretch, call))
 }
 
+/// Whether the name isn't behind this place, in the order by rank, then number, then first call.
 fn precedes(rank: u32, number: u32, call: u64, name: Name) -> bool
     ensures { result ≡ precedes rank number call name }
 {
@@ -66,6 +73,7 @@ fn precedes(rank: u32, number: u32, call: u64, name: Name) -> bool
                 || (name.stretch.number == number && name.stretch.first <= call)))
 }
 
+/// The stretch of a number over all calls.
 fn always(number: u32) -> Stretch
     ensures { result ≡ always number }
 {
@@ -76,6 +84,7 @@ fn always(number: u32) -> Stretch
     }
 }
 
+/// Adds a name for each of these ranks: the communicator's id.
 fn push_by_id(comm: u32, members: &[u32], names: &mut Vec<Name>) -> Result<(), AllocError>
     ensures { OnOk result (names.new.items ≡ names.old.items ++ names_by_id comm members.now) }
 {
@@ -89,6 +98,7 @@ fn push_by_id(comm: u32, members: &[u32], names: &mut Vec<Name>) -> Result<(), A
     Ok(())
 }
 
+/// Adds what a member's entry says. A stretch without calls names nothing.
 fn push_by(
     comm: u32,
     rank: u32,
@@ -109,6 +119,7 @@ fn push_by(
     Ok(())
 }
 
+/// Adds what the members' entries say, each by the one at its own place.
 fn push_by_numbers(
     comm: u32,
     members: &[u32],
@@ -124,6 +135,7 @@ fn push_by_numbers(
     Ok(())
 }
 
+/// Adds by which numbers, and in which calls, the members of a communicator name it.
 fn push_names(comm: &Comm, names: &mut Vec<Name>) -> Result<(), AllocError>
     ensures { OnOk result (names.new.items ≡ names.old.items ++ names_in comm.now) }
 {
@@ -134,6 +146,7 @@ fn push_names(comm: &Comm, names: &mut Vec<Name>) -> Result<(), AllocError>
     }
 }
 
+/// All names of these communicators.
 fn all_names(alloc: Global, comms: &[Comm]) -> Result<Vec<Name>, AllocError>
     ensures { IfOk result (λ names. names.items ≡ names_of comms.now) }
 {

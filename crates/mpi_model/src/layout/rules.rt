@@ -42,6 +42,7 @@ pub(crate) fn fault_in(
     Ok(number_fault(comms, names))
 }
 
+/// The fault of wrong numbers, or of a number to which some rank gives two meanings in one call.
 fn number_fault(comms: &[Comm], names: &[Name]) -> Option<LayoutFault>
     requires same { IsPermutation (names_of comms.now) names.now }
     requires order { AreOrdered names.now }
@@ -56,6 +57,7 @@ fn number_fault(comms: &[Comm], names: &[Name]) -> Option<LayoutFault>
     None
 }
 
+/// Whether some communicator has wrong numbers.
 fn some_wrong_numbers(comms: &[Comm]) -> bool
     ensures { result ≡ list_any has_wrong_numbers comms.now }
 {
@@ -67,6 +69,7 @@ fn some_wrong_numbers(comms: &[Comm]) -> bool
     false
 }
 
+/// Whether the numbers are neither absent nor one for each member, or some stretch ends before its first call.
 fn has_wrong_numbers(comm: &Comm) -> bool
     ensures { result ≡ has_wrong_numbers comm.now }
 {
@@ -75,6 +78,7 @@ fn has_wrong_numbers(comm: &Comm) -> bool
     !is_whole || some_backward(numbers)
 }
 
+/// Whether some stretch ends before its first call.
 fn some_backward(numbers: &[Option<Stretch>]) -> bool
     ensures { result ≡ list_any is_backward numbers.now }
 {
@@ -86,6 +90,7 @@ fn some_backward(numbers: &[Option<Stretch>]) -> bool
     false
 }
 
+/// Whether the stretch ends before its first call.
 fn is_backward(number: Option<Stretch>) -> bool
     ensures { result ≡ is_backward number }
 {
@@ -95,6 +100,7 @@ fn is_backward(number: Option<Stretch>) -> bool
     }
 }
 
+/// Whether there is an end, and it comes before a call.
 fn ends_before(end: Option<u64>, call: u64) -> bool
     ensures { result ≡ ends_before end call }
 {
@@ -104,6 +110,7 @@ fn ends_before(end: Option<u64>, call: u64) -> bool
     }
 }
 
+/// Whether two communicators have one id.
 fn two_of_one_id(alloc: Global, comms: &[Comm]) -> Result<bool, AllocError>
     ensures { IfOk result (λ two. two ≡ has_double (ids comms.now)) }
 {
@@ -112,6 +119,7 @@ fn two_of_one_id(alloc: Global, comms: &[Comm]) -> Result<bool, AllocError>
     Ok(two_neighbours(&ids))
 }
 
+/// The ids of the communicators.
 fn ids_of(alloc: Global, comms: &[Comm]) -> Result<Vec<u32>, AllocError>
     ensures { IfOk result (λ v. v.items ≡ ids comms.now) }
 {
@@ -122,6 +130,7 @@ fn ids_of(alloc: Global, comms: &[Comm]) -> Result<Vec<u32>, AllocError>
     Ok(ids)
 }
 
+/// Whether two neighbours in the sorted list are one number.
 fn two_neighbours(numbers: &[u32]) -> bool
     requires { IsNonDecreasing numbers.now }
     ensures { result ≡ has_double numbers.now }
@@ -134,6 +143,7 @@ fn two_neighbours(numbers: &[u32]) -> bool
     false
 }
 
+/// Whether some communicator has no member.
 fn some_empty(comms: &[Comm]) -> bool
     ensures { result ≡ list_any is_empty_group comms.now }
 {
@@ -145,6 +155,7 @@ fn some_empty(comms: &[Comm]) -> bool
     false
 }
 
+/// Whether some member of a communicator is no rank of the run.
 fn some_stranger(comms: &[Comm], ranks: u32) -> bool
     ensures { result ≡ list_any (λ g. has_stranger ranks g.members) comms.now }
 {
@@ -156,6 +167,7 @@ fn some_stranger(comms: &[Comm], ranks: u32) -> bool
     false
 }
 
+/// Whether some member is no rank of the run.
 fn stranger_in(members: &[u32], ranks: u32) -> bool
     ensures { result ≡ has_stranger ranks members.now }
 {
@@ -167,6 +179,7 @@ fn stranger_in(members: &[u32], ranks: u32) -> bool
     false
 }
 
+/// Whether some communicator has a rank twice.
 fn some_double_member(alloc: Global, comms: &[Comm], ranks: u32) -> Result<bool, AllocError>
     requires { list_any (λ g. has_stranger ranks g.members) comms.now ≡ false }
     ensures { IfOk result (λ d. d ≡ list_any has_double_member comms.now) }
@@ -196,6 +209,7 @@ fn double_in(alloc: Global, members: &[u32], ranks: u32) -> Result<bool, AllocEr
     Ok(false)
 }
 
+/// Whether the world is there, and has all ranks in order.
 fn world_is_there(comms: &[Comm], ranks: u32, world: u32) -> bool
     ensures { result ≡ has_world ranks world comms.now }
 {
@@ -205,6 +219,7 @@ fn world_is_there(comms: &[Comm], ranks: u32, world: u32) -> bool
     }
 }
 
+/// Whether the members are the ranks of the run, in order.
 fn are_all_ranks(members: &[u32], ranks: u32) -> bool
     ensures { result ≡ is_whole ranks members.now }
 {

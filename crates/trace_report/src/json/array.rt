@@ -24,6 +24,7 @@ pub(crate) fn put_all<T: Value, S: Sink>(out: &mut S, items: &[T])
     }
 }
 
+/// An item, with the comma in front of it, but for the first.
 fn put_item<T: Value, S: Sink>(out: &mut S, i: usize, item: &T)
     ensures { Prints (S.page out.old) (S.page out.new) (comma_before i ++ T.value item.now) }
 {

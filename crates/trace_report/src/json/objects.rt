@@ -94,6 +94,8 @@ impl Value for Stuck {
     }
 }
 
+/// How a round stands: its function and root where the members agree, and how many of them have entered where not all
+/// have.
 fn put_standing<S: Sink>(out: &mut S, standing: Standing)
     ensures { Prints (S.page out.old) (S.page out.new) (standing_fields standing) }
 {
@@ -106,6 +108,7 @@ fn put_standing<S: Sink>(out: &mut S, standing: Standing)
     }
 }
 
+/// A round that all members have entered.
 fn put_complete<S: Sink>(out: &mut S, function: CollectiveFunction, root: Option<u32>)
     ensures { Prints (S.page out.old) (S.page out.new) (complete_fields function root) }
 {
@@ -113,6 +116,7 @@ fn put_complete<S: Sink>(out: &mut S, function: CollectiveFunction, root: Option
     put_called(out, function, root);
 }
 
+/// A round that so many of the members have entered.
 fn put_open<S: Sink>(
     out: &mut S,
     function: CollectiveFunction,
@@ -130,6 +134,7 @@ fn put_open<S: Sink>(
     put_number(out, members as u64);
 }
 
+/// The function of a round and its root.
 fn put_called<S: Sink>(out: &mut S, function: CollectiveFunction, root: Option<u32>)
     ensures { Prints (S.page out.old) (S.page out.new) (called_fields function root) }
 {
@@ -139,6 +144,7 @@ fn put_called<S: Sink>(out: &mut S, function: CollectiveFunction, root: Option<u
     put_root(out, root);
 }
 
+/// The root's rank in the group, or `null` where the kind has none.
 fn put_root<S: Sink>(out: &mut S, root: Option<u32>)
     ensures { Prints (S.page out.old) (S.page out.new) (root_value root) }
 {

@@ -20,6 +20,7 @@ pub(crate) fn put_ranks<S: Sink>(out: &mut S, answer: &Answer)
     }
 }
 
+/// The object of a rank, with the comma in front of it, but for the first.
 fn put_item<S: Sink>(out: &mut S, answer: &Answer, rank: u32)
     ensures { Prints (S.page out.old) (S.page out.new) (comma_before rank ++ rank_object answer.now rank) }
 {
@@ -27,6 +28,7 @@ fn put_item<S: Sink>(out: &mut S, answer: &Answer, rank: u32)
     put_rank(out, answer, rank);
 }
 
+/// The object of a rank.
 fn put_rank<S: Sink>(out: &mut S, answer: &Answer, rank: u32)
     ensures { Prints (S.page out.old) (S.page out.new) (rank_object answer.now rank) }
 {
@@ -37,6 +39,7 @@ fn put_rank<S: Sink>(out: &mut S, answer: &Answer, rank: u32)
     put_fields(out, rank, prefix, state, beyond, unread);
 }
 
+/// A rank: `{"rank":R,"prefix":P,"state":"free","beyond":false,"unread":false}`.
 fn put_fields<S: Sink>(
     out: &mut S,
     rank: u32,

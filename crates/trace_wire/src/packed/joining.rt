@@ -16,6 +16,7 @@ struct Level {
 }
 
 impl Level {
+    /// What both tell together.
     fn with(self, other: Level) -> Result<Level, AllocError>
         ensures { IfOk result (λ level. level.know ≡ join self.know other.know) }
     {

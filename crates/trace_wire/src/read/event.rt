@@ -52,12 +52,12 @@ fn send_field(bytes: &[u8]) -> Result<(SendEnvelope, &[u8]), FieldFault>
 }
 
 /// The envelopes of a Sendrecv, which name one communicator.
-fn exchange_field(bytes: &[u8]) -> Result<(Exchange, &[u8]), FieldFault>
+fn exchange_field(alloc: Global, bytes: &[u8]) -> Result<(Exchange, &[u8]), FieldFault>
     ensures { Reads (λ x. (x.0, x.1.now)) result (exchange.read bytes.now) }
 {
     let (send, rest) = field!(send_field(bytes));
     let (receive, rest) = field!(receive_field(rest));
-    match Exchange::new(send, receive) {
+    match Exchange::new(alloc, send, receive)? {
         Some(found) => Ok((found, rest)),
         None => Err(FieldFault::Content),
     }
@@ -190,7 +190,7 @@ fn call_of(alloc: Global, code: u8, bytes: &[u8]) -> Result<(Call, &[u8]), Field
             Ok((Call::Irecv(envelope), rest))
         }
         6 => {
-            let (both, rest) = field!(exchange_field(bytes));
+            let (both, rest) = field!(exchange_field(alloc, bytes));
             Ok((Call::Sendrecv(both), rest))
         }
         7 => {

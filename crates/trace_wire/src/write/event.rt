@@ -44,7 +44,7 @@ fn put_call<S: Sink>(out: &mut S, call: &Call)
         Call::Local | Call::Finalize | Call::Unread => out.put(&[]),
         Call::Send(mode, e) | Call::Isend(mode, e) => put_sent(out, *mode, *e),
         Call::Recv(e) | Call::Irecv(e) => put_envelope(out, e.envelope()),
-        Call::Sendrecv(e) => put_exchange(out, *e),
+        Call::Sendrecv(e) => put_exchange(out, e),
         Call::Wait(request) | Call::Test(request) => put_i64(out, *request),
         Call::Cancel(request) | Call::Free(request) => put_i64(out, *request),
         Call::Waitall(requests)

@@ -137,8 +137,8 @@ pub(crate) fn put_sent<S: Sink>(out: &mut S, of: Mode, e: SendEnvelope)
 }
 
 /// The envelopes of a Sendrecv.
-pub(crate) fn put_exchange<S: Sink>(out: &mut S, e: Exchange)
-    ensures { Sends (S.page out.old) (S.page out.new) (exchange.spell e) }
+pub(crate) fn put_exchange<S: Sink>(out: &mut S, e: &Exchange)
+    ensures { Sends (S.page out.old) (S.page out.new) (exchange.spell e.now) }
 {
     put_envelope(out, e.send());
     put_envelope(out, e.receive());

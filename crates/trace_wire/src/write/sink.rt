@@ -7,6 +7,7 @@ ghost use Rattle.trace_wire.specs.Sending.{Page, Sends};
 pub(crate) trait Sink {
     ghost page: { Self → Page };
 
+    /// Puts the bytes.
     fn put(&mut self, bytes: &[u8])
         ensures { Sends (page self.old) (page self.new) bytes.now };
 
