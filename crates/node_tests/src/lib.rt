@@ -16,6 +16,7 @@
 //! | `board` | the board of `trace_crew`: what is published is shown, beside threads that ask too, and one who has seen more is told so |
 //! | `crew`, `gates` | `trace_crew`: what it leaves, and, by gates, that its threads run at the same time |
 //! | `refused` | nodes, worlds and crews that go on after a request for memory was refused |
+//! | `deadlocks` | `trace_explain`: the hearts of small deadlocks, and of a large one |
 //! | `unplugged` | `trace_cluster`: a network that gives no port or no connection |
 //!
 //! What the program's verbs do, `replay` and `cluster` among them, is data in `tests/cases/`.
@@ -25,6 +26,8 @@
 mod board;
 #[cfg(test)]
 mod crew;
+#[cfg(test)]
+mod deadlocks;
 #[cfg(test)]
 mod exchange;
 #[cfg(test)]

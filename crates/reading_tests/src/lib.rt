@@ -1,4 +1,4 @@
-//! Tests of `mpi_model`, `dumpi_text`, `dumpi_calls` and `trace_know`: of what no contract of
+//! Tests of `mpi_model`, `dumpi_text`, `dumpi_calls`, `trace_know` and `layout_files`: of what no contract of
 //! theirs says and no run of the program shows.
 //!
 //! What a text says to a user stands in `tests/texts.txt`, as rows that `tests/run_texts` gives to
@@ -15,6 +15,7 @@
 //! | `pieces`, `ways` | pieces that are taken, joined and copied in every way |
 //! | `cells` | cells that are put one by one |
 //! | `refused` | takes and joins where memory is refused |
+//! | `files` | layouts and manifests that are written, byte for byte, and what `input_files` reads of them |
 //! | `printed` | what faults and envelopes print |
 #![tactic(auto)]
 
@@ -26,6 +27,8 @@ mod devices;
 mod events;
 #[cfg(test)]
 mod failing;
+#[cfg(test)]
+mod files;
 #[cfg(test)]
 mod memory;
 #[cfg(test)]
