@@ -142,7 +142,7 @@ pub fn command_of<'a>(alloc: Global, words: &'a [&'a str]) -> Result<Asked<'a>, 
     }
 }
 
-// What the help of `explain` says below its arguments.
+/// What the help of `explain` says below its arguments.
 const EXPLAIN_HELP: &str = r#"Example: mpimatch explain layout.json manifest.json
 
 It says how the run stands, and then of each stuck rank in which call it stands and whom it waits for:
@@ -156,7 +156,7 @@ waits for, and its last ten calls that can be read, with their times and where t
   mpimatch explain --rank 2 layout.json manifest.json
 "#;
 
-// What the help of `graph` says below its arguments.
+/// What the help of `graph` says below its arguments.
 const GRAPH_HELP: &str =
     r#"Example: mpimatch graph layout.json manifest.json | dot -Tsvg >deadlock.svg
 
@@ -167,7 +167,7 @@ deadlocks; gray ones are not stuck. A rank waits for each rank to which a solid 
 of those to which the dashed arrows of a small point lead.
 "#;
 
-// What the help of `report` says below its arguments.
+/// What the help of `report` says below its arguments.
 const REPORT_HELP: &str =
     r#"It joins the pieces of the trace, in whatever order they come, and prints:
   rank R prefix P STATE        rank R can be read up to place P, and is free, waiting or ended there
@@ -184,7 +184,7 @@ With --json it prints the same as one JSON object, on one line:
 Call n of a rank has the places 2n, where it was entered, and 2n + 1, where it returned.
 "#;
 
-// What the help of `replay` says below its arguments.
+/// What the help of `replay` says below its arguments.
 const REPLAY_HELP: &str =
     r#"It runs the manifest's schedule step by step and prints, for each node N from 0 on, the line node N
 and the report of what that node knows then (mpimatch help report says what its lines mean):
@@ -199,7 +199,7 @@ A step that can't be done ends the run with 1 and a line such as V3 EmptyInbox a
 counts the steps that were run from 0, a post of several segments as several.
 "#;
 
-// What the help of `cluster` says below its arguments.
+/// What the help of `cluster` says below its arguments.
 const CLUSTER_HELP: &str =
     r#"Each piece goes to the node and the worker that it names in the manifest, 0 or 1, or 0 where it
 names none:
@@ -218,7 +218,7 @@ A text may have 1,073,741,824 bytes. A run that can't be done ends with 1 and a 
   N1 Rank                      a piece has calls of a rank that the layout doesn't have
 "#;
 
-// What the help of `check` says below its arguments.
+/// What the help of `check` says below its arguments.
 const CHECK_HELP: &str =
     r#"It tells whether a report of these pieces can be relied on, without trust in how a report is made:
 the pairs are made by one pass over all calls, and by an index that follows the pieces one by one. Each
@@ -234,7 +234,7 @@ unequal or invalid is a fault of the program, its proof or the machine.
 Each piece costs a pass over all calls of its rank, so a rank in many pieces takes long.
 "#;
 
-// What the help of `pack` says below its arguments.
+/// What the help of `pack` says below its arguments.
 const PACK_HELP: &str = r#"Example: mpimatch pack layout.json part.json >part.know
 
 It reads the pieces as report does and writes to standard output what they tell together, in bytes.
@@ -249,7 +249,7 @@ Two files one after another are one such file. A file that is refused gives a li
                                it tells of a rank that the layout doesn't have
 "#;
 
-// What the help of `init` says below its arguments.
+/// What the help of `init` says below its arguments.
 const INIT_HELP: &str = r#"Example: mpimatch init r0.txt r1.txt
 
 It reads the texts of all ranks and writes two files into the folder in which it runs:
@@ -262,7 +262,7 @@ name has some and they are 0 to n-1, each once.
 To get the answer at once, give the texts to explain, graph, report or check in place of both files.
 "#;
 
-// What the help says below the verbs.
+/// What the help says below the verbs.
 const MORE_HELP: &str =
     r#"To see what is wrong: explain. A picture: graph. All facts: report. A check of the answer: check.
 Nodes that exchange what they know: replay, cluster. A trace in parts, on many machines: pack.

@@ -73,7 +73,7 @@ fn put_advice<W: fmt::Write>(
     }
 }
 
-// from where on a file is no JSON
+/// From where on a file is no JSON.
 fn put_json<W: fmt::Write>(
     f: &mut fmt::Formatter<W>,
     line: u64,
@@ -89,7 +89,7 @@ fn put_json<W: fmt::Write>(
     )
 }
 
-// why a file can't be read
+/// Why a file can't be read.
 fn put_reason<W: fmt::Write>(
     f: &mut fmt::Formatter<W>,
     path: &str,
@@ -116,7 +116,7 @@ fn put_reason<W: fmt::Write>(
     }
 }
 
-// why a text is refused
+/// Why a text is refused.
 fn put_cause<W: fmt::Write>(
     f: &mut fmt::Formatter<W>,
     cause: TextCause,
@@ -150,7 +150,7 @@ pub fn is_in_words(verb: Verb) -> bool
     }
 }
 
-// the line of a fault, and below it what is said by what was found
+/// The line of a fault, and below it what is said by what was found.
 fn in_words(alloc: Global, fault: &RunFault, found: Found) -> Result<String, AllocError>
     ensures { IfOk result (λ text. string_bytes text ≡ fault_line_of fault.now ++ advice_text fault.now found) }
 {

@@ -146,8 +146,8 @@ fn other_sends(sends: Sends) -> Sends
     }
 }
 
-// What a node tells, in words, with who would be stuck under the other layout, and with what is noted of the texts. It
-// lets go of the node.
+/// What a node tells, in words, with who would be stuck under the other layout, and with what is noted of the texts. It
+/// lets go of the node.
 fn explained<N: Answerer>(
     alloc: Global,
     layout: &Layout,

@@ -27,7 +27,7 @@ pub const NOTHING: Found = Found {
     start: None,
 };
 
-// why a file can't be read that may have so many bytes as a layout
+/// Why a file can't be read that may have so many bytes as a layout.
 fn reason_at<O: Opener>(path: &str, files: &O) -> Option<Reason> {
     if let Some(reason) = files.reason(path) {
         return Some(reason);
@@ -38,7 +38,7 @@ fn reason_at<O: Opener>(path: &str, files: &O) -> Option<Reason> {
     }
 }
 
-// why a file can't be read
+/// Why a file can't be read.
 fn unread<O: Opener>(path: &str, files: &O) -> Found
     ensures { result.start ≡ None }
 {
@@ -48,7 +48,7 @@ fn unread<O: Opener>(path: &str, files: &O) -> Found
     }
 }
 
-// why a file can't be read to its end
+/// Why a file can't be read to its end.
 fn broken_off<O: Opener>(path: &str, files: &O) -> Found
     ensures { result.start ≡ None }
 {

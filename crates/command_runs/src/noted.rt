@@ -55,7 +55,7 @@ fn start_where<O: Opener>(calls: u64, path: &str, files: &mut O) -> Option<Start
     start_at(path, files)
 }
 
-// The segments of a piece, none of a text without calls, and what is noted of its text.
+/// The segments of a piece, none of a text without calls, and what is noted of its text.
 #[tactic(auto, using(crate::proofs::Told::facts_told, crate::proofs::Told::places_told, crate::proofs::Told::walk_told, crate::proofs::Notes::notes_told))]
 fn noted_piece<O: Opener, V: Watcher>(
     alloc: Global,

@@ -9,7 +9,7 @@ use std::alloc::{AllocError, Global};
 use text_notes::{CallPlace, TextNote, note_of, noted_texts};
 use trace_node::Stuck;
 
-// where a call of a rank stands, in the first text that has it
+/// Where a call of a rank stands, in the first text that has it.
 fn place_of(
     alloc: Global,
     rank: u32,

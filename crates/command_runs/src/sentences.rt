@@ -60,7 +60,7 @@ pub(crate) fn plain_text(fault: &RunFault) -> &'static str
     }
 }
 
-// whether a name says where the file is from the top of the system's folders
+/// Whether a name says where the file is from the top of the system's folders.
 fn is_absolute(path: &str) -> bool
     ensures { result ≡ is_absolute path.now }
 {

@@ -14,7 +14,7 @@ use std::alloc::{AllocError, Global};
 use std::fmt;
 use text_layouts::MadeFault;
 
-// What is said of a fault of texts by what was found out of its file.
+/// What is said of a fault of texts by what was found out of its file.
 #[derive(Clone, Copy, Debug)]
 struct InitAdvice<'a> {
     fault: &'a InitFault,
@@ -50,7 +50,7 @@ fn put_advice<W: fmt::Write>(
     }
 }
 
-// what is found out of the text that the fault names
+/// What is found out of the text that the fault names.
 fn init_found_of<O: Opener>(fault: &InitFault, files: &mut O) -> Found
     ensures told { IsInitFound (O.file files.old) fault.now result }
     ensures same { O.file files.new ≡ O.file files.old }
@@ -62,7 +62,7 @@ fn init_found_of<O: Opener>(fault: &InitFault, files: &mut O) -> Found
     }
 }
 
-// the line of a fault, and below it what is said by what was found
+/// The line of a fault, and below it what is said by what was found.
 fn in_words(alloc: Global, fault: &InitFault, found: Found) -> Result<String, AllocError>
     ensures { IfOk result (λ text. string_bytes text ≡ init_fault_line_of fault.now ++ init_advice_text fault.now found) }
 {

@@ -34,7 +34,7 @@ pub fn layout_of(alloc: Global, text: &[u8]) -> Result<Layout, InputFault>
     }
 }
 
-// the fields of a layout, its communicators in the order of the file
+/// The fields of a layout, its communicators in the order of the file.
 #[derive(Debug, Drop)]
 struct Given {
     ranks: u32,
@@ -70,7 +70,7 @@ fn given_in(alloc: Global, value: &Value) -> Result<Option<Given>, AllocError>
     }
 }
 
-// the first field that can't be read of a layout of which one can't
+/// The first field that can't be read of a layout of which one can't.
 fn unreadable_field(value: &Value) -> Field
     ensures { result ≡ unreadable_field (view value.now) }
 {

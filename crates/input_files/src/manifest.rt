@@ -168,7 +168,7 @@ impl Manifest {
     }
 }
 
-// What a manifest lists: its texts, its packed files, and the number of each piece among the texts, none of a packed one.
+/// What a manifest lists: its texts, its packed files, and the number of each piece among the texts, none of a packed one.
 #[derive(Drop)]
 struct Listed {
     pieces: Vec<Piece>,
@@ -176,7 +176,7 @@ struct Listed {
     numbers: Vec<Option<usize>>,
 }
 
-// The fields of a manifest, whose schedule posts pieces by their numbers in the whole list.
+/// The fields of a manifest, whose schedule posts pieces by their numbers in the whole list.
 #[derive(Drop)]
 struct Given {
     listed: Listed,
