@@ -15,7 +15,7 @@ pub enum MadeFault {
     #[error("ranks {first} and {second} name MPI_COMM_WORLD by different numbers: they are not of one run")]
     World { first: u32, second: u32 },
     /// A rank tells another size of MPI_COMM_WORLD than there are texts.
-    #[error("by rank {rank} MPI_COMM_WORLD has {size} ranks, and there is not one text for each")]
+    #[error("rank {rank} tells {size} ranks of MPI_COMM_WORLD, and there is not one text for each")]
     Size { rank: u32, size: u32 },
     /// The layout would break a rule of layouts.
     #[error("{0}")]
