@@ -1,5 +1,5 @@
 -- The call of a text that begins at a line.
-use Rattle.std.proofs.Common.{◌≡◌, ◌∙◌, ◌++◌, ◌⊎◌, ℕ, Bool, true, false, cond, eqb, List, [], ◌∷◌, Option, Some, None, Result, Ok, Err, IfErr, refl, sym, ap, subst, inl, inr, append_assoc}
+use Rattle.std.proofs.Common.{◌≡◌, ◌∙◌, ◌++◌, ◌⊎◌, ℕ, Bool, true, false, cond, eqb, List, [], ◌∷◌, Option, Some, None, Result, Ok, Err, refl, sym, ap, subst, inl, inr, append_assoc}
 use Rattle.std.proofs.lemmas.Bool.{eq-eqb, ne_eqb}
 use Rattle.dumpi_text.specs.Call.{TextCall, first_value}
 use Rattle.dumpi_text.specs.Grammar.{Complete, Ending, Meaning, Stopped, meaning_of, text_meaning}
@@ -80,14 +80,13 @@ follows text calls (Some call) view f = f
 pub is_refused : (text : Option (List ℕ)) (calls : List TextCall) (fault : LineFault) (at line : ℕ) (view : TextState) → RefusesNext text calls (faults.At at (causes.Line fault)) line → GoesOn text calls None view
 is_refused text calls fault at line view refused = (Stopped fault refused.1.0, refused.1.1)
 
--- the same, by what an answer of the text says
-pub refused_so : StopsAtTheFault → (text : Option (List ℕ)) (calls : List TextCall) (result : Result Bool TextFault) (told : TextFault) (cause : TextCause) (at : ℕ) (fault : LineFault) (old new : TextState)
-    → (old.standing ≡ Reading → IfErr result (λ error. Stops old new error)) → (old.standing ≡ Finished → (result ≡ Ok false) × (new ≡ old))
-    → result ≡ Err told → told ≡ faults.At at cause → cause ≡ causes.Line fault → IsRead text calls old → GoesOn text calls None new
-refused_so law text calls result told cause at fault old new stopped finished is is_at is_line read =
-    let as_err : TextFault → Result Bool TextFault = λ error. Err error in
-    let whole : result ≡ Err (faults.At at (causes.Line fault)) = is ∙ ap as_err (is_at ∙ ap (faults.At at) is_line) in
+-- the same, by what the text says in place of a call
+pub refused_so : StopsAtTheFault → (text : Option (List ℕ)) (calls : List TextCall) (told : TextFault) (cause : TextCause) (at : ℕ) (fault : LineFault) (old new : TextState)
+    → (old.standing ≡ Reading → Stops old new told) → (old.standing ≡ Finished → ◌≡◌ {A = Result Bool TextFault} (Err told) (Ok false) × (new ≡ old))
+    → told ≡ faults.At at cause → cause ≡ causes.Line fault → IsRead text calls old → GoesOn text calls None new
+refused_so law text calls told cause at fault old new stopped finished is_at is_line read =
+    let whole : told ≡ faults.At at (causes.Line fault) = is_at ∙ ap (faults.At at) is_line in
     is_refused text calls fault at new.told.line new
     (stops law text calls (faults.At at (causes.Line fault)) old new
-    (λ reading. subst (λ (r : Result Bool TextFault). IfErr r (λ error. Stops old new error)) whole (stopped reading))
-    (λ over. let ok : result ≡ Ok false = (finished over).0 in cc) read)
+    (λ reading. subst (λ (t : TextFault). Stops old new t) whole (stopped reading))
+    (λ over. let no : ◌≡◌ {A = Result Bool TextFault} (Err told) (Ok false) = (finished over).0 in cc) read)

@@ -47,19 +47,13 @@ fn next_call<R: Read>(texts: &mut Texts<R>, raw: &mut RawCall) -> Result<bool, L
     texts.known();
     match read {
         Ok(found) => Ok(found),
-        Err(TextFault::Memory | TextFault::Ended) => Err(LookFault::Memory),
-        Err(
-            TextFault::At {
-                cause: TextCause::Read,
-                ..
+        Err(fault) => match fault {
+            TextFault::Memory | TextFault::Ended => Err(LookFault::Memory),
+            TextFault::At { cause, .. } => match cause {
+                TextCause::Read => Err(LookFault::Read),
+                TextCause::Line(_) => Ok(false),
             },
-        ) => Err(LookFault::Read),
-        Err(
-            TextFault::At {
-                cause: TextCause::Line(_),
-                ..
-            },
-        ) => Ok(false),
+        },
     }
 }
 

@@ -17,8 +17,7 @@ returns-in-Ok-clause-goes_on g c =
     e.found e.told e.ok e.over (λ reading. put_whole found call (λ is. (e.returned reading (ap as_ok is)).1))
     (λ finished. let f = e.finished finished in let none : found ≡ false = cc in nothing_put found call none) (λ finished. (e.finished finished).1) read)
 
-pub returns-in-Err-At-default-Line-clause-goes_on : goal.returns-in-Err-At-default-Line-clause-goes_on
-returns-in-Err-At-default-Line-clause-goes_on g c = λ text calls read.
-    let e = c.next_into-read.ensures in
-    let refused = c.in-Err-At-default-Line in
-    refused_so c.reading_call_by_call.ensures.stops text calls c.next_into-read.result refused.field-0 refused.field-0-1 refused.field-0-0 refused.field-0-1-0 c.args.texts.now c.next_into-read.new.self e.stops e.finished refused.is refused.field-0-is refused.field-0-1-is read
+pub returns-in-Line-clause-goes_on : goal.returns-in-Line-clause-goes_on
+returns-in-Line-clause-goes_on g c = λ text calls read.
+    let e = c.in-Err.ensures in
+    refused_so c.reading_call_by_call.ensures.stops text calls c.in-Err.fault c.in-At.cause _ c.in-Line.field-0 c.args.texts.now c.next_into-read.new.self e.stops e.finished c.in-At.is c.in-Line.is read
