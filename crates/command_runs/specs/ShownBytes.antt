@@ -12,9 +12,15 @@ shown_byte byte = if nat_lt byte 128 then shown_char byte else codes "\\x" ++ di
 abbrev pub shown_bytes : List ℕ → List ℕ
 shown_bytes bytes = flat_map shown_byte bytes
 
--- what a text has for a parameter: of a long value the first bytes are shown, and how many it has
+-- what a text has for a parameter, whole
+abbrev pub whole_text : List ℕ → List ℕ → List ℕ
+whole_text name value = codes "  the text has `" ++ name ++ codes "=" ++ shown_bytes value ++ codes "`\n"
+
+-- or the first bytes, and how many it has
+abbrev pub cut_text : List ℕ → List ℕ → List ℕ
+cut_text name value =
+    codes "  the text has `" ++ name ++ codes "=" ++ shown_bytes (take LONGEST_SHOWN value) ++ codes "`, cut off: the value has " ++ decimal (length value) ++ codes " bytes\n"
+
+-- a long value is cut off
 abbrev pub value_text : List ℕ → List ℕ → List ℕ
-value_text name value =
-    if nat_lt LONGEST_SHOWN (length value)
-    then codes "  the text has `" ++ name ++ codes "=" ++ shown_bytes (take LONGEST_SHOWN value) ++ codes "`, cut off: the value has " ++ decimal (length value) ++ codes " bytes\n"
-    else codes "  the text has `" ++ name ++ codes "=" ++ shown_bytes value ++ codes "`\n"
+value_text name value = if nat_lt LONGEST_SHOWN (length value) then cut_text name value else whole_text name value

@@ -1,7 +1,8 @@
 //! Bytes of a text in lines for a person.
 
+ghost use Rattle.std.specs.Prelude.{◌≡◌, ◌<◌, length, take};
 ghost use Rattle.std.specs.Fmt.{WritesOnOk};
-ghost use Rattle.command_runs.specs.ShownBytes.{shown_byte, shown_bytes, value_text};
+ghost use Rattle.command_runs.specs.ShownBytes.{cut_text, shown_byte, shown_bytes, value_text, whole_text};
 
 use crate::file_name::put_char;
 use std::fmt;
@@ -46,6 +47,37 @@ fn put_byte<W: fmt::Write>(f: &mut fmt::Formatter<W>, byte: u8) -> fmt::Result
     }
 }
 
+// the bytes of a long value that are shown
+fn front_of(value: &[u8]) -> &[u8]
+    requires { LONGEST_SHOWN < length value.now }
+    ensures { result.now ≡ take LONGEST_SHOWN value.now }
+{
+    let bytes = &value[..LONGEST_SHOWN];
+    bytes
+}
+
+// a value that is cut off
+fn put_cut<W: fmt::Write>(f: &mut fmt::Formatter<W>, name: &str, value: &[u8]) -> fmt::Result
+    requires { LONGEST_SHOWN < length value.now }
+    ensures { WritesOnOk W.write_str_gives f.old result (cut_text name.now value.now) f.new }
+{
+    let bytes = front_of(value);
+    let count = value.len();
+    let shown = ShownBytes { bytes };
+    write!(
+        f,
+        "  the text has `{name}={shown}`, cut off: the value has {count} bytes\n"
+    )
+}
+
+// one that is shown whole
+fn put_whole<W: fmt::Write>(f: &mut fmt::Formatter<W>, name: &str, value: &[u8]) -> fmt::Result
+    ensures { WritesOnOk W.write_str_gives f.old result (whole_text name.now value.now) f.new }
+{
+    let shown = ShownBytes { bytes: value };
+    write!(f, "  the text has `{name}={shown}`\n")
+}
+
 /// What a text has for a parameter of this name. A long value is cut off behind its first bytes, and the line says how many
 /// it has.
 pub(crate) fn put_value<W: fmt::Write>(
@@ -56,14 +88,8 @@ pub(crate) fn put_value<W: fmt::Write>(
     ensures { WritesOnOk W.write_str_gives f.old result (value_text name.now value.now) f.new }
 {
     if value.len() > LONGEST_SHOWN {
-        let (bytes, count) = (&value[..LONGEST_SHOWN], value.len());
-        let shown = ShownBytes { bytes };
-        write!(
-            f,
-            "  the text has `{name}={shown}`, cut off: the value has {count} bytes\n"
-        )
+        put_cut(f, name, value)
     } else {
-        let shown = ShownBytes { bytes: value };
-        write!(f, "  the text has `{name}={shown}`\n")
+        put_whole(f, name, value)
     }
 }

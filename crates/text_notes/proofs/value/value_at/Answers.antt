@@ -1,4 +1,4 @@
-use Rattle.std.proofs.Common.{◌≡◌, [], ◌∷◌, ◌++◌, ◌∙◌, List, ℕ, Option, Some, option_map, arith}
+use Rattle.std.proofs.Common.{◌≡◌, [], ◌∷◌, ◌++◌, ◌∙◌, Some, arith}
 use Rattle.dumpi_text.specs.Shown.{put_in}
 use Rattle.text_notes.specs.Values.{GoesOn}
 use Rattle.text_notes.proofs.Values.{found_there, not_yet}
