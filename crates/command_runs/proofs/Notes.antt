@@ -10,6 +10,7 @@ use Rattle.trace_node.specs.declared.stuck.Stuck.{Stuck}
 use Rattle.dumpi_calls.specs.declared.walking.Walked.{Walked}
 use Rattle.input_files.specs.Manifests.{PieceParts}
 use Rattle.text_notes.specs.Starts.{IsStartOf}
+use Rattle.text_notes.specs.Values.{IsValueAt}
 use Rattle.text_notes.specs.declared.start.Start.{Start}
 use Rattle.text_notes.specs.Noted.{TellsNotes, UnreadParts}
 use Rattle.text_notes.specs.Words.{NoteParts, PlaceParts, walked_in}
@@ -65,3 +66,8 @@ notes_true file [] notes e = subst (λ (ns : List NoteParts). All (IsTrueOf file
 notes_true file (piece ∷ pieces) notes h =
     let told : IsTrueOf file h.0 = subst (λ (path : List ℕ). TellsNotes (file path) h.0.unread (walked_in h.0)) (sym h.2.path) h.2.told in
     subst (λ (ns : List NoteParts). All (IsTrueOf file) ns) (sym h.4) (All-cons (IsTrueOf file) h.0 h.1 told (notes_true file pieces h.1 h.3))
+
+-- the value that a text has for a parameter of a call
+pub value_told : (file left : Option (List ℕ)) (line : ℕ) (name : List ℕ) (value : Option (List ℕ)) → StandsAtFirst file left → IsValueAt left line name value → IsValueAt file line name value
+value_told None left line name value told h = tt
+value_told (Some bytes) left line name value told h = subst (λ (t : Option (List ℕ)). IsValueAt t line name value) told h

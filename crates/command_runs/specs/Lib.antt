@@ -22,6 +22,7 @@ pub mod Runs
 pub mod Schedules
 pub mod Sentences
 pub mod Shares
+pub mod ShownBytes
 pub mod Texts
 pub mod Traces
 pub mod Verbs

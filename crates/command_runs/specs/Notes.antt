@@ -1,10 +1,12 @@
 -- What is noted of the texts of a run, and where its stuck calls stand in them.
-use Rattle.std.specs.Prelude.{◌≡◌, ◌-◌, ℕ, List, [], ◌∷◌, ◌++◌, IfSome, Option, Some, None, option_to_list, slice_get}
+use Rattle.std.specs.Prelude.{◌≡◌, ◌-◌, ℕ, List, [], ◌∷◌, ◌++◌, IfSome, Option, Some, None, option_to_list, slice_get, Vec}
+use Rattle.std.specs.declared.alloc.Global.{Global}
 use Rattle.trace_node.specs.Answer.{Stopped}
 use Rattle.input_files.specs.Manifests.{PieceParts}
 use Rattle.text_notes.specs.Lines.{IsLineOf}
 use Rattle.text_notes.specs.Noted.{TellsNotes}
 use Rattle.text_notes.specs.Starts.{IsStartOf}
+use Rattle.text_notes.specs.Values.{IsValueAt}
 use Rattle.text_notes.specs.Words.{NoteParts, PlaceParts, line_in_note, note_of, walked_in}
 use Rattle.text_notes.specs.declared.start.Start.{Start}
 use Rattle.command_runs.specs.FileNames.{shown_name}
@@ -15,6 +17,11 @@ use Rattle.command_runs.specs.FileNames.{shown_name}
 abbrev pub BeginsSo : Option (List ℕ) → Option Start → Type 0
 BeginsSo text None = Unit {0}
 BeginsSo text (Some start) = IsStartOf text start
+
+-- A value that a text was found to have for a parameter of a call is the one that it has.
+abbrev pub HasValueSo : Option (List ℕ) → ℕ → List ℕ → Option (Vec ℕ Global) → Type 0
+HasValueSo text line name None = Unit {0}
+HasValueSo text line name (Some value) = IsValueAt text line name (Some value.items)
 
 -- The note tells what the text of its file does.
 abbrev pub IsTrueOf : (List ℕ → Option (List ℕ)) → NoteParts → Type 0

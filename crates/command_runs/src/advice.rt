@@ -2,7 +2,7 @@
 
 ghost use Rattle.std.specs.Prelude.{◌≡◌, ◌++◌, IfOk, string_bytes};
 ghost use Rattle.std.specs.Fmt.{WritesOnOk};
-ghost use Rattle.command_runs.specs.Advice.{IsShown, advice_text, cause_text, is_in_words, json_text, reason_text};
+ghost use Rattle.command_runs.specs.Advice.{IsShown, advice_text, cause_text, found_text, is_in_words, json_text, must_be_text, reason_text};
 ghost use Rattle.command_runs.specs.FaultLines.{fault_line_of};
 
 use crate::fault::{RunFault, fault_line};
@@ -13,7 +13,9 @@ use crate::sentences::{
     begun_text, field_text, folder_text, layout_text, line_text, packed_text, plain_text,
     wanted_text,
 };
+use crate::shown_bytes::put_value;
 use command_line::Verb;
+use dumpi_calls::Parameter;
 use dumpi_text::TextCause;
 use std::alloc::{AllocError, Global};
 use std::fmt;
@@ -23,15 +25,15 @@ use text_notes::Start;
 #[derive(Clone, Copy, Debug)]
 pub struct Advice<'a> {
     fault: &'a RunFault,
-    found: Found,
+    found: &'a Found,
 }
 
 impl<'a> Advice<'a> {
     ghost use Rattle.std.specs.Prelude.{◌≡◌};
 
     /// What is said of this fault by what was found out of its file.
-    pub fn new(fault: &'a RunFault, found: Found) -> Self
-        ensures { (result.fault.now ≡ fault.now) × (result.found ≡ found) }
+    pub fn new(fault: &'a RunFault, found: &'a Found) -> Self
+        ensures { (result.fault.now ≡ fault.now) × (result.found.now ≡ found.now) }
     {
         Advice { fault, found }
     }
@@ -41,7 +43,7 @@ impl<'a> fmt::Display for Advice<'a> {
     ghost use Rattle.std.specs.Prelude.{Some};
     ghost use Rattle.command_runs.specs.Advice.{advice_text};
 
-    ghost output = { λ advice. Some (advice_text advice.fault.now advice.found) };
+    ghost output = { λ advice. Some (advice_text advice.fault.now advice.found.now) };
 
     fn fmt<W: fmt::Write>(&self, f: &mut fmt::Formatter<W>) -> fmt::Result {
         put_advice(f, self.fault, self.found)
@@ -51,9 +53,9 @@ impl<'a> fmt::Display for Advice<'a> {
 fn put_advice<W: fmt::Write>(
     f: &mut fmt::Formatter<W>,
     fault: &RunFault,
-    found: Found,
+    found: &Found,
 ) -> fmt::Result
-    ensures { WritesOnOk W.write_str_gives f.old result (advice_text fault.now found) f.new }
+    ensures { WritesOnOk W.write_str_gives f.old result (advice_text fault.now found.now) f.new }
 {
     match fault {
         RunFault::File { path } => put_reason(f, path, found.reason),
@@ -63,11 +65,8 @@ fn put_advice<W: fmt::Write>(
         RunFault::Layout { fault, .. } => f.write_str(layout_text(*fault)),
         RunFault::Text { cause, path, .. } => put_cause(f, *cause, path, found),
         RunFault::Wrong { parameter, .. } => {
-            let wanted = wanted_text(*parameter);
-            write!(
-                f,
-                "  of the call that is entered there it must be {wanted}\n"
-            )
+            put_wanted(f, *parameter)?;
+            put_found(f, *parameter, &found.value)
         }
         _ => f.write_str(plain_text(fault)),
     }
@@ -121,9 +120,9 @@ fn put_cause<W: fmt::Write>(
     f: &mut fmt::Formatter<W>,
     cause: TextCause,
     path: &str,
-    found: Found,
+    found: &Found,
 ) -> fmt::Result
-    ensures { WritesOnOk W.write_str_gives f.old result (cause_text cause path.now found) f.new }
+    ensures { WritesOnOk W.write_str_gives f.old result (cause_text cause path.now found.now) f.new }
 {
     match cause {
         TextCause::Read => put_reason(f, path, found.reason),
@@ -131,6 +130,31 @@ fn put_cause<W: fmt::Write>(
             let (said, begun) = (line_text(fault), begun_text(found.start));
             write!(f, "{said}{begun}")
         }
+    }
+}
+
+/// Which values a parameter may have.
+fn put_wanted<W: fmt::Write>(f: &mut fmt::Formatter<W>, parameter: Parameter) -> fmt::Result
+    ensures { WritesOnOk W.write_str_gives f.old result (must_be_text parameter) f.new }
+{
+    let wanted = wanted_text(parameter);
+    write!(
+        f,
+        "  of the call that is entered there it must be {wanted}\n"
+    )
+}
+
+/// Which one the text has, where it was looked at.
+fn put_found<W: fmt::Write>(
+    f: &mut fmt::Formatter<W>,
+    parameter: Parameter,
+    value: &Option<Vec<u8>>,
+) -> fmt::Result
+    ensures { WritesOnOk W.write_str_gives f.old result (found_text parameter value.now) f.new }
+{
+    match value {
+        Some(value) => put_value(f, parameter.name(), value),
+        None => Ok(()),
     }
 }
 
@@ -151,8 +175,8 @@ pub fn is_in_words(verb: Verb) -> bool
 }
 
 /// The line of a fault, and below it what is said by what was found.
-fn in_words(alloc: Global, fault: &RunFault, found: Found) -> Result<String, AllocError>
-    ensures { IfOk result (λ text. string_bytes text ≡ fault_line_of fault.now ++ advice_text fault.now found) }
+fn in_words(alloc: Global, fault: &RunFault, found: &Found) -> Result<String, AllocError>
+    ensures { IfOk result (λ text. string_bytes text ≡ fault_line_of fault.now ++ advice_text fault.now found.now) }
 {
     let line = fault_line(alloc, fault)?;
     let advice = Advice { fault, found };
@@ -170,8 +194,8 @@ pub fn shown_fault<O: Opener>(
     ensures same { O.file files.new ≡ O.file files.old }
 {
     if is_in_words(verb) {
-        let found = found_of(fault, files);
-        in_words(alloc, fault, found)
+        let found = found_of(alloc, fault, files);
+        in_words(alloc, fault, &found)
     } else {
         fault_line(alloc, fault)
     }

@@ -44,7 +44,7 @@ fn put_name<W: fmt::Write>(f: &mut fmt::Formatter<W>, name: &str) -> fmt::Result
 }
 
 /// A control character as an escape of Rust, any other as it stands.
-fn put_char<W: fmt::Write>(f: &mut fmt::Formatter<W>, c: char) -> fmt::Result
+pub(crate) fn put_char<W: fmt::Write>(f: &mut fmt::Formatter<W>, c: char) -> fmt::Result
     ensures { WritesOnOk W.write_str_gives f.old result (shown_char c) f.new }
 {
     match c {

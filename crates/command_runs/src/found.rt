@@ -2,29 +2,35 @@
 
 ghost use Rattle.std.specs.Prelude.{◌≡◌, None};
 ghost use Rattle.command_runs.specs.Advice.{IsFound};
-ghost use Rattle.command_runs.specs.Notes.{BeginsSo};
+ghost use Rattle.command_runs.specs.Notes.{BeginsSo, HasValueSo};
+ghost use Rattle.dumpi_calls.specs.Readings.{name_of};
 
 use crate::fault::RunFault;
 use crate::opener::Opener;
 use crate::reason::Reason;
-use crate::second_look::start_at;
+use crate::second_look::{start_at, value_again};
 use crate::whole::LONGEST_FILE;
+use dumpi_calls::Parameter;
 use dumpi_text::TextCause;
+use std::alloc::Global;
 use text_notes::Start;
 
 /// What a look at a refused file tells.
-#[derive(Clone, Copy, Debug, PartialEq, Eq)]
+#[derive(Debug, Drop)]
 pub struct Found {
     /// Why the file can't be read, where the system says it.
     pub reason: Option<Reason>,
     /// What the file is taken for by its first bytes, where it was looked at.
     pub start: Option<Start>,
+    /// What the text has for the parameter that is wrong, where it was looked at.
+    pub value: Option<Vec<u8>>,
 }
 
 /// No file was looked at.
 pub const NOTHING: Found = Found {
     reason: None,
     start: None,
+    value: None,
 };
 
 /// Why a file can't be read that may have so many bytes as a layout.
@@ -45,6 +51,7 @@ fn unread<O: Opener>(path: &str, files: &O) -> Found
     Found {
         reason: reason_at(path, files),
         start: None,
+        value: None,
     }
 }
 
@@ -55,6 +62,7 @@ fn broken_off<O: Opener>(path: &str, files: &O) -> Found
     Found {
         reason: files.reason(path),
         start: None,
+        value: None,
     }
 }
 
@@ -67,12 +75,32 @@ pub fn looked_at<O: Opener>(path: &str, files: &mut O) -> Found
     Found {
         reason: None,
         start: start_at(path, files),
+        value: None,
+    }
+}
+
+/// What a text was found to have for a parameter of the call that begins at a line.
+fn value_found<O: Opener>(
+    alloc: Global,
+    parameter: Parameter,
+    path: &str,
+    line: u64,
+    files: &mut O,
+) -> Found
+    ensures told { HasValueSo (O.file files.old path.now) line (name_of parameter) result.value }
+    ensures start { result.start ≡ None }
+    ensures same { O.file files.new ≡ O.file files.old }
+{
+    Found {
+        reason: None,
+        start: None,
+        value: value_again(alloc, path, line, parameter.name(), files),
     }
 }
 
 /// What is found out of the file that the fault names. One that can't be read isn't looked at, nor one of another kind than
 /// a text, a layout or a manifest.
-pub fn found_of<O: Opener>(fault: &RunFault, files: &mut O) -> Found
+pub fn found_of<O: Opener>(alloc: Global, fault: &RunFault, files: &mut O) -> Found
     ensures told { IsFound (O.file files.old) fault.now result }
     ensures same { O.file files.new ≡ O.file files.old }
 {
@@ -89,6 +117,11 @@ pub fn found_of<O: Opener>(fault: &RunFault, files: &mut O) -> Found
             ..
         } => looked_at(path, files),
         RunFault::Json { path, .. } => looked_at(path, files),
+        RunFault::Wrong {
+            parameter,
+            path,
+            line,
+        } => value_found(alloc, *parameter, path, *line, files),
         _ => NOTHING,
     }
 }

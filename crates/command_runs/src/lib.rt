@@ -33,7 +33,7 @@
 //!   reports of both nodes
 //! - [`run`]: a verb over its files; [`fault`]: why it is refused, and the line that says so, in which
 //!   [`file_name`] shows names of files; [`advice`]: what is said below that line in [`sentences`], by what is
-//!   [`found`] out of the file that it names, as the [`reason`] of the system
+//!   [`found`] out of the file that it names, as the [`reason`] of the system, or the value of a parameter ([`shown_bytes`])
 //! - [`ending`]: from words to a status and what standard error shows; [`first_look`]: whether a file begins as the text
 //!   of a trace
 //!
@@ -73,6 +73,7 @@ mod schedule;
 mod second_look;
 mod sentences;
 mod shares;
+mod shown_bytes;
 mod terminal;
 mod texts;
 mod watch;

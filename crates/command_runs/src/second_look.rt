@@ -1,11 +1,13 @@
-//! A second look at a text that was read: at its first bytes.
+//! A second look at a text that was read: at its first bytes, or at one parameter of a call.
 
 ghost use Rattle.std.specs.Prelude.{◌≡◌, IfSome};
 ghost use Rattle.command_runs.specs.Files.{StandsAtFirst};
+ghost use Rattle.command_runs.specs.Notes.{HasValueSo};
 ghost use Rattle.text_notes.specs.Starts.{IsStartOf};
 
 use crate::opener::Opener;
-use text_notes::{Start, start_of};
+use std::alloc::Global;
+use text_notes::{Start, start_of, value_at};
 
 /// A file is opened a second time only where it has a length: what came through a pipe is gone.
 pub(crate) fn reopened<O: Opener>(path: &str, files: &mut O) -> Option<O::R>
@@ -30,6 +32,25 @@ pub(crate) fn start_at<O: Opener>(path: &str, files: &mut O) -> Option<Start>
     let reader = reopened(path, files)?;
     match start_of(reader) {
         Ok(start) => Some(start),
+        Err(_) => None,
+    }
+}
+
+/// The value that a text has for a parameter of this name in its call that begins at this line, where it can be looked at.
+#[tactic(auto, using(crate::proofs::Notes::value_told))]
+pub(crate) fn value_again<O: Opener>(
+    alloc: Global,
+    path: &str,
+    line: u64,
+    name: &str,
+    files: &mut O,
+) -> Option<Vec<u8>>
+    ensures told { HasValueSo (O.file files.old path.now) line name.now result }
+    ensures same { O.file files.new ≡ O.file files.old }
+{
+    let reader = reopened(path, files)?;
+    match value_at(alloc, reader, line, name.as_bytes()) {
+        Ok(value) => value,
         Err(_) => None,
     }
 }

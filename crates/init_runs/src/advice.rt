@@ -18,14 +18,14 @@ use text_layouts::MadeFault;
 #[derive(Clone, Copy, Debug)]
 struct InitAdvice<'a> {
     fault: &'a InitFault,
-    found: Found,
+    found: &'a Found,
 }
 
 impl<'a> fmt::Display for InitAdvice<'a> {
     ghost use Rattle.std.specs.Prelude.{Some};
     ghost use Rattle.init_runs.specs.Advice.{init_advice_text};
 
-    ghost output = { λ advice. Some (init_advice_text advice.fault.now advice.found) };
+    ghost output = { λ advice. Some (init_advice_text advice.fault.now advice.found.now) };
 
     fn fmt<W: fmt::Write>(&self, f: &mut fmt::Formatter<W>) -> fmt::Result {
         put_advice(f, self.fault, self.found)
@@ -35,9 +35,9 @@ impl<'a> fmt::Display for InitAdvice<'a> {
 fn put_advice<W: fmt::Write>(
     f: &mut fmt::Formatter<W>,
     fault: &InitFault,
-    found: Found,
+    found: &Found,
 ) -> fmt::Result
-    ensures { WritesOnOk W.write_str_gives f.old result (init_advice_text fault.now found) f.new }
+    ensures { WritesOnOk W.write_str_gives f.old result (init_advice_text fault.now found.now) f.new }
 {
     match fault {
         InitFault::Text(fault) => {
@@ -51,20 +51,20 @@ fn put_advice<W: fmt::Write>(
 }
 
 /// What is found out of the text that the fault names.
-fn init_found_of<O: Opener>(fault: &InitFault, files: &mut O) -> Found
+fn init_found_of<O: Opener>(alloc: Global, fault: &InitFault, files: &mut O) -> Found
     ensures told { IsInitFound (O.file files.old) fault.now result }
     ensures same { O.file files.new ≡ O.file files.old }
 {
     match fault {
-        InitFault::Text(fault) => found_of(fault, files),
+        InitFault::Text(fault) => found_of(alloc, fault, files),
         InitFault::NoCall { path } => looked_at(path, files),
         _ => NOTHING,
     }
 }
 
 /// The line of a fault, and below it what is said by what was found.
-fn in_words(alloc: Global, fault: &InitFault, found: Found) -> Result<String, AllocError>
-    ensures { IfOk result (λ text. string_bytes text ≡ init_fault_line_of fault.now ++ init_advice_text fault.now found) }
+fn in_words(alloc: Global, fault: &InitFault, found: &Found) -> Result<String, AllocError>
+    ensures { IfOk result (λ text. string_bytes text ≡ init_fault_line_of fault.now ++ init_advice_text fault.now found.now) }
 {
     let line = init_fault_line(alloc, fault)?;
     let advice = InitAdvice { fault, found };
@@ -83,8 +83,8 @@ pub(crate) fn shown_init_fault<O: Opener>(
     ensures same { O.file files.new ≡ O.file files.old }
 {
     if is_in_words(verb) {
-        let found = init_found_of(fault, files);
-        in_words(alloc, fault, found)
+        let found = init_found_of(alloc, fault, files);
+        in_words(alloc, fault, &found)
     } else {
         init_fault_line(alloc, fault)
     }

@@ -5,3 +5,4 @@ pub mod Lines
 pub mod NotedMore
 pub mod Walking
 pub mod Said
+pub mod Values

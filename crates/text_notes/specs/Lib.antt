@@ -4,3 +4,4 @@ pub mod Lines
 pub mod Starts
 pub mod Words
 pub mod Whole
+pub mod Values

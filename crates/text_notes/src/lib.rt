@@ -6,6 +6,7 @@
 //! - [`function`]: a function whose calls aren't read; [`noting`]: the sink; [`note`]: what was noted of one text;
 //!   [`start`]: what a text without calls is taken for
 //! - [`totals`]: the functions of all texts; [`pieceless`]: the ranks without a text; [`place`]: where a call stands
+//! - [`value`]: a second look at a text, at what it has for a parameter of a call
 //! - [`words`]: what is said of it
 //! - [`laws`]: that a walk into the sink collects what one without notes does
 #![tactic(auto)]
@@ -18,6 +19,7 @@ mod pieceless;
 mod place;
 mod start;
 mod totals;
+mod value;
 mod words;
 
 pub use function::UnreadFunction;
@@ -28,4 +30,5 @@ pub use pieceless::put_pieceless;
 pub use place::CallPlace;
 pub use start::{LONGEST_FRONT, Start, start_of};
 pub use totals::MOST_SHOWN;
+pub use value::{LookFault, value_at};
 pub use words::{put_notes, put_places};

@@ -1,0 +1,26 @@
+-- How bytes of a text stand in a line for a person.
+use Rattle.std.specs.Prelude.{ℕ, false, List, ◌++◌, codes, decimal, flat_map, if◌then◌else◌, length, nat_lt, take}
+use Rattle.std.specs.Fmt.{digits}
+use Rattle.command_runs.specs.FileNames.{shown_char}
+use Rattle.command_runs.specs.declared.shown_bytes.TheConstants.{LONGEST_SHOWN}
+
+-- a byte: an ASCII character as in a file's name, any other by its number, as Rust escapes it
+abbrev pub shown_byte : ℕ → List ℕ
+shown_byte byte = if nat_lt byte 128 then shown_char byte else codes "\\x" ++ digits 16 false byte
+
+-- bytes, each in its place
+abbrev pub shown_bytes : List ℕ → List ℕ
+shown_bytes bytes = flat_map shown_byte bytes
+
+-- what a text has for a parameter, whole
+abbrev pub whole_text : List ℕ → List ℕ → List ℕ
+whole_text name value = codes "  the text has `" ++ name ++ codes "=" ++ shown_bytes value ++ codes "`\n"
+
+-- or the first bytes, and how many it has
+abbrev pub cut_text : List ℕ → List ℕ → List ℕ
+cut_text name value =
+    codes "  the text has `" ++ name ++ codes "=" ++ shown_bytes (take LONGEST_SHOWN value) ++ codes "`, cut off: the value has " ++ decimal (length value) ++ codes " bytes\n"
+
+-- a long value is cut off
+abbrev pub value_text : List ℕ → List ℕ → List ℕ
+value_text name value = if nat_lt LONGEST_SHOWN (length value) then cut_text name value else whole_text name value
