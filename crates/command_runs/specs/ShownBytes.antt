@@ -12,14 +12,21 @@ shown_byte byte = if nat_lt byte 128 then shown_char byte else codes "\\x" ++ di
 abbrev pub shown_bytes : List ℕ → List ℕ
 shown_bytes bytes = flat_map shown_byte bytes
 
--- what a text has for a parameter, whole
-abbrev pub whole_text : List ℕ → List ℕ → List ℕ
-whole_text name value = codes "  the text has `" ++ name ++ codes "=" ++ shown_bytes value ++ codes "`\n"
+-- that a text has these bytes for a parameter
+abbrev pub shown_text : List ℕ → List ℕ → List ℕ
+shown_text name bytes = codes "  the text has `" ++ name ++ codes "=" ++ shown_bytes bytes ++ codes "`"
 
--- or the first bytes, and how many it has
+-- how many bytes there are of a value that is cut off
+abbrev pub count_text : ℕ → List ℕ
+count_text count = codes ", cut off: the value has " ++ decimal count ++ codes " bytes\n"
+
+-- a value whole
+abbrev pub whole_text : List ℕ → List ℕ → List ℕ
+whole_text name value = shown_text name value ++ codes "\n"
+
+-- or its first bytes, and how many it has
 abbrev pub cut_text : List ℕ → List ℕ → List ℕ
-cut_text name value =
-    codes "  the text has `" ++ name ++ codes "=" ++ shown_bytes (take LONGEST_SHOWN value) ++ codes "`, cut off: the value has " ++ decimal (length value) ++ codes " bytes\n"
+cut_text name value = shown_text name (take LONGEST_SHOWN value) ++ count_text (length value)
 
 -- a long value is cut off
 abbrev pub value_text : List ℕ → List ℕ → List ℕ

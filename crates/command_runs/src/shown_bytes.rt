@@ -1,14 +1,16 @@
 //! Bytes of a text in lines for a person.
 
-ghost use Rattle.std.specs.Prelude.{◌≡◌, ◌<◌, length, take};
+ghost use Rattle.std.specs.Prelude.{◌≡◌, ◌<◌, ◌≤◌, length, take};
 ghost use Rattle.std.specs.Fmt.{WritesOnOk};
-ghost use Rattle.command_runs.specs.ShownBytes.{cut_text, shown_byte, shown_bytes, value_text, whole_text};
+ghost use Rattle.command_runs.specs.ShownBytes.{count_text, cut_text, shown_byte, shown_bytes, shown_text, value_text, whole_text};
 
 use crate::file_name::put_char;
 use std::fmt;
 
 /// How many bytes of a value are shown: a longer one is cut off.
 pub const LONGEST_SHOWN: usize = 100;
+
+const CUT_OFF: &str = ", cut off: the value has ";
 
 /// Bytes as a line shows them: ASCII as it stands, but for control characters, which are written as in a file's name, and any
 /// other byte by its number, as Rust escapes it. So they are part of one line, and nothing of them is an order to a terminal.
@@ -47,13 +49,28 @@ fn put_byte<W: fmt::Write>(f: &mut fmt::Formatter<W>, byte: u8) -> fmt::Result
     }
 }
 
-/// The bytes of a long value that are shown.
-fn front_of(value: &[u8]) -> &[u8]
-    requires { LONGEST_SHOWN < length value.now }
-    ensures { result.now ≡ take LONGEST_SHOWN value.now }
+/// The first bytes of a value.
+fn front_of(value: &[u8], count: usize) -> &[u8]
+    requires { count ≤ length value.now }
+    ensures { result.now ≡ take count value.now }
 {
-    let bytes = &value[..LONGEST_SHOWN];
-    bytes
+    &value[..count]
+}
+
+/// That a text has these bytes for a parameter.
+fn put_shown<W: fmt::Write>(f: &mut fmt::Formatter<W>, name: &str, bytes: &[u8]) -> fmt::Result
+    ensures { WritesOnOk W.write_str_gives f.old result (shown_text name.now bytes.now) f.new }
+{
+    let shown = ShownBytes { bytes };
+    write!(f, "  the text has `{name}={shown}`")
+}
+
+/// How many bytes there are of a value that is cut off.
+fn put_count<W: fmt::Write>(f: &mut fmt::Formatter<W>, count: usize) -> fmt::Result
+    ensures { WritesOnOk W.write_str_gives f.old result (count_text count) f.new }
+{
+    f.write_str(CUT_OFF)?;
+    write!(f, "{count} bytes\n")
 }
 
 /// A value that is cut off.
@@ -61,21 +78,16 @@ fn put_cut<W: fmt::Write>(f: &mut fmt::Formatter<W>, name: &str, value: &[u8]) -
     requires { LONGEST_SHOWN < length value.now }
     ensures { WritesOnOk W.write_str_gives f.old result (cut_text name.now value.now) f.new }
 {
-    let bytes = front_of(value);
-    let count = value.len();
-    let shown = ShownBytes { bytes };
-    write!(
-        f,
-        "  the text has `{name}={shown}`, cut off: the value has {count} bytes\n"
-    )
+    put_shown(f, name, front_of(value, LONGEST_SHOWN))?;
+    put_count(f, value.len())
 }
 
 /// One that is shown whole.
 fn put_whole<W: fmt::Write>(f: &mut fmt::Formatter<W>, name: &str, value: &[u8]) -> fmt::Result
     ensures { WritesOnOk W.write_str_gives f.old result (whole_text name.now value.now) f.new }
 {
-    let shown = ShownBytes { bytes: value };
-    write!(f, "  the text has `{name}={shown}`\n")
+    put_shown(f, name, value)?;
+    f.write_str("\n")
 }
 
 /// What a text has for a parameter of this name. A long value is cut off behind its first bytes, and the line says how many
