@@ -29,7 +29,7 @@ message_cmp a b = ordering_then (name_cmp a.name b.name) (ordering_then (nat_cmp
 
 -- receives by their names, and then by all else
 abbrev pub receive_cmp : Receive → Receive → Ordering
-receive_cmp a b = ordering_then (name_cmp a.name b.name) (ordering_then (nat_cmp a.comm b.comm) (ordering_then (nat_cmp a.at b.at) (ordering_then (option_cmp nat_cmp a.source b.source) (ordering_then (option_cmp nat_cmp a.tag b.tag) (ordering_then (nat_cmp a.count b.count) (ordering_then (trust_cmp a.trust b.trust) (int_cmp a.datatype b.datatype)))))))
+receive_cmp a b = ordering_then (name_cmp a.name b.name) (ordering_then (nat_cmp a.comm b.comm) (ordering_then (nat_cmp a.at b.at) (ordering_then (option_cmp nat_cmp a.source b.source) (ordering_then (option_cmp nat_cmp a.tag b.tag) (ordering_then (nat_cmp a.count b.count) (ordering_then (trust_cmp a.trust b.trust) (ordering_then (int_cmp a.datatype b.datatype) (option_cmp nat_cmp a.ended b.ended))))))))
 
 -- communicator, sender, receiver and tag
 abbrev pub Queue : Type 0

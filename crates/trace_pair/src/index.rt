@@ -2,11 +2,11 @@
 
 ghost use Rattle.std.specs.Prelude.{◌≡◌, ◌<◌, OnOk, OnErr, IfOk, IfSome, length, slice_set, slice_index_or};
 ghost use Rattle.trace_ops.specs.Ops.{IsOwn, AreOwn, Grows, no_ops};
-ghost use Rattle.trace_pair.specs.Certainty.{AreCertain, AreAllSettled, AreLegal, AreTheOnlyLegal};
+ghost use Rattle.trace_pair.specs.Certainty.{AreCertain, AreAllSettled, AreLegal, AreNoneAfter, AreTheOnlyLegal};
 ghost use Rattle.trace_pair.specs.Followed.{Follows};
 ghost use Rattle.trace_pair.specs.Table.{fresh, table_of};
 
-use crate::follow::set_rank;
+use crate::follow::{add_messages, add_receives, drop_messages, drop_receives, fronts_of};
 use crate::matched::Matched;
 use crate::scratch::pair_all;
 use crate::table::PairTable;
@@ -94,7 +94,7 @@ impl PairIndex {
     pub fn pairs(&self) -> Result<PairTable, AllocError>
         ensures table { IfOk result (λ t. t ≡ table_of self.now) }
         ensures certain { IfOk result (λ t. AreCertain self.now t.pairs) }
-        ensures legal { AreAllSettled self.now → IfOk result (λ t. AreLegal self.now t.pairs) }
+        ensures legal { AreAllSettled self.now → IfOk result (λ t. AreNoneAfter self.now t.pairs → AreLegal self.now t.pairs) }
         ensures only { AreAllSettled self.now → IfOk result (λ t. AreTheOnlyLegal self.now t.pairs) }
     {
         let alloc = *self.held.allocator();
@@ -211,7 +211,12 @@ fn set_ops(
     ensures state { IfOk result (λ state. Follows held.new.items state) }
 {
     let mut state = state_or_new(*held.allocator(), held, state)?;
-    set_rank(&mut state, &held[rank as usize], &ops)?;
+    let fronts = fronts_of(&held[rank as usize], &ops);
+    drop_messages(&mut state, held[rank as usize].sends(), fronts.sends)?;
+    drop_receives(&mut state, held[rank as usize].receives(), fronts.receives)?;
     held[rank as usize] = ops;
+    let own = &held[rank as usize];
+    add_messages(&mut state, held, own.sends(), fronts.sends)?;
+    add_receives(&mut state, held, own.receives(), fronts.receives)?;
     Ok(state)
 }

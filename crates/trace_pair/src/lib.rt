@@ -14,8 +14,8 @@
 //!
 //! - [`pair`]: a pair, and the two sides of one
 //! - [`scratch`]: the pairing from scratch; [`batch`]: its pass over all receives; [`takings`]: all
-//!   messages with what takes each; [`places`]: where those that wait stand
-//! - [`rules`]: which call comes first, and whether names are one
+//!   messages with what takes each; [`places`]: where those that wait stand; [`ends`]: the ends of open receives
+//! - [`rules`]: which call comes first, and whether names are one; [`after`]: which messages come after which receives
 //! - [`rows`], [`near`], [`table`]: the pairs and the postponed messages, their order by the receive,
 //!   and the other end of each
 //! - [`one_or_many`]: a set that has no tree of its own while it has one member; [`groups`],
@@ -29,8 +29,10 @@
 //! Its tests are the runs of `tests/runs.txt`, and `crates/matching_tests/src/steps.rt`.
 #![tactic(auto)]
 
+mod after;
 mod batch;
 mod couples;
+mod ends;
 mod follow;
 mod groups;
 mod index;
@@ -38,6 +40,7 @@ mod laws;
 mod matched;
 mod near;
 mod one_or_many;
+mod opened;
 mod pair;
 mod places;
 mod queues;
@@ -52,7 +55,7 @@ mod together;
 pub use index::PairIndex;
 pub use laws::{
     doubtful_may_stand_outside, pairs_are_certain, pairs_are_the_rules, tables_are_certain,
-    worked_runs,
+    what_comes_after_stays, worked_runs,
 };
 pub use pair::{Pair, Side};
 pub use scratch::pair_all;
