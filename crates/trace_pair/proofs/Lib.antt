@@ -12,6 +12,7 @@ pub mod Partners
 pub mod Ranked
 pub mod Switched
 pub mod Hiding
+pub mod Fronts
 pub mod Tabled
 pub mod Members
 pub mod PutAt
