@@ -1,14 +1,14 @@
-use Rattle.std.proofs.Common.{List, subst, ◌∙◌, get_or, set}
-use Rattle.trace_ops.specs.Ops.{Ops, no_ops}
+use Rattle.std.proofs.Common.{List, subst, sym, get_or}
+use Rattle.trace_ops.specs.Ops.{Ops, no_ops, AreOwn}
 use Rattle.trace_pair.specs.After.{comes_after}
 use Rattle.trace_pair.specs.Followed.{Adds, Drops, Follows}
 use Rattle.trace_pair.specs.Fronts.{AreFronts}
 use Rattle.trace_pair.proofs.Ranked.{own_moved}
-use Rattle.trace_pair.proofs.Switched.{set_moves, stays_within}
+use Rattle.trace_pair.proofs.Switched.{set_moves}
 use Rattle.trace_pair.proofs.index.set_ops.Goals as goal
 
 pub returns-clause-own : goal.returns-clause-own
-returns-clause-own c = own_moved c.args.held.now.items c.args.rank c.args.ops c.requires.held c.requires.own
+returns-clause-own c = subst (λ (h : List Ops). AreOwn 0 h) (sym c.put_ops.ensures) (own_moved c.args.held.now.items c.args.rank c.args.ops c.requires.held c.requires.own)
 
 pub returns-clause-state : goal.returns-clause-state
 returns-clause-state c =
