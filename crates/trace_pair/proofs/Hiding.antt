@@ -39,7 +39,7 @@ module _ (after : After) (xs : List Receive) (m : Message) (b : Bool) where
     pub none_may_before : b ≡ list_any (λ u. (envelopes_fit m u && not (after m u)) && posted_before u q) xs → b ≡ false → NoneHidesBefore after xs m q
     none_may_before e h u i f p = unless_not (after m u) (λ g.
         let t = any_of (λ u. (envelopes_fit m u && not (after m u)) && posted_before u q) xs u i
-            (and_true (envelopes_fit m u && not (after m u)) (posted_before u q) (and_true (envelopes_fit m u) (not (after m u)) f g) p) in cc)
+        (and_true (envelopes_fit m u && not (after m u)) (posted_before u q) (and_true (envelopes_fit m u) (not (after m u)) f g) p) in cc)
 
 pub pushed : {X : Type 0} (old new : List X) (x : X) → new ≡ old ++ x ∷ [] → AddsTo old new x
 pushed {X} old new x e = record {

@@ -209,9 +209,11 @@ module _ (held : List Ops) (i : ℕ) (n : Ops) (f : Fronts) (own : AreOwn 0 held
       ⊎_elim (λ (apart : m.from ≢ i). (m.name.call, other_rank m.name.call m.from apart, omega arith))
       (λ (w : (m.from ≡ i) × Has (take f.sends n.sends) m).
       ⊎_elim (λ (z : (f.sends ≡ 0) × (f.receives ≡ 0)). absurd (none_in n.sends f.sends m z.0 w.1))
-      (λ (a : AreAsBefore old n f).
-      (a.last, subst (λ (r : ℕ). AreAlike a.last (get_or held r no_ops) (get_or (set held i n) r no_ops)) (sym w.0) (this_rank a),
-      a.sends m (subst (λ (l : List Message). Has l m) (sym fronts.same_sends) w.1)))
+      (λ (a : AreAsBefore old n f). (
+        a.last,
+        subst (λ (r : ℕ). AreAlike a.last (get_or held r no_ops) (get_or (set held i n) r no_ops)) (sym w.0) (this_rank a),
+        a.sends m (subst (λ (l : List Message). Has l m) (sym fronts.same_sends) w.1),
+      ))
       fronts.as_before)
       (sender_of m h)
 
@@ -220,9 +222,11 @@ module _ (held : List Ops) (i : ℕ) (n : Ops) (f : Fronts) (own : AreOwn 0 held
       ⊎_elim (λ (apart : q.at ≢ i). by q.ended refl apart)
       (λ (w : (q.at ≡ i) × Has (take f.receives n.receives) q).
       ⊎_elim (λ (z : (f.sends ≡ 0) × (f.receives ≡ 0)). absurd (none_in n.receives f.receives q z.1 w.1))
-      (λ (a : AreAsBefore old n f).
-      (a.last, subst (λ (r : ℕ). AreAlike a.last (get_or held r no_ops) (get_or (set held i n) r no_ops)) (sym w.0) (this_rank a),
-      a.receives q (subst (λ (l : List Receive). Has l q) (sym fronts.same_receives) w.1)))
+      (λ (a : AreAsBefore old n f). (
+        a.last,
+        subst (λ (r : ℕ). AreAlike a.last (get_or held r no_ops) (get_or (set held i n) r no_ops)) (sym w.0) (this_rank a),
+        a.receives q (subst (λ (l : List Receive). Has l q) (sym fronts.same_receives) w.1),
+      ))
       fronts.as_before)
       (receiver_of q h)
     where
@@ -262,12 +266,12 @@ module _ (held : List Ops) (i : ℕ) (n : Ops) (f : Fronts) (own : AreOwn 0 held
       let old = comes_after held in
       let new = comes_after all in
       let x' : Indexes old (between first_sends was.sends last_sends) (between first_receives was.receives last_receives) s0 =
-          subst (λ (qs : List Receive). Indexes old (between first_sends was.sends last_sends) qs s0) (split (λ o. o.receives) held i no_ops lt)
-          (subst (λ (ms : List Message). Indexes old ms (receives_of held) s0) (split (λ o. o.sends) held i no_ops lt) x) in
+      subst (λ (qs : List Receive). Indexes old (between first_sends was.sends last_sends) qs s0) (split (λ o. o.receives) held i no_ops lt)
+      (subst (λ (ms : List Message). Indexes old ms (receives_of held) s0) (split (λ o. o.sends) held i no_ops lt) x) in
       let y = drops old first_sends last_sends first_receives last_receives (is_sequence held i was own o) (is_posting held i was own o) x' in
       let y' : Indexes old (kept_sends held i n f own own_new lt fronts) (kept_receives held i n f own own_new lt fronts) s1 =
-          subst (λ (l : List Message). Indexes old (between first_sends l last_sends) (kept_receives held i n f own own_new lt fronts) s1) fronts.same_sends
-          (subst (λ (l : List Receive). Indexes old (between first_sends (take f.sends was.sends) last_sends) (between first_receives l last_receives) s1) fronts.same_receives y) in
+      subst (λ (l : List Message). Indexes old (between first_sends l last_sends) (kept_receives held i n f own own_new lt fronts) s1) fronts.same_sends
+      (subst (λ (l : List Receive). Indexes old (between first_sends (take f.sends was.sends) last_sends) (between first_receives l last_receives) s1) fronts.same_receives y) in
       let z = switched (kept_sends held i n f own own_new lt fronts) (kept_receives held i n f own own_new lt fronts) old new (agree held i n f own own_new lt fronts) s1 y' in
       let w = adds first_sends last_sends first_receives last_receives (is_sequence held i n own own_new) (is_posting held i n own own_new) z in
       subst (λ (ms : List Message). Indexes new ms (receives_of all) s2) (sym (split_set (λ o. o.sends) held i n lt))

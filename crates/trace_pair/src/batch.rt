@@ -80,11 +80,7 @@ fn is_hidden(ops: &[RankOps], opened: &Ends, m: &Message) -> bool
 }
 
 /// The place of the message that the new receive takes.
-fn taken_by(
-    batch: &mut Batch,
-    ops: &[RankOps],
-    q: &Receive,
-) -> Result<Option<usize>, AllocError>
+fn taken_by(batch: &mut Batch, ops: &[RankOps], q: &Receive) -> Result<Option<usize>, AllocError>
     requires { is_settled q.now ≡ true }
     ensures kept { batch.new ≡ batch.old }
     ensures within { IfOk result (λ place. IfSome place (λ p. p < length batch.old.messages.messages)) }

@@ -64,12 +64,7 @@ impl Ends {
     }
 
     /// The end of the last of the receives with this source and tag whose envelopes fit the message's.
-    fn last_with(
-        &self,
-        m: &Message,
-        source: Option<u32>,
-        tag: Option<u32>,
-    ) -> Option<Option<u64>>
+    fn last_with(&self, m: &Message, source: Option<u32>, tag: Option<u32>) -> Option<Option<u64>>
         requires source { admits source m.now.from ≡ true }
         requires tag { admits tag m.now.tag ≡ true }
         ensures { (opened : List Receive) → AreLast opened self.now → IsLastAmong opened m.now (of_kind source tag) result }
@@ -90,10 +85,7 @@ impl Ends {
             self.last_with(m, source, tag),
             self.last_with(m, source, None),
         );
-        let untold = later_of(
-            self.last_with(m, None, tag),
-            self.last_with(m, None, None),
-        );
+        let untold = later_of(self.last_with(m, None, tag), self.last_with(m, None, None));
         later_of(told, untold)
     }
 }
