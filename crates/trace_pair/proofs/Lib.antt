@@ -25,6 +25,8 @@ pub mod Slotted
 pub mod Mutual
 pub mod Known
 pub mod Afterwards
+pub mod Rowed
+pub mod Reached
 pub mod Continued
 pub mod Beside
 pub mod Sure
