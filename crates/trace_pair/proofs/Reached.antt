@@ -2,7 +2,7 @@
 --
 -- A sender has left the more, the later its message, and what is entered behind the end of a receive stays so. So of its
 -- Barriers on a communicator the last one before the message decides.
-use Rattle.std.proofs.Common.{◌≡◌, ℕ, zero, suc, ◌+◌, ◌<◌, ◌≤◌, Bool, true, false, ◌&&◌, ◌||◌, List, [], ◌∷◌, ◌++◌, inl, inr, ⊎_elim, sym, refl, ◌∙◌, ap, arith, length, filter, take, drop, get_or, add-one, eqb, leb, ltb, eqb-true, zero-add, cond, Option, Some, None, subst}
+use Rattle.std.proofs.Common.{◌≡◌, ℕ, zero, suc, ◌+◌, ◌<◌, ◌≤◌, Bool, true, false, ◌&&◌, ◌||◌, List, [], ◌∷◌, ◌++◌, inl, inr, ⊎_elim, sym, refl, ◌∙◌, ap, arith, length, filter, take, drop, get_or, add-one, eqb, ltb, eqb-true, zero-add, cond, Option, Some, None, subst}
 use Rattle.std.specs.Prelude.{nat_le, unwrap_or, slice_get, slice_set}
 use Rattle.std.specs.List.{list_any}
 use Rattle.std.specs.Ordering.{nat_cmp}

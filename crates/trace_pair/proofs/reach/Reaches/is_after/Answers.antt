@@ -1,4 +1,4 @@
-use Rattle.std.proofs.Common.{◌≡◌, ◌∙◌, List, false, get_or, subst, sym}
+use Rattle.std.proofs.Common.{◌∙◌, List, false, get_or, subst, sym}
 use Rattle.trace_ops.specs.Ops.{Ops, no_ops}
 use Rattle.trace_pair.specs.After.{is_own}
 use Rattle.trace_pair.specs.Reach.{AreReachesOf}
