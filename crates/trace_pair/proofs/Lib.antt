@@ -24,6 +24,7 @@ pub mod Slotted
 pub mod Mutual
 pub mod Known
 pub mod Afterwards
+pub mod Taking
 pub mod Continued
 pub mod Beside
 pub mod Sure

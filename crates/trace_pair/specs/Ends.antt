@@ -1,4 +1,4 @@
--- The ends of open receives: at each key the end of the one that ends last.
+-- The ends of receives: at each key the end of the one that ends last.
 use Rattle.std.specs.Prelude.{◌≡◌, ℕ, Bool, true, false, nat_lt, nat_le, if◌then◌else◌, Option, Some, None, List}
 use Rattle.std.specs.BTreeMap.{get}
 use Rattle.mpi_model.specs.declared.message.Message.{Message}

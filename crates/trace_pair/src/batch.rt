@@ -19,7 +19,6 @@ ghost use Rattle.trace_pair.specs.Ends.{AreLast, NoneHides, SomeHides};
 ghost use Rattle.trace_pair.specs.Pairing.{After, receive_of};
 ghost use Rattle.trace_pair.specs.Table.{fits_open, sends_of, receives_of};
 
-use crate::after::is_after;
 use crate::couples::{receive_by, taker_of};
 use crate::ends::Ends;
 use crate::queues::Receives;
@@ -73,18 +72,11 @@ fn is_hidden(ops: &[RankOps], opened: &Ends, m: &Message) -> bool
     ensures yes { result ≡ true → (qs : List Receive) → AreLast qs opened.now → SomeHides (comes_after ops.now) qs m.now }
     ensures no { result ≡ false → (qs : List Receive) → AreLast qs opened.now → NoneHides (comes_after ops.now) qs m.now }
 {
-    match opened.last_for(m) {
-        None => false,
-        Some(end) => !is_after(ops, m, m.to, end),
-    }
+    opened.may_take(ops, m)
 }
 
 /// The place of the message that the new receive takes.
-fn taken_by(
-    batch: &mut Batch,
-    ops: &[RankOps],
-    q: &Receive,
-) -> Result<Option<usize>, AllocError>
+fn taken_by(batch: &mut Batch, ops: &[RankOps], q: &Receive) -> Result<Option<usize>, AllocError>
     requires { is_settled q.now ≡ true }
     ensures kept { batch.new ≡ batch.old }
     ensures within { IfOk result (λ place. IfSome place (λ p. p < length batch.old.messages.messages)) }

@@ -1,21 +1,25 @@
-//! The ends of open receives: at each key the end of the one that ends last, which is all that a message asks of them.
+//! The ends of receives: at each key the end of the one that ends last, which is all that a message asks of them.
 
-ghost use Rattle.std.specs.Prelude.{◌≡◌, ◌∷◌, ◌||◌, true, [], OnOk, List, Bool};
+ghost use Rattle.std.specs.Prelude.{◌≡◌, ◌∷◌, ◌&&◌, ◌||◌, not, true, [], OnOk, List, Bool};
+ghost use Rattle.std.specs.List.{list_any};
 ghost use Rattle.mpi_model.specs.declared.message.Receive.{Receive};
 ghost use Rattle.mpi_model.specs.declared.message.Message.{Message};
-ghost use Rattle.mpi_model.specs.Fit.{admits};
+ghost use Rattle.mpi_model.specs.Fit.{admits, envelopes_fit};
+ghost use Rattle.trace_pair.specs.After.{comes_after};
 ghost use Rattle.trace_pair.specs.Ends.{AreLast, IsLastAmong, IsLastFor, later_end, with_end};
 ghost use Rattle.trace_pair.specs.Queues.{of_kind};
 
+use crate::after::is_after;
 use crate::queues::{Kinds, NO_KINDS};
 use mpi_model::{Message, Receive};
 use std::alloc::{AllocError, Global};
 use std::collections::BTreeMap;
+use trace_ops::RankOps;
 
-/// The call that ends the receive which ends last, of those with a communicator, a receiver, a source and a tag. `None` is
-/// one that doesn't end.
+/// Of some receives, the call that ends the one which ends last, by communicator, receiver, source and tag. `None` is one
+/// that doesn't end.
 #[derive(Drop)]
-pub(crate) struct Ends {
+pub struct Ends {
     kinds: Kinds,
     last: BTreeMap<(u32, u32, Option<u32>, Option<u32>), Option<u64>>,
 }
@@ -43,7 +47,8 @@ fn with_end(had: Option<Option<u64>>, end: Option<u64>) -> Option<u64>
 }
 
 impl Ends {
-    pub(crate) fn empty(alloc: Global) -> Ends
+    /// Of no receives.
+    pub fn empty(alloc: Global) -> Ends
         ensures { AreLast [] result }
     {
         Ends {
@@ -53,7 +58,7 @@ impl Ends {
     }
 
     /// And the end of this receive.
-    pub(crate) fn insert(&mut self, q: &Receive) -> Result<(), AllocError>
+    pub fn insert(&mut self, q: &Receive) -> Result<(), AllocError>
         ensures { OnOk result ((opened : List Receive) → AreLast opened self.old → AreLast (q.now ∷ opened) self.new) }
     {
         let key = (q.comm, q.at, q.source, q.tag);
@@ -64,12 +69,7 @@ impl Ends {
     }
 
     /// The end of the last of the receives with this source and tag whose envelopes fit the message's.
-    fn last_with(
-        &self,
-        m: &Message,
-        source: Option<u32>,
-        tag: Option<u32>,
-    ) -> Option<Option<u64>>
+    fn last_with(&self, m: &Message, source: Option<u32>, tag: Option<u32>) -> Option<Option<u64>>
         requires source { admits source m.now.from ≡ true }
         requires tag { admits tag m.now.tag ≡ true }
         ensures { (opened : List Receive) → AreLast opened self.now → IsLastAmong opened m.now (of_kind source tag) result }
@@ -90,11 +90,19 @@ impl Ends {
             self.last_with(m, source, tag),
             self.last_with(m, source, None),
         );
-        let untold = later_of(
-            self.last_with(m, None, tag),
-            self.last_with(m, None, None),
-        );
+        let untold = later_of(self.last_with(m, None, tag), self.last_with(m, None, None));
         later_of(told, untold)
+    }
+
+    /// Whether some of the receives may take the message: their envelopes fit, and the message doesn't come after the
+    /// receive. A few questions of a map, and one of the Barriers.
+    pub fn may_take(&self, ops: &[RankOps], m: &Message) -> bool
+        ensures { (xs : List Receive) → AreLast xs self.now → result ≡ list_any (λ q. envelopes_fit m.now q && not (comes_after ops.now m.now q)) xs }
+    {
+        match self.last_for(m) {
+            None => false,
+            Some(end) => !is_after(ops, m, m.to, end),
+        }
     }
 }
 

@@ -14,7 +14,8 @@
 //!
 //! - [`pair`]: a pair, and the two sides of one
 //! - [`scratch`]: the pairing from scratch; [`batch`]: its pass over all receives; [`takings`]: all
-//!   messages with what takes each; [`places`]: where those that wait stand; [`ends`]: the ends of open receives
+//!   messages with what takes each; [`places`]: where those that wait stand; [`ends`]: the ends of receives, and
+//!   whether some of them may take a message
 //! - [`rules`]: which call comes first, and whether names are one; [`after`]: which messages come after which receives
 //! - [`rows`], [`near`], [`table`]: the pairs and the postponed messages, their order by the receive,
 //!   and the other end of each
@@ -52,6 +53,7 @@ mod table;
 mod takings;
 mod together;
 
+pub use ends::Ends;
 pub use index::PairIndex;
 pub use laws::{
     doubtful_may_stand_outside, pairs_are_certain, pairs_are_the_rules, tables_are_certain,

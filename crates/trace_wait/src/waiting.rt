@@ -15,7 +15,7 @@ use crate::overview::Overview;
 use crate::parts::{probe_part, receive_of_call, send_of_call};
 use crate::requests::{choices, request, requests, some_of};
 use crate::round::Round;
-use crate::unpaired::{patterns_asked, patterns_offered};
+use crate::unpaired::{ends_asked, patterns_offered};
 use mpi_model::{Call, Layout};
 use std::alloc::{AllocError, Global};
 use trace_ops::{RankOps, probed};
@@ -109,7 +109,7 @@ pub fn conditions(
 {
     let offered = patterns_offered(alloc, false, ops, pairs)?;
     let withdrawn = patterns_offered(alloc, true, ops, pairs)?;
-    let asked = patterns_asked(alloc, ops, pairs)?;
+    let asked = ends_asked(alloc, ops, pairs)?;
     let mismatched = mismatched_rounds(alloc, rounds)?;
     let calls = all_calls(alloc, layout, ops)?;
     let groups = groups_of(alloc, layout)?;

@@ -1,11 +1,9 @@
-use Rattle.std.proofs.Common.{◌≡◌, ◌∙◌, sym, Bool, true, false, refl}
-use Rattle.std.specs.Prelude.{not}
-use Rattle.trace_pair.proofs.Afterwards.{none_hides}
+use Rattle.trace_pair.specs.After.{comes_after}
+use Rattle.trace_pair.proofs.Hiding.{none_may_hide, some_may_hide}
 use Rattle.trace_pair.proofs.batch.is_hidden.Goals as goal
 
-not_no : (b : Bool) → not b ≡ false → b ≡ true
-not_no true h = refl
-not_no false h = absurd (cc)
+pub returns-clause-yes : goal.returns-clause-yes
+returns-clause-yes c = λ h qs last. some_may_hide (comes_after c.args.ops.now) qs c.args.m.now c.may_take.result (c.may_take.ensures qs last) h
 
-pub returns-in-Some-clause-no : goal.returns-in-Some-clause-no
-returns-in-Some-clause-no c = λ h qs last. none_hides c.args.ops.now qs c.args.m.now c.in-Some.end (c.in-Some.ensures qs last) (sym c.is_after.ensures ∙ not_no c.is_after.result h)
+pub returns-clause-no : goal.returns-clause-no
+returns-clause-no c = λ h qs last. none_may_hide (comes_after c.args.ops.now) qs c.args.m.now c.may_take.result (c.may_take.ensures qs last) h
