@@ -11,5 +11,5 @@ loop-q-preserved c = λ before last.
     let pairs = c.args.pairs.now.pairs in
     let qs = c.args.receives.now in
     let i = c.loop-q.q-index in
-    subst (λ (l : List Receive). AreLast l _) (more_free pairs before qs i _ c.loop-q-test.true)
+    subst (λ (l : List Receive). AreLast l c.ask_unpaired.new.asked) (more_free pairs before qs i _ c.loop-q-test.true)
     (c.in_ok-ask_unpaired.ensures (before ++ filter (is_free pairs) (take i qs)) (c.loop-q.invariant before last))
