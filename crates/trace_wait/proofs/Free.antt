@@ -1,5 +1,5 @@
 -- Which receives may take a message: those that are in no pair, by the ends of those of them that were not cancelled.
-use Rattle.std.proofs.Common.{◌≡◌, ℕ, ◌+◌, ◌<◌, Bool, true, false, ◌&&◌, ◌||◌, ◌⊎◌, List, [], ◌∷◌, ◌++◌, inl, inr, ⊎_elim, take, get_or, refl, sym, ◌∙◌, ap, length, append-nil, append_assoc, Option, Some, None}
+use Rattle.std.proofs.Common.{◌≡◌, ℕ, ◌+◌, ◌<◌, Bool, true, false, ◌&&◌, ◌||◌, List, [], ◌∷◌, ◌++◌, inl, inr, ⊎_elim, take, get_or, refl, sym, ◌∙◌, ap, length, append-nil, append_assoc, Option, Some, None}
 use Rattle.std.specs.Prelude.{filter, is_none, is_some, not, if◌then◌else◌}
 use Rattle.std.specs.List.{list_any, flat_map}
 use Rattle.std.proofs.lemmas.Grind.{flat_map-append}
