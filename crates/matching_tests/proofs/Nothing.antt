@@ -1,6 +1,7 @@
 -- What a rank did of which nothing is known: it grows into all that it did.
 use Rattle.std.proofs.Common.{◌≡◌, ◌<◌, ℕ, Bool, List, [], ◌++◌, length, slice_set, slice_index_or, refl, sym, ap, subst, ◌∙◌}
 use Rattle.std.specs.FinMap.{empty, len-empty}
+use Rattle.std.proofs.Math.ListN.{length-set}
 use Rattle.std.proofs.lemmas.List.{get_or-set_same}
 use Rattle.mpi_model.specs.Layouts.{Parts}
 use Rattle.mpi_model.specs.declared.event.Event.{Event}
@@ -15,6 +16,7 @@ abbrev pub Grow : Type 0
 Grow = (layout : Parts) (rank : ℕ) (one other : Bool) (events more : List Event) → Grows (ops_by layout rank one events) (ops_by layout rank other (events ++ more))
 
 no_events : (rank : ℕ) → events_of empty rank ≡ []
+unfolding leading
 no_events rank = ap (λ n. leading n (readable_at empty rank)) (len-empty place_cmp Known)
 
 -- nothing grows into what is known
@@ -27,6 +29,9 @@ grows_from_nothing grow layout know nothing rank none =
 module _ (grow : Grow) (layout : Parts) (know nothing : View) (none : nothing ≡ empty) (rank : ℕ) (old new : List Ops) (lt : rank < length old) where
   at_rank : (ops : Ops) → new ≡ slice_set old rank ops → slice_index_or new rank no_ops ≡ ops
   at_rank ops is = ap (λ (l : List Ops). slice_index_or l rank no_ops) is ∙ get_or-set_same old rank ops no_ops lt
+
+  pub still_within : (ops : Ops) → new ≡ slice_set old rank ops → rank < length new
+  still_within ops is = subst (λ n. rank < n) (sym (ap length is ∙ length-set old rank ops)) lt
 
   -- what is held there may be taken back
   pub may_cut : (less more : Ops) → less ≡ ops_of layout nothing rank → more ≡ ops_of layout know rank → new ≡ slice_set old rank more → Grows less (slice_index_or new rank no_ops)
