@@ -82,16 +82,20 @@ module _ (opened : List Receive) (old : Ends) (s : AreLast opened old) (q : Rece
   raises e h = subst (λ (o : Option (Option ℕ)). ends_by e (with_end o q.ended) ≡ true) (sym h) (ends_left e q.ended)
 
   within_more : (u : Receive) → Has (q ∷ opened) u → (e : Option ℕ) × (get receive_key_cmp new.last (receive_key_of u) ≡ Some e) × (ends_by u.ended e ≡ true)
-  within_more u (inl is) =
-      (raised, ap (λ (x : Receive). get receive_key_cmp new.last (receive_key_of x)) is ∙ at_key,
-      subst (λ (x : Receive). ends_by x.ended raised ≡ true) (sym is) (with_right (get receive_key_cmp old.last key) q.ended))
+  within_more u (inl is) = (
+    raised,
+    ap (λ (x : Receive). get receive_key_cmp new.last (receive_key_of x)) is ∙ at_key,
+    subst (λ (x : Receive). ends_by x.ended raised ≡ true) (sym is) (with_right (get receive_key_cmp old.last key) q.ended),
+  )
   within_more u (inr i) =
       let w = s.within u i in
       elim (is_eq (receive_key_cmp key (receive_key_of u))) as (λ b. is_eq (receive_key_cmp key (receive_key_of u)) ≡ b → (e : Option ℕ) × (get receive_key_cmp new.last (receive_key_of u) ≡ Some e) × (ends_by u.ended e ≡ true)) [
         | true ↦ λ h.
-            let k = same_key (receive_key_of u) h in
-            (raised, subst (λ (x : ReceiveKey). get receive_key_cmp new.last x ≡ Some raised) k at_key,
-            ends_along u.ended w.0 raised w.2 (raises w.0 (ap (get receive_key_cmp old.last) k ∙ w.1)))
+            let k = same_key (receive_key_of u) h in (
+              raised,
+              subst (λ (x : ReceiveKey). get receive_key_cmp new.last x ≡ Some raised) k at_key,
+              ends_along u.ended w.0 raised w.2 (raises w.0 (ap (get receive_key_cmp old.last) k ∙ w.1)),
+            )
         | false ↦ λ h. (w.0, puts (receive_key_of u) ∙ ap (λ b. cond b (Some raised) (get receive_key_cmp old.last (receive_key_of u))) h ∙ w.1, w.2)
       ] refl
 
@@ -139,13 +143,15 @@ module _ (opened : List Receive) (ends : Ends) (s : AreLast opened ends) (m : Me
   last_at (Some e) h =
       let w = s.own (m.comm, m.to, source, tag) e (sym h) in
       let fit = fit_from m w.0 (sym (ap (λ (x : ReceiveKey). x.0) w.2)) (sym (ap (λ (x : ReceiveKey). x.1) w.2))
-      (ap (λ (x : ReceiveKey). admits x.2 m.from) w.2 ∙ a) (ap (λ (x : ReceiveKey). admits x.3 m.tag) w.2 ∙ b) in
-      ((w.0, w.1, fit, w.3), λ r i g f.
-      let v = s.within r i in
-      let k = receive_key_fits m source tag r a b g f in
-      let x : Some v.0 ≡ Some e = sym v.1 ∙ sym (ap (get receive_key_cmp ends.last) k) ∙ sym h in
-      let d : v.0 ≡ e = cc in
-      subst (λ (y : Option ℕ). ends_by r.ended y ≡ true) d v.2)
+      (ap (λ (x : ReceiveKey). admits x.2 m.from) w.2 ∙ a) (ap (λ (x : ReceiveKey). admits x.3 m.tag) w.2 ∙ b) in (
+        (w.0, w.1, fit, w.3),
+        λ r i g f.
+            let v = s.within r i in
+            let k = receive_key_fits m source tag r a b g f in
+            let x : Some v.0 ≡ Some e = sym v.1 ∙ sym (ap (get receive_key_cmp ends.last) k) ∙ sym h in
+            let d : v.0 ≡ e = cc in
+            subst (λ (y : Option ℕ). ends_by r.ended y ≡ true) d v.2,
+      )
 
 module _ (xs : List Receive) (m : Message) (p t : Receive → Bool) where
   pub last_second : (b : Option (Option ℕ)) → IsLastAmong xs m p None → IsLastAmong xs m t b → IsLastAmong xs m (λ r. p r || t r) b

@@ -12,6 +12,7 @@ pub mod Partners
 pub mod Ranked
 pub mod Switched
 pub mod Hiding
+pub mod Fronts
 pub mod Tabled
 pub mod Members
 pub mod PutAt
@@ -25,6 +26,8 @@ pub mod Mutual
 pub mod Known
 pub mod Afterwards
 pub mod Taking
+pub mod Rowed
+pub mod Reached
 pub mod Continued
 pub mod Beside
 pub mod Sure

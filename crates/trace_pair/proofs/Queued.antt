@@ -204,7 +204,6 @@ module _ (kinds : Kinds) (groups : BTreeMap ReceiveKey (BTreeSet Receive)) (inv 
   at_receive_key : (r : Receive) → Has (members groups) r → has receive_key_cmp receive_cmp groups (receive_key_of r) r ≡ true
   at_receive_key r i = stands receive_keys_total exact_receive_keys receives_total exact_receives receive_key_of groups inv.ordered inv.placed r i
 
-
   pub receive_key_first : (m : Message) (source tag : Option ℕ) (q : Receive) → admits source m.from ≡ true → admits tag m.tag ≡ true → has receive_key_cmp receive_cmp groups (receive_key m.comm m.to source tag) q ≡ true →
       ((d : Receive) → has receive_key_cmp receive_cmp groups (receive_key m.comm m.to source tag) d ≡ true → is_gt (receive_cmp q d) ≡ false) → IsBestAmong (members groups) m (of_kind source tag) (Some q)
   receive_key_first m source tag q a b h least =

@@ -1,21 +1,21 @@
 -- An index whose rank did other calls: what comes after what is as it was among the calls that stay.
 use Rattle.std.proofs.Common.{subst, ◌≡◌, ◌≢◌, ℕ, zero, suc, ◌+◌, ◌<◌, ◌≤◌, Bool, true, false, ◌&&◌, ◌||◌, List, [], ◌∷◌, ◌++◌, inl, inr, ⊎_elim, sym, refl, ◌∙◌, ap, arith, ◌⊎◌, length, take, drop, get_or, set, eqb, ltb, cond, Option, Some, None}
 use Rattle.std.specs.Prelude.{nat_le}
-use Rattle.std.specs.List.{list_any}
+use Rattle.std.specs.List.{AllZip, list_any}
 use Rattle.std.proofs.lemmas.Bool.Decides.{nat_tests}
-use Rattle.std.proofs.lemmas.List.{get_or-set_same, get_or-set_other, take-append-drop}
+use Rattle.std.proofs.lemmas.List.{get_or_default, get_or-set_same, get_or-set_other, length-set, take-append-drop}
 use Rattle.std.proofs.Math.Seq.{drop-length}
 use Rattle.mpi_model.specs.declared.message.Message.{Message}
 use Rattle.mpi_model.specs.declared.message.Receive.{Receive}
 use Rattle.mpi_model.specs.Fit.{fits}
 use Rattle.trace_ops.specs.declared.entered.Entered.{Entered}
 use Rattle.trace_ops.specs.Ops.{Ops, no_ops, IsOwn, AreOwn}
-use Rattle.trace_ops.specs.Order.{Has}
+use Rattle.trace_ops.specs.Order.{AreEntered, Has}
 use Rattle.trace_ops.specs.Round.{is_barrier}
 use Rattle.trace_pair.specs.After.{entered_before, is_left, is_own, is_after, comes_after}
 use Rattle.trace_pair.specs.Calls.{between, IsPosting, IsSequence}
-use Rattle.trace_pair.specs.Fronts.{AreAsBefore, AreFronts, AreOneBefore, IsEndedBy}
-use Rattle.trace_pair.specs.Followed.{Follows, Indexes}
+use Rattle.trace_pair.specs.Fronts.{AreAsBefore, AreFronts, AreOneBefore, IsAlike, IsEndedBy}
+use Rattle.trace_pair.specs.Followed.{Adds, Drops, Follows, Indexes}
 use Rattle.trace_pair.specs.Pairing.{After, Paired}
 use Rattle.trace_pair.specs.Table.{sends_of, receives_of}
 use Rattle.trace_pair.specs.declared.follow.Fronts.{Fronts}
@@ -53,16 +53,41 @@ module _ (ms : List Message) (qs : List Receive) (one other : After) (agree : (m
 
 -- ---- collective calls that differ only behind a call
 
+zip_self : (xs : List Entered) → AllZip IsAlike xs xs
+zip_self [] = tt
+zip_self (x ∷ xs) = (record { comm = refl; call = refl; barrier = refl }, zip_self xs)
+
+zip_turned : (xs ys : List Entered) → AllZip IsAlike xs ys → AllZip IsAlike ys xs
+zip_turned [] [] z = tt
+zip_turned [] (y ∷ ys) z = absurd z
+zip_turned (x ∷ xs) [] z = absurd z
+zip_turned (x ∷ xs) (y ∷ ys) z = (record { comm = sym z.0.comm; call = sym z.0.call; barrier = sym z.0.barrier }, zip_turned xs ys z.1)
+
+zip_found : (xs ys : List Entered) → AllZip IsAlike xs ys → (x : Entered) → Has xs x → (y : Entered) × Has ys y × IsAlike x y
+zip_found [] ys z x i = absurd i
+zip_found (d ∷ xs) [] z x i = absurd z
+zip_found (d ∷ xs) (y ∷ ys) z x i =
+    ⊎_elim (λ (e : x ≡ d). (y, inl refl, subst (λ (w : Entered). IsAlike w y) (sym e) z.0)) (λ (j : Has xs x). let w = zip_found xs ys z.1 x j in (w.0, inr w.1, w.2)) i
+
+entered_alike : (comm call : ℕ) (xs ys : List Entered) → AllZip IsAlike xs ys → entered_before comm call xs ≡ entered_before comm call ys
+entered_alike comm call [] [] z = refl
+entered_alike comm call [] (y ∷ ys) z = absurd z
+entered_alike comm call (x ∷ xs) [] z = absurd z
+entered_alike comm call (x ∷ xs) (y ∷ ys) z =
+    ap (λ (c : ℕ). cond (eqb c comm && ltb x.call call) (suc (entered_before comm call xs)) (entered_before comm call xs)) z.0.comm
+    ∙ ap (λ (k : ℕ). cond (eqb y.comm comm && ltb k call) (suc (entered_before comm call xs)) (entered_before comm call xs)) z.0.call
+    ∙ ap (λ (n : ℕ). cond (eqb y.comm comm && ltb y.call call) (suc n) n) (entered_alike comm call xs ys z.1)
+
 one_before_self : (last : ℕ) (a : List Entered) → AreOneBefore last a a
 one_before_self last a = record {
   front = length a;
-  same = refl;
+  alike = zip_self (take (length a) a);
   first = λ x i. absurd (subst (λ (l : List Entered). Has l x) (drop-length a) i);
   second = λ x i. absurd (subst (λ (l : List Entered). Has l x) (drop-length a) i);
 }
 
 turned : (last : ℕ) (a b : List Entered) → AreOneBefore last a b → AreOneBefore last b a
-turned last a b o = record { front = o.front; same = sym o.same; first = o.second; second = o.first }
+turned last a b o = record { front = o.front; alike = zip_turned (take o.front a) (take o.front b) o.alike; first = o.second; second = o.first }
 
 entered_front : (comm call last k : ℕ) (a : List Entered) → call ≤ last → ((x : Entered) → Has (drop k a) x → last ≤ x.call) → entered_before comm call a ≡ entered_before comm call (take k a)
 entered_front comm call last k a le h =
@@ -71,7 +96,7 @@ entered_front comm call last k a le h =
 
 pub entered_same : (comm call last : ℕ) (a b : List Entered) → AreOneBefore last a b → call ≤ last → entered_before comm call a ≡ entered_before comm call b
 entered_same comm call last a b o le =
-    entered_front comm call last o.front a le o.first ∙ ap (λ (l : List Entered). entered_before comm call l) o.same ∙ sym (entered_front comm call last o.front b le o.second)
+    entered_front comm call last o.front a le o.first ∙ entered_alike comm call (take o.front a) (take o.front b) o.alike ∙ sym (entered_front comm call last o.front b le o.second)
 
 -- The ops of a rank are as they were up to the call.
 record AreAlike (last : ℕ) (s t : Ops) : Type 0 where
@@ -93,6 +118,11 @@ module _ (s t r u : Ops) (m : Message) (e x y : ℕ) (senders : AreAlike x s t) 
       ∙ ap (λ p. f t.comms u.comms p (entered_before b.comm b.call s.rounds)) (entered_same b.comm e y r.rounds u.rounds receivers.rounds ended)
       ∙ ap (λ q. f t.comms u.comms (entered_before b.comm e u.rounds) q) (entered_same b.comm b.call x s.rounds t.rounds senders.rounds (omega (arith, lt, sent)))
 
+  left_alike : (b d : Entered) → IsAlike b d → is_left t u m e b ≡ is_left t u m e d
+  left_alike b d w =
+      let g : Bool → ℕ → ℕ → Bool = λ k x c. k && ltb x m.name.call && list_any (λ y. eqb y c) t.comms && list_any (λ y. eqb y c) u.comms && nat_le (entered_before c e u.rounds) (entered_before c x t.rounds) in
+      ap (λ (k : Bool). g k b.call b.comm) w.barrier ∙ ap (λ (x : ℕ). g (is_barrier d) x b.comm) w.call ∙ ap (λ (c : ℕ). g (is_barrier d) d.call c) w.comm
+
   barrier_before : (b : Entered) → is_left s r m e b ≡ true → b.call < m.name.call
   barrier_before b h =
       let a1 = is_barrier b in let a2 = ltb b.call m.name.call in
@@ -108,8 +138,9 @@ module _ (s t r u : Ops) (m : Message) (e x y : ℕ) (senders : AreAlike x s t) 
       let o = senders.rounds in
       ⊎_elim
       (λ (i : Has (take o.front s.rounds) b).
-      let j = has_left (take o.front t.rounds) (drop o.front t.rounds) b (subst (λ (l : List Entered). Has l b) o.same i) in
-      any_of (is_left t u m e) t.rounds b (subst (λ (l : List Entered). Has l b) (take-append-drop o.front t.rounds) j) (sym (left_same b lt) ∙ w.2))
+      let v = zip_found (take o.front s.rounds) (take o.front t.rounds) o.alike b i in
+      let j = has_left (take o.front t.rounds) (drop o.front t.rounds) v.0 v.1 in
+      any_of (is_left t u m e) t.rounds v.0 (subst (λ (l : List Entered). Has l v.0) (take-append-drop o.front t.rounds) j) (sym (left_alike b v.0 v.2) ∙ sym (left_same b lt) ∙ w.2))
       (λ (i : Has (drop o.front s.rounds) b). let le = o.first b i in absurd (omega (arith, le, lt, sent)))
       (has_either (take o.front s.rounds) (drop o.front s.rounds) b (subst (λ (l : List Entered). Has l b) (sym (take-append-drop o.front s.rounds)) w.1))
 
@@ -178,9 +209,11 @@ module _ (held : List Ops) (i : ℕ) (n : Ops) (f : Fronts) (own : AreOwn 0 held
       ⊎_elim (λ (apart : m.from ≢ i). (m.name.call, other_rank m.name.call m.from apart, omega arith))
       (λ (w : (m.from ≡ i) × Has (take f.sends n.sends) m).
       ⊎_elim (λ (z : (f.sends ≡ 0) × (f.receives ≡ 0)). absurd (none_in n.sends f.sends m z.0 w.1))
-      (λ (a : AreAsBefore old n f).
-      (a.last, subst (λ (r : ℕ). AreAlike a.last (get_or held r no_ops) (get_or (set held i n) r no_ops)) (sym w.0) (this_rank a),
-      a.sends m (subst (λ (l : List Message). Has l m) (sym fronts.same_sends) w.1)))
+      (λ (a : AreAsBefore old n f). (
+        a.last,
+        subst (λ (r : ℕ). AreAlike a.last (get_or held r no_ops) (get_or (set held i n) r no_ops)) (sym w.0) (this_rank a),
+        a.sends m (subst (λ (l : List Message). Has l m) (sym fronts.same_sends) w.1),
+      ))
       fronts.as_before)
       (sender_of m h)
 
@@ -189,9 +222,11 @@ module _ (held : List Ops) (i : ℕ) (n : Ops) (f : Fronts) (own : AreOwn 0 held
       ⊎_elim (λ (apart : q.at ≢ i). by q.ended refl apart)
       (λ (w : (q.at ≡ i) × Has (take f.receives n.receives) q).
       ⊎_elim (λ (z : (f.sends ≡ 0) × (f.receives ≡ 0)). absurd (none_in n.receives f.receives q z.1 w.1))
-      (λ (a : AreAsBefore old n f).
-      (a.last, subst (λ (r : ℕ). AreAlike a.last (get_or held r no_ops) (get_or (set held i n) r no_ops)) (sym w.0) (this_rank a),
-      a.receives q (subst (λ (l : List Receive). Has l q) (sym fronts.same_receives) w.1)))
+      (λ (a : AreAsBefore old n f). (
+        a.last,
+        subst (λ (r : ℕ). AreAlike a.last (get_or held r no_ops) (get_or (set held i n) r no_ops)) (sym w.0) (this_rank a),
+        a.receives q (subst (λ (l : List Receive). Has l q) (sym fronts.same_receives) w.1),
+      ))
       fronts.as_before)
       (receiver_of q h)
     where
@@ -206,7 +241,7 @@ module _ (held : List Ops) (i : ℕ) (n : Ops) (f : Fronts) (own : AreOwn 0 held
       after_same (get_or held m.from no_ops) (get_or (set held i n) m.from no_ops) (get_or held q.at no_ops) (get_or (set held i n) q.at no_ops) m q.at s.0 r.0 q.ended s.1 r.1 s.2 r.2
 
 -- The state goes from the calls that were held to those that come: what doesn't stay is taken back, and the rest is added.
-module _ (held : List Ops) (i : ℕ) (n : Ops) (f : Fronts) (own : AreOwn 0 held) (own_new : IsOwn i n) (lt : i < length held) (fronts : AreFronts (get_or held i no_ops) n f) (s0 s1 s2 s3 s4 : Matched) where
+module _ (held : List Ops) (i : ℕ) (n : Ops) (f : Fronts) (own : AreOwn 0 held) (own_new : IsOwn i n) (lt : i < length held) (fronts : AreFronts (get_or held i no_ops) n f) (s0 s1 s2 : Matched) where
   abbrev was : Ops
   was = get_or held i no_ops
 
@@ -225,39 +260,44 @@ module _ (held : List Ops) (i : ℕ) (n : Ops) (f : Fronts) (own : AreOwn 0 held
   abbrev last_receives : List Receive
   last_receives = receives_of (drop (suc i) held)
 
-  abbrev DropsSends : Type 0
-  DropsSends = (after : After) (before behind : List Message) (qs : List Receive) → IsSequence before behind was.sends
-      → Indexes after (between before was.sends behind) qs s0 → Indexes after (between before (take f.sends was.sends) behind) qs s1
-
-  abbrev DropsReceives : Type 0
-  DropsReceives = (after : After) (before behind : List Receive) (ms : List Message) → IsPosting before behind was.receives
-      → Indexes after ms (between before was.receives behind) s1 → Indexes after ms (between before (take f.receives was.receives) behind) s2
-
-  abbrev AddsSends : Type 0
-  AddsSends = (before behind : List Message) (qs : List Receive) → IsSequence before behind n.sends
-      → Indexes (comes_after all) (between before (take f.sends n.sends) behind) qs s2 → Indexes (comes_after all) (between before n.sends behind) qs s3
-
-  abbrev AddsReceives : Type 0
-  AddsReceives = (before behind : List Receive) (ms : List Message) → IsPosting before behind n.receives
-      → Indexes (comes_after all) ms (between before (take f.receives n.receives) behind) s3 → Indexes (comes_after all) ms (between before n.receives behind) s4
-
-  pub set_follows : DropsSends → DropsReceives → AddsSends → AddsReceives → Follows held s0 → Follows all s4
-  set_follows d1 d2 a1 a2 x =
+  pub set_follows : Drops was f s0 s1 → Adds (comes_after all) n f s1 s2 → Follows held s0 → Follows all s2
+  set_follows drops adds x =
       let o : IsOwn i was = subst (λ (r : ℕ). IsOwn r was) (omega arith) (own_at held 0 i no_ops lt own) in
-      let sequence = is_sequence held i was own o in
-      let posting = is_posting held i was own o in
       let old = comes_after held in
       let new = comes_after all in
       let x' : Indexes old (between first_sends was.sends last_sends) (between first_receives was.receives last_receives) s0 =
-          subst (λ (qs : List Receive). Indexes old (between first_sends was.sends last_sends) qs s0) (split (λ o. o.receives) held i no_ops lt)
-          (subst (λ (ms : List Message). Indexes old ms (receives_of held) s0) (split (λ o. o.sends) held i no_ops lt) x) in
-      let y = d2 old first_receives last_receives (between first_sends (take f.sends was.sends) last_sends) posting
-          (d1 old first_sends last_sends (between first_receives was.receives last_receives) sequence x') in
-      let y' : Indexes old (kept_sends held i n f own own_new lt fronts) (kept_receives held i n f own own_new lt fronts) s2 =
-          subst (λ (l : List Message). Indexes old (between first_sends l last_sends) (kept_receives held i n f own own_new lt fronts) s2) fronts.same_sends
-          (subst (λ (l : List Receive). Indexes old (between first_sends (take f.sends was.sends) last_sends) (between first_receives l last_receives) s2) fronts.same_receives y) in
-      let z = switched (kept_sends held i n f own own_new lt fronts) (kept_receives held i n f own own_new lt fronts) old new (agree held i n f own own_new lt fronts) s2 y' in
-      let w = a2 first_receives last_receives (between first_sends n.sends last_sends) (is_posting held i n own own_new)
-          (a1 first_sends last_sends (kept_receives held i n f own own_new lt fronts) (is_sequence held i n own own_new) z) in
-      subst (λ (ms : List Message). Indexes new ms (receives_of all) s4) (sym (split_set (λ o. o.sends) held i n lt))
-      (subst (λ (qs : List Receive). Indexes new (between first_sends n.sends last_sends) qs s4) (sym (split_set (λ o. o.receives) held i n lt)) w)
+      subst (λ (qs : List Receive). Indexes old (between first_sends was.sends last_sends) qs s0) (split (λ o. o.receives) held i no_ops lt)
+      (subst (λ (ms : List Message). Indexes old ms (receives_of held) s0) (split (λ o. o.sends) held i no_ops lt) x) in
+      let y = drops old first_sends last_sends first_receives last_receives (is_sequence held i was own o) (is_posting held i was own o) x' in
+      let y' : Indexes old (kept_sends held i n f own own_new lt fronts) (kept_receives held i n f own own_new lt fronts) s1 =
+      subst (λ (l : List Message). Indexes old (between first_sends l last_sends) (kept_receives held i n f own own_new lt fronts) s1) fronts.same_sends
+      (subst (λ (l : List Receive). Indexes old (between first_sends (take f.sends was.sends) last_sends) (between first_receives l last_receives) s1) fronts.same_receives y) in
+      let z = switched (kept_sends held i n f own own_new lt fronts) (kept_receives held i n f own own_new lt fronts) old new (agree held i n f own own_new lt fronts) s1 y' in
+      let w = adds first_sends last_sends first_receives last_receives (is_sequence held i n own own_new) (is_posting held i n own own_new) z in
+      subst (λ (ms : List Message). Indexes new ms (receives_of all) s2) (sym (split_set (λ o. o.sends) held i n lt))
+      (subst (λ (qs : List Receive). Indexes new (between first_sends n.sends last_sends) qs s2) (sym (split_set (λ o. o.receives) held i n lt)) w)
+
+-- the collective calls of a rank that is held rise
+pub entered_at : (held : List Ops) (i : ℕ) (d : Ops) → i < length held → AreOwn 0 held → d ≡ get_or held i d → AreEntered d.rounds
+entered_at held i d lt own e = subst (λ (o : Ops). AreEntered o.rounds) (sym e) (own_at held 0 i d lt own).rounds_rise
+
+-- what stands at the place, whatever would stand for none
+pub at_place : (held : List Ops) (i : ℕ) (d : Ops) → i < length held → d ≡ get_or held i d → d ≡ get_or held i no_ops
+at_place held i d lt e = e ∙ get_or_default held i d no_ops lt
+
+-- the same of the ops that are all ranks' then
+module _ (held all : List Ops) (i : ℕ) (n : Ops) (f : Fronts) (own : AreOwn 0 held) (own_new : IsOwn i n) (lt : i < length held) (is : all ≡ set held i n) (fronts : AreFronts (get_or held i no_ops) n f) where
+  put : get_or all i no_ops ≡ n
+  put = ap (λ (l : List Ops). get_or l i no_ops) is ∙ get_or-set_same held i n no_ops lt
+
+  pub stays_within : (i < length all) × (f.sends ≤ length (get_or all i no_ops).sends) × (f.receives ≤ length (get_or all i no_ops).receives)
+  stays_within = (
+    (let e = ap (λ (l : List Ops). length l) is in let k = length-set held i n in omega (arith, e, k)),
+    subst (λ (o : Ops). f.sends ≤ length o.sends) (sym put) fronts.sends_new,
+    subst (λ (o : Ops). f.receives ≤ length o.receives) (sym put) fronts.receives_new,
+  )
+
+  pub set_moves : (s0 s1 s2 : Matched) → Drops (get_or held i no_ops) f s0 s1 → Adds (comes_after all) (get_or all i no_ops) f s1 s2 → Follows held s0 → Follows all s2
+  set_moves s0 s1 s2 drops adds x =
+      let adds' : Adds (comes_after (set held i n)) n f s1 s2 = subst (λ (l : List Ops). Adds (comes_after l) n f s1 s2) is (subst (λ (o : Ops). Adds (comes_after all) o f s1 s2) put adds) in
+      subst (λ (l : List Ops). Follows l s2) (sym is) (set_follows held i n f own own_new lt fronts s0 s1 s2 drops adds' x)

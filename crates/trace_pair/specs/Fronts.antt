@@ -1,10 +1,12 @@
 -- What stays of an index where a rank did other calls than was held.
 use Rattle.std.specs.Prelude.{◌≡◌, ◌≤◌, ◌-◌, ◌^◌, ◌⊎◌, ℕ, Option, Some, None, List, length, take, drop, slice_get}
+use Rattle.std.specs.List.{AllZip}
 use Rattle.mpi_model.specs.declared.message.Message.{Message}
 use Rattle.mpi_model.specs.declared.message.Receive.{Receive}
 use Rattle.trace_ops.specs.declared.entered.Entered.{Entered}
 use Rattle.trace_ops.specs.Ops.{Ops}
 use Rattle.trace_ops.specs.Order.{Has}
+use Rattle.trace_ops.specs.Round.{is_barrier}
 use Rattle.trace_pair.specs.declared.follow.Fronts.{Fronts}
 
 -- no call behind this one completes the receive
@@ -20,10 +22,16 @@ call_of (Some x) = x.call
 abbrev pub call_at : List Entered → ℕ → ℕ
 call_at rounds place = call_of (slice_get rounds place)
 
+-- The same to what comes after what: on one communicator, by one call, and both are Barriers or neither is.
+pub record IsAlike (x y : Entered) : Type 0 where
+  pub comm : x.comm ≡ y.comm
+  pub call : x.call ≡ y.call
+  pub barrier : is_barrier x ≡ is_barrier y
+
 -- The lists have a front in common, and what follows it in either isn't before the call.
 pub record AreOneBefore (last : ℕ) (a b : List Entered) : Type 0 where
   pub front : ℕ
-  pub same : take front a ≡ take front b
+  pub alike : AllZip IsAlike (take front a) (take front b)
   pub first : (x : Entered) → Has (drop front a) x → last ≤ x.call
   pub second : (x : Entered) → Has (drop front b) x → last ≤ x.call
 

@@ -1,6 +1,8 @@
 pub mod Places
 pub mod Pairing
 pub mod After
+pub mod Barriers
+pub mod Reach
 pub mod Matching
 pub mod Table
 pub mod Searched

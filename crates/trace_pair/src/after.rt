@@ -55,7 +55,8 @@ fn is_behind(sender: &RankOps, receiver: &RankOps, m: &Message, ended: u64) -> b
     false
 }
 
-fn is_own(m: &Message, at: u32, ended: u64) -> bool
+/// Whether the rank sent the message itself, behind that call.
+pub(crate) fn is_own(m: &Message, at: u32, ended: u64) -> bool
     ensures { result ≡ is_own m.now at ended }
 {
     m.from == at && ended < m.name.call

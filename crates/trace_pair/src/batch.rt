@@ -22,6 +22,7 @@ ghost use Rattle.trace_pair.specs.Table.{fits_open, sends_of, receives_of};
 use crate::couples::{receive_by, taker_of};
 use crate::ends::Ends;
 use crate::queues::Receives;
+use crate::reach::Reaches;
 use crate::takings::Takings;
 use mpi_model::{Message, Receive};
 use std::alloc::{AllocError, Global};
@@ -60,27 +61,27 @@ impl Batch {
     }
 
     /// Whether an open receive fits the message, which doesn't come after it.
-    pub(crate) fn does_open_fit(&self, ops: &[RankOps], m: &Message) -> bool
-        ensures { (ms : List Message) (qs : List Receive) → Settles (comes_after ops.now) ms qs self.now → result ≡ fits_open (comes_after ops.now) qs m.now }
+    pub(crate) fn does_open_fit(&self, reaches: &Reaches, m: &Message) -> bool
+        ensures { (ms : List Message) (qs : List Receive) → Settles (comes_after reaches.now) ms qs self.now → result ≡ fits_open (comes_after reaches.now) qs m.now }
     {
-        !m.trust.is_void() && is_hidden(ops, &self.opened, m)
+        !m.trust.is_void() && is_hidden(reaches, &self.opened, m)
     }
 }
 
 /// Whether some open receive may have taken the message.
-fn is_hidden(ops: &[RankOps], opened: &Ends, m: &Message) -> bool
-    ensures yes { result ≡ true → (qs : List Receive) → AreLast qs opened.now → SomeHides (comes_after ops.now) qs m.now }
-    ensures no { result ≡ false → (qs : List Receive) → AreLast qs opened.now → NoneHides (comes_after ops.now) qs m.now }
+fn is_hidden(reaches: &Reaches, opened: &Ends, m: &Message) -> bool
+    ensures yes { result ≡ true → (qs : List Receive) → AreLast qs opened.now → SomeHides (comes_after reaches.now) qs m.now }
+    ensures no { result ≡ false → (qs : List Receive) → AreLast qs opened.now → NoneHides (comes_after reaches.now) qs m.now }
 {
-    opened.may_take(ops, m)
+    opened.may_take(reaches, m)
 }
 
 /// The place of the message that the new receive takes.
-fn taken_by(batch: &mut Batch, ops: &[RankOps], q: &Receive) -> Result<Option<usize>, AllocError>
+fn taken_by(batch: &mut Batch, reaches: &Reaches, q: &Receive) -> Result<Option<usize>, AllocError>
     requires { is_settled q.now ≡ true }
     ensures kept { batch.new ≡ batch.old }
     ensures within { IfOk result (λ place. IfSome place (λ p. p < length batch.old.messages.messages)) }
-    ensures found { IfOk result (λ place. (ms : List Message) (qs : List Receive) → Settles (comes_after ops.now) ms qs batch.old → IsTakenAt (comes_after ops.now) ms qs batch.old.messages q.now place) }
+    ensures found { IfOk result (λ place. (ms : List Message) (qs : List Receive) → Settles (comes_after reaches.now) ms qs batch.old → IsTakenAt (comes_after reaches.now) ms qs batch.old.messages q.now place) }
 {
     let Some(place) = batch.messages.first_for(q)? else {
         return Ok(None);
@@ -89,7 +90,7 @@ fn taken_by(batch: &mut Batch, ops: &[RankOps], q: &Receive) -> Result<Option<us
     if !m.trust.is_sure() {
         return Ok(None);
     }
-    if is_hidden(ops, &batch.opened, &m) {
+    if is_hidden(reaches, &batch.opened, &m) {
         return Ok(None);
     }
     if let Some(_) = batch.free.first_for(&m) {
@@ -99,8 +100,8 @@ fn taken_by(batch: &mut Batch, ops: &[RankOps], q: &Receive) -> Result<Option<us
 }
 
 /// Puts a receive behind those of its rank.
-fn add_receive(batch: &mut Batch, ops: &[RankOps], q: Receive) -> Result<(), AllocError>
-    ensures { OnOk result ((ms : List Message) (qs more : List Receive) → AddsReceive qs more q → Settles (comes_after ops.now) ms qs batch.old → Settles (comes_after ops.now) ms more batch.new) }
+fn add_receive(batch: &mut Batch, reaches: &Reaches, q: Receive) -> Result<(), AllocError>
+    ensures { OnOk result ((ms : List Message) (qs more : List Receive) → AddsReceive qs more q → Settles (comes_after reaches.now) ms qs batch.old → Settles (comes_after reaches.now) ms more batch.new) }
 {
     if q.is_open() {
         batch.opened.insert(&q)?;
@@ -109,7 +110,7 @@ fn add_receive(batch: &mut Batch, ops: &[RankOps], q: Receive) -> Result<(), All
     if !q.is_settled() {
         return Ok(());
     }
-    match taken_by(batch, ops, &q)? {
+    match taken_by(batch, reaches, &q)? {
         Some(place) => batch.messages.take(place, taker_of(&q))?,
         None => batch.free.insert(q)?,
     }
@@ -117,11 +118,11 @@ fn add_receive(batch: &mut Batch, ops: &[RankOps], q: Receive) -> Result<(), All
 }
 
 /// Adds the receives of a rank behind those of the ranks before it.
-fn add_receives(batch: &mut Batch, ops: &[RankOps], own: &[Receive]) -> Result<(), AllocError>
-    ensures { OnOk result ((ms : List Message) (before : List Receive) → IsPosting before [] own.now → Settles (comes_after ops.now) ms (between before [] []) batch.old → Settles (comes_after ops.now) ms (between before own.now []) batch.new) }
+fn add_receives(batch: &mut Batch, reaches: &Reaches, own: &[Receive]) -> Result<(), AllocError>
+    ensures { OnOk result ((ms : List Message) (before : List Receive) → IsPosting before [] own.now → Settles (comes_after reaches.now) ms (between before [] []) batch.old → Settles (comes_after reaches.now) ms (between before own.now []) batch.new) }
 {
     for q in own {
-        add_receive(batch, ops, *q)?;
+        add_receive(batch, reaches, *q)?;
     }
     Ok(())
 }
@@ -152,13 +153,14 @@ fn all_sends(alloc: Global, ops: &[RankOps]) -> Result<Vec<Message>, AllocError>
 }
 
 /// The pairing of all ranks' calls.
-pub(crate) fn batch_of(alloc: Global, ops: &[RankOps]) -> Result<Batch, AllocError>
-    requires { AreOwn 0 ops.now }
-    ensures { IfOk result (Settles (comes_after ops.now) (sends_of ops.now) (receives_of ops.now)) }
+pub(crate) fn batch_of(alloc: Global, reaches: &Reaches) -> Result<Batch, AllocError>
+    requires { AreOwn 0 reaches.now }
+    ensures { IfOk result (Settles (comes_after reaches.now) (sends_of reaches.now) (receives_of reaches.now)) }
 {
+    let ops = reaches.ops();
     let mut batch = all_waiting(alloc, ops)?;
     for own in ops {
-        add_receives(&mut batch, ops, own.receives())?;
+        add_receives(&mut batch, reaches, own.receives())?;
     }
     Ok(batch)
 }

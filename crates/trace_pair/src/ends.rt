@@ -9,12 +9,11 @@ ghost use Rattle.trace_pair.specs.After.{comes_after};
 ghost use Rattle.trace_pair.specs.Ends.{AreLast, IsLastAmong, IsLastFor, later_end, with_end};
 ghost use Rattle.trace_pair.specs.Queues.{of_kind};
 
-use crate::after::is_after;
 use crate::queues::{Kinds, NO_KINDS};
+use crate::reach::Reaches;
 use mpi_model::{Message, Receive};
 use std::alloc::{AllocError, Global};
 use std::collections::BTreeMap;
-use trace_ops::RankOps;
 
 /// Of some receives, the call that ends the one which ends last, by communicator, receiver, source and tag. `None` is one
 /// that doesn't end.
@@ -96,12 +95,12 @@ impl Ends {
 
     /// Whether some of the receives may take the message: their envelopes fit, and the message doesn't come after the
     /// receive. A few questions of a map, and one of the Barriers.
-    pub fn may_take(&self, ops: &[RankOps], m: &Message) -> bool
-        ensures { (xs : List Receive) → AreLast xs self.now → result ≡ list_any (λ q. envelopes_fit m.now q && not (comes_after ops.now m.now q)) xs }
+    pub fn may_take(&self, reaches: &Reaches, m: &Message) -> bool
+        ensures { (xs : List Receive) → AreLast xs self.now → result ≡ list_any (λ q. envelopes_fit m.now q && not (comes_after reaches.now m.now q)) xs }
     {
         match self.last_for(m) {
             None => false,
-            Some(end) => !is_after(ops, m, m.to, end),
+            Some(end) => !reaches.is_after(m, m.to, end),
         }
     }
 }

@@ -1,13 +1,15 @@
 //! The sets of an index, as the calls of one rank become others.
 
-ghost use Rattle.std.specs.Prelude.{◌≡◌, ◌↔◌, ◌≤◌, ◌<◌, List, OnOk, IfSome, IsTrue, take, length, slice_get};
+ghost use Rattle.std.specs.Prelude.{◌≡◌, ◌↔◌, ◌≤◌, ◌<◌, List, OnOk, IfOk, IfSome, IsTrue, take, length, slice_get, slice_index_or};
+ghost use Rattle.std.specs.List.{AllZip};
 ghost use Rattle.mpi_model.specs.declared.message.Message.{Message};
 ghost use Rattle.mpi_model.specs.declared.message.Receive.{Receive};
+ghost use Rattle.trace_ops.specs.Ops.{AreOwn, no_ops};
 ghost use Rattle.trace_ops.specs.Order.{AreEntered, Has};
 ghost use Rattle.trace_pair.specs.Calls.{between, IsSequence, IsPosting};
 ghost use Rattle.trace_pair.specs.After.{comes_after};
-ghost use Rattle.trace_pair.specs.Followed.{Indexes};
-ghost use Rattle.trace_pair.specs.Fronts.{AreFronts, AreOneBefore, IsEndedBy, call_at};
+ghost use Rattle.trace_pair.specs.Followed.{Adds, Drops, Indexes};
+ghost use Rattle.trace_pair.specs.Fronts.{AreFronts, AreOneBefore, IsAlike, IsEndedBy, call_at};
 ghost use Rattle.trace_pair.specs.Pairing.{After};
 
 use crate::matched::{Matched, add_message, add_receive, pop_message, pop_receive};
@@ -28,7 +30,7 @@ fn is_same_receive(a: &Receive, b: &Receive) -> bool
 }
 
 /// Takes back the messages of a rank behind the first `keep`.
-pub(crate) fn drop_messages(state: &mut Matched, held: &[Message], keep: usize) -> Result<(), AllocError>
+fn drop_messages(state: &mut Matched, held: &[Message], keep: usize) -> Result<(), AllocError>
     requires { keep ≤ length held.now }
     ensures { OnOk result ((after : After) (before behind : List Message) (qs : List Receive) → IsSequence before behind held.now
         → Indexes after (between before held.now behind) qs state.old → Indexes after (between before (take keep held.now) behind) qs state.new) }
@@ -60,6 +62,13 @@ pub(crate) fn add_messages(
     Ok(())
 }
 
+/// Whether a message stays: the new one is the same, and it stands at no call behind this one.
+fn does_message_stay(held: &Message, new: &Message, last: u64) -> bool
+    ensures { IsTrue result ↔ ((held.now ≡ new.now) × (held.now.name.call ≤ last)) }
+{
+    is_same_message(held, new) && held.name.call <= last
+}
+
 /// How many messages the two lists have in common at their front, up to the call, and no fewer.
 fn common_messages(a: &[Message], b: &[Message], last: u64) -> usize
     ensures first { result ≤ length a.now }
@@ -70,7 +79,7 @@ fn common_messages(a: &[Message], b: &[Message], last: u64) -> usize
 {
     let mut i = 0;
     while i < a.len() && i < b.len() {
-        if a[i].name.call > last || !is_same_message(&a[i], &b[i]) {
+        if !does_message_stay(&a[i], &b[i], last) {
             return i;
         }
         i += 1;
@@ -79,7 +88,7 @@ fn common_messages(a: &[Message], b: &[Message], last: u64) -> usize
 }
 
 /// Takes back the receives of a rank behind the first `keep`.
-pub(crate) fn drop_receives(state: &mut Matched, held: &[Receive], keep: usize) -> Result<(), AllocError>
+fn drop_receives(state: &mut Matched, held: &[Receive], keep: usize) -> Result<(), AllocError>
     requires { keep ≤ length held.now }
     ensures { OnOk result ((after : After) (before behind : List Receive) (ms : List Message) → IsPosting before behind held.now
         → Indexes after ms (between before held.now behind) state.old → Indexes after ms (between before (take keep held.now) behind) state.new) }
@@ -121,8 +130,15 @@ fn is_ended_by(q: &Receive, last: u64) -> bool
     }
 }
 
-/// How many receives the two lists have in common at their front, all of which end up to the call or
-/// don't, and no fewer.
+/// Whether a receive stays: the new one is the same, and no call behind this one completes it.
+fn does_receive_stay(held: &Receive, new: &Receive, last: u64) -> bool
+    ensures { IsTrue result ↔ ((held.now ≡ new.now) × IsEndedBy held.now last) }
+{
+    is_same_receive(held, new) && is_ended_by(held, last)
+}
+
+/// How many receives the two lists have in common at their front, none of which a call behind this one
+/// completes, and no fewer.
 fn common_receives(a: &[Receive], b: &[Receive], last: u64) -> usize
     ensures first { result ≤ length a.now }
     ensures second { result ≤ length b.now }
@@ -132,7 +148,7 @@ fn common_receives(a: &[Receive], b: &[Receive], last: u64) -> usize
 {
     let mut i = 0;
     while i < a.len() && i < b.len() {
-        if !is_ended_by(&a[i], last) || !is_same_receive(&a[i], &b[i]) {
+        if !does_receive_stay(&a[i], &b[i], last) {
             return i;
         }
         i += 1;
@@ -150,22 +166,42 @@ fn call_at(rounds: &[Entered], place: usize) -> u64
     }
 }
 
+fn is_alike(a: &Entered, b: &Entered) -> bool
+    ensures { IsTrue result ↔ IsAlike a.now b.now }
+{
+    a.comm == b.comm && a.call == b.call && a.is_barrier() == b.is_barrier()
+}
+
+/// How many collective calls the two lists have in common at their front.
+fn common_rounds(a: &[Entered], b: &[Entered]) -> usize
+    ensures { AllZip IsAlike (take result a.now) (take result b.now) }
+{
+    let mut i = 0;
+    while i < a.len() && i < b.len() {
+        if !is_alike(&a[i], &b[i]) {
+            return i;
+        }
+        i += 1;
+    }
+    i
+}
+
+/// The earlier of two calls.
+fn earlier(a: u64, b: u64) -> u64
+    ensures first { result ≤ a }
+    ensures second { result ≤ b }
+{
+    if a < b { a } else { b }
+}
+
 /// The last call before which the two ranks entered the same collective calls.
 fn last_common(a: &[Entered], b: &[Entered]) -> u64
     requires first { AreEntered a.now }
     requires second { AreEntered b.now }
     ensures { AreOneBefore result a.now b.now }
 {
-    let mut i = 0;
-    while i < a.len() && i < b.len() {
-        if a[i] != b[i] {
-            break;
-        }
-        i += 1;
-    }
-    let first = call_at(a, i);
-    let second = call_at(b, i);
-    if first < second { first } else { second }
+    let front = common_rounds(a, b);
+    earlier(call_at(a, front), call_at(b, front))
 }
 
 /// How many messages and how many receives stay where a rank did other calls than was held: those of
@@ -176,7 +212,7 @@ pub(crate) struct Fronts {
     pub(crate) receives: usize,
 }
 
-pub(crate) fn fronts_of(held: &RankOps, new: &RankOps) -> Fronts
+fn fronts_of(held: &RankOps, new: &RankOps) -> Fronts
     requires held { AreEntered held.now.rounds }
     requires new { AreEntered new.now.rounds }
     ensures { AreFronts held.now new.now result }
@@ -192,4 +228,42 @@ pub(crate) fn fronts_of(held: &RankOps, new: &RankOps) -> Fronts
         sends: common_messages(held.sends(), new.sends(), last),
         receives: common_receives(held.receives(), new.receives(), last),
     }
+}
+
+/// Takes back the calls of a rank that don't stay where it did other ones, and tells how many stay.
+pub(crate) fn drop_calls(
+    state: &mut Matched,
+    held: &[RankOps],
+    rank: u32,
+    new: &RankOps,
+) -> Result<Fronts, AllocError>
+    requires rank { rank < length held.now }
+    requires held { AreOwn 0 held.now }
+    requires new { AreEntered new.now.rounds }
+    ensures fronts { IfOk result (AreFronts (slice_index_or held.now rank no_ops) new.now) }
+    ensures state { IfOk result (λ fronts. Drops (slice_index_or held.now rank no_ops) fronts state.old state.new) }
+{
+    let was = &held[rank as usize];
+    let fronts = fronts_of(was, new);
+    drop_messages(state, was.sends(), fronts.sends)?;
+    drop_receives(state, was.receives(), fronts.receives)?;
+    Ok(fronts)
+}
+
+/// Adds the calls of a rank behind those that stay.
+pub(crate) fn add_calls(
+    state: &mut Matched,
+    held: &[RankOps],
+    rank: u32,
+    fronts: Fronts,
+) -> Result<(), AllocError>
+    requires rank { rank < length held.now }
+    requires sends { fronts.sends ≤ length (slice_index_or held.now rank no_ops).sends }
+    requires receives { fronts.receives ≤ length (slice_index_or held.now rank no_ops).receives }
+    ensures { OnOk result (Adds (comes_after held.now) (slice_index_or held.now rank no_ops) fronts state.old state.new) }
+{
+    let own = &held[rank as usize];
+    add_messages(state, held, own.sends(), fronts.sends)?;
+    add_receives(state, held, own.receives(), fronts.receives)?;
+    Ok(())
 }

@@ -6,7 +6,7 @@ ghost use Rattle.trace_pair.specs.Certainty.{AreCertain, AreAllSettled, AreLegal
 ghost use Rattle.trace_pair.specs.Followed.{Follows};
 ghost use Rattle.trace_pair.specs.Table.{fresh, table_of};
 
-use crate::follow::{add_messages, add_receives, drop_messages, drop_receives, fronts_of};
+use crate::follow::{add_calls, drop_calls};
 use crate::matched::Matched;
 use crate::scratch::pair_all;
 use crate::table::PairTable;
@@ -194,6 +194,14 @@ fn state_or_new(
     }
 }
 
+/// Makes the rank's ops these.
+fn put_ops(held: &mut Vec<RankOps>, rank: u32, ops: RankOps)
+    requires { rank < length held.old.items }
+    ensures { held.new.items ≡ slice_set held.old.items rank ops }
+{
+    held[rank as usize] = ops;
+}
+
 /// Makes the rank's ops these, and the state with them, which is made first where there is none.
 fn set_ops(
     held: &mut Vec<RankOps>,
@@ -211,12 +219,8 @@ fn set_ops(
     ensures state { IfOk result (λ state. Follows held.new.items state) }
 {
     let mut state = state_or_new(*held.allocator(), held, state)?;
-    let fronts = fronts_of(&held[rank as usize], &ops);
-    drop_messages(&mut state, held[rank as usize].sends(), fronts.sends)?;
-    drop_receives(&mut state, held[rank as usize].receives(), fronts.receives)?;
-    held[rank as usize] = ops;
-    let own = &held[rank as usize];
-    add_messages(&mut state, held, own.sends(), fronts.sends)?;
-    add_receives(&mut state, held, own.receives(), fronts.receives)?;
+    let fronts = drop_calls(&mut state, held, rank, &ops)?;
+    put_ops(held, rank, ops);
+    add_calls(&mut state, held, rank, fronts)?;
     Ok(state)
 }

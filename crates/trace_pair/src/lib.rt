@@ -16,14 +16,15 @@
 //! - [`scratch`]: the pairing from scratch; [`batch`]: its pass over all receives; [`takings`]: all
 //!   messages with what takes each; [`places`]: where those that wait stand; [`ends`]: the ends of receives, and
 //!   whether some of them may take a message
-//! - [`rules`]: which call comes first, and whether names are one; [`after`]: which messages come after which receives
+//! - [`rules`]: which call comes first, and whether names are one; [`after`]: which messages come after which receives;
+//!   [`reach`]: the same, asked of a table
 //! - [`rows`], [`near`], [`table`]: the pairs and the postponed messages, their order by the receive,
 //!   and the other end of each
 //! - [`one_or_many`]: a set that has no tree of its own while it has one member; [`groups`],
 //!   [`queues`]: sets of calls, found by a few probes of an ordered map; [`couples`]: the pairs by
 //!   either name; [`slots`]: flat lists of values by such names
-//! - [`matched`]: the sets of an index, as one call comes or goes; [`follow`]: as a rank's calls do;
-//!   [`together`]: as those of all ranks come
+//! - [`matched`]: the sets of an index, as one call comes or goes; [`opened`]: its open receives, one by one;
+//!   [`follow`]: as a rank's calls do; [`together`]: as those of all ranks come
 //! - [`index`]: the index
 //! - [`laws`]: what makes the rules easy to believe, as contracts of calls that do nothing
 //!
@@ -45,6 +46,7 @@ mod opened;
 mod pair;
 mod places;
 mod queues;
+mod reach;
 mod rows;
 mod rules;
 mod scratch;
@@ -60,5 +62,6 @@ pub use laws::{
     what_comes_after_stays, worked_runs,
 };
 pub use pair::{Pair, Side};
+pub use reach::{RankReach, Reaches, reaches_of};
 pub use scratch::pair_all;
 pub use table::PairTable;

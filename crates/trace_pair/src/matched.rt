@@ -13,8 +13,8 @@ ghost use Rattle.trace_pair.specs.Pairing.{After, Paired, receive_of};
 ghost use Rattle.trace_pair.specs.Table.{fits_open};
 
 use crate::couples::Couples;
-use crate::pair::Couple;
 use crate::opened::Opened;
+use crate::pair::Couple;
 use crate::queues::{Messages, Receives};
 use mpi_model::{Message, Receive};
 use std::alloc::{AllocError, Global};
@@ -212,7 +212,11 @@ pub(crate) fn pop_receive(state: &mut Matched, q: &Receive) -> Result<(), AllocE
 }
 
 /// Puts a message behind those of its sender, with room for its receive.
-pub(crate) fn add_message(state: &mut Matched, ops: &[RankOps], m: Message) -> Result<(), AllocError>
+pub(crate) fn add_message(
+    state: &mut Matched,
+    ops: &[RankOps],
+    m: Message,
+) -> Result<(), AllocError>
     ensures { OnOk result ((ms more : List Message) (qs : List Receive) → AddsMessage ms more m → Indexes (comes_after ops.now) ms qs state.old → Indexes (comes_after ops.now) more qs state.new) }
 {
     state.couples.expect_message(&m)?;
@@ -232,7 +236,11 @@ fn expect_settled(state: &mut Matched, q: &Receive) -> Result<(), AllocError>
 }
 
 /// Puts a receive behind those of its rank, with room for its message.
-pub(crate) fn add_receive(state: &mut Matched, ops: &[RankOps], q: Receive) -> Result<(), AllocError>
+pub(crate) fn add_receive(
+    state: &mut Matched,
+    ops: &[RankOps],
+    q: Receive,
+) -> Result<(), AllocError>
     ensures { OnOk result ((ms : List Message) (qs more : List Receive) → AddsReceive qs more q → Indexes (comes_after ops.now) ms qs state.old → Indexes (comes_after ops.now) ms more state.new) }
 {
     expect_settled(state, &q)?;

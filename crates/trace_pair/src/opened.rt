@@ -6,6 +6,7 @@ ghost use Rattle.mpi_model.specs.Fit.{envelopes_fit};
 ghost use Rattle.trace_ops.specs.Order.{posted_before};
 ghost use Rattle.trace_pair.specs.After.{comes_after};
 ghost use Rattle.trace_pair.specs.Ends.{NoneHides, NoneHidesBefore, SomeHides, SomeHidesBefore};
+ghost use Rattle.trace_pair.specs.KeyOrders.{same_receive};
 ghost use Rattle.trace_pair.specs.Sets.{AddsTo, DropsFrom};
 
 use crate::after::is_after;
@@ -35,6 +36,12 @@ fn some_before_may(ops: &[RankOps], kept: &[Receive], m: &Message, q: &Receive) 
 {
     kept.iter()
         .any(|u| may_have_taken(ops, u, m) && is_posted_before(u, q))
+}
+
+fn is_other(u: &Receive, q: &Receive) -> bool
+    ensures { result ≡ not (same_receive u.now q.now) }
+{
+    *u != *q
 }
 
 /// A set of open receives.
@@ -71,7 +78,7 @@ impl Opened {
     pub(crate) fn remove(&mut self, q: &Receive)
         ensures { DropsFrom self.old self.new q.now }
     {
-        self.kept.retain(|u| *u != *q);
+        self.kept.retain(|u| is_other(u, q));
     }
 
     /// Whether some of them may have taken the message.

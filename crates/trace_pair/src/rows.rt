@@ -15,6 +15,7 @@ ghost use Rattle.trace_pair.specs.Table.{pair_of, postponed_name, table_of, tabl
 use crate::batch::Batch;
 use crate::matched::Matched;
 use crate::pair::{Pair, make_pair};
+use crate::reach::Reaches;
 use mpi_model::{Message, OpName};
 use std::alloc::{AllocError, Global};
 use std::marker::Model;
@@ -100,19 +101,19 @@ impl Rows {
     fn add_settled(
         &mut self,
         batch: &Batch,
-        ops: &[RankOps],
+        reaches: &Reaches,
         place: usize,
         m: &Message,
     ) -> Result<(), AllocError>
-        ensures pairs { OnOk result ((ms : List Message) (qs : List Receive) → Settles (comes_after ops.now) ms qs batch.now → slice_get ms place ≡ Some m.now →
-            self.new.pairs ≡ self.old.pairs ++ cons_option (option_map (pair_of m.now) (receive_of (comes_after ops.now) ms qs m.now)) []) }
-        ensures postponed { OnOk result ((ms : List Message) (qs : List Receive) → Settles (comes_after ops.now) ms qs batch.now → slice_get ms place ≡ Some m.now →
-            self.new.postponed ≡ self.old.postponed ++ cons_option (postponed_name (comes_after ops.now) ms qs m.now) []) }
+        ensures pairs { OnOk result ((ms : List Message) (qs : List Receive) → Settles (comes_after reaches.now) ms qs batch.now → slice_get ms place ≡ Some m.now →
+            self.new.pairs ≡ self.old.pairs ++ cons_option (option_map (pair_of m.now) (receive_of (comes_after reaches.now) ms qs m.now)) []) }
+        ensures postponed { OnOk result ((ms : List Message) (qs : List Receive) → Settles (comes_after reaches.now) ms qs batch.now → slice_get ms place ≡ Some m.now →
+            self.new.postponed ≡ self.old.postponed ++ cons_option (postponed_name (comes_after reaches.now) ms qs m.now) []) }
     {
         match batch.receive_of(place, m) {
             Some(receive) => self.put(make_pair(m, &receive))?,
             None => {
-                if batch.does_open_fit(ops, m) {
+                if batch.does_open_fit(reaches, m) {
                     self.postpone(m.name)?;
                 }
             }
@@ -124,14 +125,14 @@ impl Rows {
     pub(crate) fn of_batch(
         alloc: Global,
         batch: &Batch,
-        ops: &[RankOps],
+        reaches: &Reaches,
     ) -> Result<Rows, AllocError>
-        ensures { IfOk result (λ rows. (ms : List Message) (qs : List Receive) → Settles (comes_after ops.now) ms qs batch.now → rows ≡ table_with (comes_after ops.now) ms qs) }
+        ensures { IfOk result (λ rows. (ms : List Message) (qs : List Receive) → Settles (comes_after reaches.now) ms qs batch.now → rows ≡ table_with (comes_after reaches.now) ms qs) }
     {
         let messages = batch.messages();
         let mut rows = Rows::with_room(alloc, messages.len())?;
         for (place, m) in messages.iter().enumerate() {
-            rows.add_settled(batch, ops, place, m)?;
+            rows.add_settled(batch, reaches, place, m)?;
         }
         Ok(rows)
     }

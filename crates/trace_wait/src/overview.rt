@@ -20,12 +20,12 @@ use std::collections::BTreeSet;
 use std::marker::Model;
 use std::sync::Arc;
 use trace_ops::{Entered, RankOps};
-use trace_pair::{Ends, PairTable, Side};
+use trace_pair::{Ends, PairTable, Reaches, Side};
 
 /// The whole run, and what was gathered of it to be looked up: which messages are in no pair, which
-/// of them were cancelled, when the receives end that are in no pair, which rounds are mismatched,
-/// how many calls each member has entered, and the members of each communicator in a list to be
-/// shared.
+/// of them were cancelled, when the receives end that are in no pair, which messages come after which
+/// receives, which rounds are mismatched, how many calls each member has entered, and the members of
+/// each communicator in a list to be shared.
 #[derive(Drop)]
 pub(crate) struct Overview<'a> {
     pub layout: &'a Layout,
@@ -35,6 +35,7 @@ pub(crate) struct Overview<'a> {
     pub offered: &'a BTreeSet<Pattern>,
     pub withdrawn: &'a BTreeSet<Pattern>,
     pub asked: &'a Ends,
+    pub reaches: &'a Reaches<'a>,
     pub mismatched: &'a BTreeSet<(u32, u64)>,
     pub calls: &'a [CommCalls],
     pub groups: &'a [Group],
@@ -62,7 +63,8 @@ impl<'a> Model for Overview<'a> {
         × ((c k : ℕ) → contains place_cmp s.mismatched.now (c, k) ≡ list_any (is_mismatched_at c k) s.rounds.now)
         × (s.calls.now ≡ table s.layout.now.comms s.ops.now s.layout.now.comms)
         × (AreGroups s.layout.now.comms s.groups.now)
-        × ((p : Named) → contains pattern_cmp s.withdrawn.now p ≡ list_any (λ m. offers true m p) (unpaired_messages s.ops.now s.pairs.now.pairs)) };
+        × ((p : Named) → contains pattern_cmp s.withdrawn.now p ≡ list_any (λ m. offers true m p) (unpaired_messages s.ops.now s.pairs.now.pairs))
+        × (s.reaches.now ≡ s.ops.now) };
 }
 
 impl<'a> Overview<'a> {
@@ -108,7 +110,7 @@ impl<'a> Overview<'a> {
     pub fn may_be_taken(&self, m: &Message) -> bool
         ensures { result ≡ list_any (may_take self.now.ops m.now) (unpaired_receives self.now.ops self.now.pairs) }
     {
-        !m.trust.is_void() && self.asked.may_take(self.ops, m)
+        !m.trust.is_void() && self.asked.may_take(self.reaches, m)
     }
 
     /// Whether some unpaired message that was not cancelled suits the receive.

@@ -15,4 +15,4 @@ loop-q-preserved c = λ ms before p s.
 
 pub returns : goal.returns
 returns c = λ ms before p s.
-    subst (λ (l : List Receive). Settles (comes_after c.args.ops.now) ms (between before l []) c.loop-q.batch) (take_all c.loop-q.q-index c.args.own.now (omega arith)) (c.loop-q.invariant ms before p s)
+    subst (λ (l : List Receive). Settles (comes_after c.args.reaches.now) ms (between before l []) c.loop-q.batch) (take_all c.loop-q.q-index c.args.own.now (omega arith)) (c.loop-q.invariant ms before p s)

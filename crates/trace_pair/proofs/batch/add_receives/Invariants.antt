@@ -7,4 +7,4 @@ use Rattle.trace_pair.specs.Settled.{Settles}
 use Rattle.trace_pair.proofs.batch.add_receives.Given as goal
 
 abbrev pub invariant-loop-q : goal.invariant-loop-q
-invariant-loop-q l = (ms : List Message) (before : List Receive) → IsPosting before [] l.own → Settles (comes_after l.ops) ms (between before [] []) l.initial.batch → Settles (comes_after l.ops) ms (between before (take l.q-index l.own) []) l.batch
+invariant-loop-q l = (ms : List Message) (before : List Receive) → IsPosting before [] l.own → Settles (comes_after l.reaches) ms (between before [] []) l.initial.batch → Settles (comes_after l.reaches) ms (between before (take l.q-index l.own) []) l.batch

@@ -31,6 +31,8 @@ returns-in-Some-first_for-clause-none c = λ ms qs held q i t.
 
 pub returns-clause-some : goal.returns-clause-some
 returns-clause-some c = λ ms qs held.
-    let f = c.in-Some.ensures.some in
-    ((held.frees c.in-Some.q f.member).0, taker_found (comes_after c.args.ops.now) ms qs _ _ _ _ held c.args.m.now c.in-Some.q (search rules) f
-    (c.hides_before.ensures.no c.if-hides_before.false) (c.in_default-first_for.ensures.none (settled_parts c.in-Some.q (held.frees c.in-Some.q f.member).1).0))
+    let f = c.in-Some.ensures.some in (
+      (held.frees c.in-Some.q f.member).0,
+      taker_found (comes_after c.args.ops.now) ms qs _ _ _ _ held c.args.m.now c.in-Some.q (search rules) f
+          (c.hides_before.ensures.no c.if-hides_before.false) (c.in_default-first_for.ensures.none (settled_parts c.in-Some.q (held.frees c.in-Some.q f.member).1).0),
+    )
