@@ -15,6 +15,7 @@ pub mod KnownLoop
 pub mod LastCells
 pub mod Heads
 pub mod Bodies
+pub mod Payloads
 pub mod Sending
 pub mod OwnCells
 pub mod Taking

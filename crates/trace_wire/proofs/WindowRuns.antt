@@ -116,7 +116,7 @@ runs_next a b c s t u count i front es last r end lt p q is now =
     comes_then a b c s t u (RunsLeft count front last i) (Gave (run_at last) r) (RunsLeft count es (Some end) (i + 1)) p q (λ x y z m n.
     let next = goes_on run run_cells front count i last y r z (cells_at run run_cells count None x) lt n m in
     subst (λ (fs : List Entry). cells_after fs (cells_at run run_cells (count - (i + 1)) (Some end) z) ≡ cells_at run run_cells count None x) (sym now)
-        (subst (λ (q : ℕ × ℕ). cells_after (front ++ run_cells r) (cells_at run run_cells (count - (i + 1)) (Some q) z) ≡ cells_at run run_cells count None x) (sym is) next))
+    (subst (λ (q : ℕ × ℕ). cells_after (front ++ run_cells r) (cells_at run run_cells (count - (i + 1)) (Some q) z) ≡ cells_at run run_cells count None x) (sym is) next))
 
 pub runs_stop : (a b c : Option (List ℕ)) (before between now : ℕ) (s t u : Held) (count i : ℕ) (front : List Entry) (last : Option (ℕ × ℕ)) (stop : Unread) → i < count → Comes a b s t (RunsLeft count front last i) → between ≡ before → Stops b c between now t u (run_at last) stop
     → Stops a c before now s u (parts_of Two count) stop

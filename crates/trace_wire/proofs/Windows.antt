@@ -103,6 +103,16 @@ comes_same a s = record { taken = []; took = Consumes-nil a; fits = none_bytes; 
 pub comes_pass : {A : Type 0} (a : Option (List ℕ)) (s t : Held) (read : List ℕ → Option (A × List ℕ)) (x : A) → Passes s t read x → Comes a a s t (λ w r. read w ≡ Some (x, r))
 comes_pass a s t read x h = record { taken = []; took = Consumes-nil a; fits = none_bytes; count = omega (arith, h.0); stand = λ more len. h.1 more }
 
+-- a piece more is held
+pub piece_more : (a b : Option (List ℕ)) (s : Held) (piece items : List ℕ) (coming : ℕ) → Consumes a b piece → IsBytes piece → s.coming ≡ length piece + coming → items ≡ s.bytes ++ piece → Comes a b s (record { bytes = items; coming = coming }) IsLeft
+piece_more a b s piece items coming c fits count e = record {
+  taken = piece;
+  took = c;
+  fits = fits;
+  count = count;
+  stand = λ more len. sym (append_assoc s.bytes piece more) ∙ ap (λ (l : List ℕ). l ++ more) (sym e);
+}
+
 -- Nothing was read, so nothing was lost.
 pub grown : (a b : Option (List ℕ)) (s t : Held) → Comes a b s t IsLeft → length s.bytes + s.coming ≡ length t.bytes + t.coming
 grown a b s t p =
@@ -147,6 +157,14 @@ passes {A} form Fits is held coming x rest fits short e =
     let here : length spelled < 2 ^ 32 = omega (arith, ap (λ (l : List ℕ). length l) t.0.parts, length-append spelled rest, short) in
     let left = rest_held held spelled rest t.0.parts in
     (refl, λ more. ap form.read (ap (λ (w : List ℕ). w ++ more) t.0.parts ∙ append_assoc spelled rest more) ∙ is.again x (rest ++ more) t.1 here ∙ ap (λ (r : List ℕ). Some (x, r ++ more)) (sym left))
+
+-- what a window holds where it keeps so many bytes
+abbrev pub keeping : Held → ℕ → Held
+keeping s left = record { bytes = drop (length s.bytes - left) s.bytes; coming = s.coming }
+
+pub kept_passes : {A : Type 0} (form : Form A) (Fits : A → Type 0) → IsForm form Fits → (s t : Held) (x : A) (rest : List ℕ) (left : ℕ) → IsBytes s.bytes → length s.bytes + s.coming < 2 ^ 32 → form.read s.bytes ≡ Some (x, rest) → left ≡ length rest → t ≡ keeping s left → Passes s t form.read x
+kept_passes {A} form Fits is s t x rest left fits short e size kept =
+    subst (λ (u : Held). Passes s u form.read x) (sym (kept ∙ ap (keeping s) size)) (passes form Fits is s.bytes s.coming x rest fits (omega (arith, short)) e)
 
 pub rest_short : {A : Type 0} (form : Form A) (Fits : A → Type 0) → IsForm form Fits → (held : List ℕ) (x : A) (rest : List ℕ) → IsBytes held → form.read held ≡ Some (x, rest) → length rest ≤ length held
 rest_short {A} form Fits is held x rest fits e =

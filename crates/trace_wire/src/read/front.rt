@@ -30,7 +30,8 @@ fn held_u32(window: &mut Window) -> Result<u32, FieldFault>
     ensures kept { OnErr result (window.new ≡ window.old) }
 {
     match u32_of(window.held()) {
-        Ok((number, rest)) => {
+        Ok(found) => {
+            let (number, rest) = found;
             let left = rest.len();
             window.keep(left);
             Ok(number)
@@ -47,7 +48,8 @@ fn held_place(window: &mut Window) -> Result<(u32, u64), FieldFault>
     ensures kept { OnErr result (window.new ≡ window.old) }
 {
     match place_of(window.held()) {
-        Ok((here, rest)) => {
+        Ok(found) => {
+            let (here, rest) = found;
             let left = rest.len();
             window.keep(left);
             Ok(here)
@@ -64,7 +66,8 @@ fn held_known(alloc: Global, window: &mut Window, place: u64) -> Result<Known, F
     ensures kept { OnErr result (window.new ≡ window.old) }
 {
     match known_of(alloc, place, window.held()) {
-        Ok((known, rest)) => {
+        Ok(found) => {
+            let (known, rest) = found;
             let left = rest.len();
             window.keep(left);
             Ok(known)

@@ -38,7 +38,8 @@ fn cells_held<R: Read>(
         Err(fault) => return Err(Unread::Device(fault)),
     }
     match cells_of(alloc, count, window.held()) {
-        Ok((knowledge, rest)) => {
+        Ok(found) => {
+            let (knowledge, rest) = found;
             let left = rest.len();
             window.keep(left);
             Ok(knowledge)
