@@ -97,14 +97,14 @@ err_is : {A : Type 0} (f g : WireFault) (r : Result A WireFault) → r ≡ Err f
 err_is f g r a b = cc
 
 fault_none : {A : Type 0} (fault g : WireFault) (o : Option A) → or_fault fault o ≡ Err g → (o ≡ None) × (fault ≡ g)
-fault_none {A} fault g None e = (refl, err_is fault g (or_fault {A} fault None) refl e)
+fault_none {A} fault g None e = (refl, err_is fault g (or_fault {A = A} fault None) refl e)
 fault_none fault g (Some x) e = absurd cc
 
 -- where one gives nothing, the other gives nothing
 pub carry_none : {A B : Type 0} (g : WireFault) (r : Option A) (total : Option B) → (r ≡ None → total ≡ None) → or_fault Content r ≡ Err g → or_fault Content total ≡ Err g
 carry_none {A} {B} g r total f e =
     let n = fault_none Content g r e in
-    ap (or_fault Content) (f n.0) ∙ ap (λ (w : WireFault). or_fault {B} w None) n.1
+    ap (or_fault Content) (f n.0) ∙ ap (λ (w : WireFault). or_fault {A = B} w None) n.1
 
 pub made_none : {A B : Type 0} (make : A → B) (o : Option (A × List ℕ)) → o ≡ None → made make o ≡ None
 made_none make o e = ap (made make) e

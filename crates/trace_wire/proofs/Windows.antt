@@ -1,9 +1,10 @@
 -- A payload, read through a window.
-use Rattle.std.proofs.Common.{◌≡◌, ℕ, zero, suc, ◌+◌, ◌-◌, ◌^◌, ◌<◌, ◌≤◌, List, [], ◌∷◌, ◌++◌, length, drop, Option, Some, None, Result, Ok, Err, refl, sym, ap, subst, ◌∙◌, append_assoc, append-nil, arith}
-use Rattle.std.specs.Prelude.{get_or, IfSome}
+use Rattle.std.proofs.Common.{◌≡◌, ℕ, zero, suc, ◌+◌, ◌-◌, ◌^◌, ◌<◌, ◌≤◌, List, [], ◌∷◌, ◌++◌, length, drop, Option, Some, None, Result, Ok, Err, refl, sym, ap, subst, ◌∙◌, append_assoc, append-nil, arith, inl, inr}
+use Rattle.std.specs.Prelude.{IfSome, OnOk}
+use Rattle.std.proofs.lemmas.Bool.{cases_lt}
 use Rattle.std.specs.Io.KnownBytes.{Consumes}
 use Rattle.std.proofs.KnownBytes.{Consumes-nil, Consumes-trans, Keeps-trans}
-use Rattle.std.proofs.lemmas.List.{length-append, drop_at, get_or_past}
+use Rattle.std.proofs.lemmas.List.{length-append, drop_at}
 use Rattle.mpi_model.specs.Failures.{one_more}
 use Rattle.mpi_model.specs.Side.{Side, LeavesSide}
 use Rattle.trace_wire.specs.declared.fault.WireFault.{WireFault}
@@ -21,7 +22,7 @@ use Rattle.trace_wire.proofs.Taking.{taken_after}
 -- ---- bytes
 
 none_bytes : IsBytes []
-none_bytes i = rw (get_or_past [] i 0 (omega arith)) (omega arith)
+none_bytes i = omega arith
 
 pub bytes_after : (a b : List ℕ) → IsBytes a → IsBytes b → IsBytes (a ++ b)
 bytes_after [] b h k i = k i
@@ -34,10 +35,12 @@ zeros zero = []
 zeros (suc n) = 0 ∷ zeros n
 
 pub zeros_len : (n : ℕ) → length (zeros n) ≡ n
+unfolding zeros
 zeros_len zero = refl
 zeros_len (suc n) = ap suc (zeros_len n)
 
 pub zeros_bytes : (n : ℕ) → IsBytes (zeros n)
+unfolding zeros
 zeros_bytes zero i = none_bytes i
 zeros_bytes (suc n) zero = omega arith
 zeros_bytes (suc n) (suc i) = zeros_bytes n i
@@ -103,22 +106,22 @@ comes_same a s = record { taken = []; took = Consumes-nil a; fits = none_bytes; 
 pub comes_pass : {A : Type 0} (a : Option (List ℕ)) (s t : Held) (read : List ℕ → Option (A × List ℕ)) (x : A) → Passes s t read x → Comes a a s t (λ w r. read w ≡ Some (x, r))
 comes_pass a s t read x h = record { taken = []; took = Consumes-nil a; fits = none_bytes; count = omega (arith, h.0); stand = λ more len. h.1 more }
 
--- a piece more is held
-pub piece_more : (a b : Option (List ℕ)) (s : Held) (piece items : List ℕ) (coming : ℕ) → Consumes a b piece → IsBytes piece → s.coming ≡ length piece + coming → items ≡ s.bytes ++ piece → Comes a b s (record { bytes = items; coming = coming }) IsLeft
-piece_more a b s piece items coming c fits count e = record {
-  taken = piece;
-  took = c;
-  fits = fits;
-  count = count;
-  stand = λ more len. sym (append_assoc s.bytes piece more) ∙ ap (λ (l : List ℕ). l ++ more) (sym e);
-}
-
 -- Nothing was read, so nothing was lost.
 pub grown : (a b : Option (List ℕ)) (s t : Held) → Comes a b s t IsLeft → length s.bytes + s.coming ≡ length t.bytes + t.coming
 grown a b s t p =
     let more = zeros t.coming in
     let len = zeros_len t.coming in
     omega (arith, ap (λ (l : List ℕ). length l) (p.stand more len), length-append s.bytes (p.taken ++ more), length-append p.taken more, length-append t.bytes more, len, p.count)
+
+-- More is held where more was wanted.
+pub widened : {X E : Type 0} (r : Result X E) (a b : Option (List ℕ)) (s t : Held) (wanted : ℕ) → OnOk r (Comes a b s t IsLeft) → OnOk r (0 < t.coming → wanted ≤ length t.bytes) → length s.bytes < wanted → OnOk r (0 < s.coming → t.coming < s.coming)
+widened (Ok x) a b s t wanted p enough lt = λ some.
+    let same = grown a b s t p in
+    elim (cases_lt 0 t.coming) [
+      | inl more ↦ omega (arith, same, enough more, lt)
+      | inr none ↦ omega (arith, none, some)
+    ]
+widened (Err e) a b s t wanted p enough lt = tt
 
 pub stops_then : {A B : Type 0} (a b c : Option (List ℕ)) (before between now : ℕ) (s t u : Held) (P : List ℕ → List ℕ → Type 0) (one : List ℕ → Result A WireFault) (two : List ℕ → Result B WireFault) (stop : Unread)
     → Comes a b s t P → between ≡ before → Stops b c between now t u two stop → ((g : WireFault) (x y : List ℕ) → P x y → two y ≡ Err g → one x ≡ Err g) → Stops a c before now s u one stop
