@@ -19,6 +19,8 @@ pub(crate) enum Did {
     Cancel(i64),
     /// A request, and what its status tells.
     Wait(i64, Status),
+    /// A communicator.
+    Barrier(u32),
 }
 
 /// What a status tells.
@@ -60,6 +62,9 @@ fn call_of(did: Did) -> Option<Call> {
         }
         Did::Cancel(request) => Call::Cancel(request),
         Did::Wait(request, _) => Call::Wait(request),
+        Did::Barrier(comm) => {
+            Call::Collective(Collective::new(Kind::Barrier, None, CommRef::Id(comm))?)
+        }
     })
 }
 

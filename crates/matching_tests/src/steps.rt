@@ -1,7 +1,6 @@
 //! An index of pairs over a long list of steps, beside the pairing of the same calls from scratch.
 
 ghost use Rattle.std.specs.Prelude.{◌<◌, length};
-ghost use Rattle.trace_ops.specs.Ops.{IsOwn};
 
 use crate::made::{Did, Status, four, known};
 use mpi_model::{Layout, Trust};
@@ -30,7 +29,7 @@ impl Draw {
     fn call(&mut self) -> Did {
         let (with, request) = (self.below(4), i64::from(self.below(3)));
         let tag = if self.below(2) == 0 { 5 } else { 6 };
-        match self.below(18) {
+        match self.below(20) {
             0..=3 => Did::Send(2, with, tag, 1),
             4 => Did::Send(3, with, tag, 1),
             5 => Did::Send(2, with, tag, 4),
@@ -41,6 +40,8 @@ impl Draw {
             11 => Did::Irecv(request, Some(with), tag),
             12 | 13 => Did::Isend(request, with, tag),
             14 | 15 => Did::Cancel(request),
+            16 => Did::Barrier(2),
+            17 => Did::Barrier(3),
             _ => Did::Wait(request, self.status(with)),
         }
     }
@@ -78,14 +79,21 @@ fn from_scratch(alloc: Global, layout: &Layout, know: &Knowledge) -> Result<Pair
     Ok(pair_all(alloc, &ops)?)
 }
 
-/// Takes all calls of the rank back, and puts in what it did by now.
-#[tactic(auto, using(crate::proofs::Nothing::own_nothing, crate::proofs::Nothing::grows_from_nothing, crate::proofs::Nothing::nothing_after))]
-fn put_anew(alloc: Global, rank: u32, ops: &RankOps, index: &mut PairIndex) -> Result<(), Fail>
-    requires rank { rank < length index.old }
-    requires own { IsOwn rank ops.now }
+/// Puts in what the rank did by now, takes all of its calls back, and puts them in again.
+fn put_twice(
+    alloc: Global,
+    layout: &Layout,
+    know: &Knowledge,
+    rank: u32,
+    index: &mut PairIndex,
+) -> Result<(), Fail>
+    requires { rank < length index.old }
 {
-    index.cut(rank, RankOps::empty(alloc))?;
-    index.grow(rank, ops.try_clone()?)?;
+    ops_laws();
+    let nothing = Knowledge::new(alloc);
+    index.set(rank, ops_of(alloc, layout, know, rank)?)?;
+    index.cut(rank, ops_of(alloc, layout, &nothing, rank)?)?;
+    index.grow(rank, ops_of(alloc, layout, know, rank)?)?;
     Ok(())
 }
 
@@ -100,44 +108,52 @@ fn note(changes: &mut Changes, old: Trust, new: Trust) -> Result<(), AllocError>
     Ok(())
 }
 
-/// Notes the trusts that became others, of a rank's messages and receives.
-fn note_all(changes: &mut Changes, old: &RankOps, new: &RankOps) -> Result<(), AllocError> {
+/// Notes the trusts that became others, of a rank's messages and receives, and counts the receives of
+/// which it came to be told, or no longer is, when they were completed.
+fn note_all(run: &mut Run, rank: u32, new: &RankOps) -> Result<(), AllocError> {
+    let Some(old) = run.index.ops().get(rank as usize) else {
+        return Ok(());
+    };
     for (was, is) in old.sends().iter().zip(new.sends()) {
-        note(changes, was.trust, is.trust)?;
+        note(&mut run.changes, was.trust, is.trust)?;
     }
     for (was, is) in old.receives().iter().zip(new.receives()) {
-        note(changes, was.trust, is.trust)?;
+        note(&mut run.changes, was.trust, is.trust)?;
+        if was.ended != is.ended {
+            run.ends = run.ends.saturating_add(1);
+        }
     }
     Ok(())
 }
 
-/// Brings the index to what the rank did by now, at once or by taking all of its calls back first.
+/// Brings the index to what the rank did by now, and once more from nothing if it isn't `at_once`.
 fn follow(
     alloc: Global,
+    layout: &Layout,
+    know: &Knowledge,
     rank: u32,
-    ops: RankOps,
     at_once: bool,
     index: &mut PairIndex,
-) -> Result<(), Fail>
-    requires { IsOwn rank ops }
-{
+) -> Result<(), Fail> {
     if (rank as usize) >= index.ops().len() {
         return Ok(());
     }
     if at_once {
-        index.set(rank, ops)?;
+        ops_laws();
+        index.set(rank, ops_of(alloc, layout, know, rank)?)?;
         return Ok(());
     }
-    put_anew(alloc, rank, &ops, index)
+    put_twice(alloc, layout, know, rank, index)
 }
 
-/// What the steps work on, and the ways in which a trust changed.
+/// What the steps work on, the ways in which a trust changed, and how many ends of receives came or went.
 #[derive(Drop)]
 struct Run {
     layout: Layout,
     calls: Vec<Vec<Did>>,
     index: PairIndex,
     changes: Changes,
+    ends: usize,
 }
 
 /// Four ranks without calls.
@@ -151,6 +167,7 @@ fn begin(alloc: Global) -> Result<Run, Fail> {
         calls,
         index: PairIndex::new(alloc, 4)?,
         changes: Vec::new(alloc),
+        ends: 0,
     })
 }
 
@@ -161,12 +178,10 @@ fn step(alloc: Global, draw: &mut Draw, run: &mut Run) -> Result<(PairTable, boo
         change(draw, own)?;
     }
     let know = known(alloc, &run.calls)?;
-    ops_laws();
     let ops = ops_of(alloc, &run.layout, &know, rank)?;
-    if let Some(held) = run.index.ops().get(rank as usize) {
-        note_all(&mut run.changes, held, &ops)?;
-    }
-    follow(alloc, rank, ops, draw.below(2) == 0, &mut run.index)?;
+    note_all(run, rank, &ops)?;
+    let at_once = draw.below(2) == 0;
+    follow(alloc, &run.layout, &know, rank, at_once, &mut run.index)?;
     let whole = from_scratch(alloc, &run.layout, &know)?;
     let table = run.index.pairs()?;
     let is_same = whole.pairs() == table.pairs() && whole.postponed() == table.postponed();
@@ -182,6 +197,8 @@ struct Sums {
     differing: u32,
     /// The ways in which a trust changed.
     changes: usize,
+    /// How many ends of receives came or went.
+    ends: usize,
 }
 
 /// Takes so many steps.
@@ -203,6 +220,7 @@ fn steps(alloc: Global, count: u32) -> Result<Sums, Fail> {
         postponed,
         differing,
         changes: run.changes.len(),
+        ends: run.ends,
     })
 }
 
@@ -212,11 +230,12 @@ fn an_index_over_many_steps(rt: HostRuntime) -> Result<(), Fail> {
     assert!(rt; sums.differing == 0, "{} differ", sums.differing);
     // (and so much of each that the steps are worth something: a trust went each of the six ways)
     assert!(rt;
-        sums.pairs > 1200 && sums.postponed > 1200 && sums.changes == 6,
-        "{} pairs, {} postponed, {} changes",
+        sums.pairs > 1200 && sums.postponed > 1200 && sums.changes == 6 && sums.ends > 200,
+        "{} pairs, {} postponed, {} changes, {} ends",
         sums.pairs,
         sums.postponed,
-        sums.changes
+        sums.changes,
+        sums.ends
     );
     Ok(())
 }

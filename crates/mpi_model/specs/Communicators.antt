@@ -1,5 +1,5 @@
 -- Communicators and their groups (MPI 4.0, chapter 7).
-use Rattle.std.specs.Prelude.{◌≡◌, ℕ, ◌==◌, ◌||◌, Bool, false, List, [], ◌∷◌, Option, option_map, find, map, Vec}
+use Rattle.std.specs.Prelude.{◌≡◌, ℕ, ◌==◌, ◌||◌, Bool, false, List, [], ◌∷◌, Option, option_map, find, map, filter, Vec}
 use Rattle.std.specs.List.{list_any}
 use Rattle.std.specs.List.Sorted.{IsPermutation, IsNonDecreasingBy}
 use Rattle.std.specs.declared.alloc.Global.{Global}
@@ -24,6 +24,14 @@ ids gs = map (λ g. g.comm) gs
 -- the members of the communicator of this id
 abbrev pub members_of : List Communicator → ℕ → Option (List ℕ)
 members_of gs comm = option_map (λ g. g.members) (find (λ g. g.comm == comm) gs)
+
+-- the rank is a member
+abbrev pub has_member : ℕ → Communicator → Bool
+has_member rank g = list_any (λ r. r == rank) g.members
+
+-- the ids of those that hold the rank
+abbrev pub ids_with : ℕ → List Communicator → List ℕ
+ids_with rank gs = ids (filter (has_member rank) gs)
 
 -- two at different places of the list pass the test
 abbrev pub has_pair : {X : Type 0} → (X → X → Bool) → List X → Bool

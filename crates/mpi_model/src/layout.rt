@@ -2,12 +2,12 @@
 
 ghost use Rattle.std.specs.Prelude.{◌≡◌, ◌≢◌, ◌==◌, ◌<◌, ◌≤◌, IfOk, IfErr, IfSome, OnOk, Some, None, nat_lt, option_and_then, option_map, slice_get};
 ghost use Rattle.std.specs.List.{position_from};
-ghost use Rattle.mpi_model.specs.Communicators.{communicators, members_of};
+ghost use Rattle.mpi_model.specs.Communicators.{communicators, ids_with, members_of};
 ghost use Rattle.mpi_model.specs.Layouts.{Holds, IsGroup, IsLayout, fault_of, named};
 ghost use Rattle.mpi_model.specs.declared.layout.fault.LayoutFault.TheVariants.{Memory};
 
 use crate::envelope::CommRef;
-use crate::layout::comm::{Comm, comms_of, copies, in_order, members_in, place_of};
+use crate::layout::comm::{Comm, comms_of, copies, ids_with, in_order, members_in, place_of};
 use crate::layout::fault::LayoutFault;
 use crate::layout::names::{
     Name, names_copied, numbered_in, ordered_names, starts_copied, starts_of,
@@ -192,6 +192,14 @@ impl Layout {
         ensures { result ≡ option_and_then (position_from (λ r. r == rank) 0) (members_of self.now.comms comm) }
     {
         place_of(members_in(&self.comms, comm)?, rank)
+    }
+
+    /// The ids of the communicators that hold the rank, in rising order. It goes through the members
+    /// of all communicators.
+    pub fn comms_with(&self, alloc: Global, rank: u32) -> Result<Vec<u32>, AllocError>
+        ensures { IfOk result (λ v. v.items ≡ ids_with rank self.now.comms) }
+    {
+        ids_with(alloc, &self.comms, rank)
     }
 
     /// Tells the prover what holds of every layout. It does nothing.

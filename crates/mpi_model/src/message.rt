@@ -73,9 +73,11 @@ pub struct Receive {
     pub trust: Trust,
     /// The trace's number of the datatype.
     pub datatype: i64,
+    /// The call of its rank whose outcome completes it; `None` where no outcome that was read does.
+    pub ended: Option<u64>,
 }
 
-const _: () = prove!(size_of::<Message>() <= 64 && size_of::<Receive>() <= 64);
+const _: () = prove!(size_of::<Message>() <= 64 && size_of::<Receive>() <= 72);
 
 impl Receive {
     /// Whether it may take more than is known of it: its source is untold, or it is doubtful. A

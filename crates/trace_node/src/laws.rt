@@ -3,7 +3,7 @@
 ghost use Rattle.mpi_model.specs.Layouts.{Parts};
 ghost use Rattle.trace_know.specs.View.{View};
 ghost use Rattle.trace_ops.specs.RankOps.{all_ops};
-ghost use Rattle.trace_pair.specs.Certainty.{AreAllSettled, AreCertain, AreLegal, AreTheOnlyLegal};
+ghost use Rattle.trace_pair.specs.Certainty.{AreAllSettled, AreCertain, AreLegal, AreNoneAfter, AreTheOnlyLegal};
 ghost use Rattle.trace_node.specs.Answer.{AnswersAreOne, Answered, IsAnswer, StuckGoByShape};
 
 use trace_ops::ops_laws;
@@ -25,10 +25,12 @@ pub fn stuck_go_by_shape()
 
 /// The pairs of an answer are certain: each is a couple of every matching that MPI allows, however the ranks
 /// go on and their open receives are told, where no later Cancel names what is sure. Where no receive is open
-/// and no message doubtful they are such a matching, and the only one (MPI 4.0, 3.5).
+/// and no message doubtful no other is allowed (MPI 4.0, 3.5), and they are such a matching where also no
+/// message of a pair comes after its receive.
 pub fn answers_are_certain()
     ensures certain { (layout : Parts) (view : View) (a : Answered) → IsAnswer layout view a → AreCertain (all_ops layout view) a.pairs }
-    ensures legal { (layout : Parts) (view : View) (a : Answered) → IsAnswer layout view a → AreAllSettled (all_ops layout view) → AreLegal (all_ops layout view) a.pairs }
+    ensures legal { (layout : Parts) (view : View) (a : Answered) → IsAnswer layout view a → AreAllSettled (all_ops layout view)
+        → AreNoneAfter (all_ops layout view) a.pairs → AreLegal (all_ops layout view) a.pairs }
     ensures only { (layout : Parts) (view : View) (a : Answered) → IsAnswer layout view a → AreAllSettled (all_ops layout view) → AreTheOnlyLegal (all_ops layout view) a.pairs }
 {
     ops_laws();

@@ -18,6 +18,7 @@ use Rattle.mpi_model.specs.declared.told.Told.TheVariants.{Nothing}
 use Rattle.mpi_model.specs.Layouts.{Parts}
 use Rattle.mpi_model.specs.Tells.{is_cancelled}
 use Rattle.trace_ops.specs.Calls.{Entry, Numbered, calls_of, numbered}
+use Rattle.trace_ops.specs.Ended.{ended_by, ended_of_own, ended_of_post, is_completing}
 use Rattle.trace_ops.specs.Foreign.{Group, group_of, peer_rank}
 use Rattle.trace_ops.specs.Request.{post_of, completions, posted_by, completed_by, is_posted, touches}
 use Rattle.trace_ops.specs.Source.{told_in, told_by, told_of_own, told_of_post}
@@ -39,7 +40,7 @@ goes_on (e ∷ []) (f ∷ more) = inr (refl, refl, refl)
 goes_on (e ∷ f ∷ es) more = inl (refl, goes_on es more)
 
 -- one of these calls: it is the same, or had not returned
-abbrev Returns : Entry → Entry → Type 0
+abbrev pub Returns : Entry → Entry → Type 0
 Returns c d = (d ≡ c) ⊎ ((d.call ≡ c.call) × (c.outs ≡ None))
 
 -- ---- lists with an item for some of the calls
@@ -134,6 +135,39 @@ post_stays members c d old new (inl e) g =
 post_stays members c d old new (inr s) g =
     subst (λ (p : Option ℤ). Stays (told_of_post members old p) (told_of_post members new (posted_by d))) (sym (posts_none c s.1)) (untold (told_of_post members new (posted_by d)))
 
+-- ---- the calls that complete receives
+
+open_ends_none : (n : ℕ) (x : ℤ) (c : Entry) → c.outs ≡ None → ended_by n x (c ∷ []) ≡ None
+open_ends_none n x c k = rw (posts_none c k, ap (completions c.call) k ∙ complete_none c.call) refl
+
+end_stays : (n : ℕ) (x : ℤ) (old new : List Entry) → GoesOn old new → Stays (ended_by n x old) (ended_by n x new)
+end_stays n x [] new g = untold (ended_by n x new)
+end_stays n x (c ∷ cs) [] g = absurd g
+end_stays n x (c ∷ cs) (d ∷ ds) (inl s) =
+    subst (λ (e : Entry). Stays (ended_by n x (c ∷ cs)) (ended_by n x (e ∷ ds))) (sym s.0) (by (touches x c) (end_stays (n + 1) x cs ds s.1))
+  where
+    by : (b : Bool) → Stays (ended_by (n + 1) x cs) (ended_by (n + 1) x ds) →
+        Stays (if b then (if is_completing c then Some n else None) else ended_by (n + 1) x cs) (if b then (if is_completing c then Some n else None) else ended_by (n + 1) x ds)
+    by true t h = refl
+    by false t h = t h
+end_stays n x (c ∷ cs) (d ∷ ds) (inr s) =
+    subst (λ (o : Option ℕ). Stays o (ended_by n x (d ∷ ds)))
+    (sym (ap (λ (l : List Entry). ended_by n x (c ∷ l)) s.2 ∙ open_ends_none n x c s.1)) (untold (ended_by n x (d ∷ ds)))
+
+end_of_post_stays : (n : ℕ) (p : Option ℤ) (old new : List Entry) → GoesOn old new → Stays (ended_of_post n old p) (ended_of_post n new p)
+end_of_post_stays n None old new g = untold None
+end_of_post_stays n (Some x) old new g = end_stays n x old new g
+
+own_end_stays : (n : ℕ) (c d : Entry) → Returns c d → Stays (ended_of_own n c.outs) (ended_of_own n d.outs)
+own_end_stays n c d (inl e) = λ h. ap (λ (x : Entry). ended_of_own n x.outs) e
+own_end_stays n c d (inr s) = subst (λ (o : Option Outs). Stays (ended_of_own n o) (ended_of_own n d.outs)) (sym s.1) (untold (ended_of_own n d.outs))
+
+post_end_stays : (n : ℕ) (c d : Entry) (old new : List Entry) → Returns c d → GoesOn old new → Stays (ended_of_post n old (posted_by c)) (ended_of_post n new (posted_by d))
+post_end_stays n c d old new (inl e) g =
+    subst (λ (x : Entry). Stays (ended_of_post n old (posted_by c)) (ended_of_post n new (posted_by x))) (sym e) (end_of_post_stays n (posted_by c) old new g)
+post_end_stays n c d old new (inr s) g =
+    subst (λ (p : Option ℤ). Stays (ended_of_post n old p) (ended_of_post n new (posted_by d))) (sym (posts_none c s.1)) (untold (ended_of_post n new (posted_by d)))
+
 -- ---- what a Cancel leaves
 
 cancel_stays : (x : ℤ) (old new : List Entry) → GoesOn old new → has_cancel x old ≡ true → has_cancel x new ≡ true
@@ -208,7 +242,7 @@ module _ (g : Group) (rank n : ℕ) where
   sent_more call c d old new s = tt
 
 -- the call of an entry that goes on is the same
-same_call : (c d : Entry) → Returns c d → d.call ≡ c.call
+pub same_call : (c d : Entry) → Returns c d → d.call ≡ c.call
 same_call c d (inl e) = ap (λ (x : Entry). x.call) e
 same_call c d (inr s) = s.0
 
@@ -232,20 +266,20 @@ sends_more layout rank = all_more SameSend (message_of layout rank) (message_mor
 -- ---- receives
 
 module _ (g : Group) (rank n : ℕ) where
-  from_more : (e : Envelope) (old_trust new_trust : Trust) (old new : Option ℕ) (peer : Peer) → StaysVoid old_trust new_trust → Stays old new →
-      More TellsMore (taken_from g rank n e old_trust old peer) (taken_from g rank n e new_trust new peer)
-  from_more e old_trust new_trust old new Null v s = tt
-  from_more e old_trust new_trust old new Any v s = record { name = refl; comm = refl; at = refl; tag = refl; count = refl; datatype = refl; source = s; void = v }
-  from_more e old_trust new_trust old new (Rank p) v s = record { name = refl; comm = refl; at = refl; tag = refl; count = refl; datatype = refl; source = λ h. refl; void = v }
+  from_more : (e : Envelope) (old_trust new_trust : Trust) (old new old_end new_end : Option ℕ) (peer : Peer) → StaysVoid old_trust new_trust → Stays old new → Stays old_end new_end →
+      More TellsMore (taken_from g rank n e old_trust old old_end peer) (taken_from g rank n e new_trust new new_end peer)
+  from_more e old_trust new_trust old new old_end new_end Null v s t = tt
+  from_more e old_trust new_trust old new old_end new_end Any v s t = record { name = refl; comm = refl; at = refl; tag = refl; count = refl; datatype = refl; source = s; ended = t; void = v }
+  from_more e old_trust new_trust old new old_end new_end (Rank p) v s t = record { name = refl; comm = refl; at = refl; tag = refl; count = refl; datatype = refl; source = λ h. refl; ended = t; void = v }
 
   taken_more : (call : Call) (c d : Entry) (old new : List Entry) → Returns c d → GoesOn old new → More TellsMore (taken_by g rank n c old call) (taken_by g rank n d new call)
-  taken_more (Recv e) c d old new r h = from_more e Sure Sure (told_of_own g.members c.outs) (told_of_own g.members d.outs) e.peer sure_stays (own_stays g.members c d r)
-  taken_more (Sendrecv x) c d old new r h = from_more x.receive Sure Sure (told_of_own g.members c.outs) (told_of_own g.members d.outs) x.receive.peer sure_stays (own_stays g.members c d r)
+  taken_more (Recv e) c d old new r h = from_more e Sure Sure (told_of_own g.members c.outs) (told_of_own g.members d.outs) (ended_of_own n c.outs) (ended_of_own n d.outs) e.peer sure_stays (own_stays g.members c d r) (own_end_stays n c d r)
+  taken_more (Sendrecv x) c d old new r h = from_more x.receive Sure Sure (told_of_own g.members c.outs) (told_of_own g.members d.outs) (ended_of_own n c.outs) (ended_of_own n d.outs) x.receive.peer sure_stays (own_stays g.members c d r) (own_end_stays n c d r)
   taken_more (Irecv e) c d old new r h =
       from_more e (trust_of_receive g.members old (posted_by c)) (trust_of_receive g.members new (posted_by d))
-      (told_of_post g.members old (posted_by c)) (told_of_post g.members new (posted_by d)) e.peer
+      (told_of_post g.members old (posted_by c)) (told_of_post g.members new (posted_by d)) (ended_of_post (n + 1) old (posted_by c)) (ended_of_post (n + 1) new (posted_by d)) e.peer
       (trust_stays c d old new (is_some (told_of_post g.members old (posted_by c))) (is_some (told_of_post g.members new (posted_by d))) r h)
-      (post_stays g.members c d old new r h)
+      (post_stays g.members c d old new r h) (post_end_stays (n + 1) c d old new r h)
   taken_more call c d old new r h = tt
 
 receive_in_more : (g : Option Group) (rank n : ℕ) (c d : Entry) (old new : List Entry) → Returns c d → GoesOn old new →

@@ -10,7 +10,7 @@ use Rattle.mpi_model.specs.declared.envelope.Mode.TheVariants.{Standard}
 use Rattle.mpi_model.specs.declared.envelope.Peer.{Peer}
 use Rattle.mpi_model.specs.declared.envelope.Peer.TheVariants.{Any, Null, Rank}
 use Rattle.mpi_model.specs.declared.call.Call.{Call}
-use Rattle.mpi_model.specs.declared.call.Call.TheVariants.{Send, Isend, Sendrecv, Recv, Irecv}
+use Rattle.mpi_model.specs.declared.call.Call.TheVariants.{Send, Isend, Sendrecv, Recv, Irecv, Collective, Icollective}
 use Rattle.mpi_model.specs.declared.message.Message.{Message}
 use Rattle.mpi_model.specs.declared.message.Receive.{Receive}
 use Rattle.mpi_model.specs.declared.message.Trust.{Trust}
@@ -23,16 +23,19 @@ use Rattle.trace_know.specs.Prefix.{events_of, is_beyond}
 use Rattle.trace_ops.specs.Ops.{IsOwn, AreOwn}
 use Rattle.trace_ops.specs.RankOps.{ops_by, ops_of}
 use Rattle.trace_ops.specs.Calls.{Entry, Numbered, numbered, calls_of}
+use Rattle.trace_ops.specs.Ended.{ended_of_own, ended_of_post}
 use Rattle.trace_ops.specs.Foreign.{Group, group_of, peer_rank}
 use Rattle.trace_ops.specs.Request.{posted_by}
 use Rattle.trace_ops.specs.Source.{told_of_own, told_of_post}
 use Rattle.trace_ops.specs.Trust.{has_cancel, trust_of_send, trust_of_receive, cancelled_with, cancelled_post, cancelled_of}
 use Rattle.trace_ops.specs.Message.{message_in, message_of, message_to, sent_by, sends_of}
 use Rattle.trace_ops.specs.Receive.{receive_in, receive_of, receives_of, taken_by, taken_from}
-use Rattle.trace_ops.specs.Order.{Has, AreInOrder, ArePosted, AreCalledInOrder}
+use Rattle.trace_ops.specs.Order.{Has, AreInOrder, ArePosted, AreEntered, AreCalledInOrder}
+use Rattle.trace_ops.specs.Round.{entered_by, entered_in, entered_of, rounds_of}
+use Rattle.trace_ops.specs.declared.entered.Entered.{Entered}
 
 -- an operation, where there is one, is of the rank and of the call
-abbrev IsOf : {Y : Type 0} → (Y → ℕ) → (Y → ℕ) → (Y → ℕ) → ℕ → ℕ → Option Y → Type 0
+abbrev pub IsOf : {Y : Type 0} → (Y → ℕ) → (Y → ℕ) → (Y → ℕ) → ℕ → ℕ → Option Y → Type 0
 IsOf named_rank at call rank n None = Unit {0}
 IsOf named_rank at call rank n (Some y) = (named_rank y ≡ rank) × (at y ≡ rank) × (call y ≡ n)
 
@@ -65,7 +68,7 @@ module _ {Y : Type 0} (named_rank at call : Y → ℕ) (rank : ℕ) (f : Numbere
 -- ---- messages
 
 module _ (layout : Parts) (rank : ℕ) where
-  abbrev IsSent : ℕ → Option Message → Type 0
+  abbrev pub IsSent : ℕ → Option Message → Type 0
   IsSent n o = IsOf (λ m. m.name.rank) (λ m. m.from) (λ m. m.name.call) rank n o
 
   with_own : (g : Group) (n : ℕ) (mode : Mode) (e : Envelope) (trust : Trust) (to : Option ℕ) → IsSent n (option_map (message_to g rank n mode e trust) to)
@@ -100,15 +103,15 @@ module _ (layout : Parts) (rank : ℕ) where
   abbrev IsTaken : ℕ → Option Receive → Type 0
   IsTaken n o = IsOf (λ q. q.name.rank) (λ q. q.at) (λ q. q.name.call) rank n o
 
-  from_own : (g : Group) (n : ℕ) (e : Envelope) (trust : Trust) (told : Option ℕ) (peer : Peer) → IsTaken n (taken_from g rank n e trust told peer)
-  from_own g n e trust told Null = tt
-  from_own g n e trust told Any = (refl, refl, refl)
-  from_own g n e trust told (Rank p) = (refl, refl, refl)
+  from_own : (g : Group) (n : ℕ) (e : Envelope) (trust : Trust) (told ended : Option ℕ) (peer : Peer) → IsTaken n (taken_from g rank n e trust told ended peer)
+  from_own g n e trust told ended Null = tt
+  from_own g n e trust told ended Any = (refl, refl, refl)
+  from_own g n e trust told ended (Rank p) = (refl, refl, refl)
 
   taken_own : (g : Group) (n : ℕ) (c : Entry) (later : List Entry) (call : Call) → IsTaken n (taken_by g rank n c later call)
-  taken_own g n c later (Recv e) = from_own g n e Sure (told_of_own g.members c.outs) e.peer
-  taken_own g n c later (Sendrecv x) = from_own g n x.receive Sure (told_of_own g.members c.outs) x.receive.peer
-  taken_own g n c later (Irecv e) = from_own g n e (trust_of_receive g.members later (posted_by c)) (told_of_post g.members later (posted_by c)) e.peer
+  taken_own g n c later (Recv e) = from_own g n e Sure (told_of_own g.members c.outs) (ended_of_own n c.outs) e.peer
+  taken_own g n c later (Sendrecv x) = from_own g n x.receive Sure (told_of_own g.members c.outs) (ended_of_own n c.outs) x.receive.peer
+  taken_own g n c later (Irecv e) = from_own g n e (trust_of_receive g.members later (posted_by c)) (told_of_post g.members later (posted_by c)) (ended_of_post (n + 1) later (posted_by c)) e.peer
   taken_own g n c later call = tt
 
   pub receive_own : (k : Numbered) → IsTaken k.number (receive_of layout rank k)
@@ -127,6 +130,37 @@ module _ (layout : Parts) (rank : ℕ) where
 
   pub receives_rise : (n : ℕ) (calls : List Entry) → ArePosted (receives_of layout rank n calls)
   receives_rise n calls = are_posted (receives_of layout rank n calls) (sorted (λ q. q.name.rank) (λ q. q.at) (λ q. q.name.call) rank (receive_of layout rank) receive_own n calls)
+
+  -- ---- collective calls
+
+  abbrev IsEntered : ℕ → Option Entered → Type 0
+  IsEntered n o = IsOf (λ _. rank) (λ _. rank) (λ x. x.call) rank n o
+
+  entered_by_own : (g : Group) (n : ℕ) (call : Call) → IsEntered n (entered_by g n call)
+  entered_by_own g n (Collective e) = (refl, refl, refl)
+  entered_by_own g n (Icollective e) = (refl, refl, refl)
+  entered_by_own g n call = tt
+
+  entered_own : (k : Numbered) → IsEntered k.number (entered_of layout rank k.number k.entry.call)
+  entered_own k = by (group_of layout rank k.number k.entry.call)
+    where
+      by : (g : Option Group) → IsEntered k.number (entered_in g k.number k.entry.call)
+      by None = tt
+      by (Some g) = entered_by_own g k.number k.entry.call
+
+  pub entered_member : (n : ℕ) (calls : List Entry) (x : Entered) → Has (rounds_of layout rank n calls) x → n ≤ x.call
+  entered_member n calls x h = (member (λ _. rank) (λ _. rank) (λ x. x.call) rank (λ k. entered_of layout rank k.number k.entry.call) entered_own n calls x h).2
+
+  second : (a b : Bool) → (a && b) ≡ true → b ≡ true
+  second true b h = h
+  second false b h = cc
+
+  are_entered : (xs : List Entered) → Sorted (λ _. rank) (λ _. rank) (λ x. x.call) rank (λ k. entered_of layout rank k.number k.entry.call) entered_own xs → AreEntered xs
+  are_entered [] s = tt
+  are_entered (x ∷ xs) s = ((λ y h. second (rank == rank) (nat_lt x.call y.call) (s.0 y h)), are_entered xs s.1)
+
+  pub rounds_rise : (n : ℕ) (calls : List Entry) → AreEntered (rounds_of layout rank n calls)
+  rounds_rise n calls = are_entered (rounds_of layout rank n calls) (sorted (λ _. rank) (λ _. rank) (λ x. x.call) rank (λ k. entered_of layout rank k.number k.entry.call) entered_own n calls)
 
 -- ---- requests that a Cancel names
 
@@ -166,6 +200,7 @@ own_of layout rank beyond events = record {
   posted_at = λ q h. (taken_member layout rank 0 (calls_of events) q h).1;
   sends_rise = sends_rise layout rank 0 (calls_of events);
   receives_rise = receives_rise layout rank 0 (calls_of events);
+  rounds_rise = rounds_rise layout rank 0 (calls_of events);
   cancelled_by = λ a h. (cancelled_member rank 0 (calls_of events) a h).0;
   cancelled_rise = cancelled_rise rank 0 (calls_of events);
 }

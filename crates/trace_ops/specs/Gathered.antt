@@ -23,4 +23,4 @@ pub record IsGathered (layout : Parts) (rank : ℕ) (calls : List Entry) (n : �
   pub cancelled : reverse g.cancelled.items ≡ cancelled_of rank n (drop n calls)
   pub foreign : g.foreign ≡ foreign_of layout rank n (drop n calls)
   pub few : g.foreign + n ≤ length calls
-  pub touched : Follows calls (drop n calls) (get int_eq g.touched)
+  pub touched : Follows n calls (drop n calls) (get int_eq g.touched)

@@ -6,6 +6,7 @@ pub mod Groups
 pub mod Request
 pub mod Source
 pub mod Trust
+pub mod Ended
 pub mod Message
 pub mod Receive
 pub mod Round

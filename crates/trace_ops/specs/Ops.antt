@@ -1,5 +1,5 @@
 -- What a rank did, as plain lists, and how that goes on.
-use Rattle.std.specs.Prelude.{◌≡◌, ℕ, ℤ, ◌+◌, true, Option, None, is_some, List, [], ◌∷◌, length, take}
+use Rattle.std.specs.Prelude.{◌≡◌, ◌<◌, ℕ, ℤ, ◌+◌, true, Option, Some, None, is_some, List, [], ◌∷◌, length, take, drop}
 use Rattle.std.specs.List.{AllZip}
 use Rattle.mpi_model.specs.declared.call.Call.{Call}
 use Rattle.mpi_model.specs.declared.event.OpName.{OpName}
@@ -10,15 +10,16 @@ use Rattle.mpi_model.specs.Trusts.{is_sure, is_void}
 use Rattle.trace_ops.specs.declared.entered.Entered.{Entered}
 use Rattle.trace_ops.specs.declared.state.State.{State}
 use Rattle.trace_ops.specs.declared.state.State.TheVariants.{Free}
-use Rattle.trace_ops.specs.Order.{Has, AreInOrder, ArePosted, AreCalledInOrder}
+use Rattle.trace_ops.specs.Order.{Has, AreInOrder, ArePosted, AreEntered, AreCalledInOrder}
 
--- What a rank did: its messages, its receives, its entries into collective calls, its active requests with the calls
--- that posted them, the calls that posted the requests which a Cancel names, how it stands, the call in which it waits,
--- and how many foreign calls it entered.
+-- What a rank did: its messages, its receives, its entries into collective calls, the communicators that hold it, its
+-- active requests with the calls that posted them, the calls that posted the requests which a Cancel names, how it stands,
+-- the call in which it waits, and how many foreign calls it entered.
 pub record Ops : Type 0 where
   pub sends : List Message
   pub receives : List Receive
   pub rounds : List Entered
+  pub comms : List ℕ
   pub active : List (ℤ × ℕ)
   pub cancelled : List OpName
   pub state : State
@@ -27,10 +28,10 @@ pub record Ops : Type 0 where
 
 -- of a rank without calls
 abbrev pub no_ops : Ops
-no_ops = record { sends = []; receives = []; rounds = []; active = []; cancelled = []; state = Free; waiting = None; foreign = 0 }
+no_ops = record { sends = []; receives = []; rounds = []; comms = []; active = []; cancelled = []; state = Free; waiting = None; foreign = 0 }
 
--- The messages, the receives and the calls whose requests a Cancel names are of this rank, and stand in order of their
--- calls.
+-- The messages, the receives, the collective calls and the calls whose requests a Cancel names are of this rank, and stand
+-- in order of their calls.
 pub record IsOwn (rank : ℕ) (ops : Ops) : Type 0 where
   pub sent : (m : Message) → Has ops.sends m → m.name.rank ≡ rank
   pub sent_from : (m : Message) → Has ops.sends m → m.from ≡ rank
@@ -38,6 +39,7 @@ pub record IsOwn (rank : ℕ) (ops : Ops) : Type 0 where
   pub posted_at : (q : Receive) → Has ops.receives q → q.at ≡ rank
   pub sends_rise : AreInOrder ops.sends
   pub receives_rise : ArePosted ops.receives
+  pub rounds_rise : AreEntered ops.rounds
   pub cancelled_by : (a : OpName) → Has ops.cancelled a → a.rank ≡ rank
   pub cancelled_rise : AreCalledInOrder ops.cancelled
 
@@ -66,8 +68,8 @@ pub record SameSend (old new : Message) : Type 0 where
   pub datatype : new.datatype ≡ old.datatype
   pub void : StaysVoid old.trust new.trust
 
--- The same receive, of which more may be known by now: its source, a Cancel, or what became of that. A source that was
--- told stays.
+-- The same receive, of which more may be known by now: its source, the call that completes it, a Cancel, or what became of
+-- that. A source that was told stays, and the call that completed it.
 pub record TellsMore (old new : Receive) : Type 0 where
   pub name : new.name ≡ old.name
   pub comm : new.comm ≡ old.comm
@@ -76,12 +78,23 @@ pub record TellsMore (old new : Receive) : Type 0 where
   pub count : new.count ≡ old.count
   pub datatype : new.datatype ≡ old.datatype
   pub source : is_some old.source ≡ true → new.source ≡ old.source
+  pub ended : is_some old.ended ≡ true → new.ended ≡ old.ended
   pub void : StaysVoid old.trust new.trust
 
--- The rank goes on: the old messages and receives are the first of the new ones, of which more may be told.
+-- the collective calls that came since
+abbrev pub rounds_since : (old new : Ops) → List Entered
+rounds_since old new = drop (length old.rounds) new.rounds
+
+-- The rank goes on: the old messages and receives are the first of the new ones, of which more may be told, and the old
+-- collective calls are the first of the new ones. What comes is of later calls: no collective call comes to be entered
+-- before the call that completed a receive, or before a message.
 pub record Grows (old new : Ops) : Type 0 where
   pub sends : AllZip SameSend old.sends (take (length old.sends) new.sends)
   pub receives : AllZip TellsMore old.receives (take (length old.receives) new.receives)
+  pub rounds : take (length old.rounds) new.rounds ≡ old.rounds
+  pub comms : new.comms ≡ old.comms
+  pub behind_ends : (q : Receive) (e : ℕ) (x : Entered) → Has old.receives q → q.ended ≡ Some e → Has (rounds_since old new) x → e < x.call
+  pub behind_sends : (m : Message) (x : Entered) → Has old.sends m → Has (rounds_since old new) x → m.name.call < x.call
 
 -- No later Cancel names what is sure: of the messages and receives that there were, each sure one stays sure. It is the
 -- premise of what is promised of pairs, and no law of traces.

@@ -3,6 +3,7 @@ use Rattle.std.specs.Prelude.{◌≡◌, Bool, true, ◌&&◌, ◌==◌, nat_lt,
 use Rattle.mpi_model.specs.declared.event.OpName.{OpName}
 use Rattle.mpi_model.specs.declared.message.Message.{Message}
 use Rattle.mpi_model.specs.declared.message.Receive.{Receive}
+use Rattle.trace_ops.specs.declared.entered.Entered.{Entered}
 
 -- is an element, by cases
 abbrev pub Has : {X : Type 0} → List X → X → Type 0
@@ -35,3 +36,8 @@ called_before a b = (a.rank == b.rank) && nat_lt a.call b.call
 abbrev pub AreCalledInOrder : List OpName → Type 0
 AreCalledInOrder [] = Unit {0}
 AreCalledInOrder (a ∷ names) = ((b : OpName) → Has names b → called_before a b ≡ true) × AreCalledInOrder names
+
+-- each collective call is entered before those that follow
+abbrev pub AreEntered : List Entered → Type 0
+AreEntered [] = Unit {0}
+AreEntered (x ∷ xs) = ((y : Entered) → Has xs y → nat_lt x.call y.call ≡ true) × AreEntered xs

@@ -2,6 +2,7 @@
 use Rattle.std.specs.Prelude.{ℕ, Bool, List, map, filter, length}
 use Rattle.std.specs.List.{range_with_len}
 use Rattle.mpi_model.specs.declared.event.Event.{Event}
+use Rattle.mpi_model.specs.Communicators.{ids_with}
 use Rattle.mpi_model.specs.Layouts.{Parts}
 use Rattle.trace_know.specs.View.{View}
 use Rattle.trace_know.specs.Prefix.{events_of, is_beyond}
@@ -25,6 +26,7 @@ ops_by_calls layout rank beyond calls = record {
   sends = sends_of layout rank 0 calls;
   receives = receives_of layout rank 0 calls;
   rounds = rounds_of layout rank 0 calls;
+  comms = ids_with rank layout.comms;
   active = active_of 0 calls;
   cancelled = cancelled_of rank 0 calls;
   state = state_of layout rank beyond calls;

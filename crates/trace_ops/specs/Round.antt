@@ -1,8 +1,10 @@
 -- The entries of a rank into collective calls (MPI 4.0, 6.1, 6.12 and 6.14).
-use Rattle.std.specs.Prelude.{ℕ, Bool, true, false, Option, Some, None, List}
+use Rattle.std.specs.Prelude.{ℕ, Bool, true, false, ◌&&◌, not, Option, Some, None, List}
 use Rattle.std.specs.List.{filter_map}
 use Rattle.mpi_model.specs.declared.call.Call.{Call}
 use Rattle.mpi_model.specs.declared.call.Call.TheVariants.{Collective, Icollective}
+use Rattle.mpi_model.specs.declared.kind.Kind.{Kind}
+use Rattle.mpi_model.specs.declared.kind.Kind.TheVariants.{Barrier}
 use Rattle.mpi_model.specs.Ranges.{CollectiveCall}
 use Rattle.mpi_model.specs.Layouts.{Parts}
 use Rattle.trace_ops.specs.declared.entered.Entered.{Entered}
@@ -31,3 +33,12 @@ entered_of layout rank n call = entered_in (group_of layout rank n call) n call
 -- the entries of a rank's collective calls, in their order
 abbrev pub rounds_of : Parts → ℕ → ℕ → List Entry → List Entered
 rounds_of layout rank n calls = filter_map (λ c. entered_of layout rank c.number c.entry.call) (numbered n calls)
+
+-- the kind of a Barrier
+abbrev pub is_barrier_kind : Kind → Bool
+is_barrier_kind Barrier = true
+is_barrier_kind kind = false
+
+-- A Barrier, which no member leaves before all have entered it (MPI 4.0, 6.3). An Ibarrier may return at once (6.12.1).
+abbrev pub is_barrier : Entered → Bool
+is_barrier x = is_barrier_kind x.function.kind && not x.function.nonblocking

@@ -10,6 +10,7 @@ use Rattle.trace_ops.specs.declared.completed.Completed.{Completed}
 use Rattle.trace_ops.specs.declared.touched.End.{End}
 use Rattle.trace_ops.specs.declared.touched.Touch.{Touch}
 use Rattle.trace_ops.specs.Calls.{Entry}
+use Rattle.trace_ops.specs.Ended.{ended_by, is_completing}
 use Rattle.trace_ops.specs.Request.{completed_by, touches}
 use Rattle.trace_ops.specs.Source.{told_in, told_by}
 use Rattle.trace_ops.specs.Trust.{has_cancel, said_by}
@@ -69,9 +70,21 @@ abbrev pub tellings_of : List Entry → Option End → List Completed
 tellings_of calls None = []
 tellings_of calls (Some e) = drop e.place (completed_at (slice_get calls e.call))
 
+-- the number of a call, where that completes the requests that it touches
+abbrev pub completing : ℕ → Option Entry → Option ℕ
+completing n None = None
+completing n (Some c) = if is_completing c then Some n else None
+
+-- the call whose outcome completes a request that this call ends
+abbrev pub ended_at : List Entry → Option End → Option ℕ
+ended_at calls None = None
+ended_at calls (Some e) = completing e.call (slice_get calls e.call)
+
 -- Of each number it is kept which later call touches it first, with what that tells, and whether a Cancel names it before.
-pub record Follows (calls later : List Entry) (kept : ℤ → Option Touch) : Type 0 where
+-- The later calls are numbered from `next`.
+pub record Follows (next : ℕ) (calls later : List Entry) (kept : ℤ → Option Touch) : Type 0 where
   pub ended : (x : ℤ) → is_some (end_of (kept x)) ≡ list_any (touches x) later
+  pub by : (x : ℤ) → ended_at calls (end_of (kept x)) ≡ ended_by next x later
   pub cancelled : (x : ℤ) → is_marked (kept x) ≡ has_cancel x later
   pub void : (x : ℤ) → is_void_end (end_of (kept x)) ≡ is_cancelled (said_by x later)
   pub told : (members : List ℕ) (x : ℤ) → told_in members x (tellings_of calls (end_of (kept x))) ≡ told_by members x later

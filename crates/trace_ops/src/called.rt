@@ -5,6 +5,7 @@ ghost use Rattle.std.specs.Option.{option_and_then, option_copied, option_map};
 ghost use Rattle.mpi_model.specs.declared.call.Call.TheVariants.{Local};
 ghost use Rattle.trace_ops.specs.Calls.{call_of, calls_of, outs_of};
 ghost use Rattle.trace_ops.specs.Request.{completed_by, posted_by};
+ghost use Rattle.trace_ops.specs.Ended.{is_completing};
 ghost use Rattle.trace_ops.specs.Trust.{cancel_of};
 
 use crate::completed::{Completed, completions, post_of};
@@ -73,6 +74,13 @@ impl<'a> Called<'a> {
             Call::Cancel(request) => Some(*request),
             _ => None,
         }
+    }
+
+    /// Whether its outcome completes the requests that it touches: it posts none, and frees none.
+    pub fn is_completing(&self) -> bool
+        ensures { result ≡ is_completing self.now }
+    {
+        self.posted().is_none() && !matches!(self.call, Call::Free(_))
     }
 
     /// The requests that it completed.

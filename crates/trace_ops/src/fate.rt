@@ -1,13 +1,14 @@
 //! What becomes of a request, by the calls behind the one that posted it.
 
-ghost use Rattle.std.specs.Prelude.{◌≡◌, ℤ, Option, List, drop, slice_get};
+ghost use Rattle.std.specs.Prelude.{◌≡◌, ℕ, ℤ, Option, List, drop, slice_get};
 ghost use Rattle.indexmap.specs.IndexMap.{get};
 ghost use Rattle.std.specs.Ordering.{int_eq};
 ghost use Rattle.trace_ops.specs.Calls.{Entry};
+ghost use Rattle.trace_ops.specs.Ended.{ended_of_post};
 ghost use Rattle.trace_ops.specs.Fate.{IsFateOf, TellsFate};
 ghost use Rattle.trace_ops.specs.Request.{posted_by};
 ghost use Rattle.trace_ops.specs.Source.{source_in, told_at, told_in, told_of_post};
-ghost use Rattle.trace_ops.specs.Touched.{Follows, completed_at, is_marked, is_void_end, tellings_of};
+ghost use Rattle.trace_ops.specs.Touched.{Follows, completed_at, ended_at, is_marked, is_void_end, tellings_of};
 
 use crate::called::Called;
 use crate::completed::Completed;
@@ -19,6 +20,8 @@ pub(crate) struct Fate<'a> {
     pub request: i64,
     /// Whether one of them completes it, frees it or posts its number anew.
     pub ended: bool,
+    /// The call whose outcome completes it.
+    pub by: Option<u64>,
     /// Whether a Cancel names it before that.
     pub cancelled: bool,
     /// Whether its outcome says that it was cancelled.
@@ -110,15 +113,28 @@ fn tellings_of<'a>(calls: &'a [Called<'_>], end: Option<End>) -> &'a [Completed]
     }
 }
 
+/// The call whose outcome completes a request, where the call that ends it has one.
+fn ended_at(calls: &[Called<'_>], end: Option<End>) -> Option<u64>
+    ensures { result ≡ ended_at calls.now end }
+{
+    let end = end?;
+    if end.call < calls.len() && calls[end.call].is_completing() {
+        Some(end.call as u64)
+    } else {
+        None
+    }
+}
+
 /// What becomes of the request of this number, where `touched` follows the calls behind its post.
 fn fate_by<'a>(touched: &Touched, calls: &'a [Called<'_>], request: i64) -> Fate<'a>
-    ensures { (later : List Entry) → Follows calls.now later (get int_eq touched.now) → TellsFate request later result }
+    ensures { (next : ℕ) (later : List Entry) → Follows next calls.now later (get int_eq touched.now) → TellsFate next request later result }
 {
     let touch = touch_of(touched, request);
     let end = end_of(touch);
     Fate {
         request,
         ended: end.is_some(),
+        by: ended_at(calls, end),
         cancelled: is_marked(touch),
         void: is_void_end(end),
         tellings: tellings_of(calls, end),
@@ -131,7 +147,7 @@ pub(crate) fn fate_of<'a>(
     calls: &'a [Called<'_>],
     called: &Called<'_>,
 ) -> Option<Fate<'a>>
-    ensures { (later : List Entry) → Follows calls.now later (get int_eq touched.now) → IsFateOf (posted_by called.now) later result }
+    ensures { (next : ℕ) (later : List Entry) → Follows next calls.now later (get int_eq touched.now) → IsFateOf next (posted_by called.now) later result }
 {
     let request = called.posted()?;
     Some(fate_by(touched, calls, request))
@@ -139,8 +155,15 @@ pub(crate) fn fate_of<'a>(
 
 /// What is told of the source of an Irecv, by the fate of its request.
 pub(crate) fn told_of_post(members: &[u32], fate: Option<Fate<'_>>) -> Option<u32>
-    ensures { (later : List Entry) (posted : Option ℤ) → IsFateOf posted later fate.entry → result ≡ told_of_post members.now later posted }
+    ensures { (next : ℕ) (later : List Entry) (posted : Option ℤ) → IsFateOf next posted later fate.entry → result ≡ told_of_post members.now later posted }
 {
     let fate = fate?;
     told_in(members, fate.request, fate.tellings)
+}
+
+/// The call whose outcome completes an Irecv, by the fate of its request.
+pub(crate) fn ended_of_post(fate: Option<Fate<'_>>) -> Option<u64>
+    ensures { (next : ℕ) (later : List Entry) (posted : Option ℤ) → IsFateOf next posted later fate.entry → result ≡ ended_of_post next later posted }
+{
+    fate?.by
 }

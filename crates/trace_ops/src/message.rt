@@ -1,6 +1,6 @@
 //! The messages of a rank, and its entries into collective calls.
 
-ghost use Rattle.std.specs.Prelude.{◌≡◌, List};
+ghost use Rattle.std.specs.Prelude.{◌≡◌, ℕ, List};
 ghost use Rattle.std.specs.Option.{option_map};
 ghost use Rattle.trace_ops.specs.Calls.{Entry};
 ghost use Rattle.trace_ops.specs.Fate.{IsFateOf};
@@ -75,7 +75,7 @@ fn sent_by(
     called: &Called<'_>,
     fate: Option<Fate<'_>>,
 ) -> Option<Message>
-    ensures { (later : List Entry) → IsFateOf (posted_by called.now) later fate.entry → result ≡ sent_by (plain group.entry) rank n called.now later called.now.call }
+    ensures { (next : ℕ) (later : List Entry) → IsFateOf next (posted_by called.now) later fate.entry → result ≡ sent_by (plain group.entry) rank n called.now later called.now.call }
 {
     match called.call() {
         Call::Send(mode, e) => sent_with(group, rank, n, *mode, e.envelope(), Trust::Sure),
@@ -99,7 +99,7 @@ pub(crate) fn message_in(
     called: &Called<'_>,
     fate: Option<Fate<'_>>,
 ) -> Option<Message>
-    ensures { (later : List Entry) → IsFateOf (posted_by called.now) later fate.entry → result ≡ message_in (option_map plain group.entry) rank (record { number = n; entry = called.now; later = later }) }
+    ensures { (next : ℕ) (later : List Entry) → IsFateOf next (posted_by called.now) later fate.entry → result ≡ message_in (option_map plain group.entry) rank (record { number = n; entry = called.now; later = later }) }
 {
     sent_by(group?, rank, n, called, fate)
 }

@@ -19,6 +19,7 @@ pub struct RankOps {
     sends: Vec<Message>,
     receives: Vec<Receive>,
     rounds: Vec<Entered>,
+    comms: Vec<u32>,
     active: Vec<(i64, u64)>,
     cancelled: Vec<OpName>,
     state: State,
@@ -31,7 +32,7 @@ impl Model for RankOps {
 
     ghost Value = { Ops };
 
-    ghost view = { λ o. record { sends = o.sends.items; receives = o.receives.items; rounds = o.rounds.items; active = o.active.items; cancelled = o.cancelled.items; state = o.state; waiting = o.waiting; foreign = o.foreign } };
+    ghost view = { λ o. record { sends = o.sends.items; receives = o.receives.items; rounds = o.rounds.items; comms = o.comms.items; active = o.active.items; cancelled = o.cancelled.items; state = o.state; waiting = o.waiting; foreign = o.foreign } };
 }
 
 impl RankOps {
@@ -43,6 +44,7 @@ impl RankOps {
             sends: Vec::new(alloc),
             receives: Vec::new(alloc),
             rounds: Vec::new(alloc),
+            comms: Vec::new(alloc),
             active: Vec::new(alloc),
             cancelled: Vec::new(alloc),
             state: State::Free,
@@ -72,6 +74,13 @@ impl RankOps {
         ensures { result.now ≡ self.now.rounds }
     {
         &self.rounds
+    }
+
+    /// The communicators of the layout that hold the rank, in rising order.
+    pub fn comms(&self) -> &[u32]
+        ensures { result.now ≡ self.now.comms }
+    {
+        &self.comms
     }
 
     /// The active requests at the end of the rank's readable events, each with the number of the
@@ -124,6 +133,7 @@ impl RankOps {
             sends: self.sends.clone()?,
             receives: self.receives.clone()?,
             rounds: self.rounds.clone()?,
+            comms: self.comms.clone()?,
             active: self.active.clone()?,
             cancelled: self.cancelled.clone()?,
             state: self.state,

@@ -1,8 +1,9 @@
 //! The receives of a rank, with their told sources, its active requests, and what a probe looks for.
 
-ghost use Rattle.std.specs.Prelude.{◌≡◌, List};
+ghost use Rattle.std.specs.Prelude.{◌≡◌, ◌+◌, ℕ, List};
 ghost use Rattle.std.specs.Option.{option_copied, option_map};
 ghost use Rattle.trace_ops.specs.Calls.{Entry};
+ghost use Rattle.trace_ops.specs.Ended.{ended_of_own};
 ghost use Rattle.trace_ops.specs.Fate.{IsFateOf};
 ghost use Rattle.trace_ops.specs.Groups.{plain};
 ghost use Rattle.trace_ops.specs.Receive.{probed, receive_from, receive_in, taken_by, taken_with};
@@ -10,7 +11,7 @@ ghost use Rattle.trace_ops.specs.Request.{active_post, posted_by};
 ghost use Rattle.trace_ops.specs.Source.{told_of_own};
 
 use crate::called::Called;
-use crate::fate::{Fate, source_in, told_of_post};
+use crate::fate::{Fate, ended_of_post, source_in, told_of_post};
 use crate::group::{Group, group_named};
 use crate::trust::trust_of_post;
 use mpi_model::{Call, Envelope, Layout, OpName, Outs, Peer, ProbeEnvelope, Receive, Trust};
@@ -23,8 +24,9 @@ fn receive_from(
     e: Envelope,
     trust: Trust,
     source: Option<u32>,
+    ended: Option<u64>,
 ) -> Receive
-    ensures { result ≡ receive_from (plain group.entry) rank n e trust source }
+    ensures { result ≡ receive_from (plain group.entry) rank n e trust source ended }
 {
     Receive {
         name: OpName { rank, call: n },
@@ -35,6 +37,7 @@ fn receive_from(
         count: e.count,
         trust,
         datatype: e.datatype,
+        ended,
     }
 }
 
@@ -46,15 +49,16 @@ fn taken_with(
     e: Envelope,
     trust: Trust,
     told: Option<u32>,
+    ended: Option<u64>,
 ) -> Option<Receive>
-    ensures { result ≡ taken_with (plain group.entry) rank n e trust told }
+    ensures { result ≡ taken_with (plain group.entry) rank n e trust told ended }
 {
     match e.peer {
         Peer::Null => None,
-        Peer::Any => Some(receive_from(group, rank, n, e, trust, told)),
+        Peer::Any => Some(receive_from(group, rank, n, e, trust, told, ended)),
         Peer::Rank(p) => {
             let source = group.members.get(p as usize).copied();
-            Some(receive_from(group, rank, n, e, trust, source))
+            Some(receive_from(group, rank, n, e, trust, source, ended))
         }
     }
 }
@@ -73,7 +77,7 @@ pub fn probed(layout: &Layout, rank: u32, n: u64, envelope: ProbeEnvelope) -> Op
         datatype: 0,
     };
     let group = group_named(layout, rank, n, asked.comm)?;
-    taken_with(group, rank, n, asked, Trust::Sure, None)
+    taken_with(group, rank, n, asked, Trust::Sure, None, None)
 }
 
 /// What the outcome of a Recv or Sendrecv tells.
@@ -86,6 +90,16 @@ fn told_of_own(members: &[u32], outs: Option<&Outs>) -> Option<u32>
     }
 }
 
+/// The own call of a Recv or Sendrecv that has returned.
+fn ended_of_own(n: u64, outs: Option<&Outs>) -> Option<u64>
+    ensures { result ≡ ended_of_own n (option_copied outs.entry) }
+{
+    match outs {
+        Some(_) => Some(n),
+        None => None,
+    }
+}
+
 /// The receive as which a call looks for a message in its group, where it does.
 fn taken_by(
     group: Group<'_>,
@@ -94,21 +108,24 @@ fn taken_by(
     called: &Called<'_>,
     fate: Option<Fate<'_>>,
 ) -> Option<Receive>
-    ensures { (later : List Entry) → IsFateOf (posted_by called.now) later fate.entry → result ≡ taken_by (plain group.entry) rank n called.now later called.now.call }
+    ensures { (later : List Entry) → IsFateOf (n + 1) (posted_by called.now) later fate.entry → result ≡ taken_by (plain group.entry) rank n called.now later called.now.call }
 {
     match called.call() {
         Call::Recv(e) => {
             let told = told_of_own(group.members, called.outs());
-            taken_with(group, rank, n, e.envelope(), Trust::Sure, told)
+            let ended = ended_of_own(n, called.outs());
+            taken_with(group, rank, n, e.envelope(), Trust::Sure, told, ended)
         }
         Call::Sendrecv(both) => {
             let told = told_of_own(group.members, called.outs());
-            taken_with(group, rank, n, both.receive(), Trust::Sure, told)
+            let ended = ended_of_own(n, called.outs());
+            taken_with(group, rank, n, both.receive(), Trust::Sure, told, ended)
         }
         Call::Irecv(e) => {
             let told = told_of_post(group.members, fate);
             let trust = trust_of_post(fate, told.is_some());
-            taken_with(group, rank, n, e.envelope(), trust, told)
+            let ended = ended_of_post(fate);
+            taken_with(group, rank, n, e.envelope(), trust, told, ended)
         }
         _ => None,
     }
@@ -122,14 +139,14 @@ pub(crate) fn receive_in(
     called: &Called<'_>,
     fate: Option<Fate<'_>>,
 ) -> Option<Receive>
-    ensures { (later : List Entry) → IsFateOf (posted_by called.now) later fate.entry → result ≡ receive_in (option_map plain group.entry) rank (record { number = n; entry = called.now; later = later }) }
+    ensures { (later : List Entry) → IsFateOf (n + 1) (posted_by called.now) later fate.entry → result ≡ receive_in (option_map plain group.entry) rank (record { number = n; entry = called.now; later = later }) }
 {
     taken_by(group?, rank, n, called, fate)
 }
 
 /// The request that call `n` posts, where no call behind it touches its number.
 pub(crate) fn active_post(n: u64, fate: Option<Fate<'_>>) -> Option<(i64, u64)>
-    ensures { (entry : Entry) (later : List Entry) → IsFateOf (posted_by entry) later fate.entry → result ≡ active_post (record { number = n; entry = entry; later = later }) }
+    ensures { (next : ℕ) (entry : Entry) (later : List Entry) → IsFateOf next (posted_by entry) later fate.entry → result ≡ active_post (record { number = n; entry = entry; later = later }) }
 {
     let fate = fate?;
     if fate.ended {

@@ -152,7 +152,7 @@ fn note_cancel(touched: &mut Touched, request: i64) -> Result<(), AllocError>
 /// Goes one call on to the front.
 pub(crate) fn note(touched: &mut Touched, calls: &[Called<'_>], n: usize) -> Result<(), AllocError>
     requires { n < length calls.now }
-    ensures { OnOk result (Follows calls.now (drop (n + 1) calls.now) (get int_eq touched.old) → Follows calls.now (drop n calls.now) (get int_eq touched.new)) }
+    ensures { OnOk result (Follows (n + 1) calls.now (drop (n + 1) calls.now) (get int_eq touched.old) → Follows n calls.now (drop n calls.now) (get int_eq touched.new)) }
 {
     let called = &calls[n];
     match (called.cancels(), called.posted()) {

@@ -1,6 +1,6 @@
 //! What a Cancel leaves of messages and receives, and which requests a Cancel names.
 
-ghost use Rattle.std.specs.Prelude.{◌≡◌, ℤ, Option, List};
+ghost use Rattle.std.specs.Prelude.{◌≡◌, ℕ, ℤ, Option, List};
 ghost use Rattle.trace_ops.specs.Calls.{Entry};
 ghost use Rattle.trace_ops.specs.Fate.{IsFateOf};
 ghost use Rattle.trace_ops.specs.Request.{posted_by};
@@ -23,7 +23,7 @@ fn trust_with(cancelled: bool, void: bool, told: bool) -> Trust
 
 /// The trust of what a call posted, by the fate of its request and whether a source is told.
 pub(crate) fn trust_of_post(fate: Option<Fate<'_>>, told: bool) -> Trust
-    ensures { (later : List Entry) (posted : Option ℤ) → IsFateOf posted later fate.entry → result ≡ trust_of_post later posted told }
+    ensures { (next : ℕ) (later : List Entry) (posted : Option ℤ) → IsFateOf next posted later fate.entry → result ≡ trust_of_post later posted told }
 {
     match fate {
         Some(fate) => trust_with(fate.cancelled, fate.void, told),
@@ -33,7 +33,7 @@ pub(crate) fn trust_of_post(fate: Option<Fate<'_>>, told: bool) -> Trust
 
 /// The name of the call, where a Cancel names the request that it posted.
 pub(crate) fn cancelled_post(rank: u32, n: u64, fate: Option<Fate<'_>>) -> Option<OpName>
-    ensures { (entry : Entry) (later : List Entry) → IsFateOf (posted_by entry) later fate.entry → result ≡ cancelled_post rank (record { number = n; entry = entry; later = later }) }
+    ensures { (next : ℕ) (entry : Entry) (later : List Entry) → IsFateOf next (posted_by entry) later fate.entry → result ≡ cancelled_post rank (record { number = n; entry = entry; later = later }) }
 {
     if fate?.cancelled {
         Some(OpName { rank, call: n })

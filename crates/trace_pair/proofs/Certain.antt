@@ -13,7 +13,7 @@ use Rattle.trace_ops.specs.Order.{sent_before, posted_before, Has}
 use Rattle.trace_pair.specs.Matching.{IsLegal, Continues, SomeOf}
 use Rattle.trace_pair.specs.Places.{sent_at, posted_at}
 use Rattle.trace_pair.specs.Calls.{AreApart, ArePostedApart}
-use Rattle.trace_pair.specs.Pairing.{paired, Paired}
+use Rattle.trace_pair.specs.Pairing.{After, paired, Paired}
 use Rattle.mpi_model.specs.Trusts.{is_doubtful, is_open, is_settled}
 use Rattle.trace_pair.proofs.Fitting.{fit_parts, fits_before, fits_after, open_or_settled, settled_from, settled_parts, stands_sure, sure_not_doubtful, one_sender, fits_source, fits_at}
 use Rattle.trace_pair.proofs.Obeyed.{any_found, any_of, both, and_true, before_lt, posted_lt, pair_obeys, obeys_paired}
@@ -29,26 +29,26 @@ pub one_call : (a b : OpName) → a ≡ b → a.call ≡ b.call
 one_call a b e = ap (λ (o : OpName). o.call) e
 
 -- a message has one receive, since an earlier one would want an earlier message
-no_two : (k : ℕ) (ms : List Message) (qs : List Receive) (m : Message) (q r : Receive) → m.name.call < k → Has ms m → Has qs q → Has qs r → posted_before r q ≡ true → Paired ms qs m q → Paired ms qs m r → ⊥
-no_two zero ms qs m q r lt i j j' b h g = absurd (omega arith)
-no_two (suc k) ms qs m q r lt i j j' b h g =
-    let o = pair_obeys ms qs m q h in
-    let p = pair_obeys ms qs m r g in
+no_two : (k : ℕ) (after : After) (ms : List Message) (qs : List Receive) (m : Message) (q r : Receive) → m.name.call < k → Has ms m → Has qs q → Has qs r → posted_before r q ≡ true → Paired after ms qs m q → Paired after ms qs m r → ⊥
+no_two zero after ms qs m q r lt i j j' b h g = absurd (omega arith)
+no_two (suc k) after ms qs m q r lt i j j' b h g =
+    let o = pair_obeys after ms qs m q h in
+    let p = pair_obeys after ms qs m r g in
     let n = o.receives r j' (settled_from r p.told p.sure_receive) b p.fit in
-    let f = (pair_obeys ms qs n.0 r n.3).fit in
+    let f = (pair_obeys after ms qs n.0 r n.3).fit in
     let w = p.messages n.0 n.1 n.2 f in
     let x = before_lt m n.0 n.2 in
-    no_two k ms qs n.0 r w.0 (omega arith) n.1 j' w.1 w.2 n.3 w.3
+    no_two k after ms qs n.0 r w.0 (omega arith) n.1 j' w.1 w.2 n.3 w.3
 
-pub one_receive : (ms : List Message) (qs : List Receive) (m : Message) (q r : Receive) → Has ms m → Has qs q → Has qs r → posted_before r q ≡ true → Paired ms qs m q → Paired ms qs m r → ⊥
-one_receive ms qs m q r i j j' b h g = no_two (suc m.name.call) ms qs m q r (omega arith) i j j' b h g
+pub one_receive : (after : After) (ms : List Message) (qs : List Receive) (m : Message) (q r : Receive) → Has ms m → Has qs q → Has qs r → posted_before r q ≡ true → Paired after ms qs m q → Paired after ms qs m r → ⊥
+one_receive after ms qs m q r i j j' b h g = no_two (suc m.name.call) after ms qs m q r (omega arith) i j j' b h g
 
-pub one_message : (ms : List Message) (qs : List Receive) (m n : Message) (q : Receive) → Has ms m → Has ms n → Has qs q → sent_before n m ≡ true → Paired ms qs m q → Paired ms qs n q → ⊥
-one_message ms qs m n q i i' j b h g =
-    let o = pair_obeys ms qs m q h in
-    let p = pair_obeys ms qs n q g in
+pub one_message : (after : After) (ms : List Message) (qs : List Receive) (m n : Message) (q : Receive) → Has ms m → Has ms n → Has qs q → sent_before n m ≡ true → Paired after ms qs m q → Paired after ms qs n q → ⊥
+one_message after ms qs m n q i i' j b h g =
+    let o = pair_obeys after ms qs m q h in
+    let p = pair_obeys after ms qs n q g in
     let w = o.messages n i' b p.fit in
-    one_receive ms qs n q w.0 i' j w.1 w.2 g w.3
+    one_receive after ms qs n q w.0 i' j w.1 w.2 g w.3
 
 pub same_name : (a b : OpName) → a.rank ≡ b.rank → a.call ≡ b.call → a ≡ b
 same_name a b h g = let f : ℕ → ℕ → OpName = λ r c. record { rank = r; call = c } in ap (λ r. f r a.call) h ∙ ap (λ c. f b.rank c) g
@@ -71,17 +71,17 @@ sent_names r q p w e f h =
     subst (λ (x : OpName). (eqb p.from x.rank && ltb p.name.call x.call) ≡ true) f
     (subst (λ (x : OpName). (eqb x.rank q.from && ltb x.call q.name.call) ≡ true) e h)
 
-module _ (ms : List Message) (qs : List Receive) (more_ms : List Message) (more_qs : List Receive) (goes : Continues ms qs more_ms more_qs) (L : OpName → OpName → Bool) (legal : IsLegal more_ms more_qs (λ m q. L m.name q.name ≡ true)) where
+module _ (after : After) (ms : List Message) (qs : List Receive) (more_after : After) (more_ms : List Message) (more_qs : List Receive) (goes : Continues after ms qs more_after more_ms more_qs) (L : OpName → OpName → Bool) (legal : IsLegal more_after more_ms more_qs (λ m q. L m.name q.name ≡ true)) where
   same_call : (a b c d : OpName) → b ≡ a → b ≡ c → c ≡ d → a.call ≡ d.call
   same_call a b c d e f g = one_call a d (sym e ∙ f ∙ g)
 
   renamed : (a b c d : OpName) → b ≡ a → d ≡ c → L a c ≡ true → L b d ≡ true
   renamed a b c d e f h = subst (λ (x : OpName). L b x ≡ true) (sym f) (subst (λ (x : OpName). L x c ≡ true) (sym e) h)
 
-  certain_below : (k : ℕ) (m : Message) (q : Receive) → m.name.call + q.name.call < k → Has ms m → Has qs q → Paired ms qs m q → L m.name q.name ≡ true
+  certain_below : (k : ℕ) (m : Message) (q : Receive) → m.name.call + q.name.call < k → Has ms m → Has qs q → Paired after ms qs m q → L m.name q.name ≡ true
   certain_below zero m q lt i j h = absurd (omega arith)
   certain_below (suc k) m q lt i j h =
-      let o = pair_obeys ms qs m q h in
+      let o = pair_obeys after ms qs m q h in
       let v = goes.sent m i in
       let w = goes.posted q j in
       let sure_v = v.2.1 o.sure_message in
@@ -98,7 +98,9 @@ module _ (ms : List Message) (qs : List Receive) (more_ms : List Message) (more_
             let g = fits_before m v.0 p.0 t.0 v.2.0 p.2 (legal.fit v.0 t.0 v.1 t.1 t.2.1) in
             let b = posted_names t.0 w.0 p.0 q (same_place p.0 t.0 p.2) (same_place q w.0 w.2.0) t.2.0 in
             ⊎_elim
-            (λ (u : is_open p.0 ≡ true). absurd (o.no_open p.0 p.1 u b g))
+            (λ (u : is_open p.0 ≡ true).
+            let a = goes.stays_after m v.0 p.0 t.0 i v.1 v.2.0 p.1 t.1 p.2 (o.no_open p.0 p.1 u b g) in
+            let no_a = legal.not_after v.0 t.0 v.1 t.1 t.2.1 in absurd (cc))
             (λ (s : is_settled p.0 ≡ true).
             let n = o.receives p.0 p.1 s b g in
             let x = before_lt m n.0 n.2 in
@@ -126,7 +128,7 @@ module _ (ms : List Message) (qs : List Receive) (more_ms : List Message) (more_
             (legal.progress v.0 w.0 v.1 w.1 f no (λ d. absurd (sure_not_doubtful v.0.trust sure_v d)) (λ d. absurd (sure_not_doubtful w.0.trust sure_w d)))
       ] refl
 
-  pub certain : (m : Message) (q : Receive) → Has ms m → Has qs q → Paired ms qs m q → L m.name q.name ≡ true
+  pub certain : (m : Message) (q : Receive) → Has ms m → Has qs q → Paired after ms qs m q → L m.name q.name ≡ true
   certain m q i j h = certain_below (suc (m.name.call + q.name.call)) m q (omega arith) i j h
 
 -- Where no receive is open and no message doubtful, the pairs are a legal matching, and the only one.
@@ -153,22 +155,22 @@ in_order a b h =
     ]
 
 -- a message is paired with one receive, and a receive with one message
-pub the_one_receive : (ms : List Message) (qs : List Receive) → ArePostedApart qs → (m : Message) (q r : Receive) → Has ms m → Has qs q → Has qs r → Paired ms qs m q → Paired ms qs m r → q ≡ r
-the_one_receive ms qs apart m q r i j j' h g =
-    let a = fits_at m q (pair_obeys ms qs m q h).fit in let b = fits_at m r (pair_obeys ms qs m r g).fit in
-    ⊎_elim (λ (x : posted_before q r ≡ true). absurd (one_receive ms qs m r q i j' j x g h))
-    (λ d. ⊎_elim (λ (x : posted_before r q ≡ true). absurd (one_receive ms qs m q r i j j' x h g)) (λ e. apart q r j j' e) d)
+pub the_one_receive : (after : After) (ms : List Message) (qs : List Receive) → ArePostedApart qs → (m : Message) (q r : Receive) → Has ms m → Has qs q → Has qs r → Paired after ms qs m q → Paired after ms qs m r → q ≡ r
+the_one_receive after ms qs apart m q r i j j' h g =
+    let a = fits_at m q (pair_obeys after ms qs m q h).fit in let b = fits_at m r (pair_obeys after ms qs m r g).fit in
+    ⊎_elim (λ (x : posted_before q r ≡ true). absurd (one_receive after ms qs m r q i j' j x g h))
+    (λ d. ⊎_elim (λ (x : posted_before r q ≡ true). absurd (one_receive after ms qs m q r i j j' x h g)) (λ e. apart q r j j' e) d)
     (in_order (posted_at q) (posted_at r) (sym a ∙ b))
 
-pub the_one_message : (ms : List Message) (qs : List Receive) → AreApart ms → (m n : Message) (q : Receive) → Has ms m → Has ms n → Has qs q → Paired ms qs m q → Paired ms qs n q → m ≡ n
-the_one_message ms qs apart m n q i i' j h g =
-    let o = pair_obeys ms qs m q h in let p = pair_obeys ms qs n q g in
+pub the_one_message : (after : After) (ms : List Message) (qs : List Receive) → AreApart ms → (m n : Message) (q : Receive) → Has ms m → Has ms n → Has qs q → Paired after ms qs m q → Paired after ms qs n q → m ≡ n
+the_one_message after ms qs apart m n q i i' j h g =
+    let o = pair_obeys after ms qs m q h in let p = pair_obeys after ms qs n q g in
     let e = one_sender q.source m.from n.from o.told (fits_source m q o.fit) (fits_source n q p.fit) in
-    ⊎_elim (λ (x : sent_before m n ≡ true). absurd (one_message ms qs n m q i' i j x g h))
-    (λ d. ⊎_elim (λ (x : sent_before n m ≡ true). absurd (one_message ms qs m n q i i' j x h g)) (λ e. apart m n i i' e) d)
+    ⊎_elim (λ (x : sent_before m n ≡ true). absurd (one_message after ms qs n m q i' i j x g h))
+    (λ d. ⊎_elim (λ (x : sent_before n m ≡ true). absurd (one_message after ms qs m n q i i' j x h g)) (λ e. apart m n i i' e) d)
     (in_order (sent_at m) (sent_at n) e)
 
-module _ (ms : List Message) (qs : List Receive) (apart : AreApart ms) (posted_apart : ArePostedApart qs)
+module _ (after : After) (ms : List Message) (qs : List Receive) (apart : AreApart ms) (posted_apart : ArePostedApart qs)
     (none_open : (q : Receive) → Has qs q → is_open q ≡ false) (none_doubtful : (m : Message) → Has ms m → is_doubtful m.trust ≡ false) where
   not_open : (q : Receive) → Has qs q → is_open q ≡ true → ⊥
   not_open q j u = let t = none_open q j in cc
@@ -180,46 +182,48 @@ module _ (ms : List Message) (qs : List Receive) (apart : AreApart ms) (posted_a
       (open_or_settled q (fit_parts m q f).receive_stands)
 
   taken_below : (k : ℕ) (m : Message) (q : Receive) → m.name.call + q.name.call < k → Has ms m → Has qs q → fits m q ≡ true →
-      Paired ms qs m q ⊎ (SomeOf qs (λ r. (posted_before r q ≡ true) × Paired ms qs m r) ⊎ SomeOf ms (λ n. (sent_before n m ≡ true) × Paired ms qs n q))
+      Paired after ms qs m q ⊎ (SomeOf qs (λ r. (posted_before r q ≡ true) × Paired after ms qs m r) ⊎ SomeOf ms (λ n. (sent_before n m ≡ true) × Paired after ms qs n q))
   taken_below zero m q lt i j f = absurd (omega arith)
   taken_below (suc k) m q lt i j f =
-      elim (list_any (λ r. posted_before r q && paired ms qs m r) qs) as (λ b. list_any (λ r. posted_before r q && paired ms qs m r) qs ≡ b → Paired ms qs m q ⊎ (SomeOf qs (λ r. (posted_before r q ≡ true) × Paired ms qs m r) ⊎ SomeOf ms (λ n. (sent_before n m ≡ true) × Paired ms qs n q))) [
-        | true ↦ λ e. let w = any_found (λ r. posted_before r q && paired ms qs m r) qs e in let p = both (posted_before w.0 q) (paired ms qs m w.0) w.2 in inr (inl (w.0, w.1, (p.0, p.1)))
+      elim (list_any (λ r. posted_before r q && paired after ms qs m r) qs) as (λ b. list_any (λ r. posted_before r q && paired after ms qs m r) qs ≡ b → Paired after ms qs m q ⊎ (SomeOf qs (λ r. (posted_before r q ≡ true) × Paired after ms qs m r) ⊎ SomeOf ms (λ n. (sent_before n m ≡ true) × Paired after ms qs n q))) [
+        | true ↦ λ e. let w = any_found (λ r. posted_before r q && paired after ms qs m r) qs e in let p = both (posted_before w.0 q) (paired after ms qs m w.0) w.2 in inr (inl (w.0, w.1, (p.0, p.1)))
         | false ↦ λ no_receive.
-            elim (list_any (λ n. sent_before n m && paired ms qs n q) ms) as (λ b. list_any (λ n. sent_before n m && paired ms qs n q) ms ≡ b → Paired ms qs m q ⊎ (SomeOf qs (λ r. (posted_before r q ≡ true) × Paired ms qs m r) ⊎ SomeOf ms (λ n. (sent_before n m ≡ true) × Paired ms qs n q))) [
-              | true ↦ λ e. let w = any_found (λ n. sent_before n m && paired ms qs n q) ms e in let p = both (sent_before w.0 m) (paired ms qs w.0 q) w.2 in inr (inr (w.0, w.1, (p.0, p.1)))
+            elim (list_any (λ n. sent_before n m && paired after ms qs n q) ms) as (λ b. list_any (λ n. sent_before n m && paired after ms qs n q) ms ≡ b → Paired after ms qs m q ⊎ (SomeOf qs (λ r. (posted_before r q ≡ true) × Paired after ms qs m r) ⊎ SomeOf ms (λ n. (sent_before n m ≡ true) × Paired after ms qs n q))) [
+              | true ↦ λ e. let w = any_found (λ n. sent_before n m && paired after ms qs n q) ms e in let p = both (sent_before w.0 m) (paired after ms qs w.0 q) w.2 in inr (inr (w.0, w.1, (p.0, p.1)))
               | false ↦ λ no_message.
-                  let not_r : (r : Receive) → Has qs r → posted_before r q ≡ true → Paired ms qs m r → ⊥ = λ r j' b h. let e = any_of (λ r. posted_before r q && paired ms qs m r) qs r j' (and_true (posted_before r q) (paired ms qs m r) b h) in cc in
-                  let not_n : (n : Message) → Has ms n → sent_before n m ≡ true → Paired ms qs n q → ⊥ = λ n i' b h. let e = any_of (λ n. sent_before n m && paired ms qs n q) ms n i' (and_true (sent_before n m) (paired ms qs n q) b h) in cc in
-                  inl (obeys_paired ms qs m q (record {
+                  let not_r : (r : Receive) → Has qs r → posted_before r q ≡ true → Paired after ms qs m r → ⊥ = λ r j' b h. let e = any_of (λ r. posted_before r q && paired after ms qs m r) qs r j' (and_true (posted_before r q) (paired after ms qs m r) b h) in cc in
+                  let not_n : (n : Message) → Has ms n → sent_before n m ≡ true → Paired after ms qs n q → ⊥ = λ n i' b h. let e = any_of (λ n. sent_before n m && paired after ms qs n q) ms n i' (and_true (sent_before n m) (paired after ms qs n q) b h) in cc in
+                  inl (obeys_paired after ms qs m q (record {
                     told = (settled_parts q (settled m q j f)).0;
                     sure_receive = (settled_parts q (settled m q j f)).1;
                     sure_message = stands_sure m.trust (fit_parts m q f).message_stands (none_doubtful m i);
                     fit = f;
-                    no_open = λ u i' n _ _. not_open u i' n;
+                    no_open = λ u i' n _ _. absurd (not_open u i' n);
                     messages = λ n i' b g. let x = before_lt m n b in
-                        ⊎_elim (λ (h : Paired ms qs n q). absurd (not_n n i' b h))
-                        (λ d. ⊎_elim (λ (h : SomeOf qs (λ r. (posted_before r q ≡ true) × Paired ms qs n r)). (h.0, h.1, h.2.0, h.2.1))
-                        (λ (h : SomeOf ms (λ p. (sent_before p n ≡ true) × Paired ms qs p q)). absurd (not_n h.0 h.1 (sent_along h.0 n m h.2.0 b) h.2.1)) d)
+                        ⊎_elim (λ (h : Paired after ms qs n q). absurd (not_n n i' b h))
+                        (λ d. ⊎_elim (λ (h : SomeOf qs (λ r. (posted_before r q ≡ true) × Paired after ms qs n r)). (h.0, h.1, h.2.0, h.2.1))
+                        (λ (h : SomeOf ms (λ p. (sent_before p n ≡ true) × Paired after ms qs p q)). absurd (not_n h.0 h.1 (sent_along h.0 n m h.2.0 b) h.2.1)) d)
                         (taken_below k n q (omega arith) i' j g);
                     receives = λ r j' t b g. let x = posted_lt q r b in
-                        ⊎_elim (λ (h : Paired ms qs m r). absurd (not_r r j' b h))
-                        (λ d. ⊎_elim (λ (h : SomeOf qs (λ p. (posted_before p r ≡ true) × Paired ms qs m p)). absurd (not_r h.0 h.1 (posted_along h.0 r q h.2.0 b) h.2.1))
-                        (λ (h : SomeOf ms (λ n. (sent_before n m ≡ true) × Paired ms qs n r)). (h.0, h.1, h.2.0, h.2.1)) d)
+                        ⊎_elim (λ (h : Paired after ms qs m r). absurd (not_r r j' b h))
+                        (λ d. ⊎_elim (λ (h : SomeOf qs (λ p. (posted_before p r ≡ true) × Paired after ms qs m p)). absurd (not_r h.0 h.1 (posted_along h.0 r q h.2.0 b) h.2.1))
+                        (λ (h : SomeOf ms (λ n. (sent_before n m ≡ true) × Paired after ms qs n r)). (h.0, h.1, h.2.0, h.2.1)) d)
                         (taken_below k m r (omega arith) i j' g);
                   }))
             ] refl
       ] refl
 
-  pub pairs_legal : IsLegal ms qs (Paired ms qs)
-  pairs_legal = record {
-    one_receive = λ m q r i j j' h g. ap (λ (x : Receive). x.name) (the_one_receive ms qs posted_apart m q r i j j' h g);
-    one_message = λ q m n j i i' h g. ap (λ (x : Message). x.name) (the_one_message ms qs apart m n q i i' j h g);
-    fit = λ m q i j h. (pair_obeys ms qs m q h).fit;
+  -- They are a legal matching where no message of a pair comes after its receive.
+  pub pairs_legal : ((m : Message) (q : Receive) → Has ms m → Has qs q → Paired after ms qs m q → after m q ≡ false) → IsLegal after ms qs (Paired after ms qs)
+  pairs_legal none_after = record {
+    one_receive = λ m q r i j j' h g. ap (λ (x : Receive). x.name) (the_one_receive after ms qs posted_apart m q r i j j' h g);
+    one_message = λ q m n j i i' h g. ap (λ (x : Message). x.name) (the_one_message after ms qs apart m n q i i' j h g);
+    fit = λ m q i j h. (pair_obeys after ms qs m q h).fit;
+    not_after = none_after;
     progress = λ m q i j f no _ _.
-        ⊎_elim (λ (h : Paired ms qs m q). absurd (no h))
-        (λ d. ⊎_elim (λ (h : SomeOf qs (λ r. (posted_before r q ≡ true) × Paired ms qs m r)). inl h)
-        (λ (h : SomeOf ms (λ n. (sent_before n m ≡ true) × Paired ms qs n q)). inr (inl h)) d)
+        ⊎_elim (λ (h : Paired after ms qs m q). absurd (no h))
+        (λ d. ⊎_elim (λ (h : SomeOf qs (λ r. (posted_before r q ≡ true) × Paired after ms qs m r)). inl h)
+        (λ (h : SomeOf ms (λ n. (sent_before n m ≡ true) × Paired after ms qs n q)). inr (inl h)) d)
         (taken_below (suc (m.name.call + q.name.call)) m q (omega arith) i j f);
   }
 
@@ -227,22 +231,30 @@ module _ (ms : List Message) (qs : List Receive) (apart : AreApart ms) (posted_a
   sends_same m = record { name = refl; comm = refl; from = refl; to = refl; tag = refl; mode = refl; count = refl; datatype = refl; void = λ v. v }
 
   tells_same : (q : Receive) → TellsMore q q
-  tells_same q = record { name = refl; comm = refl; at = refl; tag = refl; count = refl; datatype = refl; source = λ _. refl; void = λ v. v }
+  tells_same q = record { name = refl; comm = refl; at = refl; tag = refl; count = refl; datatype = refl; source = λ _. refl; ended = λ _. refl; void = λ v. v }
 
-  stays : Continues ms qs ms qs
+  -- of calls at different places each goes on as itself
+  stays_after : (m n : Message) (q r : Receive) → Has ms m → Has ms n → SameSend m n → Has qs q → Has qs r → TellsMore q r → after m q ≡ true → after n r ≡ true
+  stays_after m n q r i i' s j j' t h =
+      let e = apart n m i' i (same_sender m n s) in
+      let f = posted_apart r q j' j (same_place q r t) in
+      subst (λ (x : Receive). after n x ≡ true) (sym f) (subst (λ (x : Message). after x q ≡ true) (sym e) h)
+
+  stays : Continues after ms qs after ms qs
   stays = record {
     sent = λ m i. (m, i, (sends_same m, λ s. s));
     none_sent_before = λ n m i _ _. (n, i, sends_same n);
     posted = λ q j. (q, j, (tells_same q, λ s. s));
     none_posted_before = λ r q j _ _. (r, j, tells_same r);
+    stays_after = λ m n q r i i' s j j' t h. stays_after m n q r i i' s j j' t h;
   }
 
-  pub only_legal : (L : OpName → OpName → Bool) → IsLegal ms qs (λ m q. L m.name q.name ≡ true) → (m : Message) (q : Receive) → Has ms m → Has qs q → L m.name q.name ≡ true → Paired ms qs m q
+  pub only_legal : (L : OpName → OpName → Bool) → IsLegal after ms qs (λ m q. L m.name q.name ≡ true) → (m : Message) (q : Receive) → Has ms m → Has qs q → L m.name q.name ≡ true → Paired after ms qs m q
   only_legal L legal m q i j h =
-      ⊎_elim (λ (g : Paired ms qs m q). g)
+      ⊎_elim (λ (g : Paired after ms qs m q). g)
       (λ d. ⊎_elim
-      (λ (g : SomeOf qs (λ r. (posted_before r q ≡ true) × Paired ms qs m r)).
-      absurd (not_posted q g.0 g.2.0 (one_call g.0.name q.name (legal.one_receive m g.0 q i g.1 j (certain ms qs ms qs stays L legal m g.0 i g.1 g.2.1) h))))
-      (λ (g : SomeOf ms (λ n. (sent_before n m ≡ true) × Paired ms qs n q)).
-      absurd (not_before m g.0 g.2.0 (one_call g.0.name m.name (legal.one_message q g.0 m j g.1 i (certain ms qs ms qs stays L legal g.0 q g.1 j g.2.1) h)))) d)
+      (λ (g : SomeOf qs (λ r. (posted_before r q ≡ true) × Paired after ms qs m r)).
+      absurd (not_posted q g.0 g.2.0 (one_call g.0.name q.name (legal.one_receive m g.0 q i g.1 j (certain after ms qs after ms qs stays L legal m g.0 i g.1 g.2.1) h))))
+      (λ (g : SomeOf ms (λ n. (sent_before n m ≡ true) × Paired after ms qs n q)).
+      absurd (not_before m g.0 g.2.0 (one_call g.0.name m.name (legal.one_message q g.0 m j g.1 i (certain after ms qs after ms qs stays L legal g.0 q g.1 j g.2.1) h)))) d)
       (taken_below (suc (m.name.call + q.name.call)) m q (omega arith) i j (legal.fit m q i j h))

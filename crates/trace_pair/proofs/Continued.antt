@@ -8,9 +8,11 @@ use Rattle.mpi_model.specs.declared.message.Message.{Message}
 use Rattle.mpi_model.specs.declared.message.Receive.{Receive}
 use Rattle.trace_ops.specs.Ops.{SameSend, TellsMore, Ops, AreOwn, Grows, StaysCertain, StaysSure}
 use Rattle.trace_ops.specs.Order.{Has, sent_before, posted_before, AreInOrder, ArePosted}
+use Rattle.trace_pair.specs.After.{comes_after}
 use Rattle.trace_pair.specs.Matching.{Continues, SomeOf}
 use Rattle.trace_pair.specs.Places.{sent_at, posted_at}
 use Rattle.trace_pair.specs.Table.{sends_of, receives_of}
+use Rattle.trace_pair.proofs.Afterwards.{stays_after}
 use Rattle.trace_pair.proofs.Obeyed.{before_lt, posted_lt}
 use Rattle.trace_pair.proofs.Listed.{has_take}
 use Rattle.trace_pair.proofs.Ranks.{has_left, has_right, has_either}
@@ -138,10 +140,11 @@ all_none_posted (o ∷ os) (n ∷ ns) first r q a c z i j b =
     (λ (k : Has (receives_of os) q). let w = all_none_posted os ns (first + 1) r q a.1 c.1 z.1 h k b in (w.0, has_right o.receives (receives_of os) w.0 w.1, w.2)) (has_either o.receives (receives_of os) q j))
     (has_either n.receives (receives_of ns) r i)
 
-pub continues : (os ns : List Ops) → AreOwn 0 os → AreOwn 0 ns → AllZip Grows os ns → AllZip StaysCertain os ns → Continues (sends_of os) (receives_of os) (sends_of ns) (receives_of ns)
+pub continues : (os ns : List Ops) → AreOwn 0 os → AreOwn 0 ns → AllZip Grows os ns → AllZip StaysCertain os ns → Continues (comes_after os) (sends_of os) (receives_of os) (comes_after ns) (sends_of ns) (receives_of ns)
 continues os ns a c z s = record {
   sent = λ m i. all_sent os ns m z s i;
   none_sent_before = λ n m i j b. all_none_sent os ns 0 n m a c z i j b;
   posted = λ q i. all_posted os ns q z s i;
   none_posted_before = λ r q i j b. all_none_posted os ns 0 r q a c z i j b;
+  stays_after = λ m n q r i _ s j _ t h. stays_after os ns a c z m n q r i s j t h;
 }

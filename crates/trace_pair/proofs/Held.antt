@@ -10,7 +10,7 @@ use Rattle.trace_ops.specs.Order.{sent_before, posted_before, Has}
 use Rattle.trace_pair.specs.Indexed.{IsIndexed, couple_of, TakesMessage, TakesReceive, IsFirstMessage, IsFirstReceive}
 use Rattle.trace_pair.specs.Places.{sent_at, posted_at}
 use Rattle.trace_pair.specs.Calls.{is_live, IsOwnReceive}
-use Rattle.trace_pair.specs.Pairing.{paired, Paired}
+use Rattle.trace_pair.specs.Pairing.{After, paired, Paired}
 use Rattle.trace_pair.specs.Sets.{IsSameSet}
 use Rattle.trace_pair.specs.declared.pair.Couple.{Couple}
 use Rattle.trace_pair.proofs.Obeyed.{any_found, any_of}
@@ -28,8 +28,8 @@ any_or_none {X = X} p xs =
     ] refl
 
 -- the couples stand in another list
-pub couples_kept : (ms : List Message) (qs : List Receive) (waiting : List Message) (free opened : List Receive) (old new : List Couple) → IsIndexed ms qs waiting free opened old → IsSameSet old new → IsIndexed ms qs waiting free opened new
-couples_kept ms qs waiting free opened old new held same = record {
+pub couples_kept : (after : After) (ms : List Message) (qs : List Receive) (waiting : List Message) (free opened : List Receive) (old new : List Couple) → IsIndexed after ms qs waiting free opened old → IsSameSet old new → IsIndexed after ms qs waiting free opened new
+couples_kept after ms qs waiting free opened old new held same = record {
   senders = held.senders;
   receivers = held.receivers;
   messages_apart = held.messages_apart;
@@ -44,19 +44,19 @@ couples_kept ms qs waiting free opened old new held same = record {
   coupled_all = λ m q i j h. same.keeps (couple_of m q) (held.coupled_all m q i j h);
 }
 
-module _ (ms : List Message) (qs : List Receive) (waiting : List Message) (free opened : List Receive) (couples : List Couple) (held : IsIndexed ms qs waiting free opened couples) where
+module _ (after : After) (ms : List Message) (qs : List Receive) (waiting : List Message) (free opened : List Receive) (couples : List Couple) (held : IsIndexed after ms qs waiting free opened couples) where
   -- a message that is not void and does not wait has a receive
-  has_receive : (n : Message) → Has ms n → is_live n.trust ≡ true → (Has waiting n → ⊥) → (r : Receive) × Has qs r × Paired ms qs n r
+  has_receive : (n : Message) → Has ms n → is_live n.trust ≡ true → (Has waiting n → ⊥) → (r : Receive) × Has qs r × Paired after ms qs n r
   has_receive n i live away =
-      ⊎_elim (λ (w : (r : Receive) × Has qs r × Paired ms qs n r). w)
-      (λ (none : (r : Receive) → Has qs r → Paired ms qs n r → ⊥). absurd (away (held.waits_all n i live none))) (any_or_none (paired ms qs n) qs)
+      ⊎_elim (λ (w : (r : Receive) × Has qs r × Paired after ms qs n r). w)
+      (λ (none : (r : Receive) → Has qs r → Paired after ms qs n r → ⊥). absurd (away (held.waits_all n i live none))) (any_or_none (paired after ms qs n) qs)
 
-  has_message : (r : Receive) → Has qs r → is_settled r ≡ true → (Has free r → ⊥) → (n : Message) × Has ms n × Paired ms qs n r
+  has_message : (r : Receive) → Has qs r → is_settled r ≡ true → (Has free r → ⊥) → (n : Message) × Has ms n × Paired after ms qs n r
   has_message r i t away =
-      ⊎_elim (λ (w : (n : Message) × Has ms n × Paired ms qs n r). w)
-      (λ (none : (n : Message) → Has ms n → Paired ms qs n r → ⊥). absurd (away (held.frees_all r i t none))) (any_or_none (λ n. paired ms qs n r) ms)
+      ⊎_elim (λ (w : (n : Message) × Has ms n × Paired after ms qs n r). w)
+      (λ (none : (n : Message) → Has ms n → Paired after ms qs n r → ⊥). absurd (away (held.frees_all r i t none))) (any_or_none (λ n. paired after ms qs n r) ms)
 
-  pub taker_found : (m : Message) (q : Receive) → is_sure m.trust ≡ true → IsFirstReceive free m q → ((u : Receive) → Has opened u → envelopes_fit m u ≡ true → posted_before u q ≡ true → ⊥) → ((n : Message) → Has waiting n → envelopes_fit n q ≡ true → ⊥) → TakesMessage ms qs m q
+  pub taker_found : (m : Message) (q : Receive) → is_sure m.trust ≡ true → IsFirstReceive free m q → ((u : Receive) → Has opened u → envelopes_fit m u ≡ true → posted_before u q ≡ true → after m u ≡ true) → ((n : Message) → Has waiting n → envelopes_fit n q ≡ true → ⊥) → TakesMessage after ms qs m q
   taker_found m q sure f no_open none = record {
     told = (settled_parts q (held.frees q f.member).1).0;
     sure_receive = (settled_parts q (held.frees q f.member).1).1;
@@ -69,7 +69,7 @@ module _ (ms : List Message) (qs : List Receive) (waiting : List Message) (free 
   }
 
   -- what takes the message is the first free one
-  pub taker_first : (m : Message) (q r : Receive) → Has qs q → TakesMessage ms qs m q → IsFirstReceive free m r → q ≡ r
+  pub taker_first : (m : Message) (q r : Receive) → Has qs q → TakesMessage after ms qs m q → IsFirstReceive free m r → q ≡ r
   taker_first m q r i t f =
       let o = held.frees r f.member in
       let fit : fits m r ≡ true = fits_live m r (sure_stands m.trust t.sure_message) (settled_live r o.1) f.fit in
@@ -80,7 +80,7 @@ module _ (ms : List Message) (qs : List Receive) (waiting : List Message) (free 
       (λ (e : posted_at q ≡ posted_at r). held.receives_apart q r i o.0 e) c)
       (in_order (posted_at q) (posted_at r) (sym (fits_at m q t.fit) ∙ fits_at m r fit))
 
-  pub taken_found : (m : Message) (q : Receive) → is_settled q ≡ true → is_sure m.trust ≡ true → IsFirstMessage waiting q m → ((u : Receive) → Has opened u → envelopes_fit m u ≡ true → ⊥) → ((r : Receive) → Has free r → envelopes_fit m r ≡ true → ⊥) → TakesReceive ms qs m q
+  pub taken_found : (m : Message) (q : Receive) → is_settled q ≡ true → is_sure m.trust ≡ true → IsFirstMessage waiting q m → ((u : Receive) → Has opened u → envelopes_fit m u ≡ true → after m u ≡ true) → ((r : Receive) → Has free r → envelopes_fit m r ≡ true → ⊥) → TakesReceive after ms qs m q
   taken_found m q t sure f no_open none = record {
     told = (settled_parts q t).0;
     sure_receive = (settled_parts q t).1;
@@ -92,7 +92,7 @@ module _ (ms : List Message) (qs : List Receive) (waiting : List Message) (free 
     none_free = λ r i s g. has_message r i s (λ k. none r k (envelope_of m r g));
   }
 
-  pub taken_first : (m n : Message) (q : Receive) → Has ms m → TakesReceive ms qs m q → IsFirstMessage waiting q n → m ≡ n
+  pub taken_first : (m n : Message) (q : Receive) → Has ms m → TakesReceive after ms qs m q → IsFirstMessage waiting q n → m ≡ n
   taken_first m n q i t f =
       let o = held.waits n f.member in
       let fit : fits n q ≡ true = fits_live n q o.1 (sure_stands q.trust t.sure_receive) f.fit in
@@ -102,11 +102,3 @@ module _ (ms : List Message) (qs : List Receive) (waiting : List Message) (free 
       (λ (x : sent_before n m ≡ true). let w = t.first_waiting n o.0 x fit in absurd (o.2 w.0 w.1 w.2))
       (λ (e : sent_at m ≡ sent_at n). held.messages_apart m n i o.0 e) c)
       (in_order (sent_at m) (sent_at n) (same_sender m n q t.told t.fit fit))
-
--- where the first open receive whose envelope fits the message's is not before the receive, none is
-pub not_blocked : (opened : List Receive) (own : (v : Receive) → Has opened v → IsOwnReceive v) (m : Message) (u q : Receive) → IsFirstReceive opened m u → posted_before u q ≡ false → (v : Receive) → Has opened v → envelopes_fit m v ≡ true → posted_before v q ≡ true → ⊥
-not_blocked opened own m u q h b v i g p =
-    ⊎_elim (λ (x : posted_before v u ≡ true). h.first v i g (posted_name v u (own v i) (own u h.member) x))
-    (λ c. ⊎_elim (λ (x : posted_before u v ≡ true). let y = posted_along u v q x p in cc)
-    (λ (e : posted_at v ≡ posted_at u). let y = subst (λ (x : OpName). (eqb x.rank q.at && ltb x.call q.name.call) ≡ true) e p in cc) c)
-    (in_order (posted_at v) (posted_at u) (sym (envelopes_at m v g) ∙ envelopes_at m u h.fit))

@@ -12,7 +12,7 @@ use Rattle.trace_ops.specs.Order.{Has}
 use Rattle.trace_pair.specs.Calls.{AddsMessage, AddsReceive, IsOwnReceive}
 use Rattle.trace_pair.specs.Coupled.{taker_of, receive_by, IsNew, IsOneMessage, IsOneReceive}
 use Rattle.trace_pair.specs.Indexed.{IsIndexed, TakesMessage, TakesReceive, couple_of}
-use Rattle.trace_pair.specs.Pairing.{Paired}
+use Rattle.trace_pair.specs.Pairing.{After, Paired}
 use Rattle.trace_pair.specs.declared.pair.Couple.{Couple}
 use Rattle.trace_pair.proofs.Certain.{not_before, not_posted, one_call, same_name}
 use Rattle.trace_pair.proofs.Names.{placed, placed_receive}
@@ -33,7 +33,7 @@ sure_is Doubtful h = absurd (cc)
 sure_is Void h = absurd (cc)
 
 abbrev receive : OpName → ℕ → ℕ → Option ℕ → Option ℕ → Trust → Receive → Receive
-receive n c a s g t q = record { name = n; comm = c; at = a; source = s; tag = g; count = q.count; trust = t; datatype = q.datatype }
+receive n c a s g t q = record { name = n; comm = c; at = a; source = s; tag = g; count = q.count; trust = t; datatype = q.datatype; ended = q.ended }
 
 -- A settled receive that the message fits is what the message and the rest tell of it.
 pub told_by : (m : Message) (q : Receive) → IsOwnReceive q → is_settled q ≡ true → fits m q ≡ true → q ≡ receive_by m (taker_of q)
@@ -48,7 +48,7 @@ told_by m q own settled fit =
     ∙ ap (λ x. receive (record { rank = m.to; call = q.name.call }) m.comm m.to (Some m.from) x q.trust q) (tag_is q.tag m.tag p.3)
     ∙ ap (λ x. receive (record { rank = m.to; call = q.name.call }) m.comm m.to (Some m.from) (cond (is_none q.tag) None (Some m.tag)) x q) (sure_is q.trust s.1)
 
-module _ (ms : List Message) (qs : List Receive) (waiting : List Message) (free opened : List Receive) (couples : List Couple) (held : IsIndexed ms qs waiting free opened couples) where
+module _ (after : After) (ms : List Message) (qs : List Receive) (waiting : List Message) (free opened : List Receive) (couples : List Couple) (held : IsIndexed after ms qs waiting free opened couples) where
   pub known_message : (m : Message) → Has ms m → IsOneMessage couples m
   known_message m i d j e =
       let w = held.coupled d j in
@@ -60,7 +60,7 @@ module _ (ms : List Message) (qs : List Receive) (waiting : List Message) (free 
       held.receives_apart d.receive q w.1 i (placed_receive d.receive q (held.receivers d.receive w.1) (held.receivers q i) e)
 
   -- the couple of a new message is new
-  pub new_message : (more : List Message) (m : Message) (q : Receive) → AddsMessage ms more m → Has qs q → TakesMessage ms qs m q → IsNew couples (couple_of m q)
+  pub new_message : (more : List Message) (m : Message) (q : Receive) → AddsMessage ms more m → Has qs q → TakesMessage after ms qs m q → IsNew couples (couple_of m q)
   new_message more m q adds i t = record {
     fit = told_by m q (held.receivers q i) (settled_from q t.told t.sure_receive) t.fit;
     message = λ d j e.
@@ -70,17 +70,17 @@ module _ (ms : List Message) (qs : List Receive) (waiting : List Message) (free 
     receive = λ d j e.
         let w = held.coupled d j in
         let s = known_receive q i d j e in
-        t.is_free d.message w.0 (subst (λ (r : Receive). Paired ms qs d.message r) s w.2);
+        t.is_free d.message w.0 (subst (λ (r : Receive). Paired after ms qs d.message r) s w.2);
   }
 
   -- and so is that of a new receive
-  pub new_receive : (more : List Receive) (m : Message) (q : Receive) → AddsReceive qs more q → Has ms m → TakesReceive ms qs m q → IsNew couples (couple_of m q)
+  pub new_receive : (more : List Receive) (m : Message) (q : Receive) → AddsReceive qs more q → Has ms m → TakesReceive after ms qs m q → IsNew couples (couple_of m q)
   new_receive more m q adds i t = record {
     fit = told_by m q adds.own (settled_from q t.told t.sure_receive) t.fit;
     message = λ d j e.
         let w = held.coupled d j in
         let s = known_message m i d j e in
-        t.waits d.receive w.1 (subst (λ (n : Message). Paired ms qs n d.receive) s w.2);
+        t.waits d.receive w.1 (subst (λ (n : Message). Paired after ms qs n d.receive) s w.2);
     receive = λ d j e.
         let w = held.coupled d j in
         let s = placed_receive d.receive q (held.receivers d.receive w.1) adds.own e in

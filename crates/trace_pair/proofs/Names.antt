@@ -11,7 +11,7 @@ use Rattle.trace_pair.specs.Indexed.{name_lt}
 use Rattle.trace_pair.proofs.Obeyed.{before_lt, posted_lt}
 use Rattle.trace_pair.proofs.Certain.{same_name, one_call}
 use Rattle.trace_pair.proofs.Local.{one_rank}
-use Rattle.trace_pair.proofs.Steps.{one_sender_rank}
+use Rattle.trace_pair.proofs.Local.{one_sender_rank}
 
 -- a later call of one rank has the later name
 name_later : (a b : OpName) → a.rank ≡ b.rank → a.call < b.call → name_lt a b ≡ true

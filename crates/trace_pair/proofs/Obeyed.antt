@@ -1,5 +1,5 @@
 -- The pairs are those of the five rules, whatever bound the recursion starts from.
-use Rattle.std.proofs.Common.{◌≡◌, ℕ, zero, suc, ◌+◌, ◌<◌, Bool, true, false, ◌&&◌, ◌||◌, List, [], ◌∷◌, inl, inr, ⊎_elim, sym, refl, ◌∙◌, ap, arith, ltb, eqb}
+use Rattle.std.proofs.Common.{◌≡◌, ℕ, zero, suc, ◌+◌, ◌<◌, Bool, true, false, ◌&&◌, ◌||◌, ◌⊎◌, List, [], ◌∷◌, inl, inr, ⊎_elim, sym, refl, ◌∙◌, ap, arith, ltb, eqb}
 use Rattle.std.specs.Prelude.{not, is_some}
 use Rattle.std.specs.List.{list_any, list_all}
 use Rattle.std.proofs.lemmas.Bool.Decides.{nat_tests}
@@ -7,7 +7,7 @@ use Rattle.mpi_model.specs.declared.message.Message.{Message}
 use Rattle.mpi_model.specs.declared.message.Receive.{Receive}
 use Rattle.mpi_model.specs.Fit.{fits}
 use Rattle.trace_ops.specs.Order.{sent_before, posted_before, Has}
-use Rattle.trace_pair.specs.Pairing.{obeys, paired_below, paired, Obeys, Paired}
+use Rattle.trace_pair.specs.Pairing.{After, obeys, paired_below, paired, Obeys, Paired}
 use Rattle.mpi_model.specs.Trusts.{is_sure, is_open, is_settled}
 
 pub any_same : {X : Type 0} (p t : X → Bool) (xs : List X) → ((x : X) → Has xs x → p x ≡ t x) → list_any p xs ≡ list_any t xs
@@ -43,6 +43,17 @@ pub all_of : {X : Type 0} (p : X → Bool) (xs : List X) → ((x : X) → Has xs
 all_of p [] h = refl
 all_of p (y ∷ ys) h = let e = h y (inl refl) in let f = all_of p ys (λ x i. h x (inr i)) in rw e f
 
+pub either : (a b : Bool) → (a || b) ≡ true → (a ≡ true) ⊎ (b ≡ true)
+either true b h = inl refl
+either false b h = inr h
+
+pub or_left : (a b : Bool) → a ≡ true → (a || b) ≡ true
+or_left a b h = rw h refl
+
+pub or_right : (a b : Bool) → b ≡ true → (a || b) ≡ true
+or_right true b h = refl
+or_right false b h = h
+
 -- from a test of two parts
 pub both : (a b : Bool) → (a && b) ≡ true → (a ≡ true) × (b ≡ true)
 both true b h = (refl, h)
@@ -54,6 +65,10 @@ and_true a b h k = rw h k
 pub not_true : (a : Bool) → (a ≡ true → ⊥) → not a ≡ true
 not_true true h = absurd (h refl)
 not_true false h = refl
+
+pub unless_not : (a : Bool) → (not a ≡ true → ⊥) → a ≡ true
+unless_not true h = refl
+unless_not false h = absurd (h refl)
 
 pub not_true-elim : (a : Bool) → not a ≡ true → a ≡ true → ⊥
 not_true-elim true h k = cc
@@ -77,9 +92,9 @@ same_if_then true b c h = h refl
 same_if_then false b c h = refl
 
 -- The rules look at couples of earlier calls alone.
-pub obeys_same : (ms : List Message) (qs : List Receive) (R S : Message → Receive → Bool) (m : Message) (q : Receive) → ((n : Message) (r : Receive) → Has ms n → Has qs r → sent_before n m ≡ true → posted_before r q ≡ true → R n r ≡ S n r) → obeys ms qs R m q ≡ obeys ms qs S m q
+pub obeys_same : (after : After) (ms : List Message) (qs : List Receive) (R S : Message → Receive → Bool) (m : Message) (q : Receive) → ((n : Message) (r : Receive) → Has ms n → Has qs r → sent_before n m ≡ true → posted_before r q ≡ true → R n r ≡ S n r) → obeys after ms qs R m q ≡ obeys after ms qs S m q
 unfolding obeys
-obeys_same ms qs R S m q h =
+obeys_same after ms qs R S m q h =
     let e4 = all_same
     (λ n. not (sent_before n m && fits n q) || list_any (λ r. posted_before r q && R n r) qs)
     (λ n. not (sent_before n m && fits n q) || list_any (λ r. posted_before r q && S n r) qs)
@@ -101,29 +116,29 @@ pub posted_lt : (q r : Receive) → posted_before r q ≡ true → r.name.call <
 posted_lt q r h = let p = (both (eqb r.at q.at) (ltb r.name.call q.name.call) h).1 in grind (arith, nat_tests)
 
 -- any two bounds above the sum give the same answer
-pub bounds_same : (k j : ℕ) (ms : List Message) (qs : List Receive) (m : Message) (q : Receive) → m.name.call + q.name.call < k → m.name.call + q.name.call < j → paired_below k ms qs m q ≡ paired_below j ms qs m q
+pub bounds_same : (k j : ℕ) (after : After) (ms : List Message) (qs : List Receive) (m : Message) (q : Receive) → m.name.call + q.name.call < k → m.name.call + q.name.call < j → paired_below k after ms qs m q ≡ paired_below j after ms qs m q
 unfolding paired_below
-bounds_same zero j ms qs m q h g = absurd (omega arith)
-bounds_same (suc k) zero ms qs m q h g = absurd (omega arith)
-bounds_same (suc k) (suc j) ms qs m q h g =
-    obeys_same ms qs (paired_below k ms qs) (paired_below j ms qs) m q (λ n r _ _ sb pb.
+bounds_same zero j after ms qs m q h g = absurd (omega arith)
+bounds_same (suc k) zero after ms qs m q h g = absurd (omega arith)
+bounds_same (suc k) (suc j) after ms qs m q h g =
+    obeys_same after ms qs (paired_below k after ms qs) (paired_below j after ms qs) m q (λ n r _ _ sb pb.
     let x = before_lt m n sb in let y = posted_lt q r pb in
-    bounds_same k j ms qs n r (omega arith) (omega arith))
+    bounds_same k j after ms qs n r (omega arith) (omega arith))
 
 -- the pairs obey the rules
-pub paired_obeys : (ms : List Message) (qs : List Receive) (m : Message) (q : Receive) → paired ms qs m q ≡ obeys ms qs (paired ms qs) m q
+pub paired_obeys : (after : After) (ms : List Message) (qs : List Receive) (m : Message) (q : Receive) → paired after ms qs m q ≡ obeys after ms qs (paired after ms qs) m q
 unfolding paired paired_below
-paired_obeys ms qs m q =
-    obeys_same ms qs (paired_below (m.name.call + q.name.call) ms qs) (paired ms qs) m q (λ n r _ _ sb pb.
+paired_obeys after ms qs m q =
+    obeys_same after ms qs (paired_below (m.name.call + q.name.call) after ms qs) (paired after ms qs) m q (λ n r _ _ sb pb.
     let x = before_lt m n sb in let y = posted_lt q r pb in
-    bounds_same (m.name.call + q.name.call) (suc (n.name.call + r.name.call)) ms qs n r (omega arith) (omega arith))
+    bounds_same (m.name.call + q.name.call) (suc (n.name.call + r.name.call)) after ms qs n r (omega arith) (omega arith))
 
 -- the rules as facts
-pub Obeys-from : (ms : List Message) (qs : List Receive) (R : Message → Receive → Bool) (m : Message) (q : Receive) → obeys ms qs R m q ≡ true → Obeys ms qs (λ n r. R n r ≡ true) m q
+pub Obeys-from : (after : After) (ms : List Message) (qs : List Receive) (R : Message → Receive → Bool) (m : Message) (q : Receive) → obeys after ms qs R m q ≡ true → Obeys after ms qs (λ n r. R n r ≡ true) m q
 unfolding obeys
-Obeys-from ms qs R m q h =
+Obeys-from after ms qs R m q h =
     let a1 = is_settled q in let a2 = is_sure m.trust in let a3 = fits m q in
-    let a4 = not (list_any (λ u. is_open u && posted_before u q && fits m u) qs) in
+    let a4 = not (list_any (λ u. is_open u && posted_before u q && fits m u && not (after m u)) qs) in
     let a5 = list_all (λ n. not (sent_before n m && fits n q) || list_any (λ r. posted_before r q && R n r) qs) ms in
     let a6 = list_all (λ r. not (is_settled r && posted_before r q && fits m r) || list_any (λ n. sent_before n m && R n r) ms) qs in
     let h6 = both (a1 && a2 && a3 && a4 && a5) a6 h in
@@ -137,7 +152,8 @@ Obeys-from ms qs R m q h =
       sure_receive = h1.1;
       sure_message = h2.1;
       fit = h3.1;
-      no_open = λ u i n p f. not_true-elim _ h4.1 (any_of (λ u. is_open u && posted_before u q && fits m u) qs u i (and_true (is_open u && posted_before u q) (fits m u) (and_true (is_open u) (posted_before u q) n p) f));
+      no_open = λ u i n p f. unless_not (after m u) (λ g. not_true-elim _ h4.1 (any_of (λ u. is_open u && posted_before u q && fits m u && not (after m u)) qs u i
+          (and_true (is_open u && posted_before u q && fits m u) (not (after m u)) (and_true (is_open u && posted_before u q) (fits m u) (and_true (is_open u) (posted_before u q) n p) f) g)));
       messages = λ n i s f.
           let g = if_then-elim (sent_before n m && fits n q) _ (all_at (λ n. not (sent_before n m && fits n q) || list_any (λ r. posted_before r q && R n r) qs) ms n h5.1 i) (and_true (sent_before n m) (fits n q) s f) in
           let w = any_found (λ r. posted_before r q && R n r) qs g in
@@ -150,21 +166,22 @@ Obeys-from ms qs R m q h =
           (w.0, w.1, p.0, p.1);
     }
 
-pub obeys-from : (ms : List Message) (qs : List Receive) (R : Message → Receive → Bool) (m : Message) (q : Receive) → Obeys ms qs (λ n r. R n r ≡ true) m q → obeys ms qs R m q ≡ true
+pub obeys-from : (after : After) (ms : List Message) (qs : List Receive) (R : Message → Receive → Bool) (m : Message) (q : Receive) → Obeys after ms qs (λ n r. R n r ≡ true) m q → obeys after ms qs R m q ≡ true
 unfolding obeys
-obeys-from ms qs R m q o =
+obeys-from after ms qs R m q o =
     let a1 = is_settled q in let a2 = is_sure m.trust in let a3 = fits m q in
-    let a4 = not (list_any (λ u. is_open u && posted_before u q && fits m u) qs) in
+    let a4 = not (list_any (λ u. is_open u && posted_before u q && fits m u && not (after m u)) qs) in
     let a5 = list_all (λ n. not (sent_before n m && fits n q) || list_any (λ r. posted_before r q && R n r) qs) ms in
     let a6 = list_all (λ r. not (is_settled r && posted_before r q && fits m r) || list_any (λ n. sent_before n m && R n r) ms) qs in
     and_true (a1 && a2 && a3 && a4 && a5) a6
     (and_true (a1 && a2 && a3 && a4) a5
     (and_true (a1 && a2 && a3) a4 (and_true (a1 && a2) a3 (and_true a1 a2 (and_true (is_some q.source) (is_sure q.trust) o.told o.sure_receive) o.sure_message) o.fit)
-    (not_true (list_any (λ u. is_open u && posted_before u q && fits m u) qs) (λ h.
-    let w = any_found (λ u. is_open u && posted_before u q && fits m u) qs h in
-    let p = both (is_open w.0 && posted_before w.0 q) (fits m w.0) w.2 in
+    (not_true (list_any (λ u. is_open u && posted_before u q && fits m u && not (after m u)) qs) (λ h.
+    let w = any_found (λ u. is_open u && posted_before u q && fits m u && not (after m u)) qs h in
+    let p'' = both (is_open w.0 && posted_before w.0 q && fits m w.0) (not (after m w.0)) w.2 in
+    let p = both (is_open w.0 && posted_before w.0 q) (fits m w.0) p''.0 in
     let p' = both (is_open w.0) (posted_before w.0 q) p.0 in
-    o.no_open w.0 w.1 p'.0 p'.1 p.1)))
+    not_true-elim (after m w.0) p''.1 (o.no_open w.0 w.1 p'.0 p'.1 p.1))))
     (all_of (λ n. not (sent_before n m && fits n q) || list_any (λ r. posted_before r q && R n r) qs) ms (λ n i. if_then (sent_before n m && fits n q) _ (λ b.
     let p = both (sent_before n m) (fits n q) b in
     let w = o.messages n i p.0 p.1 in
@@ -176,19 +193,19 @@ obeys-from ms qs R m q o =
     any_of (λ n. sent_before n m && R n r) ms w.0 w.1 (and_true (sent_before w.0 m) (R w.0 r) w.2 w.3))))
 
 -- a pair obeys the five rules, and what obeys them is a pair
-pub pair_obeys : (ms : List Message) (qs : List Receive) (m : Message) (q : Receive) → Paired ms qs m q → Obeys ms qs (Paired ms qs) m q
-pair_obeys ms qs m q h = Obeys-from ms qs (paired ms qs) m q (sym (paired_obeys ms qs m q) ∙ h)
+pub pair_obeys : (after : After) (ms : List Message) (qs : List Receive) (m : Message) (q : Receive) → Paired after ms qs m q → Obeys after ms qs (Paired after ms qs) m q
+pair_obeys after ms qs m q h = Obeys-from after ms qs (paired after ms qs) m q (sym (paired_obeys after ms qs m q) ∙ h)
 
-pub obeys_paired : (ms : List Message) (qs : List Receive) (m : Message) (q : Receive) → Obeys ms qs (Paired ms qs) m q → Paired ms qs m q
-obeys_paired ms qs m q o = paired_obeys ms qs m q ∙ obeys-from ms qs (paired ms qs) m q o
+pub obeys_paired : (after : After) (ms : List Message) (qs : List Receive) (m : Message) (q : Receive) → Obeys after ms qs (Paired after ms qs) m q → Paired after ms qs m q
+obeys_paired after ms qs m q o = paired_obeys after ms qs m q ∙ obeys-from after ms qs (paired after ms qs) m q o
 
 -- No other relation obeys them.
-only_below : (k : ℕ) (ms : List Message) (qs : List Receive) (R : Message → Receive → Bool) → ((m : Message) (q : Receive) → Has ms m → Has qs q → R m q ≡ obeys ms qs R m q) → (m : Message) (q : Receive) → m.name.call + q.name.call < k → Has ms m → Has qs q → R m q ≡ paired ms qs m q
-only_below zero ms qs R h m q lt i j = absurd (omega arith)
-only_below (suc k) ms qs R h m q lt i j =
-    h m q i j ∙ obeys_same ms qs R (paired ms qs) m q (λ n r i' j' sb pb.
+only_below : (k : ℕ) (after : After) (ms : List Message) (qs : List Receive) (R : Message → Receive → Bool) → ((m : Message) (q : Receive) → Has ms m → Has qs q → R m q ≡ obeys after ms qs R m q) → (m : Message) (q : Receive) → m.name.call + q.name.call < k → Has ms m → Has qs q → R m q ≡ paired after ms qs m q
+only_below zero after ms qs R h m q lt i j = absurd (omega arith)
+only_below (suc k) after ms qs R h m q lt i j =
+    h m q i j ∙ obeys_same after ms qs R (paired after ms qs) m q (λ n r i' j' sb pb.
     let x = before_lt m n sb in let y = posted_lt q r pb in
-    only_below k ms qs R h n r (omega arith) i' j') ∙ sym (paired_obeys ms qs m q)
+    only_below k after ms qs R h n r (omega arith) i' j') ∙ sym (paired_obeys after ms qs m q)
 
-pub only_paired : (ms : List Message) (qs : List Receive) (R : Message → Receive → Bool) → ((m : Message) (q : Receive) → Has ms m → Has qs q → R m q ≡ obeys ms qs R m q) → (m : Message) (q : Receive) → Has ms m → Has qs q → R m q ≡ paired ms qs m q
-only_paired ms qs R h m q i j = only_below (suc (m.name.call + q.name.call)) ms qs R h m q (omega arith) i j
+pub only_paired : (after : After) (ms : List Message) (qs : List Receive) (R : Message → Receive → Bool) → ((m : Message) (q : Receive) → Has ms m → Has qs q → R m q ≡ obeys after ms qs R m q) → (m : Message) (q : Receive) → Has ms m → Has qs q → R m q ≡ paired after ms qs m q
+only_paired after ms qs R h m q i j = only_below (suc (m.name.call + q.name.call)) after ms qs R h m q (omega arith) i j

@@ -75,7 +75,7 @@ pub messages_total : IsTotalOrder message_cmp
 messages_total = then_total (on_total (λ (x : Message). x.name) name_total) (then_total (on_total (λ (x : Message). x.comm) nat_cmp_total) (then_total (on_total (λ (x : Message). x.from) nat_cmp_total) (then_total (on_total (λ (x : Message). x.to) nat_cmp_total) (then_total (on_total (λ (x : Message). x.tag) nat_cmp_total) (then_total (on_total (λ (x : Message). x.mode) mode_laws.total-law) (then_total (on_total (λ (x : Message). x.trust) trust_laws.total-law) (then_total (on_total (λ (x : Message). x.count) nat_cmp_total) (on_total (λ (x : Message). x.datatype) int_cmp_total))))))))
 
 pub receives_total : IsTotalOrder receive_cmp
-receives_total = then_total (on_total (λ (x : Receive). x.name) name_total) (then_total (on_total (λ (x : Receive). x.comm) nat_cmp_total) (then_total (on_total (λ (x : Receive). x.at) nat_cmp_total) (then_total (on_total (λ (x : Receive). x.source) (options_total nat_cmp_total)) (then_total (on_total (λ (x : Receive). x.tag) (options_total nat_cmp_total)) (then_total (on_total (λ (x : Receive). x.count) nat_cmp_total) (then_total (on_total (λ (x : Receive). x.trust) trust_laws.total-law) (on_total (λ (x : Receive). x.datatype) int_cmp_total)))))))
+receives_total = then_total (on_total (λ (x : Receive). x.name) name_total) (then_total (on_total (λ (x : Receive). x.comm) nat_cmp_total) (then_total (on_total (λ (x : Receive). x.at) nat_cmp_total) (then_total (on_total (λ (x : Receive). x.source) (options_total nat_cmp_total)) (then_total (on_total (λ (x : Receive). x.tag) (options_total nat_cmp_total)) (then_total (on_total (λ (x : Receive). x.count) nat_cmp_total) (then_total (on_total (λ (x : Receive). x.trust) trust_laws.total-law) (then_total (on_total (λ (x : Receive). x.datatype) int_cmp_total) (on_total (λ (x : Receive). x.ended) (options_total nat_cmp_total)))))))))
 
 pub queues_total : IsTotalOrder queue_cmp
 queues_total = then_total (then_total (then_total (on_total (λ (x : Queue). x.0) nat_cmp_total) (on_total (λ (x : Queue). x.1) nat_cmp_total)) (on_total (λ (x : Queue). x.2) nat_cmp_total)) (on_total (λ (x : Queue). x.3) nat_cmp_total)
@@ -92,8 +92,8 @@ name r c = record { rank = r; call = c }
 abbrev message : OpName → ℕ → ℕ → ℕ → ℕ → Mode → Trust → ℕ → ℤ → Message
 message n c f t g k u e d = record { name = n; comm = c; from = f; to = t; tag = g; mode = k; trust = u; count = e; datatype = d }
 
-abbrev receive : OpName → ℕ → ℕ → Option ℕ → Option ℕ → ℕ → Trust → ℤ → Receive
-receive n c a s g e u d = record { name = n; comm = c; at = a; source = s; tag = g; count = e; trust = u; datatype = d }
+abbrev receive : OpName → ℕ → ℕ → Option ℕ → Option ℕ → ℕ → Trust → ℤ → Option ℕ → Receive
+receive n c a s g e u d f = record { name = n; comm = c; at = a; source = s; tag = g; count = e; trust = u; datatype = d; ended = f }
 
 abbrev queue : ℕ → ℕ → ℕ → ℕ → Queue
 queue a b c d = (a, b, c, d)
@@ -132,21 +132,23 @@ exact_messages a b h =
 
 pub exact_receives : CmpEqualImpliesEq receive_cmp
 exact_receives a b h =
-    let h0 = then_equal (name_cmp a.name b.name) (ordering_then (nat_cmp a.comm b.comm) (ordering_then (nat_cmp a.at b.at) (ordering_then (option_cmp nat_cmp a.source b.source) (ordering_then (option_cmp nat_cmp a.tag b.tag) (ordering_then (nat_cmp a.count b.count) (ordering_then (trust_cmp a.trust b.trust) (int_cmp a.datatype b.datatype))))))) h in
-    let h1 = then_equal (nat_cmp a.comm b.comm) (ordering_then (nat_cmp a.at b.at) (ordering_then (option_cmp nat_cmp a.source b.source) (ordering_then (option_cmp nat_cmp a.tag b.tag) (ordering_then (nat_cmp a.count b.count) (ordering_then (trust_cmp a.trust b.trust) (int_cmp a.datatype b.datatype)))))) h0.1 in
-    let h2 = then_equal (nat_cmp a.at b.at) (ordering_then (option_cmp nat_cmp a.source b.source) (ordering_then (option_cmp nat_cmp a.tag b.tag) (ordering_then (nat_cmp a.count b.count) (ordering_then (trust_cmp a.trust b.trust) (int_cmp a.datatype b.datatype))))) h1.1 in
-    let h3 = then_equal (option_cmp nat_cmp a.source b.source) (ordering_then (option_cmp nat_cmp a.tag b.tag) (ordering_then (nat_cmp a.count b.count) (ordering_then (trust_cmp a.trust b.trust) (int_cmp a.datatype b.datatype)))) h2.1 in
-    let h4 = then_equal (option_cmp nat_cmp a.tag b.tag) (ordering_then (nat_cmp a.count b.count) (ordering_then (trust_cmp a.trust b.trust) (int_cmp a.datatype b.datatype))) h3.1 in
-    let h5 = then_equal (nat_cmp a.count b.count) (ordering_then (trust_cmp a.trust b.trust) (int_cmp a.datatype b.datatype)) h4.1 in
-    let h6 = then_equal (trust_cmp a.trust b.trust) (int_cmp a.datatype b.datatype) h5.1 in
-    ap (λ x. receive x a.comm a.at a.source a.tag a.count a.trust a.datatype) (exact_names a.name b.name h0.0)
-    ∙ ap (λ x. receive b.name x a.at a.source a.tag a.count a.trust a.datatype) (exact_nats a.comm b.comm h1.0)
-    ∙ ap (λ x. receive b.name b.comm x a.source a.tag a.count a.trust a.datatype) (exact_nats a.at b.at h2.0)
-    ∙ ap (λ x. receive b.name b.comm b.at x a.tag a.count a.trust a.datatype) (exact_options a.source b.source h3.0)
-    ∙ ap (λ x. receive b.name b.comm b.at b.source x a.count a.trust a.datatype) (exact_options a.tag b.tag h4.0)
-    ∙ ap (λ x. receive b.name b.comm b.at b.source b.tag x a.trust a.datatype) (exact_nats a.count b.count h5.0)
-    ∙ ap (λ x. receive b.name b.comm b.at b.source b.tag b.count x a.datatype) (exact_trusts a.trust b.trust h6.0)
-    ∙ ap (λ x. receive b.name b.comm b.at b.source b.tag b.count b.trust x) (exact_ints a.datatype b.datatype h6.1)
+    let h0 = then_equal (name_cmp a.name b.name) (ordering_then (nat_cmp a.comm b.comm) (ordering_then (nat_cmp a.at b.at) (ordering_then (option_cmp nat_cmp a.source b.source) (ordering_then (option_cmp nat_cmp a.tag b.tag) (ordering_then (nat_cmp a.count b.count) (ordering_then (trust_cmp a.trust b.trust) (ordering_then (int_cmp a.datatype b.datatype) (option_cmp nat_cmp a.ended b.ended)))))))) h in
+    let h1 = then_equal (nat_cmp a.comm b.comm) (ordering_then (nat_cmp a.at b.at) (ordering_then (option_cmp nat_cmp a.source b.source) (ordering_then (option_cmp nat_cmp a.tag b.tag) (ordering_then (nat_cmp a.count b.count) (ordering_then (trust_cmp a.trust b.trust) (ordering_then (int_cmp a.datatype b.datatype) (option_cmp nat_cmp a.ended b.ended))))))) h0.1 in
+    let h2 = then_equal (nat_cmp a.at b.at) (ordering_then (option_cmp nat_cmp a.source b.source) (ordering_then (option_cmp nat_cmp a.tag b.tag) (ordering_then (nat_cmp a.count b.count) (ordering_then (trust_cmp a.trust b.trust) (ordering_then (int_cmp a.datatype b.datatype) (option_cmp nat_cmp a.ended b.ended)))))) h1.1 in
+    let h3 = then_equal (option_cmp nat_cmp a.source b.source) (ordering_then (option_cmp nat_cmp a.tag b.tag) (ordering_then (nat_cmp a.count b.count) (ordering_then (trust_cmp a.trust b.trust) (ordering_then (int_cmp a.datatype b.datatype) (option_cmp nat_cmp a.ended b.ended))))) h2.1 in
+    let h4 = then_equal (option_cmp nat_cmp a.tag b.tag) (ordering_then (nat_cmp a.count b.count) (ordering_then (trust_cmp a.trust b.trust) (ordering_then (int_cmp a.datatype b.datatype) (option_cmp nat_cmp a.ended b.ended)))) h3.1 in
+    let h5 = then_equal (nat_cmp a.count b.count) (ordering_then (trust_cmp a.trust b.trust) (ordering_then (int_cmp a.datatype b.datatype) (option_cmp nat_cmp a.ended b.ended))) h4.1 in
+    let h6 = then_equal (trust_cmp a.trust b.trust) (ordering_then (int_cmp a.datatype b.datatype) (option_cmp nat_cmp a.ended b.ended)) h5.1 in
+    let h7 = then_equal (int_cmp a.datatype b.datatype) (option_cmp nat_cmp a.ended b.ended) h6.1 in
+    ap (λ x. receive x a.comm a.at a.source a.tag a.count a.trust a.datatype a.ended) (exact_names a.name b.name h0.0)
+    ∙ ap (λ x. receive b.name x a.at a.source a.tag a.count a.trust a.datatype a.ended) (exact_nats a.comm b.comm h1.0)
+    ∙ ap (λ x. receive b.name b.comm x a.source a.tag a.count a.trust a.datatype a.ended) (exact_nats a.at b.at h2.0)
+    ∙ ap (λ x. receive b.name b.comm b.at x a.tag a.count a.trust a.datatype a.ended) (exact_options a.source b.source h3.0)
+    ∙ ap (λ x. receive b.name b.comm b.at b.source x a.count a.trust a.datatype a.ended) (exact_options a.tag b.tag h4.0)
+    ∙ ap (λ x. receive b.name b.comm b.at b.source b.tag x a.trust a.datatype a.ended) (exact_nats a.count b.count h5.0)
+    ∙ ap (λ x. receive b.name b.comm b.at b.source b.tag b.count x a.datatype a.ended) (exact_trusts a.trust b.trust h6.0)
+    ∙ ap (λ x. receive b.name b.comm b.at b.source b.tag b.count b.trust x a.ended) (exact_ints a.datatype b.datatype h7.0)
+    ∙ ap (λ x. receive b.name b.comm b.at b.source b.tag b.count b.trust b.datatype x) (exact_options a.ended b.ended h7.1)
 
 pub exact_queues : CmpEqualImpliesEq queue_cmp
 exact_queues a b h =

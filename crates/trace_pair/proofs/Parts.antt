@@ -6,7 +6,8 @@ use Rattle.mpi_model.specs.declared.message.Message.{Message}
 use Rattle.mpi_model.specs.declared.message.Receive.{Receive}
 use Rattle.trace_ops.specs.Ops.{Ops, IsOwn, AreOwn}
 use Rattle.trace_ops.specs.Order.{Has, AreInOrder, ArePosted}
-use Rattle.trace_pair.specs.Followed.{Indexes, Follows, Moves}
+use Rattle.trace_pair.specs.Followed.{Indexes, FollowsBy, Moves}
+use Rattle.trace_pair.specs.Pairing.{After}
 use Rattle.trace_pair.specs.Parts.{first_parts, begun, all_begun}
 use Rattle.trace_pair.specs.Table.{sends_of, receives_of}
 use Rattle.trace_pair.specs.declared.matched.Matched.{Matched}
@@ -72,6 +73,7 @@ own_begun parts done rank o w =
       posted = λ q h. w.posted q (has_front j o.receives q h);
       posted_at = λ q h. w.posted_at q (has_front j o.receives q h);
       sends_rise = order_front (take i o.sends) (drop i o.sends) (subst (λ (l : List Message). AreInOrder l) (sym (take-append-drop i o.sends)) w.sends_rise);
+      rounds_rise = w.rounds_rise;
       receives_rise = posted_front (take j o.receives) (drop j o.receives) (subst (λ (l : List Receive). ArePosted l) (sym (take-append-drop j o.receives)) w.receives_rise);
       cancelled_by = w.cancelled_by;
       cancelled_rise = w.cancelled_rise;
@@ -95,10 +97,10 @@ none_posted parts [] = refl
 none_posted parts (o ∷ os) = ap (λ (qs : List Receive). qs ++ receives_of (all_begun parts 0 os)) (first_none parts o.receives) ∙ none_posted parts os
 
 -- before the first part no call is there
-pub none_begun : (parts : ℕ) (os : List Ops) (state : Matched) → Indexes [] [] state → Follows (all_begun parts 0 os) state
-none_begun parts os state x =
-    subst (λ (ms : List Message). Indexes ms (receives_of (all_begun parts 0 os)) state) (sym (none_sent parts os))
-    (subst (λ (qs : List Receive). Indexes [] qs state) (sym (none_posted parts os)) x)
+pub none_begun : (after : After) (parts : ℕ) (os : List Ops) (state : Matched) → Indexes after [] [] state → FollowsBy after (all_begun parts 0 os) state
+none_begun after parts os state x =
+    subst (λ (ms : List Message). Indexes after ms (receives_of (all_begun parts 0 os)) state) (sym (none_sent parts os))
+    (subst (λ (qs : List Receive). Indexes after [] qs state) (sym (none_posted parts os)) x)
 
 module _ (parts done : ℕ) where
   -- the first ranks have a part more than the others
@@ -135,13 +137,13 @@ module _ (parts done : ℕ) where
   ahead_all (o ∷ os) = ap (λ (ps : List Ops). begun parts (done + 1) o ∷ ps) (ahead_all os)
 
   -- the next rank gets its part
-  pub next_ahead : (os : List Ops) (i : ℕ) (o : Ops) (old new : Matched) → i < length os → AreOwn 0 os → o ≡ get_or os i o → Moves (begun parts done o) (begun parts (done + 1) o) old new → Follows (one_ahead i os) old → Follows (one_ahead (i + 1) os) new
-  next_ahead os i o old new lt a e law x =
+  pub next_ahead : (after : After) (os : List Ops) (i : ℕ) (o : Ops) (old new : Matched) → i < length os → AreOwn 0 os → o ≡ get_or os i o → Moves after (begun parts done o) (begun parts (done + 1) o) old new → FollowsBy after (one_ahead i os) old → FollowsBy after (one_ahead (i + 1) os) new
+  next_ahead after os i o old new lt a e law x =
       let w : IsOwn i o = subst (λ (q : Ops). IsOwn i q) (sym e) (subst (λ (r : ℕ). IsOwn r (get_or os i o)) (omega arith) (own_at os 0 i o lt a)) in
       let n = ahead_length i os in
       let d : begun parts done o ≡ get_or (one_ahead i os) i (begun parts done o) = ap (begun parts done) e ∙ sym (ahead_at i os o (begun parts done o) lt) in
       let k : suc i ≡ i + 1 = omega arith in
       let s : set (one_ahead i os) i (begun parts (done + 1) o) ≡ one_ahead (i + 1) os =
       ap (λ (q : Ops). set (one_ahead i os) i (begun parts (done + 1) q)) e ∙ ahead_next i os o lt ∙ ap (λ (j : ℕ). one_ahead j os) k in
-      subst (λ (held : List Ops). Follows held new) s
-      (moved (one_ahead i os) i (begun parts done o) (begun parts (done + 1) o) old new (omega arith) (ahead_own i 0 os a) (own_begun parts (done + 1) i o w) d law x)
+      subst (λ (held : List Ops). FollowsBy after held new) s
+      (moved after (one_ahead i os) i (begun parts done o) (begun parts (done + 1) o) old new (omega arith) (ahead_own i 0 os a) (own_begun parts (done + 1) i o w) d law x)

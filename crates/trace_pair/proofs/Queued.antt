@@ -34,7 +34,7 @@ fit_parts m q h =
     let h3 = both (a && b && s) t h in let h2 = both (a && b) s h3.0 in let h1 = both a b h2.0 in
     (nat_says m.comm q.comm h1.0, nat_says m.to q.at h1.1, h2.1, h3.1)
 
-fit_from : (m : Message) (q : Receive) → m.comm ≡ q.comm → m.to ≡ q.at → admits q.source m.from ≡ true → admits q.tag m.tag ≡ true → envelopes_fit m q ≡ true
+pub fit_from : (m : Message) (q : Receive) → m.comm ≡ q.comm → m.to ≡ q.at → admits q.source m.from ≡ true → admits q.tag m.tag ≡ true → envelopes_fit m q ≡ true
 fit_from m q c r s t =
     let a = eqb m.comm q.comm in let b = eqb m.to q.at in let x = admits q.source m.from in let y = admits q.tag m.tag in
     and_true (a && b && x) y (and_true (a && b) x (and_true a b (equal_nats m.comm q.comm c) (equal_nats m.to q.at r)) s) t
@@ -167,7 +167,7 @@ had_still k s t (Some a) None h = or_more k.told_any_tag (is_some s && is_none t
 had_still k s t (Some a) (Some b) h = or_more k.told (is_some s && is_some t) h
 
 -- receives of one kind are marked alike
-had_alike : (k : Kinds) (s t a b : Option ℕ) → (alike s a && alike t b) ≡ true → had k a b ≡ had k s t
+pub had_alike : (k : Kinds) (s t a b : Option ℕ) → (alike s a && alike t b) ≡ true → had k a b ≡ had k s t
 had_alike k None None None None h = refl
 had_alike k None None None (Some b) h = absurd (cc)
 had_alike k None None (Some a) b h = absurd (cc)
@@ -181,6 +181,21 @@ had_alike k (Some s) (Some t) None b h = absurd (cc)
 had_alike k (Some s) (Some t) (Some a) None h = absurd (cc)
 had_alike k (Some s) (Some t) (Some a) (Some b) h = refl
 
+told_alike : (a b : Option ℕ) (x : ℕ) → alike a b ≡ true → admits a x ≡ true → admits b x ≡ true → a ≡ b
+told_alike None None x h f g = refl
+told_alike None (Some b) x h f g = absurd (cc)
+told_alike (Some a) None x h f g = absurd (cc)
+told_alike (Some a) (Some b) x h f g = ap (λ (y : ℕ). Some y) (admits_says a x f ∙ sym (admits_says b x g))
+
+-- the key of a receive of that kind that the message fits
+pub receive_key_fits : (m : Message) (source tag : Option ℕ) (r : Receive) → admits source m.from ≡ true → admits tag m.tag ≡ true → of_kind source tag r ≡ true → envelopes_fit m r ≡ true → receive_key m.comm m.to source tag ≡ receive_key_of r
+receive_key_fits m source tag r a b k h =
+    let p = fit_parts m r h in
+    let t = both (alike source r.source) (alike tag r.tag) k in
+    let x = told_alike source r.source m.from t.0 a p.2 in
+    let y = told_alike tag r.tag m.tag t.1 b p.3 in
+    ap (λ c. receive_key c m.to source tag) p.0 ∙ ap (λ c. receive_key r.comm c source tag) p.1 ∙ ap (λ c. receive_key r.comm r.at c tag) x ∙ ap (λ c. receive_key r.comm r.at r.source c) y
+
 module _ (kinds : Kinds) (groups : BTreeMap ReceiveKey (BTreeSet Receive)) (inv : AreGrouped kinds groups) where
   -- a kind that no receive had
   pub kind_none : (m : Message) (source tag : Option ℕ) → had kinds source tag ≡ false → IsBestAmong (members groups) m (of_kind source tag) None
@@ -188,20 +203,6 @@ module _ (kinds : Kinds) (groups : BTreeMap ReceiveKey (BTreeSet Receive)) (inv 
 
   at_receive_key : (r : Receive) → Has (members groups) r → has receive_key_cmp receive_cmp groups (receive_key_of r) r ≡ true
   at_receive_key r i = stands receive_keys_total exact_receive_keys receives_total exact_receives receive_key_of groups inv.ordered inv.placed r i
-
-  told_alike : (a b : Option ℕ) (x : ℕ) → alike a b ≡ true → admits a x ≡ true → admits b x ≡ true → a ≡ b
-  told_alike None None x h f g = refl
-  told_alike None (Some b) x h f g = absurd (cc)
-  told_alike (Some a) None x h f g = absurd (cc)
-  told_alike (Some a) (Some b) x h f g = ap (λ (y : ℕ). Some y) (admits_says a x f ∙ sym (admits_says b x g))
-
-  receive_key_fits : (m : Message) (source tag : Option ℕ) (r : Receive) → admits source m.from ≡ true → admits tag m.tag ≡ true → of_kind source tag r ≡ true → envelopes_fit m r ≡ true → receive_key m.comm m.to source tag ≡ receive_key_of r
-  receive_key_fits m source tag r a b k h =
-      let p = fit_parts m r h in
-      let t = both (alike source r.source) (alike tag r.tag) k in
-      let x = told_alike source r.source m.from t.0 a p.2 in
-      let y = told_alike tag r.tag m.tag t.1 b p.3 in
-      ap (λ c. receive_key c m.to source tag) p.0 ∙ ap (λ c. receive_key r.comm c source tag) p.1 ∙ ap (λ c. receive_key r.comm r.at c tag) x ∙ ap (λ c. receive_key r.comm r.at r.source c) y
 
   pub receive_key_first : (m : Message) (source tag : Option ℕ) (q : Receive) → admits source m.from ≡ true → admits tag m.tag ≡ true → has receive_key_cmp receive_cmp groups (receive_key m.comm m.to source tag) q ≡ true →
       ((d : Receive) → has receive_key_cmp receive_cmp groups (receive_key m.comm m.to source tag) d ≡ true → is_gt (receive_cmp q d) ≡ false) → IsBestAmong (members groups) m (of_kind source tag) (Some q)
@@ -276,13 +277,13 @@ module _ (xs : List Receive) (m : Message) (p t : Receive → Bool) where
   )
 
 -- each receive is of one of the four kinds
-kinds : (a b : Option ℕ) (x y : ℕ) → ((alike (Some x) a && alike (Some y) b) || (alike (Some x) a && alike None b) || ((alike None a && alike (Some y) b) || (alike None a && alike None b))) ≡ true
+pub kinds : (a b : Option ℕ) (x y : ℕ) → ((alike (Some x) a && alike (Some y) b) || (alike (Some x) a && alike None b) || ((alike None a && alike (Some y) b) || (alike None a && alike None b))) ≡ true
 kinds None None x y = refl
 kinds None (Some b) x y = refl
 kinds (Some a) None x y = refl
 kinds (Some a) (Some b) x y = refl
 
-abbrev all_kinds : Message → Receive → Bool
+abbrev pub all_kinds : Message → Receive → Bool
 all_kinds m r = (of_kind (Some m.from) (Some m.tag) r || of_kind (Some m.from) None r) || (of_kind None (Some m.tag) r || of_kind None None r)
 
 pub best_if : (xs : List Receive) (m : Message) (o : Option Receive) → IsBestAmong xs m (all_kinds m) o → IfSome o (IsFirstReceive xs m)

@@ -6,7 +6,8 @@ use Rattle.mpi_model.specs.declared.message.Receive.{Receive}
 use Rattle.trace_ops.specs.Ops.{Ops, no_ops, IsOwn, AreOwn}
 use Rattle.trace_ops.specs.Order.{Has}
 use Rattle.trace_pair.specs.Calls.{between, IsSequence, IsPosting}
-use Rattle.trace_pair.specs.Followed.{Indexes, Follows, Moves}
+use Rattle.trace_pair.specs.Followed.{Indexes, FollowsBy, Moves}
+use Rattle.trace_pair.specs.Pairing.{After}
 use Rattle.trace_pair.specs.Kept.{IsKept}
 use Rattle.trace_pair.specs.Table.{fresh, sends_of, receives_of}
 use Rattle.trace_pair.specs.declared.matched.Matched.{Matched}
@@ -66,7 +67,7 @@ own_set (o ∷ os) first (suc i) n a o' = (a.0, own_set os (first + 1) i n a.1 (
 
 pub own_fresh : (n first : ℕ) → AreOwn first (fresh n)
 own_fresh zero first = tt
-own_fresh (suc n) first = (record { sent = λ m i. absurd i; sent_from = λ m i. absurd i; posted = λ q i. absurd i; posted_at = λ q i. absurd i; sends_rise = tt; receives_rise = tt; cancelled_by = λ b i. absurd i; cancelled_rise = tt }, own_fresh n (first + 1))
+own_fresh (suc n) first = (record { sent = λ m i. absurd i; sent_from = λ m i. absurd i; posted = λ q i. absurd i; posted_at = λ q i. absurd i; sends_rise = tt; receives_rise = tt; rounds_rise = tt; cancelled_by = λ b i. absurd i; cancelled_rise = tt }, own_fresh n (first + 1))
 
 pub is_sequence : (os : List Ops) (i : ℕ) (n : Ops) → AreOwn 0 os → IsOwn i n → IsSequence (sends_of (take i os)) (sends_of (drop (suc i) os)) n.sends
 is_sequence os i n a o = record {
@@ -89,18 +90,18 @@ pub kept_fresh : (held : List Ops) (n : ℕ) → held ≡ fresh n → IsKept hel
 kept_fresh held n e = subst (λ (h : List Ops). IsKept h None) (sym e) (record { own = own_fresh n 0; followed = tt })
 
 -- a rank's ops are new ones
-pub moved : (held : List Ops) (i : ℕ) (d n : Ops) (old new : Matched) → i < length held → AreOwn 0 held → IsOwn i n → d ≡ get_or held i d → Moves d n old new → Follows held old → Follows (set held i n) new
-moved held i d n old new lt a o e law x =
+pub moved : (after : After) (held : List Ops) (i : ℕ) (d n : Ops) (old new : Matched) → i < length held → AreOwn 0 held → IsOwn i n → d ≡ get_or held i d → Moves after d n old new → FollowsBy after held old → FollowsBy after (set held i n) new
+moved after held i d n old new lt a o e law x =
     let w : IsOwn i (get_or held i d) = subst (λ (r : ℕ). IsOwn r (get_or held i d)) (omega arith) (own_at held 0 i d lt a) in
     let s = split (λ o. o.sends) held i d lt in
     let r = split (λ o. o.receives) held i d lt in
     let s' = split_set (λ o. o.sends) held i n lt in
     let r' = split_set (λ o. o.receives) held i n lt in
-    let x' = subst (λ (qs : List Receive). Indexes (between (sends_of (take i held)) (get_or held i d).sends (sends_of (drop (suc i) held))) qs old) r (subst (λ (ms : List Message). Indexes ms (receives_of held) old) s x) in
-    let y = (subst (λ (g : Ops). Moves g n old new) e law) (sends_of (take i held)) (sends_of (drop (suc i) held)) (receives_of (take i held)) (receives_of (drop (suc i) held))
+    let x' = subst (λ (qs : List Receive). Indexes after (between (sends_of (take i held)) (get_or held i d).sends (sends_of (drop (suc i) held))) qs old) r (subst (λ (ms : List Message). Indexes after ms (receives_of held) old) s x) in
+    let y = (subst (λ (g : Ops). Moves after g n old new) e law) (sends_of (take i held)) (sends_of (drop (suc i) held)) (receives_of (take i held)) (receives_of (drop (suc i) held))
     (is_sequence held i (get_or held i d) a w) (is_sequence held i n a o) (is_posting held i (get_or held i d) a w) (is_posting held i n a o) x' in
-    subst (λ (ms : List Message). Indexes ms (receives_of (set held i n)) new) (sym s')
-    (subst (λ (qs : List Receive). Indexes (between (sends_of (take i held)) n.sends (sends_of (drop (suc i) held))) qs new) (sym r') y)
+    subst (λ (ms : List Message). Indexes after ms (receives_of (set held i n)) new) (sym s')
+    (subst (λ (qs : List Receive). Indexes after (between (sends_of (take i held)) n.sends (sends_of (drop (suc i) held))) qs new) (sym r') y)
 
 pub own_moved : (held : List Ops) (i : ℕ) (n : Ops) → AreOwn 0 held → IsOwn i n → AreOwn 0 (set held i n)
 own_moved held i n a o = own_set held 0 i n a (subst (λ (r : ℕ). IsOwn r n) (omega arith) o)

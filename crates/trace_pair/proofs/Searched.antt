@@ -18,6 +18,7 @@ use Rattle.trace_ops.specs.Ops.{Ops, AreOwn}
 use Rattle.trace_ops.specs.Order.{Has}
 use Rattle.trace_pair.specs.Indexed.{name_lt}
 use Rattle.trace_pair.specs.KeyOrders.{name_cmp}
+use Rattle.trace_pair.specs.After.{comes_after}
 use Rattle.trace_pair.specs.Pairing.{Paired, receive_of}
 use Rattle.trace_pair.specs.Rising.{AreRising}
 use Rattle.trace_pair.specs.Searched.{ArePairs, AreByReceive, IsSearchable, receive_at, message_at, pair_named}
@@ -188,22 +189,23 @@ rows_rise f (m ∷ ms) r =
       )
     ]
 
-pub pairs_are : (held : List Ops) → AreOwn 0 held → ArePairs (pairs_of (sends_of held) (receives_of held))
+pub pairs_are : (held : List Ops) → AreOwn 0 held → ArePairs (pairs_of (comes_after held) (sends_of held) (receives_of held))
 pairs_are held a =
+    let after = comes_after held in
     let ms = sends_of held in
     let qs = receives_of held in
     let calls = own_calls held a in
-    let up = rows_rise (receive_of ms qs) ms (all_sends_rise held 0 a) in
+    let up = rows_rise (receive_of after ms qs) ms (all_sends_rise held 0 a) in
     record {
-      rise = rising_by (pairs_of ms qs) up;
-      one_message = λ p r i j e. one_named (λ (p : Pair). p.message) (pairs_of ms qs) p r up i j e;
+      rise = rising_by (pairs_of after ms qs) up;
+      one_message = λ p r i j e. one_named (λ (p : Pair). p.message) (pairs_of after ms qs) p r up i j e;
       one_receive = λ p r i j e.
-          let v = pair_has ms qs p i in
-          let w = pair_has ms qs r j in
+          let v = pair_has after ms qs p i in
+          let w = pair_has after ms qs r j in
           let names : v.2.name ≡ w.2.name = ap (λ (x : Pair). x.receive) (sym v.5) ∙ e ∙ ap (λ (x : Pair). x.receive) w.5 in
           let q : v.2 ≡ w.2 = calls.receives_apart v.2 w.2 v.3 w.3 (placed_receive v.2 w.2 (calls.receivers v.2 v.3) (calls.receivers w.2 w.3) names) in
-          let m : v.0 ≡ w.0 = the_one_message ms qs calls.messages_apart v.0 w.0 v.2 v.1 w.1 v.3 v.4 (subst (λ (x : Receive). Paired ms qs w.0 x) (sym q) w.4) in
-          one_named (λ (p : Pair). p.message) (pairs_of ms qs) p r up i j (ap (λ (x : Pair). x.message) v.5 ∙ ap (λ (x : Message). x.name) m ∙ sym (ap (λ (x : Pair). x.message) w.5));
+          let m : v.0 ≡ w.0 = the_one_message after ms qs calls.messages_apart v.0 w.0 v.2 v.1 w.1 v.3 v.4 (subst (λ (x : Receive). Paired after ms qs w.0 x) (sym q) w.4) in
+          one_named (λ (p : Pair). p.message) (pairs_of after ms qs) p r up i j (ap (λ (x : Pair). x.message) v.5 ∙ ap (λ (x : Message). x.name) m ∙ sym (ap (λ (x : Pair). x.message) w.5));
     }
 
 pub table_are : (held : List Ops) (t : Table) → AreOwn 0 held → t ≡ table_of held → ArePairs t.pairs

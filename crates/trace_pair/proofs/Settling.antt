@@ -1,5 +1,5 @@
 -- A pairing of all messages, as a receive comes.
-use Rattle.std.proofs.Common.{subst, ◌≡◌, ℕ, ◌+◌, ◌<◌, true, false, List, [], ◌∷◌, ◌++◌, sym, refl, ◌∙◌, ap, arith, length, take, get_or, Some, None}
+use Rattle.std.proofs.Common.{subst, ◌≡◌, ℕ, ◌+◌, ◌<◌, true, false, List, [], ◌∷◌, ◌++◌, inl, inr, ⊎_elim, sym, refl, ◌∙◌, ap, arith, length, take, get_or, Some, None}
 use Rattle.std.proofs.lemmas.List.{take_more, flat_map_more, append-nil}
 use Rattle.std.proofs.lemmas.Option.{get_or_from_slice_get}
 use Rattle.std.specs.Prelude.{slice_get}
@@ -12,13 +12,16 @@ use Rattle.trace_ops.specs.Order.{Has}
 use Rattle.trace_pair.specs.Calls.{is_live, AddsReceive, IsPosting, between}
 use Rattle.trace_pair.specs.Coupled.{taker_of, receive_by}
 use Rattle.trace_pair.specs.Indexed.{IsIndexed, IsFirstReceive, TakesReceive, couple_of}
-use Rattle.trace_pair.specs.Pairing.{receive_of}
+use Rattle.trace_pair.specs.After.{comes_after}
+use Rattle.trace_pair.specs.Ends.{AreLast, NoneHides, SomeHides}
+use Rattle.trace_pair.specs.Pairing.{After, receive_of}
 use Rattle.trace_pair.specs.Rising.{AreRising}
 use Rattle.trace_pair.specs.Sets.{AddsTo}
 use Rattle.trace_pair.specs.Settled.{Settles, IsTakenAt}
 use Rattle.trace_pair.specs.Table.{sends_of, receives_of}
 use Rattle.trace_pair.specs.Waiting.{Takings, untaken, with_taker, taker_at, live, couples_with, IsFirstAt, IsFirstPlace}
 use Rattle.trace_pair.specs.declared.batch.Batch.{Batch}
+use Rattle.trace_pair.specs.declared.ends.Ends.{Ends}
 use Rattle.trace_pair.specs.declared.pair.Couple.{Couple}
 use Rattle.trace_pair.specs.declared.pair.Taker.{Taker}
 use Rattle.trace_pair.proofs.Fitting.{envelope_of, fits_live, open_live, settled_live, settled_from, sure_stands, false_apart}
@@ -31,79 +34,80 @@ use Rattle.trace_pair.proofs.Ranked.{own_at, is_posting}
 use Rattle.trace_pair.proofs.Searched.{stands}
 use Rattle.trace_pair.proofs.Taken.{taken_drops, taken_adds, taker_there, no_taker, all_wait, none_coupled, none_posted}
 
-module _ (ms : List Message) (qs : List Receive) (b : Batch) (s : Settles ms qs b) where
+module _ (after : After) (ms : List Message) (qs : List Receive) (b : Batch) (s : Settles after ms qs b) where
   -- no message that waits fits the receive
-  pub none_fits : (q : Receive) → IsFirstPlace b.messages q None → IsTakenAt ms qs b.messages q None
+  pub none_fits : (q : Receive) → IsFirstPlace b.messages q None → IsTakenAt after ms qs b.messages q None
   none_fits q none = λ m i t. none m (s.held.waits_all m i (sure_stands m.trust t.sure_message) t.waits) (envelope_of m q t.fit)
 
   module _ (q : Receive) (place : ℕ) (m : Message) (first : IsFirstAt b.messages q place m) where
-    live_there : {n : Message} → n ≡ m → TakesReceive ms qs n q → is_live m.trust ≡ true
+    live_there : {n : Message} → n ≡ m → TakesReceive after ms qs n q → is_live m.trust ≡ true
     live_there {n} e t = subst (λ (x : Message). is_live x.trust ≡ true) e (sure_stands n.trust t.sure_message)
 
     -- the only message that could be taken is not sure
-    pub none_sure : is_sure m.trust ≡ false → IsTakenAt ms qs b.messages q None
+    pub none_sure : is_sure m.trust ≡ false → IsTakenAt after ms qs b.messages q None
     none_sure not = λ n i t.
-        let e = taken_first ms qs _ _ _ _ s.held n m q i t first.first in
+        let e = taken_first after ms qs _ _ _ _ s.held n m q i t first.first in
         false_apart (is_sure m.trust) not (subst (λ (x : Message). is_sure x.trust ≡ true) e t.sure_message)
 
-    -- an open receive fits it
-    pub open_fits : (u : Receive) → IsFirstReceive b.opened m u → IsTakenAt ms qs b.messages q None
-    open_fits u f = λ n i t.
-        let e = taken_first ms qs _ _ _ _ s.held n m q i t first.first in
-        let o = s.held.opens u f.member in
-        t.no_open u o.0 o.1 (subst (λ (x : Message). fits x u ≡ true) (sym e) (fits_live m u (live_there e t) (open_live u o.1) f.fit))
+    -- an open receive may have taken it
+    pub open_fits : SomeHides after s.opened m → IsTakenAt after ms qs b.messages q None
+    open_fits w = λ n i t.
+        let e = taken_first after ms qs _ _ _ _ s.held n m q i t first.first in
+        let o = s.held.opens w.0 w.1 in
+        let a = t.no_open w.0 o.0 o.1 (subst (λ (x : Message). fits x w.0 ≡ true) (sym e) (fits_live m w.0 (live_there e t) (open_live w.0 o.1) w.2)) in
+        false_apart (after m w.0) w.3 (subst (λ (x : Message). after x w.0 ≡ true) e a)
 
     -- a free one does
-    pub free_fits : (r : Receive) → IsFirstReceive b.free m r → IsTakenAt ms qs b.messages q None
+    pub free_fits : (r : Receive) → IsFirstReceive b.free m r → IsTakenAt after ms qs b.messages q None
     free_fits r f = λ n i t.
-        let e = taken_first ms qs _ _ _ _ s.held n m q i t first.first in
+        let e = taken_first after ms qs _ _ _ _ s.held n m q i t first.first in
         let o = s.held.frees r f.member in
         let w = t.none_free r o.0 o.1 (subst (λ (x : Message). fits x r ≡ true) (sym e) (fits_live m r (live_there e t) (settled_live r o.1) f.fit)) in
         o.2 w.0 w.1 w.2
 
-    pub is_taken : is_settled q ≡ true → is_sure m.trust ≡ true → ((u : Receive) → Has b.opened u → envelopes_fit m u ≡ true → ⊥) → ((r : Receive) → Has b.free r → envelopes_fit m r ≡ true → ⊥) → IsTakenAt ms qs b.messages q (Some place)
-    is_taken settled sure no_open none = (m, first.there, first.waits, taken_found ms qs _ _ _ _ s.held m q settled sure first.first no_open none)
+    pub is_taken : is_settled q ≡ true → is_sure m.trust ≡ true → NoneHides after s.opened m → ((r : Receive) → Has b.free r → envelopes_fit m r ≡ true → ⊥) → IsTakenAt after ms qs b.messages q (Some place)
+    is_taken settled sure no_open none = (m, first.there, first.waits, taken_found after ms qs _ _ _ _ s.held m q settled sure first.first no_open none)
 
   -- the same of the message that stands at the place of the list
   module _ (q : Receive) (place : ℕ) (l : List Message) (d : Message) (first : IsFirstPlace b.messages q (Some place)) (same : l ≡ b.messages.messages) where
     stands_at : get_or l place d ≡ first.0
     stands_at = get_or_from_slice_get l place first.0 d (ap (λ (k : List Message). slice_get k place) same ∙ first.1.there)
 
-    pub open_at : (u : Receive) → IsFirstReceive b.opened (get_or l place d) u → IsTakenAt ms qs b.messages q None
-    open_at u f = open_fits q place first.0 first.1 u (subst (λ (x : Message). IsFirstReceive b.opened x u) stands_at f)
+    pub open_at : SomeHides after s.opened (get_or l place d) → IsTakenAt after ms qs b.messages q None
+    open_at w = open_fits q place first.0 first.1 (subst (λ (x : Message). SomeHides after s.opened x) stands_at w)
 
-    pub free_at : (r : Receive) → IsFirstReceive b.free (get_or l place d) r → IsTakenAt ms qs b.messages q None
+    pub free_at : (r : Receive) → IsFirstReceive b.free (get_or l place d) r → IsTakenAt after ms qs b.messages q None
     free_at r f = free_fits q place first.0 first.1 r (subst (λ (x : Message). IsFirstReceive b.free x r) stands_at f)
 
-    pub not_sure_at : is_sure (get_or l place d).trust ≡ false → IsTakenAt ms qs b.messages q None
+    pub not_sure_at : is_sure (get_or l place d).trust ≡ false → IsTakenAt after ms qs b.messages q None
     not_sure_at not = none_sure q place first.0 first.1 (subst (λ (x : Message). is_sure x.trust ≡ false) stands_at not)
 
-    pub taken_at : is_settled q ≡ true → is_sure (get_or l place d).trust ≡ true → ((u : Receive) → Has b.opened u → envelopes_fit (get_or l place d) u ≡ true → ⊥) → ((r : Receive) → Has b.free r → envelopes_fit (get_or l place d) r ≡ true → ⊥) → IsTakenAt ms qs b.messages q (Some place)
+    pub taken_at : is_settled q ≡ true → is_sure (get_or l place d).trust ≡ true → NoneHides after s.opened (get_or l place d) → ((r : Receive) → Has b.free r → envelopes_fit (get_or l place d) r ≡ true → ⊥) → IsTakenAt after ms qs b.messages q (Some place)
     taken_at settled sure no_open none =
         is_taken q place first.0 first.1 settled (subst (λ (x : Message). is_sure x.trust ≡ true) stands_at sure)
-        (subst (λ (x : Message). (u : Receive) → Has b.opened u → envelopes_fit x u ≡ true → ⊥) stands_at no_open)
+        (subst (λ (x : Message). NoneHides after s.opened x) stands_at no_open)
         (subst (λ (x : Message). (r : Receive) → Has b.free r → envelopes_fit x r ≡ true → ⊥) stands_at none)
 
   -- the receive that takes the message at a place
-  pub receive_there : (place : ℕ) (m : Message) (t : Taker) → slice_get ms place ≡ Some m → Some t ≡ taker_at b.messages place → Some (receive_by m t) ≡ receive_of ms qs m
+  pub receive_there : (place : ℕ) (m : Message) (t : Taker) → slice_get ms place ≡ Some m → Some t ≡ taker_at b.messages place → Some (receive_by m t) ≡ receive_of after ms qs m
   receive_there place m t e h =
       let f : slice_get b.messages.messages place ≡ Some m = ap (λ (l : List Message). slice_get l place) s.messages ∙ e in
-      partner_is ms qs _ _ _ _ s.held m (receive_by m t) (taker_there m t b.messages.messages b.messages.takers place f (sym h))
+      partner_is after ms qs _ _ _ _ s.held m (receive_by m t) (taker_there m t b.messages.messages b.messages.takers place f (sym h))
 
-  pub none_there : (place : ℕ) (m : Message) → slice_get ms place ≡ Some m → None ≡ taker_at b.messages place → None ≡ receive_of ms qs m
+  pub none_there : (place : ℕ) (m : Message) → slice_get ms place ≡ Some m → None ≡ taker_at b.messages place → None ≡ receive_of after ms qs m
   none_there place m e h =
       let f : slice_get b.messages.messages place ≡ Some m = ap (λ (l : List Message). slice_get l place) s.messages ∙ e in
-      partner_absent ms qs _ _ _ _ s.held m (stands ms place m e)
+      partner_absent after ms qs _ _ _ _ s.held m (stands ms place m e)
       (λ q i. no_taker b.messages.messages b.messages.takers place m q (subst (λ (l : List Message). AreRising (λ (m : Message). m.name) l) (sym s.messages) s.rise) f (sym h) i)
 
 -- the receive comes, and takes the message at the place
-module _ (ms : List Message) (qs more : List Receive) (q : Receive) (adds : AddsReceive qs more q) (b old : Batch) (same : b ≡ old) (s : Settles ms qs old) where
-  now : Settles ms qs b
-  now = subst (λ (x : Batch). Settles ms qs x) (sym same) s
+module _ (after : After) (ms : List Message) (qs more : List Receive) (q : Receive) (adds : AddsReceive qs more q) (b old : Batch) (same : b ≡ old) (s : Settles after ms qs old) where
+  now : Settles after ms qs b
+  now = subst (λ (x : Batch). Settles after ms qs x) (sym same) s
 
-  pub adds_taken : (place : ℕ) (t : Taker) (new : Takings) → IsTakenAt ms qs old.messages q (Some place) → t ≡ taker_of q → new ≡ with_taker b.messages place t → Settles ms more (record b { messages = new })
+  pub adds_taken : (place : ℕ) (t : Taker) (new : Takings) → IsTakenAt after ms qs old.messages q (Some place) → t ≡ taker_of q → new ≡ with_taker b.messages place t → Settles after ms more (record b { messages = new })
   adds_taken place t new taken is made =
-      let w : IsTakenAt ms qs b.messages q (Some place) = subst (λ (x : Batch). IsTakenAt ms qs x.messages q (Some place)) (sym same) taken in
+      let w : IsTakenAt after ms qs b.messages q (Some place) = subst (λ (x : Batch). IsTakenAt after ms qs x.messages q (Some place)) (sym same) taken in
       let v = now in
       let m = w.0 in
       let rise : AreRising (λ (m : Message). m.name) b.messages.messages = subst (λ (l : List Message). AreRising (λ (m : Message). m.name) l) (sym v.messages) v.rise in
@@ -112,36 +116,47 @@ module _ (ms : List Message) (qs more : List Receive) (q : Receive) (adds : Adds
       let d = taken_drops m t b.messages.messages b.messages.takers place rise w.1 w.2 in
       let a = taken_adds m t b.messages.messages b.messages.takers place w.1 w.2 in
       let a' = subst (λ (r : Receive). AddsTo (couples_with b.messages.messages b.messages.takers) (couples_with b.messages.messages (with_taker b.messages place t).takers) (couple_of m r)) (sym fit) a in
-      subst (λ (x : Takings). Settles ms more (record b { messages = x })) (sym made) (record {
+      subst (λ (x : Takings). Settles after ms more (record b { messages = x })) (sym made) (record {
         messages = v.messages;
         rise = v.rise;
-        held = push_receive_coupled ms qs more q adds _ _ _ _ v.held m _ _ im w.3 d a';
+        opened = v.opened;
+        last = v.last;
+        held = push_receive_coupled after ms qs more q adds _ _ _ _ v.held m _ _ im w.3 d a';
       })
 
-  pub adds_free : (new : List Receive) → is_settled q ≡ true → IsTakenAt ms qs old.messages q None → AddsTo b.free new q → Settles ms more (record b { free = new })
-  adds_free new settled none added = record { messages = now.messages; rise = now.rise; held = push_receive_free ms qs more q adds _ _ _ _ now.held new settled none added }
+  pub adds_free : (new : List Receive) → is_settled q ≡ true → IsTakenAt after ms qs old.messages q None → AddsTo b.free new q → Settles after ms more (record b { free = new })
+  adds_free new settled none added = record { messages = now.messages; rise = now.rise; opened = now.opened; last = now.last; held = push_receive_free after ms qs more q adds _ _ _ _ now.held new settled none added }
 
-  pub adds_open : (new : List Receive) → is_open q ≡ true → AddsTo b.opened new q → Settles ms more (record b { opened = new })
-  adds_open new is added = record { messages = now.messages; rise = now.rise; held = push_receive_open ms qs more q adds _ _ _ _ now.held new is added }
+  pub adds_open : (new : Ends) → is_open q ≡ true → ((opened : List Receive) → AreLast opened b.opened → AreLast (q ∷ opened) new) → Settles after ms more (record b { opened = new })
+  adds_open new is law = record {
+    messages = now.messages;
+    rise = now.rise;
+    opened = q ∷ now.opened;
+    last = law now.opened now.last;
+    held = push_receive_open after ms qs more q adds _ _ _ _ now.held (q ∷ now.opened) is (record { keeps = λ r i. inr i; added = inl refl; cases = λ r i. ⊎_elim (λ (e : r ≡ q). inr e) (λ (j : Has now.opened r). inl j) i });
+  }
 
   -- a void receive is in none of the sets
-  pub adds_void : is_open q ≡ false → is_settled q ≡ false → Settles ms more b
-  adds_void not_open not_settled = record { messages = now.messages; rise = now.rise; held = push_receive_void ms qs more q adds _ _ _ _ now.held not_open not_settled }
+  pub adds_void : is_open q ≡ false → is_settled q ≡ false → Settles after ms more b
+  adds_void not_open not_settled = record { messages = now.messages; rise = now.rise; opened = now.opened; last = now.last; held = push_receive_void after ms qs more q adds _ _ _ _ now.held not_open not_settled }
 
 -- no receive has come
-pub settled_none : (os : List Ops) (t : Takings) (free opened : List Receive) → AreOwn 0 os → t ≡ untaken (sends_of os) → free ≡ [] → opened ≡ [] → Settles (sends_of os) [] (record { messages = t; free = free; opened = opened })
-settled_none os t free opened a e f g =
+pub settled_none : (os : List Ops) (t : Takings) (free : List Receive) (opened : Ends) → AreOwn 0 os → t ≡ untaken (sends_of os) → free ≡ [] → AreLast [] opened →
+    Settles (comes_after os) (sends_of os) [] (record { messages = t; free = free; opened = opened })
+settled_none os t free opened a e f last =
     let ms = sends_of os in
+    let after = comes_after os in
     let o = own_calls os a in
-    subst (λ (x : Takings). Settles ms [] (record { messages = x; free = free; opened = opened })) (sym e)
-    (subst (λ (x : List Receive). Settles ms [] (record { messages = untaken ms; free = x; opened = opened })) (sym f)
-    (subst (λ (x : List Receive). Settles ms [] (record { messages = untaken ms; free = []; opened = x })) (sym g)
+    subst (λ (x : Takings). Settles after ms [] (record { messages = x; free = free; opened = opened })) (sym e)
+    (subst (λ (x : List Receive). Settles after ms [] (record { messages = untaken ms; free = x; opened = opened })) (sym f)
     (record {
       messages = refl;
       rise = all_sends_rise os 0 a;
-      held = subst (λ (x : List Message). IsIndexed ms [] x [] [] (couples_with ms (untaken ms).takers)) (sym (all_wait ms))
-          (subst (λ (x : List Couple). IsIndexed ms [] (live ms) [] [] x) (sym (none_coupled ms)) (none_posted ms o.senders o.messages_apart));
-    })))
+      opened = [];
+      last = last;
+      held = subst (λ (x : List Message). IsIndexed after ms [] x [] [] (couples_with ms (untaken ms).takers)) (sym (all_wait ms))
+          (subst (λ (x : List Couple). IsIndexed after ms [] (live ms) [] [] x) (sym (none_coupled ms)) (none_posted after ms o.senders o.messages_apart));
+    }))
 
 -- the receives of the next rank, behind those of the ranks before it
 pub posts_next : (os : List Ops) (i : ℕ) (n : Ops) → AreOwn 0 os → IsOwn i n → IsPosting (receives_of (take i os)) [] n.receives
@@ -149,10 +164,11 @@ posts_next os i n a o = let p = is_posting os i n a o in record { own = p.own; o
 
 -- and with them all that the ranks so far received is there
 pub ranks_next : (os : List Ops) (i : ℕ) (o : Ops) (own : List Receive) (old new : Batch) → i < length os → AreOwn 0 os → o ≡ get_or os i o → own ≡ o.receives →
-    ((ms : List Message) (before : List Receive) → IsPosting before [] own → Settles ms (between before [] []) old → Settles ms (between before own []) new) →
-    Settles (sends_of os) (receives_of (take i os)) old → Settles (sends_of os) (receives_of (take (i + 1) os)) new
+    ((ms : List Message) (before : List Receive) → IsPosting before [] own → Settles (comes_after os) ms (between before [] []) old → Settles (comes_after os) ms (between before own []) new) →
+    Settles (comes_after os) (sends_of os) (receives_of (take i os)) old → Settles (comes_after os) (sends_of os) (receives_of (take (i + 1) os)) new
 ranks_next os i o own old new lt a e f law s =
     let ms = sends_of os in
+    let after = comes_after os in
     let before = receives_of (take i os) in
     let w : IsOwn i o = subst (λ (p : Ops). IsOwn i p) (sym e) (subst (λ (r : ℕ). IsOwn r (get_or os i o)) (omega arith) (own_at os 0 i o lt a)) in
     let p : IsPosting before [] own = subst (λ (l : List Receive). IsPosting before [] l) (sym f) (posts_next os i o a w) in
@@ -160,4 +176,4 @@ ranks_next os i o own old new lt a e f law s =
     let r : between before own [] ≡ receives_of (take (i + 1) os) =
     append-nil (before ++ own) ∙ ap (λ (l : List Receive). before ++ l) f ∙ flat_map_more (λ (x : Ops). x.receives) [] (take i os) o
     ∙ ap (λ (l : List Ops). receives_of l) (ap (λ (x : Ops). take i os ++ x ∷ []) e ∙ sym (take_more os i o lt)) in
-    subst (λ (l : List Receive). Settles ms l new) r (law ms before p (subst (λ (l : List Receive). Settles ms l old) b s))
+    subst (λ (l : List Receive). Settles after ms l new) r (law ms before p (subst (λ (l : List Receive). Settles after ms l old) b s))

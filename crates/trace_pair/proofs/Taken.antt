@@ -7,6 +7,7 @@ use Rattle.trace_ops.specs.Order.{Has}
 use Rattle.trace_pair.specs.Calls.{is_live, IsOwnMessage, AreApart}
 use Rattle.trace_pair.specs.Coupled.{receive_by}
 use Rattle.trace_pair.specs.Indexed.{IsIndexed, couple_of}
+use Rattle.trace_pair.specs.Pairing.{After}
 use Rattle.trace_pair.specs.Rising.{AreRising}
 use Rattle.trace_pair.specs.Sets.{AddsTo, DropsFrom}
 use Rattle.trace_pair.specs.Waiting.{left_in, live, waiting_in, couples_with, waits_at, taker_in}
@@ -188,8 +189,8 @@ pub none_coupled : (ms : List Message) → couples_with ms (replicate (length ms
 none_coupled [] = refl
 none_coupled (m ∷ ms) = none_coupled ms
 
-pub none_posted : (ms : List Message) → ((m : Message) → Has ms m → IsOwnMessage m) → AreApart ms → IsIndexed ms [] (live ms) [] [] []
-none_posted ms senders apart = record {
+pub none_posted : (after : After) (ms : List Message) → ((m : Message) → Has ms m → IsOwnMessage m) → AreApart ms → IsIndexed after ms [] (live ms) [] [] []
+none_posted after ms senders apart = record {
   senders = senders;
   receivers = λ q i. absurd i;
   messages_apart = apart;

@@ -7,13 +7,14 @@ use Rattle.mpi_model.specs.declared.message.Receive.{Receive}
 use Rattle.mpi_model.specs.Trusts.{is_doubtful, is_open}
 use Rattle.trace_ops.specs.Ops.{Ops, AreOwn, Grows, StaysCertain}
 use Rattle.trace_ops.specs.Order.{Has}
+use Rattle.trace_pair.specs.After.{comes_after}
 use Rattle.trace_pair.specs.Matching.{IsLegal}
 use Rattle.trace_pair.specs.Table.{sends_of, receives_of, pair_of}
 use Rattle.trace_pair.specs.declared.pair.Pair.{Pair}
 
 -- The couples are a legal matching of these ops.
 abbrev pub IsLegalFor : List Ops → (OpName → OpName → Bool) → Type 0
-IsLegalFor held couple = IsLegal (sends_of held) (receives_of held) (λ m q. couple m.name q.name ≡ true)
+IsLegalFor held couple = IsLegal (comes_after held) (sends_of held) (receives_of held) (λ m q. couple m.name q.name ≡ true)
 
 -- Each pair is a couple of every legal matching of every continuation, however open receives are told there. In a
 -- continuation no later Cancel names what is sure.
@@ -26,9 +27,13 @@ pub record AreAllSettled (held : List Ops) : Type 0 where
   pub none_open : (q : Receive) → Has (receives_of held) q → is_open q ≡ false
   pub none_doubtful : (m : Message) → Has (sends_of held) m → is_doubtful m.trust ≡ false
 
+-- No message of a pair comes after its receive.
+abbrev pub AreNoneAfter : List Ops → List Pair → Type 0
+AreNoneAfter held pairs = (m : Message) (q : Receive) → Has (sends_of held) m → Has (receives_of held) q → Has pairs (pair_of m q) → comes_after held m q ≡ false
+
 -- The pairs are a legal matching.
 abbrev pub AreLegal : List Ops → List Pair → Type 0
-AreLegal held pairs = IsLegal (sends_of held) (receives_of held) (λ m q. Has pairs (pair_of m q))
+AreLegal held pairs = IsLegal (comes_after held) (sends_of held) (receives_of held) (λ m q. Has pairs (pair_of m q))
 
 -- Every legal matching is within the pairs.
 abbrev pub AreTheOnlyLegal : List Ops → List Pair → Type 0

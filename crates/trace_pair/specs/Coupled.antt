@@ -14,7 +14,7 @@ use Rattle.trace_pair.specs.declared.pair.Taker.{Taker}
 
 -- what the receive tells beside its message
 abbrev pub taker_of : Receive → Taker
-taker_of q = record { call = q.name.call; datatype = q.datatype; count = q.count; any_tag = is_none q.tag }
+taker_of q = record { call = q.name.call; datatype = q.datatype; count = q.count; any_tag = is_none q.tag; ended = q.ended }
 
 -- the name of the receive that takes the message
 abbrev pub taker_name : Message → Taker → OpName
@@ -22,7 +22,7 @@ taker_name m t = record { rank = m.to; call = t.call }
 
 -- and that receive: what the message tells of it, and what it tells beside; it is sure
 abbrev pub receive_by : Message → Taker → Receive
-receive_by m t = record { name = taker_name m t; comm = m.comm; at = m.to; source = Some m.from; tag = cond t.any_tag None (Some m.tag); count = t.count; trust = Sure; datatype = t.datatype }
+receive_by m t = record { name = taker_name m t; comm = m.comm; at = m.to; source = Some m.from; tag = cond t.any_tag None (Some m.tag); count = t.count; trust = Sure; datatype = t.datatype; ended = t.ended }
 
 -- the couple of a message that some receive took
 abbrev pub couple_by : Slots Taker → Message → Option Couple

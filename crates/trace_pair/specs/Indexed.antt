@@ -7,16 +7,16 @@ use Rattle.mpi_model.specs.Fit.{envelopes_fit, fits}
 use Rattle.mpi_model.specs.Trusts.{is_sure, is_open, is_settled}
 use Rattle.trace_ops.specs.Order.{Has, sent_before, posted_before}
 use Rattle.trace_pair.specs.Calls.{is_live, IsOwnMessage, IsOwnReceive, AreApart, ArePostedApart}
-use Rattle.trace_pair.specs.Pairing.{Paired}
+use Rattle.trace_pair.specs.Pairing.{After, Paired}
 use Rattle.trace_pair.specs.declared.pair.Couple.{Couple}
 
 -- no receive takes the message
-abbrev pub IsUnpaired : List Message → List Receive → Message → Type 0
-IsUnpaired ms qs m = (q : Receive) → Has qs q → Paired ms qs m q → ⊥
+abbrev pub IsUnpaired : After → List Message → List Receive → Message → Type 0
+IsUnpaired after ms qs m = (q : Receive) → Has qs q → Paired after ms qs m q → ⊥
 
 -- the receive takes no message
-abbrev pub IsFree : List Message → List Receive → Receive → Type 0
-IsFree ms qs q = (m : Message) → Has ms m → Paired ms qs m q → ⊥
+abbrev pub IsFree : After → List Message → List Receive → Receive → Type 0
+IsFree after ms qs q = (m : Message) → Has ms m → Paired after ms qs m q → ⊥
 
 -- a message with the receive that takes it
 abbrev pub couple_of : Message → Receive → Couple
@@ -25,41 +25,43 @@ couple_of m q = record { message = m; receive = q }
 -- In the sets are: messages without a receive, settled receives without a message, open receives, and the pairs. What is
 -- void is in none of them.
 -- Each set in two directions: what is in it is so, and what is so is in it.
-pub record IsIndexed (ms : List Message) (qs : List Receive) (waiting : List Message) (free opened : List Receive) (couples : List Couple) : Type 0 where
+pub record IsIndexed (after : After) (ms : List Message) (qs : List Receive) (waiting : List Message) (free opened : List Receive) (couples : List Couple) : Type 0 where
   pub senders : (m : Message) → Has ms m → IsOwnMessage m
   pub receivers : (q : Receive) → Has qs q → IsOwnReceive q
   pub messages_apart : AreApart ms
   pub receives_apart : ArePostedApart qs
-  pub waits : (m : Message) → Has waiting m → Has ms m × (is_live m.trust ≡ true) × IsUnpaired ms qs m
-  pub waits_all : (m : Message) → Has ms m → is_live m.trust ≡ true → IsUnpaired ms qs m → Has waiting m
-  pub frees : (q : Receive) → Has free q → Has qs q × (is_settled q ≡ true) × IsFree ms qs q
-  pub frees_all : (q : Receive) → Has qs q → is_settled q ≡ true → IsFree ms qs q → Has free q
+  pub waits : (m : Message) → Has waiting m → Has ms m × (is_live m.trust ≡ true) × IsUnpaired after ms qs m
+  pub waits_all : (m : Message) → Has ms m → is_live m.trust ≡ true → IsUnpaired after ms qs m → Has waiting m
+  pub frees : (q : Receive) → Has free q → Has qs q × (is_settled q ≡ true) × IsFree after ms qs q
+  pub frees_all : (q : Receive) → Has qs q → is_settled q ≡ true → IsFree after ms qs q → Has free q
   pub opens : (q : Receive) → Has opened q → Has qs q × (is_open q ≡ true)
   pub opens_all : (q : Receive) → Has qs q → is_open q ≡ true → Has opened q
-  pub coupled : (c : Couple) → Has couples c → Has ms c.message × Has qs c.receive × Paired ms qs c.message c.receive
-  pub coupled_all : (m : Message) (q : Receive) → Has ms m → Has qs q → Paired ms qs m q → Has couples (couple_of m q)
+  pub coupled : (c : Couple) → Has couples c → Has ms c.message × Has qs c.receive × Paired after ms qs c.message c.receive
+  pub coupled_all : (m : Message) (q : Receive) → Has ms m → Has qs q → Paired after ms qs m q → Has couples (couple_of m q)
 
--- what the index tests for a new message: the receive is the first free one that fits, and no waiting message fits it
-pub record TakesMessage (ms : List Message) (qs : List Receive) (m : Message) (q : Receive) : Type 0 where
+-- what the index tests for a new message: the receive is the first free one that fits, no waiting message fits it, and the
+-- message comes after each open receive before it that fits
+pub record TakesMessage (after : After) (ms : List Message) (qs : List Receive) (m : Message) (q : Receive) : Type 0 where
   pub told : is_some q.source ≡ true
   pub sure_receive : is_sure q.trust ≡ true
   pub sure_message : is_sure m.trust ≡ true
   pub fit : fits m q ≡ true
-  pub no_open : (u : Receive) → Has qs u → is_open u ≡ true → posted_before u q ≡ true → fits m u ≡ true → ⊥
-  pub is_free : IsFree ms qs q
-  pub first_free : (r : Receive) → Has qs r → is_settled r ≡ true → posted_before r q ≡ true → fits m r ≡ true → (n : Message) × Has ms n × Paired ms qs n r
-  pub none_waits : (n : Message) → Has ms n → fits n q ≡ true → (r : Receive) × Has qs r × Paired ms qs n r
+  pub no_open : (u : Receive) → Has qs u → is_open u ≡ true → posted_before u q ≡ true → fits m u ≡ true → after m u ≡ true
+  pub is_free : IsFree after ms qs q
+  pub first_free : (r : Receive) → Has qs r → is_settled r ≡ true → posted_before r q ≡ true → fits m r ≡ true → (n : Message) × Has ms n × Paired after ms qs n r
+  pub none_waits : (n : Message) → Has ms n → fits n q ≡ true → (r : Receive) × Has qs r × Paired after ms qs n r
 
--- and for a new receive: the message is the first waiting one that fits, and no open or free receive fits it
-pub record TakesReceive (ms : List Message) (qs : List Receive) (m : Message) (q : Receive) : Type 0 where
+-- and for a new receive: the message is the first waiting one that fits, no free receive fits it, and it comes after each
+-- open receive that does
+pub record TakesReceive (after : After) (ms : List Message) (qs : List Receive) (m : Message) (q : Receive) : Type 0 where
   pub told : is_some q.source ≡ true
   pub sure_receive : is_sure q.trust ≡ true
   pub sure_message : is_sure m.trust ≡ true
   pub fit : fits m q ≡ true
-  pub no_open : (u : Receive) → Has qs u → is_open u ≡ true → fits m u ≡ true → ⊥
-  pub waits : IsUnpaired ms qs m
-  pub first_waiting : (n : Message) → Has ms n → sent_before n m ≡ true → fits n q ≡ true → (r : Receive) × Has qs r × Paired ms qs n r
-  pub none_free : (r : Receive) → Has qs r → is_settled r ≡ true → fits m r ≡ true → (n : Message) × Has ms n × Paired ms qs n r
+  pub no_open : (u : Receive) → Has qs u → is_open u ≡ true → fits m u ≡ true → after m u ≡ true
+  pub waits : IsUnpaired after ms qs m
+  pub first_waiting : (n : Message) → Has ms n → sent_before n m ≡ true → fits n q ≡ true → (r : Receive) × Has qs r × Paired after ms qs n r
+  pub none_free : (r : Receive) → Has qs r → is_settled r ≡ true → fits m r ≡ true → (n : Message) × Has ms n × Paired after ms qs n r
 
 -- by rank, and then by call
 abbrev pub name_lt : OpName → OpName → Bool

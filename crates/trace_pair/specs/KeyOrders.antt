@@ -1,10 +1,11 @@
 -- The orders of calls and of the keys of an index: by the parts in turn.
-use Rattle.std.specs.Prelude.{ℕ, Option}
+use Rattle.std.specs.Prelude.{ℕ, Bool, Option}
 use Rattle.std.specs.declared.cmp.Ordering.{Ordering}
 use Rattle.std.specs.Ordering.{nat_cmp, int_cmp, ordering_then}
 use Rattle.std.specs.Option.{option_cmp}
 use Rattle.mpi_model.specs.declared.envelope.Mode.{Mode}
 use Rattle.mpi_model.specs.contracts.envelope.ModeOrd.TheImpl as mode_ord
+use Rattle.mpi_model.specs.contracts.message.ReceivePartialEq.TheImpl as receive_eq
 use Rattle.mpi_model.specs.contracts.message.TrustOrd.TheImpl as trust_ord
 use Rattle.mpi_model.specs.declared.event.OpName.{OpName}
 use Rattle.mpi_model.specs.declared.message.Message.{Message}
@@ -29,7 +30,11 @@ message_cmp a b = ordering_then (name_cmp a.name b.name) (ordering_then (nat_cmp
 
 -- receives by their names, and then by all else
 abbrev pub receive_cmp : Receive → Receive → Ordering
-receive_cmp a b = ordering_then (name_cmp a.name b.name) (ordering_then (nat_cmp a.comm b.comm) (ordering_then (nat_cmp a.at b.at) (ordering_then (option_cmp nat_cmp a.source b.source) (ordering_then (option_cmp nat_cmp a.tag b.tag) (ordering_then (nat_cmp a.count b.count) (ordering_then (trust_cmp a.trust b.trust) (int_cmp a.datatype b.datatype)))))))
+receive_cmp a b = ordering_then (name_cmp a.name b.name) (ordering_then (nat_cmp a.comm b.comm) (ordering_then (nat_cmp a.at b.at) (ordering_then (option_cmp nat_cmp a.source b.source) (ordering_then (option_cmp nat_cmp a.tag b.tag) (ordering_then (nat_cmp a.count b.count) (ordering_then (trust_cmp a.trust b.trust) (ordering_then (int_cmp a.datatype b.datatype) (option_cmp nat_cmp a.ended b.ended))))))))
+
+-- receives that are equal in every part
+abbrev pub same_receive : Receive → Receive → Bool
+same_receive = (receive_eq.ghosts).eq
 
 -- communicator, sender, receiver and tag
 abbrev pub Queue : Type 0

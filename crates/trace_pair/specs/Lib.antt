@@ -1,5 +1,8 @@
 pub mod Places
 pub mod Pairing
+pub mod After
+pub mod Barriers
+pub mod Reach
 pub mod Matching
 pub mod Table
 pub mod Searched
@@ -11,12 +14,14 @@ pub mod Indexed
 pub mod Slots
 pub mod Coupled
 pub mod Followed
+pub mod Fronts
 pub mod Parts
 pub mod Kept
 pub mod OneOrMany
 pub mod Groups
 pub mod KeyOrders
 pub mod Queues
+pub mod Ends
 pub mod Waiting
 pub mod Settled
 pub mod Worked

@@ -11,9 +11,13 @@ use Rattle.mpi_model.specs.Fit.{fits}
 use Rattle.mpi_model.specs.Trusts.{is_sure, is_open, is_settled}
 use Rattle.trace_ops.specs.Order.{Has, sent_before, posted_before}
 
--- An open receive before this one fits the message, so it may have taken it.
-abbrev pub blocked : List Receive → Message → Receive → Bool
-blocked qs m q = list_any (λ u. is_open u && posted_before u q && fits m u) qs
+-- Which messages come after which receives: they were sent when the receive was completed, so it didn't take them.
+abbrev pub After : Type 0
+After = Message → Receive → Bool
+
+-- An open receive before this one fits the message, and the message doesn't come after it: so it may have taken it.
+abbrev pub blocked : After → List Receive → Message → Receive → Bool
+blocked after qs m q = list_any (λ u. is_open u && posted_before u q && fits m u && not (after m u)) qs
 
 -- Each earlier message of the same sender that fits the receive is paired with a receive before it.
 abbrev pub messages_gone : List Message → List Receive → (Message → Receive → Bool) → Message → Receive → Bool
@@ -26,36 +30,36 @@ receives_gone ms qs paired m q = list_all (λ r. not (is_settled r && posted_bef
 -- The five rules, where `paired` says which couples of earlier calls are pairs:
 -- 1. the receive's source is told, and both are sure;
 -- 2. the message fits the receive;
--- 3. no open receive before it fits the message;
+-- 3. no open receive before it fits the message, but for those that the message comes after;
 -- 4. each earlier message that fits the receive is paired with an earlier receive;
 -- 5. each earlier told and sure receive that fits the message is paired with an earlier message.
-unfoldable pub obeys : List Message → List Receive → (Message → Receive → Bool) → Message → Receive → Bool
-obeys ms qs paired m q =
-    is_settled q && is_sure m.trust && fits m q && not (blocked qs m q) && messages_gone ms qs paired m q && receives_gone ms qs paired m q
+unfoldable pub obeys : After → List Message → List Receive → (Message → Receive → Bool) → Message → Receive → Bool
+obeys after ms qs paired m q =
+    is_settled q && is_sure m.trust && fits m q && not (blocked after qs m q) && messages_gone ms qs paired m q && receives_gone ms qs paired m q
 
 -- the pairs whose call numbers add up to less than the bound
-unfoldable pub paired_below : ℕ → List Message → List Receive → Message → Receive → Bool
-paired_below zero ms qs m q = false
-paired_below (suc bound) ms qs m q = obeys ms qs (paired_below bound ms qs) m q
+unfoldable pub paired_below : ℕ → After → List Message → List Receive → Message → Receive → Bool
+paired_below zero after ms qs m q = false
+paired_below (suc bound) after ms qs m q = obeys after ms qs (paired_below bound after ms qs) m q
 
 -- The message and the receive are a pair: by recursion on the sum of their call numbers.
-unfoldable pub paired : List Message → List Receive → Message → Receive → Bool
-paired ms qs m q = paired_below (suc (m.name.call + q.name.call)) ms qs m q
+unfoldable pub paired : After → List Message → List Receive → Message → Receive → Bool
+paired after ms qs m q = paired_below (suc (m.name.call + q.name.call)) after ms qs m q
 
 -- the message and the receive are a pair of the rules
-abbrev pub Paired : List Message → List Receive → Message → Receive → Type 0
-Paired ms qs m q = paired ms qs m q ≡ true
+abbrev pub Paired : After → List Message → List Receive → Message → Receive → Type 0
+Paired after ms qs m q = paired after ms qs m q ≡ true
 
 -- The five rules as facts, where P says which couples of earlier calls are pairs.
-pub record Obeys (ms : List Message) (qs : List Receive) (P : Message → Receive → Type 0) (m : Message) (q : Receive) : Type 0 where
+pub record Obeys (after : After) (ms : List Message) (qs : List Receive) (P : Message → Receive → Type 0) (m : Message) (q : Receive) : Type 0 where
   pub told : is_some q.source ≡ true
   pub sure_receive : is_sure q.trust ≡ true
   pub sure_message : is_sure m.trust ≡ true
   pub fit : fits m q ≡ true
-  pub no_open : (u : Receive) → Has qs u → is_open u ≡ true → posted_before u q ≡ true → fits m u ≡ true → ⊥
+  pub no_open : (u : Receive) → Has qs u → is_open u ≡ true → posted_before u q ≡ true → fits m u ≡ true → after m u ≡ true
   pub messages : (n : Message) → Has ms n → sent_before n m ≡ true → fits n q ≡ true → (r : Receive) × Has qs r × (posted_before r q ≡ true) × P n r
   pub receives : (r : Receive) → Has qs r → is_settled r ≡ true → posted_before r q ≡ true → fits m r ≡ true → (n : Message) × Has ms n × (sent_before n m ≡ true) × P n r
 
 -- the receive that takes the message
-abbrev pub receive_of : List Message → List Receive → Message → Option Receive
-receive_of ms qs m = find (paired ms qs m) qs
+abbrev pub receive_of : After → List Message → List Receive → Message → Option Receive
+receive_of after ms qs m = find (paired after ms qs m) qs

@@ -3,18 +3,23 @@ use Rattle.std.specs.Prelude.{◌≡◌, ℕ, true, Option, Some, None, List, sl
 use Rattle.mpi_model.specs.declared.message.Message.{Message}
 use Rattle.mpi_model.specs.declared.message.Receive.{Receive}
 use Rattle.trace_ops.specs.Order.{Has}
+use Rattle.trace_pair.specs.Ends.{AreLast}
 use Rattle.trace_pair.specs.Indexed.{IsIndexed, TakesReceive}
+use Rattle.trace_pair.specs.Pairing.{After}
 use Rattle.trace_pair.specs.Rising.{AreRising}
 use Rattle.trace_pair.specs.Waiting.{Takings, waits_at, waiting_in, couples_with}
 use Rattle.trace_pair.specs.declared.batch.Batch.{Batch}
 
--- It stands for these messages and receives as an index does: the pairs, and what is in none.
-pub record Settles (ms : List Message) (qs : List Receive) (b : Batch) : Type 0 where
+-- It stands for these messages and receives as an index does: the pairs, and what is in none. Of the open receives it has the
+-- last ends.
+pub record Settles (after : After) (ms : List Message) (qs : List Receive) (b : Batch) : Type 0 where
   pub messages : b.messages.messages ≡ ms
   pub rise : AreRising (λ m. m.name) ms
-  pub held : IsIndexed ms qs (waiting_in b.messages.messages b.messages.takers) b.free b.opened (couples_with b.messages.messages b.messages.takers)
+  pub opened : List Receive
+  pub held : IsIndexed after ms qs (waiting_in b.messages.messages b.messages.takers) b.free opened (couples_with b.messages.messages b.messages.takers)
+  pub last : AreLast opened b.opened
 
 -- the receive takes the message at the place, or none
-abbrev pub IsTakenAt : List Message → List Receive → Takings → Receive → Option ℕ → Type 0
-IsTakenAt ms qs t q None = (m : Message) → Has ms m → TakesReceive ms qs m q → ⊥
-IsTakenAt ms qs t q (Some place) = (m : Message) × (slice_get t.messages place ≡ Some m) × (waits_at t.takers place ≡ true) × TakesReceive ms qs m q
+abbrev pub IsTakenAt : After → List Message → List Receive → Takings → Receive → Option ℕ → Type 0
+IsTakenAt after ms qs t q None = (m : Message) → Has ms m → TakesReceive after ms qs m q → ⊥
+IsTakenAt after ms qs t q (Some place) = (m : Message) × (slice_get t.messages place ≡ Some m) × (waits_at t.takers place ≡ true) × TakesReceive after ms qs m q

@@ -1,6 +1,6 @@
 -- The pairs and the postponed messages of all ranks' ops.
 use Rattle.std.specs.Ordering.{int_eq}
-use Rattle.std.specs.Prelude.{ℕ, Bool, ◌&&◌, ◌==◌, cond, nat_lt, Option, Some, None, is_none, List, replicate}
+use Rattle.std.specs.Prelude.{ℕ, Bool, ◌&&◌, ◌==◌, not, cond, nat_lt, Option, Some, None, is_none, List, replicate}
 use Rattle.std.specs.List.{flat_map, filter_map, list_any, find}
 use Rattle.std.specs.Option.{option_map}
 use Rattle.mpi_model.specs.declared.event.OpName.{OpName}
@@ -9,7 +9,8 @@ use Rattle.mpi_model.specs.declared.message.Receive.{Receive}
 use Rattle.mpi_model.specs.Fit.{fits}
 use Rattle.mpi_model.specs.Trusts.{is_open}
 use Rattle.trace_ops.specs.Ops.{Ops, no_ops}
-use Rattle.trace_pair.specs.Pairing.{receive_of}
+use Rattle.trace_pair.specs.After.{comes_after}
+use Rattle.trace_pair.specs.Pairing.{After, receive_of}
 use Rattle.trace_pair.specs.declared.pair.Pair.{Pair}
 use Rattle.trace_pair.specs.declared.pair.Side.{Side}
 use Rattle.trace_pair.specs.declared.pair.Side.TheVariants.{Sent, Received}
@@ -31,24 +32,24 @@ abbrev pub pair_of : Message → Receive → Pair
 pair_of m q = record { message = m.name; receive = q.name; over = is_over m q }
 
 -- the pairs, in order of the message
-abbrev pub pairs_of : List Message → List Receive → List Pair
-pairs_of ms qs = filter_map (λ m. option_map (pair_of m) (receive_of ms qs m)) ms
+abbrev pub pairs_of : After → List Message → List Receive → List Pair
+pairs_of after ms qs = filter_map (λ m. option_map (pair_of m) (receive_of after ms qs m)) ms
 
--- An open receive fits the message.
-abbrev pub fits_open : List Receive → Message → Bool
-fits_open qs m = list_any (λ u. is_open u && fits m u) qs
+-- An open receive fits the message, which doesn't come after it.
+abbrev pub fits_open : After → List Receive → Message → Bool
+fits_open after qs m = list_any (λ u. is_open u && fits m u && not (after m u)) qs
 
--- postponed: in no pair, though an open receive fits it, wherever that stands in its rank
-abbrev pub is_postponed : List Message → List Receive → Message → Bool
-is_postponed ms qs m = is_none (receive_of ms qs m) && fits_open qs m
+-- postponed: in no pair, though an open receive may have taken it, wherever that stands in its rank
+abbrev pub is_postponed : After → List Message → List Receive → Message → Bool
+is_postponed after ms qs m = is_none (receive_of after ms qs m) && fits_open after qs m
 
 -- its name, if it is postponed
-abbrev pub postponed_name : List Message → List Receive → Message → Option OpName
-postponed_name ms qs m = cond (is_postponed ms qs m) (Some m.name) None
+abbrev pub postponed_name : After → List Message → List Receive → Message → Option OpName
+postponed_name after ms qs m = cond (is_postponed after ms qs m) (Some m.name) None
 
 -- the postponed messages, in their order
-abbrev pub postponed_of : List Message → List Receive → List OpName
-postponed_of ms qs = filter_map (postponed_name ms qs) ms
+abbrev pub postponed_of : After → List Message → List Receive → List OpName
+postponed_of after ms qs = filter_map (postponed_name after ms qs) ms
 
 -- what a table shows
 pub record Table : Type 0 where
@@ -56,12 +57,12 @@ pub record Table : Type 0 where
   pub postponed : List OpName
 
 -- the table of these messages and receives
-abbrev pub table_with : List Message → List Receive → Table
-table_with ms qs = record { pairs = pairs_of ms qs; postponed = postponed_of ms qs }
+abbrev pub table_with : After → List Message → List Receive → Table
+table_with after ms qs = record { pairs = pairs_of after ms qs; postponed = postponed_of after ms qs }
 
 -- the table of all ranks' ops
 abbrev pub table_of : List Ops → Table
-table_of held = table_with (sends_of held) (receives_of held)
+table_of held = table_with (comes_after held) (sends_of held) (receives_of held)
 
 -- two names are one
 abbrev pub same_name : OpName → OpName → Bool

@@ -41,6 +41,7 @@ pub(crate) fn taker_of(q: &Receive) -> Taker
         datatype: q.datatype,
         count: q.count,
         any_tag: q.tag.is_none(),
+        ended: q.ended,
     }
 }
 
@@ -60,6 +61,7 @@ pub(crate) fn receive_by(m: &Message, taker: Taker) -> Receive
         count: taker.count,
         trust: Trust::Sure,
         datatype: taker.datatype,
+        ended: taker.ended,
     }
 }
 

@@ -1,15 +1,21 @@
 //! The sets of an index, as the calls of one rank become others.
 
-ghost use Rattle.std.specs.Prelude.{◌≡◌, ◌≢◌, ◌↔◌, ◌≤◌, ◌<◌, List, OnOk, IsTrue, take, length, slice_get};
+ghost use Rattle.std.specs.Prelude.{◌≡◌, ◌↔◌, ◌≤◌, ◌<◌, List, OnOk, IfOk, IfSome, IsTrue, take, length, slice_get, slice_index_or};
+ghost use Rattle.std.specs.List.{AllZip};
 ghost use Rattle.mpi_model.specs.declared.message.Message.{Message};
 ghost use Rattle.mpi_model.specs.declared.message.Receive.{Receive};
+ghost use Rattle.trace_ops.specs.Ops.{AreOwn, no_ops};
+ghost use Rattle.trace_ops.specs.Order.{AreEntered, Has};
 ghost use Rattle.trace_pair.specs.Calls.{between, IsSequence, IsPosting};
-ghost use Rattle.trace_pair.specs.Followed.{Indexes, Moves};
+ghost use Rattle.trace_pair.specs.After.{comes_after};
+ghost use Rattle.trace_pair.specs.Followed.{Adds, Drops, Indexes};
+ghost use Rattle.trace_pair.specs.Fronts.{AreFronts, AreOneBefore, IsAlike, IsEndedBy, call_at};
+ghost use Rattle.trace_pair.specs.Pairing.{After};
 
 use crate::matched::{Matched, add_message, add_receive, pop_message, pop_receive};
 use mpi_model::{Message, Receive};
 use std::alloc::AllocError;
-use trace_ops::RankOps;
+use trace_ops::{Entered, RankOps};
 
 fn is_same_message(a: &Message, b: &Message) -> bool
     ensures { IsTrue result ↔ (a.now ≡ b.now) }
@@ -26,8 +32,8 @@ fn is_same_receive(a: &Receive, b: &Receive) -> bool
 /// Takes back the messages of a rank behind the first `keep`.
 fn drop_messages(state: &mut Matched, held: &[Message], keep: usize) -> Result<(), AllocError>
     requires { keep ≤ length held.now }
-    ensures { OnOk result ((before after : List Message) (qs : List Receive) → IsSequence before after held.now
-        → Indexes (between before held.now after) qs state.old → Indexes (between before (take keep held.now) after) qs state.new) }
+    ensures { OnOk result ((after : After) (before behind : List Message) (qs : List Receive) → IsSequence before behind held.now
+        → Indexes after (between before held.now behind) qs state.old → Indexes after (between before (take keep held.now) behind) qs state.new) }
 {
     let mut left = held.len();
     while left > keep {
@@ -40,31 +46,40 @@ fn drop_messages(state: &mut Matched, held: &[Message], keep: usize) -> Result<(
 /// Adds the messages of a rank behind the first `keep`.
 pub(crate) fn add_messages(
     state: &mut Matched,
+    ops: &[RankOps],
     held: &[Message],
     keep: usize,
 ) -> Result<(), AllocError>
     requires { keep ≤ length held.now }
-    ensures { OnOk result ((before after : List Message) (qs : List Receive) → IsSequence before after held.now
-        → Indexes (between before (take keep held.now) after) qs state.old → Indexes (between before held.now after) qs state.new) }
+    ensures { OnOk result ((before behind : List Message) (qs : List Receive) → IsSequence before behind held.now
+        → Indexes (comes_after ops.now) (between before (take keep held.now) behind) qs state.old → Indexes (comes_after ops.now) (between before held.now behind) qs state.new) }
 {
     let mut next = keep;
     while next < held.len() {
-        add_message(state, held[next])?;
+        add_message(state, ops, held[next])?;
         next += 1;
     }
     Ok(())
 }
 
-/// How many messages the two lists have in common at their front, and no fewer.
-fn common_messages(a: &[Message], b: &[Message]) -> usize
+/// Whether a message stays: the new one is the same, and it stands at no call behind this one.
+fn does_message_stay(held: &Message, new: &Message, last: u64) -> bool
+    ensures { IsTrue result ↔ ((held.now ≡ new.now) × (held.now.name.call ≤ last)) }
+{
+    is_same_message(held, new) && held.name.call <= last
+}
+
+/// How many messages the two lists have in common at their front, up to the call, and no fewer.
+fn common_messages(a: &[Message], b: &[Message], last: u64) -> usize
     ensures first { result ≤ length a.now }
     ensures second { result ≤ length b.now }
     ensures same { take result a.now ≡ take result b.now }
-    ensures longest { result < length a.now → result < length b.now → slice_get a.now result ≢ slice_get b.now result }
+    ensures within { (m : Message) → Has (take result a.now) m → m.name.call ≤ last }
+    ensures longest { result < length a.now → result < length b.now → slice_get a.now result ≡ slice_get b.now result → IfSome (slice_get a.now result) (λ m. last < m.name.call) }
 {
     let mut i = 0;
     while i < a.len() && i < b.len() {
-        if !is_same_message(&a[i], &b[i]) {
+        if !does_message_stay(&a[i], &b[i], last) {
             return i;
         }
         i += 1;
@@ -72,22 +87,11 @@ fn common_messages(a: &[Message], b: &[Message]) -> usize
     i
 }
 
-/// Makes the messages of a rank those of `new`, whatever they were.
-fn set_messages(state: &mut Matched, held: &[Message], new: &[Message]) -> Result<(), AllocError>
-    ensures { OnOk result ((before after : List Message) (qs : List Receive) → IsSequence before after held.now → IsSequence before after new.now
-        → Indexes (between before held.now after) qs state.old → Indexes (between before new.now after) qs state.new) }
-{
-    let keep = common_messages(held, new);
-    drop_messages(state, held, keep)?;
-    add_messages(state, new, keep)?;
-    Ok(())
-}
-
 /// Takes back the receives of a rank behind the first `keep`.
 fn drop_receives(state: &mut Matched, held: &[Receive], keep: usize) -> Result<(), AllocError>
     requires { keep ≤ length held.now }
-    ensures { OnOk result ((before after : List Receive) (ms : List Message) → IsPosting before after held.now
-        → Indexes ms (between before held.now after) state.old → Indexes ms (between before (take keep held.now) after) state.new) }
+    ensures { OnOk result ((after : After) (before behind : List Receive) (ms : List Message) → IsPosting before behind held.now
+        → Indexes after ms (between before held.now behind) state.old → Indexes after ms (between before (take keep held.now) behind) state.new) }
 {
     let mut left = held.len();
     while left > keep {
@@ -100,31 +104,51 @@ fn drop_receives(state: &mut Matched, held: &[Receive], keep: usize) -> Result<(
 /// Adds the receives of a rank behind the first `keep`.
 pub(crate) fn add_receives(
     state: &mut Matched,
+    ops: &[RankOps],
     held: &[Receive],
     keep: usize,
 ) -> Result<(), AllocError>
     requires { keep ≤ length held.now }
-    ensures { OnOk result ((before after : List Receive) (ms : List Message) → IsPosting before after held.now
-        → Indexes ms (between before (take keep held.now) after) state.old → Indexes ms (between before held.now after) state.new) }
+    ensures { OnOk result ((before behind : List Receive) (ms : List Message) → IsPosting before behind held.now
+        → Indexes (comes_after ops.now) ms (between before (take keep held.now) behind) state.old → Indexes (comes_after ops.now) ms (between before held.now behind) state.new) }
 {
     let mut next = keep;
     while next < held.len() {
-        add_receive(state, held[next])?;
+        add_receive(state, ops, held[next])?;
         next += 1;
     }
     Ok(())
 }
 
-/// How many receives the two lists have in common at their front, and no fewer.
-fn common_receives(a: &[Receive], b: &[Receive]) -> usize
+/// Whether the receive isn't completed, or by no call behind this one.
+fn is_ended_by(q: &Receive, last: u64) -> bool
+    ensures { IsTrue result ↔ IsEndedBy q.now last }
+{
+    match q.ended {
+        Some(ended) => ended <= last,
+        None => true,
+    }
+}
+
+/// Whether a receive stays: the new one is the same, and no call behind this one completes it.
+fn does_receive_stay(held: &Receive, new: &Receive, last: u64) -> bool
+    ensures { IsTrue result ↔ ((held.now ≡ new.now) × IsEndedBy held.now last) }
+{
+    is_same_receive(held, new) && is_ended_by(held, last)
+}
+
+/// How many receives the two lists have in common at their front, none of which a call behind this one
+/// completes, and no fewer.
+fn common_receives(a: &[Receive], b: &[Receive], last: u64) -> usize
     ensures first { result ≤ length a.now }
     ensures second { result ≤ length b.now }
     ensures same { take result a.now ≡ take result b.now }
-    ensures longest { result < length a.now → result < length b.now → slice_get a.now result ≢ slice_get b.now result }
+    ensures within { (q : Receive) → Has (take result a.now) q → IsEndedBy q last }
+    ensures longest { result < length a.now → result < length b.now → slice_get a.now result ≡ slice_get b.now result → IfSome (slice_get a.now result) (λ q. IsEndedBy q last → ⊥) }
 {
     let mut i = 0;
     while i < a.len() && i < b.len() {
-        if !is_same_receive(&a[i], &b[i]) {
+        if !does_receive_stay(&a[i], &b[i], last) {
             return i;
         }
         i += 1;
@@ -132,22 +156,114 @@ fn common_receives(a: &[Receive], b: &[Receive]) -> usize
     i
 }
 
-/// Makes the receives of a rank those of `new`, whatever they were.
-fn set_receives(state: &mut Matched, held: &[Receive], new: &[Receive]) -> Result<(), AllocError>
-    ensures { OnOk result ((before after : List Receive) (ms : List Message) → IsPosting before after held.now → IsPosting before after new.now
-        → Indexes ms (between before held.now after) state.old → Indexes ms (between before new.now after) state.new) }
+/// The call at the place of a list of collective calls; where none stands there, the greatest number.
+fn call_at(rounds: &[Entered], place: usize) -> u64
+    ensures { result ≡ call_at rounds.now place }
 {
-    let keep = common_receives(held, new);
-    drop_receives(state, held, keep)?;
-    add_receives(state, new, keep)?;
-    Ok(())
+    match rounds.get(place) {
+        Some(entered) => entered.call,
+        None => u64::MAX,
+    }
 }
 
-/// Makes the calls of a rank those of the new ops, whatever they were.
-pub(crate) fn set_rank(state: &mut Matched, held: &RankOps, new: &RankOps) -> Result<(), AllocError>
-    ensures { OnOk result (Moves held.now new.now state.old state.new) }
+fn is_alike(a: &Entered, b: &Entered) -> bool
+    ensures { IsTrue result ↔ IsAlike a.now b.now }
 {
-    set_messages(state, held.sends(), new.sends())?;
-    set_receives(state, held.receives(), new.receives())?;
+    a.comm == b.comm && a.call == b.call && a.is_barrier() == b.is_barrier()
+}
+
+/// How many collective calls the two lists have in common at their front.
+fn common_rounds(a: &[Entered], b: &[Entered]) -> usize
+    ensures { AllZip IsAlike (take result a.now) (take result b.now) }
+{
+    let mut i = 0;
+    while i < a.len() && i < b.len() {
+        if !is_alike(&a[i], &b[i]) {
+            return i;
+        }
+        i += 1;
+    }
+    i
+}
+
+/// The earlier of two calls.
+fn earlier(a: u64, b: u64) -> u64
+    ensures first { result ≤ a }
+    ensures second { result ≤ b }
+{
+    if a < b { a } else { b }
+}
+
+/// The last call before which the two ranks entered the same collective calls.
+fn last_common(a: &[Entered], b: &[Entered]) -> u64
+    requires first { AreEntered a.now }
+    requires second { AreEntered b.now }
+    ensures { AreOneBefore result a.now b.now }
+{
+    let front = common_rounds(a, b);
+    earlier(call_at(a, front), call_at(b, front))
+}
+
+/// How many messages and how many receives stay where a rank did other calls than was held: those of
+/// the common front, as long as what comes after what stays as it was.
+#[derive(Clone, Copy, Debug)]
+pub(crate) struct Fronts {
+    pub(crate) sends: usize,
+    pub(crate) receives: usize,
+}
+
+fn fronts_of(held: &RankOps, new: &RankOps) -> Fronts
+    requires held { AreEntered held.now.rounds }
+    requires new { AreEntered new.now.rounds }
+    ensures { AreFronts held.now new.now result }
+{
+    if held.comms() != new.comms() {
+        return Fronts {
+            sends: 0,
+            receives: 0,
+        };
+    }
+    let last = last_common(held.rounds(), new.rounds());
+    Fronts {
+        sends: common_messages(held.sends(), new.sends(), last),
+        receives: common_receives(held.receives(), new.receives(), last),
+    }
+}
+
+/// Takes back the calls of a rank that don't stay where it did other ones, and tells how many stay.
+pub(crate) fn drop_calls(
+    state: &mut Matched,
+    held: &[RankOps],
+    rank: u32,
+    new: &RankOps,
+) -> Result<Fronts, AllocError>
+    requires rank { rank < length held.now }
+    requires held { AreOwn 0 held.now }
+    requires new { AreEntered new.now.rounds }
+    ensures fronts { IfOk result (AreFronts (slice_index_or held.now rank no_ops) new.now) }
+    ensures state { IfOk result (λ fronts. Drops (slice_index_or held.now rank no_ops) fronts state.old state.new) }
+{
+    let was = &held[rank as usize];
+    let fronts = fronts_of(was, new);
+    drop_messages(state, was.sends(), fronts.sends)?;
+    drop_receives(state, was.receives(), fronts.receives)?;
+    Ok(fronts)
+}
+
+/// Adds the calls of a rank behind those that stay.
+pub(crate) fn add_calls(
+    state: &mut Matched,
+    held: &[RankOps],
+    rank: u32,
+    fronts: Fronts,
+) -> Result<(), AllocError>
+    requires rank { rank < length held.now }
+    requires sends { fronts.sends ≤ length (slice_index_or held.now rank no_ops).sends }
+    requires receives { fronts.receives ≤ length (slice_index_or held.now rank no_ops).receives }
+    ensures { OnOk result (Adds (comes_after held.now) (slice_index_or held.now rank no_ops) fronts state.old state.new) }
+{
+    let own = &held[rank as usize];
+    add_messages(state, held, own.sends(), fronts.sends)?;
+    add_receives(state, held, own.receives(), fronts.receives)?;
     Ok(())
 }

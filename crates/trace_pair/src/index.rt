@@ -2,11 +2,11 @@
 
 ghost use Rattle.std.specs.Prelude.{◌≡◌, ◌<◌, OnOk, OnErr, IfOk, IfSome, length, slice_set, slice_index_or};
 ghost use Rattle.trace_ops.specs.Ops.{IsOwn, AreOwn, Grows, no_ops};
-ghost use Rattle.trace_pair.specs.Certainty.{AreCertain, AreAllSettled, AreLegal, AreTheOnlyLegal};
+ghost use Rattle.trace_pair.specs.Certainty.{AreCertain, AreAllSettled, AreLegal, AreNoneAfter, AreTheOnlyLegal};
 ghost use Rattle.trace_pair.specs.Followed.{Follows};
 ghost use Rattle.trace_pair.specs.Table.{fresh, table_of};
 
-use crate::follow::set_rank;
+use crate::follow::{add_calls, drop_calls};
 use crate::matched::Matched;
 use crate::scratch::pair_all;
 use crate::table::PairTable;
@@ -94,7 +94,7 @@ impl PairIndex {
     pub fn pairs(&self) -> Result<PairTable, AllocError>
         ensures table { IfOk result (λ t. t ≡ table_of self.now) }
         ensures certain { IfOk result (λ t. AreCertain self.now t.pairs) }
-        ensures legal { AreAllSettled self.now → IfOk result (λ t. AreLegal self.now t.pairs) }
+        ensures legal { AreAllSettled self.now → IfOk result (λ t. AreNoneAfter self.now t.pairs → AreLegal self.now t.pairs) }
         ensures only { AreAllSettled self.now → IfOk result (λ t. AreTheOnlyLegal self.now t.pairs) }
     {
         let alloc = *self.held.allocator();
@@ -194,6 +194,14 @@ fn state_or_new(
     }
 }
 
+/// Makes the rank's ops these.
+fn put_ops(held: &mut Vec<RankOps>, rank: u32, ops: RankOps)
+    requires { rank < length held.old.items }
+    ensures { held.new.items ≡ slice_set held.old.items rank ops }
+{
+    held[rank as usize] = ops;
+}
+
 /// Makes the rank's ops these, and the state with them, which is made first where there is none.
 fn set_ops(
     held: &mut Vec<RankOps>,
@@ -211,7 +219,8 @@ fn set_ops(
     ensures state { IfOk result (λ state. Follows held.new.items state) }
 {
     let mut state = state_or_new(*held.allocator(), held, state)?;
-    set_rank(&mut state, &held[rank as usize], &ops)?;
-    held[rank as usize] = ops;
+    let fronts = drop_calls(&mut state, held, rank, &ops)?;
+    put_ops(held, rank, ops);
+    add_calls(&mut state, held, rank, fronts)?;
     Ok(state)
 }

@@ -1,55 +1,66 @@
 //! What makes the rules easy to believe, as contracts of calls that do nothing.
 
 ghost use Rattle.std.specs.Prelude.{◌≡◌, List, Bool, true};
+ghost use Rattle.std.specs.List.{AllZip};
 ghost use Rattle.mpi_model.specs.declared.event.OpName.{OpName};
 ghost use Rattle.mpi_model.specs.declared.message.Message.{Message};
 ghost use Rattle.mpi_model.specs.declared.message.Receive.{Receive};
 ghost use Rattle.mpi_model.specs.Trusts.{is_doubtful};
-ghost use Rattle.trace_ops.specs.Ops.{Ops, AreOwn};
+ghost use Rattle.trace_ops.specs.Ops.{Ops, AreOwn, Grows, SameSend, TellsMore};
 ghost use Rattle.trace_ops.specs.Order.{Has};
+ghost use Rattle.trace_pair.specs.After.{comes_after};
 ghost use Rattle.trace_pair.specs.Calls.{AreApart, ArePostedApart};
-ghost use Rattle.trace_pair.specs.Certainty.{AreAllSettled, AreCertain, AreLegal, AreTheOnlyLegal};
-ghost use Rattle.trace_pair.specs.Pairing.{paired, obeys, Paired, Obeys};
+ghost use Rattle.trace_pair.specs.Certainty.{AreAllSettled, AreCertain, AreLegal, AreNoneAfter, AreTheOnlyLegal};
+ghost use Rattle.trace_pair.specs.Pairing.{After, paired, obeys, Paired, Obeys};
 ghost use Rattle.trace_pair.specs.Matching.{Continues, IsLegal, IsLegalBeside, SomeOf};
-ghost use Rattle.trace_pair.specs.Table.{table_of};
-ghost use Rattle.trace_pair.specs.Worked.{Over, AnyTag, Hidden, ToldLater, InOrder, CutBack, Exchanged, Interleaved, Freed, TwoCommunicators, CancelledReceive, ToldCancelled, CancelledMessage};
+ghost use Rattle.trace_pair.specs.Table.{receives_of, sends_of, table_of};
+ghost use Rattle.trace_pair.specs.Worked.{Over, AnyTag, Hidden, ToldLater, InOrder, CutBack, Exchanged, Interleaved, Freed, TwoCommunicators, CancelledReceive, ToldCancelled, CancelledMessage, BehindABarrier, NotBehindABarrier, OfAnotherBarrier, BehindTheEnd, NotBehindTheEnd};
 
 /// A pair obeys the five rules, what obeys them is a pair, and no other relation obeys them. Each
 /// message has at most one receive, and each receive at most one message.
 pub fn pairs_are_the_rules()
-    ensures rules { (ms : List Message) (qs : List Receive) (m : Message) (q : Receive) → Paired ms qs m q → Obeys ms qs (Paired ms qs) m q }
-    ensures all { (ms : List Message) (qs : List Receive) (m : Message) (q : Receive) → Obeys ms qs (Paired ms qs) m q → Paired ms qs m q }
-    ensures only { (ms : List Message) (qs : List Receive) (other : Message → Receive → Bool) → ((m : Message) (q : Receive) → Has ms m → Has qs q → other m q ≡ obeys ms qs other m q)
-        → (m : Message) (q : Receive) → Has ms m → Has qs q → other m q ≡ paired ms qs m q }
-    ensures one_receive { (ms : List Message) (qs : List Receive) → ArePostedApart qs → (m : Message) (q r : Receive) → Has ms m → Has qs q → Has qs r → Paired ms qs m q → Paired ms qs m r → q ≡ r }
-    ensures one_message { (ms : List Message) (qs : List Receive) → AreApart ms → (m n : Message) (q : Receive) → Has ms m → Has ms n → Has qs q → Paired ms qs m q → Paired ms qs n q → m ≡ n }
+    ensures rules { (after : After) (ms : List Message) (qs : List Receive) (m : Message) (q : Receive) → Paired after ms qs m q → Obeys after ms qs (Paired after ms qs) m q }
+    ensures all { (after : After) (ms : List Message) (qs : List Receive) (m : Message) (q : Receive) → Obeys after ms qs (Paired after ms qs) m q → Paired after ms qs m q }
+    ensures only { (after : After) (ms : List Message) (qs : List Receive) (other : Message → Receive → Bool) → ((m : Message) (q : Receive) → Has ms m → Has qs q → other m q ≡ obeys after ms qs other m q)
+        → (m : Message) (q : Receive) → Has ms m → Has qs q → other m q ≡ paired after ms qs m q }
+    ensures one_receive { (after : After) (ms : List Message) (qs : List Receive) → ArePostedApart qs → (m : Message) (q r : Receive) → Has ms m → Has qs q → Has qs r → Paired after ms qs m q → Paired after ms qs m r → q ≡ r }
+    ensures one_message { (after : After) (ms : List Message) (qs : List Receive) → AreApart ms → (m n : Message) (q : Receive) → Has ms m → Has ms n → Has qs q → Paired after ms qs m q → Paired after ms qs n q → m ≡ n }
 {}
 
 /// Each pair is a couple of every legal matching of every continuation in which no later Cancel names
 /// what is sure.
 pub fn pairs_are_certain()
-    ensures { (ms : List Message) (qs : List Receive) (more_ms : List Message) (more_qs : List Receive) (couple : OpName → OpName → Bool) →
-        Continues ms qs more_ms more_qs → IsLegal more_ms more_qs (λ m q. couple m.name q.name ≡ true) →
-        (m : Message) (q : Receive) → Has ms m → Has qs q → Paired ms qs m q → couple m.name q.name ≡ true }
+    ensures { (after : After) (ms : List Message) (qs : List Receive) (more_after : After) (more_ms : List Message) (more_qs : List Receive) (couple : OpName → OpName → Bool) →
+        Continues after ms qs more_after more_ms more_qs → IsLegal more_after more_ms more_qs (λ m q. couple m.name q.name ≡ true) →
+        (m : Message) (q : Receive) → Has ms m → Has qs q → Paired after ms qs m q → couple m.name q.name ≡ true }
+{}
+
+/// A message that comes after a receive does so however the ranks go on; and where it comes to do
+/// so, an outcome completed the receive meanwhile.
+pub fn what_comes_after_stays()
+    ensures stays { (held more : List Ops) → AreOwn 0 held → AreOwn 0 more → AllZip Grows held more
+        → (m n : Message) (q r : Receive) → Has (sends_of held) m → SameSend m n → Has (receives_of held) q → TellsMore q r → comes_after held m q ≡ true → comes_after more n r ≡ true }
+    ensures was { (held more : List Ops) → AreOwn 0 held → AreOwn 0 more → AllZip Grows held more
+        → (m n : Message) (q r : Receive) → Has (sends_of held) m → SameSend m n → Has (receives_of held) q → TellsMore q r → r.ended ≡ q.ended → comes_after more n r ≡ true → comes_after held m q ≡ true }
 {}
 
 /// A matching is legal where, for some doubtful messages and receives that are in no couple, it is
 /// legal as if those were void; and beside a legal one stand all doubtful ones that are in no couple.
 pub fn doubtful_may_stand_outside()
-    ensures legal { (ms : List Message) (qs : List Receive) (couple : Message → Receive → Bool) (unsent : Message → Bool) (unposted : Receive → Bool) →
-        IsLegalBeside ms qs (λ m q. couple m q ≡ true) (λ m. unsent m ≡ true) (λ q. unposted q ≡ true) → IsLegal ms qs (λ m q. couple m q ≡ true) }
-    ensures beside { (ms : List Message) (qs : List Receive) (couple : OpName → OpName → Bool) → IsLegal ms qs (λ m q. couple m.name q.name ≡ true)
-        → IsLegalBeside ms qs (λ m q. couple m.name q.name ≡ true)
+    ensures legal { (after : After) (ms : List Message) (qs : List Receive) (couple : Message → Receive → Bool) (unsent : Message → Bool) (unposted : Receive → Bool) →
+        IsLegalBeside after ms qs (λ m q. couple m q ≡ true) (λ m. unsent m ≡ true) (λ q. unposted q ≡ true) → IsLegal after ms qs (λ m q. couple m q ≡ true) }
+    ensures beside { (after : After) (ms : List Message) (qs : List Receive) (couple : OpName → OpName → Bool) → IsLegal after ms qs (λ m q. couple m.name q.name ≡ true)
+        → IsLegalBeside after ms qs (λ m q. couple m.name q.name ≡ true)
         (λ m. (is_doubtful m.trust ≡ true) × (SomeOf qs (λ r. couple m.name r.name ≡ true) → ⊥))
         (λ q. (is_doubtful q.trust ≡ true) × (SomeOf ms (λ n. couple n.name q.name ≡ true) → ⊥)) }
 {}
 
 /// What the pairs of a table are worth: each is a couple of every legal matching of every continuation; and
-/// where no receive is open and no message doubtful they are a legal matching, and the only one
-/// (MPI 4.0, 3.5).
+/// where no receive is open and no message doubtful no other matching is legal (MPI 4.0, 3.5), and they
+/// are a legal one where also no message of a pair comes after its receive.
 pub fn tables_are_certain()
     ensures certain { (held : List Ops) → AreOwn 0 held → AreCertain held (table_of held).pairs }
-    ensures legal { (held : List Ops) → AreOwn 0 held → AreAllSettled held → AreLegal held (table_of held).pairs }
+    ensures legal { (held : List Ops) → AreOwn 0 held → AreAllSettled held → AreNoneAfter held (table_of held).pairs → AreLegal held (table_of held).pairs }
     ensures only { (held : List Ops) → AreOwn 0 held → AreAllSettled held → AreTheOnlyLegal held (table_of held).pairs }
 {}
 
@@ -68,4 +79,9 @@ pub fn worked_runs()
     ensures cancelled_receive { CancelledReceive }
     ensures told_cancelled { ToldCancelled }
     ensures cancelled_message { CancelledMessage }
+    ensures behind_a_barrier { BehindABarrier }
+    ensures not_behind_a_barrier { NotBehindABarrier }
+    ensures of_another_barrier { OfAnotherBarrier }
+    ensures behind_the_end { BehindTheEnd }
+    ensures not_behind_the_end { NotBehindTheEnd }
 {}

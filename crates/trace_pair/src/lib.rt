@@ -14,23 +14,27 @@
 //!
 //! - [`pair`]: a pair, and the two sides of one
 //! - [`scratch`]: the pairing from scratch; [`batch`]: its pass over all receives; [`takings`]: all
-//!   messages with what takes each; [`places`]: where those that wait stand
-//! - [`rules`]: which call comes first, and whether names are one
+//!   messages with what takes each; [`places`]: where those that wait stand; [`ends`]: the ends of receives, and
+//!   whether some of them may take a message
+//! - [`rules`]: which call comes first, and whether names are one; [`after`]: which messages come after which receives;
+//!   [`reach`]: the same, asked of a table
 //! - [`rows`], [`near`], [`table`]: the pairs and the postponed messages, their order by the receive,
 //!   and the other end of each
 //! - [`one_or_many`]: a set that has no tree of its own while it has one member; [`groups`],
 //!   [`queues`]: sets of calls, found by a few probes of an ordered map; [`couples`]: the pairs by
 //!   either name; [`slots`]: flat lists of values by such names
-//! - [`matched`]: the sets of an index, as one call comes or goes; [`follow`]: as a rank's calls do;
-//!   [`together`]: as those of all ranks come
+//! - [`matched`]: the sets of an index, as one call comes or goes; [`opened`]: its open receives, one by one;
+//!   [`follow`]: as a rank's calls do; [`together`]: as those of all ranks come
 //! - [`index`]: the index
 //! - [`laws`]: what makes the rules easy to believe, as contracts of calls that do nothing
 //!
 //! Its tests are the runs of `tests/runs.txt`, and `crates/matching_tests/src/steps.rt`.
 #![tactic(auto)]
 
+mod after;
 mod batch;
 mod couples;
+mod ends;
 mod follow;
 mod groups;
 mod index;
@@ -38,9 +42,11 @@ mod laws;
 mod matched;
 mod near;
 mod one_or_many;
+mod opened;
 mod pair;
 mod places;
 mod queues;
+mod reach;
 mod rows;
 mod rules;
 mod scratch;
@@ -49,11 +55,13 @@ mod table;
 mod takings;
 mod together;
 
+pub use ends::Ends;
 pub use index::PairIndex;
 pub use laws::{
     doubtful_may_stand_outside, pairs_are_certain, pairs_are_the_rules, tables_are_certain,
-    worked_runs,
+    what_comes_after_stays, worked_runs,
 };
 pub use pair::{Pair, Side};
+pub use reach::{RankReach, Reaches, reaches_of};
 pub use scratch::pair_all;
 pub use table::PairTable;

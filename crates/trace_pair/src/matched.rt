@@ -5,18 +5,20 @@ ghost use Rattle.mpi_model.specs.declared.message.Message.{Message};
 ghost use Rattle.mpi_model.specs.declared.message.Receive.{Receive};
 ghost use Rattle.mpi_model.specs.Trusts.{is_settled};
 ghost use Rattle.trace_ops.specs.Order.{Has};
+ghost use Rattle.trace_pair.specs.After.{comes_after};
 ghost use Rattle.trace_pair.specs.Calls.{AddsMessage, AddsReceive};
 ghost use Rattle.trace_pair.specs.Followed.{Indexes};
 ghost use Rattle.trace_pair.specs.Indexed.{IsFree, TakesMessage, TakesReceive};
-ghost use Rattle.trace_pair.specs.Pairing.{Paired, receive_of};
+ghost use Rattle.trace_pair.specs.Pairing.{After, Paired, receive_of};
 ghost use Rattle.trace_pair.specs.Table.{fits_open};
 
 use crate::couples::Couples;
+use crate::opened::Opened;
 use crate::pair::Couple;
 use crate::queues::{Messages, Receives};
-use crate::rules::is_posted_before;
 use mpi_model::{Message, Receive};
 use std::alloc::{AllocError, Global};
+use trace_ops::RankOps;
 
 /// The messages that wait, the free receives, the open ones, and the pairs. What is void is in none
 /// of them.
@@ -24,18 +26,18 @@ use std::alloc::{AllocError, Global};
 pub(crate) struct Matched {
     waiting: Messages,
     free: Receives,
-    opened: Receives,
+    opened: Opened,
     couples: Couples,
 }
 
 impl Matched {
     pub(crate) fn empty(alloc: Global) -> Matched
-        ensures { Indexes [] [] result }
+        ensures { (after : After) → Indexes after [] [] result }
     {
         Matched {
             waiting: Messages::empty(alloc),
             free: Receives::empty(alloc),
-            opened: Receives::empty(alloc),
+            opened: Opened::empty(alloc),
             couples: Couples::empty(alloc),
         }
     }
@@ -47,7 +49,7 @@ impl Matched {
         sends: usize,
         receives: usize,
     ) -> Result<(), AllocError>
-        ensures { (ms : List Message) (qs : List Receive) → Indexes ms qs self.old → Indexes ms qs self.new }
+        ensures { (after : After) (ms : List Message) (qs : List Receive) → Indexes after ms qs self.old → Indexes after ms qs self.new }
     {
         self.couples.reserve_messages(rank, sends)?;
         self.couples.reserve_receives(rank, receives)?;
@@ -57,7 +59,7 @@ impl Matched {
     /// The receive that takes the held message. The next message of its sender is found without a
     /// search if it is asked for with the same `next`.
     pub(crate) fn partner_of(&self, next: &mut usize, m: &Message) -> Option<Receive>
-        ensures { (ms : List Message) (qs : List Receive) → Indexes ms qs self.now → Has ms m.now → result ≡ receive_of ms qs m.now }
+        ensures { (after : After) (ms : List Message) (qs : List Receive) → Indexes after ms qs self.now → Has ms m.now → result ≡ receive_of after ms qs m.now }
     {
         match self.couples.of_message(next, m) {
             Some(q) => Some(q),
@@ -67,8 +69,8 @@ impl Matched {
 
     /// The message that the held receive takes; `next` likewise for the receives of its rank.
     pub(crate) fn message_of(&self, next: &mut usize, q: &Receive) -> Option<Message>
-        ensures some { IfSome result (λ m. (ms : List Message) (qs : List Receive) → Indexes ms qs self.now → Has qs q.now → Has ms m × Paired ms qs m q.now) }
-        ensures none { IfNone result ((ms : List Message) (qs : List Receive) → Indexes ms qs self.now → Has qs q.now → IsFree ms qs q.now) }
+        ensures some { IfSome result (λ m. (after : After) (ms : List Message) (qs : List Receive) → Indexes after ms qs self.now → Has qs q.now → Has ms m × Paired after ms qs m q.now) }
+        ensures none { IfNone result ((after : After) (ms : List Message) (qs : List Receive) → Indexes after ms qs self.now → Has qs q.now → IsFree after ms qs q.now) }
     {
         match self.couples.of_receive(next, q) {
             Some(m) => Some(m),
@@ -76,18 +78,18 @@ impl Matched {
         }
     }
 
-    /// Whether an open receive fits the message.
-    pub(crate) fn does_open_fit(&self, m: &Message) -> bool
-        ensures { (ms : List Message) (qs : List Receive) → Indexes ms qs self.now → result ≡ fits_open qs m.now }
+    /// Whether an open receive fits the message, which doesn't come after it.
+    pub(crate) fn does_open_fit(&self, ops: &[RankOps], m: &Message) -> bool
+        ensures { (ms : List Message) (qs : List Receive) → Indexes (comes_after ops.now) ms qs self.now → result ≡ fits_open (comes_after ops.now) qs m.now }
     {
-        !m.trust.is_void() && self.opened.first_for(m).is_some()
+        !m.trust.is_void() && self.opened.hides(ops, m)
     }
 }
 
 /// The receive that takes the new message.
-fn taker_for(state: &Matched, m: &Message) -> Option<Receive>
-    ensures some { IfSome result (λ q. (ms : List Message) (qs : List Receive) → Indexes ms qs state.now → Has qs q × TakesMessage ms qs m.now q) }
-    ensures none { IfNone result ((ms : List Message) (qs : List Receive) → Indexes ms qs state.now → (q : Receive) → Has qs q → TakesMessage ms qs m.now q → ⊥) }
+fn taker_for(state: &Matched, ops: &[RankOps], m: &Message) -> Option<Receive>
+    ensures some { IfSome result (λ q. (ms : List Message) (qs : List Receive) → Indexes (comes_after ops.now) ms qs state.now → Has qs q × TakesMessage (comes_after ops.now) ms qs m.now q) }
+    ensures none { IfNone result ((ms : List Message) (qs : List Receive) → Indexes (comes_after ops.now) ms qs state.now → (q : Receive) → Has qs q → TakesMessage (comes_after ops.now) ms qs m.now q → ⊥) }
 {
     if !m.trust.is_sure() {
         return None;
@@ -95,10 +97,8 @@ fn taker_for(state: &Matched, m: &Message) -> Option<Receive>
     let Some(q) = state.free.first_for(m) else {
         return None;
     };
-    if let Some(u) = state.opened.first_for(m) {
-        if is_posted_before(&u, &q) {
-            return None;
-        }
+    if state.opened.hides_before(ops, m, &q) {
+        return None;
     }
     if let Some(_) = state.waiting.first_for(&q) {
         return None;
@@ -107,10 +107,10 @@ fn taker_for(state: &Matched, m: &Message) -> Option<Receive>
 }
 
 /// The message that the new receive takes.
-fn taken_by(state: &Matched, q: &Receive) -> Option<Message>
+fn taken_by(state: &Matched, ops: &[RankOps], q: &Receive) -> Option<Message>
     requires { is_settled q.now ≡ true }
-    ensures some { IfSome result (λ m. (ms : List Message) (qs : List Receive) → Indexes ms qs state.now → Has ms m × TakesReceive ms qs m q.now) }
-    ensures none { IfNone result ((ms : List Message) (qs : List Receive) → Indexes ms qs state.now → (m : Message) → Has ms m → TakesReceive ms qs m q.now → ⊥) }
+    ensures some { IfSome result (λ m. (ms : List Message) (qs : List Receive) → Indexes (comes_after ops.now) ms qs state.now → Has ms m × TakesReceive (comes_after ops.now) ms qs m q.now) }
+    ensures none { IfNone result ((ms : List Message) (qs : List Receive) → Indexes (comes_after ops.now) ms qs state.now → (m : Message) → Has ms m → TakesReceive (comes_after ops.now) ms qs m q.now → ⊥) }
 {
     let Some(m) = state.waiting.first_for(q) else {
         return None;
@@ -118,7 +118,7 @@ fn taken_by(state: &Matched, q: &Receive) -> Option<Message>
     if !m.trust.is_sure() {
         return None;
     }
-    if let Some(_) = state.opened.first_for(&m) {
+    if state.opened.hides(ops, &m) {
         return None;
     }
     if let Some(_) = state.free.first_for(&m) {
@@ -128,13 +128,13 @@ fn taken_by(state: &Matched, q: &Receive) -> Option<Message>
 }
 
 /// Adds a rank's next message: it goes to the first receive that the rules allow, or waits.
-fn push_message(state: &mut Matched, m: Message) -> Result<(), AllocError>
-    ensures { OnOk result ((ms more : List Message) (qs : List Receive) → AddsMessage ms more m → Indexes ms qs state.old → Indexes more qs state.new) }
+fn push_message(state: &mut Matched, ops: &[RankOps], m: Message) -> Result<(), AllocError>
+    ensures { OnOk result ((ms more : List Message) (qs : List Receive) → AddsMessage ms more m → Indexes (comes_after ops.now) ms qs state.old → Indexes (comes_after ops.now) more qs state.new) }
 {
     if m.trust.is_void() {
         return Ok(());
     }
-    match taker_for(state, &m) {
+    match taker_for(state, ops, &m) {
         Some(q) => {
             state.free.remove(&q);
             state.couples.insert(Couple {
@@ -148,8 +148,8 @@ fn push_message(state: &mut Matched, m: Message) -> Result<(), AllocError>
 }
 
 /// Adds a rank's next receive: it takes the first message that the rules allow, or waits.
-fn push_receive(state: &mut Matched, q: Receive) -> Result<(), AllocError>
-    ensures { OnOk result ((ms : List Message) (qs more : List Receive) → AddsReceive qs more q → Indexes ms qs state.old → Indexes ms more state.new) }
+fn push_receive(state: &mut Matched, ops: &[RankOps], q: Receive) -> Result<(), AllocError>
+    ensures { OnOk result ((ms : List Message) (qs more : List Receive) → AddsReceive qs more q → Indexes (comes_after ops.now) ms qs state.old → Indexes (comes_after ops.now) ms more state.new) }
 {
     if q.is_open() {
         state.opened.insert(q)?;
@@ -158,7 +158,7 @@ fn push_receive(state: &mut Matched, q: Receive) -> Result<(), AllocError>
     if !q.is_settled() {
         return Ok(());
     }
-    match taken_by(state, &q) {
+    match taken_by(state, ops, &q) {
         Some(m) => {
             state.waiting.remove(&m);
             state.couples.insert(Couple {
@@ -173,7 +173,7 @@ fn push_receive(state: &mut Matched, q: Receive) -> Result<(), AllocError>
 
 /// Takes a rank's last message back, with what it had taken.
 pub(crate) fn pop_message(state: &mut Matched, m: &Message) -> Result<(), AllocError>
-    ensures { OnOk result ((ms more : List Message) (qs : List Receive) → AddsMessage ms more m.now → Indexes more qs state.old → Indexes ms qs state.new) }
+    ensures { OnOk result ((after : After) (ms more : List Message) (qs : List Receive) → AddsMessage ms more m.now → Indexes after more qs state.old → Indexes after ms qs state.new) }
 {
     let mut anywhere = 0;
     match state.couples.of_message(&mut anywhere, m) {
@@ -191,7 +191,7 @@ pub(crate) fn pop_message(state: &mut Matched, m: &Message) -> Result<(), AllocE
 
 /// Takes a rank's last receive back, with what it had taken.
 pub(crate) fn pop_receive(state: &mut Matched, q: &Receive) -> Result<(), AllocError>
-    ensures { OnOk result ((ms : List Message) (qs more : List Receive) → AddsReceive qs more q.now → Indexes ms more state.old → Indexes ms qs state.new) }
+    ensures { OnOk result ((after : After) (ms : List Message) (qs more : List Receive) → AddsReceive qs more q.now → Indexes after ms more state.old → Indexes after ms qs state.new) }
 {
     if q.is_open() {
         state.opened.remove(q);
@@ -212,17 +212,21 @@ pub(crate) fn pop_receive(state: &mut Matched, q: &Receive) -> Result<(), AllocE
 }
 
 /// Puts a message behind those of its sender, with room for its receive.
-pub(crate) fn add_message(state: &mut Matched, m: Message) -> Result<(), AllocError>
-    ensures { OnOk result ((ms more : List Message) (qs : List Receive) → AddsMessage ms more m → Indexes ms qs state.old → Indexes more qs state.new) }
+pub(crate) fn add_message(
+    state: &mut Matched,
+    ops: &[RankOps],
+    m: Message,
+) -> Result<(), AllocError>
+    ensures { OnOk result ((ms more : List Message) (qs : List Receive) → AddsMessage ms more m → Indexes (comes_after ops.now) ms qs state.old → Indexes (comes_after ops.now) more qs state.new) }
 {
     state.couples.expect_message(&m)?;
-    push_message(state, m)?;
+    push_message(state, ops, m)?;
     Ok(())
 }
 
 /// Makes room for the message of a receive, if it is settled.
 fn expect_settled(state: &mut Matched, q: &Receive) -> Result<(), AllocError>
-    ensures { (ms : List Message) (qs : List Receive) → Indexes ms qs state.old → Indexes ms qs state.new }
+    ensures { (after : After) (ms : List Message) (qs : List Receive) → Indexes after ms qs state.old → Indexes after ms qs state.new }
 {
     if !q.is_settled() {
         return Ok(());
@@ -232,10 +236,14 @@ fn expect_settled(state: &mut Matched, q: &Receive) -> Result<(), AllocError>
 }
 
 /// Puts a receive behind those of its rank, with room for its message.
-pub(crate) fn add_receive(state: &mut Matched, q: Receive) -> Result<(), AllocError>
-    ensures { OnOk result ((ms : List Message) (qs more : List Receive) → AddsReceive qs more q → Indexes ms qs state.old → Indexes ms more state.new) }
+pub(crate) fn add_receive(
+    state: &mut Matched,
+    ops: &[RankOps],
+    q: Receive,
+) -> Result<(), AllocError>
+    ensures { OnOk result ((ms : List Message) (qs more : List Receive) → AddsReceive qs more q → Indexes (comes_after ops.now) ms qs state.old → Indexes (comes_after ops.now) ms more state.new) }
 {
     expect_settled(state, &q)?;
-    push_receive(state, q)?;
+    push_receive(state, ops, q)?;
     Ok(())
 }

@@ -36,6 +36,7 @@ pub(crate) struct Taker {
     pub(crate) datatype: i64,
     pub(crate) count: u32,
     pub(crate) any_tag: bool,
+    pub(crate) ended: Option<u64>,
 }
 
 pub(crate) fn make_pair(m: &Message, q: &Receive) -> Pair

@@ -105,7 +105,7 @@ pub(crate) struct Kinds {
     pub(crate) untold_any_tag: bool,
 }
 
-const NO_KINDS: Kinds = Kinds {
+pub(crate) const NO_KINDS: Kinds = Kinds {
     told: false,
     told_any_tag: false,
     untold: false,
@@ -114,7 +114,7 @@ const NO_KINDS: Kinds = Kinds {
 
 impl Kinds {
     /// Whether receives with such a source and tag were among them.
-    fn has(self, source: Option<u32>, tag: Option<u32>) -> bool
+    pub(crate) fn has(self, source: Option<u32>, tag: Option<u32>) -> bool
         ensures { result ≡ had self source tag }
     {
         match source {
@@ -130,7 +130,7 @@ impl Kinds {
     }
 
     /// And the kind of this source and tag.
-    fn marked(self, source: Option<u32>, tag: Option<u32>) -> Kinds
+    pub(crate) fn marked(self, source: Option<u32>, tag: Option<u32>) -> Kinds
         ensures { result ≡ kinds_with self source tag }
     {
         Kinds {

@@ -6,6 +6,7 @@ ghost use Rattle.std.specs.Option.{option_map};
 ghost use Rattle.mpi_model.specs.declared.message.Message.{Message};
 ghost use Rattle.mpi_model.specs.declared.message.Receive.{Receive};
 ghost use Rattle.trace_ops.specs.Order.{Has};
+ghost use Rattle.trace_pair.specs.After.{comes_after};
 ghost use Rattle.trace_pair.specs.Followed.{Indexes, Follows};
 ghost use Rattle.trace_pair.specs.Pairing.{receive_of};
 ghost use Rattle.trace_pair.specs.Settled.{Settles};
@@ -14,6 +15,7 @@ ghost use Rattle.trace_pair.specs.Table.{pair_of, postponed_name, table_of, tabl
 use crate::batch::Batch;
 use crate::matched::Matched;
 use crate::pair::{Pair, make_pair};
+use crate::reach::Reaches;
 use mpi_model::{Message, OpName};
 use std::alloc::{AllocError, Global};
 use std::marker::Model;
@@ -72,16 +74,22 @@ impl Rows {
 
     /// Adds what the held message is: paired, postponed, or neither. `next` is where its sender's
     /// calls have come to.
-    fn add(&mut self, state: &Matched, next: &mut usize, m: &Message) -> Result<(), AllocError>
-        ensures pairs { OnOk result ((ms : List Message) (qs : List Receive) → Indexes ms qs state.now → Has ms m.now →
-            self.new.pairs ≡ self.old.pairs ++ cons_option (option_map (pair_of m.now) (receive_of ms qs m.now)) []) }
-        ensures postponed { OnOk result ((ms : List Message) (qs : List Receive) → Indexes ms qs state.now → Has ms m.now →
-            self.new.postponed ≡ self.old.postponed ++ cons_option (postponed_name ms qs m.now) []) }
+    fn add(
+        &mut self,
+        state: &Matched,
+        ops: &[RankOps],
+        next: &mut usize,
+        m: &Message,
+    ) -> Result<(), AllocError>
+        ensures pairs { OnOk result ((ms : List Message) (qs : List Receive) → Indexes (comes_after ops.now) ms qs state.now → Has ms m.now →
+            self.new.pairs ≡ self.old.pairs ++ cons_option (option_map (pair_of m.now) (receive_of (comes_after ops.now) ms qs m.now)) []) }
+        ensures postponed { OnOk result ((ms : List Message) (qs : List Receive) → Indexes (comes_after ops.now) ms qs state.now → Has ms m.now →
+            self.new.postponed ≡ self.old.postponed ++ cons_option (postponed_name (comes_after ops.now) ms qs m.now) []) }
     {
         match state.partner_of(next, m) {
             Some(q) => self.put(make_pair(m, &q))?,
             None => {
-                if state.does_open_fit(m) {
+                if state.does_open_fit(ops, m) {
                     self.postpone(m.name)?;
                 }
             }
@@ -90,16 +98,22 @@ impl Rows {
     }
 
     /// Adds what the message at a place is.
-    fn add_settled(&mut self, batch: &Batch, place: usize, m: &Message) -> Result<(), AllocError>
-        ensures pairs { OnOk result ((ms : List Message) (qs : List Receive) → Settles ms qs batch.now → slice_get ms place ≡ Some m.now →
-            self.new.pairs ≡ self.old.pairs ++ cons_option (option_map (pair_of m.now) (receive_of ms qs m.now)) []) }
-        ensures postponed { OnOk result ((ms : List Message) (qs : List Receive) → Settles ms qs batch.now → slice_get ms place ≡ Some m.now →
-            self.new.postponed ≡ self.old.postponed ++ cons_option (postponed_name ms qs m.now) []) }
+    fn add_settled(
+        &mut self,
+        batch: &Batch,
+        reaches: &Reaches,
+        place: usize,
+        m: &Message,
+    ) -> Result<(), AllocError>
+        ensures pairs { OnOk result ((ms : List Message) (qs : List Receive) → Settles (comes_after reaches.now) ms qs batch.now → slice_get ms place ≡ Some m.now →
+            self.new.pairs ≡ self.old.pairs ++ cons_option (option_map (pair_of m.now) (receive_of (comes_after reaches.now) ms qs m.now)) []) }
+        ensures postponed { OnOk result ((ms : List Message) (qs : List Receive) → Settles (comes_after reaches.now) ms qs batch.now → slice_get ms place ≡ Some m.now →
+            self.new.postponed ≡ self.old.postponed ++ cons_option (postponed_name (comes_after reaches.now) ms qs m.now) []) }
     {
         match batch.receive_of(place, m) {
             Some(receive) => self.put(make_pair(m, &receive))?,
             None => {
-                if batch.does_open_fit(m) {
+                if batch.does_open_fit(reaches, m) {
                     self.postpone(m.name)?;
                 }
             }
@@ -108,27 +122,36 @@ impl Rows {
     }
 
     /// The rows of all messages of a pairing.
-    pub(crate) fn of_batch(alloc: Global, batch: &Batch) -> Result<Rows, AllocError>
-        ensures { IfOk result (λ rows. (ms : List Message) (qs : List Receive) → Settles ms qs batch.now → rows ≡ table_with ms qs) }
+    pub(crate) fn of_batch(
+        alloc: Global,
+        batch: &Batch,
+        reaches: &Reaches,
+    ) -> Result<Rows, AllocError>
+        ensures { IfOk result (λ rows. (ms : List Message) (qs : List Receive) → Settles (comes_after reaches.now) ms qs batch.now → rows ≡ table_with (comes_after reaches.now) ms qs) }
     {
         let messages = batch.messages();
         let mut rows = Rows::with_room(alloc, messages.len())?;
         for (place, m) in messages.iter().enumerate() {
-            rows.add_settled(batch, place, m)?;
+            rows.add_settled(batch, reaches, place, m)?;
         }
         Ok(rows)
     }
 
     /// Adds what the held messages of a rank are.
-    fn add_all(&mut self, state: &Matched, some: &[Message]) -> Result<(), AllocError>
-        ensures pairs { OnOk result ((ms : List Message) (qs : List Receive) → Indexes ms qs state.now → ((m : Message) → Has some.now m → Has ms m) →
-            self.new.pairs ≡ self.old.pairs ++ filter_map (λ m. option_map (pair_of m) (receive_of ms qs m)) some.now) }
-        ensures postponed { OnOk result ((ms : List Message) (qs : List Receive) → Indexes ms qs state.now → ((m : Message) → Has some.now m → Has ms m) →
-            self.new.postponed ≡ self.old.postponed ++ filter_map (postponed_name ms qs) some.now) }
+    fn add_all(
+        &mut self,
+        state: &Matched,
+        ops: &[RankOps],
+        some: &[Message],
+    ) -> Result<(), AllocError>
+        ensures pairs { OnOk result ((ms : List Message) (qs : List Receive) → Indexes (comes_after ops.now) ms qs state.now → ((m : Message) → Has some.now m → Has ms m) →
+            self.new.pairs ≡ self.old.pairs ++ filter_map (λ m. option_map (pair_of m) (receive_of (comes_after ops.now) ms qs m)) some.now) }
+        ensures postponed { OnOk result ((ms : List Message) (qs : List Receive) → Indexes (comes_after ops.now) ms qs state.now → ((m : Message) → Has some.now m → Has ms m) →
+            self.new.postponed ≡ self.old.postponed ++ filter_map (postponed_name (comes_after ops.now) ms qs) some.now) }
     {
         let mut next = 0;
         for m in some {
-            self.add(state, &mut next, m)?;
+            self.add(state, ops, &mut next, m)?;
         }
         Ok(())
     }
@@ -142,8 +165,8 @@ impl Rows {
         ensures { IfOk result (λ rows. Follows held.now state.now → rows ≡ table_of held.now) }
     {
         let mut rows = Rows::with_room(alloc, count_sends(held))?;
-        for ops in held {
-            rows.add_all(state, ops.sends())?;
+        for own in held {
+            rows.add_all(state, held, own.sends())?;
         }
         Ok(rows)
     }

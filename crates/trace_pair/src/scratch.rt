@@ -2,10 +2,11 @@
 
 ghost use Rattle.std.specs.Prelude.{◌≡◌, IfOk};
 ghost use Rattle.trace_ops.specs.Ops.{AreOwn};
-ghost use Rattle.trace_pair.specs.Certainty.{AreCertain, AreAllSettled, AreLegal, AreTheOnlyLegal};
+ghost use Rattle.trace_pair.specs.Certainty.{AreCertain, AreAllSettled, AreLegal, AreNoneAfter, AreTheOnlyLegal};
 ghost use Rattle.trace_pair.specs.Table.{table_of};
 
 use crate::batch::batch_of;
+use crate::reach::{Reaches, reaches_of};
 use crate::rows::Rows;
 use crate::table::PairTable;
 use std::alloc::{AllocError, Global};
@@ -14,17 +15,20 @@ use trace_ops::RankOps;
 /// The pairs and the postponed messages of all ranks, the ops of rank r at place r.
 ///
 /// It goes once over all messages and once over all receives, and asks a few questions of sorted maps
-/// for each. It knows no index, which is what makes it the test partner of one.
+/// for each; what comes after a receive it asks of a table that it makes first. It knows no index, which
+/// is what makes it the test partner of one.
 pub fn pair_all(alloc: Global, ops: &[RankOps]) -> Result<PairTable, AllocError>
     requires own { AreOwn 0 ops.now }
     ensures table { IfOk result (λ table. table ≡ table_of ops.now) }
     ensures certain { IfOk result (λ table. AreCertain ops.now table.pairs) }
-    ensures legal { IfOk result (λ table. AreAllSettled ops.now → AreLegal ops.now table.pairs) }
+    ensures legal { IfOk result (λ table. AreAllSettled ops.now → AreNoneAfter ops.now table.pairs → AreLegal ops.now table.pairs) }
     ensures only { IfOk result (λ table. AreAllSettled ops.now → AreTheOnlyLegal ops.now table.pairs) }
 {
-    let batch = batch_of(alloc, ops)?;
-    let rows = Rows::of_batch(alloc, &batch)?;
+    let table = reaches_of(alloc, ops)?;
+    let reaches = Reaches::new(ops, &table);
+    let batch = batch_of(alloc, &reaches)?;
+    let rows = Rows::of_batch(alloc, &batch, &reaches)?;
     let near = batch.places_near(alloc)?;
-    let table = PairTable::of_rows(alloc, rows, near)?;
-    Ok(table)
+    let pairs = PairTable::of_rows(alloc, rows, near)?;
+    Ok(pairs)
 }

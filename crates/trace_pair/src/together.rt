@@ -10,7 +10,9 @@ ghost use Rattle.std.specs.Prelude.{◌≡◌, ◌≤◌, ◌<◌, ◌+◌, List
 ghost use Rattle.mpi_model.specs.declared.message.Message.{Message};
 ghost use Rattle.mpi_model.specs.declared.message.Receive.{Receive};
 ghost use Rattle.trace_ops.specs.Ops.{AreOwn};
-ghost use Rattle.trace_pair.specs.Followed.{Indexes, Follows, Moves};
+ghost use Rattle.trace_pair.specs.After.{comes_after};
+ghost use Rattle.trace_pair.specs.Followed.{Indexes, Follows, FollowsBy, Moves};
+ghost use Rattle.trace_pair.specs.Pairing.{After};
 ghost use Rattle.trace_pair.specs.Parts.{first_parts, begun, all_begun};
 
 use crate::follow::{add_messages, add_receives};
@@ -35,7 +37,7 @@ fn rank_of(ops: &RankOps) -> Option<u32> {
 
 /// Makes room for the couples of a rank's calls.
 fn reserve_rank(state: &mut Matched, own: &RankOps) -> Result<(), AllocError>
-    ensures { (ms : List Message) (qs : List Receive) → Indexes ms qs state.old → Indexes ms qs state.new }
+    ensures { (after : After) (ms : List Message) (qs : List Receive) → Indexes after ms qs state.old → Indexes after ms qs state.new }
 {
     let Some(rank) = rank_of(own) else {
         return Ok(());
@@ -46,7 +48,7 @@ fn reserve_rank(state: &mut Matched, own: &RankOps) -> Result<(), AllocError>
 /// Makes room for the couples of all ranks' calls: before any call comes, so that it stands in one
 /// piece.
 fn reserve_ranks(state: &mut Matched, ops: &[RankOps]) -> Result<(), AllocError>
-    ensures { (ms : List Message) (qs : List Receive) → Indexes ms qs state.old → Indexes ms qs state.new }
+    ensures { (after : After) (ms : List Message) (qs : List Receive) → Indexes after ms qs state.old → Indexes after ms qs state.new }
 {
     for own in ops {
         reserve_rank(state, own)?;
@@ -77,16 +79,22 @@ fn front_of<T>(calls: &[T], parts: usize, done: usize) -> &[T]
 }
 
 /// Adds the part behind the first `done` of a rank's calls.
-fn add_part(state: &mut Matched, own: &RankOps, parts: usize, done: usize) -> Result<(), AllocError>
+fn add_part(
+    state: &mut Matched,
+    ops: &[RankOps],
+    own: &RankOps,
+    parts: usize,
+    done: usize,
+) -> Result<(), AllocError>
     requires { done < parts }
-    ensures { OnOk result (Moves (begun parts done own.now) (begun parts (done + 1) own.now) state.old state.new) }
+    ensures { OnOk result (Moves (comes_after ops.now) (begun parts done own.now) (begun parts (done + 1) own.now) state.old state.new) }
 {
     let sends = own.sends();
     let sent = front_of(sends, parts, done).len();
-    add_messages(state, front_of(sends, parts, done + 1), sent)?;
+    add_messages(state, ops, front_of(sends, parts, done + 1), sent)?;
     let receives = own.receives();
     let posted = front_of(receives, parts, done).len();
-    add_receives(state, front_of(receives, parts, done + 1), posted)?;
+    add_receives(state, ops, front_of(receives, parts, done + 1), posted)?;
     Ok(())
 }
 
@@ -98,17 +106,17 @@ fn add_parts(
     done: usize,
 ) -> Result<(), AllocError>
     requires { done < parts }
-    ensures { OnOk result (AreOwn 0 ops.now → Follows (all_begun parts done ops.now) state.old → Follows (all_begun parts (done + 1) ops.now) state.new) }
+    ensures { OnOk result (AreOwn 0 ops.now → FollowsBy (comes_after ops.now) (all_begun parts done ops.now) state.old → FollowsBy (comes_after ops.now) (all_begun parts (done + 1) ops.now) state.new) }
 {
     for own in ops {
-        add_part(state, own, parts, done)?;
+        add_part(state, ops, own, parts, done)?;
     }
     Ok(())
 }
 
 /// Adds the calls of all ranks to a state without calls.
 pub(crate) fn add_ranks(state: &mut Matched, ops: &[RankOps]) -> Result<(), AllocError>
-    ensures { OnOk result (AreOwn 0 ops.now → Indexes [] [] state.old → Follows ops.now state.new) }
+    ensures { OnOk result (AreOwn 0 ops.now → Indexes (comes_after ops.now) [] [] state.old → Follows ops.now state.new) }
 {
     reserve_ranks(state, ops)?;
     let parts = count_parts(ops);

@@ -10,13 +10,13 @@ use Rattle.std.proofs.lemmas.List.{take_more}
 use Rattle.std.proofs.lemmas.List.Elements.{filter-append}
 use Rattle.std.proofs.lemmas.List.Folds.{list_any-append}
 use Rattle.std.proofs.lemmas.Bool.Decides.{nat_tests}
-use Rattle.mpi_model.specs.Fit.{admits, envelopes_fit, fits}
+use Rattle.mpi_model.specs.Fit.{admits, envelopes_fit}
 use Rattle.mpi_model.specs.Trusts.{is_void}
 use Rattle.mpi_model.specs.declared.message.Message.{Message}
 use Rattle.mpi_model.specs.declared.message.Receive.{Receive}
 use Rattle.trace_wait.specs.declared.round.Round.{Round}
 use Rattle.trace_wait.specs.Collectives.{is_mismatch, is_mismatched_at}
-use Rattle.trace_wait.specs.Patterns.{Pattern, pattern_cmp, same_option, same_pattern, pattern_of, suits, offers, asks, Place, place_cmp}
+use Rattle.trace_wait.specs.Patterns.{Pattern, pattern_cmp, same_option, same_pattern, pattern_of, suits, offers, Place, place_cmp}
 
 or_false : (a : Bool) → (a || false) ≡ a
 or_false true = refl
@@ -125,10 +125,6 @@ named_ways : (o : Option ℕ) (n : ℕ) → (same_option None o || same_option (
 named_ways None n = refl
 named_ways (Some a) n = flipped n a
 
-named_back : (o : Option ℕ) (n : ℕ) → (same_option o None || same_option o (Some n)) ≡ admits o n
-named_back None n = refl
-named_back (Some a) n = refl
-
 abbrev pub any_any : Message → Pattern
 any_any m = (m.comm, m.to, None, None)
 
@@ -150,50 +146,6 @@ pub suits_is : (m : Message) (p : Pattern) →
 suits_is m p =
     four_ways (m.comm == p.0) (m.to == p.1) (same_option None p.2) (same_option (Some m.from) p.2) (same_option None p.3) (same_option (Some m.tag) p.3)
     ∙ ends (m.comm == p.0) (m.to == p.1) _ _ _ _ (named_ways p.2 m.from) (named_ways p.3 m.tag)
-
-abbrev names : Receive → Pattern → Bool
-names q p = same_pattern (pattern_of q) p
-
--- what suits a message names it in one of four ways
-named_is : (m : Message) (q : Receive) →
-    (names q (any_any m) || (names q (any_tagged m) || (names q (from_any m) || names q (from_tagged m)))) ≡ envelopes_fit m q
-named_is m q =
-    four_ways (q.comm == m.comm) (q.at == m.to) (same_option q.source None) (same_option q.source (Some m.from)) (same_option q.tag None) (same_option q.tag (Some m.tag))
-    ∙ ends (q.comm == m.comm) (q.at == m.to) _ _ _ _ (named_back q.source m.from) (named_back q.tag m.tag)
-    ∙ begins (q.comm == m.comm) (m.comm == q.comm) (q.at == m.to) (m.to == q.at) (admits q.source m.from) (admits q.tag m.tag) (flipped q.comm m.comm) (flipped q.at m.to)
-  where
-    begins : (a b c d s t : Bool) → a ≡ b → c ≡ d → (a && c && s && t) ≡ (b && d && s && t)
-    begins a b c d s t h k = ap (λ x. x && c && s && t) h ∙ ap (λ y. b && y && s && t) k
-
--- the same of a receive that was not cancelled
-fits_is : (m : Message) (q : Receive) →
-    (asks q (any_any m) || (asks q (any_tagged m) || (asks q (from_any m) || asks q (from_tagged m)))) ≡ (envelopes_fit m q && not (is_void q.trust))
-fits_is m q =
-    all_or_none (names q (any_any m)) (names q (any_tagged m)) (names q (from_any m)) (names q (from_tagged m)) (not (is_void q.trust))
-    ∙ ap (λ b. b && not (is_void q.trust)) (named_is m q)
-  where
-    all_or_none : (a b c d e : Bool) → ((a && e) || ((b && e) || ((c && e) || (d && e)))) ≡ ((a || (b || (c || d))) && e)
-    all_or_none true b c d true = refl
-    all_or_none false true c d true = refl
-    all_or_none false false true d true = refl
-    all_or_none false false false true true = refl
-    all_or_none false false false false true = refl
-    all_or_none true true true true false = refl
-    all_or_none true true true false false = refl
-    all_or_none true true false true false = refl
-    all_or_none true true false false false = refl
-    all_or_none true false true true false = refl
-    all_or_none true false true false false = refl
-    all_or_none true false false true false = refl
-    all_or_none true false false false false = refl
-    all_or_none false true true true false = refl
-    all_or_none false true true false false = refl
-    all_or_none false true false true false = refl
-    all_or_none false true false false false = refl
-    all_or_none false false true true false = refl
-    all_or_none false false true false false = refl
-    all_or_none false false false true false = refl
-    all_or_none false false false false false = refl
 
 -- a message's patterns, all noted
 pub offered_more : (m : Message) (p : Pattern) (before after : Bool) →
@@ -224,30 +176,6 @@ offered_more m p before after h =
     upside false false true false e = refl
     upside false false false true e = refl
     upside false false false false e = refl
-
--- one of four ways to name a message stands in the list exactly where a receive of it fits
-pub any_fits : (m : Message) (qs : List Receive) →
-    (list_any (λ q. asks q (any_any m)) qs || (list_any (λ q. asks q (any_tagged m)) qs || (list_any (λ q. asks q (from_any m)) qs || list_any (λ q. asks q (from_tagged m)) qs)))
-    ≡ list_any (λ q. envelopes_fit m q && not (is_void q.trust)) qs
-any_fits m [] = refl
-any_fits m (q ∷ qs) =
-    woven (asks q (any_any m)) (asks q (any_tagged m)) (asks q (from_any m)) (asks q (from_tagged m))
-    (list_any (λ q. asks q (any_any m)) qs) (list_any (λ q. asks q (any_tagged m)) qs) (list_any (λ q. asks q (from_any m)) qs) (list_any (λ q. asks q (from_tagged m)) qs)
-    ∙ ap (λ b. b || (list_any (λ q. asks q (any_any m)) qs || (list_any (λ q. asks q (any_tagged m)) qs || (list_any (λ q. asks q (from_any m)) qs || list_any (λ q. asks q (from_tagged m)) qs)))) (fits_is m q)
-    ∙ ap (λ b. (envelopes_fit m q && not (is_void q.trust)) || b) (any_fits m qs)
-  where
-    woven : (a b c d v w x y : Bool) → ((a || v) || ((b || w) || ((c || x) || (d || y)))) ≡ ((a || (b || (c || d))) || (v || (w || (x || y))))
-    woven true b c d v w x y = refl
-    woven false true c d true w x y = refl
-    woven false true c d false w x y = refl
-    woven false false true d true w x y = refl
-    woven false false true d false true x y = refl
-    woven false false true d false false x y = refl
-    woven false false false true true w x y = refl
-    woven false false false true false true x y = refl
-    woven false false false true false false true y = refl
-    woven false false false true false false false y = refl
-    woven false false false false v w x y = refl
 
 -- a round is noted where it is mismatched
 pub round_noted : (r : Round) (c k : ℕ) (before after : Bool) → is_mismatch r.standing ≡ true →
@@ -287,7 +215,7 @@ in_kind true true before after h e = e
 in_kind false kind before after h e = e
 in_kind true false before after h e = absurd (cc)
 
--- ---- cancelled messages and receives
+-- ---- cancelled messages
 
 -- a fact that doesn't hang on the element
 pub any_and : {X : Type 0} (f : X → Bool) (b : Bool) (xs : List X) → list_any (λ x. f x && b) xs ≡ (b && list_any f xs)
@@ -327,11 +255,6 @@ by_either a b f r whole e h = h ∙ ap (λ c. c || b) (sym (sym e ∙ h)) ∙ wh
 pub by_other : (a b f p r : Bool) → (a || b) ≡ f → p ≡ a → p ≡ false → r ≡ b → r ≡ f
 by_other a b f p r whole e h k = k ∙ ap (λ c. c || b) (sym (sym e ∙ h)) ∙ whole
 
--- the tests agree on each element
-pub any_same : {X : Type 0} (f g : X → Bool) → ((x : X) → f x ≡ g x) → (xs : List X) → list_any f xs ≡ list_any g xs
-any_same f g each [] = refl
-any_same f g each (x ∷ xs) = ap (λ b. b || list_any f xs) (each x) ∙ ap (λ b. g x || b) (any_same f g each xs)
-
 -- a message was cancelled or it was not
 pub either_kind : (m : Message) (q : Receive) → (offers false m (pattern_of q) || offers true m (pattern_of q)) ≡ envelopes_fit m q
 either_kind m q = either (envelopes_fit m q) (is_void m.trust)
@@ -340,34 +263,3 @@ either_kind m q = either (envelopes_fit m q) (is_void m.trust)
     either true true = refl
     either true false = refl
     either false v = refl
-
--- what fits a message that was not cancelled
-pub fits_by_message : (m : Message) (q : Receive) → fits m q ≡ ((envelopes_fit m q && not (is_void q.trust)) && not (is_void m.trust))
-fits_by_message m q = turned (envelopes_fit m q) (not (is_void m.trust)) (not (is_void q.trust))
-  where
-    turned : (a b c : Bool) → (a && b && c) ≡ ((a && c) && b)
-    turned true true true = refl
-    turned true true false = refl
-    turned true false true = refl
-    turned true false false = refl
-    turned false b c = refl
-
--- some receive of the list names just this
-abbrev pub asked_as : List Receive → Pattern → Bool
-asked_as qs p = list_any (λ q. asks q p) qs
-
--- what a row of tests answers, by the first of them that is true
-module _ (a b c d f : Bool) (whole : (a || (b || (c || d))) ≡ f) where
-  pub by_first : (r : Bool) → r ≡ a → r ≡ true → r ≡ f
-  by_first r e h = h ∙ sym (ap (λ z. z || (b || (c || d))) (sym e ∙ h)) ∙ whole
-
-  pub by_second : (p r : Bool) → p ≡ a → p ≡ false → r ≡ b → r ≡ true → r ≡ f
-  by_second p r x y e h = h ∙ sym (ap (λ z. z || (b || (c || d))) (sym x ∙ y) ∙ ap (λ z. z || (c || d)) (sym e ∙ h)) ∙ whole
-
-  pub by_third : (p q r : Bool) → p ≡ a → p ≡ false → q ≡ b → q ≡ false → r ≡ c → r ≡ true → r ≡ f
-  by_third p q r x y u v e h =
-      h ∙ sym (ap (λ z. z || (b || (c || d))) (sym x ∙ y) ∙ ap (λ z. z || (c || d)) (sym u ∙ v) ∙ ap (λ z. z || d) (sym e ∙ h)) ∙ whole
-
-  pub by_fourth : (p q s r : Bool) → p ≡ a → p ≡ false → q ≡ b → q ≡ false → s ≡ c → s ≡ false → r ≡ d → r ≡ f
-  by_fourth p q s r x y u v t w e =
-      e ∙ sym (ap (λ z. z || (b || (c || d))) (sym x ∙ y) ∙ ap (λ z. z || (c || d)) (sym u ∙ v) ∙ ap (λ z. z || d) (sym t ∙ w)) ∙ whole

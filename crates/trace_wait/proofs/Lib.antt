@@ -2,6 +2,7 @@ pub mod Tables
 pub mod Columns
 pub mod Steps
 pub mod Keys
+pub mod Free
 pub mod Searches
 pub mod Fronts
 pub mod Rows

@@ -15,7 +15,7 @@ use Rattle.trace_wait.specs.declared.round.Round.{Round}
 use Rattle.trace_ops.specs.Ops.{Ops}
 use Rattle.trace_pair.specs.Table.{taken_by, given_by}
 use Rattle.mpi_model.specs.Fit.{envelopes_fit, fits}
-use Rattle.trace_wait.specs.Matching.{unpaired_messages, unpaired_receives}
+use Rattle.trace_wait.specs.Matching.{may_take, unpaired_messages, unpaired_receives}
 
 -- what the conditions are made from
 pub record Run : Type 0 where
@@ -37,9 +37,9 @@ is_buffered sends.Buffer Ready = true
 is_buffered sends.Wait Standard = false
 is_buffered sends.Wait Ready = false
 
--- A send may go on where it is buffered, is paired, or fits an unpaired receive; else it waits for its destination.
+-- A send may go on where it is buffered, is paired, or may be taken by an unpaired receive; else it waits for its destination.
 abbrev pub may_send : Run → Message → Bool
-may_send s m = is_buffered s.layout.sends m.mode || is_some (taken_by s.pairs m.name) || list_any (λ q. fits m q) (unpaired_receives s.ops s.pairs)
+may_send s m = is_buffered s.layout.sends m.mode || is_some (taken_by s.pairs m.name) || list_any (may_take s.ops m) (unpaired_receives s.ops s.pairs)
 
 -- what a send waits for: its destination, or nothing
 abbrev pub send_part : Run → Message → Wait

@@ -43,10 +43,6 @@ is_void_or_not void m = if void then is_void m.trust else not (is_void m.trust)
 abbrev pub offers : Bool → Message → Pattern → Bool
 offers void m p = suits m p && is_void_or_not void m
 
--- The receive names just this, and was not cancelled.
-abbrev pub asks : Receive → Pattern → Bool
-asks q p = same_pattern (pattern_of q) p && not (is_void q.trust)
-
 -- a round as a key: its communicator and its number
 abbrev pub Place : Type 0
 Place = ℕ × ℕ

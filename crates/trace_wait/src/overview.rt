@@ -1,13 +1,12 @@
 //! What the conditions are made from.
 
-ghost use Rattle.std.specs.Prelude.{◌≡◌, ◌==◌, ◌&&◌, not, true, false, IfOk, count_by, is_some, nat_lt, slice_index};
+ghost use Rattle.std.specs.Prelude.{◌≡◌, ◌==◌, ◌&&◌, true, false, IfOk, count_by, is_some, nat_lt, slice_index};
 ghost use Rattle.std.specs.List.{list_any};
 ghost use Rattle.mpi_model.specs.Fit.{envelopes_fit, fits};
-ghost use Rattle.mpi_model.specs.Trusts.{is_void};
 ghost use Rattle.trace_pair.specs.Table.{taken_by, given_by};
-ghost use Rattle.trace_wait.specs.Matching.{unpaired_messages, unpaired_receives};
+ghost use Rattle.trace_wait.specs.Matching.{may_take, unpaired_messages, unpaired_receives};
 ghost use Rattle.trace_wait.specs.Parts.{members};
-ghost use Rattle.trace_wait.specs.Patterns.{asks, offers, pattern_of};
+ghost use Rattle.trace_wait.specs.Patterns.{offers, pattern_of};
 ghost use Rattle.trace_wait.specs.Calls.{counts};
 ghost use Rattle.trace_wait.specs.Collectives.{is_mismatched, round_number};
 
@@ -21,10 +20,11 @@ use std::collections::BTreeSet;
 use std::marker::Model;
 use std::sync::Arc;
 use trace_ops::{Entered, RankOps};
-use trace_pair::{PairTable, Side};
+use trace_pair::{Ends, PairTable, Reaches, Side};
 
-/// The whole run, and what was gathered of it to be looked up: which messages and receives are in
-/// no pair, and which of the messages were cancelled, which rounds are mismatched, how many calls each member has entered, and the members of
+/// The whole run, and what was gathered of it to be looked up: which messages are in no pair, which
+/// of them were cancelled, when the receives end that are in no pair, which messages come after which
+/// receives, which rounds are mismatched, how many calls each member has entered, and the members of
 /// each communicator in a list to be shared.
 #[derive(Drop)]
 pub(crate) struct Overview<'a> {
@@ -34,7 +34,8 @@ pub(crate) struct Overview<'a> {
     pub rounds: &'a [Round],
     pub offered: &'a BTreeSet<Pattern>,
     pub withdrawn: &'a BTreeSet<Pattern>,
-    pub asked: &'a BTreeSet<Pattern>,
+    pub asked: &'a Ends,
+    pub reaches: &'a Reaches<'a>,
     pub mismatched: &'a BTreeSet<(u32, u64)>,
     pub calls: &'a [CommCalls],
     pub groups: &'a [Group],
@@ -45,8 +46,9 @@ impl<'a> Model for Overview<'a> {
     ghost use Rattle.std.specs.List.{list_any};
     ghost use Rattle.std.specs.BTreeSet.{contains};
     ghost use Rattle.trace_wait.specs.Parts.{Run};
-    ghost use Rattle.trace_wait.specs.Matching.{unpaired_messages, unpaired_receives};
-    ghost use Rattle.trace_wait.specs.Patterns.{Pattern as Named, pattern_cmp, place_cmp, offers, asks};
+    ghost use Rattle.trace_pair.specs.Ends.{AreLast};
+    ghost use Rattle.trace_wait.specs.Matching.{free_receives, unpaired_messages};
+    ghost use Rattle.trace_wait.specs.Patterns.{Pattern as Named, pattern_cmp, place_cmp, offers};
     ghost use Rattle.trace_wait.specs.Collectives.{is_mismatched_at};
     ghost use Rattle.trace_wait.specs.Calls.{table};
     ghost use Rattle.trace_wait.specs.Groups.{AreGroups};
@@ -57,11 +59,12 @@ impl<'a> Model for Overview<'a> {
 
     ghost invariant = { λ s.
         ((p : Named) → contains pattern_cmp s.offered.now p ≡ list_any (λ m. offers false m p) (unpaired_messages s.ops.now s.pairs.now.pairs))
-        × ((p : Named) → contains pattern_cmp s.asked.now p ≡ list_any (λ q. asks q p) (unpaired_receives s.ops.now s.pairs.now.pairs))
+        × (AreLast (free_receives s.ops.now s.pairs.now.pairs) s.asked.now)
         × ((c k : ℕ) → contains place_cmp s.mismatched.now (c, k) ≡ list_any (is_mismatched_at c k) s.rounds.now)
         × (s.calls.now ≡ table s.layout.now.comms s.ops.now s.layout.now.comms)
         × (AreGroups s.layout.now.comms s.groups.now)
-        × ((p : Named) → contains pattern_cmp s.withdrawn.now p ≡ list_any (λ m. offers true m p) (unpaired_messages s.ops.now s.pairs.now.pairs)) };
+        × ((p : Named) → contains pattern_cmp s.withdrawn.now p ≡ list_any (λ m. offers true m p) (unpaired_messages s.ops.now s.pairs.now.pairs))
+        × (s.reaches.now ≡ s.ops.now) };
 }
 
 impl<'a> Overview<'a> {
@@ -103,28 +106,11 @@ impl<'a> Overview<'a> {
         self.pairs.partner(q.name, Side::Received).is_some()
     }
 
-    /// Whether some unpaired receive that was not cancelled names just this.
-    fn is_asked(&self, pattern: Pattern) -> bool
-        ensures { result ≡ list_any (λ q. asks q pattern) (unpaired_receives self.now.ops self.now.pairs) }
+    /// Whether some unpaired receive may take the message.
+    pub fn may_be_taken(&self, m: &Message) -> bool
+        ensures { result ≡ list_any (may_take self.now.ops m.now) (unpaired_receives self.now.ops self.now.pairs) }
     {
-        self.asked.contains(&pattern)
-    }
-
-    /// Whether the message's envelope suits some unpaired receive that was not cancelled.
-    fn suits_some_receive(&self, m: &Message) -> bool
-        ensures { result ≡ list_any (λ q. envelopes_fit m.now q && not (is_void q.trust)) (unpaired_receives self.now.ops self.now.pairs) }
-    {
-        self.is_asked((m.comm, m.to, None, None))
-            || (self.is_asked((m.comm, m.to, None, Some(m.tag)))
-                || (self.is_asked((m.comm, m.to, Some(m.from), None))
-                    || self.is_asked((m.comm, m.to, Some(m.from), Some(m.tag)))))
-    }
-
-    /// Whether some unpaired receive can take the message.
-    pub fn fits_some_receive(&self, m: &Message) -> bool
-        ensures { result ≡ list_any (λ q. fits m.now q) (unpaired_receives self.now.ops self.now.pairs) }
-    {
-        !m.trust.is_void() && self.suits_some_receive(m)
+        !m.trust.is_void() && self.asked.may_take(self.reaches, m)
     }
 
     /// Whether some unpaired message that was not cancelled suits the receive.

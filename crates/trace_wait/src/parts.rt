@@ -23,11 +23,11 @@ fn is_buffered(how: Sends, mode: Mode) -> bool
     }
 }
 
-/// Whether a send may go on: it is buffered, is paired, or fits an unpaired receive.
+/// Whether a send may go on: it is buffered, is paired, or may be taken by an unpaired receive.
 fn may_send(run: &Overview, m: &Message) -> bool
     ensures { result ≡ may_send run.now m.now }
 {
-    is_buffered(run.layout.sends(), m.mode) || run.is_taken(m) || run.fits_some_receive(m)
+    is_buffered(run.layout.sends(), m.mode) || run.is_taken(m) || run.may_be_taken(m)
 }
 
 /// Whether a receive may go on: it is paired, or an unpaired message fits it.

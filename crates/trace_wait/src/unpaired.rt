@@ -3,13 +3,17 @@
 //! A receive names communicator, receiver, source and tag, or leaves source or tag open. So a
 //! message can be named in four ways: all four stand in the set of an unpaired message, and one
 //! look-up tells whether some unpaired message fits a receive. Cancelled messages, which only a
-//! probe may have found, stand in a set of their own, and cancelled receives in none.
+//! probe may have found, stand in a set of their own, and cancelled receives nowhere. Of the
+//! receives that name the same, a message can be taken by some exactly where it can be by the one
+//! that ends last: so its end is all that is kept of them.
 
-ghost use Rattle.std.specs.Prelude.{◌≡◌, ◌&&◌, ◌||◌, IfOk, OnOk, filter};
+ghost use Rattle.std.specs.Prelude.{◌≡◌, ◌&&◌, ◌||◌, ◌++◌, ◌∷◌, [], List, IfOk, OnOk, filter};
 ghost use Rattle.std.specs.List.{list_any};
 ghost use Rattle.std.specs.BTreeSet.{contains};
-ghost use Rattle.trace_wait.specs.Matching.{is_unpaired_message, is_unpaired_receive, unpaired_messages, unpaired_receives};
-ghost use Rattle.trace_wait.specs.Patterns.{Pattern as Named, pattern_cmp, suits, offers, asks, is_void_or_not};
+ghost use Rattle.mpi_model.specs.declared.message.Receive.{Receive};
+ghost use Rattle.trace_pair.specs.Ends.{AreLast};
+ghost use Rattle.trace_wait.specs.Matching.{free_receives, is_free, is_unpaired_message, unpaired_messages};
+ghost use Rattle.trace_wait.specs.Patterns.{Pattern as Named, pattern_cmp, suits, offers, is_void_or_not};
 
 use crate::paired::{is_given, is_taken};
 use crate::sets::note;
@@ -17,7 +21,7 @@ use mpi_model::{Message, Receive};
 use std::alloc::{AllocError, Global};
 use std::collections::BTreeSet;
 use trace_ops::RankOps;
-use trace_pair::PairTable;
+use trace_pair::{Ends, PairTable};
 
 /// Communicator, receiver, source and tag, as a receive names them.
 pub(crate) type Pattern = (u32, u32, Option<u32>, Option<u32>);
@@ -97,30 +101,22 @@ pub(crate) fn patterns_offered(
     Ok(set)
 }
 
-/// Notes what the receive names, unless it was cancelled.
-fn ask(q: &Receive, set: &mut BTreeSet<Pattern>) -> Result<(), AllocError>
-    ensures { OnOk result ((p : Named) → contains pattern_cmp set.new p ≡ (asks q.now p || contains pattern_cmp set.old p)) }
-{
-    if q.trust.is_void() {
-        return Ok(());
-    }
-    note(set, (q.comm, q.at, q.source, q.tag))?;
-    Ok(())
-}
-
-/// Notes what a receive asks for that is in no pair.
+/// Notes when the receive ends, where it is in no pair and was not cancelled.
 fn ask_unpaired(
     pairs: &PairTable,
     q: &Receive,
     place: &mut usize,
-    set: &mut BTreeSet<Pattern>,
+    asked: &mut Ends,
 ) -> Result<(), AllocError>
-    ensures { OnOk result ((p : Named) → contains pattern_cmp set.new p ≡ ((is_unpaired_receive pairs.now.pairs q.now && asks q.now p) || contains pattern_cmp set.old p)) }
+    ensures { OnOk result ((before : List Receive) → AreLast before asked.old → AreLast (before ++ filter (is_free pairs.now.pairs) (q.now ∷ [])) asked.new) }
 {
+    if q.trust.is_void() {
+        return Ok(());
+    }
     if is_given(pairs, q, place) {
         return Ok(());
     }
-    ask(q, set)?;
+    asked.insert(q)?;
     Ok(())
 }
 
@@ -129,28 +125,28 @@ fn ask_all(
     pairs: &PairTable,
     receives: &[Receive],
     place: &mut usize,
-    set: &mut BTreeSet<Pattern>,
+    asked: &mut Ends,
 ) -> Result<(), AllocError>
-    ensures { OnOk result ((p : Named) → contains pattern_cmp set.new p ≡ (list_any (λ q. asks q p) (filter (is_unpaired_receive pairs.now.pairs) receives.now) || contains pattern_cmp set.old p)) }
+    ensures { OnOk result ((before : List Receive) → AreLast before asked.old → AreLast (before ++ filter (is_free pairs.now.pairs) receives.now) asked.new) }
 {
     for q in receives {
-        ask_unpaired(pairs, q, place, set)?;
+        ask_unpaired(pairs, q, place, asked)?;
     }
     Ok(())
 }
 
-/// The patterns that some unpaired receive names.
-pub(crate) fn patterns_asked(
+/// When the unpaired receives end that were not cancelled.
+pub(crate) fn ends_asked(
     alloc: Global,
     ops: &[RankOps],
     pairs: &PairTable,
-) -> Result<BTreeSet<Pattern>, AllocError>
-    ensures { IfOk result (λ s. (p : Named) → contains pattern_cmp s p ≡ list_any (λ q. asks q p) (unpaired_receives ops.now pairs.now.pairs)) }
+) -> Result<Ends, AllocError>
+    ensures { IfOk result (AreLast (free_receives ops.now pairs.now.pairs)) }
 {
-    let mut set = BTreeSet::new(alloc);
+    let mut asked = Ends::empty(alloc);
     let mut place = 0;
     for o in ops {
-        ask_all(pairs, o.receives(), &mut place, &mut set)?;
+        ask_all(pairs, o.receives(), &mut place, &mut asked)?;
     }
-    Ok(set)
+    Ok(asked)
 }

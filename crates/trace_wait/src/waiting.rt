@@ -15,11 +15,11 @@ use crate::overview::Overview;
 use crate::parts::{probe_part, receive_of_call, send_of_call};
 use crate::requests::{choices, request, requests, some_of};
 use crate::round::Round;
-use crate::unpaired::{patterns_asked, patterns_offered};
+use crate::unpaired::{ends_asked, patterns_offered};
 use mpi_model::{Call, Layout};
 use std::alloc::{AllocError, Global};
 use trace_ops::{RankOps, probed};
-use trace_pair::PairTable;
+use trace_pair::{PairTable, Reaches, reaches_of};
 use trace_stuck::Condition;
 
 /// Both of two conditions.
@@ -109,7 +109,9 @@ pub fn conditions(
 {
     let offered = patterns_offered(alloc, false, ops, pairs)?;
     let withdrawn = patterns_offered(alloc, true, ops, pairs)?;
-    let asked = patterns_asked(alloc, ops, pairs)?;
+    let asked = ends_asked(alloc, ops, pairs)?;
+    let table = reaches_of(alloc, ops)?;
+    let reaches = Reaches::new(ops, &table);
     let mismatched = mismatched_rounds(alloc, rounds)?;
     let calls = all_calls(alloc, layout, ops)?;
     let groups = groups_of(alloc, layout)?;
@@ -121,6 +123,7 @@ pub fn conditions(
         offered: &offered,
         withdrawn: &withdrawn,
         asked: &asked,
+        reaches: &reaches,
         mismatched: &mismatched,
         calls: &calls,
         groups: &groups,

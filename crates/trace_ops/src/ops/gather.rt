@@ -83,6 +83,7 @@ impl Gathered {
     /// What a rank did with these calls, all of which were gathered.
     fn into_ops(
         self,
+        alloc: Global,
         layout: &Layout,
         rank: u32,
         beyond: bool,
@@ -93,6 +94,7 @@ impl Gathered {
     {
         let state = state_of(layout, rank, beyond, calls);
         let waiting = waiting_of(state, calls)?;
+        let comms = layout.comms_with(alloc, rank)?;
         let mut sends = self.sends;
         let mut receives = self.receives;
         let mut rounds = self.rounds;
@@ -107,6 +109,7 @@ impl Gathered {
             sends,
             receives,
             rounds,
+            comms,
             active,
             cancelled,
             state,
@@ -142,7 +145,7 @@ fn gather(
         n -= 1;
         gathered.add(layout, rank, calls, n)?;
     }
-    gathered.into_ops(layout, rank, beyond, calls)
+    gathered.into_ops(alloc, layout, rank, beyond, calls)
 }
 
 /// What a rank of the layout did, by its readable events.

@@ -1,6 +1,7 @@
 use Rattle.std.proofs.Common.{◌≡◌, ◌+◌, ℕ, List, subst, take, length, arith, ap, ◌∙◌}
 use Rattle.std.proofs.Math.Seq.{take-length}
 use Rattle.mpi_model.specs.declared.message.Message.{Message}
+use Rattle.trace_pair.specs.After.{comes_after}
 use Rattle.trace_pair.specs.Calls.{between}
 use Rattle.trace_pair.specs.Followed.{Indexes}
 use Rattle.trace_pair.proofs.Ranks.{adds_at}
@@ -11,13 +12,13 @@ loop-next-preserved c =
     let i = c.loop-next.next in
     record {
       high = omega arith;
-      state = λ before after qs s x.
-          c.in_ok-add_message.ensures (between before (take i c.args.held.now) after) (between before (take (i + 1) c.args.held.now) after) qs
-          (adds_at before after c.args.held.now i _ (omega arith) s)
-          (c.loop-next.invariant.state before after qs s x);
+      state = λ before behind qs s x.
+          c.in_ok-add_message.ensures (between before (take i c.args.held.now) behind) (between before (take (i + 1) c.args.held.now) behind) qs
+          (adds_at before behind c.args.held.now i _ (omega arith) s)
+          (c.loop-next.invariant.state before behind qs s x);
     }
 
 pub returns : goal.returns
-returns c = λ before after qs s x.
+returns c = λ before behind qs s x.
     let n : c.loop-next.next ≡ length c.args.held.now = omega arith in
-    subst (λ (l : List Message). Indexes (between before l after) qs c.loop-next.state) (ap (λ (k : ℕ). take k c.args.held.now) n ∙ take-length c.args.held.now) (c.loop-next.invariant.state before after qs s x)
+    subst (λ (l : List Message). Indexes (comes_after c.args.ops.now) (between before l behind) qs c.loop-next.state) (ap (λ (k : ℕ). take k c.args.held.now) n ∙ take-length c.args.held.now) (c.loop-next.invariant.state before behind qs s x)

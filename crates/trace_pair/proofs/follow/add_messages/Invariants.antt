@@ -1,6 +1,7 @@
 use Rattle.std.proofs.Common.{◌≤◌, ◌-◌, List, length, take}
 use Rattle.mpi_model.specs.declared.message.Message.{Message}
 use Rattle.mpi_model.specs.declared.message.Receive.{Receive}
+use Rattle.trace_pair.specs.After.{comes_after}
 use Rattle.trace_pair.specs.Calls.{between, IsSequence}
 use Rattle.trace_pair.specs.Followed.{Indexes}
 use Rattle.trace_pair.proofs.follow.add_messages.Given as goal
@@ -8,7 +9,7 @@ use Rattle.trace_pair.proofs.follow.add_messages.Given as goal
 abbrev pub invariant-loop-next : goal.invariant-loop-next
 invariant-loop-next l = record {
   high : l.next ≤ length l.held;
-  state : (before after : List Message) (qs : List Receive) → IsSequence before after l.held → Indexes (between before (take l.keep l.held) after) qs l.initial.state → Indexes (between before (take l.next l.held) after) qs l.state;
+  state : (before behind : List Message) (qs : List Receive) → IsSequence before behind l.held → Indexes (comes_after l.ops) (between before (take l.keep l.held) behind) qs l.initial.state → Indexes (comes_after l.ops) (between before (take l.next l.held) behind) qs l.state;
 }
 
 abbrev pub decreases-loop-next : goal.decreases-loop-next

@@ -11,13 +11,13 @@ loop-left-preserved c =
     record {
       high = omega arith;
       low = omega arith;
-      state = λ before after qs s x.
-          c.in_ok-pop_message.ensures (between before (take i c.args.held.now) after) (between before (take (i + 1) c.args.held.now) after) qs
-          (adds_at before after c.args.held.now i _ (omega arith) s)
-          (subst (λ (k : ℕ). Indexes (between before (take k c.args.held.now) after) qs c.loop-left.state) n (c.loop-left.invariant.state before after qs s x));
+      state = λ after before behind qs s x.
+          c.in_ok-pop_message.ensures after (between before (take i c.args.held.now) behind) (between before (take (i + 1) c.args.held.now) behind) qs
+          (adds_at before behind c.args.held.now i _ (omega arith) s)
+          (subst (λ (k : ℕ). Indexes after (between before (take k c.args.held.now) behind) qs c.loop-left.state) n (c.loop-left.invariant.state after before behind qs s x));
     }
 
 pub returns : goal.returns
-returns c = λ before after qs s x.
+returns c = λ after before behind qs s x.
     let n : c.loop-left.left ≡ c.args.keep = omega arith in
-    subst (λ (k : ℕ). Indexes (between before (take k c.args.held.now) after) qs c.loop-left.state) n (c.loop-left.invariant.state before after qs s x)
+    subst (λ (k : ℕ). Indexes after (between before (take k c.args.held.now) behind) qs c.loop-left.state) n (c.loop-left.invariant.state after before behind qs s x)

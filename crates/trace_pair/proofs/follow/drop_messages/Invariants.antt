@@ -3,13 +3,14 @@ use Rattle.mpi_model.specs.declared.message.Message.{Message}
 use Rattle.mpi_model.specs.declared.message.Receive.{Receive}
 use Rattle.trace_pair.specs.Calls.{between, IsSequence}
 use Rattle.trace_pair.specs.Followed.{Indexes}
+use Rattle.trace_pair.specs.Pairing.{After}
 use Rattle.trace_pair.proofs.follow.drop_messages.Given as goal
 
 abbrev pub invariant-loop-left : goal.invariant-loop-left
 invariant-loop-left l = record {
   high : l.left ≤ length l.held;
   low : l.keep ≤ l.left;
-  state : (before after : List Message) (qs : List Receive) → IsSequence before after l.held → Indexes (between before l.held after) qs l.initial.state → Indexes (between before (take l.left l.held) after) qs l.state;
+  state : (after : After) (before behind : List Message) (qs : List Receive) → IsSequence before behind l.held → Indexes after (between before l.held behind) qs l.initial.state → Indexes after (between before (take l.left l.held) behind) qs l.state;
 }
 
 abbrev pub decreases-loop-left : goal.decreases-loop-left

@@ -11,13 +11,13 @@ loop-left-preserved c =
     record {
       high = omega arith;
       low = omega arith;
-      state = λ before after ms s x.
-          c.in_ok-pop_receive.ensures ms (between before (take i c.args.held.now) after) (between before (take (i + 1) c.args.held.now) after)
-          (adds_at before after c.args.held.now i _ (omega arith) s)
-          (subst (λ (k : ℕ). Indexes ms (between before (take k c.args.held.now) after) c.loop-left.state) n (c.loop-left.invariant.state before after ms s x));
+      state = λ after before behind ms s x.
+          c.in_ok-pop_receive.ensures after ms (between before (take i c.args.held.now) behind) (between before (take (i + 1) c.args.held.now) behind)
+          (adds_at before behind c.args.held.now i _ (omega arith) s)
+          (subst (λ (k : ℕ). Indexes after ms (between before (take k c.args.held.now) behind) c.loop-left.state) n (c.loop-left.invariant.state after before behind ms s x));
     }
 
 pub returns : goal.returns
-returns c = λ before after ms s x.
+returns c = λ after before behind ms s x.
     let n : c.loop-left.left ≡ c.args.keep = omega arith in
-    subst (λ (k : ℕ). Indexes ms (between before (take k c.args.held.now) after) c.loop-left.state) n (c.loop-left.invariant.state before after ms s x)
+    subst (λ (k : ℕ). Indexes after ms (between before (take k c.args.held.now) behind) c.loop-left.state) n (c.loop-left.invariant.state after before behind ms s x)

@@ -1,13 +1,22 @@
-use Rattle.std.proofs.Common.{List, subst}
-use Rattle.trace_ops.specs.Ops.{Ops}
-use Rattle.trace_pair.specs.Followed.{Follows}
-use Rattle.trace_pair.proofs.Ranked.{moved, own_moved}
+use Rattle.std.proofs.Common.{List, subst, sym, get_or}
+use Rattle.trace_ops.specs.Ops.{Ops, no_ops, AreOwn}
+use Rattle.trace_pair.specs.After.{comes_after}
+use Rattle.trace_pair.specs.Followed.{Adds, Drops, Follows}
+use Rattle.trace_pair.specs.Fronts.{AreFronts}
+use Rattle.trace_pair.proofs.Ranked.{own_moved}
+use Rattle.trace_pair.proofs.Switched.{set_moves}
 use Rattle.trace_pair.proofs.index.set_ops.Goals as goal
 
 pub returns-clause-own : goal.returns-clause-own
-returns-clause-own c = own_moved c.args.held.now.items c.args.rank c.args.ops c.requires.held c.requires.own
+returns-clause-own c = subst (λ (h : List Ops). AreOwn 0 h) (sym c.put_ops.ensures) (own_moved c.args.held.now.items c.args.rank c.args.ops c.requires.held c.requires.own)
 
 pub returns-clause-state : goal.returns-clause-state
 returns-clause-state c =
+    let held = c.args.held.now.items in
+    let n = c.args.rank in
+    let f = c.in_ok-fronts.fronts in
     let was = subst (λ (h : List Ops). Follows h c.in_ok-state.state) c.deref.ensures.value c.in_ok-state.ensures in
-    moved c.args.held.now.items c.args.rank c.index.result.now c.args.ops c.in_ok-state.state c.set_rank.new.state c.requires.rank c.requires.held c.requires.own c.index.ensures c.in_ok-set_rank.ensures was
+    let fronts = subst (λ (h : List Ops). AreFronts (get_or h n no_ops) c.args.ops f) c.deref-2.ensures.value c.in_ok-fronts.ensures.fronts in
+    let drops = subst (λ (h : List Ops). Drops (get_or h n no_ops) f c.in_ok-state.state c.drop_calls.new.state) c.deref-2.ensures.value c.in_ok-fronts.ensures.state in
+    let adds = subst (λ (h : List Ops). Adds (comes_after h) (get_or h n no_ops) f c.drop_calls.new.state c.add_calls.new.state) c.deref-3.ensures.value c.in_ok-add_calls.ensures in
+    set_moves held c.put_ops.new.held.items n c.args.ops f c.requires.held c.requires.own c.requires.rank c.put_ops.ensures fronts c.in_ok-state.state c.drop_calls.new.state c.add_calls.new.state drops adds was

@@ -53,3 +53,23 @@ returns-clause-told_cancelled c = (refl, refl, refl)
 pub returns-clause-cancelled_message : goal.returns-clause-cancelled_message
 unfolding paired paired_below obeys
 returns-clause-cancelled_message c = (refl, refl)
+
+pub returns-clause-behind_a_barrier : goal.returns-clause-behind_a_barrier
+unfolding paired paired_below obeys
+returns-clause-behind_a_barrier c = (refl, refl, refl)
+
+pub returns-clause-not_behind_a_barrier : goal.returns-clause-not_behind_a_barrier
+unfolding paired paired_below obeys
+returns-clause-not_behind_a_barrier c = (refl, refl, refl)
+
+pub returns-clause-of_another_barrier : goal.returns-clause-of_another_barrier
+unfolding paired paired_below obeys
+returns-clause-of_another_barrier c = (refl, refl)
+
+pub returns-clause-behind_the_end : goal.returns-clause-behind_the_end
+unfolding paired paired_below obeys
+returns-clause-behind_the_end c = refl
+
+pub returns-clause-not_behind_the_end : goal.returns-clause-not_behind_the_end
+unfolding paired paired_below obeys
+returns-clause-not_behind_the_end c = refl

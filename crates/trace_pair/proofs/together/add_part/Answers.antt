@@ -18,6 +18,6 @@ returns c =
     let sent = part_kept parts done own.sends c.sends-sends.result.now c.front_of-sent.result.now c.front_of.result.now c.requires c.sends-sends.ensures c.front_of-sent.ensures c.front_of.ensures in
     let posted = part_kept parts done own.receives c.receives-receives.result.now c.front_of-posted.result.now c.front_of-2.result.now c.requires c.receives-receives.ensures c.front_of-posted.ensures c.front_of-2.ensures in
     rw (sym (c.front_of.ensures ∙ ap (first_parts parts (done + 1)) c.sends-sends.ensures), sym (c.front_of-2.ensures ∙ ap (first_parts parts (done + 1)) c.receives-receives.ensures), sym sent, sym posted)
-    (λ before after above below s s' p p' x.
-    c.in_ok-add_receives.ensures above below (between before c.front_of.result.now after) p'
-    (c.in_ok-add_messages.ensures before after (between above (take (length c.front_of-posted.result.now) c.front_of-2.result.now) below) s' x))
+    (λ before behind above below s s' p p' x.
+    c.in_ok-add_receives.ensures above below (between before c.front_of.result.now behind) p'
+    (c.in_ok-add_messages.ensures before behind (between above (take (length c.front_of-posted.result.now) c.front_of-2.result.now) below) s' x))

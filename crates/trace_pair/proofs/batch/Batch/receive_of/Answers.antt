@@ -4,7 +4,7 @@ use Rattle.trace_pair.proofs.Settling.{receive_there, none_there}
 use Rattle.trace_pair.proofs.batch.Batch.receive_of.Goals as goal
 
 pub returns-in-Some : goal.returns-in-Some
-returns-in-Some c = λ ms qs s e. ap (λ (q : Receive). Some q) c.receive_by.ensures ∙ receive_there ms qs c.args.self.now s c.args.place c.args.m.now c.in-Some.taker e c.in-Some.ensures
+returns-in-Some c = λ after ms qs s e. ap (λ (q : Receive). Some q) c.receive_by.ensures ∙ receive_there after ms qs c.args.self.now s c.args.place c.args.m.now c.in-Some.taker e c.in-Some.ensures
 
 pub returns-in-None : goal.returns-in-None
-returns-in-None c = λ ms qs s e. none_there ms qs c.args.self.now s c.args.place c.args.m.now e c.in-None.ensures
+returns-in-None c = λ after ms qs s e. none_there after ms qs c.args.self.now s c.args.place c.args.m.now e c.in-None.ensures

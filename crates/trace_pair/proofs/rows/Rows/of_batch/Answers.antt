@@ -2,6 +2,7 @@ use Rattle.std.proofs.Common.{◌∙◌, ap, sym, List, []}
 use Rattle.std.specs.Prelude.{slice_get}
 use Rattle.std.specs.Option.{option_map}
 use Rattle.mpi_model.specs.declared.message.Message.{Message}
+use Rattle.trace_pair.specs.After.{comes_after}
 use Rattle.trace_pair.specs.Pairing.{receive_of}
 use Rattle.trace_pair.specs.Table.{pair_of, postponed_name}
 use Rattle.trace_pair.proofs.Searched.{got}
@@ -14,8 +15,8 @@ loop-place-preserved c =
     let l = c.messages-messages.result.now in
     let lt = c.loop-place-test.true in
     record {
-      pairs = λ ms qs s. rows_next (λ m. option_map (pair_of m) (receive_of ms qs m)) [] c.loop-place.rows.pairs c.add_settled.new.self.pairs l i _ lt (c.loop-place.invariant.pairs ms qs s)
+      pairs = λ ms qs s. rows_next (λ m. option_map (pair_of m) (receive_of (comes_after c.args.reaches.now) ms qs m)) [] c.loop-place.rows.pairs c.add_settled.new.self.pairs l i _ lt (c.loop-place.invariant.pairs ms qs s)
           (c.in_ok-add_settled.ensures.pairs ms qs s (ap (λ (k : List Message). slice_get k i) (sym (c.messages-messages.ensures ∙ s.messages)) ∙ got l i _ lt));
-      postponed = λ ms qs s. rows_next (postponed_name ms qs) [] c.loop-place.rows.postponed c.add_settled.new.self.postponed l i _ lt (c.loop-place.invariant.postponed ms qs s)
+      postponed = λ ms qs s. rows_next (postponed_name (comes_after c.args.reaches.now) ms qs) [] c.loop-place.rows.postponed c.add_settled.new.self.postponed l i _ lt (c.loop-place.invariant.postponed ms qs s)
           (c.in_ok-add_settled.ensures.postponed ms qs s (ap (λ (k : List Message). slice_get k i) (sym (c.messages-messages.ensures ∙ s.messages)) ∙ got l i _ lt));
     }

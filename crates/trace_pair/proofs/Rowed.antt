@@ -1,0 +1,145 @@
+-- The rows of a rank's collective calls, as one call comes.
+use Rattle.std.proofs.Common.{◌≡◌, ℕ, zero, suc, ◌+◌, ◌-◌, ◌<◌, ◌≤◌, Bool, true, false, ◌||◌, List, [], ◌∷◌, ◌++◌, sym, refl, ◌∙◌, ap, arith, length, filter, take, get_or, eqb, ltb, cond, Option, Some, None}
+use Rattle.std.specs.Prelude.{unwrap_or}
+use Rattle.std.specs.List.{list_any}
+use Rattle.std.specs.Option.{option_map}
+use Rattle.std.specs.Ordering.{is_eq, nat_cmp}
+use Rattle.std.specs.List.Sorted.{IsNonDecreasingBy}
+use Rattle.std.proofs.lemmas.Bool.Decides.{nat_tests}
+use Rattle.std.proofs.lemmas.List.{take_more, append-nil}
+use Rattle.std.proofs.lemmas.List.Elements.{filter_more}
+use Rattle.std.proofs.lemmas.List.Folds.{list_any-append}
+use Rattle.trace_ops.specs.Round.{is_barrier}
+use Rattle.trace_ops.specs.declared.entered.Entered.{Entered}
+use Rattle.trace_pair.specs.Barriers.{OnComm, Rise, no_entries, calls_on, barriers_on, on_comm, barrier_at, with_barrier, with_entry, last_before}
+use Rattle.trace_pair.specs.declared.reach.Barrier.{Barrier}
+use Rattle.trace_pair.proofs.Tabled.{has_at}
+
+through : {X Y : Type 0} (f : X → Y) (b : Bool) (x y : X) → f (cond b x y) ≡ cond b (f x) (f y)
+through f true x y = refl
+through f false x y = refl
+
+calls_more : (comm : ℕ) (xs : List Entered) (x : Entered) →
+    calls_on comm (xs ++ x ∷ []) ≡ cond (eqb x.comm comm) (calls_on comm xs ++ x.call ∷ []) (calls_on comm xs)
+calls_more comm [] x = refl
+calls_more comm (y ∷ ys) x =
+    let is = eqb x.comm comm in
+    let now = calls_on comm ys in
+    let more = calls_more comm ys x in
+    elim (eqb y.comm comm) as (λ b. cond b (y.call ∷ calls_on comm (ys ++ x ∷ [])) (calls_on comm (ys ++ x ∷ [])) ≡ cond is (cond b (y.call ∷ now) now ++ x.call ∷ []) (cond b (y.call ∷ now) now)) [
+      | true ↦ ap (λ (l : List ℕ). y.call ∷ l) more ∙ through (λ (l : List ℕ). y.call ∷ l) is (now ++ x.call ∷ []) now
+      | false ↦ more
+    ]
+
+with_more : (p : Barrier) (l : List Barrier) (k : ℕ) (x : Entered) → p ∷ with_barrier l k x ≡ with_barrier (p ∷ l) k x
+with_more p l k x = through (λ (l : List Barrier). p ∷ l) (is_barrier x) (l ++ barrier_at k x ∷ []) l
+
+barriers_more : (comm n : ℕ) (xs : List Entered) (x : Entered) (k : ℕ) → k ≡ n + length (calls_on comm xs) →
+    barriers_on comm n (xs ++ x ∷ []) ≡ cond (eqb x.comm comm) (with_barrier (barriers_on comm n xs) k x) (barriers_on comm n xs)
+barriers_more comm n [] x k e =
+    let same : k ≡ n = omega arith in
+    ap (λ i. cond (eqb x.comm comm) (cond (is_barrier x) (barrier_at i x ∷ []) []) []) (sym same)
+barriers_more comm n (y ∷ ys) x k e =
+    let is = eqb x.comm comm in
+    elim (eqb y.comm comm) as (λ b. k ≡ n + length (cond b (y.call ∷ calls_on comm ys) (calls_on comm ys)) →
+    cond b (cond (is_barrier y) (barrier_at n y ∷ barriers_on comm (suc n) (ys ++ x ∷ [])) (barriers_on comm (suc n) (ys ++ x ∷ []))) (barriers_on comm n (ys ++ x ∷ [])) ≡
+    cond is (with_barrier (cond b (cond (is_barrier y) (barrier_at n y ∷ barriers_on comm (suc n) ys) (barriers_on comm (suc n) ys)) (barriers_on comm n ys)) k x)
+    (cond b (cond (is_barrier y) (barrier_at n y ∷ barriers_on comm (suc n) ys) (barriers_on comm (suc n) ys)) (barriers_on comm n ys))) [
+      | true ↦ λ at.
+          let now = barriers_on comm (suc n) ys in
+          let more = barriers_more comm (suc n) ys x k (omega arith) in
+          elim (is_barrier y) as (λ b. cond b (barrier_at n y ∷ barriers_on comm (suc n) (ys ++ x ∷ [])) (barriers_on comm (suc n) (ys ++ x ∷ [])) ≡
+          cond is (with_barrier (cond b (barrier_at n y ∷ now) now) k x) (cond b (barrier_at n y ∷ now) now)) [
+            | true ↦ ap (λ (l : List Barrier). barrier_at n y ∷ l) more ∙ through (λ (l : List Barrier). barrier_at n y ∷ l) is (with_barrier now k x) now
+                ∙ ap (λ (l : List Barrier). cond is l (barrier_at n y ∷ now)) (with_more (barrier_at n y) now k x)
+            | false ↦ more
+          ]
+      | false ↦ λ at. barriers_more comm n ys x k at
+    ] e
+
+abbrev row : List ℕ → List Barrier → OnComm
+row a b = record { calls = a; barriers = b }
+
+-- one call more, on any communicator
+pub on_comm_more : (comm : ℕ) (xs : List Entered) (x : Entered) → on_comm comm (xs ++ x ∷ []) ≡ cond (eqb x.comm comm) (with_entry (on_comm comm xs) x) (on_comm comm xs)
+on_comm_more comm xs x = by (eqb x.comm comm) _ _ _ _ _ _ (calls_more comm xs x) (barriers_more comm 0 xs x (length (calls_on comm xs)) (omega arith))
+  where
+    by : (b : Bool) (c c1 c2 : List ℕ) (d d1 d2 : List Barrier) → c ≡ cond b c1 c2 → d ≡ cond b d1 d2 → row c d ≡ cond b (row c1 d1) (row c2 d2)
+    by true c c1 c2 d d1 d2 h g = ap (λ (l : List ℕ). row l d) h ∙ ap (λ (l : List Barrier). row c1 l) g
+    by false c c1 c2 d d1 d2 h g = ap (λ (l : List ℕ). row l d) h ∙ ap (λ (l : List Barrier). row c2 l) g
+
+-- the row of a communicator that holds the rank, as a call comes
+pub row_more : (comm : ℕ) (xs : List Entered) (x : Entered) (held : Bool) (old new : Option OnComm) → old ≡ cond held (Some (on_comm comm xs)) None →
+    new ≡ cond (eqb x.comm comm) (option_map (λ row. with_entry row x) old) old → new ≡ cond held (Some (on_comm comm (xs ++ x ∷ []))) None
+row_more comm xs x held old new was e =
+    e ∙ ap (λ o. cond (eqb x.comm comm) (option_map (λ row. with_entry row x) o) o) was ∙ by held (eqb x.comm comm)
+    ∙ ap (λ (row : OnComm). cond held (Some row) None) (sym (on_comm_more comm xs x))
+  where
+    by : (held is : Bool) → cond is (option_map (λ row. with_entry row x) (cond held (Some (on_comm comm xs)) None)) (cond held (Some (on_comm comm xs)) None) ≡
+        cond held (Some (cond is (with_entry (on_comm comm xs) x) (on_comm comm xs))) None
+    by true true = refl
+    by true false = refl
+    by false true = refl
+    by false false = refl
+
+pub rows_step : (comm : ℕ) (es : List Entered) (i : ℕ) (d : Entered) (held : Bool) (old new : Option OnComm) → i < length es → old ≡ cond held (Some (on_comm comm (take i es))) None →
+    new ≡ cond (eqb (get_or es i d).comm comm) (option_map (λ row. with_entry row (get_or es i d)) old) old → new ≡ cond held (Some (on_comm comm (take (i + 1) es))) None
+rows_step comm es i d held old new lt was e =
+    row_more comm (take i es) (get_or es i d) held old new was e ∙ ap (λ (l : List Entered). cond held (Some (on_comm comm l)) None) (sym (take_more es i d lt))
+
+-- one communicator more, without calls
+pub emptied : (q : ℕ) (xs : List ℕ) (i : ℕ) (old new : Option OnComm) (v : OnComm) → i < length xs → v ≡ no_entries → old ≡ cond (list_any (λ x. eqb x q) (take i xs)) (Some no_entries) None →
+    new ≡ cond (is_eq (nat_cmp (get_or xs i 0) q)) (Some v) old → new ≡ cond (list_any (λ x. eqb x q) (take (i + 1) xs)) (Some no_entries) None
+emptied q xs i old new v lt empty was e =
+    let x = get_or xs i 0 in
+    let h = list_any (λ x. eqb x q) (take i xs) in
+    let same : is_eq (nat_cmp x q) ≡ eqb x q = grind (arith, nat_tests) in
+    e ∙ ap (λ w. cond (is_eq (nat_cmp x q)) (Some w) old) empty ∙ ap (λ o. cond (is_eq (nat_cmp x q)) (Some no_entries) o) was
+    ∙ ap (λ t. cond t (Some no_entries) (cond h (Some no_entries) None)) same ∙ by h (eqb x q)
+    ∙ ap (λ t. cond t (Some no_entries) None) (sym (ap (λ (l : List ℕ). list_any (λ x. eqb x q) l) (take_more xs i 0 lt) ∙ list_any-append (λ x. eqb x q) (take i xs) (x ∷ [])))
+  where
+    by : (h t : Bool) → cond t (Some no_entries) (cond h (Some no_entries) None) ≡ cond (h || (t || false)) (Some no_entries) None
+    by true true = refl
+    by true false = refl
+    by false true = refl
+    by false false = refl
+
+-- one communicator more, kept where it passes the test
+pub kept : (p : ℕ → Bool) (xs : List ℕ) (i : ℕ) (old new : List ℕ) (t : Bool) → i < length xs → t ≡ p (get_or xs i 0) → old ≡ filter p (take i xs) →
+    new ≡ cond t (old ++ get_or xs i 0 ∷ []) old → new ≡ filter p (take (i + 1) xs)
+kept p xs i old new t lt is was e =
+    let x = get_or xs i 0 in
+    e ∙ ap (λ (l : List ℕ). cond t (l ++ x ∷ []) l) was ∙ ap (λ b. cond b (filter p (take i xs) ++ x ∷ []) (filter p (take i xs))) is ∙ by (p x) x (filter p (take i xs))
+    ∙ sym (filter_more p xs i 0 lt)
+  where
+    by : (b : Bool) (x : ℕ) (l : List ℕ) → cond b (l ++ x ∷ []) l ≡ l ++ cond b (x ∷ []) []
+    by true x l = refl
+    by false x l = sym (append-nil l)
+
+pub calls_rise : (bs : List Barrier) → Rise bs → IsNonDecreasingBy (λ b. b.call) bs
+calls_rise [] r i j d le lt = absurd (omega arith)
+calls_rise (b ∷ bs) r zero zero d le lt = omega arith
+calls_rise (b ∷ bs) r zero (suc j) d le lt = let p = (r.0 (get_or bs j d) (has_at bs j d (omega arith))).call in omega arith
+calls_rise (b ∷ bs) r (suc i) zero d le lt = absurd (omega arith)
+calls_rise (b ∷ bs) r (suc i) (suc j) d le lt = calls_rise bs r.1 i j d (omega arith) (omega arith)
+
+-- by the place that a search answers
+abbrev pub at_place : List Barrier → ℕ → Barrier → Option ℕ
+at_place bs zero d = None
+at_place bs (suc i) d = Some (get_or bs i d).before
+
+pub last_at : (call : ℕ) (bs : List Barrier) (i : ℕ) (d : Barrier) → i ≤ length bs → ((k : ℕ) → k < i → ltb (get_or bs k d).call call ≡ true) →
+    ((k : ℕ) → i ≤ k → k < length bs → ltb (get_or bs k d).call call ≡ false) → last_before call bs ≡ at_place bs i d
+last_at call [] zero d le low high = refl
+last_at call [] (suc i) d le low high = absurd (omega arith)
+last_at call (b ∷ bs) zero d le low high = ap (λ t. cond t (Some (unwrap_or (last_before call bs) b.before)) None) (high zero (omega arith) (omega arith))
+last_at call (b ∷ bs) (suc zero) d le low high =
+    ap (λ t. cond t (Some (unwrap_or (last_before call bs) b.before)) None) (low zero (omega arith))
+    ∙ ap (λ o. Some (unwrap_or o b.before)) (last_at call bs zero d (omega arith) (λ k lt. absurd (omega arith)) (λ k ge lt. high (suc k) (omega arith) (omega arith)))
+last_at call (b ∷ bs) (suc (suc i)) d le low high =
+    ap (λ t. cond t (Some (unwrap_or (last_before call bs) b.before)) None) (low zero (omega arith))
+    ∙ ap (λ o. Some (unwrap_or o b.before)) (last_at call bs (suc i) d (omega arith) (λ k lt. low (suc k) (omega arith)) (λ k ge lt. high (suc k) (omega arith) (omega arith)))
+
+pub at_last : (bs : List Barrier) (i : ℕ) (d : Barrier) → (i ≡ 0 → ⊥) → at_place bs i d ≡ Some (get_or bs (i - 1) d).before
+at_last bs zero d h = absurd (h refl)
+at_last bs (suc i) d h = let e : suc i - 1 ≡ i = omega arith in ap (λ k. Some (get_or bs k d).before) (sym e)

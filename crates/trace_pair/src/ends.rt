@@ -1,0 +1,119 @@
+//! The ends of receives: at each key the end of the one that ends last, which is all that a message asks of them.
+
+ghost use Rattle.std.specs.Prelude.{◌≡◌, ◌∷◌, ◌&&◌, ◌||◌, not, true, [], OnOk, List, Bool};
+ghost use Rattle.std.specs.List.{list_any};
+ghost use Rattle.mpi_model.specs.declared.message.Receive.{Receive};
+ghost use Rattle.mpi_model.specs.declared.message.Message.{Message};
+ghost use Rattle.mpi_model.specs.Fit.{admits, envelopes_fit};
+ghost use Rattle.trace_pair.specs.After.{comes_after};
+ghost use Rattle.trace_pair.specs.Ends.{AreLast, IsLastAmong, IsLastFor, later_end, with_end};
+ghost use Rattle.trace_pair.specs.Queues.{of_kind};
+
+use crate::queues::{Kinds, NO_KINDS};
+use crate::reach::Reaches;
+use mpi_model::{Message, Receive};
+use std::alloc::{AllocError, Global};
+use std::collections::BTreeMap;
+
+/// Of some receives, the call that ends the one which ends last, by communicator, receiver, source and tag. `None` is one
+/// that doesn't end.
+#[derive(Drop)]
+pub struct Ends {
+    kinds: Kinds,
+    last: BTreeMap<(u32, u32, Option<u32>, Option<u32>), Option<u64>>,
+}
+
+/// The later of two ends.
+fn later_end(a: Option<u64>, b: Option<u64>) -> Option<u64>
+    ensures { result ≡ later_end a b }
+{
+    match a {
+        None => None,
+        Some(x) => match b {
+            None => None,
+            Some(y) => if x < y { Some(y) } else { Some(x) },
+        },
+    }
+}
+
+fn with_end(had: Option<Option<u64>>, end: Option<u64>) -> Option<u64>
+    ensures { result ≡ with_end had end }
+{
+    match had {
+        None => end,
+        Some(had) => later_end(had, end),
+    }
+}
+
+impl Ends {
+    /// Of no receives.
+    pub fn empty(alloc: Global) -> Ends
+        ensures { AreLast [] result }
+    {
+        Ends {
+            kinds: NO_KINDS,
+            last: BTreeMap::new(alloc),
+        }
+    }
+
+    /// And the end of this receive.
+    pub fn insert(&mut self, q: &Receive) -> Result<(), AllocError>
+        ensures { OnOk result ((opened : List Receive) → AreLast opened self.old → AreLast (q.now ∷ opened) self.new) }
+    {
+        let key = (q.comm, q.at, q.source, q.tag);
+        let end = with_end(self.last.get(&key).copied(), q.ended);
+        self.kinds = self.kinds.marked(q.source, q.tag);
+        self.last.insert(key, end)?;
+        Ok(())
+    }
+
+    /// The end of the last of the receives with this source and tag whose envelopes fit the message's.
+    fn last_with(&self, m: &Message, source: Option<u32>, tag: Option<u32>) -> Option<Option<u64>>
+        requires source { admits source m.now.from ≡ true }
+        requires tag { admits tag m.now.tag ≡ true }
+        ensures { (opened : List Receive) → AreLast opened self.now → IsLastAmong opened m.now (of_kind source tag) result }
+    {
+        if !self.kinds.has(source, tag) {
+            return None;
+        }
+        self.last.get(&(m.comm, m.to, source, tag)).copied()
+    }
+
+    /// The end of the last of the receives whose envelopes fit the message's.
+    pub(crate) fn last_for(&self, m: &Message) -> Option<Option<u64>>
+        ensures { (opened : List Receive) → AreLast opened self.now → IsLastFor opened m.now result }
+    {
+        let source = Some(m.from);
+        let tag = Some(m.tag);
+        let told = later_of(
+            self.last_with(m, source, tag),
+            self.last_with(m, source, None),
+        );
+        let untold = later_of(self.last_with(m, None, tag), self.last_with(m, None, None));
+        later_of(told, untold)
+    }
+
+    /// Whether some of the receives may take the message: their envelopes fit, and the message doesn't come after the
+    /// receive. A few questions of a map, and one of the Barriers.
+    pub fn may_take(&self, reaches: &Reaches, m: &Message) -> bool
+        ensures { (xs : List Receive) → AreLast xs self.now → result ≡ list_any (λ q. envelopes_fit m.now q && not (comes_after reaches.now m.now q)) xs }
+    {
+        match self.last_for(m) {
+            None => false,
+            Some(end) => !reaches.is_after(m, m.to, end),
+        }
+    }
+}
+
+/// The later of two ends, where there are any.
+fn later_of(a: Option<Option<u64>>, b: Option<Option<u64>>) -> Option<Option<u64>>
+    ensures { (xs : List Receive) (m : Message) (p t : Receive → Bool) → IsLastAmong xs m p a → IsLastAmong xs m t b → IsLastAmong xs m (λ r. p r || t r) result }
+{
+    match a {
+        None => b,
+        Some(x) => match b {
+            None => Some(x),
+            Some(y) => Some(later_end(x, y)),
+        },
+    }
+}
