@@ -197,7 +197,7 @@ own_at [] first i lt a = absurd (omega arith)
 own_at (o ∷ os) first zero lt a = a.0.rounds_rise
 own_at (o ∷ os) first (suc i) lt a = own_at os (first + 1) i (omega arith) a.1
 
-length_zip : {X : Type 0} (R : X → X → Type 0) (xs ys : List X) → AllZip R xs ys → length xs ≡ length ys
+pub length_zip : {X Y : Type 0} (R : X → Y → Type 0) (xs : List X) (ys : List Y) → AllZip R xs ys → length xs ≡ length ys
 length_zip R [] [] z = refl
 length_zip R [] (y ∷ ys) z = absurd z
 length_zip R (x ∷ xs) [] z = absurd z

@@ -11,8 +11,10 @@ ghost use Rattle.trace_pair.specs.After.{comes_after};
 ghost use Rattle.trace_pair.specs.Followed.{Adds, Drops, Indexes};
 ghost use Rattle.trace_pair.specs.Fronts.{AreFronts, AreOneBefore, IsAlike, IsEndedBy, call_at};
 ghost use Rattle.trace_pair.specs.Pairing.{After};
+ghost use Rattle.trace_pair.specs.Reach.{AreReachesOf};
 
 use crate::matched::{Matched, add_message, add_receive, pop_message, pop_receive};
+use crate::reach::{RankReach, Reaches};
 use mpi_model::{Message, Receive};
 use std::alloc::AllocError;
 use trace_ops::{Entered, RankOps};
@@ -46,17 +48,17 @@ fn drop_messages(state: &mut Matched, held: &[Message], keep: usize) -> Result<(
 /// Adds the messages of a rank behind the first `keep`.
 pub(crate) fn add_messages(
     state: &mut Matched,
-    ops: &[RankOps],
+    reaches: &Reaches,
     held: &[Message],
     keep: usize,
 ) -> Result<(), AllocError>
     requires { keep ≤ length held.now }
     ensures { OnOk result ((before behind : List Message) (qs : List Receive) → IsSequence before behind held.now
-        → Indexes (comes_after ops.now) (between before (take keep held.now) behind) qs state.old → Indexes (comes_after ops.now) (between before held.now behind) qs state.new) }
+        → Indexes (comes_after reaches.now) (between before (take keep held.now) behind) qs state.old → Indexes (comes_after reaches.now) (between before held.now behind) qs state.new) }
 {
     let mut next = keep;
     while next < held.len() {
-        add_message(state, ops, held[next])?;
+        add_message(state, reaches, held[next])?;
         next += 1;
     }
     Ok(())
@@ -104,17 +106,17 @@ fn drop_receives(state: &mut Matched, held: &[Receive], keep: usize) -> Result<(
 /// Adds the receives of a rank behind the first `keep`.
 pub(crate) fn add_receives(
     state: &mut Matched,
-    ops: &[RankOps],
+    reaches: &Reaches,
     held: &[Receive],
     keep: usize,
 ) -> Result<(), AllocError>
     requires { keep ≤ length held.now }
     ensures { OnOk result ((before behind : List Receive) (ms : List Message) → IsPosting before behind held.now
-        → Indexes (comes_after ops.now) ms (between before (take keep held.now) behind) state.old → Indexes (comes_after ops.now) ms (between before held.now behind) state.new) }
+        → Indexes (comes_after reaches.now) ms (between before (take keep held.now) behind) state.old → Indexes (comes_after reaches.now) ms (between before held.now behind) state.new) }
 {
     let mut next = keep;
     while next < held.len() {
-        add_receive(state, ops, held[next])?;
+        add_receive(state, reaches, held[next])?;
         next += 1;
     }
     Ok(())
@@ -254,16 +256,19 @@ pub(crate) fn drop_calls(
 pub(crate) fn add_calls(
     state: &mut Matched,
     held: &[RankOps],
+    table: &[RankReach],
     rank: u32,
     fronts: Fronts,
 ) -> Result<(), AllocError>
+    requires table { AreReachesOf held.now table.now }
     requires rank { rank < length held.now }
     requires sends { fronts.sends ≤ length (slice_index_or held.now rank no_ops).sends }
     requires receives { fronts.receives ≤ length (slice_index_or held.now rank no_ops).receives }
     ensures { OnOk result (Adds (comes_after held.now) (slice_index_or held.now rank no_ops) fronts state.old state.new) }
 {
+    let reaches = Reaches::new(held, table);
     let own = &held[rank as usize];
-    add_messages(state, held, own.sends(), fronts.sends)?;
-    add_receives(state, held, own.receives(), fronts.receives)?;
+    add_messages(state, &reaches, own.sends(), fronts.sends)?;
+    add_receives(state, &reaches, own.receives(), fronts.receives)?;
     Ok(())
 }

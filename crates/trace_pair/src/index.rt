@@ -1,13 +1,15 @@
 //! An index of the pairs that follows the ops of the ranks as they grow and are cut back.
 
-ghost use Rattle.std.specs.Prelude.{◌≡◌, ◌<◌, OnOk, OnErr, IfOk, IfSome, length, slice_set, slice_index_or};
-ghost use Rattle.trace_ops.specs.Ops.{IsOwn, AreOwn, Grows, no_ops};
+ghost use Rattle.std.specs.Prelude.{◌≡◌, ◌<◌, List, OnOk, OnErr, IfOk, IfSome, length, slice_set, slice_index_or};
+ghost use Rattle.trace_ops.specs.Ops.{IsOwn, AreOwn, Grows, Ops, no_ops};
 ghost use Rattle.trace_pair.specs.Certainty.{AreCertain, AreAllSettled, AreLegal, AreNoneAfter, AreTheOnlyLegal};
-ghost use Rattle.trace_pair.specs.Followed.{Follows};
+ghost use Rattle.trace_pair.specs.Kept.{IsFollowed};
+ghost use Rattle.trace_pair.specs.Reach.{AreReachesOf};
 ghost use Rattle.trace_pair.specs.Table.{fresh, table_of};
 
 use crate::follow::{add_calls, drop_calls};
 use crate::matched::Matched;
+use crate::reach::{RankReach, reaches_of, renew};
 use crate::scratch::pair_all;
 use crate::table::PairTable;
 use crate::together::add_ranks;
@@ -15,12 +17,19 @@ use std::alloc::{AllocError, Global};
 use std::marker::Model;
 use trace_ops::RankOps;
 
+/// The sets that follow the held ops, and the table by which they ask what comes after a receive.
+#[derive(Drop)]
+pub(crate) struct Followed {
+    sets: Matched,
+    table: Vec<RankReach>,
+}
+
 /// The pairs of the ops that it holds, one for each rank.
 #[derive(Drop)]
 pub struct PairIndex {
     held: Vec<RankOps>,
-    /// The sets that follow the held ops, made when a rank's ops first change.
-    state: Option<Matched>,
+    /// What follows the held ops, made when a rank's ops first change.
+    state: Option<Followed>,
 }
 
 impl Model for PairIndex {
@@ -149,16 +158,16 @@ fn forget(held: &mut Vec<RankOps>)
 /// The table of the held ops, by the state where there is one.
 fn table_by(
     alloc: Global,
-    state: &Option<Matched>,
+    state: &Option<Followed>,
     held: &[RankOps],
 ) -> Result<PairTable, AllocError>
     requires own { AreOwn 0 held.now }
-    requires followed { IfSome state.now (Follows held.now) }
+    requires followed { IfSome state.now (IsFollowed held.now) }
     ensures { IfOk result (λ t. t ≡ table_of held.now) }
 {
     match state {
         Some(state) => {
-            let table = PairTable::of_held(alloc, state, held)?;
+            let table = PairTable::of_held(alloc, &state.sets, held, &state.table)?;
             Ok(table)
         }
         None => {
@@ -169,29 +178,44 @@ fn table_by(
 }
 
 /// The state that follows these ops.
-fn state_of(alloc: Global, held: &[RankOps]) -> Result<Matched, AllocError>
+fn state_of(alloc: Global, held: &[RankOps]) -> Result<Followed, AllocError>
     requires { AreOwn 0 held.now }
-    ensures { IfOk result (λ state. Follows held.now state) }
+    ensures { IfOk result (λ state. IsFollowed held.now state) }
 {
-    let mut state = Matched::empty(alloc);
-    add_ranks(&mut state, held)?;
-    Ok(state)
+    let table = reaches_of(alloc, held)?;
+    let mut sets = Matched::empty(alloc);
+    add_ranks(&mut sets, held, &table)?;
+    Ok(Followed { sets, table })
 }
 
 /// This state, or a new one where there is none.
 fn state_or_new(
     alloc: Global,
     held: &[RankOps],
-    state: Option<Matched>,
-) -> Result<Matched, AllocError>
+    state: Option<Followed>,
+) -> Result<Followed, AllocError>
     requires own { AreOwn 0 held.now }
-    requires followed { IfSome state (Follows held.now) }
-    ensures { IfOk result (λ state. Follows held.now state) }
+    requires followed { IfSome state (IsFollowed held.now) }
+    ensures { IfOk result (λ state. IsFollowed held.now state) }
 {
     match state {
         Some(state) => Ok(state),
         None => state_of(alloc, held),
     }
+}
+
+/// Lets the table follow the new ops of a rank.
+fn renew_rank(
+    alloc: Global,
+    table: &mut Vec<RankReach>,
+    rank: u32,
+    own: &RankOps,
+) -> Result<(), AllocError>
+    requires rank { rank < length table.old.items }
+    requires own { IsOwn rank own.now }
+    ensures { OnOk result ((ops : List Ops) → AreReachesOf ops table.old.items → AreReachesOf (slice_set ops rank own.now) table.new.items) }
+{
+    renew(alloc, table, rank, own)
 }
 
 /// Makes the rank's ops these.
@@ -205,22 +229,24 @@ fn put_ops(held: &mut Vec<RankOps>, rank: u32, ops: RankOps)
 /// Makes the rank's ops these, and the state with them, which is made first where there is none.
 fn set_ops(
     held: &mut Vec<RankOps>,
-    state: Option<Matched>,
+    state: Option<Followed>,
     rank: u32,
     ops: RankOps,
-) -> Result<Matched, AllocError>
+) -> Result<Followed, AllocError>
     requires rank { rank < length held.old.items }
     requires held { AreOwn 0 held.old.items }
     requires own { IsOwn rank ops }
-    requires followed { IfSome state (Follows held.old.items) }
+    requires followed { IfSome state (IsFollowed held.old.items) }
     ensures length { length held.new.items ≡ length held.old.items }
     ensures held { OnOk result (held.new.items ≡ slice_set held.old.items rank ops) }
     ensures own { OnOk result (AreOwn 0 held.new.items) }
-    ensures state { IfOk result (λ state. Follows held.new.items state) }
+    ensures state { IfOk result (λ state. IsFollowed held.new.items state) }
 {
-    let mut state = state_or_new(*held.allocator(), held, state)?;
-    let fronts = drop_calls(&mut state, held, rank, &ops)?;
+    let alloc = *held.allocator();
+    let mut state = state_or_new(alloc, held, state)?;
+    let fronts = drop_calls(&mut state.sets, held, rank, &ops)?;
+    renew_rank(alloc, &mut state.table, rank, &ops)?;
     put_ops(held, rank, ops);
-    add_calls(&mut state, held, rank, fronts)?;
+    add_calls(&mut state.sets, held, &state.table, rank, fronts)?;
     Ok(state)
 }

@@ -16,9 +16,9 @@ use crate::couples::Couples;
 use crate::opened::Opened;
 use crate::pair::Couple;
 use crate::queues::{Messages, Receives};
+use crate::reach::Reaches;
 use mpi_model::{Message, Receive};
 use std::alloc::{AllocError, Global};
-use trace_ops::RankOps;
 
 /// The messages that wait, the free receives, the open ones, and the pairs. What is void is in none
 /// of them.
@@ -79,17 +79,17 @@ impl Matched {
     }
 
     /// Whether an open receive fits the message, which doesn't come after it.
-    pub(crate) fn does_open_fit(&self, ops: &[RankOps], m: &Message) -> bool
-        ensures { (ms : List Message) (qs : List Receive) → Indexes (comes_after ops.now) ms qs self.now → result ≡ fits_open (comes_after ops.now) qs m.now }
+    pub(crate) fn does_open_fit(&self, reaches: &Reaches, m: &Message) -> bool
+        ensures { (ms : List Message) (qs : List Receive) → Indexes (comes_after reaches.now) ms qs self.now → result ≡ fits_open (comes_after reaches.now) qs m.now }
     {
-        !m.trust.is_void() && self.opened.hides(ops, m)
+        !m.trust.is_void() && self.opened.hides(reaches, m)
     }
 }
 
 /// The receive that takes the new message.
-fn taker_for(state: &Matched, ops: &[RankOps], m: &Message) -> Option<Receive>
-    ensures some { IfSome result (λ q. (ms : List Message) (qs : List Receive) → Indexes (comes_after ops.now) ms qs state.now → Has qs q × TakesMessage (comes_after ops.now) ms qs m.now q) }
-    ensures none { IfNone result ((ms : List Message) (qs : List Receive) → Indexes (comes_after ops.now) ms qs state.now → (q : Receive) → Has qs q → TakesMessage (comes_after ops.now) ms qs m.now q → ⊥) }
+fn taker_for(state: &Matched, reaches: &Reaches, m: &Message) -> Option<Receive>
+    ensures some { IfSome result (λ q. (ms : List Message) (qs : List Receive) → Indexes (comes_after reaches.now) ms qs state.now → Has qs q × TakesMessage (comes_after reaches.now) ms qs m.now q) }
+    ensures none { IfNone result ((ms : List Message) (qs : List Receive) → Indexes (comes_after reaches.now) ms qs state.now → (q : Receive) → Has qs q → TakesMessage (comes_after reaches.now) ms qs m.now q → ⊥) }
 {
     if !m.trust.is_sure() {
         return None;
@@ -97,7 +97,7 @@ fn taker_for(state: &Matched, ops: &[RankOps], m: &Message) -> Option<Receive>
     let Some(q) = state.free.first_for(m) else {
         return None;
     };
-    if state.opened.hides_before(ops, m, &q) {
+    if state.opened.hides_before(reaches, m, &q) {
         return None;
     }
     if let Some(_) = state.waiting.first_for(&q) {
@@ -107,10 +107,10 @@ fn taker_for(state: &Matched, ops: &[RankOps], m: &Message) -> Option<Receive>
 }
 
 /// The message that the new receive takes.
-fn taken_by(state: &Matched, ops: &[RankOps], q: &Receive) -> Option<Message>
+fn taken_by(state: &Matched, reaches: &Reaches, q: &Receive) -> Option<Message>
     requires { is_settled q.now ≡ true }
-    ensures some { IfSome result (λ m. (ms : List Message) (qs : List Receive) → Indexes (comes_after ops.now) ms qs state.now → Has ms m × TakesReceive (comes_after ops.now) ms qs m q.now) }
-    ensures none { IfNone result ((ms : List Message) (qs : List Receive) → Indexes (comes_after ops.now) ms qs state.now → (m : Message) → Has ms m → TakesReceive (comes_after ops.now) ms qs m q.now → ⊥) }
+    ensures some { IfSome result (λ m. (ms : List Message) (qs : List Receive) → Indexes (comes_after reaches.now) ms qs state.now → Has ms m × TakesReceive (comes_after reaches.now) ms qs m q.now) }
+    ensures none { IfNone result ((ms : List Message) (qs : List Receive) → Indexes (comes_after reaches.now) ms qs state.now → (m : Message) → Has ms m → TakesReceive (comes_after reaches.now) ms qs m q.now → ⊥) }
 {
     let Some(m) = state.waiting.first_for(q) else {
         return None;
@@ -118,7 +118,7 @@ fn taken_by(state: &Matched, ops: &[RankOps], q: &Receive) -> Option<Message>
     if !m.trust.is_sure() {
         return None;
     }
-    if state.opened.hides(ops, &m) {
+    if state.opened.hides(reaches, &m) {
         return None;
     }
     if let Some(_) = state.free.first_for(&m) {
@@ -128,13 +128,13 @@ fn taken_by(state: &Matched, ops: &[RankOps], q: &Receive) -> Option<Message>
 }
 
 /// Adds a rank's next message: it goes to the first receive that the rules allow, or waits.
-fn push_message(state: &mut Matched, ops: &[RankOps], m: Message) -> Result<(), AllocError>
-    ensures { OnOk result ((ms more : List Message) (qs : List Receive) → AddsMessage ms more m → Indexes (comes_after ops.now) ms qs state.old → Indexes (comes_after ops.now) more qs state.new) }
+fn push_message(state: &mut Matched, reaches: &Reaches, m: Message) -> Result<(), AllocError>
+    ensures { OnOk result ((ms more : List Message) (qs : List Receive) → AddsMessage ms more m → Indexes (comes_after reaches.now) ms qs state.old → Indexes (comes_after reaches.now) more qs state.new) }
 {
     if m.trust.is_void() {
         return Ok(());
     }
-    match taker_for(state, ops, &m) {
+    match taker_for(state, reaches, &m) {
         Some(q) => {
             state.free.remove(&q);
             state.couples.insert(Couple {
@@ -148,8 +148,8 @@ fn push_message(state: &mut Matched, ops: &[RankOps], m: Message) -> Result<(), 
 }
 
 /// Adds a rank's next receive: it takes the first message that the rules allow, or waits.
-fn push_receive(state: &mut Matched, ops: &[RankOps], q: Receive) -> Result<(), AllocError>
-    ensures { OnOk result ((ms : List Message) (qs more : List Receive) → AddsReceive qs more q → Indexes (comes_after ops.now) ms qs state.old → Indexes (comes_after ops.now) ms more state.new) }
+fn push_receive(state: &mut Matched, reaches: &Reaches, q: Receive) -> Result<(), AllocError>
+    ensures { OnOk result ((ms : List Message) (qs more : List Receive) → AddsReceive qs more q → Indexes (comes_after reaches.now) ms qs state.old → Indexes (comes_after reaches.now) ms more state.new) }
 {
     if q.is_open() {
         state.opened.insert(q)?;
@@ -158,7 +158,7 @@ fn push_receive(state: &mut Matched, ops: &[RankOps], q: Receive) -> Result<(), 
     if !q.is_settled() {
         return Ok(());
     }
-    match taken_by(state, ops, &q) {
+    match taken_by(state, reaches, &q) {
         Some(m) => {
             state.waiting.remove(&m);
             state.couples.insert(Couple {
@@ -214,13 +214,13 @@ pub(crate) fn pop_receive(state: &mut Matched, q: &Receive) -> Result<(), AllocE
 /// Puts a message behind those of its sender, with room for its receive.
 pub(crate) fn add_message(
     state: &mut Matched,
-    ops: &[RankOps],
+    reaches: &Reaches,
     m: Message,
 ) -> Result<(), AllocError>
-    ensures { OnOk result ((ms more : List Message) (qs : List Receive) → AddsMessage ms more m → Indexes (comes_after ops.now) ms qs state.old → Indexes (comes_after ops.now) more qs state.new) }
+    ensures { OnOk result ((ms more : List Message) (qs : List Receive) → AddsMessage ms more m → Indexes (comes_after reaches.now) ms qs state.old → Indexes (comes_after reaches.now) more qs state.new) }
 {
     state.couples.expect_message(&m)?;
-    push_message(state, ops, m)?;
+    push_message(state, reaches, m)?;
     Ok(())
 }
 
@@ -238,12 +238,12 @@ fn expect_settled(state: &mut Matched, q: &Receive) -> Result<(), AllocError>
 /// Puts a receive behind those of its rank, with room for its message.
 pub(crate) fn add_receive(
     state: &mut Matched,
-    ops: &[RankOps],
+    reaches: &Reaches,
     q: Receive,
 ) -> Result<(), AllocError>
-    ensures { OnOk result ((ms : List Message) (qs more : List Receive) → AddsReceive qs more q → Indexes (comes_after ops.now) ms qs state.old → Indexes (comes_after ops.now) ms more state.new) }
+    ensures { OnOk result ((ms : List Message) (qs more : List Receive) → AddsReceive qs more q → Indexes (comes_after reaches.now) ms qs state.old → Indexes (comes_after reaches.now) ms more state.new) }
 {
     expect_settled(state, &q)?;
-    push_receive(state, ops, q)?;
+    push_receive(state, reaches, q)?;
     Ok(())
 }

@@ -9,33 +9,32 @@ ghost use Rattle.trace_pair.specs.Ends.{NoneHides, NoneHidesBefore, SomeHides, S
 ghost use Rattle.trace_pair.specs.KeyOrders.{same_receive};
 ghost use Rattle.trace_pair.specs.Sets.{AddsTo, DropsFrom};
 
-use crate::after::is_after;
+use crate::reach::Reaches;
 use crate::rules::is_posted_before;
 use mpi_model::{Message, Receive, envelopes_fit};
 use std::alloc::{AllocError, Global};
 use std::marker::Model;
-use trace_ops::RankOps;
 
 /// Whether the open receive may have taken the message.
-fn may_have_taken(ops: &[RankOps], u: &Receive, m: &Message) -> bool
-    ensures { result ≡ (envelopes_fit m.now u.now && not (comes_after ops.now m.now u.now)) }
+fn may_have_taken(reaches: &Reaches, u: &Receive, m: &Message) -> bool
+    ensures { result ≡ (envelopes_fit m.now u.now && not (comes_after reaches.now m.now u.now)) }
 {
-    envelopes_fit(m, u) && !is_after(ops, m, u.at, u.ended)
+    envelopes_fit(m, u) && !reaches.is_after(m, u.at, u.ended)
 }
 
 /// Whether some of the receives may have taken the message.
-fn some_may(ops: &[RankOps], kept: &[Receive], m: &Message) -> bool
-    ensures { result ≡ list_any (λ u. envelopes_fit m.now u && not (comes_after ops.now m.now u)) kept.now }
+fn some_may(reaches: &Reaches, kept: &[Receive], m: &Message) -> bool
+    ensures { result ≡ list_any (λ u. envelopes_fit m.now u && not (comes_after reaches.now m.now u)) kept.now }
 {
-    kept.iter().any(|u| may_have_taken(ops, u, m))
+    kept.iter().any(|u| may_have_taken(reaches, u, m))
 }
 
 /// Whether some that stand before the receive may have.
-fn some_before_may(ops: &[RankOps], kept: &[Receive], m: &Message, q: &Receive) -> bool
-    ensures { result ≡ list_any (λ u. (envelopes_fit m.now u && not (comes_after ops.now m.now u)) && posted_before u q.now) kept.now }
+fn some_before_may(reaches: &Reaches, kept: &[Receive], m: &Message, q: &Receive) -> bool
+    ensures { result ≡ list_any (λ u. (envelopes_fit m.now u && not (comes_after reaches.now m.now u)) && posted_before u q.now) kept.now }
 {
     kept.iter()
-        .any(|u| may_have_taken(ops, u, m) && is_posted_before(u, q))
+        .any(|u| may_have_taken(reaches, u, m) && is_posted_before(u, q))
 }
 
 fn is_other(u: &Receive, q: &Receive) -> bool
@@ -82,18 +81,18 @@ impl Opened {
     }
 
     /// Whether some of them may have taken the message.
-    pub(crate) fn hides(&self, ops: &[RankOps], m: &Message) -> bool
-        ensures yes { result ≡ true → SomeHides (comes_after ops.now) self.now m.now }
-        ensures no { result ≡ false → NoneHides (comes_after ops.now) self.now m.now }
+    pub(crate) fn hides(&self, reaches: &Reaches, m: &Message) -> bool
+        ensures yes { result ≡ true → SomeHides (comes_after reaches.now) self.now m.now }
+        ensures no { result ≡ false → NoneHides (comes_after reaches.now) self.now m.now }
     {
-        some_may(ops, &self.kept, m)
+        some_may(reaches, &self.kept, m)
     }
 
     /// Whether some that stand before the receive may have taken the message.
-    pub(crate) fn hides_before(&self, ops: &[RankOps], m: &Message, q: &Receive) -> bool
-        ensures yes { result ≡ true → SomeHidesBefore (comes_after ops.now) self.now m.now q.now }
-        ensures no { result ≡ false → NoneHidesBefore (comes_after ops.now) self.now m.now q.now }
+    pub(crate) fn hides_before(&self, reaches: &Reaches, m: &Message, q: &Receive) -> bool
+        ensures yes { result ≡ true → SomeHidesBefore (comes_after reaches.now) self.now m.now q.now }
+        ensures no { result ≡ false → NoneHidesBefore (comes_after reaches.now) self.now m.now q.now }
     {
-        some_before_may(ops, &self.kept, m, q)
+        some_before_may(reaches, &self.kept, m, q)
     }
 }

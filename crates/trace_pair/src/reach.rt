@@ -15,7 +15,7 @@ ghost use Rattle.trace_pair.specs.After.{is_after};
 ghost use Rattle.trace_pair.specs.Barriers.{Rise, last_before, no_entries, with_barrier, with_entry};
 ghost use Rattle.trace_pair.specs.Reach.{AddsEntry, AreReachesOf, AreRowsOf, AreRowsRising, IsReachOf, has_barrier, is_entered_behind, is_passed_on, with_barriers};
 
-use crate::after::is_own;
+use crate::rules::is_own;
 use mpi_model::Message;
 use std::alloc::{AllocError, Global};
 use std::collections::BTreeMap;

@@ -9,13 +9,14 @@ ghost use Rattle.trace_ops.specs.Order.{Has};
 ghost use Rattle.trace_pair.specs.After.{comes_after};
 ghost use Rattle.trace_pair.specs.Followed.{Indexes, Follows};
 ghost use Rattle.trace_pair.specs.Pairing.{receive_of};
+ghost use Rattle.trace_pair.specs.Reach.{AreReachesOf};
 ghost use Rattle.trace_pair.specs.Settled.{Settles};
 ghost use Rattle.trace_pair.specs.Table.{pair_of, postponed_name, table_of, table_with};
 
 use crate::batch::Batch;
 use crate::matched::Matched;
 use crate::pair::{Pair, make_pair};
-use crate::reach::Reaches;
+use crate::reach::{RankReach, Reaches};
 use mpi_model::{Message, OpName};
 use std::alloc::{AllocError, Global};
 use std::marker::Model;
@@ -77,19 +78,19 @@ impl Rows {
     fn add(
         &mut self,
         state: &Matched,
-        ops: &[RankOps],
+        reaches: &Reaches,
         next: &mut usize,
         m: &Message,
     ) -> Result<(), AllocError>
-        ensures pairs { OnOk result ((ms : List Message) (qs : List Receive) → Indexes (comes_after ops.now) ms qs state.now → Has ms m.now →
-            self.new.pairs ≡ self.old.pairs ++ cons_option (option_map (pair_of m.now) (receive_of (comes_after ops.now) ms qs m.now)) []) }
-        ensures postponed { OnOk result ((ms : List Message) (qs : List Receive) → Indexes (comes_after ops.now) ms qs state.now → Has ms m.now →
-            self.new.postponed ≡ self.old.postponed ++ cons_option (postponed_name (comes_after ops.now) ms qs m.now) []) }
+        ensures pairs { OnOk result ((ms : List Message) (qs : List Receive) → Indexes (comes_after reaches.now) ms qs state.now → Has ms m.now →
+            self.new.pairs ≡ self.old.pairs ++ cons_option (option_map (pair_of m.now) (receive_of (comes_after reaches.now) ms qs m.now)) []) }
+        ensures postponed { OnOk result ((ms : List Message) (qs : List Receive) → Indexes (comes_after reaches.now) ms qs state.now → Has ms m.now →
+            self.new.postponed ≡ self.old.postponed ++ cons_option (postponed_name (comes_after reaches.now) ms qs m.now) []) }
     {
         match state.partner_of(next, m) {
             Some(q) => self.put(make_pair(m, &q))?,
             None => {
-                if state.does_open_fit(ops, m) {
+                if state.does_open_fit(reaches, m) {
                     self.postpone(m.name)?;
                 }
             }
@@ -141,17 +142,17 @@ impl Rows {
     fn add_all(
         &mut self,
         state: &Matched,
-        ops: &[RankOps],
+        reaches: &Reaches,
         some: &[Message],
     ) -> Result<(), AllocError>
-        ensures pairs { OnOk result ((ms : List Message) (qs : List Receive) → Indexes (comes_after ops.now) ms qs state.now → ((m : Message) → Has some.now m → Has ms m) →
-            self.new.pairs ≡ self.old.pairs ++ filter_map (λ m. option_map (pair_of m) (receive_of (comes_after ops.now) ms qs m)) some.now) }
-        ensures postponed { OnOk result ((ms : List Message) (qs : List Receive) → Indexes (comes_after ops.now) ms qs state.now → ((m : Message) → Has some.now m → Has ms m) →
-            self.new.postponed ≡ self.old.postponed ++ filter_map (postponed_name (comes_after ops.now) ms qs) some.now) }
+        ensures pairs { OnOk result ((ms : List Message) (qs : List Receive) → Indexes (comes_after reaches.now) ms qs state.now → ((m : Message) → Has some.now m → Has ms m) →
+            self.new.pairs ≡ self.old.pairs ++ filter_map (λ m. option_map (pair_of m) (receive_of (comes_after reaches.now) ms qs m)) some.now) }
+        ensures postponed { OnOk result ((ms : List Message) (qs : List Receive) → Indexes (comes_after reaches.now) ms qs state.now → ((m : Message) → Has some.now m → Has ms m) →
+            self.new.postponed ≡ self.old.postponed ++ filter_map (postponed_name (comes_after reaches.now) ms qs) some.now) }
     {
         let mut next = 0;
         for m in some {
-            self.add(state, ops, &mut next, m)?;
+            self.add(state, reaches, &mut next, m)?;
         }
         Ok(())
     }
@@ -161,12 +162,15 @@ impl Rows {
         alloc: Global,
         state: &Matched,
         held: &[RankOps],
+        table: &[RankReach],
     ) -> Result<Rows, AllocError>
+        requires { AreReachesOf held.now table.now }
         ensures { IfOk result (λ rows. Follows held.now state.now → rows ≡ table_of held.now) }
     {
         let mut rows = Rows::with_room(alloc, count_sends(held))?;
+        let reaches = Reaches::new(held, table);
         for own in held {
-            rows.add_all(state, held, own.sends())?;
+            rows.add_all(state, &reaches, own.sends())?;
         }
         Ok(rows)
     }

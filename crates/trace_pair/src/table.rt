@@ -4,12 +4,14 @@ ghost use Rattle.std.specs.Prelude.{◌≡◌, ◌≢◌, ◌<◌, true, false, 
 ghost use Rattle.trace_ops.specs.Ops.{AreOwn};
 ghost use Rattle.trace_ops.specs.Order.{Has};
 ghost use Rattle.trace_pair.specs.Followed.{Follows};
+ghost use Rattle.trace_pair.specs.Reach.{AreReachesOf};
 ghost use Rattle.trace_pair.specs.Searched.{ArePairs, AreByReceive, IsSearchable, receive_at, message_at};
 ghost use Rattle.trace_pair.specs.Table.{table_of, partner_in, taken_by, given_by};
 
 use crate::matched::Matched;
 use crate::near::{pair_at, place_near, places_near};
 use crate::pair::{Pair, Side};
+use crate::reach::RankReach;
 use crate::rows::Rows;
 use crate::rules::is_same_name;
 use mpi_model::OpName;
@@ -56,12 +58,14 @@ impl PairTable {
         alloc: Global,
         state: &Matched,
         held: &[RankOps],
+        reaches: &[RankReach],
     ) -> Result<PairTable, AllocError>
         requires own { AreOwn 0 held.now }
         requires followed { Follows held.now state.now }
+        requires reaches { AreReachesOf held.now reaches.now }
         ensures { IfOk result (λ table. table ≡ table_of held.now) }
     {
-        let rows = Rows::of_held(alloc, state, held)?;
+        let rows = Rows::of_held(alloc, state, held, reaches)?;
         let near = places_near(alloc, state, held, &rows.pairs)?;
         let table = PairTable::of_rows(alloc, rows, near)?;
         Ok(table)

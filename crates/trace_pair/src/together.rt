@@ -14,9 +14,11 @@ ghost use Rattle.trace_pair.specs.After.{comes_after};
 ghost use Rattle.trace_pair.specs.Followed.{Indexes, Follows, FollowsBy, Moves};
 ghost use Rattle.trace_pair.specs.Pairing.{After};
 ghost use Rattle.trace_pair.specs.Parts.{first_parts, begun, all_begun};
+ghost use Rattle.trace_pair.specs.Reach.{AreReachesOf};
 
 use crate::follow::{add_messages, add_receives};
 use crate::matched::Matched;
+use crate::reach::{RankReach, Reaches};
 use std::alloc::AllocError;
 use trace_ops::RankOps;
 
@@ -81,20 +83,20 @@ fn front_of<T>(calls: &[T], parts: usize, done: usize) -> &[T]
 /// Adds the part behind the first `done` of a rank's calls.
 fn add_part(
     state: &mut Matched,
-    ops: &[RankOps],
+    reaches: &Reaches,
     own: &RankOps,
     parts: usize,
     done: usize,
 ) -> Result<(), AllocError>
     requires { done < parts }
-    ensures { OnOk result (Moves (comes_after ops.now) (begun parts done own.now) (begun parts (done + 1) own.now) state.old state.new) }
+    ensures { OnOk result (Moves (comes_after reaches.now) (begun parts done own.now) (begun parts (done + 1) own.now) state.old state.new) }
 {
     let sends = own.sends();
     let sent = front_of(sends, parts, done).len();
-    add_messages(state, ops, front_of(sends, parts, done + 1), sent)?;
+    add_messages(state, reaches, front_of(sends, parts, done + 1), sent)?;
     let receives = own.receives();
     let posted = front_of(receives, parts, done).len();
-    add_receives(state, ops, front_of(receives, parts, done + 1), posted)?;
+    add_receives(state, reaches, front_of(receives, parts, done + 1), posted)?;
     Ok(())
 }
 
@@ -102,26 +104,34 @@ fn add_part(
 fn add_parts(
     state: &mut Matched,
     ops: &[RankOps],
+    table: &[RankReach],
     parts: usize,
     done: usize,
 ) -> Result<(), AllocError>
-    requires { done < parts }
+    requires done { done < parts }
+    requires table { AreReachesOf ops.now table.now }
     ensures { OnOk result (AreOwn 0 ops.now → FollowsBy (comes_after ops.now) (all_begun parts done ops.now) state.old → FollowsBy (comes_after ops.now) (all_begun parts (done + 1) ops.now) state.new) }
 {
+    let reaches = Reaches::new(ops, table);
     for own in ops {
-        add_part(state, ops, own, parts, done)?;
+        add_part(state, &reaches, own, parts, done)?;
     }
     Ok(())
 }
 
 /// Adds the calls of all ranks to a state without calls.
-pub(crate) fn add_ranks(state: &mut Matched, ops: &[RankOps]) -> Result<(), AllocError>
+pub(crate) fn add_ranks(
+    state: &mut Matched,
+    ops: &[RankOps],
+    table: &[RankReach],
+) -> Result<(), AllocError>
+    requires { AreReachesOf ops.now table.now }
     ensures { OnOk result (AreOwn 0 ops.now → Indexes (comes_after ops.now) [] [] state.old → Follows ops.now state.new) }
 {
     reserve_ranks(state, ops)?;
     let parts = count_parts(ops);
     for done in 0..parts {
-        add_parts(state, ops, parts, done)?;
+        add_parts(state, ops, table, parts, done)?;
     }
     Ok(())
 }

@@ -21,4 +21,4 @@ loop-next-preserved c =
 pub returns : goal.returns
 returns c = λ before behind qs s x.
     let n : c.loop-next.next ≡ length c.args.held.now = omega arith in
-    subst (λ (l : List Message). Indexes (comes_after c.args.ops.now) (between before l behind) qs c.loop-next.state) (ap (λ (k : ℕ). take k c.args.held.now) n ∙ take-length c.args.held.now) (c.loop-next.invariant.state before behind qs s x)
+    subst (λ (l : List Message). Indexes (comes_after c.args.reaches.now) (between before l behind) qs c.loop-next.state) (ap (λ (k : ℕ). take k c.args.held.now) n ∙ take-length c.args.held.now) (c.loop-next.invariant.state before behind qs s x)

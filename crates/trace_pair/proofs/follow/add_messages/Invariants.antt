@@ -9,7 +9,7 @@ use Rattle.trace_pair.proofs.follow.add_messages.Given as goal
 abbrev pub invariant-loop-next : goal.invariant-loop-next
 invariant-loop-next l = record {
   high : l.next ≤ length l.held;
-  state : (before behind : List Message) (qs : List Receive) → IsSequence before behind l.held → Indexes (comes_after l.ops) (between before (take l.keep l.held) behind) qs l.initial.state → Indexes (comes_after l.ops) (between before (take l.next l.held) behind) qs l.state;
+  state : (before behind : List Message) (qs : List Receive) → IsSequence before behind l.held → Indexes (comes_after l.reaches) (between before (take l.keep l.held) behind) qs l.initial.state → Indexes (comes_after l.reaches) (between before (take l.next l.held) behind) qs l.state;
 }
 
 abbrev pub decreases-loop-next : goal.decreases-loop-next

@@ -9,7 +9,7 @@ use Rattle.trace_pair.proofs.follow.add_receives.Given as goal
 abbrev pub invariant-loop-next : goal.invariant-loop-next
 invariant-loop-next l = record {
   high : l.next ≤ length l.held;
-  state : (before behind : List Receive) (ms : List Message) → IsPosting before behind l.held → Indexes (comes_after l.ops) ms (between before (take l.keep l.held) behind) l.initial.state → Indexes (comes_after l.ops) ms (between before (take l.next l.held) behind) l.state;
+  state : (before behind : List Receive) (ms : List Message) → IsPosting before behind l.held → Indexes (comes_after l.reaches) ms (between before (take l.keep l.held) behind) l.initial.state → Indexes (comes_after l.reaches) ms (between before (take l.next l.held) behind) l.state;
 }
 
 abbrev pub decreases-loop-next : goal.decreases-loop-next

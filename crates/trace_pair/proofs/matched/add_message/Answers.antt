@@ -4,4 +4,4 @@ use Rattle.trace_pair.proofs.matched.add_message.Goals as goal
 
 pub returns : goal.returns
 returns c = λ ms more qs adds held.
-    c.in_ok-push_message.ensures ms more qs adds (couples_kept (comes_after c.args.ops.now) ms qs _ _ _ _ _ held c.expect_message.ensures)
+    c.in_ok-push_message.ensures ms more qs adds (couples_kept (comes_after c.args.reaches.now) ms qs _ _ _ _ _ held c.expect_message.ensures)

@@ -14,13 +14,13 @@ loop-m-preserved c =
     let i = c.loop-m.m-index in
     let lt = c.loop-m-test.true in
     record {
-      pairs = λ ms qs h w. rows_next (λ m. option_map (pair_of m) (receive_of (comes_after c.args.ops.now) ms qs m)) c.args.self.now.pairs c.loop-m.self.pairs c.add.new.self.pairs c.args.some.now i _ lt
+      pairs = λ ms qs h w. rows_next (λ m. option_map (pair_of m) (receive_of (comes_after c.args.reaches.now) ms qs m)) c.args.self.now.pairs c.loop-m.self.pairs c.add.new.self.pairs c.args.some.now i _ lt
           (c.loop-m.invariant.pairs ms qs h w) (c.in_ok-add.ensures.pairs ms qs h (w _ (has_at c.args.some.now i _ lt)));
-      postponed = λ ms qs h w. rows_next (postponed_name (comes_after c.args.ops.now) ms qs) c.args.self.now.postponed c.loop-m.self.postponed c.add.new.self.postponed c.args.some.now i _ lt
+      postponed = λ ms qs h w. rows_next (postponed_name (comes_after c.args.reaches.now) ms qs) c.args.self.now.postponed c.loop-m.self.postponed c.add.new.self.postponed c.args.some.now i _ lt
           (c.loop-m.invariant.postponed ms qs h w) (c.in_ok-add.ensures.postponed ms qs h (w _ (has_at c.args.some.now i _ lt)));
     }
 
 pub returns-clause-pairs : goal.returns-clause-pairs
 returns-clause-pairs c = λ ms qs h w.
     c.loop-m.invariant.pairs ms qs h w
-    ∙ ap (λ (l : List Message). c.args.self.now.pairs ++ filter_map (λ m. option_map (pair_of m) (receive_of (comes_after c.args.ops.now) ms qs m)) l) (take_all c.loop-m.m-index c.args.some.now (omega arith))
+    ∙ ap (λ (l : List Message). c.args.self.now.pairs ++ filter_map (λ m. option_map (pair_of m) (receive_of (comes_after c.args.reaches.now) ms qs m)) l) (take_all c.loop-m.m-index c.args.some.now (omega arith))
