@@ -14,9 +14,14 @@ pub mod PartLoop
 pub mod KnownLoop
 pub mod LastCells
 pub mod Heads
+pub mod Bodies
+pub mod Payloads
 pub mod Sending
 pub mod OwnCells
 pub mod Taking
+pub mod Windows
+pub mod Fronts
+pub mod WindowRuns
 pub mod SomeRuns
 pub mod Plans
 pub mod Levels

@@ -46,7 +46,7 @@ goes_on part cells front count i before bytes a after total lt h so_far =
     let one : cells_at part cells (count - i) before bytes ≡ cells_after (cells a) (cells_at part cells (count - (i + 1)) (Some (part.end a)) after) = rw (k, h) (first_of cells a left) in
     sym (ap (cells_after front) one ∙ regroup front (cells a) (cells_at part cells (count - (i + 1)) (Some (part.end a)) after)) ∙ so_far
 
-stops : {A : Type 0} (part : Part A) (cells : A → List Entry) (front : List Entry) (count i : ℕ) (before : Option (ℕ × ℕ)) (bytes : List ℕ) (fault : WireFault) (total : CellsRead) → i < count → part.read before bytes ≡ Err fault
+pub stops : {A : Type 0} (part : Part A) (cells : A → List Entry) (front : List Entry) (count i : ℕ) (before : Option (ℕ × ℕ)) (bytes : List ℕ) (fault : WireFault) (total : CellsRead) → i < count → part.read before bytes ≡ Err fault
     → cells_after front (cells_at part cells (count - i) before bytes) ≡ total → total ≡ Err fault
 unfolding parts_at
 stops part cells front count i before bytes fault total lt h so_far =

@@ -9,6 +9,8 @@ pub mod Parts
 pub mod FirstFault
 pub mod Outcomes
 pub mod Reading
+pub mod Held
+pub mod Windows
 pub mod Sending
 pub mod Writing
 pub mod Packed

@@ -9,14 +9,18 @@ ghost use Rattle.trace_wire.specs.Reading.{ReadsFrame, IsUnread, StaysWithin};
 pub(crate) mod cells;
 pub(crate) mod event;
 pub(crate) mod field;
+pub(crate) mod filling;
+pub(crate) mod front;
 pub(crate) mod input;
 pub(crate) mod list;
 pub(crate) mod payload;
 pub(crate) mod runs;
+pub(crate) mod unread;
+pub(crate) mod window;
 
 use crate::fault::WireFault;
 use crate::read::cells::are_bytes;
-use crate::read::input::{fill, payload_len, read_bytes};
+use crate::read::input::{fill, payload_len};
 use crate::read::payload::read_payload;
 use mpi_model::Read;
 use std::alloc::Global;
@@ -25,8 +29,10 @@ use trace_know::Knowledge;
 /// Reads one frame of either version, and leaves what follows it unread.
 ///
 /// Bytes that are no frame are refused for their first cause, in the order of [`WireFault`]: the ten bytes of the head
-/// are read and tried first, then the payload is read, and then its cells or runs are tried one by one. Memory is asked for the
-/// bytes that came, whatever the length says. What was read before a refusal is lost.
+/// are read and tried first, then the payload, all of it, and its cells or runs one by one. Its cells are read as it comes, and no
+/// more of it is held than a piece and the longest cell (in version 1 all of it): memory is asked for what came, whatever the
+/// length and the counts say. Where a cell is at fault, the rest of the payload is read before the fault is answered. What was
+/// read before a refusal is lost.
 pub fn read_frame<R: Read>(alloc: Global, reader: &mut R) -> Result<Knowledge, WireFault>
     ensures ok { IfOk result (λ k. ReadsFrame (R.left reader.old) (R.left reader.new) (entries k)) }
     ensures fits { IfOk result (λ k. HasFrame (entries k)) }
@@ -39,8 +45,6 @@ pub fn read_frame<R: Read>(alloc: Global, reader: &mut R) -> Result<Knowledge, W
     field!(fill(reader, &mut head));
     are_bytes(&head);
     let (version, len) = field!(payload_len(&head));
-    let payload = field!(read_bytes(alloc, reader, len as usize));
-    are_bytes(&payload);
-    let knowledge = field!(read_payload(alloc, version, &payload));
+    let knowledge = field!(read_payload(alloc, reader, version, len));
     Ok(knowledge)
 }

@@ -9,7 +9,7 @@ ghost use Rattle.trace_wire.specs.Reading.{IsUnfilled, IsUnread, ReadsFrame};
 
 use crate::fault::WireFault;
 use crate::read::cells::are_bytes;
-use crate::read::input::{payload_len, read_bytes};
+use crate::read::input::payload_len;
 use crate::read::payload::read_payload;
 use mpi_model::{Read, ReadFault, read_exactly};
 use std::alloc::Global;
@@ -42,9 +42,7 @@ fn behind_head<R: Read>(alloc: Global, reader: &mut R, head: &[u8]) -> Result<Kn
 {
     are_bytes(head);
     let (version, len) = field!(payload_len(head));
-    let payload = field!(read_bytes(alloc, reader, len as usize));
-    are_bytes(&payload);
-    let knowledge = field!(read_payload(alloc, version, &payload));
+    let knowledge = field!(read_payload(alloc, reader, version, len));
     Ok(knowledge)
 }
 

@@ -1,23 +1,26 @@
-//! Runs, read from the bytes of a payload.
+//! Runs, read through a window.
 
-ghost use Rattle.std.specs.Prelude.{◌≡◌, ◌+◌, ◌≤◌, ◌++◌, ◌^◌, ℕ, None, Ok, IfOk, IfErr, true};
+ghost use Rattle.std.specs.Prelude.{◌≡◌, ◌+◌, ◌≤◌, ◌++◌, ◌^◌, ℕ, IfErr, IfOk, OnOk, true};
 ghost use Rattle.std.specs.FinMap.{entries};
+ghost use Rattle.mpi_model.specs.Side.{LeavesSide};
 ghost use Rattle.trace_know.specs.Placed.{IsPast};
-ghost use Rattle.trace_wire.specs.Outcomes.{Reads, Gives, FailsWith, IsOfBytes};
-ghost use Rattle.trace_wire.specs.Cells.{is_past};
-ghost use Rattle.trace_wire.specs.Runs.{PlacedRun, behind, placed_run, run_cells};
-ghost use Rattle.trace_wire.specs.Parts.{is_run, knowns_at, run_at};
-ghost use Rattle.trace_wire.specs.FirstFault.{parts_of};
+ghost use Rattle.trace_wire.specs.declared.fault.WireFault.TheVariants.{Content};
 ghost use Rattle.trace_wire.specs.declared.version.Version.TheVariants.{Two};
+ghost use Rattle.trace_wire.specs.Cells.{is_past};
+ghost use Rattle.trace_wire.specs.FirstFault.{parts_of};
+ghost use Rattle.trace_wire.specs.Parts.{is_run, knowns_at, or_fault, run_at};
+ghost use Rattle.trace_wire.specs.Reading.{TakesAtMost};
+ghost use Rattle.trace_wire.specs.Runs.{PlacedRun, behind, placed_run, run_cells};
+ghost use Rattle.trace_wire.specs.Windows.{Comes, Gave, Stops};
 
 use crate::fault::WireFault;
-use crate::read::cells::{are_bytes, fault_of, is_past, known_of, place_of};
-use crate::read::field::{FieldFault, u32_of};
+use crate::read::cells::is_past;
+use crate::read::front::{next_known, next_place, next_u32};
+use crate::read::unread::Unread;
+use crate::read::window::Window;
+use mpi_model::Read;
 use std::alloc::Global;
 use trace_know::{Knowledge, Known, PLACES};
-
-/// The bytes of the shortest event with its code.
-const SHORTEST_EVENT: usize = 18;
 
 /// A run as it was read.
 #[derive(Drop)]
@@ -34,103 +37,102 @@ fn is_run(first: u64, count: u32) -> bool
     count > 0 && first < PLACES && count as u64 <= PLACES - first
 }
 
-/// The room for so many cells: for no more than these bytes can hold of events.
-fn room_for(count: u32, bytes: usize) -> usize {
-    (count as usize).min(bytes / SHORTEST_EVENT)
-}
-
-/// What stands at so many places from one on. Memory is asked for the cells that the bytes can hold, and grows with those
-/// that are there, whatever the count says.
-fn knowns_of(
+/// What stands at so many places from one on. Memory grows with the cells that are there, whatever the count says.
+fn knowns_of<R: Read>(
     alloc: Global,
+    reader: &mut R,
+    window: &mut Window,
     first: u64,
     count: u32,
-    bytes: &[u8],
-) -> Result<(Vec<Known>, &[u8]), FieldFault>
+) -> Result<Vec<Known>, Unread>
     requires { first + count ≤ 2 ^ 40 }
-    ensures { Reads (λ x. (x.0.items, x.1.now)) result (knowns_at first count bytes.now) }
+    ensures ok { IfOk result (λ ks. Comes (R.left reader.old) (R.left reader.new) window.old window.new (Gave (λ b. or_fault Content (knowns_at first count b)) ks.items)) }
+    ensures no_failure { OnOk result (R.failures reader.new ≡ R.failures reader.old) }
+    ensures err { IfErr result (Stops (R.left reader.old) (R.left reader.new) (R.failures reader.old) (R.failures reader.new) window.old window.new (λ b. or_fault Content (knowns_at first count b))) }
+    ensures taken { TakesAtMost window.old.coming (R.left reader.old) (R.left reader.new) }
+    ensures beside { LeavesSide (R.write_side reader.old) (R.write_side reader.new) }
 {
-    let mut cells = Vec::with_capacity(alloc, room_for(count, bytes.len()))?;
-    let mut rest = bytes;
+    let mut cells = Vec::new(alloc);
     for at in 0..count {
-        let (known, after) = field!(known_of(alloc, first + at as u64, rest));
-        cells.push(known)?;
-        rest = after;
+        let known = field!(next_known(alloc, reader, window, first + at as u64));
+        match cells.push(known) {
+            Ok(()) => {}
+            Err(_) => return Err(Unread::Payload(WireFault::Memory)),
+        }
     }
-    Ok((cells, rest))
+    Ok(cells)
 }
 
 /// A run that begins past a place.
-fn run_of(
+fn run_of<R: Read>(
     alloc: Global,
+    reader: &mut R,
+    window: &mut Window,
     before: Option<(u32, u64)>,
-    bytes: &[u8],
-) -> Result<(Run, &[u8]), WireFault>
-    ensures value { Gives (λ x. (placed_run (x.0.rank, x.0.first) x.0.cells.items, x.1.now)) result (run_at before bytes.now) }
-    ensures cause { IfErr result IsOfBytes }
+) -> Result<Run, Unread>
+    ensures ok { IfOk result (λ r. Comes (R.left reader.old) (R.left reader.new) window.old window.new (Gave (run_at before) (placed_run (r.rank, r.first) r.cells.items))) }
+    ensures no_failure { OnOk result (R.failures reader.new ≡ R.failures reader.old) }
+    ensures err { IfErr result (Stops (R.left reader.old) (R.left reader.new) (R.failures reader.old) (R.failures reader.new) window.old window.new (run_at before)) }
+    ensures taken { TakesAtMost window.old.coming (R.left reader.old) (R.left reader.new) }
+    ensures beside { LeavesSide (R.write_side reader.old) (R.write_side reader.new) }
 {
-    let (here, rest) = match place_of(bytes) {
-        Ok(found) => found,
-        Err(fault) => return Err(fault_of(fault)),
-    };
+    let here = field!(next_place(reader, window));
     if !is_past(before, here) {
-        return Err(WireFault::Order);
+        return Err(Unread::Payload(WireFault::Order));
     }
-    let (count, rest) = match u32_of(rest) {
-        Ok(found) => found,
-        Err(fault) => return Err(fault_of(fault)),
-    };
+    let count = field!(next_u32(reader, window));
     if !is_run(here.1, count) {
-        return Err(WireFault::Content);
+        return Err(Unread::Payload(WireFault::Content));
     }
-    let (cells, rest) = match knowns_of(alloc, here.1, count, rest) {
-        Ok(found) => found,
-        Err(fault) => return Err(fault_of(fault)),
-    };
     let (rank, first) = here;
-    Ok((Run { rank, first, cells }, rest))
+    let cells = field!(knowns_of(alloc, reader, window, first, count));
+    Ok(Run { rank, first, cells })
 }
 
 /// Reads a run that begins past a place, and puts it into the knowledge, which knows nothing past that place. It gives
 /// the place right behind the run.
-fn put_run<'a>(
+fn put_run<R: Read>(
     alloc: Global,
+    reader: &mut R,
+    window: &mut Window,
     knowledge: &mut Knowledge,
     before: Option<(u32, u64)>,
-    bytes: &'a [u8],
-) -> Result<((u32, u64), &'a [u8]), WireFault>
+) -> Result<(u32, u64), Unread>
     requires { (rank place : ℕ) → is_past before (rank, place) ≡ true → IsPast knowledge.old rank place }
-    ensures ok { IfOk result (λ x. (r : PlacedRun) × (run_at before bytes.now ≡ Ok (r, x.1.now)) × (is_past before (r.rank, r.first) ≡ true) × (x.0 ≡ behind r) × (entries knowledge.new ≡ entries knowledge.old ++ run_cells r)) }
-    ensures err { IfErr result (λ fault. FailsWith fault (run_at before bytes.now)) }
-    ensures cause { IfErr result IsOfBytes }
+    ensures ok { IfOk result (λ end. (r : PlacedRun) × Comes (R.left reader.old) (R.left reader.new) window.old window.new (Gave (run_at before) r) × (is_past before (r.rank, r.first) ≡ true) × (end ≡ behind r) × (entries knowledge.new ≡ entries knowledge.old ++ run_cells r)) }
+    ensures no_failure { OnOk result (R.failures reader.new ≡ R.failures reader.old) }
+    ensures err { IfErr result (Stops (R.left reader.old) (R.left reader.new) (R.failures reader.old) (R.failures reader.new) window.old window.new (run_at before)) }
+    ensures taken { TakesAtMost window.old.coming (R.left reader.old) (R.left reader.new) }
+    ensures beside { LeavesSide (R.write_side reader.old) (R.write_side reader.new) }
 {
-    are_bytes(bytes);
-    let (run, rest) = field!(run_of(alloc, before, bytes));
+    let _held = window.held();
+    let run = field!(run_of(alloc, reader, window, before));
     let Run { rank, first, cells } = run;
     let end = first + cells.len() as u64;
     match knowledge.put_run(rank, first, cells) {
-        Ok(()) => Ok(((rank, end), rest)),
-        Err(_) => Err(WireFault::Memory),
+        Ok(()) => Ok((rank, end)),
+        Err(_) => Err(Unread::Payload(WireFault::Memory)),
     }
 }
 
 /// So many runs, put into knowledge as they are read.
-#[tactic(auto, using(crate::proofs::PartLoop::ends))]
-pub(crate) fn runs_of(
+pub(crate) fn runs_of<R: Read>(
     alloc: Global,
+    reader: &mut R,
+    window: &mut Window,
     count: u32,
-    bytes: &[u8],
-) -> Result<(Knowledge, &[u8]), WireFault>
-    ensures value { Gives (λ x. (entries x.0, x.1.now)) result (parts_of Two count bytes.now) }
-    ensures cause { IfErr result IsOfBytes }
+) -> Result<Knowledge, Unread>
+    ensures ok { IfOk result (λ k. Comes (R.left reader.old) (R.left reader.new) window.old window.new (Gave (parts_of Two count) (entries k))) }
+    ensures no_failure { OnOk result (R.failures reader.new ≡ R.failures reader.old) }
+    ensures err { IfErr result (Stops (R.left reader.old) (R.left reader.new) (R.failures reader.old) (R.failures reader.new) window.old window.new (parts_of Two count)) }
+    ensures taken { TakesAtMost window.old.coming (R.left reader.old) (R.left reader.new) }
+    ensures beside { LeavesSide (R.write_side reader.old) (R.write_side reader.new) }
 {
     let mut knowledge = Knowledge::new(alloc);
     let mut last = None;
-    let mut rest = bytes;
     for _ in 0..count {
-        let (here, after) = field!(put_run(alloc, &mut knowledge, last, rest));
+        let here = field!(put_run(alloc, reader, window, &mut knowledge, last));
         last = Some(here);
-        rest = after;
     }
-    Ok((knowledge, rest))
+    Ok(knowledge)
 }

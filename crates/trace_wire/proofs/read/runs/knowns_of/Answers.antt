@@ -1,13 +1,39 @@
-use Rattle.trace_wire.specs.Parts.{knowns_at}
-use Rattle.trace_wire.proofs.KnownLoop.{ends, goes_on, is_done}
+use Rattle.std.proofs.Common.{refl, rules, sym, subst, ◌∙◌, ◌+◌, ◌∷◌, ◌++◌, [], List}
+use Rattle.trace_know.specs.declared.cell.Known.{Known}
+use Rattle.trace_wire.specs.Windows.{Comes}
+use Rattle.trace_wire.proofs.WindowRuns.{KnownsLeft, knowns_done, knowns_next, knowns_start, knowns_stop, no_memory}
+use Rattle.trace_wire.proofs.Windows.{leaves_both, taken_all, taken_then}
 use Rattle.trace_wire.proofs.read.runs.knowns_of.Goals as goal
 
-pub returns-in-Err : goal.returns-in-Err
-returns-in-Err c = ends c.in-Err.fault c.loop-at.cells.items c.args.first c.args.count c.loop-at.at c.loop-at.rest.now (knowns_at c.args.first c.args.count c.args.bytes.now) c.loop-at-test.true c.in-Err.ensures c.loop-at.invariant
+pub loop-at-init : goal.loop-at-init
+loop-at-init g c = record {
+  far = knowns_start _ _ c.args.first c.args.count _ (search rules);
+  no_failure = refl;
+  beside = search rules;
+}
 
 pub loop-at-preserved : goal.loop-at-preserved
-loop-at-preserved c =
-    rw c.in_ok-push.ensures.items (goes_on c.loop-at.cells.items c.args.first c.args.count c.loop-at.at c.loop-at.rest.now c.in-Ok.found.0 c.in-Ok.found.1.now (knowns_at c.args.first c.args.count c.args.bytes.now) c.loop-at-test.true c.in-Ok.ensures c.loop-at.invariant)
+loop-at-preserved g c = record {
+  far = rw c.in-Ok-push.ensures.items (knowns_next _ _ _ _ _ _ c.args.first c.args.count c.loop-at.at c.loop-at.cells.items c.in-Ok.found c.loop-at-test.true c.loop-at.invariant.far c.in-Ok.ensures.ok);
+  no_failure = c.in-Ok.ensures.no_failure ∙ c.loop-at.invariant.no_failure;
+  beside = leaves_both _ _ _ c.loop-at.invariant.beside c.in-Ok.ensures.beside;
+}
 
-pub returns : goal.returns
-returns c = is_done c.loop-at.cells.items c.args.first c.args.count c.loop-at.at c.loop-at.rest.now (knowns_at c.args.first c.args.count c.args.bytes.now) c.loop-at-test.false c.loop-at.invariant
+pub returns-in-Err-clause-err : goal.returns-in-Err-clause-err
+returns-in-Err-clause-err g c = knowns_stop _ _ _ _ _ _ _ _ _ c.args.first c.args.count c.loop-at.at c.loop-at.cells.items c.in-Err.fault c.loop-at-test.true c.loop-at.invariant.far c.loop-at.invariant.no_failure c.in-Err.ensures.err
+
+pub returns-in-Err-clause-taken : goal.returns-in-Err-clause-taken
+returns-in-Err-clause-taken g c = taken_then _ _ _ _ _ _ c.loop-at.invariant.far c.in-Err.ensures.taken
+
+pub returns-in-Err-push-clause-err : goal.returns-in-Err-push-clause-err
+returns-in-Err-push-clause-err g c =
+    no_memory _ _ _ _ _ _ _ _ (knowns_next _ _ _ _ _ _ c.args.first c.args.count c.loop-at.at c.loop-at.cells.items c.in-Ok.found c.loop-at-test.true c.loop-at.invariant.far c.in-Ok.ensures.ok) (c.in-Ok.ensures.no_failure ∙ c.loop-at.invariant.no_failure)
+
+pub returns-in-Err-push-clause-taken : goal.returns-in-Err-push-clause-taken
+returns-in-Err-push-clause-taken g c = taken_then _ _ _ _ _ _ c.loop-at.invariant.far c.in-Ok.ensures.taken
+
+pub returns-clause-ok : goal.returns-clause-ok
+returns-clause-ok g c = knowns_done _ _ _ _ c.args.first c.args.count c.loop-at.at c.loop-at.cells.items c.loop-at-test.false c.loop-at.invariant.far
+
+pub returns-clause-taken : goal.returns-clause-taken
+returns-clause-taken g c = taken_all _ _ _ _ _ c.loop-at.invariant.far

@@ -1,7 +1,12 @@
-use Rattle.std.proofs.Common.{◌≡◌, ◌+◌, ◌-◌}
-use Rattle.trace_wire.specs.Parts.{knowns_at}
-use Rattle.trace_wire.proofs.ItemLoop.{with_front}
+use Rattle.std.proofs.Common.{◌≡◌}
+use Rattle.mpi_model.specs.Side.{LeavesSide}
+use Rattle.trace_wire.specs.Windows.{Comes}
+use Rattle.trace_wire.proofs.WindowRuns.{KnownsLeft}
 use Rattle.trace_wire.proofs.read.runs.knowns_of.Given as goal
 
 abbrev pub invariant-loop-at : goal.invariant-loop-at
-invariant-loop-at l = with_front l.cells.items (knowns_at (l.first + l.at) (l.count - l.at) l.rest) ≡ knowns_at l.first l.count l.bytes
+invariant-loop-at g l = record {
+  far : Comes (g.R.Read.left l.fn.reader) (g.R.Read.left l.reader) l.fn.window l.window (KnownsLeft l.first l.count l.cells.items l.at);
+  no_failure : g.R.Read.failures l.reader ≡ g.R.Read.failures l.fn.reader;
+  beside : LeavesSide (g.R.Read.write_side l.fn.reader) (g.R.Read.write_side l.reader);
+}

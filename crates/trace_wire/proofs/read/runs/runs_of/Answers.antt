@@ -1,39 +1,47 @@
-use Rattle.std.proofs.Common.{◌≡◌, ◌-◌, ◌+◌, ℕ, List, [], ◌++◌, Some, None, sym, ap, subst, ◌∙◌, arith}
+use Rattle.std.proofs.Common.{[], ◌≡◌, ◌++◌, List, Some, None, refl, rules, sym, ap, subst, ◌∙◌}
 use Rattle.std.specs.FinMap.{entries}
 use Rattle.trace_wire.specs.Cells.{Entry}
-use Rattle.trace_wire.specs.Parts.{run}
 use Rattle.trace_wire.specs.Runs.{run_cells}
-use Rattle.trace_wire.proofs.PartLoop.{cells_after, cells_at, ends, goes_on, is_done, starts}
 use Rattle.trace_wire.proofs.LastCells.{AllUpTo, up_to_before, past_all, entries_none, run_behind_all}
+use Rattle.trace_wire.proofs.WindowRuns.{runs_done, runs_next, runs_start, runs_stop}
+use Rattle.trace_wire.proofs.Windows.{leaves_both, taken_all, taken_then}
 use Rattle.trace_wire.proofs.read.runs.runs_of.Goals as goal
 
 pub loop-init : goal.loop-init
-loop-init c =
+loop-init g c =
     let none : entries c.new-knowledge.result ≡ [] = ap entries c.new-knowledge.ensures ∙ entries_none in
-    let zero : c.args.count - 0 ≡ c.args.count = omega arith in
     record {
-      so_far = ap (λ (n : ℕ). cells_after (entries c.new-knowledge.result) (cells_at run run_cells n None c.args.bytes.now)) zero ∙ starts (entries c.new-knowledge.result) (cells_at run run_cells c.args.count None c.args.bytes.now) none;
+      far = runs_start _ _ c.args.count (entries c.new-knowledge.result) none;
       up_to = subst (λ (es : List Entry). AllUpTo None es) (sym none) tt;
+      no_failure = refl;
+      beside = search rules;
     }
 
 pub put_run-requires : goal.put_run-requires
-put_run-requires c = λ rank place past. past_all c.loop.knowledge rank place (up_to_before c.loop.last (rank, place) (entries c.loop.knowledge) past c.loop.invariant.up_to)
+put_run-requires g c = λ rank place past. past_all c.loop.knowledge rank place (up_to_before c.loop.last (rank, place) (entries c.loop.knowledge) past c.loop.invariant.up_to)
 
 pub loop-preserved : goal.loop-preserved
-loop-preserved c =
-    let r = c.in-Ok.ensures.ok.0 in
-    let end = c.in-Ok.found.0 in
-    let now : entries c.put_run.new.knowledge ≡ entries c.loop.knowledge ++ run_cells r = c.in-Ok.ensures.ok.4 in
-    let before = up_to_before c.loop.last (r.rank, r.first) (entries c.loop.knowledge) c.in-Ok.ensures.ok.2 c.loop.invariant.up_to in
-    let next = goes_on run run_cells (entries c.loop.knowledge) c.args.count c.loop.counter c.loop.last c.loop.rest.now r c.in-Ok.found.1.now (cells_at run run_cells c.args.count None c.args.bytes.now) c.loop-test.true c.in-Ok.ensures.ok.1 c.loop.invariant.so_far in
+loop-preserved g c =
+    let ok = c.in-Ok.ensures.ok in
+    let r = ok.0 in
+    let end = c.in-Ok.found in
+    let now : entries c.put_run.new.knowledge ≡ entries c.loop.knowledge ++ run_cells r = ok.4 in
+    let before = up_to_before c.loop.last (r.rank, r.first) (entries c.loop.knowledge) ok.2 c.loop.invariant.up_to in
     record {
-      so_far = subst (λ (es : List Entry). cells_after es (cells_at run run_cells (c.args.count - (c.loop.counter + 1)) (Some end) c.in-Ok.found.1.now) ≡ cells_at run run_cells c.args.count None c.args.bytes.now) (sym now)
-          (subst (λ (q : ℕ × ℕ). cells_after (entries c.loop.knowledge ++ run_cells r) (cells_at run run_cells (c.args.count - (c.loop.counter + 1)) (Some q) c.in-Ok.found.1.now) ≡ cells_at run run_cells c.args.count None c.args.bytes.now) (sym c.in-Ok.ensures.ok.3) next);
-      up_to = subst (λ (es : List Entry). AllUpTo (Some end) es) (sym now) (subst (λ (q : ℕ × ℕ). AllUpTo (Some q) (entries c.loop.knowledge ++ run_cells r)) (sym c.in-Ok.ensures.ok.3) (run_behind_all r.rank r.first r.cells (entries c.loop.knowledge) before));
+      far = runs_next _ _ _ _ _ _ c.args.count c.loop.counter (entries c.loop.knowledge) _ c.loop.last r end c.loop-test.true c.loop.invariant.far ok.1 ok.3 now;
+      up_to = subst (λ (es : List Entry). AllUpTo (Some end) es) (sym now) (rw ok.3 (run_behind_all r.rank r.first r.cells (entries c.loop.knowledge) before));
+      no_failure = c.in-Ok.ensures.no_failure ∙ c.loop.invariant.no_failure;
+      beside = leaves_both _ _ _ c.loop.invariant.beside c.in-Ok.ensures.beside;
     }
 
-pub returns-in-Err-clause-value : goal.returns-in-Err-clause-value
-returns-in-Err-clause-value c = ends run run_cells c.in-Err.fault (entries c.loop.knowledge) c.args.count c.loop.counter c.loop.last c.loop.rest.now (cells_at run run_cells c.args.count None c.args.bytes.now) c.loop-test.true c.in-Err.ensures.err c.loop.invariant.so_far
+pub returns-in-Err-clause-err : goal.returns-in-Err-clause-err
+returns-in-Err-clause-err g c = runs_stop _ _ _ _ _ _ _ _ _ c.args.count c.loop.counter (entries c.loop.knowledge) c.loop.last c.in-Err.fault c.loop-test.true c.loop.invariant.far c.loop.invariant.no_failure c.in-Err.ensures.err
 
-pub returns-clause-value : goal.returns-clause-value
-returns-clause-value c = is_done run run_cells (entries c.loop.knowledge) c.args.count c.loop.counter c.loop.last c.loop.rest.now (cells_at run run_cells c.args.count None c.args.bytes.now) c.loop-test.false c.loop.invariant.so_far
+pub returns-in-Err-clause-taken : goal.returns-in-Err-clause-taken
+returns-in-Err-clause-taken g c = taken_then _ _ _ _ _ _ c.loop.invariant.far c.in-Err.ensures.taken
+
+pub returns-clause-ok : goal.returns-clause-ok
+returns-clause-ok g c = runs_done _ _ _ _ c.args.count c.loop.counter (entries c.loop.knowledge) c.loop.last c.loop-test.false c.loop.invariant.far
+
+pub returns-clause-taken : goal.returns-clause-taken
+returns-clause-taken g c = taken_all _ _ _ _ _ c.loop.invariant.far

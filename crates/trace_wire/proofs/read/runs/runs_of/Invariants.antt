@@ -1,13 +1,15 @@
-use Rattle.std.proofs.Common.{◌≡◌, ◌-◌, None}
+use Rattle.std.proofs.Common.{◌≡◌}
 use Rattle.std.specs.FinMap.{entries}
-use Rattle.trace_wire.specs.Parts.{run}
-use Rattle.trace_wire.specs.Runs.{run_cells}
-use Rattle.trace_wire.proofs.PartLoop.{cells_after, cells_at}
+use Rattle.mpi_model.specs.Side.{LeavesSide}
+use Rattle.trace_wire.specs.Windows.{Comes}
+use Rattle.trace_wire.proofs.WindowRuns.{RunsLeft}
 use Rattle.trace_wire.proofs.LastCells.{AllUpTo}
 use Rattle.trace_wire.proofs.read.runs.runs_of.Given as goal
 
 abbrev pub invariant-loop : goal.invariant-loop
-invariant-loop l = record {
-  so_far : cells_after (entries l.knowledge) (cells_at run run_cells (l.count - l.counter) l.last l.rest) ≡ cells_at run run_cells l.count None l.bytes;
+invariant-loop g l = record {
+  far : Comes (g.R.Read.left l.fn.reader) (g.R.Read.left l.reader) l.fn.window l.window (RunsLeft l.count (entries l.knowledge) l.last l.counter);
   up_to : AllUpTo l.last (entries l.knowledge);
+  no_failure : g.R.Read.failures l.reader ≡ g.R.Read.failures l.fn.reader;
+  beside : LeavesSide (g.R.Read.write_side l.fn.reader) (g.R.Read.write_side l.reader);
 }

@@ -1,0 +1,14 @@
+use Rattle.std.proofs.Common.{◌≡◌}
+use Rattle.mpi_model.specs.Side.{LeavesSide}
+use Rattle.trace_wire.specs.Windows.{Comes, IsLeft}
+use Rattle.trace_wire.proofs.read.filling.fill_to.Given as goal
+
+abbrev pub invariant-loop-window : goal.invariant-loop-window
+invariant-loop-window g l = record {
+  far : Comes (g.R.Read.left l.fn.reader) (g.R.Read.left l.reader) l.fn.window l.window IsLeft;
+  no_failure : g.R.Read.failures l.reader ≡ g.R.Read.failures l.fn.reader;
+  beside : LeavesSide (g.R.Read.write_side l.fn.reader) (g.R.Read.write_side l.reader);
+}
+
+abbrev pub decreases-loop-window : goal.decreases-loop-window
+decreases-loop-window g l = l.window.coming
