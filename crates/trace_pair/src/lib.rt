@@ -14,16 +14,10 @@
 //!
 //! - [`pair`]: a pair, and the two sides of one
 //! - [`scratch`]: the pairing from scratch; [`batch`]: its pass over all receives; [`takings`]: all
-<<<<<<< HEAD
 //!   messages with what takes each; [`places`]: where those that wait stand; [`ends`]: the ends of receives, and
 //!   whether some of them may take a message
-//! - [`rules`]: which call comes first, and whether names are one; [`after`]: which messages come after which receives;
-//!   [`reach`]: the same, asked of a table
-=======
-//!   messages with what takes each; [`places`]: where those that wait stand; [`ends`]: the ends of open receives
 //! - [`rules`]: which call comes first, and whether names are one; [`reach`]: which messages come after which receives,
 //!   asked of a table
->>>>>>> 3ba794be
 //! - [`rows`], [`near`], [`table`]: the pairs and the postponed messages, their order by the receive,
 //!   and the other end of each
 //! - [`one_or_many`]: a set that has no tree of its own while it has one member; [`groups`],
