@@ -1,5 +1,5 @@
 -- A payload, read through a window to its end.
-use Rattle.std.proofs.Common.{◌≡◌, ℕ, ◌+◌, ◌<◌, Bool, true, false, eqb, List, [], ◌∷◌, ◌++◌, length, Option, Result, Ok, Err, refl, sym, ap, subst, ◌∙◌, append-nil, arith, inl, inr}
+use Rattle.std.proofs.Common.{◌≡◌, ℕ, ◌+◌, ◌<◌, Bool, true, false, eqb, List, [], ◌∷◌, ◌++◌, length, Option, Result, Ok, Err, refl, sym, ap, subst, ◌∙◌, append-nil, arith, inr}
 use Rattle.std.specs.Int.{w32}
 use Rattle.std.specs.Io.KnownBytes.{Consumes}
 use Rattle.std.proofs.KnownBytes.{Consumes-trans}
@@ -18,7 +18,7 @@ use Rattle.trace_wire.specs.Held.{Held}
 use Rattle.trace_wire.specs.Parts.{◌>=>◌, or_fault}
 use Rattle.trace_wire.specs.Reading.{IsUnfilled, TakesAtMost}
 use Rattle.trace_wire.specs.Windows.{Comes, Gave, IsRefused, ReadsPayload, Stops}
-use Rattle.trace_wire.proofs.Windows.{comes_then, stops_first, stops_here, stops_then, taken_then, unfilled_after}
+use Rattle.trace_wire.proofs.Windows.{comes_then, stops_first, stops_then, taken_then, unfilled_after}
 
 -- ---- as functions of bytes
 

@@ -1,5 +1,4 @@
-use Rattle.std.proofs.Common.{sym, subst, ◌∙◌}
-use Rattle.trace_wire.specs.Held.{Held}
+use Rattle.std.proofs.Common.{◌∙◌}
 use Rattle.trace_wire.specs.Windows.{Comes, IsLeft}
 use Rattle.trace_wire.proofs.Windows.{comes_then, leaves_both, taken_then}
 use Rattle.trace_wire.proofs.read.front.next_known.Goals as goal

@@ -2,7 +2,7 @@ use Rattle.std.proofs.Common.{◌≡◌, true, false, rules, ◌∙◌}
 use Rattle.trace_wire.specs.Cells.{is_past}
 use Rattle.trace_wire.specs.Parts.{is_run}
 use Rattle.trace_wire.proofs.WindowRuns.{no_cells, no_count, no_order, no_place, no_run, run_read}
-use Rattle.trace_wire.proofs.Windows.{taken_all, taken_then}
+use Rattle.trace_wire.proofs.Windows.{taken_then}
 use Rattle.trace_wire.proofs.read.runs.run_of.Goals as goal
 
 pub returns-in-Err-clause-err : goal.returns-in-Err-clause-err
