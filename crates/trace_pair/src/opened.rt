@@ -33,8 +33,7 @@ fn some_may(reaches: &Reaches, kept: &[Receive], m: &Message) -> bool
 fn some_before_may(reaches: &Reaches, kept: &[Receive], m: &Message, q: &Receive) -> bool
     ensures { result ≡ list_any (λ u. (envelopes_fit m.now u && not (comes_after reaches.now m.now u)) && posted_before u q.now) kept.now }
 {
-    kept.iter()
-        .any(|u| may_have_taken(reaches, u, m) && is_posted_before(u, q))
+    kept.iter().any(|u| may_have_taken(reaches, u, m) && is_posted_before(u, q))
 }
 
 fn is_other(u: &Receive, q: &Receive) -> bool
