@@ -1,4 +1,4 @@
-use Rattle.std.proofs.Common.{rules, ◌≡◌, None, Some, arith}
+use Rattle.std.proofs.Common.{rules, ◌≡◌, arith}
 use Rattle.std.proofs.lemmas.Grind.{common_steps}
 use Rattle.dumpi_calls.proofs.InPlace.{rooted_call_told}
 use Rattle.dumpi_calls.proofs.in_place.rooted_lines.Goals as goal

@@ -9,5 +9,5 @@ returns c =
     let read = short_fields c.args.text.now
     c.in_ok-rest.rest.now c.in_ok-strip.field-0.now c.in_ok-source.rest.now c.in_ok-strip-2.field-0.now c.in_ok-rest-2.rest.now more
     c.in_ok-rest.field-0-0 c.in_ok-source.source c.in_ok-rest-2.field-0-0 c.in_ok-rest.ensures.there
-    c.in_ok-rest.ensures.field c.in_ok-strip.ensures c.in_ok-source.ensures.field c.in_ok-strip-2.ensures c.in_ok-rest-2.ensures.field c.in_ok-rest-3.ensures in
+    c.in_ok-rest.ensures.field c.in_ok-strip.ensures.whole c.in_ok-source.ensures.field c.in_ok-strip-2.ensures.whole c.in_ok-rest-2.ensures.field c.in_ok-rest-3.ensures.front in
     read ∙ ap (λ (told : Told). Some (told, more)) (sym c.told_from.ensures)
