@@ -24,3 +24,4 @@ pub mod Below
 pub mod Beyond
 pub mod Covering
 pub mod AnyOrder
+pub mod Alone

@@ -1,6 +1,6 @@
 //! Knowledge: the join of the segments that were taken.
 
-ghost use Rattle.std.specs.Prelude.{◌≡◌, ◌↔◌, ◌+◌, ◌++◌, ◌^◌, ◌<◌, ◌≤◌, IsTrue, OnOk, OnErr, IfOk, IfErr, IsSome, length, map, slice_get};
+ghost use Rattle.std.specs.Prelude.{◌≡◌, ◌↔◌, ◌+◌, ◌++◌, ◌∷◌, [], ◌^◌, ◌<◌, ◌≤◌, IsTrue, OnOk, OnErr, IfOk, IfErr, IfSome, IsSome, length, map, slice_get};
 ghost use Rattle.std.specs.FinMap.{empty, insert, entries, len};
 ghost use Rattle.std.specs.Option.{option_map, option_copied};
 ghost use Rattle.trace_know.specs.Cell.{shown, put_known};
@@ -15,7 +15,7 @@ ghost use Rattle.trace_know.specs.View.{IsBelow, cell, join};
 use crate::boxed::BoxedRun;
 use crate::cell::{Cell, Known, cell_of, known_of};
 use crate::compare::{holds_all, same_cells};
-use crate::copies::copies_of;
+use crate::copies::{boxed_copy, copies_of};
 use crate::patches::join_runs;
 use crate::readers::{
     any_from, cell_in, conflict_in, conflict_places_in, count_cells, count_conflicts, is_unread_in,
@@ -29,6 +29,16 @@ use crate::walk::Walk;
 use mpi_model::Event;
 use std::alloc::{AllocError, AllocFailed, Global};
 use std::marker::Model;
+
+/// The run, where there is one alone.
+fn only_run(runs: &[BoxedRun]) -> Option<&BoxedRun>
+    ensures { IfSome result (λ run. runs.now ≡ run.now ∷ []) }
+{
+    match runs {
+        [run] => Some(run),
+        _ => None,
+    }
+}
 
 /// What is known of each place of each rank. Empty knowledge takes no memory; a copy takes its own.
 #[derive(Debug, Drop)]
@@ -142,9 +152,35 @@ impl Knowledge {
         }
     }
 
-    /// Joins all that the other knows. Without memory nothing changes. It costs what the runs of the
-    /// other have and those of ours that touch one which tells more; of all others a pointer moves.
+    /// Joins all that the other knows. Without memory nothing changes. A run alone goes on at the end of
+    /// ours at the cost of its own cells. Of more than one it costs what they have and those of ours that
+    /// touch one which tells more; of all others a pointer moves.
     pub fn join(&mut self, other: &Knowledge) -> Result<(), AllocError>
+        ensures ok { OnOk result (self.new ≡ join self.old other.now) }
+        ensures err { OnErr result (self.new ≡ self.old) }
+    {
+        match only_run(&other.runs) {
+            Some(run) => self.join_run(run),
+            None => self.join_patch(other),
+        }
+    }
+
+    /// Joins the cells of a run that another keeps.
+    fn join_run(&mut self, run: &BoxedRun) -> Result<(), AllocError>
+        requires filled { IsFilled run.now }
+        requires placed { IsKnowledge (of_run run.now) }
+        ensures ok { OnOk result (self.new ≡ join self.old (of_run run.now)) }
+        ensures err { OnErr result (self.new ≡ self.old) }
+    {
+        let piece = boxed_copy(self.alloc, run)?;
+        let Ok(()) = self.join_piece(piece) else {
+            return Err(AllocError);
+        };
+        Ok(())
+    }
+
+    /// Joins all that the other knows, by a patch of what it tells anew.
+    fn join_patch(&mut self, other: &Knowledge) -> Result<(), AllocError>
         ensures ok { OnOk result (self.new ≡ join self.old other.now) }
         ensures err { OnErr result (self.new ≡ self.old) }
     {
