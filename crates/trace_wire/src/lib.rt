@@ -8,9 +8,9 @@
 //! `docs/formats.md`, and as definitions in `specs/`.
 //!
 //! A payload has at most 67,108,864 bytes, in version 1 16,777,216. Both directions are linear in its length. Writing
-//! takes no memory and calls the device once for each 32,768 bytes. Reading holds a window of the payload, of 32,768 bytes
-//! and somewhat more, or as long as the longest cell or twice that (in version 1 all of the payload), and what it knows so far:
-//! memory for what really came, whatever the length field and the counts say.
+//! takes no memory and calls the device once for each 32,768 bytes. Reading holds a window of the payload, at most 32,768 bytes
+//! and 4,096 more, or twice its longest cell more where that is longer (in version 1 all of it), and what it knows so far: memory
+//! for what really came, whatever the length field and the counts say.
 //!
 //! - [`version`]: the versions and their limits; [`fault`]: why a frame is refused
 //! - [`write`]: a frame, field by field, into a page that goes to the device when it is full
