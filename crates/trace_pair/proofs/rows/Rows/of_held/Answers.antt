@@ -25,9 +25,9 @@ loop-own-preserved c =
     let state = c.args.state.now in
     let some = c.sends.result.now in
     let of_pairs = subst (λ (os : List Ops). (ms : List Message) (qs : List Receive) → Indexes (comes_after os) ms qs state → ((m : Message) → Has some m → Has ms m) →
-        c.add_all.new.self.pairs ≡ c.loop-own.rows.pairs ++ filter_map (λ m. option_map (pair_of m) (receive_of (comes_after os) ms qs m)) some) c.new-reaches.ensures c.in_ok-add_all.ensures.pairs in
+    c.add_all.new.self.pairs ≡ c.loop-own.rows.pairs ++ filter_map (λ m. option_map (pair_of m) (receive_of (comes_after os) ms qs m)) some) c.new-reaches.ensures c.in_ok-add_all.ensures.pairs in
     let of_postponed = subst (λ (os : List Ops). (ms : List Message) (qs : List Receive) → Indexes (comes_after os) ms qs state → ((m : Message) → Has some m → Has ms m) →
-        c.add_all.new.self.postponed ≡ c.loop-own.rows.postponed ++ filter_map (postponed_name (comes_after os) ms qs) some) c.new-reaches.ensures c.in_ok-add_all.ensures.postponed in
+    c.add_all.new.self.postponed ≡ c.loop-own.rows.postponed ++ filter_map (postponed_name (comes_after os) ms qs) some) c.new-reaches.ensures c.in_ok-add_all.ensures.postponed in
     record {
       pairs = λ x. rows_more (λ o. o.sends) (λ m. option_map (pair_of m) (receive_of (comes_after held) ms qs m)) c.loop-own.rows.pairs c.add_all.new.self.pairs held i d lt (c.loop-own.invariant.pairs x)
           (of_pairs ms qs x member ∙ ap (λ (l : List Message). c.loop-own.rows.pairs ++ filter_map (λ m. option_map (pair_of m) (receive_of (comes_after held) ms qs m)) l) e);
