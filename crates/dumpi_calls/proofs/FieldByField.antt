@@ -1,11 +1,9 @@
 -- What a group tells, field by field.
-use Rattle.std.proofs.Common.{◌≡◌, ◌∙◌, ℕ, suc, ◌+◌, ◌-◌, ◌<◌, ◌≤◌, List, [], ◌∷◌, ◌++◌, Option, Some, None, Bool, true, false, eqb, ap, sym, refl, pos, cond, codes, length, length-append, take, drop, arith, inl, inr}
+use Rattle.std.proofs.Common.{◌≡◌, ◌∙◌, ℕ, suc, ◌+◌, ◌-◌, ◌<◌, ◌≤◌, List, [], ◌∷◌, ◌++◌, Option, Some, None, Bool, true, false, eqb, ap, sym, refl, pos, cond, codes, length, length-append, arith, inl, inr}
 use Rattle.std.specs.Prelude.{if◌then◌else◌}
 use Rattle.std.specs.List.{list_all}
 use Rattle.std.specs.Str.{bytes_eq}
 use Rattle.std.proofs.lemmas.Bool.{cases_eq, false≢true}
-use Rattle.std.proofs.lemmas.List.{take-append-drop}
-use Rattle.std.proofs.lemmas.Slice.Eq.{bytes_eq-Decides}
 use Rattle.mpi_model.specs.declared.told.Told.{Told}
 use Rattle.dumpi_calls.specs.Outcomes.{first_number, groups_from, told_at, told_from, told_of}
 use Rattle.dumpi_calls.specs.Skims.{number_or, number_with, seen_with, told_with, unseen, with_told}
@@ -110,13 +108,6 @@ field_read : (word text rest : List ℕ) (number : Num) → 0 < length word → 
 unfolding field_item
 field_read [] text rest number some all e = absurd (omega arith)
 field_read (b ∷ bs) text rest number some all e = rw (no_space b (first_of_word b bs all), word_before (b ∷ bs) text all, e) refl
-
--- a text that begins with a front, by what follows it
-pub front_whole : (front text rest : List ℕ) → bytes_eq (take (length front) text) front ≡ true → rest ≡ drop (length front) text → text ≡ front ++ rest
-front_whole front text rest same is =
-    sym (take-append-drop (length front) text)
-    ∙ ap (λ (f : List ℕ). f ++ drop (length front) text) ((bytes_eq-Decides (take (length front) text) front).0 same)
-    ∙ ap (λ (r : List ℕ). front ++ r) (sym is)
 
 pub word_there : (word text rest : List ℕ) → text ≡ word ++ rest → length word ≤ length text
 word_there word text rest e = omega (arith, ap (λ (t : List ℕ). length t) e, length-append word rest)

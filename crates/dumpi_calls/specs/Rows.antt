@@ -50,6 +50,7 @@ receive_named name =
     if bytes_eq name (codes "MPI_Recv") then Some functions.Recv
     else if bytes_eq name (codes "MPI_Irecv") then Some functions.Irecv
     else if bytes_eq name (codes "MPI_Sendrecv") then Some functions.Sendrecv
+    else if bytes_eq name (codes "MPI_Sendrecv_replace") then Some functions.SendrecvReplace
     else if bytes_eq name (codes "MPI_Probe") then Some functions.Probe
     else None
 
@@ -112,7 +113,7 @@ collective_named name =
 
 -- ---- functions that move messages and that no row reads: what follows a call of one isn't known
 
--- nonblocking exchanges, partitioned and persistent communication, matched probes, and exchanges in place (MPI 4.0, 3.8.2, 3.9, 3.10 and 4)
+-- nonblocking exchanges, partitioned and persistent communication, and matched probes (MPI 4.0, 3.8.2, 3.9, 3.10 and 4)
 abbrev pub is_unread_name : List ℕ → Bool
 is_unread_name name =
     bytes_eq name (codes "MPI_Isendrecv")
@@ -123,7 +124,6 @@ is_unread_name name =
     || bytes_eq name (codes "MPI_Startall")
     || bytes_eq name (codes "MPI_Mprobe")
     || bytes_eq name (codes "MPI_Improbe")
-    || bytes_eq name (codes "MPI_Sendrecv_replace")
 
 -- sends with counts of 64 bits (MPI 4.0, 3.2.2)
 abbrev pub is_long_send : List ℕ → Bool
@@ -191,6 +191,10 @@ receive_parameters = Count ∷ Datatype ∷ Source ∷ Tag ∷ Comm ∷ []
 -- those of a Sendrecv, which is both
 abbrev pub sendrecv_parameters : List Parameter
 sendrecv_parameters = SendCount ∷ SendType ∷ Dest ∷ SendTag ∷ RecvCount ∷ RecvType ∷ Source ∷ RecvTag ∷ Comm ∷ []
+
+-- those of an exchange in place: one count and one datatype for both sides (MPI 4.0, 3.10)
+abbrev pub sendrecv_replace_parameters : List Parameter
+sendrecv_replace_parameters = Count ∷ Datatype ∷ Dest ∷ SendTag ∷ Source ∷ RecvTag ∷ Comm ∷ []
 
 -- those of a probe
 abbrev pub probe_parameters : List Parameter
@@ -267,6 +271,14 @@ unfoldable pub sendrecv_call : TextCall → Result Call CallFault
 sendrecv_call call = do
   send ← send_part SendCount SendType SendTag call
   receive ← receive_part RecvCount RecvType RecvTag call
+  comm ← comm_in call
+  Ok (calls.Sendrecv (record { send = envelope_of send comm; receive = envelope_of receive comm }))
+
+-- an exchange in place: a Sendrecv of one count and one datatype on both sides
+unfoldable pub sendrecv_replace_call : TextCall → Result Call CallFault
+sendrecv_replace_call call = do
+  send ← send_part Count Datatype SendTag call
+  receive ← receive_part Count Datatype RecvTag call
   comm ← comm_in call
   Ok (calls.Sendrecv (record { send = envelope_of send comm; receive = envelope_of receive comm }))
 
@@ -401,6 +413,7 @@ row (functions.Isend mode) name = record { callback = OnIsend; entry = send_para
 row functions.Recv name = record { callback = OnRecv; entry = receive_parameters; outcome = always []; call = recv_call }
 row functions.Irecv name = record { callback = OnIrecv; entry = receive_parameters; outcome = always (Request ∷ []); call = irecv_call }
 row functions.Sendrecv name = record { callback = OnSendrecv; entry = sendrecv_parameters; outcome = always []; call = sendrecv_call }
+row functions.SendrecvReplace name = record { callback = OnSendrecv; entry = sendrecv_replace_parameters; outcome = always []; call = sendrecv_replace_call }
 row functions.Probe name = record { callback = OnProbe; entry = probe_parameters; outcome = always []; call = probe_call }
 row functions.Wait name = record { callback = OnWait; entry = Request ∷ []; outcome = always []; call = wait_call }
 row functions.Waitall name = record { callback = OnWaitall; entry = Requests ∷ []; outcome = always []; call = waitall_call }

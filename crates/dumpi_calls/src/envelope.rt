@@ -4,7 +4,7 @@ ghost use Rattle.std.specs.Prelude.{◌≡◌, ◌∷◌, ◌<◌, ◌^◌, [], 
 ghost use Rattle.mpi_model.specs.Ranges.{IsAskedTag, IsComm, IsNamed, IsSource, IsTarget};
 ghost use Rattle.dumpi_calls.specs.Outcomes.{brought_by};
 ghost use Rattle.dumpi_calls.specs.Readings.{AreThere, Reads};
-ghost use Rattle.dumpi_calls.specs.Rows.{envelope_of, envelope_of_receive, envelope_of_send, receive_parameters, receive_part, send_parameters, send_part, sendrecv_call, sendrecv_parameters};
+ghost use Rattle.dumpi_calls.specs.Rows.{envelope_of, envelope_of_receive, envelope_of_send, receive_parameters, receive_part, send_parameters, send_part, sendrecv_call, sendrecv_parameters, sendrecv_replace_call, sendrecv_replace_parameters};
 
 use crate::parameter::{CallFault, Parameter};
 use crate::reading::{asked_tag, comm, dest, non_negative, number, source};
@@ -161,5 +161,35 @@ pub fn sendrecv_in(alloc: Global, raw: &RawCall) -> Result<Call, CallFault>
     let sent = send_envelope(send, comm);
     let received = receive_envelope(receive, comm);
     let exchange = Exchange::new(alloc, sent, received)?;
+    Ok(Call::Sendrecv(exchange.unwrap()))
+}
+
+/// The exchange in place (MPI 4.0, 3.10): one count and one datatype are those of both sides.
+#[tactic(auto, unfolding(crate::specs::Rows::sendrecv_replace_call))]
+pub fn sendrecv_replace_in(alloc: Global, raw: &RawCall) -> Result<Call, CallFault>
+    ensures means { Reads result (sendrecv_replace_call raw.now) }
+    ensures there { OnOk result (AreThere sendrecv_replace_parameters raw.now) }
+    ensures brings { IfOk result (λ c. brought_by c raw.now ≡ []) }
+{
+    let sent = part_of_send(
+        alloc,
+        raw,
+        Parameter::Count,
+        Parameter::Datatype,
+        Parameter::SendTag,
+    )?;
+    let received = part_of_receive(
+        alloc,
+        raw,
+        Parameter::Count,
+        Parameter::Datatype,
+        Parameter::RecvTag,
+    )?;
+    let comm = comm(alloc, raw)?;
+    let exchange = Exchange::new(
+        alloc,
+        send_envelope(sent, comm),
+        receive_envelope(received, comm),
+    )?;
     Ok(Call::Sendrecv(exchange.unwrap()))
 }

@@ -18,6 +18,8 @@ pub enum Function {
     Recv,
     Irecv,
     Sendrecv,
+    /// `MPI_Sendrecv_replace`: what is received takes the place of what is sent.
+    SendrecvReplace,
     Probe,
     Wait,
     Waitall,
@@ -108,6 +110,8 @@ fn receive_of(name: &[u8]) -> Option<Function>
         Some(Function::Irecv)
     } else if is(name, "MPI_Sendrecv") {
         Some(Function::Sendrecv)
+    } else if is(name, "MPI_Sendrecv_replace") {
+        Some(Function::SendrecvReplace)
     } else if is(name, "MPI_Probe") {
         Some(Function::Probe)
     } else {
@@ -290,8 +294,7 @@ fn collective_of(name: &[u8]) -> Option<Function>
     }
 }
 
-/// Whether a name is of a nonblocking exchange, of partitioned or persistent communication, of a matched probe, or of an
-/// exchange in place.
+/// Whether a name is of a nonblocking exchange, of partitioned or persistent communication, or of a matched probe.
 fn is_unread_name(name: &[u8]) -> bool
     ensures { result ≡ is_unread_name name.now }
 {
@@ -303,7 +306,6 @@ fn is_unread_name(name: &[u8]) -> bool
         || is(name, "MPI_Startall")
         || is(name, "MPI_Mprobe")
         || is(name, "MPI_Improbe")
-        || is(name, "MPI_Sendrecv_replace")
 }
 
 /// Whether a name is of a send with counts of 64 bits.

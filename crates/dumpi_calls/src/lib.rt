@@ -46,4 +46,4 @@ pub use parameter::Parameter;
 pub use raw::{RawSink, walk_raw};
 pub use sink::CallSink;
 pub use tally::Tally;
-pub use walking::{Walked, walk};
+pub use walking::{Walked, next_call, walk};

@@ -11,7 +11,7 @@ ghost use Rattle.dumpi_calls.specs.Walks.{FailsAfter, FailsIn, IsRead, IsReadSto
 use crate::fault::{WalkCause, WalkFault};
 use crate::function::function_in;
 use crate::typing::{TypedCall, typed_call};
-use crate::walking::{HandedCall, Walked, handed, lack, next_of, refusal};
+use crate::walking::{HandedCall, Walked, handed, lack, next_call, refusal};
 use dumpi_text::{RawCall, Texts, reading_call_by_call, skipped_lines};
 use mpi_model::{Call, Read};
 use std::alloc::Global;
@@ -77,7 +77,7 @@ fn advance_raw<R: Read, S: RawSink>(
     ensures progress { IfOk result (λ found. IfSome found (λ handed. texts.old.at.line < texts.new.at.line)) }
     ensures lines { texts.new.at.line ≤ MOST_LINES }
 {
-    match next_of(texts, raw) {
+    match next_call(texts, raw) {
         Ok(true) => match take_raw(alloc, raw, sink, calls) {
             Ok(()) => Ok(Some(handed(raw))),
             Err(fault) => Err(fault),

@@ -11,8 +11,8 @@ ghost use Rattle.dumpi_text.specs.Value.{all_numbers, brace_rest, core_front, va
 
 use crate::quick::digits_front;
 use crate::reading::request_of;
-use crate::skim::{ends_number, skip_spaces, split_next, split_number, strip_byte};
-use dumpi_text::ValueFault;
+use crate::skim::{ends_number, split_next, split_number};
+use dumpi_text::{ValueFault, skip_spaces, strip_byte};
 use mpi_model::Requests;
 use std::alloc::Global;
 

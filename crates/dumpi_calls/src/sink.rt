@@ -91,7 +91,7 @@ pub trait CallSink {
         ensures ok { OnOk result (self.new ≡ step self.old (seen OnIrecv call enter exit)) }
         ensures err { OnErr result (self.new ≡ self.old) };
 
-    /// `MPI_Sendrecv`.
+    /// `MPI_Sendrecv`, `MPI_Sendrecv_replace`.
     fn on_sendrecv(
         &mut self,
         call: Call,
@@ -251,7 +251,7 @@ pub fn hand_on<S: CallSink>(
         Function::Isend(_) => sink.on_isend(call, enter, exit),
         Function::Recv => sink.on_recv(call, enter, exit),
         Function::Irecv => sink.on_irecv(call, enter, exit),
-        Function::Sendrecv => sink.on_sendrecv(call, enter, exit),
+        Function::Sendrecv | Function::SendrecvReplace => sink.on_sendrecv(call, enter, exit),
         Function::Probe => sink.on_probe(call, enter, exit),
         Function::Wait => sink.on_wait(call, enter, exit),
         Function::Waitall => sink.on_waitall(call, enter, exit),

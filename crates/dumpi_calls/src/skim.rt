@@ -17,7 +17,7 @@ ghost use Rattle.dumpi_text.specs.declared.number.NumName.TheVariants.{Other};
 use crate::function::is;
 use crate::outcome::told_from;
 use crate::quick::digits_front;
-use dumpi_text::{Num, NumName, ValueFault};
+use dumpi_text::{Num, NumName, ValueFault, read_word, skip_spaces, strip, strip_byte};
 use mpi_model::Told;
 use std::alloc::Global;
 
@@ -26,64 +26,6 @@ use std::alloc::Global;
 struct Seen {
     cancelled: Option<Num>,
     source: Option<Num>,
-}
-
-/// The text without the spaces in front.
-pub fn skip_spaces(text: &[u8]) -> &[u8]
-    ensures { result.now ≡ after_spaces text.now }
-{
-    for (at, byte) in text.iter().enumerate() {
-        if *byte != b' ' {
-            return &text[at..];
-        }
-    }
-    &[]
-}
-
-/// Whether a byte is a letter, a digit or `_`.
-fn is_name_byte(byte: u8) -> bool
-    ensures { result ≡ is_word_byte byte }
-{
-    (b'a' <= byte && byte <= b'z')
-        || (b'A' <= byte && byte <= b'Z')
-        || (b'0' <= byte && byte <= b'9')
-        || byte == b'_'
-}
-
-/// The longest front of letters, digits and `_`, and what follows it.
-fn split_word(text: &[u8]) -> (&[u8], &[u8])
-    ensures word { result.0.now ≡ (word_parts text.now).0 }
-    ensures rest { result.1.now ≡ (word_parts text.now).1 }
-{
-    for (at, byte) in text.iter().enumerate() {
-        if !is_name_byte(*byte) {
-            return (&text[..at], &text[at..]);
-        }
-    }
-    (text, &[])
-}
-
-/// One or more letters, digits and `_`, and what follows them.
-fn read_word(text: &[u8]) -> Option<(&[u8], &[u8])>
-    ensures { option_map (λ x. (x.0.now, x.1.now)) result ≡ word_front text.now }
-{
-    let (word, rest) = split_word(text);
-    if word.is_empty() {
-        None
-    } else {
-        Some((word, rest))
-    }
-}
-
-/// What follows a byte that stands in front.
-#[inline(always)]
-pub fn strip_byte(wanted: u8, text: &[u8]) -> Option<&[u8]>
-    ensures { IfSome result (λ rest. text.now ≡ wanted ∷ rest.now) }
-{
-    match text {
-        [byte, rest @ ..] if *byte == wanted => Some(rest),
-        _ => None,
-    }
 }
 
 /// What follows a `=` that stands in front.
@@ -139,18 +81,6 @@ fn split_field(text: &[u8]) -> Option<(&[u8], Num, &[u8])>
     let rest = after_equals(rest)?;
     let (number, rest) = split_number(rest)?;
     Some((word, number, rest))
-}
-
-/// What follows a front of the text: inlined, so that a literal's bytes are compared at once.
-#[inline(always)]
-#[tactic(auto, using(crate::proofs::FieldByField::front_whole))]
-fn strip<'a>(front: &[u8], text: &'a [u8]) -> Option<&'a [u8]>
-    ensures { IfSome result (λ rest. text.now ≡ front.now ++ rest.now) }
-{
-    match text.strip_prefix(front) {
-        Some(rest) => Some(rest),
-        None => None,
-    }
 }
 
 /// The number of the field in front, where its word is this one, and what follows it.

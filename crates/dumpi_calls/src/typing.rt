@@ -9,7 +9,7 @@ ghost use Rattle.dumpi_calls.specs.Outcomes.{brought_by, index_where_set};
 ghost use Rattle.dumpi_calls.specs.Readings.{AreThere, Reads};
 ghost use Rattle.dumpi_calls.specs.Rows.{collective_call, collective_in, collective_parameters, exit_in, first_missing, icollective_call, isend_call, irecv_call, missing_in, probe_call, probe_parameters, read_by, receive_parameters, recv_call, returned, row, send_call, send_parameters, cancel_call, free_call, test_call, testall_call, testany_call, testsome_call, typed_by, wait_call, waitall_call, waitany_call, waitsome_call};
 
-use crate::envelope::{receive_envelope_in, send_envelope_in, sendrecv_in};
+use crate::envelope::{receive_envelope_in, send_envelope_in, sendrecv_in, sendrecv_replace_in};
 use crate::function::Function;
 use crate::outcome::{is_flag_set, outcome};
 use crate::parameter::{CallFault, Parameter};
@@ -88,6 +88,18 @@ fn entry_missing(function: Function, raw: &RawCall) -> Option<Parameter>
                 Parameter::Comm,
             ],
         ),
+        Function::SendrecvReplace => first_of(
+            raw,
+            &[
+                Parameter::Count,
+                Parameter::Datatype,
+                Parameter::Dest,
+                Parameter::SendTag,
+                Parameter::Source,
+                Parameter::RecvTag,
+                Parameter::Comm,
+            ],
+        ),
         Function::Probe => first_of(raw, &[Parameter::Source, Parameter::Tag, Parameter::Comm]),
         Function::Wait | Function::Test | Function::Cancel | Function::Free => {
             first_of(raw, &[Parameter::Request])
@@ -125,7 +137,8 @@ fn outcome_missing(
                 Ok(first_of(raw, &[Parameter::Flag]))
             }
         }
-        Function::Send(_) | Function::Recv | Function::Sendrecv | Function::Probe => Ok(None),
+        Function::Send(_) | Function::Recv | Function::Probe => Ok(None),
+        Function::Sendrecv | Function::SendrecvReplace => Ok(None),
         Function::Wait | Function::Waitall | Function::Waitsome | Function::Testsome => Ok(None),
         Function::Cancel | Function::Free | Function::Unread => Ok(None),
         Function::Collective(_) => Ok(None),
@@ -363,6 +376,7 @@ fn call_in(alloc: Global, function: Function, raw: &RawCall) -> Result<Call, Cal
         Function::Recv => recv(alloc, raw),
         Function::Irecv => irecv(alloc, raw),
         Function::Sendrecv => sendrecv_in(alloc, raw),
+        Function::SendrecvReplace => sendrecv_replace_in(alloc, raw),
         Function::Probe => probe(alloc, raw),
         Function::Wait => wait(alloc, raw),
         Function::Waitall => waitall(alloc, raw),

@@ -114,9 +114,10 @@ pub(crate) fn handed(raw: &RawCall) -> HandedCall
     HandedCall { open_line }
 }
 
-/// The next call of the text, put in the place of the one before: whether there is one.
+/// The next call of the text, put in the place of the one before: whether there is one. A text is read call by call like
+/// this where no sink is to be told of its calls. Nothing of its parameters is looked at.
 #[tactic(auto, using(crate::proofs::Failing::fails))]
-pub(crate) fn next_of<R: Read>(texts: &mut Texts<R>, raw: &mut RawCall) -> Result<bool, TextFault>
+pub fn next_call<R: Read>(texts: &mut Texts<R>, raw: &mut RawCall) -> Result<bool, TextFault>
     ensures goes_on { (text : Option (List ℕ)) (calls : List TextCall) → IsRead text calls texts.old → IfOk result (λ found. Follows text calls (put_in found raw.new) texts.new) }
     ensures stops { (text : Option (List ℕ)) (calls : List TextCall) → IsRead text calls texts.old → IfErr result (λ fault. RefusesNext text calls fault texts.new.told.line) }
     ensures failed { IfErr result (λ fault. IsReadFault fault → Fails R.failures) }
@@ -225,7 +226,7 @@ fn advance<R: Read, S: CallSink>(
             Err(fault) => Err(fault),
         };
     }
-    match next_of(texts, raw) {
+    match next_call(texts, raw) {
         Ok(true) => match take(alloc, raw, sink, calls) {
             Ok(()) => Ok(Some(handed(raw))),
             Err(fault) => Err(fault),

@@ -1,7 +1,7 @@
 -- Parameter lines as dumpi2ascii writes them: `type name=value`.
-use Rattle.std.proofs.Common.{◌≡◌, ◌||◌, ℕ, ◌<◌, true, false, eqb, cond, codes, Option, Some, None, List, [], ◌∷◌, ◌++◌, length, take, arith, ap, sym, refl, ◌∙◌, inl, inr, eq-eqb}
+use Rattle.std.proofs.Common.{◌≡◌, ◌||◌, ℕ, ◌<◌, ◌≤◌, ◌-◌, true, false, eqb, cond, codes, Option, Some, None, List, [], ◌∷◌, ◌++◌, length, take, drop, arith, ap, sym, refl, ◌∙◌, inl, inr, eq-eqb}
 use Rattle.std.specs.List.{list_all, list_any}
-use Rattle.std.proofs.lemmas.List.{append-nil}
+use Rattle.std.proofs.lemmas.List.{append-nil, drop_all, take_rest}
 use Rattle.dumpi_text.specs.Parameter.{parameter_from, parameter_name, parameter_of}
 use Rattle.dumpi_text.specs.Stamps.{Other, kind_from, kind_of, returning_word, stamp_word}
 use Rattle.dumpi_text.specs.Tokens.{byte_front}
@@ -160,6 +160,14 @@ front_whole (f ∷ fs) (t ∷ ts) rest e =
 pub text_whole : (front text rest : List ℕ) → after_text front text ≡ Some rest → text ≡ front ++ rest
 unfolding after_text
 text_whole front text rest e = front_whole front text rest e
+
+-- the same where a front was compared byte by byte to its end
+pub whole_at_end : (at : ℕ) (front text : List ℕ) → after_front (drop at front) (drop at text) ≡ after_front front text → length front ≤ at → at ≤ length front
+    → text ≡ front ++ take (length text - length front) (drop (length front) text)
+whole_at_end at front text same over within =
+    let here : at ≡ length front = omega arith in
+    let found : after_front front text ≡ Some (drop at text) = sym same ∙ ap (λ (f : List ℕ). after_front f (drop at text)) (drop_all at front over) in
+    front_whole front text (drop at text) found ∙ ap (λ (r : List ℕ). front ++ r) (ap (λ (k : ℕ). drop k text) here ∙ sym (take_rest text (length front)))
 
 pub word_before : (word : List ℕ) (stop : ℕ) (more : List ℕ) → list_all is_word_byte word ≡ true → is_word_byte stop ≡ false → word_parts (word ++ stop ∷ more) ≡ (word, stop ∷ more)
 word_before [] stop more all stops = rw stops refl

@@ -1,6 +1,6 @@
 //! Tokens of values. Each is read from the front of a text, and what follows it is handed on.
 
-ghost use Rattle.std.specs.Prelude.{◌≡◌, IfSome, drop, true};
+ghost use Rattle.std.specs.Prelude.{◌≡◌, ◌∷◌, IfSome, drop, true};
 ghost use Rattle.std.specs.List.{list_all};
 ghost use Rattle.std.specs.Option.{option_copied, option_map};
 ghost use Rattle.dumpi_text.specs.Time.{is_digit};
@@ -20,9 +20,11 @@ pub fn skip_spaces(text: &[u8]) -> &[u8]
     &[]
 }
 
-/// What follows a byte that stands in front.
+/// What follows a byte that stands in front. Inlined, so that a byte that is known is compared at once.
+#[inline(always)]
 pub fn strip_byte(wanted: u8, text: &[u8]) -> Option<&[u8]>
     ensures found { option_copied result ≡ byte_front wanted text.now }
+    ensures front { IfSome result (λ rest. text.now ≡ wanted ∷ rest.now) }
     ensures rest { IfSome result (λ rest. rest.now ≡ drop 1 text.now) }
 {
     match text {

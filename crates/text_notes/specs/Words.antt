@@ -96,7 +96,7 @@ abbrev pub others_text : ℕ → List ℕ
 others_text zero = []
 others_text (suc n) = codes ", others " ++ decimal (suc n)
 
--- `  calls that are not read: MPI_Start 4, MPI_Sendrecv_replace 8`
+-- `  calls that are not read: MPI_Start 4, MPI_Improbe 8`
 abbrev pub totals_text : List UnreadParts → ℕ → List ℕ
 totals_text [] others = []
 totals_text (f ∷ functions) others =

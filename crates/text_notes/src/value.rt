@@ -9,7 +9,7 @@ ghost use Rattle.dumpi_text.specs.declared.step.TheConstants.{MOST_LINES};
 ghost use Rattle.dumpi_calls.specs.Walks.{IsRead};
 ghost use Rattle.text_notes.specs.Values.{GoesOn, IsValueAt};
 
-use dumpi_text::{RawCall, TextCause, TextFault, Texts, reading_call_by_call};
+use dumpi_text::{RawCall, TextCause, TextFault, Texts};
 use mpi_model::Read;
 use std::alloc::{AllocError, Global};
 
@@ -41,11 +41,7 @@ fn next_call<R: Read>(texts: &mut Texts<R>, raw: &mut RawCall) -> Result<bool, L
     ensures progress { result ≡ Ok true → texts.old.at.line < texts.new.at.line }
     ensures lines { texts.new.at.line ≤ MOST_LINES }
 {
-    reading_call_by_call();
-    texts.known();
-    let read = texts.next_into(raw);
-    texts.known();
-    match read {
+    match dumpi_calls::next_call(texts, raw) {
         Ok(found) => Ok(found),
         Err(fault) => match fault {
             TextFault::Memory | TextFault::Ended => Err(LookFault::Memory),

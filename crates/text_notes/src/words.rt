@@ -91,7 +91,7 @@ fn put_others(out: &mut Text, others: u64)
     }
 }
 
-/// `  calls that are not read: MPI_Start 4, MPI_Sendrecv_replace 8`.
+/// `  calls that are not read: MPI_Start 4, MPI_Improbe 8`.
 fn put_totals(out: &mut Text, functions: &[UnreadFunction], others: u64)
     ensures { Adds out.old out.new (totals_text functions.now others) }
 {

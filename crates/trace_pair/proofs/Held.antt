@@ -1,7 +1,6 @@
 -- The four sets of an index, as calls come and go.
-use Rattle.std.proofs.Common.{subst, ◌≡◌, Bool, true, false, List, inl, inr, ⊎_elim, sym, refl, ◌∙◌, ◌⊎◌, ◌&&◌, eqb, ltb}
+use Rattle.std.proofs.Common.{◌≡◌, Bool, true, false, List, inl, inr, ⊎_elim, sym, refl, ◌∙◌, ◌⊎◌}
 use Rattle.std.specs.List.{list_any}
-use Rattle.mpi_model.specs.declared.event.OpName.{OpName}
 use Rattle.mpi_model.specs.declared.message.Message.{Message}
 use Rattle.mpi_model.specs.declared.message.Receive.{Receive}
 use Rattle.mpi_model.specs.Fit.{envelopes_fit, fits}
@@ -9,13 +8,13 @@ use Rattle.mpi_model.specs.Trusts.{is_sure, is_settled}
 use Rattle.trace_ops.specs.Order.{sent_before, posted_before, Has}
 use Rattle.trace_pair.specs.Indexed.{IsIndexed, couple_of, TakesMessage, TakesReceive, IsFirstMessage, IsFirstReceive}
 use Rattle.trace_pair.specs.Places.{sent_at, posted_at}
-use Rattle.trace_pair.specs.Calls.{is_live, IsOwnReceive}
+use Rattle.trace_pair.specs.Calls.{is_live}
 use Rattle.trace_pair.specs.Pairing.{After, paired, Paired}
 use Rattle.trace_pair.specs.Sets.{IsSameSet}
 use Rattle.trace_pair.specs.declared.pair.Couple.{Couple}
 use Rattle.trace_pair.proofs.Obeyed.{any_found, any_of}
-use Rattle.trace_pair.proofs.Certain.{posted_along, in_order}
-use Rattle.trace_pair.proofs.Fitting.{envelope_of, envelopes_at, fits_live, live_message, fits_at, settled_parts, settled_from, settled_live, sure_stands}
+use Rattle.trace_pair.proofs.Certain.{in_order}
+use Rattle.trace_pair.proofs.Fitting.{envelope_of, fits_live, live_message, fits_at, settled_parts, settled_from, settled_live, sure_stands}
 use Rattle.trace_pair.proofs.Steps.{same_sender}
 use Rattle.trace_pair.proofs.Names.{sent_name, posted_name}
 

@@ -1,13 +1,13 @@
 -- The ends of open receives, as one comes and as a message asks for them.
-use Rattle.std.proofs.Common.{◌≡◌, ℕ, Bool, true, false, ◌||◌, List, [], ◌∷◌, inl, inr, ⊎_elim, sym, refl, ◌∙◌, ap, arith, subst, cond, ◌⊎◌, Option, Some, None, ltb}
-use Rattle.std.specs.Prelude.{nat_lt, if◌then◌else◌}
+use Rattle.std.proofs.Common.{◌≡◌, ℕ, Bool, true, false, ◌||◌, List, ◌∷◌, inl, inr, ⊎_elim, sym, refl, ◌∙◌, ap, arith, subst, cond, ◌⊎◌, Option, Some, None, ltb}
+use Rattle.std.specs.Prelude.{if◌then◌else◌}
 use Rattle.std.specs.Ordering.{is_eq}
-use Rattle.std.specs.BTreeMap.{BTreeMap, get}
+use Rattle.std.specs.BTreeMap.{get}
 use Rattle.std.specs.Cmp.{tied_itself}
 use Rattle.std.proofs.lemmas.Bool.Decides.{nat_tests}
 use Rattle.mpi_model.specs.declared.message.Message.{Message}
 use Rattle.mpi_model.specs.declared.message.Receive.{Receive}
-use Rattle.mpi_model.specs.Fit.{envelopes_fit, admits}
+use Rattle.mpi_model.specs.Fit.{admits}
 use Rattle.trace_ops.specs.Order.{Has}
 use Rattle.trace_pair.specs.Ends.{AreLast, IsLastAmong, IsLastFor, ends_by, later_end, with_end}
 use Rattle.trace_pair.specs.KeyOrders.{ReceiveKey, receive_key_cmp, receive_key_of}

@@ -1,7 +1,6 @@
 -- One call more at the end of its rank: what stays, and what the new call is paired with.
-use Rattle.std.proofs.Common.{subst, ◌≡◌, true, List, ⊎_elim, sym, ◌∙◌, ap, arith, ltb, eqb}
+use Rattle.std.proofs.Common.{subst, ◌≡◌, true, List, ⊎_elim, sym, ◌∙◌, ap, arith}
 use Rattle.std.specs.Prelude.{is_some}
-use Rattle.std.proofs.lemmas.Bool.Decides.{nat_tests}
 use Rattle.mpi_model.specs.declared.message.Message.{Message}
 use Rattle.mpi_model.specs.declared.message.Receive.{Receive}
 use Rattle.mpi_model.specs.Fit.{fits}
@@ -10,7 +9,7 @@ use Rattle.trace_pair.specs.Calls.{AddsMessage, AddsReceive, ArePostedApart, Are
 use Rattle.trace_pair.specs.Indexed.{TakesMessage, TakesReceive}
 use Rattle.trace_pair.specs.Places.{sent_at, posted_at}
 use Rattle.trace_pair.specs.Pairing.{After, Paired}
-use Rattle.trace_pair.proofs.Obeyed.{both, before_lt, posted_lt, pair_obeys, obeys_paired}
+use Rattle.trace_pair.proofs.Obeyed.{before_lt, posted_lt, pair_obeys, obeys_paired}
 use Rattle.trace_pair.proofs.Fitting.{one_sender, fits_source, fits_at, settled_from, settled_parts}
 use Rattle.trace_pair.proofs.Certain.{one_receive, one_message, in_order, not_before, not_posted}
 use Rattle.trace_pair.proofs.Local.{stays_paired, stays_unpaired, one_rank, one_sender_rank}

@@ -1,5 +1,5 @@
 -- An index whose rank did other calls: what comes after what is as it was among the calls that stay.
-use Rattle.std.proofs.Common.{subst, ◌≡◌, ◌≢◌, ℕ, zero, suc, ◌+◌, ◌<◌, ◌≤◌, Bool, true, false, ◌&&◌, ◌||◌, List, [], ◌∷◌, ◌++◌, inl, inr, ⊎_elim, sym, refl, ◌∙◌, ap, arith, ◌⊎◌, length, take, drop, get_or, set, eqb, ltb, cond, Option, Some, None}
+use Rattle.std.proofs.Common.{subst, ◌≡◌, ◌≢◌, ℕ, zero, suc, ◌<◌, ◌≤◌, Bool, true, false, ◌&&◌, ◌||◌, List, [], ◌∷◌, ◌++◌, inl, inr, ⊎_elim, sym, refl, ◌∙◌, ap, arith, ◌⊎◌, length, take, drop, get_or, set, eqb, ltb, cond, Option, Some, None}
 use Rattle.std.specs.Prelude.{nat_le}
 use Rattle.std.specs.List.{AllZip, list_any}
 use Rattle.std.proofs.lemmas.Bool.Decides.{nat_tests}
@@ -13,7 +13,7 @@ use Rattle.trace_ops.specs.Ops.{Ops, no_ops, IsOwn, AreOwn}
 use Rattle.trace_ops.specs.Order.{AreEntered, Has}
 use Rattle.trace_ops.specs.Round.{is_barrier}
 use Rattle.trace_pair.specs.After.{entered_before, is_left, is_own, is_after, comes_after}
-use Rattle.trace_pair.specs.Calls.{between, IsPosting, IsSequence}
+use Rattle.trace_pair.specs.Calls.{between}
 use Rattle.trace_pair.specs.Fronts.{AreAsBefore, AreFronts, AreOneBefore, IsAlike, IsEndedBy}
 use Rattle.trace_pair.specs.Followed.{Adds, Drops, Follows, Indexes}
 use Rattle.trace_pair.specs.Pairing.{After, Paired}

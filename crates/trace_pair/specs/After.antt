@@ -6,7 +6,6 @@
 use Rattle.std.specs.Prelude.{ℕ, suc, Bool, false, ◌&&◌, ◌||◌, ◌==◌, nat_lt, nat_le, cond, Option, Some, None, List, [], ◌∷◌, get_or}
 use Rattle.std.specs.List.{list_any}
 use Rattle.mpi_model.specs.declared.message.Message.{Message}
-use Rattle.mpi_model.specs.declared.message.Receive.{Receive}
 use Rattle.trace_ops.specs.Ops.{Ops, no_ops}
 use Rattle.trace_ops.specs.Round.{is_barrier}
 use Rattle.trace_ops.specs.declared.entered.Entered.{Entered}

@@ -1,5 +1,5 @@
 -- What stands in front of a window, and the runs that are read there.
-use Rattle.std.proofs.Common.{◌≡◌, ℕ, ◌+◌, ◌-◌, ◌^◌, ◌<◌, ◌≤◌, Bool, true, false, cond, ltb, List, [], ◌∷◌, ◌++◌, length, take, drop, Option, Some, None, Result, Ok, Err, refl, sym, ap, subst, ◌∙◌, append-nil, length-drop, arith}
+use Rattle.std.proofs.Common.{◌≡◌, ℕ, ◌<◌, ◌≤◌, Bool, true, false, cond, ltb, List, [], ◌∷◌, ◌++◌, length, take, drop, Option, Some, None, Result, Ok, Err, refl, sym, ap, subst, ◌∙◌, append-nil, length-drop, arith}
 use Rattle.std.specs.Int.{w32, w64, from_be_bytes}
 use Rattle.std.proofs.lemmas.Bool.{le-ltb}
 use Rattle.trace_know.specs.declared.cell.Known.{Known}
@@ -8,7 +8,7 @@ use Rattle.trace_wire.specs.declared.fault.WireFault.TheVariants.{Order, Content
 use Rattle.trace_wire.specs.declared.read.field.FieldFault.{FieldFault}
 use Rattle.trace_wire.specs.declared.read.field.FieldFault.TheVariants as fields
 use Rattle.trace_wire.specs.declared.read.unread.Unread.TheVariants.{Payload}
-use Rattle.trace_wire.specs.Forms.{Form, IsBytes, number_at}
+use Rattle.trace_wire.specs.Forms.{IsBytes, number_at}
 use Rattle.trace_wire.specs.Fields.{made}
 use Rattle.trace_wire.specs.Cells.{is_past, known_bytes, place_form}
 use Rattle.trace_wire.specs.Held.{Held}
@@ -44,17 +44,11 @@ place_long bytes le =
 value_none : {A : Type 0} (P : Type 0) (o : Option A) (x : A) → o ≡ Some x → o ≡ None → P
 value_none P o x a b = absurd cc
 
-pub fails_long : {A : Type 0} (read : List ℕ → Option (A × List ℕ)) (fault : FieldFault) (held more : List ℕ) → ((b : List ℕ) → 4096 ≤ length b → (x : A × List ℕ) × (read b ≡ Some x)) → (0 < length more → 4096 ≤ length held) → Fails fault (read held)
+fails_long : {A : Type 0} (read : List ℕ → Option (A × List ℕ)) (fault : FieldFault) (held more : List ℕ) → ((b : List ℕ) → 4096 ≤ length b → (x : A × List ℕ) × (read b ≡ Some x)) → (0 < length more → 4096 ≤ length held) → Fails fault (read held)
     → FailsWith (wire_of fault) (or_fault Content (read (held ++ more)))
 fails_long read fields.Memory held more long enough h = tt
 fails_long read fields.Content held [] long enough h = ap (λ (b : List ℕ). or_fault Content (read b)) (append-nil held) ∙ ap (or_fault Content) h
 fails_long read fields.Content held (m ∷ ms) long enough h = let l = long held (enough (omega arith)) in value_none _ (read held) l.0 l.1 h
-
--- where all is held
-pub fails_end : {A : Type 0} (read : List ℕ → Option (A × List ℕ)) (fault : FieldFault) (held more : List ℕ) → (fault ≡ fields.Content → length more ≡ 0) → Fails fault (read held) → FailsWith (wire_of fault) (or_fault Content (read (held ++ more)))
-fails_end read fields.Memory held more end h = tt
-fails_end read fields.Content held [] end h = ap (λ (b : List ℕ). or_fault Content (read b)) (append-nil held) ∙ ap (or_fault Content) h
-fails_end read fields.Content held (m ∷ ms) end h = let e = end refl in absurd (omega (arith, e))
 
 -- ---- what is read in front of what is left
 
@@ -84,12 +78,6 @@ pub refused_long : {A : Type 0} (a b : Option (List ℕ)) (before now : ℕ) (s 
     → Fails fault (read t.bytes) → u ≡ t → now ≡ before → Stops a b before now s u (λ w. or_fault Content (read w)) (Payload (wire_of fault))
 refused_long {A} a b before now s t u read fault long p enough h same e =
     refused a b before now s t u read fault p same e (λ more len. fails_long read fault t.bytes more long (λ some. enough (omega (arith, len, some))) h)
-
--- where all is held, or memory ran out
-pub refused_end : {A : Type 0} (a b : Option (List ℕ)) (before now : ℕ) (s t u : Held) (read : List ℕ → Option (A × List ℕ)) (fault : FieldFault) → Comes a b s t IsLeft → (fault ≡ fields.Content → t.coming ≡ 0)
-    → Fails fault (read t.bytes) → u ≡ t → now ≡ before → Stops a b before now s u (λ w. or_fault Content (read w)) (Payload (wire_of fault))
-refused_end {A} a b before now s t u read fault p end h same e =
-    refused a b before now s t u read fault p same e (λ more len. fails_end read fault t.bytes more (λ is. len ∙ end is) h)
 
 -- ---- readings that fail
 

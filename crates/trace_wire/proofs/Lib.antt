@@ -20,6 +20,7 @@ pub mod Sending
 pub mod OwnCells
 pub mod Taking
 pub mod Windows
+pub mod HeldCells
 pub mod Fronts
 pub mod WindowRuns
 pub mod SomeRuns

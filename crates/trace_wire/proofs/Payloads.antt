@@ -1,10 +1,11 @@
 -- A payload, read through a window to its end.
-use Rattle.std.proofs.Common.{◌≡◌, ℕ, ◌+◌, ◌<◌, Bool, false, cond, eqb, List, [], ◌∷◌, ◌++◌, length, Option, Result, Ok, Err, refl, sym, ap, subst, ◌∙◌, append-nil, arith, inl, inr}
+use Rattle.std.proofs.Common.{◌≡◌, ℕ, ◌+◌, ◌<◌, Bool, true, false, eqb, List, [], ◌∷◌, ◌++◌, length, Option, Result, Ok, Err, refl, sym, ap, subst, ◌∙◌, append-nil, arith, inr}
 use Rattle.std.specs.Int.{w32}
 use Rattle.std.specs.Io.KnownBytes.{Consumes}
 use Rattle.std.proofs.KnownBytes.{Consumes-trans}
+use Rattle.std.proofs.lemmas.Bool.{eqb-true}
 use Rattle.std.proofs.lemmas.Bool.Decides.{nat_tests}
-use Rattle.std.proofs.lemmas.List.{length-append}
+use Rattle.std.proofs.lemmas.List.{length-append, nil_from_length}
 use Rattle.trace_wire.specs.declared.fault.WireFault.{WireFault}
 use Rattle.trace_wire.specs.declared.fault.WireFault.TheVariants.{Content, Rest}
 use Rattle.trace_wire.specs.declared.read.unread.Unread.{Unread}
@@ -17,7 +18,7 @@ use Rattle.trace_wire.specs.Held.{Held}
 use Rattle.trace_wire.specs.Parts.{◌>=>◌, or_fault}
 use Rattle.trace_wire.specs.Reading.{IsUnfilled, TakesAtMost}
 use Rattle.trace_wire.specs.Windows.{Comes, Gave, IsRefused, ReadsPayload, Stops}
-use Rattle.trace_wire.proofs.Windows.{comes_then, no_more, stops_first, stops_here, stops_then, taken_then, unfilled_after}
+use Rattle.trace_wire.proofs.Windows.{comes_then, stops_first, stops_then, taken_then, unfilled_after}
 
 -- ---- as functions of bytes
 
@@ -47,6 +48,15 @@ unfolding payload_of
 payload_no_parts version x y count g number parts =
     ap (λ (r : Result (ℕ × List ℕ) WireFault). (r >=> λ n. parts_of version n.0 n.1) >=> no_rest) number ∙ ap (λ (r : Result (List Entry × List ℕ) WireFault). r >=> no_rest) parts
 
+-- ---- whether a window holds nothing
+
+pub none_held : (seen bytes : List ℕ) (r : Bool) → seen ≡ bytes → r ≡ eqb (length seen) 0 → r ≡ true → bytes ≡ []
+none_held seen bytes r same is e = sym same ∙ nil_from_length seen (eqb-true (length seen) 0 (sym is ∙ e))
+
+pub some_held : (seen bytes : List ℕ) (r : Bool) → seen ≡ bytes → r ≡ eqb (length seen) 0 → r ≡ false → 0 < length bytes
+some_held [] bytes r same is e = absurd cc
+some_held (x ∷ xs) bytes r same is e = omega (arith, ap (λ (l : List ℕ). length l) same)
+
 -- ---- through a window
 
 -- the count and the parts of a payload, and what is left behind them
@@ -67,7 +77,7 @@ all_read a b c s t u version count es p q none end =
       took = r.took;
       fits = r.fits;
       count = r.count;
-      stand = λ more len. let h = r.stand more len in payload_ok version (s.bytes ++ (r.taken ++ more)) h.0 (u.bytes ++ more) count es h.1 h.2 (nothing_left u.bytes more none (no_more more (len ∙ end)));
+      stand = λ more len. let h = r.stand more len in payload_ok version (s.bytes ++ (r.taken ++ more)) h.0 (u.bytes ++ more) count es h.1 h.2 (nothing_left u.bytes more none (nil_from_length more (len ∙ end)));
     }
 
 pub no_count : (a b : Option (List ℕ)) (before now : ℕ) (s t : Held) (version : Version) (stop : Unread) → Stops a b before now s t count_at stop → Stops a b before now s t (payload_of version) stop

@@ -1,5 +1,5 @@
 -- Runs, read through a window: a run after its parts, and the loops over what stands at places and over runs.
-use Rattle.std.proofs.Common.{◌≡◌, ℕ, ◌+◌, ◌-◌, ◌≤◌, ◌<◌, true, false, List, [], ◌∷◌, ◌++◌, length, Option, Some, None, Result, Ok, Err, sym, ap, subst, ◌∙◌, arith}
+use Rattle.std.proofs.Common.{◌≡◌, ℕ, ◌+◌, ◌-◌, ◌≤◌, ◌<◌, true, false, List, [], ◌∷◌, ◌++◌, Option, Some, None, Result, Ok, sym, ap, subst, ◌∙◌, arith}
 use Rattle.std.specs.Int.{w32}
 use Rattle.trace_know.specs.declared.cell.Known.{Known}
 use Rattle.trace_wire.specs.declared.fault.WireFault.{WireFault}

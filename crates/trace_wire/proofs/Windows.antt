@@ -1,5 +1,5 @@
 -- A payload, read through a window.
-use Rattle.std.proofs.Common.{◌≡◌, ℕ, zero, suc, ◌+◌, ◌-◌, ◌^◌, ◌<◌, ◌≤◌, List, [], ◌∷◌, ◌++◌, length, drop, Option, Some, None, Result, Ok, Err, refl, sym, ap, subst, ◌∙◌, append_assoc, append-nil, arith, inl, inr}
+use Rattle.std.proofs.Common.{◌≡◌, ℕ, zero, suc, ◌+◌, ◌-◌, ◌^◌, ◌<◌, ◌≤◌, List, [], ◌∷◌, ◌++◌, length, drop, Option, Some, None, Result, Ok, Err, refl, sym, ap, subst, ◌∙◌, append_assoc, arith, inl, inr}
 use Rattle.std.specs.Prelude.{IfSome, OnOk}
 use Rattle.std.proofs.lemmas.Bool.{cases_lt}
 use Rattle.std.specs.Io.KnownBytes.{Consumes}
@@ -21,7 +21,7 @@ use Rattle.trace_wire.proofs.Taking.{taken_after}
 
 -- ---- bytes
 
-none_bytes : IsBytes []
+pub none_bytes : IsBytes []
 none_bytes i = omega arith
 
 pub bytes_after : (a b : List ℕ) → IsBytes a → IsBytes b → IsBytes (a ++ b)
@@ -44,10 +44,6 @@ unfolding zeros
 zeros_bytes zero i = none_bytes i
 zeros_bytes (suc n) zero = omega arith
 zeros_bytes (suc n) (suc i) = zeros_bytes n i
-
-pub no_more : (more : List ℕ) → length more ≡ 0 → more ≡ []
-no_more [] e = refl
-no_more (x ∷ xs) e = absurd (omega (arith, e))
 
 -- ---- faults
 

@@ -14,7 +14,7 @@ ghost use Rattle.trace_wire.specs.Runs.{PlacedRun, behind, placed_run, run_cells
 ghost use Rattle.trace_wire.specs.Windows.{Comes, Gave, Stops};
 
 use crate::fault::WireFault;
-use crate::read::cells::is_past;
+use crate::read::cells::{are_bytes, is_past};
 use crate::read::front::{next_known, next_place, next_u32};
 use crate::read::unread::Unread;
 use crate::read::window::Window;
@@ -105,7 +105,7 @@ fn put_run<R: Read>(
     ensures taken { TakesAtMost window.old.coming (R.left reader.old) (R.left reader.new) }
     ensures beside { LeavesSide (R.write_side reader.old) (R.write_side reader.new) }
 {
-    let _held = window.held();
+    are_bytes(window.held());
     let run = field!(run_of(alloc, reader, window, before));
     let Run { rank, first, cells } = run;
     let end = first + cells.len() as u64;

@@ -6,8 +6,8 @@ use Rattle.dumpi_calls.proofs.raw.advance_raw.Goals as goal
 
 pub returns-in-Err-take_raw-clause-err : goal.returns-in-Err-take_raw-clause-err
 returns-in-Err-take_raw-clause-err g c = λ text before is_read.
-    let raw = c.next_of.new.raw in
-    let found : Follows text before (put_in c.in-Ok-true.field-0 raw) c.next_of.new.texts = c.in-Ok-true.ensures.goes_on text before is_read in
+    let raw = c.next_call.new.raw in
+    let found : Follows text before (put_in c.in-Ok-true.field-0 raw) c.next_call.new.texts = c.in-Ok-true.ensures.goes_on text before is_read in
     let is_true : c.in-Ok-true.field-0 ≡ true = c.in-Ok-true.field-0-test in
-    let read : Follows text before (Some raw) c.next_of.new.texts = rw is_true at found in
-    line_refused text before raw c.in-Err-take_raw.fault.cause c.in-Err-take_raw.fault.line c.next_of.new.texts read c.in-Err-take_raw.ensures.err
+    let read : Follows text before (Some raw) c.next_call.new.texts = rw is_true at found in
+    line_refused text before raw c.in-Err-take_raw.fault.cause c.in-Err-take_raw.fault.line c.next_call.new.texts read c.in-Err-take_raw.ensures.err

@@ -20,9 +20,9 @@ returns-in-Err-clause-err g c = λ text before is_read.
 pub returns-in-Err-take-clause-err : goal.returns-in-Err-take-clause-err
 returns-in-Err-take-clause-err g c = λ text before is_read.
     let mid = c.whole_of.new.texts in
-    let raw = c.next_of.new.raw in
+    let raw = c.next_call.new.raw in
     let same : mid ≡ c.args.texts.now = first_of (search rules, grind (arith, common_steps)) in
-    let found : Follows text before (put_in c.in-Ok-true.field-0 raw) c.next_of.new.texts = c.in-Ok-true.ensures.goes_on text before (as_it_was text before c.args.texts.now mid same is_read) in
+    let found : Follows text before (put_in c.in-Ok-true.field-0 raw) c.next_call.new.texts = c.in-Ok-true.ensures.goes_on text before (as_it_was text before c.args.texts.now mid same is_read) in
     let is_true : c.in-Ok-true.field-0 ≡ true = c.in-Ok-true.field-0-test in
-    let read : Follows text before (Some raw) c.next_of.new.texts = rw is_true at found in
-    line_refused text before raw c.in-Err-take.fault.cause c.in-Err-take.fault.line c.next_of.new.texts read c.in-Err-take.ensures.err
+    let read : Follows text before (Some raw) c.next_call.new.texts = rw is_true at found in
+    line_refused text before raw c.in-Err-take.fault.cause c.in-Err-take.fault.line c.next_call.new.texts read c.in-Err-take.ensures.err

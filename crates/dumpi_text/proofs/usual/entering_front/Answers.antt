@@ -6,4 +6,4 @@ pub returns : goal.returns
 returns c =
     let stamp = c.in_ok-at.ensures in
     entering_line c.args.name.now c.args.text.now c.in_ok-line.rest.now c.in_ok-line.line.now c.in_ok-after.after.now c.in_ok-stamp.stamp.now c.in_ok-at.at
-    c.requires c.in_ok-line.ensures (sym c.in_ok-after.ensures) (sym c.in_ok-stamp.ensures) stamp.some stamp.end stamp.no_return stamp.value
+    c.requires c.in_ok-line.ensures (sym c.in_ok-after.ensures.rest) (sym c.in_ok-stamp.ensures.rest) stamp.some stamp.end stamp.no_return stamp.value

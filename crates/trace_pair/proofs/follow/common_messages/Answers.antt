@@ -1,4 +1,4 @@
-use Rattle.std.proofs.Common.{◌≤◌, ◌+◌, arith}
+use Rattle.std.proofs.Common.{◌≤◌, arith}
 use Rattle.std.proofs.lemmas.List.{take_more_same}
 use Rattle.mpi_model.specs.declared.message.Message.{Message}
 use Rattle.trace_pair.proofs.Fronts.{within_more}

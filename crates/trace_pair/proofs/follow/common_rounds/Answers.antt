@@ -1,4 +1,4 @@
-use Rattle.std.proofs.Common.{◌≤◌, ◌+◌, arith}
+use Rattle.std.proofs.Common.{arith}
 use Rattle.trace_pair.specs.Fronts.{IsAlike}
 use Rattle.trace_pair.proofs.Fronts.{zip_more}
 use Rattle.trace_pair.proofs.follow.common_rounds.Goals as goal

@@ -1,4 +1,4 @@
-use Rattle.std.proofs.Common.{◌<◌, ℕ, List, subst, sym, ◌∙◌, get_or, length}
+use Rattle.std.proofs.Common.{◌<◌, ℕ, List, subst, sym, ◌∙◌, get_or}
 use Rattle.trace_ops.specs.Ops.{Ops, no_ops, AreOwn}
 use Rattle.trace_pair.specs.After.{comes_after}
 use Rattle.trace_pair.specs.Followed.{Adds, Drops}

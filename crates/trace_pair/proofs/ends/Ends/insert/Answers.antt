@@ -1,4 +1,4 @@
-use Rattle.std.proofs.Common.{◌≡◌, ◌∙◌, ap, cond, Option, Some}
+use Rattle.std.proofs.Common.{◌∙◌, ap, cond, Option, Some}
 use Rattle.std.specs.Ordering.{is_eq}
 use Rattle.std.specs.Prelude.{ℕ}
 use Rattle.std.specs.BTreeMap.{get}

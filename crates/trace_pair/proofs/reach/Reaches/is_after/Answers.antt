@@ -1,6 +1,5 @@
-use Rattle.std.proofs.Common.{◌∙◌, List, false, get_or, subst, sym}
+use Rattle.std.proofs.Common.{◌∙◌, List, get_or, subst, sym}
 use Rattle.trace_ops.specs.Ops.{Ops, no_ops}
-use Rattle.trace_pair.specs.After.{is_own}
 use Rattle.trace_pair.specs.Reach.{AreReachesOf}
 use Rattle.trace_pair.proofs.Reached.{by_table, no_sender, none_there, reach_at, rows_rise}
 use Rattle.trace_pair.proofs.reach.Reaches.is_after.Goals as goal

@@ -1,7 +1,5 @@
-use Rattle.std.proofs.Common.{sym, subst}
 use Rattle.trace_wire.specs.Cells.{place_form}
 use Rattle.trace_wire.proofs.Fronts.{gave, place_long, refused_long}
-use Rattle.trace_wire.proofs.Windows.{taken_all}
 use Rattle.trace_wire.proofs.read.front.next_place.Goals as goal
 
 pub returns-in-Ok-held_place-clause-ok : goal.returns-in-Ok-held_place-clause-ok

@@ -1,8 +1,6 @@
-use Rattle.std.proofs.Common.{sym, subst}
 use Rattle.std.specs.Int.{w32}
 use Rattle.trace_wire.specs.Forms.{number_at}
 use Rattle.trace_wire.proofs.Fronts.{gave, number_long, refused_long}
-use Rattle.trace_wire.proofs.Windows.{taken_all}
 use Rattle.trace_wire.proofs.read.front.next_u32.Goals as goal
 
 pub returns-in-Ok-held_u32-clause-ok : goal.returns-in-Ok-held_u32-clause-ok

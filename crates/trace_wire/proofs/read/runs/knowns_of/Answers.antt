@@ -1,7 +1,7 @@
-use Rattle.std.proofs.Common.{refl, rules, sym, subst, ◌∙◌, ◌+◌, ◌∷◌, ◌++◌, [], List}
-use Rattle.trace_know.specs.declared.cell.Known.{Known}
-use Rattle.trace_wire.specs.Windows.{Comes}
-use Rattle.trace_wire.proofs.WindowRuns.{KnownsLeft, knowns_done, knowns_next, knowns_start, knowns_stop, no_memory}
+use Rattle.std.proofs.Common.{refl, rules, ◌∙◌}
+use Rattle.trace_wire.specs.declared.fault.WireFault.TheVariants.{Content}
+use Rattle.trace_wire.specs.Parts.{knowns_at, or_fault}
+use Rattle.trace_wire.proofs.WindowRuns.{knowns_done, knowns_next, knowns_start, knowns_stop, no_memory}
 use Rattle.trace_wire.proofs.Windows.{leaves_both, taken_all, taken_then}
 use Rattle.trace_wire.proofs.read.runs.knowns_of.Goals as goal
 
@@ -27,7 +27,7 @@ returns-in-Err-clause-taken g c = taken_then _ _ _ _ _ _ c.loop-at.invariant.far
 
 pub returns-in-Err-push-clause-err : goal.returns-in-Err-push-clause-err
 returns-in-Err-push-clause-err g c =
-    no_memory _ _ _ _ _ _ _ _ (knowns_next _ _ _ _ _ _ c.args.first c.args.count c.loop-at.at c.loop-at.cells.items c.in-Ok.found c.loop-at-test.true c.loop-at.invariant.far c.in-Ok.ensures.ok) (c.in-Ok.ensures.no_failure ∙ c.loop-at.invariant.no_failure)
+    no_memory _ _ _ _ _ _ _ (λ w. or_fault Content (knowns_at c.args.first c.args.count w)) (knowns_next _ _ _ _ _ _ c.args.first c.args.count c.loop-at.at c.loop-at.cells.items c.in-Ok.found c.loop-at-test.true c.loop-at.invariant.far c.in-Ok.ensures.ok) (c.in-Ok.ensures.no_failure ∙ c.loop-at.invariant.no_failure)
 
 pub returns-in-Err-push-clause-taken : goal.returns-in-Err-push-clause-taken
 returns-in-Err-push-clause-taken g c = taken_then _ _ _ _ _ _ c.loop-at.invariant.far c.in-Ok.ensures.taken

@@ -2,7 +2,7 @@ use Rattle.std.proofs.Common.{◌≡◌, Bool, false, Result, Ok, ap}
 use Rattle.dumpi_text.specs.declared.fault.TextFault.{TextFault}
 use Rattle.dumpi_text.specs.Shown.{put_in}
 use Rattle.dumpi_calls.proofs.NextCall.{goes_on, nothing_put, put_whole}
-use Rattle.dumpi_calls.proofs.walking.next_of.Goals as goal
+use Rattle.dumpi_calls.proofs.walking.next_call.Goals as goal
 
 pub returns-in-Ok-clause-goes_on : goal.returns-in-Ok-clause-goes_on
 returns-in-Ok-clause-goes_on g c =
