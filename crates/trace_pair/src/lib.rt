@@ -16,8 +16,8 @@
 //! - [`scratch`]: the pairing from scratch; [`batch`]: its pass over all receives; [`takings`]: all
 //!   messages with what takes each; [`places`]: where those that wait stand; [`ends`]: the ends of receives, and
 //!   whether some of them may take a message
-//! - [`rules`]: which call comes first, and whether names are one; [`reach`]: which messages come after which receives,
-//!   asked of a table
+//! - [`rules`]: whether names are one, and a message is its receiver's own; [`reach`]: which messages come after which
+//!   receives, asked of a table
 //! - [`rows`], [`near`], [`table`]: the pairs and the postponed messages, their order by the receive,
 //!   and the other end of each
 //! - [`one_or_many`]: a set that has no tree of its own while it has one member; [`groups`],
