@@ -1,7 +1,7 @@
 //! The open receives of one key, in order of their calls, each with the end of the last to end of it and all in front of it.
 //!
 //! A message asks a lane for that end alone, of the whole lane or of the front that is called before some call. Receives
-//! come and go at the end of a lane, but for a few: so one that comes or goes there is one step.
+//! come and go at the end of a lane, but for a few: so one costs a search, and a push or a pop.
 
 ghost use Rattle.std.specs.Prelude.{◌≡◌, ◌||◌, ◌≤◌, not, true, false, if◌then◌else◌, nat_lt, take, filter, length, IfOk, OnOk, OnErr, IsTrue, None};
 ghost use Rattle.std.specs.BTreeSet.{contains};
@@ -124,6 +124,7 @@ impl Lane {
         self.steps.is_empty()
     }
 
+    /// Puts a receive at its place, which is nearly always the end: then no other end is made anew.
     pub(crate) fn insert(&mut self, q: Receive) -> Result<(), AllocError>
         ensures ok { OnOk result ((d : Receive) → contains receive_cmp self.new d ≡ (is_eq (receive_cmp q d) || contains receive_cmp self.old d)) }
         ensures err { OnErr result ((d : Receive) → contains receive_cmp self.new d ≡ contains receive_cmp self.old d) }
@@ -140,6 +141,7 @@ impl Lane {
         Ok(())
     }
 
+    /// Takes a receive out, which nearly always is the last: then no other end changes.
     pub(crate) fn remove(&mut self, q: &Receive)
         ensures { (d : Receive) → contains receive_cmp self.new d ≡ (if is_eq (receive_cmp q.now d) then false else contains receive_cmp self.old d) }
     {
