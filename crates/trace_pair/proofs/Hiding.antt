@@ -1,17 +1,22 @@
--- Whether some open receive may have taken a message, by a test of all of them.
-use Rattle.std.proofs.Common.{◌≡◌, ◌⊎◌, Bool, true, false, ◌&&◌, List, [], ◌∷◌, ◌++◌, inl, inr, ⊎_elim, sym, refl, ◌∙◌, ap, cond, subst}
+-- Whether some open receive may have taken a message: by a test of all of them, and by those that are called before a limit.
+use Rattle.std.proofs.Common.{◌≡◌, ◌⊎◌, ℕ, Bool, true, false, ◌&&◌, List, [], ◌∷◌, Some, None, inl, inr, ⊎_elim, sym, refl, ◌∙◌, ap, arith, cond, eqb, ltb, subst}
 use Rattle.std.specs.Prelude.{not}
 use Rattle.std.specs.Bool.{Decides}
 use Rattle.std.specs.List.{filter, list_any}
+use Rattle.std.proofs.lemmas.Bool.Decides.{nat_tests}
 use Rattle.mpi_model.specs.declared.message.Message.{Message}
 use Rattle.mpi_model.specs.declared.message.Receive.{Receive}
 use Rattle.mpi_model.specs.Fit.{envelopes_fit}
-use Rattle.trace_ops.specs.Order.{Has, posted_before}
+use Rattle.trace_ops.specs.Order.{Has}
 use Rattle.trace_pair.specs.Ends.{NoneHides, NoneHidesBefore, SomeHides, SomeHidesBefore}
+use Rattle.trace_pair.specs.Lanes.{is_within}
 use Rattle.trace_pair.specs.Pairing.{After}
-use Rattle.trace_pair.specs.Sets.{AddsTo, DropsFrom}
+use Rattle.trace_pair.specs.Sets.{DropsFrom}
 use Rattle.trace_pair.proofs.Obeyed.{and_true, any_found, any_of, both, unless_not}
-use Rattle.trace_pair.proofs.Ranks.{has_either, has_left, has_right}
+use Rattle.trace_pair.proofs.Queued.{fit_parts}
+
+eqb_self : (n : ℕ) → eqb n n ≡ true
+eqb_self n = grind (arith, nat_tests)
 
 not_yes : (b : Bool) → not b ≡ true → b ≡ false
 not_yes true h = absurd (cc)
@@ -28,37 +33,17 @@ module _ (after : After) (xs : List Receive) (m : Message) (b : Bool) where
   none_may_hide e h u i f = unless_not (after m u) (λ g.
       let t = any_of (λ u. envelopes_fit m u && not (after m u)) xs u i (and_true (envelopes_fit m u) (not (after m u)) f g) in cc)
 
-  module _ (q : Receive) where
-    pub some_may_before : b ≡ list_any (λ u. (envelopes_fit m u && not (after m u)) && posted_before u q) xs → b ≡ true → SomeHidesBefore after xs m q
-    some_may_before e h =
-        let w = any_found (λ u. (envelopes_fit m u && not (after m u)) && posted_before u q) xs (sym e ∙ h) in
-        let p' = both (envelopes_fit m w.0 && not (after m w.0)) (posted_before w.0 q) w.2 in
-        let p = both (envelopes_fit m w.0) (not (after m w.0)) p'.0 in
-        (w.0, w.1, p.0, not_yes (after m w.0) p.1, p'.1)
-
-    pub none_may_before : b ≡ list_any (λ u. (envelopes_fit m u && not (after m u)) && posted_before u q) xs → b ≡ false → NoneHidesBefore after xs m q
-    none_may_before e h u i f p = unless_not (after m u) (λ g.
-        let t = any_of (λ u. (envelopes_fit m u && not (after m u)) && posted_before u q) xs u i
-        (and_true (envelopes_fit m u && not (after m u)) (posted_before u q) (and_true (envelopes_fit m u) (not (after m u)) f g) p) in cc)
-
-pub pushed : {X : Type 0} (old new : List X) (x : X) → new ≡ old ++ x ∷ [] → AddsTo old new x
-pushed {X} old new x e = record {
-  keeps = λ y i. subst (λ (l : List X). Has l y) (sym e) (has_left old (x ∷ []) y i);
-  added = subst (λ (l : List X). Has l x) (sym e) (has_right old (x ∷ []) x (inl refl));
-  cases = λ y i. ⊎_elim (λ (j : Has old y). inl j) (λ (j : Has (x ∷ []) y). inr (⊎_elim (λ (d : y ≡ x). d) (λ k. absurd k) j)) (has_either old (x ∷ []) y (subst (λ (l : List X). Has l y) e i));
-}
-
-kept_has : (p : Receive → Bool) (xs : List Receive) (u : Receive) → Has xs u → p u ≡ true → Has (filter p xs) u
+pub kept_has : {X : Type 0} (p : X → Bool) (xs : List X) (u : X) → Has xs u → p u ≡ true → Has (filter p xs) u
 kept_has p [] u i e = absurd i
-kept_has p (x ∷ xs) u i e =
+kept_has {X} p (x ∷ xs) u i e =
     elim (p x) as (λ b. p x ≡ b → Has (cond b (x ∷ filter p xs) (filter p xs)) u) [
       | true ↦ λ h. ⊎_elim (λ (d : u ≡ x). inl d) (λ (j : Has xs u). inr (kept_has p xs u j e)) i
       | false ↦ λ h. ⊎_elim (λ (d : u ≡ x). let g = ap p d in absurd (cc)) (λ (j : Has xs u). kept_has p xs u j e) i
     ] refl
 
-was_kept : (p : Receive → Bool) (xs : List Receive) (u : Receive) → Has (filter p xs) u → Has xs u × (p u ≡ true)
+pub was_kept : {X : Type 0} (p : X → Bool) (xs : List X) (u : X) → Has (filter p xs) u → Has xs u × (p u ≡ true)
 was_kept p [] u i = absurd i
-was_kept p (x ∷ xs) u i =
+was_kept {X} p (x ∷ xs) u i =
     elim (p x) as (λ b. p x ≡ b → Has (cond b (x ∷ filter p xs) (filter p xs)) u → Has (x ∷ xs) u × (p u ≡ true)) [
       | true ↦ λ h j. ⊎_elim (λ (d : u ≡ x). (inl d, ap p d ∙ h)) (λ (k : Has (filter p xs) u). let w = was_kept p xs u k in (inr w.0, w.1)) j
       | false ↦ λ h j. let w = was_kept p xs u j in (inr w.0, w.1)
@@ -76,3 +61,24 @@ dropped_all old new q same decides e = record {
       let h = ap not ((decides q).1 refl) in absurd (let g = w.1 in cc);
   was = λ u i. (was_kept (λ v. not (same v)) old u (subst (λ (l : List Receive). Has l u) e i)).0;
 }
+
+-- ---- of those that are called before a limit
+
+-- where no limit is, it is all of them
+module _ (after : After) (xs : List Receive) (m : Message) where
+  pub some_of_all : SomeHides after (filter (is_within None) xs) m → SomeHides after xs m
+  some_of_all w = (w.0, (was_kept (is_within None) xs w.0 w.1).0, w.2, w.3)
+
+  pub none_of_all : NoneHides after (filter (is_within None) xs) m → NoneHides after xs m
+  none_of_all h u i f = h u (kept_has (is_within None) xs u i refl) f
+
+  module _ (q : Receive) where
+    -- Receives that fit the message are posted at its receiver.
+    pub some_before : m.to ≡ q.at → SomeHides after (filter (is_within (Some q.name.call)) xs) m → SomeHidesBefore after xs m q
+    some_before at w =
+        let p = was_kept (is_within (Some q.name.call)) xs w.0 w.1 in
+        let e = sym (fit_parts m w.0 w.2).1 ∙ at in
+        (w.0, p.0, w.2, w.3, and_true (eqb w.0.at q.at) (ltb w.0.name.call q.name.call) (ap (λ r. eqb r q.at) e ∙ eqb_self q.at) p.1)
+
+    pub none_before : NoneHides after (filter (is_within (Some q.name.call)) xs) m → NoneHidesBefore after xs m q
+    none_before h u i f p = h u (kept_has (is_within (Some q.name.call)) xs u i (both (eqb u.at q.at) (ltb u.name.call q.name.call) p).1) f

@@ -20,6 +20,10 @@ pub mod Orders
 pub mod Same
 pub mod Queued
 pub mod Latest
+pub mod LaterEnds
+pub mod Laned
+pub mod LaneSteps
+pub mod LaneKeys
 pub mod Twice
 pub mod Slotted
 pub mod Mutual

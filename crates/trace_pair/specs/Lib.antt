@@ -22,6 +22,7 @@ pub mod Groups
 pub mod KeyOrders
 pub mod Queues
 pub mod Ends
+pub mod Lanes
 pub mod Waiting
 pub mod Settled
 pub mod Worked

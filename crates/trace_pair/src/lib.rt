@@ -16,15 +16,16 @@
 //! - [`scratch`]: the pairing from scratch; [`batch`]: its pass over all receives; [`takings`]: all
 //!   messages with what takes each; [`places`]: where those that wait stand; [`ends`]: the ends of receives, and
 //!   whether some of them may take a message
-//! - [`rules`]: which call comes first, and whether names are one; [`reach`]: which messages come after which receives,
-//!   asked of a table
+//! - [`rules`]: whether names are one, and a message is its receiver's own; [`reach`]: which messages come after which
+//!   receives, asked of a table
 //! - [`rows`], [`near`], [`table`]: the pairs and the postponed messages, their order by the receive,
 //!   and the other end of each
 //! - [`one_or_many`]: a set that has no tree of its own while it has one member; [`groups`],
 //!   [`queues`]: sets of calls, found by a few probes of an ordered map; [`couples`]: the pairs by
 //!   either name; [`slots`]: flat lists of values by such names
-//! - [`matched`]: the sets of an index, as one call comes or goes; [`opened`]: its open receives, one by one;
-//!   [`follow`]: as a rank's calls do; [`together`]: as those of all ranks come
+//! - [`matched`]: the sets of an index, as one call comes or goes; [`opened`]: its open receives, by their keys; [`lanes`]:
+//!   those of one key, with their latest ends; [`later`]: which end is later; [`follow`]: as a rank's calls do;
+//!   [`together`]: as those of all ranks come
 //! - [`index`]: the index
 //! - [`laws`]: what makes the rules easy to believe, as contracts of calls that do nothing
 //!
@@ -37,6 +38,8 @@ mod ends;
 mod follow;
 mod groups;
 mod index;
+mod lanes;
+mod later;
 mod laws;
 mod matched;
 mod near;

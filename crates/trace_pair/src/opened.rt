@@ -1,60 +1,114 @@
-//! The open receives of an index.
+//! The open receives of an index, in a lane for each key: a message asks each of the lanes that fit it for one end, and
+//! then the Barriers once.
 
-ghost use Rattle.std.specs.Prelude.{◌≡◌, ◌&&◌, ◌∷◌, [], true, false, not, OnOk};
-ghost use Rattle.std.specs.List.{list_any};
-ghost use Rattle.mpi_model.specs.Fit.{envelopes_fit};
-ghost use Rattle.trace_ops.specs.Order.{posted_before};
+ghost use Rattle.std.specs.Prelude.{◌≡◌, ◌||◌, ◌&&◌, true, false, None, if◌then◌else◌, filter, [], IfSome, IsTrue, OnOk, OnErr};
+ghost use Rattle.std.specs.BTreeMap.{IsOrdered, get};
+ghost use Rattle.std.specs.BTreeSet.{contains};
+ghost use Rattle.std.specs.Ordering.{is_eq};
+ghost use Rattle.mpi_model.specs.declared.message.Receive.{Receive};
+ghost use Rattle.mpi_model.specs.Fit.{admits};
 ghost use Rattle.trace_pair.specs.After.{comes_after};
-ghost use Rattle.trace_pair.specs.Ends.{NoneHides, NoneHidesBefore, SomeHides, SomeHidesBefore};
-ghost use Rattle.trace_pair.specs.KeyOrders.{same_receive};
+ghost use Rattle.trace_pair.specs.Ends.{IsLastAmong, IsLastFor, NoneHides, NoneHidesBefore, SomeHides, SomeHidesBefore};
+ghost use Rattle.trace_pair.specs.Groups.{HasMember, has};
+ghost use Rattle.trace_pair.specs.KeyOrders.{ReceiveKey, receive_cmp, receive_key_cmp, receive_key_of};
+ghost use Rattle.trace_pair.specs.Lanes.{is_within};
+ghost use Rattle.trace_pair.specs.Queues.{of_kind};
 ghost use Rattle.trace_pair.specs.Sets.{AddsTo, DropsFrom};
 
+use crate::lanes::Lane;
+use crate::later::later_of;
+use crate::queues::{Kinds, NO_KINDS};
 use crate::reach::Reaches;
-use crate::rules::is_posted_before;
-use mpi_model::{Message, Receive, envelopes_fit};
+use mpi_model::{Message, Receive};
 use std::alloc::{AllocError, Global};
+use std::collections::BTreeMap;
 use std::marker::Model;
 
-/// Whether the open receive may have taken the message.
-fn may_have_taken(reaches: &Reaches, u: &Receive, m: &Message) -> bool
-    ensures { result ≡ (envelopes_fit m.now u.now && not (comes_after reaches.now m.now u.now)) }
+/// The communicator, the receiver, the source and the tag of receives.
+type Key = (u32, u32, Option<u32>, Option<u32>);
+
+/// Puts a lane of one receive at its key, where none stands.
+fn put_first(lanes: &mut BTreeMap<Key, Lane>, q: &Receive, lane: Lane) -> Result<(), AllocError>
+    requires free { get receive_key_cmp lanes.old (receive_key_of q.now) ≡ None }
+    requires alone { (d : Receive) → contains receive_cmp lane d ≡ is_eq (receive_cmp q.now d) }
+    ensures ok { OnOk result ((k : ReceiveKey) (d : Receive) → has receive_key_cmp receive_cmp lanes.new k d ≡ ((is_eq (receive_key_cmp (receive_key_of q.now) k) && is_eq (receive_cmp q.now d)) || has receive_key_cmp receive_cmp lanes.old k d)) }
+    ensures err { OnErr result ((k : ReceiveKey) (d : Receive) → has receive_key_cmp receive_cmp lanes.new k d ≡ has receive_key_cmp receive_cmp lanes.old k d) }
+    ensures ordered { IsOrdered receive_key_cmp lanes.new }
 {
-    envelopes_fit(m, u) && !reaches.is_after(m, u.at, u.ended)
+    lanes.insert((q.comm, q.at, q.source, q.tag), lane)?;
+    Ok(())
 }
 
-/// Whether some of the receives may have taken the message.
-fn some_may(reaches: &Reaches, kept: &[Receive], m: &Message) -> bool
-    ensures { result ≡ list_any (λ u. envelopes_fit m.now u && not (comes_after reaches.now m.now u)) kept.now }
+/// Adds a receive at its key.
+fn add(alloc: Global, lanes: &mut BTreeMap<Key, Lane>, q: Receive) -> Result<(), AllocError>
+    ensures ok { OnOk result ((k : ReceiveKey) (d : Receive) → has receive_key_cmp receive_cmp lanes.new k d ≡ ((is_eq (receive_key_cmp (receive_key_of q) k) && is_eq (receive_cmp q d)) || has receive_key_cmp receive_cmp lanes.old k d)) }
+    ensures err { OnErr result ((k : ReceiveKey) (d : Receive) → has receive_key_cmp receive_cmp lanes.new k d ≡ has receive_key_cmp receive_cmp lanes.old k d) }
+    ensures ordered { IsOrdered receive_key_cmp lanes.new }
 {
-    kept.iter().any(|u| may_have_taken(reaches, u, m))
+    if let Some(lane) = lanes.get_mut(&(q.comm, q.at, q.source, q.tag)) {
+        lane.insert(q)?;
+        return Ok(());
+    }
+    let lane = Lane::one(alloc, q)?;
+    put_first(lanes, &q, lane)
 }
 
-/// Whether some that stand before the receive may have.
-fn some_before_may(reaches: &Reaches, kept: &[Receive], m: &Message, q: &Receive) -> bool
-    ensures { result ≡ list_any (λ u. (envelopes_fit m.now u && not (comes_after reaches.now m.now u)) && posted_before u q.now) kept.now }
+/// Takes a receive from its key, and tells whether it left none there.
+fn take_from(lanes: &mut BTreeMap<Key, Lane>, q: &Receive) -> bool
+    ensures dropped { (k : ReceiveKey) (d : Receive) → has receive_key_cmp receive_cmp lanes.new k d ≡ (if is_eq (receive_key_cmp (receive_key_of q.now) k) && is_eq (receive_cmp q.now d) then false else has receive_key_cmp receive_cmp lanes.old k d) }
+    ensures none { IsTrue result → (k : ReceiveKey) → is_eq (receive_key_cmp (receive_key_of q.now) k) ≡ true → (d : Receive) → has receive_key_cmp receive_cmp lanes.new k d ≡ false }
+    ensures some { result ≡ false → IfSome (get receive_key_cmp lanes.new (receive_key_of q.now)) (HasMember receive_cmp) }
+    ensures ordered { IsOrdered receive_key_cmp lanes.new }
 {
-    kept.iter().any(|u| may_have_taken(reaches, u, m) && is_posted_before(u, q))
+    match lanes.get_mut(&(q.comm, q.at, q.source, q.tag)) {
+        Some(lane) => {
+            lane.remove(q);
+            lane.is_empty()
+        }
+        None => false,
+    }
 }
 
-fn is_other(u: &Receive, q: &Receive) -> bool
-    ensures { result ≡ not (same_receive u.now q.now) }
+/// Takes out a key, and what stands there.
+fn forget(lanes: &mut BTreeMap<Key, Lane>, key: &Key)
+    ensures gone { (k : ReceiveKey) (d : Receive) → has receive_key_cmp receive_cmp lanes.new k d ≡ (if is_eq (receive_key_cmp key.now k) then false else has receive_key_cmp receive_cmp lanes.old k d) }
+    ensures none { get receive_key_cmp lanes.new key.now ≡ None }
+    ensures ordered { IsOrdered receive_key_cmp lanes.new }
 {
-    *u != *q
+    lanes.remove(key);
+}
+
+/// Takes a receive from its key. A key whose last receive goes, goes with it: tags that never come back would all stay.
+fn drop_from(lanes: &mut BTreeMap<Key, Lane>, q: &Receive)
+    ensures dropped { (k : ReceiveKey) (d : Receive) → has receive_key_cmp receive_cmp lanes.new k d ≡ (if is_eq (receive_key_cmp (receive_key_of q.now) k) && is_eq (receive_cmp q.now d) then false else has receive_key_cmp receive_cmp lanes.old k d) }
+    ensures used { IfSome (get receive_key_cmp lanes.new (receive_key_of q.now)) (HasMember receive_cmp) }
+    ensures ordered { IsOrdered receive_key_cmp lanes.new }
+{
+    if !take_from(lanes, q) {
+        return;
+    }
+    forget(lanes, &(q.comm, q.at, q.source, q.tag));
 }
 
 /// A set of open receives.
 #[derive(Drop)]
 pub(crate) struct Opened {
-    kept: Vec<Receive>,
+    alloc: Global,
+    kinds: Kinds,
+    lanes: BTreeMap<Key, Lane>,
 }
 
 impl Model for Opened {
     ghost use Rattle.std.specs.Prelude.{List};
     ghost use Rattle.mpi_model.specs.declared.message.Receive.{Receive};
+    ghost use Rattle.trace_pair.specs.Groups.{members};
+    ghost use Rattle.trace_pair.specs.Queues.{AreGrouped};
 
     ghost Value = { List Receive };
 
-    ghost view = { λ s. s.kept.items };
+    ghost view = { λ s. members s.lanes };
+
+    ghost invariant = { λ s. AreGrouped s.kinds s.lanes };
 }
 
 impl Opened {
@@ -62,21 +116,75 @@ impl Opened {
         ensures { result ≡ [] }
     {
         Opened {
-            kept: Vec::new(alloc),
+            alloc,
+            kinds: NO_KINDS,
+            lanes: BTreeMap::new(alloc),
         }
     }
 
     pub(crate) fn insert(&mut self, q: Receive) -> Result<(), AllocError>
         ensures { OnOk result (AddsTo self.old self.new q) }
     {
-        self.kept.push(q)?;
+        self.kinds = self.kinds.marked(q.source, q.tag);
+        add(self.alloc, &mut self.lanes, q)?;
         Ok(())
     }
 
     pub(crate) fn remove(&mut self, q: &Receive)
         ensures { DropsFrom self.old self.new q.now }
     {
-        self.kept.retain(|u| is_other(u, q));
+        drop_from(&mut self.lanes, q);
+    }
+
+    /// The end of the last to end of the receives with this source and tag that are called before the limit, where there is
+    /// one, and whose envelopes fit the message's.
+    fn last_with(
+        &self,
+        m: &Message,
+        source: Option<u32>,
+        tag: Option<u32>,
+        limit: Option<u64>,
+    ) -> Option<Option<u64>>
+        requires source { admits source m.now.from ≡ true }
+        requires tag { admits tag m.now.tag ≡ true }
+        ensures { IsLastAmong (filter (is_within limit) self.now) m.now (of_kind source tag) result }
+    {
+        if !self.kinds.has(source, tag) {
+            return None;
+        }
+        match self.lanes.get(&(m.comm, m.to, source, tag)) {
+            Some(lane) => lane.latest(limit),
+            None => None,
+        }
+    }
+
+    /// The end of the last to end of all of them.
+    fn last_for(&self, m: &Message, limit: Option<u64>) -> Option<Option<u64>>
+        ensures { IsLastFor (filter (is_within limit) self.now) m.now result }
+    {
+        let source = Some(m.from);
+        let tag = Some(m.tag);
+        let told = later_of(
+            self.last_with(m, source, tag, limit),
+            self.last_with(m, source, None, limit),
+        );
+        let untold = later_of(
+            self.last_with(m, None, tag, limit),
+            self.last_with(m, None, None, limit),
+        );
+        later_of(told, untold)
+    }
+
+    /// Whether some that are called before the limit, where there is one, may have taken the message: where it comes after
+    /// the last to end, it comes after all.
+    fn hides_within(&self, reaches: &Reaches, m: &Message, limit: Option<u64>) -> bool
+        ensures yes { result ≡ true → SomeHides (comes_after reaches.now) (filter (is_within limit) self.now) m.now }
+        ensures no { result ≡ false → NoneHides (comes_after reaches.now) (filter (is_within limit) self.now) m.now }
+    {
+        match self.last_for(m, limit) {
+            None => false,
+            Some(end) => !reaches.is_after(m, m.to, end),
+        }
     }
 
     /// Whether some of them may have taken the message.
@@ -84,7 +192,7 @@ impl Opened {
         ensures yes { result ≡ true → SomeHides (comes_after reaches.now) self.now m.now }
         ensures no { result ≡ false → NoneHides (comes_after reaches.now) self.now m.now }
     {
-        some_may(reaches, &self.kept, m)
+        self.hides_within(reaches, m, None)
     }
 
     /// Whether some that stand before the receive may have taken the message.
@@ -92,6 +200,6 @@ impl Opened {
         ensures yes { result ≡ true → SomeHidesBefore (comes_after reaches.now) self.now m.now q.now }
         ensures no { result ≡ false → NoneHidesBefore (comes_after reaches.now) self.now m.now q.now }
     {
-        some_before_may(reaches, &self.kept, m, q)
+        m.to == q.at && self.hides_within(reaches, m, Some(q.name.call))
     }
 }

@@ -1,17 +1,10 @@
-//! Which of two calls is the earlier one, whether two names are one, and whether a message is its receiver's own.
+//! Whether two names are one, and whether a message is its receiver's own.
 
 ghost use Rattle.std.specs.Prelude.{◌≡◌};
-ghost use Rattle.trace_ops.specs.Order.{posted_before};
 ghost use Rattle.trace_pair.specs.After.{is_own};
 ghost use Rattle.trace_pair.specs.Table.{same_name};
 
-use mpi_model::{Message, OpName, Receive};
-
-pub(crate) fn is_posted_before(a: &Receive, b: &Receive) -> bool
-    ensures { result ≡ posted_before a.now b.now }
-{
-    a.at == b.at && a.name.call < b.name.call
-}
+use mpi_model::{Message, OpName};
 
 /// Whether the rank sent the message itself, by a call behind call `ended`.
 pub(crate) fn is_own(m: &Message, at: u32, ended: u64) -> bool

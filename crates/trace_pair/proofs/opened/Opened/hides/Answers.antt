@@ -1,14 +1,9 @@
-use Rattle.std.proofs.Common.{◌∙◌, subst, List}
-use Rattle.mpi_model.specs.declared.message.Receive.{Receive}
 use Rattle.trace_pair.specs.After.{comes_after}
-use Rattle.trace_pair.specs.Ends.{NoneHides, SomeHides}
-use Rattle.trace_pair.proofs.Hiding.{some_may_hide, none_may_hide}
+use Rattle.trace_pair.proofs.Hiding.{none_of_all, some_of_all}
 use Rattle.trace_pair.proofs.opened.Opened.hides.Goals as goal
 
 pub returns-clause-yes : goal.returns-clause-yes
-returns-clause-yes c = λ h. subst (λ (l : List Receive). SomeHides (comes_after c.args.reaches.now) l c.args.m.now) (c.deref.ensures.value ∙ c.self.view_is)
-    (some_may_hide (comes_after c.args.reaches.now) c.deref.result.now c.args.m.now c.some_may.result c.some_may.ensures h)
+returns-clause-yes c = λ h. some_of_all (comes_after c.args.reaches.now) c.args.self.now c.args.m.now (c.hides_within.ensures.yes h)
 
 pub returns-clause-no : goal.returns-clause-no
-returns-clause-no c = λ h. subst (λ (l : List Receive). NoneHides (comes_after c.args.reaches.now) l c.args.m.now) (c.deref.ensures.value ∙ c.self.view_is)
-    (none_may_hide (comes_after c.args.reaches.now) c.deref.result.now c.args.m.now c.some_may.result c.some_may.ensures h)
+returns-clause-no c = λ h. none_of_all (comes_after c.args.reaches.now) c.args.self.now c.args.m.now (c.hides_within.ensures.no h)

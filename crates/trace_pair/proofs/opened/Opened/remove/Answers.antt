@@ -1,14 +1,16 @@
-use Rattle.std.proofs.Common.{List, rules, subst}
-use Rattle.std.specs.Prelude.{not}
-use Rattle.std.proofs.lemmas.Fn.{filter_same}
+use Rattle.std.proofs.Common.{subst, List}
 use Rattle.mpi_model.specs.declared.message.Receive.{Receive}
-use Rattle.trace_pair.specs.KeyOrders.{same_receive}
+use Rattle.trace_pair.specs.Groups.{members}
+use Rattle.trace_pair.specs.KeyOrders.{receive_key_of}
 use Rattle.trace_pair.specs.Sets.{DropsFrom}
-use Rattle.trace_pair.proofs.Hiding.{dropped_all}
-use Rattle.trace_pair.proofs.Same.{same_receives}
+use Rattle.trace_pair.proofs.Orders.{receive_keys_total, exact_receive_keys, receives_total, exact_receives}
+use Rattle.trace_pair.proofs.Members.{drops}
+use Rattle.trace_pair.proofs.Queued.{grouped_less}
 use Rattle.trace_pair.proofs.opened.Opened.remove.Goals as goal
 
+pub invariant_of-self : goal.invariant_of-self
+invariant_of-self c = grouped_less c.self.inside.kinds c.self.inside.lanes c.drop_from.new.lanes c.self.invariant c.drop_from.ensures.ordered c.args.q.now c.drop_from.ensures.dropped
+
 pub returns : goal.returns
-returns c = subst (λ (l : List Receive). DropsFrom l c.retain.new.self.items c.args.q.now) c.self.view_is
-    (dropped_all c.self.inside.kept.items c.retain.new.self.items c.args.q.now (λ (u : Receive). same_receive u c.args.q.now) (λ u. same_receives u c.args.q.now)
-    (filter_same _ (λ (u : Receive). not (same_receive u c.args.q.now)) _ (λ u b f k. search rules) _ _ c.retain.ensures.filtered))
+returns c = subst (λ (l : List Receive). DropsFrom l (members c.drop_from.new.lanes) c.args.q.now) c.self.view_is
+    (drops receive_keys_total exact_receive_keys receives_total exact_receives receive_key_of c.self.inside.lanes c.drop_from.new.lanes c.self.invariant.ordered c.drop_from.ensures.ordered c.self.invariant.placed c.args.q.now c.drop_from.ensures.dropped)
