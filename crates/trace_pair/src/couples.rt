@@ -13,7 +13,7 @@ use std::alloc::{AllocError, Global};
 use std::marker::Model;
 
 /// A set of couples in which no call is twice. Of the receive it keeps only what its message
-/// doesn't tell, so a couple takes two slots of 40 and 64 bytes.
+/// doesn't tell, so a couple takes two slots of 56 and 64 bytes.
 #[derive(Drop)]
 pub(crate) struct Couples {
     takers: Vec<Vec<Slot<Taker>>>,
