@@ -7,12 +7,12 @@ use Rattle.trace_ops.proofs.receive.taken_by.Goals as goal
 pub returns-in-Recv : goal.returns-in-Recv
 returns-in-Recv c later f =
     c.taken_with.ensures ∙ of_recv (plain c.args.group) c.args.rank c.args.n c.args.called.now later c.envelope.result c.told_of_own-told.result c.ended_of_own-ended.result c.args.called.now.call c.in-Recv.e
-    (sym c.call.ensures ∙ c.in-Recv.is) c.envelope.ensures.value (cc (c.told_of_own-told.ensures, c.outs.ensures)) (cc (c.ended_of_own-ended.ensures, c.outs-ended.ensures))
+    (sym c.call.ensures ∙ c.in-Recv.is) c.envelope.ensures.value (cc (c.told_of_own-told.ensures, c.outs.ensures)) (cc (c.ended_of_own-ended.ensures, c.outs-in-Recv.ensures))
 
 pub returns-in-Sendrecv : goal.returns-in-Sendrecv
 returns-in-Sendrecv c later f =
     c.taken_with-in-Sendrecv.ensures ∙ of_both (plain c.args.group) c.args.rank c.args.n c.args.called.now later c.receive.result c.told_of_own-told-in-Sendrecv.result c.ended_of_own-ended-in-Sendrecv.result c.args.called.now.call c.in-Sendrecv.both
-    (sym c.call.ensures ∙ c.in-Sendrecv.is) c.receive.ensures.value (cc (c.told_of_own-told-in-Sendrecv.ensures, c.outs-in-Sendrecv.ensures)) (cc (c.ended_of_own-ended-in-Sendrecv.ensures, c.outs-ended-in-Sendrecv.ensures))
+    (sym c.call.ensures ∙ c.in-Sendrecv.is) c.receive.ensures.value (cc (c.told_of_own-told-in-Sendrecv.ensures, c.outs-in-Sendrecv.ensures)) (cc (c.ended_of_own-ended-in-Sendrecv.ensures, c.outs-in-Sendrecv-2.ensures))
 
 pub returns-in-Irecv : goal.returns-in-Irecv
 returns-in-Irecv c later f =
