@@ -13,7 +13,7 @@ use crate::view::RankView;
 use std::alloc::{AllocError, Global};
 
 /// The call of a member.
-#[derive(Clone, Copy, Debug, PartialEq, Eq)]
+#[derive(Clone, Copy)]
 pub(crate) struct Here {
     pub rank: u32,
     /// Its place in the rank's list.
