@@ -269,8 +269,8 @@ fn kth_calls(
     let mut kth: Vec<Option<Here>> = vec![in alloc; None; members]?;
     for offer in calls {
         let place = offer.place as usize;
-        if count_at(&mut seen, place) == Some(k) && place < kth.len() {
-            kth[place] = Some(offer.here);
+        if count_at(&mut seen, place) == Some(k) {
+            put(&mut kth, place, Some(offer.here));
         }
     }
     Ok(kth)
