@@ -4,7 +4,6 @@ ghost use Rattle.std.specs.Prelude.{◌≡◌, ◌∷◌, ◌<◌, ◌^◌, [], 
 ghost use Rattle.std.specs.List.{filter_map};
 ghost use Rattle.std.specs.Option.{option_copied};
 ghost use Rattle.comm_makings.specs.Derives.{group_call_at, kth_calls, member_with, world_members};
-ghost use Rattle.comm_makings.specs.Here.{meant_at};
 ghost use Rattle.comm_makings.specs.Made.{member_at};
 ghost use Rattle.comm_makings.specs.State.{AreAllDerivedGroups, AreDerived, AreDerivedGroups, AreMadeOf, AreMembers, AreMembersIn, BindsMember, IsDerivedComm, IsDerivedGroup, IsFirstComm, IsOfDerived, IsRight, KeepsDerived, NamesMembers, NoneListed, NoneListedAt, NoneStands, NoneStandsAt, SetsStanding};
 
@@ -13,7 +12,7 @@ use crate::by_groups::{Found, Over, found_at};
 use crate::calls::{Action, CommCall, GroupCall, RankCalls};
 use crate::group_value::{GroupValue, value_of};
 use crate::handle::{Gives, Meant};
-use crate::here::{Here, all_kth, handle_of};
+use crate::here::{Here, all_kth, call_at, handle_of, meant_at};
 use crate::outcomes::outcome_in;
 use crate::part::Part;
 use crate::parts::Outcome;
@@ -218,20 +217,13 @@ fn count_of(views: &[RankView], member: Member) -> usize {
 fn group_call_at(ranks: &[RankCalls], rank: usize, at: usize) -> Option<&GroupCall>
     ensures { option_copied result ≡ group_call_at ranks.now rank at }
 {
-    match &ranks.get(rank)?.calls.get(at)?.action {
+    match &call_at(ranks, rank, at)?.action {
         Action::Group { group, .. } => Some(group),
         Action::Make { .. }
         | Action::CommRank { .. }
         | Action::Free { .. }
         | Action::GivesComm { .. } => None,
     }
-}
-
-/// What the numbers in a call of a rank mean.
-fn meant_at(views: &[RankView], rank: usize, at: usize) -> Option<Meant>
-    ensures { result ≡ meant_at views.now rank at }
-{
-    views.get(rank)?.meant.get(at).copied()
 }
 
 /// The group that a call of a rank gives, by what is known of the calls before it.
@@ -506,11 +498,7 @@ impl Run {
         self.read = self.read.saturating_add(read.len() as u64);
         mark_all(&mut self.taken, read);
         leave_handles(&mut self.standings, left);
-        let mut over = over;
-        if at < self.over.len() {
-            self.over[at].append(&mut over)?;
-        }
-        Ok(())
+        extend_at(&mut self.over, at, over)
     }
 
     /// Takes what was found in the calls of MPI_Comm_create_group on a communicator.
@@ -641,6 +629,15 @@ fn mark(taken: &mut Vec<Vec<bool>>, rank: u32, at: usize) {
             *read = true;
         }
     }
+}
+
+/// Adds to the list at this place.
+fn extend_at(lists: &mut Vec<Vec<Over>>, at: usize, more: Vec<Over>) -> Result<(), AllocError> {
+    let mut more = more;
+    if let Some(list) = lists.get_mut(at) {
+        list.append(&mut more)?;
+    }
+    Ok(())
 }
 
 fn mark_all(taken: &mut Vec<Vec<bool>>, read: &[(u32, usize)]) {
