@@ -24,14 +24,14 @@ use indexmap::IndexMap;
 use std::alloc::{AllocError, Global};
 
 /// A list of members and a tag of which nothing more is made.
-#[derive(Debug, Drop)]
+#[derive(Drop)]
 pub(crate) struct Over {
     ranks: Vec<u32>,
     tag: i32,
 }
 
 /// A call that is not read yet.
-#[derive(Clone, Copy, Debug)]
+#[derive(Clone, Copy)]
 struct Offer<'a> {
     ranks: &'a [u32],
     tag: i32,
@@ -184,8 +184,30 @@ fn calls_of(views: &[RankView], member: Member) -> &[usize]
     }
 }
 
+/// Adds the calls of the members, as far as they are known, and of each member whether a group is not known yet. At last
+/// no group is waited for.
+fn offer_members<'a>(
+    ranks: &[RankCalls],
+    views: &[RankView],
+    run: &'a Run,
+    members: &[Member],
+    last: bool,
+    calls: &mut Vec<Offer<'a>>,
+    waits: &mut Vec<bool>,
+) -> Result<(), AllocError>
+    requires { AreRightOffers ranks.now views.now run.now.values.items run.now.comms.items members.now calls.old.items }
+    ensures { OnOk result (AreRightOffers ranks.now views.now run.now.values.items run.now.comms.items members.now calls.new.items) }
+{
+    for (at, member) in members.iter().enumerate() {
+        if let Ok(place) = u32::try_from(at) {
+            let waited = offer_all(ranks, views, run, members, *member, place, calls)?;
+            waits.push(waited && !last)?;
+        }
+    }
+    Ok(())
+}
+
 /// The calls on a parent that are not read yet, by their members, tag and place. At last no group is waited for.
-#[tactic(auto, using(crate::proofs::GroupCalls::sorted_right))]
 fn offers_of<'a>(
     alloc: Global,
     ranks: &[RankCalls],
@@ -198,12 +220,7 @@ fn offers_of<'a>(
 {
     let mut calls = Vec::new(alloc);
     let mut waits = Vec::new(alloc);
-    for (at, member) in members.iter().enumerate() {
-        if let Ok(place) = u32::try_from(at) {
-            let waited = offer_all(ranks, views, run, members, *member, place, &mut calls)?;
-            waits.push(waited && !last)?;
-        }
-    }
+    offer_members(ranks, views, run, members, last, &mut calls, &mut waits)?;
     calls.sort_by_key(|offer| (offer.ranks, offer.tag, offer.place))?;
     Ok(Offers { calls, waits })
 }
@@ -252,8 +269,8 @@ fn kth_calls(
     let mut kth: Vec<Option<Here>> = vec![in alloc; None; members]?;
     for offer in calls {
         let place = offer.place as usize;
-        if count_at(&mut seen, place) == Some(k) && place < kth.len() {
-            kth[place] = Some(offer.here);
+        if count_at(&mut seen, place) == Some(k) {
+            put(&mut kth, place, Some(offer.here));
         }
     }
     Ok(kth)
@@ -512,7 +529,35 @@ fn nothing_found(alloc: Global) -> Found
     }
 }
 
+/// Finds what the calls of each list of members and each tag make, one after the other.
 #[tactic(auto, using(crate::proofs::GroupCalls::found_none, crate::proofs::GroupCalls::found_from, crate::proofs::GroupCalls::same_from))]
+fn find_all(
+    alloc: Global,
+    parent: &Made,
+    ranked: &IndexMap<u32, u32>,
+    over: &[Over],
+    calls: &[Offer<'_>],
+    waits: &[bool],
+    found: &mut Found,
+) -> Result<(), AllocError>
+    requires ranked { AreRanked (get nat_eq ranked.now) parent.now.ranks.items }
+    requires none { found.old.made.items ≡ [] }
+    ensures { OnOk result (AreFound calls.now parent.now.members.items parent.now.ranks.items found.new.made.items) }
+{
+    let mut at = 0;
+    while at < calls.len() {
+        let first = calls[at];
+        let behind = at + 1;
+        let end = behind + same_length(&calls[behind..], first);
+        let same = &calls[at..end];
+        let mut made = read_key(alloc, parent, ranked, over, same, first, waits, found)?;
+        found.made.append(&mut made)?;
+        at = end;
+    }
+    Ok(())
+}
+
+/// What the calls on one parent make, in the order of their members and tags.
 fn found_in(
     alloc: Global,
     parent: &Made,
@@ -524,16 +569,7 @@ fn found_in(
 {
     let ranked = places_by_rank(alloc, &parent.ranks)?;
     let mut found = nothing_found(alloc);
-    let mut at = 0;
-    while at < calls.len() {
-        let first = calls[at];
-        let behind = at + 1;
-        let end = behind + same_length(&calls[behind..], first);
-        let same = &calls[at..end];
-        let mut made = read_key(alloc, parent, &ranked, over, same, first, waits, &mut found)?;
-        found.made.append(&mut made)?;
-        at = end;
-    }
+    find_all(alloc, parent, &ranked, over, calls, waits, &mut found)?;
     Ok(found)
 }
 

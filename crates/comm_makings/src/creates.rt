@@ -1,6 +1,6 @@
 //! MPI_Comm_create: the groups that the members give (MPI 4.0, 7.4.2).
 
-ghost use Rattle.std.specs.Prelude.{◌≡◌, [], IfOk, IfSome, IsTrue, List, OnOk, Some, map, nat_eq, true};
+ghost use Rattle.std.specs.Prelude.{◌≡◌, [], ℕ, IfOk, IfSome, IsTrue, List, OnOk, Some, map, nat_eq, true};
 ghost use Rattle.std.specs.Option.{option_copied};
 ghost use Rattle.indexmap.specs.IndexMap.{get};
 ghost use Rattle.comm_groups.specs.Groups.{has};
@@ -18,7 +18,7 @@ use indexmap::IndexMap;
 use std::alloc::{AllocError, Global};
 
 /// A group that some member gives.
-#[derive(Debug, Drop)]
+#[derive(Drop)]
 struct Offer {
     ranks: Vec<u32>,
     /// Whether one of its own gives it.
@@ -152,7 +152,6 @@ impl Offers {
 }
 
 /// Whether the groups are known that calls name.
-#[derive(Clone, Copy, Debug, PartialEq, Eq)]
 enum Known {
     Yes,
     Waits,
@@ -205,8 +204,33 @@ fn knows_all(values: &[Vec<GroupValue>], comms: &[Made], all: &[Option<Here>]) -
     if waits { Known::Waits } else { Known::Yes }
 }
 
+impl Offers {
+    /// Notes the groups that the calls name; `false` where two are neither equal nor apart.
+    #[tactic(auto, using(crate::proofs::OfferLemmas::wanted_none))]
+    fn add_all(
+        &mut self,
+        alloc: Global,
+        values: &[Vec<GroupValue>],
+        comms: &[Made],
+        all: &[Option<Here>],
+    ) -> Result<bool, AllocError>
+        requires { self.old.groups.items ≡ [] }
+        ensures { IfOk result (λ apart. IsTrue apart → AreWanted values.now comms.now all.now self.new.groups.items) }
+    {
+        for here in all {
+            if let Some(here) = here {
+                if let Some(ranks) = group_of(values, comms, *here) {
+                    if !self.add(alloc, here.rank, ranks)? {
+                        return Ok(false);
+                    }
+                }
+            }
+        }
+        Ok(true)
+    }
+}
+
 /// The groups that the calls name; `None` where two are neither equal nor apart.
-#[tactic(auto, using(crate::proofs::OfferLemmas::wanted_none))]
 fn offers_in(
     alloc: Global,
     values: &[Vec<GroupValue>],
@@ -216,27 +240,25 @@ fn offers_in(
     ensures { IfOk result (λ found. IfSome found (λ offers. AreWanted values.now comms.now all.now offers.items)) }
 {
     let mut offers = Offers::new(alloc);
-    for here in all {
-        if let Some(here) = here {
-            if let Some(ranks) = group_of(values, comms, *here) {
-                if !offers.add(alloc, here.rank, ranks)? {
-                    return Ok(None);
-                }
-            }
-        }
+    if offers.add_all(alloc, values, comms, all)? {
+        Ok(Some(offers.groups))
+    } else {
+        Ok(None)
     }
-    Ok(Some(offers.groups))
 }
 
-/// A communicator of each group that one of its own gives.
+/// A communicator of each of these groups that one of its own gives, where this is the place of each member.
 #[tactic(auto, using(crate::proofs::OfferLemmas::places_are))]
-fn offered_parts(alloc: Global, ranks: &[u32], offers: &[Offer]) -> Result<Outcome, AllocError>
-    ensures { IfOk result (λ o. (parts : List Selection) → parts_in o ≡ Some parts → AreOfferedParts ranks.now offers.now parts) }
+fn parts_at(
+    alloc: Global,
+    placed: &IndexMap<u32, u32>,
+    offers: &[Offer],
+) -> Result<Outcome, AllocError>
+    ensures { IfOk result (λ o. (ranks : List ℕ) (parts : List Selection) → AreRanked (get nat_eq placed.now) ranks → parts_in o ≡ Some parts → AreOfferedParts ranks offers.now parts) }
 {
-    let places = places_by_rank(alloc, ranks)?;
     let mut parts = Vec::new(alloc);
     for offer in offers {
-        match places_of(alloc, &places, &offer.ranks)? {
+        match places_of(alloc, placed, &offer.ranks)? {
             None => return Ok(Outcome::Unsound),
             Some(places) => {
                 if offer.wanted {
@@ -246,6 +268,14 @@ fn offered_parts(alloc: Global, ranks: &[u32], offers: &[Offer]) -> Result<Outco
         }
     }
     Ok(Outcome::Parts(parts))
+}
+
+/// A communicator of each group that one of its own gives.
+fn offered_parts(alloc: Global, ranks: &[u32], offers: &[Offer]) -> Result<Outcome, AllocError>
+    ensures { IfOk result (λ o. (parts : List Selection) → parts_in o ≡ Some parts → AreOfferedParts ranks.now offers.now parts) }
+{
+    let placed = places_by_rank(alloc, ranks)?;
+    parts_at(alloc, &placed, offers)
 }
 
 /// The communicators of a MPI_Comm_create.

@@ -2,15 +2,17 @@
 
 ghost use Rattle.std.specs.Prelude.{◌≡◌, ◌≢◌, ◌<◌, ◌^◌, IfErr, IfOk, None, OnOk, Some, length};
 ghost use Rattle.comm_makings.specs.Derived.{IsSound};
+ghost use Rattle.comm_makings.specs.Views.{AreViews};
 ghost use Rattle.comm_makings.specs.World.{first_told, other_told, world_fault, world_of};
+ghost use Rattle.comm_makings.specs.Written.{IsWritten};
 ghost use Rattle.comm_makings.specs.declared.answer.DeriveFault.TheVariants.{Memory};
 
 use crate::answer::{DeriveFault, Derived};
 use crate::calls::RankCalls;
 use crate::left::left_out;
 use crate::run::{Run, run_of};
-use crate::uses::uses_of_all;
-use crate::view::views_of;
+use crate::uses::{HandleUses, uses_of_all};
+use crate::view::{RankView, views_of};
 use crate::written::written;
 use std::alloc::{AllocError, Global};
 
@@ -73,10 +75,49 @@ fn world_of(ranks: &[RankCalls]) -> Result<u32, DeriveFault>
     }
 }
 
+/// What derives as a layout has it, and what is left out.
+fn answer_of(
+    alloc: Global,
+    world: u32,
+    ranks: &[RankCalls],
+    views: &[RankView],
+    run: &Run,
+    uses: &[HandleUses],
+) -> Result<Derived, AllocError>
+    requires { length ranks.now < 2 ^ 32 }
+    ensures world { IfOk result (λ d. d.world ≡ world) }
+    ensures written { IfOk result (λ d. IsWritten world (length ranks.now) views.now uses.now run.now.comms.items d.comms.items) }
+{
+    let left_out = left_out(alloc, ranks, views, &run.standings, uses)?;
+    let comms = written(alloc, world, ranks.len() as u32, views, uses, &run.comms)?;
+    Ok(Derived {
+        world,
+        comms,
+        left_out,
+    })
+}
+
+/// What derives from what the ranks called on each of their handles.
+#[tactic(auto, using(crate::proofs::Derivations::written_derives))]
+fn derived_from(
+    alloc: Global,
+    world: u32,
+    ranks: &[RankCalls],
+    views: &[RankView],
+) -> Result<Derived, AllocError>
+    requires few { length ranks.now < 2 ^ 32 }
+    requires views { AreViews world ranks.now views.now }
+    ensures world { IfOk result (λ d. d.world ≡ world) }
+    ensures sound { IfOk result (λ d. IsSound world ranks.now d.comms.items) }
+{
+    let run = run_of(alloc, ranks, views)?;
+    let uses = uses_of_all(alloc, ranks, views)?;
+    answer_of(alloc, world, ranks, views, &run, &uses)
+}
+
 /// The communicators that the calls of the ranks make: the world, and those that calls of the profile name, as a layout
 /// has them. Time and memory grow with the calls on communicators and groups and the members of what they make, not with
 /// all calls.
-#[tactic(auto, using(crate::proofs::Derivations::written_derives))]
 pub fn derive(alloc: Global, ranks: &[RankCalls]) -> Result<Derived, DeriveFault>
     requires { length ranks.now < 2 ^ 32 }
     ensures world { IfOk result (λ d. d.world ≡ world_of ranks.now) }
@@ -86,17 +127,5 @@ pub fn derive(alloc: Global, ranks: &[RankCalls]) -> Result<Derived, DeriveFault
 {
     let world = world_of(ranks)?;
     let views = views_of(alloc, world, ranks)?;
-    let Run {
-        standings,
-        comms,
-        ..
-    } = run_of(alloc, ranks, &views)?;
-    let uses = uses_of_all(alloc, ranks, &views)?;
-    let left_out = left_out(alloc, ranks, &views, &standings, &uses)?;
-    let comms = written(alloc, world, ranks.len() as u32, &views, &uses, &comms)?;
-    Ok(Derived {
-        world,
-        comms,
-        left_out,
-    })
+    Ok(derived_from(alloc, world, ranks, &views)?)
 }

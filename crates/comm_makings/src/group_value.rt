@@ -12,7 +12,7 @@ use crate::state::{Made, Standing};
 use std::alloc::{AllocError, Global};
 
 /// A group that a call gives.
-#[derive(Debug, Drop)]
+#[derive(Drop)]
 pub(crate) enum GroupValue {
     /// Its communicator is not derived yet.
     Waits,

@@ -6,7 +6,7 @@ use mpi_model::Stretch;
 pub(crate) type Handle = Stretch;
 
 /// What a call gives.
-#[derive(Clone, Copy, Debug, PartialEq, Eq)]
+#[derive(Clone, Copy, PartialEq, Eq)]
 pub(crate) enum Gives {
     /// It didn't return.
     Nothing,
@@ -21,7 +21,7 @@ pub(crate) enum Gives {
 }
 
 /// A group that a call names.
-#[derive(Clone, Copy, Debug, PartialEq, Eq)]
+#[derive(Clone, Copy)]
 pub(crate) enum GroupAt {
     Empty,
     /// What a call gave, by its place in the rank's list.
@@ -30,7 +30,7 @@ pub(crate) enum GroupAt {
 }
 
 /// What the numbers in a call mean before it, and what it gives.
-#[derive(Clone, Copy, Debug, PartialEq, Eq)]
+#[derive(Clone, Copy)]
 pub(crate) struct Meant {
     /// The handle that it names.
     pub comm: Option<usize>,

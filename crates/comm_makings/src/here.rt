@@ -3,7 +3,7 @@
 ghost use Rattle.std.specs.Prelude.{◌≡◌, ◌↔◌, All, IfOk, IsTrue, map};
 ghost use Rattle.std.specs.List.{list_any};
 ghost use Rattle.std.specs.Option.{option_copied};
-ghost use Rattle.comm_makings.specs.Here.{call_at, first_of, function_of, gives_later, gives_unknown, HasFunction, handle_given, handle_of, here_at, is_unreadable, kth_at, kth_call, making_at, making_of};
+ghost use Rattle.comm_makings.specs.Here.{call_at, first_of, function_of, gives_later, gives_unknown, HasFunction, handle_given, handle_of, here_at, is_unreadable, kth_at, kth_call, making_at, making_of, meant_at};
 
 use crate::answer::MadeBy;
 use crate::calls::{Action, CommCall, Making, RankCalls};
@@ -13,7 +13,7 @@ use crate::view::RankView;
 use std::alloc::{AllocError, Global};
 
 /// The call of a member.
-#[derive(Clone, Copy, Debug, PartialEq, Eq)]
+#[derive(Clone, Copy)]
 pub(crate) struct Here {
     pub rank: u32,
     /// Its place in the rank's list.
@@ -46,10 +46,17 @@ pub(crate) fn function_of(making: &Making) -> MadeBy
 }
 
 /// A call of a rank, by its place in the rank's list.
-fn call_at(ranks: &[RankCalls], rank: u32, at: usize) -> Option<&CommCall>
+pub(crate) fn call_at(ranks: &[RankCalls], rank: usize, at: usize) -> Option<&CommCall>
     ensures { option_copied result ≡ call_at ranks.now rank at }
 {
-    ranks.get(rank as usize)?.calls.get(at)
+    ranks.get(rank)?.calls.get(at)
+}
+
+/// What the numbers in a call of a rank mean.
+pub(crate) fn meant_at(views: &[RankView], rank: usize, at: usize) -> Option<Meant>
+    ensures { result ≡ meant_at views.now rank at }
+{
+    views.get(rank)?.meant.get(at).copied()
 }
 
 /// What an action says of the communicators that it makes.
@@ -69,16 +76,16 @@ pub(crate) fn making_of(action: &Action) -> Option<&Making>
 pub(crate) fn making_at(ranks: &[RankCalls], rank: u32, at: usize) -> Option<&Making>
     ensures { option_copied result ≡ making_at ranks.now rank at }
 {
-    making_of(&call_at(ranks, rank, at)?.action)
+    making_of(&call_at(ranks, rank as usize, at)?.action)
 }
 
 /// The call of a rank that makes communicators, at this place of its list.
 pub(crate) fn here_at(ranks: &[RankCalls], views: &[RankView], rank: u32, at: usize) -> Option<Here>
     ensures { result ≡ here_at ranks.now views.now rank at }
 {
-    let call = call_at(ranks, rank, at)?;
+    let call = call_at(ranks, rank as usize, at)?;
     let making = making_of(&call.action)?;
-    let meant: Meant = *views.get(rank as usize)?.meant.get(at)?;
+    let meant = meant_at(views, rank as usize, at)?;
     Some(Here {
         rank,
         at,

@@ -109,9 +109,11 @@ fn add_left(
     uses: &HandleUses,
     all: &mut Vec<LeftOut>,
 ) -> Result<(), AllocError> {
-    for (at, (call, meant)) in calls.iter().zip(view.meant.iter()).enumerate() {
-        if let Some(left) = left_by(rank, call, meant.gives, at < view.end, standings, uses) {
-            all.push(left)?;
+    for (at, call) in calls.iter().enumerate() {
+        if let Some(meant) = view.meant.get(at) {
+            if let Some(left) = left_by(rank, call, meant.gives, at < view.end, standings, uses) {
+                all.push(left)?;
+            }
         }
     }
     Ok(())

@@ -3,7 +3,7 @@
 ghost use Rattle.std.specs.Prelude.{◌≡◌, ◌++◌, ◌∷◌, [], ℕ, IfOk, OnOk, Some, false, length, nat_eq};
 ghost use Rattle.std.specs.Option.{option_and_then};
 ghost use Rattle.indexmap.specs.IndexMap.{get};
-ghost use Rattle.comm_makings.specs.Naming.{after_given, comm_of_group, first_naming, first_of_group, group_after, group_given, group_of_making, handles_of, meant_in, meant_of, naming_after, naming_of, second_of_group};
+ghost use Rattle.comm_makings.specs.Naming.{after_given, comm_of_group, first_handles, first_naming, first_of_group, group_after, group_given, group_of_making, handles_of, meant_from, meant_in, meant_of, naming_after, naming_from, naming_of, second_of_group};
 ghost use Rattle.comm_makings.specs.declared.handle.Gives.TheVariants as gives;
 ghost use Rattle.comm_makings.specs.declared.handle.GroupAt.TheVariants as groups;
 ghost use Rattle.comm_makings.specs.Names.{always, from_next, gives_of, group_at, handles_after, handles_ended, is_taken, name_after, name_ended, number_given};
@@ -46,6 +46,34 @@ fn end_at(handles: &mut Vec<Handle>, place: usize, call: u64)
     }
 }
 
+/// The handles before the first call: the world's, and that of MPI_COMM_SELF where the rank tells its number.
+fn first_handles(alloc: Global, world: u32, own: Option<u32>) -> Result<Vec<Handle>, AllocError>
+    ensures { IfOk result (λ handles. handles.items ≡ first_handles world own) }
+{
+    let mut handles = Vec::new(alloc);
+    handles.push(always(world))?;
+    if let Some(number) = own {
+        handles.push(always(number))?;
+    }
+    Ok(handles)
+}
+
+/// Which of them the numbers name: where both have one number, it names the world.
+fn first_comms(
+    alloc: Global,
+    world: u32,
+    own: Option<u32>,
+) -> Result<IndexMap<u32, usize>, AllocError>
+    ensures { IfOk result (λ comms. (m : ℕ) → get nat_eq comms m ≡ (first_naming world own).comms m) }
+{
+    let mut comms = IndexMap::new(alloc);
+    if let Some(number) = own {
+        comms.insert(number, 1)?;
+    }
+    comms.insert(world, 0)?;
+    Ok(comms)
+}
+
 impl Names {
     /// Before the first call: the world, and MPI_COMM_SELF where the rank tells its number.
     pub(crate) fn new(alloc: Global, world: u32, own: Option<u32>) -> Result<Names, AllocError>
@@ -53,19 +81,11 @@ impl Names {
         ensures world { IfOk result (λ names. names.world ≡ world) }
         ensures own { IfOk result (λ names. names.own ≡ own) }
     {
-        let mut handles = Vec::new(alloc);
-        let mut comms = IndexMap::new(alloc);
-        handles.push(always(world))?;
-        if let Some(number) = own {
-            handles.push(always(number))?;
-            comms.insert(number, 1)?;
-        }
-        comms.insert(world, 0)?;
         Ok(Names {
             world,
             own,
-            handles,
-            comms,
+            handles: first_handles(alloc, world, own)?,
+            comms: first_comms(alloc, world, own)?,
             groups: IndexMap::new(alloc),
         })
     }
@@ -343,6 +363,18 @@ fn second_of_group(group: &GroupCall) -> GroupName
     }
 }
 
+/// What each of the calls means, and what the numbers mean behind the last.
+fn read_all(alloc: Global, names: &mut Names, calls: &[CommCall]) -> Result<Vec<Meant>, AllocError>
+    ensures meant { IfOk result (λ v. v.items ≡ meant_from (is_taken names.old.world names.old.own) 0 (naming_of names.old) calls.now) }
+    ensures naming { OnOk result (naming_of names.new ≡ naming_from (is_taken names.old.world names.old.own) 0 (naming_of names.old) calls.now) }
+{
+    let mut meant = Vec::new(alloc);
+    for (at, call) in calls.iter().enumerate() {
+        meant.push(names.read(at, call)?)?;
+    }
+    Ok(meant)
+}
+
 /// The handles of a rank, the world's first, and what each of its calls means.
 pub(crate) fn names_of(
     alloc: Global,
@@ -353,9 +385,6 @@ pub(crate) fn names_of(
     ensures meant { IfOk result (λ r. r.1.items ≡ meant_of world rank.now.own rank.now.calls.items) }
 {
     let mut names = Names::new(alloc, world, rank.own)?;
-    let mut meant = Vec::new(alloc);
-    for (at, call) in rank.calls.iter().enumerate() {
-        meant.push(names.read(at, call)?)?;
-    }
+    let meant = read_all(alloc, &mut names, &rank.calls)?;
     Ok((names.handles, meant))
 }

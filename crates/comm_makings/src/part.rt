@@ -5,7 +5,7 @@ ghost use Rattle.std.specs.Prelude.{◌≡◌, option_map};
 use std::marker::Model;
 
 /// A communicator that is made.
-#[derive(Debug, Drop)]
+#[derive(Drop)]
 pub(crate) struct Part {
     /// The members' places in the parent, in the order of their new ranks.
     pub places: Vec<u32>,

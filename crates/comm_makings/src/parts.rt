@@ -12,7 +12,7 @@ use comm_groups::{ColorGroup, grid_parts, grid_size, kept_dims};
 use std::alloc::{AllocError, Global};
 
 /// What a making makes.
-#[derive(Debug, Drop)]
+#[derive(Drop)]
 pub(crate) enum Outcome {
     Parts(Vec<Part>),
     /// Nothing can be said of it, as the texts don't tell enough.

@@ -4,7 +4,6 @@ ghost use Rattle.std.specs.Prelude.{◌≡◌, ◌∷◌, ◌<◌, ◌^◌, [], 
 ghost use Rattle.std.specs.List.{filter_map};
 ghost use Rattle.std.specs.Option.{option_copied};
 ghost use Rattle.comm_makings.specs.Derives.{group_call_at, kth_calls, member_with, world_members};
-ghost use Rattle.comm_makings.specs.Here.{meant_at};
 ghost use Rattle.comm_makings.specs.Made.{member_at};
 ghost use Rattle.comm_makings.specs.State.{AreAllDerivedGroups, AreDerived, AreDerivedGroups, AreMadeOf, AreMembers, AreMembersIn, BindsMember, IsDerivedComm, IsDerivedGroup, IsFirstComm, IsOfDerived, IsRight, KeepsDerived, NamesMembers, NoneListed, NoneListedAt, NoneStands, NoneStandsAt, SetsStanding};
 
@@ -13,7 +12,7 @@ use crate::by_groups::{Found, Over, found_at};
 use crate::calls::{Action, CommCall, GroupCall, RankCalls};
 use crate::group_value::{GroupValue, value_of};
 use crate::handle::{Gives, Meant};
-use crate::here::{Here, all_kth, handle_of};
+use crate::here::{Here, all_kth, call_at, handle_of, meant_at};
 use crate::outcomes::outcome_in;
 use crate::part::Part;
 use crate::parts::Outcome;
@@ -218,20 +217,13 @@ fn count_of(views: &[RankView], member: Member) -> usize {
 fn group_call_at(ranks: &[RankCalls], rank: usize, at: usize) -> Option<&GroupCall>
     ensures { option_copied result ≡ group_call_at ranks.now rank at }
 {
-    match &ranks.get(rank)?.calls.get(at)?.action {
+    match &call_at(ranks, rank, at)?.action {
         Action::Group { group, .. } => Some(group),
         Action::Make { .. }
         | Action::CommRank { .. }
         | Action::Free { .. }
         | Action::GivesComm { .. } => None,
     }
-}
-
-/// What the numbers in a call of a rank mean.
-fn meant_at(views: &[RankView], rank: usize, at: usize) -> Option<Meant>
-    ensures { result ≡ meant_at views.now rank at }
-{
-    views.get(rank)?.meant.get(at).copied()
 }
 
 /// The group that a call of a rank gives, by what is known of the calls before it.
@@ -506,11 +498,7 @@ impl Run {
         self.read = self.read.saturating_add(read.len() as u64);
         mark_all(&mut self.taken, read);
         leave_handles(&mut self.standings, left);
-        let mut over = over;
-        if at < self.over.len() {
-            self.over[at].append(&mut over)?;
-        }
-        Ok(())
+        extend_at(&mut self.over, at, over)
     }
 
     /// Takes what was found in the calls of MPI_Comm_create_group on a communicator.
@@ -598,6 +586,40 @@ impl Run {
         }
         Ok(next)
     }
+
+    /// Derives all that can be: each round but the last two reads some call.
+    fn derive_all(
+        &mut self,
+        alloc: Global,
+        ranks: &[RankCalls],
+        views: &[RankView],
+    ) -> Result<(), AllocError>
+        requires { IsRight ranks.now views.now self.old.standings.items self.old.values.items self.old.comms.items }
+        ensures { OnOk result (IsRight ranks.now views.now self.new.standings.items self.new.values.items self.new.comms.items) }
+    {
+        let mut todo = places_to(alloc, self.comms.len())?;
+        let mut last = false;
+        for _ in 0..call_count(ranks).saturating_add(2) {
+            let read = self.read;
+            todo = self.round(alloc, ranks, views, &todo, last)?;
+            if self.read == read {
+                if last {
+                    return Ok(());
+                }
+                last = true;
+            }
+        }
+        Ok(())
+    }
+}
+
+/// The places of so many communicators.
+fn places_to(alloc: Global, count: usize) -> Result<Vec<usize>, AllocError> {
+    let mut places = Vec::new(alloc);
+    for place in 0..count {
+        places.push(place)?;
+    }
+    Ok(places)
 }
 
 /// Marks a call as read.
@@ -607,6 +629,15 @@ fn mark(taken: &mut Vec<Vec<bool>>, rank: u32, at: usize) {
             *read = true;
         }
     }
+}
+
+/// Adds to the list at this place.
+fn extend_at(lists: &mut Vec<Vec<Over>>, at: usize, more: Vec<Over>) -> Result<(), AllocError> {
+    let mut more = more;
+    if let Some(list) = lists.get_mut(at) {
+        list.append(&mut more)?;
+    }
+    Ok(())
 }
 
 fn mark_all(taken: &mut Vec<Vec<bool>>, read: &[(u32, usize)]) {
@@ -720,15 +751,23 @@ fn first_comms(
     Ok(comms)
 }
 
+/// The handle that the call at this place gives.
+fn handle_at(meant: &[Meant], at: usize) -> Option<usize> {
+    match meant.get(at)?.gives {
+        Gives::Handle(handle) => Some(handle),
+        Gives::Nothing | Gives::Null | Gives::Taken(_) | Gives::Unknown => None,
+    }
+}
+
 /// A function that gives communicators from which nothing is derived leaves its handle out.
 #[tactic(auto, using(crate::proofs::Right::stands_set))]
 fn leave_others(calls: &[CommCall], meant: &[Meant], standings: &mut Vec<Standing>)
     requires { NoneStands standings.old.items }
     ensures { NoneStands standings.new.items }
 {
-    for (call, meant) in calls.iter().zip(meant.iter()) {
+    for (at, call) in calls.iter().enumerate() {
         if let Action::GivesComm { .. } = &call.action {
-            if let Gives::Handle(handle) = meant.gives {
+            if let Some(handle) = handle_at(meant, at) {
                 set_in(standings, handle, Standing::Left(Why::Function));
             }
         }
@@ -765,6 +804,27 @@ fn begin(alloc: Global, calls: &RankCalls, view: &RankView, run: &mut Run) -> Re
 }
 
 /// All ranks before anything is derived.
+fn begin_ranks(
+    alloc: Global,
+    ranks: &[RankCalls],
+    views: &[RankView],
+    run: &mut Run,
+) -> Result<(), AllocError>
+    requires standings { NoneStandsAt run.old.standings.items }
+    requires values { NoneListedAt run.old.values.items }
+    ensures standings { OnOk result (NoneStandsAt run.new.standings.items) }
+    ensures values { OnOk result (NoneListedAt run.new.values.items) }
+    ensures comms { OnOk result (run.new.comms ≡ run.old.comms) }
+{
+    for (at, calls) in ranks.iter().enumerate() {
+        if let Some(view) = views.get(at) {
+            begin(alloc, calls, view, run)?;
+        }
+    }
+    Ok(())
+}
+
+/// Nothing is derived yet.
 #[tactic(auto, using(crate::proofs::Right::stands_none, crate::proofs::Right::all_listed_none))]
 fn begin_all(alloc: Global, ranks: &[RankCalls], views: &[RankView]) -> Result<Run, AllocError>
     ensures standings { IfOk result (λ run. NoneStandsAt run.standings.items) }
@@ -780,9 +840,7 @@ fn begin_all(alloc: Global, ranks: &[RankCalls], views: &[RankView]) -> Result<R
         over: Vec::new(alloc),
         read: 0,
     };
-    for (calls, view) in ranks.iter().zip(views.iter()) {
-        begin(alloc, calls, view, &mut run)?;
-    }
+    begin_ranks(alloc, ranks, views, &mut run)?;
     Ok(run)
 }
 
@@ -806,7 +864,7 @@ fn call_count(ranks: &[RankCalls]) -> usize {
     count
 }
 
-/// Derives all that can be: each round but the last two reads some call.
+/// Derives all that can be.
 pub(crate) fn run_of(
     alloc: Global,
     ranks: &[RankCalls],
@@ -816,21 +874,7 @@ pub(crate) fn run_of(
     ensures { IfOk result (λ run. IsRight ranks.now views.now run.standings.items run.values.items run.comms.items) }
 {
     let mut run = start(alloc, ranks, views)?;
-    let mut todo = Vec::new(alloc);
-    for at in 0..run.comms.len() {
-        todo.push(at)?;
-    }
-    let mut last = false;
-    for _ in 0..call_count(ranks).saturating_add(2) {
-        let read = run.read;
-        todo = run.round(alloc, ranks, views, &todo, last)?;
-        if run.read == read {
-            if last {
-                return Ok(run);
-            }
-            last = true;
-        }
-    }
+    run.derive_all(alloc, ranks, views)?;
     Ok(run)
 }
 

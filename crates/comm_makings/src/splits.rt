@@ -13,7 +13,7 @@ use comm_groups::{Colored, split};
 use std::alloc::{AllocError, Global};
 
 /// What a member of the parent asks of a split.
-#[derive(Clone, Copy, Debug, PartialEq, Eq)]
+#[derive(Clone, Copy)]
 pub(crate) enum Asked {
     /// It has no such call.
     Missing,

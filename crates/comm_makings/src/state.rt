@@ -8,7 +8,7 @@ use crate::answer::Why;
 use std::alloc::{AllocError, Global};
 
 /// How a handle of a rank stands.
-#[derive(Clone, Copy, Debug, PartialEq, Eq)]
+#[derive(Clone, Copy)]
 pub(crate) enum Standing {
     /// Nothing is known of it yet.
     Open,
@@ -19,7 +19,7 @@ pub(crate) enum Standing {
 
 /// The place of a communicator in a layout: the world first, then MPI_COMM_SELF by rank, then by the making call of the
 /// smallest member whose text has it, and then by that member.
-#[derive(Clone, Copy, Debug, PartialEq, Eq, PartialOrd, Ord)]
+#[derive(Clone, Copy, PartialEq, Eq, PartialOrd, Ord)]
 pub(crate) struct Order {
     pub class: u8,
     pub call: u64,
@@ -27,7 +27,7 @@ pub(crate) struct Order {
 }
 
 /// A member of a communicator.
-#[derive(Clone, Copy, Debug, PartialEq, Eq)]
+#[derive(Clone, Copy)]
 pub(crate) struct Member {
     /// Its rank in the run.
     pub rank: u32,
@@ -36,7 +36,7 @@ pub(crate) struct Member {
 }
 
 /// A derived communicator.
-#[derive(Debug, Drop)]
+#[derive(Drop)]
 pub(crate) struct Made {
     /// In the order of their ranks in it.
     pub members: Vec<Member>,

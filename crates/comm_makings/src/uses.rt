@@ -15,7 +15,7 @@ pub(crate) struct HandleUses {
 }
 
 /// A handle in the order of its number and its first call.
-#[derive(Clone, Copy, Debug, PartialEq, Eq, PartialOrd, Ord)]
+#[derive(Clone, Copy, PartialEq, Eq, PartialOrd, Ord)]
 struct Place {
     number: u32,
     first: u64,
@@ -136,8 +136,10 @@ pub(crate) fn uses_of_all(
     views: &[RankView],
 ) -> Result<Vec<HandleUses>, AllocError> {
     let mut all = Vec::new(alloc);
-    for (rank, view) in ranks.iter().zip(views.iter()) {
-        all.push(uses_of(alloc, &view.handles, &rank.uses)?)?;
+    for (at, rank) in ranks.iter().enumerate() {
+        if let Some(view) = views.get(at) {
+            all.push(uses_of(alloc, &view.handles, &rank.uses)?)?;
+        }
     }
     Ok(all)
 }

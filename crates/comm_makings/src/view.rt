@@ -50,9 +50,9 @@ fn add_to(lists: &mut Vec<Vec<usize>>, at: usize, call: usize) -> Result<(), All
 
 /// The first call that makes communicators of a parent that is unknown; where there is none, one behind the last.
 fn end_of(calls: &[CommCall], meant: &[Meant]) -> usize {
-    for (at, (call, meant)) in calls.iter().zip(meant.iter()).enumerate() {
+    for (at, call) in calls.iter().enumerate() {
         if let Action::Make { .. } = &call.action {
-            if meant.comm.is_none() {
+            if comm_at(meant, at).is_none() {
                 return at;
             }
         }

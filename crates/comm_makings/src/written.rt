@@ -14,7 +14,7 @@ use mpi_model::{Comm, Stretch};
 use std::alloc::{AllocError, Global};
 
 /// Which communicator of the layout a number is of.
-#[derive(Clone, Copy, Debug, PartialEq, Eq)]
+#[derive(Clone, Copy, PartialEq, Eq)]
 enum Owner {
     One(usize),
     Several,
@@ -64,7 +64,7 @@ fn is_named(uses: &[HandleUses], comm: &Made) -> bool {
 }
 
 /// A communicator, by its place among all, in the order of a layout.
-#[derive(Clone, Copy, Debug, PartialEq, Eq, PartialOrd, Ord)]
+#[derive(Clone, Copy, PartialEq, Eq, PartialOrd, Ord)]
 struct Named {
     order: Order,
     place: usize,
@@ -279,8 +279,34 @@ fn written_comm(
     }
 }
 
-/// The communicators of the layout but the world. Their free ids begin above this number.
+/// These communicators of the layout, with the ids that they have by their numbers. Their free ids begin above this number.
 #[tactic(auto, using(crate::proofs::Derivations::written_none, crate::proofs::Derivations::written_more))]
+fn written_comms(
+    alloc: Global,
+    largest: u32,
+    views: &[RankView],
+    uses: &[HandleUses],
+    comms: &[Made],
+    named: &[Named],
+    owners: &IndexMap<u32, Owner>,
+) -> Result<Vec<Comm>, AllocError>
+    ensures { IfOk result (λ all. AreWrittenOf views.now uses.now comms.now all.items) }
+{
+    let mut free = largest;
+    let mut all = Vec::new(alloc);
+    for named in named {
+        if let Some(comm) = comm_at(comms, named.place) {
+            let id = id_of(views, uses, owners, named.place, &comm.members);
+            if id.is_none() {
+                free = free.saturating_add(1);
+            }
+            all.push(written_comm(alloc, views, uses, id, free, comm)?)?;
+        }
+    }
+    Ok(all)
+}
+
+/// The communicators of the layout but the world. Their free ids begin above this number.
 fn others(
     alloc: Global,
     largest: u32,
@@ -292,18 +318,7 @@ fn others(
 {
     let named = named_comms(alloc, uses, comms)?;
     let owners = owners_of(alloc, views, comms, &named)?;
-    let mut free = largest;
-    let mut all = Vec::new(alloc);
-    for named in named.iter() {
-        if let Some(comm) = comm_at(comms, named.place) {
-            let id = id_of(views, uses, &owners, named.place, &comm.members);
-            if id.is_none() {
-                free = free.saturating_add(1);
-            }
-            all.push(written_comm(alloc, views, uses, id, free, comm)?)?;
-        }
-    }
-    Ok(all)
+    written_comms(alloc, largest, views, uses, comms, &named, &owners)
 }
 
 /// The communicators of the layout, the world first.
@@ -320,7 +335,8 @@ pub(crate) fn written(
 {
     let largest = largest_number(world, views);
     let mut others = others(alloc, largest, views, uses, comms)?;
-    let mut all = vec![in alloc; world_comm(alloc, world, ranks)?]?;
+    let mut all = Vec::new(alloc);
+    all.push(world_comm(alloc, world, ranks)?)?;
     all.append(&mut others)?;
     Ok(all)
 }

@@ -1,8 +1,7 @@
+use Rattle.comm_makings.proofs.GroupCalls.{sorted_right}
 use Rattle.comm_makings.proofs.by_groups.offers_of.Goals as goal
-use Rattle.comm_makings.proofs.by_groups.offers_of.Goals.{in-Ok+in_ok-waited+in_ok-push, in_default}
 
-pub loop-at-preserved : goal.loop-at-preserved
-loop-at-preserved c = elim c.match-try_from.branch [
-  | in-Ok+in_ok-waited+in_ok-push w ↦ rw w.calls-is w.in_ok-waited.ensures
-  | in_default w ↦ rw w.calls-is c.loop-at.invariant
-]
+pub returns : goal.returns
+returns c =
+    sorted_right c.args.ranks.now c.args.views.now c.args.run.now.values.items c.args.run.now.comms.items c.args.members.now c.offer_members.new.calls.items
+    c.sort_by_key.new.self.items c.sort_by_key.ensures.permutation c.in_ok-offer_members.ensures

@@ -1,6 +1,6 @@
 use Rattle.std.proofs.Common.{◌-◌, length}
 use Rattle.comm_makings.specs.ByGroups.{AreFound}
-use Rattle.comm_makings.proofs.by_groups.found_in.Given as goal
+use Rattle.comm_makings.proofs.by_groups.find_all.Given as goal
 
 abbrev pub decreases-loop-at : goal.decreases-loop-at
 decreases-loop-at l = length l.calls - l.at

@@ -1,6 +1,6 @@
 use Rattle.std.proofs.Common.{arith}
 use Rattle.comm_makings.proofs.GroupCalls.{same_behind, same_from}
-use Rattle.comm_makings.proofs.by_groups.found_in.Goals as goal
+use Rattle.comm_makings.proofs.by_groups.find_all.Goals as goal
 
 pub read_key-requires-clause-same : goal.read_key-requires-clause-same
 read_key-requires-clause-same c =

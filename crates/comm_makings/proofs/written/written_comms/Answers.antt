@@ -1,7 +1,7 @@
 use Rattle.std.proofs.Common.{sym}
 use Rattle.comm_makings.proofs.Derivations.{written_more}
-use Rattle.comm_makings.proofs.written.others.Goals as goal
-use Rattle.comm_makings.proofs.written.others.Goals.{in-Some+in_ok-written_comm+in_ok-push, in_default}
+use Rattle.comm_makings.proofs.written.written_comms.Goals as goal
+use Rattle.comm_makings.proofs.written.written_comms.Goals.{in-Some+in_ok-written_comm+in_ok-push, in_default}
 
 pub loop-named-preserved : goal.loop-named-preserved
 loop-named-preserved c = elim c.match-comm_at.branch [

@@ -1,5 +1,0 @@
-use Rattle.comm_makings.specs.Offers.{AreWanted}
-use Rattle.comm_makings.proofs.creates.offers_in.Given as goal
-
-abbrev pub invariant-loop-here : goal.invariant-loop-here
-invariant-loop-here l = AreWanted l.values l.comms l.all l.offers.groups.items
