@@ -63,13 +63,13 @@ module _ {Y : Type 0} (f : ℕ → Call → Option Y) where
     told_later n (c ∷ cs) [] g y h = absurd g
     told_later n (c ∷ cs) (d ∷ ds) (inl s) y h =
         let k : drop (length (Told n (c ∷ cs))) (Told n (d ∷ ds)) ≡ drop (length (Told (n + 1) cs)) (Told (n + 1) ds) =
-            ap (λ (l : List Y). drop (length (Told n (c ∷ cs))) l) (same_front n c d ds (inl s.0)) ∙ front_falls (f n c.call) (Told (n + 1) cs) (Told (n + 1) ds) in
+        ap (λ (l : List Y). drop (length (Told n (c ∷ cs))) l) (same_front n c d ds (inl s.0)) ∙ front_falls (f n c.call) (Told (n + 1) cs) (Told (n + 1) ds) in
         let le = told_later (n + 1) cs ds s.1 y (subst (λ (l : List Y). Has l y) k h) in
         omega (arith, le)
     told_later n (c ∷ cs) (d ∷ ds) (inr s) y h =
         let i = subst (λ (l : List Entry). Has (drop (length (Told n (c ∷ l))) (Told n (d ∷ ds))) y) s.2 h in
         let k : drop (length (Told n (c ∷ []))) (Told n (d ∷ ds)) ≡ Told (n + 1) ds =
-            ap (λ (l : List Y). drop (length (Told n (c ∷ []))) l) (same_front n c d ds (inr (s.0, s.1))) ∙ front_falls (f n c.call) [] (Told (n + 1) ds) in
+        ap (λ (l : List Y). drop (length (Told n (c ∷ []))) l) (same_front n c d ds (inr (s.0, s.1))) ∙ front_falls (f n c.call) [] (Told (n + 1) ds) in
         let le = member (n + 1) ds y (subst (λ (l : List Y). Has l y) k i) in
         let none : length cs ≡ 0 = ap (λ (l : List Entry). length l) s.2 in
         omega (arith, le, none)
