@@ -1,20 +1,18 @@
 -- The call of a text that begins at a line.
-use Rattle.std.proofs.Common.{◌≡◌, ◌∙◌, ◌++◌, ℕ, Bool, true, false, cond, eqb, List, [], ◌∷◌, Option, Some, None, Result, Ok, Err, refl, sym, ap, subst, inl, inr}
+use Rattle.std.proofs.Common.{◌≡◌, ◌∙◌, ◌++◌, ℕ, Bool, true, false, cond, eqb, List, [], ◌∷◌, Option, Some, None, refl, sym, ap, subst, inl, inr}
 use Rattle.std.proofs.lemmas.Bool.{eq-eqb, ne_eqb}
 use Rattle.dumpi_text.specs.Call.{TextCall, first_value}
 use Rattle.dumpi_text.specs.Grammar.{Complete, Ending, Meaning, Stopped, meaning_of, text_meaning}
-use Rattle.dumpi_text.specs.Reading.{HasRead, MeansAll, StopsAtTheFault}
+use Rattle.dumpi_text.specs.Reading.{HasRead, MeansAll}
 use Rattle.dumpi_text.specs.Source.{rest_of}
-use Rattle.dumpi_text.specs.Standing.{Stops, TextState}
+use Rattle.dumpi_text.specs.Standing.{TextState}
 use Rattle.dumpi_text.specs.declared.fault.LineFault.{LineFault}
 use Rattle.dumpi_text.specs.declared.fault.TextCause.{TextCause}
 use Rattle.dumpi_text.specs.declared.fault.TextCause.TheVariants as causes
 use Rattle.dumpi_text.specs.declared.fault.TextFault.{TextFault}
 use Rattle.dumpi_text.specs.declared.fault.TextFault.TheVariants as faults
-use Rattle.dumpi_text.specs.declared.standing.Standing.TheVariants.{Finished, Reading}
 use Rattle.dumpi_text.specs.declared.step.Position.{Position}
 use Rattle.dumpi_calls.specs.Walks.{Follows, IsRead, RefusesNext}
-use Rattle.dumpi_calls.proofs.NextCall.{stops}
 use Rattle.text_notes.specs.Values.{GoesOn, IsValueAt, call_at, value_in}
 
 not_here : (b : Bool) (line : ℕ) (call : TextCall) (calls rest : List TextCall) → cond b (Some call) (call_at line calls) ≡ None
@@ -81,12 +79,8 @@ pub is_refused : (text : Option (List ℕ)) (calls : List TextCall) (fault : Lin
 is_refused text calls fault at line view refused = (Stopped fault refused.1.0, refused.1.1)
 
 -- the same, by what the text says in place of a call
-pub refused_so : StopsAtTheFault → (text : Option (List ℕ)) (calls : List TextCall) (told : TextFault) (cause : TextCause) (at : ℕ) (fault : LineFault) (old new : TextState)
-    → (old.standing ≡ Reading → Stops old new told) → (old.standing ≡ Finished → ◌≡◌ {A = Result Bool TextFault} (Err told) (Ok false) × (new ≡ old))
-    → told ≡ faults.At at cause → cause ≡ causes.Line fault → IsRead text calls old → GoesOn text calls None new
-refused_so law text calls told cause at fault old new stopped finished is_at is_line read =
-    let whole : told ≡ faults.At at (causes.Line fault) = is_at ∙ ap (faults.At at) is_line in
-    is_refused text calls fault at new.told.line new
-    (stops law text calls (faults.At at (causes.Line fault)) old new
-    (λ reading. subst (λ (t : TextFault). Stops old new t) whole (stopped reading))
-    (λ over. let no : ◌≡◌ {A = Result Bool TextFault} (Err told) (Ok false) = (finished over).0 in cc) read)
+pub refused_so : (text : Option (List ℕ)) (calls : List TextCall) (told : TextFault) (cause : TextCause) (at : ℕ) (fault : LineFault) (view : TextState)
+    → told ≡ faults.At at cause → cause ≡ causes.Line fault → RefusesNext text calls told view.told.line → GoesOn text calls None view
+refused_so text calls told cause at fault view is_at is_line refused =
+    is_refused text calls fault at view.told.line view
+    (subst (λ (t : TextFault). RefusesNext text calls t view.told.line) (is_at ∙ ap (faults.At at) is_line) refused)
