@@ -14,6 +14,7 @@ use Rattle.trace_pair.specs.KeyOrders.{ReceiveKey, receive_key_cmp, receive_key_
 use Rattle.trace_pair.specs.Queues.{had, kinds_with, of_kind}
 use Rattle.trace_pair.specs.declared.ends.Ends.{Ends}
 use Rattle.trace_pair.specs.declared.queues.Kinds.{Kinds}
+use Rattle.trace_pair.proofs.LaterEnds.{later_left, later_one, later_right}
 use Rattle.trace_pair.proofs.Obeyed.{either}
 use Rattle.trace_pair.proofs.Orders.{receive_keys_total, exact_receive_keys}
 use Rattle.trace_pair.proofs.PutAt.{says_equal}
@@ -29,35 +30,9 @@ ends_along a None (Some z) h g = cc
 ends_along None (Some y) (Some z) h g = cc
 ends_along (Some x) (Some y) (Some z) h g = grind (arith, nat_tests)
 
--- the later of two is one of them, and neither ends behind it
-later_one : (a b : Option ℕ) → (later_end a b ≡ a) ⊎ (later_end a b ≡ b)
-later_one None b = inl refl
-later_one (Some x) None = inr refl
-later_one (Some x) (Some y) =
-    elim (ltb x y) as (λ t. ((if t then Some y else Some x) ≡ Some x) ⊎ ((if t then Some y else Some x) ≡ Some y)) [ true ↦ inr refl | false ↦ inl refl ]
-
-ends_left : (a b : Option ℕ) → ends_by a (later_end a b) ≡ true
-ends_left None b = refl
-ends_left (Some x) None = refl
-ends_left (Some x) (Some y) =
-    elim (ltb x y) as (λ t. ltb x y ≡ t → ends_by (Some x) (if t then Some y else Some x) ≡ true) [
-      | true ↦ λ e. grind (arith, nat_tests)
-      | false ↦ λ e. grind (arith, nat_tests)
-    ] refl
-
-ends_right : (a b : Option ℕ) → ends_by b (later_end a b) ≡ true
-ends_right None None = refl
-ends_right None (Some y) = refl
-ends_right (Some x) None = refl
-ends_right (Some x) (Some y) =
-    elim (ltb x y) as (λ t. ltb x y ≡ t → ends_by (Some y) (if t then Some y else Some x) ≡ true) [
-      | true ↦ λ e. grind (arith, nat_tests)
-      | false ↦ λ e. grind (arith, nat_tests)
-    ] refl
-
 with_right : (had : Option (Option ℕ)) (e : Option ℕ) → ends_by e (with_end had e) ≡ true
 with_right None e = ends_self e
-with_right (Some h) e = ends_right h e
+with_right (Some h) e = later_right h e
 
 module _ (opened : List Receive) (old : Ends) (s : AreLast opened old) (q : Receive) (new : Ends)
     (marked : new.kinds ≡ kinds_with old.kinds q.source q.tag)
@@ -79,7 +54,7 @@ module _ (opened : List Receive) (old : Ends) (s : AreLast opened old) (q : Rece
       ] refl
 
   raises : (e : Option ℕ) → get receive_key_cmp old.last key ≡ Some e → ends_by e raised ≡ true
-  raises e h = subst (λ (o : Option (Option ℕ)). ends_by e (with_end o q.ended) ≡ true) (sym h) (ends_left e q.ended)
+  raises e h = subst (λ (o : Option (Option ℕ)). ends_by e (with_end o q.ended) ≡ true) (sym h) (later_left e q.ended)
 
   within_more : (u : Receive) → Has (q ∷ opened) u → (e : Option ℕ) × (get receive_key_cmp new.last (receive_key_of u) ≡ Some e) × (ends_by u.ended e ≡ true)
   within_more u (inl is) = (
@@ -164,8 +139,8 @@ module _ (xs : List Receive) (m : Message) (p t : Receive → Bool) where
   pub last_both : (d e : Option ℕ) → IsLastAmong xs m p (Some d) → IsLastAmong xs m t (Some e) → IsLastAmong xs m (λ r. p r || t r) (Some (later_end d e))
   last_both d e h g = (
     ⊎_elim (λ (x : later_end d e ≡ d). (h.0.0, h.0.1, h.0.2, h.0.3 ∙ sym x)) (λ (x : later_end d e ≡ e). (g.0.0, g.0.1, g.0.2, g.0.3 ∙ sym x)) (later_one d e),
-    λ r i k f. ⊎_elim (λ (x : p r ≡ true). ends_along r.ended d (later_end d e) (h.1 r i x f) (ends_left d e))
-        (λ (x : t r ≡ true). ends_along r.ended e (later_end d e) (g.1 r i x f) (ends_right d e)) (either (p r) (t r) k),
+    λ r i k f. ⊎_elim (λ (x : p r ≡ true). ends_along r.ended d (later_end d e) (h.1 r i x f) (later_left d e))
+        (λ (x : t r ≡ true). ends_along r.ended e (later_end d e) (g.1 r i x f) (later_right d e)) (either (p r) (t r) k),
   )
 
 -- each receive is of one of the four kinds

@@ -1,14 +1,15 @@
 //! The ends of receives: at each key the end of the one that ends last, which is all that a message asks of them.
 
-ghost use Rattle.std.specs.Prelude.{◌≡◌, ◌∷◌, ◌&&◌, ◌||◌, not, true, [], OnOk, List, Bool};
+ghost use Rattle.std.specs.Prelude.{◌≡◌, ◌∷◌, ◌&&◌, not, true, [], OnOk, List};
 ghost use Rattle.std.specs.List.{list_any};
 ghost use Rattle.mpi_model.specs.declared.message.Receive.{Receive};
 ghost use Rattle.mpi_model.specs.declared.message.Message.{Message};
 ghost use Rattle.mpi_model.specs.Fit.{admits, envelopes_fit};
 ghost use Rattle.trace_pair.specs.After.{comes_after};
-ghost use Rattle.trace_pair.specs.Ends.{AreLast, IsLastAmong, IsLastFor, later_end, with_end};
+ghost use Rattle.trace_pair.specs.Ends.{AreLast, IsLastAmong, IsLastFor};
 ghost use Rattle.trace_pair.specs.Queues.{of_kind};
 
+use crate::later::{later_of, with_end};
 use crate::queues::{Kinds, NO_KINDS};
 use crate::reach::Reaches;
 use mpi_model::{Message, Receive};
@@ -21,28 +22,6 @@ use std::collections::BTreeMap;
 pub struct Ends {
     kinds: Kinds,
     last: BTreeMap<(u32, u32, Option<u32>, Option<u32>), Option<u64>>,
-}
-
-/// The later of two ends.
-fn later_end(a: Option<u64>, b: Option<u64>) -> Option<u64>
-    ensures { result ≡ later_end a b }
-{
-    match a {
-        None => None,
-        Some(x) => match b {
-            None => None,
-            Some(y) => if x < y { Some(y) } else { Some(x) },
-        },
-    }
-}
-
-fn with_end(had: Option<Option<u64>>, end: Option<u64>) -> Option<u64>
-    ensures { result ≡ with_end had end }
-{
-    match had {
-        None => end,
-        Some(had) => later_end(had, end),
-    }
 }
 
 impl Ends {
@@ -102,18 +81,5 @@ impl Ends {
             None => false,
             Some(end) => !reaches.is_after(m, m.to, end),
         }
-    }
-}
-
-/// The later of two ends, where there are any.
-fn later_of(a: Option<Option<u64>>, b: Option<Option<u64>>) -> Option<Option<u64>>
-    ensures { (xs : List Receive) (m : Message) (p t : Receive → Bool) → IsLastAmong xs m p a → IsLastAmong xs m t b → IsLastAmong xs m (λ r. p r || t r) result }
-{
-    match a {
-        None => b,
-        Some(x) => match b {
-            None => Some(x),
-            Some(y) => Some(later_end(x, y)),
-        },
     }
 }
