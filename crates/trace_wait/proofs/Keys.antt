@@ -1,7 +1,7 @@
 -- What the sets of patterns and of rounds hold, one element more.
-use Rattle.std.proofs.Common.{◌≡◌, ℕ, ◌+◌, ◌<◌, Bool, true, false, ◌&&◌, ◌||◌, List, [], ◌∷◌, ◌++◌, Option, Some, None, take, get_or, refl, sym, ◌∙◌, ap, arith, length, append-nil}
+use Rattle.std.proofs.Common.{◌≡◌, ℕ, ◌+◌, ◌<◌, Bool, true, false, ◌&&◌, ◌||◌, List, [], ◌∷◌, ◌++◌, Option, Some, None, take, get_or, refl, sym, ◌∙◌, ap, arith, length}
 use Rattle.std.specs.Prelude.{filter, not, is_some, is_none, ◌==◌, if◌then◌else◌}
-use Rattle.std.specs.List.{list_any, flat_map}
+use Rattle.std.specs.List.{list_any}
 use Rattle.std.specs.declared.cmp.Ordering.{Ordering}
 use Rattle.std.specs.declared.cmp.Ordering.TheVariants.{Less, Equal, Greater}
 use Rattle.std.specs.Ordering.{nat_cmp, ordering_then, is_eq}
@@ -45,32 +45,6 @@ module _ {X : Type 0} (g f : X → Bool) where
       ap (λ (l : List X). list_any f (filter g l)) (take_more xs i d lt) ∙ ap (list_any f) (filter-append g (take i xs) (x ∷ []))
       ∙ list_any-append f (filter g (take i xs)) (filter g (x ∷ [])) ∙ ap (λ b. so_far || b) (one_kept (g x) x) in
       k ∙ ap (λ b. (g x && f x) || b) h ∙ swapped (g x && f x) so_far before ∙ ap (λ b. b || before) (sym more)
-
-module _ {X Y : Type 0} (h : X → List Y) (f : Y → Bool) where
-  any_flat : (xs : List X) (x : X) → list_any f (flat_map h (xs ++ x ∷ [])) ≡ (list_any f (flat_map h xs) || list_any f (h x))
-  any_flat [] x = ap (list_any f) (append-nil (h x))
-  any_flat (y ∷ ys) x =
-      list_any-append f (h y) (flat_map h (ys ++ x ∷ [])) ∙ ap (λ b. list_any f (h y) || b) (any_flat ys x)
-      ∙ grouped (list_any f (h y)) (list_any f (flat_map h ys)) (list_any f (h x))
-      ∙ ap (λ b. b || list_any f (h x)) (sym (list_any-append f (h y) (flat_map h ys)))
-    where
-      grouped : (a b c : Bool) → (a || (b || c)) ≡ ((a || b) || c)
-      grouped true b c = refl
-      grouped false b c = refl
-
-  -- the elements of one list more
-  pub flat_more : (xs : List X) (i : ℕ) (d : X) (now after : Bool) → i < length xs →
-      now ≡ list_any f (flat_map h (take i xs)) → after ≡ (list_any f (h (get_or xs i d)) || now) → after ≡ list_any f (flat_map h (take (i + 1) xs))
-  flat_more xs i d now after lt k e =
-      let x = get_or xs i d in
-      e ∙ ap (λ b. list_any f (h x) || b) k ∙ turned (list_any f (h x)) (list_any f (flat_map h (take i xs)))
-      ∙ sym (any_flat (take i xs) x) ∙ ap (λ (l : List X). list_any f (flat_map h l)) (sym (take_more xs i d lt))
-    where
-      turned : (a b : Bool) → (a || b) ≡ (b || a)
-      turned true true = refl
-      turned true false = refl
-      turned false true = refl
-      turned false false = refl
 
 -- equal keys
 then_eq : (a b : Ordering) → is_eq (ordering_then a b) ≡ (is_eq a && is_eq b)
