@@ -35,3 +35,12 @@ returns-in-Free c = reads c.put-in-Free.ensures (sym (ap call_text c.in-Free.is)
 
 pub returns-in-Unread : goal.returns-in-Unread
 returns-in-Unread c = reads c.put-in-Unread.ensures (sym (ap call_text c.in-Unread.is))
+
+pub returns-in-Start : goal.returns-in-Start
+returns-in-Start c = reads c.put-in-Start.ensures (sym (ap call_text c.in-Start.is))
+
+pub returns-in-Startall : goal.returns-in-Startall
+returns-in-Startall c = reads c.put_of_requests-in-Startall.ensures (ap (λ (l : List ℤ). of_requests_text (codes "MPI_Startall") (length l)) c.as_slice-in-Startall.ensures ∙ sym (ap call_text c.in-Startall.is))
+
+pub returns-in-Imrecv : goal.returns-in-Imrecv
+returns-in-Imrecv c = reads c.put-in-Imrecv.ensures (sym (ap call_text c.in-Imrecv.is))

@@ -28,3 +28,9 @@ returns-in-Free c = reads c.put-in-Free.ensures (sym (ap function_text c.in-Free
 
 pub returns-in-Unread : goal.returns-in-Unread
 returns-in-Unread c = reads c.put-in-Unread.ensures (sym (ap function_text c.in-Unread.is))
+
+pub returns-in-Startall : goal.returns-in-Startall
+returns-in-Startall c = reads c.put-in-Startall.ensures (sym (ap function_text c.in-Startall.is))
+
+pub returns-in-Imrecv : goal.returns-in-Imrecv
+returns-in-Imrecv c = reads c.put-in-Imrecv.ensures (sym (ap function_text c.in-Imrecv.is))
