@@ -1,5 +1,6 @@
 use Rattle.std.proofs.Common.{ℤ, List, ap, codes, length, sym, ◌∙◌}
-use Rattle.call_words.specs.Words.{call_text, of_requests_text}
+use Rattle.mpi_model.specs.declared.envelope.Envelope.{Envelope}
+use Rattle.call_words.specs.Words.{call_text, of_requests_text, receive_text}
 use Rattle.call_words.proofs.Adding.{reads}
 use Rattle.call_words.proofs.calls.put_call.Goals as goal
 
@@ -44,3 +45,9 @@ returns-in-Startall c = reads c.put_of_requests-in-Startall.ensures (ap (λ (l :
 
 pub returns-in-Imrecv : goal.returns-in-Imrecv
 returns-in-Imrecv c = reads c.put-in-Imrecv.ensures (sym (ap call_text c.in-Imrecv.is))
+
+pub returns-in-RecvInit : goal.returns-in-RecvInit
+returns-in-RecvInit c = reads c.put_receive-in-RecvInit.ensures (ap (λ (e : Envelope). receive_text (codes "MPI_Recv_init") e) c.envelope-in-RecvInit.ensures.value ∙ sym (ap call_text c.in-RecvInit.is))
+
+pub returns-in-Improbe : goal.returns-in-Improbe
+returns-in-Improbe c = reads c.put_probe-in-Improbe.ensures (sym (ap call_text c.in-Improbe.is))
