@@ -1,10 +1,10 @@
 -- Which init holds a request number (MPI 4.0, 3.9).
-use Rattle.std.specs.Prelude.{◌≡◌, ℕ, ℤ, Bool, ◌||◌, if◌then◌else◌, Option, Some, None, List, [], ◌∷◌, length}
+use Rattle.std.specs.Prelude.{◌≡◌, ℕ, ℤ, Bool, ◌||◌, if◌then◌else◌, Option, Some, None, List, [], ◌∷◌, ◌++◌, length, map}
 use Rattle.std.specs.Option.{option_map}
 use Rattle.mpi_model.specs.declared.call.Call.{Call}
 use Rattle.trace_ops.specs.declared.held.Init.{Init as Lent}
 use Rattle.trace_ops.specs.Calls.{Entry}
-use Rattle.trace_ops.specs.Request.{freed_of, given_of, is_init, is_posted}
+use Rattle.trace_ops.specs.Request.{freed_of, given_of, is_init, is_posted, started_by}
 
 -- an init that has returned: its call, with its number
 pub record Init : Type 0 where
@@ -33,3 +33,12 @@ plain_init i = record { number = i.number; call = i.call.now }
 -- By number, the init that holds it after these calls, of which the last stands first.
 abbrev pub Holds : List Entry → (ℤ → Option Lent) → Type 0
 Holds before kept = (x : ℤ) → option_map plain_init (kept x) ≡ held_in before x
+
+-- what holds the numbers that a Start or Startall lists, behind these calls
+abbrev pub inits_at : List Entry → Entry → List (Option Init)
+inits_at before c = map (held_in before) (started_by c.call)
+
+-- the same of all calls that follow
+abbrev pub inits_from : List Entry → List Entry → List (Option Init)
+inits_from before [] = []
+inits_from before (c ∷ calls) = inits_at before c ++ inits_from (c ∷ before) calls

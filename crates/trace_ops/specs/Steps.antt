@@ -1,6 +1,6 @@
 -- The steps of a rank. A step is a call, or one part of a Start or Startall: each of these starts for itself (MPI 4.0, 3.9).
-use Rattle.std.specs.Prelude.{ℕ, ℤ, ◌+◌, ◌^◌, Bool, ◌||◌, nat_lt, if◌then◌else◌, Option, Some, None, is_some, List, [], ◌∷◌, ◌++◌, length}
-use Rattle.std.specs.List.{list_any, cons_option}
+use Rattle.std.specs.Prelude.{◌≡◌, ℕ, ℤ, ◌+◌, ◌^◌, Bool, true, ◌||◌, nat_lt, if◌then◌else◌, Option, Some, None, is_some, List, [], ◌∷◌, ◌++◌, length, slice_get}
+use Rattle.std.specs.List.{cons_option}
 use Rattle.std.specs.Option.{option_map}
 use Rattle.mpi_model.specs.declared.call.Call.{Call}
 use Rattle.mpi_model.specs.declared.call.Call.TheVariants.{Isend, Irecv, SendInit, RecvInit, Local}
@@ -111,3 +111,9 @@ completed_by s = completions s.entry.call s.entry.outs
 -- comes to hold x ends an earlier post; what holds x already stays.)
 abbrev pub touches : ℤ → Step → Bool
 touches x s = is_posted (given_by s) x || is_completed x (completed_by s)
+
+-- a part of call n, which is a Start or a Startall
+pub record IsPartOf (calls : List Entry) (n : ℕ) (s : Step) : Type 0 where
+  pub number : s.number ≡ n
+  pub at : slice_get calls n ≡ Some s.entry
+  pub start : is_start s.entry.call ≡ true

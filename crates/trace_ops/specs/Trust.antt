@@ -83,9 +83,14 @@ abbrev pub gives_back : List Step → Bool
 gives_back [] = false
 gives_back (s ∷ later) = (is_matched_receive s.entry.call && is_cancelled_post (posted_by s) later) || gives_back later
 
+-- by whether a message may have been given back
+abbrev pub trust_by : Bool → Trust
+trust_by true = Doubtful
+trust_by false = Sure
+
 -- of a matched probe before these steps, which has taken a message
 abbrev pub trust_of_probe : List Step → Trust
-trust_of_probe later = if gives_back later then Doubtful else Sure
+trust_of_probe later = trust_by (gives_back later)
 
 -- the name of what a step posted, where a Cancel names its number
 abbrev pub cancelled_with : OpName → List Step → Option ℤ → Option OpName
