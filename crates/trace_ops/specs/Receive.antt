@@ -1,5 +1,5 @@
 -- The receives of a rank, with their told sources (MPI 4.0, 3.2.4, 3.7.2, 3.8.1, 3.8.2, 3.8.4, 3.9 and 3.10).
-use Rattle.std.specs.Prelude.{ℕ, pos, ◌-◌, ◌^◌, if◌then◌else◌, Option, Some, None, List, slice_get}
+use Rattle.std.specs.Prelude.{ℕ, pos, Bool, false, if◌then◌else◌, Option, Some, None, List, slice_get}
 use Rattle.std.specs.List.{filter_map}
 use Rattle.std.specs.Option.{option_and_then}
 use Rattle.mpi_model.specs.declared.envelope.Envelope.{Envelope}

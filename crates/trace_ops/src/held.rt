@@ -1,12 +1,11 @@
 //! Which inits hold the request numbers that calls start.
 
-ghost use Rattle.std.specs.Prelude.{◌≡◌, ◌++◌, ◌∷◌, ℤ, List, None, Some, map, length, reverse, if◌then◌else◌, IfOk, OnOk};
+ghost use Rattle.std.specs.Prelude.{◌≡◌, ◌++◌, ◌∷◌, ℤ, List, [], None, Some, map, length, reverse, if◌then◌else◌, IfOk, OnOk};
 ghost use Rattle.std.specs.Ordering.{int_eq};
 ghost use Rattle.std.specs.Option.{option_map};
 ghost use Rattle.indexmap.specs.IndexMap.{get};
-ghost use Rattle.mpi_model.specs.declared.call.Call.TheVariants.{Local};
 ghost use Rattle.trace_ops.specs.Calls.{Entry};
-ghost use Rattle.trace_ops.specs.Held.{Holds, held_in, inits_at, inits_from, plain_init};
+ghost use Rattle.trace_ops.specs.Held.{Holds, inits_from, plain_init};
 ghost use Rattle.trace_ops.specs.Request.{is_init, is_start, started_by};
 ghost use Rattle.trace_ops.specs.Steps.{as_started};
 
