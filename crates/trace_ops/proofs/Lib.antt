@@ -1,3 +1,5 @@
 pub mod Taken
 pub mod Behind
+pub mod Holding
+pub mod Parts
 pub mod Joined

@@ -6,11 +6,8 @@ use Rattle.std.specs.Option.{option_and_then, option_map}
 use Rattle.std.proofs.lemmas.List.{take_more, drop_more, reverse-append, append-nil}
 use Rattle.std.proofs.lemmas.List.Elements.{filter_map-append}
 use Rattle.mpi_model.specs.declared.event.Event.{Event}
-use Rattle.mpi_model.specs.declared.list.elements.Element.{Element}
-use Rattle.trace_ops.specs.declared.completed.Completed.{Completed}
 use Rattle.trace_ops.specs.Calls.{Entry, call_of, outs_of, calls_of}
 use Rattle.trace_ops.specs.Steps.{Step}
-use Rattle.trace_ops.specs.Request.{element_of}
 
 -- the calls from a place on
 calls_next : (es : List (Bor Event)) (i : ℕ) (e : Bor Event) → i < length es → e ≡ get_or es i e →
@@ -31,14 +28,13 @@ calls_go es i e done new c lt at k j h =
     ∙ rw append_assoc (ap (λ (x : Entry). done ++ x ∷ calls_of (drop (i + 2) (map (λ e. e.now) es))) k
     ∙ ap (λ (l : List Entry). done ++ l) (sym (calls_next es i e lt at)) ∙ h)
 
--- the elements of a Waitsome, one more
-pub elements_go : (requests : List ℤ) (elements : List Element) (i : ℕ) (e : Element) (done new : List Completed) (item : Option Completed) → i < length elements →
-    e ≡ get_or elements i e → item ≡ element_of requests e → done ≡ filter_map (element_of requests) (take i elements) → new ≡ done ++ cons_option item [] →
-    new ≡ filter_map (element_of requests) (take (i + 1) elements)
-elements_go requests elements i e done new item lt at j h k =
-    k ∙ ap (λ (l : List Completed). l ++ cons_option item []) h
-    ∙ ap (λ (o : Option Completed). filter_map (element_of requests) (take i elements) ++ cons_option o []) (j ∙ ap (element_of requests) at)
-    ∙ sym (ap (filter_map (element_of requests)) (take_more elements i e lt) ∙ filter_map-append (element_of requests) (take i elements) (get_or elements i e ∷ []))
+-- what is kept of the items of a list, one more
+pub kept_more : {X Y : Type 0} (f : X → Option Y) (xs : List X) (i : ℕ) (d x : X) (done new : List Y) (item : Option Y) → i < length xs →
+    x ≡ get_or xs i d → item ≡ f x → done ≡ filter_map f (take i xs) → new ≡ done ++ cons_option item [] → new ≡ filter_map f (take (i + 1) xs)
+kept_more {X} {Y} f xs i d x done new item lt at j h k =
+    k ∙ ap (λ (l : List Y). l ++ cons_option item []) h
+    ∙ ap (λ (o : Option Y). filter_map f (take i xs) ++ cons_option o []) (j ∙ ap f at)
+    ∙ sym (ap (filter_map f) (take_more xs i d lt) ∙ filter_map-append f (take i xs) (get_or xs i d ∷ []))
 
 turned : {Y : Type 0} (done : List Y) (item : Option Y) → reverse (done ++ cons_option item []) ≡ cons_option item (reverse done)
 turned {Y} done None = ap (λ (l : List Y). reverse l) (append-nil done)
@@ -60,3 +56,7 @@ counted_more test s later old new b k j i = j ∙ ap (λ (m : ℕ). m + (if b th
 pub few_more : (old new : ℕ) (b : Bool) → new ≡ old + (if b then 1 else 0) → new ≤ old + 1
 few_more old new true e = omega (arith, e)
 few_more old new false e = omega (arith, e)
+
+-- a step that does not pass is not counted
+pub uncounted : (test : Step → Bool) (s : Step) (later : List Step) → test s ≡ false → length (filter test (s ∷ later)) ≡ length (filter test later)
+uncounted test s later h = rw h refl

@@ -1,5 +1,5 @@
 -- Which requests are active, and which numbers are idle (MPI 4.0, 3.7.3 and 3.9).
-use Rattle.std.specs.Prelude.{ℕ, ℤ, ◌+◌, ◌==◌, Bool, true, false, not, if◌then◌else◌, Option, Some, None, List, [], ◌∷◌, filter, reverse}
+use Rattle.std.specs.Prelude.{ℕ, ℤ, ◌+◌, ◌==◌, Bool, false, if◌then◌else◌, Option, Some, None, List, [], ◌∷◌, reverse}
 use Rattle.std.specs.List.{list_any, filter_map, cons_option}
 use Rattle.std.specs.Ordering.{int_cmp, int_eq, is_le}
 use Rattle.mpi_model.specs.declared.event.OpName.{OpName}
@@ -51,6 +51,10 @@ abbrev pub rising : List ℤ → List ℤ
 rising [] = []
 rising (x ∷ xs) = put_in x (rising xs)
 
+-- the number, unless it is active
+abbrev pub unless_active : List (ℤ × OpName) → ℤ → Option ℤ
+unless_active active x = if is_active active x then None else Some x
+
 -- The idle numbers after these calls: an init holds them, and they are not active. They rise.
 abbrev pub idle_of : List (ℤ × OpName) → List Entry → List ℤ
-idle_of active calls = rising (filter (λ x. not (is_active active x)) (held_of (reverse calls) 0 calls))
+idle_of active calls = rising (filter_map (unless_active active) (held_of (reverse calls) 0 calls))

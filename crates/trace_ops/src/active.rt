@@ -1,9 +1,11 @@
 //! Which requests are active, and which numbers are idle.
 
-ghost use Rattle.std.specs.Prelude.{◌≡◌, ℤ, Option, List, is_some, reverse, filter, not, IfOk};
+ghost use Rattle.std.specs.Prelude.{◌≡◌, ℤ, Option, List, is_some, reverse, IfOk};
+ghost use Rattle.std.specs.List.{filter_map};
+ghost use Rattle.mpi_model.specs.declared.event.OpName.{OpName};
 ghost use Rattle.std.specs.Ordering.{int_eq};
 ghost use Rattle.indexmap.specs.IndexMap.{get};
-ghost use Rattle.trace_ops.specs.Active.{held_of, held_still, idle_of, is_active, rising, still_active};
+ghost use Rattle.trace_ops.specs.Active.{held_of, held_still, idle_of, is_active, rising, still_active, unless_active};
 ghost use Rattle.trace_ops.specs.Calls.{Entry};
 ghost use Rattle.trace_ops.specs.Fate.{IsFateOf};
 ghost use Rattle.trace_ops.specs.Held.{Holds};
@@ -66,20 +68,28 @@ fn numbers_of(alloc: Global, active: &[(i64, OpName)]) -> Result<IndexMap<i64, (
     Ok(numbers)
 }
 
+/// The number, unless it is one of the active requests'.
+fn unless_active(numbers: &IndexMap<i64, ()>, x: i64) -> Option<i64>
+    ensures { (active : List (ℤ × OpName)) → ((y : ℤ) → is_some (get int_eq numbers.now y) ≡ is_active active y) → result ≡ unless_active active x }
+{
+    match numbers.get(&x) {
+        Some(_) => None,
+        None => Some(x),
+    }
+}
+
 /// The numbers that are not active.
 fn not_active(
     alloc: Global,
     active: &[(i64, OpName)],
     numbers: &[i64],
 ) -> Result<Vec<i64>, AllocError>
-    ensures { IfOk result (λ idle. idle.items ≡ filter (λ x. not (is_active active.now x)) numbers.now) }
+    ensures { IfOk result (λ idle. idle.items ≡ filter_map (unless_active active.now) numbers.now) }
 {
     let known = numbers_of(alloc, active)?;
     let mut idle = Vec::new(alloc);
     for number in numbers {
-        if known.get(number).is_none() {
-            idle.push(*number)?;
-        }
+        push_some(&mut idle, unless_active(&known, *number))?;
     }
     Ok(idle)
 }
