@@ -217,3 +217,6 @@ module _ (calls : List Entry) (n : ℕ) (c : Entry) (later : List Step) (old new
 -- what is read at a place of the calls is the call there
 pub read_at : (calls : List Entry) (n : ℕ) (c entry : Entry) → n < length calls → c ≡ get_or calls n c → slice_get calls n ≡ Some entry → c ≡ entry
 read_at calls n c entry lt at k = let r = slice_get_read calls (length calls) n c refl lt at in cc
+
+pub entry_at : (calls : List Entry) (n : ℕ) (c : Entry) → n < length calls → c ≡ get_or calls n c → slice_get calls n ≡ Some c
+entry_at calls n c lt at = slice_get_read calls (length calls) n c refl lt at

@@ -1,5 +1,5 @@
 -- What holds the numbers that calls list, one call more, and the steps of these calls.
-use Rattle.std.proofs.Common.{◌≡◌, ℕ, ◌+◌, ◌-◌, ◌<◌, ◌≤◌, List, [], ◌∷◌, ◌++◌, map, take, drop, get_or, length, reverse, refl, sym, ◌∙◌, ap, subst, arith, append_assoc, length-append}
+use Rattle.std.proofs.Common.{◌≡◌, ℕ, zero, suc, ◌+◌, ◌-◌, ◌<◌, ◌≤◌, List, [], ◌∷◌, ◌++◌, map, take, drop, get_or, length, reverse, refl, sym, ◌∙◌, ap, subst, arith, append_assoc, length-append}
 use Rattle.std.specs.Prelude.{ℤ, Option, Some, None}
 use Rattle.std.specs.Option.{option_map}
 use Rattle.std.proofs.lemmas.Grind.{reverse_onto}
@@ -59,6 +59,23 @@ listed_split calls n c lt at =
     ap (inits_from []) (take_more calls n c lt) ∙ ap (λ (x : Entry). inits_from [] (take n calls ++ x ∷ [])) (sym at) ∙ inits_more [] (take n calls) c
     ∙ ap (λ (l : List Entry). inits_from [] (take n calls) ++ inits_at l c) (append-nil (reverse (take n calls)))
 
+take_within : {X : Type 0} (m n : ℕ) (xs : List X) → m ≤ n → take m (take n xs) ≡ take m xs
+take_within zero n xs le = refl
+take_within (suc m) zero xs le = absurd (omega (arith, le))
+take_within (suc m) (suc n) [] le = refl
+take_within (suc m) (suc n) (x ∷ xs) le = ap (λ (l : List _). x ∷ l) (take_within m n xs (omega (arith, le)))
+
+none_of : {X : Type 0} (k : ℕ) → take {A = X} k [] ≡ []
+none_of zero = refl
+none_of (suc k) = refl
+
+-- a part of a list in two ways
+pub middle : {X : Type 0} (m n : ℕ) (xs : List X) → m ≤ n → take (n - m) (drop m xs) ≡ drop m (take n xs)
+middle zero n xs le = let e : n - 0 ≡ n = omega arith in ap (λ (k : ℕ). take k xs) e
+middle (suc m) zero xs le = absurd (omega (arith, le))
+middle {X} (suc m) (suc n) [] le = none_of {X = X} (suc n - suc m)
+middle (suc m) (suc n) (x ∷ xs) le = let e : suc n - suc m ≡ n - m = omega arith in ap (λ (k : ℕ). take k (drop m xs)) e ∙ middle m n xs (omega (arith, le))
+
 -- The last of what was listed before the next place is of the call at this place.
 module _ (calls : List Entry) (n : ℕ) (c : Entry) (inits : List (Option Lent)) (old : ℕ) (lt : n < length calls) (at : c ≡ get_or calls n c) (le : old ≤ length inits)
     (h : map (option_map plain_init) (take old inits) ≡ inits_from [] (take (n + 1) calls)) where
@@ -78,9 +95,10 @@ module _ (calls : List Entry) (n : ℕ) (c : Entry) (inits : List (Option Lent))
     left_count : left ≡ length (inits_from [] (take n calls))
     left_count = let k = all_count in omega (arith, e, k)
 
-    pub listed_before : map (option_map plain_init) (take left (take old inits)) ≡ inits_from [] (take n calls)
+    pub listed_before : map (option_map plain_init) (take left inits) ≡ inits_from [] (take n calls)
     listed_before =
-        sym (take-map (option_map plain_init) left (take old inits)) ∙ ap (take left) parted
+        ap (map (option_map plain_init)) (sym (take_within left old inits (omega (arith, e))))
+        ∙ sym (take-map (option_map plain_init) left (take old inits)) ∙ ap (take left) parted
         ∙ ap (λ (m : ℕ). take m (inits_from [] (take n calls) ++ inits_at (reverse (take n calls)) c)) left_count ∙ take-append_seam (inits_from [] (take n calls)) (inits_at (reverse (take n calls)) c)
 
     pub listed_here : map (option_map plain_init) (drop left (take old inits)) ≡ inits_at (reverse (take n calls)) c

@@ -7,7 +7,8 @@ use Rattle.mpi_model.specs.declared.call.Call.TheVariants.{Isend, Irecv, SendIni
 use Rattle.mpi_model.specs.declared.event.OpName.{OpName}
 use Rattle.trace_ops.specs.declared.completed.Completed.{Completed}
 use Rattle.trace_ops.specs.Calls.{Entry}
-use Rattle.trace_ops.specs.Held.{Init, held_in}
+use Rattle.trace_ops.specs.declared.held.Part.{Part as Lent}
+use Rattle.trace_ops.specs.Held.{Init, held_in, plain_init}
 use Rattle.trace_ops.specs.Request.{completions, given_of, is_completed, is_init, is_posted, is_start, started_by}
 
 -- a number that a Start or Startall lists, with the init that holds it
@@ -29,6 +30,10 @@ whole n c = record { number = n; part = 0; entry = c; begun = None }
 -- the part at a place of call n that starts what an init holds by this number
 abbrev pub part_step : ℕ → ℕ → Entry → ℤ → Init → Step
 part_step n part c x init = record { number = n; part = part; entry = c; begun = Some (record { request = x; init = init }) }
+
+-- the part of call n that is lent, as a step
+abbrev pub begun_step : ℕ → Entry → Lent → Step
+begun_step n c p = part_step n p.part c p.request (plain_init p.init)
 
 -- The part for the number x, behind these calls of which the last stands first: none where no init holds x. An `int` counts
 -- the parts, so that one past 2^31 is none.

@@ -1,13 +1,13 @@
 //! Which inits hold the request numbers that calls start.
 
-ghost use Rattle.std.specs.Prelude.{◌≡◌, ◌++◌, ◌∷◌, ℤ, List, [], None, Some, map, length, reverse, if◌then◌else◌, IfOk, OnOk};
+ghost use Rattle.std.specs.Prelude.{◌≡◌, ◌<◌, ◌++◌, ◌∷◌, ◌^◌, ℤ, pos, nat_lt, List, [], None, Some, map, length, reverse, slice_index_or, if◌then◌else◌, IfOk, OnOk};
 ghost use Rattle.std.specs.Ordering.{int_eq};
 ghost use Rattle.std.specs.Option.{option_map};
 ghost use Rattle.indexmap.specs.IndexMap.{get};
 ghost use Rattle.trace_ops.specs.Calls.{Entry};
-ghost use Rattle.trace_ops.specs.Held.{Holds, inits_from, plain_init};
+ghost use Rattle.trace_ops.specs.Held.{Holds, inits_at, inits_from, plain_init};
 ghost use Rattle.trace_ops.specs.Request.{is_init, is_start, started_by};
-ghost use Rattle.trace_ops.specs.Steps.{as_started};
+ghost use Rattle.trace_ops.specs.Steps.{as_started, begun_step, part_of};
 
 use crate::called::Called;
 use indexmap::IndexMap;
@@ -116,6 +116,53 @@ fn push_held<'a>(
         inits.push(init_of(held, *request))?;
     }
     Ok(())
+}
+
+/// A part of a Start or Startall: its place, the number that it starts, and the init that holds it.
+#[derive(Clone, Copy, Debug)]
+pub(crate) struct Part<'a> {
+    pub part: u32,
+    pub request: i64,
+    pub init: Init<'a>,
+}
+
+/// The number of the part at a place of a list, which an `int` counts.
+fn part_at(place: usize) -> Option<u32>
+    ensures { result ≡ (if nat_lt place (2 ^ 31) then Some place else None) }
+{
+    if place < 1 << 31 {
+        Some(place as u32)
+    } else {
+        None
+    }
+}
+
+/// The init at a place, where one is there.
+fn init_at<'a>(inits: &[Option<Init<'a>>], place: usize) -> Option<Init<'a>>
+    ensures { place < length inits.now → result ≡ slice_index_or inits.now place None }
+{
+    match inits.get(place) {
+        Some(init) => *init,
+        None => None,
+    }
+}
+
+/// The part at a place, where an init holds the number there.
+pub(crate) fn begun_at<'a>(
+    inits: &[Option<Init<'a>>],
+    requests: &[i64],
+    place: usize,
+) -> Option<Part<'a>>
+    requires { place < length requests.now }
+    ensures { (before : List Entry) (c : Entry) → requests.now ≡ started_by c.call → map (option_map plain_init) inits.now ≡ inits_at before c → option_map (begun_step (length before) c) result ≡ part_of before c place (slice_index_or requests.now place (pos 0)) }
+{
+    let part = part_at(place)?;
+    let init = init_at(inits, place)?;
+    Some(Part {
+        part,
+        request: requests[place],
+        init,
+    })
 }
 
 /// What holds the numbers that a rank's Starts and Startalls list, and what holds numbers at the end.

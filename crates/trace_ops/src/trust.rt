@@ -1,9 +1,9 @@
 //! What a Cancel leaves of messages and receives, and which requests a Cancel names.
 
-ghost use Rattle.std.specs.Prelude.{◌≡◌, ◌&&◌, ℤ, Option, List};
+ghost use Rattle.std.specs.Prelude.{◌≡◌, ◌&&◌, ◌||◌, ℤ, Option, List};
 ghost use Rattle.trace_ops.specs.Fate.{IsFateOf};
 ghost use Rattle.trace_ops.specs.Steps.{Step};
-ghost use Rattle.trace_ops.specs.Trust.{cancelled_with, is_cancelled_post, is_matched_receive, trust_by, trust_of_post, trust_with};
+ghost use Rattle.trace_ops.specs.Trust.{cancelled_with, gives_back, is_cancelled_post, is_matched_receive, trust_by, trust_of_post, trust_with};
 
 use crate::fate::Fate;
 use mpi_model::{Call, OpName, Trust};
@@ -51,11 +51,11 @@ pub(crate) fn cancelled_with(name: OpName, fate: Option<Fate<'_>>) -> Option<OpN
     }
 }
 
-/// Whether the call is an Imrecv whose request a Cancel names, so that it may give its message back.
-pub(crate) fn may_give_back(call: &Call, fate: Option<Fate<'_>>) -> bool
-    ensures { (later : List Step) (posted : Option ℤ) → IsFateOf posted later fate.entry → result ≡ (is_matched_receive call.now && is_cancelled_post posted later) }
+/// Whether a step or one behind it is an Imrecv whose request a Cancel names, so that it may give its message back.
+pub(crate) fn gives_back(call: &Call, fate: Option<Fate<'_>>, behind: bool) -> bool
+    ensures { (later : List Step) (posted : Option ℤ) → IsFateOf posted later fate.entry → behind ≡ gives_back later → result ≡ ((is_matched_receive call.now && is_cancelled_post posted later) || gives_back later) }
 {
-    matches!(call, Call::Imrecv) && is_cancelled_post(fate)
+    (matches!(call, Call::Imrecv) && is_cancelled_post(fate)) || behind
 }
 
 /// The trust of a matched probe, by whether an Imrecv behind it may give a message back.

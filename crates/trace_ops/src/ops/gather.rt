@@ -1,6 +1,6 @@
 //! From what is known of a rank to what it did.
 
-ghost use Rattle.std.specs.Prelude.{◌≡◌, ◌<◌, ◌≤◌, ◌+◌, ◌++◌, ◌∷◌, ◌^◌, List, Some, None, true, nat_lt, if◌then◌else◌, IfOk, OnOk, length, map, reverse, slice_get};
+ghost use Rattle.std.specs.Prelude.{◌≡◌, ◌<◌, ◌≤◌, ◌+◌, ◌++◌, ◌∷◌, List, Some, true, if◌then◌else◌, IfOk, OnOk, length, map, reverse, slice_get};
 ghost use Rattle.std.specs.Ordering.{int_eq};
 ghost use Rattle.std.specs.Option.{option_map};
 ghost use Rattle.indexmap.specs.IndexMap.{get};
@@ -9,8 +9,8 @@ ghost use Rattle.trace_ops.specs.Foreign.{is_foreign_in};
 ghost use Rattle.trace_ops.specs.Groups.{plain};
 ghost use Rattle.trace_ops.specs.Held.{Holds, inits_at, plain_init};
 ghost use Rattle.trace_ops.specs.RankOps.{all_ops, ops_by_calls, ops_of};
-ghost use Rattle.trace_ops.specs.Request.{is_start, started_by};
-ghost use Rattle.trace_ops.specs.Steps.{Step, part_step, steps_at, steps_of, whole};
+ghost use Rattle.trace_ops.specs.Request.{is_start};
+ghost use Rattle.trace_ops.specs.Steps.{Step, begun_step, steps_at, steps_of, whole};
 
 use crate::active::{idle_of, still_active};
 use crate::called::{Called, calls_of};
@@ -18,13 +18,13 @@ use crate::completed::push_some;
 use crate::entered::Entered;
 use crate::fate::fate_of;
 use crate::group::{Group, group_of, is_foreign_in};
-use crate::held::{Held, Init, as_started, holding_of, is_start, started_by};
+use crate::held::{Held, Init, Part, as_started, begun_at, holding_of, is_start, started_by};
 use crate::message::{entered_in, message_in};
 use crate::ops::RankOps;
 use crate::rank_state::{state_of, waiting_of};
 use crate::receive::receive_in;
 use crate::touched::{Touched, note, note_part};
-use crate::trust::{cancelled_with, may_give_back};
+use crate::trust::{cancelled_with, gives_back};
 use mpi_model::{Call, Layout, Message, OpName, Receive};
 use std::alloc::{AllocError, Global};
 use trace_know::Knowledge;
@@ -38,17 +38,6 @@ fn with_call(count: u64, group: Option<Group<'_>>, call: &Call) -> u64
         count + 1
     } else {
         count
-    }
-}
-
-/// The number of the part at a place of a list, which an `int` counts.
-fn part_at(place: usize) -> Option<u32>
-    ensures { result ≡ (if nat_lt place (2 ^ 31) then Some place else None) }
-{
-    if place < 1 << 31 {
-        Some(place as u32)
-    } else {
-        None
     }
 }
 
@@ -101,7 +90,7 @@ impl Gathered {
         push_some(&mut self.active, still_active(name, fate))?;
         push_some(&mut self.cancelled, cancelled_with(name, fate))?;
         self.foreign = with_call(self.foreign, group, call);
-        self.given_back = may_give_back(call, fate) || self.given_back;
+        self.given_back = gives_back(call, fate, self.given_back);
         note(&mut self.touched, calls, n)?;
         Ok(())
     }
@@ -113,23 +102,21 @@ impl Gathered {
         rank: u32,
         calls: &[Called<'_>],
         n: usize,
-        part: u32,
-        request: i64,
-        init: Init<'_>,
+        part: Part<'_>,
     ) -> Result<(), AllocError>
         requires place { n < length calls.now }
         ensures few { OnOk result (self.new.foreign ≡ self.old.foreign) }
-        ensures gathered { OnOk result ((c : Entry) (later : List Step) → slice_get calls.now n ≡ Some c → is_start c.call ≡ true → IsGathered layout.now rank calls.now later self.old → IsGathered layout.now rank calls.now (part_step n part c request (plain_init init.entry) ∷ later) self.new) }
+        ensures gathered { OnOk result ((c : Entry) (later : List Step) → slice_get calls.now n ≡ Some c → is_start c.call ≡ true → IsGathered layout.now rank calls.now later self.old → IsGathered layout.now rank calls.now (begun_step n c part.entry ∷ later) self.new) }
     {
         let called = &calls[n];
-        let call = as_started(init.call);
+        let call = as_started(part.init.call);
         let name = OpName {
             rank,
             call: n as u64,
-            part,
+            part: part.part,
         };
-        let group = group_of(layout, rank, init.number, &call);
-        let given = called.restarts(request);
+        let group = group_of(layout, rank, part.init.number, &call);
+        let given = called.restarts(part.request);
         let fate = fate_of(&self.touched, calls, given);
         push_some(&mut self.sends, message_in(group, name, &call, fate))?;
         push_some(
@@ -152,7 +139,6 @@ impl Gathered {
         inits: &[Option<Init<'_>>],
     ) -> Result<(), AllocError>
         requires place { n < length calls.now }
-        requires listed { (c : Entry) → slice_get calls.now n ≡ Some c → length inits.now ≡ length (started_by c.call) }
         ensures few { OnOk result (self.new.foreign ≡ self.old.foreign) }
         ensures gathered { OnOk result ((before : List Entry) (c : Entry) (later : List Step) → slice_get calls.now n ≡ Some c → is_start c.call ≡ true → length before ≡ n → map (option_map plain_init) inits.now ≡ inits_at before c → IsGathered layout.now rank calls.now later self.old → IsGathered layout.now rank calls.now (steps_at before c ++ later) self.new) }
     {
@@ -160,8 +146,9 @@ impl Gathered {
         let mut place = requests.len();
         while place > 0 {
             place -= 1;
-            if let (Some(part), Some(init)) = (part_at(place), inits[place]) {
-                self.add_part(layout, rank, calls, n, part, requests[place], init)?;
+            match begun_at(inits, requests, place) {
+                Some(part) => self.add_part(layout, rank, calls, n, part)?,
+                None => {}
             }
         }
         Ok(())
@@ -179,7 +166,6 @@ impl Gathered {
     ) -> Result<(), AllocError>
         requires place { n < length calls.now }
         requires few { self.old.foreign + n < length calls.now }
-        requires listed { (c : Entry) → slice_get calls.now n ≡ Some c → length inits.now ≡ length (started_by c.call) }
         ensures few { OnOk result (self.new.foreign ≤ self.old.foreign + 1) }
         ensures gathered { OnOk result ((before : List Entry) (c : Entry) (later : List Step) → slice_get calls.now n ≡ Some c → length before ≡ n → map (option_map plain_init) inits.now ≡ inits_at before c → IsGathered layout.now rank calls.now later self.old → IsGathered layout.now rank calls.now (steps_at before c ++ later) self.new) }
     {

@@ -26,12 +26,12 @@ returns-clause-gathered c read later k start before =
     let rank = c.args.rank in
     let layout = c.args.layout.now in
     let same : c.index-calls-n.result ≡ read = read_at c.args.calls.now c.args.n c.index-calls-n.result read c.requires.place c.index-calls-n.is k in
-    let s = part_step n c.args.part read c.args.request (plain_init c.args.init) in
+    let s = part_step n c.args.part.part read c.args.part.request (plain_init c.args.part.init) in
     let p : Placed = record { step = s; later = later } in
     let fate = c.fate_of-fate.ensures later before.touched in
-    let back : to_z w64 (of_z w64 c.args.request) ≡ c.args.request = to_z-of_z w64 c.args.request (search rules) in
+    let back : to_z w64 (of_z w64 c.args.part.request) ≡ c.args.part.request = to_z-of_z w64 c.args.part.request (search rules) in
     let posted : c.restarts-given.result ≡ posted_by s =
-        c.restarts-given.ensures ∙ ap (λ (z : ℤ). if is_some c.index-calls-n.result.outs then Some z else None) back ∙ ap (λ (e : Entry). if is_some e.outs then Some c.args.request else None) same ∙ sym (part_posts n c.args.part read c.args.request (plain_init c.args.init) start) in
+    c.restarts-given.ensures ∙ ap (λ (z : ℤ). if is_some c.index-calls-n.result.outs then Some z else None) back ∙ ap (λ (e : Entry). if is_some e.outs then Some c.args.part.request else None) same ∙ sym (part_posts n c.args.part.part read c.args.part.request (plain_init c.args.part.init) start) in
     let told : IsFateOf (posted_by s) later c.fate_of-fate.result = subst (λ (o : Option ℤ). IsFateOf o later c.fate_of-fate.result) posted fate in
     record {
       sends = turned_more c.args.self.now.sends.items c.push_some.new.list.items (sends_of layout rank later) c.message_in.result (message_of layout rank p)
@@ -44,6 +44,6 @@ returns-clause-gathered c read later k start before =
       cancelled = turned_more c.args.self.now.cancelled.items c.push_some-4.new.list.items (cancelled_of rank later) c.cancelled_with.result (cancelled_post rank p)
           (c.cancelled_with.ensures later (posted_by s) told) c.in_ok-push_some-4.ensures before.cancelled;
       foreign = before.foreign ∙ sym (uncounted (λ (x : Step). is_foreign layout rank x.number x.entry.call) s later (start_is_known layout rank n read.call start));
-      given_back = before.given_back ∙ sym (part_gives_nothing_back n c.args.part read c.args.request (plain_init c.args.init) later start);
-      touched = c.in_ok-note_part.ensures c.args.calls.now later s (record { number = refl; at = k; start = start }) (posted ∙ part_gives n c.args.part read c.args.request (plain_init c.args.init) start) before.touched;
+      given_back = before.given_back ∙ sym (part_gives_nothing_back n c.args.part.part read c.args.part.request (plain_init c.args.part.init) later start);
+      touched = c.in_ok-note_part.ensures c.args.calls.now later s (record { number = refl; at = k; start = start }) (posted ∙ part_gives n c.args.part.part read c.args.part.request (plain_init c.args.part.init) start) before.touched;
     }

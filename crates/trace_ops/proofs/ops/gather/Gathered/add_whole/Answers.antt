@@ -38,6 +38,6 @@ returns-clause-gathered c read later k before =
           (c.cancelled_with.ensures later (posted_by s) told) c.in_ok-push_some-5.ensures before.cancelled;
       foreign = counted_more (λ (x : Step). is_foreign layout rank x.number x.entry.call) s later c.args.self.now.foreign c.with_call-self.result (is_foreign layout rank n read.call)
           refl (cc (c.with_call-self.ensures, c.group_of-group.ensures, call)) before.foreign;
-      given_back = ?;
+      given_back = cc (c.gives_back-self.ensures later (posted_by s) told before.given_back, call);
       touched = c.in_ok-note.ensures read later k before.touched;
     }
