@@ -5,4 +5,5 @@ pub mod Parts
 pub mod Rising
 pub mod Owned
 pub mod Entering
+pub mod Growing
 pub mod Joined
