@@ -6,4 +6,6 @@ pub mod Rising
 pub mod Owned
 pub mod Entering
 pub mod Growing
+pub mod Going
+pub mod Telling
 pub mod Joined

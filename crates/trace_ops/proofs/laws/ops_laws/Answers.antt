@@ -1,3 +1,5 @@
+use Rattle.trace_ops.proofs.Telling.{sends_more}
+use Rattle.trace_ops.proofs.Going.{steps_go}
 use Rattle.trace_ops.proofs.Growing.{told_stays, end_stays, trust_stays}
 use Rattle.trace_ops.proofs.Owned.{all_own, own_of}
 use Rattle.trace_ops.proofs.laws.ops_laws.Goals as goal
