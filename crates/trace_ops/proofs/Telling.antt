@@ -27,7 +27,7 @@ use Rattle.trace_ops.specs.Request.{is_start}
 use Rattle.trace_ops.specs.Source.{told_of_flag, told_of_own, told_of_post}
 use Rattle.trace_ops.specs.Steps.{Begun, Placed, Step, as_started, call_with, name_of, naming, placed, posted_by, starting}
 use Rattle.trace_ops.specs.Trust.{gives_back, trust_by, trust_of_post, trust_of_probe, trust_of_receive, trust_of_send}
-use Rattle.trace_ops.proofs.Growing.{Continues, GoesFrom, IsOpen, Same, Stays, end_stays, posts_none, told_stays, trust_stays}
+use Rattle.trace_ops.proofs.Growing.{AreOpen, Continues, GoesFrom, IsOpen, Same, Stays, end_stays, posts_none, told_stays, trust_stays}
 
 -- ---- lists with an item for some of the steps
 
@@ -213,6 +213,33 @@ module _ (g : Group) (name : OpName) where
   open_more s t old new (Improbe e) k = inr (rw k refl, λ p. p)
   open_more s t old new call k = inl tt
 
-module _ (layout : Parts) (rank bound : ℕ) (s t : Step) (old new : List Step) (h : GoesFrom bound old new) where
-  Result : Type 0
-  Result = More TellsMore (receive_of layout rank (record { step = s; later = old })) (receive_of layout rank (record { step = t; later = new })) ⊎ ((receive_of layout rank (record { step = s; later = old }) ≡ None) × (old ≡ []))
+module _ (layout : Parts) (rank bound : ℕ) (s t : Step) (old new : List Step) (c : Continues s t old) (h : GoesFrom bound old new) where
+  -- more is told of the receive, or it comes with the Return of the last step
+  abbrev Comes : Option Receive → Option Receive → Type 0
+  Comes a b = More TellsMore a b ⊎ ((a ≡ None) × (old ≡ []))
+
+  decide : (a b : Option Receive) → (More TellsMore a b ⊎ ((a ≡ None) × (IsPlain (starting s) → ⊥))) → ((old ≡ []) ⊎ ((is_start s.entry.call ≡ true) × AreOpen old)) → Comes a b
+  decide a b (inl m) o = inl m
+  decide a b (inr e) (inl n) = inr (e.0, n)
+  decide a b (inr e) (inr o) = absurd (e.1 (starts_plain s o.0))
+
+  receive_in_more : (g : Option Group) → Comes (receive_in g (name_of rank s) (record { step = s; later = old })) (receive_in g (name_of rank s) (record { step = t; later = new }))
+  receive_in_more None = inl tt
+  receive_in_more (Some g) = by c
+    where
+      by : Continues s t old → Comes (taken_by g (name_of rank s) s old (starting s)) (taken_by g (name_of rank s) t new (starting t))
+      by (inl e) = subst (λ (u : Step). Comes (taken_by g (name_of rank s) s old (starting s)) (taken_by g (name_of rank s) u new (starting u))) (sym e) (inl (same_more g (name_of rank s) bound s old new (starting s) h))
+      by (inr o) = subst (λ (k : Call). Comes (taken_by g (name_of rank s) s old (starting s)) (taken_by g (name_of rank s) t new k)) (sym (same_starting s t old (inr o)))
+          (decide (taken_by g (name_of rank s) s old (starting s)) (taken_by g (name_of rank s) t new (starting s)) (open_more g (name_of rank s) s t old new (starting s) o.1) o.2)
+
+  receive_groups : group_of layout rank (naming t) (starting t) ≡ group_of layout rank (naming s) (starting s)
+  receive_groups = ap (λ (n : ℕ). group_of layout rank n (starting t)) (same_naming s t old c) ∙ ap (group_of layout rank (naming s)) (same_starting s t old c)
+
+  pub receive_more : Comes (receive_of layout rank (record { step = s; later = old })) (receive_of layout rank (record { step = t; later = new }))
+  receive_more =
+      subst (λ (g : Option Group). Comes (receive_of layout rank (record { step = s; later = old })) (receive_in g (name_of rank t) (record { step = t; later = new }))) (sym receive_groups)
+      (subst (λ (a : OpName). Comes (receive_of layout rank (record { step = s; later = old })) (receive_in (group_of layout rank (naming s) (starting s)) a (record { step = t; later = new }))) (sym (same_name rank s t old c))
+      (receive_in_more (group_of layout rank (naming s) (starting s))))
+
+pub receives_more : (layout : Parts) (rank bound : ℕ) (old new : List Step) → GoesFrom bound old new → AllZip TellsMore (receives_of layout rank old) (take (length (receives_of layout rank old)) (receives_of layout rank new))
+receives_more layout rank = all_more TellsMore (receive_of layout rank) (receive_more layout rank)

@@ -1,7 +1,11 @@
-use Rattle.trace_ops.proofs.Telling.{sends_more}
+use Rattle.std.proofs.Common.{◌≡◌, ◌+◌, ◌++◌, ℕ, List, [], length, refl, subst, arith}
+use Rattle.trace_ops.specs.Calls.{calls_of}
+use Rattle.trace_ops.specs.RankOps.{ops_by}
+use Rattle.trace_ops.specs.Steps.{steps_from}
+use Rattle.trace_ops.proofs.Entering.{goes_on, rounds_stay}
 use Rattle.trace_ops.proofs.Going.{steps_go}
-use Rattle.trace_ops.proofs.Growing.{told_stays, end_stays, trust_stays}
 use Rattle.trace_ops.proofs.Owned.{all_own, own_of}
+use Rattle.trace_ops.proofs.Telling.{sends_more, receives_more}
 use Rattle.trace_ops.proofs.laws.ops_laws.Goals as goal
 
 pub returns-clause-own : goal.returns-clause-own
@@ -11,4 +15,15 @@ pub returns-clause-all : goal.returns-clause-all
 returns-clause-all c layout view = all_own layout view 0 layout.ranks
 
 pub returns-clause-grow : goal.returns-clause-grow
-returns-clause-grow c = ?
+unfolding ops_by
+returns-clause-grow c layout rank one other events more =
+    let go = steps_go [] (calls_of events) (calls_of (events ++ more)) (goes_on events more) in
+    record {
+      sends = sends_more layout rank (0 + length (calls_of events)) (steps_from [] (calls_of events)) (steps_from [] (calls_of (events ++ more))) go;
+      receives = receives_more layout rank (0 + length (calls_of events)) (steps_from [] (calls_of events)) (steps_from [] (calls_of (events ++ more))) go;
+      rounds = rounds_stay layout rank (calls_of events) (calls_of (events ++ more)) (goes_on events more);
+      comms = refl;
+      later = ?;
+      behind_ends = ?;
+      behind_sends = ?;
+    }
