@@ -24,7 +24,7 @@ pub steps_are_from : (before calls : List Entry) → AreFrom (length before) (st
 steps_are_from before calls = rise_from (length before) 0 (length before) (steps_from before calls) (omega arith) (steps_rise before calls)
 
 -- steps of calls below a number
-abbrev AreBelow : ℕ → List Step → Type 0
+abbrev pub AreBelow : ℕ → List Step → Type 0
 AreBelow bound [] = Unit {0}
 AreBelow bound (s ∷ later) = (s.number < bound) × AreBelow bound later
 

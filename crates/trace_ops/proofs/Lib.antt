@@ -8,4 +8,5 @@ pub mod Entering
 pub mod Growing
 pub mod Going
 pub mod Telling
+pub mod Within
 pub mod Joined

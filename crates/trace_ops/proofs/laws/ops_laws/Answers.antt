@@ -2,10 +2,11 @@ use Rattle.std.proofs.Common.{◌≡◌, ◌+◌, ◌++◌, ℕ, List, [], lengt
 use Rattle.trace_ops.specs.Calls.{calls_of}
 use Rattle.trace_ops.specs.RankOps.{ops_by}
 use Rattle.trace_ops.specs.Steps.{steps_from}
-use Rattle.trace_ops.proofs.Entering.{goes_on, rounds_stay}
+use Rattle.trace_ops.proofs.Entering.{goes_on, rounds_later, rounds_stay}
 use Rattle.trace_ops.proofs.Going.{steps_go}
 use Rattle.trace_ops.proofs.Owned.{all_own, own_of}
 use Rattle.trace_ops.proofs.Telling.{sends_more, receives_more}
+use Rattle.trace_ops.proofs.Within.{below_of, received_within, sent_within}
 use Rattle.trace_ops.proofs.laws.ops_laws.Goals as goal
 
 pub returns-clause-own : goal.returns-clause-own
@@ -18,12 +19,19 @@ pub returns-clause-grow : goal.returns-clause-grow
 unfolding ops_by
 returns-clause-grow c layout rank one other events more =
     let go = steps_go [] (calls_of events) (calls_of (events ++ more)) (goes_on events more) in
+    let below = below_of (0 + length (calls_of events)) (steps_from [] (calls_of events)) (steps_from [] (calls_of (events ++ more))) go in
     record {
       sends = sends_more layout rank (0 + length (calls_of events)) (steps_from [] (calls_of events)) (steps_from [] (calls_of (events ++ more))) go;
       receives = receives_more layout rank (0 + length (calls_of events)) (steps_from [] (calls_of events)) (steps_from [] (calls_of (events ++ more))) go;
       rounds = rounds_stay layout rank (calls_of events) (calls_of (events ++ more)) (goes_on events more);
       comms = refl;
       later = ?;
-      behind_ends = ?;
-      behind_sends = ?;
+      behind_ends = λ q e x i is j.
+          let lt = received_within layout rank (0 + length (calls_of events)) (steps_from [] (calls_of events)) below q i e is in
+          let le = rounds_later layout rank (calls_of events) (calls_of (events ++ more)) (goes_on events more) x j in
+          omega (arith, lt, le);
+      behind_sends = λ m x i j.
+          let lt = sent_within layout rank (0 + length (calls_of events)) (steps_from [] (calls_of events)) below m i in
+          let le = rounds_later layout rank (calls_of events) (calls_of (events ++ more)) (goes_on events more) x j in
+          omega (arith, lt, le);
     }
