@@ -1,6 +1,7 @@
 pub mod Obeyed
 pub mod Fitting
 pub mod Certain
+pub mod Decided
 pub mod Listed
 pub mod Local
 pub mod Steps

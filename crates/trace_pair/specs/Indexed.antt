@@ -8,6 +8,7 @@ use Rattle.mpi_model.specs.Trusts.{is_sure, is_open, is_settled}
 use Rattle.trace_ops.specs.Order.{Has, sent_before, posted_before}
 use Rattle.trace_pair.specs.Calls.{is_live, IsOwnMessage, IsOwnReceive, AreApart, ArePostedApart}
 use Rattle.trace_pair.specs.Pairing.{After, Paired}
+use Rattle.trace_pair.specs.Places.{sent_no_later, posted_no_later}
 use Rattle.trace_pair.specs.declared.pair.Couple.{Couple}
 
 -- no receive takes the message
@@ -39,33 +40,36 @@ pub record IsIndexed (after : After) (ms : List Message) (qs : List Receive) (wa
   pub coupled : (c : Couple) → Has couples c → Has ms c.message × Has qs c.receive × Paired after ms qs c.message c.receive
   pub coupled_all : (m : Message) (q : Receive) → Has ms m → Has qs q → Paired after ms qs m q → Has couples (couple_of m q)
 
--- what the index tests for a new message: the receive is the first free one that fits, no waiting message fits it, and the
--- message comes after each open receive before it that fits
-pub record TakesMessage (after : After) (ms : List Message) (qs : List Receive) (m : Message) (q : Receive) : Type 0 where
+-- What the index tests for a message of a new call: the receive is the first free one that fits, no waiting message fits
+-- it, and each other message of the call that fits it went to an earlier receive.
+pub record TakesMessage (after : After) (ms : List Message) (qs : List Receive) (more call : List Message) (m : Message) (q : Receive) : Type 0 where
   pub told : is_some q.source ≡ true
   pub sure_receive : is_sure q.trust ≡ true
   pub sure_message : is_sure m.trust ≡ true
   pub fit : fits m q ≡ true
-  pub no_open : (u : Receive) → Has qs u → is_open u ≡ true → posted_before u q ≡ true → fits m u ≡ true → after m u ≡ true
+  pub no_open : (u : Receive) → Has qs u → is_open u ≡ true → posted_no_later u q ≡ true → fits m u ≡ true → after m u ≡ true
   pub is_free : IsFree after ms qs q
-  pub first_free : (r : Receive) → Has qs r → is_settled r ≡ true → posted_before r q ≡ true → fits m r ≡ true → (n : Message) × Has ms n × Paired after ms qs n r
+  pub first_free : (r : Receive) → Has qs r → is_settled r ≡ true → posted_no_later r q ≡ true → fits m r ≡ true → (n : Message) × Has ms n × Paired after ms qs n r
   pub none_waits : (n : Message) → Has ms n → fits n q ≡ true → (r : Receive) × Has qs r × Paired after ms qs n r
+  pub parts : (n : Message) → Has call n → sent_no_later n m ≡ true → fits n q ≡ true → (r : Receive) × Has qs r × (posted_before r q ≡ true) × Paired after more qs n r
 
--- and for a new receive: the message is the first waiting one that fits, no free receive fits it, and it comes after each
--- open receive that does
-pub record TakesReceive (after : After) (ms : List Message) (qs : List Receive) (m : Message) (q : Receive) : Type 0 where
+-- And for a receive of a new call: the message is the first waiting one that fits, no open or free receive fits it, and
+-- each other receive of the call that fits it took an earlier message.
+pub record TakesReceive (after : After) (ms : List Message) (qs more call : List Receive) (m : Message) (q : Receive) : Type 0 where
   pub told : is_some q.source ≡ true
   pub sure_receive : is_sure q.trust ≡ true
   pub sure_message : is_sure m.trust ≡ true
   pub fit : fits m q ≡ true
   pub no_open : (u : Receive) → Has qs u → is_open u ≡ true → fits m u ≡ true → after m u ≡ true
   pub waits : IsUnpaired after ms qs m
-  pub first_waiting : (n : Message) → Has ms n → sent_before n m ≡ true → fits n q ≡ true → (r : Receive) × Has qs r × Paired after ms qs n r
+  pub first_waiting : (n : Message) → Has ms n → sent_no_later n m ≡ true → fits n q ≡ true → (r : Receive) × Has qs r × Paired after ms qs n r
   pub none_free : (r : Receive) → Has qs r → is_settled r ≡ true → fits m r ≡ true → (n : Message) × Has ms n × Paired after ms qs n r
+  pub no_open_part : (u : Receive) → Has call u → is_open u ≡ true → posted_no_later u q ≡ true → fits m u ≡ true → after m u ≡ true
+  pub parts : (r : Receive) → Has call r → is_settled r ≡ true → posted_no_later r q ≡ true → fits m r ≡ true → (n : Message) × Has ms n × (sent_before n m ≡ true) × Paired after ms more n r
 
--- by rank, and then by call
+-- by rank, then by call, and then by part
 abbrev pub name_lt : OpName → OpName → Bool
-name_lt a b = nat_lt a.rank b.rank || ((a.rank == b.rank) && nat_lt a.call b.call)
+name_lt a b = nat_lt a.rank b.rank || ((a.rank == b.rank) && (nat_lt a.call b.call || ((a.call == b.call) && nat_lt a.part b.part)))
 
 -- the first message of the set whose envelope fits the receive's
 pub record IsFirstMessage (messages : List Message) (q : Receive) (m : Message) : Type 0 where
