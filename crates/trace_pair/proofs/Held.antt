@@ -18,14 +18,6 @@ use Rattle.trace_pair.proofs.Fitting.{envelope_of, fits_live, live_message, fits
 use Rattle.trace_pair.proofs.Steps.{same_sender}
 use Rattle.trace_pair.proofs.Names.{sent_name, posted_name}
 
--- some element passes the test, or none does
-pub any_or_none : {X : Type 0} (p : X → Bool) (xs : List X) → ((x : X) × Has xs x × (p x ≡ true)) ⊎ ((x : X) → Has xs x → p x ≡ true → ⊥)
-any_or_none {X = X} p xs =
-    elim (list_any p xs) as (λ b. list_any p xs ≡ b → ((x : X) × Has xs x × (p x ≡ true)) ⊎ ((x : X) → Has xs x → p x ≡ true → ⊥)) [
-      | true ↦ λ e. inl (any_found p xs e)
-      | false ↦ λ e. inr (λ x i h. let g = any_of p xs x i h in cc)
-    ] refl
-
 -- the couples stand in another list
 pub couples_kept : (after : After) (ms : List Message) (qs : List Receive) (waiting : List Message) (free opened : List Receive) (old new : List Couple) → IsIndexed after ms qs waiting free opened old → IsSameSet old new → IsIndexed after ms qs waiting free opened new
 couples_kept after ms qs waiting free opened old new held same = record {

@@ -5,6 +5,9 @@ pub mod Decided
 pub mod Listed
 pub mod Local
 pub mod Steps
+pub mod Holding
+pub mod MessageParts
+pub mod ReceiveParts
 pub mod Held
 pub mod Moves
 pub mod Ranks

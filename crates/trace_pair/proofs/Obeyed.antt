@@ -34,6 +34,14 @@ any_of p [] x i h = absurd i
 any_of p (y ∷ ys) x i h =
     ⊎_elim (λ (e : x ≡ y). let e' = ap p e in rw (sym e' ∙ h) refl) (λ j. let e = any_of p ys x j h in elim (p y) as (λ b. (b || list_any p ys) ≡ true) [ true ↦ refl | false ↦ e ]) i
 
+-- some element passes the test, or none does
+pub any_or_none : {X : Type 0} (p : X → Bool) (xs : List X) → ((x : X) × Has xs x × (p x ≡ true)) ⊎ ((x : X) → Has xs x → p x ≡ true → ⊥)
+any_or_none {X = X} p xs =
+    elim (list_any p xs) as (λ b. list_any p xs ≡ b → ((x : X) × Has xs x × (p x ≡ true)) ⊎ ((x : X) → Has xs x → p x ≡ true → ⊥)) [
+      | true ↦ λ e. inl (any_found p xs e)
+      | false ↦ λ e. inr (λ x i h. let g = any_of p xs x i h in cc)
+    ] refl
+
 pub all_at : {X : Type 0} (p : X → Bool) (xs : List X) (x : X) → list_all p xs ≡ true → Has xs x → p x ≡ true
 all_at p [] x h i = absurd i
 all_at p (y ∷ ys) x h i =

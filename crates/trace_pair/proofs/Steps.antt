@@ -21,7 +21,7 @@ use Rattle.trace_pair.proofs.Local.{IsUpTo, stays_paired, stays_unpaired}
 pub same_sender : (m n : Message) (q : Receive) → is_some q.source ≡ true → fits m q ≡ true → fits n q ≡ true → m.from ≡ n.from
 same_sender m n q t f g = one_sender q.source m.from n.from t (fits_source m q f) (fits_source n q g)
 
-turned : (a b : OpName) → together a b ≡ true → together b a ≡ true
+pub turned : (a b : OpName) → together a b ≡ true → together b a ≡ true
 turned a b h =
     let p = both (eqb a.rank b.rank && eqb a.call b.call) (not (eqb a.part b.part)) h in
     let r = both (eqb a.rank b.rank) (eqb a.call b.call) p.0 in
