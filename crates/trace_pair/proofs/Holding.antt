@@ -1,5 +1,5 @@
 -- The four sets of an index, as what is paired becomes more, and as calls come to them or go from them.
-use Rattle.std.proofs.Common.{subst, ◌≡◌, true, ◌⊎◌, List, inl, inr, ⊎_elim, sym, refl}
+use Rattle.std.proofs.Common.{subst, ◌≡◌, true, ◌⊎◌, List, [], inl, inr, ⊎_elim, sym, refl}
 use Rattle.mpi_model.specs.declared.message.Message.{Message}
 use Rattle.mpi_model.specs.declared.message.Receive.{Receive}
 use Rattle.mpi_model.specs.Trusts.{is_open, is_settled}
@@ -140,7 +140,7 @@ fewer_sent_apart ms more old apart m n i j e = apart m n (old m i) (old n j) e
 -- a receive goes, and with it what it took
 module _ (P : Message → Receive → Type 0) (ms : List Message) (qs more : List Receive) (q : Receive) (adds : AddsTo qs more q) (absent : Has qs q → ⊥)
     (waiting : List Message) (free opened : List Receive) (couples : List Couple) (held : AreSets P ms more waiting free opened couples) where
-  receive_goes : (waits : List Message) (frees opens : List Receive) (pairs : List Couple)
+  pub receive_goes : (waits : List Message) (frees opens : List Receive) (pairs : List Couple)
       → ((n : Message) → Has waits n → Has ms n × (is_live n.trust ≡ true) × ((r : Receive) → Has qs r → P n r → ⊥)) → ((n : Message) → Has ms n → is_live n.trust ≡ true → ((r : Receive) → Has qs r → P n r → ⊥) → Has waits n)
       → ((r : Receive) → Has frees r → Has free r) → ((r : Receive) → Has free r → Has frees r ⊎ (r ≡ q)) → (Has frees q → ⊥)
       → ((r : Receive) → Has opens r → Has opened r) → ((r : Receive) → Has opened r → Has opens r ⊎ (r ≡ q)) → (Has opens q → ⊥)
@@ -166,3 +166,53 @@ module _ (P : Message → Receive → Type 0) (ms : List Message) (qs more : Lis
 
       gone : (r : Receive) → Has qs r → r ≡ q → ⊥
       gone r i e = absent (subst (λ (x : Receive). Has qs x) e i)
+
+-- a message goes, and with it where it went
+module _ (P : Message → Receive → Type 0) (ms more : List Message) (qs : List Receive) (m : Message) (adds : AddsTo ms more m) (absent : Has ms m → ⊥)
+    (waiting : List Message) (free opened : List Receive) (couples : List Couple) (held : AreSets P more qs waiting free opened couples) where
+  pub message_goes : (waits : List Message) (frees : List Receive) (pairs : List Couple)
+      → ((n : Message) → Has waits n → Has waiting n) → ((n : Message) → Has waiting n → Has waits n ⊎ (n ≡ m)) → (Has waits m → ⊥)
+      → ((r : Receive) → Has frees r → Has qs r × (is_settled r ≡ true) × ((n : Message) → Has ms n → P n r → ⊥)) → ((r : Receive) → Has qs r → is_settled r ≡ true → ((n : Message) → Has ms n → P n r → ⊥) → Has frees r)
+      → ((c : Couple) → Has pairs c → Has couples c) → ((c : Couple) → Has couples c → Has pairs c ⊎ (c.message ≡ m)) → ((c : Couple) → Has pairs c → c.message ≡ m → ⊥)
+      → AreSets P ms qs waits frees opened pairs
+  message_goes waits frees pairs was_waiting keeps_waiting no_waiting is_free all_free was_pair keeps_pair no_pair = record {
+    senders = λ n i. held.senders n (adds.keeps n i);
+    receivers = held.receivers;
+    messages_apart = fewer_sent_apart ms more adds.keeps held.messages_apart;
+    receives_apart = held.receives_apart;
+    waits = λ n i. let v = held.waits n (was_waiting n i) in (there n v.0 (λ e. no_waiting (subst (λ (x : Message). Has waits x) e i)), v.1, v.2);
+    waits_all = λ n i l u. ⊎_elim (λ (x : Has waits n). x) (λ (e : n ≡ m). absurd (gone n i e)) (keeps_waiting n (held.waits_all n (adds.keeps n i) l u));
+    frees = is_free;
+    frees_all = all_free;
+    opens = held.opens;
+    opens_all = held.opens_all;
+    coupled = λ c i. let v = held.coupled c (was_pair c i) in (there c.message v.0 (no_pair c i), v.1, v.2);
+    coupled_all = λ n r i j h. ⊎_elim (λ (x : Has pairs (couple_of n r)). x) (λ (e : n ≡ m). absurd (gone n i e)) (keeps_pair (couple_of n r) (held.coupled_all n r (adds.keeps n i) j h));
+  }
+    where
+      there : (n : Message) → Has more n → (n ≡ m → ⊥) → Has ms n
+      there n i not = ⊎_elim (λ (k : Has ms n). k) (λ (e : n ≡ m). absurd (not e)) (adds.cases n i)
+
+      gone : (n : Message) → Has ms n → n ≡ m → ⊥
+      gone n i e = absent (subst (λ (x : Message). Has ms x) e i)
+
+-- the couples stand in another list
+pub couples_kept : (P : Message → Receive → Type 0) (ms : List Message) (qs : List Receive) (waiting : List Message) (free opened : List Receive) (old new : List Couple) → AreSets P ms qs waiting free opened old → IsSameSet old new → AreSets P ms qs waiting free opened new
+couples_kept P ms qs waiting free opened old new held same = same_lists P ms qs waiting free opened old held waiting free new (record { keeps = λ n i. i; was = λ n i. i }) (record { keeps = λ r i. i; was = λ r i. i }) same
+
+-- of no calls
+pub nothing_held : (P : Message → Receive → Type 0) → AreSets P [] [] [] [] [] []
+nothing_held P = record {
+  senders = λ m i. absurd i;
+  receivers = λ q i. absurd i;
+  messages_apart = λ m n i j e. absurd i;
+  receives_apart = λ q r i j e. absurd i;
+  waits = λ m i. absurd i;
+  waits_all = λ m i l u. absurd i;
+  frees = λ q i. absurd i;
+  frees_all = λ q i t u. absurd i;
+  opens = λ q i. absurd i;
+  opens_all = λ q i t. absurd i;
+  coupled = λ c i. absurd i;
+  coupled_all = λ m q i j h. absurd i;
+}

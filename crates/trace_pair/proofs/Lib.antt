@@ -8,8 +8,9 @@ pub mod Steps
 pub mod Holding
 pub mod MessageParts
 pub mod ReceiveParts
-pub mod Held
-pub mod Moves
+pub mod Offers
+pub mod Pushes
+pub mod Pops
 pub mod Ranks
 pub mod Posts
 pub mod Partners

@@ -1,11 +1,12 @@
 -- The receives of one rank among those of the others.
 use Rattle.std.proofs.Common.{subst, ◌≡◌, ℕ, true, ◌&&◌, List, [], ◌∷◌, ◌++◌, inl, inr, ⊎_elim, sym, refl, ◌∙◌, ap, ◌≤◌, append_assoc, take, drop, eqb, ltb}
 use Rattle.std.proofs.lemmas.List.{take-take, take-append-drop}
+use Rattle.std.specs.Prelude.{slice_range}
 use Rattle.mpi_model.specs.declared.message.Receive.{Receive}
 use Rattle.trace_ops.specs.Order.{posted_before, Has, ArePosted, is_listed_before}
 use Rattle.trace_pair.specs.Calls.{AddsReceives, between, IsPosting, IsOneCall, IsWhole}
 use Rattle.trace_pair.proofs.Obeyed.{and_true, both}
-use Rattle.trace_pair.proofs.Ranks.{has_left, has_right, has_either, listed_earlier, stretch_then}
+use Rattle.trace_pair.proofs.Ranks.{has_left, has_right, has_either, listed_earlier, stretch_then, range_is}
 
 -- what stands in front is of earlier calls, where no call has parts on both sides
 order_before : (xs ys : List Receive) (n m : Receive) → ArePosted (xs ++ ys) → Has xs n → Has ys m → (n.name.call ≡ m.name.call → ⊥) → posted_before n m ≡ true
@@ -71,3 +72,10 @@ adds_at before after held start end le s one whole =
     subst (λ (l : List Receive). AddsReceives (between before xs after) (between before l after) call) e
     (adds_next before after xs call (drop end held) (subst (λ (l : List Receive). IsPosting before after l) (sym f) s) one
     (λ n m i c same. whole n m i (subst (λ (l : List Receive). Has l m) g (has_left call (drop end held) m c)) same))
+
+pub adds_range : (before after held : List Receive) (start end : ℕ) → start ≤ end → IsPosting before after held → IsOneCall (λ (q : Receive). q.name.call) (slice_range held start end) → IsWhole (λ (q : Receive). q.name.call) held start
+    → AddsReceives (between before (take start held) after) (between before (take end held) after) (slice_range held start end)
+adds_range before after held start end le s one whole =
+    let e = range_is start end held le in
+    subst (λ (l : List Receive). AddsReceives (between before (take start held) after) (between before (take end held) after) l) e
+    (adds_at before after held start end le s (subst (λ (l : List Receive). IsOneCall (λ (q : Receive). q.name.call) l) (sym e) one) whole)

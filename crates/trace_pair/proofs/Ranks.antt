@@ -1,7 +1,8 @@
 -- The messages of one rank among those of the others.
-use Rattle.std.proofs.Common.{subst, ◌≡◌, ℕ, zero, suc, true, ◌&&◌, List, [], ◌∷◌, ◌++◌, inl, inr, ⊎_elim, sym, refl, ◌∙◌, ap, ◌⊎◌, ◌≤◌, arith, append_assoc, take, drop, eqb, ltb}
+use Rattle.std.proofs.Common.{subst, ◌≡◌, ℕ, zero, suc, true, ◌&&◌, List, [], ◌∷◌, ◌++◌, inl, inr, ⊎_elim, sym, refl, ◌∙◌, ap, ◌⊎◌, ◌≤◌, ◌+◌, ◌-◌, arith, append_assoc, take, drop, eqb, ltb}
 use Rattle.std.proofs.lemmas.Bool.Decides.{nat_tests}
-use Rattle.std.proofs.lemmas.List.{take-take, take-append-drop}
+use Rattle.std.proofs.lemmas.List.{take-take, take-append-drop, drop-take}
+use Rattle.std.specs.Prelude.{slice_range}
 use Rattle.mpi_model.specs.declared.event.OpName.{OpName}
 use Rattle.mpi_model.specs.declared.message.Message.{Message}
 use Rattle.trace_ops.specs.Order.{sent_before, Has, AreInOrder, is_listed_before}
@@ -86,6 +87,10 @@ adds_next before after xs call ys s one apart =
       one_call = λ m n i j. one m n i j;
     }
 
+-- a stretch of a list as a slice is one
+pub range_is : {X : Type 0} (start end : ℕ) (xs : List X) → start ≤ end → drop start (take end xs) ≡ slice_range xs start end
+range_is start end xs le = let e : end ≡ start + (end - start) = omega arith in ap (λ (n : ℕ). drop start (take n xs)) e ∙ drop-take start (end - start) xs
+
 -- the messages from a place on up to another one, where those are all of one call
 pub adds_at : (before after held : List Message) (start end : ℕ) → start ≤ end → IsSequence before after held → IsOneCall (λ (m : Message). m.name.call) (drop start (take end held)) → IsWhole (λ (m : Message). m.name.call) held start
     → AddsMessages (between before (take start held) after) (between before (take end held) after) (drop start (take end held))
@@ -98,3 +103,10 @@ adds_at before after held start end le s one whole =
     subst (λ (l : List Message). AddsMessages (between before xs after) (between before l after) call) e
     (adds_next before after xs call (drop end held) (subst (λ (l : List Message). IsSequence before after l) (sym f) s) one
     (λ n m i c same. whole n m i (subst (λ (l : List Message). Has l m) g (has_left call (drop end held) m c)) same))
+
+pub adds_range : (before after held : List Message) (start end : ℕ) → start ≤ end → IsSequence before after held → IsOneCall (λ (m : Message). m.name.call) (slice_range held start end) → IsWhole (λ (m : Message). m.name.call) held start
+    → AddsMessages (between before (take start held) after) (between before (take end held) after) (slice_range held start end)
+adds_range before after held start end le s one whole =
+    let e = range_is start end held le in
+    subst (λ (l : List Message). AddsMessages (between before (take start held) after) (between before (take end held) after) l) e
+    (adds_at before after held start end le s (subst (λ (l : List Message). IsOneCall (λ (m : Message). m.name.call) l) (sym e) one) whole)

@@ -1,5 +1,5 @@
 -- The four sets of an index: messages that wait, free receives, open receives, and couples.
-use Rattle.std.specs.Prelude.{◌≡◌, Bool, true, ◌||◌, ◌==◌, ◌&&◌, nat_lt, is_some, List}
+use Rattle.std.specs.Prelude.{◌≡◌, ℕ, Bool, true, false, cond, ◌||◌, ◌==◌, ◌&&◌, nat_lt, is_some, is_none, Option, Some, None, List, [], ◌∷◌, ◌++◌, filter}
 use Rattle.mpi_model.specs.declared.event.OpName.{OpName}
 use Rattle.mpi_model.specs.declared.message.Message.{Message}
 use Rattle.mpi_model.specs.declared.message.Receive.{Receive}
@@ -8,7 +8,7 @@ use Rattle.mpi_model.specs.Trusts.{is_sure, is_open, is_settled}
 use Rattle.trace_ops.specs.Order.{Has, sent_before, posted_before}
 use Rattle.trace_pair.specs.Calls.{is_live, IsOwnMessage, IsOwnReceive, AreApart, ArePostedApart}
 use Rattle.trace_pair.specs.Pairing.{After, Paired}
-use Rattle.trace_pair.specs.Places.{sent_no_later, posted_no_later}
+use Rattle.trace_pair.specs.Places.{sent_no_later, posted_no_later, no_later}
 use Rattle.trace_pair.specs.declared.pair.Couple.{Couple}
 
 -- no receive takes the message
@@ -96,6 +96,43 @@ pub record OffersReceive (after : After) (ms : List Message) (qs : List Receive)
   pub first_free : (r : Receive) → Has qs r → is_settled r ≡ true → posted_no_later r q ≡ true → fits m r ≡ true → (n : Message) × Has ms n × Paired after ms qs n r
   pub no_open : (u : Receive) → Has qs u → is_open u ≡ true → posted_no_later u q ≡ true → fits m u ≡ true → after m u ≡ true
 
+-- The receives of a new call stand in the sets, and none of their pairs is found yet.
+abbrev pub AwaitReceives : After → List Message → List Receive → List Receive → List Message → List Receive → List Receive → List Couple → Type 0
+AwaitReceives after ms qs more waiting free opened couples = AreSets (Found after ms more (λ m r. Has qs r)) ms more waiting free opened couples
+
+-- The same of the messages of a new call.
+abbrev pub AwaitMessages : After → List Message → List Message → List Receive → List Message → List Receive → List Receive → List Couple → Type 0
+AwaitMessages after ms more qs waiting free opened couples = AreSets (Found after more qs (λ m r. Has ms m)) more qs waiting free opened couples
+
+-- The message that a receive of a new call is offered, if any: where none is, none is paired with it.
+abbrev pub IsOfferedMessage : After → List Message → List Receive → List Receive → Receive → Option Message → Type 0
+IsOfferedMessage after ms qs more q None = (m : Message) → Has ms m → Paired after ms more m q → ⊥
+IsOfferedMessage after ms qs more q (Some m) = (is_settled q ≡ true) × OffersMessage after ms qs more q m
+
+-- And the receive that a message of a new call is offered.
+abbrev pub IsOfferedReceive : After → List Message → List Message → List Receive → Message → Option Receive → Type 0
+IsOfferedReceive after ms more qs m None = (q : Receive) → Has qs q → Paired after more qs m q → ⊥
+IsOfferedReceive after ms more qs m (Some q) = OffersReceive after ms qs m q
+
+-- a receive of any tag, or one of a tag
+abbrev pub is_of : Bool → Option ℕ → Bool
+is_of any_tag tag = cond any_tag (is_none tag) (is_some tag)
+
+-- the receives of any tag, or those of a tag, and those before
+abbrev pub with_kind : Bool → List Receive → List Receive → List Receive
+with_kind any_tag call done = filter (λ r. is_of any_tag r.tag) call ++ done
+
+-- whether the receive that is offered is of any tag, or of a tag
+abbrev pub is_offer_of : Bool → Option Receive → Bool
+is_offer_of any_tag None = false
+is_offer_of any_tag (Some q) = is_of any_tag q.tag
+
+-- the messages that are offered receives of any tag, or of a tag, and those before
+abbrev pub with_offered : Bool → List Message → List (Option Receive) → List Message → List Message
+with_offered any_tag [] found done = done
+with_offered any_tag (m ∷ call) [] done = done
+with_offered any_tag (m ∷ call) (o ∷ found) done = cond (is_offer_of any_tag o) (m ∷ with_offered any_tag call found done) (with_offered any_tag call found done)
+
 -- by rank, then by call, and then by part
 abbrev pub name_lt : OpName → OpName → Bool
 name_lt a b = nat_lt a.rank b.rank || ((a.rank == b.rank) && (nat_lt a.call b.call || ((a.call == b.call) && nat_lt a.part b.part)))
@@ -112,14 +149,14 @@ pub record IsFirstReceive (receives : List Receive) (m : Message) (q : Receive) 
   pub fit : envelopes_fit m q ≡ true
   pub first : (r : Receive) → Has receives r → envelopes_fit m r ≡ true → name_lt r.name q.name ≡ true → ⊥
 
--- the message of the set that fits the receive and stands in front of all others that do, alone of its call
+-- the message of the set whose envelope fits the receive's and that stands in front of all others whose do, alone of its call
 pub record IsSoleMessage (messages : List Message) (q : Receive) (m : Message) : Type 0 where
   pub member : Has messages m
   pub fit : envelopes_fit m q ≡ true
-  pub sole : (n : Message) → Has messages n → envelopes_fit n q ≡ true → sent_no_later n m ≡ true → ⊥
+  pub sole : (n : Message) → Has messages n → envelopes_fit n q ≡ true → no_later n.name m.name ≡ true → ⊥
 
--- the receive of the set that the message fits and that stands in front of all others that it fits, alone of its call
+-- the receive of the set whose envelope the message's fits and that stands in front of all others, alone of its call
 pub record IsSoleReceive (receives : List Receive) (m : Message) (q : Receive) : Type 0 where
   pub member : Has receives q
   pub fit : envelopes_fit m q ≡ true
-  pub sole : (r : Receive) → Has receives r → envelopes_fit m r ≡ true → posted_no_later r q ≡ true → ⊥
+  pub sole : (r : Receive) → Has receives r → envelopes_fit m r ≡ true → no_later r.name q.name ≡ true → ⊥
