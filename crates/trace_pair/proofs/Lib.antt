@@ -9,6 +9,7 @@ pub mod Holding
 pub mod MessageParts
 pub mod ReceiveParts
 pub mod Offers
+pub mod Alone
 pub mod Pushes
 pub mod Pops
 pub mod Ranks

@@ -50,7 +50,7 @@ module _ (after : After) (ms more call : List Message) (qs : List Receive) (adds
   module _ (Done : Message → Receive → Type 0) (old : (n : Message) (r : Receive) → Has ms n → Done n r) (waiting : List Message) (free opened : List Receive) (couples : List Couple)
       (held : AreSets (Found after more qs Done) more qs waiting free opened couples) where
     -- where another message that fits the receive waits, they are no pair
-    pub left_waiting : ((n : Message) (r : Receive) → Has call n → q.tag ≡ None → is_some r.tag ≡ true → Done n r) → (n : Message) → Has waiting n → (n ≡ m → ⊥) → envelopes_fit n q ≡ true → Paired after more qs m q → ⊥
+    pub left_waiting : ((n : Message) (r : Receive) → Has call n → Has qs r → Paired after more qs n r → q.tag ≡ None → is_some r.tag ≡ true → Done n r) → (n : Message) → Has waiting n → (n ≡ m → ⊥) → envelopes_fit n q ≡ true → Paired after more qs m q → ⊥
     left_waiting order n i not env h =
         let o = held.waits n i in
         let f = fits_live n q o.1 (settled_live q offer.settled) env in
@@ -62,8 +62,18 @@ module _ (after : After) (ms more call : List Message) (qs : List Receive) (adds
         let v = message-taken after ms more qs call adds n w.0 k w.1 w.3 in
         ⊎_elim
         (λ (g : fits m w.0 ≡ true). let u = offer.first_free w.0 w.1 (settled_from w.0 v.told v.sure_receive) (posted_earlier q w.0 w.2) g in v.is_free u.0 u.1 u.2)
-        (λ (d : (q.tag ≡ None) × (is_some w.0.tag ≡ true)). o.2 w.0 w.1 (w.3, order n w.0 k d.0 d.1))
+        (λ (d : (q.tag ≡ None) × (is_some w.0.tag ≡ true)). o.2 w.0 w.1 (w.3, order n w.0 k w.1 w.3 d.0 d.1))
         (fits_beside n m w.0 q v.fit f offer.fit (same_sender m n q (settled_parts q offer.settled).0 offer.fit f)))
+        (adds.cases n o.0)
+
+    -- the same where it is alone of its call
+    pub left_alone : ((n : Message) → Has call n → n ≡ m) → (n : Message) → Has waiting n → (n ≡ m → ⊥) → envelopes_fit n q ≡ true → Paired after more qs m q → ⊥
+    left_alone one n i not env h =
+        let o = held.waits n i in
+        let t = message-taken after ms more qs call adds m q c offer.member h in
+        ⊎_elim
+        (λ (k : Has ms n). let w = t.none_waits n k (fits_live n q o.1 (settled_live q offer.settled) env) in o.2 w.0 w.1 (message-keeps after ms more qs call adds n w.0 k w.1 w.2, old n w.0 k))
+        (λ (k : Has call n). not (one n k))
         (adds.cases n o.0)
 
     -- where none does, they are one

@@ -11,6 +11,8 @@ use Rattle.trace_pair.specs.Sets.{AddsTo, DropsFrom, IsSameSet}
 use Rattle.trace_pair.specs.declared.pair.Couple.{Couple}
 use Rattle.trace_pair.proofs.Fitting.{settled_from, settled_not_open, sure_stands}
 use Rattle.trace_pair.proofs.Holding.{same_sets, same_lists, receive_free, receive_open, receive_void, message_waits, message_void}
+use Rattle.trace_pair.specs.Coupled.{IsNew}
+use Rattle.trace_pair.proofs.Known.{new_couple}
 use Rattle.trace_pair.proofs.MessageParts as messages
 use Rattle.trace_pair.proofs.Obeyed.{before_lt, posted_lt}
 use Rattle.trace_pair.proofs.ReceiveParts as receives
@@ -26,7 +28,7 @@ added_front {X = X} xs ys x a = record {
   was = λ y i. ⊎_elim (λ (k : Has xs y). inr k) (λ (e : y ≡ x). inl e) (a.cases y i);
 }
 
-put_front : {X : Type 0} (xs : List X) (x : X) → AddsTo xs (x ∷ xs) x
+pub put_front : {X : Type 0} (xs : List X) (x : X) → AddsTo xs (x ∷ xs) x
 put_front {X = X} xs x = record { keeps = λ y i. inr i; added = inl refl; cases = λ y i. ⊎_elim (λ (e : y ≡ x). inr e) (λ (k : Has xs y). inl k) i }
 
 take_front : {X : Type 0} (xs : List X) (x : X) → (Has xs x → ⊥) → DropsFrom (x ∷ xs) xs x
@@ -58,6 +60,11 @@ module _ (after : After) (ms : List Message) (qs more : List Receive) (q : Recei
 
   pub push_receive_free : is_settled q ≡ true → ((m : Message) → Has ms m → Paired after ms more m q → ⊥) → (frees : List Receive) → AddsTo free frees q → IsIndexed after ms more waiting frees opened couples
   push_receive_free s none frees a = all_found waiting frees opened couples (awaits_free s frees a) none
+
+  pub new_receive : is_settled q ≡ true → (m : Message) → OffersMessage after ms qs more q m → IsNew couples (couple_of m q)
+  new_receive s m offer =
+      new_couple Old ms more waiting (q ∷ free) opened couples (awaits_free s (q ∷ free) (put_front free q)) m q offer.member one_more.added s offer.fit
+      (λ r j h. offer.waits r h.1 (receive-adds_none after ms qs more (q ∷ []) adds m r offer.member h.1 h.0)) (λ n j h. absent_receive h.1)
 
   pub push_receive_taken : is_settled q ≡ true → (m : Message) → OffersMessage after ms qs more q m → Paired after ms more m q → (waits : List Message) (pairs : List Couple) → DropsFrom waiting waits m → AddsTo couples pairs (couple_of m q)
       → IsIndexed after ms more waits free opened pairs
@@ -105,6 +112,11 @@ module _ (after : After) (ms more : List Message) (qs : List Receive) (m : Messa
 
   pub push_message_waits : is_live m.trust ≡ true → ((q : Receive) → Has qs q → Paired after more qs m q → ⊥) → (waits : List Message) → AddsTo waiting waits m → IsIndexed after more qs waits free opened couples
   push_message_waits l none waits a = all_sent_found waits free opened couples (awaits_message l waits a) none
+
+  pub new_message : (q : Receive) → OffersReceive after ms qs m q → IsNew couples (couple_of m q)
+  new_message q offer =
+      new_couple Sent more qs (m ∷ waiting) free opened couples (awaits_message (sure_stands m.trust offer.sure) (m ∷ waiting) (put_front waiting m)) m q one_sent.added offer.member offer.settled offer.fit
+      (λ r j h. absent_message h.1) (λ n j h. offer.is_free n h.1 (message-adds_none after ms more qs (m ∷ []) adds n q h.1 offer.member h.0))
 
   pub push_message_taken : (q : Receive) → OffersReceive after ms qs m q → Paired after more qs m q → (frees : List Receive) (pairs : List Couple) → DropsFrom free frees q → AddsTo couples pairs (couple_of m q)
       → IsIndexed after more qs waiting frees opened pairs

@@ -9,7 +9,7 @@ ghost use Rattle.trace_ops.specs.Order.{Has};
 ghost use Rattle.trace_pair.specs.After.{comes_after};
 ghost use Rattle.trace_pair.specs.Calls.{AddsMessages, AddsReceives, AreApart, ArePostedApart};
 ghost use Rattle.trace_pair.specs.Followed.{Indexes};
-ghost use Rattle.trace_pair.specs.Indexed.{AreSets, AwaitMessages, AwaitReceives, IsFree, IsOfferedMessage, IsOfferedReceive, OffersMessage, OffersReceive};
+ghost use Rattle.trace_pair.specs.Indexed.{AreSets, AwaitMessages, AwaitReceives, IsFree, OffersMessage, OffersReceive};
 ghost use Rattle.trace_pair.specs.Pairing.{After, Paired, receive_of};
 ghost use Rattle.trace_pair.specs.Sets.{AddsTo};
 ghost use Rattle.trace_pair.specs.Table.{fits_open};
@@ -97,10 +97,14 @@ impl Matched {
     /// The message that a receive of a new call takes, if no other free receive fits it.
     pub(crate) fn message_for(&self, reaches: &Reaches, q: &Receive) -> Option<Message>
         requires { is_settled q.now ≡ true }
-        ensures { (ms : List Message) (qs more call free : List Receive) → AddsReceives qs more call → Has call q.now → AwaitReceives (comes_after reaches.now) ms qs more self.now.waiting free self.now.opened self.now.couples
-            → IsOfferedMessage (comes_after reaches.now) ms qs more q.now result }
+        ensures some { IfSome result (λ m. (ms : List Message) (qs more call free : List Receive) → AddsReceives qs more call → Has call q.now → AwaitReceives (comes_after reaches.now) ms qs more self.now.waiting free self.now.opened self.now.couples
+            → OffersMessage (comes_after reaches.now) ms qs more q.now m) }
+        ensures none { IfNone result ((ms : List Message) (qs more call free : List Receive) → AddsReceives qs more call → Has call q.now → AwaitReceives (comes_after reaches.now) ms qs more self.now.waiting free self.now.opened self.now.couples
+            → (m : Message) → Has ms m → Paired (comes_after reaches.now) ms more m q.now → ⊥) }
     {
-        let m = self.waiting.sole_for(q)?;
+        let Some(m) = self.waiting.sole_for(q) else {
+            return None;
+        };
         if !m.trust.is_sure() {
             return None;
         }
@@ -112,13 +116,17 @@ impl Matched {
 
     /// The receive that a message of a new call goes to, if no other one that waits fits it.
     pub(crate) fn receive_for(&self, reaches: &Reaches, m: &Message) -> Option<Receive>
-        ensures { (ms more call waiting : List Message) (qs : List Receive) → AddsMessages ms more call → Has call m.now → AwaitMessages (comes_after reaches.now) ms more qs waiting self.now.free self.now.opened self.now.couples
-            → IsOfferedReceive (comes_after reaches.now) ms more qs m.now result }
+        ensures some { IfSome result (λ q. (ms more call waiting : List Message) (qs : List Receive) → AddsMessages ms more call → Has call m.now → AwaitMessages (comes_after reaches.now) ms more qs waiting self.now.free self.now.opened self.now.couples
+            → OffersReceive (comes_after reaches.now) ms qs m.now q) }
+        ensures none { IfNone result ((ms more call waiting : List Message) (qs : List Receive) → AddsMessages ms more call → Has call m.now → AwaitMessages (comes_after reaches.now) ms more qs waiting self.now.free self.now.opened self.now.couples
+            → (q : Receive) → Has qs q → Paired (comes_after reaches.now) more qs m.now q → ⊥) }
     {
         if !m.trust.is_sure() {
             return None;
         }
-        let q = self.free.sole_for(m)?;
+        let Some(q) = self.free.sole_for(m) else {
+            return None;
+        };
         if self.opened.hides_up_to(reaches, m, &q) {
             return None;
         }
@@ -127,12 +135,14 @@ impl Matched {
 
     /// The receive that takes a message alone of its call.
     fn taker_for(&self, reaches: &Reaches, m: &Message) -> Option<Receive>
-        ensures some { IfSome result (λ q. (ms more waiting : List Message) (qs : List Receive) → AddsMessages ms more (m.now ∷ []) → AreApart more → AddsTo self.now.waiting waiting m.now → AwaitMessages (comes_after reaches.now) ms more qs waiting self.now.free self.now.opened self.now.couples
+        ensures some { IfSome result (λ q. (ms more waiting : List Message) (qs : List Receive) → AddsMessages ms more (m.now ∷ []) → AreApart more → (Has self.now.waiting m.now → ⊥) → AddsTo self.now.waiting waiting m.now → AwaitMessages (comes_after reaches.now) ms more qs waiting self.now.free self.now.opened self.now.couples
             → OffersReceive (comes_after reaches.now) ms qs m.now q × Paired (comes_after reaches.now) more qs m.now q) }
-        ensures none { IfNone result ((ms more waiting : List Message) (qs : List Receive) → AddsMessages ms more (m.now ∷ []) → AreApart more → AddsTo self.now.waiting waiting m.now → AwaitMessages (comes_after reaches.now) ms more qs waiting self.now.free self.now.opened self.now.couples
+        ensures none { IfNone result ((ms more waiting : List Message) (qs : List Receive) → AddsMessages ms more (m.now ∷ []) → AreApart more → (Has self.now.waiting m.now → ⊥) → AddsTo self.now.waiting waiting m.now → AwaitMessages (comes_after reaches.now) ms more qs waiting self.now.free self.now.opened self.now.couples
             → (q : Receive) → Has qs q → Paired (comes_after reaches.now) more qs m.now q → ⊥) }
     {
-        let q = self.receive_for(reaches, m)?;
+        let Some(q) = self.receive_for(reaches, m) else {
+            return None;
+        };
         if let Some(_) = self.waiting.first_for(&q) {
             return None;
         }
@@ -142,12 +152,14 @@ impl Matched {
     /// The message that a settled receive takes alone of its call.
     fn taken_by(&self, reaches: &Reaches, q: &Receive) -> Option<Message>
         requires { is_settled q.now ≡ true }
-        ensures some { IfSome result (λ m. (ms : List Message) (qs more free : List Receive) → AddsReceives qs more (q.now ∷ []) → ArePostedApart more → AddsTo self.now.free free q.now → AwaitReceives (comes_after reaches.now) ms qs more self.now.waiting free self.now.opened self.now.couples
+        ensures some { IfSome result (λ m. (ms : List Message) (qs more free : List Receive) → AddsReceives qs more (q.now ∷ []) → ArePostedApart more → (Has self.now.free q.now → ⊥) → AddsTo self.now.free free q.now → AwaitReceives (comes_after reaches.now) ms qs more self.now.waiting free self.now.opened self.now.couples
             → OffersMessage (comes_after reaches.now) ms qs more q.now m × Paired (comes_after reaches.now) ms more m q.now) }
-        ensures none { IfNone result ((ms : List Message) (qs more free : List Receive) → AddsReceives qs more (q.now ∷ []) → ArePostedApart more → AddsTo self.now.free free q.now → AwaitReceives (comes_after reaches.now) ms qs more self.now.waiting free self.now.opened self.now.couples
+        ensures none { IfNone result ((ms : List Message) (qs more free : List Receive) → AddsReceives qs more (q.now ∷ []) → ArePostedApart more → (Has self.now.free q.now → ⊥) → AddsTo self.now.free free q.now → AwaitReceives (comes_after reaches.now) ms qs more self.now.waiting free self.now.opened self.now.couples
             → (m : Message) → Has ms m → Paired (comes_after reaches.now) ms more m q.now → ⊥) }
     {
-        let m = self.message_for(reaches, q)?;
+        let Some(m) = self.message_for(reaches, q) else {
+            return None;
+        };
         if let Some(_) = self.free.first_for(&m) {
             return None;
         }
