@@ -7,8 +7,7 @@ use Rattle.trace_pair.specs.Ends.{AreLast}
 use Rattle.trace_pair.specs.Indexed.{AreSets, Found, IsIndexed, OffersMessage}
 use Rattle.trace_pair.specs.Pairing.{After, Paired}
 use Rattle.trace_pair.specs.Rising.{AreRising}
-use Rattle.trace_pair.specs.Waiting.{Takings, waiting_in, couples_with}
-use Rattle.mpi_model.specs.Trusts.{is_settled}
+use Rattle.trace_pair.specs.Waiting.{Takings, waits_at, waiting_in, couples_with}
 use Rattle.trace_pair.specs.declared.batch.Batch.{Batch}
 use Rattle.trace_pair.specs.declared.pair.Couple.{Couple}
 
@@ -39,4 +38,9 @@ pub record SettlesAmong (after : After) (ms : List Message) (all done qs : List 
 -- the receive is offered the message at the place, or none
 abbrev pub IsOfferedAt : After → List Message → List Receive → List Receive → Takings → Receive → Option ℕ → Type 0
 IsOfferedAt after ms qs more t q None = (m : Message) → Has ms m → Paired after ms more m q → ⊥
-IsOfferedAt after ms qs more t q (Some place) = (m : Message) × (slice_get t.messages place ≡ Some m) × (is_settled q ≡ true) × OffersMessage after ms qs more q m
+IsOfferedAt after ms qs more t q (Some place) = (m : Message) × (slice_get t.messages place ≡ Some m) × (waits_at t.takers place ≡ true) × OffersMessage after ms qs more q m
+
+-- the receive, alone of its call, takes the message at the place, or none
+abbrev pub IsTakenAt : After → List Message → List Receive → List Receive → Takings → Receive → Option ℕ → Type 0
+IsTakenAt after ms qs more t q None = (m : Message) → Has ms m → Paired after ms more m q → ⊥
+IsTakenAt after ms qs more t q (Some place) = (m : Message) × (slice_get t.messages place ≡ Some m) × (waits_at t.takers place ≡ true) × OffersMessage after ms qs more q m × Paired after ms more m q

@@ -20,7 +20,7 @@ ghost use Rattle.trace_ops.specs.Order.{Has};
 ghost use Rattle.trace_pair.specs.After.{comes_after};
 ghost use Rattle.trace_pair.specs.Calls.{AddsReceives, ArePostedApart, IsOwnReceive, between, IsPosting};
 ghost use Rattle.trace_pair.specs.Indexed.{AwaitReceives, is_of, with_kind};
-ghost use Rattle.trace_pair.specs.Settled.{Settles, SettlesAmong, IsOfferedAt, couples_of, waiting_of};
+ghost use Rattle.trace_pair.specs.Settled.{Settles, SettlesAmong, IsOfferedAt, IsTakenAt, couples_of, waiting_of};
 ghost use Rattle.trace_pair.specs.Sets.{AddsTo};
 ghost use Rattle.trace_pair.specs.Ends.{AreLast, NoneHides, SomeHides};
 ghost use Rattle.trace_pair.specs.Pairing.{After, receive_of};
@@ -111,6 +111,23 @@ fn offered_place(
     Ok(Some(place))
 }
 
+/// The place of the message that a settled receive takes that is alone of its call.
+fn taken_by(batch: &mut Batch, reaches: &Reaches, q: &Receive) -> Result<Option<usize>, AllocError>
+    requires { is_settled q.now ≡ true }
+    ensures kept { batch.new ≡ batch.old }
+    ensures within { IfOk result (λ place. IfSome place (λ p. p < length batch.old.messages.messages)) }
+    ensures found { IfOk result (λ place. (ms : List Message) (qs more : List Receive) → AddsReceives qs more (q.now ∷ []) → ArePostedApart more → Settles (comes_after reaches.now) ms qs batch.old → IsTakenAt (comes_after reaches.now) ms qs more batch.old.messages q.now place) }
+{
+    let Some(place) = offered_place(batch, reaches, q)? else {
+        return Ok(None);
+    };
+    let m = batch.messages.messages()[place];
+    if let Some(_) = batch.free.first_for(&m) {
+        return Ok(None);
+    }
+    Ok(Some(place))
+}
+
 /// Puts a receive that is alone of its call behind those of its rank.
 fn add_receive(batch: &mut Batch, reaches: &Reaches, q: Receive) -> Result<(), AllocError>
     ensures { OnOk result ((ms : List Message) (qs more : List Receive) → AddsReceives qs more (q ∷ []) → ArePostedApart more → Settles (comes_after reaches.now) ms qs batch.old → Settles (comes_after reaches.now) ms more batch.new) }
@@ -122,15 +139,10 @@ fn add_receive(batch: &mut Batch, reaches: &Reaches, q: Receive) -> Result<(), A
     if !q.is_settled() {
         return Ok(());
     }
-    let offered = offered_place(batch, reaches, &q)?;
-    if let Some(place) = offered {
-        let m = batch.messages.messages()[place];
-        if batch.free.first_for(&m).is_none() {
-            batch.messages.take(place, taker_of(&q))?;
-            return Ok(());
-        }
+    match taken_by(batch, reaches, &q)? {
+        Some(place) => batch.messages.take(place, taker_of(&q))?,
+        None => batch.free.insert(q)?,
     }
-    batch.free.insert(q)?;
     Ok(())
 }
 

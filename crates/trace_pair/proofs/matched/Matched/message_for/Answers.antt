@@ -4,6 +4,10 @@ use Rattle.trace_pair.proofs.Fitting.{settled_parts}
 use Rattle.trace_pair.proofs.Offers.{none_offered, unsure_offered, hidden_offered, is_offered}
 use Rattle.trace_pair.proofs.matched.Matched.message_for.Goals as goal
 
+pub returns-in_default-clause-none : goal.returns-in_default-clause-none
+returns-in_default-clause-none c = λ ms qs more call free adds i held.
+    none_offered (comes_after c.args.reaches.now) ms qs more call adds c.args.q.now i c.requires _ _ _ _ held (c.in_default.ensures.none (settled_parts c.args.q.now c.requires).0)
+
 pub returns-then-not-is_sure-clause-none : goal.returns-then-not-is_sure-clause-none
 returns-then-not-is_sure-clause-none c = λ ms qs more call free adds i held.
     unsure_offered (comes_after c.args.reaches.now) ms qs more call adds c.args.q.now i c.requires _ _ _ _ held c.in-Some.m (c.in-Some.ensures.some (settled_parts c.args.q.now c.requires).0) (sym c.is_sure.ensures ∙ c.if-not-is_sure.true)

@@ -3,6 +3,10 @@ use Rattle.trace_pair.specs.After.{comes_after}
 use Rattle.trace_pair.proofs.Offers.{none_offered_receive, unsure_message, hidden_receive, is_offered_receive}
 use Rattle.trace_pair.proofs.matched.Matched.receive_for.Goals as goal
 
+pub returns-in_default-clause-none : goal.returns-in_default-clause-none
+returns-in_default-clause-none c = λ ms more call waiting qs adds i held.
+    none_offered_receive (comes_after c.args.reaches.now) ms more call qs adds c.args.m.now i _ _ _ _ held c.in_default.ensures.none
+
 pub returns-then-not-is_sure-clause-none : goal.returns-then-not-is_sure-clause-none
 returns-then-not-is_sure-clause-none c = λ ms more call waiting qs adds i held.
     unsure_message (comes_after c.args.reaches.now) ms more call qs adds c.args.m.now i _ _ _ _ held (sym c.is_sure.ensures ∙ c.if-not-is_sure.true)

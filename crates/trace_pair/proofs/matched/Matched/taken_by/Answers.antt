@@ -3,6 +3,9 @@ use Rattle.trace_pair.specs.After.{comes_after}
 use Rattle.trace_pair.proofs.Alone.{receive_taken, receive_left}
 use Rattle.trace_pair.proofs.matched.Matched.taken_by.Goals as goal
 
+pub returns-in_default-clause-none : goal.returns-in_default-clause-none
+returns-in_default-clause-none c = λ ms qs more free adds apart absent added held. c.in_default.ensures.none ms qs more _ free adds (inl refl) held
+
 pub returns-in-Some-first_for-clause-none : goal.returns-in-Some-first_for-clause-none
 returns-in-Some-first_for-clause-none c = λ ms qs more free adds apart absent added held.
     let f = c.in-Some-first_for.ensures.some in

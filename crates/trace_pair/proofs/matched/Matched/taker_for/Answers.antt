@@ -4,6 +4,9 @@ use Rattle.trace_pair.proofs.Alone.{message_taken, message_left}
 use Rattle.trace_pair.proofs.Fitting.{settled_parts}
 use Rattle.trace_pair.proofs.matched.Matched.taker_for.Goals as goal
 
+pub returns-in_default-clause-none : goal.returns-in_default-clause-none
+returns-in_default-clause-none c = λ ms more waiting qs adds apart absent added held. c.in_default.ensures.none ms more _ waiting qs adds (inl refl) held
+
 pub returns-in-Some-first_for-clause-none : goal.returns-in-Some-first_for-clause-none
 returns-in-Some-first_for-clause-none c = λ ms more waiting qs adds apart absent added held.
     let f = c.in-Some-first_for.ensures.some in
