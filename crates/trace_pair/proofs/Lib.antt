@@ -49,3 +49,4 @@ pub mod Waited
 pub mod Offered
 pub mod Settling
 pub mod Parts
+pub mod Soles

@@ -69,8 +69,8 @@ one_named name (z ∷ zs) x y o i j e =
 
 pub agree : (a b : OpName) → names_agree a b ≡ true → a ≡ b
 agree a b h =
-    let q = both (eqb a.rank b.rank && eqb a.call b.call) (eqb a.part b.part) h in
-    let p = both (eqb a.rank b.rank) (eqb a.call b.call) q.0 in
+    let p = both (eqb a.rank b.rank) (eqb a.call b.call && eqb a.part b.part) h in
+    let q = both (eqb a.call b.call) (eqb a.part b.part) p.1 in
     let x : a.rank ≡ b.rank = grind (arith, nat_tests) in
     let y : a.call ≡ b.call = grind (arith, nat_tests) in
     let z : a.part ≡ b.part = grind (arith, nat_tests) in

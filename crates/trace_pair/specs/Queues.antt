@@ -73,17 +73,17 @@ abbrev pub same_call : OpName → OpName → Bool
 same_call a b = (a.rank == b.rank) && (a.call == b.call)
 
 -- the first of the messages, if the next isn't of its call
+abbrev pub sole_of : Message → Option Message → Option Message
+sole_of m None = Some m
+sole_of m (Some n) = cond (same_call m.name n.name) None (Some m)
+
 abbrev pub sole_message : Front Message → Option Message
-sole_message f = sole f.first f.next
-  where
-    sole : Message → Option Message → Option Message
-    sole m None = Some m
-    sole m (Some n) = cond (same_call m.name n.name) None (Some m)
+sole_message f = sole_of f.first f.next
 
 -- the same of receives
+abbrev pub sole_receive_of : Receive → Option Receive → Option Receive
+sole_receive_of q None = Some q
+sole_receive_of q (Some r) = cond (same_call q.name r.name) None (Some q)
+
 abbrev pub sole_receive : Front Receive → Option Receive
-sole_receive f = sole f.first f.next
-  where
-    sole : Receive → Option Receive → Option Receive
-    sole q None = Some q
-    sole q (Some r) = cond (same_call q.name r.name) None (Some q)
+sole_receive f = sole_receive_of f.first f.next

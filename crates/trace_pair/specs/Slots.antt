@@ -1,6 +1,8 @@
 -- Values by names, in a list of slots for each rank.
 use Rattle.std.specs.Prelude.{◌≡◌, ◌<◌, ◌≤◌, ◌==◌, ◌&&◌, ◌||◌, ◌++◌, nat_lt, Bool, true, ℕ, zero, suc, cond, Option, None, List, [], ◌∷◌, length, slice_index_or, Vec}
+use Rattle.std.specs.declared.cmp.Ordering.{Ordering}
 use Rattle.std.specs.List.{filter_map}
+use Rattle.std.specs.Ordering.{nat_cmp, ordering_then}
 use Rattle.std.specs.Option.{option_map}
 use Rattle.std.specs.declared.alloc.Global.{Global}
 use Rattle.mpi_model.specs.declared.event.OpName.{OpName}
@@ -15,6 +17,10 @@ at_of name = record { call = name.call; part = name.part }
 -- by call, and then by part
 abbrev pub at_lt : At → At → Bool
 at_lt a b = nat_lt a.call b.call || ((a.call == b.call) && nat_lt a.part b.part)
+
+-- the same as an order
+abbrev pub at_cmp : At → At → Ordering
+at_cmp a b = ordering_then (nat_cmp a.call b.call) (nat_cmp a.part b.part)
 
 -- one call and one part
 abbrev pub at_eq : At → At → Bool

@@ -2,6 +2,7 @@
 ghost use Rattle.std.specs.Prelude.{◌≡◌, ◌||◌, true, false, Some, OnOk, IfSome, IfNone, is_some, List, Bool, []};
 ghost use Rattle.mpi_model.specs.Fit.{envelopes_fit, admits};
 ghost use Rattle.trace_ops.specs.Order.{Has};
+ghost use Rattle.trace_pair.specs.Calls.{AreApart, ArePostedApart, IsOwnMessage, IsOwnReceive};
 ghost use Rattle.trace_pair.specs.Sets.{AddsTo, DropsFrom};
 ghost use Rattle.trace_pair.specs.Indexed.{IsFirstMessage, IsFirstReceive, IsSoleMessage, IsSoleReceive, name_lt};
 ghost use Rattle.trace_pair.specs.Queues.{IsBestAmong, IsFrontAmong, IsMessageFront, of_kind, had, kinds_with, same_call, sole_message, sole_receive};
@@ -111,7 +112,7 @@ impl Messages {
     /// The same first message, if no other one of its call fits.
     pub(crate) fn sole_for(&self, q: &Receive) -> Option<Message>
         ensures some { IfSome result (λ m. is_some q.now.source ≡ true → IsSoleMessage self.now q.now m) }
-        ensures none { IfNone result (is_some q.now.source ≡ true → (n : Message) → IsSoleMessage self.now q.now n → ⊥) }
+        ensures none { IfNone result (is_some q.now.source ≡ true → ((n : Message) → Has self.now n → IsOwnMessage n) → AreApart self.now → (n : Message) → IsSoleMessage self.now q.now n → ⊥) }
     {
         match self.front_for(q) {
             Some(front) => sole_message(front),
@@ -285,7 +286,7 @@ impl Receives {
     /// The first receive whose envelope fits the message's, if no other one of its call does.
     pub(crate) fn sole_for(&self, m: &Message) -> Option<Receive>
         ensures some { IfSome result (IsSoleReceive self.now m.now) }
-        ensures none { IfNone result ((r : Receive) → IsSoleReceive self.now m.now r → ⊥) }
+        ensures none { IfNone result (((r : Receive) → Has self.now r → IsOwnReceive r) → ArePostedApart self.now → (r : Receive) → IsSoleReceive self.now m.now r → ⊥) }
     {
         match self.front_for(m) {
             Some(front) => sole_receive(front),

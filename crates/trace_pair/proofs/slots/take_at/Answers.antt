@@ -1,3 +1,4 @@
+use Rattle.trace_pair.specs.Slots.{at_of}
 use Rattle.std.proofs.Common.{sym, ◌∙◌, arith}
 use Rattle.trace_pair.proofs.Slotted.{value_out, left_out, row_rises, row_value, new_slots, new_value}
 use Rattle.trace_pair.proofs.slots.take_at.Goals as goal
@@ -15,7 +16,7 @@ pub returns-clause-slots : goal.returns-clause-slots
 returns-clause-slots g c = new_slots c.args.rows.now.items c.args.name.now.rank c.index_mut.result.now c.take_in.new.row (omega arith) c.index_mut.ensures.value c.requires c.take_in.ensures.rises
 
 pub returns-clause-taken : goal.returns-clause-taken
-returns-clause-taken g c = c.take_in.ensures.taken ∙ row_value c.args.rows.now.items c.args.name.now.rank c.index_mut.result.now c.index_mut.result.now (omega arith) c.index_mut.ensures.value c.args.name.now.call
+returns-clause-taken g c = c.take_in.ensures.taken ∙ row_value c.args.rows.now.items c.args.name.now.rank c.index_mut.result.now c.index_mut.result.now (omega arith) c.index_mut.ensures.value (at_of c.args.name.now)
 
 pub returns-clause-left : goal.returns-clause-left
-returns-clause-left g c = new_value c.args.rows.now.items c.args.name.now.rank c.index_mut.result.now c.take_in.new.row (omega arith) c.index_mut.ensures.value c.args.name.now.call _ c.take_in.ensures.left
+returns-clause-left g c = new_value c.args.rows.now.items c.args.name.now.rank c.index_mut.result.now c.take_in.new.row (omega arith) c.index_mut.ensures.value (at_of c.args.name.now) _ c.take_in.ensures.left

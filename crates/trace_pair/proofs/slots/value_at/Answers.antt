@@ -11,5 +11,5 @@ get_in-requires g c = subst (λ l. Rises l) (sym c.deref.ensures.value) (row_ris
 
 pub returns : goal.returns
 returns g c =
-    c.get_in.ensures ∙ ap (λ l. value_in l c.args.name.now.call) c.deref.ensures.value
-    ∙ row_value c.args.rows.now.items c.args.name.now.rank c.index.result.now c.index.result.now (omega arith) c.index.ensures c.args.name.now.call
+    c.get_in.ensures ∙ ap (λ l. value_in l (at_of c.args.name.now)) c.deref.ensures.value
+    ∙ row_value c.args.rows.now.items c.args.name.now.rank c.index.result.now c.index.result.now (omega arith) c.index.ensures (at_of c.args.name.now)

@@ -6,7 +6,7 @@ use Rattle.trace_pair.proofs.matched.Matched.message_for.Goals as goal
 
 pub returns-in_default-clause-none : goal.returns-in_default-clause-none
 returns-in_default-clause-none c = λ ms qs more call free adds i held.
-    none_offered (comes_after c.args.reaches.now) ms qs more call adds c.args.q.now i c.requires _ _ _ _ held (c.in_default.ensures.none (settled_parts c.args.q.now c.requires).0)
+    none_offered (comes_after c.args.reaches.now) ms qs more call adds c.args.q.now i c.requires _ _ _ _ held (c.in_default.ensures.none (settled_parts c.args.q.now c.requires).0 (λ n k. held.senders n (held.waits n k).0) (λ n p k l e. held.messages_apart n p (held.waits n k).0 (held.waits p l).0 e))
 
 pub returns-then-not-is_sure-clause-none : goal.returns-then-not-is_sure-clause-none
 returns-then-not-is_sure-clause-none c = λ ms qs more call free adds i held.

@@ -5,7 +5,7 @@ use Rattle.trace_pair.proofs.matched.Matched.receive_for.Goals as goal
 
 pub returns-in_default-clause-none : goal.returns-in_default-clause-none
 returns-in_default-clause-none c = λ ms more call waiting qs adds i held.
-    none_offered_receive (comes_after c.args.reaches.now) ms more call qs adds c.args.m.now i _ _ _ _ held c.in_default.ensures.none
+    none_offered_receive (comes_after c.args.reaches.now) ms more call qs adds c.args.m.now i _ _ _ _ held (c.in_default.ensures.none (λ r k. held.receivers r (held.frees r k).0) (λ r p k l e. held.receives_apart r p (held.frees r k).0 (held.frees p l).0 e))
 
 pub returns-then-not-is_sure-clause-none : goal.returns-then-not-is_sure-clause-none
 returns-then-not-is_sure-clause-none c = λ ms more call waiting qs adds i held.
