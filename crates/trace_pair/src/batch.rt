@@ -151,14 +151,14 @@ fn enter_receive(batch: &mut Batch, q: &Receive) -> Result<(), AllocError>
     ensures { OnOk result ((after : After) (ms : List Message) (old all qs more : List Receive) → AddsTo qs more q.now → IsOwnReceive q.now → ArePostedApart more → (Has old q.now → ⊥)
         → SettlesAmong after ms all old qs batch.old → SettlesAmong after ms all old more batch.new) }
 {
-    if q.is_open() {
-        batch.opened.insert(q)?;
+    if q.is_settled() {
+        batch.free.insert(*q)?;
         return Ok(());
     }
-    if !q.is_settled() {
+    if !q.is_open() {
         return Ok(());
     }
-    batch.free.insert(*q)?;
+    batch.opened.insert(q)?;
     Ok(())
 }
 
