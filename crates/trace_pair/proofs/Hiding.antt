@@ -81,4 +81,8 @@ module _ (after : After) (xs : List Receive) (m : Message) where
         (w.0, p.0, w.2, w.3, sym (fit_parts m w.0 w.2).1 ∙ at, grind (arith, nat_tests))
 
     pub none_up_to : NoneHides after (filter (is_within (Some q.name.call)) xs) m → NoneHidesUpTo after xs m q
-    none_up_to h u i f le = h u (kept_has (is_within (Some q.name.call)) xs u i (grind (arith, nat_tests))) f
+    none_up_to h u i f at le = h u (kept_has (is_within (Some q.name.call)) xs u i (grind (arith, nat_tests))) f
+
+    -- no receive of another rank does
+    pub none_elsewhere : eqb m.to q.at ≡ false → NoneHidesUpTo after xs m q
+    none_elsewhere not u i f at le = absurd (let e = (fit_parts m u f).1 ∙ at in grind (arith, nat_tests))

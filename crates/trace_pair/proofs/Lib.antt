@@ -50,3 +50,4 @@ pub mod Offered
 pub mod Settling
 pub mod Parts
 pub mod Soles
+pub mod SoleReceives

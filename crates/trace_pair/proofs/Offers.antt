@@ -15,6 +15,7 @@ use Rattle.trace_pair.specs.Places.{sent_at, posted_at, earlier, together, no_la
 use Rattle.trace_pair.specs.declared.pair.Couple.{Couple}
 use Rattle.trace_pair.proofs.Certain.{same_name}
 use Rattle.trace_pair.proofs.Fitting.{envelope_of, false_apart, fits_at, fits_live, live_message, open_live, settled_from, settled_live, settled_not_open, settled_parts, sure_stands}
+use Rattle.trace_pair.proofs.Local.{up_to}
 use Rattle.trace_pair.proofs.Obeyed.{any_or_none, or_left, posted_le}
 use Rattle.trace_pair.proofs.ReceiveParts.{parts_apart}
 use Rattle.trace_pair.proofs.Steps.{same_sender, first_of_two, receive-keeps, receive-adds_none, receive-taken, message-keeps, message-adds_none, message-taken}
@@ -169,7 +170,7 @@ module _ (after : After) (ms more call : List Message) (qs : List Receive) (adds
             (λ (away : (n : Message) → Has ms n → Paired after ms qs n r → ⊥).
             absurd (f.sole r (free_then r i s away) (envelope_of m r g) (posted_named r q (held.receivers r i) (held.receivers q (held.frees q f.member).0) p)))
             (any_or_none (λ n. paired after ms qs n r) ms);
-        no_open = λ u i o p g. none u (held.opens_all u i o) (envelope_of m u g) (posted_le q u p);
+        no_open = λ u i o p g. none u (held.opens_all u i o) (envelope_of m u g) (up_to (posted_at u) (posted_at q) p).rank (posted_le q u p);
       }
 
   pub none_offered_receive : ((q : Receive) → IsSoleReceive free m q → ⊥) → IsOfferedReceive after ms more qs m None

@@ -17,20 +17,20 @@ use Rattle.trace_pair.proofs.Obeyed.{both, either, or_left, or_right}
 use Rattle.trace_pair.proofs.Queued.{fit_parts}
 use Rattle.trace_pair.proofs.Steps.{turned}
 
-not_itself : (a b : OpName) → no_later a b ≡ true → a ≡ b → ⊥
+pub not_itself : (a b : OpName) → no_later a b ≡ true → a ≡ b → ⊥
 not_itself a b h e = no_later_apart a b h (one_call a b e) (one_part a b e)
 
-earlier_name : (a b : OpName) → earlier a b ≡ true → name_lt a b ≡ true
+pub earlier_name : (a b : OpName) → earlier a b ≡ true → name_lt a b ≡ true
 earlier_name a b h = grind (arith, nat_tests)
 
 -- what isn't before the next one, which is of a later call, is of a later call too
-behind_next : (m x n : OpName) → (name_lt x m ≡ true → ⊥) → same_call m x ≡ false → name_lt n x ≡ false → no_later n m ≡ true → ⊥
+pub behind_next : (m x n : OpName) → (name_lt x m ≡ true → ⊥) → same_call m x ≡ false → name_lt n x ≡ false → no_later n m ≡ true → ⊥
 behind_next m x n first other not h =
     ⊎_elim (λ (y : earlier n m ≡ true). first (grind (arith, nat_tests)))
     (λ (y : together n m ≡ true). first (grind (arith, nat_tests)))
     (either (earlier n m) (together n m) h)
 
-sibling : (m x : OpName) → same_call m x ≡ true → (x ≡ m → ⊥) → no_later x m ≡ true
+pub sibling : (m x : OpName) → same_call m x ≡ true → (x ≡ m → ⊥) → no_later x m ≡ true
 sibling m x h not =
     let p = both (eqb m.rank x.rank) (eqb m.call x.call) h in
     let e : x.rank ≡ m.rank = let a = p.0 in grind (arith, nat_tests) in

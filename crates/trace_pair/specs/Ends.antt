@@ -58,4 +58,4 @@ abbrev pub SomeHidesUpTo : After → List Receive → Message → Receive → Ty
 SomeHidesUpTo after xs m q = (u : Receive) × Has xs u × (envelopes_fit m u ≡ true) × (after m u ≡ false) × (u.at ≡ q.at) × (u.name.call ≤ q.name.call)
 
 abbrev pub NoneHidesUpTo : After → List Receive → Message → Receive → Type 0
-NoneHidesUpTo after xs m q = (u : Receive) → Has xs u → envelopes_fit m u ≡ true → u.name.call ≤ q.name.call → after m u ≡ true
+NoneHidesUpTo after xs m q = (u : Receive) → Has xs u → envelopes_fit m u ≡ true → u.at ≡ q.at → u.name.call ≤ q.name.call → after m u ≡ true
