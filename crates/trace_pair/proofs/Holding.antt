@@ -44,6 +44,40 @@ module _ (P : Message → Receive → Type 0) (ms : List Message) (qs : List Rec
     coupled_all = λ m q i j h. c.keeps (couple_of m q) (held.coupled_all m q i j h);
   }
 
+  -- the same receives stand in another list
+  pub same_receives : (rs : List Receive) → IsSameSet qs rs → AreSets P ms rs waiting free opened couples
+  same_receives rs s = record {
+    senders = held.senders;
+    receivers = λ q i. held.receivers q (s.was q i);
+    messages_apart = held.messages_apart;
+    receives_apart = λ q r i j e. held.receives_apart q r (s.was q i) (s.was r j) e;
+    waits = λ m i. let v = held.waits m i in (v.0, v.1, λ q j h. v.2 q (s.was q j) h);
+    waits_all = λ m i l u. held.waits_all m i l (λ q j h. u q (s.keeps q j) h);
+    frees = λ q i. let v = held.frees q i in (s.keeps q v.0, v.1, v.2);
+    frees_all = λ q i t u. held.frees_all q (s.was q i) t u;
+    opens = λ q i. let v = held.opens q i in (s.keeps q v.0, v.1);
+    opens_all = λ q i t. held.opens_all q (s.was q i) t;
+    coupled = λ c i. let v = held.coupled c i in (v.0, s.keeps c.receive v.1, v.2);
+    coupled_all = λ m q i j h. held.coupled_all m q i (s.was q j) h;
+  }
+
+  -- and the same messages
+  pub same_messages : (ns : List Message) → IsSameSet ms ns → AreSets P ns qs waiting free opened couples
+  same_messages ns s = record {
+    senders = λ m i. held.senders m (s.was m i);
+    receivers = held.receivers;
+    messages_apart = λ m n i j e. held.messages_apart m n (s.was m i) (s.was n j) e;
+    receives_apart = held.receives_apart;
+    waits = λ m i. let v = held.waits m i in (s.keeps m v.0, v.1, v.2);
+    waits_all = λ m i l u. held.waits_all m (s.was m i) l u;
+    frees = λ q i. let v = held.frees q i in (v.0, v.1, λ m j h. v.2 m (s.was m j) h);
+    frees_all = λ q i t u. held.frees_all q i t (λ m j h. u m (s.keeps m j) h);
+    opens = held.opens;
+    opens_all = held.opens_all;
+    coupled = λ c i. let v = held.coupled c i in (s.keeps c.message v.0, v.1, v.2);
+    coupled_all = λ m q i j h. held.coupled_all m q (s.was m i) j h;
+  }
+
   -- a message and a receive become a couple
   pub couple_found : (m : Message) (q : Receive) → Has ms m → Has qs q → (waits : List Message) (frees : List Receive) (pairs : List Couple)
       → DropsFrom waiting waits m → DropsFrom free frees q → AddsTo couples pairs (couple_of m q) → AreSets (λ n r. P n r ⊎ ((n ≡ m) × (r ≡ q))) ms qs waits frees opened pairs
@@ -52,11 +86,19 @@ module _ (P : Message → Receive → Type 0) (ms : List Message) (qs : List Rec
     receivers = held.receivers;
     messages_apart = held.messages_apart;
     receives_apart = held.receives_apart;
-    waits = λ n k. let v = held.waits n (w.was n k) in (v.0, v.1, λ r l h. ⊎_elim (λ (p : P n r). v.2 r l p)
-        (λ (e : (n ≡ m) × (r ≡ q)). w.dropped (subst (λ (x : Message). Has waits x) e.0 k)) h);
+    waits = λ n k. let v = held.waits n (w.was n k) in (
+      v.0,
+      v.1,
+      λ r l h. ⊎_elim (λ (p : P n r). v.2 r l p)
+          (λ (e : (n ≡ m) × (r ≡ q)). w.dropped (subst (λ (x : Message). Has waits x) e.0 k)) h,
+    );
     waits_all = λ n k l u. ⊎_elim (λ (x : Has waits n). x) (λ (e : n ≡ m). absurd (u q j (inr (e, refl)))) (w.keeps n (held.waits_all n k l (λ r a h. u r a (inl h))));
-    frees = λ r k. let v = held.frees r (f.was r k) in (v.0, v.1, λ n l h. ⊎_elim (λ (p : P n r). v.2 n l p)
-        (λ (e : (n ≡ m) × (r ≡ q)). f.dropped (subst (λ (x : Receive). Has frees x) e.1 k)) h);
+    frees = λ r k. let v = held.frees r (f.was r k) in (
+      v.0,
+      v.1,
+      λ n l h. ⊎_elim (λ (p : P n r). v.2 n l p)
+          (λ (e : (n ≡ m) × (r ≡ q)). f.dropped (subst (λ (x : Receive). Has frees x) e.1 k)) h,
+    );
     frees_all = λ r k s u. ⊎_elim (λ (x : Has frees r). x) (λ (e : r ≡ q). absurd (u m i (inr (refl, e)))) (f.keeps r (held.frees_all r k s (λ n a h. u n a (inl h))));
     opens = held.opens;
     opens_all = held.opens_all;

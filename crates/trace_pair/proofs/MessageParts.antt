@@ -80,9 +80,9 @@ module _ (after : After) (ms more call : List Message) (qs : List Receive) (adds
     pub taken_waiting : ((n : Message) → Has waiting n → (n ≡ m → ⊥) → envelopes_fit n q ≡ true → ⊥) → Paired after more qs m q
     taken_waiting none =
         let found : (n : Message) → Has more n → fits n q ≡ true → (n ≡ m → ⊥) → (r : Receive) × Has qs r × Paired after more qs n r = λ n i f not.
-            ⊎_elim (λ (w : (r : Receive) × Has qs r × Paired after more qs n r). w)
-            (λ (away : (r : Receive) → Has qs r → Paired after more qs n r → ⊥). absurd (none n (held.waits_all n i (live_message n q f) (λ r j p. away r j p.0)) not (envelope_of n q f)))
-            (any_or_none (paired after more qs n) qs) in
+        ⊎_elim (λ (w : (r : Receive) × Has qs r × Paired after more qs n r). w)
+        (λ (away : (r : Receive) → Has qs r → Paired after more qs n r → ⊥). absurd (none n (held.waits_all n i (live_message n q f) (λ r j p. away r j p.0)) not (envelope_of n q f)))
+        (any_or_none (paired after more qs n) qs) in
         takes_message after ms more qs call adds m q c offer.member posted_apart (record {
           told = (settled_parts q offer.settled).0;
           sure_receive = (settled_parts q offer.settled).1;

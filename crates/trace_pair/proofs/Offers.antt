@@ -100,18 +100,21 @@ module _ (after : After) (ms : List Message) (qs more call : List Receive) (adds
         false_apart (after m w.0) w.3 (subst (λ (x : Message). after x w.0 ≡ true) e a)
 
     pub is_offered : is_sure m.trust ≡ true → NoneHides after opened m → IsOfferedMessage after ms qs more q (Some m)
-    is_offered sure none = (settled, record {
-      member = (held.waits m f.member).0;
-      sure = sure;
-      fit = fits_waiting m f.member f.fit;
-      waits = unpaired m f.member;
-      first_waiting = λ n i p g.
-          ⊎_elim (λ (w : (r : Receive) × Has qs r × Paired after ms qs n r). w)
-          (λ (away : (r : Receive) → Has qs r → Paired after ms qs n r → ⊥).
-          absurd (f.sole n (waits_then n i (live_message n q g) away) (envelope_of n q g) (sent_named n m (held.senders n i) (held.senders m (held.waits m f.member).0) p)))
-          (any_or_none (paired after ms qs n) qs);
-      no_open = λ u i o g. none u (held.opens_all u i o) (envelope_of m u g);
-    })
+    is_offered sure none = (
+      settled,
+      record {
+        member = (held.waits m f.member).0;
+        sure = sure;
+        fit = fits_waiting m f.member f.fit;
+        waits = unpaired m f.member;
+        first_waiting = λ n i p g.
+            ⊎_elim (λ (w : (r : Receive) × Has qs r × Paired after ms qs n r). w)
+            (λ (away : (r : Receive) → Has qs r → Paired after ms qs n r → ⊥).
+            absurd (f.sole n (waits_then n i (live_message n q g) away) (envelope_of n q g) (sent_named n m (held.senders n i) (held.senders m (held.waits m f.member).0) p)))
+            (any_or_none (paired after ms qs n) qs);
+        no_open = λ u i o g. none u (held.opens_all u i o) (envelope_of m u g);
+      },
+    )
 
 -- a message
 module _ (after : After) (ms more call : List Message) (qs : List Receive) (adds : AddsMessages ms more call) (m : Message) (c : Has call m)

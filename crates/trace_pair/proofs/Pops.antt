@@ -49,9 +49,12 @@ module _ (after : After) (ms : List Message) (qs less all : List Receive) (q : R
       receive_goes (Paired after ms all) ms less qs q adds absent waiting free opened couples held waits free opened pairs
       (λ n i. ⊎_elim
       (λ (k : Has waiting n). let v = held.waits n k in (v.0, v.1, λ r j h. v.2 r (adds.keeps r j) h))
-      (λ (e : n ≡ m). subst (λ (x : Message). Has ms x × (is_live x.trust ≡ true) × ((r : Receive) → Has less r → Paired after ms all x r → ⊥)) (sym e)
-      (p.0, live_message m q (pair_obeys after ms all m q p.2).fit, λ r j h.
-      absent (subst (λ (x : Receive). Has less x) (the_one_receive after ms all apart m r q p.0 (within r (adds.keeps r j)) (within q adds.added) h p.2) j))) (w.cases n i))
+      (λ (e : n ≡ m). subst (λ (x : Message). Has ms x × (is_live x.trust ≡ true) × ((r : Receive) → Has less r → Paired after ms all x r → ⊥)) (sym e) (
+        p.0,
+        live_message m q (pair_obeys after ms all m q p.2).fit,
+        λ r j h.
+            absent (subst (λ (x : Receive). Has less x) (the_one_receive after ms all apart m r q p.0 (within r (adds.keeps r j)) (within q adds.added) h p.2) j),
+      )) (w.cases n i))
       (λ n i l u. ⊎_elim
       (λ (v : (r : Receive) × Has qs r × Paired after ms all n r).
       ⊎_elim (λ (k : Has less v.0). absurd (u v.0 k v.2))
@@ -86,9 +89,12 @@ module _ (after : After) (ms less all : List Message) (qs : List Receive) (m : M
       (λ n i. i) (λ n i. inl i) (λ i. (held.waits m i).2 q p.1 p.2)
       (λ r i. ⊎_elim
       (λ (k : Has free r). let v = held.frees r k in (v.0, v.1, λ n j h. v.2 n (adds.keeps n j) h))
-      (λ (e : r ≡ q). subst (λ (x : Receive). Has qs x × (is_settled x ≡ true) × ((n : Message) → Has less n → Paired after all qs n x → ⊥)) (sym e)
-      (p.1, settled_from q o.told o.sure_receive, λ n j h.
-      absent (subst (λ (x : Message). Has less x) (the_one_message after all qs apart n m q (within n (adds.keeps n j)) (within m adds.added) p.1 h p.2) j))) (f.cases r i))
+      (λ (e : r ≡ q). subst (λ (x : Receive). Has qs x × (is_settled x ≡ true) × ((n : Message) → Has less n → Paired after all qs n x → ⊥)) (sym e) (
+        p.1,
+        settled_from q o.told o.sure_receive,
+        λ n j h.
+            absent (subst (λ (x : Message). Has less x) (the_one_message after all qs apart n m q (within n (adds.keeps n j)) (within m adds.added) p.1 h p.2) j),
+      )) (f.cases r i))
       (λ r i s u. ⊎_elim
       (λ (v : (n : Message) × Has ms n × Paired after all qs n r).
       ⊎_elim (λ (k : Has less v.0). absurd (u v.0 k v.2))

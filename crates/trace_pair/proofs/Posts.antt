@@ -1,10 +1,11 @@
 -- The receives of one rank among those of the others.
-use Rattle.std.proofs.Common.{subst, ◌≡◌, ℕ, true, ◌&&◌, List, [], ◌∷◌, ◌++◌, inl, inr, ⊎_elim, sym, refl, ◌∙◌, ap, ◌≤◌, append_assoc, take, drop, eqb, ltb}
+use Rattle.std.proofs.Common.{subst, ◌≡◌, ℕ, true, ◌&&◌, List, [], ◌∷◌, ◌++◌, inl, inr, ⊎_elim, sym, refl, ◌∙◌, ap, ◌≤◌, arith, append_assoc, take, drop, eqb, ltb}
+use Rattle.std.proofs.lemmas.Bool.Decides.{nat_tests}
 use Rattle.std.proofs.lemmas.List.{take-take, take-append-drop}
 use Rattle.std.specs.Prelude.{slice_range}
 use Rattle.mpi_model.specs.declared.message.Receive.{Receive}
 use Rattle.trace_ops.specs.Order.{posted_before, Has, ArePosted, is_listed_before}
-use Rattle.trace_pair.specs.Calls.{AddsReceives, between, IsPosting, IsOneCall, IsWhole}
+use Rattle.trace_pair.specs.Calls.{AddsReceives, between, IsPosting, AreDistinct, IsOneCall, IsWhole}
 use Rattle.trace_pair.proofs.Obeyed.{and_true, both}
 use Rattle.trace_pair.proofs.Ranks.{has_left, has_right, has_either, listed_earlier, stretch_then, range_is}
 
@@ -32,6 +33,18 @@ sequence_front before after xs ys s = record {
   apart_after = λ n m i j. s.apart_after n m i (has_left xs ys m j);
 }
 
+order_back : (xs ys : List Receive) → ArePosted (xs ++ ys) → ArePosted ys
+order_back [] ys o = o
+order_back (x ∷ xs) ys o = order_back xs ys o.1
+
+not_before_itself : (m : Receive) → ((eqb m.at m.at) && is_listed_before m.name m.name) ≡ true → ⊥
+not_before_itself m h = grind (arith, nat_tests)
+
+-- in order none stands twice
+pub distinct_order : (ms : List Receive) → ArePosted ms → AreDistinct ms
+distinct_order [] o = tt
+distinct_order (m ∷ ms) o = (λ i. not_before_itself m (o.0 m i), distinct_order ms o.1)
+
 -- the receives of the next call of the rank
 pub adds_next : (before after xs call ys : List Receive) → IsPosting before after (xs ++ (call ++ ys)) → IsOneCall (λ (m : Receive). m.name.call) call
     → ((n m : Receive) → Has xs n → Has call m → n.name.call ≡ m.name.call → ⊥) → AddsReceives (between before xs after) (between before (xs ++ call) after) call
@@ -58,6 +71,7 @@ adds_next before after xs call ys s one apart =
           (λ (k : Has xs n). order_before xs (call ++ ys) n m s.order k (has_left call ys m c) (apart n m k c)) (has_either before xs n j))
           (λ (j : Has after n). absurd (s.apart_after n m j (there m c) e)) (has_either (before ++ xs) after n i);
       one_call = λ m n i j. one m n i j;
+      distinct = distinct_order call (order_front call ys (order_back xs (call ++ ys) s.order));
     }
 
 -- the receives from a place on up to another one, where those are all of one call

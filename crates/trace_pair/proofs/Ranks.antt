@@ -6,7 +6,7 @@ use Rattle.std.specs.Prelude.{slice_range}
 use Rattle.mpi_model.specs.declared.event.OpName.{OpName}
 use Rattle.mpi_model.specs.declared.message.Message.{Message}
 use Rattle.trace_ops.specs.Order.{sent_before, Has, AreInOrder, is_listed_before}
-use Rattle.trace_pair.specs.Calls.{AddsMessages, between, IsSequence, IsOneCall, IsWhole}
+use Rattle.trace_pair.specs.Calls.{AddsMessages, between, IsSequence, AreDistinct, IsOneCall, IsWhole}
 use Rattle.trace_pair.proofs.Obeyed.{and_true, both, either}
 
 pub has_left : {X : Type 0} (xs ys : List X) (x : X) → Has xs x → Has (xs ++ ys) x
@@ -59,6 +59,18 @@ sequence_front before after xs ys s = record {
   apart_after = λ n m i j. s.apart_after n m i (has_left xs ys m j);
 }
 
+order_back : (xs ys : List Message) → AreInOrder (xs ++ ys) → AreInOrder ys
+order_back [] ys o = o
+order_back (x ∷ xs) ys o = order_back xs ys o.1
+
+not_before_itself : (m : Message) → ((eqb m.from m.from) && is_listed_before m.name m.name) ≡ true → ⊥
+not_before_itself m h = grind (arith, nat_tests)
+
+-- in order none stands twice
+pub distinct_order : (ms : List Message) → AreInOrder ms → AreDistinct ms
+distinct_order [] o = tt
+distinct_order (m ∷ ms) o = (λ i. not_before_itself m (o.0 m i), distinct_order ms o.1)
+
 -- the messages of the next call of the rank
 pub adds_next : (before after xs call ys : List Message) → IsSequence before after (xs ++ (call ++ ys)) → IsOneCall (λ (m : Message). m.name.call) call
     → ((n m : Message) → Has xs n → Has call m → n.name.call ≡ m.name.call → ⊥) → AddsMessages (between before xs after) (between before (xs ++ call) after) call
@@ -85,6 +97,7 @@ adds_next before after xs call ys s one apart =
           (λ (k : Has xs n). order_before xs (call ++ ys) n m s.order k (has_left call ys m c) (apart n m k c)) (has_either before xs n j))
           (λ (j : Has after n). absurd (s.apart_after n m j (there m c) e)) (has_either (before ++ xs) after n i);
       one_call = λ m n i j. one m n i j;
+      distinct = distinct_order call (order_front call ys (order_back xs (call ++ ys) s.order));
     }
 
 -- a stretch of a list as a slice is one

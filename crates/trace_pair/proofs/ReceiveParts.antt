@@ -105,9 +105,9 @@ module _ (after : After) (ms : List Message) (qs more call : List Receive) (adds
     pub taken_free : ((r : Receive) → Has free r → (r ≡ q → ⊥) → envelopes_fit m r ≡ true → ⊥) → Paired after ms more m q
     taken_free none =
         let found : (r : Receive) → Has more r → is_settled r ≡ true → fits m r ≡ true → (r ≡ q → ⊥) → (n : Message) × Has ms n × Paired after ms more n r = λ r i s f not.
-            ⊎_elim (λ (w : (n : Message) × Has ms n × Paired after ms more n r). w)
-            (λ (away : (n : Message) → Has ms n → Paired after ms more n r → ⊥). absurd (none r (held.frees_all r i s (λ n j p. away n j p.0)) not (envelope_of m r f)))
-            (any_or_none (λ n. paired after ms more n r) ms) in
+        ⊎_elim (λ (w : (n : Message) × Has ms n × Paired after ms more n r). w)
+        (λ (away : (n : Message) → Has ms n → Paired after ms more n r → ⊥). absurd (none r (held.frees_all r i s (λ n j p. away n j p.0)) not (envelope_of m r f)))
+        (any_or_none (λ n. paired after ms more n r) ms) in
         takes_receive after ms qs more call adds m q offer.member c apart (record {
           told = (settled_parts q settled).0;
           sure_receive = (settled_parts q settled).1;

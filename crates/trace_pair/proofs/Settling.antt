@@ -72,9 +72,14 @@ module _ (after : After) (ms : List Message) (qs : List Receive) (b : Batch) (s 
           (λ i. absent_receive after ms qs more q adds apart _ _ _ _ s.held (s.held.frees q i).0) r g.member g.fit
 
       pub taken_at : ((r : Receive) → Has b.free r → envelopes_fit (get_or l place d) r ≡ true → ⊥) → IsTakenAt after ms qs more b.messages q (Some place)
-      taken_at none =
-          (offered.0, offered.1, offered.2, offered.3, receive_taken after ms qs more q adds apart settled _ b.free _ _ _ (put_front b.free q) awaits_here offered.0 offered.3
-          (subst (λ (x : Message). (r : Receive) → Has b.free r → envelopes_fit x r ≡ true → ⊥) stands_there none))
+      taken_at none = (
+        offered.0,
+        offered.1,
+        offered.2,
+        offered.3,
+        receive_taken after ms qs more q adds apart settled _ b.free _ _ _ (put_front b.free q) awaits_here offered.0 offered.3
+            (subst (λ (x : Message). (r : Receive) → Has b.free r → envelopes_fit x r ≡ true → ⊥) stands_there none),
+      )
 
   -- the receive that takes the message at a place
   pub receive_there : (place : ℕ) (m : Message) (t : Taker) → slice_get ms place ≡ Some m → Some t ≡ taker_at b.messages place → Some (receive_by m t) ≡ receive_of after ms qs m

@@ -23,11 +23,11 @@ module _ (qs : List Receive) (m : Message) (q : Receive) (first : IsBestAmong qs
       elim (same_call q.name x.name) as (λ b. same_call q.name x.name ≡ b → IfSome (cond b None (Some q)) (IsSoleReceive qs m)) [
         | true ↦ λ e. tt
         | false ↦ λ e. record {
-            member = first.0;
-            fit = first.1;
-            sole = λ r i f h. ⊎_elim (λ (d : r ≡ q). not_itself r.name q.name h (ap (λ (x : Receive). x.name) d))
-                (λ (d : name_lt r.name x.name ≡ false). behind_next q.name x.name r.name (λ l. first.2 x next.0 next.1 next.1 l) e d h) (next.3 r i f f);
-          }
+          member = first.0;
+          fit = first.1;
+          sole = λ r i f h. ⊎_elim (λ (d : r ≡ q). not_itself r.name q.name h (ap (λ (x : Receive). x.name) d))
+              (λ (d : name_lt r.name x.name ≡ false). behind_next q.name x.name r.name (λ l. first.2 x next.0 next.1 next.1 l) e d h) (next.3 r i f f);
+        }
       ] refl
 
   module _ (own : (r : Receive) → Has qs r → IsOwnReceive r) (apart : ArePostedApart qs) where

@@ -52,11 +52,11 @@ module _ (ms : List Message) (q : Receive) (m : Message) (first : IsFirstMessage
       elim (same_call m.name x.name) as (λ b. same_call m.name x.name ≡ b → IfSome (cond b None (Some m)) (IsSoleMessage ms q)) [
         | true ↦ λ e. tt
         | false ↦ λ e. record {
-            member = first.member;
-            fit = first.fit;
-            sole = λ n i f h. ⊎_elim (λ (d : n ≡ m). not_itself n.name m.name h (ap (λ (x : Message). x.name) d))
-                (λ (d : name_lt n.name x.name ≡ false). behind_next m.name x.name n.name (λ l. first.first x next.0 next.1 l) e d h) (next.3 n i f);
-          }
+          member = first.member;
+          fit = first.fit;
+          sole = λ n i f h. ⊎_elim (λ (d : n ≡ m). not_itself n.name m.name h (ap (λ (x : Message). x.name) d))
+              (λ (d : name_lt n.name x.name ≡ false). behind_next m.name x.name n.name (λ l. first.first x next.0 next.1 l) e d h) (next.3 n i f);
+        }
       ] refl
 
   module _ (told : is_some q.source ≡ true) (own : (n : Message) → Has ms n → IsOwnMessage n) (apart : AreApart ms) where

@@ -50,14 +50,14 @@ IsBestAmong xs m p None = (r : Receive) → Has xs r → p r ≡ true → envelo
 IsBestAmong xs m p (Some q) = Has xs q × (envelopes_fit m q ≡ true) × ((r : Receive) → Has xs r → p r ≡ true → envelopes_fit m r ≡ true → name_lt r.name q.name ≡ true → ⊥)
 
 -- Of the receives that pass the test and whose envelopes fit the message's, the first, and the next one: each of the others
--- has no name before that.
+-- has no name before that. The first passes the test.
 abbrev pub IsNextAmong : List Receive → Message → (Receive → Bool) → Receive → Option Receive → Type 0
 IsNextAmong xs m p q None = (r : Receive) → Has xs r → p r ≡ true → envelopes_fit m r ≡ true → r ≡ q
 IsNextAmong xs m p q (Some next) = Has xs next × (envelopes_fit m next ≡ true) × (next ≡ q → ⊥) × ((r : Receive) → Has xs r → p r ≡ true → envelopes_fit m r ≡ true → (r ≡ q) ⊎ (name_lt r.name next.name ≡ false))
 
 abbrev pub IsFrontAmong : List Receive → Message → (Receive → Bool) → Option (Front Receive) → Type 0
 IsFrontAmong xs m p None = IsBestAmong xs m p None
-IsFrontAmong xs m p (Some f) = IsBestAmong xs m p (Some f.first) × IsNextAmong xs m p f.first f.next
+IsFrontAmong xs m p (Some f) = IsBestAmong xs m p (Some f.first) × IsNextAmong xs m p f.first f.next × (p f.first ≡ true)
 
 -- The first of the messages whose envelopes fit the receive's, and the next one: each of the others has no name before that.
 abbrev pub IsNextMessage : List Message → Receive → Message → Option Message → Type 0

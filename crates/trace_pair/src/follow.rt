@@ -14,8 +14,10 @@ ghost use Rattle.trace_pair.specs.Pairing.{After};
 ghost use Rattle.trace_pair.specs.Reach.{AreReachesOf};
 
 use crate::matched::{Matched, add_messages_of, add_receives_of, pop_messages, pop_receives};
-use crate::whole::{end_of_receives, end_of_sends, start_of_receives, start_of_sends, whole_receives, whole_sends};
 use crate::reach::{RankReach, Reaches};
+use crate::whole::{
+    end_of_receives, end_of_sends, start_of_receives, start_of_sends, whole_receives, whole_sends,
+};
 use mpi_model::{Message, Receive};
 use std::alloc::AllocError;
 use trace_ops::{Entered, RankOps};

@@ -361,7 +361,7 @@ fn sole_receive(front: Front<Receive>) -> Option<Receive>
 
 /// The first two of both, where the first of the first is before that of the second.
 fn led_by(a: Front<Receive>, b: Front<Receive>) -> Front<Receive>
-    ensures { (xs : List Receive) (m : Message) (p t : Receive → Bool) → IsFrontAmong xs m p (Some a) → IsFrontAmong xs m t (Some b) → name_lt b.first.name a.first.name ≡ false → IsFrontAmong xs m (λ r. p r || t r) (Some result) }
+    ensures { (xs : List Receive) (m : Message) (p t : Receive → Bool) → ((r : Receive) → p r ≡ true → t r ≡ true → ⊥) → IsFrontAmong xs m p (Some a) → IsFrontAmong xs m t (Some b) → name_lt b.first.name a.first.name ≡ false → IsFrontAmong xs m (λ r. p r || t r) (Some result) }
 {
     Front {
         first: a.first,
@@ -371,7 +371,7 @@ fn led_by(a: Front<Receive>, b: Front<Receive>) -> Front<Receive>
 
 /// The first two of both.
 fn merged(a: Option<Front<Receive>>, b: Option<Front<Receive>>) -> Option<Front<Receive>>
-    ensures { (xs : List Receive) (m : Message) (p t : Receive → Bool) → IsFrontAmong xs m p a → IsFrontAmong xs m t b → IsFrontAmong xs m (λ r. p r || t r) result }
+    ensures { (xs : List Receive) (m : Message) (p t : Receive → Bool) → ((r : Receive) → p r ≡ true → t r ≡ true → ⊥) → IsFrontAmong xs m p a → IsFrontAmong xs m t b → IsFrontAmong xs m (λ r. p r || t r) result }
 {
     match a {
         None => b,

@@ -124,7 +124,12 @@ fn add_part(
     add_messages(state, reaches, front_of_sends(sends, parts, done + 1), sent)?;
     let receives = own.receives();
     let posted = front_of_receives(receives, parts, done).len();
-    add_receives(state, reaches, front_of_receives(receives, parts, done + 1), posted)?;
+    add_receives(
+        state,
+        reaches,
+        front_of_receives(receives, parts, done + 1),
+        posted,
+    )?;
     Ok(())
 }
 

@@ -1,3 +1,4 @@
+use Rattle.std.proofs.Common.{rules}
 use Rattle.trace_pair.specs.After.{comes_after}
 use Rattle.trace_pair.proofs.Hiding.{none_elsewhere, none_up_to, some_up_to}
 use Rattle.trace_pair.proofs.opened.Opened.hides_up_to.Goals as goal
