@@ -56,7 +56,7 @@ none_sent o n x m g i j b =
     let k = length o.sends in
     let e : take k n.sends ++ drop k n.sends ≡ n.sends = take-append-drop k n.sends in
     ⊎_elim (λ (h : Has (take k n.sends) x). zip_first SameSend o.sends (take k n.sends) x g.sends h)
-    (λ (h : Has (drop k n.sends) x). let p = g.later_sends m x j h in let q = sent_le m x b in absurd (omega arith))
+    (λ (h : Has (drop k n.sends) x). let p = g.later.send_behind_sends m x j h in let q = sent_le m x b in absurd (omega arith))
     (has_either (take k n.sends) (drop k n.sends) x (subst (λ (l : List Message). Has l x) (sym e) i))
 
 posted : (o n : Ops) (q : Receive) → Grows o n → StaysCertain o n → Has o.receives q → SomeOf n.receives (Tells q)
@@ -70,7 +70,7 @@ none_posted o n r q g c i j b =
     let k = length o.receives in
     let e : take k n.receives ++ drop k n.receives ≡ n.receives = take-append-drop k n.receives in
     ⊎_elim (λ (h : Has (take k n.receives) r). zip_first Tells o.receives (take k n.receives) r (zip_both TellsMore (λ q r. StaysSure q.trust r.trust) o.receives (take k n.receives) g.receives c.receives) h)
-    (λ (h : Has (drop k n.receives) r). let p = g.later_receives q r j h in let s = posted_le q r b in absurd (omega arith))
+    (λ (h : Has (drop k n.receives) r). let p = g.later.receive_behind_receives q r j h in let s = posted_le q r b in absurd (omega arith))
     (has_either (take k n.receives) (drop k n.receives) r (subst (λ (l : List Receive). Has l r) (sym e) i))
 
 -- all ranks

@@ -4,7 +4,7 @@ use Rattle.std.proofs.lemmas.Bool.Decides.{nat_tests}
 use Rattle.mpi_model.specs.declared.event.OpName.{OpName}
 use Rattle.mpi_model.specs.declared.message.Message.{Message}
 use Rattle.mpi_model.specs.declared.message.Receive.{Receive}
-use Rattle.trace_ops.specs.Order.{sent_before, posted_before, is_listed_before}
+use Rattle.trace_ops.specs.Order.{sent_before, posted_before, named_before}
 use Rattle.trace_pair.specs.Places.{sent_at, posted_at}
 use Rattle.trace_pair.specs.Calls.{IsOwnMessage, IsOwnReceive}
 use Rattle.trace_pair.specs.Indexed.{name_lt}
@@ -25,17 +25,17 @@ pub posted_name : (q r : Receive) → IsOwnReceive q → IsOwnReceive r → post
 posted_name q r o p h = name_later q.name r.name (o ∙ same_number q.at r.at (both (eqb q.at r.at) (ltb q.name.call r.name.call) h).0 ∙ sym p) (posted_lt r q h)
 
 -- and so what stands before in the list of a rank
-listed_name : (a b : OpName) → a.rank ≡ b.rank → is_listed_before a b ≡ true → name_lt a b ≡ true
+listed_name : (a b : OpName) → a.rank ≡ b.rank → named_before a b ≡ true → name_lt a b ≡ true
 listed_name a b e h = grind (arith, nat_tests)
 
-pub sent_listed : (m n : Message) → IsOwnMessage m → IsOwnMessage n → ((eqb m.from n.from) && is_listed_before m.name n.name) ≡ true → name_lt m.name n.name ≡ true
+pub sent_listed : (m n : Message) → IsOwnMessage m → IsOwnMessage n → ((eqb m.from n.from) && named_before m.name n.name) ≡ true → name_lt m.name n.name ≡ true
 sent_listed m n o p h =
-    let b = both (eqb m.from n.from) (is_listed_before m.name n.name) h in
+    let b = both (eqb m.from n.from) (named_before m.name n.name) h in
     listed_name m.name n.name (o ∙ same_number m.from n.from b.0 ∙ sym p) b.1
 
-pub posted_listed : (q r : Receive) → IsOwnReceive q → IsOwnReceive r → ((eqb q.at r.at) && is_listed_before q.name r.name) ≡ true → name_lt q.name r.name ≡ true
+pub posted_listed : (q r : Receive) → IsOwnReceive q → IsOwnReceive r → ((eqb q.at r.at) && named_before q.name r.name) ≡ true → name_lt q.name r.name ≡ true
 posted_listed q r o p h =
-    let b = both (eqb q.at r.at) (is_listed_before q.name r.name) h in
+    let b = both (eqb q.at r.at) (named_before q.name r.name) h in
     listed_name q.name r.name (o ∙ same_number q.at r.at b.0 ∙ sym p) b.1
 
 pub name_along : (a b c : OpName) → name_lt a b ≡ true → name_lt b c ≡ true → name_lt a c ≡ true

@@ -4,7 +4,7 @@ use Rattle.std.proofs.lemmas.Bool.Decides.{nat_tests}
 use Rattle.std.proofs.lemmas.List.{take-take, take-append-drop}
 use Rattle.std.specs.Prelude.{slice_range}
 use Rattle.mpi_model.specs.declared.message.Receive.{Receive}
-use Rattle.trace_ops.specs.Order.{posted_before, Has, ArePosted, is_listed_before}
+use Rattle.trace_ops.specs.Order.{posted_before, Has, ArePosted, named_before}
 use Rattle.trace_pair.specs.Calls.{AddsReceives, between, IsPosting, AreDistinct, IsOneCall, IsWhole}
 use Rattle.trace_pair.proofs.Obeyed.{and_true, both}
 use Rattle.trace_pair.proofs.Ranks.{has_left, has_right, has_either, listed_earlier, stretch_then, range_is}
@@ -16,9 +16,9 @@ order_before (x ∷ xs) ys n m o i j apart =
     ⊎_elim (λ (e : n ≡ x). subst (λ (z : Receive). posted_before z m ≡ true) (sym e) (before_of x m (o.0 m (has_right xs ys m j)) (λ f. apart (ap (λ (z : Receive). z.name.call) e ∙ f))))
     (λ k. order_before xs ys n m o.1 k j apart) i
   where
-    before_of : (n m : Receive) → ((eqb n.at m.at) && is_listed_before n.name m.name) ≡ true → (n.name.call ≡ m.name.call → ⊥) → posted_before n m ≡ true
+    before_of : (n m : Receive) → ((eqb n.at m.at) && named_before n.name m.name) ≡ true → (n.name.call ≡ m.name.call → ⊥) → posted_before n m ≡ true
     before_of n m h apart =
-        let p = both (eqb n.at m.at) (is_listed_before n.name m.name) h in
+        let p = both (eqb n.at m.at) (named_before n.name m.name) h in
         and_true (eqb n.at m.at) (ltb n.name.call m.name.call) p.0 (listed_earlier n.name m.name p.1 apart)
 
 pub order_front : (xs ys : List Receive) → ArePosted (xs ++ ys) → ArePosted xs
@@ -37,7 +37,7 @@ order_back : (xs ys : List Receive) → ArePosted (xs ++ ys) → ArePosted ys
 order_back [] ys o = o
 order_back (x ∷ xs) ys o = order_back xs ys o.1
 
-not_before_itself : (m : Receive) → ((eqb m.at m.at) && is_listed_before m.name m.name) ≡ true → ⊥
+not_before_itself : (m : Receive) → ((eqb m.at m.at) && named_before m.name m.name) ≡ true → ⊥
 not_before_itself m h = grind (arith, nat_tests)
 
 -- in order none stands twice

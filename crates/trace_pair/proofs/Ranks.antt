@@ -5,7 +5,7 @@ use Rattle.std.proofs.lemmas.List.{take-take, take-append-drop, drop-take}
 use Rattle.std.specs.Prelude.{slice_range}
 use Rattle.mpi_model.specs.declared.event.OpName.{OpName}
 use Rattle.mpi_model.specs.declared.message.Message.{Message}
-use Rattle.trace_ops.specs.Order.{sent_before, Has, AreInOrder, is_listed_before}
+use Rattle.trace_ops.specs.Order.{sent_before, Has, AreInOrder, named_before}
 use Rattle.trace_pair.specs.Calls.{AddsMessages, between, IsSequence, AreDistinct, IsOneCall, IsWhole}
 use Rattle.trace_pair.proofs.Obeyed.{and_true, both, either}
 
@@ -29,7 +29,7 @@ stretch_then (suc start) (suc end) [] le = refl
 stretch_then (suc start) (suc end) (x ∷ xs) le = stretch_then start end xs (omega arith)
 
 -- of two names that stand so in a list and are of two calls the first is of the earlier one
-pub listed_earlier : (a b : OpName) → is_listed_before a b ≡ true → (a.call ≡ b.call → ⊥) → ltb a.call b.call ≡ true
+pub listed_earlier : (a b : OpName) → named_before a b ≡ true → (a.call ≡ b.call → ⊥) → ltb a.call b.call ≡ true
 listed_earlier a b h apart =
     ⊎_elim (λ (x : ltb a.call b.call ≡ true). x)
     (λ (x : (eqb a.call b.call && ltb a.part b.part) ≡ true). let e = (both (eqb a.call b.call) (ltb a.part b.part) x).0 in absurd (apart (grind (arith, nat_tests))))
@@ -42,9 +42,9 @@ order_before (x ∷ xs) ys n m o i j apart =
     ⊎_elim (λ (e : n ≡ x). subst (λ (z : Message). sent_before z m ≡ true) (sym e) (before_of x m (o.0 m (has_right xs ys m j)) (λ f. apart (ap (λ (z : Message). z.name.call) e ∙ f))))
     (λ k. order_before xs ys n m o.1 k j apart) i
   where
-    before_of : (n m : Message) → ((eqb n.from m.from) && is_listed_before n.name m.name) ≡ true → (n.name.call ≡ m.name.call → ⊥) → sent_before n m ≡ true
+    before_of : (n m : Message) → ((eqb n.from m.from) && named_before n.name m.name) ≡ true → (n.name.call ≡ m.name.call → ⊥) → sent_before n m ≡ true
     before_of n m h apart =
-        let p = both (eqb n.from m.from) (is_listed_before n.name m.name) h in
+        let p = both (eqb n.from m.from) (named_before n.name m.name) h in
         and_true (eqb n.from m.from) (ltb n.name.call m.name.call) p.0 (listed_earlier n.name m.name p.1 apart)
 
 pub order_front : (xs ys : List Message) → AreInOrder (xs ++ ys) → AreInOrder xs
@@ -63,7 +63,7 @@ order_back : (xs ys : List Message) → AreInOrder (xs ++ ys) → AreInOrder ys
 order_back [] ys o = o
 order_back (x ∷ xs) ys o = order_back xs ys o.1
 
-not_before_itself : (m : Message) → ((eqb m.from m.from) && is_listed_before m.name m.name) ≡ true → ⊥
+not_before_itself : (m : Message) → ((eqb m.from m.from) && named_before m.name m.name) ≡ true → ⊥
 not_before_itself m h = grind (arith, nat_tests)
 
 -- in order none stands twice
