@@ -13,7 +13,8 @@ use Rattle.mpi_model.specs.declared.event.OpName.{OpName}
 use Rattle.mpi_model.specs.declared.message.Message.{Message}
 use Rattle.mpi_model.specs.Fit.{admits}
 use Rattle.trace_pair.specs.Table.{same_name}
-use Rattle.trace_wait.specs.Patterns.{Pattern, pattern_cmp, place_cmp, same_option, same_pattern, suits}
+use Rattle.trace_wait.specs.Patterns.{Pattern, pattern_cmp, same_option, same_pattern, suits}
+use Rattle.trace_explain.specs.Offers.{key_of, name_cmp}
 
 -- one element more of a list
 pub any_more : {X : Type 0} (f : X → Bool) (xs : List X) (i : ℕ) (d : X) (now after : Bool) → i < length xs →
@@ -45,8 +46,14 @@ option_same (Some a) (Some b) = nat_same a b
 both_same : (a b c d : Bool) → a ≡ b → c ≡ d → (a && c) ≡ (b && d)
 both_same a b c d h k = ap (λ x. x && c) h ∙ ap (λ y. b && y) k
 
-pub name_same : (a b : OpName) → is_eq (place_cmp (a.rank, a.call) (b.rank, b.call)) ≡ same_name a b
-name_same a b = then_eq (nat_cmp a.rank b.rank) (nat_cmp a.call b.call) ∙ both_same (is_eq (nat_cmp a.rank b.rank)) (a.rank == b.rank) (is_eq (nat_cmp a.call b.call)) (a.call == b.call) (nat_same a.rank b.rank) (nat_same a.call b.call)
+pub name_same : (a b : OpName) → is_eq (name_cmp (key_of a) (key_of b)) ≡ same_name a b
+name_same a b =
+    let call = ordering_then (nat_cmp a.rank b.rank) (nat_cmp a.call b.call) in
+    then_eq call (nat_cmp a.part b.part)
+    ∙ both_same (is_eq call) ((a.rank == b.rank) && (a.call == b.call)) (is_eq (nat_cmp a.part b.part)) (a.part == b.part)
+    (then_eq (nat_cmp a.rank b.rank) (nat_cmp a.call b.call)
+    ∙ both_same (is_eq (nat_cmp a.rank b.rank)) (a.rank == b.rank) (is_eq (nat_cmp a.call b.call)) (a.call == b.call) (nat_same a.rank b.rank) (nat_same a.call b.call))
+    (nat_same a.part b.part)
 
 pattern_same : (a b : Pattern) → is_eq (pattern_cmp a b) ≡ same_pattern a b
 pattern_same a b =

@@ -34,9 +34,9 @@ is_loose taken m = not (has_name taken m.name) && not (is_void m.trust)
 abbrev pub loose : List OpName → List Ops → List Message
 loose taken ops = flat_map (λ o. filter (is_loose taken) o.sends) ops
 
--- the operation of a rank's call
+-- the operation of a rank's call, which is no Startall
 abbrev pub named : ℕ → ℕ → OpName
-named rank call = record { rank = rank; call = call }
+named rank call = record { rank = rank; call = call; part = 0 }
 
 -- the calls in which stuck ranks stand, of which more is said elsewhere
 abbrev pub standing : Answered → List OpName
@@ -51,10 +51,10 @@ is_left postponed standing m = not (has_name postponed m.name) && not (has_name 
 abbrev pub left_names : List OpName → List OpName → List Message → List OpName
 left_names postponed standing messages = map (λ m. m.name) (filter (is_left postponed standing) messages)
 
--- the calls for which a rank may wait, where it waits in a call: that call, and those that posted its active requests
+-- the operations for which a rank may wait, where it waits in a call: that of the call, and those of its active requests
 abbrev pub pending_in : ℕ → Option (ℕ × Call) → Ops → List OpName
 pending_in rank None o = []
-pending_in rank (Some w) o = named rank w.0 ∷ map (λ p. named rank p.1) o.active
+pending_in rank (Some w) o = named rank w.0 ∷ map (λ p. p.1) o.active
 
 -- the receives that a rank may wait for
 abbrev pub pending_of : ℕ → Ops → List OpName

@@ -2,6 +2,7 @@
 use Rattle.std.specs.Prelude.{ℕ, ◌-◌, ◌==◌, if◌then◌else◌, List, [], ◌∷◌, ◌++◌, codes, decimal, length, take}
 use Rattle.std.specs.List.{flat_map}
 use Rattle.mpi_model.specs.declared.event.OpName.{OpName}
+use Rattle.call_words.specs.Names.{number_text}
 use Rattle.trace_know.specs.View.{View}
 use Rattle.trace_ops.specs.Ops.{Ops}
 use Rattle.trace_node.specs.Answer.{Answered}
@@ -12,7 +13,7 @@ use Rattle.trace_explain.specs.Standing.{place_text}
 
 -- `rank 1, call 3: ` and the call
 abbrev pub named_call_text : View → OpName → List ℕ
-named_call_text view n = codes "rank " ++ decimal n.rank ++ codes ", call " ++ decimal n.call ++ codes ": " ++ place_text view n.rank (entry_of n.call)
+named_call_text view n = codes "rank " ++ decimal n.rank ++ codes ", call " ++ number_text n ++ codes ": " ++ place_text view n.rank (entry_of n.call)
 
 -- the line of one operation
 abbrev pub call_line : View → OpName → List ℕ

@@ -1,5 +1,7 @@
--- What is looked up of messages. No public clause speaks of it.
-use Rattle.std.specs.Prelude.{Option, List}
+-- What is looked up of messages and of names. No public clause speaks of it.
+use Rattle.std.specs.Prelude.{ℕ, Option, List}
+use Rattle.std.specs.declared.cmp.Ordering.{Ordering}
+use Rattle.std.specs.Ordering.{nat_cmp, ordering_then}
 use Rattle.std.specs.List.{find}
 use Rattle.std.specs.Option.{option_map}
 use Rattle.mpi_model.specs.declared.event.OpName.{OpName}
@@ -9,3 +11,15 @@ use Rattle.trace_wait.specs.Patterns.{Pattern, suits}
 -- the first message that suits what is named
 abbrev pub first_suiting : List Message → Pattern → Option OpName
 first_suiting messages p = option_map (λ m. m.name) (find (λ m. suits m p) messages)
+
+-- the name of an operation as a key: its rank, its call and its part
+abbrev pub NameKey : Type 0
+NameKey = ℕ × ℕ × ℕ
+
+-- that key
+abbrev pub key_of : OpName → NameKey
+key_of name = (name.rank, name.call, name.part)
+
+-- the order of the keys
+abbrev pub name_cmp : NameKey → NameKey → Ordering
+name_cmp a b = ordering_then (ordering_then (nat_cmp a.0 b.0) (nat_cmp a.1 b.1)) (nat_cmp a.2 b.2)

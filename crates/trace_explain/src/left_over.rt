@@ -85,28 +85,39 @@ fn left_names(
     Ok(names)
 }
 
-/// Adds the calls for which the rank may wait, where it waits.
+/// The operation of a rank's call, which is no Startall.
+fn named(rank: u32, call: u64) -> OpName
+    ensures { result ≡ named rank call }
+{
+    OpName {
+        rank,
+        call,
+        part: 0,
+    }
+}
+
+/// Adds the operations for which the rank may wait, where it waits.
 fn push_pending(rank: u32, o: &RankOps, names: &mut Vec<OpName>) -> Result<(), AllocError>
     ensures { OnOk result (names.new.items ≡ names.old.items ++ pending_of rank o.now) }
 {
     if let Some((call, _)) = o.waiting() {
-        names.push(OpName { rank, call })?;
-        push_posts(rank, o.active(), names)?;
+        names.push(named(rank, call))?;
+        push_posts(o.active(), names)?;
     }
     Ok(())
 }
 
-/// Adds the calls that posted active requests.
-fn push_posts(rank: u32, active: &[(i64, u64)], names: &mut Vec<OpName>) -> Result<(), AllocError>
-    ensures { OnOk result (names.new.items ≡ names.old.items ++ map (λ p. named rank p.1) active.now) }
+/// Adds the operations of active requests.
+fn push_posts(active: &[(i64, OpName)], names: &mut Vec<OpName>) -> Result<(), AllocError>
+    ensures { OnOk result (names.new.items ≡ names.old.items ++ map (λ p. p.1) active.now) }
 {
     for post in active {
-        names.push(OpName { rank, call: post.1 })?;
+        names.push(post.1)?;
     }
     Ok(())
 }
 
-/// Adds the calls for which a rank may wait.
+/// Adds the operations for which a rank may wait.
 fn push_pending_at(ops: &[RankOps], rank: u32, names: &mut Vec<OpName>) -> Result<(), AllocError>
     ensures { OnOk result (names.new.items ≡ names.old.items ++ pending_at rank (slice_get ops.now rank)) }
 {
@@ -116,7 +127,7 @@ fn push_pending_at(ops: &[RankOps], rank: u32, names: &mut Vec<OpName>) -> Resul
     }
 }
 
-/// The calls for which those of the first ranks may wait that wait.
+/// The operations for which those of the first ranks may wait that wait.
 fn pending(alloc: Global, ranks: u32, ops: &[RankOps]) -> Result<Vec<OpName>, AllocError>
     ensures { IfOk result (λ names. names.items ≡ pending_below ops.now ranks) }
 {
@@ -224,10 +235,7 @@ fn standing(alloc: Global, answer: &Answer) -> Result<Vec<OpName>, AllocError>
 {
     let mut names = Vec::new(alloc);
     for stuck in answer.stuck() {
-        names.push(OpName {
-            rank: stuck.rank,
-            call: stuck.call,
-        })?;
+        names.push(named(stuck.rank, stuck.call))?;
     }
     Ok(names)
 }

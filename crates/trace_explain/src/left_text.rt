@@ -8,7 +8,7 @@ ghost use Rattle.trace_explain.specs.LeftText.{call_line, calls_below, left_over
 use crate::left_over::{LeftOver, left_over};
 use crate::shown::{MOST_SHOWN, put_more, shown};
 use crate::standing::put_place;
-use call_words::Text;
+use call_words::{Text, put_op_number};
 use mpi_model::OpName;
 use std::alloc::Global;
 use trace_know::Knowledge;
@@ -22,7 +22,7 @@ pub(crate) fn put_named_call(out: &mut Text, know: &Knowledge, name: &OpName)
     out.put(b"rank ");
     out.put_number(name.rank as u64);
     out.put(b", call ");
-    out.put_number(name.call);
+    put_op_number(out, name);
     out.put(b": ");
     put_place(out, know, name.rank, name.call.saturating_mul(2));
 }

@@ -1,11 +1,12 @@
 //! What requests wait for, by the calls that posted them.
 
-ghost use Rattle.std.specs.Prelude.{◌≡◌, ◌++◌, ◌∷◌, [], ℕ, Some, map, nat_eq, if◌then◌else◌, IfOk, OnOk};
+ghost use Rattle.std.specs.Prelude.{◌≡◌, ◌++◌, ◌∷◌, [], ℤ, Some, map, if◌then◌else◌, IfOk, OnOk};
 ghost use Rattle.std.specs.Option.{option_copied};
+ghost use Rattle.std.specs.Ordering.{int_eq};
 ghost use Rattle.indexmap.specs.IndexMap.{get};
 ghost use Rattle.trace_ops.specs.Order.{AreCalledInOrder, AreInOrder, ArePosted};
 ghost use Rattle.trace_stuck.specs.Shape.{shape};
-ghost use Rattle.trace_wait.specs.Requests.{AreMade, choices, post_part, posted_by, request, requests, some_of, started_part};
+ghost use Rattle.trace_wait.specs.Requests.{AreMade, choices, is_idle, post_part, posted_by, request, requests, some_of, started_part};
 
 use crate::active::{Posts, posts_of};
 use crate::collective::collective_of_call;
@@ -13,99 +14,101 @@ use crate::overview::Overview;
 use crate::parts::{receive_part, send_part};
 use crate::posts::{has_cancel, receive_of, send_of};
 use indexmap::IndexMap;
-use mpi_model::NULL_REQUEST;
+use mpi_model::{NULL_REQUEST, OpName};
 use std::alloc::{AllocError, Global};
 use trace_ops::RankOps;
 use trace_stuck::Condition;
 
-/// What it waits for that call n of rank r started.
+/// What it waits for that an operation of rank r.
 fn started_part(
     alloc: Global,
     run: &Overview,
     r: u32,
     o: &RankOps,
-    n: u64,
+    name: OpName,
 ) -> Result<Condition, AllocError>
     requires sends { AreInOrder o.now.sends }
     requires receives { ArePosted o.now.receives }
-    ensures { IfOk result (λ c. shape c ≡ started_part run.now r o.now n) }
+    ensures { IfOk result (λ c. shape c ≡ started_part run.now r o.now name) }
 {
-    match send_of(o, n) {
+    match send_of(o, name) {
         Some(m) => Ok(send_part(run, &m)),
-        None => match receive_of(o, n) {
+        None => match receive_of(o, name) {
             Some(q) => receive_part(alloc, run, &q),
-            None => collective_of_call(alloc, run, r, o, n),
+            None => collective_of_call(alloc, run, r, o, name.call),
         },
     }
 }
 
-/// What the request waits for that call n of rank r posted.
+/// What the request of an operation of rank r waits for.
 fn post_part(
     alloc: Global,
     run: &Overview,
     r: u32,
     o: &RankOps,
-    n: u64,
+    name: OpName,
 ) -> Result<Condition, AllocError>
     requires sends { AreInOrder o.now.sends }
     requires receives { ArePosted o.now.receives }
     requires cancelled { AreCalledInOrder o.now.cancelled }
-    ensures { IfOk result (λ c. shape c ≡ post_part run.now r o.now n) }
+    ensures { IfOk result (λ c. shape c ≡ post_part run.now r o.now name) }
 {
-    if has_cancel(o, n) {
+    if has_cancel(o, name) {
         return Ok(Condition::yes());
     }
-    started_part(alloc, run, r, o, n)
+    started_part(alloc, run, r, o, name)
 }
 
-/// The call that posted the active request of this number.
-fn posted_by(o: &RankOps, x: &i64) -> Option<u64>
+/// The operation that the active request of this number stands for.
+fn posted_by(o: &RankOps, x: &i64) -> Option<OpName>
     ensures { result ≡ posted_by o.now x.now }
 {
     Some(o.active().iter().find(|a| a.0 == *x)?.1)
 }
 
-/// What requests wait for that were met before, by the calls that posted them.
-type Made = IndexMap<u64, Condition>;
+/// What requests wait for that were met before, by their numbers.
+type Made = IndexMap<i64, Condition>;
 
-/// What the request waits for that call n posted, where it was met before.
-fn made_before(made: &Made, n: u64) -> Option<&Condition>
-    ensures { option_copied result ≡ get nat_eq made.now n }
+/// What the request of a number waits for, where it was met before.
+fn made_before(made: &Made, x: i64) -> Option<&Condition>
+    ensures { option_copied result ≡ get int_eq made.now x }
 {
-    made.get(&n)
+    made.get(&x)
 }
 
-/// Notes what the request waits for that call n posted.
-fn note_made(made: &mut Made, n: u64, part: Condition) -> Result<(), AllocError>
-    ensures { OnOk result ((m : ℕ) → get nat_eq made.new m ≡ (if nat_eq n m then Some part else get nat_eq made.old m)) }
+/// Notes what the request of a number waits for.
+fn note_made(made: &mut Made, x: i64, part: Condition) -> Result<(), AllocError>
+    ensures { OnOk result ((y : ℤ) → get int_eq made.new y ≡ (if int_eq x y then Some part else get int_eq made.old y)) }
 {
-    made.insert(n, part)?;
+    made.insert(x, part)?;
     Ok(())
 }
 
-/// What the request waits for that call n of rank r posted. It is made once: a list of ranks in it
-/// is shared by all that ask for it.
+/// What the active request of a number waits for, which stands for this operation of rank r. It is made once: a list of
+/// ranks in it is shared by all that ask for it.
 #[tactic(auto, using(crate::proofs::Made::made_more))]
 fn part_of(
     alloc: Global,
     run: &Overview,
     r: u32,
     o: &RankOps,
-    n: u64,
+    x: i64,
+    name: OpName,
     made: &mut Made,
 ) -> Result<Condition, AllocError>
+    requires posted { posted_by o.now x ≡ Some name }
     requires sends { AreInOrder o.now.sends }
     requires receives { ArePosted o.now.receives }
     requires cancelled { AreCalledInOrder o.now.cancelled }
-    requires made { AreMade run.now r o.now (get nat_eq made.old) }
-    ensures part { IfOk result (λ c. shape c ≡ post_part run.now r o.now n) }
-    ensures made { OnOk result (AreMade run.now r o.now (get nat_eq made.new)) }
+    requires made { AreMade run.now r o.now (get int_eq made.old) }
+    ensures part { IfOk result (λ c. shape c ≡ post_part run.now r o.now name) }
+    ensures made { OnOk result (AreMade run.now r o.now (get int_eq made.new)) }
 {
-    if let Some(part) = made_before(made, n) {
+    if let Some(part) = made_before(made, x) {
         return part.try_clone(alloc);
     }
-    let part = post_part(alloc, run, r, o, n)?;
-    note_made(made, n, part.try_clone(alloc)?)?;
+    let part = post_part(alloc, run, r, o, name)?;
+    note_made(made, x, part.try_clone(alloc)?)?;
     Ok(part)
 }
 
@@ -146,12 +149,12 @@ fn push_request(
     requires sends { AreInOrder o.now.sends }
     requires receives { ArePosted o.now.receives }
     requires cancelled { AreCalledInOrder o.now.cancelled }
-    requires made { AreMade run.now r o.now (get nat_eq made.old) }
-    ensures made { OnOk result (AreMade run.now r o.now (get nat_eq made.new)) }
+    requires made { AreMade run.now r o.now (get int_eq made.old) }
+    ensures made { OnOk result (AreMade run.now r o.now (get int_eq made.new)) }
     ensures parts { OnOk result (map shape parts.new.items ≡ map shape parts.old.items ++ requests run.now r o.now (x.now ∷ [])) }
 {
-    if let Some(n) = posts.call_of(*x) {
-        parts.push(part_of(alloc, run, r, o, n, made)?)?;
+    if let Some(name) = posts.name_of(*x) {
+        parts.push(part_of(alloc, run, r, o, *x, name, made)?)?;
     }
     Ok(())
 }
@@ -178,6 +181,13 @@ pub(crate) fn choices(
     Ok(parts)
 }
 
+/// Whether a persistent request of this number is held and not active.
+fn is_idle(o: &RankOps, x: i64) -> bool
+    ensures { result ≡ is_idle o.now x }
+{
+    o.idle().binary_search(&x).is_ok()
+}
+
 /// Adds what a number of a list adds of which one request has to be completed.
 fn push_choice(
     alloc: Global,
@@ -193,15 +203,15 @@ fn push_choice(
     requires sends { AreInOrder o.now.sends }
     requires receives { ArePosted o.now.receives }
     requires cancelled { AreCalledInOrder o.now.cancelled }
-    requires made { AreMade run.now r o.now (get nat_eq made.old) }
-    ensures made { OnOk result (AreMade run.now r o.now (get nat_eq made.new)) }
+    requires made { AreMade run.now r o.now (get int_eq made.old) }
+    ensures made { OnOk result (AreMade run.now r o.now (get int_eq made.new)) }
     ensures parts { OnOk result (map shape parts.new.items ≡ map shape parts.old.items ++ choices run.now r o.now (x.now ∷ [])) }
 {
-    if *x == NULL_REQUEST {
+    if *x == NULL_REQUEST || is_idle(o, *x) {
         return Ok(());
     }
-    let part = match posts.call_of(*x) {
-        Some(n) => part_of(alloc, run, r, o, n, made)?,
+    let part = match posts.name_of(*x) {
+        Some(name) => part_of(alloc, run, r, o, *x, name, made)?,
         None => Condition::yes(),
     };
     parts.push(part)?;
@@ -233,7 +243,7 @@ pub(crate) fn request(
     ensures { IfOk result (λ c. shape c ≡ request run.now r o.now x.now) }
 {
     match posted_by(o, x) {
-        Some(n) => post_part(alloc, run, r, o, n),
+        Some(name) => post_part(alloc, run, r, o, name),
         None => Ok(Condition::yes()),
     }
 }

@@ -1,6 +1,6 @@
 use Rattle.std.proofs.Common.{◌≡◌, ◌+◌, ◌-◌, ◌<◌, arith, length}
 use Rattle.trace_wait.proofs.Posted.{posted_more}
-use Rattle.trace_wait.proofs.active.calls_of.Goals as goal
+use Rattle.trace_wait.proofs.active.named_by.Goals as goal
 
 pub loop-at-preserved : goal.loop-at-preserved
 loop-at-preserved c =
