@@ -1,9 +1,12 @@
-use Rattle.std.proofs.Common.{◌<◌, ◌≤◌, ◌+◌, ◌++◌, ℕ, length, refl, arith}
+use Rattle.std.proofs.Common.{◌≡◌, ◌+◌, ◌++◌, ℕ, List, [], length, refl, subst, arith}
 use Rattle.trace_ops.specs.Calls.{calls_of}
 use Rattle.trace_ops.specs.RankOps.{ops_by}
-use Rattle.trace_ops.proofs.Entering.{received_within, rounds_later, rounds_stay, sent_within}
-use Rattle.trace_ops.proofs.Growing.{goes_on, sends_more, receives_more}
-use Rattle.trace_ops.proofs.Owned.{own_of, all_own}
+use Rattle.trace_ops.specs.Steps.{steps_from}
+use Rattle.trace_ops.proofs.Entering.{goes_on, rounds_later, rounds_stay}
+use Rattle.trace_ops.proofs.Going.{steps_go}
+use Rattle.trace_ops.proofs.Owned.{all_own, own_of}
+use Rattle.trace_ops.proofs.Telling.{sends_more, receives_more}
+use Rattle.trace_ops.proofs.Within.{below_of, received_within, sent_within}
 use Rattle.trace_ops.proofs.laws.ops_laws.Goals as goal
 
 pub returns-clause-own : goal.returns-clause-own
@@ -14,17 +17,21 @@ returns-clause-all c layout view = all_own layout view 0 layout.ranks
 
 pub returns-clause-grow : goal.returns-clause-grow
 unfolding ops_by
-returns-clause-grow c layout rank one other events more = record {
-  sends = sends_more layout rank 0 (calls_of events) (calls_of (events ++ more)) (goes_on events more);
-  receives = receives_more layout rank 0 (calls_of events) (calls_of (events ++ more)) (goes_on events more);
-  rounds = rounds_stay layout rank 0 (calls_of events) (calls_of (events ++ more)) (goes_on events more);
-  comms = refl;
-  behind_ends = λ q e x i is j.
-      let lt = received_within layout rank 0 (calls_of events) q i e is in
-      let le = rounds_later layout rank 0 (calls_of events) (calls_of (events ++ more)) (goes_on events more) x j in
-      omega (arith, lt, le);
-  behind_sends = λ m x i j.
-      let lt = sent_within layout rank 0 (calls_of events) m i in
-      let le = rounds_later layout rank 0 (calls_of events) (calls_of (events ++ more)) (goes_on events more) x j in
-      omega (arith, lt, le);
-}
+returns-clause-grow c layout rank one other events more =
+    let go = steps_go [] (calls_of events) (calls_of (events ++ more)) (goes_on events more) in
+    let below = below_of (0 + length (calls_of events)) (steps_from [] (calls_of events)) (steps_from [] (calls_of (events ++ more))) go in
+    record {
+      sends = sends_more layout rank (0 + length (calls_of events)) (steps_from [] (calls_of events)) (steps_from [] (calls_of (events ++ more))) go;
+      receives = receives_more layout rank (0 + length (calls_of events)) (steps_from [] (calls_of events)) (steps_from [] (calls_of (events ++ more))) go;
+      rounds = rounds_stay layout rank (calls_of events) (calls_of (events ++ more)) (goes_on events more);
+      comms = refl;
+      later = ?;
+      behind_ends = λ q e x i is j.
+          let lt = received_within layout rank (0 + length (calls_of events)) (steps_from [] (calls_of events)) below q i e is in
+          let le = rounds_later layout rank (calls_of events) (calls_of (events ++ more)) (goes_on events more) x j in
+          omega (arith, lt, le);
+      behind_sends = λ m x i j.
+          let lt = sent_within layout rank (0 + length (calls_of events)) (steps_from [] (calls_of events)) below m i in
+          let le = rounds_later layout rank (calls_of events) (calls_of (events ++ more)) (goes_on events more) x j in
+          omega (arith, lt, le);
+    }
