@@ -1,11 +1,17 @@
 pub mod Obeyed
 pub mod Fitting
 pub mod Certain
+pub mod Decided
 pub mod Listed
 pub mod Local
 pub mod Steps
-pub mod Held
-pub mod Moves
+pub mod Holding
+pub mod MessageParts
+pub mod ReceiveParts
+pub mod Offers
+pub mod Alone
+pub mod Pushes
+pub mod Pops
 pub mod Ranks
 pub mod Posts
 pub mod Partners
@@ -43,3 +49,5 @@ pub mod Waited
 pub mod Offered
 pub mod Settling
 pub mod Parts
+pub mod Soles
+pub mod SoleReceives

@@ -9,84 +9,77 @@ use Rattle.mpi_model.specs.Fit.{envelopes_fit, fits}
 use Rattle.mpi_model.specs.Trusts.{is_sure, is_open, is_settled}
 use Rattle.trace_ops.specs.Ops.{Ops, IsOwn, AreOwn}
 use Rattle.trace_ops.specs.Order.{Has}
-use Rattle.trace_pair.specs.Calls.{is_live, AddsReceive, IsPosting, between}
+use Rattle.trace_pair.specs.Calls.{AddsReceives, ArePostedApart, IsPosting, between}
 use Rattle.trace_pair.specs.Coupled.{taker_of, receive_by}
-use Rattle.trace_pair.specs.Indexed.{IsIndexed, IsFirstReceive, TakesReceive, couple_of}
+use Rattle.trace_pair.specs.Indexed.{AwaitReceives, IsIndexed, IsFirstReceive, couple_of}
 use Rattle.trace_pair.specs.After.{comes_after}
 use Rattle.trace_pair.specs.Ends.{AreLast, NoneHides, SomeHides}
 use Rattle.trace_pair.specs.Pairing.{After, receive_of}
 use Rattle.trace_pair.specs.Rising.{AreRising}
 use Rattle.trace_pair.specs.Sets.{AddsTo}
-use Rattle.trace_pair.specs.Settled.{Settles, IsTakenAt}
+use Rattle.trace_pair.specs.Settled.{Settles, IsOfferedAt, IsTakenAt, couples_of, waiting_of}
 use Rattle.trace_pair.specs.Table.{sends_of, receives_of}
-use Rattle.trace_pair.specs.Waiting.{Takings, untaken, with_taker, taker_at, live, couples_with, IsFirstAt, IsFirstPlace}
+use Rattle.trace_pair.specs.Waiting.{Takings, untaken, with_taker, taker_at, live, couples_with, IsSolePlace}
 use Rattle.trace_pair.specs.declared.batch.Batch.{Batch}
 use Rattle.trace_pair.specs.declared.ends.Ends.{Ends}
 use Rattle.trace_pair.specs.declared.pair.Couple.{Couple}
 use Rattle.trace_pair.specs.declared.pair.Taker.{Taker}
-use Rattle.trace_pair.proofs.Fitting.{envelope_of, fits_live, open_live, settled_live, settled_from, sure_stands, false_apart}
-use Rattle.trace_pair.proofs.Held.{taken_found, taken_first}
+use Rattle.trace_pair.proofs.Alone.{receive_left, receive_taken}
+use Rattle.trace_pair.proofs.Offers.{none_offered, unsure_offered, hidden_offered, is_offered}
 use Rattle.trace_pair.proofs.Known.{told_by}
-use Rattle.trace_pair.proofs.Moves.{push_receive_open, push_receive_coupled, push_receive_free, push_receive_void}
+use Rattle.trace_pair.proofs.Pushes.{absent_receive, awaits_free, put_front, push_receive_open, push_receive_taken, push_receive_free, push_receive_void}
 use Rattle.trace_pair.proofs.Owned.{own_calls, all_sends_rise}
 use Rattle.trace_pair.proofs.Partners.{partner_is, partner_absent}
 use Rattle.trace_pair.proofs.Ranked.{own_at, is_posting}
 use Rattle.trace_pair.proofs.Searched.{stands}
 use Rattle.trace_pair.proofs.Taken.{taken_drops, taken_adds, taker_there, no_taker, all_wait, none_coupled, none_posted}
 
+-- a settled receive that is alone of its call is offered the message at a place, or none
+module _ (after : After) (ms : List Message) (qs more call : List Receive) (q : Receive) (adds : AddsReceives qs more call) (c : Has call q) (settled : is_settled q ≡ true) (b : Batch) (free opened : List Receive) (is : b.messages.messages ≡ ms)
+    (held : AwaitReceives after ms qs more (waiting_of b) free opened (couples_of b)) where
+  pub no_place : IsSolePlace b.messages q None → IsOfferedAt after ms qs more b.messages q None
+  no_place none = none_offered after ms qs more call adds q c settled (waiting_of b) free opened (couples_of b) held none
+
+  module _ (place : ℕ) (l : List Message) (d : Message) (sole : IsSolePlace b.messages q (Some place)) (same : l ≡ b.messages.messages) where
+    stands_at : get_or l place d ≡ sole.0
+    stands_at = get_or_from_slice_get l place sole.0 d (ap (λ (k : List Message). slice_get k place) same ∙ sole.1)
+
+    pub not_sure_at : is_sure (get_or l place d).trust ≡ false → IsOfferedAt after ms qs more b.messages q None
+    not_sure_at not = unsure_offered after ms qs more call adds q c settled (waiting_of b) free opened (couples_of b) held sole.0 sole.3 (subst (λ (x : Message). is_sure x.trust ≡ false) stands_at not)
+
+    pub open_at : SomeHides after opened (get_or l place d) → IsOfferedAt after ms qs more b.messages q None
+    open_at w = hidden_offered after ms qs more call adds q c settled (waiting_of b) free opened (couples_of b) held sole.0 sole.3 (subst (λ (x : Message). SomeHides after opened x) stands_at w)
+
+    pub offered_at : is_sure (get_or l place d).trust ≡ true → NoneHides after opened (get_or l place d) → IsOfferedAt after ms qs more b.messages q (Some place)
+    offered_at sure none =
+        let o = is_offered after ms qs more call adds q c settled (waiting_of b) free opened (couples_of b) held sole.0 sole.3 (subst (λ (x : Message). is_sure x.trust ≡ true) stands_at sure) (subst (λ (x : Message). NoneHides after opened x) stands_at none) in
+        (sole.0, sole.1, sole.2, o.1)
+
 module _ (after : After) (ms : List Message) (qs : List Receive) (b : Batch) (s : Settles after ms qs b) where
-  -- no message that waits fits the receive
-  pub none_fits : (q : Receive) → IsFirstPlace b.messages q None → IsTakenAt after ms qs b.messages q None
-  none_fits q none = λ m i t. none m (s.held.waits_all m i (sure_stands m.trust t.sure_message) t.waits) (envelope_of m q t.fit)
+  -- a settled receive that is alone of its call, before it comes
+  module _ (more : List Receive) (q : Receive) (adds : AddsReceives qs more (q ∷ [])) (apart : ArePostedApart more) (settled : is_settled q ≡ true) where
+    pub awaits_here : AwaitReceives after ms qs more (waiting_of b) (q ∷ b.free) s.opened (couples_of b)
+    awaits_here = awaits_free after ms qs more q adds apart _ _ _ _ s.held settled (q ∷ b.free) (put_front b.free q)
 
-  module _ (q : Receive) (place : ℕ) (m : Message) (first : IsFirstAt b.messages q place m) where
-    live_there : {n : Message} → n ≡ m → TakesReceive after ms qs n q → is_live m.trust ≡ true
-    live_there {n} e t = subst (λ (x : Message). is_live x.trust ≡ true) e (sure_stands n.trust t.sure_message)
+    module _ (place : ℕ) (l : List Message) (d : Message) (offered : IsOfferedAt after ms qs more b.messages q (Some place)) (same : l ≡ b.messages.messages) where
+      stands_there : get_or l place d ≡ offered.0
+      stands_there = get_or_from_slice_get l place offered.0 d (ap (λ (k : List Message). slice_get k place) same ∙ offered.1)
 
-    -- the only message that could be taken is not sure
-    pub none_sure : is_sure m.trust ≡ false → IsTakenAt after ms qs b.messages q None
-    none_sure not = λ n i t.
-        let e = taken_first after ms qs _ _ _ _ s.held n m q i t first.first in
-        false_apart (is_sure m.trust) not (subst (λ (x : Message). is_sure x.trust ≡ true) e t.sure_message)
+      pub free_at : (r : Receive) → IsFirstReceive b.free (get_or l place d) r → IsTakenAt after ms qs more b.messages q None
+      free_at r f =
+          let g = subst (λ (x : Message). IsFirstReceive b.free x r) stands_there f in
+          receive_left after ms qs more q adds apart settled _ b.free _ _ _ (put_front b.free q) awaits_here offered.0 offered.3
+          (λ i. absent_receive after ms qs more q adds apart _ _ _ _ s.held (s.held.frees q i).0) r g.member g.fit
 
-    -- an open receive may have taken it
-    pub open_fits : SomeHides after s.opened m → IsTakenAt after ms qs b.messages q None
-    open_fits w = λ n i t.
-        let e = taken_first after ms qs _ _ _ _ s.held n m q i t first.first in
-        let o = s.held.opens w.0 w.1 in
-        let a = t.no_open w.0 o.0 o.1 (subst (λ (x : Message). fits x w.0 ≡ true) (sym e) (fits_live m w.0 (live_there e t) (open_live w.0 o.1) w.2)) in
-        false_apart (after m w.0) w.3 (subst (λ (x : Message). after x w.0 ≡ true) e a)
-
-    -- a free one does
-    pub free_fits : (r : Receive) → IsFirstReceive b.free m r → IsTakenAt after ms qs b.messages q None
-    free_fits r f = λ n i t.
-        let e = taken_first after ms qs _ _ _ _ s.held n m q i t first.first in
-        let o = s.held.frees r f.member in
-        let w = t.none_free r o.0 o.1 (subst (λ (x : Message). fits x r ≡ true) (sym e) (fits_live m r (live_there e t) (settled_live r o.1) f.fit)) in
-        o.2 w.0 w.1 w.2
-
-    pub is_taken : is_settled q ≡ true → is_sure m.trust ≡ true → NoneHides after s.opened m → ((r : Receive) → Has b.free r → envelopes_fit m r ≡ true → ⊥) → IsTakenAt after ms qs b.messages q (Some place)
-    is_taken settled sure no_open none = (m, first.there, first.waits, taken_found after ms qs _ _ _ _ s.held m q settled sure first.first no_open none)
-
-  -- the same of the message that stands at the place of the list
-  module _ (q : Receive) (place : ℕ) (l : List Message) (d : Message) (first : IsFirstPlace b.messages q (Some place)) (same : l ≡ b.messages.messages) where
-    stands_at : get_or l place d ≡ first.0
-    stands_at = get_or_from_slice_get l place first.0 d (ap (λ (k : List Message). slice_get k place) same ∙ first.1.there)
-
-    pub open_at : SomeHides after s.opened (get_or l place d) → IsTakenAt after ms qs b.messages q None
-    open_at w = open_fits q place first.0 first.1 (subst (λ (x : Message). SomeHides after s.opened x) stands_at w)
-
-    pub free_at : (r : Receive) → IsFirstReceive b.free (get_or l place d) r → IsTakenAt after ms qs b.messages q None
-    free_at r f = free_fits q place first.0 first.1 r (subst (λ (x : Message). IsFirstReceive b.free x r) stands_at f)
-
-    pub not_sure_at : is_sure (get_or l place d).trust ≡ false → IsTakenAt after ms qs b.messages q None
-    not_sure_at not = none_sure q place first.0 first.1 (subst (λ (x : Message). is_sure x.trust ≡ false) stands_at not)
-
-    pub taken_at : is_settled q ≡ true → is_sure (get_or l place d).trust ≡ true → NoneHides after s.opened (get_or l place d) → ((r : Receive) → Has b.free r → envelopes_fit (get_or l place d) r ≡ true → ⊥) → IsTakenAt after ms qs b.messages q (Some place)
-    taken_at settled sure no_open none =
-        is_taken q place first.0 first.1 settled (subst (λ (x : Message). is_sure x.trust ≡ true) stands_at sure)
-        (subst (λ (x : Message). NoneHides after s.opened x) stands_at no_open)
-        (subst (λ (x : Message). (r : Receive) → Has b.free r → envelopes_fit x r ≡ true → ⊥) stands_at none)
+      pub taken_at : ((r : Receive) → Has b.free r → envelopes_fit (get_or l place d) r ≡ true → ⊥) → IsTakenAt after ms qs more b.messages q (Some place)
+      taken_at none = (
+        offered.0,
+        offered.1,
+        offered.2,
+        offered.3,
+        receive_taken after ms qs more q adds apart settled _ b.free _ _ _ (put_front b.free q) awaits_here offered.0 offered.3
+            (subst (λ (x : Message). (r : Receive) → Has b.free r → envelopes_fit x r ≡ true → ⊥) stands_there none),
+      )
 
   -- the receive that takes the message at a place
   pub receive_there : (place : ℕ) (m : Message) (t : Taker) → slice_get ms place ≡ Some m → Some t ≡ taker_at b.messages place → Some (receive_by m t) ≡ receive_of after ms qs m
@@ -101,18 +94,17 @@ module _ (after : After) (ms : List Message) (qs : List Receive) (b : Batch) (s 
       (λ q i. no_taker b.messages.messages b.messages.takers place m q (subst (λ (l : List Message). AreRising (λ (m : Message). m.name) l) (sym s.messages) s.rise) f (sym h) i)
 
 -- the receive comes, and takes the message at the place
-module _ (after : After) (ms : List Message) (qs more : List Receive) (q : Receive) (adds : AddsReceive qs more q) (b old : Batch) (same : b ≡ old) (s : Settles after ms qs old) where
+module _ (after : After) (ms : List Message) (qs more : List Receive) (q : Receive) (adds : AddsReceives qs more (q ∷ [])) (apart : ArePostedApart more) (b old : Batch) (same : b ≡ old) (s : Settles after ms qs old) where
   now : Settles after ms qs b
   now = subst (λ (x : Batch). Settles after ms qs x) (sym same) s
 
-  pub adds_taken : (place : ℕ) (t : Taker) (new : Takings) → IsTakenAt after ms qs old.messages q (Some place) → t ≡ taker_of q → new ≡ with_taker b.messages place t → Settles after ms more (record b { messages = new })
-  adds_taken place t new taken is made =
-      let w : IsTakenAt after ms qs b.messages q (Some place) = subst (λ (x : Batch). IsTakenAt after ms qs x.messages q (Some place)) (sym same) taken in
+  pub adds_taken : is_settled q ≡ true → (place : ℕ) (t : Taker) (new : Takings) → IsTakenAt after ms qs more old.messages q (Some place) → t ≡ taker_of q → new ≡ with_taker b.messages place t → Settles after ms more (record b { messages = new })
+  adds_taken settled place t new taken is made =
+      let w : IsTakenAt after ms qs more b.messages q (Some place) = subst (λ (x : Batch). IsTakenAt after ms qs more x.messages q (Some place)) (sym same) taken in
       let v = now in
       let m = w.0 in
       let rise : AreRising (λ (m : Message). m.name) b.messages.messages = subst (λ (l : List Message). AreRising (λ (m : Message). m.name) l) (sym v.messages) v.rise in
-      let im : Has ms m = subst (λ (l : List Message). Has l m) v.messages (stands b.messages.messages place m w.1) in
-      let fit : q ≡ receive_by m t = told_by m q adds.own (settled_from q w.3.told w.3.sure_receive) w.3.fit ∙ ap (λ (x : Taker). receive_by m x) (sym is) in
+      let fit : q ≡ receive_by m t = told_by m q (adds.own q (inl refl)) settled w.3.fit ∙ ap (λ (x : Taker). receive_by m x) (sym is) in
       let d = taken_drops m t b.messages.messages b.messages.takers place rise w.1 w.2 in
       let a = taken_adds m t b.messages.messages b.messages.takers place w.1 w.2 in
       let a' = subst (λ (r : Receive). AddsTo (couples_with b.messages.messages b.messages.takers) (couples_with b.messages.messages (with_taker b.messages place t).takers) (couple_of m r)) (sym fit) a in
@@ -121,11 +113,11 @@ module _ (after : After) (ms : List Message) (qs more : List Receive) (q : Recei
         rise = v.rise;
         opened = v.opened;
         last = v.last;
-        held = push_receive_coupled after ms qs more q adds _ _ _ _ v.held m _ _ im w.3 d a';
+        held = push_receive_taken after ms qs more q adds apart _ _ _ _ v.held settled m w.3 w.4 _ _ d a';
       })
 
-  pub adds_free : (new : List Receive) → is_settled q ≡ true → IsTakenAt after ms qs old.messages q None → AddsTo b.free new q → Settles after ms more (record b { free = new })
-  adds_free new settled none added = record { messages = now.messages; rise = now.rise; opened = now.opened; last = now.last; held = push_receive_free after ms qs more q adds _ _ _ _ now.held new settled none added }
+  pub adds_free : (new : List Receive) → is_settled q ≡ true → IsTakenAt after ms qs more old.messages q None → AddsTo b.free new q → Settles after ms more (record b { free = new })
+  adds_free new settled none added = record { messages = now.messages; rise = now.rise; opened = now.opened; last = now.last; held = push_receive_free after ms qs more q adds apart _ _ _ _ now.held settled none new added }
 
   pub adds_open : (new : Ends) → is_open q ≡ true → ((opened : List Receive) → AreLast opened b.opened → AreLast (q ∷ opened) new) → Settles after ms more (record b { opened = new })
   adds_open new is law = record {
@@ -133,12 +125,12 @@ module _ (after : After) (ms : List Message) (qs more : List Receive) (q : Recei
     rise = now.rise;
     opened = q ∷ now.opened;
     last = law now.opened now.last;
-    held = push_receive_open after ms qs more q adds _ _ _ _ now.held (q ∷ now.opened) is (record { keeps = λ r i. inr i; added = inl refl; cases = λ r i. ⊎_elim (λ (e : r ≡ q). inr e) (λ (j : Has now.opened r). inl j) i });
+    held = push_receive_open after ms qs more q adds apart _ _ _ _ now.held is (q ∷ now.opened) (put_front now.opened q);
   }
 
   -- a void receive is in none of the sets
   pub adds_void : is_open q ≡ false → is_settled q ≡ false → Settles after ms more b
-  adds_void not_open not_settled = record { messages = now.messages; rise = now.rise; opened = now.opened; last = now.last; held = push_receive_void after ms qs more q adds _ _ _ _ now.held not_open not_settled }
+  adds_void not_open not_settled = record { messages = now.messages; rise = now.rise; opened = now.opened; last = now.last; held = push_receive_void after ms qs more q adds apart _ _ _ _ now.held not_open not_settled }
 
 -- no receive has come
 pub settled_none : (os : List Ops) (t : Takings) (free : List Receive) (opened : Ends) → AreOwn 0 os → t ≡ untaken (sends_of os) → free ≡ [] → AreLast [] opened →

@@ -1,5 +1,5 @@
 -- Calls that come to the end of their rank, or go from there.
-use Rattle.std.specs.Prelude.{◌≡◌, Bool, true, not, List, ◌++◌, ◌⊎◌}
+use Rattle.std.specs.Prelude.{◌≡◌, ℕ, Bool, true, not, List, [], ◌∷◌, ◌++◌, ◌⊎◌, take, drop}
 use Rattle.mpi_model.specs.declared.message.Message.{Message}
 use Rattle.mpi_model.specs.declared.message.Receive.{Receive}
 use Rattle.mpi_model.specs.declared.message.Trust.{Trust}
@@ -19,21 +19,38 @@ IsOwnMessage m = m.name.rank ≡ m.from
 abbrev pub IsOwnReceive : Receive → Type 0
 IsOwnReceive q = q.name.rank ≡ q.at
 
--- `more` has the message besides those of `ms`, and behind those of its sender
-pub record AddsMessage (ms more : List Message) (m : Message) : Type 0 where
-  pub own : IsOwnMessage m
-  pub old : (n : Message) → Has ms n → Has more n
-  pub new : Has more m
-  pub cases : (n : Message) → Has more n → Has ms n ⊎ (n ≡ m)
-  pub behind : (n : Message) → Has ms n → n.from ≡ m.from → sent_before n m ≡ true
+-- all are parts of one call
+abbrev pub IsOneCall : {X : Type 0} → (X → ℕ) → List X → Type 0
+IsOneCall {X} call xs = (x y : X) → Has xs x → Has xs y → call y ≡ call x
 
--- `more` has the receive besides those of `qs`, and behind those of its rank
-pub record AddsReceive (qs more : List Receive) (q : Receive) : Type 0 where
-  pub own : IsOwnReceive q
+-- no call has parts on both sides of the place
+abbrev pub IsWhole : {X : Type 0} → (X → ℕ) → List X → ℕ → Type 0
+IsWhole {X} call xs place = (x y : X) → Has (take place xs) x → Has (drop place xs) y → call x ≡ call y → ⊥
+
+-- no element stands twice
+abbrev pub AreDistinct : {X : Type 0} → List X → Type 0
+AreDistinct [] = Unit {0}
+AreDistinct {X} (x ∷ xs) = (Has xs x → ⊥) × AreDistinct xs
+
+-- `more` has the messages of one call besides those of `ms`, and behind those of their sender
+pub record AddsMessages (ms more call : List Message) : Type 0 where
+  pub own : (m : Message) → Has call m → IsOwnMessage m
+  pub old : (n : Message) → Has ms n → Has more n
+  pub new : (n : Message) → Has call n → Has more n
+  pub cases : (n : Message) → Has more n → Has ms n ⊎ Has call n
+  pub behind : (n m : Message) → Has ms n → Has call m → n.from ≡ m.from → sent_before n m ≡ true
+  pub one_call : (m n : Message) → Has call m → Has call n → n.name.call ≡ m.name.call
+  pub distinct : AreDistinct call
+
+-- `more` has the receives of one call besides those of `qs`, and behind those of their rank
+pub record AddsReceives (qs more call : List Receive) : Type 0 where
+  pub own : (q : Receive) → Has call q → IsOwnReceive q
   pub old : (r : Receive) → Has qs r → Has more r
-  pub new : Has more q
-  pub cases : (r : Receive) → Has more r → Has qs r ⊎ (r ≡ q)
-  pub behind : (r : Receive) → Has qs r → r.at ≡ q.at → posted_before r q ≡ true
+  pub new : (r : Receive) → Has call r → Has more r
+  pub cases : (r : Receive) → Has more r → Has qs r ⊎ Has call r
+  pub behind : (r q : Receive) → Has qs r → Has call q → r.at ≡ q.at → posted_before r q ≡ true
+  pub one_call : (q r : Receive) → Has call q → Has call r → r.name.call ≡ q.name.call
+  pub distinct : AreDistinct call
 
 -- messages that were sent at one place are one message
 abbrev pub AreApart : List Message → Type 0

@@ -5,7 +5,8 @@ use Rattle.mpi_model.specs.declared.message.Receive.{Receive}
 use Rattle.trace_ops.specs.Ops.{Ops}
 use Rattle.trace_pair.specs.After.{comes_after}
 use Rattle.trace_pair.specs.Calls.{between, IsSequence, IsPosting}
-use Rattle.trace_pair.specs.Indexed.{IsIndexed}
+use Rattle.trace_ops.specs.Order.{Has}
+use Rattle.trace_pair.specs.Indexed.{IsIndexed, AreSets, Found}
 use Rattle.trace_pair.specs.Pairing.{After}
 use Rattle.trace_pair.specs.Table.{sends_of, receives_of}
 use Rattle.trace_pair.specs.declared.follow.Fronts.{Fronts}
@@ -14,6 +15,14 @@ use Rattle.trace_pair.specs.declared.matched.Matched.{Matched}
 -- what is kept is the index of these messages and receives
 abbrev pub Indexes : After → List Message → List Receive → Matched → Type 0
 Indexes after ms qs s = IsIndexed after ms qs s.waiting s.free s.opened s.couples
+
+-- of the pairs the state has those alone whose receives are done
+abbrev pub HasDone : After → List Message → List Receive → List Receive → Matched → Type 0
+HasDone after ms qs done s = AreSets (Found after ms qs (λ m r. Has done r)) ms qs s.waiting s.free s.opened s.couples
+
+-- of the pairs the state has those alone whose messages are done
+abbrev pub HasSent : After → List Message → List Receive → List Message → Matched → Type 0
+HasSent after ms qs done s = AreSets (Found after ms qs (λ m r. Has done m)) ms qs s.waiting s.free s.opened s.couples
 
 -- the state stands for the calls of all ranks, where so much is known of what comes after what
 abbrev pub FollowsBy : After → List Ops → Matched → Type 0

@@ -52,10 +52,12 @@ mod reach;
 mod rows;
 mod rules;
 mod scratch;
+mod several;
 mod slots;
 mod table;
 mod takings;
 mod together;
+mod whole;
 
 pub use ends::Ends;
 pub use index::PairIndex;

@@ -4,9 +4,10 @@
 ghost use Rattle.std.specs.Prelude.{◌≡◌, ◌++◌, ◌∷◌, [], None, OnOk, IfOk, if◌then◌else◌, drop, slice_get};
 ghost use Rattle.std.specs.BTreeMap.{IsOrdered, get};
 ghost use Rattle.std.specs.Ordering.{is_eq};
-ghost use Rattle.trace_pair.specs.Waiting.{waits_at, from_waiting, places_at};
+ghost use Rattle.trace_pair.specs.Waiting.{waits_at, from_waiting, is_followed, is_of_call, places_at};
 
 use crate::pair::Taker;
+use mpi_model::Message;
 use std::alloc::{AllocError, Global};
 use std::collections::{BTreeMap, VecDeque};
 use std::marker::Model;
@@ -79,6 +80,51 @@ impl Places {
             self.pop();
         }
         None
+    }
+}
+
+impl Places {
+    /// Whether a message waits behind the one in front that is of its call.
+    fn has_sibling(&self, messages: &[Message], takers: &[Option<Taker>], call: u64) -> bool
+        ensures { result ≡ is_followed messages.now takers.now call (drop 1 self.now) }
+    {
+        let mut next = 1;
+        while let Some(place) = self.kept.get(next).copied() {
+            if !is_of_call(messages, place, call) {
+                return false;
+            }
+            if waits_at(takers, place) {
+                return true;
+            }
+            next += 1;
+        }
+        false
+    }
+}
+
+/// Whether the message at a place is of that call of its rank.
+fn is_of_call(messages: &[Message], place: usize, call: u64) -> bool
+    ensures { result ≡ is_of_call messages.now place call }
+{
+    match messages.get(place) {
+        Some(m) => m.name.call == call,
+        None => false,
+    }
+}
+
+/// Whether at a key another message waits behind the one in front that is of its call.
+pub(crate) fn has_sibling_at<K: Ord>(
+    places: &BTreeMap<K, Places>,
+    key: &K,
+    messages: &[Message],
+    takers: &[Option<Taker>],
+    call: u64,
+) -> bool
+    ensures { result ≡ is_followed messages.now takers.now call (drop 1 (places_at K.cmp places.now key.now)) }
+{
+    match places.get(key) {
+        Some(own) => own.has_sibling(messages, takers, call),
+        None => false,
     }
 }
 

@@ -1,14 +1,14 @@
 //! All messages, in their order, with what takes each; those that wait are found by a receive that
 //! they fit.
 
-ghost use Rattle.std.specs.Prelude.{◌≡◌, ◌<◌, true, IfOk, IfSome, OnOk, is_some, length, replicate, List, None, Option};
+ghost use Rattle.std.specs.Prelude.{◌≡◌, ◌<◌, true, false, Some, IfOk, IfSome, OnOk, is_some, length, replicate, List, None, Option};
 ghost use Rattle.trace_pair.specs.KeyOrders.{queue_cmp, queue_of, lane_cmp, lane_of};
 ghost use Rattle.trace_pair.specs.Rising.{AreRising};
-ghost use Rattle.trace_pair.specs.Waiting.{ArePlaces, IsFirstPlace, taker_at, untaken, with_taker};
+ghost use Rattle.trace_pair.specs.Waiting.{ArePlaces, IsFirstPlace, IsSolePlace, taker_at, untaken, with_taker};
 ghost use Rattle.trace_pair.specs.declared.pair.Taker.{Taker};
 
 use crate::pair::Taker;
-use crate::places::{Places, add_place, first_at};
+use crate::places::{Places, add_place, first_at, has_sibling_at};
 use mpi_model::{Message, Receive};
 use std::alloc::{AllocError, Global};
 use std::collections::BTreeMap;
@@ -115,6 +115,10 @@ impl Takings {
         &self.messages
     }
 
+    pub(crate) fn allocator(&self) -> &Global {
+        self.messages.allocator()
+    }
+
     /// What takes the message at a place.
     pub(crate) fn taker_at(&self, place: usize) -> Option<Taker>
         ensures { result ≡ taker_at self.now place }
@@ -163,6 +167,45 @@ impl Takings {
                 None => self.first_of_lane(q, source),
             },
         }
+    }
+
+    /// Whether another message of the call of that at a place waits and fits a receive whose source is
+    /// told. The place is that of the first one that does.
+    fn has_sibling(&self, q: &Receive, place: usize) -> bool
+        ensures yes { result ≡ true → is_some q.now.source ≡ true → IsFirstPlace self.now q.now (Some place) → IsSolePlace self.now q.now None }
+        ensures no { result ≡ false → is_some q.now.source ≡ true → IsFirstPlace self.now q.now (Some place) → IsSolePlace self.now q.now (Some place) }
+    {
+        let Some(m) = self.messages.get(place) else {
+            return false;
+        };
+        let call = m.name.call;
+        match (q.source, q.tag, &self.lanes) {
+            (Some(source), Some(tag), _) => {
+                let key = (q.comm, source, q.at, tag);
+                has_sibling_at(&self.queues, &key, &self.messages, &self.takers, call)
+            }
+            (Some(source), None, Some(lanes)) => {
+                let key = (q.comm, source, q.at);
+                has_sibling_at(lanes, &key, &self.messages, &self.takers, call)
+            }
+            _ => false,
+        }
+    }
+
+    /// The place of the first message that waits and fits a receive whose source is told, if no other
+    /// one of its call does.
+    pub(crate) fn sole_for(&mut self, q: &Receive) -> Result<Option<usize>, AllocError>
+        requires { is_some q.now.source ≡ true }
+        ensures kept { self.new ≡ self.old }
+        ensures sole { IfOk result (IsSolePlace self.old q.now) }
+    {
+        let Some(place) = self.first_for(q)? else {
+            return Ok(None);
+        };
+        if self.has_sibling(q, place) {
+            return Ok(None);
+        }
+        Ok(Some(place))
     }
 
     /// The message at the place is taken.
