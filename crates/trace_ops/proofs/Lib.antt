@@ -1,4 +1,5 @@
 pub mod Taken
+pub mod Sorting
 pub mod Behind
 pub mod Holding
 pub mod Parts
