@@ -77,7 +77,7 @@ call_returns before c d bound rest lt e k f =
   where
     by : (b : Bool) → b ≡ is_start c.call → GoesFrom bound ((if b then parts_from before c 0 (started_by c.call) else whole (length before) c ∷ []) ++ []) ((if b then parts_from before d 0 (started_by c.call) else whole (length before) d ∷ []) ++ rest)
     by true h = parts_return before c d bound 0 (started_by c.call) rest lt e k (sym h) f
-    by false h = (lt, inr (record { number = refl; part = refl; call = e; begun = refl }, k, inl refl), f)
+    by false h = (lt, inr (record { number = refl; part = refl; call = e; begun = refl }, k, inl (refl, refl)), f)
 
 pub steps_go : (before old new : List Entry) → GoesOn old new → GoesFrom (length before + length old) (steps_from before old) (steps_from before new)
 steps_go before [] new g = let e : length before ≡ length before + length {A = Entry} [] = omega arith in subst (λ (n : ℕ). AreFrom n (steps_from before new)) e (steps_are_from before new)

@@ -30,10 +30,10 @@ pub record Same (s t : Step) : Type 0 where
   pub call : t.entry.call ≡ s.entry.call
   pub begun : t.begun ≡ s.begun
 
--- A step goes on: it is as it was, or its call had not returned, and was the last. Of an open call there is one step, or
--- each is a part of a start.
+-- A step goes on: it is as it was, or its call had not returned, and was the last. Of an open call there is one step, with
+-- the place 0, or each is a part of a start.
 abbrev pub Continues : Step → Step → List Step → Type 0
-Continues s t later = (t ≡ s) ⊎ (Same s t × IsOpen s × ((later ≡ []) ⊎ ((is_start s.entry.call ≡ true) × AreOpen later)))
+Continues s t later = (t ≡ s) ⊎ (Same s t × IsOpen s × (((later ≡ []) × (s.part ≡ 0)) ⊎ ((is_start s.entry.call ≡ true) × AreOpen later)))
 
 -- steps of calls from a number on
 abbrev pub AreFrom : ℕ → List Step → Type 0
@@ -100,8 +100,8 @@ no_matched (Startall xs) h = refl
 no_matched call h = absurd (cc)
 
 -- what stands behind an open step is open
-all_open : (s : Step) (later : List Step) → ((later ≡ []) ⊎ ((is_start s.entry.call ≡ true) × AreOpen later)) → AreOpen later
-all_open s later (inl e) = subst (λ (l : List Step). AreOpen l) (sym e) tt
+all_open : (s : Step) (later : List Step) → (((later ≡ []) × (s.part ≡ 0)) ⊎ ((is_start s.entry.call ≡ true) × AreOpen later)) → AreOpen later
+all_open s later (inl e) = subst (λ (l : List Step). AreOpen l) (sym e.0) tt
 all_open s later (inr o) = o.1
 
 told_none : (members : List ℕ) (x : ℤ) (later : List Step) → AreOpen later → told_by members x later ≡ None

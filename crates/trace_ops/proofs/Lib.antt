@@ -10,4 +10,5 @@ pub mod Growing
 pub mod Going
 pub mod Telling
 pub mod Within
+pub mod Coming
 pub mod Joined

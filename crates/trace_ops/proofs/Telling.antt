@@ -29,6 +29,17 @@ use Rattle.trace_ops.specs.Steps.{Begun, Placed, Step, as_started, call_with, na
 use Rattle.trace_ops.specs.Trust.{gives_back, trust_by, trust_of_post, trust_of_probe, trust_of_receive, trust_of_send}
 use Rattle.trace_ops.proofs.Growing.{AreOpen, Continues, GoesFrom, IsOpen, Same, Stays, end_stays, posts_none, told_stays, trust_stays}
 
+-- not the call of an Improbe, whose receive comes with its Return
+abbrev pub IsPlain : Call → Type 0
+IsPlain (Improbe e) = ⊥
+IsPlain call = Unit {0}
+
+-- an Improbe that has not returned
+pub record AwaitsProbe (s : Step) : Type 0 where
+  pub whole : s.part ≡ 0
+  pub unreturned : IsOpen s
+  pub probe : IsPlain (starting s) → ⊥
+
 -- ---- lists with an item for some of the steps
 
 module _ {Y : Type 0} (R : Y → Y → Type 0) where
@@ -51,13 +62,13 @@ module _ {Y : Type 0} (R : Y → Y → Type 0) where
 
   module _ (f : Placed → Option Y)
       (more : (bound : ℕ) (s t : Step) (old new : List Step) → Continues s t old → GoesFrom bound old new →
-      More (f (record { step = s; later = old })) (f (record { step = t; later = new })) ⊎ ((f (record { step = s; later = old }) ≡ None) × (old ≡ []))) where
+      More (f (record { step = s; later = old })) (f (record { step = t; later = new })) ⊎ ((f (record { step = s; later = old }) ≡ None) × (old ≡ []) × AwaitsProbe s)) where
     pub all_more : (bound : ℕ) (old new : List Step) → GoesFrom bound old new → AllZip R (filter_map f (placed old)) (take (length (filter_map f (placed old))) (filter_map f (placed new)))
     all_more bound [] new g = tt
     all_more bound (s ∷ old) [] g = absurd g
     all_more bound (s ∷ old) (t ∷ new) g = by (more bound s t old new g.1 g.2) (all_more bound old new g.2)
       where
-        by : (More (f (record { step = s; later = old })) (f (record { step = t; later = new })) ⊎ ((f (record { step = s; later = old }) ≡ None) × (old ≡ []))) →
+        by : (More (f (record { step = s; later = old })) (f (record { step = t; later = new })) ⊎ ((f (record { step = s; later = old }) ≡ None) × (old ≡ []) × AwaitsProbe s)) →
             AllZip R (filter_map f (placed old)) (take (length (filter_map f (placed old))) (filter_map f (placed new))) →
             AllZip R (filter_map f (placed (s ∷ old))) (take (length (filter_map f (placed (s ∷ old)))) (filter_map f (placed (t ∷ new))))
         by (inl m) h = front_more (f (record { step = s; later = old })) (f (record { step = t; later = new })) (filter_map f (placed old)) (filter_map f (placed new)) m h
@@ -115,7 +126,7 @@ module _ (layout : Parts) (rank bound : ℕ) (s t : Step) (old new : List Step) 
       subst (λ (k : Call). More SameSend (sent_by g (name_of rank s) s old (starting s)) (sent_by g (name_of rank s) t new k)) (sym (same_starting s t old c))
       (sent_more g (name_of rank s) (starting s) s t old new (post_trust bound s t old new false false c h))
 
-  message_more : More SameSend (message_of layout rank (record { step = s; later = old })) (message_of layout rank (record { step = t; later = new }))
+  pub message_more : More SameSend (message_of layout rank (record { step = s; later = old })) (message_of layout rank (record { step = t; later = new }))
   message_more =
       subst (λ (g : Option Group). More SameSend (message_of layout rank (record { step = s; later = old })) (message_in g (name_of rank t) (record { step = t; later = new }))) (sym groups)
       (subst (λ (a : OpName). More SameSend (message_of layout rank (record { step = s; later = old })) (message_in (group_of layout rank (naming s) (starting s)) a (record { step = t; later = new }))) (sym (same_name rank s t old c))
@@ -125,11 +136,6 @@ pub sends_more : (layout : Parts) (rank bound : ℕ) (old new : List Step) → G
 sends_more layout rank = all_more SameSend (message_of layout rank) (λ bound s t old new c h. inl (message_more layout rank bound s t old new c h))
 
 -- ---- receives
-
--- not the call of an Improbe, whose receive comes with its Return
-abbrev IsPlain : Call → Type 0
-IsPlain (Improbe e) = ⊥
-IsPlain call = Unit {0}
 
 starts_plain : (s : Step) → is_start s.entry.call ≡ true → IsPlain (starting s)
 starts_plain s h = by s.begun
@@ -216,12 +222,12 @@ module _ (g : Group) (name : OpName) where
 module _ (layout : Parts) (rank bound : ℕ) (s t : Step) (old new : List Step) (c : Continues s t old) (h : GoesFrom bound old new) where
   -- more is told of the receive, or it comes with the Return of the last step
   abbrev Comes : Option Receive → Option Receive → Type 0
-  Comes a b = More TellsMore a b ⊎ ((a ≡ None) × (old ≡ []))
+  Comes a b = More TellsMore a b ⊎ ((a ≡ None) × (old ≡ []) × AwaitsProbe s)
 
-  decide : (a b : Option Receive) → (More TellsMore a b ⊎ ((a ≡ None) × (IsPlain (starting s) → ⊥))) → ((old ≡ []) ⊎ ((is_start s.entry.call ≡ true) × AreOpen old)) → Comes a b
-  decide a b (inl m) o = inl m
-  decide a b (inr e) (inl n) = inr (e.0, n)
-  decide a b (inr e) (inr o) = absurd (e.1 (starts_plain s o.0))
+  decide : (a b : Option Receive) → IsOpen s → (More TellsMore a b ⊎ ((a ≡ None) × (IsPlain (starting s) → ⊥))) → (((old ≡ []) × (s.part ≡ 0)) ⊎ ((is_start s.entry.call ≡ true) × AreOpen old)) → Comes a b
+  decide a b k (inl m) o = inl m
+  decide a b k (inr e) (inl n) = inr (e.0, n.0, record { whole = n.1; unreturned = k; probe = e.1 })
+  decide a b k (inr e) (inr o) = absurd (e.1 (starts_plain s o.0))
 
   receive_in_more : (g : Option Group) → Comes (receive_in g (name_of rank s) (record { step = s; later = old })) (receive_in g (name_of rank s) (record { step = t; later = new }))
   receive_in_more None = inl tt
@@ -230,7 +236,7 @@ module _ (layout : Parts) (rank bound : ℕ) (s t : Step) (old new : List Step) 
       by : Continues s t old → Comes (taken_by g (name_of rank s) s old (starting s)) (taken_by g (name_of rank s) t new (starting t))
       by (inl e) = subst (λ (u : Step). Comes (taken_by g (name_of rank s) s old (starting s)) (taken_by g (name_of rank s) u new (starting u))) (sym e) (inl (same_more g (name_of rank s) bound s old new (starting s) h))
       by (inr o) = subst (λ (k : Call). Comes (taken_by g (name_of rank s) s old (starting s)) (taken_by g (name_of rank s) t new k)) (sym (same_starting s t old (inr o)))
-          (decide (taken_by g (name_of rank s) s old (starting s)) (taken_by g (name_of rank s) t new (starting s)) (open_more g (name_of rank s) s t old new (starting s) o.1) o.2)
+          (decide (taken_by g (name_of rank s) s old (starting s)) (taken_by g (name_of rank s) t new (starting s)) o.1 (open_more g (name_of rank s) s t old new (starting s) o.1) o.2)
 
   receive_groups : group_of layout rank (naming t) (starting t) ≡ group_of layout rank (naming s) (starting s)
   receive_groups = ap (λ (n : ℕ). group_of layout rank n (starting t)) (same_naming s t old c) ∙ ap (group_of layout rank (naming s)) (same_starting s t old c)

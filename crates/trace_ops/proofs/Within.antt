@@ -25,7 +25,8 @@ use Rattle.trace_ops.specs.Steps.{Placed, Step, name_of, naming, placed, posted_
 use Rattle.trace_ops.specs.Trust.{trust_of_probe, trust_of_receive}
 use Rattle.trace_ops.proofs.Going.{AreBelow}
 use Rattle.trace_ops.proofs.Growing.{GoesFrom}
-use Rattle.trace_ops.proofs.Owned.{IsSent, message_own}
+use Rattle.trace_ops.proofs.Owned.{message_own, receive_own}
+use Rattle.trace_ops.proofs.Rising.{IsOf}
 
 pub below_of : (bound : ℕ) (old new : List Step) → GoesFrom bound old new → AreBelow bound old
 below_of bound [] new g = tt
@@ -46,6 +47,10 @@ module _ {Y : Type 0} (P : Y → Type 0) (f : Placed → Option Y) (bound : ℕ)
       by None o h more = more h
       by (Some z) o (inl e) more = subst (λ (v : Y). P v) (sym e) o
       by (Some z) o (inr h) more = more h
+
+named_within : {Y : Type 0} (name : Y → OpName) (at : Y → ℕ) (rank bound : ℕ) (s : Step) (o : Option Y) → IsOf name at rank s o → s.number < bound → IsSo (λ y. (name y).call < bound) o
+named_within name at rank bound s None o lt = tt
+named_within name at rank bound s (Some y) o lt = let e : (name y).call ≡ s.number = ap (λ (a : OpName). a.call) o.0 in omega (arith, lt, e)
 
 -- the call that completes it, where one does, is below the bound
 abbrev pub EndsWithin : ℕ → Option ℕ → Type 0
@@ -108,13 +113,10 @@ module _ (layout : Parts) (rank bound : ℕ) where
   pub received_within : (steps : List Step) → AreBelow bound steps → (q : Receive) → Has (receives_of layout rank steps) q → (e : ℕ) → q.ended ≡ Some e → e < bound
   received_within = within ReceiveWithin (receive_of layout rank) bound receive_within
 
-  message_within : (p : Placed) → p.step.number < bound → AreBelow bound p.later → IsSo (λ m. m.name.call < bound) (message_of layout rank p)
-  message_within p lt b = by (message_of layout rank p) (message_own layout rank p)
-    where
-      by : (o : Option Message) → IsSent layout rank p.step o → IsSo (λ m. m.name.call < bound) o
-      by None h = tt
-      by (Some m) h = let e : m.name.call ≡ p.step.number = ap (λ (a : OpName). a.call) h.0 in omega (arith, lt, e)
-
   -- a message is sent by one of them
   pub sent_within : (steps : List Step) → AreBelow bound steps → (m : Message) → Has (sends_of layout rank steps) m → m.name.call < bound
-  sent_within = within (λ m. m.name.call < bound) (message_of layout rank) bound message_within
+  sent_within = within (λ m. m.name.call < bound) (message_of layout rank) bound (λ p lt b. named_within (λ m. m.name) (λ m. m.from) rank bound p.step (message_of layout rank p) (message_own layout rank p) lt)
+
+  -- a receive is posted by one of them
+  pub posted_within : (steps : List Step) → AreBelow bound steps → (q : Receive) → Has (receives_of layout rank steps) q → q.name.call < bound
+  posted_within = within (λ q. q.name.call < bound) (receive_of layout rank) bound (λ p lt b. named_within (λ q. q.name) (λ q. q.at) rank bound p.step (receive_of layout rank p) (receive_own layout rank p) lt)
