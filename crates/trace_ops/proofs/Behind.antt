@@ -15,10 +15,10 @@ use Rattle.trace_ops.specs.declared.touched.End.{End}
 use Rattle.trace_ops.specs.declared.touched.Touch.{Touch}
 use Rattle.trace_ops.specs.Calls.{Entry}
 use Rattle.trace_ops.specs.Ended.{ended_by}
-use Rattle.trace_ops.specs.Request.{given_of, completions, is_completed, is_completing, is_posted, is_start}
+use Rattle.trace_ops.specs.Request.{given_of, completions, is_completed, is_posted, is_start}
 use Rattle.trace_ops.specs.Steps.{IsPartOf, Step, given_by, completed_by, touches, whole}
 use Rattle.trace_ops.specs.Source.{told_in, told_by}
-use Rattle.trace_ops.specs.Touched.{Follows, completing, ended_at, ends_at, end_of, marked, is_marked, is_void_end, tellings_of, voided_end, with_told, with_tellings}
+use Rattle.trace_ops.specs.Touched.{Follows, ended_at, ends_at, end_of, marked, is_marked, is_void_end, tellings_of, voided_end, with_told, with_tellings}
 use Rattle.trace_ops.specs.Trust.{cancel_of, cancels, has_cancel, said_in, said_by}
 
 -- a call that gives a number completes nothing

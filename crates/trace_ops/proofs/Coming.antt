@@ -15,7 +15,6 @@ use Rattle.trace_ops.specs.Order.{Has}
 use Rattle.trace_ops.specs.Receive.{receive_in, receive_of, receives_of, taken_by}
 use Rattle.trace_ops.specs.Steps.{Placed, Step, name_of, naming, placed, starting}
 use Rattle.trace_ops.proofs.Growing.{AreFrom, Continues, GoesFrom}
-use Rattle.trace_ops.proofs.Going.{AreBelow}
 use Rattle.trace_ops.proofs.Owned.{message_own, receive_own}
 use Rattle.trace_ops.proofs.Rising.{Behind, IsOf, Rise}
 use Rattle.trace_ops.proofs.Telling.{AwaitsProbe, IsPlain, More, message_more, receive_more}

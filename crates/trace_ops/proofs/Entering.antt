@@ -1,14 +1,13 @@
 -- The collective calls of a rank: told by its calls, they rise, and those that come are of later calls.
-use Rattle.std.proofs.Common.{◌≡◌, ℕ, suc, ◌+◌, ◌<◌, ◌≤◌, Bool, true, false, List, [], ◌∷◌, ◌++◌, ◌⊎◌, inl, inr, length, take, drop, refl, sym, ◌∙◌, ap, subst, arith}
+use Rattle.std.proofs.Common.{◌≡◌, ℕ, ◌+◌, ◌≤◌, Bool, true, false, List, [], ◌∷◌, ◌++◌, ◌⊎◌, inl, inr, length, take, drop, refl, sym, ◌∙◌, ap, subst, arith}
 use Rattle.std.specs.Prelude.{ℤ, ◌^◌, Option, Some, None, nat_lt, if◌then◌else◌}
 use Rattle.std.specs.List.{filter_map, cons_option}
 use Rattle.std.specs.Option.{option_map}
 use Rattle.std.proofs.lemmas.Bool.Decides.{nat_tests}
 use Rattle.std.proofs.lemmas.List.Elements.{filter_map-append}
 use Rattle.mpi_model.specs.declared.call.Call.{Call}
-use Rattle.mpi_model.specs.declared.call.Call.TheVariants.{Collective, Icollective, Start, Startall}
+use Rattle.mpi_model.specs.declared.call.Call.TheVariants.{Collective, Icollective}
 use Rattle.mpi_model.specs.declared.event.Event.{Event}
-use Rattle.mpi_model.specs.declared.outcome.Outs.{Outs}
 use Rattle.mpi_model.specs.Layouts.{Parts}
 use Rattle.trace_ops.specs.declared.entered.Entered.{Entered}
 use Rattle.trace_ops.specs.Calls.{Entry, calls_of}
@@ -17,7 +16,7 @@ use Rattle.trace_ops.specs.Held.{Init, held_in}
 use Rattle.trace_ops.specs.Order.{Has, AreEntered}
 use Rattle.trace_ops.specs.Request.{is_start, started_by}
 use Rattle.trace_ops.specs.Round.{entered_by, entered_in, entered_of, rounds_of}
-use Rattle.trace_ops.specs.Steps.{Step, part_step, parts_from, steps_at, steps_from, whole}
+use Rattle.trace_ops.specs.Steps.{part_step, parts_from, steps_from, whole}
 use Rattle.trace_ops.proofs.Parts.{start_enters_none}
 
 -- The new calls begin with the old ones, of which the last may have returned.

@@ -1,5 +1,5 @@
 -- The steps of calls that go on.
-use Rattle.std.proofs.Common.{◌≡◌, ℕ, ◌+◌, ◌<◌, ◌≤◌, Bool, true, false, List, [], ◌∷◌, ◌++◌, ◌⊎◌, inl, inr, length, refl, sym, ◌∙◌, ap, subst, arith}
+use Rattle.std.proofs.Common.{◌≡◌, ℕ, ◌+◌, ◌<◌, ◌≤◌, Bool, true, false, List, [], ◌∷◌, ◌++◌, inl, inr, length, refl, sym, subst, arith}
 use Rattle.std.specs.Prelude.{ℤ, ◌^◌, Option, Some, None, nat_lt, if◌then◌else◌}
 use Rattle.std.specs.List.{cons_option}
 use Rattle.std.specs.Option.{option_map}
@@ -9,7 +9,7 @@ use Rattle.trace_ops.specs.Held.{Init, held_in}
 use Rattle.trace_ops.specs.Request.{is_start, started_by}
 use Rattle.trace_ops.specs.Steps.{Step, part_step, parts_from, steps_at, steps_from, whole}
 use Rattle.trace_ops.proofs.Entering.{GoesOn}
-use Rattle.trace_ops.proofs.Growing.{AreFrom, AreOpen, Continues, GoesFrom, Same}
+use Rattle.trace_ops.proofs.Growing.{AreFrom, AreOpen, GoesFrom}
 use Rattle.trace_ops.proofs.Rising.{Behind, Rise, steps_rise}
 
 rise_from : (n i m : ℕ) (steps : List Step) → m ≤ n → Rise n i steps → AreFrom m steps

@@ -1,17 +1,16 @@
 -- What becomes of what steps tell where a rank's readable events get longer.
-use Rattle.std.proofs.Common.{◌≡◌, ℕ, ◌+◌, ◌<◌, ◌≤◌, Bool, true, false, ◌&&◌, ◌||◌, not, List, [], ◌∷◌, ◌++◌, ◌⊎◌, inl, inr, refl, sym, ◌∙◌, ap, subst}
+use Rattle.std.proofs.Common.{◌≡◌, ℕ, ◌<◌, ◌≤◌, Bool, true, false, ◌&&◌, ◌||◌, not, List, [], ◌∷◌, ◌⊎◌, inl, inr, refl, sym, ◌∙◌, ap, subst}
 use Rattle.std.specs.Prelude.{ℤ, Option, Some, None, is_some, if◌then◌else◌}
 use Rattle.mpi_model.specs.declared.call.Call.{Call}
 use Rattle.mpi_model.specs.declared.call.Call.TheVariants.{Isend, Irecv, Icollective, Imrecv, SendInit, RecvInit, Start, Startall, Wait, Waitall, Waitany, Waitsome, Test, Testall, Testany, Testsome, Free}
 use Rattle.mpi_model.specs.declared.outcome.Outs.{Outs}
 use Rattle.mpi_model.specs.declared.told.Told.TheVariants.{Nothing}
 use Rattle.mpi_model.specs.Tells.{is_cancelled}
-use Rattle.trace_ops.specs.declared.completed.Completed.{Completed}
-use Rattle.trace_ops.specs.Ended.{ended_by, ended_of_post}
+use Rattle.trace_ops.specs.Ended.{ended_by}
 use Rattle.trace_ops.specs.Request.{completions, given_of, is_completed, is_completing, is_init, is_posted, is_start}
-use Rattle.trace_ops.specs.Source.{told_by, told_in, told_of_post}
+use Rattle.trace_ops.specs.Source.{told_by, told_in}
 use Rattle.trace_ops.specs.Steps.{Begun, Step, completed_by, given_by, given_with, posted_by, touches}
-use Rattle.trace_ops.specs.Trust.{cancel_of, cancels, gives_back, has_cancel, is_cancelled_post, is_matched_receive, said_by, said_in, trust_of_post, trust_with}
+use Rattle.trace_ops.specs.Trust.{cancel_of, cancels, has_cancel, is_matched_receive, said_by, said_in, trust_of_post, trust_with}
 use Rattle.trace_ops.specs.Ops.{StaysVoid}
 
 -- the call of a step has not returned

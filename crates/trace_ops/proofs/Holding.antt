@@ -1,6 +1,6 @@
 -- What holds the numbers that calls list, one call more, and the steps of these calls.
-use Rattle.std.proofs.Common.{◌≡◌, ℕ, zero, suc, ◌+◌, ◌-◌, ◌<◌, ◌≤◌, List, [], ◌∷◌, ◌++◌, map, take, drop, get_or, length, reverse, refl, sym, ◌∙◌, ap, subst, arith, append_assoc, length-append}
-use Rattle.std.specs.Prelude.{ℤ, Option, Some, None}
+use Rattle.std.proofs.Common.{◌≡◌, ℕ, zero, suc, ◌+◌, ◌-◌, ◌<◌, ◌≤◌, List, [], ◌∷◌, ◌++◌, map, take, drop, get_or, length, reverse, refl, sym, ◌∙◌, ap, arith, append_assoc, length-append}
+use Rattle.std.specs.Prelude.{ℤ, Option}
 use Rattle.std.specs.Option.{option_map}
 use Rattle.std.proofs.lemmas.Grind.{reverse_onto}
 use Rattle.std.proofs.lemmas.List.{append-nil, drop_more, drop-map, length-map, length-reverse, length-take-le, map-append, reverse-append, take-map, take_more}
@@ -9,7 +9,7 @@ use Rattle.trace_ops.specs.declared.held.Init.{Init as Lent}
 use Rattle.trace_ops.specs.Calls.{Entry}
 use Rattle.trace_ops.specs.Held.{Holds, Init, held_in, inits_at, inits_from, plain_init}
 use Rattle.trace_ops.specs.Request.{started_by}
-use Rattle.trace_ops.specs.Steps.{Step, steps_at, steps_from}
+use Rattle.trace_ops.specs.Steps.{steps_at, steps_from}
 
 -- the calls before the next place, the last of them first
 pub before_more : (calls : List Entry) (n : ℕ) (c : Entry) → n < length calls → c ≡ get_or calls n c → reverse (take (n + 1) calls) ≡ c ∷ reverse (take n calls)

@@ -1,6 +1,6 @@
 -- The messages and receives of a rank are its own, and stand in order; so do its requests that a Cancel names.
-use Rattle.std.proofs.Common.{◌≡◌, ℕ, zero, suc, map, ◌+◌, ◌≤◌, Bool, true, false, List, [], ◌∷◌, ◌++◌, inl, inr, length, refl, sym, ◌∙◌, ap, arith}
-use Rattle.std.specs.Prelude.{ℤ, Option, Some, None, if◌then◌else◌, slice_get}
+use Rattle.std.proofs.Common.{◌≡◌, ℕ, zero, suc, map, ◌+◌, Bool, true, false, List, [], ◌∷◌, refl}
+use Rattle.std.specs.Prelude.{Option, Some, None, if◌then◌else◌, slice_get}
 use Rattle.std.specs.List.{range_with_len}
 use Rattle.std.specs.Option.{option_map, option_and_then}
 use Rattle.mpi_model.specs.declared.envelope.Envelope.{Envelope}
@@ -19,7 +19,7 @@ use Rattle.mpi_model.specs.Layouts.{Parts}
 use Rattle.trace_ops.specs.Ended.{ended_of_own, ended_of_post}
 use Rattle.trace_ops.specs.Foreign.{Group, group_of, peer_rank}
 use Rattle.trace_ops.specs.Source.{told_of_flag, told_of_own, told_of_post}
-use Rattle.trace_ops.specs.Trust.{is_cancelled_post, trust_of_probe, trust_of_send, trust_of_receive, cancelled_with, cancelled_post, cancelled_of}
+use Rattle.trace_ops.specs.Trust.{is_cancelled_post, trust_of_probe, trust_of_send, trust_of_receive, cancelled_post, cancelled_of}
 use Rattle.trace_ops.specs.Message.{message_in, message_of, message_to, sent_by, sends_of}
 use Rattle.trace_ops.specs.Receive.{any_count, has_taken, probe_envelope, receive_in, receive_of, receives_of, taken_by, taken_from}
 use Rattle.trace_ops.specs.Order.{Has, AreInOrder, ArePosted, AreCalledInOrder}

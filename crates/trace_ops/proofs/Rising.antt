@@ -1,5 +1,5 @@
 -- The steps of a rank rise by their calls and parts.
-use Rattle.std.proofs.Common.{◌≡◌, ℕ, zero, suc, ◌+◌, ◌<◌, ◌≤◌, Bool, true, false, ◌&&◌, ◌||◌, List, [], ◌∷◌, ◌++◌, ◌⊎◌, inl, inr, length, refl, sym, ◌∙◌, ap, subst, arith}
+use Rattle.std.proofs.Common.{◌≡◌, ℕ, ◌+◌, ◌<◌, ◌≤◌, Bool, true, false, ◌&&◌, List, [], ◌∷◌, ◌++◌, ◌⊎◌, inl, inr, length, refl, sym, ◌∙◌, ap, subst, arith}
 use Rattle.std.specs.Prelude.{ℤ, ◌^◌, Option, Some, None, ◌==◌, nat_lt, if◌then◌else◌}
 use Rattle.std.specs.List.{filter_map, cons_option}
 use Rattle.std.specs.Option.{option_map}
@@ -9,7 +9,7 @@ use Rattle.trace_ops.specs.Calls.{Entry}
 use Rattle.trace_ops.specs.Held.{Init, held_in}
 use Rattle.trace_ops.specs.Order.{Has, named_before}
 use Rattle.trace_ops.specs.Request.{is_start, started_by}
-use Rattle.trace_ops.specs.Steps.{Placed, Step, name_of, part_of, part_step, parts_from, placed, steps_at, steps_from, whole}
+use Rattle.trace_ops.specs.Steps.{Placed, Step, name_of, part_step, parts_from, placed, steps_from, whole}
 
 -- part j of call m stands at or behind part i of call n
 abbrev pub Behind : (n i m j : ℕ) → Type 0

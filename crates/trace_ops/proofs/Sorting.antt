@@ -1,5 +1,5 @@
 -- Numbers that were sorted stand as insertion puts them.
-use Rattle.std.proofs.Common.{◌≡◌, ℕ, suc, ℤ, ◌≤ℤ◌, ◌<ℤ◌, ◌+◌, ◌<◌, Bool, true, false, List, [], ◌∷◌, length, get_or, refl, sym, ◌∙◌, ap, subst, arith, IsPermutation, IsSorted, sum_by}
+use Rattle.std.proofs.Common.{◌≡◌, ℕ, suc, ℤ, ◌≤ℤ◌, ◌<ℤ◌, ◌+◌, Bool, true, false, List, [], ◌∷◌, get_or, refl, sym, ◌∙◌, ap, subst, arith, IsPermutation, IsSorted, sum_by}
 use Rattle.std.specs.Prelude.{if◌then◌else◌}
 use Rattle.std.specs.Ordering.{int_cmp, is_le, is_lt, MatchOrdering}
 use Rattle.std.specs.declared.cmp.Ordering.{Ordering}
@@ -127,8 +127,8 @@ sorted_rises (x ∷ []) s = (tt, tt)
 sorted_rises (x ∷ y ∷ ys) s =
     let le = not_before x y (s 0 x (omega arith) (omega arith)) in
     let more = sorted_rises (y ∷ ys) (λ k d from lt.
-        let next : suc k + 1 ≡ suc (k + 1) = omega arith in
-        subst (λ (m : ℕ). is_lt (int_cmp (get_or (x ∷ y ∷ ys) m d) (get_or (y ∷ ys) k d)) ≡ false) next (s (suc k) d (omega arith) (omega (arith, lt)))) in
+    let next : suc k + 1 ≡ suc (k + 1) = omega arith in
+    subst (λ (m : ℕ). is_lt (int_cmp (get_or (x ∷ y ∷ ys) m d) (get_or (y ∷ ys) k d)) ≡ false) next (s (suc k) d (omega arith) (omega (arith, lt)))) in
     ((le, lower x y ys le more.0), more)
 
 pub sorted_rising : (xs ys : List ℤ) → IsPermutation xs ys → IsSorted int_cmp ys → ys ≡ rising xs

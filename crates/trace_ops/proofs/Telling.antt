@@ -1,6 +1,6 @@
 -- The messages and receives of steps that go on: the old ones are the first of the new ones, and those that come are of later
 -- calls.
-use Rattle.std.proofs.Common.{◌≡◌, ℕ, ◌+◌, ◌<◌, ◌≤◌, Bool, true, false, List, [], ◌∷◌, ◌++◌, ◌⊎◌, inl, inr, length, take, refl, sym, ◌∙◌, ap, subst}
+use Rattle.std.proofs.Common.{◌≡◌, ℕ, Bool, true, false, List, [], ◌∷◌, ◌⊎◌, inl, inr, length, take, refl, sym, ◌∙◌, ap, subst}
 use Rattle.std.specs.Prelude.{ℤ, Option, Some, None, is_some, if◌then◌else◌, slice_get}
 use Rattle.std.specs.List.{AllZip, filter_map, cons_option}
 use Rattle.std.specs.Option.{option_map, option_and_then}
@@ -12,22 +12,20 @@ use Rattle.mpi_model.specs.declared.envelope.Peer.TheVariants.{Any, Null, Rank}
 use Rattle.mpi_model.specs.declared.call.Call.{Call}
 use Rattle.mpi_model.specs.declared.call.Call.TheVariants.{Send, Isend, Sendrecv, Recv, Irecv, Mprobe, Improbe, SendInit, RecvInit, Start, Startall}
 use Rattle.mpi_model.specs.declared.event.OpName.{OpName}
-use Rattle.mpi_model.specs.declared.outcome.Outs.{Outs}
-use Rattle.mpi_model.specs.declared.message.Message.{Message}
 use Rattle.mpi_model.specs.declared.message.Receive.{Receive}
 use Rattle.mpi_model.specs.declared.message.Trust.{Trust}
 use Rattle.mpi_model.specs.declared.message.Trust.TheVariants.{Sure}
 use Rattle.mpi_model.specs.Layouts.{Parts}
 use Rattle.trace_ops.specs.Ended.{ended_of_own, ended_of_post}
 use Rattle.trace_ops.specs.Foreign.{Group, group_of, peer_rank}
-use Rattle.trace_ops.specs.Message.{message_in, message_of, message_to, sends_of, sent_by, sent_with}
+use Rattle.trace_ops.specs.Message.{message_in, message_of, message_to, sends_of, sent_by}
 use Rattle.trace_ops.specs.Ops.{SameSend, StaysVoid, TellsMore}
 use Rattle.trace_ops.specs.Receive.{any_count, has_taken, probe_envelope, receive_in, receive_of, receives_of, taken_by, taken_from}
 use Rattle.trace_ops.specs.Request.{is_start}
 use Rattle.trace_ops.specs.Source.{told_of_flag, told_of_own, told_of_post}
 use Rattle.trace_ops.specs.Steps.{Begun, Placed, Step, as_started, call_with, name_of, naming, placed, posted_by, starting}
 use Rattle.trace_ops.specs.Trust.{gives_back, trust_by, trust_of_post, trust_of_probe, trust_of_receive, trust_of_send}
-use Rattle.trace_ops.proofs.Growing.{AreOpen, Continues, GoesFrom, IsOpen, Same, Stays, end_stays, posts_none, told_stays, trust_stays}
+use Rattle.trace_ops.proofs.Growing.{AreOpen, Continues, GoesFrom, IsOpen, Stays, end_stays, posts_none, told_stays, trust_stays}
 
 -- not the call of an Improbe, whose receive comes with its Return
 abbrev pub IsPlain : Call → Type 0

@@ -1,5 +1,5 @@
 use Rattle.std.proofs.Common.{◌≡◌, ◌<◌, ◌∙◌, ap, sym, List, length, get_or, arith, rules, w64, to_z, of_z}
-use Rattle.std.specs.Prelude.{ℤ, pos, Some, None, Option}
+use Rattle.std.specs.Prelude.{ℤ, pos, Some}
 use Rattle.std.specs.Option.{option_map}
 use Rattle.std.proofs.lemmas.Int.{to_z-of_z}
 use Rattle.trace_ops.specs.Held.{plain_init}

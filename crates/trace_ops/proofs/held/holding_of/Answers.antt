@@ -1,9 +1,6 @@
-use Rattle.std.proofs.Common.{◌≡◌, ◌+◌, ◌≤◌, List, reverse, take, length, arith, ap, sym, ◌∙◌, subst, ◌++◌, map}
+use Rattle.std.proofs.Common.{◌≡◌, List, reverse, take, arith, ap, sym, ◌∙◌, subst, ◌++◌, map}
 use Rattle.std.specs.Ordering.{int_eq}
-use Rattle.std.specs.Prelude.{Option}
 use Rattle.indexmap.specs.IndexMap.{get}
-use Rattle.mpi_model.specs.declared.call.Call.{Call}
-use Rattle.trace_ops.specs.declared.held.Init.{Init as Lent}
 use Rattle.trace_ops.specs.Calls.{Entry}
 use Rattle.trace_ops.specs.Held.{Holds}
 use Rattle.trace_ops.specs.Request.{started_by}

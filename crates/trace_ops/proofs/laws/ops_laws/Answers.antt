@@ -1,4 +1,4 @@
-use Rattle.std.proofs.Common.{◌≡◌, ◌+◌, ◌++◌, ℕ, List, [], length, refl, subst, arith}
+use Rattle.std.proofs.Common.{◌+◌, ◌++◌, [], length, refl, arith}
 use Rattle.trace_ops.specs.Calls.{calls_of}
 use Rattle.trace_ops.specs.RankOps.{ops_by}
 use Rattle.trace_ops.specs.Steps.{steps_from}

@@ -1,10 +1,9 @@
-use Rattle.std.proofs.Common.{◌≡◌, ◌+◌, ◌-◌, ◌≤◌, ◌<◌, List, [], reverse, take, drop, map, length, sym, ◌∙◌, ap, subst, arith}
-use Rattle.std.specs.Prelude.{ℤ, Option, Some, slice_get}
+use Rattle.std.proofs.Common.{◌≡◌, ◌+◌, ◌-◌, ◌<◌, List, [], reverse, take, drop, map, length, ◌∙◌, ap, subst, arith}
+use Rattle.std.specs.Prelude.{ℤ, Option}
 use Rattle.std.specs.Option.{option_map}
 use Rattle.trace_ops.specs.declared.held.Init.{Init as Lent}
-use Rattle.trace_ops.specs.Calls.{Entry}
 use Rattle.trace_ops.specs.Gathered.{IsGathered}
-use Rattle.trace_ops.specs.Held.{inits_at, inits_from, plain_init}
+use Rattle.trace_ops.specs.Held.{inits_from, plain_init}
 use Rattle.trace_ops.specs.Request.{started_by}
 use Rattle.trace_ops.specs.Steps.{Step, steps_from}
 use Rattle.trace_ops.proofs.Behind.{entry_at}

@@ -1,4 +1,4 @@
-use Rattle.std.proofs.Common.{◌≡◌, List, ◌∷◌, true, refl, sym, ◌∙◌, ap, subst, rules, w64, to_z, of_z}
+use Rattle.std.proofs.Common.{◌≡◌, refl, sym, ◌∙◌, ap, subst, rules, w64, to_z, of_z}
 use Rattle.std.specs.Prelude.{ℤ, Option, Some, None, is_some, if◌then◌else◌}
 use Rattle.std.specs.List.{cons_option}
 use Rattle.std.proofs.lemmas.Int.{to_z-of_z}
@@ -7,12 +7,10 @@ use Rattle.trace_ops.specs.Active.{active_of, active_post}
 use Rattle.trace_ops.specs.Calls.{Entry}
 use Rattle.trace_ops.specs.Fate.{IsFateOf}
 use Rattle.trace_ops.specs.Foreign.{is_foreign}
-use Rattle.trace_ops.specs.Gathered.{IsGathered}
 use Rattle.trace_ops.specs.Held.{plain_init}
 use Rattle.trace_ops.specs.Message.{message_of, sends_of}
 use Rattle.trace_ops.specs.Receive.{receive_of, receives_of}
-use Rattle.trace_ops.specs.Request.{is_start}
-use Rattle.trace_ops.specs.Round.{entered_of, rounds_of}
+use Rattle.trace_ops.specs.Round.{rounds_of}
 use Rattle.trace_ops.specs.Steps.{Placed, Step, part_step, posted_by}
 use Rattle.trace_ops.specs.Trust.{cancelled_of, cancelled_post}
 use Rattle.trace_ops.proofs.Behind.{read_at}

@@ -1,12 +1,10 @@
-use Rattle.std.proofs.Common.{◌≡◌, ◌<◌, ◌≤◌, ◌+◌, ◌-◌, ℕ, List, [], ◌∷◌, ◌++◌, true, refl, sym, ◌∙◌, ap, subst, arith, length, drop, get_or, map}
-use Rattle.std.specs.Prelude.{ℤ, pos, Option, Some, None, slice_get}
-use Rattle.std.specs.Option.{option_map}
+use Rattle.std.proofs.Common.{◌≡◌, ◌<◌, ◌+◌, ◌-◌, ℕ, List, ◌++◌, refl, sym, ◌∙◌, ap, subst, arith, length, drop, get_or}
+use Rattle.std.specs.Prelude.{ℤ, pos, Option, Some, None}
 use Rattle.std.specs.List.{cons_option}
 use Rattle.trace_ops.specs.Calls.{Entry}
 use Rattle.trace_ops.specs.Gathered.{IsGathered}
-use Rattle.trace_ops.specs.Held.{inits_at, plain_init}
-use Rattle.trace_ops.specs.Request.{is_start, started_by}
-use Rattle.trace_ops.specs.Steps.{Step, begun_step, part_of, parts_from, steps_at}
+use Rattle.trace_ops.specs.Request.{started_by}
+use Rattle.trace_ops.specs.Steps.{Step, begun_step, part_of, parts_from}
 use Rattle.trace_ops.proofs.Behind.{read_at}
 use Rattle.trace_ops.proofs.Parts.{all_parts, no_parts, parts_more}
 use Rattle.trace_ops.proofs.ops.gather.Gathered.add_parts.Goals as goal

@@ -1,4 +1,4 @@
-use Rattle.std.proofs.Common.{◌≡◌, refl, sym, ◌∙◌, ap, subst}
+use Rattle.std.proofs.Common.{◌≡◌, refl, ◌∙◌, ap, subst}
 use Rattle.std.specs.Prelude.{ℤ, Option}
 use Rattle.trace_ops.specs.Active.{active_of, active_post}
 use Rattle.trace_ops.specs.Calls.{Entry}
