@@ -5,7 +5,7 @@ use Rattle.std.specs.List.{list_any}
 use Rattle.std.specs.Ordering.{int_eq}
 use Rattle.std.proofs.lemmas.Option.{slice_get_read}
 use Rattle.mpi_model.specs.declared.call.Call.{Call}
-use Rattle.mpi_model.specs.declared.call.Call.TheVariants.{Isend, Irecv, Icollective, Imrecv, SendInit, RecvInit, Start, Startall, Cancel}
+use Rattle.mpi_model.specs.declared.call.Call.TheVariants.{Isend, Irecv, Icollective, Imrecv, SendInit, RecvInit, Cancel}
 use Rattle.mpi_model.specs.declared.outcome.Outs.{Outs}
 use Rattle.mpi_model.specs.declared.told.Told.{Told}
 use Rattle.mpi_model.specs.declared.told.Told.TheVariants.{Nothing, Source, Cancelled}
@@ -15,8 +15,8 @@ use Rattle.trace_ops.specs.declared.touched.End.{End}
 use Rattle.trace_ops.specs.declared.touched.Touch.{Touch}
 use Rattle.trace_ops.specs.Calls.{Entry}
 use Rattle.trace_ops.specs.Ended.{ended_by}
-use Rattle.trace_ops.specs.Request.{given_of, completions, is_completed, is_posted, is_start}
-use Rattle.trace_ops.specs.Steps.{IsPartOf, Step, given_by, completed_by, touches, whole}
+use Rattle.trace_ops.specs.Request.{given_of, completions, is_completed, is_posted}
+use Rattle.trace_ops.specs.Steps.{Step, given_by, completed_by, touches, whole}
 use Rattle.trace_ops.specs.Source.{told_in, told_by}
 use Rattle.trace_ops.specs.Touched.{Follows, ended_at, ends_at, end_of, marked, is_marked, is_void_end, tellings_of, voided_end, with_told, with_tellings}
 use Rattle.trace_ops.specs.Trust.{cancel_of, cancels, has_cancel, said_in, said_by}
@@ -30,12 +30,6 @@ quiet Imrecv outs x h = refl
 quiet (SendInit mode e) outs x h = refl
 quiet (RecvInit e) outs x h = refl
 quiet call outs x h = absurd (cc)
-
--- a start completes nothing, and gives no number of its own
-quiet_start : (call : Call) (outs : Option Outs) → is_start call ≡ true → (completions call outs ≡ []) × (cancel_of call ≡ None)
-quiet_start (Start request) outs h = (refl, refl)
-quiet_start (Startall requests) outs h = (refl, refl)
-quiet_start call outs h = absurd (cc)
 
 -- a Cancel posts and completes nothing
 idle : (call : Call) (outs : Option Outs) (x : ℤ) → cancel_of call ≡ Some x → (given_of call outs ≡ None) × (completions call outs ≡ [])
@@ -195,14 +189,6 @@ module _ (calls : List Entry) (s : Step) (later : List Step) (old new : ℤ → 
   follows_completed middle one two e k at q p g h f = follows_middle middle at q p
       (λ x. subst (λ (l : List Completed). middle x ≡ cond (is_completed x l) (Some (ends_at s.number (length l))) (old x)) e (g x))
       (λ x. subst (λ (l : List Completed). new x ≡ with_tellings s.number 0 l x (middle x)) k (h x)) f
-
-  -- a part of a Start or Startall, which has returned, or has not
-  pub follows_part : (request : ℤ) → IsPartOf calls s.number s → given_by s ≡ Some request →
-      ((x : ℤ) → new x ≡ cond (int_eq request x) (Some (ends_at s.number 0)) (old x)) → Follows calls later old → Follows calls (s ∷ later) new
-  follows_part request i p h f = let q = quiet_start s.entry.call s.entry.outs i.start in follows_given request i.at q.1 p q.0 h f
-
-  pub follows_open_part : IsPartOf calls s.number s → given_by s ≡ None → ((x : ℤ) → new x ≡ old x) → Follows calls later old → Follows calls (s ∷ later) new
-  follows_open_part i p h f = let q = quiet_start s.entry.call s.entry.outs i.start in by_one new (λ x. passes x (new x) f (h x) (untouched p q.0 x) (cancels_none q.1 x))
 
 -- a call that is one step
 module _ (calls : List Entry) (n : ℕ) (c : Entry) (later : List Step) (old new : ℤ → Option Touch) where

@@ -14,7 +14,7 @@ use Rattle.trace_ops.specs.Held.{Init, held_in, inits_at, plain_init}
 use Rattle.trace_ops.specs.Request.{is_init, is_start, started_by}
 use Rattle.trace_ops.specs.Round.{entered_of}
 use Rattle.std.proofs.Math.Seq.{drop-length}
-use Rattle.trace_ops.specs.Steps.{Step, whole, steps_at, given_by, part_of, part_step, parts_from, posted_by}
+use Rattle.trace_ops.specs.Steps.{Step, steps_at, given_by, part_of, part_step, parts_from, posted_by}
 use Rattle.trace_ops.specs.Trust.{gives_back, is_matched_receive}
 
 -- a start is no init, no matched receive, no collective call, and names no communicator
@@ -92,13 +92,6 @@ module _ (before : List Entry) (c : Entry) (inits : List (Option Lent)) (place :
       by true (Some i) p q = cc
       by false r p q = absurd (cc)
 
-  pub without_number : (if nat_lt place (2 ^ 31) then Some place else None) ≡ None → None ≡ part_of before c place x
-  without_number p = sym (here ∙ by (nat_lt place (2 ^ 31)) p)
-    where
-      by : (b : Bool) → (if b then Some place else None) ≡ None → (if b then option_map (part_step (length before) place c x) (option_map plain_init o) else None) ≡ None
-      by true p = absurd (cc)
-      by false p = refl
-
   pub without_init : o ≡ None → None ≡ part_of before c place x
   without_init q = sym (here ∙ by (nat_lt place (2 ^ 31)) o q)
     where
@@ -113,6 +106,3 @@ no_parts before c place e = ap (λ (m : ℕ). parts_from before c place (drop m 
 
 pub all_parts : (before : List Entry) (c : Entry) → is_start c.call ≡ true → steps_at before c ≡ parts_from before c 0 (started_by c.call)
 all_parts before c h = rw h refl
-
-pub one_step : (before : List Entry) (c : Entry) → is_start c.call ≡ false → steps_at before c ≡ whole (length before) c ∷ []
-one_step before c h = rw h refl

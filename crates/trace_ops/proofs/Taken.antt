@@ -1,5 +1,5 @@
 -- One element more of a list that is gone through.
-use Rattle.std.proofs.Common.{◌≡◌, ℕ, zero, suc, ◌+◌, ◌<◌, ◌≤◌, List, [], ◌∷◌, ◌++◌, map, take, drop, get_or, length, reverse, refl, sym, ◌∙◌, ap, arith, append_assoc, Bor}
+use Rattle.std.proofs.Common.{◌≡◌, ℕ, zero, suc, ◌+◌, ◌<◌, List, [], ◌∷◌, ◌++◌, map, take, drop, get_or, length, reverse, refl, sym, ◌∙◌, ap, arith, append_assoc, Bor}
 use Rattle.std.specs.Prelude.{Bool, true, false, if◌then◌else◌, filter, Option, Some, None, slice_get}
 use Rattle.std.specs.List.{filter_map, cons_option}
 use Rattle.std.specs.Option.{option_and_then, option_map}
@@ -52,10 +52,6 @@ turned_more {Y} done new rest item one k j i = ap (λ (l : List Y). reverse l) j
 pub counted_more : (test : Step → Bool) (s : Step) (later : List Step) (old new : ℕ) (b : Bool) → b ≡ test s → new ≡ old + (if b then 1 else 0) →
     old ≡ length (filter test later) → new ≡ length (filter test (s ∷ later))
 counted_more test s later old new b k j i = j ∙ ap (λ (m : ℕ). m + (if b then 1 else 0)) i ∙ sym (count_one test s later b k)
-
-pub few_more : (old new : ℕ) (b : Bool) → new ≡ old + (if b then 1 else 0) → new ≤ old + 1
-few_more old new true e = omega (arith, e)
-few_more old new false e = omega (arith, e)
 
 -- a step that does not pass is not counted
 pub uncounted : (test : Step → Bool) (s : Step) (later : List Step) → test s ≡ false → length (filter test (s ∷ later)) ≡ length (filter test later)

@@ -156,9 +156,6 @@ never_void : (a b : Bool) → StaysVoid (trust_by a) (trust_by b)
 never_void true b v = absurd (cc)
 never_void false b v = absurd (cc)
 
-same_stays : (a b : Option ℕ) → b ≡ a → Stays a b
-same_stays a b e h = e
-
 open_stays : (a b : Option ℕ) → a ≡ None → Stays a b
 open_stays a b e h = cc
 
