@@ -14,7 +14,7 @@ use Rattle.trace_pair.specs.declared.pair.Couple.{Couple}
 use Rattle.trace_pair.proofs.MessageParts as messages
 use Rattle.trace_pair.proofs.ReceiveParts as receives
 
-the_one : {X : Type 0} (x y : X) → Has (x ∷ []) y → y ≡ x
+pub the_one : {X : Type 0} (x y : X) → Has (x ∷ []) y → y ≡ x
 the_one x y i = ⊎_elim (λ (e : y ≡ x). e) (λ a. absurd a) i
 
 module _ (after : After) (ms : List Message) (qs more : List Receive) (q : Receive) (adds : AddsReceives qs more (q ∷ [])) (apart : ArePostedApart more) (settled : is_settled q ≡ true)

@@ -10,9 +10,12 @@ pub mod MessageParts
 pub mod ReceiveParts
 pub mod Offers
 pub mod Alone
+pub mod Singles
 pub mod Pushes
+pub mod Takers
 pub mod Pops
 pub mod Ranks
+pub mod ByCall
 pub mod Posts
 pub mod Partners
 pub mod Ranked
@@ -49,5 +52,3 @@ pub mod Waited
 pub mod Offered
 pub mod Settling
 pub mod Parts
-pub mod Soles
-pub mod SoleReceives

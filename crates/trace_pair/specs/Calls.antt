@@ -4,6 +4,7 @@ use Rattle.mpi_model.specs.declared.message.Message.{Message}
 use Rattle.mpi_model.specs.declared.message.Receive.{Receive}
 use Rattle.mpi_model.specs.declared.message.Trust.{Trust}
 use Rattle.mpi_model.specs.Trusts.{is_void}
+use Rattle.trace_ops.specs.Ops.{Ops}
 use Rattle.trace_ops.specs.Order.{Has, sent_before, posted_before, AreInOrder, ArePosted}
 use Rattle.trace_pair.specs.Places.{sent_at, posted_at}
 
@@ -64,14 +65,44 @@ ArePostedApart qs = (q r : Receive) → Has qs q → Has qs r → posted_at q �
 abbrev pub between : {X : Type 0} → List X → List X → List X → List X
 between before held after = before ++ held ++ after
 
--- the messages of one rank in order, the others being of other ranks
+-- each message is of an earlier call than those that follow, of one rank: no call has two of them
+abbrev pub AreSentByCall : List Message → Type 0
+AreSentByCall [] = Unit {0}
+AreSentByCall (m ∷ ms) = ((n : Message) → Has ms n → sent_before m n ≡ true) × AreSentByCall ms
+
+-- each receive is of an earlier call than those that follow, of one rank
+abbrev pub ArePostedByCall : List Receive → Type 0
+ArePostedByCall [] = Unit {0}
+ArePostedByCall (q ∷ qs) = ((r : Receive) → Has qs r → posted_before q r ≡ true) × ArePostedByCall qs
+
+-- each call of a rank has one part
+pub record IsSingle (ops : Ops) : Type 0 where
+  pub sends : AreSentByCall ops.sends
+  pub receives : ArePostedByCall ops.receives
+
+-- no two messages are parts of one call
+abbrev pub AreSentAlone : List Message → Type 0
+AreSentAlone ms = (m n : Message) → Has ms m → Has ms n → m.from ≡ n.from → m.name.call ≡ n.name.call → m ≡ n
+
+-- no two receives are parts of one call
+abbrev pub ArePostedAlone : List Receive → Type 0
+ArePostedAlone qs = (q r : Receive) → Has qs q → Has qs r → q.at ≡ r.at → q.name.call ≡ r.name.call → q ≡ r
+
+-- the messages of one rank call by call, the others being of other ranks
 pub record IsSequence (before after held : List Message) : Type 0 where
   pub own : (m : Message) → Has held m → IsOwnMessage m
-  pub order : AreInOrder held
+  pub order : AreSentByCall held
   pub apart_before : (n m : Message) → Has before n → Has held m → n.from ≡ m.from → ⊥
   pub apart_after : (n m : Message) → Has after n → Has held m → n.from ≡ m.from → ⊥
 
--- the receives of one rank in order, the others being of other ranks
+-- the receives of one rank call by call, the others being of other ranks
+pub record IsPostingByCall (before after held : List Receive) : Type 0 where
+  pub own : (q : Receive) → Has held q → IsOwnReceive q
+  pub order : ArePostedByCall held
+  pub apart_before : (r q : Receive) → Has before r → Has held q → r.at ≡ q.at → ⊥
+  pub apart_after : (r q : Receive) → Has after r → Has held q → r.at ≡ q.at → ⊥
+
+-- the same where a call may have several parts
 pub record IsPosting (before after held : List Receive) : Type 0 where
   pub own : (q : Receive) → Has held q → IsOwnReceive q
   pub order : ArePosted held

@@ -7,7 +7,6 @@ use Rattle.trace_ops.specs.declared.entered.Entered.{Entered}
 use Rattle.trace_ops.specs.Ops.{Ops}
 use Rattle.trace_ops.specs.Order.{Has}
 use Rattle.trace_ops.specs.Round.{is_barrier}
-use Rattle.trace_pair.specs.Calls.{IsWhole}
 use Rattle.trace_pair.specs.declared.follow.Fronts.{Fronts}
 
 -- no call behind this one completes the receive
@@ -52,8 +51,6 @@ pub record AreFronts (old new : Ops) (f : Fronts) : Type 0 where
   pub sends_new : f.sends ≤ length new.sends
   pub receives_old : f.receives ≤ length old.receives
   pub receives_new : f.receives ≤ length new.receives
-  pub whole_sends : IsWhole (λ (m : Message). m.name.call) old.sends f.sends × IsWhole (λ (m : Message). m.name.call) new.sends f.sends
-  pub whole_receives : IsWhole (λ (q : Receive). q.name.call) old.receives f.receives × IsWhole (λ (q : Receive). q.name.call) new.receives f.receives
   pub same_sends : take f.sends old.sends ≡ take f.sends new.sends
   pub same_receives : take f.receives old.receives ≡ take f.receives new.receives
   pub as_before : ((f.sends ≡ 0) × (f.receives ≡ 0)) ⊎ AreAsBefore old new f

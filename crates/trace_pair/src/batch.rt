@@ -204,13 +204,10 @@ fn settle_receive(batch: &mut Batch, place: usize, q: &Receive) -> Result<(), Al
         → SettlesAmong after ms more done more batch.old → SettlesAmong after ms more (q.now ∷ done) more batch.new) }
 {
     let m = batch.messages.messages()[place];
-    match batch.free.sole_for(&m) {
-        Some(first) => if first != *q {
-            return Ok(());
-        },
-        None => return Ok(()),
-    }
     batch.free.remove(q);
+    if let Some(_) = batch.free.first_for(&m) {
+        return batch.free.insert(*q);
+    }
     batch.messages.take(place, taker_of(q))
 }
 

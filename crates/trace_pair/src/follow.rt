@@ -6,18 +6,15 @@ ghost use Rattle.mpi_model.specs.declared.message.Message.{Message};
 ghost use Rattle.mpi_model.specs.declared.message.Receive.{Receive};
 ghost use Rattle.trace_ops.specs.Ops.{AreOwn, no_ops};
 ghost use Rattle.trace_ops.specs.Order.{AreEntered, Has};
-ghost use Rattle.trace_pair.specs.Calls.{between, IsSequence, IsPosting, IsWhole};
+ghost use Rattle.trace_pair.specs.Calls.{between, IsSequence, IsPostingByCall};
 ghost use Rattle.trace_pair.specs.After.{comes_after};
 ghost use Rattle.trace_pair.specs.Followed.{Adds, Drops, Indexes};
 ghost use Rattle.trace_pair.specs.Fronts.{AreFronts, AreOneBefore, IsAlike, IsEndedBy, call_at};
 ghost use Rattle.trace_pair.specs.Pairing.{After};
 ghost use Rattle.trace_pair.specs.Reach.{AreReachesOf};
 
-use crate::matched::{Matched, add_messages_of, add_receives_of, pop_messages, pop_receives};
+use crate::matched::{Matched, add_message, add_receive, pop_message, pop_receive};
 use crate::reach::{RankReach, Reaches};
-use crate::whole::{
-    end_of_receives, end_of_sends, start_of_receives, start_of_sends, whole_receives, whole_sends,
-};
 use mpi_model::{Message, Receive};
 use std::alloc::AllocError;
 use trace_ops::{Entered, RankOps};
@@ -37,14 +34,13 @@ fn is_same_receive(a: &Receive, b: &Receive) -> bool
 /// Takes back the messages of a rank behind the first `keep`.
 fn drop_messages(state: &mut Matched, held: &[Message], keep: usize) -> Result<(), AllocError>
     requires { keep ≤ length held.now }
-    ensures { OnOk result ((after : After) (before behind : List Message) (qs : List Receive) → IsSequence before behind held.now → IsWhole (λ m. m.name.call) held.now keep
+    ensures { OnOk result ((after : After) (before behind : List Message) (qs : List Receive) → IsSequence before behind held.now
         → Indexes after (between before held.now behind) qs state.old → Indexes after (between before (take keep held.now) behind) qs state.new) }
 {
     let mut left = held.len();
     while left > keep {
-        let start = start_of_sends(held, left);
-        pop_messages(state, &held[start..left])?;
-        left = start;
+        left -= 1;
+        pop_message(state, &held[left])?;
     }
     Ok(())
 }
@@ -57,14 +53,13 @@ pub(crate) fn add_messages(
     keep: usize,
 ) -> Result<(), AllocError>
     requires { keep ≤ length held.now }
-    ensures { OnOk result ((before behind : List Message) (qs : List Receive) → IsSequence before behind held.now → IsWhole (λ m. m.name.call) held.now keep
+    ensures { OnOk result ((before behind : List Message) (qs : List Receive) → IsSequence before behind held.now
         → Indexes (comes_after reaches.now) (between before (take keep held.now) behind) qs state.old → Indexes (comes_after reaches.now) (between before held.now behind) qs state.new) }
 {
     let mut next = keep;
     while next < held.len() {
-        let end = end_of_sends(held, next);
-        add_messages_of(state, reaches, &held[next..end])?;
-        next = end;
+        add_message(state, reaches, held[next])?;
+        next += 1;
     }
     Ok(())
 }
@@ -97,14 +92,13 @@ fn common_messages(a: &[Message], b: &[Message], last: u64) -> usize
 /// Takes back the receives of a rank behind the first `keep`.
 fn drop_receives(state: &mut Matched, held: &[Receive], keep: usize) -> Result<(), AllocError>
     requires { keep ≤ length held.now }
-    ensures { OnOk result ((after : After) (before behind : List Receive) (ms : List Message) → IsPosting before behind held.now → IsWhole (λ q. q.name.call) held.now keep
+    ensures { OnOk result ((after : After) (before behind : List Receive) (ms : List Message) → IsPostingByCall before behind held.now
         → Indexes after ms (between before held.now behind) state.old → Indexes after ms (between before (take keep held.now) behind) state.new) }
 {
     let mut left = held.len();
     while left > keep {
-        let start = start_of_receives(held, left);
-        pop_receives(state, &held[start..left])?;
-        left = start;
+        left -= 1;
+        pop_receive(state, &held[left])?;
     }
     Ok(())
 }
@@ -117,14 +111,13 @@ pub(crate) fn add_receives(
     keep: usize,
 ) -> Result<(), AllocError>
     requires { keep ≤ length held.now }
-    ensures { OnOk result ((before behind : List Receive) (ms : List Message) → IsPosting before behind held.now → IsWhole (λ q. q.name.call) held.now keep
+    ensures { OnOk result ((before behind : List Receive) (ms : List Message) → IsPostingByCall before behind held.now
         → Indexes (comes_after reaches.now) ms (between before (take keep held.now) behind) state.old → Indexes (comes_after reaches.now) ms (between before held.now behind) state.new) }
 {
     let mut next = keep;
     while next < held.len() {
-        let end = end_of_receives(held, next);
-        add_receives_of(state, reaches, &held[next..end])?;
-        next = end;
+        add_receive(state, reaches, held[next])?;
+        next += 1;
     }
     Ok(())
 }
@@ -214,7 +207,7 @@ fn last_common(a: &[Entered], b: &[Entered]) -> u64
 }
 
 /// How many messages and how many receives stay where a rank did other calls than was held: those of
-/// the common front, as long as what comes after what stays as it was, and no call is cut in two.
+/// the common front, as long as what comes after what stays as it was.
 #[derive(Clone, Copy, Debug)]
 pub(crate) struct Fronts {
     pub(crate) sends: usize,
@@ -233,11 +226,9 @@ fn fronts_of(held: &RankOps, new: &RankOps) -> Fronts
         };
     }
     let last = last_common(held.rounds(), new.rounds());
-    let sends = common_messages(held.sends(), new.sends(), last);
-    let receives = common_receives(held.receives(), new.receives(), last);
     Fronts {
-        sends: whole_sends(held.sends(), new.sends(), sends),
-        receives: whole_receives(held.receives(), new.receives(), receives),
+        sends: common_messages(held.sends(), new.sends(), last),
+        receives: common_receives(held.receives(), new.receives(), last),
     }
 }
 

@@ -2,9 +2,9 @@
 ghost use Rattle.std.specs.Prelude.{◌≡◌, true, false, None, IfSome, IfNone, OnOk, OnErr, IsTrue, if◌then◌else◌, ◌||◌, ◌&&◌};
 ghost use Rattle.std.specs.BTreeMap.{IsOrdered, get};
 ghost use Rattle.std.specs.Ordering.{is_eq, is_gt};
-ghost use Rattle.trace_pair.specs.Groups.{HasMember, IsNextAt, has};
+ghost use Rattle.trace_pair.specs.Groups.{HasMember, has};
 
-use crate::one_or_many::{Front, Members};
+use crate::one_or_many::Members;
 use std::alloc::{AllocError, Global};
 use std::collections::BTreeMap;
 
@@ -15,21 +15,6 @@ pub(crate) fn first_at<K: Ord, T: Ord + Copy>(sets: &BTreeMap<K, Members<T>>, ke
 {
     match sets.get(key) {
         Some(members) => members.first(),
-        None => None,
-    }
-}
-
-/// The first member at a key, and the next one.
-pub(crate) fn front_at<K: Ord, T: Ord + Copy>(
-    sets: &BTreeMap<K, Members<T>>,
-    key: &K,
-) -> Option<Front<T>>
-    ensures first { IfSome result (λ f. IsTrue (has K.cmp T.cmp sets.now key.now f.first) × ((d : T) → has K.cmp T.cmp sets.now key.now d ≡ true → is_gt (T.cmp f.first d) ≡ false)) }
-    ensures next { IfSome result (λ f. IsNextAt K.cmp T.cmp sets.now key.now f.first f.next) }
-    ensures none { IfNone result ((d : T) → has K.cmp T.cmp sets.now key.now d ≡ false) }
-{
-    match sets.get(key) {
-        Some(members) => members.front(),
         None => None,
     }
 }

@@ -52,7 +52,6 @@ mod reach;
 mod rows;
 mod rules;
 mod scratch;
-mod several;
 mod slots;
 mod table;
 mod takings;

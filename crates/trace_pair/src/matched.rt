@@ -1,5 +1,5 @@
-//! The sets of an index, as one call comes to the end of its rank or goes from there, with all its
-//! parts. Nearly each call has one, which is looked for and put in at once.
+//! The sets of an index, as one call comes to the end of its rank or goes from there. Each call has
+//! one part.
 
 ghost use Rattle.std.specs.Prelude.{◌≡◌, List, true, OnOk, IfSome, IfNone, [], ◌∷◌};
 ghost use Rattle.mpi_model.specs.declared.message.Message.{Message};
@@ -7,11 +7,10 @@ ghost use Rattle.mpi_model.specs.declared.message.Receive.{Receive};
 ghost use Rattle.mpi_model.specs.Trusts.{is_settled};
 ghost use Rattle.trace_ops.specs.Order.{Has};
 ghost use Rattle.trace_pair.specs.After.{comes_after};
-ghost use Rattle.trace_pair.specs.Calls.{AddsMessages, AddsReceives, AreApart, ArePostedApart};
+ghost use Rattle.trace_pair.specs.Calls.{AddsMessages, AddsReceives};
 ghost use Rattle.trace_pair.specs.Followed.{Indexes};
-ghost use Rattle.trace_pair.specs.Indexed.{AreSets, AwaitMessages, AwaitReceives, IsFree, OffersMessage, OffersReceive};
+ghost use Rattle.trace_pair.specs.Indexed.{IsFree, OffersMessage, OffersReceive};
 ghost use Rattle.trace_pair.specs.Pairing.{After, Paired, receive_of};
-ghost use Rattle.trace_pair.specs.Sets.{AddsTo};
 ghost use Rattle.trace_pair.specs.Table.{fits_open};
 
 use crate::couples::Couples;
@@ -19,7 +18,6 @@ use crate::opened::Opened;
 use crate::pair::Couple;
 use crate::queues::{Messages, Receives};
 use crate::reach::Reaches;
-use crate::several::{push_messages, push_receives};
 use mpi_model::{Message, Receive};
 use std::alloc::{AllocError, Global};
 
@@ -27,11 +25,10 @@ use std::alloc::{AllocError, Global};
 /// of them.
 #[derive(Drop)]
 pub(crate) struct Matched {
-    alloc: Global,
-    pub(crate) waiting: Messages,
-    pub(crate) free: Receives,
-    pub(crate) opened: Opened,
-    pub(crate) couples: Couples,
+    waiting: Messages,
+    free: Receives,
+    opened: Opened,
+    couples: Couples,
 }
 
 impl Matched {
@@ -39,7 +36,6 @@ impl Matched {
         ensures { (after : After) → Indexes after [] [] result }
     {
         Matched {
-            alloc,
             waiting: Messages::empty(alloc),
             free: Receives::empty(alloc),
             opened: Opened::empty(alloc),
@@ -89,93 +85,61 @@ impl Matched {
     {
         !m.trust.is_void() && self.opened.hides(reaches, m)
     }
-
-    pub(crate) fn allocator(&self) -> Global {
-        self.alloc
-    }
-
-    /// The message that a receive of a new call takes, if no other free receive fits it.
-    pub(crate) fn message_for(&self, reaches: &Reaches, q: &Receive) -> Option<Message>
-        requires { is_settled q.now ≡ true }
-        ensures some { IfSome result (λ m. (ms : List Message) (qs more call free : List Receive) → AddsReceives qs more call → Has call q.now → AwaitReceives (comes_after reaches.now) ms qs more self.now.waiting free self.now.opened self.now.couples
-            → OffersMessage (comes_after reaches.now) ms qs more q.now m) }
-        ensures none { IfNone result ((ms : List Message) (qs more call free : List Receive) → AddsReceives qs more call → Has call q.now → AwaitReceives (comes_after reaches.now) ms qs more self.now.waiting free self.now.opened self.now.couples
-            → (m : Message) → Has ms m → Paired (comes_after reaches.now) ms more m q.now → ⊥) }
-    {
-        let Some(m) = self.waiting.sole_for(q) else {
-            return None;
-        };
-        if !m.trust.is_sure() {
-            return None;
-        }
-        if self.opened.hides(reaches, &m) {
-            return None;
-        }
-        Some(m)
-    }
-
-    /// The receive that a message of a new call goes to, if no other one that waits fits it.
-    pub(crate) fn receive_for(&self, reaches: &Reaches, m: &Message) -> Option<Receive>
-        ensures some { IfSome result (λ q. (ms more call waiting : List Message) (qs : List Receive) → AddsMessages ms more call → Has call m.now → AwaitMessages (comes_after reaches.now) ms more qs waiting self.now.free self.now.opened self.now.couples
-            → OffersReceive (comes_after reaches.now) ms qs m.now q) }
-        ensures none { IfNone result ((ms more call waiting : List Message) (qs : List Receive) → AddsMessages ms more call → Has call m.now → AwaitMessages (comes_after reaches.now) ms more qs waiting self.now.free self.now.opened self.now.couples
-            → (q : Receive) → Has qs q → Paired (comes_after reaches.now) more qs m.now q → ⊥) }
-    {
-        if !m.trust.is_sure() {
-            return None;
-        }
-        let Some(q) = self.free.sole_for(m) else {
-            return None;
-        };
-        if self.opened.hides_up_to(reaches, m, &q) {
-            return None;
-        }
-        Some(q)
-    }
-
-    /// The receive that takes a message alone of its call.
-    fn taker_for(&self, reaches: &Reaches, m: &Message) -> Option<Receive>
-        ensures some { IfSome result (λ q. (ms more waiting : List Message) (qs : List Receive) → AddsMessages ms more (m.now ∷ []) → AreApart more → (Has self.now.waiting m.now → ⊥) → AddsTo self.now.waiting waiting m.now → AwaitMessages (comes_after reaches.now) ms more qs waiting self.now.free self.now.opened self.now.couples
-            → OffersReceive (comes_after reaches.now) ms qs m.now q × Paired (comes_after reaches.now) more qs m.now q) }
-        ensures none { IfNone result ((ms more waiting : List Message) (qs : List Receive) → AddsMessages ms more (m.now ∷ []) → AreApart more → (Has self.now.waiting m.now → ⊥) → AddsTo self.now.waiting waiting m.now → AwaitMessages (comes_after reaches.now) ms more qs waiting self.now.free self.now.opened self.now.couples
-            → (q : Receive) → Has qs q → Paired (comes_after reaches.now) more qs m.now q → ⊥) }
-    {
-        let Some(q) = self.receive_for(reaches, m) else {
-            return None;
-        };
-        if let Some(_) = self.waiting.first_for(&q) {
-            return None;
-        }
-        Some(q)
-    }
-
-    /// The message that a settled receive takes alone of its call.
-    fn taken_by(&self, reaches: &Reaches, q: &Receive) -> Option<Message>
-        requires { is_settled q.now ≡ true }
-        ensures some { IfSome result (λ m. (ms : List Message) (qs more free : List Receive) → AddsReceives qs more (q.now ∷ []) → ArePostedApart more → (Has self.now.free q.now → ⊥) → AddsTo self.now.free free q.now → AwaitReceives (comes_after reaches.now) ms qs more self.now.waiting free self.now.opened self.now.couples
-            → OffersMessage (comes_after reaches.now) ms qs more q.now m × Paired (comes_after reaches.now) ms more m q.now) }
-        ensures none { IfNone result ((ms : List Message) (qs more free : List Receive) → AddsReceives qs more (q.now ∷ []) → ArePostedApart more → (Has self.now.free q.now → ⊥) → AddsTo self.now.free free q.now → AwaitReceives (comes_after reaches.now) ms qs more self.now.waiting free self.now.opened self.now.couples
-            → (m : Message) → Has ms m → Paired (comes_after reaches.now) ms more m q.now → ⊥) }
-    {
-        let Some(m) = self.message_for(reaches, q) else {
-            return None;
-        };
-        if let Some(_) = self.free.first_for(&m) {
-            return None;
-        }
-        Some(m)
-    }
 }
 
-/// Adds a rank's next message alone of its call: it goes to the first receive that the rules allow, or
-/// waits.
+/// The receive that takes the new message.
+fn taker_for(state: &Matched, reaches: &Reaches, m: &Message) -> Option<Receive>
+    ensures some { IfSome result (λ q. (ms more : List Message) (qs : List Receive) → AddsMessages ms more (m.now ∷ []) → Indexes (comes_after reaches.now) ms qs state.now
+        → OffersReceive (comes_after reaches.now) ms qs m.now q × Paired (comes_after reaches.now) more qs m.now q) }
+    ensures none { IfNone result ((ms more : List Message) (qs : List Receive) → AddsMessages ms more (m.now ∷ []) → Indexes (comes_after reaches.now) ms qs state.now
+        → (q : Receive) → Has qs q → Paired (comes_after reaches.now) more qs m.now q → ⊥) }
+{
+    if !m.trust.is_sure() {
+        return None;
+    }
+    let Some(q) = state.free.first_for(m) else {
+        return None;
+    };
+    if state.opened.hides_up_to(reaches, m, &q) {
+        return None;
+    }
+    if let Some(_) = state.waiting.first_for(&q) {
+        return None;
+    }
+    Some(q)
+}
+
+/// The message that the new receive takes.
+fn taken_by(state: &Matched, reaches: &Reaches, q: &Receive) -> Option<Message>
+    requires { is_settled q.now ≡ true }
+    ensures some { IfSome result (λ m. (ms : List Message) (qs more : List Receive) → AddsReceives qs more (q.now ∷ []) → Indexes (comes_after reaches.now) ms qs state.now
+        → OffersMessage (comes_after reaches.now) ms qs more q.now m × Paired (comes_after reaches.now) ms more m q.now) }
+    ensures none { IfNone result ((ms : List Message) (qs more : List Receive) → AddsReceives qs more (q.now ∷ []) → Indexes (comes_after reaches.now) ms qs state.now
+        → (m : Message) → Has ms m → Paired (comes_after reaches.now) ms more m q.now → ⊥) }
+{
+    let Some(m) = state.waiting.first_for(q) else {
+        return None;
+    };
+    if !m.trust.is_sure() {
+        return None;
+    }
+    if state.opened.hides(reaches, &m) {
+        return None;
+    }
+    if let Some(_) = state.free.first_for(&m) {
+        return None;
+    }
+    Some(m)
+}
+
+/// Adds a rank's next message: it goes to the first receive that the rules allow, or waits.
 fn push_message(state: &mut Matched, reaches: &Reaches, m: Message) -> Result<(), AllocError>
-    ensures { OnOk result ((ms more : List Message) (qs : List Receive) → AddsMessages ms more (m ∷ []) → AreApart more → Indexes (comes_after reaches.now) ms qs state.old → Indexes (comes_after reaches.now) more qs state.new) }
+    ensures { OnOk result ((ms more : List Message) (qs : List Receive) → AddsMessages ms more (m ∷ []) → Indexes (comes_after reaches.now) ms qs state.old → Indexes (comes_after reaches.now) more qs state.new) }
 {
     if m.trust.is_void() {
         return Ok(());
     }
-    match state.taker_for(reaches, &m) {
+    match taker_for(state, reaches, &m) {
         Some(q) => {
             state.free.remove(&q);
             state.couples.insert(Couple {
@@ -188,10 +152,9 @@ fn push_message(state: &mut Matched, reaches: &Reaches, m: Message) -> Result<()
     Ok(())
 }
 
-/// Adds a rank's next receive alone of its call: it takes the first message that the rules allow, or
-/// waits.
+/// Adds a rank's next receive: it takes the first message that the rules allow, or waits.
 fn push_receive(state: &mut Matched, reaches: &Reaches, q: Receive) -> Result<(), AllocError>
-    ensures { OnOk result ((ms : List Message) (qs more : List Receive) → AddsReceives qs more (q ∷ []) → ArePostedApart more → Indexes (comes_after reaches.now) ms qs state.old → Indexes (comes_after reaches.now) ms more state.new) }
+    ensures { OnOk result ((ms : List Message) (qs more : List Receive) → AddsReceives qs more (q ∷ []) → Indexes (comes_after reaches.now) ms qs state.old → Indexes (comes_after reaches.now) ms more state.new) }
 {
     if q.is_open() {
         state.opened.insert(q)?;
@@ -200,7 +163,7 @@ fn push_receive(state: &mut Matched, reaches: &Reaches, q: Receive) -> Result<()
     if !q.is_settled() {
         return Ok(());
     }
-    match state.taken_by(reaches, &q) {
+    match taken_by(state, reaches, &q) {
         Some(m) => {
             state.waiting.remove(&m);
             state.couples.insert(Couple {
@@ -213,12 +176,9 @@ fn push_receive(state: &mut Matched, reaches: &Reaches, q: Receive) -> Result<()
     Ok(())
 }
 
-/// Takes one of the messages of a rank's last call back, with what it had taken. Pairs are still those
-/// of all of the call.
-fn pop_message(state: &mut Matched, m: &Message) -> Result<(), AllocError>
-    ensures { OnOk result ((after : After) (ms less all : List Message) (qs : List Receive) → AddsTo less ms m.now → (Has less m.now → ⊥) → AreApart all → ((n : Message) → Has ms n → Has all n)
-        → AreSets (Paired after all qs) ms qs state.old.waiting state.old.free state.old.opened state.old.couples
-        → AreSets (Paired after all qs) less qs state.new.waiting state.new.free state.new.opened state.new.couples) }
+/// Takes a rank's last message back, with what it had taken.
+pub(crate) fn pop_message(state: &mut Matched, m: &Message) -> Result<(), AllocError>
+    ensures { OnOk result ((after : After) (ms more : List Message) (qs : List Receive) → AddsMessages ms more (m.now ∷ []) → Indexes after more qs state.old → Indexes after ms qs state.new) }
 {
     let mut anywhere = 0;
     match state.couples.of_message(&mut anywhere, m) {
@@ -234,11 +194,9 @@ fn pop_message(state: &mut Matched, m: &Message) -> Result<(), AllocError>
     Ok(())
 }
 
-/// Takes one of the receives of a rank's last call back, likewise.
-fn pop_receive(state: &mut Matched, q: &Receive) -> Result<(), AllocError>
-    ensures { OnOk result ((after : After) (ms : List Message) (qs less all : List Receive) → AddsTo less qs q.now → (Has less q.now → ⊥) → ArePostedApart all → ((r : Receive) → Has qs r → Has all r)
-        → AreSets (Paired after ms all) ms qs state.old.waiting state.old.free state.old.opened state.old.couples
-        → AreSets (Paired after ms all) ms less state.new.waiting state.new.free state.new.opened state.new.couples) }
+/// Takes a rank's last receive back, with what it had taken.
+pub(crate) fn pop_receive(state: &mut Matched, q: &Receive) -> Result<(), AllocError>
+    ensures { OnOk result ((after : After) (ms : List Message) (qs more : List Receive) → AddsReceives qs more (q.now ∷ []) → Indexes after ms more state.old → Indexes after ms qs state.new) }
 {
     if q.is_open() {
         state.opened.remove(q);
@@ -258,29 +216,13 @@ fn pop_receive(state: &mut Matched, q: &Receive) -> Result<(), AllocError>
     Ok(())
 }
 
-/// Takes the messages of a rank's last call back.
-pub(crate) fn pop_messages(state: &mut Matched, call: &[Message]) -> Result<(), AllocError>
-    ensures { OnOk result ((after : After) (ms more : List Message) (qs : List Receive) → AddsMessages ms more call.now → Indexes after more qs state.old → Indexes after ms qs state.new) }
-{
-    for m in call {
-        pop_message(state, m)?;
-    }
-    Ok(())
-}
-
-/// Takes the receives of a rank's last call back.
-pub(crate) fn pop_receives(state: &mut Matched, call: &[Receive]) -> Result<(), AllocError>
-    ensures { OnOk result ((after : After) (ms : List Message) (qs more : List Receive) → AddsReceives qs more call.now → Indexes after ms more state.old → Indexes after ms qs state.new) }
-{
-    for q in call {
-        pop_receive(state, q)?;
-    }
-    Ok(())
-}
-
 /// Puts a message behind those of its sender, with room for its receive.
-fn add_message(state: &mut Matched, reaches: &Reaches, m: Message) -> Result<(), AllocError>
-    ensures { OnOk result ((ms more : List Message) (qs : List Receive) → AddsMessages ms more (m ∷ []) → AreApart more → Indexes (comes_after reaches.now) ms qs state.old → Indexes (comes_after reaches.now) more qs state.new) }
+pub(crate) fn add_message(
+    state: &mut Matched,
+    reaches: &Reaches,
+    m: Message,
+) -> Result<(), AllocError>
+    ensures { OnOk result ((ms more : List Message) (qs : List Receive) → AddsMessages ms more (m ∷ []) → Indexes (comes_after reaches.now) ms qs state.old → Indexes (comes_after reaches.now) more qs state.new) }
 {
     state.couples.expect_message(&m)?;
     push_message(state, reaches, m)?;
@@ -299,38 +241,14 @@ fn expect_settled(state: &mut Matched, q: &Receive) -> Result<(), AllocError>
 }
 
 /// Puts a receive behind those of its rank, with room for its message.
-fn add_receive(state: &mut Matched, reaches: &Reaches, q: Receive) -> Result<(), AllocError>
-    ensures { OnOk result ((ms : List Message) (qs more : List Receive) → AddsReceives qs more (q ∷ []) → ArePostedApart more → Indexes (comes_after reaches.now) ms qs state.old → Indexes (comes_after reaches.now) ms more state.new) }
+pub(crate) fn add_receive(
+    state: &mut Matched,
+    reaches: &Reaches,
+    q: Receive,
+) -> Result<(), AllocError>
+    ensures { OnOk result ((ms : List Message) (qs more : List Receive) → AddsReceives qs more (q ∷ []) → Indexes (comes_after reaches.now) ms qs state.old → Indexes (comes_after reaches.now) ms more state.new) }
 {
     expect_settled(state, &q)?;
     push_receive(state, reaches, q)?;
     Ok(())
-}
-
-/// Adds the messages of a rank's next call.
-pub(crate) fn add_messages_of(
-    state: &mut Matched,
-    reaches: &Reaches,
-    call: &[Message],
-) -> Result<(), AllocError>
-    ensures { OnOk result ((ms more : List Message) (qs : List Receive) → AddsMessages ms more call.now → AreApart more → Indexes (comes_after reaches.now) ms qs state.old → Indexes (comes_after reaches.now) more qs state.new) }
-{
-    if call.len() == 1 {
-        return add_message(state, reaches, call[0]);
-    }
-    push_messages(state, reaches, call)
-}
-
-/// Adds the receives of a rank's next call.
-pub(crate) fn add_receives_of(
-    state: &mut Matched,
-    reaches: &Reaches,
-    call: &[Receive],
-) -> Result<(), AllocError>
-    ensures { OnOk result ((ms : List Message) (qs more : List Receive) → AddsReceives qs more call.now → ArePostedApart more → Indexes (comes_after reaches.now) ms qs state.old → Indexes (comes_after reaches.now) ms more state.new) }
-{
-    if call.len() == 1 {
-        return add_receive(state, reaches, call[0]);
-    }
-    push_receives(state, reaches, call)
 }

@@ -2,7 +2,7 @@
 ghost use Rattle.std.specs.Prelude.{◌≡◌, true, false, IfSome, IfNone, OnOk, OnErr, IfOk, IsTrue, if◌then◌else◌, ◌||◌};
 ghost use Rattle.std.specs.BTreeSet.{contains};
 ghost use Rattle.std.specs.Ordering.{is_eq, is_gt};
-ghost use Rattle.trace_pair.specs.Groups.{HasMember, IsNextOf};
+ghost use Rattle.trace_pair.specs.Groups.{HasMember};
 
 use std::alloc::{AllocError, Global};
 use std::collections::BTreeSet;
@@ -29,13 +29,6 @@ impl<T: Ord> Model for Members<T> {
     ghost use Rattle.trace_pair.specs.OneOrMany.{set_of};
 
     ghost view = { λ m. set_of m.kept };
-}
-
-/// The first member of a set, and the next one, if it has more.
-#[derive(Clone, Copy)]
-pub(crate) struct Front<T> {
-    pub(crate) first: T,
-    pub(crate) next: Option<T>,
 }
 
 /// Puts the key into the set.
@@ -75,33 +68,6 @@ impl<T: Ord> Members<T> {
         match &self.kept {
             OneOrMany::One(x) => Some(*x),
             OneOrMany::Many(set) => set.first().copied(),
-        }
-    }
-
-    /// The first member, and the next one.
-    pub(crate) fn front(&self) -> Option<Front<T>>
-    where
-        T: Copy,
-        ensures first { IfSome result (λ f. IsTrue (contains T.cmp self.now f.first) × ((d : T) → contains T.cmp self.now d ≡ true → is_gt (T.cmp f.first d) ≡ false)) }
-        ensures next { IfSome result (λ f. IsNextOf T.cmp self.now f.first f.next) }
-        ensures none { IfNone result ((d : T) → contains T.cmp self.now d ≡ false) }
-    {
-        let first = self.first()?;
-        Some(Front {
-            first,
-            next: self.next(),
-        })
-    }
-
-    /// The member behind the first one.
-    fn next(&self) -> Option<T>
-    where
-        T: Copy,
-        ensures { (first : T) → IsTrue (contains T.cmp self.now first) → ((d : T) → contains T.cmp self.now d ≡ true → is_gt (T.cmp first d) ≡ false) → IsNextOf T.cmp self.now first result }
-    {
-        match &self.kept {
-            OneOrMany::One(_) => None,
-            OneOrMany::Many(set) => set.iter().nth(1).copied(),
         }
     }
 

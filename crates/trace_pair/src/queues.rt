@@ -1,14 +1,13 @@
 //! The sets of an index: messages and receives, found by a few probes of an ordered map.
-ghost use Rattle.std.specs.Prelude.{◌≡◌, ◌||◌, true, false, Some, OnOk, IfSome, IfNone, is_some, List, Bool, []};
+ghost use Rattle.std.specs.Prelude.{◌≡◌, ◌||◌, true, OnOk, IfSome, IfNone, is_some, List, Bool, []};
 ghost use Rattle.mpi_model.specs.Fit.{envelopes_fit, admits};
 ghost use Rattle.trace_ops.specs.Order.{Has};
-ghost use Rattle.trace_pair.specs.Calls.{AreApart, ArePostedApart, IsOwnMessage, IsOwnReceive};
 ghost use Rattle.trace_pair.specs.Sets.{AddsTo, DropsFrom};
-ghost use Rattle.trace_pair.specs.Indexed.{IsFirstMessage, IsFirstReceive, IsSoleMessage, IsSoleReceive, name_lt};
-ghost use Rattle.trace_pair.specs.Queues.{IsBestAmong, IsFrontAmong, IsMessageFront, of_kind, had, kinds_with, same_call, sole_message, sole_receive};
+ghost use Rattle.trace_pair.specs.Indexed.{IsFirstMessage, IsFirstReceive, name_lt};
+ghost use Rattle.trace_pair.specs.Queues.{IsBestAmong, of_kind, had, kinds_with};
 
-use crate::groups::{add, drop_at, first_at, front_at};
-use crate::one_or_many::{Front, Members};
+use crate::groups::{add, drop_at, first_at};
+use crate::one_or_many::Members;
 use mpi_model::{Message, OpName, Receive};
 use std::alloc::{AllocError, Global};
 use std::collections::BTreeMap;
@@ -94,44 +93,6 @@ impl Messages {
                 None => first_at(&self.lanes, &(q.comm, source, q.at)),
             },
         }
-    }
-
-    /// The first message whose envelope fits that of a receive whose source is told, and the next one.
-    fn front_for(&self, q: &Receive) -> Option<Front<Message>>
-        ensures { is_some q.now.source ≡ true → IsMessageFront self.now q.now result }
-    {
-        match q.source {
-            None => None,
-            Some(source) => match q.tag {
-                Some(tag) => front_at(&self.tagged, &(q.comm, source, q.at, tag)),
-                None => front_at(&self.lanes, &(q.comm, source, q.at)),
-            },
-        }
-    }
-
-    /// The same first message, if no other one of its call fits.
-    pub(crate) fn sole_for(&self, q: &Receive) -> Option<Message>
-        ensures some { IfSome result (λ m. is_some q.now.source ≡ true → IsSoleMessage self.now q.now m) }
-        ensures none { IfNone result (is_some q.now.source ≡ true → ((n : Message) → Has self.now n → IsOwnMessage n) → AreApart self.now → (n : Message) → IsSoleMessage self.now q.now n → ⊥) }
-    {
-        match self.front_for(q) {
-            Some(front) => sole_message(front),
-            None => None,
-        }
-    }
-}
-
-/// The first of the messages, if the next isn't of its call.
-fn sole_message(front: Front<Message>) -> Option<Message>
-    ensures { result ≡ sole_message front }
-{
-    match front.next {
-        Some(next) => if is_of_one_call(&front.first.name, &next.name) {
-            None
-        } else {
-            Some(front.first)
-        },
-        None => Some(front.first),
     }
 }
 
@@ -249,51 +210,6 @@ impl Receives {
         first_at(&self.groups, &(m.comm, m.to, source, tag))
     }
 
-    /// The first two of the receives with this source and tag whose envelopes fit the message's.
-    fn front_with(
-        &self,
-        m: &Message,
-        source: Option<u32>,
-        tag: Option<u32>,
-    ) -> Option<Front<Receive>>
-        requires source { admits source m.now.from ≡ true }
-        requires tag { admits tag m.now.tag ≡ true }
-        ensures { IsFrontAmong self.now m.now (of_kind source tag) result }
-    {
-        if !self.kinds.has(source, tag) {
-            return None;
-        }
-        front_at(&self.groups, &(m.comm, m.to, source, tag))
-    }
-
-    /// The first two of the receives whose envelopes fit the message's.
-    fn front_for(&self, m: &Message) -> Option<Front<Receive>>
-        ensures { IsFrontAmong self.now m.now (λ r. envelopes_fit m.now r) result }
-    {
-        let source = Some(m.from);
-        let tag = Some(m.tag);
-        let told = merged(
-            self.front_with(m, source, tag),
-            self.front_with(m, source, None),
-        );
-        let untold = merged(
-            self.front_with(m, None, tag),
-            self.front_with(m, None, None),
-        );
-        merged(told, untold)
-    }
-
-    /// The first receive whose envelope fits the message's, if no other one of its call does.
-    pub(crate) fn sole_for(&self, m: &Message) -> Option<Receive>
-        ensures some { IfSome result (IsSoleReceive self.now m.now) }
-        ensures none { IfNone result (((r : Receive) → Has self.now r → IsOwnReceive r) → ArePostedApart self.now → (r : Receive) → IsSoleReceive self.now m.now r → ⊥) }
-    {
-        match self.front_for(m) {
-            Some(front) => sole_receive(front),
-            None => None,
-        }
-    }
-
     /// The first receive whose envelope fits the message's.
     pub(crate) fn first_for(&self, m: &Message) -> Option<Receive>
         ensures some { IfSome result (IsFirstReceive self.now m.now) }
@@ -333,54 +249,6 @@ fn earlier_of(a: Option<Receive>, b: Option<Receive>) -> Option<Receive>
                 Some(r)
             } else {
                 Some(q)
-            },
-        },
-    }
-}
-
-/// Whether the two are of one call.
-fn is_of_one_call(a: &OpName, b: &OpName) -> bool
-    ensures { result ≡ same_call a.now b.now }
-{
-    a.rank == b.rank && a.call == b.call
-}
-
-/// The first of the receives, if the next isn't of its call.
-fn sole_receive(front: Front<Receive>) -> Option<Receive>
-    ensures { result ≡ sole_receive front }
-{
-    match front.next {
-        Some(next) => if is_of_one_call(&front.first.name, &next.name) {
-            None
-        } else {
-            Some(front.first)
-        },
-        None => Some(front.first),
-    }
-}
-
-/// The first two of both, where the first of the first is before that of the second.
-fn led_by(a: Front<Receive>, b: Front<Receive>) -> Front<Receive>
-    ensures { (xs : List Receive) (m : Message) (p t : Receive → Bool) → ((r : Receive) → p r ≡ true → t r ≡ true → ⊥) → IsFrontAmong xs m p (Some a) → IsFrontAmong xs m t (Some b) → name_lt b.first.name a.first.name ≡ false → IsFrontAmong xs m (λ r. p r || t r) (Some result) }
-{
-    Front {
-        first: a.first,
-        next: earlier_of(a.next, Some(b.first)),
-    }
-}
-
-/// The first two of both.
-fn merged(a: Option<Front<Receive>>, b: Option<Front<Receive>>) -> Option<Front<Receive>>
-    ensures { (xs : List Receive) (m : Message) (p t : Receive → Bool) → ((r : Receive) → p r ≡ true → t r ≡ true → ⊥) → IsFrontAmong xs m p a → IsFrontAmong xs m t b → IsFrontAmong xs m (λ r. p r || t r) result }
-{
-    match a {
-        None => b,
-        Some(first) => match b {
-            None => Some(first),
-            Some(second) => if is_named_before(&second.first.name, &first.first.name) {
-                Some(led_by(second, first))
-            } else {
-                Some(led_by(first, second))
             },
         },
     }

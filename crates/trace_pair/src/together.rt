@@ -6,11 +6,12 @@
 //! parts, and the ranks go forward together, as they did in the run: a part of each, then the next
 //! part of each.
 
-ghost use Rattle.std.specs.Prelude.{◌≡◌, ◌≤◌, ◌<◌, ◌+◌, ◌*◌, ◌/◌, List, [], OnOk};
+ghost use Rattle.std.specs.Prelude.{◌≡◌, ◌≤◌, ◌<◌, ◌+◌, All, List, [], OnOk};
 ghost use Rattle.mpi_model.specs.declared.message.Message.{Message};
 ghost use Rattle.mpi_model.specs.declared.message.Receive.{Receive};
 ghost use Rattle.trace_ops.specs.Ops.{AreOwn};
 ghost use Rattle.trace_pair.specs.After.{comes_after};
+ghost use Rattle.trace_pair.specs.Calls.{IsSingle};
 ghost use Rattle.trace_pair.specs.Followed.{Indexes, Follows, FollowsBy, Moves};
 ghost use Rattle.trace_pair.specs.Pairing.{After};
 ghost use Rattle.trace_pair.specs.Parts.{first_parts, begun, all_begun};
@@ -19,8 +20,6 @@ ghost use Rattle.trace_pair.specs.Reach.{AreReachesOf};
 use crate::follow::{add_messages, add_receives};
 use crate::matched::Matched;
 use crate::reach::{RankReach, Reaches};
-use crate::whole::{cuts_receives, cuts_sends, end_of_receives, end_of_sends};
-use mpi_model::{Message, Receive};
 use std::alloc::AllocError;
 use trace_ops::RankOps;
 
@@ -72,40 +71,14 @@ fn count_parts(ops: &[RankOps]) -> usize
     calls / PART / ops.len().max(1) + 1
 }
 
-/// How many of so many calls are the first `done` of so many parts.
-fn end_of_parts(calls: usize, parts: usize, done: usize) -> usize
+/// The first `done` of so many parts of a rank's calls.
+fn front_of<T>(calls: &[T], parts: usize, done: usize) -> &[T]
     requires parts { 0 < parts }
     requires done { done ≤ parts }
-    ensures { result ≡ done * calls / parts }
+    ensures { result.now ≡ first_parts parts done calls.now }
 {
-    let end = done as u128 * calls as u128 / parts as u128;
-    end as usize
-}
-
-/// The first `done` of so many parts of a rank's messages, and the rest of a call that this would cut.
-fn front_of_sends(calls: &[Message], parts: usize, done: usize) -> &[Message]
-    requires parts { 0 < parts }
-    requires done { done ≤ parts }
-    ensures { result.now ≡ first_parts (λ m. m.name.call) parts done calls.now }
-{
-    let mut end = end_of_parts(calls.len(), parts, done);
-    if cuts_sends(calls, end) {
-        end = end_of_sends(calls, end);
-    }
-    &calls[..end]
-}
-
-/// The same of its receives.
-fn front_of_receives(calls: &[Receive], parts: usize, done: usize) -> &[Receive]
-    requires parts { 0 < parts }
-    requires done { done ≤ parts }
-    ensures { result.now ≡ first_parts (λ q. q.name.call) parts done calls.now }
-{
-    let mut end = end_of_parts(calls.len(), parts, done);
-    if cuts_receives(calls, end) {
-        end = end_of_receives(calls, end);
-    }
-    &calls[..end]
+    let end = done as u128 * calls.len() as u128 / parts as u128;
+    &calls[..end as usize]
 }
 
 /// Adds the part behind the first `done` of a rank's calls.
@@ -120,16 +93,11 @@ fn add_part(
     ensures { OnOk result (Moves (comes_after reaches.now) (begun parts done own.now) (begun parts (done + 1) own.now) state.old state.new) }
 {
     let sends = own.sends();
-    let sent = front_of_sends(sends, parts, done).len();
-    add_messages(state, reaches, front_of_sends(sends, parts, done + 1), sent)?;
+    let sent = front_of(sends, parts, done).len();
+    add_messages(state, reaches, front_of(sends, parts, done + 1), sent)?;
     let receives = own.receives();
-    let posted = front_of_receives(receives, parts, done).len();
-    add_receives(
-        state,
-        reaches,
-        front_of_receives(receives, parts, done + 1),
-        posted,
-    )?;
+    let posted = front_of(receives, parts, done).len();
+    add_receives(state, reaches, front_of(receives, parts, done + 1), posted)?;
     Ok(())
 }
 
@@ -143,7 +111,7 @@ fn add_parts(
 ) -> Result<(), AllocError>
     requires done { done < parts }
     requires table { AreReachesOf ops.now table.now }
-    ensures { OnOk result (AreOwn 0 ops.now → FollowsBy (comes_after ops.now) (all_begun parts done ops.now) state.old → FollowsBy (comes_after ops.now) (all_begun parts (done + 1) ops.now) state.new) }
+    ensures { OnOk result (AreOwn 0 ops.now → All IsSingle ops.now → FollowsBy (comes_after ops.now) (all_begun parts done ops.now) state.old → FollowsBy (comes_after ops.now) (all_begun parts (done + 1) ops.now) state.new) }
 {
     let reaches = Reaches::new(ops, table);
     for own in ops {
@@ -159,7 +127,7 @@ pub(crate) fn add_ranks(
     table: &[RankReach],
 ) -> Result<(), AllocError>
     requires { AreReachesOf ops.now table.now }
-    ensures { OnOk result (AreOwn 0 ops.now → Indexes (comes_after ops.now) [] [] state.old → Follows ops.now state.new) }
+    ensures { OnOk result (AreOwn 0 ops.now → All IsSingle ops.now → Indexes (comes_after ops.now) [] [] state.old → Follows ops.now state.new) }
 {
     reserve_ranks(state, ops)?;
     let parts = count_parts(ops);

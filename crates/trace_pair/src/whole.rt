@@ -1,69 +1,12 @@
-//! Lists of calls cut between calls: the parts of one call stay together.
+//! Calls of several parts in the lists of a rank.
 
-ghost use Rattle.std.specs.Prelude.{◌≡◌, ◌<◌, ◌≤◌, ℕ, false, drop, length, slice_range, take};
-ghost use Rattle.mpi_model.specs.declared.message.Message.{Message};
-ghost use Rattle.mpi_model.specs.declared.message.Receive.{Receive};
+ghost use Rattle.std.specs.Prelude.{◌≡◌, ◌≤◌, ◌<◌, All, IsTrue, false, length, slice_range};
+ghost use Rattle.trace_ops.specs.Ops.{AreOwn};
 ghost use Rattle.trace_ops.specs.Order.{AreInOrder, ArePosted};
-ghost use Rattle.trace_pair.specs.Calls.{IsOneCall, IsWhole};
+ghost use Rattle.trace_pair.specs.Calls.{AreSentByCall, ArePostedByCall, IsOneCall, IsSingle, IsWhole};
 
 use mpi_model::{Message, Receive};
-
-/// Where the call ends that begins at a place.
-pub(crate) fn end_of_sends(calls: &[Message], start: usize) -> usize
-    requires { start < length calls.now }
-    ensures behind { start < result }
-    ensures bound { result ≤ length calls.now }
-    ensures one { IsOneCall (λ m. m.name.call) (slice_range calls.now start result) }
-    ensures whole { AreInOrder calls.now → IsWhole (λ m. m.name.call) calls.now result }
-{
-    let call = calls[start].name.call;
-    let mut end = start + 1;
-    while end < calls.len() && calls[end].name.call == call {
-        end += 1;
-    }
-    end
-}
-
-/// Where the call begins that ends at a place.
-pub(crate) fn start_of_sends(calls: &[Message], end: usize) -> usize
-    requires first { 0 < end }
-    requires bound { end ≤ length calls.now }
-    ensures before { result < end }
-    ensures one { IsOneCall (λ m. m.name.call) (slice_range calls.now result end) }
-    ensures whole { AreInOrder calls.now → IsWhole (λ m. m.name.call) calls.now result }
-    ensures kept { (place : ℕ) → AreInOrder calls.now → IsWhole (λ m. m.name.call) calls.now place → place < end → place ≤ result }
-{
-    let call = calls[end - 1].name.call;
-    let mut start = end - 1;
-    while start > 0 && calls[start - 1].name.call == call {
-        start -= 1;
-    }
-    start
-}
-
-/// Whether a call has parts on both sides of a place.
-pub(crate) fn cuts_sends(calls: &[Message], place: usize) -> bool
-    requires { place ≤ length calls.now }
-    ensures { result ≡ false → AreInOrder calls.now → IsWhole (λ m. m.name.call) calls.now place }
-{
-    place > 0 && place < calls.len() && calls[place - 1].name.call == calls[place].name.call
-}
-
-/// How many of a common front are whole calls in both lists.
-pub(crate) fn whole_sends(a: &[Message], b: &[Message], front: usize) -> usize
-    requires first { front ≤ length a.now }
-    requires second { front ≤ length b.now }
-    ensures within { result ≤ front }
-    ensures first { AreInOrder a.now → IsWhole (λ m. m.name.call) a.now result }
-    ensures second { AreInOrder b.now → take front a.now ≡ take front b.now → IsWhole (λ m. m.name.call) b.now result }
-    ensures one { take front a.now ≡ take front b.now → IsOneCall (λ m. m.name.call) (drop result (take front a.now)) }
-{
-    let mut place = front;
-    if cuts_sends(a, place) || cuts_sends(b, place) {
-        place = start_of_sends(a, place);
-    }
-    place
-}
+use trace_ops::RankOps;
 
 /// Where the call ends that begins at a place.
 pub(crate) fn end_of_receives(calls: &[Receive], start: usize) -> usize
@@ -81,43 +24,58 @@ pub(crate) fn end_of_receives(calls: &[Receive], start: usize) -> usize
     end
 }
 
-/// Where the call begins that ends at a place.
-pub(crate) fn start_of_receives(calls: &[Receive], end: usize) -> usize
-    requires first { 0 < end }
-    requires bound { end ≤ length calls.now }
-    ensures before { result < end }
-    ensures one { IsOneCall (λ q. q.name.call) (slice_range calls.now result end) }
-    ensures whole { ArePosted calls.now → IsWhole (λ q. q.name.call) calls.now result }
-    ensures kept { (place : ℕ) → ArePosted calls.now → IsWhole (λ q. q.name.call) calls.now place → place < end → place ≤ result }
+/// Whether some call has two of the messages: they would stand side by side.
+fn has_sends_of_one_call(calls: &[Message]) -> bool
+    requires { AreInOrder calls.now }
+    ensures single { result ≡ false → AreSentByCall calls.now }
+    ensures several { IsTrue result → AreSentByCall calls.now → ⊥ }
 {
-    let call = calls[end - 1].name.call;
-    let mut start = end - 1;
-    while start > 0 && calls[start - 1].name.call == call {
-        start -= 1;
+    let mut next = 1;
+    while next < calls.len() {
+        if calls[next - 1].name.call == calls[next].name.call {
+            return true;
+        }
+        next += 1;
     }
-    start
+    false
 }
 
-/// Whether a call has parts on both sides of a place.
-pub(crate) fn cuts_receives(calls: &[Receive], place: usize) -> bool
-    requires { place ≤ length calls.now }
-    ensures { result ≡ false → ArePosted calls.now → IsWhole (λ q. q.name.call) calls.now place }
+/// Whether some call has two of the receives.
+fn has_receives_of_one_call(calls: &[Receive]) -> bool
+    requires { ArePosted calls.now }
+    ensures single { result ≡ false → ArePostedByCall calls.now }
+    ensures several { IsTrue result → ArePostedByCall calls.now → ⊥ }
 {
-    place > 0 && place < calls.len() && calls[place - 1].name.call == calls[place].name.call
+    let mut next = 1;
+    while next < calls.len() {
+        if calls[next - 1].name.call == calls[next].name.call {
+            return true;
+        }
+        next += 1;
+    }
+    false
 }
 
-/// How many of a common front are whole calls in both lists.
-pub(crate) fn whole_receives(a: &[Receive], b: &[Receive], front: usize) -> usize
-    requires first { front ≤ length a.now }
-    requires second { front ≤ length b.now }
-    ensures within { result ≤ front }
-    ensures first { ArePosted a.now → IsWhole (λ q. q.name.call) a.now result }
-    ensures second { ArePosted b.now → take front a.now ≡ take front b.now → IsWhole (λ q. q.name.call) b.now result }
-    ensures one { take front a.now ≡ take front b.now → IsOneCall (λ q. q.name.call) (drop result (take front a.now)) }
+/// Whether some call of the rank has several parts.
+pub(crate) fn has_several(ops: &RankOps) -> bool
+    requires sends { AreInOrder ops.now.sends }
+    requires receives { ArePosted ops.now.receives }
+    ensures single { result ≡ false → IsSingle ops.now }
+    ensures several { IsTrue result → IsSingle ops.now → ⊥ }
 {
-    let mut place = front;
-    if cuts_receives(a, place) || cuts_receives(b, place) {
-        place = start_of_receives(a, place);
+    has_sends_of_one_call(ops.sends()) || has_receives_of_one_call(ops.receives())
+}
+
+/// Whether some call of some rank has several parts.
+pub(crate) fn some_has_several(held: &[RankOps]) -> bool
+    requires { AreOwn 0 held.now }
+    ensures single { result ≡ false → All IsSingle held.now }
+    ensures several { IsTrue result → All IsSingle held.now → ⊥ }
+{
+    for own in held {
+        if has_several(own) {
+            return true;
+        }
     }
-    place
+    false
 }
