@@ -16,6 +16,7 @@ pub mod Takers
 pub mod Pops
 pub mod Ranks
 pub mod ByCall
+pub mod Neighbours
 pub mod Posts
 pub mod Partners
 pub mod Ranked
