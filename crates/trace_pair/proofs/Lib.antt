@@ -41,6 +41,7 @@ pub mod Known
 pub mod Afterwards
 pub mod Taking
 pub mod Rowed
+pub mod Halved
 pub mod Reached
 pub mod Continued
 pub mod Beside
