@@ -76,11 +76,11 @@ probe_part s (Some q) = if may_probe s q then OnNothing else source_part s q
 abbrev pub is_of : OpName → OpName → Bool
 is_of name other = (other.call == name.call) && (other.part == name.part)
 
--- the send, and the receive, of a name of a rank: there is none where it is of the null process or local
+-- the send of a name of a rank: there is none where it is of the null process or local
 abbrev pub send_of : Ops → OpName → Option Message
 send_of o name = find (λ m. is_of name m.name) o.sends
 
--- the receive of a name
+-- the receive of a name of a rank
 abbrev pub receive_of : Ops → OpName → Option Receive
 receive_of o name = find (λ q. is_of name q.name) o.receives
 

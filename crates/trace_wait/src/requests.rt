@@ -1,4 +1,4 @@
-//! What requests wait for, by the calls that posted them.
+//! What requests wait for, by the operations that they stand for.
 
 ghost use Rattle.std.specs.Prelude.{◌≡◌, ◌++◌, ◌∷◌, [], ℤ, Some, map, if◌then◌else◌, IfOk, OnOk};
 ghost use Rattle.std.specs.Option.{option_copied};
@@ -6,7 +6,7 @@ ghost use Rattle.std.specs.Ordering.{int_eq};
 ghost use Rattle.indexmap.specs.IndexMap.{get};
 ghost use Rattle.trace_ops.specs.Order.{AreCalledInOrder, AreInOrder, ArePosted};
 ghost use Rattle.trace_stuck.specs.Shape.{shape};
-ghost use Rattle.trace_wait.specs.Requests.{AreMade, choices, is_idle, post_part, posted_by, request, requests, some_of, started_part};
+ghost use Rattle.trace_wait.specs.Requests.{AreMade, choices, post_part, posted_by, request, requests, some_of, started_part};
 
 use crate::active::{Posts, posts_of};
 use crate::collective::collective_of_call;
@@ -84,8 +84,8 @@ fn note_made(made: &mut Made, x: i64, part: Condition) -> Result<(), AllocError>
     Ok(())
 }
 
-/// What the active request of a number waits for, which stands for this operation of rank r. It is made once: a list of
-/// ranks in it is shared by all that ask for it.
+/// What the active request of a number waits for, which stands for this operation of rank r. It is
+/// made once: a list of ranks in it is shared by all that ask for it.
 #[tactic(auto, using(crate::proofs::Made::made_more))]
 fn part_of(
     alloc: Global,
@@ -112,6 +112,27 @@ fn part_of(
     Ok(part)
 }
 
+/// What the active requests of the list wait for, by what rank r posted.
+fn requests_of(
+    alloc: Global,
+    run: &Overview,
+    r: u32,
+    posts: &Posts,
+    xs: &[i64],
+) -> Result<Vec<Condition>, AllocError>
+    requires sends { AreInOrder posts.now.sends }
+    requires receives { ArePosted posts.now.receives }
+    requires cancelled { AreCalledInOrder posts.now.cancelled }
+    ensures { IfOk result (λ parts. map shape parts.items ≡ requests run.now r posts.now xs.now) }
+{
+    let mut made = Made::new(alloc);
+    let mut parts = Vec::new(alloc);
+    for x in xs {
+        push_request(alloc, run, r, posts, x, &mut made, &mut parts)?;
+    }
+    Ok(parts)
+}
+
 /// What the active requests of the list wait for.
 pub(crate) fn requests(
     alloc: Global,
@@ -125,13 +146,8 @@ pub(crate) fn requests(
     requires cancelled { AreCalledInOrder o.now.cancelled }
     ensures { IfOk result (λ parts. map shape parts.items ≡ requests run.now r o.now xs.now) }
 {
-    let posts = posts_of(alloc, o.active())?;
-    let mut made = Made::new(alloc);
-    let mut parts = Vec::new(alloc);
-    for x in xs {
-        push_request(alloc, run, r, o, &posts, x, &mut made, &mut parts)?;
-    }
-    Ok(parts)
+    let posts = posts_of(alloc, o)?;
+    requests_of(alloc, run, r, &posts, xs)
 }
 
 /// Adds what the request of this number waits for, where it is active.
@@ -139,24 +155,43 @@ fn push_request(
     alloc: Global,
     run: &Overview,
     r: u32,
-    o: &RankOps,
     posts: &Posts,
     x: &i64,
     made: &mut Made,
     parts: &mut Vec<Condition>,
 ) -> Result<(), AllocError>
-    requires posts { posts.now ≡ o.now.active }
-    requires sends { AreInOrder o.now.sends }
-    requires receives { ArePosted o.now.receives }
-    requires cancelled { AreCalledInOrder o.now.cancelled }
-    requires made { AreMade run.now r o.now (get int_eq made.old) }
-    ensures made { OnOk result (AreMade run.now r o.now (get int_eq made.new)) }
-    ensures parts { OnOk result (map shape parts.new.items ≡ map shape parts.old.items ++ requests run.now r o.now (x.now ∷ [])) }
+    requires sends { AreInOrder posts.now.sends }
+    requires receives { ArePosted posts.now.receives }
+    requires cancelled { AreCalledInOrder posts.now.cancelled }
+    requires made { AreMade run.now r posts.now (get int_eq made.old) }
+    ensures made { OnOk result (AreMade run.now r posts.now (get int_eq made.new)) }
+    ensures parts { OnOk result (map shape parts.new.items ≡ map shape parts.old.items ++ requests run.now r posts.now (x.now ∷ [])) }
 {
     if let Some(name) = posts.name_of(*x) {
-        parts.push(part_of(alloc, run, r, o, *x, name, made)?)?;
+        parts.push(part_of(alloc, run, r, posts.ops(), *x, name, made)?)?;
     }
     Ok(())
+}
+
+/// What each number of a list adds of which one request has to be completed, by what rank r posted.
+fn choices_of(
+    alloc: Global,
+    run: &Overview,
+    r: u32,
+    posts: &Posts,
+    xs: &[i64],
+) -> Result<Vec<Condition>, AllocError>
+    requires sends { AreInOrder posts.now.sends }
+    requires receives { ArePosted posts.now.receives }
+    requires cancelled { AreCalledInOrder posts.now.cancelled }
+    ensures { IfOk result (λ parts. map shape parts.items ≡ choices run.now r posts.now xs.now) }
+{
+    let mut made = Made::new(alloc);
+    let mut parts = Vec::new(alloc);
+    for x in xs {
+        push_choice(alloc, run, r, posts, x, &mut made, &mut parts)?;
+    }
+    Ok(parts)
 }
 
 /// What each number of a list adds of which one request has to be completed.
@@ -172,20 +207,8 @@ pub(crate) fn choices(
     requires cancelled { AreCalledInOrder o.now.cancelled }
     ensures { IfOk result (λ parts. map shape parts.items ≡ choices run.now r o.now xs.now) }
 {
-    let posts = posts_of(alloc, o.active())?;
-    let mut made = Made::new(alloc);
-    let mut parts = Vec::new(alloc);
-    for x in xs {
-        push_choice(alloc, run, r, o, &posts, x, &mut made, &mut parts)?;
-    }
-    Ok(parts)
-}
-
-/// Whether a persistent request of this number is held and not active.
-fn is_idle(o: &RankOps, x: i64) -> bool
-    ensures { result ≡ is_idle o.now x }
-{
-    o.idle().binary_search(&x).is_ok()
+    let posts = posts_of(alloc, o)?;
+    choices_of(alloc, run, r, &posts, xs)
 }
 
 /// Adds what a number of a list adds of which one request has to be completed.
@@ -193,25 +216,23 @@ fn push_choice(
     alloc: Global,
     run: &Overview,
     r: u32,
-    o: &RankOps,
     posts: &Posts,
     x: &i64,
     made: &mut Made,
     parts: &mut Vec<Condition>,
 ) -> Result<(), AllocError>
-    requires posts { posts.now ≡ o.now.active }
-    requires sends { AreInOrder o.now.sends }
-    requires receives { ArePosted o.now.receives }
-    requires cancelled { AreCalledInOrder o.now.cancelled }
-    requires made { AreMade run.now r o.now (get int_eq made.old) }
-    ensures made { OnOk result (AreMade run.now r o.now (get int_eq made.new)) }
-    ensures parts { OnOk result (map shape parts.new.items ≡ map shape parts.old.items ++ choices run.now r o.now (x.now ∷ [])) }
+    requires sends { AreInOrder posts.now.sends }
+    requires receives { ArePosted posts.now.receives }
+    requires cancelled { AreCalledInOrder posts.now.cancelled }
+    requires made { AreMade run.now r posts.now (get int_eq made.old) }
+    ensures made { OnOk result (AreMade run.now r posts.now (get int_eq made.new)) }
+    ensures parts { OnOk result (map shape parts.new.items ≡ map shape parts.old.items ++ choices run.now r posts.now (x.now ∷ [])) }
 {
-    if *x == NULL_REQUEST || is_idle(o, *x) {
+    if *x == NULL_REQUEST || posts.is_idle(*x) {
         return Ok(());
     }
     let part = match posts.name_of(*x) {
-        Some(name) => part_of(alloc, run, r, o, *x, name, made)?,
+        Some(name) => part_of(alloc, run, r, posts.ops(), *x, name, made)?,
         None => Condition::yes(),
     };
     parts.push(part)?;
