@@ -18,6 +18,7 @@ pub mod Ranks
 pub mod ByCall
 pub mod Neighbours
 pub mod Posts
+pub mod Wholes
 pub mod Partners
 pub mod Ranked
 pub mod Switched

@@ -10,8 +10,8 @@
 //! The parts of one call may stand in one another's way, whatever their order in the list. So the open
 //! ones go first, then those of any tag, and then the others.
 
-ghost use Rattle.std.specs.Prelude.{◌≡◌, ◌<◌, ◌⊎◌, ◌∷◌, true, false, None, Some, IfOk, IfSome, OnOk, [], List, length, slice_get};
-ghost use Rattle.std.specs.List.{AllZip};
+ghost use Rattle.std.specs.Prelude.{◌≡◌, ◌∷◌, true, false, None, Some, IfOk, OnOk, [], List, length, slice_get};
+ghost use Rattle.std.specs.List.{All, AllZip};
 ghost use Rattle.mpi_model.specs.declared.message.Message.{Message};
 ghost use Rattle.mpi_model.specs.declared.message.Receive.{Receive};
 ghost use Rattle.mpi_model.specs.Trusts.{is_settled};
@@ -19,8 +19,8 @@ ghost use Rattle.trace_ops.specs.Ops.{AreOwn};
 ghost use Rattle.trace_ops.specs.Order.{Has};
 ghost use Rattle.trace_pair.specs.After.{comes_after};
 ghost use Rattle.trace_pair.specs.Calls.{AddsReceives, ArePostedApart, IsOwnReceive, between, IsPosting};
-ghost use Rattle.trace_pair.specs.Indexed.{AwaitReceives, is_of, with_kind};
-ghost use Rattle.trace_pair.specs.Settled.{Settles, SettlesAmong, IsOfferedAt, IsTakenAt, couples_of, waiting_of};
+ghost use Rattle.trace_pair.specs.Indexed.{AwaitReceives, with_kind};
+ghost use Rattle.trace_pair.specs.Settled.{Settles, SettlesAmong, IsNextKind, IsNextPart, IsOfferedAt, IsTakenAt, IsWithin, couples_of, waiting_of};
 ghost use Rattle.trace_pair.specs.Sets.{AddsTo};
 ghost use Rattle.trace_pair.specs.Ends.{AreLast, NoneHides, SomeHides};
 ghost use Rattle.trace_pair.specs.Pairing.{After, receive_of};
@@ -84,20 +84,21 @@ fn is_hidden(reaches: &Reaches, opened: &Ends, m: &Message) -> bool
     opened.may_take(reaches, m)
 }
 
-/// The place of the message that a settled receive of a new call takes, if no other free receive fits
-/// it.
+/// The place of the message that a receive of a new call takes, if no other free receive fits it.
 fn offered_place(
     batch: &mut Batch,
     reaches: &Reaches,
     q: &Receive,
 ) -> Result<Option<usize>, AllocError>
-    requires { is_settled q.now ≡ true }
     ensures kept { batch.new ≡ batch.old }
-    ensures within { IfOk result (λ place. IfSome place (λ p. p < length batch.old.messages.messages)) }
+    ensures within { IfOk result (IsWithin batch.old) }
     ensures found { IfOk result (λ place. (ms : List Message) (qs more call free opened : List Receive) → AddsReceives qs more call → Has call q.now → AreLast opened batch.old.opened → batch.old.messages.messages ≡ ms
         → AwaitReceives (comes_after reaches.now) ms qs more (waiting_of batch.old) free opened (couples_of batch.old)
-        → IsOfferedAt (comes_after reaches.now) ms qs more batch.old.messages q.now place) }
+        → IsOfferedAt (comes_after reaches.now) ms qs more q.now place) }
 {
+    if !q.is_settled() {
+        return Ok(None);
+    }
     let Some(place) = batch.messages.sole_for(q)? else {
         return Ok(None);
     };
@@ -115,8 +116,8 @@ fn offered_place(
 fn taken_by(batch: &mut Batch, reaches: &Reaches, q: &Receive) -> Result<Option<usize>, AllocError>
     requires { is_settled q.now ≡ true }
     ensures kept { batch.new ≡ batch.old }
-    ensures within { IfOk result (λ place. IfSome place (λ p. p < length batch.old.messages.messages)) }
-    ensures found { IfOk result (λ place. (ms : List Message) (qs more : List Receive) → AddsReceives qs more (q.now ∷ []) → ArePostedApart more → Settles (comes_after reaches.now) ms qs batch.old → IsTakenAt (comes_after reaches.now) ms qs more batch.old.messages q.now place) }
+    ensures within { IfOk result (IsWithin batch.old) }
+    ensures found { IfOk result (λ place. (ms : List Message) (qs more : List Receive) → AddsReceives qs more (q.now ∷ []) → ArePostedApart more → Settles (comes_after reaches.now) ms qs batch.old → IsTakenAt (comes_after reaches.now) ms qs more q.now place) }
 {
     let Some(place) = offered_place(batch, reaches, q)? else {
         return Ok(None);
@@ -148,17 +149,16 @@ fn add_receive(batch: &mut Batch, reaches: &Reaches, q: Receive) -> Result<(), A
 
 /// Puts a receive that takes nothing yet into its set.
 fn enter_receive(batch: &mut Batch, q: &Receive) -> Result<(), AllocError>
-    ensures { OnOk result ((after : After) (ms : List Message) (old all qs more : List Receive) → AddsTo qs more q.now → IsOwnReceive q.now → ArePostedApart more → (Has old q.now → ⊥)
-        → SettlesAmong after ms all old qs batch.old → SettlesAmong after ms all old more batch.new) }
+    ensures { OnOk result ((after : After) (ms : List Message) (all done qs more : List Receive) → AddsTo qs more q.now → IsOwnReceive q.now → ArePostedApart more → (Has done q.now → ⊥)
+        → SettlesAmong after ms all done qs batch.old → SettlesAmong after ms all done more batch.new) }
 {
     if q.is_settled() {
         batch.free.insert(*q)?;
         return Ok(());
     }
-    if !q.is_open() {
-        return Ok(());
+    if q.is_open() {
+        batch.opened.insert(q)?;
     }
-    batch.opened.insert(q)?;
     Ok(())
 }
 
@@ -180,29 +180,32 @@ fn offered_places(
     call: &[Receive],
 ) -> Result<Vec<Option<usize>>, AllocError>
     ensures kept { batch.new ≡ batch.old }
+    ensures within { IfOk result (λ found. All (IsWithin batch.old) found.items) }
     ensures found { IfOk result (λ found. (ms : List Message) (qs more : List Receive) → AddsReceives qs more call.now → SettlesAmong (comes_after reaches.now) ms more qs more batch.old
-        → AllZip (IsOfferedAt (comes_after reaches.now) ms qs more batch.old.messages) call.now found.items) }
+        → AllZip (IsOfferedAt (comes_after reaches.now) ms qs more) call.now found.items) }
 {
     let mut found = Vec::with_capacity(*batch.messages.allocator(), call.len())?;
     for q in call {
-        let place = if q.is_settled() {
-            offered_place(batch, reaches, q)?
-        } else {
-            None
-        };
+        let place = offered_place(batch, reaches, q)?;
         found.push(place)?;
     }
     Ok(found)
 }
 
 /// The receive takes the message that it is offered, if no other free one fits it.
-fn settle_receive(batch: &mut Batch, place: usize, q: &Receive) -> Result<(), AllocError>
-    requires settled { is_settled q.now ≡ true }
-    requires place { place < length batch.old.messages.messages }
-    ensures { OnOk result ((after : After) (ms : List Message) (qs more call done : List Receive) → AddsReceives qs more call → Has call q.now → IsOfferedAt after ms qs more batch.old.messages q.now (Some place)
-        → ((r : Receive) → Has qs r → Has done r) → (Has done q.now → ⊥) → ((r : Receive) → Has call r → r.tag ≡ None → q.now.tag ≡ None ⊎ Has done r)
-        → SettlesAmong after ms more done more batch.old → SettlesAmong after ms more (q.now ∷ done) more batch.new) }
+fn settle_receive(
+    batch: &mut Batch,
+    offered: Option<usize>,
+    q: &Receive,
+) -> Result<(), AllocError>
+    requires { IsWithin batch.old offered }
+    ensures kept { OnOk result (batch.new.messages.messages ≡ batch.old.messages.messages) }
+    ensures settled { OnOk result ((after : After) (ms : List Message) (qs more call done : List Receive) → AddsReceives qs more call → Has call q.now → IsOfferedAt after ms qs more q.now offered
+        → IsNextPart qs call done q.now → SettlesAmong after ms more done more batch.old → SettlesAmong after ms more (q.now ∷ done) more batch.new) }
 {
+    let Some(place) = offered else {
+        return Ok(());
+    };
     let m = batch.messages.messages()[place];
     batch.free.remove(q);
     if let Some(_) = batch.free.first_for(&m) {
@@ -218,18 +221,15 @@ fn settle_receives(
     found: &[Option<usize>],
     any_tag: bool,
 ) -> Result<(), AllocError>
-    requires { length found.now ≡ length call.now }
-    ensures { OnOk result ((after : After) (ms : List Message) (qs more done : List Receive) → AddsReceives qs more call.now → AllZip (IsOfferedAt after ms qs more batch.old.messages) call.now found.now
-        → ((r : Receive) → Has qs r → Has done r) → ((r : Receive) → Has call.now r → is_of any_tag r.tag ≡ true → Has done r → ⊥)
-        → ((r : Receive) → Has call.now r → r.tag ≡ None → any_tag ≡ true ⊎ Has done r)
-        → SettlesAmong after ms more done more batch.old → SettlesAmong after ms more (with_kind any_tag call.now done) more batch.new) }
+    requires long { length found.now ≡ length call.now }
+    requires within { All (IsWithin batch.old) found.now }
+    ensures kept { OnOk result (batch.new.messages.messages ≡ batch.old.messages.messages) }
+    ensures settled { OnOk result ((after : After) (ms : List Message) (qs more done : List Receive) → AddsReceives qs more call.now → AllZip (IsOfferedAt after ms qs more) call.now found.now
+        → IsNextKind any_tag qs call.now done → SettlesAmong after ms more done more batch.old → SettlesAmong after ms more (with_kind any_tag call.now done) more batch.new) }
 {
     for (i, q) in call.iter().enumerate() {
-        if q.tag.is_none() != any_tag {
-            continue;
-        }
-        if let Some(place) = found[i] {
-            settle_receive(batch, place, q)?;
+        if q.tag.is_none() == any_tag {
+            settle_receive(batch, found[i], q)?;
         }
     }
     Ok(())
@@ -260,7 +260,8 @@ fn add_call(batch: &mut Batch, reaches: &Reaches, call: &[Receive]) -> Result<()
 
 /// Adds the receives of a rank behind the ranks before it, call by call.
 fn add_receives(batch: &mut Batch, reaches: &Reaches, own: &[Receive]) -> Result<(), AllocError>
-    ensures { OnOk result ((ms : List Message) (before : List Receive) → IsPosting before [] own.now → ArePostedApart (between before own.now []) → Settles (comes_after reaches.now) ms (between before [] []) batch.old → Settles (comes_after reaches.now) ms (between before own.now []) batch.new) }
+    ensures { OnOk result ((ms : List Message) (before : List Receive) → IsPosting before [] own.now → ArePostedApart (between before own.now [])
+        → Settles (comes_after reaches.now) ms (between before [] []) batch.old → Settles (comes_after reaches.now) ms (between before own.now []) batch.new) }
 {
     let mut next = 0;
     while next < own.len() {
