@@ -52,6 +52,7 @@ pub mod Owned
 pub mod Searched
 pub mod Taken
 pub mod Waited
+pub mod SolePlaces
 pub mod Offered
 pub mod Settling
 pub mod Parts

@@ -4,11 +4,11 @@
 ghost use Rattle.std.specs.Prelude.{◌≡◌, ◌<◌, true, false, Some, IfOk, IfSome, OnOk, is_some, length, replicate, List, None, Option};
 ghost use Rattle.trace_pair.specs.KeyOrders.{queue_cmp, queue_of, lane_cmp, lane_of};
 ghost use Rattle.trace_pair.specs.Rising.{AreRising};
-ghost use Rattle.trace_pair.specs.Waiting.{ArePlaces, IsFirstPlace, IsSolePlace, taker_at, untaken, with_taker};
+ghost use Rattle.trace_pair.specs.Waiting.{ArePlaces, IsSolePlace, taker_at, untaken, with_taker};
 ghost use Rattle.trace_pair.specs.declared.pair.Taker.{Taker};
 
 use crate::pair::Taker;
-use crate::places::{Places, add_place, first_at, has_sibling_at};
+use crate::places::{Places, add_place, sole_at};
 use mpi_model::{Message, Receive};
 use std::alloc::{AllocError, Global};
 use std::collections::BTreeMap;
@@ -129,67 +129,39 @@ impl Takings {
         }
     }
 
-    /// The place of the first message of a queue that waits.
-    fn first_of_queue(&mut self, q: &Receive, source: u32, tag: u32) -> Option<usize>
+    /// The place of the first message of a queue that waits, if no other one of its call does.
+    fn sole_of_queue(&mut self, q: &Receive, source: u32, tag: u32) -> Option<usize>
         requires source { q.now.source ≡ Some source }
         requires tag { q.now.tag ≡ Some tag }
         ensures kept { self.new ≡ self.old }
-        ensures first { IsFirstPlace self.old q.now result }
+        ensures sole { IsSolePlace self.old q.now result }
     {
-        first_at(&mut self.queues, &(q.comm, source, q.at, tag), &self.takers)
+        sole_at(
+            &mut self.queues,
+            &(q.comm, source, q.at, tag),
+            &self.messages,
+            &self.takers,
+        )
     }
 
-    /// The place of the first message of a lane that waits.
-    fn first_of_lane(&mut self, q: &Receive, source: u32) -> Result<Option<usize>, AllocError>
+    /// The place of the first message of a lane that waits, if no other one of its call does.
+    fn sole_of_lane(&mut self, q: &Receive, source: u32) -> Result<Option<usize>, AllocError>
         requires source { q.now.source ≡ Some source }
         requires tag { q.now.tag ≡ None }
         ensures kept { self.new ≡ self.old }
-        ensures first { IfOk result (IsFirstPlace self.old q.now) }
+        ensures sole { IfOk result (IsSolePlace self.old q.now) }
     {
         let alloc = *self.messages.allocator();
         let had = self.lanes.take();
         let mut lanes = lanes_or_new(alloc, &self.messages, had)?;
-        let place = first_at(&mut lanes, &(q.comm, source, q.at), &self.takers);
+        let place = sole_at(
+            &mut lanes,
+            &(q.comm, source, q.at),
+            &self.messages,
+            &self.takers,
+        );
         self.lanes = Some(lanes);
         Ok(place)
-    }
-
-    /// The place of the first message that waits and fits a receive whose source is told.
-    pub(crate) fn first_for(&mut self, q: &Receive) -> Result<Option<usize>, AllocError>
-        requires { is_some q.now.source ≡ true }
-        ensures kept { self.new ≡ self.old }
-        ensures first { IfOk result (IsFirstPlace self.old q.now) }
-    {
-        match q.source {
-            None => Ok(None),
-            Some(source) => match q.tag {
-                Some(tag) => Ok(self.first_of_queue(q, source, tag)),
-                None => self.first_of_lane(q, source),
-            },
-        }
-    }
-
-    /// Whether another message of the call of that at a place waits and fits a receive whose source is
-    /// told. The place is that of the first one that does.
-    fn has_sibling(&self, q: &Receive, place: usize) -> bool
-        ensures yes { result ≡ true → is_some q.now.source ≡ true → IsFirstPlace self.now q.now (Some place) → IsSolePlace self.now q.now None }
-        ensures no { result ≡ false → is_some q.now.source ≡ true → IsFirstPlace self.now q.now (Some place) → IsSolePlace self.now q.now (Some place) }
-    {
-        let Some(m) = self.messages.get(place) else {
-            return false;
-        };
-        let call = m.name.call;
-        match (q.source, q.tag, &self.lanes) {
-            (Some(source), Some(tag), _) => {
-                let key = (q.comm, source, q.at, tag);
-                has_sibling_at(&self.queues, &key, &self.messages, &self.takers, call)
-            }
-            (Some(source), None, Some(lanes)) => {
-                let key = (q.comm, source, q.at);
-                has_sibling_at(lanes, &key, &self.messages, &self.takers, call)
-            }
-            _ => false,
-        }
     }
 
     /// The place of the first message that waits and fits a receive whose source is told, if no other
@@ -199,13 +171,13 @@ impl Takings {
         ensures kept { self.new ≡ self.old }
         ensures sole { IfOk result (IsSolePlace self.old q.now) }
     {
-        let Some(place) = self.first_for(q)? else {
-            return Ok(None);
-        };
-        if self.has_sibling(q, place) {
-            return Ok(None);
+        match q.source {
+            None => Ok(None),
+            Some(source) => match q.tag {
+                Some(tag) => Ok(self.sole_of_queue(q, source, tag)),
+                None => self.sole_of_lane(q, source),
+            },
         }
-        Ok(Some(place))
     }
 
     /// The message at the place is taken.
