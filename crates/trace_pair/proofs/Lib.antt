@@ -55,4 +55,5 @@ pub mod Waited
 pub mod SolePlaces
 pub mod Offered
 pub mod Settling
+pub mod SettlingParts
 pub mod Parts
