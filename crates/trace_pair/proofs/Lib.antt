@@ -56,4 +56,5 @@ pub mod SolePlaces
 pub mod Offered
 pub mod Settling
 pub mod SettlingParts
+pub mod PartKinds
 pub mod Parts

@@ -70,23 +70,23 @@ module _ (after : After) (ms : List Message) (qs : List Receive) (b : Batch) (s 
     pub awaits_here : AwaitReceives after ms qs more (waiting_of b) (q ∷ b.free) s.opened (couples_of b)
     awaits_here = awaits_free after ms qs more q adds apart _ _ _ _ s.held settled (q ∷ b.free) (put_front b.free q)
 
-    module _ (place : ℕ) (l : List Message) (d : Message) (offered : IsOfferedAt after ms qs more q (Some place)) (same : l ≡ b.messages.messages) where
+    module _ (new : Batch) (kept : new ≡ b) (place : ℕ) (l : List Message) (d : Message) (same : l ≡ new.messages.messages) (offered : IsOfferedAt after ms qs more q (Some place)) where
       stands_there : get_or l place d ≡ offered.0
-      stands_there = get_or_from_slice_get l place offered.0 d (ap (λ (k : List Message). slice_get k place) (same ∙ s.messages) ∙ offered.1)
+      stands_there = get_or_from_slice_get l place offered.0 d (ap (λ (k : List Message). slice_get k place) (same ∙ ap (λ (x : Batch). x.messages.messages) kept ∙ s.messages) ∙ offered.1)
 
-      pub free_at : (r : Receive) → IsFirstReceive b.free (get_or l place d) r → IsTakenAt after ms qs more q None
+      pub free_at : (r : Receive) → IsFirstReceive new.free (get_or l place d) r → IsTakenAt after ms qs more q None
       free_at r f =
-          let g = subst (λ (x : Message). IsFirstReceive b.free x r) stands_there f in
+          let g = subst (λ (x : Batch). IsFirstReceive x.free offered.0 r) kept (subst (λ (x : Message). IsFirstReceive new.free x r) stands_there f) in
           receive_left after ms qs more q adds apart settled _ b.free _ _ _ (put_front b.free q) awaits_here offered.0 offered.2.1
           (λ i. absent_receive after ms qs more q adds apart _ _ _ _ s.held (s.held.frees q i).0) r g.member g.fit
 
-      pub taken_at : ((r : Receive) → Has b.free r → envelopes_fit (get_or l place d) r ≡ true → ⊥) → IsTakenAt after ms qs more q (Some place)
+      pub taken_at : ((r : Receive) → Has new.free r → envelopes_fit (get_or l place d) r ≡ true → ⊥) → IsTakenAt after ms qs more q (Some place)
       taken_at none = (
         offered.0,
         offered.1,
         offered.2.1,
         receive_taken after ms qs more q adds apart settled _ b.free _ _ _ (put_front b.free q) awaits_here offered.0 offered.2.1
-            (subst (λ (x : Message). (r : Receive) → Has b.free r → envelopes_fit x r ≡ true → ⊥) stands_there none),
+            (subst (λ (x : Batch). (r : Receive) → Has x.free r → envelopes_fit offered.0 r ≡ true → ⊥) kept (subst (λ (x : Message). (r : Receive) → Has new.free r → envelopes_fit x r ≡ true → ⊥) stands_there none)),
       )
 
   -- the receive that takes the message at a place

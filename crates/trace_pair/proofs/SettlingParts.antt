@@ -1,6 +1,7 @@
 -- A pairing of all messages, as a call of several receives comes.
 use Rattle.std.proofs.Common.{subst, ◌≡◌, ◌⊎◌, ℕ, ◌+◌, ◌<◌, ◌≤◌, Bool, true, false, cond, List, [], ◌∷◌, ◌++◌, inl, inr, ⊎_elim, sym, refl, ◌∙◌, ap, arith, length, take, get_or, Option, Some, None}
 use Rattle.std.proofs.lemmas.List.{take_more, take_all}
+use Rattle.std.proofs.lemmas.Option.{get_or_from_slice_get}
 use Rattle.std.specs.Prelude.{slice_get, is_some, is_none}
 use Rattle.mpi_model.specs.declared.message.Message.{Message}
 use Rattle.mpi_model.specs.declared.message.Receive.{Receive}
@@ -157,7 +158,22 @@ module _ (after : After) (ms : List Message) (qs more call : List Receive) (adds
       last = s.last;
     }
 
-    module _ (m : Message) (settled : is_settled q ≡ true) (offer : OffersMessage after ms qs more q m) where
+    module _ (place : ℕ) (offered : IsOfferedAt after ms qs more q (Some place)) (l : List Message) (d : Message) (same : l ≡ b.messages.messages) where
+      abbrev m : Message
+      m = offered.0
+
+      settled : is_settled q ≡ true
+      settled = offered.2.0
+
+      offer : OffersMessage after ms qs more q m
+      offer = offered.2.1
+
+      there : slice_get b.messages.messages place ≡ Some m
+      there = ap (λ (k : List Message). slice_get k place) s.messages ∙ offered.1
+
+      stands_there : get_or l place d ≡ m
+      stands_there = get_or_from_slice_get l place m d (ap (λ (k : List Message). slice_get k place) same ∙ there)
+
       still_waits : Has (waiting_of b) m
       still_waits = s.held.waits_all m offer.member (sure_stands m.trust offer.sure)
           (λ r i h. ⊎_elim (λ (k : Has qs r). offer.waits r k (receive-adds_none after ms qs more call adds m r offer.member k h.0))
@@ -168,8 +184,10 @@ module _ (after : After) (ms : List Message) (qs more call : List Receive) (adds
       still_free = s.held.frees_all q (adds.new q c) settled (λ n i h. next.fresh h.1)
 
       -- another free receive fits the message
-      pub settles_left : (frees back : List Receive) → DropsFrom b.free frees q → AddsTo frees back q → (r : Receive) → IsFirstReceive frees m r → SettlesAmong after ms more (q ∷ done) more (record b { free = back })
-      settles_left frees back removed put r first = record {
+      pub settles_left : (frees back : List Receive) → DropsFrom b.free frees q → AddsTo frees back q → (r : Receive) → IsFirstReceive frees (get_or l place d) r → SettlesAmong after ms more (q ∷ done) more (record b { free = back })
+      settles_left frees back removed put r f =
+        let first = subst (λ (x : Message). IsFirstReceive frees x r) stands_there f in
+        record {
         messages = s.messages;
         rise = s.rise;
         opened = s.opened;
@@ -185,11 +203,12 @@ module _ (after : After) (ms : List Message) (qs more call : List Receive) (adds
       }
 
       -- none does
-      pub settles_taken : (frees : List Receive) → DropsFrom b.free frees q → ((r : Receive) → Has frees r → envelopes_fit m r ≡ true → ⊥) → (place : ℕ) → slice_get ms place ≡ Some m → (t : Taker) → t ≡ taker_of q
-          → SettlesAmong after ms more (q ∷ done) more (record b { free = frees; messages = with_taker b.messages place t })
-      settles_taken frees removed none place there t is =
-          let u = takes_at m q t b place (subst (λ (l : List Message). AreRising (λ (m : Message). m.name) l) (sym s.messages) s.rise) (ap (λ (l : List Message). slice_get l place) s.messages ∙ there) still_waits (told_by m q (adds.own q c) settled offer.fit) is in
-          record {
+      pub settles_taken : (frees : List Receive) → DropsFrom b.free frees q → ((r : Receive) → Has frees r → envelopes_fit (get_or l place d) r ≡ true → ⊥) → (t : Taker) (new : Takings) → t ≡ taker_of q → new ≡ with_taker b.messages place t
+          → SettlesAmong after ms more (q ∷ done) more (record b { free = frees; messages = new })
+      settles_taken frees removed n t new is made =
+          let none = subst (λ (x : Message). (r : Receive) → Has frees r → envelopes_fit x r ≡ true → ⊥) stands_there n in
+          let u = takes_at m q t b place (subst (λ (l : List Message). AreRising (λ (m : Message). m.name) l) (sym s.messages) s.rise) there still_waits (told_by m q (adds.own q c) settled offer.fit) is in
+          subst (λ (x : Takings). SettlesAmong after ms more (q ∷ done) more (record b { free = frees; messages = x })) (sym made) (record {
             messages = s.messages;
             rise = s.rise;
             opened = s.opened;
@@ -198,4 +217,4 @@ module _ (after : After) (ms : List Message) (qs more call : List Receive) (adds
                 (λ r i not f. ⊎_elim (λ (k : Has frees r). none r k f) (λ (e : r ≡ q). not e) (removed.keeps r i)))
                 _ frees _ u.0 removed u.1);
             last = s.last;
-          }
+          })

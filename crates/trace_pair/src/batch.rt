@@ -209,9 +209,11 @@ fn settle_receive(
     let m = batch.messages.messages()[place];
     batch.free.remove(q);
     if let Some(_) = batch.free.first_for(&m) {
-        return batch.free.insert(*q);
+        batch.free.insert(*q)?;
+        return Ok(());
     }
-    batch.messages.take(place, taker_of(q))
+    batch.messages.take(place, taker_of(q))?;
+    Ok(())
 }
 
 /// The receives of a call that are of any tag take what they are offered, or those of a tag.
@@ -228,9 +230,10 @@ fn settle_receives(
         → IsNextKind any_tag qs call.now done → SettlesAmong after ms more done more batch.old → SettlesAmong after ms more (with_kind any_tag call.now done) more batch.new) }
 {
     for (i, q) in call.iter().enumerate() {
-        if q.tag.is_none() == any_tag {
-            settle_receive(batch, found[i], q)?;
+        if q.tag.is_none() != any_tag {
+            continue;
         }
+        settle_receive(batch, found[i], q)?;
     }
     Ok(())
 }
