@@ -1,7 +1,7 @@
 -- The parts of a call that are of any tag, and those of a tag, as they are settled one after another.
-use Rattle.std.proofs.Common.{subst, ◌≡◌, ◌⊎◌, ℕ, zero, suc, ◌+◌, ◌<◌, Bool, true, false, List, [], ◌∷◌, ◌++◌, inl, inr, ⊎_elim, sym, refl, arith, length, take, get_or, Option, Some, None}
+use Rattle.std.proofs.Common.{subst, ◌≡◌, ◌⊎◌, ℕ, zero, suc, ◌+◌, ◌<◌, Bool, true, false, List, [], ◌∷◌, ◌++◌, inl, inr, ⊎_elim, sym, refl, ◌∙◌, ap, arith, length, take, get_or, Option, Some, None}
 use Rattle.std.proofs.lemmas.List.{take_more}
-use Rattle.std.specs.Prelude.{is_some, is_none}
+use Rattle.std.specs.Prelude.{is_some, is_none, not}
 use Rattle.std.specs.List.{AllZip, filter}
 use Rattle.mpi_model.specs.declared.message.Receive.{Receive}
 use Rattle.trace_ops.specs.Order.{Has}
@@ -47,17 +47,11 @@ module _ {X : Type 0} where
   stands_once (x ∷ xs) (suc i) d a lt h =
       ⊎_elim (λ (e : get_or xs i d ≡ x). a.0 (subst (λ (y : X). Has xs y) e (has_at xs i d (omega arith)))) (λ (k : Has (take i xs) (get_or xs i d)). stands_once xs i d a.1 (omega arith) k) h
 
-pub is_of_kind : (any_tag : Bool) (tag : Option ℕ) → is_none tag ≡ any_tag → is_of any_tag tag ≡ true
-is_of_kind true None e = refl
-is_of_kind true (Some t) e = absurd (cc)
-is_of_kind false None e = absurd (cc)
-is_of_kind false (Some t) e = refl
-
-pub is_of_other : (any_tag : Bool) (tag : Option ℕ) → (is_none tag ≡ any_tag → ⊥) → is_of any_tag tag ≡ false
-is_of_other true None e = absurd (e refl)
-is_of_other true (Some t) e = refl
-is_of_other false None e = refl
-is_of_other false (Some t) e = absurd (e refl)
+pub is_of_kind : (any_tag none : Bool) (tag : Option ℕ) → is_some tag ≡ not none → none ≡ any_tag → is_of any_tag tag ≡ true
+is_of_kind true none None h e = refl
+is_of_kind true none (Some t) h e = absurd (let f : true ≡ not true = h ∙ ap not e in cc)
+is_of_kind false none None h e = absurd (let f : false ≡ not false = h ∙ ap not e in cc)
+is_of_kind false none (Some t) h e = refl
 
 pub of_any : (any_tag : Bool) (tag : Option ℕ) → is_of any_tag tag ≡ true → any_tag ≡ true → tag ≡ None
 of_any true None h e = refl

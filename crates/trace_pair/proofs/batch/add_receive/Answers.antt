@@ -19,10 +19,10 @@ take-requires c =
 
 pub returns-in_ok-take-in-Some : goal.returns-in_ok-take-in-Some
 returns-in_ok-take-in-Some c = λ ms qs more adds apart s.
-    let found = subst (λ (o : Option ℕ). IsTakenAt (comes_after c.args.reaches.now) ms qs more c.args.batch.now.messages c.args.q o) c.in-Some.is (c.in_ok-place.ensures.found ms qs more adds apart s) in
+    let found = subst (λ (o : Option ℕ). IsTakenAt (comes_after c.args.reaches.now) ms qs more c.args.q o) c.in-Some.is (c.in_ok-place.ensures.found ms qs more adds apart s) in
     adds_taken (comes_after c.args.reaches.now) ms qs more c.args.q adds apart c.taken_by.new.batch c.args.batch.now c.taken_by.ensures.kept s (search rules) c.in-Some.place c.taker_of.result c.take.new.self found c.taker_of.ensures c.in_ok-take-in-Some.ensures
 
 pub returns-in_ok-insert-in-None : goal.returns-in_ok-insert-in-None
 returns-in_ok-insert-in-None c = λ ms qs more adds apart s.
-    let found = subst (λ (o : Option ℕ). IsTakenAt (comes_after c.args.reaches.now) ms qs more c.args.batch.now.messages c.args.q o) c.in-None.is (c.in_ok-place.ensures.found ms qs more adds apart s) in
+    let found = subst (λ (o : Option ℕ). IsTakenAt (comes_after c.args.reaches.now) ms qs more c.args.q o) c.in-None.is (c.in_ok-place.ensures.found ms qs more adds apart s) in
     adds_free (comes_after c.args.reaches.now) ms qs more c.args.q adds apart c.taken_by.new.batch c.args.batch.now c.taken_by.ensures.kept s _ (search rules) found c.in_ok-insert-in-None.ensures

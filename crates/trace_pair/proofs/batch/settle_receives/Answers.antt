@@ -1,4 +1,4 @@
-use Rattle.std.proofs.Common.{◌∷◌, ◌+◌, List, arith, subst, sym, ◌∙◌, take}
+use Rattle.std.proofs.Common.{◌≡◌, rules, ◌+◌, List, arith, subst, sym, ◌∙◌, take}
 use Rattle.std.proofs.lemmas.List.{take_all}
 use Rattle.mpi_model.specs.declared.message.Receive.{Receive}
 use Rattle.trace_pair.specs.Indexed.{is_of, with_kind}
@@ -17,7 +17,8 @@ loop-i-preserved c =
     record {
       kept = c.in_ok-settle_receive.ensures.kept ∙ w.kept;
       settled = λ after ms qs more done adds offered next s.
-          let is = is_of_kind c.args.any_tag _ (sym c.is_none.ensures ∙ c.if-is_none-any_tag.false) in
+          let same : c.is_none.result ≡ c.args.any_tag = search rules in
+          let is = is_of_kind c.args.any_tag c.is_none.result _ c.is_none.ensures same in
           let q = zip_at (IsOfferedAt after ms qs more) call c.args.found.now i _ _ offered lt in
           let t = c.in_ok-settle_receive.ensures.settled after ms qs more call (with_kind c.args.any_tag (take i call) done) adds (has_at call i _ lt) q (part_next c.args.any_tag done call i _ lt is qs adds.distinct next) (w.settled after ms qs more done adds offered next s) in
           same_done after ms more _ more c.settle_receive.new.batch t (with_kind c.args.any_tag (take (i + 1) call) done) (part_done c.args.any_tag done call i _ lt is);
