@@ -27,6 +27,7 @@ use Rattle.trace_pair.specs.declared.pair.Taker.{Taker}
 use Rattle.trace_pair.proofs.Alone.{receive_left, receive_taken}
 use Rattle.trace_pair.proofs.Fitting.{false_apart, settled_from, sure_stands}
 use Rattle.trace_pair.proofs.Holding.{fewer_apart}
+use Rattle.trace_pair.proofs.Listed.{has_take}
 use Rattle.trace_pair.proofs.Offers.{none_offered, unsure_offered, hidden_offered, is_offered}
 use Rattle.trace_pair.proofs.Known.{told_by}
 use Rattle.trace_pair.proofs.Pushes.{absent_receive, awaits_free, put_front, push_receive_open, push_receive_taken, push_receive_free, push_receive_void}
@@ -167,6 +168,15 @@ settled_none os t free opened a e f last =
 -- the receives of the next rank, behind those of the ranks before it
 pub posts_next : (os : List Ops) (i : ℕ) (n : Ops) → AreOwn 0 os → IsOwn i n → IsPosting (receives_of (take i os)) [] n.receives
 posts_next os i n a o = let p = is_posting os i n a o in record { own = p.own; order = p.order; apart_before = p.apart_before; apart_after = λ r q h j e. absurd h }
+
+-- the first receives of a rank stand apart where all do
+pub first_apart : (before own : List Receive) (n : ℕ) → ArePostedApart (between before own []) → ArePostedApart (between before (take n own) [])
+first_apart before own n apart =
+    fewer_apart (between before (take n own) []) (between before own [])
+    (λ q i. ⊎_elim
+    (λ (j : Has (before ++ take n own) q). has_left (before ++ own) [] q
+    (⊎_elim (λ (k : Has before q). has_left before own q k) (λ (k : Has (take n own) q). has_right before own q (has_take own n q k)) (has_either before (take n own) q j)))
+    (λ k. absurd k) (has_either (before ++ take n own) [] q i)) apart
 
 -- what the first ranks received is among what all did
 received_before : (os : List Ops) (n : ℕ) (q : Receive) → Has (receives_of (take n os)) q → Has (receives_of os) q

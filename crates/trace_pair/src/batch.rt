@@ -180,6 +180,7 @@ fn offered_places(
     call: &[Receive],
 ) -> Result<Vec<Option<usize>>, AllocError>
     ensures kept { batch.new ≡ batch.old }
+    ensures long { IfOk result (λ found. length found.items ≡ length call.now) }
     ensures within { IfOk result (λ found. All (IsWithin batch.old) found.items) }
     ensures found { IfOk result (λ found. (ms : List Message) (qs more : List Receive) → AddsReceives qs more call.now → SettlesAmong (comes_after reaches.now) ms more qs more batch.old
         → AllZip (IsOfferedAt (comes_after reaches.now) ms qs more) call.now found.items) }

@@ -1,4 +1,4 @@
-use Rattle.std.proofs.Common.{ℕ, ◌+◌, List, Option, subst, sym, ◌∙◌, take}
+use Rattle.std.proofs.Common.{ℕ, ◌+◌, List, Option, rules, subst, sym, ◌∙◌, take}
 use Rattle.std.specs.List.{All, AllZip}
 use Rattle.std.proofs.lemmas.List.Elements.{All-push}
 use Rattle.trace_pair.specs.After.{comes_after}
@@ -19,6 +19,7 @@ loop-q-preserved c =
     let R = comes_after c.args.reaches.now in
     record {
       kept = c.offered_place.ensures.kept ∙ w.kept;
+      long = search rules;
       within = subst (λ (l : List (Option ℕ)). All (IsWithin c.args.batch.now) l) pushed (All-push (IsWithin c.args.batch.now) c.loop-q.found.items place w.within (subst (λ (b : Batch). IsWithin b place) w.kept c.in_ok-place.ensures.within));
       found = λ ms qs more adds s.
           let t = subst (λ (b : Batch). SettlesAmong R ms more qs more b) (sym w.kept) s in
