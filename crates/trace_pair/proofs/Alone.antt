@@ -1,4 +1,4 @@
--- A message or a receive that is alone of its call, as the sets tell whether it is in a pair.
+-- A receive that is alone of its call, as the sets tell whether it is in a pair.
 use Rattle.std.proofs.Common.{subst, ◌≡◌, true, List, [], ◌∷◌, inl, inr, ⊎_elim, sym, refl, ap, None}
 use Rattle.std.specs.Prelude.{is_some}
 use Rattle.mpi_model.specs.declared.message.Message.{Message}
@@ -6,12 +6,11 @@ use Rattle.mpi_model.specs.declared.message.Receive.{Receive}
 use Rattle.mpi_model.specs.Fit.{envelopes_fit}
 use Rattle.mpi_model.specs.Trusts.{is_settled}
 use Rattle.trace_ops.specs.Order.{Has}
-use Rattle.trace_pair.specs.Calls.{AddsMessages, AddsReceives, AreApart, ArePostedApart}
-use Rattle.trace_pair.specs.Indexed.{AwaitMessages, AwaitReceives, OffersMessage, OffersReceive}
+use Rattle.trace_pair.specs.Calls.{AddsReceives, ArePostedApart}
+use Rattle.trace_pair.specs.Indexed.{AwaitReceives, OffersMessage}
 use Rattle.trace_pair.specs.Pairing.{After, Paired}
 use Rattle.trace_pair.specs.Sets.{AddsTo}
 use Rattle.trace_pair.specs.declared.pair.Couple.{Couple}
-use Rattle.trace_pair.proofs.MessageParts as messages
 use Rattle.trace_pair.proofs.ReceiveParts as receives
 
 pub the_one : {X : Type 0} (x y : X) → Has (x ∷ []) y → y ≡ x
@@ -30,17 +29,3 @@ module _ (after : After) (ms : List Message) (qs more : List Receive) (q : Recei
       (λ n r k t s. absurd (let e = the_one q r k in let u = ap (λ (x : Receive). is_some x.tag) e in cc))
       r (added.keeps r i) (λ e. absent (subst (λ (x : Receive). Has free x) e i)) f
       (subst (λ (x : Message). Paired after ms more x q) (receives.only_offer after ms qs more (q ∷ []) adds held.messages_apart apart q (inl refl) settled m offer n j h) h)
-
-module _ (after : After) (ms more : List Message) (qs : List Receive) (m : Message) (adds : AddsMessages ms more (m ∷ [])) (apart : AreApart more)
-    (waiting waits : List Message) (free opened : List Receive) (couples : List Couple) (added : AddsTo waiting waits m) (held : AwaitMessages after ms more qs waits free opened couples) (q : Receive) (offer : OffersReceive after ms qs m q) where
-  pub message_taken : ((n : Message) → Has waiting n → envelopes_fit n q ≡ true → ⊥) → Paired after more qs m q
-  message_taken none =
-      messages.taken_waiting after ms more (m ∷ []) qs adds apart held.receives_apart m (inl refl) q offer (λ n r. Has ms n) (λ n r k. k) waits free opened couples held
-      (λ n i not f. ⊎_elim (λ (k : Has waiting n). none n k f) (λ (e : n ≡ m). not e) (added.cases n i))
-
-  pub message_left : (Has waiting m → ⊥) → (n : Message) → Has waiting n → envelopes_fit n q ≡ true → (r : Receive) → Has qs r → Paired after more qs m r → ⊥
-  message_left absent n i f r j h =
-      let sole : n ≡ m → ⊥ = λ e. absent (subst (λ (x : Message). Has waiting x) e i) in
-      let g = subst (λ (x : Receive). Paired after more qs m x) (messages.only_offer after ms more (m ∷ []) qs adds apart held.receives_apart m (inl refl) q offer r j h) h in
-      messages.left_alone after ms more (m ∷ []) qs adds apart held.receives_apart m (inl refl) q offer (λ n r. Has ms n) (λ n r k. k) waits free opened couples held
-      (λ x k. the_one m x k) n (added.keeps n i) sole f g

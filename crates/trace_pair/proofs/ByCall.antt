@@ -4,7 +4,7 @@ use Rattle.std.proofs.lemmas.List.{take_more, take-append-drop}
 use Rattle.mpi_model.specs.declared.message.Message.{Message}
 use Rattle.mpi_model.specs.declared.message.Receive.{Receive}
 use Rattle.trace_ops.specs.Order.{sent_before, posted_before, Has}
-use Rattle.trace_pair.specs.Calls.{AddsMessages, AddsReceives, AreSentByCall, ArePostedByCall, IsOwnMessage, IsOwnReceive, IsPostingByCall, IsSequence, between}
+use Rattle.trace_pair.specs.Calls.{AddsMessage, AddsReceives, AreSentByCall, ArePostedByCall, IsOwnMessage, IsOwnReceive, IsPostingByCall, IsSequence, between}
 use Rattle.trace_pair.proofs.Alone.{the_one}
 use Rattle.trace_pair.proofs.Ranks.{has_left, has_right, has_either}
 
@@ -57,32 +57,25 @@ sequence_front before after xs ys s = record {
   apart_after = λ n m i j. s.apart_after n m i (has_left xs ys m j);
 }
 
--- a call of one message more
-adds_one : (ms more : List Message) (m : Message) → IsOwnMessage m → ((n : Message) → Has ms n → Has more n) → Has more m → ((n : Message) → Has more n → Has ms n ⊎ (n ≡ m)) → ((n : Message) → Has ms n → n.from ≡ m.from → sent_before n m ≡ true) → AddsMessages ms more (m ∷ [])
-adds_one ms more m own old new cases behind = record {
-  own = λ n i. subst (λ (x : Message). IsOwnMessage x) (sym (the_one m n i)) own;
-  old = old;
-  new = λ n i. subst (λ (x : Message). Has more x) (sym (the_one m n i)) new;
-  cases = λ n i. ⊎_elim (λ (j : Has ms n). inl j) (λ (e : n ≡ m). inr (inl e)) (cases n i);
-  behind = λ n k i c e. let s = the_one m k c in subst (λ (x : Message). sent_before n x ≡ true) (sym s) (behind n i (e ∙ ap (λ (x : Message). x.from) s));
-  one_call = λ k n i j. ap (λ (x : Message). x.name.call) (the_one m n j ∙ sym (the_one m k i));
-  distinct = (λ i. i, tt);
-}
-
 -- the next message of the rank
-pub adds_next : (before after xs ys : List Message) (m : Message) → IsSequence before after (xs ++ m ∷ ys) → AddsMessages (between before xs after) (between before (xs ++ m ∷ []) after) (m ∷ [])
+pub adds_next : (before after xs ys : List Message) (m : Message) → IsSequence before after (xs ++ m ∷ ys) → AddsMessage (between before xs after) (between before (xs ++ m ∷ []) after) m
 adds_next before after xs ys m s =
     let last : Has (xs ++ m ∷ ys) m = has_right xs (m ∷ ys) m (inl refl) in
-    adds_one (between before xs after) (between before (xs ++ m ∷ []) after) m (s.own m last) (next_old before after xs m) (next_new before after xs m) (next_cases before after xs m)
-    (λ n i e. one_of before after xs n (sent_before n m ≡ true) i (λ k. absurd (s.apart_before n m k last e)) (λ k. order_before xs ys m n s.order k) (λ k. absurd (s.apart_after n m k last e)))
+    record {
+      own = s.own m last;
+      old = next_old before after xs m;
+      new = next_new before after xs m;
+      cases = next_cases before after xs m;
+      behind = λ n i e. one_of before after xs n (sent_before n m ≡ true) i (λ k. absurd (s.apart_before n m k last e)) (λ k. order_before xs ys m n s.order k) (λ k. absurd (s.apart_after n m k last e));
+    }
 
 -- the message at a place of the rank, behind those before it
-pub adds_at : (before after held : List Message) (i : ℕ) (d : Message) → i < length held → IsSequence before after held → AddsMessages (between before (take i held) after) (between before (take (i + 1) held) after) (get_or held i d ∷ [])
+pub adds_at : (before after held : List Message) (i : ℕ) (d : Message) → i < length held → IsSequence before after held → AddsMessage (between before (take i held) after) (between before (take (i + 1) held) after) (get_or held i d)
 adds_at before after held i d lt s =
     let e = take_more held i d lt in
     let f = subst (λ (l : List Message). IsSequence before after l) (sym (take-append-drop (i + 1) held)) s in
     let g = sequence_front before after (take (i + 1) held) (drop (i + 1) held) f in
-    subst (λ (l : List Message). AddsMessages (between before (take i held) after) (between before l after) (get_or held i d ∷ [])) (sym e)
+    subst (λ (l : List Message). AddsMessage (between before (take i held) after) (between before l after) (get_or held i d)) (sym e)
     (adds_next before after (take i held) [] (get_or held i d) (subst (λ (l : List Message). IsSequence before after l) e g))
 
 -- ---- receives

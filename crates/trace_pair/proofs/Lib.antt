@@ -6,7 +6,6 @@ pub mod Listed
 pub mod Local
 pub mod Steps
 pub mod Holding
-pub mod MessageParts
 pub mod ReceiveParts
 pub mod Offers
 pub mod Alone

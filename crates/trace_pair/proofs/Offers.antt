@@ -1,4 +1,4 @@
--- What a receive or a message of a new call is offered, by the sets of an index.
+-- What a receive of a new call is offered, by the sets of an index.
 use Rattle.std.proofs.Common.{subst, ◌≡◌, ◌≤◌, true, false, List, inl, inr, ⊎_elim, sym, refl, ◌∙◌, ap, arith, Some, None}
 use Rattle.std.specs.Prelude.{is_some}
 use Rattle.mpi_model.specs.declared.event.OpName.{OpName}
@@ -7,9 +7,9 @@ use Rattle.mpi_model.specs.declared.message.Receive.{Receive}
 use Rattle.mpi_model.specs.Fit.{envelopes_fit, fits}
 use Rattle.mpi_model.specs.Trusts.{is_sure, is_open, is_settled}
 use Rattle.trace_ops.specs.Order.{Has, sent_before, posted_before}
-use Rattle.trace_pair.specs.Calls.{is_live, AddsMessages, AddsReceives, IsOwnMessage, IsOwnReceive}
+use Rattle.trace_pair.specs.Calls.{is_live, AddsReceives, IsOwnMessage, IsOwnReceive}
 use Rattle.trace_pair.specs.Ends.{NoneHides, SomeHides, NoneHidesUpTo, SomeHidesUpTo}
-use Rattle.trace_pair.specs.Indexed.{AreSets, AwaitMessages, AwaitReceives, Found, IsOfferedMessage, IsOfferedReceive, IsSoleMessage, IsSoleReceive}
+use Rattle.trace_pair.specs.Indexed.{AreSets, AwaitReceives, Found, IsOfferedMessage, IsSoleMessage}
 use Rattle.trace_pair.specs.Pairing.{After, paired, Paired}
 use Rattle.trace_pair.specs.Places.{sent_at, posted_at, earlier, together, no_later, sent_no_later, posted_no_later}
 use Rattle.trace_pair.specs.declared.pair.Couple.{Couple}
@@ -39,14 +39,13 @@ pub posted_from_named : (r q : Receive) → IsOwnReceive r → IsOwnReceive q �
 posted_from_named r q o p h = subst (λ (x : OpName). no_later (posted_at r) x ≡ true) (sym (posted_as_named q p)) (subst (λ (x : OpName). no_later x q.name ≡ true) (sym (posted_as_named r o)) h)
 
 -- a receive whose call isn't later, and that is another one, is no later
-up_to_no_later : (u q : Receive) → u.at ≡ q.at → u.name.call ≤ q.name.call → (posted_at u ≡ posted_at q → ⊥) → posted_no_later u q ≡ true
+pub up_to_no_later : (u q : Receive) → u.at ≡ q.at → u.name.call ≤ q.name.call → (posted_at u ≡ posted_at q → ⊥) → posted_no_later u q ≡ true
 up_to_no_later u q e le not =
     ⊎_elim (λ (x : posted_before u q ≡ true). or_left (earlier (posted_at u) (posted_at q)) (together (posted_at u) (posted_at q)) x)
     (λ d. ⊎_elim (λ (x : posted_no_later q u ≡ true). let ge = posted_le u q x in parts_apart (posted_at u) (posted_at q) e (omega arith) not)
     (λ (same : posted_at u ≡ posted_at q). absurd (not same)) d)
     (first_of_two (posted_at u) (posted_at q) e)
 
--- a receive
 module _ (after : After) (ms : List Message) (qs more call : List Receive) (adds : AddsReceives qs more call) (q : Receive) (c : Has call q) (settled : is_settled q ≡ true)
     (waiting : List Message) (free opened : List Receive) (couples : List Couple) (held : AwaitReceives after ms qs more waiting free opened couples) where
   fits_waiting : (m : Message) → Has waiting m → envelopes_fit m q ≡ true → fits m q ≡ true
@@ -115,69 +114,3 @@ module _ (after : After) (ms : List Message) (qs more call : List Receive) (adds
         no_open = λ u i o g. none u (held.opens_all u i o) (envelope_of m u g);
       },
     )
-
--- a message
-module _ (after : After) (ms more call : List Message) (qs : List Receive) (adds : AddsMessages ms more call) (m : Message) (c : Has call m)
-    (waiting : List Message) (free opened : List Receive) (couples : List Couple) (held : AwaitMessages after ms more qs waiting free opened couples) where
-  -- a free receive is in no pair of the messages that were there
-  unpaired_receive : (q : Receive) → Has free q → (n : Message) → Has ms n → Paired after ms qs n q → ⊥
-  unpaired_receive q i n k h = let v = held.frees q i in v.2 n (adds.old n k) (message-keeps after ms more qs call adds n q k v.0 h, k)
-
-  free_then : (r : Receive) → Has qs r → is_settled r ≡ true → ((n : Message) → Has ms n → Paired after ms qs n r → ⊥) → Has free r
-  free_then r i s none = held.frees_all r i s (λ n j h. none n h.1 (message-adds_none after ms more qs call adds n r h.1 i h.0))
-
-  is_sole_receive : (q : Receive) → Has qs q → Paired after more qs m q → IsSoleReceive free m q
-  is_sole_receive q i h =
-      let t = message-taken after ms more qs call adds m q c i h in
-      record {
-        member = free_then q i (settled_from q t.told t.sure_receive) t.is_free;
-        fit = envelope_of m q t.fit;
-        sole = λ r k f l.
-            let v = held.frees r k in
-            let w = t.first_free r v.0 v.1 (posted_from_named r q (held.receivers r v.0) (held.receivers q i) l) (fits_live m r (sure_stands m.trust t.sure_message) (settled_live r v.1) f) in
-            unpaired_receive r k w.0 w.1 w.2;
-      }
-
-  module _ (sure : is_sure m.trust ≡ true) where
-    fits_free : (q : Receive) → Has free q → envelopes_fit m q ≡ true → fits m q ≡ true
-    fits_free q i f = fits_live m q (sure_stands m.trust sure) (settled_live q (held.frees q i).1) f
-
-    one_sole_receive : (q r : Receive) → IsSoleReceive free m q → IsSoleReceive free m r → q ≡ r
-    one_sole_receive q r f g =
-        let a = held.frees q f.member in let b = held.frees r g.member in
-        ⊎_elim (λ (x : posted_before q r ≡ true). absurd (g.sole q f.member f.fit (posted_named q r (held.receivers q a.0) (held.receivers r b.0) (or_left (earlier (posted_at q) (posted_at r)) (together (posted_at q) (posted_at r)) x))))
-        (λ d. ⊎_elim (λ (x : posted_no_later r q ≡ true). absurd (f.sole r g.member g.fit (posted_named r q (held.receivers r b.0) (held.receivers q a.0) x)))
-        (λ (e : posted_at q ≡ posted_at r). held.receives_apart q r a.0 b.0 e) d)
-        (first_of_two (posted_at q) (posted_at r) (sym (fits_at m q (fits_free q f.member f.fit)) ∙ fits_at m r (fits_free r g.member g.fit)))
-
-    module _ (q : Receive) (f : IsSoleReceive free m q) where
-      pub hidden_receive : SomeHidesUpTo after opened m q → IsOfferedReceive after ms more qs m None
-      hidden_receive w r i h =
-          let t = message-taken after ms more qs call adds m r c i h in
-          let e = one_sole_receive r q (is_sole_receive r i h) f in
-          let v = held.frees q f.member in
-          let o = held.opens w.0 w.1 in
-          let g = fits_live m w.0 (sure_stands m.trust sure) (open_live w.0 o.1) w.2 in
-          let p : posted_no_later w.0 q ≡ true = up_to_no_later w.0 q w.4 w.5 (λ (same : posted_at w.0 ≡ posted_at q). let d = held.receives_apart w.0 q o.0 v.0 same in settled_not_open q v.1 (subst (λ (x : Receive). is_open x ≡ true) d o.1)) in
-          false_apart (after m w.0) w.3 (t.no_open w.0 o.0 o.1 (subst (λ (x : Receive). posted_no_later w.0 x ≡ true) (sym e) p) g)
-
-      pub is_offered_receive : NoneHidesUpTo after opened m q → IsOfferedReceive after ms more qs m (Some q)
-      is_offered_receive none = record {
-        member = (held.frees q f.member).0;
-        settled = (held.frees q f.member).1;
-        sure = sure;
-        fit = fits_free q f.member f.fit;
-        is_free = unpaired_receive q f.member;
-        first_free = λ r i s p g.
-            ⊎_elim (λ (w : (n : Message) × Has ms n × Paired after ms qs n r). w)
-            (λ (away : (n : Message) → Has ms n → Paired after ms qs n r → ⊥).
-            absurd (f.sole r (free_then r i s away) (envelope_of m r g) (posted_named r q (held.receivers r i) (held.receivers q (held.frees q f.member).0) p)))
-            (any_or_none (λ n. paired after ms qs n r) ms);
-        no_open = λ u i o p g. none u (held.opens_all u i o) (envelope_of m u g) (up_to (posted_at u) (posted_at q) p).rank (posted_le q u p);
-      }
-
-  pub none_offered_receive : ((q : Receive) → IsSoleReceive free m q → ⊥) → IsOfferedReceive after ms more qs m None
-  none_offered_receive none q i h = none q (is_sole_receive q i h)
-
-  pub unsure_message : is_sure m.trust ≡ false → IsOfferedReceive after ms more qs m None
-  unsure_message not q i h = let t = message-taken after ms more qs call adds m q c i h in false_apart (is_sure m.trust) not t.sure_message

@@ -1,10 +1,10 @@
 -- A rank's last message or receive, alone of its call, goes from the end of it.
-use Rattle.std.proofs.Common.{subst, ◌≡◌, true, false, ◌⊎◌, List, [], ◌∷◌, inl, inr, ⊎_elim, sym, refl, ap}
+use Rattle.std.proofs.Common.{subst, ◌≡◌, true, false, ◌⊎◌, List, [], ◌∷◌, inl, inr, ⊎_elim, sym, refl, ap, arith}
 use Rattle.mpi_model.specs.declared.message.Message.{Message}
 use Rattle.mpi_model.specs.declared.message.Receive.{Receive}
 use Rattle.mpi_model.specs.Trusts.{is_open, is_settled}
 use Rattle.trace_ops.specs.Order.{Has}
-use Rattle.trace_pair.specs.Calls.{is_live, AddsMessages, AddsReceives}
+use Rattle.trace_pair.specs.Calls.{is_live, AddsMessage, AddsReceives}
 use Rattle.trace_pair.specs.Indexed.{AreSets, IsIndexed, couple_of}
 use Rattle.trace_pair.specs.Pairing.{After, paired, Paired}
 use Rattle.trace_pair.specs.Sets.{AddsTo, DropsFrom}
@@ -12,8 +12,8 @@ use Rattle.trace_pair.specs.declared.pair.Couple.{Couple}
 use Rattle.trace_pair.proofs.Certain.{the_one_receive, the_one_message}
 use Rattle.trace_pair.proofs.Fitting.{false_apart, live_message, settled_from, settled_not_open}
 use Rattle.trace_pair.proofs.Holding.{same_sets, receive_goes, message_goes}
-use Rattle.trace_pair.proofs.Obeyed.{any_or_none, pair_obeys}
-use Rattle.trace_pair.proofs.Singles.{absent_posted, absent_sent, one_posted, one_sent}
+use Rattle.trace_pair.proofs.Obeyed.{any_or_none, before_lt, pair_obeys}
+use Rattle.trace_pair.proofs.Singles.{absent_posted, one_posted}
 use Rattle.trace_pair.proofs.Steps.{receive-keeps, receive-adds_none, message-keeps, message-adds_none}
 
 module _ (after : After) (ms : List Message) (less qs : List Receive) (q : Receive) (last : AddsReceives less qs (q ∷ []))
@@ -84,17 +84,17 @@ module _ (after : After) (ms : List Message) (less qs : List Receive) (q : Recei
       let f = only c.message v.0 (subst (λ (x : Receive). Paired after ms qs c.message x) e v.2) in
       d.dropped (subst (λ (x : Receive). Has pairs (couple_of m x)) e (subst (λ (x : Message). Has pairs (couple_of x c.receive)) f i))))
 
-module _ (after : After) (less ms : List Message) (qs : List Receive) (m : Message) (last : AddsMessages less ms (m ∷ []))
+module _ (after : After) (less ms : List Message) (qs : List Receive) (m : Message) (last : AddsMessage less ms m)
     (waiting : List Message) (free opened : List Receive) (couples : List Couple) (held : IsIndexed after ms qs waiting free opened couples) where
   absent_message : Has less m → ⊥
-  absent_message = absent_sent less ms m last
+  absent_message i = let lt = before_lt m m (last.behind m i refl) in absurd (omega arith)
 
   adds_sent : AddsTo less ms m
-  adds_sent = one_sent less ms m last
+  adds_sent = record { keeps = last.old; added = last.new; cases = last.cases }
 
   sent_gone : (w : List Message) (f o : List Receive) (c : List Couple) → AreSets (Paired after ms qs) less qs w f o c → IsIndexed after less qs w f o c
   sent_gone w f o c left = same_sets (Paired after ms qs) less qs w f o c left (Paired after less qs)
-      (λ n r i j h. message-adds_none after less ms qs (m ∷ []) last n r i j h) (λ n r i j h. message-keeps after less ms qs (m ∷ []) last n r i j h)
+      (λ n r i j h. message-adds_none after less ms qs m last n r i j h) (λ n r i j h. message-keeps after less ms qs m last n r i j h)
 
   pub pop_message_waiting : ((q : Receive) → Has couples (couple_of m q) → ⊥) → (waits : List Message) → DropsFrom waiting waits m → IsIndexed after less qs waits free opened couples
   pop_message_waiting none waits d =

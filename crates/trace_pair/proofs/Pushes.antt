@@ -1,32 +1,22 @@
--- A call of one part at the end of its rank.
+-- A call of one part more at the end of its rank.
 use Rattle.std.proofs.Common.{subst, ◌≡◌, true, false, ◌⊎◌, List, [], ◌∷◌, inl, inr, ⊎_elim, sym, refl, ap, arith}
 use Rattle.mpi_model.specs.declared.message.Message.{Message}
 use Rattle.mpi_model.specs.declared.message.Receive.{Receive}
 use Rattle.mpi_model.specs.Trusts.{is_open, is_settled}
 use Rattle.trace_ops.specs.Order.{Has}
-use Rattle.trace_pair.specs.Calls.{is_live, AddsMessages, AddsReceives, AreApart, ArePostedApart}
-use Rattle.trace_pair.specs.Indexed.{AreSets, AwaitMessages, AwaitReceives, Found, IsIndexed, OffersMessage, OffersReceive, couple_of}
+use Rattle.trace_pair.specs.Calls.{is_live, AddsMessage, AddsReceives, AreApart, ArePostedApart}
+use Rattle.trace_pair.specs.Indexed.{AreSets, AwaitReceives, Found, IsIndexed, OffersMessage, TakesMessage, couple_of}
 use Rattle.trace_pair.specs.Pairing.{After, Paired}
-use Rattle.trace_pair.specs.Sets.{AddsTo, DropsFrom, IsSameSet}
+use Rattle.trace_pair.specs.Sets.{AddsTo, DropsFrom}
 use Rattle.trace_pair.specs.declared.pair.Couple.{Couple}
+use Rattle.trace_pair.proofs.Certain.{the_one_receive}
 use Rattle.trace_pair.proofs.Fitting.{settled_from, settled_not_open, sure_stands}
-use Rattle.trace_pair.proofs.Holding.{same_sets, same_lists, receive_free, receive_open, receive_void, message_waits, message_void}
+use Rattle.trace_pair.proofs.Holding.{same_sets, couple_found, receive_free, receive_open, receive_void, message_waits, message_void}
 use Rattle.trace_pair.specs.Coupled.{IsNew}
 use Rattle.trace_pair.proofs.Known.{new_couple}
-use Rattle.trace_pair.proofs.MessageParts as messages
 use Rattle.trace_pair.proofs.Obeyed.{before_lt, posted_lt}
 use Rattle.trace_pair.proofs.ReceiveParts as receives
-use Rattle.trace_pair.proofs.Steps.{receive-keeps, receive-adds_none, receive-taken, message-keeps, message-adds_none, message-taken}
-
-same_set : {X : Type 0} (xs : List X) → IsSameSet xs xs
-same_set xs = record { keeps = λ x i. i; was = λ x i. i }
-
--- what is added to a set stands in front of it
-added_front : {X : Type 0} (xs ys : List X) (x : X) → AddsTo xs ys x → IsSameSet (x ∷ xs) ys
-added_front {X = X} xs ys x a = record {
-  keeps = λ y i. ⊎_elim (λ (e : y ≡ x). subst (λ (z : X). Has ys z) (sym e) a.added) (λ (k : Has xs y). a.keeps y k) i;
-  was = λ y i. ⊎_elim (λ (k : Has xs y). inr k) (λ (e : y ≡ x). inl e) (a.cases y i);
-}
+use Rattle.trace_pair.proofs.Steps.{receive-keeps, receive-adds_none, receive-taken, message-keeps, message-adds_none, message-taken, takes_message}
 
 pub put_front : {X : Type 0} (xs : List X) (x : X) → AddsTo xs (x ∷ xs) x
 put_front {X = X} xs x = record { keeps = λ y i. inr i; added = inl refl; cases = λ y i. ⊎_elim (λ (e : y ≡ x). inr e) (λ (k : Has xs y). inl k) i }
@@ -87,48 +77,56 @@ module _ (after : After) (ms : List Message) (qs more : List Receive) (q : Recei
       (receive_void Old ms qs waiting free opened couples before more q one_more (adds.own q (inl refl)) posted_apart (λ m i h. absent_receive h.1) (λ o. cc) (λ s. cc))
       (λ m i h. let t = receive-taken after ms qs more (q ∷ []) adds m q i (inl refl) h in let s = settled_from q t.told t.sure_receive in absurd (cc))
 
-module _ (after : After) (ms more : List Message) (qs : List Receive) (m : Message) (adds : AddsMessages ms more (m ∷ [])) (apart : AreApart more)
+module _ (after : After) (ms more : List Message) (qs : List Receive) (m : Message) (adds : AddsMessage ms more m) (apart : AreApart more)
     (waiting : List Message) (free opened : List Receive) (couples : List Couple) (held : IsIndexed after ms qs waiting free opened couples) where
-  pub absent_message : Has ms m → ⊥
-  absent_message i = let lt = before_lt m m (adds.behind m m i (inl refl) refl) in absurd (omega arith)
+  absent_message : Has ms m → ⊥
+  absent_message i = let lt = before_lt m m (adds.behind m i refl) in absurd (omega arith)
 
   one_sent : AddsTo ms more m
-  one_sent = record { keeps = adds.old; added = adds.new m (inl refl); cases = λ n i. ⊎_elim (λ (k : Has ms n). inl k) (λ (k : Has (m ∷ []) n). inr (⊎_elim (λ (e : n ≡ m). e) (λ x. absurd x) k)) (adds.cases n i) }
+  one_sent = record { keeps = adds.old; added = adds.new; cases = adds.cases }
 
   abbrev Sent : Message → Receive → Type 0
   Sent = Found after more qs (λ n r. Has ms n)
 
   sent_before_it : AreSets Sent ms qs waiting free opened couples
   sent_before_it = same_sets (Paired after ms qs) ms qs waiting free opened couples held Sent
-      (λ n r i j h. (message-keeps after ms more qs (m ∷ []) adds n r i j h, i)) (λ n r i j h. message-adds_none after ms more qs (m ∷ []) adds n r i j h.0)
+      (λ n r i j h. (message-keeps after ms more qs m adds n r i j h, i)) (λ n r i j h. message-adds_none after ms more qs m adds n r i j h.0)
 
   -- the message comes to those that wait
-  pub awaits_message : is_live m.trust ≡ true → (waits : List Message) → AddsTo waiting waits m → AwaitMessages after ms more qs waits free opened couples
-  awaits_message l waits a = message_waits Sent ms qs waiting free opened couples sent_before_it more m one_sent (adds.own m (inl refl)) apart (λ q i h. absent_message h.1) waits l a
+  awaits_message : is_live m.trust ≡ true → (waits : List Message) → AddsTo waiting waits m → AreSets Sent more qs waits free opened couples
+  awaits_message l waits a = message_waits Sent ms qs waiting free opened couples sent_before_it more m one_sent adds.own apart (λ q i h. absent_message h.1) waits l a
 
-  all_sent_found : (w : List Message) (f o : List Receive) (p : List Couple) → AreSets Sent more qs w f o p → ((q : Receive) → Has qs q → Paired after more qs m q → ⊥) → IsIndexed after more qs w f o p
-  all_sent_found w f o p h none = same_sets Sent more qs w f o p h (Paired after more qs) (λ n r i j g. g.0)
-      (λ n r i j g. (g, ⊎_elim (λ (k : Has ms n). k) (λ (e : n ≡ m). absurd (none r j (subst (λ (x : Message). Paired after more qs x r) e g))) (one_sent.cases n i)))
+  -- where it is in no pair, all pairs are found
+  all_sent_found : (w : List Message) → AreSets Sent more qs w free opened couples → ((q : Receive) → Has qs q → TakesMessage after ms qs m q → ⊥) → IsIndexed after more qs w free opened couples
+  all_sent_found w h none = same_sets Sent more qs w free opened couples h (Paired after more qs) (λ n r i j g. g.0)
+      (λ n r i j g. (g, ⊎_elim (λ (k : Has ms n). k)
+      (λ (e : n ≡ m). absurd (none r j (message-taken after ms more qs m adds r j (subst (λ (x : Message). Paired after more qs x r) e g)))) (adds.cases n i)))
 
-  pub push_message_waits : is_live m.trust ≡ true → ((q : Receive) → Has qs q → Paired after more qs m q → ⊥) → (waits : List Message) → AddsTo waiting waits m → IsIndexed after more qs waits free opened couples
-  push_message_waits l none waits a = all_sent_found waits free opened couples (awaits_message l waits a) none
-
-  pub new_message : (q : Receive) → OffersReceive after ms qs m q → IsNew couples (couple_of m q)
-  new_message q offer =
-      new_couple Sent more qs (m ∷ waiting) free opened couples (awaits_message (sure_stands m.trust offer.sure) (m ∷ waiting) (put_front waiting m)) m q one_sent.added offer.member offer.settled offer.fit
-      (λ r j h. absent_message h.1) (λ n j h. offer.is_free n h.1 (message-adds_none after ms more qs (m ∷ []) adds n q h.1 offer.member h.0))
-
-  pub push_message_taken : (q : Receive) → OffersReceive after ms qs m q → Paired after more qs m q → (frees : List Receive) (pairs : List Couple) → DropsFrom free frees q → AddsTo couples pairs (couple_of m q)
-      → IsIndexed after more qs waiting frees opened pairs
-  push_message_taken q offer h frees pairs f p =
-      let R = Found after more qs (λ n r. Has ms n ⊎ (n ≡ m)) in
-      same_sets R more qs waiting frees opened pairs
-      (messages.settles_taken after ms more (m ∷ []) qs adds apart held.receives_apart m (inl refl) q offer (λ n r. Has ms n) (λ n r k. k) (m ∷ waiting) free opened couples
-      (awaits_message (sure_stands m.trust offer.sure) (m ∷ waiting) (put_front waiting m)) h waiting frees pairs (take_front waiting m (λ i. absent_message (held.waits m i).0)) f p)
-      (Paired after more qs) (λ n r i j g. g.0) (λ n r i j g. (g, one_sent.cases n i))
+  pub push_message_waits : is_live m.trust ≡ true → ((q : Receive) → Has qs q → TakesMessage after ms qs m q → ⊥) → (waits : List Message) → AddsTo waiting waits m → IsIndexed after more qs waits free opened couples
+  push_message_waits l none waits a = all_sent_found waits (awaits_message l waits a) none
 
   pub push_message_void : (is_live m.trust ≡ true → ⊥) → IsIndexed after more qs waiting free opened couples
   push_message_void not =
-      all_sent_found waiting free opened couples
-      (message_void Sent ms qs waiting free opened couples sent_before_it more m one_sent (adds.own m (inl refl)) apart (λ q i h. absent_message h.1) not)
-      (λ q i h. let t = message-taken after ms more qs (m ∷ []) adds m q (inl refl) i h in not (sure_stands m.trust t.sure_message))
+      all_sent_found waiting (message_void Sent ms qs waiting free opened couples sent_before_it more m one_sent adds.own apart (λ q i h. absent_message h.1) not)
+      (λ q i t. not (sure_stands m.trust t.sure_message))
+
+  module _ (q : Receive) (i : Has qs q) (takes : TakesMessage after ms qs m q) where
+    came : AreSets Sent more qs (m ∷ waiting) free opened couples
+    came = awaits_message (sure_stands m.trust takes.sure_message) (m ∷ waiting) (put_front waiting m)
+
+    pub new_message : IsNew couples (couple_of m q)
+    new_message =
+        new_couple Sent more qs (m ∷ waiting) free opened couples came m q adds.new i (settled_from q takes.told takes.sure_receive) takes.fit
+        (λ r j h. absent_message h.1) (λ n j h. takes.is_free n h.1 (message-adds_none after ms more qs m adds n q h.1 i h.0))
+
+    -- the two are a couple, and the message is in no other
+    pub push_message_taken : (frees : List Receive) (pairs : List Couple) → DropsFrom free frees q → AddsTo couples pairs (couple_of m q) → IsIndexed after more qs waiting frees opened pairs
+    push_message_taken frees pairs f p =
+        let paired = takes_message after ms more qs m adds q i held.receives_apart takes in
+        same_sets (λ n r. Sent n r ⊎ ((n ≡ m) × (r ≡ q))) more qs waiting frees opened pairs
+        (couple_found Sent more qs (m ∷ waiting) free opened couples came m q adds.new i waiting frees pairs (take_front waiting m (λ k. absent_message (held.waits m k).0)) f p)
+        (Paired after more qs)
+        (λ n r k j x. ⊎_elim (λ (y : Sent n r). y.0)
+        (λ (e : (n ≡ m) × (r ≡ q)). subst (λ (z : Message). Paired after more qs z r) (sym e.0) (subst (λ (z : Receive). Paired after more qs m z) (sym e.1) paired)) x)
+        (λ n r k j h. ⊎_elim (λ (l : Has ms n). inl (h, l))
+        (λ (e : n ≡ m). inr (e, the_one_receive after more qs held.receives_apart m r q adds.new j i (subst (λ (z : Message). Paired after more qs z r) e h) paired)) (adds.cases n k))

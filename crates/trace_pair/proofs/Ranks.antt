@@ -6,7 +6,7 @@ use Rattle.std.specs.Prelude.{slice_range}
 use Rattle.mpi_model.specs.declared.event.OpName.{OpName}
 use Rattle.mpi_model.specs.declared.message.Message.{Message}
 use Rattle.trace_ops.specs.Order.{sent_before, Has, AreInOrder, named_before}
-use Rattle.trace_pair.specs.Calls.{AddsMessages, between, IsSequence, AreDistinct, IsOneCall, IsWhole}
+use Rattle.trace_pair.specs.Calls.{between}
 use Rattle.trace_pair.proofs.Obeyed.{and_true, both, either}
 
 pub has_left : {X : Type 0} (xs ys : List X) (x : X) → Has xs x → Has (xs ++ ys) x

@@ -4,7 +4,7 @@ use Rattle.mpi_model.specs.declared.event.OpName.{OpName}
 use Rattle.mpi_model.specs.declared.message.Message.{Message}
 use Rattle.mpi_model.specs.declared.message.Receive.{Receive}
 use Rattle.trace_ops.specs.Order.{Has}
-use Rattle.trace_pair.specs.Calls.{AddsMessages, AddsReceives, AreApart, ArePostedApart, AreSentAlone, ArePostedAlone}
+use Rattle.trace_pair.specs.Calls.{AddsMessage, AddsReceives, AreApart, ArePostedApart, AreSentAlone, ArePostedAlone}
 use Rattle.trace_pair.specs.Sets.{AddsTo}
 use Rattle.trace_pair.proofs.Alone.{the_one}
 use Rattle.trace_pair.proofs.Obeyed.{before_lt, posted_lt}
@@ -17,25 +17,19 @@ sent_apart ms alone m n i j e = alone m n i j (ap (λ (o : OpName). o.rank) e) (
 pub fewer_sent_alone : (ms more : List Message) → ((n : Message) → Has ms n → Has more n) → AreSentAlone more → AreSentAlone ms
 fewer_sent_alone ms more old alone m n i j e f = alone m n (old m i) (old n j) e f
 
-module _ (ms more : List Message) (m : Message) (adds : AddsMessages ms more (m ∷ [])) where
-  pub absent_sent : Has ms m → ⊥
-  absent_sent i = let lt = before_lt m m (adds.behind m m i (inl refl) refl) in absurd (omega arith)
-
-  pub one_sent : AddsTo ms more m
-  one_sent = record { keeps = adds.old; added = adds.new m (inl refl); cases = λ n i. ⊎_elim (λ (k : Has ms n). inl k) (λ (k : Has (m ∷ []) n). inr (the_one m n k)) (adds.cases n i) }
-
+module _ (ms more : List Message) (m : Message) (adds : AddsMessage ms more m) where
   -- what was there isn't of the new call
   old_call : (n k : Message) → Has ms n → k ≡ m → n.from ≡ k.from → n.name.call ≡ k.name.call → ⊥
   old_call n k i d e f =
-      let lt = before_lt m n (adds.behind n m i (inl refl) (e ∙ ap (λ (x : Message). x.from) d)) in
+      let lt = before_lt m n (adds.behind n i (e ∙ ap (λ (x : Message). x.from) d)) in
       let g : n.name.call ≡ m.name.call = f ∙ ap (λ (x : Message). x.name.call) d in
       omega (arith, lt, g)
 
   pub more_sent_alone : AreSentAlone ms → AreSentAlone more
   more_sent_alone alone a b i j e f =
       ⊎_elim
-      (λ (k : Has ms a). ⊎_elim (λ (l : Has ms b). alone a b k l e f) (λ (l : Has (m ∷ []) b). absurd (old_call a b k (the_one m b l) e f)) (adds.cases b j))
-      (λ (k : Has (m ∷ []) a). ⊎_elim (λ (l : Has ms b). absurd (old_call b a l (the_one m a k) (sym e) (sym f))) (λ (l : Has (m ∷ []) b). the_one m a k ∙ sym (the_one m b l)) (adds.cases b j))
+      (λ (k : Has ms a). ⊎_elim (λ (l : Has ms b). alone a b k l e f) (λ (l : b ≡ m). absurd (old_call a b k l e f)) (adds.cases b j))
+      (λ (k : a ≡ m). ⊎_elim (λ (l : Has ms b). absurd (old_call b a l k (sym e) (sym f))) (λ (l : b ≡ m). k ∙ sym l) (adds.cases b j))
       (adds.cases a i)
 
 -- ---- receives

@@ -1,11 +1,11 @@
 -- The operations of one call more at the end of their rank: what stays, and what they are paired with.
-use Rattle.std.proofs.Common.{subst, ◌≡◌, true, ◌&&◌, ◌⊎◌, List, inl, inr, ⊎_elim, sym, ◌∙◌, arith, eqb}
+use Rattle.std.proofs.Common.{subst, ◌≡◌, true, ◌&&◌, ◌⊎◌, List, inl, inr, ⊎_elim, sym, ◌∙◌, ap, arith, eqb}
 use Rattle.std.specs.Prelude.{is_some, not}
 use Rattle.std.proofs.lemmas.Bool.Decides.{nat_tests}
 use Rattle.mpi_model.specs.declared.event.OpName.{OpName}
 use Rattle.mpi_model.specs.declared.message.Message.{Message}
 use Rattle.mpi_model.specs.declared.message.Receive.{Receive}
-use Rattle.trace_pair.specs.Calls.{AddsMessages, AddsReceives, ArePostedApart, AreApart}
+use Rattle.trace_pair.specs.Calls.{AddsMessage, AddsReceives, ArePostedApart, AreApart}
 use Rattle.mpi_model.specs.Fit.{fits}
 use Rattle.trace_pair.specs.Indexed.{TakesMessage, TakesReceive}
 use Rattle.trace_ops.specs.Order.{sent_before, posted_before, Has}
@@ -14,7 +14,7 @@ use Rattle.trace_pair.specs.Pairing.{After, Paired}
 use Rattle.trace_pair.specs.Places.{sent_at, posted_at, earlier, together, no_later}
 use Rattle.trace_pair.proofs.Fitting.{one_sender, fits_source, fits_at, settled_from, settled_parts}
 use Rattle.trace_pair.proofs.Obeyed.{both, either, and_true, or_right, not_true, not_true-elim, before_lt, posted_lt, sent_earlier, posted_earlier, pair_obeys, obeys_paired}
-use Rattle.trace_pair.proofs.Certain.{one_receive, one_message, in_order}
+use Rattle.trace_pair.proofs.Certain.{one_receive, one_message, in_order, not_sent}
 use Rattle.trace_pair.proofs.Local.{IsUpTo, stays_paired, stays_unpaired}
 
 -- two messages that fit one told receive have one sender
@@ -37,11 +37,12 @@ first_of_two a b h =
     (λ d. inr d)
     (in_order a b h)
 
-module _ (after : After) (ms more : List Message) (qs : List Receive) (call : List Message) (adds : AddsMessages ms more call) where
+module _ (after : After) (ms more : List Message) (qs : List Receive) (m : Message) (adds : AddsMessage ms more m) where
   none_sent : (n p : Message) → Has more n → Has ms p → IsUpTo (sent_at n) (sent_at p) → Has ms n
   none_sent n p i j s =
-      ⊎_elim (λ (k : Has ms n). k) (λ (k : Has call n).
-      let x = before_lt n p (adds.behind p n j k (sym s.rank)) in let y = s.call in absurd (omega arith)) (adds.cases n i)
+      ⊎_elim (λ (k : Has ms n). k) (λ (e : n ≡ m).
+      let u = subst (λ (x : Message). IsUpTo (sent_at x) (sent_at p)) e s in
+      let x = before_lt m p (adds.behind p j (sym u.rank)) in let y = u.call in absurd (omega arith)) (adds.cases n i)
 
   pub message-keeps : (n : Message) (q : Receive) → Has ms n → Has qs q → Paired after ms qs n q → Paired after more qs n q
   message-keeps n q i j h = stays_paired after ms qs more qs adds.old none_sent (λ r k. k) (λ r p k _ _. k) n q i j h
@@ -49,8 +50,8 @@ module _ (after : After) (ms more : List Message) (qs : List Receive) (call : Li
   pub message-adds_none : (n : Message) (q : Receive) → Has ms n → Has qs q → Paired after more qs n q → Paired after ms qs n q
   message-adds_none n q i j h = stays_unpaired after ms qs more qs adds.old none_sent (λ r k. k) (λ r p k _ _. k) n q i j h
 
-  pub takes_message : (m : Message) (q : Receive) → Has call m → Has qs q → ArePostedApart qs → TakesMessage after ms qs more call m q → Paired after more qs m q
-  takes_message m q c j named t = obeys_paired after more qs m q (record {
+  pub takes_message : (q : Receive) → Has qs q → ArePostedApart qs → TakesMessage after ms qs m q → Paired after more qs m q
+  takes_message q j named t = obeys_paired after more qs m q (record {
     told = t.told;
     sure_receive = t.sure_receive;
     sure_message = t.sure_message;
@@ -69,16 +70,16 @@ module _ (after : After) (ms more : List Message) (qs : List Receive) (call : Li
         (λ (e : posted_at w.0 ≡ posted_at q). absurd (t.is_free n k (subst (λ (x : Receive). Paired after ms qs n x) (named w.0 q w.1 j e) w.2))) c)
         (first_of_two (posted_at w.0) (posted_at q) (sym a ∙ b)) in
         (w.0, w.1, p, message-keeps n w.0 k w.1 w.2))
-        (λ (k : Has call n). t.parts n k s f)
+        (λ (e : n ≡ m). absurd (not_sent m n s (ap (λ (x : Message). x.name) e)))
         (adds.cases n i);
     receives = λ r i s p f.
         let w = t.first_free r i s p f in
         let g = (pair_obeys after ms qs w.0 r w.2).fit in
-        (w.0, adds.old w.0 w.1, adds.behind w.0 m w.1 c (same_sender w.0 m r (settled_parts r s).0 g f), message-keeps w.0 r w.1 i w.2);
+        (w.0, adds.old w.0 w.1, adds.behind w.0 w.1 (same_sender w.0 m r (settled_parts r s).0 g f), message-keeps w.0 r w.1 i w.2);
   })
 
-  pub message-taken : (m : Message) (q : Receive) → Has call m → Has qs q → Paired after more qs m q → TakesMessage after ms qs more call m q
-  message-taken m q c j h =
+  pub message-taken : (q : Receive) → Has qs q → Paired after more qs m q → TakesMessage after ms qs m q
+  message-taken q j h =
       let o = pair_obeys after more qs m q h in
       record {
         told = o.told;
@@ -88,17 +89,16 @@ module _ (after : After) (ms more : List Message) (qs : List Receive) (call : Li
         no_open = o.no_open;
         is_free = λ n i g.
             let f = (pair_obeys after ms qs n q g).fit in
-            let b = adds.behind n m i c (same_sender n m q o.told f o.fit) in
-            one_message after more qs m n q (adds.new m c) (adds.old n i) j (sent_earlier m n b) h (message-keeps n q i j g);
+            let b = adds.behind n i (same_sender n m q o.told f o.fit) in
+            one_message after more qs m n q adds.new (adds.old n i) j (sent_earlier m n b) h (message-keeps n q i j g);
         first_free = λ r i s p f.
             let w = o.receives r i s p f in
-            let k = ⊎_elim (λ (x : Has ms w.0). x) (λ (x : Has call w.0). let e = adds.one_call m w.0 c x in let l = before_lt m w.0 w.2 in absurd (omega arith)) (adds.cases w.0 w.1) in
+            let k = ⊎_elim (λ (x : Has ms w.0). x) (λ (e : w.0 ≡ m). let c = ap (λ (x : Message). x.name.call) e in let l = before_lt m w.0 w.2 in absurd (omega arith)) (adds.cases w.0 w.1) in
             (w.0, k, message-adds_none w.0 r k i w.3);
         none_waits = λ n i f.
-            let b = adds.behind n m i c (same_sender n m q o.told f o.fit) in
+            let b = adds.behind n i (same_sender n m q o.told f o.fit) in
             let w = o.messages n (adds.old n i) (sent_earlier m n b) f in
             (w.0, w.1, message-adds_none n w.0 i w.1 w.3);
-        parts = λ n i s f. o.messages n (adds.new n i) s f;
       }
 
 module _ (after : After) (ms : List Message) (qs more call : List Receive) (adds : AddsReceives qs more call) where

@@ -1,28 +1,28 @@
 -- What a new message goes to, and what a new receive takes, as an index finds it where each call has one part.
-use Rattle.std.proofs.Common.{◌≡◌, true, false, ◌&&◌, List, [], ◌∷◌, inl, ⊎_elim, sym, refl, ◌∙◌, ap, arith, eqb}
+use Rattle.std.proofs.Common.{subst, ◌≡◌, true, false, ◌&&◌, List, [], ◌∷◌, inl, ⊎_elim, sym, refl, ◌∙◌, ap, arith, eqb}
 use Rattle.std.specs.Prelude.{not}
 use Rattle.std.proofs.lemmas.Bool.Decides.{nat_tests}
 use Rattle.mpi_model.specs.declared.event.OpName.{OpName}
 use Rattle.mpi_model.specs.declared.message.Message.{Message}
 use Rattle.mpi_model.specs.declared.message.Receive.{Receive}
-use Rattle.mpi_model.specs.Fit.{envelopes_fit}
-use Rattle.mpi_model.specs.Trusts.{is_sure, is_settled}
+use Rattle.mpi_model.specs.Fit.{envelopes_fit, fits}
+use Rattle.mpi_model.specs.Trusts.{is_sure, is_open, is_settled}
 use Rattle.trace_ops.specs.Order.{Has}
-use Rattle.trace_pair.specs.Calls.{AddsMessages, AddsReceives, AreApart, ArePostedApart, AreSentAlone, ArePostedAlone}
+use Rattle.trace_pair.specs.Calls.{AddsReceives, ArePostedApart, AreSentAlone, ArePostedAlone}
 use Rattle.trace_pair.specs.Ends.{NoneHides, SomeHides, NoneHidesUpTo, SomeHidesUpTo}
-use Rattle.trace_pair.specs.Indexed.{AwaitMessages, AwaitReceives, IsFirstMessage, IsFirstReceive, IsIndexed, IsSoleMessage, IsSoleReceive, OffersMessage, OffersReceive, name_lt}
-use Rattle.trace_pair.specs.Pairing.{After, Paired}
-use Rattle.trace_pair.specs.Places.{earlier, together, no_later}
+use Rattle.trace_pair.specs.Indexed.{AwaitReceives, IsFirstMessage, IsFirstReceive, IsIndexed, IsSoleMessage, OffersMessage, TakesMessage, name_lt}
+use Rattle.trace_pair.specs.Pairing.{After, paired, Paired}
+use Rattle.trace_pair.specs.Places.{posted_at, earlier, together, no_later, posted_no_later}
 use Rattle.trace_pair.specs.declared.pair.Couple.{Couple}
-use Rattle.trace_pair.proofs.Alone.{message_taken, message_left, receive_taken, receive_left}
-use Rattle.trace_pair.proofs.Certain.{no_later_apart, one_call, one_part}
-use Rattle.trace_pair.proofs.Fitting.{false_apart, one_sender, settled_parts, sure_stands}
-use Rattle.trace_pair.proofs.Obeyed.{both, either}
-use Rattle.trace_pair.proofs.Offers.{none_offered, unsure_offered, hidden_offered, is_offered, none_offered_receive, hidden_receive, is_offered_receive}
-use Rattle.trace_pair.proofs.Pushes.{absent_message, absent_receive, awaits_message, awaits_free, put_front}
+use Rattle.trace_pair.proofs.Alone.{receive_taken, receive_left}
+use Rattle.trace_pair.proofs.Certain.{in_order, no_later_apart, one_call, one_part}
+use Rattle.trace_pair.proofs.Fitting.{envelope_of, false_apart, fits_live, live_message, one_sender, open_live, settled_from, settled_live, settled_not_open, settled_parts, sure_stands}
+use Rattle.trace_pair.proofs.Local.{up_to}
+use Rattle.trace_pair.proofs.Obeyed.{any_or_none, both, either, posted_le}
+use Rattle.trace_pair.proofs.Offers.{none_offered, unsure_offered, hidden_offered, is_offered, posted_named, up_to_no_later}
+use Rattle.trace_pair.proofs.Pushes.{absent_receive, awaits_free, put_front}
 use Rattle.trace_pair.proofs.Queued.{fit_parts}
-use Rattle.trace_pair.proofs.Singles.{sent_apart, posted_apart, more_sent_alone, more_posted_alone}
-use Rattle.trace_pair.proofs.Steps.{message-taken}
+use Rattle.trace_pair.proofs.Singles.{posted_apart, more_posted_alone}
 
 -- the name of a call that isn't later stands before the other, where the two are of one call only if they are one
 before_named : (a b : OpName) → no_later a b ≡ true → (a.call ≡ b.call → a ≡ b) → name_lt a b ≡ true
@@ -37,44 +37,67 @@ before_named a b h alone =
 
 -- ---- a message
 
-module _ (after : After) (ms more : List Message) (qs : List Receive) (m : Message) (adds : AddsMessages ms more (m ∷ []))
-    (waiting : List Message) (free opened : List Receive) (couples : List Couple) (held : IsIndexed after ms qs waiting free opened couples) (sent_alone : AreSentAlone ms) (posted_alone : ArePostedAlone qs) where
-  pub unsure_untaken : is_sure m.trust ≡ false → (q : Receive) → Has qs q → Paired after more qs m q → ⊥
-  unsure_untaken not q i h = let t = message-taken after ms more qs (m ∷ []) adds m q (inl refl) i h in false_apart (is_sure m.trust) not t.sure_message
+module _ (after : After) (ms : List Message) (qs : List Receive) (waiting : List Message) (free opened : List Receive) (couples : List Couple) (held : IsIndexed after ms qs waiting free opened couples)
+    (alone : ArePostedAlone qs) (m : Message) where
+  -- a free receive of no later call stands before one of the same rank
+  ahead : (r q : Receive) → Has free r → Has qs q → envelopes_fit m r ≡ true → envelopes_fit m q ≡ true → posted_no_later r q ≡ true → name_lt r.name q.name ≡ true
+  ahead r q k i f g l =
+      let j = (held.frees r k).0 in
+      before_named r.name q.name (posted_named r q (held.receivers r j) (held.receivers q i) l) (λ e. ap (λ (x : Receive). x.name) (alone r q j i (sym (fit_parts m r f).1 ∙ (fit_parts m q g).1) e))
 
-  module _ (sure : is_sure m.trust ≡ true) where
-    apart : AreApart more
-    apart = sent_apart more (more_sent_alone ms more m adds sent_alone)
+  -- what may take the message is the first free receive that it fits
+  taker_first : (q r : Receive) → Has qs q → TakesMessage after ms qs m q → IsFirstReceive free m r → q ≡ r
+  taker_first q r i t first =
+      let k : Has free q = held.frees_all q i (settled_from q t.told t.sure_receive) t.is_free in
+      let v = held.frees r first.member in
+      let f = envelope_of m q t.fit in
+      ⊎_elim (λ (x : posted_no_later q r ≡ true). absurd (first.first q k f (ahead q r k v.0 f first.fit x)))
+      (λ d. ⊎_elim
+      (λ (x : posted_no_later r q ≡ true). let w = t.first_free r v.0 v.1 x (fits_live m r (sure_stands m.trust t.sure_message) (settled_live r v.1) first.fit) in absurd (v.2 w.0 w.1 w.2))
+      (λ (e : posted_at q ≡ posted_at r). held.receives_apart q r i v.0 e) d)
+      (in_order (posted_at q) (posted_at r) (sym (fit_parts m q f).1 ∙ (fit_parts m r first.fit).1))
 
-    -- the message with those that wait
-    came : AwaitMessages after ms more qs (m ∷ waiting) free opened couples
-    came = awaits_message after ms more qs m adds apart waiting free opened couples held (sure_stands m.trust sure) (m ∷ waiting) (put_front waiting m)
+  pub none_free : ((r : Receive) → Has free r → envelopes_fit m r ≡ true → ⊥) → (q : Receive) → Has qs q → TakesMessage after ms qs m q → ⊥
+  none_free none q i t = none q (held.frees_all q i (settled_from q t.told t.sure_receive) t.is_free) (envelope_of m q t.fit)
 
-    pub none_free : ((r : Receive) → Has free r → envelopes_fit m r ≡ true → ⊥) → (q : Receive) → Has qs q → Paired after more qs m q → ⊥
-    none_free none = none_offered_receive after ms more (m ∷ []) qs adds m (inl refl) (m ∷ waiting) free opened couples came (λ q s. none q s.member s.fit)
+  module _ (r : Receive) (first : IsFirstReceive free m r) where
+    pub hidden_untaken : SomeHidesUpTo after opened m r → (q : Receive) → Has qs q → TakesMessage after ms qs m q → ⊥
+    hidden_untaken h q i t =
+        let u = h.0 in
+        let o = held.opens u h.1 in
+        let v = held.frees r first.member in
+        let p : posted_no_later u r ≡ true = up_to_no_later u r h.4 h.5 (λ (same : posted_at u ≡ posted_at r). let d = held.receives_apart u r o.0 v.0 same in settled_not_open r v.1 (subst (λ (x : Receive). is_open x ≡ true) d o.1)) in
+        false_apart (after m u) h.3
+        (t.no_open u o.0 o.1 (subst (λ (x : Receive). posted_no_later u x ≡ true) (sym (taker_first q r i t first)) p) (fits_live m u (sure_stands m.trust t.sure_message) (open_live u o.1) h.2))
 
-    module _ (q : Receive) (first : IsFirstReceive free m q) where
-      sole : IsSoleReceive free m q
-      sole = record {
-        member = first.member;
-        fit = first.fit;
-        sole = λ r i f l. first.first r i f (before_named r.name q.name l (λ e.
-        ap (λ (x : Receive). x.name) (posted_alone r q (held.frees r i).0 (held.frees q first.member).0 (sym (fit_parts m r f).1 ∙ (fit_parts m q first.fit).1) e)));
-      }
+    pub other_waits : (n : Message) → Has waiting n → envelopes_fit n r ≡ true → (q : Receive) → Has qs q → TakesMessage after ms qs m q → ⊥
+    other_waits n k f q i t =
+        let o = held.waits n k in
+        let fit = fits_live n r o.1 (settled_live r (held.frees r first.member).1) f in
+        let w = t.none_waits n o.0 (subst (λ (x : Receive). fits n x ≡ true) (sym (taker_first q r i t first)) fit) in
+        o.2 w.0 w.1 w.2
 
-      pub hidden_untaken : SomeHidesUpTo after opened m q → (r : Receive) → Has qs r → Paired after more qs m r → ⊥
-      hidden_untaken h = hidden_receive after ms more (m ∷ []) qs adds m (inl refl) (m ∷ waiting) free opened couples came sure q sole h
-
-      module _ (none : NoneHidesUpTo after opened m q) where
-        pub is_offer : OffersReceive after ms qs m q
-        is_offer = is_offered_receive after ms more (m ∷ []) qs adds m (inl refl) (m ∷ waiting) free opened couples came sure q sole none
-
-        pub other_waits : (n : Message) → Has waiting n → envelopes_fit n q ≡ true → (r : Receive) → Has qs r → Paired after more qs m r → ⊥
-        other_waits n i f = message_left after ms more qs m adds apart waiting (m ∷ waiting) free opened couples (put_front waiting m) came q is_offer
-            (λ k. absent_message after ms more qs m adds apart waiting free opened couples held (held.waits m k).0) n i f
-
-        pub no_other_waits : ((n : Message) → Has waiting n → envelopes_fit n q ≡ true → ⊥) → Paired after more qs m q
-        no_other_waits = message_taken after ms more qs m adds apart waiting (m ∷ waiting) free opened couples (put_front waiting m) came q is_offer
+    pub taker_found : is_sure m.trust ≡ true → NoneHidesUpTo after opened m r → ((n : Message) → Has waiting n → envelopes_fit n r ≡ true → ⊥) → TakesMessage after ms qs m r
+    taker_found sure none no_other =
+        let v = held.frees r first.member in
+        record {
+          told = (settled_parts r v.1).0;
+          sure_receive = (settled_parts r v.1).1;
+          sure_message = sure;
+          fit = fits_live m r (sure_stands m.trust sure) (settled_live r v.1) first.fit;
+          no_open = λ u i o p f. none u (held.opens_all u i o) (envelope_of m u f) (up_to (posted_at u) (posted_at r) p).rank (posted_le r u p);
+          is_free = v.2;
+          first_free = λ q i s p f.
+              ⊎_elim (λ (w : (n : Message) × Has ms n × Paired after ms qs n q). w)
+              (λ (away : (n : Message) → Has ms n → Paired after ms qs n q → ⊥).
+              let k = held.frees_all q i s away in
+              absurd (first.first q k (envelope_of m q f) (ahead q r k v.0 (envelope_of m q f) first.fit p)))
+              (any_or_none (λ n. paired after ms qs n q) ms);
+          none_waits = λ n i f.
+              ⊎_elim (λ (w : (q : Receive) × Has qs q × Paired after ms qs n q). w)
+              (λ (away : (q : Receive) → Has qs q → Paired after ms qs n q → ⊥). absurd (no_other n (held.waits_all n i (live_message n r f) away) (envelope_of n r f)))
+              (any_or_none (paired after ms qs n) qs);
+        }
 
 -- ---- a receive
 

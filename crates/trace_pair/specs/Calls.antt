@@ -33,15 +33,13 @@ abbrev pub AreDistinct : {X : Type 0} → List X → Type 0
 AreDistinct [] = Unit {0}
 AreDistinct {X} (x ∷ xs) = (Has xs x → ⊥) × AreDistinct xs
 
--- `more` has the messages of one call besides those of `ms`, and behind those of their sender
-pub record AddsMessages (ms more call : List Message) : Type 0 where
-  pub own : (m : Message) → Has call m → IsOwnMessage m
+-- `more` has the message besides those of `ms`, and behind those of its sender
+pub record AddsMessage (ms more : List Message) (m : Message) : Type 0 where
+  pub own : IsOwnMessage m
   pub old : (n : Message) → Has ms n → Has more n
-  pub new : (n : Message) → Has call n → Has more n
-  pub cases : (n : Message) → Has more n → Has ms n ⊎ Has call n
-  pub behind : (n m : Message) → Has ms n → Has call m → n.from ≡ m.from → sent_before n m ≡ true
-  pub one_call : (m n : Message) → Has call m → Has call n → n.name.call ≡ m.name.call
-  pub distinct : AreDistinct call
+  pub new : Has more m
+  pub cases : (n : Message) → Has more n → Has ms n ⊎ (n ≡ m)
+  pub behind : (n : Message) → Has ms n → n.from ≡ m.from → sent_before n m ≡ true
 
 -- `more` has the receives of one call besides those of `qs`, and behind those of their rank
 pub record AddsReceives (qs more call : List Receive) : Type 0 where

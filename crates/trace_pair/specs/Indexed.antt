@@ -48,9 +48,9 @@ IsIndexed after ms qs waiting free opened couples = AreSets (Paired after ms qs)
 abbrev pub Found : After → List Message → List Receive → (Message → Receive → Type 0) → Message → Receive → Type 0
 Found after ms qs Done m q = Paired after ms qs m q × Done m q
 
--- What the index tests for a message of a new call: the receive is the first free one that fits, no waiting message fits
--- it, and each other message of the call that fits it went to an earlier receive.
-pub record TakesMessage (after : After) (ms : List Message) (qs : List Receive) (more call : List Message) (m : Message) (q : Receive) : Type 0 where
+-- What the index tests for a new message: the receive is the first free one that fits, no waiting message fits it, and the
+-- message comes after each open receive of no later call that fits it.
+pub record TakesMessage (after : After) (ms : List Message) (qs : List Receive) (m : Message) (q : Receive) : Type 0 where
   pub told : is_some q.source ≡ true
   pub sure_receive : is_sure q.trust ≡ true
   pub sure_message : is_sure m.trust ≡ true
@@ -59,7 +59,6 @@ pub record TakesMessage (after : After) (ms : List Message) (qs : List Receive) 
   pub is_free : IsFree after ms qs q
   pub first_free : (r : Receive) → Has qs r → is_settled r ≡ true → posted_no_later r q ≡ true → fits m r ≡ true → (n : Message) × Has ms n × Paired after ms qs n r
   pub none_waits : (n : Message) → Has ms n → fits n q ≡ true → (r : Receive) × Has qs r × Paired after ms qs n r
-  pub parts : (n : Message) → Has call n → sent_no_later n m ≡ true → fits n q ≡ true → (r : Receive) × Has qs r × (posted_before r q ≡ true) × Paired after more qs n r
 
 -- And for a receive of a new call: the message is the first waiting one that fits, no open or free receive fits it, and
 -- each other receive of the call that fits it took an earlier message.
@@ -85,34 +84,14 @@ pub record OffersMessage (after : After) (ms : List Message) (qs more : List Rec
   pub first_waiting : (n : Message) → Has ms n → sent_no_later n m ≡ true → fits n q ≡ true → (r : Receive) × Has qs r × Paired after ms qs n r
   pub no_open : (u : Receive) → Has more u → is_open u ≡ true → fits m u ≡ true → after m u ≡ true
 
--- And the receive that a message of a new call goes to if no other message that waits fits it: the first free one that
--- fits, alone of its call, where the message comes after each open receive of no later call that it fits.
-pub record OffersReceive (after : After) (ms : List Message) (qs : List Receive) (m : Message) (q : Receive) : Type 0 where
-  pub member : Has qs q
-  pub settled : is_settled q ≡ true
-  pub sure : is_sure m.trust ≡ true
-  pub fit : fits m q ≡ true
-  pub is_free : IsFree after ms qs q
-  pub first_free : (r : Receive) → Has qs r → is_settled r ≡ true → posted_no_later r q ≡ true → fits m r ≡ true → (n : Message) × Has ms n × Paired after ms qs n r
-  pub no_open : (u : Receive) → Has qs u → is_open u ≡ true → posted_no_later u q ≡ true → fits m u ≡ true → after m u ≡ true
-
 -- The receives of a new call stand in the sets, and none of their pairs is found yet.
 abbrev pub AwaitReceives : After → List Message → List Receive → List Receive → List Message → List Receive → List Receive → List Couple → Type 0
 AwaitReceives after ms qs more waiting free opened couples = AreSets (Found after ms more (λ m r. Has qs r)) ms more waiting free opened couples
-
--- The same of the messages of a new call.
-abbrev pub AwaitMessages : After → List Message → List Message → List Receive → List Message → List Receive → List Receive → List Couple → Type 0
-AwaitMessages after ms more qs waiting free opened couples = AreSets (Found after more qs (λ m r. Has ms m)) more qs waiting free opened couples
 
 -- The message that a receive of a new call is offered, if any: where none is, none is paired with it.
 abbrev pub IsOfferedMessage : After → List Message → List Receive → List Receive → Receive → Option Message → Type 0
 IsOfferedMessage after ms qs more q None = (m : Message) → Has ms m → Paired after ms more m q → ⊥
 IsOfferedMessage after ms qs more q (Some m) = (is_settled q ≡ true) × OffersMessage after ms qs more q m
-
--- And the receive that a message of a new call is offered.
-abbrev pub IsOfferedReceive : After → List Message → List Message → List Receive → Message → Option Receive → Type 0
-IsOfferedReceive after ms more qs m None = (q : Receive) → Has qs q → Paired after more qs m q → ⊥
-IsOfferedReceive after ms more qs m (Some q) = OffersReceive after ms qs m q
 
 -- a receive of any tag, or one of a tag
 abbrev pub is_of : Bool → Option ℕ → Bool
@@ -121,17 +100,6 @@ is_of any_tag tag = cond any_tag (is_none tag) (is_some tag)
 -- the receives of any tag, or those of a tag, and those before
 abbrev pub with_kind : Bool → List Receive → List Receive → List Receive
 with_kind any_tag call done = filter (λ r. is_of any_tag r.tag) call ++ done
-
--- whether the receive that is offered is of any tag, or of a tag
-abbrev pub is_offer_of : Bool → Option Receive → Bool
-is_offer_of any_tag None = false
-is_offer_of any_tag (Some q) = is_of any_tag q.tag
-
--- the messages that are offered receives of any tag, or of a tag, and those before
-abbrev pub with_offered : Bool → List Message → List (Option Receive) → List Message → List Message
-with_offered any_tag [] found done = done
-with_offered any_tag (m ∷ call) [] done = done
-with_offered any_tag (m ∷ call) (o ∷ found) done = cond (is_offer_of any_tag o) (m ∷ with_offered any_tag call found done) (with_offered any_tag call found done)
 
 -- by rank, then by call, and then by part
 abbrev pub name_lt : OpName → OpName → Bool
@@ -154,9 +122,3 @@ pub record IsSoleMessage (messages : List Message) (q : Receive) (m : Message) :
   pub member : Has messages m
   pub fit : envelopes_fit m q ≡ true
   pub sole : (n : Message) → Has messages n → envelopes_fit n q ≡ true → no_later n.name m.name ≡ true → ⊥
-
--- the receive of the set whose envelope the message's fits and that stands in front of all others, alone of its call
-pub record IsSoleReceive (receives : List Receive) (m : Message) (q : Receive) : Type 0 where
-  pub member : Has receives q
-  pub fit : envelopes_fit m q ≡ true
-  pub sole : (r : Receive) → Has receives r → envelopes_fit m r ≡ true → no_later r.name q.name ≡ true → ⊥

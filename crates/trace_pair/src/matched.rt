@@ -7,9 +7,9 @@ ghost use Rattle.mpi_model.specs.declared.message.Receive.{Receive};
 ghost use Rattle.mpi_model.specs.Trusts.{is_settled};
 ghost use Rattle.trace_ops.specs.Order.{Has};
 ghost use Rattle.trace_pair.specs.After.{comes_after};
-ghost use Rattle.trace_pair.specs.Calls.{AddsMessages, AddsReceives};
+ghost use Rattle.trace_pair.specs.Calls.{AddsMessage, AddsReceives};
 ghost use Rattle.trace_pair.specs.Followed.{Indexes};
-ghost use Rattle.trace_pair.specs.Indexed.{IsFree, OffersMessage, OffersReceive};
+ghost use Rattle.trace_pair.specs.Indexed.{IsFree, OffersMessage, TakesMessage};
 ghost use Rattle.trace_pair.specs.Pairing.{After, Paired, receive_of};
 ghost use Rattle.trace_pair.specs.Table.{fits_open};
 
@@ -89,10 +89,8 @@ impl Matched {
 
 /// The receive that takes the new message.
 fn taker_for(state: &Matched, reaches: &Reaches, m: &Message) -> Option<Receive>
-    ensures some { IfSome result (λ q. (ms more : List Message) (qs : List Receive) → AddsMessages ms more (m.now ∷ []) → Indexes (comes_after reaches.now) ms qs state.now
-        → OffersReceive (comes_after reaches.now) ms qs m.now q × Paired (comes_after reaches.now) more qs m.now q) }
-    ensures none { IfNone result ((ms more : List Message) (qs : List Receive) → AddsMessages ms more (m.now ∷ []) → Indexes (comes_after reaches.now) ms qs state.now
-        → (q : Receive) → Has qs q → Paired (comes_after reaches.now) more qs m.now q → ⊥) }
+    ensures some { IfSome result (λ q. (ms : List Message) (qs : List Receive) → Indexes (comes_after reaches.now) ms qs state.now → Has qs q × TakesMessage (comes_after reaches.now) ms qs m.now q) }
+    ensures none { IfNone result ((ms : List Message) (qs : List Receive) → Indexes (comes_after reaches.now) ms qs state.now → (q : Receive) → Has qs q → TakesMessage (comes_after reaches.now) ms qs m.now q → ⊥) }
 {
     if !m.trust.is_sure() {
         return None;
@@ -134,7 +132,7 @@ fn taken_by(state: &Matched, reaches: &Reaches, q: &Receive) -> Option<Message>
 
 /// Adds a rank's next message: it goes to the first receive that the rules allow, or waits.
 fn push_message(state: &mut Matched, reaches: &Reaches, m: Message) -> Result<(), AllocError>
-    ensures { OnOk result ((ms more : List Message) (qs : List Receive) → AddsMessages ms more (m ∷ []) → Indexes (comes_after reaches.now) ms qs state.old → Indexes (comes_after reaches.now) more qs state.new) }
+    ensures { OnOk result ((ms more : List Message) (qs : List Receive) → AddsMessage ms more m → Indexes (comes_after reaches.now) ms qs state.old → Indexes (comes_after reaches.now) more qs state.new) }
 {
     if m.trust.is_void() {
         return Ok(());
@@ -178,7 +176,7 @@ fn push_receive(state: &mut Matched, reaches: &Reaches, q: Receive) -> Result<()
 
 /// Takes a rank's last message back, with what it had taken.
 pub(crate) fn pop_message(state: &mut Matched, m: &Message) -> Result<(), AllocError>
-    ensures { OnOk result ((after : After) (ms more : List Message) (qs : List Receive) → AddsMessages ms more (m.now ∷ []) → Indexes after more qs state.old → Indexes after ms qs state.new) }
+    ensures { OnOk result ((after : After) (ms more : List Message) (qs : List Receive) → AddsMessage ms more m.now → Indexes after more qs state.old → Indexes after ms qs state.new) }
 {
     let mut anywhere = 0;
     match state.couples.of_message(&mut anywhere, m) {
@@ -222,7 +220,7 @@ pub(crate) fn add_message(
     reaches: &Reaches,
     m: Message,
 ) -> Result<(), AllocError>
-    ensures { OnOk result ((ms more : List Message) (qs : List Receive) → AddsMessages ms more (m ∷ []) → Indexes (comes_after reaches.now) ms qs state.old → Indexes (comes_after reaches.now) more qs state.new) }
+    ensures { OnOk result ((ms more : List Message) (qs : List Receive) → AddsMessage ms more m → Indexes (comes_after reaches.now) ms qs state.old → Indexes (comes_after reaches.now) more qs state.new) }
 {
     state.couples.expect_message(&m)?;
     push_message(state, reaches, m)?;

@@ -18,10 +18,10 @@ pub returns-in_ok-insert-in-Some : goal.returns-in_ok-insert-in-Some
 returns-in_ok-insert-in-Some c = λ ms more qs adds held.
     let after = comes_after c.args.reaches.now in
     let alone = more_sent_alone ms more c.args.m adds held.sent_alone in
-    let t = c.in-Some.ensures.some ms more qs adds held in
+    let t = c.in-Some.ensures.some ms qs held in
     record {
       sets = push_message_taken after ms more qs c.args.m adds (sent_apart more alone) _ _ _ _ held.sets c.in-Some.q t.0 t.1 _ _ c.remove.ensures
-          (c.in_ok-insert-in-Some.ensures (new_message after ms more qs c.args.m adds (sent_apart more alone) _ _ _ _ held.sets c.in-Some.q t.0));
+          (c.in_ok-insert-in-Some.ensures (new_message after ms more qs c.args.m adds (sent_apart more alone) _ _ _ _ held.sets c.in-Some.q t.0 t.1));
       sent_alone = alone;
       posted_alone = held.posted_alone;
     }
@@ -30,7 +30,7 @@ pub returns-in_ok-insert-in-None : goal.returns-in_ok-insert-in-None
 returns-in_ok-insert-in-None c = λ ms more qs adds held.
     let alone = more_sent_alone ms more c.args.m adds held.sent_alone in
     record {
-      sets = push_message_waits (comes_after c.args.reaches.now) ms more qs c.args.m adds (sent_apart more alone) _ _ _ _ held.sets (search rules) (c.in-None.ensures.none ms more qs adds held) _ c.in_ok-insert-in-None.ensures;
+      sets = push_message_waits (comes_after c.args.reaches.now) ms more qs c.args.m adds (sent_apart more alone) _ _ _ _ held.sets (search rules) (c.in-None.ensures.none ms qs held) _ c.in_ok-insert-in-None.ensures;
       sent_alone = alone;
       posted_alone = held.posted_alone;
     }
