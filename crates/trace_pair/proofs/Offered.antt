@@ -1,6 +1,6 @@
 -- All messages with what takes each, as a receive asks for one and takes it.
 use Rattle.std.proofs.Common.{subst, ◌≡◌, ℕ, zero, suc, List, [], ◌∷◌, sym, refl, ◌∙◌, ap, cond, Option, Some, None, length}
-use Rattle.std.specs.Prelude.{slice_get, slice_set, replicate, is_some, IfSome}
+use Rattle.std.specs.Prelude.{slice_set, replicate, is_some, IfSome}
 use Rattle.std.specs.Ordering.{is_eq}
 use Rattle.std.specs.BTreeMap.{BTreeMap, IsOrdered}
 use Rattle.mpi_model.specs.declared.message.Message.{Message}

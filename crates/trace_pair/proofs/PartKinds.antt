@@ -71,18 +71,8 @@ module _ (any_tag : Bool) (done : List Receive) where
   kind_old xs r h = let p : Receive → Bool = λ r. is_of any_tag r.tag in has_right (filter p xs) done r h
 
   module _ (call : List Receive) (i : ℕ) (d : Receive) (lt : i < length call) where
-    -- a part of the other kind is passed
-    pub part_passed : is_of any_tag (get_or call i d).tag ≡ false → IsSameSet (with_kind any_tag (take i call) done) (with_kind any_tag (take (i + 1) call) done)
-    part_passed not = record {
-      keeps = λ r h. ⊎_elim (λ (k : Has (take i call) r × (is_of any_tag r.tag ≡ true)). kind_here (take (i + 1) call) r (is_before call i d r lt k.0) k.1) (λ (k : Has done r). kind_old (take (i + 1) call) r k) (kind_was (take i call) r h);
-      was = λ r h. ⊎_elim
-          (λ (k : Has (take (i + 1) call) r × (is_of any_tag r.tag ≡ true)).
-          ⊎_elim (λ (j : Has (take i call) r). kind_here (take i call) r j k.1) (λ (e : r ≡ get_or call i d). absurd (let f = subst (λ (x : Receive). is_of any_tag x.tag ≡ true) e k.1 in cc)) (is_next_or call i d r lt k.0))
-          (λ (k : Has done r). kind_old (take i call) r k) (kind_was (take (i + 1) call) r h);
-    }
-
     module _ (is : is_of any_tag (get_or call i d).tag ≡ true) where
-      -- and one of this kind is done
+      -- a part of this kind is done
       pub part_done : IsSameSet (get_or call i d ∷ with_kind any_tag (take i call) done) (with_kind any_tag (take (i + 1) call) done)
       part_done = record {
         keeps = λ r h. ⊎_elim (λ (e : r ≡ get_or call i d). subst (λ (x : Receive). Has (with_kind any_tag (take (i + 1) call) done) x) (sym e) (kind_here (take (i + 1) call) (get_or call i d) (is_next call i d lt) is))

@@ -14,7 +14,7 @@ use Rattle.trace_pair.specs.Places.{sent_at, posted_at, earlier, together, no_la
 use Rattle.trace_pair.specs.Sets.{AddsTo, DropsFrom, IsSameSet}
 use Rattle.trace_pair.specs.declared.pair.Couple.{Couple}
 use Rattle.trace_pair.proofs.Certain.{in_order, not_put}
-use Rattle.trace_pair.proofs.Fitting.{FitParts, fit_parts, fit_from, fits_at, fits_live, envelope_of, settled_from, settled_live, settled_parts, sure_stands}
+use Rattle.trace_pair.proofs.Fitting.{fit_parts, fit_from, fits_at, fits_live, envelope_of, settled_live, settled_parts, sure_stands}
 use Rattle.trace_pair.proofs.Holding.{same_sets, same_lists, couple_found}
 use Rattle.trace_pair.proofs.Obeyed.{any_or_none, before_lt, posted_lt, either, or_right, sent_earlier}
 use Rattle.trace_pair.proofs.Steps.{same_sender, turned, first_of_two, receive-keeps, receive-adds_none, takes_receive, receive-taken}

@@ -1,5 +1,5 @@
 -- A pairing of all messages, as a receive comes.
-use Rattle.std.proofs.Common.{subst, ◌≡◌, ℕ, zero, suc, ◌+◌, ◌<◌, true, false, List, [], ◌∷◌, ◌++◌, inl, inr, ⊎_elim, sym, refl, ◌∙◌, ap, arith, length, take, get_or, Some, None}
+use Rattle.std.proofs.Common.{subst, ◌≡◌, ℕ, zero, suc, ◌+◌, ◌<◌, true, false, List, [], ◌∷◌, ◌++◌, inl, ⊎_elim, sym, refl, ◌∙◌, ap, arith, length, take, get_or, Some, None}
 use Rattle.std.proofs.lemmas.List.{take_more, flat_map_more, append-nil}
 use Rattle.std.proofs.lemmas.Option.{get_or_from_slice_get}
 use Rattle.std.specs.Prelude.{slice_get}

@@ -1,35 +1,31 @@
 -- A pairing of all messages, as a call of several receives comes.
-use Rattle.std.proofs.Common.{subst, ◌≡◌, ◌⊎◌, ℕ, ◌+◌, ◌<◌, ◌≤◌, Bool, true, false, cond, List, [], ◌∷◌, ◌++◌, inl, inr, ⊎_elim, sym, refl, ◌∙◌, ap, arith, length, take, get_or, Option, Some, None}
+use Rattle.std.proofs.Common.{subst, ◌≡◌, ◌⊎◌, ℕ, ◌+◌, ◌<◌, ◌≤◌, true, List, [], ◌∷◌, ◌++◌, inl, inr, ⊎_elim, sym, refl, ◌∙◌, ap, arith, length, take, get_or, Some, None}
 use Rattle.std.proofs.lemmas.List.{take_more, take_all}
 use Rattle.std.proofs.lemmas.Option.{get_or_from_slice_get}
-use Rattle.std.specs.Prelude.{slice_get, is_some, is_none}
+use Rattle.std.specs.Prelude.{slice_get}
 use Rattle.mpi_model.specs.declared.message.Message.{Message}
 use Rattle.mpi_model.specs.declared.message.Receive.{Receive}
 use Rattle.mpi_model.specs.Fit.{envelopes_fit}
-use Rattle.mpi_model.specs.Trusts.{is_open, is_settled}
+use Rattle.mpi_model.specs.Trusts.{is_settled}
 use Rattle.trace_ops.specs.Order.{Has}
-use Rattle.trace_pair.specs.Calls.{AddsReceives, ArePostedApart, IsOwnReceive}
+use Rattle.trace_pair.specs.Calls.{AddsReceives, ArePostedApart}
 use Rattle.trace_pair.specs.Coupled.{taker_of}
-use Rattle.trace_pair.specs.Ends.{AreLast}
 use Rattle.trace_pair.specs.Indexed.{AreSets, Found, IsFirstReceive, IsOfferedMessage, OffersMessage}
 use Rattle.trace_pair.specs.Pairing.{After, Paired}
 use Rattle.trace_pair.specs.Rising.{AreRising}
 use Rattle.trace_pair.specs.Sets.{AddsTo, DropsFrom, IsSameSet}
-use Rattle.trace_pair.specs.Settled.{Settles, SettlesAmong, IsNextPart, IsOfferedAt, couples_of, waiting_of}
+use Rattle.trace_pair.specs.Settled.{Settles, SettlesAmong, IsNextPart, IsOfferedAt, waiting_of}
 use Rattle.trace_pair.specs.Waiting.{Takings, with_taker}
 use Rattle.trace_pair.specs.declared.batch.Batch.{Batch}
-use Rattle.trace_pair.specs.declared.ends.Ends.{Ends}
 use Rattle.trace_pair.specs.declared.pair.Couple.{Couple}
 use Rattle.trace_pair.specs.declared.pair.Taker.{Taker}
-use Rattle.trace_pair.proofs.Fitting.{settled_not_open, sure_stands}
-use Rattle.trace_pair.proofs.Holding.{fewer_apart, same_sets, same_receives, receive_free, receive_open, receive_void}
+use Rattle.trace_pair.proofs.Fitting.{sure_stands}
+use Rattle.trace_pair.proofs.Holding.{fewer_apart, same_sets, same_receives}
 use Rattle.trace_pair.proofs.Known.{told_by}
 use Rattle.trace_pair.proofs.Obeyed.{posted_lt}
-use Rattle.trace_pair.proofs.Pushes.{put_front}
 use Rattle.trace_pair.proofs.Listed.{has_take}
 use Rattle.trace_pair.proofs.Ranks.{has_left, has_right, has_either}
 use Rattle.trace_pair.proofs.ReceiveParts as parts
-use Rattle.trace_pair.proofs.Tabled.{has_at}
 use Rattle.trace_pair.proofs.Settling.{takes_at}
 use Rattle.trace_pair.proofs.Steps.{receive-keeps, receive-adds_none}
 
@@ -52,38 +48,6 @@ module _ (after : After) (ms : List Message) (all done qs : List Receive) (b : B
     held = same_receives (Found after ms all (λ m r. Has done r)) ms qs _ _ _ _ s.held more same;
     last = s.last;
   }
-
-  -- a receive that is not done comes to the free ones, or to the open ones, or void to neither
-  module _ (more : List Receive) (q : Receive) (adds : AddsTo qs more q) (own : IsOwnReceive q) (apart : ArePostedApart more) (absent : Has done q → ⊥) where
-    abbrev P : Message → Receive → Type 0
-    P = Found after ms all (λ m r. Has done r)
-
-    pub enters_free : is_settled q ≡ true → (free : List Receive) → AddsTo b.free free q → SettlesAmong after ms all done more (record b { free = free })
-    enters_free is free a = record {
-      messages = s.messages;
-      rise = s.rise;
-      opened = s.opened;
-      held = receive_free P ms qs _ _ _ _ s.held more q adds own apart (λ m i h. absent h.1) free is (settled_not_open q is) a;
-      last = s.last;
-    }
-
-    pub enters_open : is_open q ≡ true → (is_settled q ≡ true → ⊥) → (new : Ends) → ((opened : List Receive) → AreLast opened b.opened → AreLast (q ∷ opened) new) → SettlesAmong after ms all done more (record b { opened = new })
-    enters_open is not new law = record {
-      messages = s.messages;
-      rise = s.rise;
-      opened = q ∷ s.opened;
-      held = receive_open P ms qs _ _ _ _ s.held more q adds own apart (λ m i h. absent h.1) (q ∷ s.opened) is not (put_front s.opened q);
-      last = law s.opened s.last;
-    }
-
-    pub enters_void : (is_open q ≡ true → ⊥) → (is_settled q ≡ true → ⊥) → SettlesAmong after ms all done more b
-    enters_void not_open not_settled = record {
-      messages = s.messages;
-      rise = s.rise;
-      opened = s.opened;
-      held = receive_void P ms qs _ _ _ _ s.held more q adds own apart (λ m i h. absent h.1) not_open not_settled;
-      last = s.last;
-    }
 
 module _ (after : After) (ms : List Message) (qs more call : List Receive) (adds : AddsReceives qs more call) where
   -- a receive of the call was not there

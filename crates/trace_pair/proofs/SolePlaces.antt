@@ -1,5 +1,5 @@
 -- Places at the key of a receive, the first of which holds the first message that waits and fits it.
-use Rattle.std.proofs.Common.{subst, ◌≡◌, ℕ, zero, ◌<◌, Bool, true, false, ◌&&◌, List, [], ◌∷◌, inl, inr, ⊎_elim, sym, refl, ◌∙◌, ap, arith, cond, eqb, Option, Some, None}
+use Rattle.std.proofs.Common.{subst, ◌≡◌, ℕ, zero, ◌<◌, Bool, true, false, List, [], ◌∷◌, inl, inr, ⊎_elim, sym, refl, ◌∙◌, ap, arith, cond, eqb, Option, Some, None}
 use Rattle.std.proofs.lemmas.Bool.Decides.{nat_tests}
 use Rattle.std.specs.Prelude.{slice_get, is_some}
 use Rattle.std.specs.declared.cmp.Ordering.{Ordering}
@@ -7,7 +7,7 @@ use Rattle.std.specs.BTreeMap.{BTreeMap}
 use Rattle.mpi_model.specs.declared.event.OpName.{OpName}
 use Rattle.mpi_model.specs.declared.message.Message.{Message}
 use Rattle.mpi_model.specs.declared.message.Receive.{Receive}
-use Rattle.mpi_model.specs.Fit.{envelopes_fit, admits}
+use Rattle.mpi_model.specs.Fit.{envelopes_fit}
 use Rattle.trace_ops.specs.Order.{Has}
 use Rattle.trace_pair.specs.Calls.{is_live, IsOwnMessage}
 use Rattle.trace_pair.specs.Indexed.{IsSoleMessage, name_lt}

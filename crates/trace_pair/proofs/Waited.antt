@@ -13,19 +13,16 @@ use Rattle.std.proofs.lemmas.Map.Lookups.{CmpEqualImpliesEq}
 use Rattle.std.proofs.lemmas.Map.Views.{tells_apart}
 use Rattle.std.proofs.lemmas.Option.{slice_get_within}
 use Rattle.mpi_model.specs.declared.message.Message.{Message}
-use Rattle.mpi_model.specs.declared.message.Receive.{Receive}
-use Rattle.mpi_model.specs.Fit.{envelopes_fit}
 use Rattle.trace_ops.specs.Order.{Has}
 use Rattle.trace_pair.specs.Calls.{is_live}
 use Rattle.trace_pair.specs.Indexed.{name_lt}
 use Rattle.trace_pair.specs.Rising.{AreRising}
-use Rattle.trace_pair.specs.Waiting.{items_of, left_in, waits_at, from_waiting, places_at, AreRisingPlaces, ArePlaces}
+use Rattle.trace_pair.specs.Waiting.{items_of, waits_at, from_waiting, places_at, AreRisingPlaces, ArePlaces}
 use Rattle.trace_pair.specs.declared.pair.Taker.{Taker}
-use Rattle.trace_pair.proofs.Listed.{name_apart, name_apart_back}
 use Rattle.trace_pair.proofs.PutAt.{at_equal, says_equal}
 use Rattle.trace_pair.proofs.Ranks.{has_left, has_right, has_either}
 use Rattle.trace_pair.proofs.Searched.{stands}
-use Rattle.trace_pair.proofs.Taken.{left_found, left_there, live_has, live_was, still_waits}
+use Rattle.trace_pair.proofs.Taken.{still_waits}
 
 -- What stood at a key is changed by f.
 module _ {K : Type 0} {cmp : K → K → Ordering} (keys : IsTotalOrder cmp) (old : BTreeMap K (List ℕ)) (key : K) (f : List ℕ → List ℕ) where

@@ -1,9 +1,8 @@
 -- Lists of calls cut between calls.
-use Rattle.std.proofs.Common.{subst, ◌≡◌, ℕ, zero, suc, ◌+◌, ◌-◌, ◌<◌, ◌≤◌, true, List, [], ◌∷◌, ◌++◌, inl, inr, ⊎_elim, sym, refl, ◌∙◌, ap, arith, Some, length, take, drop, get_or, eqb, ltb}
+use Rattle.std.proofs.Common.{subst, ◌≡◌, ℕ, zero, suc, ◌+◌, ◌-◌, ◌<◌, ◌≤◌, List, [], ◌∷◌, ◌++◌, inl, inr, ⊎_elim, sym, ◌∙◌, ap, arith, Some, length, take, drop, get_or, eqb}
 use Rattle.std.specs.Prelude.{slice_get, slice_range}
-use Rattle.std.proofs.Math.Seq.{take-length}
 use Rattle.std.proofs.lemmas.Bool.Decides.{nat_tests}
-use Rattle.std.proofs.lemmas.List.{take-take, take-append-drop, take_more, get_or-drop, length-drop, drop_all}
+use Rattle.std.proofs.lemmas.List.{take-take, take-append-drop, take_more, get_or-drop, length-drop}
 use Rattle.mpi_model.specs.declared.message.Receive.{Receive}
 use Rattle.trace_ops.specs.Order.{Has, ArePosted, named_before}
 use Rattle.trace_pair.specs.Calls.{IsWhole}
@@ -49,10 +48,6 @@ module _ {X : Type 0} (call : X → ℕ) where
       ⊎_elim (λ (k : Has (take start xs) x). before_called xs start p x a e k) (λ (k : Has (slice_range xs start end) x). let d = one x k in omega arith)
       (has_either (take start xs) (slice_range xs start end) x (subst (λ (l : List X). Has l x) (sym split) i)) in
       other (omega arith)
-
-  -- so does one where the list ends
-  pub whole_all : (xs : List X) (end : ℕ) → length xs ≤ end → IsWhole call xs end
-  whole_all xs end le x y i j = absurd (subst (λ (l : List X). Has l y) (drop_all end xs le) j)
 
   -- one more of the call
   pub range_more : (xs : List X) (start end c : ℕ) (d : X) → start ≤ end → end < length xs → ((x : X) → Has (slice_range xs start end) x → call x ≡ c) → call (get_or xs end d) ≡ c

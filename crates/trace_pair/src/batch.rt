@@ -156,9 +156,10 @@ fn enter_receive(batch: &mut Batch, q: &Receive) -> Result<(), AllocError>
         batch.free.insert(*q)?;
         return Ok(());
     }
-    if q.is_open() {
-        batch.opened.insert(q)?;
+    if !q.is_open() {
+        return Ok(());
     }
+    batch.opened.insert(q)?;
     Ok(())
 }
 

@@ -1,4 +1,4 @@
-use Rattle.std.proofs.Common.{ℕ, Option, List, ◌<◌, length, arith, subst, sym, ◌∙◌, ap}
+use Rattle.std.proofs.Common.{ℕ, Option, List, ◌<◌, length, subst, sym, ◌∙◌, ap}
 use Rattle.std.proofs.lemmas.Option.{slice_get_within}
 use Rattle.mpi_model.specs.declared.message.Message.{Message}
 use Rattle.trace_pair.specs.After.{comes_after}

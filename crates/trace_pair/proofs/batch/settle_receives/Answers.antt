@@ -1,7 +1,7 @@
-use Rattle.std.proofs.Common.{◌≡◌, rules, ◌+◌, List, arith, subst, sym, ◌∙◌, take}
+use Rattle.std.proofs.Common.{◌≡◌, rules, ◌+◌, List, arith, subst, ◌∙◌, take}
 use Rattle.std.proofs.lemmas.List.{take_all}
 use Rattle.mpi_model.specs.declared.message.Receive.{Receive}
-use Rattle.trace_pair.specs.Indexed.{is_of, with_kind}
+use Rattle.trace_pair.specs.Indexed.{with_kind}
 use Rattle.trace_pair.specs.Settled.{SettlesAmong, IsOfferedAt}
 use Rattle.trace_pair.proofs.PartKinds.{is_of_kind, part_done, part_next, zip_at}
 use Rattle.trace_pair.proofs.SettlingParts.{same_done}
