@@ -15,17 +15,6 @@ module _ {X : Type 0} (call : X → ℕ) where
   abbrev pub AreApartTo : List X → ℕ → Type 0
   AreApartTo xs n = (k : ℕ) (d : X) → suc k < n → call (get_or xs k d) ≡ call (get_or xs (suc k) d) → ⊥
 
-  -- one more
-  pub apart_more : (xs : List X) (n : ℕ) (a b : X) → 0 < n → n < length xs → AreApartTo xs n → (call (get_or xs (n - 1) a) ≡ call (get_or xs n b) → ⊥) → AreApartTo xs (n + 1)
-  apart_more xs n a b low lt before here k d le e =
-      ⊎_elim
-      (λ (x : suc k ≡ n).
-      let y : k ≡ n - 1 = omega arith in
-      let f : call (get_or xs (n - 1) d) ≡ call (get_or xs n d) = subst (λ (j : ℕ). call (get_or xs j d) ≡ call (get_or xs n d)) y (subst (λ (j : ℕ). call (get_or xs k d) ≡ call (get_or xs j d)) x e) in
-      here (ap call (get_or_default xs (n - 1) a d (omega arith)) ∙ f ∙ ap call (get_or_default xs n d b lt)))
-      (λ (x : suc k < n). before k d x e)
-      (eq-or-lt_of_le (omega arith))
-
 -- ---- messages
 
 sent_through : (m n p : Message) → sent_before m n ≡ true → sent_before n p ≡ true → sent_before m p ≡ true

@@ -35,9 +35,6 @@ sent_from_named n m o p h = subst (λ (x : OpName). no_later (sent_at n) x ≡ t
 pub posted_named : (r q : Receive) → IsOwnReceive r → IsOwnReceive q → posted_no_later r q ≡ true → no_later r.name q.name ≡ true
 posted_named r q o p h = subst (λ (x : OpName). no_later r.name x ≡ true) (posted_as_named q p) (subst (λ (x : OpName). no_later x (posted_at q) ≡ true) (posted_as_named r o) h)
 
-pub posted_from_named : (r q : Receive) → IsOwnReceive r → IsOwnReceive q → no_later r.name q.name ≡ true → posted_no_later r q ≡ true
-posted_from_named r q o p h = subst (λ (x : OpName). no_later (posted_at r) x ≡ true) (sym (posted_as_named q p)) (subst (λ (x : OpName). no_later x q.name ≡ true) (sym (posted_as_named r o)) h)
-
 -- a receive whose call isn't later, and that is another one, is no later
 pub up_to_no_later : (u q : Receive) → u.at ≡ q.at → u.name.call ≤ q.name.call → (posted_at u ≡ posted_at q → ⊥) → posted_no_later u q ≡ true
 up_to_no_later u q e le not =

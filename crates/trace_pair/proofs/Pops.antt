@@ -1,5 +1,5 @@
 -- A rank's last message or receive, alone of its call, goes from the end of it.
-use Rattle.std.proofs.Common.{subst, ◌≡◌, true, false, ◌⊎◌, List, [], ◌∷◌, inl, inr, ⊎_elim, sym, refl, ap, arith}
+use Rattle.std.proofs.Common.{subst, ◌≡◌, true, false, ◌⊎◌, List, [], ◌∷◌, inl, inr, ⊎_elim, sym, refl, ap}
 use Rattle.mpi_model.specs.declared.message.Message.{Message}
 use Rattle.mpi_model.specs.declared.message.Receive.{Receive}
 use Rattle.mpi_model.specs.Trusts.{is_open, is_settled}
@@ -12,8 +12,8 @@ use Rattle.trace_pair.specs.declared.pair.Couple.{Couple}
 use Rattle.trace_pair.proofs.Certain.{the_one_receive, the_one_message}
 use Rattle.trace_pair.proofs.Fitting.{false_apart, live_message, settled_from, settled_not_open}
 use Rattle.trace_pair.proofs.Holding.{same_sets, receive_goes, message_goes}
-use Rattle.trace_pair.proofs.Obeyed.{any_or_none, before_lt, pair_obeys}
-use Rattle.trace_pair.proofs.Singles.{absent_posted, one_posted}
+use Rattle.trace_pair.proofs.Obeyed.{any_or_none, pair_obeys}
+use Rattle.trace_pair.proofs.Singles.{absent_posted, absent_sent, one_posted, one_sent}
 use Rattle.trace_pair.proofs.Steps.{receive-keeps, receive-adds_none, message-keeps, message-adds_none}
 
 module _ (after : After) (ms : List Message) (less qs : List Receive) (q : Receive) (last : AddsReceives less qs (q ∷ []))
@@ -87,11 +87,12 @@ module _ (after : After) (ms : List Message) (less qs : List Receive) (q : Recei
 module _ (after : After) (less ms : List Message) (qs : List Receive) (m : Message) (last : AddsMessage less ms m)
     (waiting : List Message) (free opened : List Receive) (couples : List Couple) (held : IsIndexed after ms qs waiting free opened couples) where
   absent_message : Has less m → ⊥
-  absent_message i = let lt = before_lt m m (last.behind m i refl) in absurd (omega arith)
+  absent_message = absent_sent less ms m last
 
   adds_sent : AddsTo less ms m
-  adds_sent = record { keeps = last.old; added = last.new; cases = last.cases }
+  adds_sent = one_sent less ms m last
 
+  -- without it the others are paired as they were
   sent_gone : (w : List Message) (f o : List Receive) (c : List Couple) → AreSets (Paired after ms qs) less qs w f o c → IsIndexed after less qs w f o c
   sent_gone w f o c left = same_sets (Paired after ms qs) less qs w f o c left (Paired after less qs)
       (λ n r i j h. message-adds_none after less ms qs m last n r i j h) (λ n r i j h. message-keeps after less ms qs m last n r i j h)

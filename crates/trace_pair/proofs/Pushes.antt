@@ -16,6 +16,7 @@ use Rattle.trace_pair.specs.Coupled.{IsNew}
 use Rattle.trace_pair.proofs.Known.{new_couple}
 use Rattle.trace_pair.proofs.Obeyed.{before_lt, posted_lt}
 use Rattle.trace_pair.proofs.ReceiveParts as receives
+use Rattle.trace_pair.proofs.Singles.{absent_posted, absent_sent, one_posted, one_sent}
 use Rattle.trace_pair.proofs.Steps.{receive-keeps, receive-adds_none, receive-taken, message-keeps, message-adds_none, message-taken, takes_message}
 
 pub put_front : {X : Type 0} (xs : List X) (x : X) → AddsTo xs (x ∷ xs) x
@@ -27,10 +28,10 @@ take_front {X = X} xs x absent = record { keeps = λ y i. ⊎_elim (λ (e : y �
 module _ (after : After) (ms : List Message) (qs more : List Receive) (q : Receive) (adds : AddsReceives qs more (q ∷ [])) (posted_apart : ArePostedApart more)
     (waiting : List Message) (free opened : List Receive) (couples : List Couple) (held : IsIndexed after ms qs waiting free opened couples) where
   pub absent_receive : Has qs q → ⊥
-  absent_receive i = let lt = posted_lt q q (adds.behind q q i (inl refl) refl) in absurd (omega arith)
+  absent_receive = absent_posted qs more q adds
 
   one_more : AddsTo qs more q
-  one_more = record { keeps = adds.old; added = adds.new q (inl refl); cases = λ r i. ⊎_elim (λ (k : Has qs r). inl k) (λ (k : Has (q ∷ []) r). inr (⊎_elim (λ (e : r ≡ q). e) (λ x. absurd x) k)) (adds.cases r i) }
+  one_more = one_posted qs more q adds
 
   abbrev Old : Message → Receive → Type 0
   Old = Found after ms more (λ m r. Has qs r)
@@ -79,12 +80,6 @@ module _ (after : After) (ms : List Message) (qs more : List Receive) (q : Recei
 
 module _ (after : After) (ms more : List Message) (qs : List Receive) (m : Message) (adds : AddsMessage ms more m) (apart : AreApart more)
     (waiting : List Message) (free opened : List Receive) (couples : List Couple) (held : IsIndexed after ms qs waiting free opened couples) where
-  absent_message : Has ms m → ⊥
-  absent_message i = let lt = before_lt m m (adds.behind m i refl) in absurd (omega arith)
-
-  one_sent : AddsTo ms more m
-  one_sent = record { keeps = adds.old; added = adds.new; cases = adds.cases }
-
   abbrev Sent : Message → Receive → Type 0
   Sent = Found after more qs (λ n r. Has ms n)
 
@@ -94,7 +89,7 @@ module _ (after : After) (ms more : List Message) (qs : List Receive) (m : Messa
 
   -- the message comes to those that wait
   awaits_message : is_live m.trust ≡ true → (waits : List Message) → AddsTo waiting waits m → AreSets Sent more qs waits free opened couples
-  awaits_message l waits a = message_waits Sent ms qs waiting free opened couples sent_before_it more m one_sent adds.own apart (λ q i h. absent_message h.1) waits l a
+  awaits_message l waits a = message_waits Sent ms qs waiting free opened couples sent_before_it more m (one_sent ms more m adds) adds.own apart (λ q i h. absent_sent ms more m adds h.1) waits l a
 
   -- where it is in no pair, all pairs are found
   all_sent_found : (w : List Message) → AreSets Sent more qs w free opened couples → ((q : Receive) → Has qs q → TakesMessage after ms qs m q → ⊥) → IsIndexed after more qs w free opened couples
@@ -107,7 +102,7 @@ module _ (after : After) (ms more : List Message) (qs : List Receive) (m : Messa
 
   pub push_message_void : (is_live m.trust ≡ true → ⊥) → IsIndexed after more qs waiting free opened couples
   push_message_void not =
-      all_sent_found waiting (message_void Sent ms qs waiting free opened couples sent_before_it more m one_sent adds.own apart (λ q i h. absent_message h.1) not)
+      all_sent_found waiting (message_void Sent ms qs waiting free opened couples sent_before_it more m (one_sent ms more m adds) adds.own apart (λ q i h. absent_sent ms more m adds h.1) not)
       (λ q i t. not (sure_stands m.trust t.sure_message))
 
   module _ (q : Receive) (i : Has qs q) (takes : TakesMessage after ms qs m q) where
@@ -117,14 +112,14 @@ module _ (after : After) (ms more : List Message) (qs : List Receive) (m : Messa
     pub new_message : IsNew couples (couple_of m q)
     new_message =
         new_couple Sent more qs (m ∷ waiting) free opened couples came m q adds.new i (settled_from q takes.told takes.sure_receive) takes.fit
-        (λ r j h. absent_message h.1) (λ n j h. takes.is_free n h.1 (message-adds_none after ms more qs m adds n q h.1 i h.0))
+        (λ r j h. absent_sent ms more m adds h.1) (λ n j h. takes.is_free n h.1 (message-adds_none after ms more qs m adds n q h.1 i h.0))
 
     -- the two are a couple, and the message is in no other
     pub push_message_taken : (frees : List Receive) (pairs : List Couple) → DropsFrom free frees q → AddsTo couples pairs (couple_of m q) → IsIndexed after more qs waiting frees opened pairs
     push_message_taken frees pairs f p =
         let paired = takes_message after ms more qs m adds q i held.receives_apart takes in
         same_sets (λ n r. Sent n r ⊎ ((n ≡ m) × (r ≡ q))) more qs waiting frees opened pairs
-        (couple_found Sent more qs (m ∷ waiting) free opened couples came m q adds.new i waiting frees pairs (take_front waiting m (λ k. absent_message (held.waits m k).0)) f p)
+        (couple_found Sent more qs (m ∷ waiting) free opened couples came m q adds.new i waiting frees pairs (take_front waiting m (λ k. absent_sent ms more m adds (held.waits m k).0)) f p)
         (Paired after more qs)
         (λ n r k j x. ⊎_elim (λ (y : Sent n r). y.0)
         (λ (e : (n ≡ m) × (r ≡ q)). subst (λ (z : Message). Paired after more qs z r) (sym e.0) (subst (λ (z : Receive). Paired after more qs m z) (sym e.1) paired)) x)

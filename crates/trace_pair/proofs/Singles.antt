@@ -18,6 +18,12 @@ pub fewer_sent_alone : (ms more : List Message) → ((n : Message) → Has ms n 
 fewer_sent_alone ms more old alone m n i j e f = alone m n (old m i) (old n j) e f
 
 module _ (ms more : List Message) (m : Message) (adds : AddsMessage ms more m) where
+  pub absent_sent : Has ms m → ⊥
+  absent_sent i = let lt = before_lt m m (adds.behind m i refl) in absurd (omega arith)
+
+  pub one_sent : AddsTo ms more m
+  one_sent = record { keeps = adds.old; added = adds.new; cases = adds.cases }
+
   -- what was there isn't of the new call
   old_call : (n k : Message) → Has ms n → k ≡ m → n.from ≡ k.from → n.name.call ≡ k.name.call → ⊥
   old_call n k i d e f =
