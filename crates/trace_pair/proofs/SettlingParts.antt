@@ -150,21 +150,21 @@ module _ (after : After) (ms : List Message) (qs more call : List Receive) (adds
       -- another free receive fits the message
       pub settles_left : (frees back : List Receive) → DropsFrom b.free frees q → AddsTo frees back q → (r : Receive) → IsFirstReceive frees (get_or l place d) r → SettlesAmong after ms more (q ∷ done) more (record b { free = back })
       settles_left frees back removed put r f =
-        let first = subst (λ (x : Message). IsFirstReceive frees x r) stands_there f in
-        record {
-        messages = s.messages;
-        rise = s.rise;
-        opened = s.opened;
-        held = one_more _ _ _ _ (parts.settles_left after ms qs more call adds s.held.messages_apart s.held.receives_apart q c settled m offer Done (λ n r k. next.keeps r k) _ _ _ _ s.held
-            (parts.left_free after ms qs more call adds s.held.messages_apart s.held.receives_apart q c settled m offer Done (λ n r k. next.keeps r k) _ _ _ _ s.held
-            (λ n x k t told. ⊎_elim (λ (e : q.tag ≡ None). absurd (cc)) (λ (d : Has done x). d) (next.order x k t))
-            r (removed.was r first.member) (λ e. removed.dropped (subst (λ (x : Receive). Has frees x) e first.member)) first.fit)
-            back (record {
-              keeps = λ x i. ⊎_elim (λ (k : Has frees x). put.keeps x k) (λ (e : x ≡ q). subst (λ (y : Receive). Has back y) (sym e) put.added) (removed.keeps x i);
-              was = λ x i. ⊎_elim (λ (k : Has frees x). removed.was x k) (λ (e : x ≡ q). subst (λ (y : Receive). Has b.free y) (sym e) still_free) (put.cases x i);
-            }));
-        last = s.last;
-      }
+          let first = subst (λ (x : Message). IsFirstReceive frees x r) stands_there f in
+          record {
+            messages = s.messages;
+            rise = s.rise;
+            opened = s.opened;
+            held = one_more _ _ _ _ (parts.settles_left after ms qs more call adds s.held.messages_apart s.held.receives_apart q c settled m offer Done (λ n r k. next.keeps r k) _ _ _ _ s.held
+                (parts.left_free after ms qs more call adds s.held.messages_apart s.held.receives_apart q c settled m offer Done (λ n r k. next.keeps r k) _ _ _ _ s.held
+                (λ n x k t told. ⊎_elim (λ (e : q.tag ≡ None). absurd (cc)) (λ (d : Has done x). d) (next.order x k t))
+                r (removed.was r first.member) (λ e. removed.dropped (subst (λ (x : Receive). Has frees x) e first.member)) first.fit)
+                back (record {
+                  keeps = λ x i. ⊎_elim (λ (k : Has frees x). put.keeps x k) (λ (e : x ≡ q). subst (λ (y : Receive). Has back y) (sym e) put.added) (removed.keeps x i);
+                  was = λ x i. ⊎_elim (λ (k : Has frees x). removed.was x k) (λ (e : x ≡ q). subst (λ (y : Receive). Has b.free y) (sym e) still_free) (put.cases x i);
+                }));
+            last = s.last;
+          }
 
       -- none does
       pub settles_taken : (frees : List Receive) → DropsFrom b.free frees q → ((r : Receive) → Has frees r → envelopes_fit (get_or l place d) r ≡ true → ⊥) → (t : Taker) (new : Takings) → t ≡ taker_of q → new ≡ with_taker b.messages place t

@@ -84,22 +84,22 @@ fn is_hidden(reaches: &Reaches, opened: &Ends, m: &Message) -> bool
     opened.may_take(reaches, m)
 }
 
-/// The place of the message that a receive of a new call takes, if no other free receive fits it.
+/// The place of the message that a part of a new call takes, if no other free receive fits it.
 fn offered_place(
     batch: &mut Batch,
     reaches: &Reaches,
-    q: &Receive,
+    part: &Receive,
 ) -> Result<Option<usize>, AllocError>
     ensures kept { batch.new ≡ batch.old }
     ensures within { IfOk result (IsWithin batch.old) }
-    ensures found { IfOk result (λ place. (ms : List Message) (qs more call free opened : List Receive) → AddsReceives qs more call → Has call q.now → AreLast opened batch.old.opened → batch.old.messages.messages ≡ ms
+    ensures found { IfOk result (λ place. (ms : List Message) (qs more call free opened : List Receive) → AddsReceives qs more call → Has call part.now → AreLast opened batch.old.opened → batch.old.messages.messages ≡ ms
         → AwaitReceives (comes_after reaches.now) ms qs more (waiting_of batch.old) free opened (couples_of batch.old)
-        → IsOfferedAt (comes_after reaches.now) ms qs more q.now place) }
+        → IsOfferedAt (comes_after reaches.now) ms qs more part.now place) }
 {
-    if !q.is_settled() {
+    if !part.is_settled() {
         return Ok(None);
     }
-    let Some(place) = batch.messages.sole_for(q)? else {
+    let Some(place) = batch.messages.sole_for(part)? else {
         return Ok(None);
     };
     let m = batch.messages.messages()[place];
@@ -195,11 +195,7 @@ fn offered_places(
 }
 
 /// The receive takes the message that it is offered, if no other free one fits it.
-fn settle_receive(
-    batch: &mut Batch,
-    offered: Option<usize>,
-    q: &Receive,
-) -> Result<(), AllocError>
+fn settle_receive(batch: &mut Batch, offered: Option<usize>, q: &Receive) -> Result<(), AllocError>
     requires { IsWithin batch.old offered }
     ensures kept { OnOk result (batch.new.messages.messages ≡ batch.old.messages.messages) }
     ensures settled { OnOk result ((after : After) (ms : List Message) (qs more call done : List Receive) → AddsReceives qs more call → Has call q.now → IsOfferedAt after ms qs more q.now offered
@@ -210,11 +206,10 @@ fn settle_receive(
     };
     let m = batch.messages.messages()[place];
     batch.free.remove(q);
-    if let Some(_) = batch.free.first_for(&m) {
-        batch.free.insert(*q)?;
-        return Ok(());
+    match batch.free.first_for(&m) {
+        Some(_) => batch.free.insert(*q)?,
+        None => batch.messages.take(place, taker_of(q))?,
     }
-    batch.messages.take(place, taker_of(q))?;
     Ok(())
 }
 

@@ -81,9 +81,7 @@ impl Places {
         }
         None
     }
-}
 
-impl Places {
     /// Whether a message waits behind the one in front that is of its call.
     fn has_sibling(&self, messages: &[Message], takers: &[Option<Taker>], call: u64) -> bool
         ensures { result ≡ is_followed messages.now takers.now call (drop 1 self.now) }
