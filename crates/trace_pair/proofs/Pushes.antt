@@ -94,8 +94,11 @@ module _ (after : After) (ms more : List Message) (qs : List Receive) (m : Messa
   -- where it is in no pair, all pairs are found
   all_sent_found : (w : List Message) → AreSets Sent more qs w free opened couples → ((q : Receive) → Has qs q → TakesMessage after ms qs m q → ⊥) → IsIndexed after more qs w free opened couples
   all_sent_found w h none = same_sets Sent more qs w free opened couples h (Paired after more qs) (λ n r i j g. g.0)
-      (λ n r i j g. (g, ⊎_elim (λ (k : Has ms n). k)
-      (λ (e : n ≡ m). absurd (none r j (message-taken after ms more qs m adds r j (subst (λ (x : Message). Paired after more qs x r) e g)))) (adds.cases n i)))
+      (λ n r i j g. (
+        g,
+        ⊎_elim (λ (k : Has ms n). k)
+            (λ (e : n ≡ m). absurd (none r j (message-taken after ms more qs m adds r j (subst (λ (x : Message). Paired after more qs x r) e g)))) (adds.cases n i),
+      ))
 
   pub push_message_waits : is_live m.trust ≡ true → ((q : Receive) → Has qs q → TakesMessage after ms qs m q → ⊥) → (waits : List Message) → AddsTo waiting waits m → IsIndexed after more qs waits free opened couples
   push_message_waits l none waits a = all_sent_found waits (awaits_message l waits a) none

@@ -119,8 +119,8 @@ module _ (after : After) (ms : List Message) (qs more : List Receive) (q : Recei
       member = first.member;
       fit = first.fit;
       sole = λ n i f l. first.first n i f (before_named n.name m.name l (λ e.
-      ap (λ (x : Message). x.name) (sent_alone n m (held.waits n i).0 (held.waits m first.member).0
-      (one_sender q.source n.from m.from (settled_parts q settled).0 (fit_parts n q f).2 (fit_parts m q first.fit).2) e)));
+          ap (λ (x : Message). x.name) (sent_alone n m (held.waits n i).0 (held.waits m first.member).0
+          (one_sender q.source n.from m.from (settled_parts q settled).0 (fit_parts n q f).2 (fit_parts m q first.fit).2) e)));
     }
 
     pub unsure_left : is_sure m.trust ≡ false → (n : Message) → Has ms n → Paired after ms more n q → ⊥

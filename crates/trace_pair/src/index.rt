@@ -173,11 +173,7 @@ fn forget(held: &mut Vec<RankOps>)
 }
 
 /// The table of the held ops, by the sets where some follow.
-fn table_by(
-    alloc: Global,
-    following: &Following,
-    held: &[RankOps],
-) -> Result<PairTable, AllocError>
+fn table_by(alloc: Global, following: &Following, held: &[RankOps]) -> Result<PairTable, AllocError>
     requires own { AreOwn 0 held.now }
     requires followed { IfSets following.now (IsFollowed held.now) }
     ensures { IfOk result (λ t. t ≡ table_of held.now) }

@@ -26,8 +26,7 @@ pub returns-clause-some : goal.returns-clause-some
 returns-clause-some c = λ ms qs more adds held.
     let after = comes_after c.args.reaches.now in
     let sure = sym c.is_sure.ensures ∙ c.if-not-is_sure.false in
-    let none = c.hides.ensures.no c.if-hides.false in
-    (
+    let none = c.hides.ensures.no c.if-hides.false in (
       is_offered_it after ms qs more c.args.q.now adds c.requires _ _ _ _ held.sets held.sent_alone held.posted_alone c.in-Some.m c.in-Some.ensures.some sure none,
       no_other_free after ms qs more c.args.q.now adds c.requires _ _ _ _ held.sets held.sent_alone held.posted_alone c.in-Some.m c.in-Some.ensures.some sure none c.in_default-first_for.ensures.none,
     )
