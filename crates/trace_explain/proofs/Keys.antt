@@ -46,14 +46,20 @@ option_same (Some a) (Some b) = nat_same a b
 both_same : (a b c d : Bool) → a ≡ b → c ≡ d → (a && c) ≡ (b && d)
 both_same a b c d h k = ap (λ x. x && c) h ∙ ap (λ y. b && y) k
 
+regrouped : (a b c : Bool) → ((a && b) && c) ≡ (a && (b && c))
+regrouped true b c = refl
+regrouped false b c = refl
+
 pub name_same : (a b : OpName) → is_eq (name_cmp (key_of a) (key_of b)) ≡ same_name a b
 name_same a b =
-    let call = ordering_then (nat_cmp a.rank b.rank) (nat_cmp a.call b.call) in
-    then_eq call (nat_cmp a.part b.part)
-    ∙ both_same (is_eq call) ((a.rank == b.rank) && (a.call == b.call)) (is_eq (nat_cmp a.part b.part)) (a.part == b.part)
-    (then_eq (nat_cmp a.rank b.rank) (nat_cmp a.call b.call)
-    ∙ both_same (is_eq (nat_cmp a.rank b.rank)) (a.rank == b.rank) (is_eq (nat_cmp a.call b.call)) (a.call == b.call) (nat_same a.rank b.rank) (nat_same a.call b.call))
-    (nat_same a.part b.part)
+    let rank = nat_cmp a.rank b.rank in
+    let call = nat_cmp a.call b.call in
+    let part = nat_cmp a.part b.part in
+    then_eq (ordering_then rank call) part
+    ∙ ap (λ x. x && is_eq part) (then_eq rank call)
+    ∙ regrouped (is_eq rank) (is_eq call) (is_eq part)
+    ∙ both_same (is_eq rank) (a.rank == b.rank) (is_eq call && is_eq part) ((a.call == b.call) && (a.part == b.part)) (nat_same a.rank b.rank)
+    (both_same (is_eq call) (a.call == b.call) (is_eq part) (a.part == b.part) (nat_same a.call b.call) (nat_same a.part b.part))
 
 pattern_same : (a b : Pattern) → is_eq (pattern_cmp a b) ≡ same_pattern a b
 pattern_same a b =

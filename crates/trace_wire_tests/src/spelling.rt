@@ -135,7 +135,7 @@ fn sent<R: Abort>(rt: &R, row: &Sent) -> SendEnvelope {
 }
 
 /// The least and the greatest numbers, and each mode.
-static SENDS: [(&str, u8, Sent, &[u8]); 6] = [
+static SENDS: [(&str, u8, Sent, &[u8]); 7] = [
     (
         "to nobody",
         2,
@@ -178,12 +178,19 @@ static SENDS: [(&str, u8, Sent, &[u8]); 6] = [
         (Mode::Ready, Peer::Rank(1), 7, CommRef::Id(2), 11),
         b"\x03\0\0\0\x01\0\0\0\x07\0\0\0\x02\0\0\0\x01\0\0\0\0\0\0\0\x0B",
     ),
+    (
+        "described alone",
+        21,
+        (Mode::Ready, Peer::Rank(1), 7, CommRef::Id(2), 11),
+        b"\x03\0\0\0\x01\0\0\0\x07\0\0\0\x02\0\0\0\x01\0\0\0\0\0\0\0\x0B",
+    ),
 ];
 
-/// The send of a code: 2 is that of a Send, and else it is an Isend.
+/// The send of a code: 2 is that of a Send, 21 that of a Send_init, and else it is an Isend.
 fn send_call<R: Abort>(rt: &R, code: u8, row: &Sent) -> Call {
     match code {
         2 => Call::Send(row.0, sent(rt, row)),
+        21 => Call::SendInit(row.0, sent(rt, row)),
         _ => Call::Isend(row.0, sent(rt, row)),
     }
 }
