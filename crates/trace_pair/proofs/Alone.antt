@@ -1,5 +1,5 @@
 -- A receive that is alone of its call, as the sets tell whether it is in a pair.
-use Rattle.std.proofs.Common.{subst, ◌≡◌, true, List, [], ◌∷◌, inl, inr, ⊎_elim, sym, refl, ap, None}
+use Rattle.std.proofs.Common.{subst, ◌≡◌, true, List, [], ◌∷◌, inl, ⊎_elim, refl, ap}
 use Rattle.std.specs.Prelude.{is_some}
 use Rattle.mpi_model.specs.declared.message.Message.{Message}
 use Rattle.mpi_model.specs.declared.message.Receive.{Receive}

@@ -4,7 +4,7 @@ use Rattle.std.proofs.lemmas.List.{take_more, take-append-drop}
 use Rattle.mpi_model.specs.declared.message.Message.{Message}
 use Rattle.mpi_model.specs.declared.message.Receive.{Receive}
 use Rattle.trace_ops.specs.Order.{sent_before, posted_before, Has}
-use Rattle.trace_pair.specs.Calls.{AddsMessage, AddsReceives, AreSentByCall, ArePostedByCall, IsOwnMessage, IsOwnReceive, IsPostingByCall, IsSequence, between}
+use Rattle.trace_pair.specs.Calls.{AddsMessage, AddsReceives, AreSentByCall, ArePostedByCall, IsOwnReceive, IsPostingByCall, IsSequence, between}
 use Rattle.trace_pair.proofs.Alone.{the_one}
 use Rattle.trace_pair.proofs.Ranks.{has_left, has_right, has_either}
 

@@ -1,8 +1,7 @@
 -- Calls that rise in a list, where no two neighbours are of one.
-use Rattle.std.proofs.Common.{subst, ◌≡◌, ℕ, zero, suc, ◌+◌, ◌-◌, ◌<◌, true, ◌&&◌, List, [], ◌∷◌, inl, ⊎_elim, sym, refl, ◌∙◌, ap, arith, length, get_or, eqb, ltb}
+use Rattle.std.proofs.Common.{subst, ◌≡◌, ℕ, zero, suc, ◌-◌, ◌<◌, true, List, [], ◌∷◌, inl, ⊎_elim, sym, refl, ◌∙◌, ap, arith, length, get_or, eqb, ltb}
 use Rattle.std.proofs.lemmas.Bool.Decides.{nat_tests}
 use Rattle.std.proofs.lemmas.List.{get_or_default}
-use Rattle.std.proofs.Math.Nat.{eq-or-lt_of_le}
 use Rattle.mpi_model.specs.declared.message.Message.{Message}
 use Rattle.mpi_model.specs.declared.message.Receive.{Receive}
 use Rattle.trace_ops.specs.Order.{Has, AreInOrder, ArePosted, named_before, sent_before, posted_before}

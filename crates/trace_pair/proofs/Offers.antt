@@ -1,6 +1,5 @@
 -- What a receive of a new call is offered, by the sets of an index.
-use Rattle.std.proofs.Common.{subst, ◌≡◌, ◌≤◌, true, false, List, inl, inr, ⊎_elim, sym, refl, ◌∙◌, ap, arith, Some, None}
-use Rattle.std.specs.Prelude.{is_some}
+use Rattle.std.proofs.Common.{subst, ◌≡◌, ◌≤◌, true, false, List, ⊎_elim, sym, refl, ◌∙◌, arith, Some, None}
 use Rattle.mpi_model.specs.declared.event.OpName.{OpName}
 use Rattle.mpi_model.specs.declared.message.Message.{Message}
 use Rattle.mpi_model.specs.declared.message.Receive.{Receive}
@@ -8,17 +7,16 @@ use Rattle.mpi_model.specs.Fit.{envelopes_fit, fits}
 use Rattle.mpi_model.specs.Trusts.{is_sure, is_open, is_settled}
 use Rattle.trace_ops.specs.Order.{Has, sent_before, posted_before}
 use Rattle.trace_pair.specs.Calls.{is_live, AddsReceives, IsOwnMessage, IsOwnReceive}
-use Rattle.trace_pair.specs.Ends.{NoneHides, SomeHides, NoneHidesUpTo, SomeHidesUpTo}
-use Rattle.trace_pair.specs.Indexed.{AreSets, AwaitReceives, Found, IsOfferedMessage, IsSoleMessage}
+use Rattle.trace_pair.specs.Ends.{NoneHides, SomeHides}
+use Rattle.trace_pair.specs.Indexed.{AwaitReceives, IsOfferedMessage, IsSoleMessage}
 use Rattle.trace_pair.specs.Pairing.{After, paired, Paired}
 use Rattle.trace_pair.specs.Places.{sent_at, posted_at, earlier, together, no_later, sent_no_later, posted_no_later}
 use Rattle.trace_pair.specs.declared.pair.Couple.{Couple}
 use Rattle.trace_pair.proofs.Certain.{same_name}
-use Rattle.trace_pair.proofs.Fitting.{envelope_of, false_apart, fits_at, fits_live, live_message, open_live, settled_from, settled_live, settled_not_open, settled_parts, sure_stands}
-use Rattle.trace_pair.proofs.Local.{up_to}
+use Rattle.trace_pair.proofs.Fitting.{envelope_of, false_apart, fits_at, fits_live, live_message, open_live, settled_live, settled_not_open, settled_parts, sure_stands}
 use Rattle.trace_pair.proofs.Obeyed.{any_or_none, or_left, posted_le}
 use Rattle.trace_pair.proofs.ReceiveParts.{parts_apart}
-use Rattle.trace_pair.proofs.Steps.{same_sender, first_of_two, receive-keeps, receive-adds_none, receive-taken, message-keeps, message-adds_none, message-taken}
+use Rattle.trace_pair.proofs.Steps.{same_sender, first_of_two, receive-keeps, receive-adds_none, receive-taken}
 
 sent_as_named : (m : Message) → IsOwnMessage m → sent_at m ≡ m.name
 sent_as_named m o = same_name (sent_at m) m.name (sym o) refl refl

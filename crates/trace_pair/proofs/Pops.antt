@@ -1,5 +1,5 @@
 -- A rank's last message or receive, alone of its call, goes from the end of it.
-use Rattle.std.proofs.Common.{subst, ◌≡◌, true, false, ◌⊎◌, List, [], ◌∷◌, inl, inr, ⊎_elim, sym, refl, ap}
+use Rattle.std.proofs.Common.{subst, ◌≡◌, true, false, ◌⊎◌, List, [], ◌∷◌, inl, inr, ⊎_elim, sym, ap}
 use Rattle.mpi_model.specs.declared.message.Message.{Message}
 use Rattle.mpi_model.specs.declared.message.Receive.{Receive}
 use Rattle.mpi_model.specs.Trusts.{is_open, is_settled}

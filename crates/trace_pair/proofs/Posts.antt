@@ -1,5 +1,5 @@
 -- The receives of one rank among those of the others.
-use Rattle.std.proofs.Common.{subst, ◌≡◌, ℕ, true, ◌&&◌, List, [], ◌∷◌, ◌++◌, inl, inr, ⊎_elim, sym, refl, ◌∙◌, ap, ◌≤◌, arith, append_assoc, take, drop, eqb, ltb}
+use Rattle.std.proofs.Common.{subst, ◌≡◌, ℕ, true, ◌&&◌, List, [], ◌∷◌, ◌++◌, inl, inr, ⊎_elim, sym, ◌∙◌, ap, ◌≤◌, arith, append_assoc, take, drop, eqb, ltb}
 use Rattle.std.proofs.lemmas.Bool.Decides.{nat_tests}
 use Rattle.std.proofs.lemmas.List.{take-take, take-append-drop}
 use Rattle.std.specs.Prelude.{slice_range}

@@ -1,5 +1,5 @@
 -- A call of one part more at the end of its rank.
-use Rattle.std.proofs.Common.{subst, ◌≡◌, true, false, ◌⊎◌, List, [], ◌∷◌, inl, inr, ⊎_elim, sym, refl, ap, arith}
+use Rattle.std.proofs.Common.{subst, ◌≡◌, true, false, ◌⊎◌, List, [], ◌∷◌, inl, inr, ⊎_elim, sym, refl}
 use Rattle.mpi_model.specs.declared.message.Message.{Message}
 use Rattle.mpi_model.specs.declared.message.Receive.{Receive}
 use Rattle.mpi_model.specs.Trusts.{is_open, is_settled}
@@ -14,7 +14,6 @@ use Rattle.trace_pair.proofs.Fitting.{settled_from, settled_not_open, sure_stand
 use Rattle.trace_pair.proofs.Holding.{same_sets, couple_found, receive_free, receive_open, receive_void, message_waits, message_void}
 use Rattle.trace_pair.specs.Coupled.{IsNew}
 use Rattle.trace_pair.proofs.Known.{new_couple}
-use Rattle.trace_pair.proofs.Obeyed.{before_lt, posted_lt}
 use Rattle.trace_pair.proofs.ReceiveParts as receives
 use Rattle.trace_pair.proofs.Singles.{absent_posted, absent_sent, one_posted, one_sent}
 use Rattle.trace_pair.proofs.Steps.{receive-keeps, receive-adds_none, receive-taken, message-keeps, message-adds_none, message-taken, takes_message}

@@ -1,13 +1,12 @@
 -- Stretches of lists, and the order of a rank's messages in them.
-use Rattle.std.proofs.Common.{subst, ◌≡◌, ℕ, zero, suc, true, ◌&&◌, List, [], ◌∷◌, ◌++◌, inl, inr, ⊎_elim, sym, refl, ◌∙◌, ap, ◌⊎◌, ◌≤◌, ◌+◌, ◌-◌, arith, append_assoc, take, drop, eqb, ltb}
+use Rattle.std.proofs.Common.{◌≡◌, ℕ, zero, suc, true, ◌&&◌, List, [], ◌∷◌, ◌++◌, inl, inr, ⊎_elim, refl, ◌∙◌, ap, ◌⊎◌, ◌≤◌, ◌+◌, ◌-◌, arith, take, drop, eqb, ltb}
 use Rattle.std.proofs.lemmas.Bool.Decides.{nat_tests}
-use Rattle.std.proofs.lemmas.List.{take-take, take-append-drop, drop-take}
+use Rattle.std.proofs.lemmas.List.{take-append-drop, drop-take}
 use Rattle.std.specs.Prelude.{slice_range}
 use Rattle.mpi_model.specs.declared.event.OpName.{OpName}
 use Rattle.mpi_model.specs.declared.message.Message.{Message}
-use Rattle.trace_ops.specs.Order.{sent_before, Has, AreInOrder, named_before}
-use Rattle.trace_pair.specs.Calls.{between}
-use Rattle.trace_pair.proofs.Obeyed.{and_true, both, either}
+use Rattle.trace_ops.specs.Order.{Has, AreInOrder, named_before}
+use Rattle.trace_pair.proofs.Obeyed.{both, either}
 
 pub has_left : {X : Type 0} (xs ys : List X) (x : X) → Has xs x → Has (xs ++ ys) x
 has_left [] ys x i = absurd i

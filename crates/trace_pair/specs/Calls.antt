@@ -5,7 +5,7 @@ use Rattle.mpi_model.specs.declared.message.Receive.{Receive}
 use Rattle.mpi_model.specs.declared.message.Trust.{Trust}
 use Rattle.mpi_model.specs.Trusts.{is_void}
 use Rattle.trace_ops.specs.Ops.{Ops}
-use Rattle.trace_ops.specs.Order.{Has, sent_before, posted_before, AreInOrder, ArePosted}
+use Rattle.trace_ops.specs.Order.{Has, sent_before, posted_before, ArePosted}
 use Rattle.trace_pair.specs.Places.{sent_at, posted_at}
 
 -- it isn't known to be cancelled

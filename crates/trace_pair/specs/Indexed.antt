@@ -1,11 +1,11 @@
 -- The four sets of an index: messages that wait, free receives, open receives, and couples.
-use Rattle.std.specs.Prelude.{◌≡◌, ℕ, Bool, true, false, cond, ◌||◌, ◌==◌, ◌&&◌, nat_lt, is_some, is_none, Option, Some, None, List, [], ◌∷◌, ◌++◌, filter}
+use Rattle.std.specs.Prelude.{◌≡◌, ℕ, Bool, true, cond, ◌||◌, ◌==◌, ◌&&◌, nat_lt, is_some, is_none, Option, Some, None, List, ◌++◌, filter}
 use Rattle.mpi_model.specs.declared.event.OpName.{OpName}
 use Rattle.mpi_model.specs.declared.message.Message.{Message}
 use Rattle.mpi_model.specs.declared.message.Receive.{Receive}
 use Rattle.mpi_model.specs.Fit.{envelopes_fit, fits}
 use Rattle.mpi_model.specs.Trusts.{is_sure, is_open, is_settled}
-use Rattle.trace_ops.specs.Order.{Has, sent_before, posted_before}
+use Rattle.trace_ops.specs.Order.{Has, sent_before}
 use Rattle.trace_pair.specs.Calls.{is_live, IsOwnMessage, IsOwnReceive, AreApart, ArePostedApart}
 use Rattle.trace_pair.specs.Pairing.{After, Paired}
 use Rattle.trace_pair.specs.Places.{sent_no_later, posted_no_later, no_later}

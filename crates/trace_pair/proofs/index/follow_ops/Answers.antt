@@ -6,7 +6,6 @@ use Rattle.trace_pair.specs.After.{comes_after}
 use Rattle.trace_pair.specs.Calls.{IsSingle}
 use Rattle.trace_pair.specs.Followed.{Adds, Drops}
 use Rattle.trace_pair.specs.Fronts.{AreFronts}
-use Rattle.trace_pair.specs.Kept.{IsFollowed}
 use Rattle.trace_pair.specs.Reach.{AreReachesOf, IsReachOf}
 use Rattle.trace_pair.specs.declared.reach.RankReach.{RankReach}
 use Rattle.trace_pair.proofs.Afterwards.{length_zip}

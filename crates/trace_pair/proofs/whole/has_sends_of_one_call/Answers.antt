@@ -1,6 +1,5 @@
-use Rattle.std.proofs.Common.{◌≡◌, ℕ, subst, arith, length}
-use Rattle.mpi_model.specs.declared.message.Message.{Message}
-use Rattle.trace_pair.proofs.Neighbours.{AreApartTo, sent_by_call, sent_at_place}
+use Rattle.std.proofs.Common.{arith}
+use Rattle.trace_pair.proofs.Neighbours.{sent_by_call, sent_at_place}
 use Rattle.trace_pair.proofs.whole.has_sends_of_one_call.Goals as goal
 
 pub returns-then-calls-next-clause-several : goal.returns-then-calls-next-clause-several

@@ -1,4 +1,4 @@
-use Rattle.std.proofs.Common.{◌-◌, ◌≤◌, ◌<◌, length}
+use Rattle.std.proofs.Common.{◌-◌, ◌<◌, length}
 use Rattle.mpi_model.specs.declared.message.Message.{Message}
 use Rattle.trace_pair.proofs.Neighbours.{AreApartTo}
 use Rattle.trace_pair.proofs.whole.has_sends_of_one_call.Given as goal
