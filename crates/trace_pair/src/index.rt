@@ -115,7 +115,8 @@ impl PairIndex {
     }
 
     /// The table of the held ops, made by one pass over them, what its pairs are worth, and that none
-    /// is missing where no receive is open and no message doubtful (MPI 4.0, 3.5).
+    /// is missing where no receive is open, no message doubtful, and no two parts of one call fit the
+    /// same (MPI 4.0, 3.5 and 3.9).
     pub fn pairs(&self) -> Result<PairTable, AllocError>
         ensures table { IfOk result (λ t. t ≡ table_of self.now) }
         ensures certain { IfOk result (λ t. AreCertain self.now t.pairs) }
