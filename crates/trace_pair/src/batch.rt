@@ -7,8 +7,10 @@
 //! the ranks comes first makes no difference, since all that the rules compare are messages of one sender
 //! and receives of one rank.
 //!
-//! The parts of one call may stand in one another's way, whatever their order in the list. So the open
-//! ones go first, then those of any tag, and then the others.
+//! The parts of one call may stand in one another's way, whatever their order in the list (MPI 4.0, 3.9).
+//! So all of them enter their sets first, and what each may take is looked for before anything is taken.
+//! Then a part takes what it is offered, if no other free receive fits it: those of any tag before those
+//! of a tag, since one of a tag can wait for one of any to be out of the way, and not the other way round.
 
 ghost use Rattle.std.specs.Prelude.{◌≡◌, ◌∷◌, true, false, None, Some, IfOk, OnOk, [], List, length, slice_get};
 ghost use Rattle.std.specs.List.{All, AllZip};
@@ -173,8 +175,7 @@ fn enter_receives(batch: &mut Batch, call: &[Receive]) -> Result<(), AllocError>
     Ok(())
 }
 
-/// Of each of the call's receives the place of the message that it takes, if no other part is in the
-/// way.
+/// Of each part of a call the place of the message that it takes, if no other free receive fits it.
 fn offered_places(
     batch: &mut Batch,
     reaches: &Reaches,
@@ -194,7 +195,7 @@ fn offered_places(
     Ok(found)
 }
 
-/// The receive takes the message that it is offered, if no other free one fits it.
+/// The part takes the message that it is offered, if no other free receive fits it.
 fn settle_receive(batch: &mut Batch, offered: Option<usize>, q: &Receive) -> Result<(), AllocError>
     requires { IsWithin batch.old offered }
     ensures kept { OnOk result (batch.new.messages.messages ≡ batch.old.messages.messages) }
@@ -213,7 +214,7 @@ fn settle_receive(batch: &mut Batch, offered: Option<usize>, q: &Receive) -> Res
     Ok(())
 }
 
-/// The receives of a call that are of any tag take what they are offered, or those of a tag.
+/// The parts of a call that are of any tag take what they are offered, or those of a tag.
 fn settle_receives(
     batch: &mut Batch,
     call: &[Receive],
@@ -235,9 +236,8 @@ fn settle_receives(
     Ok(())
 }
 
-/// Puts the receives of a call of several parts behind those of its rank: the open ones first, then
-/// those of any tag, then the others. Parts that are alike each need the other to go first, and none of
-/// them takes anything.
+/// Puts the receives of a call of several parts behind those of its rank. Parts that are alike each need
+/// the other to go first, and none of them takes anything.
 fn add_parts(batch: &mut Batch, reaches: &Reaches, call: &[Receive]) -> Result<(), AllocError>
     ensures { OnOk result ((ms : List Message) (qs more : List Receive) → AddsReceives qs more call.now → ArePostedApart more → Settles (comes_after reaches.now) ms qs batch.old → Settles (comes_after reaches.now) ms more batch.new) }
 {
