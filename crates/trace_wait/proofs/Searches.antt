@@ -16,7 +16,6 @@ use Rattle.mpi_model.specs.declared.message.Receive.{Receive}
 use Rattle.trace_ops.specs.Ops.{Ops, AreOwn}
 use Rattle.trace_ops.specs.Order.{Has, named_before, AreInOrder, ArePosted, AreCalledInOrder}
 use Rattle.trace_wait.specs.Parts.{is_of}
-use Rattle.trace_wait.specs.Patterns.{Place, place_cmp}
 use Rattle.trace_wait.proofs.Keys.{nat_same, place_same}
 
 -- each name is before those after it
@@ -24,9 +23,9 @@ abbrev pub Rises : {X : Type 0} → (X → OpName) → List X → Type 0
 Rises name [] = Unit {0}
 Rises {X} name (x ∷ xs) = ((y : X) → Has xs y → named_before (name x) (name y) ≡ true) × Rises name xs
 
--- the call and the part of a name
-abbrev pub place_of : OpName → Place
-place_of name = (name.call, name.part)
+-- names of one rank by their calls, and then by their parts
+abbrev pub name_cmp : OpName → OpName → Ordering
+name_cmp a b = ordering_then (nat_cmp a.call b.call) (nat_cmp a.part b.part)
 
 has_at : {X : Type 0} (xs : List X) (i : ℕ) (d : X) → i < length xs → Has xs (get_or xs i d)
 has_at [] i d lt = absurd (omega arith)
@@ -43,8 +42,8 @@ split a b = grind arith
 
 -- ---- names in order
 
-place_total : IsTotalOrder place_cmp
-place_total = then_total (on_total (λ p. p.0) nat_cmp_total) (on_total (λ p. p.1) nat_cmp_total)
+name_total : IsTotalOrder name_cmp
+name_total = then_total (on_total (λ (a : OpName). a.call) nat_cmp_total) (on_total (λ (a : OpName). a.part) nat_cmp_total)
 
 then_less : (a b : Ordering) → is_lt (ordering_then a b) ≡ (is_lt a || (is_eq a && is_lt b))
 then_less Less b = refl
@@ -61,7 +60,7 @@ not_behind : (a b c d : ℕ) → (nat_lt a c || ((a == c) && nat_lt b d)) ≡ tr
 not_behind a b c d h = grind (arith, nat_tests)
 
 -- what is before another isn't behind it
-behind : (a b : OpName) → named_before a b ≡ true → is_lt (place_cmp (place_of b) (place_of a)) ≡ false
+behind : (a b : OpName) → named_before a b ≡ true → is_lt (name_cmp b a) ≡ false
 behind a b h =
     then_less (nat_cmp b.call a.call) (nat_cmp b.part a.part)
     ∙ joined _ _ _ _ _ _ (nat_less b.call a.call) (nat_same b.call a.call) (nat_less b.part a.part)
@@ -77,7 +76,7 @@ apart n a b h k = not_both a.call a.part b.call b.part n.call n.part h k
 -- ---- the search
 
 module _ {X : Type 0} (name : X → OpName) where
-  in_order : (xs : List X) → Rises name xs → IsSortedBy (λ x y. is_lt (place_cmp (place_of (name x)) (place_of (name y)))) xs
+  in_order : (xs : List X) → Rises name xs → IsSortedBy (λ x y. is_lt (name_cmp (name x) (name y))) xs
   in_order [] up k d low lt = absurd (omega arith)
   in_order (x ∷ []) up k d low lt = absurd (omega arith)
   in_order (x ∷ y ∷ xs) up zero d low lt = behind (name x) (name y) (up.0 y (inl refl))
@@ -102,13 +101,13 @@ module _ {X : Type 0} (name : X → OpName) where
         subst (λ (b : Bool). cond b (Some x) (find (λ y. is_of n (name y)) xs) ≡ None) (sym (h 0 x (omega arith))) (none_at xs (λ k d lt. h (suc k) d (omega (arith, lt))))
 
     -- an element has the name just where it compares as equal
-    compared : (x : X) → is_of n (name x) ≡ is_eq (place_cmp (place_of (name x)) (place_of n))
-    compared x = sym (place_same (place_of (name x)) (place_of n))
+    compared : (x : X) → is_of n (name x) ≡ is_eq (name_cmp (name x) n)
+    compared x = sym (place_same ((name x).call, (name x).part) (n.call, n.part))
 
-    pub searched : (xs : List X) → Rises name xs → (r : Result ℕ ℕ) → IsSearchInRange r (length xs) → IsBinarySearchResult (λ y. place_cmp (place_of (name y)) (place_of n)) xs r → Finds (λ y. is_of n (name y)) xs r
+    pub searched : (xs : List X) → Rises name xs → (r : Result ℕ ℕ) → IsSearchInRange r (length xs) → IsBinarySearchResult (λ y. name_cmp (name y) n) xs r → Finds (λ y. is_of n (name y)) xs r
     searched xs up (Ok at) in_range equal = record { found = found_at xs at up in_range (λ d. compared _ ∙ ap is_eq (equal d)); absent = tt }
     searched xs up (Err at) in_range parted =
-        let parts = parted (searchable_from_sorted place_total (λ y. place_of (name y)) xs (place_of n) (in_order xs up)) in
+        let parts = parted (searchable_from_sorted name_total name xs n (in_order xs up)) in
         record {
           found = tt;
           absent = none_at xs (λ k d lt. ⊎_elim
