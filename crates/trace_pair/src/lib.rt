@@ -3,8 +3,8 @@
 //! A pair is reported only where it is certain: whatever the ranks did next, and however their open
 //! receives were told, MPI allows no run in which the two aren't matched. Where no receive is open, no
 //! message doubtful, and no two parts of one Startall fit the same, the pairs are the only matching
-//! that MPI allows. Both are clauses of [`pair_all`] and of [`PairIndex::pairs`]. They hold of runs in which no call that isn't read cancels
-//! a request of one that is.
+//! that MPI allows. Both are clauses of [`pair_all`] and of [`PairIndex::pairs`]. They hold of runs in
+//! which no call that isn't read cancels a request of one that is.
 //!
 //! [`pair_all`] goes once over all calls, and takes n of them in n log n; [`PairIndex::pairs`] has the
 //! same contract. The index follows the ranks as they grow and are cut back; one step costs in
