@@ -34,7 +34,7 @@ impl<'a> Model for Names<'a> {
 }
 
 /// Puts the key into the set.
-fn note<T: Ord + Drop>(set: &mut BTreeSet<T>, x: T) -> Result<(), AllocError>
+pub(crate) fn note<T: Ord + Drop>(set: &mut BTreeSet<T>, x: T) -> Result<(), AllocError>
     ensures { OnOk result ((d : T) → contains T.cmp set.new d ≡ (is_eq (T.cmp x d) || contains T.cmp set.old d)) }
 {
     set.insert(x)?;
