@@ -3,3 +3,4 @@ pub mod Seconds
 pub mod Ranges
 pub mod Words
 pub mod Functions
+pub mod Names

@@ -84,6 +84,13 @@ immediate_name modes.Synchronous = codes "MPI_Issend"
 immediate_name modes.Buffered = codes "MPI_Ibsend"
 immediate_name modes.Ready = codes "MPI_Irsend"
 
+-- the function that makes a persistent send of a mode (MPI 4.0, 3.9)
+abbrev pub init_name : Mode → List ℕ
+init_name modes.Standard = codes "MPI_Send_init"
+init_name modes.Synchronous = codes "MPI_Ssend_init"
+init_name modes.Buffered = codes "MPI_Bsend_init"
+init_name modes.Ready = codes "MPI_Rsend_init"
+
 -- by whether the function is nonblocking, and its kind
 abbrev pub collective_name : Bool → Kind → List ℕ
 collective_name nonblocking kind = function_name (record { kind = kind; nonblocking = nonblocking })
@@ -98,9 +105,9 @@ send_text name e = name ++ sent_text e
 abbrev pub receive_text : List ℕ → Envelope → List ℕ
 receive_text name e = name ++ received_text e
 
--- a Probe, by what it looks for
-abbrev pub probe_text : Probed → List ℕ
-probe_text e = codes "MPI_Probe" ++ probed_text e
+-- a probe, by its function and what it looks for
+abbrev pub probe_text : List ℕ → Probed → List ℕ
+probe_text name e = name ++ probed_text e
 
 -- a Sendrecv, by both of its envelopes
 abbrev pub exchange_text : BothEnvelopes → List ℕ
@@ -152,5 +159,12 @@ call_text (calls.Cancel request) = codes "MPI_Cancel on a request"
 call_text (calls.Free request) = codes "MPI_Request_free on a request"
 call_text (calls.Collective c) = collective_text false c
 call_text (calls.Icollective c) = collective_text true c
-call_text (calls.Probe e) = probe_text e
+call_text (calls.Probe e) = probe_text (codes "MPI_Probe") e
+call_text (calls.SendInit mode e) = send_text (init_name mode) e
+call_text (calls.RecvInit e) = receive_text (codes "MPI_Recv_init") e
+call_text (calls.Start request) = codes "MPI_Start on a request"
+call_text (calls.Startall requests) = of_requests_text (codes "MPI_Startall") (length requests)
+call_text (calls.Mprobe e) = probe_text (codes "MPI_Mprobe") e
+call_text (calls.Improbe e) = probe_text (codes "MPI_Improbe") e
+call_text calls.Imrecv = codes "MPI_Imrecv of a message"
 call_text calls.Unread = codes "a call that is not read"

@@ -2,7 +2,7 @@
 
 ghost use Rattle.std.specs.Prelude.{◌≡◌, length};
 ghost use Rattle.call_words.specs.Texts.{Adds};
-ghost use Rattle.call_words.specs.Words.{call_text, collective_name, collective_text, exchange_text, kind_text, immediate_name, of_requests_text, on_text, one_root_text, probe_text, receive_text, root_text, send_name, send_text};
+ghost use Rattle.call_words.specs.Words.{call_text, collective_name, collective_text, exchange_text, kind_text, immediate_name, init_name, of_requests_text, on_text, one_root_text, probe_text, receive_text, root_text, send_name, send_text};
 
 use crate::envelopes::{put_comm, put_probed, put_received, put_sent};
 use crate::text::Text;
@@ -32,6 +32,17 @@ pub(crate) fn immediate_name(mode: Mode) -> &'static [u8]
     }
 }
 
+pub(crate) fn init_name(mode: Mode) -> &'static [u8]
+    ensures { result.now ≡ init_name mode }
+{
+    match mode {
+        Mode::Standard => b"MPI_Send_init",
+        Mode::Synchronous => b"MPI_Ssend_init",
+        Mode::Buffered => b"MPI_Bsend_init",
+        Mode::Ready => b"MPI_Rsend_init",
+    }
+}
+
 pub(crate) fn collective_name(nonblocking: bool, kind: Kind) -> &'static [u8]
     ensures { result.now ≡ collective_name nonblocking kind }
 {
@@ -54,11 +65,11 @@ fn put_receive(out: &mut Text, name: &[u8], envelope: Envelope)
     put_received(out, envelope);
 }
 
-/// A Probe, by what it looks for.
-fn put_probe(out: &mut Text, envelope: ProbeEnvelope)
-    ensures { Adds out.old out.new (probe_text envelope) }
+/// A probe, by its function and what it looks for.
+fn put_probe(out: &mut Text, name: &[u8], envelope: ProbeEnvelope)
+    ensures { Adds out.old out.new (probe_text name.now envelope) }
 {
-    out.put(b"MPI_Probe");
+    out.put(name);
     put_probed(out, envelope);
 }
 
@@ -149,7 +160,14 @@ pub fn put_call(out: &mut Text, call: &Call)
         Call::Free(_) => out.put(b"MPI_Request_free on a request"),
         Call::Collective(call) => put_collective(out, false, *call),
         Call::Icollective(call) => put_collective(out, true, *call),
-        Call::Probe(envelope) => put_probe(out, *envelope),
+        Call::Probe(envelope) => put_probe(out, b"MPI_Probe", *envelope),
+        Call::SendInit(mode, envelope) => put_send(out, init_name(*mode), envelope.envelope()),
+        Call::RecvInit(envelope) => put_receive(out, b"MPI_Recv_init", envelope.envelope()),
+        Call::Start(_) => out.put(b"MPI_Start on a request"),
+        Call::Startall(list) => put_of_requests(out, b"MPI_Startall", list.as_slice().len()),
+        Call::Mprobe(envelope) => put_probe(out, b"MPI_Mprobe", *envelope),
+        Call::Improbe(envelope) => put_probe(out, b"MPI_Improbe", *envelope),
+        Call::Imrecv => out.put(b"MPI_Imrecv of a message"),
         Call::Unread => out.put(b"a call that is not read"),
     }
 }

@@ -3,7 +3,7 @@
 ghost use Rattle.call_words.specs.Functions.{function_text};
 ghost use Rattle.call_words.specs.Texts.{Adds};
 
-use crate::calls::{collective_name, immediate_name, put_on, send_name};
+use crate::calls::{collective_name, immediate_name, init_name, put_on, send_name};
 use crate::text::Text;
 use mpi_model::Call;
 
@@ -33,6 +33,13 @@ pub fn put_function(out: &mut Text, call: &Call)
         Call::Collective(call) => put_on(out, collective_name(false, call.kind()), call.comm()),
         Call::Icollective(call) => put_on(out, collective_name(true, call.kind()), call.comm()),
         Call::Probe(envelope) => put_on(out, b"MPI_Probe", envelope.comm()),
+        Call::SendInit(mode, envelope) => put_on(out, init_name(*mode), envelope.envelope().comm),
+        Call::RecvInit(envelope) => put_on(out, b"MPI_Recv_init", envelope.envelope().comm),
+        Call::Start(_) => out.put(b"MPI_Start"),
+        Call::Startall(_) => out.put(b"MPI_Startall"),
+        Call::Mprobe(envelope) => put_on(out, b"MPI_Mprobe", envelope.comm()),
+        Call::Improbe(envelope) => put_on(out, b"MPI_Improbe", envelope.comm()),
+        Call::Imrecv => out.put(b"MPI_Imrecv"),
         Call::Unread => out.put(b"a call that is not read"),
     }
 }

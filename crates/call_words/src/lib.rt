@@ -7,18 +7,20 @@
 //! - [`ranges`]: ranks, neighbours joined into ranges, as `0 to 11, 13`
 //! - [`envelopes`], [`calls`]: a call with what it names, as
 //!   `MPI_Send to rank 1 of MPI_COMM_WORLD, tag 7, 65536 elements`
-//! - [`functions`]: a call by its function and communicator alone
+//! - [`functions`]: a call by its function and communicator alone; [`names`]: an operation by its number
 #![tactic(auto)]
 
 mod calls;
 mod envelopes;
 mod functions;
+mod names;
 mod ranges;
 mod seconds;
 mod text;
 
 pub use calls::{put_call, put_kind};
 pub use functions::put_function;
+pub use names::put_op_number;
 pub use ranges::{Range, put_held, put_named_ranks, put_next, put_ranges};
 pub use seconds::put_seconds;
 pub use text::Text;

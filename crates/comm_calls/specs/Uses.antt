@@ -35,6 +35,10 @@ comm_of (mpi.Sendrecv both) = Some both.send.comm
 comm_of (mpi.Collective c) = Some c.comm
 comm_of (mpi.Icollective c) = Some c.comm
 comm_of (mpi.Probe e) = Some e.comm
+comm_of (mpi.SendInit mode e) = Some e.comm
+comm_of (mpi.RecvInit e) = Some e.comm
+comm_of (mpi.Mprobe e) = Some e.comm
+comm_of (mpi.Improbe e) = Some e.comm
 comm_of mpi.Local = None
 comm_of mpi.Finalize = None
 comm_of (mpi.Wait request) = None
@@ -47,6 +51,9 @@ comm_of (mpi.Testany requests) = None
 comm_of (mpi.Testsome requests) = None
 comm_of (mpi.Cancel request) = None
 comm_of (mpi.Free request) = None
+comm_of (mpi.Start request) = None
+comm_of (mpi.Startall requests) = None
+comm_of mpi.Imrecv = None
 comm_of mpi.Unread = None
 
 -- its number; MPI_COMM_WORLD is named by no number

@@ -15,11 +15,11 @@ fn comm_of(call: &Call) -> Option<CommRef>
     ensures { result ≡ comm_of call.now }
 {
     match call {
-        Call::Send(_, e) | Call::Isend(_, e) => Some(e.envelope().comm),
-        Call::Recv(e) | Call::Irecv(e) => Some(e.envelope().comm),
+        Call::Send(_, e) | Call::Isend(_, e) | Call::SendInit(_, e) => Some(e.envelope().comm),
+        Call::Recv(e) | Call::Irecv(e) | Call::RecvInit(e) => Some(e.envelope().comm),
         Call::Sendrecv(both) => Some(both.send().comm),
         Call::Collective(c) | Call::Icollective(c) => Some(c.comm()),
-        Call::Probe(e) => Some(e.comm()),
+        Call::Probe(e) | Call::Mprobe(e) | Call::Improbe(e) => Some(e.comm()),
         Call::Local
         | Call::Finalize
         | Call::Wait(_)
@@ -32,6 +32,9 @@ fn comm_of(call: &Call) -> Option<CommRef>
         | Call::Testsome(_)
         | Call::Cancel(_)
         | Call::Free(_)
+        | Call::Start(_)
+        | Call::Startall(_)
+        | Call::Imrecv
         | Call::Unread => None,
     }
 }

@@ -182,6 +182,7 @@ const REPORT_HELP: &str =
 With --json it prints the same as one JSON object, on one line:
   mpimatch report --json layout.json manifest.json | jq .stuck
 Call n of a rank has the places 2n, where it was entered, and 2n + 1, where it returned.
+R:CALL.PART is what an MPI_Startall starts for place PART of its list, where that isn't 0.
 "#;
 
 /// What the help of `replay` says below its arguments.

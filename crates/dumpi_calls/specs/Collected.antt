@@ -6,7 +6,7 @@ use Rattle.mpi_model.specs.declared.event.Event.TheVariants.{Enter, Return}
 use Rattle.mpi_model.specs.declared.event.Exit.{Exit}
 use Rattle.trace_know.specs.Segment.{PlacedEvents, enter_place}
 use Rattle.trace_know.specs.declared.segment.TheConstants.{MOST_EVENTS}
-use Rattle.dumpi_calls.specs.Rows.{Callback, OnSend, OnIsend, OnRecv, OnIrecv, OnSendrecv, OnProbe, OnWait, OnWaitall, OnWaitany, OnWaitsome, OnTest, OnTestall, OnTestany, OnTestsome, OnCancel, OnRequestFree, OnCollective, OnIcollective, OnUnread, OnOther}
+use Rattle.dumpi_calls.specs.Rows.{Callback, OnSend, OnIsend, OnRecv, OnIrecv, OnSendrecv, OnProbe, OnWait, OnWaitall, OnWaitany, OnWaitsome, OnTest, OnTestall, OnTestany, OnTestsome, OnCancel, OnRequestFree, OnCollective, OnIcollective, OnSendInit, OnRecvInit, OnStart, OnStartall, OnMprobe, OnImprobe, OnImrecv, OnUnread, OnOther}
 use Rattle.dumpi_calls.specs.Seen.{Seen}
 use Rattle.dumpi_calls.specs.declared.tally.Tally.{Tally}
 
@@ -79,5 +79,12 @@ tallied t OnCancel = record t { on_cancel = one_more t.on_cancel }
 tallied t OnRequestFree = record t { on_request_free = one_more t.on_request_free }
 tallied t OnCollective = record t { on_collective = one_more t.on_collective }
 tallied t OnIcollective = record t { on_icollective = one_more t.on_icollective }
+tallied t OnSendInit = record t { on_send_init = one_more t.on_send_init }
+tallied t OnRecvInit = record t { on_recv_init = one_more t.on_recv_init }
+tallied t OnStart = record t { on_start = one_more t.on_start }
+tallied t OnStartall = record t { on_startall = one_more t.on_startall }
+tallied t OnMprobe = record t { on_mprobe = one_more t.on_mprobe }
+tallied t OnImprobe = record t { on_improbe = one_more t.on_improbe }
+tallied t OnImrecv = record t { on_imrecv = one_more t.on_imrecv }
 tallied t (OnUnread name) = record t { on_unread = one_more t.on_unread }
 tallied t (OnOther name) = record t { on_other = one_more t.on_other }

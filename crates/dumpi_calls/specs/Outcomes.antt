@@ -151,7 +151,7 @@ index requests raw = do
 abbrev pub several : List ℤ → TextCall → Outs
 several requests raw = outcomes.Several (elements_from (groups_in Statuses raw) (length requests) 0 (indices_in raw))
 
--- whether the request is done, and what `status` tells
+-- whether the request is done or a message was taken, and what `status` tells
 unfoldable pub flag : TextCall → Result Outs CallFault
 flag raw = do
   flag ← number_in Flag raw
@@ -188,6 +188,10 @@ brought_by (calls.Waitany requests) raw = Index ∷ []
 brought_by (calls.Test request) raw = Flag ∷ []
 brought_by (calls.Testall requests) raw = Flag ∷ []
 brought_by (calls.Testany requests) raw = Flag ∷ index_where_set raw
+brought_by (calls.SendInit mode envelope) raw = Request ∷ []
+brought_by (calls.RecvInit envelope) raw = Request ∷ []
+brought_by (calls.Improbe envelope) raw = Flag ∷ []
+brought_by calls.Imrecv raw = Request ∷ []
 brought_by _ raw = []
 
 -- what a call brings back, of the kind that belongs to it
@@ -212,4 +216,11 @@ outcome_in (calls.Free request) raw = Ok outcomes.Nothing
 outcome_in (calls.Collective collective) raw = Ok outcomes.Nothing
 outcome_in (calls.Icollective collective) raw = posted raw
 outcome_in (calls.Probe envelope) raw = Ok (status raw)
+outcome_in (calls.SendInit mode envelope) raw = posted raw
+outcome_in (calls.RecvInit envelope) raw = posted raw
+outcome_in (calls.Start request) raw = Ok outcomes.Nothing
+outcome_in (calls.Startall requests) raw = Ok outcomes.Nothing
+outcome_in (calls.Mprobe envelope) raw = Ok (status raw)
+outcome_in (calls.Improbe envelope) raw = flag raw
+outcome_in calls.Imrecv raw = posted raw
 outcome_in calls.Unread raw = Ok outcomes.Nothing

@@ -2,7 +2,7 @@
 use Rattle.std.specs.Prelude.{ℕ, ◌-◌, List, [], ◌∷◌, length, take, drop, Option, Some, None, option_map, Result, Ok, Err, Bool, true, false, ◌||◌, ◌==◌, slice_get, codes, if◌then◌else◌}
 use Rattle.std.specs.Str.{bytes_eq}
 use Rattle.mpi_model.specs.Kinds.{all_kinds, function_name, has_root}
-use Rattle.mpi_model.specs.Ranges.{CollectiveCall}
+use Rattle.mpi_model.specs.Ranges.{CollectiveCall, Probed}
 use Rattle.mpi_model.specs.declared.call.Call.{Call}
 use Rattle.mpi_model.specs.declared.call.Call.TheVariants as calls
 use Rattle.mpi_model.specs.declared.kind.Kind.{Kind}
@@ -79,6 +79,32 @@ ending_named name =
     else if bytes_eq name (codes "MPI_Request_free") then Some functions.Free
     else None
 
+-- calls that make a persistent request (MPI 4.0, 3.9)
+abbrev pub init_named : List ℕ → Option Function
+init_named name =
+    if bytes_eq name (codes "MPI_Send_init") then Some (functions.SendInit Standard)
+    else if bytes_eq name (codes "MPI_Ssend_init") then Some (functions.SendInit Synchronous)
+    else if bytes_eq name (codes "MPI_Bsend_init") then Some (functions.SendInit Buffered)
+    else if bytes_eq name (codes "MPI_Rsend_init") then Some (functions.SendInit Ready)
+    else if bytes_eq name (codes "MPI_Recv_init") then Some functions.RecvInit
+    else None
+
+-- calls that start persistent requests (MPI 4.0, 3.9)
+abbrev pub start_named : List ℕ → Option Function
+start_named name =
+    if bytes_eq name (codes "MPI_Start") then Some functions.Start
+    else if bytes_eq name (codes "MPI_Startall") then Some functions.Startall
+    else None
+
+-- matched probes, and the receive of what one took; with counts of 64 bits that is the same call (MPI 4.0, 3.8.2 and 3.8.3)
+abbrev pub matched_named : List ℕ → Option Function
+matched_named name =
+    if bytes_eq name (codes "MPI_Mprobe") then Some functions.Mprobe
+    else if bytes_eq name (codes "MPI_Improbe") then Some functions.Improbe
+    else if bytes_eq name (codes "MPI_Imrecv") then Some functions.Imrecv
+    else if bytes_eq name (codes "MPI_Imrecv_c") then Some functions.Imrecv
+    else None
+
 -- the first of two functions that is there
 abbrev pub first_of : Option Function → Option Function → Option Function
 first_of (Some function) next = Some function
@@ -113,17 +139,13 @@ collective_named name =
 
 -- ---- functions that move messages and that no row reads: what follows a call of one isn't known
 
--- nonblocking exchanges, partitioned and persistent communication, and matched probes (MPI 4.0, 3.8.2, 3.9, 3.10 and 4)
+-- nonblocking exchanges and partitioned communication (MPI 4.0, 3.10 and 4)
 abbrev pub is_unread_name : List ℕ → Bool
 is_unread_name name =
     bytes_eq name (codes "MPI_Isendrecv")
     || bytes_eq name (codes "MPI_Isendrecv_replace")
     || bytes_eq name (codes "MPI_Psend_init")
     || bytes_eq name (codes "MPI_Precv_init")
-    || bytes_eq name (codes "MPI_Start")
-    || bytes_eq name (codes "MPI_Startall")
-    || bytes_eq name (codes "MPI_Mprobe")
-    || bytes_eq name (codes "MPI_Improbe")
 
 -- sends with counts of 64 bits (MPI 4.0, 3.2.2)
 abbrev pub is_long_send : List ℕ → Bool
@@ -173,10 +195,14 @@ or_else None next = next
 abbrev pub message_named : List ℕ → Option Function
 message_named name = first_of (send_named name) (first_of (isend_named name) (first_of (receive_named name) (first_of (completion_named name) (test_named name))))
 
+-- calls of persistent requests and of matched probes
+abbrev pub persistent_named : List ℕ → Option Function
+persistent_named name = first_of (init_named name) (first_of (start_named name) (matched_named name))
+
 -- the function of a name
 unfoldable pub function_named : List ℕ → Function
 function_named name =
-    or_else (message_named name) (or_else (collective_named name) (or_else (ending_named name) (or_else (unread_named name) (other_named name))))
+    or_else (message_named name) (or_else (collective_named name) (or_else (ending_named name) (or_else (persistent_named name) (or_else (unread_named name) (other_named name)))))
 
 -- ---- envelopes (MPI 4.0, 3.2.3)
 
@@ -282,13 +308,31 @@ sendrecv_replace_call call = do
   comm ← comm_in call
   Ok (calls.Sendrecv (record { send = envelope_of send comm; receive = envelope_of receive comm }))
 
--- a probe: what it looks for
-unfoldable pub probe_call : TextCall → Result Call CallFault
-probe_call call = do
+-- what a probe looks for
+unfoldable pub probed_in : TextCall → Result Probed CallFault
+probed_in call = do
   source ← source_in call
   tag ← asked_tag_in Tag call
   comm ← comm_in call
-  Ok (calls.Probe (record { source = source; tag = tag; comm = comm }))
+  Ok (record { source = source; tag = tag; comm = comm })
+
+-- a probe
+unfoldable pub probe_call : TextCall → Result Call CallFault
+probe_call call = do
+  probed ← probed_in call
+  Ok (calls.Probe probed)
+
+-- a matched probe that waits
+unfoldable pub mprobe_call : TextCall → Result Call CallFault
+mprobe_call call = do
+  probed ← probed_in call
+  Ok (calls.Mprobe probed)
+
+-- a matched probe that doesn't wait
+unfoldable pub improbe_call : TextCall → Result Call CallFault
+improbe_call call = do
+  probed ← probed_in call
+  Ok (calls.Improbe probed)
 
 -- a Wait for one request
 unfoldable pub wait_call : TextCall → Result Call CallFault
@@ -350,6 +394,30 @@ free_call call = do
   request ← request_in call
   Ok (calls.Free request)
 
+-- a persistent send of a mode
+unfoldable pub send_init_call : Mode → TextCall → Result Call CallFault
+send_init_call mode call = do
+  envelope ← envelope_of_send call
+  Ok (calls.SendInit mode envelope)
+
+-- a persistent receive
+unfoldable pub recv_init_call : TextCall → Result Call CallFault
+recv_init_call call = do
+  envelope ← envelope_of_receive call
+  Ok (calls.RecvInit envelope)
+
+-- a Start of a persistent request
+unfoldable pub start_call : TextCall → Result Call CallFault
+start_call call = do
+  request ← request_in call
+  Ok (calls.Start request)
+
+-- a Startall of persistent requests
+unfoldable pub startall_call : TextCall → Result Call CallFault
+startall_call call = do
+  requests ← requests_in call
+  Ok (calls.Startall requests)
+
 -- what a collective call of a kind names
 unfoldable pub collective_in : Kind → TextCall → Result CollectiveCall CallFault
 collective_in kind call = do
@@ -391,6 +459,13 @@ pub data Callback : Type 0 where
   OnRequestFree : Callback
   OnCollective : Callback
   OnIcollective : Callback
+  OnSendInit : Callback
+  OnRecvInit : Callback
+  OnStart : Callback
+  OnStartall : Callback
+  OnMprobe : Callback
+  OnImprobe : Callback
+  OnImrecv : Callback
   OnUnread : (name : List ℕ) → Callback
   OnOther : (name : List ℕ) → Callback
 
@@ -427,6 +502,13 @@ row functions.Cancel name = record { callback = OnCancel; entry = Request ∷ []
 row functions.Free name = record { callback = OnRequestFree; entry = Request ∷ []; outcome = always []; call = free_call }
 row (functions.Collective kind) name = record { callback = OnCollective; entry = collective_parameters kind; outcome = always []; call = collective_call kind }
 row (functions.Icollective kind) name = record { callback = OnIcollective; entry = collective_parameters kind; outcome = always (Request ∷ []); call = icollective_call kind }
+row (functions.SendInit mode) name = record { callback = OnSendInit; entry = send_parameters; outcome = always (Request ∷ []); call = send_init_call mode }
+row functions.RecvInit name = record { callback = OnRecvInit; entry = receive_parameters; outcome = always (Request ∷ []); call = recv_init_call }
+row functions.Start name = record { callback = OnStart; entry = Request ∷ []; outcome = always []; call = start_call }
+row functions.Startall name = record { callback = OnStartall; entry = Requests ∷ []; outcome = always []; call = startall_call }
+row functions.Mprobe name = record { callback = OnMprobe; entry = probe_parameters; outcome = always []; call = mprobe_call }
+row functions.Improbe name = record { callback = OnImprobe; entry = probe_parameters; outcome = always (Flag ∷ []); call = improbe_call }
+row functions.Imrecv name = record { callback = OnImrecv; entry = []; outcome = always (Request ∷ []); call = λ raw. Ok calls.Imrecv }
 row functions.Unread name = record { callback = OnUnread name; entry = []; outcome = always []; call = λ raw. Ok calls.Unread }
 row functions.Finalize name = record { callback = OnOther name; entry = []; outcome = always []; call = λ raw. Ok calls.Finalize }
 row functions.Other name = record { callback = OnOther name; entry = []; outcome = always []; call = λ raw. Ok calls.Local }

@@ -216,6 +216,34 @@ impl CallSink for Collect {
         self.push(call, enter, exit)
     }
 
+    fn on_send_init(&mut self, call: Call, enter: Stamp, exit: Option<Exit>) -> Result<(), Memory> {
+        self.push(call, enter, exit)
+    }
+
+    fn on_recv_init(&mut self, call: Call, enter: Stamp, exit: Option<Exit>) -> Result<(), Memory> {
+        self.push(call, enter, exit)
+    }
+
+    fn on_start(&mut self, call: Call, enter: Stamp, exit: Option<Exit>) -> Result<(), Memory> {
+        self.push(call, enter, exit)
+    }
+
+    fn on_startall(&mut self, call: Call, enter: Stamp, exit: Option<Exit>) -> Result<(), Memory> {
+        self.push(call, enter, exit)
+    }
+
+    fn on_mprobe(&mut self, call: Call, enter: Stamp, exit: Option<Exit>) -> Result<(), Memory> {
+        self.push(call, enter, exit)
+    }
+
+    fn on_improbe(&mut self, call: Call, enter: Stamp, exit: Option<Exit>) -> Result<(), Memory> {
+        self.push(call, enter, exit)
+    }
+
+    fn on_imrecv(&mut self, call: Call, enter: Stamp, exit: Option<Exit>) -> Result<(), Memory> {
+        self.push(call, enter, exit)
+    }
+
     fn on_unread(
         &mut self,
         _name: &[u8],

@@ -2,7 +2,7 @@
 
 ghost use Rattle.std.specs.Prelude.{◌≡◌, true, false};
 ghost use Rattle.std.specs.Str.{bytes_eq};
-ghost use Rattle.dumpi_calls.specs.Rows.{collective_named, completion_named, ending_named, first_named, function_in, function_named, has_i, is_long_init, is_long_receive, is_long_send, is_unread_name, isend_named, message_named, other_named, receive_named, send_named, short_name, test_named, unread_named};
+ghost use Rattle.dumpi_calls.specs.Rows.{collective_named, completion_named, ending_named, first_named, function_in, function_named, has_i, init_named, is_long_init, is_long_receive, is_long_send, is_unread_name, isend_named, matched_named, message_named, other_named, persistent_named, receive_named, send_named, short_name, start_named, test_named, unread_named};
 ghost use Rattle.mpi_model.specs.Kinds.{all_kinds};
 
 use dumpi_text::RawCall;
@@ -36,6 +36,15 @@ pub enum Function {
     Collective(Kind),
     /// A nonblocking one (MPI 4.0, 6.12).
     Icollective(Kind),
+    /// `MPI_Send_init`, `MPI_Ssend_init`, `MPI_Bsend_init`, `MPI_Rsend_init`.
+    SendInit(Mode),
+    RecvInit,
+    Start,
+    Startall,
+    Mprobe,
+    Improbe,
+    /// `MPI_Imrecv`, also with `_c` behind its name.
+    Imrecv,
     /// One that moves messages and that no row reads.
     Unread,
     Finalize,
@@ -163,6 +172,68 @@ fn ending_of(name: &[u8]) -> Option<Function>
         Some(Function::Free)
     } else {
         None
+    }
+}
+
+/// A call that makes a persistent request.
+fn init_of(name: &[u8]) -> Option<Function>
+    ensures { result ≡ init_named name.now }
+{
+    if is(name, "MPI_Send_init") {
+        Some(Function::SendInit(Mode::Standard))
+    } else if is(name, "MPI_Ssend_init") {
+        Some(Function::SendInit(Mode::Synchronous))
+    } else if is(name, "MPI_Bsend_init") {
+        Some(Function::SendInit(Mode::Buffered))
+    } else if is(name, "MPI_Rsend_init") {
+        Some(Function::SendInit(Mode::Ready))
+    } else if is(name, "MPI_Recv_init") {
+        Some(Function::RecvInit)
+    } else {
+        None
+    }
+}
+
+/// A call that starts persistent requests.
+fn start_of(name: &[u8]) -> Option<Function>
+    ensures { result ≡ start_named name.now }
+{
+    if is(name, "MPI_Start") {
+        Some(Function::Start)
+    } else if is(name, "MPI_Startall") {
+        Some(Function::Startall)
+    } else {
+        None
+    }
+}
+
+/// A matched probe, or the receive of what one took.
+fn matched_of(name: &[u8]) -> Option<Function>
+    ensures { result ≡ matched_named name.now }
+{
+    if is(name, "MPI_Mprobe") {
+        Some(Function::Mprobe)
+    } else if is(name, "MPI_Improbe") {
+        Some(Function::Improbe)
+    } else if is(name, "MPI_Imrecv") {
+        Some(Function::Imrecv)
+    } else if is(name, "MPI_Imrecv_c") {
+        Some(Function::Imrecv)
+    } else {
+        None
+    }
+}
+
+/// A call of persistent requests or of matched probes.
+fn persistent_of(name: &[u8]) -> Option<Function>
+    ensures { result ≡ persistent_named name.now }
+{
+    match init_of(name) {
+        Some(function) => Some(function),
+        None => match start_of(name) {
+            Some(function) => Some(function),
+            None => matched_of(name),
+        },
     }
 }
 
@@ -294,7 +365,7 @@ fn collective_of(name: &[u8]) -> Option<Function>
     }
 }
 
-/// Whether a name is of a nonblocking exchange, of partitioned or persistent communication, or of a matched probe.
+/// Whether a name is of a nonblocking exchange or of partitioned communication.
 fn is_unread_name(name: &[u8]) -> bool
     ensures { result ≡ is_unread_name name.now }
 {
@@ -302,10 +373,6 @@ fn is_unread_name(name: &[u8]) -> bool
         || is(name, "MPI_Isendrecv_replace")
         || is(name, "MPI_Psend_init")
         || is(name, "MPI_Precv_init")
-        || is(name, "MPI_Start")
-        || is(name, "MPI_Startall")
-        || is(name, "MPI_Mprobe")
-        || is(name, "MPI_Improbe")
 }
 
 /// Whether a name is of a send with counts of 64 bits.
@@ -397,9 +464,12 @@ pub fn function_of(name: &[u8]) -> Function
             Some(function) => function,
             None => match ending_of(name) {
                 Some(function) => function,
-                None => match unread_of(name) {
+                None => match persistent_of(name) {
                     Some(function) => function,
-                    None => other_of(name),
+                    None => match unread_of(name) {
+                        Some(function) => function,
+                        None => other_of(name),
+                    },
                 },
             },
         },

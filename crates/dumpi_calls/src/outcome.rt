@@ -278,7 +278,7 @@ fn several_in(alloc: Global, requests: &[i64], raw: &RawCall) -> Result<Outs, Al
     Ok(Outs::Several(elements))
 }
 
-/// Whether the request is done, and what `status` tells.
+/// Whether the request is done or a message was taken, and what `status` tells.
 #[tactic(auto, unfolding(crate::specs::Outcomes::flag))]
 fn flag_in(alloc: Global, raw: &RawCall) -> Result<Outs, CallFault>
     ensures means { Reads result (flag raw.now) }
@@ -336,15 +336,17 @@ pub fn outcome(alloc: Global, call: &Call, raw: &RawCall) -> Result<Outs, CallFa
     match call {
         Call::Local | Call::Finalize | Call::Send(..) | Call::Collective(_) => Ok(Outs::Nothing),
         Call::Cancel(_) | Call::Free(_) | Call::Unread => Ok(Outs::Nothing),
+        Call::Start(_) | Call::Startall(_) => Ok(Outs::Nothing),
         Call::Isend(..) | Call::Irecv(_) | Call::Icollective(_) => posted_in(alloc, raw),
+        Call::SendInit(..) | Call::RecvInit(_) | Call::Imrecv => posted_in(alloc, raw),
         Call::Recv(_) | Call::Sendrecv(_) => Ok(status_in(alloc, raw)?),
-        Call::Probe(_) | Call::Wait(_) => Ok(status_in(alloc, raw)?),
+        Call::Probe(_) | Call::Mprobe(_) | Call::Wait(_) => Ok(status_in(alloc, raw)?),
         Call::Waitall(requests) => Ok(statuses_in(alloc, requests.as_slice(), raw)?),
         Call::Waitany(requests) => index_in(alloc, requests.as_slice(), raw),
         Call::Waitsome(requests) | Call::Testsome(requests) => {
             Ok(several_in(alloc, requests.as_slice(), raw)?)
         }
-        Call::Test(_) => flag_in(alloc, raw),
+        Call::Test(_) | Call::Improbe(_) => flag_in(alloc, raw),
         Call::Testall(requests) => all_done_in(alloc, requests.as_slice(), raw),
         Call::Testany(requests) => any_done_in(alloc, requests.as_slice(), raw),
     }

@@ -1,7 +1,7 @@
 //! What calls are handed to.
 
 ghost use Rattle.std.specs.Prelude.{◌≡◌, OnErr, OnOk};
-ghost use Rattle.dumpi_calls.specs.Rows.{OnCancel, OnCollective, OnIcollective, OnIrecv, OnIsend, OnOther, OnProbe, OnRecv, OnRequestFree, OnSend, OnSendrecv, OnTest, OnTestall, OnTestany, OnTestsome, OnUnread, OnWait, OnWaitall, OnWaitany, OnWaitsome, row};
+ghost use Rattle.dumpi_calls.specs.Rows.{OnCancel, OnCollective, OnIcollective, OnImprobe, OnImrecv, OnIrecv, OnIsend, OnMprobe, OnOther, OnProbe, OnRecv, OnRecvInit, OnRequestFree, OnSend, OnSendInit, OnSendrecv, OnStart, OnStartall, OnTest, OnTestall, OnTestany, OnTestsome, OnUnread, OnWait, OnWaitall, OnWaitany, OnWaitsome, row};
 ghost use Rattle.dumpi_calls.specs.Seen.{Seen, seen, seen_by};
 
 use crate::function::Function;
@@ -55,7 +55,7 @@ use mpi_model::{Call, Exit, Stamp};
 ///         Ok(())
 ///     }
 ///
-///     // and each of the other nineteen likewise
+///     // and each of the other twenty-six likewise
 /// }
 ///
 /// let mut sink = SentTo { rank: 1, elements: 0 };
@@ -211,6 +211,61 @@ pub trait CallSink {
         ensures ok { OnOk result (self.new ≡ step self.old (seen OnIcollective call enter exit)) }
         ensures err { OnErr result (self.new ≡ self.old) };
 
+    /// `MPI_Send_init`, `MPI_Ssend_init`, `MPI_Bsend_init`, `MPI_Rsend_init`.
+    fn on_send_init(
+        &mut self,
+        call: Call,
+        enter: Stamp,
+        exit: Option<Exit>,
+    ) -> Result<(), Self::Fault>
+        ensures ok { OnOk result (self.new ≡ step self.old (seen OnSendInit call enter exit)) }
+        ensures err { OnErr result (self.new ≡ self.old) };
+
+    /// `MPI_Recv_init`.
+    fn on_recv_init(
+        &mut self,
+        call: Call,
+        enter: Stamp,
+        exit: Option<Exit>,
+    ) -> Result<(), Self::Fault>
+        ensures ok { OnOk result (self.new ≡ step self.old (seen OnRecvInit call enter exit)) }
+        ensures err { OnErr result (self.new ≡ self.old) };
+
+    /// `MPI_Start`.
+    fn on_start(&mut self, call: Call, enter: Stamp, exit: Option<Exit>) -> Result<(), Self::Fault>
+        ensures ok { OnOk result (self.new ≡ step self.old (seen OnStart call enter exit)) }
+        ensures err { OnErr result (self.new ≡ self.old) };
+
+    /// `MPI_Startall`.
+    fn on_startall(
+        &mut self,
+        call: Call,
+        enter: Stamp,
+        exit: Option<Exit>,
+    ) -> Result<(), Self::Fault>
+        ensures ok { OnOk result (self.new ≡ step self.old (seen OnStartall call enter exit)) }
+        ensures err { OnErr result (self.new ≡ self.old) };
+
+    /// `MPI_Mprobe`.
+    fn on_mprobe(&mut self, call: Call, enter: Stamp, exit: Option<Exit>) -> Result<(), Self::Fault>
+        ensures ok { OnOk result (self.new ≡ step self.old (seen OnMprobe call enter exit)) }
+        ensures err { OnErr result (self.new ≡ self.old) };
+
+    /// `MPI_Improbe`.
+    fn on_improbe(
+        &mut self,
+        call: Call,
+        enter: Stamp,
+        exit: Option<Exit>,
+    ) -> Result<(), Self::Fault>
+        ensures ok { OnOk result (self.new ≡ step self.old (seen OnImprobe call enter exit)) }
+        ensures err { OnErr result (self.new ≡ self.old) };
+
+    /// `MPI_Imrecv`, also with `_c` behind its name.
+    fn on_imrecv(&mut self, call: Call, enter: Stamp, exit: Option<Exit>) -> Result<(), Self::Fault>
+        ensures ok { OnOk result (self.new ≡ step self.old (seen OnImrecv call enter exit)) }
+        ensures err { OnErr result (self.new ≡ self.old) };
+
     /// A function that moves messages and that isn't read, or a call at which another thread ended the reading; its name
     /// comes first. What the rank does from there on isn't known.
     fn on_unread(
@@ -265,6 +320,13 @@ pub fn hand_on<S: CallSink>(
         Function::Free => sink.on_request_free(call, enter, exit),
         Function::Collective(_) => sink.on_collective(call, enter, exit),
         Function::Icollective(_) => sink.on_icollective(call, enter, exit),
+        Function::SendInit(_) => sink.on_send_init(call, enter, exit),
+        Function::RecvInit => sink.on_recv_init(call, enter, exit),
+        Function::Start => sink.on_start(call, enter, exit),
+        Function::Startall => sink.on_startall(call, enter, exit),
+        Function::Mprobe => sink.on_mprobe(call, enter, exit),
+        Function::Improbe => sink.on_improbe(call, enter, exit),
+        Function::Imrecv => sink.on_imrecv(call, enter, exit),
         Function::Unread => sink.on_unread(name, call, enter, exit),
         Function::Finalize => sink.on_other(name, call, enter, exit),
         Function::Other => sink.on_other(name, call, enter, exit),

@@ -27,6 +27,13 @@ pub struct Tally {
     pub on_request_free: u64,
     pub on_collective: u64,
     pub on_icollective: u64,
+    pub on_send_init: u64,
+    pub on_recv_init: u64,
+    pub on_start: u64,
+    pub on_startall: u64,
+    pub on_mprobe: u64,
+    pub on_improbe: u64,
+    pub on_imrecv: u64,
     pub on_unread: u64,
     pub on_other: u64,
 }
@@ -34,7 +41,7 @@ pub struct Tally {
 impl Tally {
     /// Every count at 0.
     pub fn new() -> Tally
-        ensures { result ≡ record { on_send = 0; on_isend = 0; on_recv = 0; on_irecv = 0; on_sendrecv = 0; on_probe = 0; on_wait = 0; on_waitall = 0; on_waitany = 0; on_waitsome = 0; on_test = 0; on_testall = 0; on_testany = 0; on_testsome = 0; on_cancel = 0; on_request_free = 0; on_collective = 0; on_icollective = 0; on_unread = 0; on_other = 0 } }
+        ensures { result ≡ record { on_send = 0; on_isend = 0; on_recv = 0; on_irecv = 0; on_sendrecv = 0; on_probe = 0; on_wait = 0; on_waitall = 0; on_waitany = 0; on_waitsome = 0; on_test = 0; on_testall = 0; on_testany = 0; on_testsome = 0; on_cancel = 0; on_request_free = 0; on_collective = 0; on_icollective = 0; on_send_init = 0; on_recv_init = 0; on_start = 0; on_startall = 0; on_mprobe = 0; on_improbe = 0; on_imrecv = 0; on_unread = 0; on_other = 0 } }
     {
         Tally {
             on_send: 0,
@@ -55,6 +62,13 @@ impl Tally {
             on_request_free: 0,
             on_collective: 0,
             on_icollective: 0,
+            on_send_init: 0,
+            on_recv_init: 0,
+            on_start: 0,
+            on_startall: 0,
+            on_mprobe: 0,
+            on_improbe: 0,
+            on_imrecv: 0,
             on_unread: 0,
             on_other: 0,
         }
@@ -245,6 +259,76 @@ impl CallSink for Tally {
         _exit: Option<Exit>,
     ) -> Result<(), Infallible> {
         self.on_icollective = self.on_icollective.saturating_add(1);
+        Ok(())
+    }
+
+    fn on_send_init(
+        &mut self,
+        _call: Call,
+        _enter: Stamp,
+        _exit: Option<Exit>,
+    ) -> Result<(), Infallible> {
+        self.on_send_init = self.on_send_init.saturating_add(1);
+        Ok(())
+    }
+
+    fn on_recv_init(
+        &mut self,
+        _call: Call,
+        _enter: Stamp,
+        _exit: Option<Exit>,
+    ) -> Result<(), Infallible> {
+        self.on_recv_init = self.on_recv_init.saturating_add(1);
+        Ok(())
+    }
+
+    fn on_start(
+        &mut self,
+        _call: Call,
+        _enter: Stamp,
+        _exit: Option<Exit>,
+    ) -> Result<(), Infallible> {
+        self.on_start = self.on_start.saturating_add(1);
+        Ok(())
+    }
+
+    fn on_startall(
+        &mut self,
+        _call: Call,
+        _enter: Stamp,
+        _exit: Option<Exit>,
+    ) -> Result<(), Infallible> {
+        self.on_startall = self.on_startall.saturating_add(1);
+        Ok(())
+    }
+
+    fn on_mprobe(
+        &mut self,
+        _call: Call,
+        _enter: Stamp,
+        _exit: Option<Exit>,
+    ) -> Result<(), Infallible> {
+        self.on_mprobe = self.on_mprobe.saturating_add(1);
+        Ok(())
+    }
+
+    fn on_improbe(
+        &mut self,
+        _call: Call,
+        _enter: Stamp,
+        _exit: Option<Exit>,
+    ) -> Result<(), Infallible> {
+        self.on_improbe = self.on_improbe.saturating_add(1);
+        Ok(())
+    }
+
+    fn on_imrecv(
+        &mut self,
+        _call: Call,
+        _enter: Stamp,
+        _exit: Option<Exit>,
+    ) -> Result<(), Infallible> {
+        self.on_imrecv = self.on_imrecv.saturating_add(1);
         Ok(())
     }
 

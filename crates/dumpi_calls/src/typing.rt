@@ -7,7 +7,7 @@
 ghost use Rattle.std.specs.Prelude.{◌≡◌, ◌∷◌, [], IfOk, IsSome, None, OnOk};
 ghost use Rattle.dumpi_calls.specs.Outcomes.{brought_by, index_where_set};
 ghost use Rattle.dumpi_calls.specs.Readings.{AreThere, Reads};
-ghost use Rattle.dumpi_calls.specs.Rows.{collective_call, collective_in, collective_parameters, exit_in, first_missing, icollective_call, isend_call, irecv_call, missing_in, probe_call, probe_parameters, read_by, receive_parameters, recv_call, returned, row, send_call, send_parameters, cancel_call, free_call, test_call, testall_call, testany_call, testsome_call, typed_by, wait_call, waitall_call, waitany_call, waitsome_call};
+ghost use Rattle.dumpi_calls.specs.Rows.{collective_call, collective_in, collective_parameters, exit_in, first_missing, icollective_call, improbe_call, isend_call, irecv_call, missing_in, mprobe_call, probe_call, probe_parameters, probed_in, read_by, receive_parameters, recv_call, recv_init_call, returned, row, send_call, send_init_call, send_parameters, start_call, startall_call, cancel_call, free_call, test_call, testall_call, testany_call, testsome_call, typed_by, wait_call, waitall_call, waitany_call, waitsome_call};
 
 use crate::envelope::{receive_envelope_in, send_envelope_in, sendrecv_in, sendrecv_replace_in};
 use crate::function::Function;
@@ -54,7 +54,7 @@ fn entry_missing(function: Function, raw: &RawCall) -> Option<Parameter>
     ensures { result ≡ first_missing (row function raw.now.name).entry raw.now }
 {
     match function {
-        Function::Send(_) | Function::Isend(_) => first_of(
+        Function::Send(_) | Function::Isend(_) | Function::SendInit(_) => first_of(
             raw,
             &[
                 Parameter::Count,
@@ -64,7 +64,7 @@ fn entry_missing(function: Function, raw: &RawCall) -> Option<Parameter>
                 Parameter::Comm,
             ],
         ),
-        Function::Recv | Function::Irecv => first_of(
+        Function::Recv | Function::Irecv | Function::RecvInit => first_of(
             raw,
             &[
                 Parameter::Count,
@@ -100,18 +100,20 @@ fn entry_missing(function: Function, raw: &RawCall) -> Option<Parameter>
                 Parameter::Comm,
             ],
         ),
-        Function::Probe => first_of(raw, &[Parameter::Source, Parameter::Tag, Parameter::Comm]),
-        Function::Wait | Function::Test | Function::Cancel | Function::Free => {
+        Function::Probe | Function::Mprobe | Function::Improbe => {
+            first_of(raw, &[Parameter::Source, Parameter::Tag, Parameter::Comm])
+        }
+        Function::Wait | Function::Test | Function::Cancel | Function::Free | Function::Start => {
             first_of(raw, &[Parameter::Request])
         }
         Function::Waitall | Function::Waitany | Function::Waitsome => {
             first_of(raw, &[Parameter::Requests])
         }
-        Function::Testall | Function::Testany | Function::Testsome => {
+        Function::Testall | Function::Testany | Function::Testsome | Function::Startall => {
             first_of(raw, &[Parameter::Requests])
         }
         Function::Collective(kind) | Function::Icollective(kind) => collective_missing(kind, raw),
-        Function::Unread | Function::Finalize | Function::Other => None,
+        Function::Imrecv | Function::Unread | Function::Finalize | Function::Other => None,
     }
 }
 
@@ -128,8 +130,13 @@ fn outcome_missing(
             raw,
             &[Parameter::Request],
         )),
+        Function::SendInit(_) | Function::RecvInit | Function::Imrecv => {
+            Ok(first_of(raw, &[Parameter::Request]))
+        }
         Function::Waitany => Ok(first_of(raw, &[Parameter::Index])),
-        Function::Test | Function::Testall => Ok(first_of(raw, &[Parameter::Flag])),
+        Function::Test | Function::Testall | Function::Improbe => {
+            Ok(first_of(raw, &[Parameter::Flag]))
+        }
         Function::Testany => {
             if is_flag_set(alloc, raw)? {
                 Ok(first_of(raw, &[Parameter::Flag, Parameter::Index]))
@@ -137,10 +144,11 @@ fn outcome_missing(
                 Ok(first_of(raw, &[Parameter::Flag]))
             }
         }
-        Function::Send(_) | Function::Recv | Function::Probe => Ok(None),
+        Function::Send(_) | Function::Recv | Function::Probe | Function::Mprobe => Ok(None),
         Function::Sendrecv | Function::SendrecvReplace => Ok(None),
         Function::Wait | Function::Waitall | Function::Waitsome | Function::Testsome => Ok(None),
         Function::Cancel | Function::Free | Function::Unread => Ok(None),
+        Function::Start | Function::Startall => Ok(None),
         Function::Collective(_) => Ok(None),
         Function::Finalize | Function::Other => Ok(None),
     }
@@ -207,18 +215,49 @@ fn irecv(alloc: Global, raw: &RawCall) -> Result<Call, CallFault>
     Ok(Call::Irecv(envelope))
 }
 
-/// A probe: what it looks for.
+/// What a probe looks for.
+#[tactic(auto, unfolding(crate::specs::Rows::probed_in))]
+fn probed(alloc: Global, raw: &RawCall) -> Result<ProbeEnvelope, CallFault>
+    ensures means { Reads result (probed_in raw.now) }
+    ensures there { OnOk result (AreThere probe_parameters raw.now) }
+{
+    let source = source(alloc, raw)?;
+    let tag = asked_tag(alloc, raw, Parameter::Tag)?;
+    let comm = comm(alloc, raw)?;
+    Ok(ProbeEnvelope::new(source, tag, comm).unwrap())
+}
+
+/// A probe.
 #[tactic(auto, unfolding(crate::specs::Rows::probe_call))]
 fn probe(alloc: Global, raw: &RawCall) -> Result<Call, CallFault>
     ensures means { Reads result (probe_call raw.now) }
     ensures there { OnOk result (AreThere probe_parameters raw.now) }
     ensures brings { IfOk result (λ c. brought_by c raw.now ≡ []) }
 {
-    let source = source(alloc, raw)?;
-    let tag = asked_tag(alloc, raw, Parameter::Tag)?;
-    let comm = comm(alloc, raw)?;
-    let envelope = ProbeEnvelope::new(source, tag, comm);
-    Ok(Call::Probe(envelope.unwrap()))
+    let envelope = probed(alloc, raw)?;
+    Ok(Call::Probe(envelope))
+}
+
+/// A matched probe that waits.
+#[tactic(auto, unfolding(crate::specs::Rows::mprobe_call))]
+fn mprobe(alloc: Global, raw: &RawCall) -> Result<Call, CallFault>
+    ensures means { Reads result (mprobe_call raw.now) }
+    ensures there { OnOk result (AreThere probe_parameters raw.now) }
+    ensures brings { IfOk result (λ c. brought_by c raw.now ≡ []) }
+{
+    let envelope = probed(alloc, raw)?;
+    Ok(Call::Mprobe(envelope))
+}
+
+/// A matched probe that doesn't wait.
+#[tactic(auto, unfolding(crate::specs::Rows::improbe_call))]
+fn improbe(alloc: Global, raw: &RawCall) -> Result<Call, CallFault>
+    ensures means { Reads result (improbe_call raw.now) }
+    ensures there { OnOk result (AreThere probe_parameters raw.now) }
+    ensures brings { IfOk result (λ c. brought_by c raw.now ≡ Parameter.Flag ∷ []) }
+{
+    let envelope = probed(alloc, raw)?;
+    Ok(Call::Improbe(envelope))
 }
 
 /// A Wait for one request.
@@ -331,6 +370,50 @@ fn free(alloc: Global, raw: &RawCall) -> Result<Call, CallFault>
     Ok(Call::Free(request))
 }
 
+/// A persistent send of a mode.
+#[tactic(auto, unfolding(crate::specs::Rows::send_init_call))]
+fn send_init(alloc: Global, mode: Mode, raw: &RawCall) -> Result<Call, CallFault>
+    ensures means { Reads result (send_init_call mode raw.now) }
+    ensures there { OnOk result (AreThere send_parameters raw.now) }
+    ensures brings { IfOk result (λ c. brought_by c raw.now ≡ Parameter.Request ∷ []) }
+{
+    let envelope = send_envelope_in(alloc, raw)?;
+    Ok(Call::SendInit(mode, envelope))
+}
+
+/// A persistent receive.
+#[tactic(auto, unfolding(crate::specs::Rows::recv_init_call))]
+fn recv_init(alloc: Global, raw: &RawCall) -> Result<Call, CallFault>
+    ensures means { Reads result (recv_init_call raw.now) }
+    ensures there { OnOk result (AreThere receive_parameters raw.now) }
+    ensures brings { IfOk result (λ c. brought_by c raw.now ≡ Parameter.Request ∷ []) }
+{
+    let envelope = receive_envelope_in(alloc, raw)?;
+    Ok(Call::RecvInit(envelope))
+}
+
+/// A Start of a persistent request.
+#[tactic(auto, unfolding(crate::specs::Rows::start_call))]
+fn start(alloc: Global, raw: &RawCall) -> Result<Call, CallFault>
+    ensures means { Reads result (start_call raw.now) }
+    ensures there { OnOk result (AreThere (Parameter.Request ∷ []) raw.now) }
+    ensures brings { IfOk result (λ c. brought_by c raw.now ≡ []) }
+{
+    let request = request(alloc, raw)?;
+    Ok(Call::Start(request))
+}
+
+/// A Startall of persistent requests.
+#[tactic(auto, unfolding(crate::specs::Rows::startall_call))]
+fn startall(alloc: Global, raw: &RawCall) -> Result<Call, CallFault>
+    ensures means { Reads result (startall_call raw.now) }
+    ensures there { OnOk result (AreThere (Parameter.Requests ∷ []) raw.now) }
+    ensures brings { IfOk result (λ c. brought_by c raw.now ≡ []) }
+{
+    let requests = requests(alloc, raw)?;
+    Ok(Call::Startall(requests))
+}
+
 /// What a collective call names.
 #[tactic(auto, unfolding(crate::specs::Rows::collective_in))]
 fn collective_of(alloc: Global, kind: Kind, raw: &RawCall) -> Result<Collective, CallFault>
@@ -390,6 +473,13 @@ fn call_in(alloc: Global, function: Function, raw: &RawCall) -> Result<Call, Cal
         Function::Free => free(alloc, raw),
         Function::Collective(kind) => collective(alloc, kind, raw),
         Function::Icollective(kind) => icollective(alloc, kind, raw),
+        Function::SendInit(mode) => send_init(alloc, mode, raw),
+        Function::RecvInit => recv_init(alloc, raw),
+        Function::Start => start(alloc, raw),
+        Function::Startall => startall(alloc, raw),
+        Function::Mprobe => mprobe(alloc, raw),
+        Function::Improbe => improbe(alloc, raw),
+        Function::Imrecv => Ok(Call::Imrecv),
         Function::Unread => Ok(Call::Unread),
         Function::Finalize => Ok(Call::Finalize),
         Function::Other => Ok(Call::Local),

@@ -1,4 +1,5 @@
 mod Doubles
+mod Held
 mod Communicators
 mod Known
 mod Layouts

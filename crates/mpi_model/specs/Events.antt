@@ -50,6 +50,13 @@ IsCall (calls.Free request) = IsSigned request
 IsCall (calls.Collective c) = IsCollective c
 IsCall (calls.Icollective c) = IsCollective c
 IsCall (calls.Probe e) = IsProbe e
+IsCall (calls.SendInit mode e) = IsSent e
+IsCall (calls.RecvInit e) = IsReceived e
+IsCall (calls.Start request) = IsSigned request
+IsCall (calls.Startall requests) = All IsSigned requests
+IsCall (calls.Mprobe e) = IsProbe e
+IsCall (calls.Improbe e) = IsProbe e
+IsCall calls.Imrecv = Unit {0}
 IsCall calls.Unread = Unit {0}
 
 -- a position in a call's list, where there is one

@@ -10,6 +10,7 @@ pub mod Communicators
 pub mod Names
 pub mod Starts
 pub mod Layouts
+pub mod Held
 pub mod Devices
 pub mod Trusts
 pub mod Fit

@@ -41,6 +41,21 @@ pub enum Call {
     Icollective(Collective),
     /// It waits for a message and leaves it where it is (MPI 4.0, 3.8.1).
     Probe(ProbeEnvelope),
+    /// `MPI_Send_init` and its modes: its request holds a send, which each start of it makes anew
+    /// (MPI 4.0, 3.9).
+    SendInit(Mode, SendEnvelope),
+    /// Its request holds a receive (MPI 4.0, 3.9).
+    RecvInit(ReceiveEnvelope),
+    /// It starts what its request holds (MPI 4.0, 3.9).
+    Start(i64),
+    /// It starts what its requests hold, in any order (MPI 4.0, 3.9).
+    Startall(Requests),
+    /// It waits for a message and takes it, so that no other call does (MPI 4.0, 3.8.2).
+    Mprobe(ProbeEnvelope),
+    /// It takes a message where its outcome's flag is set, and doesn't wait (MPI 4.0, 3.8.2).
+    Improbe(ProbeEnvelope),
+    /// It receives a message that a matched probe took (MPI 4.0, 3.8.3).
+    Imrecv,
     /// A function that moves messages and isn't read: what follows it isn't known.
     Unread,
 }
@@ -70,6 +85,13 @@ impl Call {
             Call::Collective(collective) => Call::Collective(*collective),
             Call::Icollective(collective) => Call::Icollective(*collective),
             Call::Probe(envelope) => Call::Probe(*envelope),
+            Call::SendInit(mode, envelope) => Call::SendInit(*mode, *envelope),
+            Call::RecvInit(envelope) => Call::RecvInit(*envelope),
+            Call::Start(request) => Call::Start(*request),
+            Call::Startall(requests) => Call::Startall(requests.try_clone()?),
+            Call::Mprobe(envelope) => Call::Mprobe(*envelope),
+            Call::Improbe(envelope) => Call::Improbe(*envelope),
+            Call::Imrecv => Call::Imrecv,
             Call::Unread => Call::Unread,
         })
     }
@@ -79,14 +101,19 @@ impl Call {
         ensures { IsCall self.now }
     {
         match self {
-            Call::Local | Call::Finalize | Call::Unread => {}
-            Call::Send(_, envelope) | Call::Isend(_, envelope) => envelope.known(),
-            Call::Recv(envelope) | Call::Irecv(envelope) => envelope.known(),
+            Call::Local | Call::Finalize | Call::Imrecv | Call::Unread => {}
+            Call::Send(_, envelope) | Call::Isend(_, envelope) | Call::SendInit(_, envelope) => {
+                envelope.known()
+            }
+            Call::Recv(envelope) | Call::Irecv(envelope) | Call::RecvInit(envelope) => {
+                envelope.known()
+            }
             Call::Sendrecv(exchange) => exchange.known(),
             Call::Wait(request)
             | Call::Test(request)
             | Call::Cancel(request)
-            | Call::Free(request) => {
+            | Call::Free(request)
+            | Call::Start(request) => {
                 let _request = *request;
             }
             Call::Waitall(requests)
@@ -94,9 +121,12 @@ impl Call {
             | Call::Waitsome(requests)
             | Call::Testall(requests)
             | Call::Testany(requests)
-            | Call::Testsome(requests) => requests.known(),
+            | Call::Testsome(requests)
+            | Call::Startall(requests) => requests.known(),
             Call::Collective(collective) | Call::Icollective(collective) => collective.known(),
-            Call::Probe(envelope) => envelope.known(),
+            Call::Probe(envelope) | Call::Mprobe(envelope) | Call::Improbe(envelope) => {
+                envelope.known()
+            }
         }
     }
 
@@ -125,6 +155,15 @@ impl Call {
             (Call::Collective(c), Call::Collective(d)) => c.same(*d),
             (Call::Icollective(c), Call::Icollective(d)) => c.same(*d),
             (Call::Probe(e), Call::Probe(f)) => e.same(*f),
+            (Call::SendInit(m, e), Call::SendInit(n, f)) => {
+                *m == *n && e.envelope().same(f.envelope())
+            }
+            (Call::RecvInit(e), Call::RecvInit(f)) => e.envelope().same(f.envelope()),
+            (Call::Start(r), Call::Start(s)) => *r == *s,
+            (Call::Startall(r), Call::Startall(s)) => r.same(s),
+            (Call::Mprobe(e), Call::Mprobe(f)) => e.same(*f),
+            (Call::Improbe(e), Call::Improbe(f)) => e.same(*f),
+            (Call::Imrecv, Call::Imrecv) => true,
             (Call::Unread, Call::Unread) => true,
             _ => false,
         }

@@ -62,9 +62,13 @@ pub struct Exit {
     pub stamp: Stamp,
 }
 
-/// The name of an operation: its rank in the trace, and the number of its call, from 0.
+/// The name of an operation. Names are ordered by rank, then call, then part.
 #[derive(Clone, Copy, Debug, PartialEq, Eq, PartialOrd, Ord)]
 pub struct OpName {
+    /// The rank in the trace.
     pub rank: u32,
+    /// The number of its call, from 0.
     pub call: u64,
+    /// The place in the list of a Startall, from 0; 0 for every other call.
+    pub part: u32,
 }

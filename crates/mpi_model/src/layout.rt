@@ -7,8 +7,9 @@ ghost use Rattle.mpi_model.specs.Layouts.{Holds, IsGroup, IsLayout, fault_of, na
 ghost use Rattle.mpi_model.specs.declared.layout.fault.LayoutFault.TheVariants.{Memory};
 
 use crate::envelope::CommRef;
-use crate::layout::comm::{Comm, comms_of, copies, ids_with, in_order, members_in, place_of};
+use crate::layout::comm::{Comm, comms_of, copies, in_order, members_in, place_of};
 use crate::layout::fault::LayoutFault;
+use crate::layout::held::{held_by, held_copied, held_in};
 use crate::layout::names::{
     Name, names_copied, numbered_in, ordered_names, starts_copied, starts_of,
 };
@@ -18,6 +19,7 @@ use std::marker::Model;
 
 pub(crate) mod comm;
 pub(crate) mod fault;
+mod held;
 mod names;
 mod rules;
 
@@ -46,19 +48,22 @@ pub struct Layout {
     names: Vec<Name>,
     // where the names of each rank begin
     starts: Vec<usize>,
+    // the communicators that hold each rank
+    held: Vec<Vec<u32>>,
 }
 
 impl Model for Layout {
     ghost use Rattle.mpi_model.specs.Layouts.{Parts, IsLayout};
     ghost use Rattle.mpi_model.specs.Names.{AreNames};
     ghost use Rattle.mpi_model.specs.Starts.{AreStarts};
+    ghost use Rattle.mpi_model.specs.Held.{AreHeld};
 
     ghost Value = { Parts };
 
     ghost view = { λ l. record { ranks = l.ranks; world = l.world; sends = l.sends; comms = l.comms.items } };
 
     ghost invariant = { λ l. IsLayout (record { ranks = l.ranks; world = l.world; sends = l.sends; comms = l.comms.items })
-        × AreNames l.comms.items l.names.items × AreStarts l.names.items l.starts.items };
+        × AreNames l.comms.items l.names.items × AreStarts l.names.items l.starts.items × AreHeld l.comms.items l.held.items };
 }
 
 impl Layout {
@@ -105,6 +110,7 @@ impl Layout {
         }
         let starts = starts_of(alloc, &names, ranks)?;
         let comms = in_order(comms)?;
+        let held = held_in(alloc, &comms, ranks)?;
         Ok(Layout {
             ranks,
             world,
@@ -112,6 +118,7 @@ impl Layout {
             comms,
             names,
             starts,
+            held,
         })
     }
 
@@ -122,6 +129,7 @@ impl Layout {
         let comms = copies(alloc, &self.comms)?;
         let names = names_copied(alloc, &self.names)?;
         let starts = starts_copied(alloc, &self.starts)?;
+        let held = held_copied(alloc, &self.held)?;
         Ok(Layout {
             ranks: self.ranks,
             world: self.world,
@@ -129,6 +137,7 @@ impl Layout {
             comms,
             names,
             starts,
+            held,
         })
     }
 
@@ -194,12 +203,11 @@ impl Layout {
         place_of(members_in(&self.comms, comm)?, rank)
     }
 
-    /// The ids of the communicators that hold the rank, in rising order. It goes through the members
-    /// of all communicators.
+    /// The ids of the communicators that hold the rank, in rising order.
     pub fn comms_with(&self, alloc: Global, rank: u32) -> Result<Vec<u32>, AllocError>
         ensures { IfOk result (λ v. v.items ≡ ids_with rank self.now.comms) }
     {
-        ids_with(alloc, &self.comms, rank)
+        held_by(alloc, &self.held, rank)
     }
 
     /// Tells the prover what holds of every layout. It does nothing.

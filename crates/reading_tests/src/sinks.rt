@@ -154,6 +154,34 @@ impl CallSink for SentTo {
         self.add(&call)
     }
 
+    fn on_send_init(&mut self, call: Call, _enter: Stamp, _exit: Option<Exit>) -> Result<(), Full> {
+        self.add(&call)
+    }
+
+    fn on_recv_init(&mut self, call: Call, _enter: Stamp, _exit: Option<Exit>) -> Result<(), Full> {
+        self.add(&call)
+    }
+
+    fn on_start(&mut self, call: Call, _enter: Stamp, _exit: Option<Exit>) -> Result<(), Full> {
+        self.add(&call)
+    }
+
+    fn on_startall(&mut self, call: Call, _enter: Stamp, _exit: Option<Exit>) -> Result<(), Full> {
+        self.add(&call)
+    }
+
+    fn on_mprobe(&mut self, call: Call, _enter: Stamp, _exit: Option<Exit>) -> Result<(), Full> {
+        self.add(&call)
+    }
+
+    fn on_improbe(&mut self, call: Call, _enter: Stamp, _exit: Option<Exit>) -> Result<(), Full> {
+        self.add(&call)
+    }
+
+    fn on_imrecv(&mut self, call: Call, _enter: Stamp, _exit: Option<Exit>) -> Result<(), Full> {
+        self.add(&call)
+    }
+
     fn on_unread(
         &mut self,
         _name: &[u8],

@@ -9,7 +9,7 @@ use std::fmt::Write;
 use std::test::Fail;
 
 /// A function for each callback, in the order of `Tally`.
-static FUNCTIONS: [&str; 20] = [
+static FUNCTIONS: [&str; 27] = [
     "MPI_Ssend",
     "MPI_Ibsend",
     "MPI_Recv",
@@ -28,6 +28,13 @@ static FUNCTIONS: [&str; 20] = [
     "MPI_Request_free",
     "MPI_Reduce_c",
     "MPI_Iscatterv_c",
+    "MPI_Rsend_init",
+    "MPI_Recv_init",
+    "MPI_Start",
+    "MPI_Startall",
+    "MPI_Mprobe",
+    "MPI_Improbe",
+    "MPI_Imrecv_c",
     "MPI_Isendrecv",
     "MPI_Iprobe",
 ];
@@ -46,7 +53,7 @@ fn put_call(text: &mut String, function: &str, parameters: &str) -> Result<(), F
 }
 
 /// How often each callback was called, in the order of `FUNCTIONS`.
-fn counts(tally: Tally) -> [u64; 20] {
+fn counts(tally: Tally) -> [u64; 27] {
     [
         tally.on_send,
         tally.on_isend,
@@ -66,13 +73,20 @@ fn counts(tally: Tally) -> [u64; 20] {
         tally.on_request_free,
         tally.on_collective,
         tally.on_icollective,
+        tally.on_send_init,
+        tally.on_recv_init,
+        tally.on_start,
+        tally.on_startall,
+        tally.on_mprobe,
+        tally.on_improbe,
+        tally.on_imrecv,
         tally.on_unread,
         tally.on_other,
     ]
 }
 
 /// What a walk over two calls of a function counts.
-fn counted(alloc: Global, function: &str) -> Result<[u64; 20], Fail> {
+fn counted(alloc: Global, function: &str) -> Result<[u64; 27], Fail> {
     let mut text = String::new(alloc);
     put_call(&mut text, function, PARAMETERS)?;
     put_call(&mut text, function, PARAMETERS)?;
@@ -84,7 +98,7 @@ fn counted(alloc: Global, function: &str) -> Result<[u64; 20], Fail> {
 #[test]
 fn each_callback_is_counted(rt: HostRuntime) -> Result<(), Fail> {
     for (i, function) in FUNCTIONS.iter().enumerate() {
-        let mut want = [0; 20];
+        let mut want = [0; 27];
         want[i] = 2;
         let found = counted(rt.alloc(), function)?;
         assert!(rt; found == want, "{function}: {found:?}");

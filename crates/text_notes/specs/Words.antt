@@ -83,7 +83,7 @@ unread_of note = note.unread
 abbrev pub totals_of : List NoteParts → Totals
 totals_of notes = all_added no_totals (flat_map unread_of notes)
 
--- `MPI_Start 4`
+-- `MPI_Isendrecv 4`
 abbrev pub count_text : UnreadParts → List ℕ
 count_text f = name_text f.name ++ codes " " ++ decimal f.count
 
@@ -96,7 +96,7 @@ abbrev pub others_text : ℕ → List ℕ
 others_text zero = []
 others_text (suc n) = codes ", others " ++ decimal (suc n)
 
--- `  calls that are not read: MPI_Start 4, MPI_Improbe 8`
+-- `  calls that are not read: MPI_Isendrecv 4, MPI_Psend_init 8`
 abbrev pub totals_text : List UnreadParts → ℕ → List ℕ
 totals_text [] others = []
 totals_text (f ∷ functions) others =
@@ -131,7 +131,7 @@ pieceless_text (r ∷ ranks) = these_pieceless_text (r ∷ ranks)
 
 -- ---- text by text
 
--- `  rank 0, call 17: MPI_Start is not read (r0.txt)`, of the first such call
+-- `  rank 0, call 17: MPI_Isendrecv is not read (r0.txt)`, of the first such call
 abbrev pub unread_text : NoteParts → List UnreadParts → List ℕ
 unread_text note [] = []
 unread_text note (f ∷ functions) =

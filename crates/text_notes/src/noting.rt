@@ -184,6 +184,48 @@ impl CallSink for Noting {
         Ok(())
     }
 
+    fn on_send_init(&mut self, call: Call, enter: Stamp, exit: Option<Exit>) -> Result<(), Memory> {
+        self.collect.on_send_init(call, enter, exit)?;
+        self.calls = self.calls.saturating_add(1);
+        Ok(())
+    }
+
+    fn on_recv_init(&mut self, call: Call, enter: Stamp, exit: Option<Exit>) -> Result<(), Memory> {
+        self.collect.on_recv_init(call, enter, exit)?;
+        self.calls = self.calls.saturating_add(1);
+        Ok(())
+    }
+
+    fn on_start(&mut self, call: Call, enter: Stamp, exit: Option<Exit>) -> Result<(), Memory> {
+        self.collect.on_start(call, enter, exit)?;
+        self.calls = self.calls.saturating_add(1);
+        Ok(())
+    }
+
+    fn on_startall(&mut self, call: Call, enter: Stamp, exit: Option<Exit>) -> Result<(), Memory> {
+        self.collect.on_startall(call, enter, exit)?;
+        self.calls = self.calls.saturating_add(1);
+        Ok(())
+    }
+
+    fn on_mprobe(&mut self, call: Call, enter: Stamp, exit: Option<Exit>) -> Result<(), Memory> {
+        self.collect.on_mprobe(call, enter, exit)?;
+        self.calls = self.calls.saturating_add(1);
+        Ok(())
+    }
+
+    fn on_improbe(&mut self, call: Call, enter: Stamp, exit: Option<Exit>) -> Result<(), Memory> {
+        self.collect.on_improbe(call, enter, exit)?;
+        self.calls = self.calls.saturating_add(1);
+        Ok(())
+    }
+
+    fn on_imrecv(&mut self, call: Call, enter: Stamp, exit: Option<Exit>) -> Result<(), Memory> {
+        self.collect.on_imrecv(call, enter, exit)?;
+        self.calls = self.calls.saturating_add(1);
+        Ok(())
+    }
+
     fn on_unread(
         &mut self,
         name: &[u8],

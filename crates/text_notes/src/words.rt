@@ -55,7 +55,7 @@ fn put_name(out: &mut Text, name: &[u8])
     }
 }
 
-/// `MPI_Start 4`.
+/// `MPI_Isendrecv 4`.
 fn put_count(out: &mut Text, function: &UnreadFunction)
     ensures { Adds out.old out.new (count_text function.now) }
 {
@@ -91,7 +91,7 @@ fn put_others(out: &mut Text, others: u64)
     }
 }
 
-/// `  calls that are not read: MPI_Start 4, MPI_Improbe 8`.
+/// `  calls that are not read: MPI_Isendrecv 4, MPI_Psend_init 8`.
 fn put_totals(out: &mut Text, functions: &[UnreadFunction], others: u64)
     ensures { Adds out.old out.new (totals_text functions.now others) }
 {
@@ -111,7 +111,7 @@ fn put_functions(out: &mut Text, totals: &Totals)
     put_totals(out, totals.functions(), totals.others());
 }
 
-/// `  rank 0, call 17: MPI_Start is not read (r0.txt)`, of the first such call.
+/// `  rank 0, call 17: MPI_Isendrecv is not read (r0.txt)`, of the first such call.
 fn put_unread(out: &mut Text, note: &TextNote, function: &UnreadFunction)
     ensures { Adds out.old out.new (unread_text note.now (function.now ∷ [])) }
 {

@@ -11,9 +11,11 @@ use Rattle.std.proofs.lemmas.List.Folds.{list_any_more}
 use Rattle.std.proofs.lemmas.Bool.Decides.{nat_tests}
 use Rattle.mpi_model.specs.declared.event.OpName.{OpName}
 use Rattle.mpi_model.specs.declared.message.Message.{Message}
-use Rattle.mpi_model.specs.Fit.{admits}
+use Rattle.mpi_model.specs.declared.message.Receive.{Receive}
+use Rattle.mpi_model.specs.Fit.{admits, envelopes_fit}
 use Rattle.trace_pair.specs.Table.{same_name}
-use Rattle.trace_wait.specs.Patterns.{Pattern, pattern_cmp, place_cmp, same_option, same_pattern, suits}
+use Rattle.trace_wait.specs.Patterns.{Pattern, pattern_cmp, pattern_of, same_option, same_pattern, suits}
+use Rattle.trace_explain.specs.Offers.{key_of, name_cmp, some_names, some_names_from}
 
 -- one element more of a list
 pub any_more : {X : Type 0} (f : X → Bool) (xs : List X) (i : ℕ) (d : X) (now after : Bool) → i < length xs →
@@ -45,10 +47,22 @@ option_same (Some a) (Some b) = nat_same a b
 both_same : (a b c d : Bool) → a ≡ b → c ≡ d → (a && c) ≡ (b && d)
 both_same a b c d h k = ap (λ x. x && c) h ∙ ap (λ y. b && y) k
 
-pub name_same : (a b : OpName) → is_eq (place_cmp (a.rank, a.call) (b.rank, b.call)) ≡ same_name a b
-name_same a b = then_eq (nat_cmp a.rank b.rank) (nat_cmp a.call b.call) ∙ both_same (is_eq (nat_cmp a.rank b.rank)) (a.rank == b.rank) (is_eq (nat_cmp a.call b.call)) (a.call == b.call) (nat_same a.rank b.rank) (nat_same a.call b.call)
+regrouped : (a b c : Bool) → ((a && b) && c) ≡ (a && (b && c))
+regrouped true b c = refl
+regrouped false b c = refl
 
-pattern_same : (a b : Pattern) → is_eq (pattern_cmp a b) ≡ same_pattern a b
+pub name_same : (a b : OpName) → is_eq (name_cmp (key_of a) (key_of b)) ≡ same_name a b
+name_same a b =
+    let rank = nat_cmp a.rank b.rank in
+    let call = nat_cmp a.call b.call in
+    let part = nat_cmp a.part b.part in
+    then_eq (ordering_then rank call) part
+    ∙ ap (λ x. x && is_eq part) (then_eq rank call)
+    ∙ regrouped (is_eq rank) (is_eq call) (is_eq part)
+    ∙ both_same (is_eq rank) (a.rank == b.rank) (is_eq call && is_eq part) ((a.call == b.call) && (a.part == b.part)) (nat_same a.rank b.rank)
+    (both_same (is_eq call) (a.call == b.call) (is_eq part) (a.part == b.part) (nat_same a.call b.call) (nat_same a.part b.part))
+
+pub pattern_same : (a b : Pattern) → is_eq (pattern_cmp a b) ≡ same_pattern a b
 pattern_same a b =
     let third = ordering_then (ordering_then (nat_cmp a.0 b.0) (nat_cmp a.1 b.1)) (option_cmp nat_cmp a.2 b.2) in
     let second = ordering_then (nat_cmp a.0 b.0) (nat_cmp a.1 b.1) in
@@ -161,3 +175,57 @@ found_from f ms n d lt =
     let next : suc n ≡ n + 1 = omega arith in
     ap (λ (l : List Message). option_map (λ m. m.name) (find f l)) (drop-cons ms n d lt) ∙ found_first f (get_or ms n d) (drop (suc n) ms)
     ∙ ap (λ (k : ℕ). cond (f (get_or ms n d)) (Some (get_or ms n d).name) (option_map (λ m. m.name) (find f (drop k ms)))) next
+
+-- ---- receives, looked up by a message
+
+option_flipped : (a b : Option ℕ) → same_option a b ≡ same_option b a
+option_flipped None None = refl
+option_flipped None (Some b) = refl
+option_flipped (Some a) None = refl
+option_flipped (Some a) (Some b) = flipped a b
+
+pub noted_same : (a b : Pattern) → is_eq (pattern_cmp a b) ≡ same_pattern b a
+noted_same a b =
+    pattern_same a b
+    ∙ both_same ((a.0 == b.0) && (a.1 == b.1) && same_option a.2 b.2) ((b.0 == a.0) && (b.1 == a.1) && same_option b.2 a.2) (same_option a.3 b.3) (same_option b.3 a.3)
+    (both_same ((a.0 == b.0) && (a.1 == b.1)) ((b.0 == a.0) && (b.1 == a.1)) (same_option a.2 b.2) (same_option b.2 a.2)
+    (both_same (a.0 == b.0) (b.0 == a.0) (a.1 == b.1) (b.1 == a.1) (flipped a.0 b.0) (flipped a.1 b.1))
+    (option_flipped a.2 b.2))
+    (option_flipped a.3 b.3)
+
+-- one test or the other holds of some element
+any_or : {X : Type 0} (f g h : X → Bool) → ((x : X) → (f x || g x) ≡ h x) → (xs : List X) → (list_any f xs || list_any g xs) ≡ list_any h xs
+any_or f g h each [] = refl
+any_or f g h each (x ∷ xs) =
+    woven (f x) (g x) (list_any f xs) (list_any g xs) ∙ ap (λ b. b || (list_any f xs || list_any g xs)) (each x) ∙ ap (λ b. h x || b) (any_or f g h each xs)
+  where
+    woven : (a b c d : Bool) → ((a || c) || (b || d)) ≡ ((a || b) || (c || d))
+    woven true b c d = refl
+    woven false true true d = refl
+    woven false true false d = refl
+    woven false false c d = refl
+
+-- some receive names one of a message's four patterns exactly where the message fits some receive
+asked_four : (m : Message) (qs : List Receive) →
+    (some_names qs (any_any m) || (some_names qs (any_tagged m) || (some_names qs (from_any m) || some_names qs (from_tagged m)))) ≡ list_any (λ q. envelopes_fit m q) qs
+asked_four m qs =
+    let same : Pattern → Receive → Bool = λ p q. same_pattern p (pattern_of q) in
+    let two : Receive → Bool = λ q. same (from_any m) q || same (from_tagged m) q in
+    let three : Receive → Bool = λ q. same (any_tagged m) q || two q in
+    ap (λ b. some_names qs (any_any m) || (some_names qs (any_tagged m) || b)) (any_or (same (from_any m)) (same (from_tagged m)) two (λ q. refl) qs)
+    ∙ ap (λ b. some_names qs (any_any m) || b) (any_or (same (any_tagged m)) two three (λ q. refl) qs)
+    ∙ any_or (same (any_any m)) three (λ q. envelopes_fit m q) (λ q. suits_is m (pattern_of q)) qs
+
+-- the same, by source
+pub fits_one : (m : Message) (qs : List Receive) → (some_names_from qs m None || some_names_from qs m (Some m.from)) ≡ list_any (λ q. envelopes_fit m q) qs
+fits_one m qs =
+    turned (some_names qs (any_any m)) (some_names qs (any_tagged m)) (some_names qs (from_any m)) (some_names qs (from_tagged m)) ∙ asked_four m qs
+  where
+    turned : (a b c d : Bool) → ((a || b) || (c || d)) ≡ (a || (b || (c || d)))
+    turned true b c d = refl
+    turned false b c d = refl
+
+-- the same where the first look tells
+pub fits_first : (m : Message) (qs : List Receive) (r : Bool) → r ≡ some_names_from qs m None → r ≡ true → r ≡ list_any (λ q. envelopes_fit m q) qs
+fits_first m qs r e h =
+    h ∙ ap (λ c. c || some_names_from qs m (Some m.from)) (sym h ∙ e) ∙ fits_one m qs

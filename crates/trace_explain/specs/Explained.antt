@@ -11,6 +11,7 @@ use Rattle.trace_ops.specs.RankOps.{all_ops}
 use Rattle.trace_ops.specs.declared.state.State.{State}
 use Rattle.trace_ops.specs.declared.state.State.TheVariants.{Ended, Free, Waiting}
 use Rattle.trace_node.specs.Answer.{Answered, AreStuck, Stopped, states_of, waits_of}
+use Rattle.call_words.specs.Names.{number_text}
 use Rattle.call_words.specs.Ranges.{named_ranks_text, ranges_text}
 use Rattle.trace_explain.specs.Hearts.{AreHearts}
 use Rattle.trace_explain.specs.Lacking.{lacking_text}
@@ -91,7 +92,7 @@ conflicts_text places = flat_map conflict_text (take most_shown places) ++ more_
 
 -- a message that is in no pair, since an open receive may have taken it
 abbrev pub postponed_text : OpName → List ℕ
-postponed_text n = codes "  the message of rank " ++ decimal n.rank ++ codes ", call " ++ decimal n.call
+postponed_text n = codes "  the message of rank " ++ decimal n.rank ++ codes ", call " ++ number_text n
     ++ codes ", is left out: it may belong to a receive whose source no status tells\n"
 
 -- the first postponed messages, and how many more there are

@@ -8,7 +8,7 @@ use Rattle.mpi_model.specs.declared.event.OpName.{OpName}
 use Rattle.mpi_model.specs.declared.message.Message.{Message}
 use Rattle.mpi_model.specs.declared.message.Receive.{Receive}
 use Rattle.mpi_model.specs.Fit.{envelopes_fit}
-use Rattle.mpi_model.specs.Trusts.{is_void}
+use Rattle.mpi_model.specs.Trusts.{is_settled, is_void}
 use Rattle.trace_ops.specs.Ops.{Ops}
 use Rattle.trace_pair.specs.declared.pair.Pair.{Pair}
 use Rattle.trace_pair.specs.Table.{same_name}
@@ -34,27 +34,51 @@ is_loose taken m = not (has_name taken m.name) && not (is_void m.trust)
 abbrev pub loose : List OpName → List Ops → List Message
 loose taken ops = flat_map (λ o. filter (is_loose taken) o.sends) ops
 
--- the operation of a rank's call
+-- the operation of a rank's call, which is no Startall
 abbrev pub named : ℕ → ℕ → OpName
-named rank call = record { rank = rank; call = call }
+named rank call = record { rank = rank; call = call; part = 0 }
 
 -- the calls in which stuck ranks stand, of which more is said elsewhere
 abbrev pub standing : Answered → List OpName
 standing a = map (λ s. named s.rank s.call) a.stuck
 
--- A loose message is left over where it isn't postponed, so that no receive which is known can have taken it, and no stuck
--- rank stands in its call.
-abbrev pub is_left : List OpName → List OpName → Message → Bool
-is_left postponed standing m = not (has_name postponed m.name) && not (has_name standing m.name)
+-- a receive that takes what its source tells, and is in no pair
+abbrev pub is_wanting : List OpName → Receive → Bool
+is_wanting given q = is_settled q && not (has_name given q.name)
+
+-- all of them
+abbrev pub wanting : List OpName → List Ops → List Receive
+wanting given ops = flat_map (λ o. filter (is_wanting given) o.receives) ops
+
+-- A message is wanted where its envelope fits such a receive, which may have taken it. They are no pair where it isn't certain
+-- that they match: parts of one Startall fit both, say, or a message before this one may have been cancelled.
+abbrev pub is_wanted : List Receive → Message → Bool
+is_wanted wanting m = list_any (λ q. envelopes_fit m q) wanting
+
+-- The message isn't postponed, and no stuck rank stands in its call.
+abbrev pub is_unsaid : List OpName → List OpName → Message → Bool
+is_unsaid postponed standing m = not (has_name postponed m.name) && not (has_name standing m.name)
+
+-- Such a loose message is left over where it isn't wanted, so that no receive which is known can have taken it.
+abbrev pub is_left : List OpName → List OpName → List Receive → Message → Bool
+is_left postponed standing wanting m = is_unsaid postponed standing m && not (is_wanted wanting m)
+
+-- It is undecided where it is wanted.
+abbrev pub is_undecided : List OpName → List OpName → List Receive → Message → Bool
+is_undecided postponed standing wanting m = is_unsaid postponed standing m && is_wanted wanting m
 
 -- the messages that are left over
-abbrev pub left_names : List OpName → List OpName → List Message → List OpName
-left_names postponed standing messages = map (λ m. m.name) (filter (is_left postponed standing) messages)
+abbrev pub left_names : List OpName → List OpName → List Receive → List Message → List OpName
+left_names postponed standing wanting messages = map (λ m. m.name) (filter (is_left postponed standing wanting) messages)
 
--- the calls for which a rank may wait, where it waits in a call: that call, and those that posted its active requests
+-- the messages that are undecided
+abbrev pub undecided_names : List OpName → List OpName → List Receive → List Message → List OpName
+undecided_names postponed standing wanting messages = map (λ m. m.name) (filter (is_undecided postponed standing wanting) messages)
+
+-- the operations for which a rank may wait, where it waits in a call: that of the call, and those of its active requests
 abbrev pub pending_in : ℕ → Option (ℕ × Call) → Ops → List OpName
 pending_in rank None o = []
-pending_in rank (Some w) o = named rank w.0 ∷ map (λ p. named rank p.1) o.active
+pending_in rank (Some w) o = named rank w.0 ∷ map (λ p. p.1) o.active
 
 -- the receives that a rank may wait for
 abbrev pub pending_of : ℕ → Ops → List OpName
@@ -111,3 +135,15 @@ loose_in a ops = loose (taken a.pairs) ops
 -- the receives that starve under an answer
 abbrev pub starved_in : Answered → List Ops → List Receive
 starved_in a ops = starved (pending_below ops a.ranks) (given a.pairs) (loose_in a ops) ops
+
+-- the settled receives without a message under an answer
+abbrev pub wanting_in : Answered → List Ops → List Receive
+wanting_in a ops = wanting (given a.pairs) ops
+
+-- the messages that are left over under an answer
+abbrev pub left_in : Answered → List Ops → List OpName
+left_in a ops = left_names a.postponed (standing a) (wanting_in a ops) (loose_in a ops)
+
+-- the messages that are undecided under an answer
+abbrev pub undecided_in : Answered → List Ops → List OpName
+undecided_in a ops = undecided_names a.postponed (standing a) (wanting_in a ops) (loose_in a ops)

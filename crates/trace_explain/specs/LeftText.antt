@@ -2,17 +2,18 @@
 use Rattle.std.specs.Prelude.{ℕ, ◌-◌, ◌==◌, if◌then◌else◌, List, [], ◌∷◌, ◌++◌, codes, decimal, length, take}
 use Rattle.std.specs.List.{flat_map}
 use Rattle.mpi_model.specs.declared.event.OpName.{OpName}
+use Rattle.call_words.specs.Names.{number_text}
 use Rattle.trace_know.specs.View.{View}
 use Rattle.trace_ops.specs.Ops.{Ops}
 use Rattle.trace_node.specs.Answer.{Answered}
-use Rattle.trace_explain.specs.LeftOver.{left_names, loose_in, near_misses, other_names, standing, starved_in}
+use Rattle.trace_explain.specs.LeftOver.{left_in, loose_in, near_misses, other_names, standing, starved_in, undecided_in}
 use Rattle.trace_explain.specs.Sections.{entry_of}
 use Rattle.trace_explain.specs.Shown.{more_text, most_shown}
 use Rattle.trace_explain.specs.Standing.{place_text}
 
 -- `rank 1, call 3: ` and the call
 abbrev pub named_call_text : View → OpName → List ℕ
-named_call_text view n = codes "rank " ++ decimal n.rank ++ codes ", call " ++ decimal n.call ++ codes ": " ++ place_text view n.rank (entry_of n.call)
+named_call_text view n = codes "rank " ++ decimal n.rank ++ codes ", call " ++ number_text n ++ codes ": " ++ place_text view n.rank (entry_of n.call)
 
 -- the line of one operation
 abbrev pub call_line : View → OpName → List ℕ
@@ -44,14 +45,19 @@ near_below view ps = if length ps == 0 then [] else these_near view ps
 abbrev pub messages_head : List ℕ
 messages_head = codes "\nLeft over are messages that no receive takes:\n"
 
+-- the head of the messages that are undecided
+abbrev pub undecided_head : List ℕ
+undecided_head = codes "\nUndecided are messages that fit a receive, but it is not certain which one it takes (as with parts of one MPI_Startall):\n"
+
 -- the head of the receives that starve
 abbrev pub receives_head : List ℕ
 receives_head = codes "\nLeft over are receives of waiting ranks that no message fits:\n"
 
 -- calls of messages and of receives, and nearest misses
-abbrev pub left_text : View → List OpName → List OpName → List (OpName × OpName) → List ℕ
-left_text view messages receives near = calls_below view messages_head messages ++ calls_below view receives_head receives ++ near_below view near
+abbrev pub left_text : View → List OpName → List OpName → List OpName → List (OpName × OpName) → List ℕ
+left_text view messages undecided receives near =
+    calls_below view messages_head messages ++ calls_below view undecided_head undecided ++ calls_below view receives_head receives ++ near_below view near
 
 -- what is left over
 abbrev pub left_over_text : Answered → View → List Ops → List ℕ
-left_over_text a view ops = left_text view (left_names a.postponed (standing a) (loose_in a ops)) (other_names (standing a) (starved_in a ops)) (near_misses (loose_in a ops) (starved_in a ops))
+left_over_text a view ops = left_text view (left_in a ops) (undecided_in a ops) (other_names (standing a) (starved_in a ops)) (near_misses (loose_in a ops) (starved_in a ops))

@@ -12,6 +12,7 @@ use Rattle.trace_ops.specs.Ops.{Ops}
 use Rattle.trace_ops.specs.declared.state.State.TheVariants.{Ended}
 use Rattle.trace_pair.specs.declared.pair.Pair.{Pair}
 use Rattle.trace_node.specs.Answer.{Answered, Stopped}
+use Rattle.call_words.specs.Names.{number_text}
 use Rattle.call_words.specs.Seconds.{seconds_text}
 use Rattle.trace_explain.specs.Explained.{ends_unread, is_gapped, is_waiting, needed_ops}
 use Rattle.trace_explain.specs.Lacking.{calls_read}
@@ -21,13 +22,13 @@ use Rattle.trace_explain.specs.Standing.{place_text, rank_text}
 
 -- The messages of a call
 
--- the name is that of this call
+-- the operation is of this call
 abbrev pub is_call : ℕ → ℕ → OpName → Bool
 is_call rank call name = name.rank == rank && name.call == call
 
 -- a call by its number and its rank
 abbrev pub named_text : OpName → List ℕ
-named_text name = codes "call " ++ decimal name.call ++ codes " of rank " ++ decimal name.rank
+named_text name = codes "call " ++ number_text name ++ codes " of rank " ++ decimal name.rank
 
 -- `; its message went to call 5 of rank 1`
 abbrev pub to_call_text : OpName → List ℕ

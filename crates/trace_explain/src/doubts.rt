@@ -7,7 +7,7 @@ ghost use Rattle.trace_explain.specs.Explained.{all_postponed_text, conflict_tex
 
 use crate::lacking::put_lacking;
 use crate::shown::{MOST_SHOWN, put_more, shown};
-use call_words::{Text, put_named_ranks, put_ranges};
+use call_words::{Text, put_named_ranks, put_op_number, put_ranges};
 use mpi_model::{Layout, OpName};
 use std::alloc::{AllocError, Global};
 use trace_know::Knowledge;
@@ -59,7 +59,7 @@ fn put_postponed(out: &mut Text, name: &OpName)
     out.put(b"  the message of rank ");
     out.put_number(name.rank as u64);
     out.put(b", call ");
-    out.put_number(name.call);
+    put_op_number(out, name);
     out.put(b", is left out: it may belong to a receive whose source no status tells\n");
 }
 

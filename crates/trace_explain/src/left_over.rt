@@ -1,11 +1,12 @@
 //! What is left over where it may be why ranks wait.
 
 ghost use Rattle.std.specs.Prelude.{◌≡◌, ◌++◌, IfOk, OnOk, filter, map, slice_get};
-ghost use Rattle.trace_explain.specs.LeftOver.{given, is_left, is_loose, is_starved, left_names, loose, loose_in, named, near_misses, other_names, pending_at, pending_below, pending_of, standing, starved, starved_in, taken};
+ghost use Rattle.trace_explain.specs.LeftOver.{given, is_left, is_loose, is_starved, is_undecided, is_unsaid, left_in, left_names, loose, loose_in, named, near_misses, other_names, pending_at, pending_below, pending_of, standing, starved, starved_in, taken, undecided_in, undecided_names, wanting_in};
 
 use crate::names::Names;
 use crate::offers::Offers;
 use crate::shown::push_some;
+use crate::wanted::{Wanted, wanting};
 use mpi_model::{Message, OpName, Receive};
 use std::alloc::{AllocError, Global};
 use trace_node::Answer;
@@ -60,53 +61,103 @@ fn loose(alloc: Global, taken: &Names<'_>, ops: &[RankOps]) -> Result<Vec<Messag
     Ok(messages)
 }
 
-/// Whether a loose message isn't postponed, and no stuck rank stands in its call.
-fn is_left(postponed: &Names<'_>, standing: &Names<'_>, m: &Message) -> bool
-    ensures { result ≡ is_left postponed.now standing.now m.now }
+/// Whether a message isn't postponed, and no stuck rank stands in its call.
+fn is_unsaid(postponed: &Names<'_>, standing: &Names<'_>, m: &Message) -> bool
+    ensures { result ≡ is_unsaid postponed.now standing.now m.now }
 {
     !postponed.has(m.name) && !standing.has(m.name)
 }
 
-/// Those of the messages that aren't postponed, and in whose call no stuck rank stands.
+/// Whether no receive can have taken a loose message.
+fn is_left(postponed: &Names<'_>, standing: &Names<'_>, wanted: &Wanted<'_>, m: &Message) -> bool
+    ensures { result ≡ is_left postponed.now standing.now wanted.now m.now }
+{
+    is_unsaid(postponed, standing, m) && !wanted.fits_some(m)
+}
+
+/// Whether a loose message fits a receive without a message.
+fn is_undecided(
+    postponed: &Names<'_>,
+    standing: &Names<'_>,
+    wanted: &Wanted<'_>,
+    m: &Message,
+) -> bool
+    ensures { result ≡ is_undecided postponed.now standing.now wanted.now m.now }
+{
+    is_unsaid(postponed, standing, m) && wanted.fits_some(m)
+}
+
+/// Those of the loose messages that are left over.
 fn left_names(
     alloc: Global,
     postponed: &Names<'_>,
     standing: &Names<'_>,
+    wanted: &Wanted<'_>,
     messages: &[Message],
 ) -> Result<Vec<OpName>, AllocError>
-    ensures { IfOk result (λ names. names.items ≡ left_names postponed.now standing.now messages.now) }
+    ensures { IfOk result (λ names. names.items ≡ left_names postponed.now standing.now wanted.now messages.now) }
 {
     let mut names = Vec::new(alloc);
     for m in messages {
-        if is_left(postponed, standing, m) {
+        if is_left(postponed, standing, wanted, m) {
             names.push(m.name)?;
         }
     }
     Ok(names)
 }
 
-/// Adds the calls for which the rank may wait, where it waits.
+/// Those of the loose messages that are undecided.
+fn undecided_names(
+    alloc: Global,
+    postponed: &Names<'_>,
+    standing: &Names<'_>,
+    wanted: &Wanted<'_>,
+    messages: &[Message],
+) -> Result<Vec<OpName>, AllocError>
+    ensures { IfOk result (λ names. names.items ≡ undecided_names postponed.now standing.now wanted.now messages.now) }
+{
+    let mut names = Vec::new(alloc);
+    for m in messages {
+        if is_undecided(postponed, standing, wanted, m) {
+            names.push(m.name)?;
+        }
+    }
+    Ok(names)
+}
+
+/// The operation of a rank's call, which is no Startall.
+fn named(rank: u32, call: u64) -> OpName
+    ensures { result ≡ named rank call }
+{
+    OpName {
+        rank,
+        call,
+        part: 0,
+    }
+}
+
+/// Adds the operations for which the rank may wait, where it waits.
 fn push_pending(rank: u32, o: &RankOps, names: &mut Vec<OpName>) -> Result<(), AllocError>
     ensures { OnOk result (names.new.items ≡ names.old.items ++ pending_of rank o.now) }
 {
     if let Some((call, _)) = o.waiting() {
-        names.push(OpName { rank, call })?;
-        push_posts(rank, o.active(), names)?;
+        names.push(named(rank, call))?;
+        push_posts(o.active(), names)?;
     }
     Ok(())
 }
 
-/// Adds the calls that posted active requests.
-fn push_posts(rank: u32, active: &[(i64, u64)], names: &mut Vec<OpName>) -> Result<(), AllocError>
-    ensures { OnOk result (names.new.items ≡ names.old.items ++ map (λ p. named rank p.1) active.now) }
+/// Adds the operations of active requests.
+fn push_posts(active: &[(i64, OpName)], names: &mut Vec<OpName>) -> Result<(), AllocError>
+    ensures { OnOk result (names.new.items ≡ names.old.items ++ map (λ p. p.1) active.now) }
 {
     for post in active {
-        names.push(OpName { rank, call: post.1 })?;
+        names.push(post.1)?;
     }
     Ok(())
 }
 
-/// Adds the calls for which a rank may wait.
+/// Adds the operations for which a rank may wait.
 fn push_pending_at(ops: &[RankOps], rank: u32, names: &mut Vec<OpName>) -> Result<(), AllocError>
     ensures { OnOk result (names.new.items ≡ names.old.items ++ pending_at rank (slice_get ops.now rank)) }
 {
@@ -116,7 +167,7 @@ fn push_pending_at(ops: &[RankOps], rank: u32, names: &mut Vec<OpName>) -> Resul
     }
 }
 
-/// The calls for which those of the first ranks may wait that wait.
+/// The operations for which those of the first ranks may wait that wait.
 fn pending(alloc: Global, ranks: u32, ops: &[RankOps]) -> Result<Vec<OpName>, AllocError>
     ensures { IfOk result (λ names. names.items ≡ pending_below ops.now ranks) }
 {
@@ -185,10 +236,17 @@ fn near_misses(
     Ok(found)
 }
 
+/// The calls of loose messages: those that are left over, and those that are undecided.
+#[derive(Debug, Drop)]
+pub(crate) struct LooseNames {
+    pub left: Vec<OpName>,
+    pub undecided: Vec<OpName>,
+}
+
 /// What is left over: the calls of messages, those of receives, and receives with their nearest misses.
 #[derive(Debug, Drop)]
 pub(crate) struct LeftOver {
-    pub messages: Vec<OpName>,
+    pub messages: LooseNames,
     pub receives: Vec<OpName>,
     pub near: Vec<(OpName, OpName)>,
 }
@@ -218,31 +276,58 @@ fn starved_beside(
     starved(alloc, &pending, &given, offers, ops)
 }
 
+/// The settled receives in no pair, of an answer and of what the ranks did.
+fn wanting_in(alloc: Global, answer: &Answer, ops: &[RankOps]) -> Result<Vec<Receive>, AllocError>
+    ensures { IfOk result (λ found. found.items ≡ wanting_in answer.now ops.now) }
+{
+    let names = given(alloc, answer.pairs())?;
+    let given = Names::of(alloc, &names)?;
+    wanting(alloc, &given, ops)
+}
+
 /// The calls in which stuck ranks stand.
 fn standing(alloc: Global, answer: &Answer) -> Result<Vec<OpName>, AllocError>
     ensures { IfOk result (λ names. names.items ≡ standing answer.now) }
 {
     let mut names = Vec::new(alloc);
     for stuck in answer.stuck() {
-        names.push(OpName {
-            rank: stuck.rank,
-            call: stuck.call,
-        })?;
+        names.push(named(stuck.rank, stuck.call))?;
     }
     Ok(names)
 }
 
-/// The messages that are left over among these.
-fn left_beside(
+/// The loose messages that are left over among these, and those that are undecided beside settled receives.
+fn loose_names(
     alloc: Global,
     answer: &Answer,
     standing: &Names<'_>,
+    wanting: &[Receive],
     messages: &[Message],
-) -> Result<Vec<OpName>, AllocError>
-    ensures { IfOk result (λ names. names.items ≡ left_names answer.now.postponed standing.now messages.now) }
+) -> Result<LooseNames, AllocError>
+    ensures left { IfOk result (λ names. names.left.items ≡ left_names answer.now.postponed standing.now wanting.now messages.now) }
+    ensures undecided { IfOk result (λ names. names.undecided.items ≡ undecided_names answer.now.postponed standing.now wanting.now messages.now) }
 {
+    let wanted = Wanted::of(alloc, wanting)?;
     let postponed = Names::of(alloc, answer.postponed())?;
-    left_names(alloc, &postponed, standing, messages)
+    Ok(LooseNames {
+        left: left_names(alloc, &postponed, standing, &wanted, messages)?,
+        undecided: undecided_names(alloc, &postponed, standing, &wanted, messages)?,
+    })
+}
+
+/// The loose messages among these, by whether they are undecided.
+fn loose_beside(
+    alloc: Global,
+    answer: &Answer,
+    ops: &[RankOps],
+    standing: &Names<'_>,
+    messages: &[Message],
+) -> Result<LooseNames, AllocError>
+    ensures left { IfOk result (λ names. names.left.items ≡ left_names answer.now.postponed standing.now (wanting_in answer.now ops.now) messages.now) }
+    ensures undecided { IfOk result (λ names. names.undecided.items ≡ undecided_names answer.now.postponed standing.now (wanting_in answer.now ops.now) messages.now) }
+{
+    let wanting = wanting_in(alloc, answer, ops)?;
+    loose_names(alloc, answer, standing, &wanting, messages)
 }
 
 /// The receives in whose call no stuck rank stands.
@@ -268,7 +353,8 @@ pub(crate) fn left_over(
     answer: &Answer,
     ops: &[RankOps],
 ) -> Result<LeftOver, AllocError>
-    ensures messages { IfOk result (λ left. left.messages.items ≡ left_names answer.now.postponed (standing answer.now) (loose_in answer.now ops.now)) }
+    ensures messages { IfOk result (λ left. left.messages.left.items ≡ left_in answer.now ops.now) }
+    ensures undecided { IfOk result (λ left. left.messages.undecided.items ≡ undecided_in answer.now ops.now) }
     ensures receives { IfOk result (λ left. left.receives.items ≡ other_names (standing answer.now) (starved_in answer.now ops.now)) }
     ensures near { IfOk result (λ left. left.near.items ≡ near_misses (loose_in answer.now ops.now) (starved_in answer.now ops.now)) }
 {
@@ -279,7 +365,7 @@ pub(crate) fn left_over(
     let names = standing(alloc, answer)?;
     let standing = Names::of(alloc, &names)?;
     Ok(LeftOver {
-        messages: left_beside(alloc, answer, &standing, &messages)?,
+        messages: loose_beside(alloc, answer, ops, &standing, &messages)?,
         receives: other_names(alloc, &standing, &receives)?,
         near,
     })

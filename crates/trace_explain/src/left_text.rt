@@ -3,12 +3,12 @@
 ghost use Rattle.std.specs.Prelude.{◌≡◌};
 ghost use Rattle.std.specs.List.{flat_map};
 ghost use Rattle.call_words.specs.Texts.{Adds};
-ghost use Rattle.trace_explain.specs.LeftText.{call_line, calls_below, left_over_text, left_text, messages_head, named_call_text, near_below, near_line, receives_head, these_calls, these_near};
+ghost use Rattle.trace_explain.specs.LeftText.{call_line, calls_below, left_over_text, left_text, messages_head, named_call_text, near_below, near_line, receives_head, these_calls, these_near, undecided_head};
 
 use crate::left_over::{LeftOver, left_over};
 use crate::shown::{MOST_SHOWN, put_more, shown};
 use crate::standing::put_place;
-use call_words::Text;
+use call_words::{Text, put_op_number};
 use mpi_model::OpName;
 use std::alloc::Global;
 use trace_know::Knowledge;
@@ -22,7 +22,7 @@ pub(crate) fn put_named_call(out: &mut Text, know: &Knowledge, name: &OpName)
     out.put(b"rank ");
     out.put_number(name.rank as u64);
     out.put(b", call ");
-    out.put_number(name.call);
+    put_op_number(out, name);
     out.put(b": ");
     put_place(out, know, name.rank, name.call.saturating_mul(2));
 }
@@ -108,6 +108,13 @@ fn messages_head() -> &'static [u8]
     b"\nLeft over are messages that no receive takes:\n"
 }
 
+/// The head of the messages that are undecided.
+fn undecided_head() -> &'static [u8]
+    ensures { result.now ≡ undecided_head }
+{
+    b"\nUndecided are messages that fit a receive, but it is not certain which one it takes (as with parts of one MPI_Startall):\n"
+}
+
 /// The head of the receives that starve.
 fn receives_head() -> &'static [u8]
     ensures { result.now ≡ receives_head }
@@ -117,9 +124,10 @@ fn receives_head() -> &'static [u8]
 
 /// Calls of messages and of receives, and nearest misses.
 fn put_left(out: &mut Text, know: &Knowledge, left: &LeftOver)
-    ensures { Adds out.old out.new (left_text know.now left.now.messages.items left.now.receives.items left.now.near.items) }
+    ensures { Adds out.old out.new (left_text know.now left.now.messages.left.items left.now.messages.undecided.items left.now.receives.items left.now.near.items) }
 {
-    put_calls_below(out, know, messages_head(), &left.messages);
+    put_calls_below(out, know, messages_head(), &left.messages.left);
+    put_calls_below(out, know, undecided_head(), &left.messages.undecided);
     put_calls_below(out, know, receives_head(), &left.receives);
     put_near_below(out, know, &left.near);
 }

@@ -16,7 +16,7 @@ use crate::line::{Line, line_of};
 use crate::section::put_line;
 use crate::shown::MOST_SHOWN;
 use crate::standing::{put_place, put_rank};
-use call_words::{Text, put_seconds};
+use call_words::{Text, put_op_number, put_seconds};
 use mpi_model::{Event, Layout, OpName};
 use std::alloc::{AllocError, Global};
 use trace_know::{Cell, Knowledge};
@@ -24,7 +24,7 @@ use trace_node::{Answer, Stuck};
 use trace_ops::{RankOps, State};
 use trace_pair::Pair;
 
-/// Whether the name is that of this call.
+/// Whether an operation is of this call.
 fn is_call(rank: u32, call: u64, name: &OpName) -> bool
     ensures { result ≡ is_call rank call name.now }
 {
@@ -36,7 +36,7 @@ fn put_named(out: &mut Text, name: &OpName)
     ensures { Adds out.old out.new (named_text name.now) }
 {
     out.put(b"call ");
-    out.put_number(name.call);
+    put_op_number(out, name);
     out.put(b" of rank ");
     out.put_number(name.rank as u64);
 }

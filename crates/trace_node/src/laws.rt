@@ -24,9 +24,9 @@ pub fn stuck_go_by_shape()
 {}
 
 /// The pairs of an answer are certain: each is a couple of every matching that MPI allows, however the ranks
-/// go on and their open receives are told, where no later Cancel names what is sure. Where no receive is open
-/// and no message doubtful no other is allowed (MPI 4.0, 3.5), and they are such a matching where also no
-/// message of a pair comes after its receive.
+/// go on and their open receives are told, where no later Cancel names what is sure. Where no receive is open,
+/// no message doubtful, and no two parts of one Startall fit the same, no other is allowed (MPI 4.0, 3.5 and
+/// 3.9), and they are such a matching where also no message of a pair comes after its receive.
 pub fn answers_are_certain()
     ensures certain { (layout : Parts) (view : View) (a : Answered) → IsAnswer layout view a → AreCertain (all_ops layout view) a.pairs }
     ensures legal { (layout : Parts) (view : View) (a : Answered) → IsAnswer layout view a → AreAllSettled (all_ops layout view)

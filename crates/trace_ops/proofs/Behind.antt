@@ -1,12 +1,11 @@
--- What is kept of the calls behind, one call more.
+-- What is kept of the steps behind, one step more.
 use Rattle.std.proofs.Common.{◌≡◌, ℕ, zero, suc, ◌+◌, ◌<◌, Bool, true, false, ◌||◌, cond, List, [], ◌∷◌, drop, get_or, length, refl, sym, ◌∙◌, ap, subst, arith}
 use Rattle.std.specs.Prelude.{ℤ, Option, Some, None, is_some, slice_get, if◌then◌else◌}
 use Rattle.std.specs.List.{list_any}
 use Rattle.std.specs.Ordering.{int_eq}
-use Rattle.std.proofs.lemmas.List.{drop_more}
 use Rattle.std.proofs.lemmas.Option.{slice_get_read}
 use Rattle.mpi_model.specs.declared.call.Call.{Call}
-use Rattle.mpi_model.specs.declared.call.Call.TheVariants.{Isend, Irecv, Icollective, Cancel}
+use Rattle.mpi_model.specs.declared.call.Call.TheVariants.{Isend, Irecv, Icollective, Imrecv, SendInit, RecvInit, Cancel}
 use Rattle.mpi_model.specs.declared.outcome.Outs.{Outs}
 use Rattle.mpi_model.specs.declared.told.Told.{Told}
 use Rattle.mpi_model.specs.declared.told.Told.TheVariants.{Nothing, Source, Cancelled}
@@ -15,21 +14,25 @@ use Rattle.trace_ops.specs.declared.completed.Completed.{Completed}
 use Rattle.trace_ops.specs.declared.touched.End.{End}
 use Rattle.trace_ops.specs.declared.touched.Touch.{Touch}
 use Rattle.trace_ops.specs.Calls.{Entry}
-use Rattle.trace_ops.specs.Ended.{ended_by, is_completing}
-use Rattle.trace_ops.specs.Request.{post_of, completions, posted_by, completed_by, touches, is_completed, is_posted}
+use Rattle.trace_ops.specs.Ended.{ended_by}
+use Rattle.trace_ops.specs.Request.{given_of, completions, is_completed, is_posted}
+use Rattle.trace_ops.specs.Steps.{Step, given_by, completed_by, touches, whole}
 use Rattle.trace_ops.specs.Source.{told_in, told_by}
-use Rattle.trace_ops.specs.Touched.{Follows, completing, ended_at, ends_at, end_of, marked, is_marked, is_void_end, tellings_of, voided_end, with_told, with_tellings}
+use Rattle.trace_ops.specs.Touched.{Follows, ended_at, ends_at, end_of, marked, is_marked, is_void_end, tellings_of, voided_end, with_told, with_tellings}
 use Rattle.trace_ops.specs.Trust.{cancel_of, cancels, has_cancel, said_in, said_by}
 
--- a call that posts completes nothing
-quiet : (call : Call) (outs : Option Outs) (x : ℤ) → post_of call outs ≡ Some x → completions call outs ≡ []
+-- a call that gives a number completes nothing
+quiet : (call : Call) (outs : Option Outs) (x : ℤ) → given_of call outs ≡ Some x → completions call outs ≡ []
 quiet (Isend mode e) outs x h = refl
 quiet (Irecv e) outs x h = refl
 quiet (Icollective c) outs x h = refl
+quiet Imrecv outs x h = refl
+quiet (SendInit mode e) outs x h = refl
+quiet (RecvInit e) outs x h = refl
 quiet call outs x h = absurd (cc)
 
 -- a Cancel posts and completes nothing
-idle : (call : Call) (outs : Option Outs) (x : ℤ) → cancel_of call ≡ Some x → (post_of call outs ≡ None) × (completions call outs ≡ [])
+idle : (call : Call) (outs : Option Outs) (x : ℤ) → cancel_of call ≡ Some x → (given_of call outs ≡ None) × (completions call outs ≡ [])
 idle (Cancel request) outs x h = (refl, refl)
 idle call outs x h = absurd (cc)
 
@@ -86,20 +89,20 @@ unmet call i x (c ∷ done) touch h = by (int_eq c.request x) h (unmet call (i +
     by true h more = cc
 
 -- what holds of one number, and what is kept of it
-record FollowsOne (next : ℕ) (calls later : List Entry) (x : ℤ) (touch : Option Touch) : Type 0 where
+record FollowsOne (calls : List Entry) (later : List Step) (x : ℤ) (touch : Option Touch) : Type 0 where
   ended : is_some (end_of touch) ≡ list_any (touches x) later
-  by : ended_at calls (end_of touch) ≡ ended_by next x later
+  by : ended_at calls (end_of touch) ≡ ended_by x later
   cancelled : is_marked touch ≡ has_cancel x later
   void : is_void_end (end_of touch) ≡ is_cancelled (said_by x later)
   told : (members : List ℕ) → told_in members x (tellings_of calls (end_of touch)) ≡ told_by members x later
 
--- One call more. It names a number to be cancelled, or it posts one, and so completes none; or it does neither.
-module _ (calls : List Entry) (n : ℕ) (c : Entry) (later : List Entry) (old new : ℤ → Option Touch) where
-  by_one : (kept : ℤ → Option Touch) → ((x : ℤ) → FollowsOne n calls (c ∷ later) x (kept x)) → Follows n calls (c ∷ later) kept
+-- One step more. It names a number to be cancelled, or it gives one, and so completes none; or it does neither.
+module _ (calls : List Entry) (s : Step) (later : List Step) (old new : ℤ → Option Touch) where
+  by_one : (kept : ℤ → Option Touch) → ((x : ℤ) → FollowsOne calls (s ∷ later) x (kept x)) → Follows calls (s ∷ later) kept
   by_one kept one = record { ended = λ x. (one x).ended; by = λ x. (one x).by; cancelled = λ x. (one x).cancelled; void = λ x. (one x).void; told = λ members x. (one x).told members }
 
-  -- a call that neither touches nor cancels the number
-  passes : (x : ℤ) (touch : Option Touch) → Follows (n + 1) calls later old → touch ≡ old x → touches x c ≡ false → cancels x c ≡ false → FollowsOne n calls (c ∷ later) x touch
+  -- a step that neither touches nor cancels the number
+  passes : (x : ℤ) (touch : Option Touch) → Follows calls later old → touch ≡ old x → touches x s ≡ false → cancels x s ≡ false → FollowsOne calls (s ∷ later) x touch
   passes x touch f e t k = rw e (record {
     ended = rw t (f.ended x);
     by = rw t (f.by x);
@@ -108,87 +111,98 @@ module _ (calls : List Entry) (n : ℕ) (c : Entry) (later : List Entry) (old ne
     told = λ members. rw t (f.told members x);
   })
 
-  pub follows_cancel : (request : ℤ) → cancel_of c.call ≡ Some request → ((x : ℤ) → new x ≡ cond (int_eq request x) (Some (marked (old x))) (old x)) →
-      Follows (n + 1) calls later old → Follows n calls (c ∷ later) new
-  follows_cancel request p h f = by_one new (λ x. one x (int_eq request x) refl)
-    where
-      untouched : (x : ℤ) → touches x c ≡ false
-      untouched x = let q = idle c.call c.outs request p in rw (q.0, q.1) refl
+  -- a step that gives and completes none
+  untouched : given_by s ≡ None → completed_by s ≡ [] → (x : ℤ) → touches x s ≡ false
+  untouched g d x = ap (λ (o : Option ℤ). is_posted o x || is_completed x (completed_by s)) g ∙ ap (is_completed x) d
 
-      one : (x : ℤ) (b : Bool) → b ≡ int_eq request x → FollowsOne n calls (c ∷ later) x (new x)
-      one x false k = passes x (new x) f (h x ∙ ap (λ (v : Bool). cond v (Some (marked (old x))) (old x)) (sym k)) (untouched x) (ap (λ (o : Option ℤ). is_posted o x) p ∙ sym k)
+  cancels_none : cancel_of s.entry.call ≡ None → (x : ℤ) → cancels x s ≡ false
+  cancels_none q x = ap (λ (o : Option ℤ). is_posted o x) q
+
+  pub follows_cancel : (request : ℤ) → cancel_of s.entry.call ≡ Some request → given_by s ≡ None → ((x : ℤ) → new x ≡ cond (int_eq request x) (Some (marked (old x))) (old x)) →
+      Follows calls later old → Follows calls (s ∷ later) new
+  follows_cancel request p g h f = by_one new (λ x. one x (int_eq request x) refl)
+    where
+      none : (x : ℤ) → touches x s ≡ false
+      none x = untouched g (idle s.entry.call s.entry.outs request p).1 x
+
+      one : (x : ℤ) (b : Bool) → b ≡ int_eq request x → FollowsOne calls (s ∷ later) x (new x)
+      one x false k = passes x (new x) f (h x ∙ ap (λ (v : Bool). cond v (Some (marked (old x))) (old x)) (sym k)) (none x) (ap (λ (o : Option ℤ). is_posted o x) p ∙ sym k)
       one x true k =
           let e : new x ≡ Some (marked (old x)) = h x ∙ ap (λ (v : Bool). cond v (Some (marked (old x))) (old x)) (sym k) in
-          let names : cancels x c ≡ true = ap (λ (o : Option ℤ). is_posted o x) p ∙ sym k in
+          let names : cancels x s ≡ true = ap (λ (o : Option ℤ). is_posted o x) p ∙ sym k in
           rw e (record {
-            ended = rw (untouched x) (f.ended x);
-            by = rw (untouched x) (f.by x);
+            ended = rw (none x) (f.ended x);
+            by = rw (none x) (f.by x);
             cancelled = rw names refl;
-            void = rw (untouched x) (f.void x);
-            told = λ members. rw (untouched x) (f.told members x);
+            void = rw (none x) (f.void x);
+            told = λ members. rw (none x) (f.told members x);
           })
 
-  pub follows_posted : (request : ℤ) → slice_get calls n ≡ Some c → cancel_of c.call ≡ None → posted_by c ≡ Some request →
-      ((x : ℤ) → new x ≡ cond (int_eq request x) (Some (ends_at n 0)) (old x)) → Follows (n + 1) calls later old → Follows n calls (c ∷ later) new
-  follows_posted request at q p h f = by_one new (λ x. one x (int_eq request x) refl)
+  pub follows_given : (request : ℤ) → slice_get calls s.number ≡ Some s.entry → cancel_of s.entry.call ≡ None → given_by s ≡ Some request → completed_by s ≡ [] →
+      ((x : ℤ) → new x ≡ cond (int_eq request x) (Some (ends_at s.number 0)) (old x)) → Follows calls later old → Follows calls (s ∷ later) new
+  follows_given request at q p d h f = by_one new (λ x. one x (int_eq request x) refl)
     where
-      touches_it : (x : ℤ) → touches x c ≡ int_eq request x
-      touches_it x = rw (ap (λ (o : Option ℤ). is_posted o x) p, quiet c.call c.outs request p) (or_false (int_eq request x))
+      touches_it : (x : ℤ) → touches x s ≡ int_eq request x
+      touches_it x = ap (λ (o : Option ℤ). is_posted o x || is_completed x (completed_by s)) p ∙ ap (λ (l : List Completed). int_eq request x || is_completed x l) d ∙ or_false (int_eq request x)
 
-      cancels_none : (x : ℤ) → cancels x c ≡ false
-      cancels_none x = ap (λ (o : Option ℤ). is_posted o x) q
-
-      one : (x : ℤ) (b : Bool) → b ≡ int_eq request x → FollowsOne n calls (c ∷ later) x (new x)
-      one x false k = passes x (new x) f (h x ∙ ap (λ (v : Bool). cond v (Some (ends_at n 0)) (old x)) (sym k)) (touches_it x ∙ sym k) (cancels_none x)
+      one : (x : ℤ) (b : Bool) → b ≡ int_eq request x → FollowsOne calls (s ∷ later) x (new x)
+      one x false k = passes x (new x) f (h x ∙ ap (λ (v : Bool). cond v (Some (ends_at s.number 0)) (old x)) (sym k)) (touches_it x ∙ sym k) (cancels_none q x)
       one x true k =
-          let e : new x ≡ Some (ends_at n 0) = h x ∙ ap (λ (v : Bool). cond v (Some (ends_at n 0)) (old x)) (sym k) in
-          let t : touches x c ≡ true = touches_it x ∙ sym k in
+          let e : new x ≡ Some (ends_at s.number 0) = h x ∙ ap (λ (v : Bool). cond v (Some (ends_at s.number 0)) (old x)) (sym k) in
+          let t : touches x s ≡ true = touches_it x ∙ sym k in
           rw e (record {
             ended = rw t refl;
             by = rw (t, at) refl;
-            cancelled = rw (t, cancels_none x) refl;
-            void = rw (t, quiet c.call c.outs request p) refl;
-            told = λ members. rw (t, at, quiet c.call c.outs request p) refl;
+            cancelled = rw (t, cancels_none q x) refl;
+            void = rw t (sym (ap (λ (l : List Completed). is_cancelled (said_in x l)) d));
+            told = λ members. rw (t, at) refl;
           })
 
-  follows_middle : (middle : ℤ → Option Touch) → slice_get calls n ≡ Some c → cancel_of c.call ≡ None → posted_by c ≡ None →
-      ((x : ℤ) → middle x ≡ cond (is_completed x (completed_by c)) (Some (ends_at n (length (completed_by c)))) (old x)) →
-      ((x : ℤ) → new x ≡ with_tellings n 0 (completed_by c) x (middle x)) → Follows (n + 1) calls later old → Follows n calls (c ∷ later) new
-  follows_middle middle at q p g h f = by_one new (λ x. one x (is_completed x (completed_by c)) refl)
+  follows_middle : (middle : ℤ → Option Touch) → slice_get calls s.number ≡ Some s.entry → cancel_of s.entry.call ≡ None → given_by s ≡ None →
+      ((x : ℤ) → middle x ≡ cond (is_completed x (completed_by s)) (Some (ends_at s.number (length (completed_by s)))) (old x)) →
+      ((x : ℤ) → new x ≡ with_tellings s.number 0 (completed_by s) x (middle x)) → Follows calls later old → Follows calls (s ∷ later) new
+  follows_middle middle at q p g h f = by_one new (λ x. one x (is_completed x (completed_by s)) refl)
     where
-      touches_it : (x : ℤ) → touches x c ≡ is_completed x (completed_by c)
-      touches_it x = ap (λ (o : Option ℤ). is_posted o x || is_completed x (completed_by c)) p
+      touches_it : (x : ℤ) → touches x s ≡ is_completed x (completed_by s)
+      touches_it x = ap (λ (o : Option ℤ). is_posted o x || is_completed x (completed_by s)) p
 
-      cancels_none : (x : ℤ) → cancels x c ≡ false
-      cancels_none x = ap (λ (o : Option ℤ). is_posted o x) q
-
-      one : (x : ℤ) (b : Bool) → b ≡ is_completed x (completed_by c) → FollowsOne n calls (c ∷ later) x (new x)
+      one : (x : ℤ) (b : Bool) → b ≡ is_completed x (completed_by s) → FollowsOne calls (s ∷ later) x (new x)
       one x false k =
-          passes x (new x) f (h x ∙ unmet n 0 x (completed_by c) (middle x) (sym k) ∙ g x ∙ ap (λ (v : Bool). cond v (Some (ends_at n (length (completed_by c)))) (old x)) (sym k))
-          (touches_it x ∙ sym k) (cancels_none x)
+          passes x (new x) f (h x ∙ unmet s.number 0 x (completed_by s) (middle x) (sym k) ∙ g x ∙ ap (λ (v : Bool). cond v (Some (ends_at s.number (length (completed_by s)))) (old x)) (sym k))
+          (touches_it x ∙ sym k) (cancels_none q x)
       one x true k =
-          let all = all_told (completed_by c) n x 0 (completed_by c) refl in
-          let m : middle x ≡ Some (ends_at n (length (completed_by c))) = g x ∙ ap (λ (v : Bool). cond v (Some (ends_at n (length (completed_by c)))) (old x)) (sym k) in
-          let e : new x ≡ Some (record { end = Some all.0; cancelled = false }) = h x ∙ ap (with_tellings n 0 (completed_by c) x) m ∙ all.1 in
-          let t : touches x c ≡ true = touches_it x ∙ sym k in
+          let all = all_told (completed_by s) s.number x 0 (completed_by s) refl in
+          let m : middle x ≡ Some (ends_at s.number (length (completed_by s))) = g x ∙ ap (λ (v : Bool). cond v (Some (ends_at s.number (length (completed_by s)))) (old x)) (sym k) in
+          let e : new x ≡ Some (record { end = Some all.0; cancelled = false }) = h x ∙ ap (with_tellings s.number 0 (completed_by s) x) m ∙ all.1 in
+          let t : touches x s ≡ true = touches_it x ∙ sym k in
           rw e (record {
             ended = rw t refl;
             by = rw (t, all.2.at, at) refl;
-            cancelled = rw (t, cancels_none x) refl;
+            cancelled = rw (t, cancels_none q x) refl;
             void = rw t all.2.void;
             told = λ members. rw (t, all.2.at, at) (sym (all.2.told members));
           })
 
-  pub follows_completed : (middle : ℤ → Option Touch) (one two : List Completed) → one ≡ completed_by c → two ≡ completed_by c → slice_get calls n ≡ Some c → cancel_of c.call ≡ None → posted_by c ≡ None →
-      ((x : ℤ) → middle x ≡ cond (is_completed x one) (Some (ends_at n (length one))) (old x)) →
-      ((x : ℤ) → new x ≡ with_tellings n 0 two x (middle x)) → Follows (n + 1) calls later old → Follows n calls (c ∷ later) new
+  pub follows_completed : (middle : ℤ → Option Touch) (one two : List Completed) → one ≡ completed_by s → two ≡ completed_by s → slice_get calls s.number ≡ Some s.entry → cancel_of s.entry.call ≡ None → given_by s ≡ None →
+      ((x : ℤ) → middle x ≡ cond (is_completed x one) (Some (ends_at s.number (length one))) (old x)) →
+      ((x : ℤ) → new x ≡ with_tellings s.number 0 two x (middle x)) → Follows calls later old → Follows calls (s ∷ later) new
   follows_completed middle one two e k at q p g h f = follows_middle middle at q p
-      (λ x. subst (λ (l : List Completed). middle x ≡ cond (is_completed x l) (Some (ends_at n (length l))) (old x)) e (g x))
-      (λ x. subst (λ (l : List Completed). new x ≡ with_tellings n 0 l x (middle x)) k (h x)) f
+      (λ x. subst (λ (l : List Completed). middle x ≡ cond (is_completed x l) (Some (ends_at s.number (length l))) (old x)) e (g x))
+      (λ x. subst (λ (l : List Completed). new x ≡ with_tellings s.number 0 l x (middle x)) k (h x)) f
 
--- what is kept of the calls from this one on
-pub follows_at : (calls : List Entry) (n : ℕ) (c : Entry) (new : ℤ → Option Touch) → n < length calls → c ≡ get_or calls n c →
-    (slice_get calls n ≡ Some c → Follows n calls (c ∷ drop (n + 1) calls) new) → Follows n calls (drop n calls) new
-follows_at calls n c new lt at f =
-    let front : drop n calls ≡ c ∷ drop (n + 1) calls = drop_more calls n c lt ∙ ap (λ (x : Entry). x ∷ drop (n + 1) calls) (sym at) in
-    subst (λ (l : List Entry). Follows n calls l new) (sym front) (f (slice_get_read calls (length calls) n c refl lt at))
+-- a call that is one step
+module _ (calls : List Entry) (n : ℕ) (c : Entry) (later : List Step) (old new : ℤ → Option Touch) where
+  pub whole_cancel : (request : ℤ) → cancel_of c.call ≡ Some request → ((x : ℤ) → new x ≡ cond (int_eq request x) (Some (marked (old x))) (old x)) →
+      Follows calls later old → Follows calls (whole n c ∷ later) new
+  whole_cancel request p = follows_cancel calls (whole n c) later old new request p (idle c.call c.outs request p).0
+
+  pub whole_given : (request : ℤ) → slice_get calls n ≡ Some c → cancel_of c.call ≡ None → given_of c.call c.outs ≡ Some request →
+      ((x : ℤ) → new x ≡ cond (int_eq request x) (Some (ends_at n 0)) (old x)) → Follows calls later old → Follows calls (whole n c ∷ later) new
+  whole_given request at q p = follows_given calls (whole n c) later old new request at q p (quiet c.call c.outs request p)
+
+-- what is read at a place of the calls is the call there
+pub read_at : (calls : List Entry) (n : ℕ) (c entry : Entry) → n < length calls → c ≡ get_or calls n c → slice_get calls n ≡ Some entry → c ≡ entry
+read_at calls n c entry lt at k = let r = slice_get_read calls (length calls) n c refl lt at in cc
+
+pub entry_at : (calls : List Entry) (n : ℕ) (c : Entry) → n < length calls → c ≡ get_or calls n c → slice_get calls n ≡ Some c
+entry_at calls n c lt at = slice_get_read calls (length calls) n c refl lt at

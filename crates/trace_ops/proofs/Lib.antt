@@ -1,7 +1,14 @@
 pub mod Taken
+pub mod Sorting
 pub mod Behind
-pub mod Cases
-pub mod Growing
-pub mod Entering
+pub mod Holding
+pub mod Parts
+pub mod Rising
 pub mod Owned
+pub mod Entering
+pub mod Growing
+pub mod Going
+pub mod Telling
+pub mod Within
+pub mod Coming
 pub mod Joined

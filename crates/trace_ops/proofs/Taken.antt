@@ -1,15 +1,13 @@
 -- One element more of a list that is gone through.
-use Rattle.std.proofs.Common.{◌≡◌, ℕ, zero, suc, ◌+◌, ◌<◌, ◌≤◌, List, [], ◌∷◌, ◌++◌, map, take, drop, get_or, length, reverse, refl, sym, ◌∙◌, ap, arith, append_assoc, Bor}
-use Rattle.std.specs.Prelude.{ℤ, Bool, true, false, if◌then◌else◌, filter, Option, Some, None, slice_get}
+use Rattle.std.proofs.Common.{◌≡◌, ℕ, zero, suc, ◌+◌, ◌<◌, List, [], ◌∷◌, ◌++◌, map, take, drop, get_or, length, reverse, refl, sym, ◌∙◌, ap, arith, append_assoc, Bor}
+use Rattle.std.specs.Prelude.{Bool, true, false, if◌then◌else◌, filter, Option, Some, None, slice_get}
 use Rattle.std.specs.List.{filter_map, cons_option}
 use Rattle.std.specs.Option.{option_and_then, option_map}
-use Rattle.std.proofs.lemmas.List.{take_more, drop_more, reverse-append, append-nil}
+use Rattle.std.proofs.lemmas.List.{take_more, reverse-append, append-nil}
 use Rattle.std.proofs.lemmas.List.Elements.{filter_map-append}
 use Rattle.mpi_model.specs.declared.event.Event.{Event}
-use Rattle.mpi_model.specs.declared.list.elements.Element.{Element}
-use Rattle.trace_ops.specs.declared.completed.Completed.{Completed}
-use Rattle.trace_ops.specs.Calls.{Entry, Numbered, call_of, outs_of, calls_of, numbered}
-use Rattle.trace_ops.specs.Request.{element_of}
+use Rattle.trace_ops.specs.Calls.{Entry, call_of, outs_of, calls_of}
+use Rattle.trace_ops.specs.Steps.{Step}
 
 -- the calls from a place on
 calls_next : (es : List (Bor Event)) (i : ℕ) (e : Bor Event) → i < length es → e ≡ get_or es i e →
@@ -30,14 +28,13 @@ calls_go es i e done new c lt at k j h =
     ∙ rw append_assoc (ap (λ (x : Entry). done ++ x ∷ calls_of (drop (i + 2) (map (λ e. e.now) es))) k
     ∙ ap (λ (l : List Entry). done ++ l) (sym (calls_next es i e lt at)) ∙ h)
 
--- the elements of a Waitsome, one more
-pub elements_go : (requests : List ℤ) (elements : List Element) (i : ℕ) (e : Element) (done new : List Completed) (item : Option Completed) → i < length elements →
-    e ≡ get_or elements i e → item ≡ element_of requests e → done ≡ filter_map (element_of requests) (take i elements) → new ≡ done ++ cons_option item [] →
-    new ≡ filter_map (element_of requests) (take (i + 1) elements)
-elements_go requests elements i e done new item lt at j h k =
-    k ∙ ap (λ (l : List Completed). l ++ cons_option item []) h
-    ∙ ap (λ (o : Option Completed). filter_map (element_of requests) (take i elements) ++ cons_option o []) (j ∙ ap (element_of requests) at)
-    ∙ sym (ap (filter_map (element_of requests)) (take_more elements i e lt) ∙ filter_map-append (element_of requests) (take i elements) (get_or elements i e ∷ []))
+-- what is kept of the items of a list, one more
+pub kept_more : {X Y : Type 0} (f : X → Option Y) (xs : List X) (i : ℕ) (d x : X) (done new : List Y) (item : Option Y) → i < length xs →
+    x ≡ get_or xs i d → item ≡ f x → done ≡ filter_map f (take i xs) → new ≡ done ++ cons_option item [] → new ≡ filter_map f (take (i + 1) xs)
+kept_more {X} {Y} f xs i d x done new item lt at j h k =
+    k ∙ ap (λ (l : List Y). l ++ cons_option item []) h
+    ∙ ap (λ (o : Option Y). filter_map f (take i xs) ++ cons_option o []) (j ∙ ap f at)
+    ∙ sym (ap (filter_map f) (take_more xs i d lt) ∙ filter_map-append f (take i xs) (get_or xs i d ∷ []))
 
 turned : {Y : Type 0} (done : List Y) (item : Option Y) → reverse (done ++ cons_option item []) ≡ cons_option item (reverse done)
 turned {Y} done None = ap (λ (l : List Y). reverse l) (append-nil done)
@@ -47,28 +44,15 @@ count_one : {X : Type 0} (test : X → Bool) (x : X) (xs : List X) (b : Bool) �
 count_one test x xs true k = rw (sym k) (omega arith)
 count_one test x xs false k = rw (sym k) (omega arith)
 
--- One call more towards the front, in a list that is turned round at the end.
-pub turned_more : {Y : Type 0} (h : Numbered → Option Y) (calls : List Entry) (n m : ℕ) (entry : Entry) (done new : List Y) (item : Option Y) → n < length calls → m ≡ n + 1 →
-    entry ≡ get_or calls n entry → item ≡ h (record { number = n; entry = entry; later = drop m calls }) → new ≡ done ++ cons_option item [] →
-    reverse done ≡ filter_map h (numbered m (drop m calls)) → reverse new ≡ filter_map h (numbered n (drop n calls))
-turned_more {Y} h calls n m entry done new item lt e at k j i =
-    let front : drop n calls ≡ entry ∷ drop m calls = drop_more calls n entry lt ∙ ap (λ (c : Entry). c ∷ drop (n + 1) calls) (sym at) ∙ ap (λ (s : ℕ). entry ∷ drop s calls) (sym e) in
-    ap (λ (l : List Y). reverse l) j ∙ turned done item
-    ∙ ap (λ (l : List Y). cons_option item l) i
-    ∙ ap (λ (o : Option Y). cons_option o (filter_map h (numbered m (drop m calls)))) k
-    ∙ ap (λ (s : ℕ). cons_option (h (record { number = n; entry = entry; later = drop m calls })) (filter_map h (numbered s (drop m calls)))) e
-    ∙ sym (ap (λ (l : List Entry). filter_map h (numbered n l)) front)
+-- One step more towards the front, in a list that is turned round at the end.
+pub turned_more : {Y : Type 0} (done new rest : List Y) (item one : Option Y) → item ≡ one → new ≡ done ++ cons_option item [] → reverse done ≡ rest → reverse new ≡ cons_option one rest
+turned_more {Y} done new rest item one k j i = ap (λ (l : List Y). reverse l) j ∙ turned done item ∙ ap (λ (l : List Y). cons_option item l) i ∙ ap (λ (o : Option Y). cons_option o rest) k
 
--- One call more towards the front, where the calls that pass a test are counted.
-pub counted_more : (test : Numbered → Bool) (calls : List Entry) (n : ℕ) (entry : Entry) (old new : ℕ) (b : Bool) → n < length calls → entry ≡ get_or calls n entry →
-    b ≡ test (record { number = n; entry = entry; later = drop (n + 1) calls }) → new ≡ old + (if b then 1 else 0) →
-    old ≡ length (filter test (numbered (n + 1) (drop (n + 1) calls))) → new ≡ length (filter test (numbered n (drop n calls)))
-counted_more test calls n entry old new b lt at k j i =
-    let front : drop n calls ≡ entry ∷ drop (n + 1) calls = drop_more calls n entry lt ∙ ap (λ (c : Entry). c ∷ drop (n + 1) calls) (sym at) in
-    j ∙ ap (λ (m : ℕ). m + (if b then 1 else 0)) i
-    ∙ sym (count_one test (record { number = n; entry = entry; later = drop (n + 1) calls }) (numbered (n + 1) (drop (n + 1) calls)) b k)
-    ∙ sym (ap (λ (l : List Entry). length (filter test (numbered n l))) front)
+-- One step more towards the front, where the steps that pass a test are counted.
+pub counted_more : (test : Step → Bool) (s : Step) (later : List Step) (old new : ℕ) (b : Bool) → b ≡ test s → new ≡ old + (if b then 1 else 0) →
+    old ≡ length (filter test later) → new ≡ length (filter test (s ∷ later))
+counted_more test s later old new b k j i = j ∙ ap (λ (m : ℕ). m + (if b then 1 else 0)) i ∙ sym (count_one test s later b k)
 
-pub few_more : (old new n len : ℕ) (b : Bool) → new ≡ old + (if b then 1 else 0) → old + (n + 1) ≤ len → new + n ≤ len
-few_more old new n len true e h = omega (arith, e, h)
-few_more old new n len false e h = omega (arith, e, h)
+-- a step that does not pass is not counted
+pub uncounted : (test : Step → Bool) (s : Step) (later : List Step) → test s ≡ false → length (filter test (s ∷ later)) ≡ length (filter test later)
+uncounted test s later h = rw h refl

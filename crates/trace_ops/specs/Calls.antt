@@ -1,5 +1,5 @@
 -- The calls of a rank, as its readable events tell them.
-use Rattle.std.specs.Prelude.{ℕ, ◌+◌, Option, Some, None, List, [], ◌∷◌}
+use Rattle.std.specs.Prelude.{Option, Some, None, List, [], ◌∷◌}
 use Rattle.mpi_model.specs.declared.call.Call.{Call}
 use Rattle.mpi_model.specs.declared.call.Call.TheVariants.{Local}
 use Rattle.mpi_model.specs.declared.outcome.Outs.{Outs}
@@ -26,14 +26,3 @@ abbrev pub calls_of : List Event → List Entry
 calls_of [] = []
 calls_of (enter ∷ []) = record { call = call_of enter; outs = None } ∷ []
 calls_of (enter ∷ exit ∷ events) = record { call = call_of enter; outs = outs_of exit } ∷ calls_of events
-
--- a call of a rank: its number, the call, and the calls that follow it
-pub record Numbered : Type 0 where
-  pub number : ℕ
-  pub entry : Entry
-  pub later : List Entry
-
--- the calls, numbered from n
-abbrev pub numbered : ℕ → List Entry → List Numbered
-numbered n [] = []
-numbered n (entry ∷ later) = record { number = n; entry = entry; later = later } ∷ numbered (n + 1) later

@@ -26,7 +26,8 @@ group_at layout comm = option_map (λ members. record { comm = comm; members = m
 abbrev pub group_named : Parts → ℕ → ℕ → CommRef → Option Group
 group_named layout rank n comm = option_and_then (group_at layout) (named layout rank n comm)
 
--- the communicator that a call names, where it names one; both sides of a Sendrecv name one (MPI 4.0, 3.10)
+-- The communicator that a call names, where it names one; both sides of a Sendrecv name one (MPI 4.0, 3.10). A start names
+-- none: that of its init says where it takes part.
 abbrev pub comm_of : Call → Option CommRef
 comm_of (calls.Send mode e) = Some e.comm
 comm_of (calls.Isend mode e) = Some e.comm
@@ -36,6 +37,10 @@ comm_of (calls.Sendrecv x) = Some x.send.comm
 comm_of (calls.Collective c) = Some c.comm
 comm_of (calls.Icollective c) = Some c.comm
 comm_of (calls.Probe e) = Some e.comm
+comm_of (calls.SendInit mode e) = Some e.comm
+comm_of (calls.RecvInit e) = Some e.comm
+comm_of (calls.Mprobe e) = Some e.comm
+comm_of (calls.Improbe e) = Some e.comm
 comm_of calls.Local = None
 comm_of calls.Finalize = None
 comm_of (calls.Wait request) = None
@@ -48,6 +53,9 @@ comm_of (calls.Testany requests) = None
 comm_of (calls.Testsome requests) = None
 comm_of (calls.Cancel request) = None
 comm_of (calls.Free request) = None
+comm_of (calls.Start request) = None
+comm_of (calls.Startall requests) = None
+comm_of calls.Imrecv = None
 comm_of calls.Unread = None
 
 -- the rank in the group that a peer names
@@ -76,6 +84,10 @@ are_within members (calls.Sendrecv x) = is_within members (peer_rank x.send.peer
 are_within members (calls.Collective c) = is_root_within members c
 are_within members (calls.Icollective c) = is_root_within members c
 are_within members (calls.Probe e) = is_within members (peer_rank e.source)
+are_within members (calls.SendInit mode e) = is_within members (peer_rank e.peer)
+are_within members (calls.RecvInit e) = is_within members (peer_rank e.peer)
+are_within members (calls.Mprobe e) = is_within members (peer_rank e.source)
+are_within members (calls.Improbe e) = is_within members (peer_rank e.source)
 are_within members call = true
 
 -- the group, where the ranks that the call names are within it

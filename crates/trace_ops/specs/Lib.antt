@@ -4,6 +4,9 @@ pub mod Calls
 pub mod Foreign
 pub mod Groups
 pub mod Request
+pub mod Held
+pub mod Steps
+pub mod Active
 pub mod Source
 pub mod Trust
 pub mod Ended

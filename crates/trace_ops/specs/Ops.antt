@@ -13,14 +13,15 @@ use Rattle.trace_ops.specs.declared.state.State.TheVariants.{Free}
 use Rattle.trace_ops.specs.Order.{Has, AreInOrder, ArePosted, AreEntered, AreCalledInOrder}
 
 -- What a rank did: its messages, its receives, its entries into collective calls, the communicators that hold it, its
--- active requests with the calls that posted them, the calls that posted the requests which a Cancel names, how it stands,
--- the call in which it waits, and how many foreign calls it entered.
+-- active requests with the names of what was posted, its idle numbers, the names of what was posted by requests which a
+-- Cancel names, how it stands, the call in which it waits, and how many foreign calls it entered.
 pub record Ops : Type 0 where
   pub sends : List Message
   pub receives : List Receive
   pub rounds : List Entered
   pub comms : List ℕ
-  pub active : List (ℤ × ℕ)
+  pub active : List (ℤ × OpName)
+  pub idle : List ℤ
   pub cancelled : List OpName
   pub state : State
   pub waiting : Option (ℕ × Call)
@@ -28,10 +29,10 @@ pub record Ops : Type 0 where
 
 -- of a rank without calls
 abbrev pub no_ops : Ops
-no_ops = record { sends = []; receives = []; rounds = []; comms = []; active = []; cancelled = []; state = Free; waiting = None; foreign = 0 }
+no_ops = record { sends = []; receives = []; rounds = []; comms = []; active = []; idle = []; cancelled = []; state = Free; waiting = None; foreign = 0 }
 
--- The messages, the receives, the collective calls and the calls whose requests a Cancel names are of this rank, and stand
--- in order of their calls.
+-- The messages, the receives, the collective calls and the names of requests that a Cancel names are of this rank, and stand
+-- in order of their calls and parts.
 pub record IsOwn (rank : ℕ) (ops : Ops) : Type 0 where
   pub sent : (m : Message) → Has ops.sends m → m.name.rank ≡ rank
   pub sent_from : (m : Message) → Has ops.sends m → m.from ≡ rank
@@ -85,6 +86,21 @@ pub record TellsMore (old new : Receive) : Type 0 where
 abbrev pub rounds_since : (old new : Ops) → List Entered
 rounds_since old new = drop (length old.rounds) new.rounds
 
+-- the messages that came since
+abbrev pub sends_since : (old new : Ops) → List Message
+sends_since old new = drop (length old.sends) new.sends
+
+-- the receives that came since
+abbrev pub receives_since : (old new : Ops) → List Receive
+receives_since old new = drop (length old.receives) new.receives
+
+-- All that comes is of later calls than the messages and receives that there were: so no part comes to a Startall.
+pub record ComesLater (old new : Ops) : Type 0 where
+  pub send_behind_sends : (m n : Message) → Has old.sends m → Has (sends_since old new) n → m.name.call < n.name.call
+  pub send_behind_receives : (q : Receive) (n : Message) → Has old.receives q → Has (sends_since old new) n → q.name.call < n.name.call
+  pub receive_behind_sends : (m : Message) (r : Receive) → Has old.sends m → Has (receives_since old new) r → m.name.call < r.name.call
+  pub receive_behind_receives : (q r : Receive) → Has old.receives q → Has (receives_since old new) r → q.name.call < r.name.call
+
 -- The rank goes on: the old messages and receives are the first of the new ones, of which more may be told, and the old
 -- collective calls are the first of the new ones. What comes is of later calls: no collective call comes to be entered
 -- before the call that completed a receive, or before a message.
@@ -93,6 +109,7 @@ pub record Grows (old new : Ops) : Type 0 where
   pub receives : AllZip TellsMore old.receives (take (length old.receives) new.receives)
   pub rounds : take (length old.rounds) new.rounds ≡ old.rounds
   pub comms : new.comms ≡ old.comms
+  pub later : ComesLater old new
   pub behind_ends : (q : Receive) (e : ℕ) (x : Entered) → Has old.receives q → q.ended ≡ Some e → Has (rounds_since old new) x → e < x.call
   pub behind_sends : (m : Message) (x : Entered) → Has old.sends m → Has (rounds_since old new) x → m.name.call < x.call
 

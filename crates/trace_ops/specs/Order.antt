@@ -1,5 +1,5 @@
--- The order in which a rank starts its sends and posts its receives (MPI 4.0, 3.5 and 3.7.4).
-use Rattle.std.specs.Prelude.{◌≡◌, Bool, true, ◌&&◌, ◌==◌, nat_lt, List, [], ◌∷◌, ◌⊎◌}
+-- The order in which a rank starts its sends and posts its receives (MPI 4.0, 3.5, 3.7.4 and 3.9).
+use Rattle.std.specs.Prelude.{◌≡◌, Bool, true, ◌&&◌, ◌||◌, ◌==◌, nat_lt, List, [], ◌∷◌, ◌⊎◌}
 use Rattle.mpi_model.specs.declared.event.OpName.{OpName}
 use Rattle.mpi_model.specs.declared.message.Message.{Message}
 use Rattle.mpi_model.specs.declared.message.Receive.{Receive}
@@ -10,32 +10,45 @@ abbrev pub Has : {X : Type 0} → List X → X → Type 0
 Has [] x = ⊥
 Has (y ∷ ys) x = (x ≡ y) ⊎ Has ys x
 
--- an earlier message of the same sender
+-- A message that the same sender sent by an earlier call. The parts of one Startall start in any order, so that none of them
+-- is earlier than another.
 abbrev pub sent_before : Message → Message → Bool
 sent_before a b = (a.from == b.from) && nat_lt a.name.call b.name.call
 
--- an earlier receive of the same rank
+-- a receive that the same rank posted by an earlier call
 abbrev pub posted_before : Receive → Receive → Bool
 posted_before a b = (a.at == b.at) && nat_lt a.name.call b.name.call
 
--- each message is sent before those that follow, by one rank
+-- A name of an earlier call, or of an earlier part of the same one: so the names of a rank stand in lists.
+abbrev pub named_before : OpName → OpName → Bool
+named_before a b = nat_lt a.call b.call || ((a.call == b.call) && nat_lt a.part b.part)
+
+-- the message stands before the other in the list of their sender
+abbrev pub sent_ahead : Message → Message → Bool
+sent_ahead a b = (a.from == b.from) && named_before a.name b.name
+
+-- the receive stands before the other in the list of their rank
+abbrev pub posted_ahead : Receive → Receive → Bool
+posted_ahead a b = (a.at == b.at) && named_before a.name b.name
+
+-- each message stands before those that follow, of one rank
 abbrev pub AreInOrder : List Message → Type 0
 AreInOrder [] = Unit {0}
-AreInOrder (m ∷ ms) = ((n : Message) → Has ms n → sent_before m n ≡ true) × AreInOrder ms
+AreInOrder (m ∷ ms) = ((n : Message) → Has ms n → sent_ahead m n ≡ true) × AreInOrder ms
 
--- each receive is posted before those that follow, by one rank
+-- each receive stands before those that follow, of one rank
 abbrev pub ArePosted : List Receive → Type 0
 ArePosted [] = Unit {0}
-ArePosted (q ∷ qs) = ((r : Receive) → Has qs r → posted_before q r ≡ true) × ArePosted qs
+ArePosted (q ∷ qs) = ((r : Receive) → Has qs r → posted_ahead q r ≡ true) × ArePosted qs
 
--- an earlier call of the same rank
-abbrev pub called_before : OpName → OpName → Bool
-called_before a b = (a.rank == b.rank) && nat_lt a.call b.call
+-- the name stands before the other in a list of names of their rank
+abbrev pub called_ahead : OpName → OpName → Bool
+called_ahead a b = (a.rank == b.rank) && named_before a b
 
--- each call stands before those that follow, of one rank
+-- each name stands before those that follow, of one rank
 abbrev pub AreCalledInOrder : List OpName → Type 0
 AreCalledInOrder [] = Unit {0}
-AreCalledInOrder (a ∷ names) = ((b : OpName) → Has names b → called_before a b ≡ true) × AreCalledInOrder names
+AreCalledInOrder (a ∷ names) = ((b : OpName) → Has names b → called_ahead a b ≡ true) × AreCalledInOrder names
 
 -- each collective call is entered before those that follow
 abbrev pub AreEntered : List Entered → Type 0

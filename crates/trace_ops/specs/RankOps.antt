@@ -6,33 +6,39 @@ use Rattle.mpi_model.specs.Communicators.{ids_with}
 use Rattle.mpi_model.specs.Layouts.{Parts}
 use Rattle.trace_know.specs.View.{View}
 use Rattle.trace_know.specs.Prefix.{events_of, is_beyond}
-use Rattle.trace_ops.specs.Calls.{Entry, calls_of, numbered}
+use Rattle.trace_ops.specs.Active.{active_of, idle_of}
+use Rattle.trace_ops.specs.Calls.{Entry, calls_of}
 use Rattle.trace_ops.specs.Foreign.{is_foreign}
 use Rattle.trace_ops.specs.Message.{sends_of}
 use Rattle.trace_ops.specs.Receive.{receives_of}
 use Rattle.trace_ops.specs.Round.{rounds_of}
-use Rattle.trace_ops.specs.Request.{active_of}
+use Rattle.trace_ops.specs.Steps.{Step, steps_of}
 use Rattle.trace_ops.specs.Trust.{cancelled_of}
 use Rattle.trace_ops.specs.RankState.{state_of, waiting_of}
 use Rattle.trace_ops.specs.Ops.{Ops}
 
 -- how many foreign calls were entered
-abbrev pub foreign_of : Parts → ℕ → ℕ → List Entry → ℕ
-foreign_of layout rank n calls = length (filter (λ c. is_foreign layout rank c.number c.entry.call) (numbered n calls))
+abbrev pub foreign_of : Parts → ℕ → List Step → ℕ
+foreign_of layout rank steps = length (filter (λ s. is_foreign layout rank s.number s.entry.call) steps)
+
+-- what a rank with these calls and their steps did
+abbrev pub ops_by_steps : Parts → ℕ → Bool → List Entry → List Step → Ops
+ops_by_steps layout rank beyond calls steps = record {
+  sends = sends_of layout rank steps;
+  receives = receives_of layout rank steps;
+  rounds = rounds_of layout rank steps;
+  comms = ids_with rank layout.comms;
+  active = active_of rank steps;
+  idle = idle_of (active_of rank steps) calls;
+  cancelled = cancelled_of rank steps;
+  state = state_of layout rank beyond calls;
+  waiting = waiting_of layout rank beyond calls;
+  foreign = foreign_of layout rank steps;
+}
 
 -- what a rank with these calls did
 abbrev pub ops_by_calls : Parts → ℕ → Bool → List Entry → Ops
-ops_by_calls layout rank beyond calls = record {
-  sends = sends_of layout rank 0 calls;
-  receives = receives_of layout rank 0 calls;
-  rounds = rounds_of layout rank 0 calls;
-  comms = ids_with rank layout.comms;
-  active = active_of 0 calls;
-  cancelled = cancelled_of rank 0 calls;
-  state = state_of layout rank beyond calls;
-  waiting = waiting_of layout rank beyond calls;
-  foreign = foreign_of layout rank 0 calls;
-}
+ops_by_calls layout rank beyond calls = ops_by_steps layout rank beyond calls (steps_of calls)
 
 -- What a rank with these readable events did; `beyond` says whether more is known of it than can be read.
 unfoldable pub ops_by : Parts → ℕ → Bool → List Event → Ops

@@ -2,19 +2,21 @@
 use Rattle.std.specs.Prelude.{ℕ, ◌-◌, Bool, true, false, ◌&&◌, not, if◌then◌else◌, Option, Some, None, is_none, List, length, slice_get}
 use Rattle.std.specs.Option.{option_map}
 use Rattle.mpi_model.specs.declared.call.Call.{Call}
-use Rattle.mpi_model.specs.declared.call.Call.TheVariants.{Finalize, Send, Recv, Sendrecv, Probe, Wait, Waitall, Waitany, Waitsome, Collective}
+use Rattle.mpi_model.specs.declared.call.Call.TheVariants.{Finalize, Send, Recv, Sendrecv, Probe, Mprobe, Wait, Waitall, Waitany, Waitsome, Collective}
 use Rattle.mpi_model.specs.Layouts.{Parts}
 use Rattle.trace_ops.specs.declared.state.State.{State}
 use Rattle.trace_ops.specs.declared.state.State.TheVariants.{Free, Waiting, Ended}
 use Rattle.trace_ops.specs.Calls.{Entry}
 use Rattle.trace_ops.specs.Foreign.{is_foreign}
 
--- the calls that return only once something else has happened, or may do so (MPI 4.0, 3.4, 3.7.3, 3.7.5, 3.8.1 and 6.1)
+-- the calls that return only once something else has happened, or may do so (MPI 4.0, 3.4, 3.7.3, 3.7.5, 3.8.1,
+-- 3.8.2 and 6.1)
 abbrev pub may_block : Call → Bool
 may_block (Send mode e) = true
 may_block (Recv e) = true
 may_block (Sendrecv x) = true
 may_block (Probe e) = true
+may_block (Mprobe e) = true
 may_block (Wait request) = true
 may_block (Waitall requests) = true
 may_block (Waitany requests) = true

@@ -1,11 +1,11 @@
--- Requests: which call posts them, which outcomes complete them, and which are active (MPI 4.0, 3.7.2, 3.7.3, 3.7.5 and
--- 6.12.1).
-use Rattle.std.specs.Prelude.{ℕ, ℤ, Bool, false, ◌||◌, if◌then◌else◌, Option, Some, None, List, [], ◌∷◌, slice_get}
+-- Requests: which calls give and free their numbers, and which outcomes complete them (MPI 4.0, 3.7.2, 3.7.3, 3.7.5, 3.8.3,
+-- 3.9 and 6.12.1).
+use Rattle.std.specs.Prelude.{ℕ, ℤ, Bool, true, false, ◌&&◌, not, if◌then◌else◌, Option, Some, None, is_none, List, [], ◌∷◌, slice_get}
 use Rattle.std.specs.List.{list_any, filter_map, cons_option}
 use Rattle.std.specs.Option.{option_map}
 use Rattle.std.specs.Ordering.{int_eq}
 use Rattle.mpi_model.specs.declared.call.Call.{Call}
-use Rattle.mpi_model.specs.declared.call.Call.TheVariants.{Isend, Irecv, Icollective, Wait, Waitall, Waitany, Waitsome, Test, Testall, Testany, Testsome, Free}
+use Rattle.mpi_model.specs.declared.call.Call.TheVariants.{Isend, Irecv, Icollective, Imrecv, SendInit, RecvInit, Start, Startall, Wait, Waitall, Waitany, Waitsome, Test, Testall, Testany, Testsome, Free}
 use Rattle.mpi_model.specs.declared.outcome.Outs.{Outs}
 use Rattle.mpi_model.specs.declared.outcome.Outs.TheVariants.{Posted, Status, Statuses, Index, Several, Flag}
 use Rattle.mpi_model.specs.declared.list.elements.Element.{Element}
@@ -13,22 +13,50 @@ use Rattle.mpi_model.specs.declared.told.Told.{Told}
 use Rattle.mpi_model.specs.declared.told.Told.TheVariants.{Nothing}
 use Rattle.mpi_model.specs.Requests.{null_request}
 use Rattle.trace_ops.specs.declared.completed.Completed.{Completed}
-use Rattle.trace_ops.specs.Calls.{Entry, Numbered, numbered}
+use Rattle.trace_ops.specs.Calls.{Entry}
 
 -- a request number, unless it is the null number, which names no request (MPI 4.0, 3.7.3: MPI_REQUEST_NULL)
 abbrev pub number_for : ℤ → Option ℤ
 number_for request = if int_eq request null_request then None else Some request
 
--- the number that a returned call posts: that of an Isend, an Irecv or a nonblocking collective call, foreign or not
-abbrev pub post_of : Call → Option Outs → Option ℤ
-post_of (Isend mode e) (Some (Posted request)) = number_for request
-post_of (Irecv e) (Some (Posted request)) = number_for request
-post_of (Icollective c) (Some (Posted request)) = number_for request
-post_of call outs = None
+-- The number that a returned call gives: to the operation that it starts, or, of an init, to the one that it describes. A
+-- foreign call gives one too. A Start gives none: the number that it names has its init's operation.
+abbrev pub given_of : Call → Option Outs → Option ℤ
+given_of (Isend mode e) (Some (Posted request)) = number_for request
+given_of (Irecv e) (Some (Posted request)) = number_for request
+given_of (Icollective c) (Some (Posted request)) = number_for request
+given_of Imrecv (Some (Posted request)) = number_for request
+given_of (SendInit mode e) (Some (Posted request)) = number_for request
+given_of (RecvInit e) (Some (Posted request)) = number_for request
+given_of call outs = None
 
--- the number that a call of a rank posts
-abbrev pub posted_by : Entry → Option ℤ
-posted_by c = post_of c.call c.outs
+-- The call is an init: it describes a send or a receive, and starts nothing (MPI 4.0, 3.9).
+abbrev pub is_init : Call → Bool
+is_init (SendInit mode e) = true
+is_init (RecvInit e) = true
+is_init call = false
+
+-- The call starts what inits describe (MPI 4.0, 3.9).
+abbrev pub is_start : Call → Bool
+is_start (Start request) = true
+is_start (Startall requests) = true
+is_start call = false
+
+-- the numbers that such a call lists, in its order
+abbrev pub started_by : Call → List ℤ
+started_by (Start request) = request ∷ []
+started_by (Startall requests) = requests
+started_by call = []
+
+-- the call lets its request go, whatever becomes of it (MPI 4.0, 3.7.3)
+abbrev pub frees : Call → Bool
+frees (Free request) = true
+frees call = false
+
+-- the number that a returned Free lets go
+abbrev pub freed_of : Call → Option Outs → Option ℤ
+freed_of (Free request) (Some outs) = Some request
+freed_of call outs = None
 
 -- a request that is completed, with what is told of it
 abbrev pub completes : ℤ → Told → Completed
@@ -70,11 +98,7 @@ completions (Testsome requests) (Some (Several elements)) = filter_map (element_
 completions (Free request) (Some outs) = completes request Nothing ∷ []
 completions call outs = []
 
--- the requests that a call of a rank completes
-abbrev pub completed_by : Entry → List Completed
-completed_by c = completions c.call c.outs
-
--- The number that is posted is this one.
+-- The number that is given or freed is this one.
 abbrev pub is_posted : Option ℤ → ℤ → Bool
 is_posted None x = false
 is_posted (Some request) x = int_eq request x
@@ -83,20 +107,6 @@ is_posted (Some request) x = int_eq request x
 abbrev pub is_completed : ℤ → List Completed → Bool
 is_completed x done = list_any (λ c. int_eq c.request x) done
 
--- the call completes the number, or posts it anew
-abbrev pub touches : ℤ → Entry → Bool
-touches x c = is_posted (posted_by c) x || is_completed x (completed_by c)
-
--- the number, with its call, where no later call touches it
-abbrev pub still_active : ℕ → List Entry → Option ℤ → Option (ℤ × ℕ)
-still_active n later None = None
-still_active n later (Some x) = if list_any (touches x) later then None else Some (x, n)
-
--- the number that a call posts, with the call, where no later call touches it
-abbrev pub active_post : Numbered → Option (ℤ × ℕ)
-active_post c = still_active c.number c.later (posted_by c.entry)
-
--- The active requests after these calls, each with the call that posted it, in order of posting: a number that is posted
--- anew stands where it was posted last.
-abbrev pub active_of : ℕ → List Entry → List (ℤ × ℕ)
-active_of n calls = filter_map active_post (numbered n calls)
+-- Its outcome completes the requests that the call touches: it gives no number and starts none anew, and frees none.
+abbrev pub is_completing : Entry → Bool
+is_completing c = is_none (given_of c.call c.outs) && (not (is_start c.call) && not (frees c.call))

@@ -8,8 +8,8 @@ use Rattle.mpi_model.specs.declared.kind.Kind.TheVariants.{Barrier}
 use Rattle.mpi_model.specs.Ranges.{CollectiveCall}
 use Rattle.mpi_model.specs.Layouts.{Parts}
 use Rattle.trace_ops.specs.declared.entered.Entered.{Entered}
-use Rattle.trace_ops.specs.Calls.{Entry, numbered}
 use Rattle.trace_ops.specs.Foreign.{Group, group_of}
+use Rattle.trace_ops.specs.Steps.{Step}
 
 -- the entry of a collective call into a round of its communicator
 abbrev pub entry_of : Group → ℕ → CollectiveCall → Bool → Entered
@@ -31,8 +31,8 @@ abbrev pub entered_of : Parts → ℕ → ℕ → Call → Option Entered
 entered_of layout rank n call = entered_in (group_of layout rank n call) n call
 
 -- the entries of a rank's collective calls, in their order
-abbrev pub rounds_of : Parts → ℕ → ℕ → List Entry → List Entered
-rounds_of layout rank n calls = filter_map (λ c. entered_of layout rank c.number c.entry.call) (numbered n calls)
+abbrev pub rounds_of : Parts → ℕ → List Step → List Entered
+rounds_of layout rank steps = filter_map (λ s. entered_of layout rank s.number s.entry.call) steps
 
 -- the kind of a Barrier
 abbrev pub is_barrier_kind : Kind → Bool

@@ -3,11 +3,10 @@ use Rattle.std.specs.Prelude.{ℕ, ℤ, if◌then◌else◌, Option, Some, None,
 use Rattle.std.specs.Option.{option_or, option_and_then}
 use Rattle.std.specs.Ordering.{int_eq}
 use Rattle.mpi_model.specs.declared.outcome.Outs.{Outs}
-use Rattle.mpi_model.specs.declared.outcome.Outs.TheVariants.{Status}
+use Rattle.mpi_model.specs.declared.outcome.Outs.TheVariants.{Status, Flag}
 use Rattle.mpi_model.specs.Tells.{told_rank}
 use Rattle.trace_ops.specs.declared.completed.Completed.{Completed}
-use Rattle.trace_ops.specs.Calls.{Entry}
-use Rattle.trace_ops.specs.Request.{completed_by, touches}
+use Rattle.trace_ops.specs.Steps.{Step, completed_by, touches}
 
 -- the rank of the trace that a told number names; a number outside the group tells nothing
 abbrev pub source_in : List ℕ → Option ℕ → Option ℕ
@@ -22,18 +21,23 @@ abbrev pub told_in : List ℕ → ℤ → List Completed → Option ℕ
 told_in members x [] = None
 told_in members x (c ∷ done) = option_or (told_at members x c) (told_in members x done)
 
--- What the calls after a post of x tell of its source. The first of them that completes x decides, also where it tells
+-- What the steps after a post of x tell of its source. The first of them that completes x decides, also where it tells
 -- nothing; after x was posted anew no outcome completes the earlier post.
-abbrev pub told_by : List ℕ → ℤ → List Entry → Option ℕ
+abbrev pub told_by : List ℕ → ℤ → List Step → Option ℕ
 told_by members x [] = None
-told_by members x (c ∷ later) = if touches x c then told_in members x (completed_by c) else told_by members x later
+told_by members x (s ∷ later) = if touches x s then told_in members x (completed_by s) else told_by members x later
 
--- what the outcome of a Recv or Sendrecv tells
+-- what the outcome of a Recv, Sendrecv or Mprobe tells
 abbrev pub told_of_own : List ℕ → Option Outs → Option ℕ
 told_of_own members (Some (Status told)) = source_in members (told_rank told)
 told_of_own members outs = None
 
--- what later calls tell of an Irecv that posted this number
-abbrev pub told_of_post : List ℕ → List Entry → Option ℤ → Option ℕ
+-- what the outcome of an Improbe tells, where it has taken a message (MPI 4.0, 3.8.2)
+abbrev pub told_of_flag : List ℕ → Option Outs → Option ℕ
+told_of_flag members (Some (Flag done told)) = if done then source_in members (told_rank told) else None
+told_of_flag members outs = None
+
+-- what later steps tell of a receive that posted this number
+abbrev pub told_of_post : List ℕ → List Step → Option ℤ → Option ℕ
 told_of_post members later None = None
 told_of_post members later (Some x) = told_by members x later

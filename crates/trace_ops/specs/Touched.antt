@@ -1,4 +1,4 @@
--- What is kept, while a rank's calls are gone through from the last to the first, of the calls behind.
+-- What is kept, while a rank's steps are gone through from the last to the first, of the steps behind.
 use Rattle.std.specs.Prelude.{◌≡◌, ℕ, ℤ, ◌+◌, Bool, false, true, if◌then◌else◌, Option, Some, None, is_some, List, [], ◌∷◌, drop, slice_get}
 use Rattle.std.specs.List.{list_any}
 use Rattle.std.specs.Option.{option_map, option_and_then}
@@ -10,8 +10,9 @@ use Rattle.trace_ops.specs.declared.completed.Completed.{Completed}
 use Rattle.trace_ops.specs.declared.touched.End.{End}
 use Rattle.trace_ops.specs.declared.touched.Touch.{Touch}
 use Rattle.trace_ops.specs.Calls.{Entry}
-use Rattle.trace_ops.specs.Ended.{ended_by, is_completing}
-use Rattle.trace_ops.specs.Request.{completed_by, touches}
+use Rattle.trace_ops.specs.Ended.{ended_by}
+use Rattle.trace_ops.specs.Request.{completions, is_completing}
+use Rattle.trace_ops.specs.Steps.{Step, touches}
 use Rattle.trace_ops.specs.Source.{told_in, told_by}
 use Rattle.trace_ops.specs.Trust.{has_cancel, said_by}
 
@@ -63,7 +64,7 @@ is_void_end (Some e) = e.void
 -- the requests that a call completes, none where there is no call
 abbrev pub completed_at : Option Entry → List Completed
 completed_at None = []
-completed_at (Some c) = completed_by c
+completed_at (Some c) = completions c.call c.outs
 
 -- the completions of a call, from the first on that tells a source of the number
 abbrev pub tellings_of : List Entry → Option End → List Completed
@@ -80,11 +81,11 @@ abbrev pub ended_at : List Entry → Option End → Option ℕ
 ended_at calls None = None
 ended_at calls (Some e) = completing e.call (slice_get calls e.call)
 
--- Of each number it is kept which later call touches it first, with what that tells, and whether a Cancel names it before.
--- The later calls are numbered from `next`.
-pub record Follows (next : ℕ) (calls later : List Entry) (kept : ℤ → Option Touch) : Type 0 where
+-- Of each number it is kept which call of a later step touches it first, with what that tells, and whether a Cancel names it
+-- before. The calls are all those of the rank.
+pub record Follows (calls : List Entry) (later : List Step) (kept : ℤ → Option Touch) : Type 0 where
   pub ended : (x : ℤ) → is_some (end_of (kept x)) ≡ list_any (touches x) later
-  pub by : (x : ℤ) → ended_at calls (end_of (kept x)) ≡ ended_by next x later
+  pub by : (x : ℤ) → ended_at calls (end_of (kept x)) ≡ ended_by x later
   pub cancelled : (x : ℤ) → is_marked (kept x) ≡ has_cancel x later
   pub void : (x : ℤ) → is_void_end (end_of (kept x)) ≡ is_cancelled (said_by x later)
   pub told : (members : List ℕ) (x : ℤ) → told_in members x (tellings_of calls (end_of (kept x))) ≡ told_by members x later

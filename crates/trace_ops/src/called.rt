@@ -1,14 +1,14 @@
 //! The calls of a rank, as its readable events tell them.
 
-ghost use Rattle.std.specs.Prelude.{◌≡◌, IfOk, map, slice_get};
+ghost use Rattle.std.specs.Prelude.{◌≡◌, Some, None, if◌then◌else◌, is_some, IfOk, map, slice_get};
 ghost use Rattle.std.specs.Option.{option_and_then, option_copied, option_map};
 ghost use Rattle.mpi_model.specs.declared.call.Call.TheVariants.{Local};
 ghost use Rattle.trace_ops.specs.Calls.{call_of, calls_of, outs_of};
-ghost use Rattle.trace_ops.specs.Request.{completed_by, posted_by};
-ghost use Rattle.trace_ops.specs.Ended.{is_completing};
+ghost use Rattle.trace_ops.specs.Request.{completions, freed_of, given_of, is_completing, is_init};
 ghost use Rattle.trace_ops.specs.Trust.{cancel_of};
 
-use crate::completed::{Completed, completions, post_of};
+use crate::completed::{Completed, completions, given_of};
+use crate::held::{is_init, is_start};
 use mpi_model::{Call, Event, Outs};
 use std::alloc::{AllocError, Global};
 use std::marker::Model;
@@ -59,11 +59,43 @@ impl<'a> Called<'a> {
         self.outs
     }
 
-    /// The request number that it posted.
-    pub fn posted(&self) -> Option<i64>
-        ensures { result ≡ posted_by self.now }
+    /// The number that a part of a Start or Startall gives anew: that of its init, once the call has returned, whatever
+    /// its outcome.
+    pub fn restarts(&self, request: i64) -> Option<i64>
+        ensures { result ≡ (if is_some self.now.outs then Some request else None) }
     {
-        post_of(self.call, self.outs)
+        match self.outs {
+            Some(_) => Some(request),
+            None => None,
+        }
+    }
+
+    /// The request number that it gave: to what it started, or as an init.
+    pub fn given(&self) -> Option<i64>
+        ensures { result ≡ given_of self.now.call self.now.outs }
+    {
+        given_of(self.call, self.outs)
+    }
+
+    /// The request number that it posted: an init posts none.
+    pub fn posted(&self) -> Option<i64>
+        ensures { result ≡ (if is_init self.now.call then None else given_of self.now.call self.now.outs) }
+    {
+        if is_init(self.call) {
+            None
+        } else {
+            self.given()
+        }
+    }
+
+    /// The request number that it freed.
+    pub fn freed(&self) -> Option<i64>
+        ensures { result ≡ freed_of self.now.call self.now.outs }
+    {
+        match (self.call, self.outs) {
+            (Call::Free(request), Some(_)) => Some(*request),
+            _ => None,
+        }
     }
 
     /// The request number that it asks to be cancelled.
@@ -76,16 +108,16 @@ impl<'a> Called<'a> {
         }
     }
 
-    /// Whether its outcome completes the requests that it touches: it posts none, and frees none.
+    /// Whether its outcome completes the requests that it touches: it gives no number, starts none anew, and frees none.
     pub fn is_completing(&self) -> bool
         ensures { result ≡ is_completing self.now }
     {
-        self.posted().is_none() && !matches!(self.call, Call::Free(_))
+        self.given().is_none() && !is_start(self.call) && !matches!(self.call, Call::Free(_))
     }
 
     /// The requests that it completed.
     pub fn completed(&self) -> &[Completed]
-        ensures { result.now ≡ completed_by self.now }
+        ensures { result.now ≡ completions self.now.call self.now.outs }
     {
         &self.completed
     }

@@ -3,7 +3,7 @@
 ghost use Rattle.std.specs.Prelude.{◌≡◌, ◌++◌, ◌∷◌, [], IfOk, OnOk};
 ghost use Rattle.std.specs.List.{cons_option, filter_map};
 ghost use Rattle.std.specs.Option.{option_copied};
-ghost use Rattle.trace_ops.specs.Request.{all_of, any_of, completes, completions, element_of, indexed, number_for, post_of};
+ghost use Rattle.trace_ops.specs.Request.{all_of, any_of, completes, completions, element_of, given_of, indexed, number_for};
 
 use mpi_model::{Call, Element, NULL_REQUEST, Outs, Told};
 use std::alloc::{AllocError, Global};
@@ -26,14 +26,17 @@ fn number_for(request: i64) -> Option<i64>
     }
 }
 
-/// The number that a returned call posts.
-pub(crate) fn post_of(call: &Call, outs: Option<&Outs>) -> Option<i64>
-    ensures { result ≡ post_of call.now (option_copied outs.entry) }
+/// The number that a returned call gives: to the operation that it starts, or, of an init, to the one that it describes.
+pub(crate) fn given_of(call: &Call, outs: Option<&Outs>) -> Option<i64>
+    ensures { result ≡ given_of call.now (option_copied outs.entry) }
 {
     match (call, outs) {
         (Call::Isend(_, _), Some(Outs::Posted(request))) => number_for(*request),
         (Call::Irecv(_), Some(Outs::Posted(request))) => number_for(*request),
         (Call::Icollective(_), Some(Outs::Posted(request))) => number_for(*request),
+        (Call::Imrecv, Some(Outs::Posted(request))) => number_for(*request),
+        (Call::SendInit(_, _), Some(Outs::Posted(request))) => number_for(*request),
+        (Call::RecvInit(_), Some(Outs::Posted(request))) => number_for(*request),
         _ => None,
     }
 }

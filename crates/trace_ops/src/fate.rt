@@ -1,12 +1,11 @@
 //! What becomes of a request, by the calls behind the one that posted it.
 
-ghost use Rattle.std.specs.Prelude.{◌≡◌, ℕ, ℤ, Option, List, drop, slice_get};
+ghost use Rattle.std.specs.Prelude.{◌≡◌, ℤ, Option, None, Some, List, if◌then◌else◌, drop, slice_get};
 ghost use Rattle.indexmap.specs.IndexMap.{get};
 ghost use Rattle.std.specs.Ordering.{int_eq};
-ghost use Rattle.trace_ops.specs.Calls.{Entry};
 ghost use Rattle.trace_ops.specs.Ended.{ended_of_post};
 ghost use Rattle.trace_ops.specs.Fate.{IsFateOf, TellsFate};
-ghost use Rattle.trace_ops.specs.Request.{posted_by};
+ghost use Rattle.trace_ops.specs.Steps.{Step};
 ghost use Rattle.trace_ops.specs.Source.{source_in, told_at, told_in, told_of_post};
 ghost use Rattle.trace_ops.specs.Touched.{Follows, completed_at, ended_at, is_marked, is_void_end, tellings_of};
 
@@ -127,7 +126,7 @@ fn ended_at(calls: &[Called<'_>], end: Option<End>) -> Option<u64>
 
 /// What becomes of the request of this number, where `touched` follows the calls behind its post.
 fn fate_by<'a>(touched: &Touched, calls: &'a [Called<'_>], request: i64) -> Fate<'a>
-    ensures { (next : ℕ) (later : List Entry) → Follows next calls.now later (get int_eq touched.now) → TellsFate next request later result }
+    ensures { (later : List Step) → Follows calls.now later (get int_eq touched.now) → TellsFate request later result }
 {
     let touch = touch_of(touched, request);
     let end = end_of(touch);
@@ -141,21 +140,21 @@ fn fate_by<'a>(touched: &Touched, calls: &'a [Called<'_>], request: i64) -> Fate
     }
 }
 
-/// What becomes of the request that the call posts, where `touched` follows the calls behind it.
+/// What becomes of the request that is posted, if one is, where `touched` follows the steps behind its post.
 pub(crate) fn fate_of<'a>(
     touched: &Touched,
     calls: &'a [Called<'_>],
-    called: &Called<'_>,
+    posted: Option<i64>,
 ) -> Option<Fate<'a>>
-    ensures { (next : ℕ) (later : List Entry) → Follows next calls.now later (get int_eq touched.now) → IsFateOf next (posted_by called.now) later result }
+    ensures { (later : List Step) → Follows calls.now later (get int_eq touched.now) → IsFateOf posted later result }
 {
-    let request = called.posted()?;
+    let request = posted?;
     Some(fate_by(touched, calls, request))
 }
 
 /// What is told of the source of an Irecv, by the fate of its request.
 pub(crate) fn told_of_post(members: &[u32], fate: Option<Fate<'_>>) -> Option<u32>
-    ensures { (next : ℕ) (later : List Entry) (posted : Option ℤ) → IsFateOf next posted later fate.entry → result ≡ told_of_post members.now later posted }
+    ensures { (later : List Step) (posted : Option ℤ) → IsFateOf posted later fate.entry → result ≡ told_of_post members.now later posted }
 {
     let fate = fate?;
     told_in(members, fate.request, fate.tellings)
@@ -163,7 +162,7 @@ pub(crate) fn told_of_post(members: &[u32], fate: Option<Fate<'_>>) -> Option<u3
 
 /// The call whose outcome completes an Irecv, by the fate of its request.
 pub(crate) fn ended_of_post(fate: Option<Fate<'_>>) -> Option<u64>
-    ensures { (next : ℕ) (later : List Entry) (posted : Option ℤ) → IsFateOf next posted later fate.entry → result ≡ ended_of_post next later posted }
+    ensures { (later : List Step) (posted : Option ℤ) → IsFateOf posted later fate.entry → result ≡ ended_of_post later posted }
 {
     fate?.by
 }

@@ -35,11 +35,11 @@ fn comm_of(call: &Call) -> Option<CommRef>
     ensures { result ≡ comm_of call.now }
 {
     match call {
-        Call::Send(_, e) | Call::Isend(_, e) => Some(e.envelope().comm),
-        Call::Recv(e) | Call::Irecv(e) => Some(e.envelope().comm),
+        Call::Send(_, e) | Call::Isend(_, e) | Call::SendInit(_, e) => Some(e.envelope().comm),
+        Call::Recv(e) | Call::Irecv(e) | Call::RecvInit(e) => Some(e.envelope().comm),
         Call::Sendrecv(both) => Some(both.send().comm),
         Call::Collective(c) | Call::Icollective(c) => Some(c.comm()),
-        Call::Probe(e) => Some(e.comm()),
+        Call::Probe(e) | Call::Mprobe(e) | Call::Improbe(e) => Some(e.comm()),
         Call::Local
         | Call::Finalize
         | Call::Wait(_)
@@ -52,6 +52,9 @@ fn comm_of(call: &Call) -> Option<CommRef>
         | Call::Testsome(_)
         | Call::Cancel(_)
         | Call::Free(_)
+        | Call::Start(_)
+        | Call::Startall(_)
+        | Call::Imrecv
         | Call::Unread => None,
     }
 }
@@ -88,14 +91,20 @@ fn are_within(members: &[u32], call: &Call) -> bool
     ensures { result ≡ are_within members.now call.now }
 {
     match call {
-        Call::Send(_, e) | Call::Isend(_, e) => is_within(members, peer_rank(e.envelope().peer)),
-        Call::Recv(e) | Call::Irecv(e) => is_within(members, peer_rank(e.envelope().peer)),
+        Call::Send(_, e) | Call::Isend(_, e) | Call::SendInit(_, e) => {
+            is_within(members, peer_rank(e.envelope().peer))
+        }
+        Call::Recv(e) | Call::Irecv(e) | Call::RecvInit(e) => {
+            is_within(members, peer_rank(e.envelope().peer))
+        }
         Call::Sendrecv(both) => {
             is_within(members, peer_rank(both.send().peer))
                 && is_within(members, peer_rank(both.receive().peer))
         }
         Call::Collective(c) | Call::Icollective(c) => is_root_within(members, *c),
-        Call::Probe(e) => is_within(members, peer_rank(e.source())),
+        Call::Probe(e) | Call::Mprobe(e) | Call::Improbe(e) => {
+            is_within(members, peer_rank(e.source()))
+        }
         _ => true,
     }
 }

@@ -1,19 +1,23 @@
 //! What each rank did, by what is known of its run: its messages and receives, its entries into
 //! collective calls, its active requests, and how it stands.
 //!
-//! [`ops_of`] goes once through the readable events of a rank, from the last call to the first: so
-//! what later calls tell of a request is known when its post is met. Its time is linear in the
-//! events and in what Waitall and its kin list, but for outcomes that tell sources outside their
-//! receive's group. It keeps nothing of what is known but a copy of the call in which the rank
-//! waits. A message and a receive take at most 64 bytes each.
+//! [`ops_of`] goes twice through the calls of a rank: from the first to the last, by which it knows
+//! which inits hold the numbers that Starts and Startalls list; and from the last to the first, so
+//! that what later calls tell of a request is known when its post is met. Its time is linear in the
+//! events and in what Waitall, Startall and their kin list, but for outcomes that tell sources
+//! outside their receive's group, and for the sort of the idle numbers. It keeps nothing of what is
+//! known but a copy of the call in which the rank waits. A message takes at most 64 bytes, a receive
+//! at most 80.
 //!
 //! - [`entered`], [`state`], [`ops`]: what is told of a rank
 //! - [`completed`], [`called`]: its calls, with the requests that their outcomes complete
 //! - [`group`]: the groups that calls name, and the calls that the layout doesn't know
-//! - [`touched`], [`fate`]: what the calls behind a post tell of its request; [`trust`]: what a
-//!   Cancel leaves of it
+//! - [`held`]: which inits hold the numbers that calls start: each part of a Startall is a step of
+//!   its own, as each other call is one
+//! - [`touched`], [`fate`]: what the steps behind a post tell of its request; [`trust`]: what a
+//!   Cancel leaves of it; [`active`]: the active requests, and the idle numbers
 //! - [`message`]: messages and collective entries; [`receive`]: receives with their told sources,
-//!   active requests, and what a probe looks for
+//!   and what a probe looks for
 //! - [`rank_state`]: how a rank stands
 //! - `ops::gather`: the way from what is known to all of that
 //! - [`laws`]: how a rank's ops grow with its readable events, as contracts of calls that do nothing
@@ -21,11 +25,13 @@
 //! Its tests are the runs of `tests/runs.txt`, and `crates/matching_tests/src/steps.rt`.
 #![tactic(auto)]
 
+mod active;
 mod called;
 mod completed;
 mod entered;
 mod fate;
 mod group;
+mod held;
 mod laws;
 mod message;
 mod ops;

@@ -1,15 +1,13 @@
 //! The messages of a rank, and its entries into collective calls.
 
-ghost use Rattle.std.specs.Prelude.{◌≡◌, ℕ, List};
+ghost use Rattle.std.specs.Prelude.{◌≡◌, List};
 ghost use Rattle.std.specs.Option.{option_map};
-ghost use Rattle.trace_ops.specs.Calls.{Entry};
 ghost use Rattle.trace_ops.specs.Fate.{IsFateOf};
 ghost use Rattle.trace_ops.specs.Groups.{plain};
 ghost use Rattle.trace_ops.specs.Message.{message_in, message_to, sent_by, sent_with, tag_of};
-ghost use Rattle.trace_ops.specs.Request.{posted_by};
 ghost use Rattle.trace_ops.specs.Round.{entered_by, entered_in, entry_of};
+ghost use Rattle.trace_ops.specs.Steps.{Step, posted_by, starting};
 
-use crate::called::Called;
 use crate::entered::Entered;
 use crate::fate::Fate;
 use crate::group::{Group, peer_rank};
@@ -29,19 +27,18 @@ fn tag_of(tag: Option<u32>) -> u32
 /// The message of a call's envelope to a rank of the trace.
 fn message_to(
     group: Group<'_>,
-    rank: u32,
-    n: u64,
+    name: OpName,
     mode: Mode,
     e: Envelope,
     trust: Trust,
     to: u32,
 ) -> Message
-    ensures { result ≡ message_to (plain group.entry) rank n mode e trust to }
+    ensures { result ≡ message_to (plain group.entry) name mode e trust to }
 {
     Message {
-        name: OpName { rank, call: n },
+        name,
         comm: group.comm,
-        from: rank,
+        from: name.rank,
         to,
         tag: tag_of(e.tag),
         mode,
@@ -54,54 +51,46 @@ fn message_to(
 /// The message of a send to a rank of the group; a send to the null process moves nothing.
 fn sent_with(
     group: Group<'_>,
-    rank: u32,
-    n: u64,
+    name: OpName,
     mode: Mode,
     e: Envelope,
     trust: Trust,
 ) -> Option<Message>
-    ensures { result ≡ sent_with (plain group.entry) rank n mode e trust }
+    ensures { result ≡ sent_with (plain group.entry) name mode e trust }
 {
     let peer = peer_rank(e.peer)?;
     let to = group.members.get(peer as usize)?;
-    Some(message_to(group, rank, n, mode, e, trust, *to))
+    Some(message_to(group, name, mode, e, trust, *to))
 }
 
-/// The message that a call sends in its group, where it sends one.
-fn sent_by(
-    group: Group<'_>,
-    rank: u32,
-    n: u64,
-    called: &Called<'_>,
-    fate: Option<Fate<'_>>,
-) -> Option<Message>
-    ensures { (next : ℕ) (later : List Entry) → IsFateOf next (posted_by called.now) later fate.entry → result ≡ sent_by (plain group.entry) rank n called.now later called.now.call }
+/// The message that a step starts in its group as this call, where it starts one.
+fn sent_by(group: Group<'_>, name: OpName, call: &Call, fate: Option<Fate<'_>>) -> Option<Message>
+    ensures { (s : Step) (later : List Step) → IsFateOf (posted_by s) later fate.entry → result ≡ sent_by (plain group.entry) name s later call.now }
 {
-    match called.call() {
-        Call::Send(mode, e) => sent_with(group, rank, n, *mode, e.envelope(), Trust::Sure),
+    match call {
+        Call::Send(mode, e) => sent_with(group, name, *mode, e.envelope(), Trust::Sure),
         Call::Isend(mode, e) => {
             let trust = trust_of_post(fate, false);
-            sent_with(group, rank, n, *mode, e.envelope(), trust)
+            sent_with(group, name, *mode, e.envelope(), trust)
         }
         Call::Sendrecv(both) => {
             let e = both.send();
-            sent_with(group, rank, n, Mode::Standard, e, Trust::Sure)
+            sent_with(group, name, Mode::Standard, e, Trust::Sure)
         }
         _ => None,
     }
 }
 
-/// The message that call `n` starts in its group, by the fate of the request that it posts.
+/// The message that a step of this name starts in its group as this call, by the fate of the request that it posts.
 pub(crate) fn message_in(
     group: Option<Group<'_>>,
-    rank: u32,
-    n: u64,
-    called: &Called<'_>,
+    name: OpName,
+    call: &Call,
     fate: Option<Fate<'_>>,
 ) -> Option<Message>
-    ensures { (next : ℕ) (later : List Entry) → IsFateOf next (posted_by called.now) later fate.entry → result ≡ message_in (option_map plain group.entry) rank (record { number = n; entry = called.now; later = later }) }
+    ensures { (s : Step) (later : List Step) → call.now ≡ starting s → IsFateOf (posted_by s) later fate.entry → result ≡ message_in (option_map plain group.entry) name (record { step = s; later = later }) }
 {
-    sent_by(group?, rank, n, called, fate)
+    sent_by(group?, name, call, fate)
 }
 
 /// The entry of a collective call into a round of its communicator.

@@ -20,7 +20,8 @@ pub struct RankOps {
     receives: Vec<Receive>,
     rounds: Vec<Entered>,
     comms: Vec<u32>,
-    active: Vec<(i64, u64)>,
+    active: Vec<(i64, OpName)>,
+    idle: Vec<i64>,
     cancelled: Vec<OpName>,
     state: State,
     waiting: Option<(u64, Call)>,
@@ -32,7 +33,7 @@ impl Model for RankOps {
 
     ghost Value = { Ops };
 
-    ghost view = { λ o. record { sends = o.sends.items; receives = o.receives.items; rounds = o.rounds.items; comms = o.comms.items; active = o.active.items; cancelled = o.cancelled.items; state = o.state; waiting = o.waiting; foreign = o.foreign } };
+    ghost view = { λ o. record { sends = o.sends.items; receives = o.receives.items; rounds = o.rounds.items; comms = o.comms.items; active = o.active.items; idle = o.idle.items; cancelled = o.cancelled.items; state = o.state; waiting = o.waiting; foreign = o.foreign } };
 }
 
 impl RankOps {
@@ -46,6 +47,7 @@ impl RankOps {
             rounds: Vec::new(alloc),
             comms: Vec::new(alloc),
             active: Vec::new(alloc),
+            idle: Vec::new(alloc),
             cancelled: Vec::new(alloc),
             state: State::Free,
             waiting: None,
@@ -53,16 +55,16 @@ impl RankOps {
         }
     }
 
-    /// The messages that the rank's sends start, in order of their calls, each with what a Cancel
-    /// leaves of it (MPI 4.0, 3.2.3 and 3.8.4).
+    /// The messages that the rank's sends start, in order of their calls and parts, each with what a
+    /// Cancel leaves of it (MPI 4.0, 3.2.3, 3.8.4 and 3.9).
     pub fn sends(&self) -> &[Message]
         ensures { result.now ≡ self.now.sends }
     {
         &self.sends
     }
 
-    /// The receives of the rank, in order of their calls, each with its source where that is told, and
-    /// with what a Cancel leaves of it.
+    /// The receives of the rank, in order of their calls and parts, each with its source where that is
+    /// told, and with what a Cancel leaves of it. Matched probes are receives.
     pub fn receives(&self) -> &[Receive]
         ensures { result.now ≡ self.now.receives }
     {
@@ -83,16 +85,24 @@ impl RankOps {
         &self.comms
     }
 
-    /// The active requests at the end of the rank's readable events, each with the number of the
-    /// call that posted it, in order of posting.
-    pub fn active(&self) -> &[(i64, u64)]
+    /// The active requests at the end of the rank's readable events, each with the name of what was
+    /// posted, in order of posting.
+    pub fn active(&self) -> &[(i64, OpName)]
         ensures { result.now ≡ self.now.active }
     {
         &self.active
     }
 
-    /// The requests that a readable Cancel names, whether they are still active or not, by the calls
-    /// that posted them, in order of posting.
+    /// The idle numbers at the end of the rank's readable events, rising: an init holds them, and
+    /// they are not active (MPI 4.0, 3.9).
+    pub fn idle(&self) -> &[i64]
+        ensures { result.now ≡ self.now.idle }
+    {
+        &self.idle
+    }
+
+    /// The requests that a readable Cancel names, whether they are still active or not, by the names
+    /// of what was posted, in order of posting.
     pub fn cancelled(&self) -> &[OpName]
         ensures { result.now ≡ self.now.cancelled }
     {
@@ -135,6 +145,7 @@ impl RankOps {
             rounds: self.rounds.clone()?,
             comms: self.comms.clone()?,
             active: self.active.clone()?,
+            idle: self.idle.clone()?,
             cancelled: self.cancelled.clone()?,
             state: self.state,
             waiting,

@@ -10,8 +10,8 @@ use crate::state::State;
 use mpi_model::{Call, Layout};
 use std::alloc::AllocError;
 
-/// Whether the call returns only once something else has happened, or may do so (MPI 4.0, 3.4, 3.7.3, 3.7.5, 3.8.1 and
-/// 6.1).
+/// Whether the call returns only once something else has happened, or may do so (MPI 4.0, 3.4, 3.7.3, 3.7.5, 3.8.1,
+/// 3.8.2 and 6.1).
 fn may_block(call: &Call) -> bool
     ensures { result ≡ may_block call.now }
 {
@@ -20,6 +20,7 @@ fn may_block(call: &Call) -> bool
         | Call::Recv(_)
         | Call::Sendrecv(_)
         | Call::Probe(_)
+        | Call::Mprobe(_)
         | Call::Wait(_)
         | Call::Waitall(_)
         | Call::Waitany(_)
@@ -29,6 +30,8 @@ fn may_block(call: &Call) -> bool
         Call::Isend(_, _) | Call::Irecv(_) | Call::Icollective(_) => false,
         Call::Test(_) | Call::Testall(_) | Call::Testany(_) | Call::Testsome(_) => false,
         Call::Cancel(_) | Call::Free(_) => false,
+        Call::SendInit(_, _) | Call::RecvInit(_) | Call::Start(_) | Call::Startall(_) => false,
+        Call::Improbe(_) | Call::Imrecv => false,
     }
 }
 

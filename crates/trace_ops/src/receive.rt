@@ -1,37 +1,38 @@
-//! The receives of a rank, with their told sources, its active requests, and what a probe looks for.
+//! The receives of a rank, with their told sources, and what a probe looks for.
 
-ghost use Rattle.std.specs.Prelude.{◌≡◌, ◌+◌, ℕ, List};
+ghost use Rattle.std.specs.Prelude.{◌≡◌, List};
 ghost use Rattle.std.specs.Option.{option_copied, option_map};
-ghost use Rattle.trace_ops.specs.Calls.{Entry};
 ghost use Rattle.trace_ops.specs.Ended.{ended_of_own};
 ghost use Rattle.trace_ops.specs.Fate.{IsFateOf};
 ghost use Rattle.trace_ops.specs.Groups.{plain};
-ghost use Rattle.trace_ops.specs.Receive.{probed, receive_from, receive_in, taken_by, taken_with};
-ghost use Rattle.trace_ops.specs.Request.{active_post, posted_by};
-ghost use Rattle.trace_ops.specs.Source.{told_of_own};
+ghost use Rattle.trace_ops.specs.Receive.{any_count, has_taken, probe_envelope, probed, receive_from, receive_in, taken_by, taken_with};
+ghost use Rattle.trace_ops.specs.Source.{told_of_flag, told_of_own};
+ghost use Rattle.trace_ops.specs.Steps.{Step, posted_by, starting};
+ghost use Rattle.trace_ops.specs.Trust.{gives_back, trust_by};
 
-use crate::called::Called;
 use crate::fate::{Fate, ended_of_post, source_in, told_of_post};
 use crate::group::{Group, group_named};
-use crate::trust::trust_of_post;
+use crate::trust::{trust_of_post, trust_of_probe};
 use mpi_model::{Call, Envelope, Layout, OpName, Outs, Peer, ProbeEnvelope, Receive, Trust};
+
+/// The most elements that an `int` counts: a matched probe takes a message of any count.
+const ANY_COUNT: u32 = 2_147_483_647;
 
 /// The receive of a call's envelope, with its source as far as that is told.
 fn receive_from(
     group: Group<'_>,
-    rank: u32,
-    n: u64,
+    name: OpName,
     e: Envelope,
     trust: Trust,
     source: Option<u32>,
     ended: Option<u64>,
 ) -> Receive
-    ensures { result ≡ receive_from (plain group.entry) rank n e trust source ended }
+    ensures { result ≡ receive_from (plain group.entry) name e trust source ended }
 {
     Receive {
-        name: OpName { rank, call: n },
+        name,
         comm: group.comm,
-        at: rank,
+        at: name.rank,
         source,
         tag: e.tag,
         count: e.count,
@@ -44,22 +45,34 @@ fn receive_from(
 /// The receive as which a call looks for a message.
 fn taken_with(
     group: Group<'_>,
-    rank: u32,
-    n: u64,
+    name: OpName,
     e: Envelope,
     trust: Trust,
     told: Option<u32>,
     ended: Option<u64>,
 ) -> Option<Receive>
-    ensures { result ≡ taken_with (plain group.entry) rank n e trust told ended }
+    ensures { result ≡ taken_with (plain group.entry) name e trust told ended }
 {
     match e.peer {
         Peer::Null => None,
-        Peer::Any => Some(receive_from(group, rank, n, e, trust, told, ended)),
+        Peer::Any => Some(receive_from(group, name, e, trust, told, ended)),
         Peer::Rank(p) => {
             let source = group.members.get(p as usize).copied();
-            Some(receive_from(group, rank, n, e, trust, source, ended))
+            Some(receive_from(group, name, e, trust, source, ended))
         }
+    }
+}
+
+/// The envelope that a probe looks for, with a number of elements.
+fn probe_envelope(count: u32, envelope: ProbeEnvelope) -> Envelope
+    ensures { result ≡ probe_envelope count envelope }
+{
+    Envelope {
+        peer: envelope.source(),
+        tag: envelope.tag(),
+        comm: envelope.comm(),
+        count,
+        datatype: 0,
     }
 }
 
@@ -69,18 +82,17 @@ fn taken_with(
 pub fn probed(layout: &Layout, rank: u32, n: u64, envelope: ProbeEnvelope) -> Option<Receive>
     ensures { result ≡ probed layout.now rank n envelope }
 {
-    let asked = Envelope {
-        peer: envelope.source(),
-        tag: envelope.tag(),
-        comm: envelope.comm(),
-        count: 0,
-        datatype: 0,
-    };
+    let asked = probe_envelope(0, envelope);
     let group = group_named(layout, rank, n, asked.comm)?;
-    taken_with(group, rank, n, asked, Trust::Sure, None, None)
+    let name = OpName {
+        rank,
+        call: n,
+        part: 0,
+    };
+    taken_with(group, name, asked, Trust::Sure, None, None)
 }
 
-/// What the outcome of a Recv or Sendrecv tells.
+/// What the outcome of a Recv, Sendrecv or Mprobe tells.
 fn told_of_own(members: &[u32], outs: Option<&Outs>) -> Option<u32>
     ensures { result ≡ told_of_own members.now (option_copied outs.entry) }
 {
@@ -90,7 +102,24 @@ fn told_of_own(members: &[u32], outs: Option<&Outs>) -> Option<u32>
     }
 }
 
-/// The own call of a Recv or Sendrecv that has returned.
+/// What the outcome of an Improbe tells, where it has taken a message.
+fn told_of_flag(members: &[u32], outs: Option<&Outs>) -> Option<u32>
+    ensures { result ≡ told_of_flag members.now (option_copied outs.entry) }
+{
+    match outs {
+        Some(Outs::Flag(true, told)) => source_in(members, told.rank()),
+        _ => None,
+    }
+}
+
+/// Whether an Improbe has taken a message: it has returned with its flag set.
+fn has_taken(outs: Option<&Outs>) -> bool
+    ensures { result ≡ has_taken (option_copied outs.entry) }
+{
+    matches!(outs, Some(Outs::Flag(true, _)))
+}
+
+/// The own call of a Recv, Sendrecv, Mprobe or Improbe that has returned.
 fn ended_of_own(n: u64, outs: Option<&Outs>) -> Option<u64>
     ensures { result ≡ ended_of_own n (option_copied outs.entry) }
 {
@@ -100,58 +129,77 @@ fn ended_of_own(n: u64, outs: Option<&Outs>) -> Option<u64>
     }
 }
 
-/// The receive as which a call looks for a message in its group, where it does.
+/// The receive of a matched probe, which takes its message itself.
+fn matched_with(
+    group: Group<'_>,
+    name: OpName,
+    envelope: ProbeEnvelope,
+    told: Option<u32>,
+    outs: Option<&Outs>,
+    given_back: bool,
+) -> Option<Receive>
+    ensures { result ≡ taken_with (plain group.entry) name (probe_envelope any_count envelope) (trust_by given_back) told (ended_of_own name.call (option_copied outs.entry)) }
+{
+    let e = probe_envelope(ANY_COUNT, envelope);
+    let ended = ended_of_own(name.call, outs);
+    taken_with(group, name, e, trust_of_probe(given_back), told, ended)
+}
+
+/// The receive as which a step looks for a message in its group as this call, where it does.
 fn taken_by(
     group: Group<'_>,
-    rank: u32,
-    n: u64,
-    called: &Called<'_>,
+    name: OpName,
+    call: &Call,
+    outs: Option<&Outs>,
     fate: Option<Fate<'_>>,
+    given_back: bool,
 ) -> Option<Receive>
-    ensures { (later : List Entry) → IsFateOf (n + 1) (posted_by called.now) later fate.entry → result ≡ taken_by (plain group.entry) rank n called.now later called.now.call }
+    ensures { (s : Step) (later : List Step) → option_copied outs.entry ≡ s.entry.outs → IsFateOf (posted_by s) later fate.entry → given_back ≡ gives_back later → result ≡ taken_by (plain group.entry) name s later call.now }
 {
-    match called.call() {
+    match call {
         Call::Recv(e) => {
-            let told = told_of_own(group.members, called.outs());
-            let ended = ended_of_own(n, called.outs());
-            taken_with(group, rank, n, e.envelope(), Trust::Sure, told, ended)
+            let told = told_of_own(group.members, outs);
+            let ended = ended_of_own(name.call, outs);
+            taken_with(group, name, e.envelope(), Trust::Sure, told, ended)
         }
         Call::Sendrecv(both) => {
-            let told = told_of_own(group.members, called.outs());
-            let ended = ended_of_own(n, called.outs());
-            taken_with(group, rank, n, both.receive(), Trust::Sure, told, ended)
+            let told = told_of_own(group.members, outs);
+            let ended = ended_of_own(name.call, outs);
+            taken_with(group, name, both.receive(), Trust::Sure, told, ended)
         }
         Call::Irecv(e) => {
             let told = told_of_post(group.members, fate);
             let trust = trust_of_post(fate, told.is_some());
             let ended = ended_of_post(fate);
-            taken_with(group, rank, n, e.envelope(), trust, told, ended)
+            taken_with(group, name, e.envelope(), trust, told, ended)
+        }
+        Call::Mprobe(e) => {
+            let told = told_of_own(group.members, outs);
+            matched_with(group, name, *e, told, outs, given_back)
+        }
+        Call::Improbe(e) => {
+            if has_taken(outs) {
+                let told = told_of_flag(group.members, outs);
+                matched_with(group, name, *e, told, outs, given_back)
+            } else {
+                None
+            }
         }
         _ => None,
     }
 }
 
-/// The receive that call `n` posts in its group, by the fate of the request that it posts.
+/// The receive that a step of this name starts in its group as this call, by the fate of the request that it posts, and
+/// by whether an Imrecv behind it may give a message back.
 pub(crate) fn receive_in(
     group: Option<Group<'_>>,
-    rank: u32,
-    n: u64,
-    called: &Called<'_>,
+    name: OpName,
+    call: &Call,
+    outs: Option<&Outs>,
     fate: Option<Fate<'_>>,
+    given_back: bool,
 ) -> Option<Receive>
-    ensures { (later : List Entry) → IsFateOf (n + 1) (posted_by called.now) later fate.entry → result ≡ receive_in (option_map plain group.entry) rank (record { number = n; entry = called.now; later = later }) }
+    ensures { (s : Step) (later : List Step) → call.now ≡ starting s → option_copied outs.entry ≡ s.entry.outs → IsFateOf (posted_by s) later fate.entry → given_back ≡ gives_back later → result ≡ receive_in (option_map plain group.entry) name (record { step = s; later = later }) }
 {
-    taken_by(group?, rank, n, called, fate)
-}
-
-/// The request that call `n` posts, where no call behind it touches its number.
-pub(crate) fn active_post(n: u64, fate: Option<Fate<'_>>) -> Option<(i64, u64)>
-    ensures { (next : ℕ) (entry : Entry) (later : List Entry) → IsFateOf next (posted_by entry) later fate.entry → result ≡ active_post (record { number = n; entry = entry; later = later }) }
-{
-    let fate = fate?;
-    if fate.ended {
-        None
-    } else {
-        Some((fate.request, n))
-    }
+    taken_by(group?, name, call, outs, fate, given_back)
 }

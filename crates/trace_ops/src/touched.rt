@@ -1,10 +1,12 @@
 //! Which request numbers the calls behind touch or cancel, and what they tell of them.
 
-ghost use Rattle.std.specs.Prelude.{◌≡◌, ◌<◌, ◌+◌, ℤ, Some, if◌then◌else◌, length, drop, OnOk};
+ghost use Rattle.std.specs.Prelude.{◌≡◌, ◌<◌, ◌∷◌, ℤ, List, Some, if◌then◌else◌, length, slice_get, OnOk};
 ghost use Rattle.std.specs.Option.{option_map};
 ghost use Rattle.indexmap.specs.IndexMap.{get};
 ghost use Rattle.std.specs.Ordering.{int_eq};
+ghost use Rattle.trace_ops.specs.Calls.{Entry};
 ghost use Rattle.trace_ops.specs.Request.{is_completed};
+ghost use Rattle.trace_ops.specs.Steps.{IsPartOf, Step, given_by, whole};
 ghost use Rattle.trace_ops.specs.Touched.{Follows, end_of, ends_at, marked, voided, with_telling, with_tellings};
 
 use crate::called::Called;
@@ -149,19 +151,33 @@ fn note_cancel(touched: &mut Touched, request: i64) -> Result<(), AllocError>
     Ok(())
 }
 
-/// Goes one call on to the front.
+/// Goes one step on to the front: a call that is one step.
 pub(crate) fn note(touched: &mut Touched, calls: &[Called<'_>], n: usize) -> Result<(), AllocError>
     requires { n < length calls.now }
-    ensures { OnOk result (Follows (n + 1) calls.now (drop (n + 1) calls.now) (get int_eq touched.old) → Follows n calls.now (drop n calls.now) (get int_eq touched.new)) }
+    ensures { OnOk result ((c : Entry) (later : List Step) → slice_get calls.now n ≡ Some c → Follows calls.now later (get int_eq touched.old) → Follows calls.now (whole n c ∷ later) (get int_eq touched.new)) }
 {
     let called = &calls[n];
-    match (called.cancels(), called.posted()) {
+    match (called.cancels(), called.given()) {
         (Some(request), _) => note_cancel(touched, request)?,
         (None, Some(request)) => note_post(touched, n, request)?,
         (None, None) => {
             note_completed(touched, n, called.completed())?;
             note_tellings(touched, n, called.completed())?;
         }
+    }
+    Ok(())
+}
+
+/// Goes one step on to the front: a part of a Start or Startall, which gives its number anew, if one.
+pub(crate) fn note_part(
+    touched: &mut Touched,
+    n: usize,
+    given: Option<i64>,
+) -> Result<(), AllocError>
+    ensures { OnOk result ((calls : List Entry) (later : List Step) (s : Step) → IsPartOf calls n s → given ≡ given_by s → Follows calls later (get int_eq touched.old) → Follows calls (s ∷ later) (get int_eq touched.new)) }
+{
+    if let Some(request) = given {
+        note_post(touched, n, request)?;
     }
     Ok(())
 }

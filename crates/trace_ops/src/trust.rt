@@ -1,13 +1,12 @@
 //! What a Cancel leaves of messages and receives, and which requests a Cancel names.
 
-ghost use Rattle.std.specs.Prelude.{◌≡◌, ℕ, ℤ, Option, List};
-ghost use Rattle.trace_ops.specs.Calls.{Entry};
+ghost use Rattle.std.specs.Prelude.{◌≡◌, ◌&&◌, ◌||◌, ℤ, Option, List};
 ghost use Rattle.trace_ops.specs.Fate.{IsFateOf};
-ghost use Rattle.trace_ops.specs.Request.{posted_by};
-ghost use Rattle.trace_ops.specs.Trust.{cancelled_post, trust_of_post, trust_with};
+ghost use Rattle.trace_ops.specs.Steps.{Step};
+ghost use Rattle.trace_ops.specs.Trust.{cancelled_with, gives_back, is_cancelled_post, is_matched_receive, trust_by, trust_of_post, trust_with};
 
 use crate::fate::Fate;
-use mpi_model::{OpName, Trust};
+use mpi_model::{Call, OpName, Trust};
 
 /// The trust by whether a Cancel names the request, its outcome says that it was cancelled, and a source is told.
 fn trust_with(cancelled: bool, void: bool, told: bool) -> Trust
@@ -23,7 +22,7 @@ fn trust_with(cancelled: bool, void: bool, told: bool) -> Trust
 
 /// The trust of what a call posted, by the fate of its request and whether a source is told.
 pub(crate) fn trust_of_post(fate: Option<Fate<'_>>, told: bool) -> Trust
-    ensures { (next : ℕ) (later : List Entry) (posted : Option ℤ) → IsFateOf next posted later fate.entry → result ≡ trust_of_post later posted told }
+    ensures { (later : List Step) (posted : Option ℤ) → IsFateOf posted later fate.entry → result ≡ trust_of_post later posted told }
 {
     match fate {
         Some(fate) => trust_with(fate.cancelled, fate.void, told),
@@ -31,13 +30,41 @@ pub(crate) fn trust_of_post(fate: Option<Fate<'_>>, told: bool) -> Trust
     }
 }
 
-/// The name of the call, where a Cancel names the request that it posted.
-pub(crate) fn cancelled_post(rank: u32, n: u64, fate: Option<Fate<'_>>) -> Option<OpName>
-    ensures { (next : ℕ) (entry : Entry) (later : List Entry) → IsFateOf next (posted_by entry) later fate.entry → result ≡ cancelled_post rank (record { number = n; entry = entry; later = later }) }
+/// Whether a Cancel names the request that was posted.
+fn is_cancelled_post(fate: Option<Fate<'_>>) -> bool
+    ensures { (later : List Step) (posted : Option ℤ) → IsFateOf posted later fate.entry → result ≡ is_cancelled_post posted later }
 {
-    if fate?.cancelled {
-        Some(OpName { rank, call: n })
+    match fate {
+        Some(fate) => fate.cancelled,
+        None => false,
+    }
+}
+
+/// The name of what was posted, where a Cancel names its request.
+pub(crate) fn cancelled_with(name: OpName, fate: Option<Fate<'_>>) -> Option<OpName>
+    ensures { (later : List Step) (posted : Option ℤ) → IsFateOf posted later fate.entry → result ≡ cancelled_with name later posted }
+{
+    if is_cancelled_post(fate) {
+        Some(name)
     } else {
         None
+    }
+}
+
+/// Whether a step or one behind it is an Imrecv whose request a Cancel names, so that it may give its message back.
+pub(crate) fn gives_back(call: &Call, fate: Option<Fate<'_>>, behind: bool) -> bool
+    ensures { (later : List Step) (posted : Option ℤ) → IsFateOf posted later fate.entry → behind ≡ gives_back later → result ≡ ((is_matched_receive call.now && is_cancelled_post posted later) || gives_back later) }
+{
+    (matches!(call, Call::Imrecv) && is_cancelled_post(fate)) || behind
+}
+
+/// The trust of a matched probe, by whether an Imrecv behind it may give a message back.
+pub(crate) fn trust_of_probe(given_back: bool) -> Trust
+    ensures { result ≡ trust_by given_back }
+{
+    if given_back {
+        Trust::Doubtful
+    } else {
+        Trust::Sure
     }
 }

@@ -1,20 +1,19 @@
--- Where each rank goes on from what it did, the calls of all ranks do.
-use Rattle.std.proofs.Common.{subst, ◌≡◌, ℕ, ◌+◌, ◌≤◌, true, ◌&&◌, List, [], ◌∷◌, ◌++◌, inl, inr, ⊎_elim, sym, refl, ap, arith, length, take, drop, eqb, ltb}
+-- Where each rank goes on from what it did, by later calls, the calls of all ranks do.
+use Rattle.std.proofs.Common.{subst, ◌≡◌, ℕ, ◌+◌, ◌≤◌, true, List, [], ◌∷◌, ◌++◌, inl, inr, ⊎_elim, sym, refl, arith, length, take, drop}
 use Rattle.std.specs.List.{AllZip}
 use Rattle.std.proofs.lemmas.List.{take-append-drop}
-use Rattle.std.proofs.lemmas.Bool.Decides.{nat_tests}
-use Rattle.mpi_model.specs.declared.event.OpName.{OpName}
 use Rattle.mpi_model.specs.declared.message.Message.{Message}
 use Rattle.mpi_model.specs.declared.message.Receive.{Receive}
 use Rattle.trace_ops.specs.Ops.{SameSend, TellsMore, Ops, AreOwn, Grows, StaysCertain, StaysSure}
-use Rattle.trace_ops.specs.Order.{Has, sent_before, posted_before, AreInOrder, ArePosted}
+use Rattle.trace_ops.specs.Order.{Has}
 use Rattle.trace_pair.specs.After.{comes_after}
 use Rattle.trace_pair.specs.Matching.{Continues, SomeOf}
-use Rattle.trace_pair.specs.Places.{sent_at, posted_at}
+use Rattle.trace_pair.specs.Places.{sent_at, posted_at, sent_no_later, posted_no_later}
 use Rattle.trace_pair.specs.Table.{sends_of, receives_of}
 use Rattle.trace_pair.proofs.Afterwards.{stays_after}
-use Rattle.trace_pair.proofs.Obeyed.{before_lt, posted_lt}
 use Rattle.trace_pair.proofs.Listed.{has_take}
+use Rattle.trace_pair.proofs.Local.{up_to}
+use Rattle.trace_pair.proofs.Obeyed.{sent_le, posted_le}
 use Rattle.trace_pair.proofs.Ranks.{has_left, has_right, has_either}
 use Rattle.trace_pair.proofs.Ranked.{at_least}
 
@@ -45,19 +44,6 @@ Sends m n = SameSend m n × StaysSure m.trust n.trust
 abbrev Tells : Receive → Receive → Type 0
 Tells q r = TellsMore q r × StaysSure q.trust r.trust
 
-same_rank : (a b : OpName) → (eqb a.rank b.rank && ltb a.call b.call) ≡ true → a.rank ≡ b.rank
-same_rank a b h = grind (arith, nat_tests)
-
-sends_across : (xs ys : List Message) (m n : Message) → AreInOrder (xs ++ ys) → Has xs m → Has ys n → sent_before m n ≡ true
-sends_across [] ys m n o i j = absurd i
-sends_across (x ∷ xs) ys m n o i j =
-    ⊎_elim (λ (e : m ≡ x). subst (λ (z : Message). sent_before z n ≡ true) (sym e) (o.0 n (has_right xs ys n j))) (λ k. sends_across xs ys m n o.1 k j) i
-
-posts_across : (xs ys : List Receive) (q r : Receive) → ArePosted (xs ++ ys) → Has xs q → Has ys r → posted_before q r ≡ true
-posts_across [] ys q r o i j = absurd i
-posts_across (x ∷ xs) ys q r o i j =
-    ⊎_elim (λ (e : q ≡ x). subst (λ (z : Receive). posted_before z r ≡ true) (sym e) (o.0 r (has_right xs ys r j))) (λ k. posts_across xs ys q r o.1 k j) i
-
 -- one rank
 sent : (o n : Ops) (m : Message) → Grows o n → StaysCertain o n → Has o.sends m → SomeOf n.sends (Sends m)
 sent o n m g c i =
@@ -65,16 +51,12 @@ sent o n m g c i =
     let r = zip_second Sends o.sends (take k n.sends) m (zip_both SameSend (λ m n. StaysSure m.trust n.trust) o.sends (take k n.sends) g.sends c.sends) i in
     (r.0, has_take n.sends k r.0 r.1, r.2)
 
-none_sent : (o n : Ops) (x m : Message) → Grows o n → AreInOrder n.sends → Has n.sends x → Has o.sends m → sent_before x m ≡ true → SomeOf o.sends (λ p. SameSend p x)
-none_sent o n x m g order i j b =
+none_sent : (o n : Ops) (x m : Message) → Grows o n → Has n.sends x → Has o.sends m → sent_no_later x m ≡ true → SomeOf o.sends (λ p. SameSend p x)
+none_sent o n x m g i j b =
     let k = length o.sends in
     let e : take k n.sends ++ drop k n.sends ≡ n.sends = take-append-drop k n.sends in
     ⊎_elim (λ (h : Has (take k n.sends) x). zip_first SameSend o.sends (take k n.sends) x g.sends h)
-    (λ (h : Has (drop k n.sends) x).
-    let t = zip_second SameSend o.sends (take k n.sends) m g.sends j in
-    let c = sends_across (take k n.sends) (drop k n.sends) t.0 x (subst (λ (l : List Message). AreInOrder l) (sym e) order) t.1 h in
-    let p = before_lt x t.0 c in let q = before_lt m x b in
-    let f : t.0.name.call ≡ m.name.call = ap (λ (a : OpName). a.call) t.2.name in absurd (omega arith))
+    (λ (h : Has (drop k n.sends) x). let p = g.later.send_behind_sends m x j h in let q = sent_le m x b in absurd (omega arith))
     (has_either (take k n.sends) (drop k n.sends) x (subst (λ (l : List Message). Has l x) (sym e) i))
 
 posted : (o n : Ops) (q : Receive) → Grows o n → StaysCertain o n → Has o.receives q → SomeOf n.receives (Tells q)
@@ -83,16 +65,12 @@ posted o n q g c i =
     let r = zip_second Tells o.receives (take k n.receives) q (zip_both TellsMore (λ q r. StaysSure q.trust r.trust) o.receives (take k n.receives) g.receives c.receives) i in
     (r.0, has_take n.receives k r.0 r.1, r.2)
 
-none_posted : (o n : Ops) (r q : Receive) → Grows o n → ArePosted n.receives → Has n.receives r → Has o.receives q → posted_before r q ≡ true → SomeOf o.receives (λ p. TellsMore p r)
-none_posted o n r q g order i j b =
+none_posted : (o n : Ops) (r q : Receive) → Grows o n → StaysCertain o n → Has n.receives r → Has o.receives q → posted_no_later r q ≡ true → SomeOf o.receives (λ p. Tells p r)
+none_posted o n r q g c i j b =
     let k = length o.receives in
     let e : take k n.receives ++ drop k n.receives ≡ n.receives = take-append-drop k n.receives in
-    ⊎_elim (λ (h : Has (take k n.receives) r). zip_first TellsMore o.receives (take k n.receives) r g.receives h)
-    (λ (h : Has (drop k n.receives) r).
-    let t = zip_second TellsMore o.receives (take k n.receives) q g.receives j in
-    let c = posts_across (take k n.receives) (drop k n.receives) t.0 r (subst (λ (l : List Receive). ArePosted l) (sym e) order) t.1 h in
-    let p = posted_lt r t.0 c in let s = posted_lt q r b in
-    let f : t.0.name.call ≡ q.name.call = ap (λ (a : OpName). a.call) t.2.name in absurd (omega arith))
+    ⊎_elim (λ (h : Has (take k n.receives) r). zip_first Tells o.receives (take k n.receives) r (zip_both TellsMore (λ q r. StaysSure q.trust r.trust) o.receives (take k n.receives) g.receives c.receives) h)
+    (λ (h : Has (drop k n.receives) r). let p = g.later.receive_behind_receives q r j h in let s = posted_le q r b in absurd (omega arith))
     (has_either (take k n.receives) (drop k n.receives) r (subst (λ (l : List Receive). Has l r) (sym e) i))
 
 -- all ranks
@@ -116,35 +94,36 @@ sent_above os first m a i = at_least (λ o. o.sends) (λ m. m.from) (λ r o m w.
 posted_above : (os : List Ops) (first : ℕ) (q : Receive) → AreOwn first os → Has (receives_of os) q → first ≤ q.at
 posted_above os first q a i = at_least (λ o. o.receives) (λ q. q.at) (λ r o q w. w.posted_at q) os first q a i
 
-all_none_sent : (os ns : List Ops) (first : ℕ) (x m : Message) → AreOwn first os → AreOwn first ns → AllZip Grows os ns → Has (sends_of ns) x → Has (sends_of os) m → sent_before x m ≡ true → SomeOf (sends_of os) (λ p. SameSend p x)
+all_none_sent : (os ns : List Ops) (first : ℕ) (x m : Message) → AreOwn first os → AreOwn first ns → AllZip Grows os ns → Has (sends_of ns) x → Has (sends_of os) m → sent_no_later x m ≡ true → SomeOf (sends_of os) (λ p. SameSend p x)
 all_none_sent [] ns first x m a c z i j b = absurd j
 all_none_sent (o ∷ os) [] first x m a c z i j b = absurd z
 all_none_sent (o ∷ os) (n ∷ ns) first x m a c z i j b =
-    let e = same_rank (sent_at x) (sent_at m) b in
+    let e = (up_to (sent_at x) (sent_at m) b).rank in
     ⊎_elim
-    (λ (h : Has n.sends x). ⊎_elim (λ (k : Has o.sends m). let w = none_sent o n x m z.0 c.0.sends_rise h k b in (w.0, has_left o.sends (sends_of os) w.0 w.1, w.2))
+    (λ (h : Has n.sends x). ⊎_elim (λ (k : Has o.sends m). let w = none_sent o n x m z.0 h k b in (w.0, has_left o.sends (sends_of os) w.0 w.1, w.2))
     (λ (k : Has (sends_of os) m). let p = c.0.sent_from x h in let q = sent_above os (first + 1) m a.1 k in absurd (omega arith)) (has_either o.sends (sends_of os) m j))
     (λ (h : Has (sends_of ns) x). ⊎_elim (λ (k : Has o.sends m). let p = sent_above ns (first + 1) x c.1 h in let q = a.0.sent_from m k in absurd (omega arith))
     (λ (k : Has (sends_of os) m). let w = all_none_sent os ns (first + 1) x m a.1 c.1 z.1 h k b in (w.0, has_right o.sends (sends_of os) w.0 w.1, w.2)) (has_either o.sends (sends_of os) m j))
     (has_either n.sends (sends_of ns) x i)
 
-all_none_posted : (os ns : List Ops) (first : ℕ) (r q : Receive) → AreOwn first os → AreOwn first ns → AllZip Grows os ns → Has (receives_of ns) r → Has (receives_of os) q → posted_before r q ≡ true → SomeOf (receives_of os) (λ p. TellsMore p r)
-all_none_posted [] ns first r q a c z i j b = absurd j
-all_none_posted (o ∷ os) [] first r q a c z i j b = absurd z
-all_none_posted (o ∷ os) (n ∷ ns) first r q a c z i j b =
-    let e = same_rank (posted_at r) (posted_at q) b in
+all_none_posted : (os ns : List Ops) (first : ℕ) (r q : Receive) → AreOwn first os → AreOwn first ns → AllZip Grows os ns → AllZip StaysCertain os ns → Has (receives_of ns) r → Has (receives_of os) q → posted_no_later r q ≡ true → SomeOf (receives_of os) (λ p. Tells p r)
+all_none_posted [] ns first r q a c z sure i j b = absurd j
+all_none_posted (o ∷ os) [] first r q a c z sure i j b = absurd z
+all_none_posted (o ∷ os) (n ∷ ns) first r q a c z sure i j b =
+    let e = (up_to (posted_at r) (posted_at q) b).rank in
     ⊎_elim
-    (λ (h : Has n.receives r). ⊎_elim (λ (k : Has o.receives q). let w = none_posted o n r q z.0 c.0.receives_rise h k b in (w.0, has_left o.receives (receives_of os) w.0 w.1, w.2))
+    (λ (h : Has n.receives r). ⊎_elim (λ (k : Has o.receives q). let w = none_posted o n r q z.0 sure.0 h k b in (w.0, has_left o.receives (receives_of os) w.0 w.1, w.2))
     (λ (k : Has (receives_of os) q). let p = c.0.posted_at r h in let s = posted_above os (first + 1) q a.1 k in absurd (omega arith)) (has_either o.receives (receives_of os) q j))
     (λ (h : Has (receives_of ns) r). ⊎_elim (λ (k : Has o.receives q). let p = posted_above ns (first + 1) r c.1 h in let s = a.0.posted_at q k in absurd (omega arith))
-    (λ (k : Has (receives_of os) q). let w = all_none_posted os ns (first + 1) r q a.1 c.1 z.1 h k b in (w.0, has_right o.receives (receives_of os) w.0 w.1, w.2)) (has_either o.receives (receives_of os) q j))
+    (λ (k : Has (receives_of os) q). let w = all_none_posted os ns (first + 1) r q a.1 c.1 z.1 sure.1 h k b in (w.0, has_right o.receives (receives_of os) w.0 w.1, w.2)) (has_either o.receives (receives_of os) q j))
     (has_either n.receives (receives_of ns) r i)
 
-pub continues : (os ns : List Ops) → AreOwn 0 os → AreOwn 0 ns → AllZip Grows os ns → AllZip StaysCertain os ns → Continues (comes_after os) (sends_of os) (receives_of os) (comes_after ns) (sends_of ns) (receives_of ns)
+pub continues : (os ns : List Ops) → AreOwn 0 os → AreOwn 0 ns → AllZip Grows os ns → AllZip StaysCertain os ns →
+    Continues (comes_after os) (sends_of os) (receives_of os) (comes_after ns) (sends_of ns) (receives_of ns)
 continues os ns a c z s = record {
   sent = λ m i. all_sent os ns m z s i;
   none_sent_before = λ n m i j b. all_none_sent os ns 0 n m a c z i j b;
   posted = λ q i. all_posted os ns q z s i;
-  none_posted_before = λ r q i j b. all_none_posted os ns 0 r q a c z i j b;
-  stays_after = λ m n q r i _ s j _ t h. stays_after os ns a c z m n q r i s j t h;
+  none_posted_before = λ r q i j b. all_none_posted os ns 0 r q a c z s i j b;
+  stays_after = λ m n q r i _ same j _ tells h. stays_after os ns a c z m n q r i same j tells h;
 }

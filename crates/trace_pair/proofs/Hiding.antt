@@ -1,5 +1,5 @@
 -- Whether some open receive may have taken a message: by a test of all of them, and by those that are called before a limit.
-use Rattle.std.proofs.Common.{◌≡◌, ◌⊎◌, ℕ, Bool, true, false, ◌&&◌, List, [], ◌∷◌, Some, None, inl, inr, ⊎_elim, sym, refl, ◌∙◌, ap, arith, cond, eqb, ltb, subst}
+use Rattle.std.proofs.Common.{◌≡◌, ◌⊎◌, ℕ, Bool, true, false, ◌&&◌, List, [], ◌∷◌, Some, None, inl, inr, ⊎_elim, sym, refl, ◌∙◌, ap, arith, cond, eqb, subst}
 use Rattle.std.specs.Prelude.{not}
 use Rattle.std.specs.Bool.{Decides}
 use Rattle.std.specs.List.{filter, list_any}
@@ -8,7 +8,7 @@ use Rattle.mpi_model.specs.declared.message.Message.{Message}
 use Rattle.mpi_model.specs.declared.message.Receive.{Receive}
 use Rattle.mpi_model.specs.Fit.{envelopes_fit}
 use Rattle.trace_ops.specs.Order.{Has}
-use Rattle.trace_pair.specs.Ends.{NoneHides, NoneHidesBefore, SomeHides, SomeHidesBefore}
+use Rattle.trace_pair.specs.Ends.{NoneHides, NoneHidesUpTo, SomeHides, SomeHidesUpTo}
 use Rattle.trace_pair.specs.Lanes.{is_within}
 use Rattle.trace_pair.specs.Pairing.{After}
 use Rattle.trace_pair.specs.Sets.{DropsFrom}
@@ -74,11 +74,15 @@ module _ (after : After) (xs : List Receive) (m : Message) where
 
   module _ (q : Receive) where
     -- Receives that fit the message are posted at its receiver.
-    pub some_before : m.to ≡ q.at → SomeHides after (filter (is_within (Some q.name.call)) xs) m → SomeHidesBefore after xs m q
-    some_before at w =
+    pub some_up_to : m.to ≡ q.at → SomeHides after (filter (is_within (Some q.name.call)) xs) m → SomeHidesUpTo after xs m q
+    some_up_to at w =
         let p = was_kept (is_within (Some q.name.call)) xs w.0 w.1 in
-        let e = sym (fit_parts m w.0 w.2).1 ∙ at in
-        (w.0, p.0, w.2, w.3, and_true (eqb w.0.at q.at) (ltb w.0.name.call q.name.call) (ap (λ r. eqb r q.at) e ∙ eqb_self q.at) p.1)
+        let t = p.1 in
+        (w.0, p.0, w.2, w.3, sym (fit_parts m w.0 w.2).1 ∙ at, grind (arith, nat_tests))
 
-    pub none_before : NoneHides after (filter (is_within (Some q.name.call)) xs) m → NoneHidesBefore after xs m q
-    none_before h u i f p = h u (kept_has (is_within (Some q.name.call)) xs u i (both (eqb u.at q.at) (ltb u.name.call q.name.call) p).1) f
+    pub none_up_to : NoneHides after (filter (is_within (Some q.name.call)) xs) m → NoneHidesUpTo after xs m q
+    none_up_to h u i f at le = h u (kept_has (is_within (Some q.name.call)) xs u i (grind (arith, nat_tests))) f
+
+    -- no receive of another rank does
+    pub none_elsewhere : eqb m.to q.at ≡ false → NoneHidesUpTo after xs m q
+    none_elsewhere not u i f at le = absurd (let e = (fit_parts m u f).1 ∙ at in grind (arith, nat_tests))

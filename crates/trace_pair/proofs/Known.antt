@@ -9,14 +9,13 @@ use Rattle.mpi_model.specs.declared.message.Trust.{Trust}
 use Rattle.mpi_model.specs.declared.message.Trust.TheVariants.{Sure, Doubtful, Void}
 use Rattle.mpi_model.specs.Trusts.{is_sure, is_settled}
 use Rattle.trace_ops.specs.Order.{Has}
-use Rattle.trace_pair.specs.Calls.{AddsMessage, AddsReceive, IsOwnReceive}
+use Rattle.trace_pair.specs.Calls.{IsOwnReceive}
 use Rattle.trace_pair.specs.Coupled.{taker_of, receive_by, IsNew, IsOneMessage, IsOneReceive}
-use Rattle.trace_pair.specs.Indexed.{IsIndexed, TakesMessage, TakesReceive, couple_of}
-use Rattle.trace_pair.specs.Pairing.{After, Paired}
+use Rattle.trace_pair.specs.Indexed.{AreSets, couple_of}
 use Rattle.trace_pair.specs.declared.pair.Couple.{Couple}
-use Rattle.trace_pair.proofs.Certain.{not_before, not_posted, one_call, same_name}
+use Rattle.trace_pair.proofs.Certain.{same_name}
 use Rattle.trace_pair.proofs.Names.{placed, placed_receive}
-use Rattle.trace_pair.proofs.Fitting.{envelope_of, settled_from, settled_parts}
+use Rattle.trace_pair.proofs.Fitting.{envelope_of, settled_parts}
 use Rattle.trace_pair.proofs.Queued.{fit_parts, admits_says}
 
 admitted : (o : Option ℕ) (x : ℕ) → is_some o ≡ true → admits o x ≡ true → o ≡ Some x
@@ -40,15 +39,15 @@ pub told_by : (m : Message) (q : Receive) → IsOwnReceive q → is_settled q �
 told_by m q own settled fit =
     let p = fit_parts m q (envelope_of m q fit) in
     let s = settled_parts q settled in
-    let n : q.name ≡ record { rank = m.to; call = q.name.call } = same_name q.name (record { rank = m.to; call = q.name.call }) (own ∙ sym p.1) refl in
+    let n : q.name ≡ record { rank = m.to; call = q.name.call; part = q.name.part } = same_name q.name (record { rank = m.to; call = q.name.call; part = q.name.part }) (own ∙ sym p.1) refl refl in
     ap (λ x. receive x q.comm q.at q.source q.tag q.trust q) n
-    ∙ ap (λ x. receive (record { rank = m.to; call = q.name.call }) x q.at q.source q.tag q.trust q) (sym p.0)
-    ∙ ap (λ x. receive (record { rank = m.to; call = q.name.call }) m.comm x q.source q.tag q.trust q) (sym p.1)
-    ∙ ap (λ x. receive (record { rank = m.to; call = q.name.call }) m.comm m.to x q.tag q.trust q) (admitted q.source m.from s.0 p.2)
-    ∙ ap (λ x. receive (record { rank = m.to; call = q.name.call }) m.comm m.to (Some m.from) x q.trust q) (tag_is q.tag m.tag p.3)
-    ∙ ap (λ x. receive (record { rank = m.to; call = q.name.call }) m.comm m.to (Some m.from) (cond (is_none q.tag) None (Some m.tag)) x q) (sure_is q.trust s.1)
+    ∙ ap (λ x. receive (record { rank = m.to; call = q.name.call; part = q.name.part }) x q.at q.source q.tag q.trust q) (sym p.0)
+    ∙ ap (λ x. receive (record { rank = m.to; call = q.name.call; part = q.name.part }) m.comm x q.source q.tag q.trust q) (sym p.1)
+    ∙ ap (λ x. receive (record { rank = m.to; call = q.name.call; part = q.name.part }) m.comm m.to x q.tag q.trust q) (admitted q.source m.from s.0 p.2)
+    ∙ ap (λ x. receive (record { rank = m.to; call = q.name.call; part = q.name.part }) m.comm m.to (Some m.from) x q.trust q) (tag_is q.tag m.tag p.3)
+    ∙ ap (λ x. receive (record { rank = m.to; call = q.name.call; part = q.name.part }) m.comm m.to (Some m.from) (cond (is_none q.tag) None (Some m.tag)) x q) (sure_is q.trust s.1)
 
-module _ (after : After) (ms : List Message) (qs : List Receive) (waiting : List Message) (free opened : List Receive) (couples : List Couple) (held : IsIndexed after ms qs waiting free opened couples) where
+module _ (P : Message → Receive → Type 0) (ms : List Message) (qs : List Receive) (waiting : List Message) (free opened : List Receive) (couples : List Couple) (held : AreSets P ms qs waiting free opened couples) where
   pub known_message : (m : Message) → Has ms m → IsOneMessage couples m
   known_message m i d j e =
       let w = held.coupled d j in
@@ -59,30 +58,10 @@ module _ (after : After) (ms : List Message) (qs : List Receive) (waiting : List
       let w = held.coupled d j in
       held.receives_apart d.receive q w.1 i (placed_receive d.receive q (held.receivers d.receive w.1) (held.receivers q i) e)
 
-  -- the couple of a new message is new
-  pub new_message : (more : List Message) (m : Message) (q : Receive) → AddsMessage ms more m → Has qs q → TakesMessage after ms qs m q → IsNew couples (couple_of m q)
-  new_message more m q adds i t = record {
-    fit = told_by m q (held.receivers q i) (settled_from q t.told t.sure_receive) t.fit;
-    message = λ d j e.
-        let w = held.coupled d j in
-        let s = placed d.message m (held.senders d.message w.0) adds.own e in
-        not_before m d.message (adds.behind d.message w.0 (ap (λ (x : OpName). x.rank) s)) (one_call d.message.name m.name e);
-    receive = λ d j e.
-        let w = held.coupled d j in
-        let s = known_receive q i d j e in
-        t.is_free d.message w.0 (subst (λ (r : Receive). Paired after ms qs d.message r) s w.2);
-  }
-
-  -- and so is that of a new receive
-  pub new_receive : (more : List Receive) (m : Message) (q : Receive) → AddsReceive qs more q → Has ms m → TakesReceive after ms qs m q → IsNew couples (couple_of m q)
-  new_receive more m q adds i t = record {
-    fit = told_by m q adds.own (settled_from q t.told t.sure_receive) t.fit;
-    message = λ d j e.
-        let w = held.coupled d j in
-        let s = known_message m i d j e in
-        t.waits d.receive w.1 (subst (λ (n : Message). Paired after ms qs n d.receive) s w.2);
-    receive = λ d j e.
-        let w = held.coupled d j in
-        let s = placed_receive d.receive q (held.receivers d.receive w.1) adds.own e in
-        not_posted q d.receive (adds.behind d.receive w.1 (ap (λ (x : OpName). x.rank) s)) (one_call d.receive.name q.name e);
+  -- the couple of a message and a receive that are in none is new
+  pub new_couple : (m : Message) (q : Receive) → Has ms m → Has qs q → is_settled q ≡ true → fits m q ≡ true → ((r : Receive) → Has qs r → P m r → ⊥) → ((n : Message) → Has ms n → P n q → ⊥) → IsNew couples (couple_of m q)
+  new_couple m q i j s f none_m none_q = record {
+    fit = told_by m q (held.receivers q j) s f;
+    message = λ d k e. let w = held.coupled d k in none_m d.receive w.1 (subst (λ (n : Message). P n d.receive) (known_message m i d k e) w.2);
+    receive = λ d k e. let w = held.coupled d k in none_q d.message w.0 (subst (λ (r : Receive). P d.message r) (known_receive q j d k e) w.2);
   }

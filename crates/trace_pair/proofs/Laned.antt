@@ -1,5 +1,5 @@
 -- The receives of one key, and the ends that their steps tell.
-use Rattle.std.proofs.Common.{◌≡◌, ◌<◌, ◌≤◌, ℕ, zero, suc, true, false, List, [], ◌∷◌, ◌++◌, Option, Some, None, inl, inr, ⊎_elim, sym, refl, ◌∙◌, ap, arith, subst, length, take, drop, get_or, append_assoc, filter, ltb}
+use Rattle.std.proofs.Common.{◌≡◌, ◌<◌, ◌≤◌, ℕ, zero, suc, true, false, List, [], ◌∷◌, ◌++◌, Option, Some, None, inl, inr, ⊎_elim, sym, refl, ◌∙◌, ap, arith, subst, length, take, drop, get_or, append_assoc, filter, ltb, leb}
 use Rattle.std.specs.List.Sorted.{IsPartitionPoint}
 use Rattle.std.proofs.lemmas.List.{append-nil, take-append-drop, take_all}
 use Rattle.std.proofs.lemmas.Bool.Decides.{nat_tests}
@@ -102,14 +102,14 @@ all_told steps n e lane =
     (same_latest (receives_of steps) (filter (is_within None) (receives_of steps)) (end_of None steps)
     (λ u i. kept_has (is_within None) (receives_of steps) u i refl) (λ u i. (was_kept (is_within None) (receives_of steps) u i).0) (told steps lane.latest))
 
-module _ (steps : List Step) (call n : ℕ) (below : (k : ℕ) (d : Step) → k < n → ltb (call_of (get_or steps k d)) call ≡ true)
-    (above : (k : ℕ) (d : Step) → n ≤ k → k < length steps → ltb (call_of (get_or steps k d)) call ≡ false) where
+module _ (steps : List Step) (call n : ℕ) (below : (k : ℕ) (d : Step) → k < n → leb (call_of (get_or steps k d)) call ≡ true)
+    (above : (k : ℕ) (d : Step) → n ≤ k → k < length steps → leb (call_of (get_or steps k d)) call ≡ false) where
   front_within : (u : Receive) → Has (receives_of (take n steps)) u → Has (filter (is_within (Some call)) (receives_of steps)) u
   front_within u i =
       let s = step_of (take n steps) u i in
       let w = at_front n steps s.0 s.1 in
-      let t = ap (λ (x : Step). ltb (call_of x) call) (sym (w.3 s.0)) ∙ below w.0 s.0 w.1 in
-      let t' = ap (λ (x : Receive). ltb x.name.call call) (sym s.2) ∙ t in
+      let t = ap (λ (x : Step). leb (call_of x) call) (sym (w.3 s.0)) ∙ below w.0 s.0 w.1 in
+      let t' = ap (λ (x : Receive). leb x.name.call call) (sym s.2) ∙ t in
       kept_has (is_within (Some call)) (receives_of steps) u (subst (λ (x : Receive). Has (receives_of steps) x) s.2 (has_receive steps s.0 (in_front n steps s.0 s.1))) t'
 
   within_front : (u : Receive) → Has (filter (is_within (Some call)) (receives_of steps)) u → Has (receives_of (take n steps)) u
@@ -124,8 +124,8 @@ module _ (steps : List Step) (call n : ℕ) (below : (k : ℕ) (d : Step) → k 
             (has_receive (take n steps) s.0 (subst (λ (x : Step). Has (take n steps) x) c.2 (front_at n steps c.0 s.0 lt c.1)))
         | false ↦ λ h.
             let ge : n ≤ c.0 = grind (arith, nat_tests) in
-            let f = sym (ap (λ (x : Step). ltb (call_of x) call) c.2) ∙ above c.0 s.0 ge c.1 in
-            let t = ap (λ (x : Receive). ltb x.name.call call) s.2 ∙ p.1 in absurd (cc)
+            let f = sym (ap (λ (x : Step). leb (call_of x) call) c.2) ∙ above c.0 s.0 ge c.1 in
+            let t = ap (λ (x : Receive). leb x.name.call call) s.2 ∙ p.1 in absurd (cc)
       ] refl
 
   front_told : IsLane steps → IsLatestOf (filter (is_within (Some call)) (receives_of steps)) (end_of None (take n steps))
@@ -139,7 +139,7 @@ latest_all limit steps n o lane none long is =
     (subst (λ (x : Option (Option ℕ)). IsLatestOf (filter (is_within None) (receives_of steps)) x) (sym is) (all_told steps n long lane))
 
 pub latest_before : (limit : Option ℕ) (steps : List Step) (call n : ℕ) (o : Option (Option ℕ)) → IsLane steps → limit ≡ Some call →
-    IsPartitionPoint (λ (s : Step). ltb (call_of s) call ≡ true) (λ (s : Step). ltb (call_of s) call ≡ false) steps n → o ≡ end_of None (take n steps) → IsLatestOf (filter (is_within limit) (receives_of steps)) o
+    IsPartitionPoint (λ (s : Step). leb (call_of s) call ≡ true) (λ (s : Step). leb (call_of s) call ≡ false) steps n → o ≡ end_of None (take n steps) → IsLatestOf (filter (is_within limit) (receives_of steps)) o
 latest_before limit steps call n o lane some point is =
     subst (λ (l : Option ℕ). IsLatestOf (filter (is_within l) (receives_of steps)) o) (sym some)
     (subst (λ (x : Option (Option ℕ)). IsLatestOf (filter (is_within (Some call)) (receives_of steps)) x) (sym is)

@@ -1,6 +1,5 @@
 -- The ends of open receives, as one comes and as a message asks for them.
-use Rattle.std.proofs.Common.{◌≡◌, ℕ, Bool, true, false, ◌||◌, List, ◌∷◌, inl, inr, ⊎_elim, sym, refl, ◌∙◌, ap, arith, subst, cond, ◌⊎◌, Option, Some, None, ltb}
-use Rattle.std.specs.Prelude.{if◌then◌else◌}
+use Rattle.std.proofs.Common.{◌≡◌, ℕ, Bool, true, false, ◌||◌, List, ◌∷◌, inl, inr, ⊎_elim, sym, refl, ◌∙◌, ap, arith, subst, cond, Option, Some, None}
 use Rattle.std.specs.Ordering.{is_eq}
 use Rattle.std.specs.BTreeMap.{get}
 use Rattle.std.specs.Cmp.{tied_itself}

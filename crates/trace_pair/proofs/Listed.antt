@@ -1,5 +1,5 @@
 -- Elements that a test finds, and calls of one name.
-use Rattle.std.proofs.Common.{subst, ◌≡◌, ℕ, zero, suc, Bool, true, false, List, [], ◌∷◌, inl, inr, ⊎_elim, sym, refl, ◌∙◌, ap, arith, cond, eqb, Option, Some, None, take}
+use Rattle.std.proofs.Common.{subst, ◌≡◌, ℕ, zero, suc, Bool, true, false, ◌&&◌, List, [], ◌∷◌, inl, inr, ⊎_elim, sym, refl, ◌∙◌, ap, arith, cond, eqb, Option, Some, None, take}
 use Rattle.std.specs.List.{find, filter_map, cons_option}
 use Rattle.std.specs.Option.{option_map}
 use Rattle.std.proofs.lemmas.Bool.Decides.{nat_tests}
@@ -53,7 +53,7 @@ has_take (y ∷ ys) zero x i = absurd i
 has_take (y ∷ ys) (suc k) x i = ⊎_elim (λ (d : x ≡ y). inl d) (λ j. inr (has_take ys k x j)) i
 
 pub name_apart : (a b : OpName) → name_lt a b ≡ true → a ≡ b → ⊥
-name_apart a b h e = let f = ap (λ (o : OpName). o.rank) e in let g = ap (λ (o : OpName). o.call) e in grind (arith, nat_tests)
+name_apart a b h e = let f = ap (λ (o : OpName). o.rank) e in let g = ap (λ (o : OpName). o.call) e in let p = ap (λ (o : OpName). o.part) e in grind (arith, nat_tests)
 
 pub name_apart_back : (a b : OpName) → name_lt a b ≡ true → name_lt b a ≡ true → ⊥
 name_apart_back a b h g = grind (arith, nat_tests)
@@ -68,10 +68,16 @@ one_named name (z ∷ zs) x y o i j e =
     i
 
 pub agree : (a b : OpName) → names_agree a b ≡ true → a ≡ b
-agree a b h = let p = both (eqb a.rank b.rank) (eqb a.call b.call) h in let x : a.rank ≡ b.rank = grind (arith, nat_tests) in let y : a.call ≡ b.call = grind (arith, nat_tests) in same_name a b x y
+agree a b h =
+    let p = both (eqb a.rank b.rank) (eqb a.call b.call && eqb a.part b.part) h in
+    let q = both (eqb a.call b.call) (eqb a.part b.part) p.1 in
+    let x : a.rank ≡ b.rank = grind (arith, nat_tests) in
+    let y : a.call ≡ b.call = grind (arith, nat_tests) in
+    let z : a.part ≡ b.part = grind (arith, nat_tests) in
+    same_name a b x y z
 
 pub agrees : (a b : OpName) → a ≡ b → names_agree a b ≡ true
-agrees a b e = let f = ap (λ (o : OpName). o.rank) e in let g = ap (λ (o : OpName). o.call) e in grind (arith, nat_tests)
+agrees a b e = let f = ap (λ (o : OpName). o.rank) e in let g = ap (λ (o : OpName). o.call) e in let p = ap (λ (o : OpName). o.part) e in grind (arith, nat_tests)
 
 pub mapped : (m : Message) (o : Option Receive) (p : Pair) → option_map (pair_of m) o ≡ Some p → (q : Receive) × (o ≡ Some q) × (p ≡ pair_of m q)
 mapped m None p h = absurd (cc)

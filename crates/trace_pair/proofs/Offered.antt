@@ -1,17 +1,18 @@
 -- All messages with what takes each, as a receive asks for one and takes it.
 use Rattle.std.proofs.Common.{subst, ◌≡◌, ℕ, zero, suc, List, [], ◌∷◌, sym, refl, ◌∙◌, ap, cond, Option, Some, None, length}
-use Rattle.std.specs.Prelude.{slice_get, slice_set, replicate, IfSome}
+use Rattle.std.specs.Prelude.{slice_set, replicate, is_some, IfSome}
 use Rattle.std.specs.Ordering.{is_eq}
 use Rattle.std.specs.BTreeMap.{BTreeMap, IsOrdered}
 use Rattle.mpi_model.specs.declared.message.Message.{Message}
 use Rattle.mpi_model.specs.declared.message.Receive.{Receive}
 use Rattle.trace_pair.specs.KeyOrders.{Queue, queue_cmp, queue_of, Lane, lane_cmp, lane_of}
 use Rattle.trace_pair.specs.Rising.{AreRising}
-use Rattle.trace_pair.specs.Waiting.{from_waiting, places_at, ArePlaces, AreTakings, IsFirstPlace}
+use Rattle.trace_pair.specs.Waiting.{from_waiting, places_at, sole_of, ArePlaces, AreTakings, IsSolePlace}
 use Rattle.trace_pair.specs.declared.pair.Taker.{Taker}
 use Rattle.trace_pair.proofs.Orders.{exact_lanes, exact_queues, lanes_total, queues_total}
 use Rattle.trace_pair.proofs.Queued.{queue, lane, queue_fits, fits_queue, lane_fits, fits_lane}
-use Rattle.trace_pair.proofs.Waited.{places_passed, places_taken, front_is_first}
+use Rattle.trace_pair.proofs.Waited.{places_passed, places_taken}
+use Rattle.trace_pair.proofs.SolePlaces.{line_at, sole_in}
 
 abbrev nones : List Message → List (Option Taker)
 nones ms = replicate (length ms) None
@@ -69,16 +70,18 @@ module _ (ms : List Message) (ts : List (Option Taker)) (queues : BTreeMap Queue
     laned = lanes_taken lanes p t are.laned;
   }
 
-  pub first_in_queue : (q : Receive) (s t : ℕ) (us : List (Option Taker)) (o : Option ℕ) → us ≡ ts → q.source ≡ Some s → q.tag ≡ Some t → o ≡ slice_get (from_waiting us (places_at queue_cmp queues (queue q.comm s q.at t))) zero →
-      IsFirstPlace (record { messages = ms; takers = ts }) q o
-  first_in_queue q s t us o e source tag first =
-      front_is_first queues_total exact_queues queue_of ms ts queues are.rise are.queued q (queue q.comm s q.at t)
-      (λ m f. queue_fits q s t m source tag f) (λ m k. fits_queue q s t m source tag k) o
-      (first ∙ ap (λ (vs : List (Option Taker)). slice_get (from_waiting vs (places_at queue_cmp queues (queue q.comm s q.at t))) zero) e)
+  pub sole_in_queue : (q : Receive) (s t : ℕ) (ns : List Message) (us : List (Option Taker)) (o : Option ℕ) → ns ≡ ms → us ≡ ts → q.source ≡ Some s → q.tag ≡ Some t
+      → o ≡ sole_of ns us (from_waiting us (places_at queue_cmp queues (queue q.comm s q.at t))) → IsSolePlace (record { messages = ms; takers = ts }) q o
+  sole_in_queue q s t ns us o d e source tag sole =
+      let ps = places_at queue_cmp queues (queue q.comm s q.at t) in
+      sole_in ms ts are.rise q (ap (λ (x : Option ℕ). is_some x) source) (from_waiting ts ps)
+      (line_at queue_cmp queue_of ms ts queues are.queued q (queue q.comm s q.at t) (λ m f. queue_fits q s t m source tag f) (λ m k. fits_queue q s t m source tag k)) o
+      (sole ∙ ap (λ (l : List Message). sole_of l us (from_waiting us ps)) d ∙ ap (λ (vs : List (Option Taker)). sole_of ms vs (from_waiting vs ps)) e)
 
-  pub first_in_lane : (made : BTreeMap Lane (List ℕ)) → ArePlaces lane_cmp lane_of ms ts made → (q : Receive) (s : ℕ) (us : List (Option Taker)) (o : Option ℕ) → us ≡ ts → q.source ≡ Some s → q.tag ≡ None →
-      o ≡ slice_get (from_waiting us (places_at lane_cmp made (lane q.comm s q.at))) zero → IsFirstPlace (record { messages = ms; takers = ts }) q o
-  first_in_lane made placed q s us o e source tag first =
-      front_is_first lanes_total exact_lanes lane_of ms ts made are.rise placed q (lane q.comm s q.at)
-      (λ m f. lane_fits q s m source f) (λ m k. fits_lane q s m source tag k) o
-      (first ∙ ap (λ (vs : List (Option Taker)). slice_get (from_waiting vs (places_at lane_cmp made (lane q.comm s q.at))) zero) e)
+  pub sole_in_lane : (made : BTreeMap Lane (List ℕ)) → ArePlaces lane_cmp lane_of ms ts made → (q : Receive) (s : ℕ) (ns : List Message) (us : List (Option Taker)) (o : Option ℕ) → ns ≡ ms → us ≡ ts → q.source ≡ Some s → q.tag ≡ None
+      → o ≡ sole_of ns us (from_waiting us (places_at lane_cmp made (lane q.comm s q.at))) → IsSolePlace (record { messages = ms; takers = ts }) q o
+  sole_in_lane made placed q s ns us o d e source tag sole =
+      let ps = places_at lane_cmp made (lane q.comm s q.at) in
+      sole_in ms ts are.rise q (ap (λ (x : Option ℕ). is_some x) source) (from_waiting ts ps)
+      (line_at lane_cmp lane_of ms ts made placed q (lane q.comm s q.at) (λ m f. lane_fits q s m source f) (λ m k. fits_lane q s m source tag k)) o
+      (sole ∙ ap (λ (l : List Message). sole_of l us (from_waiting us ps)) d ∙ ap (λ (vs : List (Option Taker)). sole_of ms vs (from_waiting vs ps)) e)

@@ -69,7 +69,7 @@ exact_options (Some a) None h = absurd (cc)
 exact_options (Some a) (Some b) h = ap (λ (x : ℕ). Some x) (exact_nats a b h)
 
 pub name_total : IsTotalOrder name_cmp
-name_total = then_total (on_total (λ (x : OpName). x.rank) nat_cmp_total) (on_total (λ (x : OpName). x.call) nat_cmp_total)
+name_total = then_total (on_total (λ (x : OpName). x.rank) nat_cmp_total) (then_total (on_total (λ (x : OpName). x.call) nat_cmp_total) (on_total (λ (x : OpName). x.part) nat_cmp_total))
 
 pub messages_total : IsTotalOrder message_cmp
 messages_total = then_total (on_total (λ (x : Message). x.name) name_total) (then_total (on_total (λ (x : Message). x.comm) nat_cmp_total) (then_total (on_total (λ (x : Message). x.from) nat_cmp_total) (then_total (on_total (λ (x : Message). x.to) nat_cmp_total) (then_total (on_total (λ (x : Message). x.tag) nat_cmp_total) (then_total (on_total (λ (x : Message). x.mode) mode_laws.total-law) (then_total (on_total (λ (x : Message). x.trust) trust_laws.total-law) (then_total (on_total (λ (x : Message). x.count) nat_cmp_total) (on_total (λ (x : Message). x.datatype) int_cmp_total))))))))
@@ -86,8 +86,8 @@ lanes_total = then_total (then_total (on_total (λ (x : Lane). x.0) nat_cmp_tota
 pub receive_keys_total : IsTotalOrder receive_key_cmp
 receive_keys_total = then_total (then_total (then_total (on_total (λ (x : ReceiveKey). x.0) nat_cmp_total) (on_total (λ (x : ReceiveKey). x.1) nat_cmp_total)) (on_total (λ (x : ReceiveKey). x.2) (options_total nat_cmp_total))) (on_total (λ (x : ReceiveKey). x.3) (options_total nat_cmp_total))
 
-abbrev name : ℕ → ℕ → OpName
-name r c = record { rank = r; call = c }
+abbrev name : ℕ → ℕ → ℕ → OpName
+name r c p = record { rank = r; call = c; part = p }
 
 abbrev message : OpName → ℕ → ℕ → ℕ → ℕ → Mode → Trust → ℕ → ℤ → Message
 message n c f t g k u e d = record { name = n; comm = c; from = f; to = t; tag = g; mode = k; trust = u; count = e; datatype = d }
@@ -106,9 +106,11 @@ receive_key a b c d = (a, b, c, d)
 
 pub exact_names : CmpEqualImpliesEq name_cmp
 exact_names a b h =
-    let h0 = then_equal (nat_cmp a.rank b.rank) (nat_cmp a.call b.call) h in
-    ap (λ x. name x a.call) (exact_nats a.rank b.rank h0.0)
-    ∙ ap (λ x. name b.rank x) (exact_nats a.call b.call h0.1)
+    let h0 = then_equal (nat_cmp a.rank b.rank) (ordering_then (nat_cmp a.call b.call) (nat_cmp a.part b.part)) h in
+    let h1 = then_equal (nat_cmp a.call b.call) (nat_cmp a.part b.part) h0.1 in
+    ap (λ x. name x a.call a.part) (exact_nats a.rank b.rank h0.0)
+    ∙ ap (λ x. name b.rank x a.part) (exact_nats a.call b.call h1.0)
+    ∙ ap (λ x. name b.rank b.call x) (exact_nats a.part b.part h1.1)
 
 pub exact_messages : CmpEqualImpliesEq message_cmp
 exact_messages a b h =
@@ -178,26 +180,31 @@ exact_receive_keys a b h =
     ∙ ap (λ x. receive_key b.0 b.1 x a.3) (exact_options a.2 b.2 h2.1)
     ∙ ap (λ x. receive_key b.0 b.1 b.2 x) (exact_options a.3 b.3 h3.1)
 
+-- where the first of two orders is one, or the next decides
+first_above : (x y : Ordering) → x ≡ Greater → ordering_then x y ≡ Greater
+first_above x y e = ap (λ (o : Ordering). ordering_then o y) e
+
+next_above : (x y : Ordering) → x ≡ Equal → y ≡ Greater → ordering_then x y ≡ Greater
+next_above x y e f = ap (λ (o : Ordering). ordering_then o y) e ∙ f
+
 -- the later name is above
-above_name : (a b : OpName) (rest : Ordering) → name_lt a b ≡ true → is_gt (ordering_then (name_cmp b a) rest) ≡ true
-above_name a b rest h =
+name_above : (a b : OpName) → name_lt a b ≡ true → name_cmp b a ≡ Greater
+name_above a b h =
+    let parts = ordering_then (nat_cmp b.call a.call) (nat_cmp b.part a.part) in
     elim (cases_lt a.rank b.rank) [
-      | inl lt ↦ let e : nat_cmp b.rank a.rank ≡ Greater = grind (arith, nat_tests) in
-          ap (λ x. is_gt (ordering_then (ordering_then x (nat_cmp b.call a.call)) rest)) e
-      | inr le ↦ let e : nat_cmp b.rank a.rank ≡ Equal = grind (arith, nat_tests) in
-          let f : nat_cmp b.call a.call ≡ Greater = grind (arith, nat_tests) in
-          ap (λ x. is_gt (ordering_then (ordering_then x (nat_cmp b.call a.call)) rest)) e ∙ ap (λ x. is_gt (ordering_then x rest)) f
+      | inl lt ↦ first_above (nat_cmp b.rank a.rank) parts (grind (arith, nat_tests))
+      | inr le ↦ elim (cases_lt a.call b.call) [
+        | inl lt ↦ next_above (nat_cmp b.rank a.rank) parts (grind (arith, nat_tests)) (first_above (nat_cmp b.call a.call) (nat_cmp b.part a.part) (grind (arith, nat_tests)))
+        | inr le' ↦ next_above (nat_cmp b.rank a.rank) parts (grind (arith, nat_tests))
+            (next_above (nat_cmp b.call a.call) (nat_cmp b.part a.part) (grind (arith, nat_tests)) (grind (arith, nat_tests)))
+      ]
     ]
 
+above_name : (a b : OpName) (rest : Ordering) → name_lt a b ≡ true → is_gt (ordering_then (name_cmp b a) rest) ≡ true
+above_name a b rest h = ap is_gt (first_above (name_cmp b a) rest (name_above a b h))
+
 pub later_name : (a b : OpName) → name_lt a b ≡ true → is_gt (name_cmp b a) ≡ true
-later_name a b h =
-    elim (cases_lt a.rank b.rank) [
-      | inl lt ↦ let e : nat_cmp b.rank a.rank ≡ Greater = grind (arith, nat_tests) in
-          ap (λ x. is_gt (ordering_then x (nat_cmp b.call a.call))) e
-      | inr le ↦ let e : nat_cmp b.rank a.rank ≡ Equal = grind (arith, nat_tests) in
-          let f : nat_cmp b.call a.call ≡ Greater = grind (arith, nat_tests) in
-          ap (λ x. is_gt (ordering_then x (nat_cmp b.call a.call))) e ∙ ap (λ x. is_gt x) f
-    ]
+later_name a b h = ap is_gt (name_above a b h)
 
 pub later_message : (p n : Message) → name_lt p.name n.name ≡ true → is_gt (message_cmp n p) ≡ true
 later_message p n h = above_name p.name n.name _ h

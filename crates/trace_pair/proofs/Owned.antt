@@ -11,7 +11,7 @@ use Rattle.trace_pair.specs.Indexed.{name_lt}
 use Rattle.trace_pair.specs.Table.{sends_of, receives_of}
 use Rattle.trace_pair.specs.Rising.{AreRising}
 use Rattle.trace_pair.proofs.Listed.{one_named}
-use Rattle.trace_pair.proofs.Names.{sent_name, posted_name, named_message, named_receive}
+use Rattle.trace_pair.proofs.Names.{sent_listed, posted_listed, named_message, named_receive}
 use Rattle.trace_pair.proofs.Ranked.{at_least}
 use Rattle.trace_pair.proofs.Ranks.{has_either}
 
@@ -29,11 +29,11 @@ rising_both {X = X} name (x ∷ xs) ys a b h =
 
 sends_rise : (ms : List Message) → AreInOrder ms → ((m : Message) → Has ms m → IsOwnMessage m) → AreRising (λ m. m.name) ms
 sends_rise [] o own = tt
-sends_rise (m ∷ ms) o own = (λ n i. sent_name m n (own m (inl refl)) (own n (inr i)) (o.0 n i), sends_rise ms o.1 (λ n i. own n (inr i)))
+sends_rise (m ∷ ms) o own = (λ n i. sent_listed m n (own m (inl refl)) (own n (inr i)) (o.0 n i), sends_rise ms o.1 (λ n i. own n (inr i)))
 
 receives_rise : (qs : List Receive) → ArePosted qs → ((q : Receive) → Has qs q → IsOwnReceive q) → AreRising (λ q. q.name) qs
 receives_rise [] o own = tt
-receives_rise (q ∷ qs) o own = (λ r i. posted_name q r (own q (inl refl)) (own r (inr i)) (o.0 r i), receives_rise qs o.1 (λ r i. own r (inr i)))
+receives_rise (q ∷ qs) o own = (λ r i. posted_listed q r (own q (inl refl)) (own r (inr i)) (o.0 r i), receives_rise qs o.1 (λ r i. own r (inr i)))
 
 lower_rank : (a b : OpName) → a.rank < b.rank → name_lt a b ≡ true
 lower_rank a b h = grind (arith, nat_tests)

@@ -5,10 +5,10 @@ use Rattle.mpi_model.specs.declared.message.Message.{Message}
 use Rattle.mpi_model.specs.declared.message.Receive.{Receive}
 use Rattle.mpi_model.specs.Fit.{fits}
 use Rattle.mpi_model.specs.Trusts.{is_open}
-use Rattle.trace_ops.specs.Order.{posted_before, Has}
+use Rattle.trace_ops.specs.Order.{Has}
 use Rattle.trace_pair.specs.Ends.{NoneHides, SomeHides}
 use Rattle.trace_pair.specs.Indexed.{IsIndexed, couple_of}
-use Rattle.trace_pair.specs.Places.{posted_at}
+use Rattle.trace_pair.specs.Places.{posted_at, posted_no_later}
 use Rattle.trace_pair.specs.Calls.{is_live, ArePostedApart}
 use Rattle.trace_pair.specs.Pairing.{After, paired, receive_of, Paired}
 use Rattle.trace_pair.specs.Table.{fits_open}
@@ -25,8 +25,8 @@ receive_is_of after ms qs apart m q i j h =
     let u = found (paired after ms qs m) qs w.0 w.1 in
     let a = fits_at m q (pair_obeys after ms qs m q h).fit in
     let b = fits_at m w.0 (pair_obeys after ms qs m w.0 u.1).fit in
-    let e : q ≡ w.0 = ⊎_elim (λ (x : posted_before q w.0 ≡ true). absurd (one_receive after ms qs m w.0 q i u.0 j x u.1 h))
-    (λ c. ⊎_elim (λ (x : posted_before w.0 q ≡ true). absurd (one_receive after ms qs m q w.0 i j u.0 x h u.1))
+    let e : q ≡ w.0 = ⊎_elim (λ (x : posted_no_later q w.0 ≡ true). absurd (one_receive after ms qs m w.0 q i u.0 j x u.1 h))
+    (λ c. ⊎_elim (λ (x : posted_no_later w.0 q ≡ true). absurd (one_receive after ms qs m q w.0 i j u.0 x h u.1))
     (λ (e : posted_at q ≡ posted_at w.0). apart q w.0 j u.0 e) c)
     (in_order (posted_at q) (posted_at w.0) (sym a ∙ b)) in
     ap (λ (x : Receive). Some x) e ∙ sym w.1

@@ -1,16 +1,20 @@
 -- Calls that come part by part: a part of each rank, and then the next part of each.
 use Rattle.std.proofs.Common.{subst, ◌≡◌, ℕ, zero, suc, ◌+◌, ◌*◌, ◌/◌, ◌<◌, ◌≤◌, List, [], ◌∷◌, ◌++◌, sym, refl, ◌∙◌, ap, arith, length, take, drop, get_or, set}
+use Rattle.std.specs.List.{All}
+use Rattle.std.proofs.lemmas.List.Elements.{All-get_or}
 use Rattle.std.proofs.lemmas.List.{take_all, take-take, length-take-le, take-append-drop, length-map}
 use Rattle.std.proofs.Math.Nat.{mul-le-mul_right, mul-div_cancel_left, div-mul-le_self, le-div_iff_mul-le, zero-mul, zero-div}
 use Rattle.mpi_model.specs.declared.message.Message.{Message}
 use Rattle.mpi_model.specs.declared.message.Receive.{Receive}
 use Rattle.trace_ops.specs.Ops.{Ops, IsOwn, AreOwn}
 use Rattle.trace_ops.specs.Order.{Has, AreInOrder, ArePosted}
+use Rattle.trace_pair.specs.Calls.{AreSentByCall, ArePostedByCall, IsSingle}
 use Rattle.trace_pair.specs.Followed.{Indexes, FollowsBy, Moves}
 use Rattle.trace_pair.specs.Pairing.{After}
 use Rattle.trace_pair.specs.Parts.{first_parts, begun, all_begun}
 use Rattle.trace_pair.specs.Table.{sends_of, receives_of}
 use Rattle.trace_pair.specs.declared.matched.Matched.{Matched}
+use Rattle.trace_pair.proofs.ByCall.{sent_front, posted_front as call_front}
 use Rattle.trace_pair.proofs.Posts.{order_front as posted_front}
 use Rattle.trace_pair.proofs.Ranked.{moved, own_at}
 use Rattle.trace_pair.proofs.Ranks.{has_left, order_front}
@@ -79,6 +83,15 @@ own_begun parts done rank o w =
       cancelled_rise = w.cancelled_rise;
     }
 
+single_begun : (parts done : ℕ) (o : Ops) → IsSingle o → IsSingle (begun parts done o)
+single_begun parts done o w =
+    let i = done * length o.sends / parts in
+    let j = done * length o.receives / parts in
+    record {
+      sends = sent_front (take i o.sends) (drop i o.sends) (subst (λ (l : List Message). AreSentByCall l) (sym (take-append-drop i o.sends)) w.sends);
+      receives = call_front (take j o.receives) (drop j o.receives) (subst (λ (l : List Receive). ArePostedByCall l) (sym (take-append-drop j o.receives)) w.receives);
+    }
+
 begun_whole : (parts : ℕ) (o : Ops) → 0 < parts → begun parts parts o ≡ o
 begun_whole parts o lt =
     ap (λ (ms : List Message). record o { sends = ms; receives = first_parts parts parts o.receives }) (first_all parts o.sends lt)
@@ -137,13 +150,14 @@ module _ (parts done : ℕ) where
   ahead_all (o ∷ os) = ap (λ (ps : List Ops). begun parts (done + 1) o ∷ ps) (ahead_all os)
 
   -- the next rank gets its part
-  pub next_ahead : (after : After) (os : List Ops) (i : ℕ) (o : Ops) (old new : Matched) → i < length os → AreOwn 0 os → o ≡ get_or os i o → Moves after (begun parts done o) (begun parts (done + 1) o) old new → FollowsBy after (one_ahead i os) old → FollowsBy after (one_ahead (i + 1) os) new
-  next_ahead after os i o old new lt a e law x =
+  pub next_ahead : (after : After) (os : List Ops) (i : ℕ) (o : Ops) (old new : Matched) → i < length os → AreOwn 0 os → All IsSingle os → o ≡ get_or os i o → Moves after (begun parts done o) (begun parts (done + 1) o) old new → FollowsBy after (one_ahead i os) old → FollowsBy after (one_ahead (i + 1) os) new
+  next_ahead after os i o old new lt a singles e law x =
       let w : IsOwn i o = subst (λ (q : Ops). IsOwn i q) (sym e) (subst (λ (r : ℕ). IsOwn r (get_or os i o)) (omega arith) (own_at os 0 i o lt a)) in
+      let single = subst (λ (q : Ops). IsSingle q) (sym e) (All-get_or IsSingle os i o lt singles) in
       let n = ahead_length i os in
       let d : begun parts done o ≡ get_or (one_ahead i os) i (begun parts done o) = ap (begun parts done) e ∙ sym (ahead_at i os o (begun parts done o) lt) in
       let k : suc i ≡ i + 1 = omega arith in
       let s : set (one_ahead i os) i (begun parts (done + 1) o) ≡ one_ahead (i + 1) os =
       ap (λ (q : Ops). set (one_ahead i os) i (begun parts (done + 1) q)) e ∙ ahead_next i os o lt ∙ ap (λ (j : ℕ). one_ahead j os) k in
       subst (λ (held : List Ops). FollowsBy after held new) s
-      (moved after (one_ahead i os) i (begun parts done o) (begun parts (done + 1) o) old new (omega arith) (ahead_own i 0 os a) (own_begun parts (done + 1) i o w) d law x)
+      (moved after (one_ahead i os) i (begun parts done o) (begun parts (done + 1) o) old new (omega arith) (ahead_own i 0 os a) (own_begun parts (done + 1) i o w) (single_begun parts done o single) (single_begun parts (done + 1) o single) d law x)

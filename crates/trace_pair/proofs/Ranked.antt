@@ -1,15 +1,16 @@
 -- The ops of one rank among those of all.
-use Rattle.std.proofs.Common.{subst, ◌≡◌, ℕ, zero, suc, ◌+◌, ◌<◌, ◌≤◌, List, [], ◌∷◌, ◌++◌, ⊎_elim, sym, refl, ◌∙◌, ap, arith, append_assoc, length, take, drop, get_or, set, None}
+use Rattle.std.proofs.Common.{subst, ◌≡◌, ℕ, zero, suc, ◌+◌, ◌<◌, ◌≤◌, List, [], ◌∷◌, ◌++◌, ⊎_elim, sym, refl, ◌∙◌, ap, arith, append_assoc, length, take, drop, get_or, set}
 use Rattle.std.specs.List.{flat_map}
 use Rattle.mpi_model.specs.declared.message.Message.{Message}
 use Rattle.mpi_model.specs.declared.message.Receive.{Receive}
 use Rattle.trace_ops.specs.Ops.{Ops, no_ops, IsOwn, AreOwn}
 use Rattle.trace_ops.specs.Order.{Has}
-use Rattle.trace_pair.specs.Calls.{between, IsSequence, IsPosting}
+use Rattle.trace_pair.specs.Calls.{between, IsSequence, IsPosting, IsPostingByCall, IsSingle}
 use Rattle.trace_pair.specs.Followed.{Indexes, FollowsBy, Moves}
 use Rattle.trace_pair.specs.Pairing.{After}
 use Rattle.trace_pair.specs.Kept.{IsKept}
 use Rattle.trace_pair.specs.Table.{fresh, sends_of, receives_of}
+use Rattle.trace_pair.specs.declared.index.Following.TheVariants.{NotYet}
 use Rattle.trace_pair.specs.declared.matched.Matched.{Matched}
 use Rattle.trace_pair.proofs.Ranks.{has_either}
 
@@ -69,10 +70,10 @@ pub own_fresh : (n first : ℕ) → AreOwn first (fresh n)
 own_fresh zero first = tt
 own_fresh (suc n) first = (record { sent = λ m i. absurd i; sent_from = λ m i. absurd i; posted = λ q i. absurd i; posted_at = λ q i. absurd i; sends_rise = tt; receives_rise = tt; rounds_rise = tt; cancelled_by = λ b i. absurd i; cancelled_rise = tt }, own_fresh n (first + 1))
 
-pub is_sequence : (os : List Ops) (i : ℕ) (n : Ops) → AreOwn 0 os → IsOwn i n → IsSequence (sends_of (take i os)) (sends_of (drop (suc i) os)) n.sends
-is_sequence os i n a o = record {
+pub is_sequence : (os : List Ops) (i : ℕ) (n : Ops) → AreOwn 0 os → IsOwn i n → IsSingle n → IsSequence (sends_of (take i os)) (sends_of (drop (suc i) os)) n.sends
+is_sequence os i n a o single = record {
   own = λ m h. o.sent m h ∙ sym (o.sent_from m h);
-  order = o.sends_rise;
+  order = single.sends;
   apart_before = λ m k h j e. let x = below (λ o. o.sends) (λ m. m.from) (λ r o m w. w.sent_from m) os 0 i m a h in let y = o.sent_from k j in omega arith;
   apart_after = λ m k h j e. let x = above (λ o. o.sends) (λ m. m.from) (λ r o m w. w.sent_from m) os 0 i m a h in let y = o.sent_from k j in omega arith;
 }
@@ -85,21 +86,25 @@ is_posting os i n a o = record {
   apart_after = λ m k h j e. let x = above (λ o. o.receives) (λ m. m.at) (λ r o m w. w.posted_at m) os 0 i m a h in let y = o.posted_at k j in omega arith;
 }
 
+pub is_posting_by_call : (os : List Ops) (i : ℕ) (n : Ops) → AreOwn 0 os → IsOwn i n → IsSingle n → IsPostingByCall (receives_of (take i os)) (receives_of (drop (suc i) os)) n.receives
+is_posting_by_call os i n a o single = let p = is_posting os i n a o in record { own = p.own; order = single.receives; apart_before = p.apart_before; apart_after = p.apart_after }
+
 -- ranks without calls
-pub kept_fresh : (held : List Ops) (n : ℕ) → held ≡ fresh n → IsKept held None
-kept_fresh held n e = subst (λ (h : List Ops). IsKept h None) (sym e) (record { own = own_fresh n 0; followed = tt })
+pub kept_fresh : (held : List Ops) (n : ℕ) → held ≡ fresh n → IsKept held NotYet
+kept_fresh held n e = subst (λ (h : List Ops). IsKept h NotYet) (sym e) (record { own = own_fresh n 0; followed = tt })
 
 -- a rank's ops are new ones
-pub moved : (after : After) (held : List Ops) (i : ℕ) (d n : Ops) (old new : Matched) → i < length held → AreOwn 0 held → IsOwn i n → d ≡ get_or held i d → Moves after d n old new → FollowsBy after held old → FollowsBy after (set held i n) new
-moved after held i d n old new lt a o e law x =
+pub moved : (after : After) (held : List Ops) (i : ℕ) (d n : Ops) (old new : Matched) → i < length held → AreOwn 0 held → IsOwn i n → IsSingle d → IsSingle n → d ≡ get_or held i d → Moves after d n old new → FollowsBy after held old → FollowsBy after (set held i n) new
+moved after held i d n old new lt a o was single e law x =
     let w : IsOwn i (get_or held i d) = subst (λ (r : ℕ). IsOwn r (get_or held i d)) (omega arith) (own_at held 0 i d lt a) in
+    let alone = subst (λ (g : Ops). IsSingle g) e was in
     let s = split (λ o. o.sends) held i d lt in
     let r = split (λ o. o.receives) held i d lt in
     let s' = split_set (λ o. o.sends) held i n lt in
     let r' = split_set (λ o. o.receives) held i n lt in
     let x' = subst (λ (qs : List Receive). Indexes after (between (sends_of (take i held)) (get_or held i d).sends (sends_of (drop (suc i) held))) qs old) r (subst (λ (ms : List Message). Indexes after ms (receives_of held) old) s x) in
     let y = (subst (λ (g : Ops). Moves after g n old new) e law) (sends_of (take i held)) (sends_of (drop (suc i) held)) (receives_of (take i held)) (receives_of (drop (suc i) held))
-    (is_sequence held i (get_or held i d) a w) (is_sequence held i n a o) (is_posting held i (get_or held i d) a w) (is_posting held i n a o) x' in
+    (is_sequence held i (get_or held i d) a w alone) (is_sequence held i n a o single) (is_posting_by_call held i (get_or held i d) a w alone) (is_posting_by_call held i n a o single) x' in
     subst (λ (ms : List Message). Indexes after ms (receives_of (set held i n)) new) (sym s')
     (subst (λ (qs : List Receive). Indexes after (between (sends_of (take i held)) n.sends (sends_of (drop (suc i) held))) qs new) (sym r') y)
 

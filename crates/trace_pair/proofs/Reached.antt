@@ -5,8 +5,6 @@
 use Rattle.std.proofs.Common.{◌≡◌, ℕ, zero, suc, ◌+◌, ◌<◌, ◌≤◌, Bool, true, false, ◌&&◌, ◌||◌, List, [], ◌∷◌, ◌++◌, inl, inr, ⊎_elim, sym, refl, ◌∙◌, ap, arith, length, filter, take, drop, get_or, add-one, eqb, ltb, eqb-true, zero-add, cond, Option, Some, None, subst}
 use Rattle.std.specs.Prelude.{nat_le, unwrap_or, slice_get, slice_set}
 use Rattle.std.specs.List.{list_any}
-use Rattle.std.specs.Ordering.{nat_cmp}
-use Rattle.std.specs.BTreeMap.{get}
 use Rattle.std.proofs.lemmas.Bool.Decides.{nat_tests}
 use Rattle.std.proofs.lemmas.List.{get_or_past, take_more}
 use Rattle.std.proofs.Math.Seq.{drop-cons}
@@ -17,7 +15,7 @@ use Rattle.trace_ops.specs.Round.{is_barrier}
 use Rattle.trace_ops.specs.declared.entered.Entered.{Entered}
 use Rattle.trace_pair.specs.After.{entered_before, is_left, is_own, is_after}
 use Rattle.trace_pair.specs.Barriers.{OnComm, Rise, IsBarrierBefore, calls_on, barriers_on, on_comm, barrier_at, last_before}
-use Rattle.trace_pair.specs.Reach.{IsReachOf, AreReachesOf, AreRowsRising, barriers_of, has_barrier, is_entered_behind, is_met, is_passed, is_passed_in, is_passed_on}
+use Rattle.trace_pair.specs.Reach.{IsReachOf, AreReachesOf, AreRowsRising, has_barrier, holds, is_entered_behind, is_met, is_passed_in, is_passed_on, row_at}
 use Rattle.trace_pair.specs.declared.reach.Barrier.{Barrier}
 use Rattle.trace_pair.specs.declared.reach.RankReach.{RankReach}
 use Rattle.trace_pair.proofs.Afterwards.{none_entered, no_receiver}
@@ -326,29 +324,24 @@ module _ (s r : Ops) (m : Message) (e : ℕ) (sent : AreEntered s.rounds) (taken
       (λ h. let w = any_found (is_passed_in s.rounds r m.name.call e) s.comms h in passed_is_left w.0 w.1 w.2)
       (λ h. let w = any_found (is_left s r m e) s.rounds h in left_is_passed w.0 w.1 w.2)
 
-among : {X : Type 0} (q p f : X → Bool) (xs : List X) → ((x : X) → Has xs x → f x ≡ (q x && p x)) → list_any p (filter q xs) ≡ list_any f xs
+among : {X : Type 0} (q p f : X → Bool) (xs : List X) → ((x : X) → f x ≡ (q x && p x)) → list_any p (filter q xs) ≡ list_any f xs
 among q p f [] h = refl
 among q p f (x ∷ xs) h =
-    let rest = among q p f xs (λ y i. h y (inr i)) in
-    let here = h x (inl refl) in
     (elim (q x) as (λ b. list_any p (cond b (x ∷ filter q xs) (filter q xs)) ≡ ((b && p x) || list_any p (filter q xs))) [ true ↦ refl | false ↦ refl ])
-    ∙ ap (λ t. t || list_any p (filter q xs)) (sym here) ∙ ap (λ t. f x || t) rest
+    ∙ ap (λ t. t || list_any p (filter q xs)) (sym (h x)) ∙ ap (λ t. f x || t) (among q p f xs h)
 
 -- the table of two ranks' ops
 module _ (s r : Ops) (t u : RankReach) (sender : IsReachOf s t) (receiver : IsReachOf r u) where
-  row_there : (x : ℕ) → Has s.comms x → get nat_cmp t.rows x ≡ Some (on_comm x s.rounds)
-  row_there x i = sender.rows x ∙ ap (λ b. cond b (Some (on_comm x s.rounds)) None) (number_in s.comms x i)
-
-  in_rows : (call e x : ℕ) → Has s.comms x → is_passed_in s.rounds r call e x ≡ (has_barrier (get nat_cmp t.rows x) && is_passed_on t u call e x)
-  in_rows call e x i =
-      let own = row_there x i in
-      let held = list_any (λ c. eqb c x) r.comms in
-      let theirs : get nat_cmp u.rows x ≡ cond held (Some (on_comm x r.rounds)) None = receiver.rows x in
-      by held (calls_on x s.rounds) (barriers_on x 0 s.rounds) call e x
-      ∙ sym (ap (λ o. has_barrier o && is_passed o (get nat_cmp u.rows x) call e) own ∙ ap (λ o. has_barrier (Some (on_comm x s.rounds)) && is_passed (Some (on_comm x s.rounds)) o call e) theirs)
+  in_rows : (call e x : ℕ) → is_passed_in s.rounds r call e x ≡ (has_barrier (row_at t.rows x) && is_passed_on t u call e x)
+  in_rows call e x =
+      let bs = barriers_on x 0 s.rounds in
+      by (list_any (λ c. eqb c x) r.comms) (calls_on x s.rounds) bs call e x
+      ∙ sym (ap (λ (row : OnComm). has_barrier row && (holds u x && is_met (last_before call row.barriers) (row_at u.rows x).calls e)) (sender.rows x)
+      ∙ ap (λ (row : OnComm). has_barrier (on_comm x s.rounds) && (holds u x && is_met (last_before call bs) row.calls e)) (receiver.rows x)
+      ∙ ap (λ b. has_barrier (on_comm x s.rounds) && (b && is_met (last_before call bs) (calls_on x r.rounds) e)) (receiver.comms x))
     where
       by : (held : Bool) (cs : List ℕ) (bs : List Barrier) (call e x : ℕ) → (held && is_met (last_before call bs) (calls_on x r.rounds) e) ≡
-          (has_barrier (Some (record { calls = cs; barriers = bs })) && is_passed (Some (record { calls = cs; barriers = bs })) (cond held (Some (on_comm x r.rounds)) None) call e)
+          (has_barrier (record { calls = cs; barriers = bs }) && (held && is_met (last_before call bs) (calls_on x r.rounds) e))
       by true cs [] call e x = refl
       by true cs (b ∷ bs) call e x = refl
       by false cs [] call e x = refl
@@ -358,14 +351,12 @@ module _ (s r : Ops) (t u : RankReach) (sender : IsReachOf s t) (receiver : IsRe
   pub left_by_table : (m : Message) (e : ℕ) → list_any (is_passed_on t u m.name.call e) t.barrier_comms.items ≡ list_any (is_left s r m e) s.rounds
   left_by_table m e =
       ap (λ (l : List ℕ). list_any (is_passed_on t u m.name.call e) l) sender.barrier_comms
-      ∙ among (λ c. has_barrier (get nat_cmp t.rows c)) (is_passed_on t u m.name.call e) (is_passed_in s.rounds r m.name.call e) s.comms (λ x i. in_rows m.name.call e x i)
+      ∙ among (λ c. has_barrier (row_at t.rows c)) (is_passed_on t u m.name.call e) (is_passed_in s.rounds r m.name.call e) s.comms (in_rows m.name.call e)
       ∙ left_by_last s r m e sender.rounds_rise receiver.rounds_rise
 
 -- the rows of a rank's table rise
 pub rows_rise : (s : Ops) (t : RankReach) → IsReachOf s t → AreRowsRising t
-rows_rise s t is c =
-    subst (λ (o : Option OnComm). Rise (barriers_of o)) (sym (is.rows c))
-    (elim (list_any (λ x. eqb x c) s.comms) as (λ b. Rise (barriers_of (cond b (Some (on_comm c s.rounds)) None))) [ true ↦ barriers_rise c 0 s.rounds is.rounds_rise | false ↦ tt ])
+rows_rise s t is c = subst (λ (row : OnComm). Rise row.barriers) (sym (is.rows c)) (barriers_rise c 0 s.rounds is.rounds_rise)
 
 -- the parts of all ranks
 reaches_push : (os : List Ops) (ts : List RankReach) (o : Ops) (t : RankReach) → AreReachesOf os ts → IsReachOf o t → AreReachesOf (os ++ o ∷ []) (ts ++ t ∷ [])

@@ -1,17 +1,12 @@
 -- The rows of a rank's collective calls, as one call comes.
-use Rattle.std.proofs.Common.{◌≡◌, ℕ, zero, suc, ◌+◌, ◌-◌, ◌<◌, ◌≤◌, Bool, true, false, ◌||◌, List, [], ◌∷◌, ◌++◌, sym, refl, ◌∙◌, ap, arith, length, filter, take, get_or, eqb, ltb, cond, Option, Some, None}
+use Rattle.std.proofs.Common.{◌≡◌, ℕ, zero, suc, ◌+◌, ◌-◌, ◌<◌, ◌≤◌, Bool, true, false, List, [], ◌∷◌, ◌++◌, sym, refl, ◌∙◌, ap, arith, length, filter, take, get_or, eqb, ltb, cond, Option, Some, None}
 use Rattle.std.specs.Prelude.{unwrap_or}
-use Rattle.std.specs.List.{list_any}
-use Rattle.std.specs.Option.{option_map}
-use Rattle.std.specs.Ordering.{is_eq, nat_cmp}
 use Rattle.std.specs.List.Sorted.{IsNonDecreasingBy}
-use Rattle.std.proofs.lemmas.Bool.Decides.{nat_tests}
 use Rattle.std.proofs.lemmas.List.{take_more, append-nil}
 use Rattle.std.proofs.lemmas.List.Elements.{filter_more}
-use Rattle.std.proofs.lemmas.List.Folds.{list_any-append}
 use Rattle.trace_ops.specs.Round.{is_barrier}
 use Rattle.trace_ops.specs.declared.entered.Entered.{Entered}
-use Rattle.trace_pair.specs.Barriers.{OnComm, Rise, no_entries, calls_on, barriers_on, on_comm, barrier_at, with_barrier, with_entry, last_before}
+use Rattle.trace_pair.specs.Barriers.{OnComm, Rise, calls_on, barriers_on, on_comm, barrier_at, with_barrier, with_entry, last_before}
 use Rattle.trace_pair.specs.declared.reach.Barrier.{Barrier}
 use Rattle.trace_pair.proofs.Tabled.{has_at}
 
@@ -61,48 +56,19 @@ abbrev row : List ℕ → List Barrier → OnComm
 row a b = record { calls = a; barriers = b }
 
 -- one call more, on any communicator
-pub on_comm_more : (comm : ℕ) (xs : List Entered) (x : Entered) → on_comm comm (xs ++ x ∷ []) ≡ cond (eqb x.comm comm) (with_entry (on_comm comm xs) x) (on_comm comm xs)
+on_comm_more : (comm : ℕ) (xs : List Entered) (x : Entered) → on_comm comm (xs ++ x ∷ []) ≡ cond (eqb x.comm comm) (with_entry (on_comm comm xs) x) (on_comm comm xs)
 on_comm_more comm xs x = by (eqb x.comm comm) _ _ _ _ _ _ (calls_more comm xs x) (barriers_more comm 0 xs x (length (calls_on comm xs)) (omega arith))
   where
     by : (b : Bool) (c c1 c2 : List ℕ) (d d1 d2 : List Barrier) → c ≡ cond b c1 c2 → d ≡ cond b d1 d2 → row c d ≡ cond b (row c1 d1) (row c2 d2)
     by true c c1 c2 d d1 d2 h g = ap (λ (l : List ℕ). row l d) h ∙ ap (λ (l : List Barrier). row c1 l) g
     by false c c1 c2 d d1 d2 h g = ap (λ (l : List ℕ). row l d) h ∙ ap (λ (l : List Barrier). row c2 l) g
 
--- the row of a communicator that holds the rank, as a call comes
-pub row_more : (comm : ℕ) (xs : List Entered) (x : Entered) (held : Bool) (old new : Option OnComm) → old ≡ cond held (Some (on_comm comm xs)) None →
-    new ≡ cond (eqb x.comm comm) (option_map (λ row. with_entry row x) old) old → new ≡ cond held (Some (on_comm comm (xs ++ x ∷ []))) None
-row_more comm xs x held old new was e =
-    e ∙ ap (λ o. cond (eqb x.comm comm) (option_map (λ row. with_entry row x) o) o) was ∙ by held (eqb x.comm comm)
-    ∙ ap (λ (row : OnComm). cond held (Some row) None) (sym (on_comm_more comm xs x))
-  where
-    by : (held is : Bool) → cond is (option_map (λ row. with_entry row x) (cond held (Some (on_comm comm xs)) None)) (cond held (Some (on_comm comm xs)) None) ≡
-        cond held (Some (cond is (with_entry (on_comm comm xs) x) (on_comm comm xs))) None
-    by true true = refl
-    by true false = refl
-    by false true = refl
-    by false false = refl
-
-pub rows_step : (comm : ℕ) (es : List Entered) (i : ℕ) (d : Entered) (held : Bool) (old new : Option OnComm) → i < length es → old ≡ cond held (Some (on_comm comm (take i es))) None →
-    new ≡ cond (eqb (get_or es i d).comm comm) (option_map (λ row. with_entry row (get_or es i d)) old) old → new ≡ cond held (Some (on_comm comm (take (i + 1) es))) None
-rows_step comm es i d held old new lt was e =
-    row_more comm (take i es) (get_or es i d) held old new was e ∙ ap (λ (l : List Entered). cond held (Some (on_comm comm l)) None) (sym (take_more es i d lt))
-
--- one communicator more, without calls
-pub emptied : (q : ℕ) (xs : List ℕ) (i : ℕ) (old new : Option OnComm) (v : OnComm) → i < length xs → v ≡ no_entries → old ≡ cond (list_any (λ x. eqb x q) (take i xs)) (Some no_entries) None →
-    new ≡ cond (is_eq (nat_cmp (get_or xs i 0) q)) (Some v) old → new ≡ cond (list_any (λ x. eqb x q) (take (i + 1) xs)) (Some no_entries) None
-emptied q xs i old new v lt empty was e =
-    let x = get_or xs i 0 in
-    let h = list_any (λ x. eqb x q) (take i xs) in
-    let same : is_eq (nat_cmp x q) ≡ eqb x q = grind (arith, nat_tests) in
-    e ∙ ap (λ w. cond (is_eq (nat_cmp x q)) (Some w) old) empty ∙ ap (λ o. cond (is_eq (nat_cmp x q)) (Some no_entries) o) was
-    ∙ ap (λ t. cond t (Some no_entries) (cond h (Some no_entries) None)) same ∙ by h (eqb x q)
-    ∙ ap (λ t. cond t (Some no_entries) None) (sym (ap (λ (l : List ℕ). list_any (λ x. eqb x q) l) (take_more xs i 0 lt) ∙ list_any-append (λ x. eqb x q) (take i xs) (x ∷ [])))
-  where
-    by : (h t : Bool) → cond t (Some no_entries) (cond h (Some no_entries) None) ≡ cond (h || (t || false)) (Some no_entries) None
-    by true true = refl
-    by true false = refl
-    by false true = refl
-    by false false = refl
+-- the row of a communicator, as a call comes
+pub rows_step : (comm : ℕ) (es : List Entered) (i : ℕ) (d : Entered) (old new : OnComm) → i < length es → old ≡ on_comm comm (take i es) →
+    new ≡ cond (eqb (get_or es i d).comm comm) (with_entry old (get_or es i d)) old → new ≡ on_comm comm (take (i + 1) es)
+rows_step comm es i d old new lt was e =
+    let x = get_or es i d in
+    e ∙ ap (λ (row : OnComm). cond (eqb x.comm comm) (with_entry row x) row) was ∙ sym (on_comm_more comm (take i es) x) ∙ ap (λ (l : List Entered). on_comm comm l) (sym (take_more es i d lt))
 
 -- one communicator more, kept where it passes the test
 pub kept : (p : ℕ → Bool) (xs : List ℕ) (i : ℕ) (old new : List ℕ) (t : Bool) → i < length xs → t ≡ p (get_or xs i 0) → old ≡ filter p (take i xs) →

@@ -5,9 +5,11 @@ use Rattle.std.specs.Option.{option_map}
 use Rattle.mpi_model.specs.declared.event.OpName.{OpName}
 use Rattle.mpi_model.specs.Trusts.{is_doubtful, is_open}
 use Rattle.trace_ops.specs.Ops.{Ops, AreOwn, Grows, StaysCertain}
-use Rattle.trace_ops.specs.Order.{Has, sent_before, posted_before}
+use Rattle.trace_ops.specs.Order.{Has}
 use Rattle.trace_pair.specs.Certainty.{AreCertain, AreAllSettled, AreLegal, AreNoneAfter, AreTheOnlyLegal}
-use Rattle.trace_pair.specs.Matching.{IsLegal, SomeOf}
+use Rattle.mpi_model.specs.Fit.{fits}
+use Rattle.trace_pair.specs.Matching.{IsLegal, IsTaken, MayBeGivenBack, SomeOf}
+use Rattle.trace_pair.specs.Places.{sent_no_later, posted_no_later, sent_together, posted_together}
 use Rattle.trace_pair.specs.After.{comes_after}
 use Rattle.trace_pair.specs.Pairing.{After, Paired, paired, receive_of}
 use Rattle.trace_pair.specs.Table.{pair_of, pairs_of, sends_of, receives_of, Table, table_of}
@@ -48,35 +50,39 @@ module _ (after : After) (ms : List Message) (qs : List Receive) (held : AreOwnC
       let e : Some q ≡ receive_of after ms qs m = receive_is_of after ms qs held.receives_apart m q i j h in
       gives_some (λ m. option_map (pair_of m) (receive_of after ms qs m)) ms m (pair_of m q) i (ap (option_map (pair_of m)) (sym e))
 
-  module _ (none_open : (q : Receive) → Has qs q → is_open q ≡ false) (none_doubtful : (m : Message) → Has ms m → is_doubtful m.trust ≡ false) where
+  module _ (none_open : (q : Receive) → Has qs q → is_open q ≡ false) (none_doubtful : (m : Message) → Has ms m → is_doubtful m.trust ≡ false)
+      (one_part_sent : (m n : Message) (q : Receive) → Has ms m → Has ms n → Has qs q → sent_together n m ≡ true → fits m q ≡ true → fits n q ≡ true → ⊥)
+      (one_part_posted : (m : Message) (q r : Receive) → Has ms m → Has qs q → Has qs r → posted_together r q ≡ true → fits m q ≡ true → fits m r ≡ true → ⊥) where
     pub table_legal : ((m : Message) (q : Receive) → Has ms m → Has qs q → Has (pairs_of after ms qs) (pair_of m q) → after m q ≡ false) → IsLegal after ms qs (λ m q. Has (pairs_of after ms qs) (pair_of m q))
     table_legal none_after =
-        let l = pairs_legal after ms qs held.messages_apart held.receives_apart none_open none_doubtful (λ m q i j h. none_after m q i j (in_pairs m q i j h)) in
+        let l = pairs_legal after ms qs held.messages_apart held.receives_apart none_open none_doubtful one_part_sent one_part_posted (λ m q i j h. none_after m q i j (in_pairs m q i j h)) in
         record {
           one_receive = λ m q r i j k h g. l.one_receive m q r i j k (is_paired m q i j h) (is_paired m r i k g);
           one_message = λ q m n j i k h g. l.one_message q m n j i k (is_paired m q i j h) (is_paired n q k j g);
           fit = λ m q i j h. l.fit m q i j (is_paired m q i j h);
           not_after = none_after;
           progress = λ m q i j f none joins_m joins_q.
-              ⊎_elim (λ (w : SomeOf qs (λ r. (posted_before r q ≡ true) × Paired after ms qs m r)). inl (w.0, w.1, (w.2.0, in_pairs m w.0 i w.1 w.2.1)))
-              (λ d. inr (⊎_elim (λ (w : SomeOf ms (λ n. (sent_before n m ≡ true) × Paired after ms qs n q)). inl (w.0, w.1, (w.2.0, in_pairs w.0 q w.1 j w.2.1)))
-              (λ w. inr (w.0, w.1, (w.2.0, in_pairs w.0 q w.1 j w.2.1))) d))
+              ⊎_elim (λ (taken : IsTaken ms qs (Paired after ms qs) m q). inl (⊎_elim
+              (λ (w : SomeOf qs (λ r. (posted_no_later r q ≡ true) × Paired after ms qs m r)). inl (w.0, w.1, (w.2.0, in_pairs m w.0 i w.1 w.2.1)))
+              (λ d. inr (⊎_elim (λ (w : SomeOf ms (λ n. (sent_no_later n m ≡ true) × Paired after ms qs n q)). inl (w.0, w.1, (w.2.0, in_pairs w.0 q w.1 j w.2.1)))
+              (λ w. inr (w.0, w.1, (w.2.0, in_pairs w.0 q w.1 j w.2.1))) d)) taken))
+              (λ (back : MayBeGivenBack after qs m q). inr back)
               (l.progress m q i j f (λ h. none (in_pairs m q i j h))
               (λ d. let w = joins_m d in (w.0, w.1, is_paired m w.0 i w.1 w.2)) (λ d. let w = joins_q d in (w.0, w.1, is_paired w.0 q w.1 j w.2)));
         }
 
     pub table_only : (couple : OpName → OpName → Bool) → IsLegal after ms qs (λ m q. couple m.name q.name ≡ true) → (m : Message) (q : Receive) → Has ms m → Has qs q → couple m.name q.name ≡ true → Has (pairs_of after ms qs) (pair_of m q)
-    table_only couple legal m q i j h = in_pairs m q i j (only_legal after ms qs held.messages_apart held.receives_apart none_open none_doubtful couple legal m q i j h)
+    table_only couple legal m q i j h = in_pairs m q i j (only_legal after ms qs held.messages_apart held.receives_apart none_open none_doubtful one_part_sent one_part_posted couple legal m q i j h)
 
 -- the same of the table of all ranks' ops
 pub certain_of : (held : List Ops) → AreOwn 0 held → AreCertain held (pairs_of (comes_after held) (sends_of held) (receives_of held))
 certain_of held a = λ more couple b z s legal p i. sure held more couple a b z s legal p i
 
 pub legal_of : (held : List Ops) → AreOwn 0 held → AreAllSettled held → AreNoneAfter held (pairs_of (comes_after held) (sends_of held) (receives_of held)) → AreLegal held (pairs_of (comes_after held) (sends_of held) (receives_of held))
-legal_of held a all none_after = table_legal (comes_after held) (sends_of held) (receives_of held) (own_calls held a) all.none_open all.none_doubtful none_after
+legal_of held a all none_after = table_legal (comes_after held) (sends_of held) (receives_of held) (own_calls held a) all.none_open all.none_doubtful all.one_part_sent all.one_part_posted none_after
 
 pub only_of : (held : List Ops) → AreOwn 0 held → AreAllSettled held → AreTheOnlyLegal held (pairs_of (comes_after held) (sends_of held) (receives_of held))
-only_of held a all = λ couple legal m q i j h. table_only (comes_after held) (sends_of held) (receives_of held) (own_calls held a) all.none_open all.none_doubtful couple legal m q i j h
+only_of held a all = λ couple legal m q i j h. table_only (comes_after held) (sends_of held) (receives_of held) (own_calls held a) all.none_open all.none_doubtful all.one_part_sent all.one_part_posted couple legal m q i j h
 
 -- and of a table that is equal to it
 pub certain_table : (held : List Ops) (t : Table) → AreOwn 0 held → t ≡ table_of held → AreCertain held t.pairs

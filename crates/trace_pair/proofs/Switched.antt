@@ -1,8 +1,9 @@
 -- An index whose rank did other calls: what comes after what is as it was among the calls that stay.
 use Rattle.std.proofs.Common.{subst, ◌≡◌, ◌≢◌, ℕ, zero, suc, ◌<◌, ◌≤◌, Bool, true, false, ◌&&◌, ◌||◌, List, [], ◌∷◌, ◌++◌, inl, inr, ⊎_elim, sym, refl, ◌∙◌, ap, arith, ◌⊎◌, length, take, drop, get_or, set, eqb, ltb, cond, Option, Some, None}
 use Rattle.std.specs.Prelude.{nat_le}
-use Rattle.std.specs.List.{AllZip, list_any}
+use Rattle.std.specs.List.{All, AllZip, list_any}
 use Rattle.std.proofs.lemmas.Bool.Decides.{nat_tests}
+use Rattle.std.proofs.lemmas.List.Elements.{All-get_or}
 use Rattle.std.proofs.lemmas.List.{get_or_default, get_or-set_same, get_or-set_other, length-set, take-append-drop}
 use Rattle.std.proofs.Math.Seq.{drop-length}
 use Rattle.mpi_model.specs.declared.message.Message.{Message}
@@ -13,7 +14,7 @@ use Rattle.trace_ops.specs.Ops.{Ops, no_ops, IsOwn, AreOwn}
 use Rattle.trace_ops.specs.Order.{AreEntered, Has}
 use Rattle.trace_ops.specs.Round.{is_barrier}
 use Rattle.trace_pair.specs.After.{entered_before, is_left, is_own, is_after, comes_after}
-use Rattle.trace_pair.specs.Calls.{between}
+use Rattle.trace_pair.specs.Calls.{between, IsSingle}
 use Rattle.trace_pair.specs.Fronts.{AreAsBefore, AreFronts, AreOneBefore, IsAlike, IsEndedBy}
 use Rattle.trace_pair.specs.Followed.{Adds, Drops, Follows, Indexes}
 use Rattle.trace_pair.specs.Pairing.{After, Paired}
@@ -21,9 +22,10 @@ use Rattle.trace_pair.specs.Table.{sends_of, receives_of}
 use Rattle.trace_pair.specs.declared.follow.Fronts.{Fronts}
 use Rattle.trace_pair.specs.declared.matched.Matched.{Matched}
 use Rattle.trace_pair.proofs.Afterwards.{entered_more}
+use Rattle.trace_pair.proofs.Holding.{same_sets}
 use Rattle.trace_pair.proofs.Local.{same_pairs}
 use Rattle.trace_pair.proofs.Obeyed.{any_found, any_of, both}
-use Rattle.trace_pair.proofs.Ranked.{above, below, is_posting, is_sequence, own_at, split, split_set}
+use Rattle.trace_pair.proofs.Ranked.{above, below, is_posting_by_call, is_sequence, own_at, split, split_set}
 use Rattle.trace_pair.proofs.Ranks.{has_either, has_left}
 
 -- ---- pairs where the same comes after the same
@@ -37,18 +39,9 @@ module _ (ms : List Message) (qs : List Receive) (one other : After) (agree : (m
 
   pub switched : (state : Matched) → Indexes one ms qs state → Indexes other ms qs state
   switched state held = record {
-    senders = held.senders;
-    receivers = held.receivers;
-    messages_apart = held.messages_apart;
-    receives_apart = held.receives_apart;
-    waits = λ m i. let w = held.waits m i in (w.0, w.1, λ q j h. w.2 q j (back m q w.0 h));
-    waits_all = λ m i l u. held.waits_all m i l (λ q j h. u q j (to m q i h));
-    frees = λ q j. let w = held.frees q j in (w.0, w.1, λ m i h. w.2 m i (back m q i h));
-    frees_all = λ q j s u. held.frees_all q j s (λ m i h. u m i (to m q i h));
-    opens = held.opens;
-    opens_all = held.opens_all;
-    coupled = λ c i. let w = held.coupled c i in (w.0, w.1, to c.message c.receive w.0 w.2);
-    coupled_all = λ m q i j h. held.coupled_all m q i j (back m q i h);
+    sets = same_sets (Paired one ms qs) ms qs state.waiting state.free state.opened state.couples held.sets (Paired other ms qs) (λ m q i j h. to m q i h) (λ m q i j h. back m q i h);
+    sent_alone = held.sent_alone;
+    posted_alone = held.posted_alone;
   }
 
 -- ---- collective calls that differ only behind a call
@@ -241,7 +234,7 @@ module _ (held : List Ops) (i : ℕ) (n : Ops) (f : Fronts) (own : AreOwn 0 held
       after_same (get_or held m.from no_ops) (get_or (set held i n) m.from no_ops) (get_or held q.at no_ops) (get_or (set held i n) q.at no_ops) m q.at s.0 r.0 q.ended s.1 r.1 s.2 r.2
 
 -- The state goes from the calls that were held to those that come: what doesn't stay is taken back, and the rest is added.
-module _ (held : List Ops) (i : ℕ) (n : Ops) (f : Fronts) (own : AreOwn 0 held) (own_new : IsOwn i n) (lt : i < length held) (fronts : AreFronts (get_or held i no_ops) n f) (s0 s1 s2 : Matched) where
+module _ (held : List Ops) (i : ℕ) (n : Ops) (f : Fronts) (own : AreOwn 0 held) (own_new : IsOwn i n) (singles : All IsSingle held) (single : IsSingle n) (lt : i < length held) (fronts : AreFronts (get_or held i no_ops) n f) (s0 s1 s2 : Matched) where
   abbrev was : Ops
   was = get_or held i no_ops
 
@@ -263,17 +256,18 @@ module _ (held : List Ops) (i : ℕ) (n : Ops) (f : Fronts) (own : AreOwn 0 held
   pub set_follows : Drops was f s0 s1 → Adds (comes_after all) n f s1 s2 → Follows held s0 → Follows all s2
   set_follows drops adds x =
       let o : IsOwn i was = subst (λ (r : ℕ). IsOwn r was) (omega arith) (own_at held 0 i no_ops lt own) in
+      let alone = All-get_or IsSingle held i no_ops lt singles in
       let old = comes_after held in
       let new = comes_after all in
       let x' : Indexes old (between first_sends was.sends last_sends) (between first_receives was.receives last_receives) s0 =
       subst (λ (qs : List Receive). Indexes old (between first_sends was.sends last_sends) qs s0) (split (λ o. o.receives) held i no_ops lt)
       (subst (λ (ms : List Message). Indexes old ms (receives_of held) s0) (split (λ o. o.sends) held i no_ops lt) x) in
-      let y = drops old first_sends last_sends first_receives last_receives (is_sequence held i was own o) (is_posting held i was own o) x' in
+      let y = drops old first_sends last_sends first_receives last_receives (is_sequence held i was own o alone) (is_posting_by_call held i was own o alone) x' in
       let y' : Indexes old (kept_sends held i n f own own_new lt fronts) (kept_receives held i n f own own_new lt fronts) s1 =
       subst (λ (l : List Message). Indexes old (between first_sends l last_sends) (kept_receives held i n f own own_new lt fronts) s1) fronts.same_sends
       (subst (λ (l : List Receive). Indexes old (between first_sends (take f.sends was.sends) last_sends) (between first_receives l last_receives) s1) fronts.same_receives y) in
       let z = switched (kept_sends held i n f own own_new lt fronts) (kept_receives held i n f own own_new lt fronts) old new (agree held i n f own own_new lt fronts) s1 y' in
-      let w = adds first_sends last_sends first_receives last_receives (is_sequence held i n own own_new) (is_posting held i n own own_new) z in
+      let w = adds first_sends last_sends first_receives last_receives (is_sequence held i n own own_new single) (is_posting_by_call held i n own own_new single) z in
       subst (λ (ms : List Message). Indexes new ms (receives_of all) s2) (sym (split_set (λ o. o.sends) held i n lt))
       (subst (λ (qs : List Receive). Indexes new (between first_sends n.sends last_sends) qs s2) (sym (split_set (λ o. o.receives) held i n lt)) w)
 
@@ -297,7 +291,7 @@ module _ (held all : List Ops) (i : ℕ) (n : Ops) (f : Fronts) (own : AreOwn 0 
     subst (λ (o : Ops). f.receives ≤ length o.receives) (sym put) fronts.receives_new,
   )
 
-  pub set_moves : (s0 s1 s2 : Matched) → Drops (get_or held i no_ops) f s0 s1 → Adds (comes_after all) (get_or all i no_ops) f s1 s2 → Follows held s0 → Follows all s2
-  set_moves s0 s1 s2 drops adds x =
+  pub set_moves : All IsSingle held → IsSingle n → (s0 s1 s2 : Matched) → Drops (get_or held i no_ops) f s0 s1 → Adds (comes_after all) (get_or all i no_ops) f s1 s2 → Follows held s0 → Follows all s2
+  set_moves singles single s0 s1 s2 drops adds x =
       let adds' : Adds (comes_after (set held i n)) n f s1 s2 = subst (λ (l : List Ops). Adds (comes_after l) n f s1 s2) is (subst (λ (o : Ops). Adds (comes_after all) o f s1 s2) put adds) in
-      subst (λ (l : List Ops). Follows l s2) (sym is) (set_follows held i n f own own_new lt fronts s0 s1 s2 drops adds' x)
+      subst (λ (l : List Ops). Follows l s2) (sym is) (set_follows held i n f own own_new singles single lt fronts s0 s1 s2 drops adds' x)

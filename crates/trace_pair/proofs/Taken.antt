@@ -76,6 +76,19 @@ live_drops xs ys m d = record {
 once : (n m : Message) (ms : List Message) → AreRising (λ (m : Message). m.name) (n ∷ ms) → Has ms m → m ≡ n → ⊥
 once n m ms rise i e = name_apart n.name m.name (rise.0 m i) (ap (λ (x : Message). x.name) (sym e))
 
+left_where : (ms : List Message) (ts : List (Option Taker)) (i : ℕ) (m : Message) → AreRising (λ (m : Message). m.name) ms → slice_get ms i ≡ Some m → Has (left_in ms ts) m → waits_at ts i ≡ true
+left_where [] ts i m rise e h = absurd h
+left_where (n ∷ ms) [] i m rise e h = absurd h
+left_where (n ∷ ms) (None ∷ ts) zero m rise e h = refl
+left_where (n ∷ ms) (None ∷ ts) (suc i) m rise e h =
+    ⊎_elim (λ (d : m ≡ n). absurd (once n m ms rise (stands ms i m e) d)) (λ (j : Has (left_in ms ts) m). left_where ms ts i m rise.1 e j) h
+left_where (n ∷ ms) (Some t ∷ ts) zero m rise e h = absurd (once n m ms rise (waits_among ms ts m h) (cc))
+left_where (n ∷ ms) (Some t ∷ ts) (suc i) m rise e h = left_where ms ts i m rise.1 e h
+
+-- at the place of a message that waits stands nothing that takes it
+pub waits_where : (ms : List Message) (ts : List (Option Taker)) (i : ℕ) (m : Message) → AreRising (λ (m : Message). m.name) ms → slice_get ms i ≡ Some m → Has (waiting_in ms ts) m → waits_at ts i ≡ true
+waits_where ms ts i m rise e h = left_where ms ts i m rise e (live_was (left_in ms ts) m h).0
+
 module _ (m : Message) (t : Taker) where
   waits_or_is : (ms : List Message) (ts : List (Option Taker)) (p : ℕ) (y : Message) → slice_get ms p ≡ Some m → Has (left_in ms ts) y → Has (left_in ms (slice_set ts p (Some t))) y ⊎ (y ≡ m)
   waits_or_is [] ts p y e h = absurd h

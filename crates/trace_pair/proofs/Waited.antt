@@ -13,19 +13,16 @@ use Rattle.std.proofs.lemmas.Map.Lookups.{CmpEqualImpliesEq}
 use Rattle.std.proofs.lemmas.Map.Views.{tells_apart}
 use Rattle.std.proofs.lemmas.Option.{slice_get_within}
 use Rattle.mpi_model.specs.declared.message.Message.{Message}
-use Rattle.mpi_model.specs.declared.message.Receive.{Receive}
-use Rattle.mpi_model.specs.Fit.{envelopes_fit}
 use Rattle.trace_ops.specs.Order.{Has}
 use Rattle.trace_pair.specs.Calls.{is_live}
 use Rattle.trace_pair.specs.Indexed.{name_lt}
 use Rattle.trace_pair.specs.Rising.{AreRising}
-use Rattle.trace_pair.specs.Waiting.{items_of, left_in, waits_at, from_waiting, places_at, AreRisingPlaces, ArePlaces, IsFirstPlace}
+use Rattle.trace_pair.specs.Waiting.{items_of, waits_at, from_waiting, places_at, AreRisingPlaces, ArePlaces}
 use Rattle.trace_pair.specs.declared.pair.Taker.{Taker}
-use Rattle.trace_pair.proofs.Listed.{name_apart, name_apart_back}
 use Rattle.trace_pair.proofs.PutAt.{at_equal, says_equal}
 use Rattle.trace_pair.proofs.Ranks.{has_left, has_right, has_either}
 use Rattle.trace_pair.proofs.Searched.{stands}
-use Rattle.trace_pair.proofs.Taken.{left_found, left_there, live_has, live_was, still_waits}
+use Rattle.trace_pair.proofs.Taken.{still_waits}
 
 -- What stood at a key is changed by f.
 module _ {K : Type 0} {cmp : K → K → Ordering} (keys : IsTotalOrder cmp) (old : BTreeMap K (List ℕ)) (key : K) (f : List ℕ → List ℕ) where
@@ -66,7 +63,7 @@ pub empty_places : {K : Type 0} (cmp : K → K → Ordering) (places : BTreeMap 
 empty_places {K = K} cmp places e k = ap (λ (es : List (K × List ℕ)). items_of (lookup (is_at (cmp k)) es)) e
 
 module _ (ts : List (Option Taker)) where
-  stays : (ps : List ℕ) (i : ℕ) → waits_at ts i ≡ true → Has ps i → Has (from_waiting ts ps) i
+  pub stays : (ps : List ℕ) (i : ℕ) → waits_at ts i ≡ true → Has ps i → Has (from_waiting ts ps) i
   stays [] i w h = absurd h
   stays (j ∷ ps) i w h =
       elim (waits_at ts j) as (λ b. waits_at ts j ≡ b → Has (cond b (j ∷ ps) (from_waiting ts ps)) i) [
@@ -74,7 +71,7 @@ module _ (ts : List (Option Taker)) where
         | false ↦ λ e. ⊎_elim (λ (d : i ≡ j). let f : waits_at ts j ≡ true = subst (λ (k : ℕ). waits_at ts k ≡ true) d w in absurd (cc)) (λ (k : Has ps i). stays ps i w k) h
       ] refl
 
-  was : (ps : List ℕ) (i : ℕ) → Has (from_waiting ts ps) i → Has ps i
+  pub was : (ps : List ℕ) (i : ℕ) → Has (from_waiting ts ps) i → Has ps i
   was [] i h = absurd h
   was (j ∷ ps) i h =
       elim (waits_at ts j) as (λ b. Has (cond b (j ∷ ps) (from_waiting ts ps)) i → Has (j ∷ ps) i) [
@@ -82,7 +79,7 @@ module _ (ts : List (Option Taker)) where
         | false ↦ λ k. inr (was ps i k)
       ] h
 
-  still_rise : (ps : List ℕ) → AreRisingPlaces ps → AreRisingPlaces (from_waiting ts ps)
+  pub still_rise : (ps : List ℕ) → AreRisingPlaces ps → AreRisingPlaces (from_waiting ts ps)
   still_rise [] r = tt
   still_rise (j ∷ ps) r =
       elim (waits_at ts j) as (λ b. AreRisingPlaces (cond b (j ∷ ps) (from_waiting ts ps))) [
@@ -90,7 +87,7 @@ module _ (ts : List (Option Taker)) where
         | false ↦ still_rise ps r.1
       ]
 
-  front_waits : (ps : List ℕ) (p : ℕ) → slice_get (from_waiting ts ps) zero ≡ Some p → waits_at ts p ≡ true
+  pub front_waits : (ps : List ℕ) (p : ℕ) → slice_get (from_waiting ts ps) zero ≡ Some p → waits_at ts p ≡ true
   front_waits [] p e = absurd (cc)
   front_waits (j ∷ ps) p e =
       elim (waits_at ts j) as (λ b. waits_at ts j ≡ b → slice_get (cond b (j ∷ ps) (from_waiting ts ps)) zero ≡ Some p → waits_at ts p ≡ true) [
@@ -134,19 +131,6 @@ pub all_passed : (ts : List (Option Taker)) (xs old : List ℕ) → None ≡ sli
 all_passed ts [] old e h = h
 all_passed ts (x ∷ xs) old e h = absurd (cc)
 
-front_there : (xs : List ℕ) (p : ℕ) → slice_get xs zero ≡ Some p → Has xs p
-front_there xs p e = stands xs zero p e
-
-front_first : (xs : List ℕ) (p j : ℕ) → AreRisingPlaces xs → slice_get xs zero ≡ Some p → Has xs j → (j ≡ p) ⊎ (p < j)
-front_first [] p j r e h = absurd h
-front_first (x ∷ xs) p j r e h =
-    let d : x ≡ p = cc in
-    ⊎_elim (λ (f : j ≡ x). inl (f ∙ d)) (λ (k : Has xs j). inr (subst (λ (y : ℕ). y < j) d (r.0 j k))) h
-
-no_front : (xs : List ℕ) (i : ℕ) → slice_get xs zero ≡ None → Has xs i → ⊥
-no_front [] i e h = absurd h
-no_front (x ∷ xs) i e h = absurd (cc)
-
 -- a place more
 more_rise : (xs : List ℕ) (n : ℕ) → AreRisingPlaces xs → ((i : ℕ) → Has xs i → i < n) → AreRisingPlaces (xs ++ n ∷ [])
 more_rise [] n r b = (λ j h. absurd h, tt)
@@ -156,7 +140,7 @@ more_rise (x ∷ xs) n r b = (
 )
 
 -- messages that rise in their places
-rising_at : (ms : List Message) (i j : ℕ) (m n : Message) → AreRising (λ (m : Message). m.name) ms → slice_get ms i ≡ Some m → slice_get ms j ≡ Some n → i < j → name_lt m.name n.name ≡ true
+pub rising_at : (ms : List Message) (i j : ℕ) (m n : Message) → AreRising (λ (m : Message). m.name) ms → slice_get ms i ≡ Some m → slice_get ms j ≡ Some n → i < j → name_lt m.name n.name ≡ true
 rising_at [] i j m n r e f lt = absurd (cc)
 rising_at (x ∷ ms) zero zero m n r e f lt = absurd (omega arith)
 rising_at (x ∷ ms) zero (suc j) m n r e f lt = let d : x ≡ m = cc in subst (λ (y : Message). name_lt y.name n.name ≡ true) d (r.0 n (stands ms j n f))
@@ -268,35 +252,3 @@ module _ {K : Type 0} {cmp : K → K → Ordering} (keys : IsTotalOrder cmp) (ex
   places_next ms i d ts old new lt live are ordered law =
       subst (λ (l : List Message). ArePlaces cmp key_of l ts new) (sym (take_more ms i d lt))
       (places_more (take i ms) (get_or ms i d) ts i old new (sym (length-take-le i ms (omega arith))) live are ordered law)
-
-  -- the front of the places at the key of a receive is the first message whose envelope fits it
-  pub front_is_first : (ms : List Message) (ts : List (Option Taker)) (places : BTreeMap K (List ℕ)) → AreRising (λ (m : Message). m.name) ms → ArePlaces cmp key_of ms ts places →
-      (q : Receive) (k : K) → ((m : Message) → envelopes_fit m q ≡ true → k ≡ key_of m) → ((m : Message) → k ≡ key_of m → envelopes_fit m q ≡ true) →
-      (o : Option ℕ) → o ≡ slice_get (from_waiting ts (places_at cmp places k)) zero → IsFirstPlace (record { messages = ms; takers = ts }) q o
-  front_is_first ms ts places rise are q k at fit None e = λ n h f.
-      let v = live_was (left_in ms ts) n h in
-      let w = left_found ms ts n v.0 in
-      let i : Has (places_at cmp places k) w.0 = subst (λ (x : K). Has (places_at cmp places x) w.0) (sym (at n f)) (are.all w.0 n w.1 v.1 w.2) in
-      no_front (from_waiting ts (places_at cmp places k)) w.0 (sym e) (stays ts (places_at cmp places k) w.0 w.2 i)
-  front_is_first ms ts places rise are q k at fit (Some p) e =
-      let fr : slice_get (from_waiting ts (places_at cmp places k)) zero ≡ Some p = sym e in
-      let o = are.own k p (was ts (places_at cmp places k) p (front_there (from_waiting ts (places_at cmp places k)) p fr)) in
-      let m = o.0 in (
-        m,
-        record {
-          there = o.1;
-          waits = front_waits ts (places_at cmp places k) p fr;
-          first = record {
-            member = live_has (left_in ms ts) m (left_there ms ts p m o.1 (front_waits ts (places_at cmp places k) p fr)) o.3;
-            fit = fit m (sym o.2);
-            first = λ n h f b.
-                let v = live_was (left_in ms ts) n h in
-                let w = left_found ms ts n v.0 in
-                let i : Has (places_at cmp places k) w.0 = subst (λ (x : K). Has (places_at cmp places x) w.0) (sym (at n f)) (are.all w.0 n w.1 v.1 w.2) in
-                ⊎_elim
-                (λ (d : w.0 ≡ p). let g : slice_get ms p ≡ Some n = subst (λ (j : ℕ). slice_get ms j ≡ Some n) d w.1 in let s : n ≡ m = cc in name_apart n.name m.name b (ap (λ (x : Message). x.name) s))
-                (λ (lt : p < w.0). name_apart_back m.name n.name (rising_at ms p w.0 m n rise o.1 w.1 lt) b)
-                (front_first (from_waiting ts (places_at cmp places k)) p w.0 (still_rise ts (places_at cmp places k) (are.rise k)) fr (stays ts (places_at cmp places k) w.0 w.2 i));
-          };
-        },
-      )

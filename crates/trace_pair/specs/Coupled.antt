@@ -14,11 +14,11 @@ use Rattle.trace_pair.specs.declared.pair.Taker.{Taker}
 
 -- what the receive tells beside its message
 abbrev pub taker_of : Receive → Taker
-taker_of q = record { call = q.name.call; datatype = q.datatype; count = q.count; any_tag = is_none q.tag; ended = q.ended }
+taker_of q = record { call = q.name.call; part = q.name.part; datatype = q.datatype; count = q.count; any_tag = is_none q.tag; ended = q.ended }
 
 -- the name of the receive that takes the message
 abbrev pub taker_name : Message → Taker → OpName
-taker_name m t = record { rank = m.to; call = t.call }
+taker_name m t = record { rank = m.to; call = t.call; part = t.part }
 
 -- and that receive: what the message tells of it, and what it tells beside; it is sure
 abbrev pub receive_by : Message → Taker → Receive

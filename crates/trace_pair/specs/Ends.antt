@@ -1,10 +1,10 @@
 -- The ends of receives: at each key the end of the one that ends last.
-use Rattle.std.specs.Prelude.{◌≡◌, ℕ, Bool, true, false, nat_lt, nat_le, if◌then◌else◌, Option, Some, None, List}
+use Rattle.std.specs.Prelude.{◌≡◌, ◌≤◌, ℕ, Bool, true, false, nat_lt, nat_le, if◌then◌else◌, Option, Some, None, List}
 use Rattle.std.specs.BTreeMap.{get}
 use Rattle.mpi_model.specs.declared.message.Message.{Message}
 use Rattle.mpi_model.specs.declared.message.Receive.{Receive}
 use Rattle.mpi_model.specs.Fit.{envelopes_fit}
-use Rattle.trace_ops.specs.Order.{Has, posted_before}
+use Rattle.trace_ops.specs.Order.{Has}
 use Rattle.trace_pair.specs.KeyOrders.{ReceiveKey, receive_key_cmp, receive_key_of}
 use Rattle.trace_pair.specs.Pairing.{After}
 use Rattle.trace_pair.specs.Queues.{had}
@@ -53,9 +53,9 @@ SomeHides after xs m = (u : Receive) × Has xs u × (envelopes_fit m u ≡ true)
 abbrev pub NoneHides : After → List Receive → Message → Type 0
 NoneHides after xs m = (u : Receive) → Has xs u → envelopes_fit m u ≡ true → after m u ≡ true
 
--- The same of those that stand before the receive.
-abbrev pub SomeHidesBefore : After → List Receive → Message → Receive → Type 0
-SomeHidesBefore after xs m q = (u : Receive) × Has xs u × (envelopes_fit m u ≡ true) × (after m u ≡ false) × (posted_before u q ≡ true)
+-- The same of those whose calls aren't later than the receive's.
+abbrev pub SomeHidesUpTo : After → List Receive → Message → Receive → Type 0
+SomeHidesUpTo after xs m q = (u : Receive) × Has xs u × (envelopes_fit m u ≡ true) × (after m u ≡ false) × (u.at ≡ q.at) × (u.name.call ≤ q.name.call)
 
-abbrev pub NoneHidesBefore : After → List Receive → Message → Receive → Type 0
-NoneHidesBefore after xs m q = (u : Receive) → Has xs u → envelopes_fit m u ≡ true → posted_before u q ≡ true → after m u ≡ true
+abbrev pub NoneHidesUpTo : After → List Receive → Message → Receive → Type 0
+NoneHidesUpTo after xs m q = (u : Receive) → Has xs u → envelopes_fit m u ≡ true → u.at ≡ q.at → u.name.call ≤ q.name.call → after m u ≡ true

@@ -4,16 +4,18 @@ use Rattle.mpi_model.specs.declared.message.Message.{Message}
 use Rattle.mpi_model.specs.declared.message.Receive.{Receive}
 use Rattle.trace_ops.specs.Ops.{Ops}
 use Rattle.trace_pair.specs.After.{comes_after}
-use Rattle.trace_pair.specs.Calls.{between, IsSequence, IsPosting}
+use Rattle.trace_pair.specs.Calls.{between, AreSentAlone, ArePostedAlone, IsSequence, IsPostingByCall}
 use Rattle.trace_pair.specs.Indexed.{IsIndexed}
 use Rattle.trace_pair.specs.Pairing.{After}
 use Rattle.trace_pair.specs.Table.{sends_of, receives_of}
 use Rattle.trace_pair.specs.declared.follow.Fronts.{Fronts}
 use Rattle.trace_pair.specs.declared.matched.Matched.{Matched}
 
--- what is kept is the index of these messages and receives
-abbrev pub Indexes : After → List Message → List Receive → Matched → Type 0
-Indexes after ms qs s = IsIndexed after ms qs s.waiting s.free s.opened s.couples
+-- What is kept is the index of these messages and receives, each of a call of one part.
+pub record Indexes (after : After) (ms : List Message) (qs : List Receive) (s : Matched) : Type 0 where
+  pub sets : IsIndexed after ms qs s.waiting s.free s.opened s.couples
+  pub sent_alone : AreSentAlone ms
+  pub posted_alone : ArePostedAlone qs
 
 -- the state stands for the calls of all ranks, where so much is known of what comes after what
 abbrev pub FollowsBy : After → List Ops → Matched → Type 0
@@ -26,14 +28,14 @@ Follows held state = FollowsBy (comes_after held) held state
 -- the state goes back to the first of a rank's messages and receives, wherever they stand among those of the others
 abbrev pub Drops : Ops → Fronts → Matched → Matched → Type 0
 Drops was f old new = (after : After) (before behind : List Message) (above below : List Receive)
-    → IsSequence before behind was.sends → IsPosting above below was.receives
+    → IsSequence before behind was.sends → IsPostingByCall above below was.receives
     → Indexes after (between before was.sends behind) (between above was.receives below) old
     → Indexes after (between before (take f.sends was.sends) behind) (between above (take f.receives was.receives) below) new
 
 -- the state goes on from the first of them to all
 abbrev pub Adds : After → Ops → Fronts → Matched → Matched → Type 0
 Adds after own f old new = (before behind : List Message) (above below : List Receive)
-    → IsSequence before behind own.sends → IsPosting above below own.receives
+    → IsSequence before behind own.sends → IsPostingByCall above below own.receives
     → Indexes after (between before (take f.sends own.sends) behind) (between above (take f.receives own.receives) below) old
     → Indexes after (between before own.sends behind) (between above own.receives below) new
 
@@ -41,6 +43,6 @@ Adds after own f old new = (before behind : List Message) (above below : List Re
 abbrev pub Moves : After → Ops → Ops → Matched → Matched → Type 0
 Moves after o n old new = (before behind : List Message) (above below : List Receive)
     → IsSequence before behind o.sends → IsSequence before behind n.sends
-    → IsPosting above below o.receives → IsPosting above below n.receives
+    → IsPostingByCall above below o.receives → IsPostingByCall above below n.receives
     → Indexes after (between before o.sends behind) (between above o.receives below) old
     → Indexes after (between before n.sends behind) (between above n.receives below) new

@@ -12,9 +12,9 @@ use Rattle.mpi_model.specs.declared.message.Message.{Message}
 use Rattle.mpi_model.specs.declared.message.Receive.{Receive}
 use Rattle.mpi_model.specs.declared.message.Trust.{Trust}
 
--- operations by their ranks, and then by their calls
+-- operations by their ranks, then by their calls, and then by their parts
 abbrev pub name_cmp : OpName → OpName → Ordering
-name_cmp a b = ordering_then (nat_cmp a.rank b.rank) (nat_cmp a.call b.call)
+name_cmp a b = ordering_then (nat_cmp a.rank b.rank) (ordering_then (nat_cmp a.call b.call) (nat_cmp a.part b.part))
 
 -- modes, in the order of their type
 abbrev pub mode_cmp : Mode → Mode → Ordering

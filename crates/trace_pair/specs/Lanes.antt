@@ -1,5 +1,5 @@
 -- The open receives of one key, each with the latest end of it and all in front of it.
-use Rattle.std.specs.Prelude.{◌≡◌, ◌⊎◌, ℕ, ◌-◌, Bool, true, nat_lt, Option, Some, None, List, [], ◌∷◌, length, map, take}
+use Rattle.std.specs.Prelude.{◌≡◌, ◌⊎◌, ℕ, ◌-◌, Bool, true, nat_lt, nat_le, Option, Some, None, List, [], ◌∷◌, length, map, take}
 use Rattle.std.specs.BTreeSet.{BTreeSet}
 use Rattle.std.specs.List.Sorted.{IsNonDecreasingBy}
 use Rattle.mpi_model.specs.declared.message.Receive.{Receive}
@@ -39,10 +39,10 @@ pub record EndsWith (steps : List Step) (q : Receive) : Type 0 where
   pub before : (s : Step) → Has (take (length steps - 1) steps) s → nat_lt (call_of s) q.name.call ≡ true
   pub last : (s : Step) → Has steps s → Has (take (length steps - 1) steps) s ⊎ (s.receive ≡ q)
 
--- called before the limit, where there is one
+-- called no later than the limit, where there is one
 abbrev pub is_within : Option ℕ → Receive → Bool
 is_within None q = true
-is_within (Some call) q = nat_lt q.name.call call
+is_within (Some call) q = nat_le q.name.call call
 
 -- Of these receives, this is the end of the one that ends last; None is that of none.
 abbrev pub IsLatestOf : List Receive → Option (Option ℕ) → Type 0

@@ -1,7 +1,8 @@
 -- Which message is received by which receive: the five rules.
 --
 -- They follow from what MPI lets no implementation change: which receives a message fits (MPI 4.0, 3.2.3 and
--- 3.2.4), and that neither messages of one sender nor receives of one rank overtake one another (MPI 4.0, 3.5). A
+-- 3.2.4), that neither messages of one sender nor receives of one rank overtake one another (MPI 4.0, 3.5), and that the
+-- parts of one Startall start in any order (3.9). A
 -- message or receive that a Cancel names may take part in none of it, until the run tells (MPI 4.0, 3.8.4).
 use Rattle.std.specs.Prelude.{◌≡◌, ℕ, zero, suc, ◌+◌, Bool, true, false, ◌&&◌, ◌||◌, not, Option, is_some, List}
 use Rattle.std.specs.List.{list_any, list_all, find}
@@ -10,29 +11,31 @@ use Rattle.mpi_model.specs.declared.message.Receive.{Receive}
 use Rattle.mpi_model.specs.Fit.{fits}
 use Rattle.mpi_model.specs.Trusts.{is_sure, is_open, is_settled}
 use Rattle.trace_ops.specs.Order.{Has, sent_before, posted_before}
+use Rattle.trace_pair.specs.Places.{sent_no_later, posted_no_later}
 
 -- Which messages come after which receives: they were sent when the receive was completed, so it didn't take them.
 abbrev pub After : Type 0
 After = Message → Receive → Bool
 
--- An open receive before this one fits the message, and the message doesn't come after it: so it may have taken it.
+-- Another open receive, of no later call, fits the message, and the message doesn't come after it: so it may have taken it.
 abbrev pub blocked : After → List Receive → Message → Receive → Bool
-blocked after qs m q = list_any (λ u. is_open u && posted_before u q && fits m u && not (after m u)) qs
+blocked after qs m q = list_any (λ u. is_open u && posted_no_later u q && fits m u && not (after m u)) qs
 
--- Each earlier message of the same sender that fits the receive is paired with a receive before it.
+-- Each other message of the same sender, of no later call, that fits the receive is paired with a receive before it.
 abbrev pub messages_gone : List Message → List Receive → (Message → Receive → Bool) → Message → Receive → Bool
-messages_gone ms qs paired m q = list_all (λ n. not (sent_before n m && fits n q) || list_any (λ r. posted_before r q && paired n r) qs) ms
+messages_gone ms qs paired m q = list_all (λ n. not (sent_no_later n m && fits n q) || list_any (λ r. posted_before r q && paired n r) qs) ms
 
--- Each settled receive before this one that fits the message is paired with an earlier message.
+-- Each other settled receive, of no later call, that fits the message is paired with an earlier message.
 abbrev pub receives_gone : List Message → List Receive → (Message → Receive → Bool) → Message → Receive → Bool
-receives_gone ms qs paired m q = list_all (λ r. not (is_settled r && posted_before r q && fits m r) || list_any (λ n. sent_before n m && paired n r) ms) qs
+receives_gone ms qs paired m q = list_all (λ r. not (is_settled r && posted_no_later r q && fits m r) || list_any (λ n. sent_before n m && paired n r) ms) qs
 
--- The five rules, where `paired` says which couples of earlier calls are pairs:
+-- The five rules, where `paired` says which couples of earlier calls are pairs. Another part of the same call counts as
+-- an earlier one where it may stand in the way, and not where it would be out of the way:
 -- 1. the receive's source is told, and both are sure;
 -- 2. the message fits the receive;
--- 3. no open receive before it fits the message, but for those that the message comes after;
--- 4. each earlier message that fits the receive is paired with an earlier receive;
--- 5. each earlier told and sure receive that fits the message is paired with an earlier message.
+-- 3. no other open receive of no later call fits the message, but for those that the message comes after;
+-- 4. each other message of no later call that fits the receive is paired with an earlier receive;
+-- 5. each other told and sure receive of no later call that fits the message is paired with an earlier message.
 unfoldable pub obeys : After → List Message → List Receive → (Message → Receive → Bool) → Message → Receive → Bool
 obeys after ms qs paired m q =
     is_settled q && is_sure m.trust && fits m q && not (blocked after qs m q) && messages_gone ms qs paired m q && receives_gone ms qs paired m q
@@ -56,9 +59,9 @@ pub record Obeys (after : After) (ms : List Message) (qs : List Receive) (P : Me
   pub sure_receive : is_sure q.trust ≡ true
   pub sure_message : is_sure m.trust ≡ true
   pub fit : fits m q ≡ true
-  pub no_open : (u : Receive) → Has qs u → is_open u ≡ true → posted_before u q ≡ true → fits m u ≡ true → after m u ≡ true
-  pub messages : (n : Message) → Has ms n → sent_before n m ≡ true → fits n q ≡ true → (r : Receive) × Has qs r × (posted_before r q ≡ true) × P n r
-  pub receives : (r : Receive) → Has qs r → is_settled r ≡ true → posted_before r q ≡ true → fits m r ≡ true → (n : Message) × Has ms n × (sent_before n m ≡ true) × P n r
+  pub no_open : (u : Receive) → Has qs u → is_open u ≡ true → posted_no_later u q ≡ true → fits m u ≡ true → after m u ≡ true
+  pub messages : (n : Message) → Has ms n → sent_no_later n m ≡ true → fits n q ≡ true → (r : Receive) × Has qs r × (posted_before r q ≡ true) × P n r
+  pub receives : (r : Receive) → Has qs r → is_settled r ≡ true → posted_no_later r q ≡ true → fits m r ≡ true → (n : Message) × Has ms n × (sent_before n m ≡ true) × P n r
 
 -- the receive that takes the message
 abbrev pub receive_of : After → List Message → List Receive → Message → Option Receive

@@ -1,28 +1,31 @@
 -- The table by which it is asked what comes after a receive.
-use Rattle.std.specs.Prelude.{◌≡◌, ℕ, Bool, true, false, ◌==◌, ◌&&◌, ◌||◌, nat_le, cond, Option, Some, None, List, [], ◌∷◌, length, filter, slice_index}
+use Rattle.std.specs.Prelude.{◌≡◌, ℕ, Bool, true, false, ◌==◌, ◌&&◌, ◌||◌, nat_le, cond, unwrap_or, Option, Some, None, List, [], ◌∷◌, length, filter, slice_index}
 use Rattle.std.specs.List.{list_any, AllZip}
-use Rattle.std.specs.Option.{option_map}
+use Rattle.std.specs.List.Sorted.{IsNonDecreasing}
 use Rattle.std.specs.Ordering.{nat_cmp}
 use Rattle.std.specs.BTreeMap.{BTreeMap, get}
 use Rattle.trace_ops.specs.Ops.{Ops}
 use Rattle.trace_ops.specs.Order.{AreEntered}
 use Rattle.trace_ops.specs.declared.entered.Entered.{Entered}
-use Rattle.trace_pair.specs.Barriers.{OnComm, Rise, on_comm, calls_on, barriers_on, last_before, with_entry}
+use Rattle.trace_pair.specs.Barriers.{OnComm, Rise, no_entries, on_comm, calls_on, barriers_on, last_before, with_entry}
 use Rattle.trace_pair.specs.declared.reach.Barrier.{Barrier}
 use Rattle.trace_pair.specs.declared.reach.RankReach.{RankReach}
 
--- for each of the rank's communicators, its collective calls there
-abbrev pub AreRowsOf : List ℕ → List Entered → BTreeMap ℕ OnComm → Type 0
-AreRowsOf comms rounds rows = (c : ℕ) → get nat_cmp rows c ≡ cond (list_any (λ x. x == c) comms) (Some (on_comm c rounds)) None
+-- the calls on a communicator: none, where it has no row
+abbrev pub row_at : BTreeMap ℕ OnComm → ℕ → OnComm
+row_at rows comm = unwrap_or (get nat_cmp rows comm) no_entries
 
--- a call more, in the row of its communicator where there is one
+-- for each communicator, the collective calls there
+abbrev pub AreRowsOf : List Entered → BTreeMap ℕ OnComm → Type 0
+AreRowsOf rounds rows = (c : ℕ) → row_at rows c ≡ on_comm c rounds
+
+-- a call more, in the row of its communicator
 abbrev pub AddsEntry : BTreeMap ℕ OnComm → BTreeMap ℕ OnComm → Entered → Type 0
-AddsEntry old new x = (c : ℕ) → get nat_cmp new c ≡ cond (x.comm == c) (option_map (λ row. with_entry row x) (get nat_cmp old c)) (get nat_cmp old c)
+AddsEntry old new x = (c : ℕ) → row_at new c ≡ cond (x.comm == c) (with_entry (row_at old c) x) (row_at old c)
 
 -- whether there are Barriers on the communicator
-abbrev pub has_barrier : Option OnComm → Bool
-has_barrier None = false
-has_barrier (Some row) = has row.barriers
+abbrev pub has_barrier : OnComm → Bool
+has_barrier row = has row.barriers
   where
     has : List Barrier → Bool
     has [] = false
@@ -30,21 +33,23 @@ has_barrier (Some row) = has row.barriers
 
 -- the communicators with Barriers
 abbrev pub with_barriers : BTreeMap ℕ OnComm → List ℕ → List ℕ
-with_barriers rows comms = filter (λ c. has_barrier (get nat_cmp rows c)) comms
-
-abbrev pub barriers_of : Option OnComm → List Barrier
-barriers_of None = []
-barriers_of (Some row) = row.barriers
+with_barriers rows comms = filter (λ c. has_barrier (row_at rows c)) comms
 
 -- the Barriers of each row rise
 abbrev pub AreRowsRising : RankReach → Type 0
-AreRowsRising reach = (c : ℕ) → Rise (barriers_of (get nat_cmp reach.rows c))
+AreRowsRising reach = (c : ℕ) → Rise (row_at reach.rows c).barriers
+
+-- the communicator holds the rank
+abbrev pub holds : RankReach → ℕ → Bool
+holds reach comm = list_any (λ c. c == comm) reach.comms.items
 
 -- the part of the table that the ops of one rank decide
 pub record IsReachOf (ops : Ops) (reach : RankReach) : Type 0 where
   pub rounds_rise : AreEntered ops.rounds
-  pub rows : AreRowsOf ops.comms ops.rounds reach.rows
+  pub rows : AreRowsOf ops.rounds reach.rows
   pub barrier_comms : reach.barrier_comms.items ≡ with_barriers reach.rows ops.comms
+  pub comms : (c : ℕ) → holds reach c ≡ list_any (λ x. x == c) ops.comms
+  pub comms_rise : IsNonDecreasing reach.comms.items
 
 abbrev pub AreReachesOf : List Ops → List RankReach → Type 0
 AreReachesOf ops reaches = AllZip IsReachOf ops reaches
@@ -63,11 +68,6 @@ abbrev pub is_passed_in : List Entered → Ops → ℕ → ℕ → ℕ → Bool
 is_passed_in rounds receiver call ended comm =
     list_any (λ c. c == comm) receiver.comms && is_met (last_before call (barriers_on comm 0 rounds)) (calls_on comm receiver.rounds) ended
 
--- the same, by the rows
-abbrev pub is_passed : Option OnComm → Option OnComm → ℕ → ℕ → Bool
-is_passed None theirs call ended = false
-is_passed (Some own) None call ended = false
-is_passed (Some own) (Some theirs) call ended = is_met (last_before call own.barriers) theirs.calls ended
-
+-- the same, by the tables of both
 abbrev pub is_passed_on : RankReach → RankReach → ℕ → ℕ → ℕ → Bool
-is_passed_on sender receiver call ended comm = is_passed (get nat_cmp sender.rows comm) (get nat_cmp receiver.rows comm) call ended
+is_passed_on sender receiver call ended comm = holds receiver comm && is_met (last_before call (row_at sender.rows comm).barriers) (row_at receiver.rows comm).calls ended

@@ -66,7 +66,7 @@ table_of held = table_with (comes_after held) (sends_of held) (receives_of held)
 
 -- two names are one
 abbrev pub same_name : OpName → OpName → Bool
-same_name a b = (a.rank == b.rank) && (a.call == b.call)
+same_name a b = (a.rank == b.rank) && ((a.call == b.call) && (a.part == b.part))
 
 -- the receive that takes the message of that name
 abbrev pub taken_by : List Pair → OpName → Option OpName

@@ -1,14 +1,13 @@
 -- All messages in their order, what takes each, and the places of those that wait.
-use Rattle.std.specs.Prelude.{◌≡◌, ◌<◌, ℕ, Bool, true, false, cond, Option, Some, None, IfSome, List, [], ◌∷◌, filter, length, replicate, slice_get, slice_set}
+use Rattle.std.specs.Prelude.{◌≡◌, ◌<◌, ◌==◌, ℕ, Bool, true, false, cond, Option, Some, None, IfSome, List, [], ◌∷◌, filter, length, replicate, slice_get, slice_set}
 use Rattle.std.specs.declared.cmp.Ordering.{Ordering}
 use Rattle.std.specs.BTreeMap.{BTreeMap, get, IsOrdered}
 use Rattle.mpi_model.specs.declared.message.Message.{Message}
 use Rattle.mpi_model.specs.declared.message.Receive.{Receive}
-use Rattle.mpi_model.specs.Fit.{envelopes_fit}
 use Rattle.trace_ops.specs.Order.{Has}
-use Rattle.trace_pair.specs.Calls.{is_live}
+use Rattle.trace_pair.specs.Calls.{is_live, IsOwnMessage}
 use Rattle.trace_pair.specs.Coupled.{receive_by}
-use Rattle.trace_pair.specs.Indexed.{IsFirstMessage, couple_of}
+use Rattle.trace_pair.specs.Indexed.{IsSoleMessage, couple_of}
 use Rattle.trace_pair.specs.KeyOrders.{Queue, queue_cmp, queue_of, Lane, lane_cmp, lane_of}
 use Rattle.trace_pair.specs.Rising.{AreRising}
 use Rattle.trace_pair.specs.declared.pair.Couple.{Couple}
@@ -64,6 +63,32 @@ abbrev pub from_waiting : List (Option Taker) → List ℕ → List ℕ
 from_waiting takers [] = []
 from_waiting takers (i ∷ places) = cond (waits_at takers i) (i ∷ places) (from_waiting takers places)
 
+-- the message at a place is of that call
+abbrev pub is_of_call : List Message → ℕ → ℕ → Bool
+is_of_call ms place call = of_call (slice_get ms place)
+  where
+    of_call : Option Message → Bool
+    of_call None = false
+    of_call (Some m) = m.name.call == call
+
+-- Among the places in front that hold messages of the call, at one nothing takes the message.
+abbrev pub is_followed : List Message → List (Option Taker) → ℕ → List ℕ → Bool
+is_followed ms takers call [] = false
+is_followed ms takers call (i ∷ places) = cond (is_of_call ms i call) (cond (waits_at takers i) true (is_followed ms takers call places)) false
+
+-- the call of the message at a place
+abbrev pub call_at : List Message → ℕ → ℕ
+call_at ms place = call_of (slice_get ms place)
+  where
+    call_of : Option Message → ℕ
+    call_of None = 0
+    call_of (Some m) = m.name.call
+
+-- the place in front, if at none of those behind it a message of its call waits
+abbrev pub sole_of : List Message → List (Option Taker) → List ℕ → Option ℕ
+sole_of ms takers [] = None
+sole_of ms takers (i ∷ places) = cond (is_followed ms takers (call_at ms i) places) None (Some i)
+
 -- the places that are listed, none where there is no list
 abbrev pub items_of : Option (List ℕ) → List ℕ
 items_of None = []
@@ -93,16 +118,11 @@ pub record AreTakings (ms : List Message) (takers : List (Option Taker)) (queues
   pub queued : ArePlaces queue_cmp queue_of ms takers queues
   pub laned : IfSome lanes (ArePlaces lane_cmp lane_of ms takers)
 
--- the message at the place waits, and is the first whose envelope fits the receive's
-pub record IsFirstAt (t : Takings) (q : Receive) (place : ℕ) (m : Message) : Type 0 where
-  pub there : slice_get t.messages place ≡ Some m
-  pub waits : waits_at t.takers place ≡ true
-  pub first : IsFirstMessage (waiting_in t.messages t.takers) q m
-
--- or the envelope of no message that waits fits it
-abbrev pub IsFirstPlace : Takings → Receive → Option ℕ → Type 0
-IsFirstPlace t q None = (m : Message) → Has (waiting_in t.messages t.takers) m → envelopes_fit m q ≡ true → ⊥
-IsFirstPlace t q (Some place) = (m : Message) × IsFirstAt t q place m
+-- What stands there is the sole message whose envelope fits the receive's; or there is none, where each message is its
+-- sender's own.
+abbrev pub IsSolePlace : Takings → Receive → Option ℕ → Type 0
+IsSolePlace t q None = ((n : Message) → Has (waiting_in t.messages t.takers) n → IsOwnMessage n) → (m : Message) → IsSoleMessage (waiting_in t.messages t.takers) q m → ⊥
+IsSolePlace t q (Some place) = (m : Message) × (slice_get t.messages place ≡ Some m) × IsSoleMessage (waiting_in t.messages t.takers) q m
 
 -- what takes the message at a place
 abbrev pub taker_in : Option (Option Taker) → Option Taker

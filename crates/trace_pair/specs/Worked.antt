@@ -1,5 +1,5 @@
 -- Worked examples: what the rules say of some small runs. Calls of one communicator 2 unless said otherwise.
-use Rattle.std.specs.Prelude.{◌≡◌, ℕ, Bool, true, false, pos, Option, Some, None, List, [], ◌∷◌}
+use Rattle.std.specs.Prelude.{◌≡◌, ◌==◌, ◌&&◌, ◌||◌, ℕ, Bool, true, false, pos, Option, Some, None, List, [], ◌∷◌}
 use Rattle.mpi_model.specs.declared.event.OpName.{OpName}
 use Rattle.mpi_model.specs.declared.envelope.Mode.TheVariants.{Standard}
 use Rattle.mpi_model.specs.declared.message.Message.{Message}
@@ -11,11 +11,16 @@ use Rattle.mpi_model.specs.declared.message.Trust.TheVariants.{Sure, Doubtful, V
 use Rattle.trace_ops.specs.declared.entered.Entered.{Entered}
 use Rattle.trace_ops.specs.Ops.{Ops, no_ops}
 use Rattle.trace_pair.specs.declared.pair.Pair.{Pair}
+use Rattle.trace_pair.specs.Certainty.{IsLegalFor}
 use Rattle.trace_pair.specs.Table.{Table, table_of, table_with}
 
+-- a part of a call of a rank
+abbrev pub part_of : ℕ → ℕ → ℕ → OpName
+part_of rank call part = record { rank = rank; call = call; part = part }
+
 -- a call of a rank
-abbrev op : ℕ → ℕ → OpName
-op rank call = record { rank = rank; call = call }
+abbrev pub op : ℕ → ℕ → OpName
+op rank call = part_of rank call 0
 
 -- a message of one rank's call to another rank, with a tag
 abbrev sends : ℕ → ℕ → ℕ → ℕ → Message
@@ -165,3 +170,53 @@ BehindTheEnd = table_of (to_itself 0) ≡ table (pair 0 2 0 1 ∷ []) (op 1 0 �
 -- It may be where the receive wasn't completed yet.
 abbrev pub NotBehindTheEnd : Type 0
 NotBehindTheEnd = table_of (to_itself 3) ≡ table [] (op 0 2 ∷ op 1 0 ∷ [])
+
+-- a part of a Startall that sends, and one that receives from rank 0
+abbrev sends_part : ℕ → ℕ → Message
+sends_part part tag = record (sends 0 2 1 tag) { name = part_of 0 2 part }
+
+abbrev receives_part : ℕ → Option ℕ → Receive
+receives_part part tag = record (receives 1 2 (Some 0) tag) { name = part_of 1 2 part }
+
+-- Parts that no receive takes both of are paired by their tags, whatever their order in the list.
+abbrev pub PartsByTag : Type 0
+PartsByTag = (alone (sends_part 0 7 ∷ sends_part 1 8 ∷ []) (receives 1 0 (Some 0) (Some 8) ∷ receives 1 1 (Some 0) (Some 7) ∷ [])
+    ≡ table (pair 0 2 1 1 ∷ record { message = part_of 0 2 1; receive = op 1 0; over = false } ∷ []) [])
+    × (alone (sends 0 0 1 8 ∷ sends 0 1 1 7 ∷ []) (receives_part 0 (Some 7) ∷ receives_part 1 (Some 8) ∷ [])
+    ≡ table (record { message = op 0 0; receive = part_of 1 2 1; over = false } ∷ pair 0 1 1 2 ∷ []) [])
+
+-- Of one tag, each may have been started first: there is no pair, and nothing is postponed.
+abbrev pub PartsInAnyOrder : Type 0
+PartsInAnyOrder = (alone (sends_part 0 7 ∷ sends_part 1 7 ∷ []) (receives 1 0 (Some 0) (Some 7) ∷ receives 1 1 (Some 0) (Some 7) ∷ []) ≡ table [] [])
+    × (alone (sends 0 0 1 7 ∷ sends 0 1 1 7 ∷ []) (receives_part 0 (Some 7) ∷ receives_part 1 (Some 7) ∷ []) ≡ table [] [])
+
+-- A part can go behind the next part: the first fits the second receive alone, and the second, which fits both, was
+-- taken by the first. So too of receives: one of any tag takes the first message, and one of a tag the second.
+abbrev pub PartBehindPart : Type 0
+PartBehindPart = (alone (sends_part 0 7 ∷ sends_part 1 8 ∷ []) (receives 1 0 (Some 0) (Some 8) ∷ receives 1 1 (Some 0) None ∷ [])
+    ≡ table (pair 0 2 1 1 ∷ record { message = part_of 0 2 1; receive = op 1 0; over = false } ∷ []) [])
+    × (alone (sends 0 0 1 8 ∷ sends 0 1 1 7 ∷ []) (receives_part 0 (Some 7) ∷ receives_part 1 None ∷ [])
+    ≡ table (record { message = op 0 0; receive = part_of 1 2 1; over = false } ∷ pair 0 1 1 2 ∷ []) [])
+
+-- An open part may have taken what the others would: it hides messages from parts before it in the list.
+abbrev pub OpenPart : Type 0
+OpenPart = alone (sends 0 0 1 7 ∷ []) (receives_part 0 (Some 7) ∷ (record (receives_part 1 (Some 7)) { source = None }) ∷ []) ≡ table [] (op 0 0 ∷ [])
+
+-- Rank 0 sends twice. Rank 1 matches a message in its call 0, by a Mprobe that tells rank 0, receives it in its call 1 by
+-- an Imrecv that call 3 cancels and call 4 completes without telling what became of it, and receives in its calls 2 and 5.
+abbrev pub probed : List Ops
+probed = did (sends 0 0 1 7 ∷ sends 0 1 1 7 ∷ []) [] []
+    ∷ did [] (posted 1 0 (Some 0) Doubtful ∷ receives 1 2 (Some 0) (Some 7) ∷ receives 1 5 (Some 0) (Some 7) ∷ []) [] ∷ []
+
+-- the same name
+abbrev pub is_name : OpName → OpName → Bool
+is_name a b = (a.rank == b.rank) && (a.call == b.call) && (a.part == b.part)
+
+-- the second message by the first of these receives, and the first by the second
+abbrev pub given_back : OpName → OpName → Bool
+given_back m q = (is_name m (op 0 1) && is_name q (op 1 2)) || (is_name m (op 0 0) && is_name q (op 1 5))
+
+-- The first message may have been given back behind the first of these receives: so that may have the second message, and
+-- nothing is a pair.
+abbrev pub GivenBack : Type 0
+GivenBack = (table_of probed ≡ table [] (op 0 0 ∷ op 0 1 ∷ [])) × IsLegalFor probed given_back

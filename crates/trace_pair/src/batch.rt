@@ -1,20 +1,29 @@
 //! The pairing of all ranks' calls in one pass: all messages are there from the start, and the receives
-//! come rank by rank, each behind those before it.
+//! come rank by rank and call by call, each call behind those before it.
 //!
 //! A settled receive can only take the first message that fits it and that no receive before it took.
 //! It takes that one if it is sure, unless an open receive before it fits the message, or a settled one
 //! that fits it went without a message. An open one doesn't count that the message comes after. Which of
 //! the ranks comes first makes no difference, since all that the rules compare are messages of one sender
 //! and receives of one rank.
+//!
+//! The parts of one call may stand in one another's way, whatever their order in the list (MPI 4.0, 3.9).
+//! So all of them enter their sets first, and what each may take is looked for before anything is taken.
+//! Then a part takes what it is offered, if no other free receive fits it: those of any tag before those
+//! of a tag, since one of a tag can wait for one of any to be out of the way, and not the other way round.
 
-ghost use Rattle.std.specs.Prelude.{◌≡◌, ◌<◌, true, false, Some, IfOk, IfSome, OnOk, [], List, length, slice_get};
+ghost use Rattle.std.specs.Prelude.{◌≡◌, ◌∷◌, true, false, None, Some, IfOk, OnOk, [], List, length, slice_get};
+ghost use Rattle.std.specs.List.{All, AllZip};
 ghost use Rattle.mpi_model.specs.declared.message.Message.{Message};
 ghost use Rattle.mpi_model.specs.declared.message.Receive.{Receive};
 ghost use Rattle.mpi_model.specs.Trusts.{is_settled};
 ghost use Rattle.trace_ops.specs.Ops.{AreOwn};
+ghost use Rattle.trace_ops.specs.Order.{Has};
 ghost use Rattle.trace_pair.specs.After.{comes_after};
-ghost use Rattle.trace_pair.specs.Calls.{AddsReceive, between, IsPosting};
-ghost use Rattle.trace_pair.specs.Settled.{Settles, IsTakenAt};
+ghost use Rattle.trace_pair.specs.Calls.{AddsReceives, ArePostedApart, IsOwnReceive, between, IsPosting};
+ghost use Rattle.trace_pair.specs.Indexed.{AwaitReceives, with_kind};
+ghost use Rattle.trace_pair.specs.Settled.{Settles, SettlesAmong, IsNextKind, IsNextPart, IsOfferedAt, IsTakenAt, IsWithin, couples_of, waiting_of};
+ghost use Rattle.trace_pair.specs.Sets.{AddsTo};
 ghost use Rattle.trace_pair.specs.Ends.{AreLast, NoneHides, SomeHides};
 ghost use Rattle.trace_pair.specs.Pairing.{After, receive_of};
 ghost use Rattle.trace_pair.specs.Table.{fits_open, sends_of, receives_of};
@@ -24,6 +33,7 @@ use crate::ends::Ends;
 use crate::queues::Receives;
 use crate::reach::Reaches;
 use crate::takings::Takings;
+use crate::whole::end_of_receives;
 use mpi_model::{Message, Receive};
 use std::alloc::{AllocError, Global};
 use trace_ops::RankOps;
@@ -76,14 +86,22 @@ fn is_hidden(reaches: &Reaches, opened: &Ends, m: &Message) -> bool
     opened.may_take(reaches, m)
 }
 
-/// The place of the message that the new receive takes.
-fn taken_by(batch: &mut Batch, reaches: &Reaches, q: &Receive) -> Result<Option<usize>, AllocError>
-    requires { is_settled q.now ≡ true }
+/// The place of the message that a part of a new call takes, if no other free receive fits it.
+fn offered_place(
+    batch: &mut Batch,
+    reaches: &Reaches,
+    part: &Receive,
+) -> Result<Option<usize>, AllocError>
     ensures kept { batch.new ≡ batch.old }
-    ensures within { IfOk result (λ place. IfSome place (λ p. p < length batch.old.messages.messages)) }
-    ensures found { IfOk result (λ place. (ms : List Message) (qs : List Receive) → Settles (comes_after reaches.now) ms qs batch.old → IsTakenAt (comes_after reaches.now) ms qs batch.old.messages q.now place) }
+    ensures within { IfOk result (IsWithin batch.old) }
+    ensures found { IfOk result (λ place. (ms : List Message) (qs more call free opened : List Receive) → AddsReceives qs more call → Has call part.now → AreLast opened batch.old.opened → batch.old.messages.messages ≡ ms
+        → AwaitReceives (comes_after reaches.now) ms qs more (waiting_of batch.old) free opened (couples_of batch.old)
+        → IsOfferedAt (comes_after reaches.now) ms qs more part.now place) }
 {
-    let Some(place) = batch.messages.first_for(q)? else {
+    if !part.is_settled() {
+        return Ok(None);
+    }
+    let Some(place) = batch.messages.sole_for(part)? else {
         return Ok(None);
     };
     let m = batch.messages.messages()[place];
@@ -93,15 +111,29 @@ fn taken_by(batch: &mut Batch, reaches: &Reaches, q: &Receive) -> Result<Option<
     if is_hidden(reaches, &batch.opened, &m) {
         return Ok(None);
     }
+    Ok(Some(place))
+}
+
+/// The place of the message that a settled receive takes that is alone of its call.
+fn taken_by(batch: &mut Batch, reaches: &Reaches, q: &Receive) -> Result<Option<usize>, AllocError>
+    requires { is_settled q.now ≡ true }
+    ensures kept { batch.new ≡ batch.old }
+    ensures within { IfOk result (IsWithin batch.old) }
+    ensures found { IfOk result (λ place. (ms : List Message) (qs more : List Receive) → AddsReceives qs more (q.now ∷ []) → ArePostedApart more → Settles (comes_after reaches.now) ms qs batch.old → IsTakenAt (comes_after reaches.now) ms qs more q.now place) }
+{
+    let Some(place) = offered_place(batch, reaches, q)? else {
+        return Ok(None);
+    };
+    let m = batch.messages.messages()[place];
     if let Some(_) = batch.free.first_for(&m) {
         return Ok(None);
     }
     Ok(Some(place))
 }
 
-/// Puts a receive behind those of its rank.
+/// Puts a receive that is alone of its call behind those of its rank.
 fn add_receive(batch: &mut Batch, reaches: &Reaches, q: Receive) -> Result<(), AllocError>
-    ensures { OnOk result ((ms : List Message) (qs more : List Receive) → AddsReceive qs more q → Settles (comes_after reaches.now) ms qs batch.old → Settles (comes_after reaches.now) ms more batch.new) }
+    ensures { OnOk result ((ms : List Message) (qs more : List Receive) → AddsReceives qs more (q ∷ []) → ArePostedApart more → Settles (comes_after reaches.now) ms qs batch.old → Settles (comes_after reaches.now) ms more batch.new) }
 {
     if q.is_open() {
         batch.opened.insert(&q)?;
@@ -117,12 +149,125 @@ fn add_receive(batch: &mut Batch, reaches: &Reaches, q: Receive) -> Result<(), A
     Ok(())
 }
 
-/// Adds the receives of a rank behind those of the ranks before it.
-fn add_receives(batch: &mut Batch, reaches: &Reaches, own: &[Receive]) -> Result<(), AllocError>
-    ensures { OnOk result ((ms : List Message) (before : List Receive) → IsPosting before [] own.now → Settles (comes_after reaches.now) ms (between before [] []) batch.old → Settles (comes_after reaches.now) ms (between before own.now []) batch.new) }
+/// Puts a receive that takes nothing yet into its set.
+fn enter_receive(batch: &mut Batch, q: &Receive) -> Result<(), AllocError>
+    ensures { OnOk result ((after : After) (ms : List Message) (all done qs more : List Receive) → AddsTo qs more q.now → IsOwnReceive q.now → ArePostedApart more → (Has done q.now → ⊥)
+        → SettlesAmong after ms all done qs batch.old → SettlesAmong after ms all done more batch.new) }
 {
-    for q in own {
-        add_receive(batch, reaches, *q)?;
+    if q.is_settled() {
+        batch.free.insert(*q)?;
+        return Ok(());
+    }
+    if !q.is_open() {
+        return Ok(());
+    }
+    batch.opened.insert(q)?;
+    Ok(())
+}
+
+/// Puts the receives of a call into their sets.
+fn enter_receives(batch: &mut Batch, call: &[Receive]) -> Result<(), AllocError>
+    ensures { OnOk result ((after : After) (ms : List Message) (qs more : List Receive) → AddsReceives qs more call.now → ArePostedApart more → Settles after ms qs batch.old → SettlesAmong after ms more qs more batch.new) }
+{
+    for q in call {
+        enter_receive(batch, q)?;
+    }
+    Ok(())
+}
+
+/// Of each part of a call the place of the message that it takes, if no other free receive fits it.
+fn offered_places(
+    batch: &mut Batch,
+    reaches: &Reaches,
+    call: &[Receive],
+) -> Result<Vec<Option<usize>>, AllocError>
+    ensures kept { batch.new ≡ batch.old }
+    ensures long { IfOk result (λ found. length found.items ≡ length call.now) }
+    ensures within { IfOk result (λ found. All (IsWithin batch.old) found.items) }
+    ensures found { IfOk result (λ found. (ms : List Message) (qs more : List Receive) → AddsReceives qs more call.now → SettlesAmong (comes_after reaches.now) ms more qs more batch.old
+        → AllZip (IsOfferedAt (comes_after reaches.now) ms qs more) call.now found.items) }
+{
+    let mut found = Vec::with_capacity(*batch.messages.allocator(), call.len())?;
+    for q in call {
+        let place = offered_place(batch, reaches, q)?;
+        found.push(place)?;
+    }
+    Ok(found)
+}
+
+/// The part takes the message that it is offered, if no other free receive fits it.
+fn settle_receive(batch: &mut Batch, offered: Option<usize>, q: &Receive) -> Result<(), AllocError>
+    requires { IsWithin batch.old offered }
+    ensures kept { OnOk result (batch.new.messages.messages ≡ batch.old.messages.messages) }
+    ensures settled { OnOk result ((after : After) (ms : List Message) (qs more call done : List Receive) → AddsReceives qs more call → Has call q.now → IsOfferedAt after ms qs more q.now offered
+        → IsNextPart qs call done q.now → SettlesAmong after ms more done more batch.old → SettlesAmong after ms more (q.now ∷ done) more batch.new) }
+{
+    let Some(place) = offered else {
+        return Ok(());
+    };
+    let m = batch.messages.messages()[place];
+    batch.free.remove(q);
+    match batch.free.first_for(&m) {
+        Some(_) => batch.free.insert(*q)?,
+        None => batch.messages.take(place, taker_of(q))?,
+    }
+    Ok(())
+}
+
+/// The parts of a call that are of any tag take what they are offered, or those of a tag.
+fn settle_receives(
+    batch: &mut Batch,
+    call: &[Receive],
+    found: &[Option<usize>],
+    any_tag: bool,
+) -> Result<(), AllocError>
+    requires long { length found.now ≡ length call.now }
+    requires within { All (IsWithin batch.old) found.now }
+    ensures kept { OnOk result (batch.new.messages.messages ≡ batch.old.messages.messages) }
+    ensures settled { OnOk result ((after : After) (ms : List Message) (qs more done : List Receive) → AddsReceives qs more call.now → AllZip (IsOfferedAt after ms qs more) call.now found.now
+        → IsNextKind any_tag qs call.now done → SettlesAmong after ms more done more batch.old → SettlesAmong after ms more (with_kind any_tag call.now done) more batch.new) }
+{
+    for (i, q) in call.iter().enumerate() {
+        if q.tag.is_none() != any_tag {
+            continue;
+        }
+        settle_receive(batch, found[i], q)?;
+    }
+    Ok(())
+}
+
+/// Puts the receives of a call of several parts behind those of its rank. Parts that are alike each need
+/// the other to go first, and none of them takes anything.
+fn add_parts(batch: &mut Batch, reaches: &Reaches, call: &[Receive]) -> Result<(), AllocError>
+    ensures { OnOk result ((ms : List Message) (qs more : List Receive) → AddsReceives qs more call.now → ArePostedApart more → Settles (comes_after reaches.now) ms qs batch.old → Settles (comes_after reaches.now) ms more batch.new) }
+{
+    enter_receives(batch, call)?;
+    let found = offered_places(batch, reaches, call)?;
+    settle_receives(batch, call, &found, true)?;
+    settle_receives(batch, call, &found, false)?;
+    Ok(())
+}
+
+/// Puts the receives of a call behind those of its rank.
+fn add_call(batch: &mut Batch, reaches: &Reaches, call: &[Receive]) -> Result<(), AllocError>
+    ensures { OnOk result ((ms : List Message) (qs more : List Receive) → AddsReceives qs more call.now → ArePostedApart more → Settles (comes_after reaches.now) ms qs batch.old → Settles (comes_after reaches.now) ms more batch.new) }
+{
+    if call.len() == 1 {
+        return add_receive(batch, reaches, call[0]);
+    }
+    add_parts(batch, reaches, call)
+}
+
+/// Adds the receives of a rank behind the ranks before it, call by call.
+fn add_receives(batch: &mut Batch, reaches: &Reaches, own: &[Receive]) -> Result<(), AllocError>
+    ensures { OnOk result ((ms : List Message) (before : List Receive) → IsPosting before [] own.now → ArePostedApart (between before own.now [])
+        → Settles (comes_after reaches.now) ms (between before [] []) batch.old → Settles (comes_after reaches.now) ms (between before own.now []) batch.new) }
+{
+    let mut next = 0;
+    while next < own.len() {
+        let end = end_of_receives(own, next);
+        add_call(batch, reaches, &own[next..end])?;
+        next = end;
     }
     Ok(())
 }

@@ -13,7 +13,7 @@ use std::alloc::{AllocError, Global};
 use std::marker::Model;
 
 /// A set of couples in which no call is twice. Of the receive it keeps only what its message
-/// doesn't tell, so a couple takes two slots of 56 and 64 bytes.
+/// doesn't tell, so a couple takes two slots of 64 and 72 bytes.
 #[derive(Drop)]
 pub(crate) struct Couples {
     takers: Vec<Vec<Slot<Taker>>>,
@@ -38,6 +38,7 @@ pub(crate) fn taker_of(q: &Receive) -> Taker
 {
     Taker {
         call: q.name.call,
+        part: q.name.part,
         datatype: q.datatype,
         count: q.count,
         any_tag: q.tag.is_none(),
@@ -53,6 +54,7 @@ pub(crate) fn receive_by(m: &Message, taker: Taker) -> Receive
         name: OpName {
             rank: m.to,
             call: taker.call,
+            part: taker.part,
         },
         comm: m.comm,
         at: m.to,
@@ -84,6 +86,7 @@ impl Couples {
         let receive = OpName {
             rank: m.to,
             call: taker.call,
+            part: taker.part,
         };
         if !put_new(&mut self.takers, m.name, taker)? {
             return Ok(());

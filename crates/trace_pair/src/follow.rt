@@ -6,7 +6,7 @@ ghost use Rattle.mpi_model.specs.declared.message.Message.{Message};
 ghost use Rattle.mpi_model.specs.declared.message.Receive.{Receive};
 ghost use Rattle.trace_ops.specs.Ops.{AreOwn, no_ops};
 ghost use Rattle.trace_ops.specs.Order.{AreEntered, Has};
-ghost use Rattle.trace_pair.specs.Calls.{between, IsSequence, IsPosting};
+ghost use Rattle.trace_pair.specs.Calls.{between, IsSequence, IsPostingByCall};
 ghost use Rattle.trace_pair.specs.After.{comes_after};
 ghost use Rattle.trace_pair.specs.Followed.{Adds, Drops, Indexes};
 ghost use Rattle.trace_pair.specs.Fronts.{AreFronts, AreOneBefore, IsAlike, IsEndedBy, call_at};
@@ -92,7 +92,7 @@ fn common_messages(a: &[Message], b: &[Message], last: u64) -> usize
 /// Takes back the receives of a rank behind the first `keep`.
 fn drop_receives(state: &mut Matched, held: &[Receive], keep: usize) -> Result<(), AllocError>
     requires { keep ≤ length held.now }
-    ensures { OnOk result ((after : After) (before behind : List Receive) (ms : List Message) → IsPosting before behind held.now
+    ensures { OnOk result ((after : After) (before behind : List Receive) (ms : List Message) → IsPostingByCall before behind held.now
         → Indexes after ms (between before held.now behind) state.old → Indexes after ms (between before (take keep held.now) behind) state.new) }
 {
     let mut left = held.len();
@@ -111,7 +111,7 @@ pub(crate) fn add_receives(
     keep: usize,
 ) -> Result<(), AllocError>
     requires { keep ≤ length held.now }
-    ensures { OnOk result ((before behind : List Receive) (ms : List Message) → IsPosting before behind held.now
+    ensures { OnOk result ((before behind : List Receive) (ms : List Message) → IsPostingByCall before behind held.now
         → Indexes (comes_after reaches.now) ms (between before (take keep held.now) behind) state.old → Indexes (comes_after reaches.now) ms (between before held.now behind) state.new) }
 {
     let mut next = keep;

@@ -1,9 +1,11 @@
 //! An index of the pairs that follows the ops of the ranks as they grow and are cut back.
 
-ghost use Rattle.std.specs.Prelude.{◌≡◌, ◌<◌, List, OnOk, OnErr, IfOk, IfSome, length, slice_set, slice_index_or};
+ghost use Rattle.std.specs.Prelude.{◌≡◌, ◌<◌, List, All, OnOk, OnErr, IfOk, IfSome, length, slice_set, slice_index_or};
 ghost use Rattle.trace_ops.specs.Ops.{IsOwn, AreOwn, Grows, Ops, no_ops};
+ghost use Rattle.trace_ops.specs.Order.{AreInOrder, ArePosted};
+ghost use Rattle.trace_pair.specs.Calls.{IsSingle};
 ghost use Rattle.trace_pair.specs.Certainty.{AreCertain, AreAllSettled, AreLegal, AreNoneAfter, AreTheOnlyLegal};
-ghost use Rattle.trace_pair.specs.Kept.{IsFollowed};
+ghost use Rattle.trace_pair.specs.Kept.{IfSets, IsFollowed};
 ghost use Rattle.trace_pair.specs.Reach.{AreReachesOf};
 ghost use Rattle.trace_pair.specs.Table.{fresh, table_of};
 
@@ -13,8 +15,10 @@ use crate::reach::{RankReach, reaches_of, renew};
 use crate::scratch::pair_all;
 use crate::table::PairTable;
 use crate::together::add_ranks;
+use crate::whole::{has_several, some_has_several};
 use std::alloc::{AllocError, Global};
 use std::marker::Model;
+use std::mem::replace;
 use trace_ops::RankOps;
 
 /// The sets that follow the held ops, and the table by which they ask what comes after a receive.
@@ -24,12 +28,24 @@ pub(crate) struct Followed {
     table: Vec<RankReach>,
 }
 
-/// The pairs of the ops that it holds, one for each rank.
+/// Whether sets follow the held ops.
+#[derive(Drop)]
+pub(crate) enum Following {
+    /// No rank's ops changed yet: the sets are made when they first do.
+    NotYet,
+    /// Each call has one part, and these sets follow.
+    By(Followed),
+    /// A call of several parts came: the pairs are made from scratch.
+    Never,
+}
+
+/// The pairs of the ops that it holds, one for each rank. Sets follow the ops as they change, as long
+/// as each call has one part; else, as before the first change, [`pairs`](PairIndex::pairs) goes over all
+/// calls.
 #[derive(Drop)]
 pub struct PairIndex {
     held: Vec<RankOps>,
-    /// What follows the held ops, made when a rank's ops first change.
-    state: Option<Followed>,
+    following: Following,
 }
 
 impl Model for PairIndex {
@@ -41,7 +57,7 @@ impl Model for PairIndex {
 
     ghost view = { λ s. s.held.items };
 
-    ghost invariant = { λ s. IsKept s.held.items s.state };
+    ghost invariant = { λ s. IsKept s.held.items s.following };
 }
 
 impl PairIndex {
@@ -51,7 +67,7 @@ impl PairIndex {
     {
         Ok(PairIndex {
             held: fresh_ops(alloc, ranks)?,
-            state: None,
+            following: Following::NotYet,
         })
     }
 
@@ -63,7 +79,7 @@ impl PairIndex {
         let _ = alloc;
         Ok(PairIndex {
             held: ops,
-            state: None,
+            following: Following::NotYet,
         })
     }
 
@@ -99,7 +115,8 @@ impl PairIndex {
     }
 
     /// The table of the held ops, made by one pass over them, what its pairs are worth, and that none
-    /// is missing where no receive is open and no message doubtful (MPI 4.0, 3.5).
+    /// is missing where no receive is open, no message doubtful, and no two parts of one call fit the
+    /// same (MPI 4.0, 3.5 and 3.9).
     pub fn pairs(&self) -> Result<PairTable, AllocError>
         ensures table { IfOk result (λ t. t ≡ table_of self.now) }
         ensures certain { IfOk result (λ t. AreCertain self.now t.pairs) }
@@ -107,7 +124,7 @@ impl PairIndex {
         ensures only { AreAllSettled self.now → IfOk result (λ t. AreTheOnlyLegal self.now t.pairs) }
     {
         let alloc = *self.held.allocator();
-        let table = table_by(alloc, &self.state, &self.held)?;
+        let table = table_by(alloc, &self.following, &self.held)?;
         Ok(table)
     }
 
@@ -119,9 +136,10 @@ impl PairIndex {
         ensures ok { OnOk result (self.new ≡ slice_set self.old rank ops) }
         ensures memory { OnErr result (self.new ≡ fresh (length self.old)) }
     {
-        match set_ops(&mut self.held, self.state.take(), rank, ops) {
-            Ok(state) => {
-                self.state = Some(state);
+        let following = replace(&mut self.following, Following::NotYet);
+        match set_ops(&mut self.held, following, rank, ops) {
+            Ok(following) => {
+                self.following = following;
                 Ok(())
             }
             Err(error) => {
@@ -155,31 +173,28 @@ fn forget(held: &mut Vec<RankOps>)
     }
 }
 
-/// The table of the held ops, by the state where there is one.
-fn table_by(
-    alloc: Global,
-    state: &Option<Followed>,
-    held: &[RankOps],
-) -> Result<PairTable, AllocError>
+/// The table of the held ops, by the sets where some follow.
+fn table_by(alloc: Global, following: &Following, held: &[RankOps]) -> Result<PairTable, AllocError>
     requires own { AreOwn 0 held.now }
-    requires followed { IfSome state.now (IsFollowed held.now) }
+    requires followed { IfSets following.now (IsFollowed held.now) }
     ensures { IfOk result (λ t. t ≡ table_of held.now) }
 {
-    match state {
-        Some(state) => {
+    match following {
+        Following::By(state) => {
             let table = PairTable::of_held(alloc, &state.sets, held, &state.table)?;
             Ok(table)
         }
-        None => {
+        Following::NotYet | Following::Never => {
             let table = pair_all(alloc, held)?;
             Ok(table)
         }
     }
 }
 
-/// The state that follows these ops.
+/// The sets that follow these ops.
 fn state_of(alloc: Global, held: &[RankOps]) -> Result<Followed, AllocError>
-    requires { AreOwn 0 held.now }
+    requires own { AreOwn 0 held.now }
+    requires single { All IsSingle held.now }
     ensures { IfOk result (λ state. IsFollowed held.now state) }
 {
     let table = reaches_of(alloc, held)?;
@@ -188,19 +203,39 @@ fn state_of(alloc: Global, held: &[RankOps]) -> Result<Followed, AllocError>
     Ok(Followed { sets, table })
 }
 
-/// This state, or a new one where there is none.
-fn state_or_new(
-    alloc: Global,
-    held: &[RankOps],
-    state: Option<Followed>,
-) -> Result<Followed, AllocError>
-    requires own { AreOwn 0 held.now }
-    requires followed { IfSome state (IsFollowed held.now) }
-    ensures { IfOk result (λ state. IsFollowed held.now state) }
+/// The sets that follow these ops, if each call has one part.
+fn new_state(alloc: Global, held: &[RankOps]) -> Result<Option<Followed>, AllocError>
+    requires { AreOwn 0 held.now }
+    ensures { IfOk result (λ state. IfSome state (IsFollowed held.now)) }
 {
-    match state {
-        Some(state) => Ok(state),
-        None => state_of(alloc, held),
+    if some_has_several(held) {
+        return Ok(None);
+    }
+    let state = state_of(alloc, held)?;
+    Ok(Some(state))
+}
+
+/// The sets that follow the held ops and can go on with these, made where there are none yet.
+fn state_for(
+    alloc: Global,
+    following: Following,
+    held: &[RankOps],
+    ops: &RankOps,
+) -> Result<Option<Followed>, AllocError>
+    requires own { AreOwn 0 held.now }
+    requires followed { IfSets following (IsFollowed held.now) }
+    requires sends { AreInOrder ops.now.sends }
+    requires receives { ArePosted ops.now.receives }
+    ensures followed { IfOk result (λ state. IfSome state (IsFollowed held.now)) }
+    ensures single { IfOk result (λ state. IfSome state (λ _. IsSingle ops.now)) }
+{
+    if has_several(ops) {
+        return Ok(None);
+    }
+    match following {
+        Following::NotYet => new_state(alloc, held),
+        Following::By(state) => Ok(Some(state)),
+        Following::Never => Ok(None),
     }
 }
 
@@ -226,27 +261,52 @@ fn put_ops(held: &mut Vec<RankOps>, rank: u32, ops: RankOps)
     held[rank as usize] = ops;
 }
 
-/// Makes the rank's ops these, and the state with them, which is made first where there is none.
-fn set_ops(
+/// Makes the rank's ops these, and lets the sets follow.
+fn follow_ops(
     held: &mut Vec<RankOps>,
-    state: Option<Followed>,
+    state: Followed,
     rank: u32,
     ops: RankOps,
 ) -> Result<Followed, AllocError>
     requires rank { rank < length held.old.items }
     requires held { AreOwn 0 held.old.items }
     requires own { IsOwn rank ops }
-    requires followed { IfSome state (IsFollowed held.old.items) }
+    requires single { IsSingle ops }
+    requires followed { IsFollowed held.old.items state }
     ensures length { length held.new.items ≡ length held.old.items }
     ensures held { OnOk result (held.new.items ≡ slice_set held.old.items rank ops) }
-    ensures own { OnOk result (AreOwn 0 held.new.items) }
     ensures state { IfOk result (λ state. IsFollowed held.new.items state) }
 {
     let alloc = *held.allocator();
-    let mut state = state_or_new(alloc, held, state)?;
+    let mut state = state;
     let fronts = drop_calls(&mut state.sets, held, rank, &ops)?;
     renew_rank(alloc, &mut state.table, rank, &ops)?;
     put_ops(held, rank, ops);
     add_calls(&mut state.sets, held, &state.table, rank, fronts)?;
     Ok(state)
+}
+
+/// Makes the rank's ops these, and lets sets follow if each call has one part.
+fn set_ops(
+    held: &mut Vec<RankOps>,
+    following: Following,
+    rank: u32,
+    ops: RankOps,
+) -> Result<Following, AllocError>
+    requires rank { rank < length held.old.items }
+    requires held { AreOwn 0 held.old.items }
+    requires own { IsOwn rank ops }
+    requires followed { IfSets following (IsFollowed held.old.items) }
+    ensures length { length held.new.items ≡ length held.old.items }
+    ensures held { OnOk result (held.new.items ≡ slice_set held.old.items rank ops) }
+    ensures own { OnOk result (AreOwn 0 held.new.items) }
+    ensures followed { IfOk result (λ following. IfSets following (IsFollowed held.new.items)) }
+{
+    let alloc = *held.allocator();
+    let Some(state) = state_for(alloc, following, held, &ops)? else {
+        put_ops(held, rank, ops);
+        return Ok(Following::Never);
+    };
+    let state = follow_ops(held, state, rank, ops)?;
+    Ok(Following::By(state))
 }

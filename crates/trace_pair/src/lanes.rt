@@ -1,9 +1,9 @@
 //! The open receives of one key, in order of their calls, each with the end of the last to end of it and all in front of it.
 //!
-//! A message asks a lane for that end alone, of the whole lane or of the front that is called before some call. Receives
+//! A message asks a lane for that end alone, of the whole lane or of the front that is called no later than some call. Receives
 //! come and go at the end of a lane, but for a few: so one costs a search, and a push or a pop.
 
-ghost use Rattle.std.specs.Prelude.{◌≡◌, ◌||◌, ◌≤◌, not, true, false, if◌then◌else◌, nat_lt, take, filter, length, IfOk, OnOk, OnErr, IsTrue, None};
+ghost use Rattle.std.specs.Prelude.{◌≡◌, ◌||◌, ◌≤◌, not, true, false, if◌then◌else◌, nat_lt, nat_le, take, filter, length, IfOk, OnOk, OnErr, IsTrue, None};
 ghost use Rattle.std.specs.BTreeSet.{contains};
 ghost use Rattle.std.specs.List.Sorted.{IsNonDecreasingBy, IsPartitionPoint};
 ghost use Rattle.std.specs.Ordering.{is_eq};
@@ -65,6 +65,19 @@ fn called_before(steps: &[Step], call: u64) -> usize
         |s: &Step| -> bool
             ensures { result ≡ nat_lt (call_of s.now) call }
         { s.receive.name.call < call },
+    )
+}
+
+/// How many steps are called no later than that call.
+fn called_by(steps: &[Step], call: u64) -> usize
+    requires { IsNonDecreasingBy call_of steps.now }
+    ensures parted { IsPartitionPoint (λ s. nat_le (call_of s) call ≡ true) (λ s. nat_le (call_of s) call ≡ false) steps.now result }
+    ensures bound { result ≤ length steps.now }
+{
+    steps.partition_point(
+        |s: &Step| -> bool
+            ensures { result ≡ nat_le (call_of s.now) call }
+        { s.receive.name.call <= call },
     )
 }
 
@@ -152,13 +165,13 @@ impl Lane {
         }
     }
 
-    /// The end of the last to end of the receives that are called before the limit, or of all where there is none.
+    /// The end of the last to end of the receives that are called no later than the limit, or of all where there is none.
     pub(crate) fn latest(&self, limit: Option<u64>) -> Option<Option<u64>>
         ensures { IsLatestOf (filter (is_within limit) self.now.keys) result }
     {
         let count = match limit {
             None => self.steps.len(),
-            Some(call) => called_before(&self.steps, call),
+            Some(call) => called_by(&self.steps, call),
         };
         end_of_front(&self.steps, count)
     }

@@ -14,7 +14,7 @@ ghost use Rattle.trace_pair.specs.Certainty.{AreAllSettled, AreCertain, AreLegal
 ghost use Rattle.trace_pair.specs.Pairing.{After, paired, obeys, Paired, Obeys};
 ghost use Rattle.trace_pair.specs.Matching.{Continues, IsLegal, IsLegalBeside, SomeOf};
 ghost use Rattle.trace_pair.specs.Table.{receives_of, sends_of, table_of};
-ghost use Rattle.trace_pair.specs.Worked.{Over, AnyTag, Hidden, ToldLater, InOrder, CutBack, Exchanged, Interleaved, Freed, TwoCommunicators, CancelledReceive, ToldCancelled, CancelledMessage, BehindABarrier, NotBehindABarrier, OfAnotherBarrier, BehindTheEnd, NotBehindTheEnd};
+ghost use Rattle.trace_pair.specs.Worked.{Over, AnyTag, Hidden, ToldLater, InOrder, CutBack, Exchanged, Interleaved, Freed, TwoCommunicators, CancelledReceive, ToldCancelled, CancelledMessage, BehindABarrier, NotBehindABarrier, OfAnotherBarrier, BehindTheEnd, NotBehindTheEnd, PartsByTag, PartsInAnyOrder, PartBehindPart, OpenPart, GivenBack};
 
 /// A pair obeys the five rules, what obeys them is a pair, and no other relation obeys them. Each
 /// message has at most one receive, and each receive at most one message.
@@ -56,8 +56,9 @@ pub fn doubtful_may_stand_outside()
 {}
 
 /// What the pairs of a table are worth: each is a couple of every legal matching of every continuation; and
-/// where no receive is open and no message doubtful no other matching is legal (MPI 4.0, 3.5), and they
-/// are a legal one where also no message of a pair comes after its receive.
+/// where no receive is open, no message doubtful, and no two parts of one call fit one receive or
+/// message, no other matching is legal (MPI 4.0, 3.5), and they are a legal one where also no message of
+/// a pair comes after its receive.
 pub fn tables_are_certain()
     ensures certain { (held : List Ops) → AreOwn 0 held → AreCertain held (table_of held).pairs }
     ensures legal { (held : List Ops) → AreOwn 0 held → AreAllSettled held → AreNoneAfter held (table_of held).pairs → AreLegal held (table_of held).pairs }
@@ -84,4 +85,9 @@ pub fn worked_runs()
     ensures of_another_barrier { OfAnotherBarrier }
     ensures behind_the_end { BehindTheEnd }
     ensures not_behind_the_end { NotBehindTheEnd }
+    ensures parts_by_tag { PartsByTag }
+    ensures parts_in_any_order { PartsInAnyOrder }
+    ensures part_behind_part { PartBehindPart }
+    ensures open_part { OpenPart }
+    ensures given_back { GivenBack }
 {}

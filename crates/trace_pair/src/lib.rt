@@ -1,16 +1,17 @@
 //! Which message was received by which receive.
 //!
 //! A pair is reported only where it is certain: whatever the ranks did next, and however their open
-//! receives were told, MPI allows no run in which the two aren't matched. Where no receive is open and
-//! no message doubtful, the pairs are the only matching that MPI allows. Both are clauses of
-//! [`pair_all`] and of [`PairIndex::pairs`]. They hold of runs in which no call that isn't read cancels
-//! a request of one that is.
+//! receives were told, MPI allows no run in which the two aren't matched. Where no receive is open, no
+//! message doubtful, and no two parts of one Startall fit the same, the pairs are the only matching
+//! that MPI allows. Both are clauses of [`pair_all`] and of [`PairIndex::pairs`]. They hold of runs in
+//! which no call that isn't read cancels a request of one that is.
 //!
 //! [`pair_all`] goes once over all calls, and takes n of them in n log n; [`PairIndex::pairs`] has the
 //! same contract. The index follows the ranks as they grow and are cut back; one step costs in
 //! proportion to what is new, and one pass over that rank's calls. It has no sets until the first step:
-//! [`PairIndex::of_all`] only keeps the calls, and `pairs` is `pair_all` then. It keeps no table: each
-//! call of `pairs` makes one, by a pass over all messages.
+//! [`PairIndex::of_all`] only keeps the calls, and `pairs` is `pair_all` then. So it is again from the
+//! step on that brings a call of several parts, a Startall. It keeps no table: each call of `pairs`
+//! makes one, by a pass over all messages.
 //!
 //! - [`pair`]: a pair, and the two sides of one
 //! - [`scratch`]: the pairing from scratch; [`batch`]: its pass over all receives; [`takings`]: all
@@ -25,7 +26,7 @@
 //!   either name; [`slots`]: flat lists of values by such names
 //! - [`matched`]: the sets of an index, as one call comes or goes; [`opened`]: its open receives, by their keys; [`lanes`]:
 //!   those of one key, with their latest ends; [`later`]: which end is later; [`follow`]: as a rank's calls do;
-//!   [`together`]: as those of all ranks come
+//!   [`together`]: as those of all ranks come; [`whole`]: whether a call has several parts
 //! - [`index`]: the index
 //! - [`laws`]: what makes the rules easy to believe, as contracts of calls that do nothing
 //!
@@ -56,6 +57,7 @@ mod slots;
 mod table;
 mod takings;
 mod together;
+mod whole;
 
 pub use ends::Ends;
 pub use index::PairIndex;

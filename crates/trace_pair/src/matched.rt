@@ -1,14 +1,15 @@
-//! The sets of an index, as one call comes to the end of its rank or goes from there.
+//! The sets of an index, as one call comes to the end of its rank or goes from there. Each call has
+//! one part.
 
-ghost use Rattle.std.specs.Prelude.{◌≡◌, List, true, OnOk, IfSome, IfNone, []};
+ghost use Rattle.std.specs.Prelude.{◌≡◌, List, true, OnOk, IfSome, IfNone, [], ◌∷◌};
 ghost use Rattle.mpi_model.specs.declared.message.Message.{Message};
 ghost use Rattle.mpi_model.specs.declared.message.Receive.{Receive};
 ghost use Rattle.mpi_model.specs.Trusts.{is_settled};
 ghost use Rattle.trace_ops.specs.Order.{Has};
 ghost use Rattle.trace_pair.specs.After.{comes_after};
-ghost use Rattle.trace_pair.specs.Calls.{AddsMessage, AddsReceive};
+ghost use Rattle.trace_pair.specs.Calls.{AddsMessage, AddsReceives};
 ghost use Rattle.trace_pair.specs.Followed.{Indexes};
-ghost use Rattle.trace_pair.specs.Indexed.{IsFree, TakesMessage, TakesReceive};
+ghost use Rattle.trace_pair.specs.Indexed.{IsFree, OffersMessage, TakesMessage};
 ghost use Rattle.trace_pair.specs.Pairing.{After, Paired, receive_of};
 ghost use Rattle.trace_pair.specs.Table.{fits_open};
 
@@ -97,7 +98,7 @@ fn taker_for(state: &Matched, reaches: &Reaches, m: &Message) -> Option<Receive>
     let Some(q) = state.free.first_for(m) else {
         return None;
     };
-    if state.opened.hides_before(reaches, m, &q) {
+    if state.opened.hides_up_to(reaches, m, &q) {
         return None;
     }
     if let Some(_) = state.waiting.first_for(&q) {
@@ -109,8 +110,10 @@ fn taker_for(state: &Matched, reaches: &Reaches, m: &Message) -> Option<Receive>
 /// The message that the new receive takes.
 fn taken_by(state: &Matched, reaches: &Reaches, q: &Receive) -> Option<Message>
     requires { is_settled q.now ≡ true }
-    ensures some { IfSome result (λ m. (ms : List Message) (qs : List Receive) → Indexes (comes_after reaches.now) ms qs state.now → Has ms m × TakesReceive (comes_after reaches.now) ms qs m q.now) }
-    ensures none { IfNone result ((ms : List Message) (qs : List Receive) → Indexes (comes_after reaches.now) ms qs state.now → (m : Message) → Has ms m → TakesReceive (comes_after reaches.now) ms qs m q.now → ⊥) }
+    ensures some { IfSome result (λ m. (ms : List Message) (qs more : List Receive) → AddsReceives qs more (q.now ∷ []) → Indexes (comes_after reaches.now) ms qs state.now
+        → OffersMessage (comes_after reaches.now) ms qs more q.now m × Paired (comes_after reaches.now) ms more m q.now) }
+    ensures none { IfNone result ((ms : List Message) (qs more : List Receive) → AddsReceives qs more (q.now ∷ []) → Indexes (comes_after reaches.now) ms qs state.now
+        → (m : Message) → Has ms m → Paired (comes_after reaches.now) ms more m q.now → ⊥) }
 {
     let Some(m) = state.waiting.first_for(q) else {
         return None;
@@ -149,7 +152,7 @@ fn push_message(state: &mut Matched, reaches: &Reaches, m: Message) -> Result<()
 
 /// Adds a rank's next receive: it takes the first message that the rules allow, or waits.
 fn push_receive(state: &mut Matched, reaches: &Reaches, q: Receive) -> Result<(), AllocError>
-    ensures { OnOk result ((ms : List Message) (qs more : List Receive) → AddsReceive qs more q → Indexes (comes_after reaches.now) ms qs state.old → Indexes (comes_after reaches.now) ms more state.new) }
+    ensures { OnOk result ((ms : List Message) (qs more : List Receive) → AddsReceives qs more (q ∷ []) → Indexes (comes_after reaches.now) ms qs state.old → Indexes (comes_after reaches.now) ms more state.new) }
 {
     if q.is_open() {
         state.opened.insert(q)?;
@@ -191,7 +194,7 @@ pub(crate) fn pop_message(state: &mut Matched, m: &Message) -> Result<(), AllocE
 
 /// Takes a rank's last receive back, with what it had taken.
 pub(crate) fn pop_receive(state: &mut Matched, q: &Receive) -> Result<(), AllocError>
-    ensures { OnOk result ((after : After) (ms : List Message) (qs more : List Receive) → AddsReceive qs more q.now → Indexes after ms more state.old → Indexes after ms qs state.new) }
+    ensures { OnOk result ((after : After) (ms : List Message) (qs more : List Receive) → AddsReceives qs more (q.now ∷ []) → Indexes after ms more state.old → Indexes after ms qs state.new) }
 {
     if q.is_open() {
         state.opened.remove(q);
@@ -241,7 +244,7 @@ pub(crate) fn add_receive(
     reaches: &Reaches,
     q: Receive,
 ) -> Result<(), AllocError>
-    ensures { OnOk result ((ms : List Message) (qs more : List Receive) → AddsReceive qs more q → Indexes (comes_after reaches.now) ms qs state.old → Indexes (comes_after reaches.now) ms more state.new) }
+    ensures { OnOk result ((ms : List Message) (qs more : List Receive) → AddsReceives qs more (q ∷ []) → Indexes (comes_after reaches.now) ms qs state.old → Indexes (comes_after reaches.now) ms more state.new) }
 {
     expect_settled(state, &q)?;
     push_receive(state, reaches, q)?;

@@ -8,7 +8,7 @@ ghost use Rattle.std.specs.Ordering.{is_eq};
 ghost use Rattle.mpi_model.specs.declared.message.Receive.{Receive};
 ghost use Rattle.mpi_model.specs.Fit.{admits};
 ghost use Rattle.trace_pair.specs.After.{comes_after};
-ghost use Rattle.trace_pair.specs.Ends.{IsLastAmong, IsLastFor, NoneHides, NoneHidesBefore, SomeHides, SomeHidesBefore};
+ghost use Rattle.trace_pair.specs.Ends.{IsLastAmong, IsLastFor, NoneHides, NoneHidesUpTo, SomeHides, SomeHidesUpTo};
 ghost use Rattle.trace_pair.specs.Groups.{HasMember, has};
 ghost use Rattle.trace_pair.specs.KeyOrders.{ReceiveKey, receive_cmp, receive_key_cmp, receive_key_of};
 ghost use Rattle.trace_pair.specs.Lanes.{is_within};
@@ -136,8 +136,8 @@ impl Opened {
         drop_from(&mut self.lanes, q);
     }
 
-    /// The end of the last to end of the receives with this source and tag that are called before the limit, where there is
-    /// one, and whose envelopes fit the message's.
+    /// The end of the last to end of the receives with this source and tag that are called no later than the limit, where there
+    /// is one, and whose envelopes fit the message's.
     fn last_with(
         &self,
         m: &Message,
@@ -175,7 +175,7 @@ impl Opened {
         later_of(told, untold)
     }
 
-    /// Whether some that are called before the limit, where there is one, may have taken the message: where it comes after
+    /// Whether some that are called no later than the limit, where there is one, may have taken the message: where it comes after
     /// the last to end, it comes after all.
     fn hides_within(&self, reaches: &Reaches, m: &Message, limit: Option<u64>) -> bool
         ensures yes { result ≡ true → SomeHides (comes_after reaches.now) (filter (is_within limit) self.now) m.now }
@@ -195,10 +195,10 @@ impl Opened {
         self.hides_within(reaches, m, None)
     }
 
-    /// Whether some that stand before the receive may have taken the message.
-    pub(crate) fn hides_before(&self, reaches: &Reaches, m: &Message, q: &Receive) -> bool
-        ensures yes { result ≡ true → SomeHidesBefore (comes_after reaches.now) self.now m.now q.now }
-        ensures no { result ≡ false → NoneHidesBefore (comes_after reaches.now) self.now m.now q.now }
+    /// Whether some that are called no later than the receive may have taken the message.
+    pub(crate) fn hides_up_to(&self, reaches: &Reaches, m: &Message, q: &Receive) -> bool
+        ensures yes { result ≡ true → SomeHidesUpTo (comes_after reaches.now) self.now m.now q.now }
+        ensures no { result ≡ false → NoneHidesUpTo (comes_after reaches.now) self.now m.now q.now }
     {
         m.to == q.at && self.hides_within(reaches, m, Some(q.name.call))
     }

@@ -33,6 +33,7 @@ pub(crate) struct Couple {
 #[derive(Clone, Copy, Debug, PartialEq, Eq)]
 pub(crate) struct Taker {
     pub(crate) call: u64,
+    pub(crate) part: u32,
     pub(crate) datatype: i64,
     pub(crate) count: u32,
     pub(crate) any_tag: bool,

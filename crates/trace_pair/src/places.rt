@@ -4,9 +4,10 @@
 ghost use Rattle.std.specs.Prelude.{◌≡◌, ◌++◌, ◌∷◌, [], None, OnOk, IfOk, if◌then◌else◌, drop, slice_get};
 ghost use Rattle.std.specs.BTreeMap.{IsOrdered, get};
 ghost use Rattle.std.specs.Ordering.{is_eq};
-ghost use Rattle.trace_pair.specs.Waiting.{waits_at, from_waiting, places_at};
+ghost use Rattle.trace_pair.specs.Waiting.{waits_at, from_waiting, is_followed, is_of_call, call_at, sole_of, places_at};
 
 use crate::pair::Taker;
+use mpi_model::Message;
 use std::alloc::{AllocError, Global};
 use std::collections::{BTreeMap, VecDeque};
 use std::marker::Model;
@@ -80,20 +81,73 @@ impl Places {
         }
         None
     }
+
+    /// Whether a message waits behind the one in front that is of its call.
+    fn has_sibling(&self, messages: &[Message], takers: &[Option<Taker>], call: u64) -> bool
+        ensures { result ≡ is_followed messages.now takers.now call (drop 1 self.now) }
+    {
+        let mut next = 1;
+        while let Some(place) = self.kept.get(next).copied() {
+            if !is_of_call(messages, place, call) {
+                return false;
+            }
+            if waits_at(takers, place) {
+                return true;
+            }
+            next += 1;
+        }
+        false
+    }
+
+    /// The first place at which a message waits, if no other one of its call does. Those before the first
+    /// go.
+    fn sole_waiting(&mut self, messages: &[Message], takers: &[Option<Taker>]) -> Option<usize>
+        ensures sole { result ≡ sole_of messages.now takers.now (from_waiting takers.now self.old) }
+        ensures left { self.new ≡ from_waiting takers.now self.old }
+    {
+        let place = self.first_waiting(takers)?;
+        let call = call_at(messages, place);
+        if self.has_sibling(messages, takers, call) {
+            return None;
+        }
+        Some(place)
+    }
 }
 
-/// The first place at a key at which a message waits. Those before it go.
-pub(crate) fn first_at<K: Ord>(
+/// Whether the message at a place is of that call of its rank.
+fn is_of_call(messages: &[Message], place: usize, call: u64) -> bool
+    ensures { result ≡ is_of_call messages.now place call }
+{
+    match messages.get(place) {
+        Some(m) => m.name.call == call,
+        None => false,
+    }
+}
+
+/// The call of the message at a place.
+fn call_at(messages: &[Message], place: usize) -> u64
+    ensures { result ≡ call_at messages.now place }
+{
+    match messages.get(place) {
+        Some(m) => m.name.call,
+        None => 0,
+    }
+}
+
+/// The first place at a key at which a message waits, if no other one of its call does. Those before
+/// the first go.
+pub(crate) fn sole_at<K: Ord>(
     places: &mut BTreeMap<K, Places>,
     key: &K,
+    messages: &[Message],
     takers: &[Option<Taker>],
 ) -> Option<usize>
-    ensures first { result ≡ slice_get (from_waiting takers.now (places_at K.cmp places.old key.now)) 0 }
+    ensures sole { result ≡ sole_of messages.now takers.now (from_waiting takers.now (places_at K.cmp places.old key.now)) }
     ensures left { (k : K) → places_at K.cmp places.new k ≡ (if is_eq (K.cmp key.now k) then from_waiting takers.now (places_at K.cmp places.old k) else places_at K.cmp places.old k) }
     ensures ordered { IsOrdered K.cmp places.new }
 {
     match places.get_mut(key) {
-        Some(own) => own.first_waiting(takers),
+        Some(own) => own.sole_waiting(messages, takers),
         None => None,
     }
 }

@@ -229,11 +229,12 @@ impl Receives {
     }
 }
 
-/// Whether the one comes before the other: by rank, and then by call.
+/// Whether the one comes before the other: by rank, then by call, and then by part.
 fn is_named_before(a: &OpName, b: &OpName) -> bool
     ensures { result ≡ name_lt a.now b.now }
 {
-    a.rank < b.rank || (a.rank == b.rank && a.call < b.call)
+    a.rank < b.rank
+        || (a.rank == b.rank && (a.call < b.call || (a.call == b.call && a.part < b.part)))
 }
 
 /// The earlier of two receives.

@@ -5,15 +5,14 @@
 //! decides. That is one search in the sender's Barriers, for each communicator on which it entered any, and one look at
 //! the call with which the receiver's rank entered that Barrier's round.
 
-ghost use Rattle.std.specs.Prelude.{◌≡◌, ◌<◌, ◌≤◌, ℕ, Some, [], List, IfOk, IfSome, IfNone, OnOk, OnErr, length, nat_lt, get_or, slice_get, slice_set};
+ghost use Rattle.std.specs.Prelude.{◌≡◌, ◌==◌, ◌<◌, ◌≤◌, ℕ, Some, List, IfOk, IfSome, IfNone, OnOk, OnErr, length, nat_lt, get_or, slice_get, slice_set};
 ghost use Rattle.std.specs.List.{list_any};
-ghost use Rattle.std.specs.Ordering.{nat_cmp};
-ghost use Rattle.std.specs.BTreeMap.{get};
+ghost use Rattle.std.specs.List.Sorted.{IsNonDecreasing};
 ghost use Rattle.trace_ops.specs.Ops.{Ops, AreOwn, IsOwn, no_ops};
 ghost use Rattle.trace_ops.specs.Order.{AreEntered};
 ghost use Rattle.trace_pair.specs.After.{is_after};
 ghost use Rattle.trace_pair.specs.Barriers.{Rise, last_before, no_entries, with_barrier, with_entry};
-ghost use Rattle.trace_pair.specs.Reach.{AddsEntry, AreReachesOf, AreRowsOf, AreRowsRising, IsReachOf, has_barrier, is_entered_behind, is_passed_on, with_barriers};
+ghost use Rattle.trace_pair.specs.Reach.{AddsEntry, AreReachesOf, AreRowsOf, AreRowsRising, IsReachOf, has_barrier, holds, is_entered_behind, is_passed_on, row_at, with_barriers};
 
 use crate::rules::is_own;
 use mpi_model::Message;
@@ -44,12 +43,13 @@ impl Model for CommCalls {
     ghost view = { λ s. record { calls = s.calls.items; barriers = s.barriers.items } };
 }
 
-/// The collective calls of a rank by communicator, with a row for each that holds the rank, and the communicators on which
-/// it entered Barriers.
+/// The collective calls of a rank by communicator, with a row for each on which it entered some; the communicators on which
+/// it entered Barriers; and those that hold it, in rising order.
 #[derive(Drop)]
 pub struct RankReach {
     rows: BTreeMap<u32, CommCalls>,
     barrier_comms: Vec<u32>,
+    comms: Vec<u32>,
 }
 
 /// A Barrier more, if it is one.
@@ -89,9 +89,18 @@ impl CommCalls {
         Ok(())
     }
 
+    /// With one call alone.
+    fn of_one(alloc: Global, entered: &Entered) -> Result<CommCalls, AllocError>
+        ensures { IfOk result (λ row. row ≡ with_entry no_entries entered.now) }
+    {
+        let mut row = CommCalls::empty(alloc);
+        row.add(entered)?;
+        Ok(row)
+    }
+
     /// Whether there are Barriers among the calls.
     fn has_barrier(&self) -> bool
-        ensures { result ≡ has_barrier (Some self.now) }
+        ensures { result ≡ has_barrier self.now }
     {
         !self.barriers.is_empty()
     }
@@ -121,40 +130,35 @@ impl CommCalls {
     }
 }
 
-/// A row for each communicator, without calls.
-fn empty_rows(alloc: Global, comms: &[u32]) -> Result<BTreeMap<u32, CommCalls>, AllocError>
-    ensures { IfOk result (AreRowsOf comms.now []) }
+/// A call more, in the row of its communicator.
+fn add_entry(
+    alloc: Global,
+    rows: &mut BTreeMap<u32, CommCalls>,
+    entered: &Entered,
+) -> Result<(), AllocError>
+    ensures { OnOk result (AddsEntry rows.old rows.new entered.now) }
+{
+    if let Some(row) = rows.get_mut(&entered.comm) {
+        return row.add(entered);
+    }
+    rows.insert(entered.comm, CommCalls::of_one(alloc, entered)?)?;
+    Ok(())
+}
+
+/// The calls of the rank, each in the row of its communicator.
+fn rows_of(alloc: Global, rounds: &[Entered]) -> Result<BTreeMap<u32, CommCalls>, AllocError>
+    ensures { IfOk result (AreRowsOf rounds.now) }
 {
     let mut rows = BTreeMap::new(alloc);
-    for comm in comms {
-        rows.insert(*comm, CommCalls::empty(alloc))?;
+    for entered in rounds {
+        add_entry(alloc, &mut rows, entered)?;
     }
     Ok(rows)
 }
 
-/// A call more, in the row of its communicator where there is one.
-fn add_entry(rows: &mut BTreeMap<u32, CommCalls>, entered: &Entered) -> Result<(), AllocError>
-    ensures { OnOk result (AddsEntry rows.old rows.new entered.now) }
-{
-    if let Some(row) = rows.get_mut(&entered.comm) {
-        row.add(entered)?;
-    }
-    Ok(())
-}
-
-/// All calls of the rank, each in the row of its communicator.
-fn add_entries(rows: &mut BTreeMap<u32, CommCalls>, rounds: &[Entered]) -> Result<(), AllocError>
-    ensures { OnOk result ((comms : List ℕ) → AreRowsOf comms [] rows.old → AreRowsOf comms rounds.now rows.new) }
-{
-    for entered in rounds {
-        add_entry(rows, entered)?;
-    }
-    Ok(())
-}
-
 /// Whether there are Barriers in the row.
 fn has_barrier_on(rows: &BTreeMap<u32, CommCalls>, comm: u32) -> bool
-    ensures { result ≡ has_barrier (get nat_cmp rows.now comm) }
+    ensures { result ≡ has_barrier (row_at rows.now comm) }
 {
     match rows.get(&comm) {
         Some(row) => row.has_barrier(),
@@ -179,42 +183,80 @@ fn with_barriers(
     Ok(found)
 }
 
+/// The same communicators in rising order.
+fn in_order(alloc: Global, comms: &[u32]) -> Result<Vec<u32>, AllocError>
+    ensures same { IfOk result (λ v. (c : ℕ) → list_any (λ x. x == c) v.items ≡ list_any (λ x. x == c) comms.now) }
+    ensures order { IfOk result (λ v. IsNonDecreasing v.items) }
+{
+    let mut ordered = Vec::from_slice(alloc, comms)?;
+    if ordered.is_sorted() {
+        return Ok(ordered);
+    }
+    ordered.sort()?;
+    Ok(ordered)
+}
+
 impl RankReach {
     /// The part of the table that one rank's ops decide.
     pub(crate) fn of(alloc: Global, own: &RankOps) -> Result<RankReach, AllocError>
         requires { AreEntered own.now.rounds }
         ensures { IfOk result (IsReachOf own.now) }
     {
-        let mut rows = empty_rows(alloc, own.comms())?;
-        add_entries(&mut rows, own.rounds())?;
+        let rows = rows_of(alloc, own.rounds())?;
         let barrier_comms = with_barriers(alloc, &rows, own.comms())?;
+        let comms = in_order(alloc, own.comms())?;
         Ok(RankReach {
             rows,
             barrier_comms,
+            comms,
         })
+    }
+
+    /// Whether the communicator holds the rank, found by halves.
+    fn holds(&self, comm: u32) -> bool
+        requires { IsNonDecreasing self.now.comms.items }
+        ensures { result ≡ holds self.now comm }
+    {
+        self.comms.as_slice().binary_search(&comm).is_ok()
+    }
+
+    /// Whether its call on the communicator with so many before it isn't there, or isn't before call `ended`.
+    fn is_entered_behind(&self, comm: u32, ended: u64, before: usize) -> bool
+        ensures { result ≡ is_entered_behind (row_at self.now.rows comm).calls ended before }
+    {
+        match self.rows.get(&comm) {
+            Some(row) => row.is_entered_behind(ended, before),
+            None => true,
+        }
+    }
+
+    /// How many calls on the communicator stand before the last of the Barriers before that call.
+    fn last_before(&self, comm: u32, call: u64) -> Option<usize>
+        requires { AreRowsRising self.now }
+        ensures { result ≡ last_before call (row_at self.now.rows comm).barriers }
+    {
+        self.rows.get(&comm)?.last_before(call)
     }
 
     /// Whether the receiver's rank entered behind call `ended` the last Barrier on the communicator that this rank entered
     /// before the call.
     fn is_passed_on(&self, receiver: &RankReach, comm: u32, call: u64, ended: u64) -> bool
-        requires { AreRowsRising self.now }
+        requires rows { AreRowsRising self.now }
+        requires comms { IsNonDecreasing receiver.now.comms.items }
         ensures { result ≡ is_passed_on self.now receiver.now call ended comm }
     {
-        let Some(own) = self.rows.get(&comm) else {
-            return false;
-        };
-        let Some(theirs) = receiver.rows.get(&comm) else {
-            return false;
-        };
-        match own.last_before(call) {
-            Some(before) => theirs.is_entered_behind(ended, before),
+        match self.last_before(comm, call) {
+            Some(before) => {
+                receiver.holds(comm) && receiver.is_entered_behind(comm, ended, before)
+            },
             None => false,
         }
     }
 
     /// Whether it is so on some communicator.
     fn is_passed(&self, receiver: &RankReach, call: u64, ended: u64) -> bool
-        requires { AreRowsRising self.now }
+        requires rows { AreRowsRising self.now }
+        requires comms { IsNonDecreasing receiver.now.comms.items }
         ensures { result ≡ list_any (is_passed_on self.now receiver.now call ended) self.now.barrier_comms.items }
     {
         for comm in &self.barrier_comms {

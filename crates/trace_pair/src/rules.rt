@@ -16,5 +16,5 @@ pub(crate) fn is_own(m: &Message, at: u32, ended: u64) -> bool
 pub(crate) fn is_same_name(a: &OpName, b: &OpName) -> bool
     ensures { result ≡ same_name a.now b.now }
 {
-    a.rank == b.rank && a.call == b.call
+    a.rank == b.rank && (a.call == b.call && a.part == b.part)
 }

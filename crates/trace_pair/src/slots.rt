@@ -1,4 +1,4 @@
-//! Values by the names of calls: for each rank a list of slots, in order of their calls.
+//! Values by names: for each rank a list of slots, in order of their calls and parts.
 //!
 //! A tree of such values has nodes that are half full where the names come in order, and leaves
 //! holes in memory among what else is put in and taken out meanwhile. A list has neither. Names come
@@ -6,48 +6,66 @@
 //! what stands behind it.
 ghost use Rattle.std.specs.Prelude.{◌≡◌, ◌<◌, ℕ, false, IfOk, IfErr, OnOk, OnErr, IsTrue, length, Some, None, if◌then◌else◌, ◌==◌};
 ghost use Rattle.mpi_model.specs.declared.event.OpName.{OpName};
-ghost use Rattle.trace_pair.specs.Slots.{Rises, AreSlots, IsSlotAt, IsGapAt, slots_at, value_in, value_of};
+ghost use Rattle.trace_pair.specs.Slots.{Rises, AreSlots, IsSlotAt, IsGapAt, at_eq, at_of, slots_at, value_in, value_of};
+ghost use Rattle.trace_pair.specs.declared.slots.At.{At};
 ghost use Rattle.trace_pair.specs.Table.{same_name};
 
 use mpi_model::OpName;
 use std::alloc::{AllocError, Global};
 
-/// A place for the value of a call.
+/// A call of a rank, and the part of it: in order of the call, and then of the part.
+#[derive(Clone, Copy, Debug, PartialEq, Eq, PartialOrd, Ord)]
+pub(crate) struct At {
+    pub(crate) call: u64,
+    pub(crate) part: u32,
+}
+
+/// Where the name stands in its rank.
+fn at_of(name: &OpName) -> At
+    ensures { result ≡ at_of name.now }
+{
+    At {
+        call: name.call,
+        part: name.part,
+    }
+}
+
+/// A place for the value of a part of a call.
 #[derive(Clone, Copy)]
 pub(crate) struct Slot<V> {
-    pub(crate) call: u64,
+    pub(crate) at: At,
     pub(crate) value: Option<V>,
 }
 
 /// The place of the call's slot, or else the place where it would stand.
-fn place_of<V: Copy>(row: &[Slot<V>], call: u64) -> Result<usize, usize>
+fn place_of<V: Copy>(row: &[Slot<V>], at: At) -> Result<usize, usize>
     requires { Rises row.now }
-    ensures found { IfOk result (λ i. IsSlotAt row.now i call) }
-    ensures missed { IfErr result (λ i. IsGapAt row.now i call) }
+    ensures found { IfOk result (λ i. IsSlotAt row.now i at) }
+    ensures missed { IfErr result (λ i. IsGapAt row.now i at) }
 {
-    row.binary_search_by_key(&call, |slot| slot.call)
+    row.binary_search_by_key(&at, |slot| slot.at)
 }
 
 /// Whether the call's slot stands at the place.
-fn is_slot_at<V: Copy>(row: &[Slot<V>], place: usize, call: u64) -> bool
-    ensures { IsTrue result → IsSlotAt row.now place call }
+fn is_slot_at<V: Copy>(row: &[Slot<V>], place: usize, at: At) -> bool
+    ensures { IsTrue result → IsSlotAt row.now place at }
 {
-    place < row.len() && row[place].call == call
+    place < row.len() && row[place].at == at
 }
 
 /// The place of the call's slot, or else the place where it would stand. It is looked for at `next`
 /// first, which is left behind it: calls that are asked for in order cost no search.
-fn place_near<V: Copy>(row: &[Slot<V>], next: &mut usize, call: u64) -> Result<usize, usize>
+fn place_near<V: Copy>(row: &[Slot<V>], next: &mut usize, at: At) -> Result<usize, usize>
     requires { Rises row.now }
-    ensures found { IfOk result (λ i. IsSlotAt row.now i call) }
-    ensures missed { IfErr result (λ i. IsGapAt row.now i call) }
+    ensures found { IfOk result (λ i. IsSlotAt row.now i at) }
+    ensures missed { IfErr result (λ i. IsGapAt row.now i at) }
 {
     let place = *next;
-    if is_slot_at(row, place, call) {
+    if is_slot_at(row, place, at) {
         *next = place.saturating_add(1);
         return Ok(place);
     }
-    match place_of(row, call) {
+    match place_of(row, at) {
         Ok(found) => {
             *next = found.saturating_add(1);
             Ok(found)
@@ -62,7 +80,7 @@ fn place_near<V: Copy>(row: &[Slot<V>], next: &mut usize, call: u64) -> Result<u
 /// The value at a place.
 fn value_there<V: Copy>(row: &[Slot<V>], place: usize) -> Option<V>
     requires { place < length row.now }
-    ensures { (call : ℕ) → Rises row.now → IsSlotAt row.now place call → result ≡ value_in row.now call }
+    ensures { (at : At) → Rises row.now → IsSlotAt row.now place at → result ≡ value_in row.now at }
 {
     row[place].value
 }
@@ -70,9 +88,9 @@ fn value_there<V: Copy>(row: &[Slot<V>], place: usize) -> Option<V>
 /// Writes the slot of a call again.
 fn set_slot<V: Copy>(row: &mut Vec<Slot<V>>, place: usize, slot: Slot<V>)
     requires rises { Rises row.old.items }
-    requires there { IsSlotAt row.old.items place slot.call }
+    requires there { IsSlotAt row.old.items place slot.at }
     ensures rises { Rises row.new.items }
-    ensures set { (c : ℕ) → value_in row.new.items c ≡ (if slot.call == c then slot.value else value_in row.old.items c) }
+    ensures set { (c : At) → value_in row.new.items c ≡ (if at_eq slot.at c then slot.value else value_in row.old.items c) }
 {
     row[place] = slot;
 }
@@ -100,9 +118,9 @@ fn reserve_in<V: Copy>(row: &mut Vec<Slot<V>>, more: usize) -> Result<(), AllocE
 /// Puts the slot of a call that has none where it belongs.
 fn put_slot<V: Copy>(row: &mut Vec<Slot<V>>, place: usize, slot: Slot<V>) -> Result<(), AllocError>
     requires rises { Rises row.old.items }
-    requires gap { IsGapAt row.old.items place slot.call }
+    requires gap { IsGapAt row.old.items place slot.at }
     ensures rises { Rises row.new.items }
-    ensures put { OnOk result ((c : ℕ) → value_in row.new.items c ≡ (if slot.call == c then slot.value else value_in row.old.items c)) }
+    ensures put { OnOk result ((c : At) → value_in row.new.items c ≡ (if at_eq slot.at c then slot.value else value_in row.old.items c)) }
     ensures err { OnErr result (row.new.items ≡ row.old.items) }
 {
     make_room(row)?;
@@ -111,11 +129,11 @@ fn put_slot<V: Copy>(row: &mut Vec<Slot<V>>, place: usize, slot: Slot<V>) -> Res
 }
 
 /// The value of the call, looked for at `next` first.
-fn get_in<V: Copy>(row: &[Slot<V>], next: &mut usize, call: u64) -> Option<V>
+fn get_in<V: Copy>(row: &[Slot<V>], next: &mut usize, at: At) -> Option<V>
     requires { Rises row.now }
-    ensures { result ≡ value_in row.now call }
+    ensures { result ≡ value_in row.now at }
 {
-    match place_near(row, next, call) {
+    match place_near(row, next, at) {
         Ok(place) => value_there(row, place),
         Err(_) => None,
     }
@@ -124,11 +142,11 @@ fn get_in<V: Copy>(row: &[Slot<V>], next: &mut usize, call: u64) -> Option<V>
 /// Writes the slot of a call again, if it has no value, and tells whether it did.
 fn fill_slot<V: Copy>(row: &mut Vec<Slot<V>>, place: usize, slot: Slot<V>) -> bool
     requires rises { Rises row.old.items }
-    requires there { IsSlotAt row.old.items place slot.call }
+    requires there { IsSlotAt row.old.items place slot.at }
     ensures rises { Rises row.new.items }
-    ensures free { IsTrue result → value_in row.old.items slot.call ≡ None }
-    ensures put { IsTrue result → (c : ℕ) → value_in row.new.items c ≡ (if slot.call == c then slot.value else value_in row.old.items c) }
-    ensures there { result ≡ false → value_in row.old.items slot.call ≡ None → ⊥ }
+    ensures free { IsTrue result → value_in row.old.items slot.at ≡ None }
+    ensures put { IsTrue result → (c : At) → value_in row.new.items c ≡ (if at_eq slot.at c then slot.value else value_in row.old.items c) }
+    ensures there { result ≡ false → value_in row.old.items slot.at ≡ None → ⊥ }
     ensures kept { result ≡ false → row.new.items ≡ row.old.items }
 {
     match value_there(row, place) {
@@ -141,20 +159,20 @@ fn fill_slot<V: Copy>(row: &mut Vec<Slot<V>>, place: usize, slot: Slot<V>) -> bo
 }
 
 /// Puts the value at a call that has none, and tells whether it did.
-fn put_in<V: Copy>(row: &mut Vec<Slot<V>>, call: u64, value: V) -> Result<bool, AllocError>
+fn put_in<V: Copy>(row: &mut Vec<Slot<V>>, at: At, value: V) -> Result<bool, AllocError>
     requires { Rises row.old.items }
     ensures rises { Rises row.new.items }
-    ensures free { IfOk result (λ put. IsTrue put → value_in row.old.items call ≡ None) }
-    ensures put { IfOk result (λ put. IsTrue put → (c : ℕ) → value_in row.new.items c ≡ (if call == c then Some value else value_in row.old.items c)) }
-    ensures there { IfOk result (λ put. put ≡ false → value_in row.old.items call ≡ None → ⊥) }
+    ensures free { IfOk result (λ put. IsTrue put → value_in row.old.items at ≡ None) }
+    ensures put { IfOk result (λ put. IsTrue put → (c : At) → value_in row.new.items c ≡ (if at_eq at c then Some value else value_in row.old.items c)) }
+    ensures there { IfOk result (λ put. put ≡ false → value_in row.old.items at ≡ None → ⊥) }
     ensures kept { IfOk result (λ put. put ≡ false → row.new.items ≡ row.old.items) }
     ensures err { OnErr result (row.new.items ≡ row.old.items) }
 {
     let slot = Slot {
-        call,
+        at,
         value: Some(value),
     };
-    match place_of(row, call) {
+    match place_of(row, at) {
         Ok(place) => Ok(fill_slot(row, place, slot)),
         Err(place) => {
             put_slot(row, place, slot)?;
@@ -164,16 +182,16 @@ fn put_in<V: Copy>(row: &mut Vec<Slot<V>>, call: u64, value: V) -> Result<bool, 
 }
 
 /// Takes the value of the call. Its slot stays.
-fn take_in<V: Copy>(row: &mut Vec<Slot<V>>, call: u64) -> Option<V>
+fn take_in<V: Copy>(row: &mut Vec<Slot<V>>, at: At) -> Option<V>
     requires { Rises row.old.items }
     ensures rises { Rises row.new.items }
-    ensures taken { result ≡ value_in row.old.items call }
-    ensures left { (c : ℕ) → value_in row.new.items c ≡ (if call == c then None else value_in row.old.items c) }
+    ensures taken { result ≡ value_in row.old.items at }
+    ensures left { (c : At) → value_in row.new.items c ≡ (if at_eq at c then None else value_in row.old.items c) }
 {
-    match place_of(row, call) {
+    match place_of(row, at) {
         Ok(place) => {
             let value = value_there(row, place);
-            set_slot(row, place, Slot { call, value: None });
+            set_slot(row, place, Slot { at, value: None });
             value
         }
         Err(_) => None,
@@ -181,15 +199,15 @@ fn take_in<V: Copy>(row: &mut Vec<Slot<V>>, call: u64) -> Option<V>
 }
 
 /// Makes a slot for the call, if it has none.
-fn expect_in<V: Copy>(row: &mut Vec<Slot<V>>, call: u64) -> Result<(), AllocError>
+fn expect_in<V: Copy>(row: &mut Vec<Slot<V>>, at: At) -> Result<(), AllocError>
     requires { Rises row.old.items }
     ensures rises { Rises row.new.items }
-    ensures same { (c : ℕ) → value_in row.new.items c ≡ value_in row.old.items c }
+    ensures same { (c : At) → value_in row.new.items c ≡ value_in row.old.items c }
 {
-    match place_of(row, call) {
+    match place_of(row, at) {
         Ok(_) => Ok(()),
         Err(place) => {
-            put_slot(row, place, Slot { call, value: None })?;
+            put_slot(row, place, Slot { at, value: None })?;
             Ok(())
         }
     }
@@ -220,7 +238,7 @@ pub(crate) fn value_at<V: Copy>(
     if name.rank as usize >= rows.len() {
         return None;
     }
-    get_in(&rows[name.rank as usize], next, name.call)
+    get_in(&rows[name.rank as usize], next, at_of(name))
 }
 
 /// Puts the value at a name that has none, and tells whether it did.
@@ -238,7 +256,7 @@ pub(crate) fn put_new<V: Copy>(
     ensures err { OnErr result ((n : OpName) → value_of rows.new.items n ≡ value_of rows.old.items n) }
 {
     reach(rows, name.rank)?;
-    let put = put_in(&mut rows[name.rank as usize], name.call, value)?;
+    let put = put_in(&mut rows[name.rank as usize], at_of(&name), value)?;
     Ok(put)
 }
 
@@ -252,7 +270,7 @@ pub(crate) fn take_at<V: Copy>(rows: &mut Vec<Vec<Slot<V>>>, name: &OpName) -> O
     if name.rank as usize >= rows.len() {
         return None;
     }
-    take_in(&mut rows[name.rank as usize], name.call)
+    take_in(&mut rows[name.rank as usize], at_of(name))
 }
 
 /// Makes a slot for the name, if it has none.
@@ -262,7 +280,7 @@ pub(crate) fn expect<V: Copy>(rows: &mut Vec<Vec<Slot<V>>>, name: &OpName) -> Re
     ensures same { (n : OpName) → value_of rows.new.items n ≡ value_of rows.old.items n }
 {
     reach(rows, name.rank)?;
-    expect_in(&mut rows[name.rank as usize], name.call)?;
+    expect_in(&mut rows[name.rank as usize], at_of(name))?;
     Ok(())
 }
 

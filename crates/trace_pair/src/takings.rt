@@ -1,14 +1,14 @@
 //! All messages, in their order, with what takes each; those that wait are found by a receive that
 //! they fit.
 
-ghost use Rattle.std.specs.Prelude.{◌≡◌, ◌<◌, true, IfOk, IfSome, OnOk, is_some, length, replicate, List, None, Option};
+ghost use Rattle.std.specs.Prelude.{◌≡◌, ◌<◌, true, false, Some, IfOk, IfSome, OnOk, is_some, length, replicate, List, None, Option};
 ghost use Rattle.trace_pair.specs.KeyOrders.{queue_cmp, queue_of, lane_cmp, lane_of};
 ghost use Rattle.trace_pair.specs.Rising.{AreRising};
-ghost use Rattle.trace_pair.specs.Waiting.{ArePlaces, IsFirstPlace, taker_at, untaken, with_taker};
+ghost use Rattle.trace_pair.specs.Waiting.{ArePlaces, IsSolePlace, taker_at, untaken, with_taker};
 ghost use Rattle.trace_pair.specs.declared.pair.Taker.{Taker};
 
 use crate::pair::Taker;
-use crate::places::{Places, add_place, first_at};
+use crate::places::{Places, add_place, sole_at};
 use mpi_model::{Message, Receive};
 use std::alloc::{AllocError, Global};
 use std::collections::BTreeMap;
@@ -115,6 +115,10 @@ impl Takings {
         &self.messages
     }
 
+    pub(crate) fn allocator(&self) -> &Global {
+        self.messages.allocator()
+    }
+
     /// What takes the message at a place.
     pub(crate) fn taker_at(&self, place: usize) -> Option<Taker>
         ensures { result ≡ taker_at self.now place }
@@ -125,42 +129,53 @@ impl Takings {
         }
     }
 
-    /// The place of the first message of a queue that waits.
-    fn first_of_queue(&mut self, q: &Receive, source: u32, tag: u32) -> Option<usize>
+    /// The place of the first message of a queue that waits, if no other one of its call does.
+    fn sole_of_queue(&mut self, q: &Receive, source: u32, tag: u32) -> Option<usize>
         requires source { q.now.source ≡ Some source }
         requires tag { q.now.tag ≡ Some tag }
         ensures kept { self.new ≡ self.old }
-        ensures first { IsFirstPlace self.old q.now result }
+        ensures sole { IsSolePlace self.old q.now result }
     {
-        first_at(&mut self.queues, &(q.comm, source, q.at, tag), &self.takers)
+        sole_at(
+            &mut self.queues,
+            &(q.comm, source, q.at, tag),
+            &self.messages,
+            &self.takers,
+        )
     }
 
-    /// The place of the first message of a lane that waits.
-    fn first_of_lane(&mut self, q: &Receive, source: u32) -> Result<Option<usize>, AllocError>
+    /// The place of the first message of a lane that waits, if no other one of its call does.
+    fn sole_of_lane(&mut self, q: &Receive, source: u32) -> Result<Option<usize>, AllocError>
         requires source { q.now.source ≡ Some source }
         requires tag { q.now.tag ≡ None }
         ensures kept { self.new ≡ self.old }
-        ensures first { IfOk result (IsFirstPlace self.old q.now) }
+        ensures sole { IfOk result (IsSolePlace self.old q.now) }
     {
         let alloc = *self.messages.allocator();
         let had = self.lanes.take();
         let mut lanes = lanes_or_new(alloc, &self.messages, had)?;
-        let place = first_at(&mut lanes, &(q.comm, source, q.at), &self.takers);
+        let place = sole_at(
+            &mut lanes,
+            &(q.comm, source, q.at),
+            &self.messages,
+            &self.takers,
+        );
         self.lanes = Some(lanes);
         Ok(place)
     }
 
-    /// The place of the first message that waits and fits a receive whose source is told.
-    pub(crate) fn first_for(&mut self, q: &Receive) -> Result<Option<usize>, AllocError>
+    /// The place of the first message that waits and fits a receive whose source is told, if no other
+    /// one of its call does.
+    pub(crate) fn sole_for(&mut self, q: &Receive) -> Result<Option<usize>, AllocError>
         requires { is_some q.now.source ≡ true }
         ensures kept { self.new ≡ self.old }
-        ensures first { IfOk result (IsFirstPlace self.old q.now) }
+        ensures sole { IfOk result (IsSolePlace self.old q.now) }
     {
         match q.source {
             None => Ok(None),
             Some(source) => match q.tag {
-                Some(tag) => Ok(self.first_of_queue(q, source, tag)),
-                None => self.first_of_lane(q, source),
+                Some(tag) => Ok(self.sole_of_queue(q, source, tag)),
+                None => self.sole_of_lane(q, source),
             },
         }
     }

@@ -6,11 +6,12 @@
 //! parts, and the ranks go forward together, as they did in the run: a part of each, then the next
 //! part of each.
 
-ghost use Rattle.std.specs.Prelude.{◌≡◌, ◌≤◌, ◌<◌, ◌+◌, List, [], OnOk};
+ghost use Rattle.std.specs.Prelude.{◌≡◌, ◌≤◌, ◌<◌, ◌+◌, All, List, [], OnOk};
 ghost use Rattle.mpi_model.specs.declared.message.Message.{Message};
 ghost use Rattle.mpi_model.specs.declared.message.Receive.{Receive};
 ghost use Rattle.trace_ops.specs.Ops.{AreOwn};
 ghost use Rattle.trace_pair.specs.After.{comes_after};
+ghost use Rattle.trace_pair.specs.Calls.{IsSingle};
 ghost use Rattle.trace_pair.specs.Followed.{Indexes, Follows, FollowsBy, Moves};
 ghost use Rattle.trace_pair.specs.Pairing.{After};
 ghost use Rattle.trace_pair.specs.Parts.{first_parts, begun, all_begun};
@@ -110,7 +111,7 @@ fn add_parts(
 ) -> Result<(), AllocError>
     requires done { done < parts }
     requires table { AreReachesOf ops.now table.now }
-    ensures { OnOk result (AreOwn 0 ops.now → FollowsBy (comes_after ops.now) (all_begun parts done ops.now) state.old → FollowsBy (comes_after ops.now) (all_begun parts (done + 1) ops.now) state.new) }
+    ensures { OnOk result (AreOwn 0 ops.now → All IsSingle ops.now → FollowsBy (comes_after ops.now) (all_begun parts done ops.now) state.old → FollowsBy (comes_after ops.now) (all_begun parts (done + 1) ops.now) state.new) }
 {
     let reaches = Reaches::new(ops, table);
     for own in ops {
@@ -126,7 +127,7 @@ pub(crate) fn add_ranks(
     table: &[RankReach],
 ) -> Result<(), AllocError>
     requires { AreReachesOf ops.now table.now }
-    ensures { OnOk result (AreOwn 0 ops.now → Indexes (comes_after ops.now) [] [] state.old → Follows ops.now state.new) }
+    ensures { OnOk result (AreOwn 0 ops.now → All IsSingle ops.now → Indexes (comes_after ops.now) [] [] state.old → Follows ops.now state.new) }
 {
     reserve_ranks(state, ops)?;
     let parts = count_parts(ops);

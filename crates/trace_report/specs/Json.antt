@@ -12,7 +12,7 @@ use Rattle.trace_wait.specs.declared.round.Standing.TheVariants.{Mismatched, Com
 use Rattle.trace_node.specs.Answer.{Answered, Stopped}
 use Rattle.trace_report.specs.Seconds.{seconds_text}
 use Rattle.trace_report.specs.Waits.{wait_text, of_json}
-use Rattle.trace_report.specs.Words.{function_word, sends_word, state_word}
+use Rattle.trace_report.specs.Words.{function_word, part_text, sends_word, state_word}
 
 -- true or false
 abbrev pub bool_text : Bool → List ℕ
@@ -28,9 +28,9 @@ abbrev pub joined : {X : Type 0} → (X → List ℕ) → List X → List ℕ
 joined text [] = []
 joined text (x ∷ more) = text x ++ flat_map (λ y. codes "," ++ text y) more
 
--- a call: `{"rank":R,"call":C}`
+-- an operation: `{"rank":R,"call":C}`, or `{"rank":R,"call":C,"part":P}` behind the first part of a Startall
 abbrev pub name_object : OpName → List ℕ
-name_object n = codes "{\"rank\":" ++ decimal n.rank ++ codes ",\"call\":" ++ decimal n.call ++ codes "}"
+name_object n = codes "{\"rank\":" ++ decimal n.rank ++ codes ",\"call\":" ++ decimal n.call ++ part_text (codes ",\"part\":") n.part ++ codes "}"
 
 -- a rank: `{"rank":R,"prefix":P,"state":"free","beyond":false,"unread":false}`
 abbrev pub rank_fields : ℕ → ℕ → State → Bool → Bool → List ℕ

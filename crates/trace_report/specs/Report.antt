@@ -12,7 +12,7 @@ use Rattle.trace_wait.specs.declared.round.Standing.TheVariants.{Mismatched, Com
 use Rattle.trace_node.specs.Answer.{Answered, Stopped}
 use Rattle.trace_report.specs.Seconds.{seconds_text}
 use Rattle.trace_report.specs.Waits.{wait_text, of_lines}
-use Rattle.trace_report.specs.Words.{function_word, sends_word, state_word, where_so}
+use Rattle.trace_report.specs.Words.{function_word, part_text, sends_word, state_word, where_so}
 
 -- `mpimatch report 1`, and `ranks N sends wait`
 abbrev pub head_lines : Answered → List ℕ
@@ -42,9 +42,9 @@ conflict_line at = codes "conflict " ++ decimal at.0 ++ codes " " ++ decimal at.
 
 -- Messages
 
--- a call by its rank and its number, `R:CALL`
+-- an operation by its rank and the number of its call, `R:CALL`, or `R:CALL.PART` behind the first part of a Startall
 abbrev pub name_text : OpName → List ℕ
-name_text n = decimal n.rank ++ codes ":" ++ decimal n.call
+name_text n = decimal n.rank ++ codes ":" ++ decimal n.call ++ part_text (codes ".") n.part
 
 -- `pair R:CALL R:CALL`, the message before the receive, with ` over` where more is sent than the receive takes
 abbrev pub pair_line : Pair → List ℕ

@@ -5,7 +5,7 @@ ghost use Rattle.trace_report.specs.Page.{Prints};
 ghost use Rattle.trace_report.specs.Report.{conflict_line, name_text, pair_line, postponed_line};
 
 use crate::sink::Sink;
-use crate::words::{put_number, put_where};
+use crate::words::{put_number, put_part, put_where};
 use mpi_model::OpName;
 use trace_pair::Pair;
 
@@ -29,13 +29,14 @@ fn put_conflict<S: Sink>(out: &mut S, at: &(u32, u64))
     out.put(b"\n");
 }
 
-/// A call by its rank and its number, `R:CALL`.
+/// An operation by its rank and the number of its call, `R:CALL`, or `R:CALL.PART` behind the first part of a Startall.
 fn put_name<S: Sink>(out: &mut S, name: &OpName)
     ensures { Prints (S.page out.old) (S.page out.new) (name_text name.now) }
 {
     put_number(out, name.rank as u64);
     out.put(b":");
     put_number(out, name.call);
+    put_part(out, b".", name.part);
 }
 
 #[tactic(auto, using(crate::proofs::Printing::nothing))]

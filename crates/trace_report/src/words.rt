@@ -1,8 +1,8 @@
 //! The words and numbers of which lines are made.
 
-ghost use Rattle.std.specs.Prelude.{◌≡◌, decimal};
+ghost use Rattle.std.specs.Prelude.{◌≡◌, ◌++◌, decimal};
 ghost use Rattle.trace_report.specs.Page.{Prints};
-ghost use Rattle.trace_report.specs.Words.{function_word, sends_word, state_word, where_so};
+ghost use Rattle.trace_report.specs.Words.{function_word, part_text, sends_word, state_word, where_so};
 
 use crate::sink::Sink;
 use itoa::Buffer;
@@ -21,6 +21,25 @@ pub(crate) fn put_where<S: Sink>(out: &mut S, applies: bool, word: &[u8])
     ensures { Prints (S.page out.old) (S.page out.new) (where_so applies word.now) }
 {
     out.put(if applies { word } else { b"" });
+}
+
+/// The part of a Startall behind a lead: nothing for the first part, and for every other call.
+pub(crate) fn put_part<S: Sink>(out: &mut S, lead: &[u8], part: u32)
+    ensures { Prints (S.page out.old) (S.page out.new) (part_text lead.now part) }
+{
+    if part == 0 {
+        out.put(b"");
+    } else {
+        put_further_part(out, lead, part);
+    }
+}
+
+/// A part of a Startall behind its first.
+fn put_further_part<S: Sink>(out: &mut S, lead: &[u8], part: u32)
+    ensures { Prints (S.page out.old) (S.page out.new) (lead.now ++ decimal part) }
+{
+    out.put(lead);
+    put_number(out, part as u64);
 }
 
 pub(crate) fn sends_word(sends: Sends) -> &'static [u8]

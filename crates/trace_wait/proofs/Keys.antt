@@ -1,5 +1,5 @@
 -- What the sets of patterns and of rounds hold, one element more.
-use Rattle.std.proofs.Common.{◌≡◌, ℕ, ◌+◌, ◌<◌, Bool, true, false, ◌&&◌, ◌||◌, List, [], ◌∷◌, ◌++◌, Option, Some, None, take, get_or, refl, sym, ◌∙◌, ap, arith, length}
+use Rattle.std.proofs.Common.{◌≡◌, ℕ, ◌+◌, ◌<◌, Bool, true, false, ◌&&◌, ◌||◌, List, [], ◌∷◌, Option, Some, None, take, get_or, refl, sym, ◌∙◌, ap, arith, length}
 use Rattle.std.specs.Prelude.{filter, not, is_some, is_none, ◌==◌, if◌then◌else◌}
 use Rattle.std.specs.List.{list_any}
 use Rattle.std.specs.declared.cmp.Ordering.{Ordering}

@@ -1,21 +1,31 @@
--- A search by halves in a list whose keys rise finds what a search from its front would.
+-- A search by halves in a list whose names rise finds what a search from its front would.
 use Rattle.std.proofs.Common.{ap, ◌∙◌, ◌≡◌, ℕ, zero, suc, ◌+◌, ◌<◌, ◌≤◌, ◌⊎◌, inl, inr, ⊎_elim, Bool, true, false, ◌&&◌, List, [], ◌∷◌, Some, None, Result, Ok, Err, IfOk, IfErr, get_or, refl, sym, subst, arith, length}
 use Rattle.std.specs.Prelude.{slice_get, ◌==◌, ◌||◌, cond, nat_lt, is_some, is_ok}
+use Rattle.std.specs.declared.cmp.Ordering.{Ordering}
+use Rattle.std.specs.declared.cmp.Ordering.TheVariants.{Less, Equal, Greater}
+use Rattle.std.specs.Cmp.{IsTotalOrder}
 use Rattle.std.specs.List.{find, list_any}
-use Rattle.std.specs.List.Sorted.{IsSearchInRange, IsBinarySearchResult, IsNonDecreasingBy}
-use Rattle.std.specs.Ordering.{nat_cmp, ordering_index}
-use Rattle.std.proofs.lemmas.Cmp.{ranked}
+use Rattle.std.specs.List.Sorted.{IsSearchInRange, IsBinarySearchResult, IsSortedBy}
+use Rattle.std.specs.Ordering.{nat_cmp, ordering_then, is_eq, is_lt}
+use Rattle.std.proofs.lemmas.Cmp.{on_total, then_total, nat_cmp_total}
 use Rattle.std.proofs.lemmas.Bool.Decides.{nat_tests}
+use Rattle.std.proofs.lemmas.List.Sorted.{searchable_from_sorted}
 use Rattle.mpi_model.specs.declared.event.OpName.{OpName}
 use Rattle.mpi_model.specs.declared.message.Message.{Message}
 use Rattle.mpi_model.specs.declared.message.Receive.{Receive}
 use Rattle.trace_ops.specs.Ops.{Ops, AreOwn}
-use Rattle.trace_ops.specs.Order.{Has, AreInOrder, ArePosted, AreCalledInOrder}
+use Rattle.trace_ops.specs.Order.{Has, named_before, AreInOrder, ArePosted, AreCalledInOrder}
+use Rattle.trace_wait.specs.Parts.{is_of}
+use Rattle.trace_wait.proofs.Keys.{nat_same, place_same}
 
--- each key is below those after it
-abbrev pub Rises : {X : Type 0} → (X → ℕ) → List X → Type 0
-Rises key [] = Unit {0}
-Rises {X} key (x ∷ xs) = ((y : X) → Has xs y → key x < key y) × Rises key xs
+-- each name is before those after it
+abbrev pub Rises : {X : Type 0} → (X → OpName) → List X → Type 0
+Rises name [] = Unit {0}
+Rises {X} name (x ∷ xs) = ((y : X) → Has xs y → named_before (name x) (name y) ≡ true) × Rises name xs
+
+-- names of one rank by their calls, and then by their parts
+abbrev pub name_cmp : OpName → OpName → Ordering
+name_cmp a b = ordering_then (nat_cmp a.call b.call) (nat_cmp a.part b.part)
 
 has_at : {X : Type 0} (xs : List X) (i : ℕ) (d : X) → i < length xs → Has xs (get_or xs i d)
 has_at [] i d lt = absurd (omega arith)
@@ -30,57 +40,79 @@ pub record Finds {X : Type 0} (p : X → Bool) (xs : List X) (r : Result ℕ ℕ
 split : (a b : ℕ) → (a < b) ⊎ (b ≤ a)
 split a b = grind arith
 
-same : (a b : ℕ) → a ≡ b → (a == b) ≡ true
-same a b h = grind (arith, nat_tests)
+-- ---- names in order
 
-apart : (a n b : ℕ) → a < b → b ≡ n → (a == n) ≡ false
-apart a n b h e = grind (arith, nat_tests)
+name_total : IsTotalOrder name_cmp
+name_total = then_total (on_total (λ (a : OpName). a.call) nat_cmp_total) (on_total (λ (a : OpName). a.part) nat_cmp_total)
 
-less : (a n : ℕ) → a < n → (a == n) ≡ false
-less a n h = grind (arith, nat_tests)
+then_less : (a b : Ordering) → is_lt (ordering_then a b) ≡ (is_lt a || (is_eq a && is_lt b))
+then_less Less b = refl
+then_less Equal b = refl
+then_less Greater b = refl
 
-more : (a n : ℕ) → n < a → (a == n) ≡ false
-more a n h = grind (arith, nat_tests)
+nat_less : (a b : ℕ) → is_lt (nat_cmp a b) ≡ nat_lt a b
+nat_less a b = grind (arith, nat_tests)
 
-higher : (a b n : ℕ) → a ≤ b → ordering_index (nat_cmp a n) ≤ ordering_index (nat_cmp b n)
-higher a b n le = grind (arith, nat_tests)
+joined : (l e m x y z : Bool) → l ≡ x → e ≡ y → m ≡ z → (l || (e && m)) ≡ (x || (y && z))
+joined l e m x y z h k j = cc
 
-module _ {X : Type 0} (key : X → ℕ) where
-  rises_to : (xs : List X) → Rises key xs → (i j : ℕ) (d : X) → i ≤ j → j < length xs → key (get_or xs i d) ≤ key (get_or xs j d)
-  rises_to [] up i j d le lt = absurd (omega arith)
-  rises_to (x ∷ xs) up zero zero d le lt = omega arith
-  rises_to (x ∷ xs) up zero (suc j) d le lt = let h = up.0 (get_or xs j d) (has_at xs j d (omega (arith, lt))) in omega (arith, h)
-  rises_to (x ∷ xs) up (suc i) zero d le lt = absurd (omega (arith, le))
-  rises_to (x ∷ xs) up (suc i) (suc j) d le lt = rises_to xs up.1 i j d (omega (arith, le)) (omega (arith, lt))
+not_behind : (a b c d : ℕ) → (nat_lt a c || ((a == c) && nat_lt b d)) ≡ true → (nat_lt c a || ((c == a) && nat_lt d b)) ≡ false
+not_behind a b c d h = grind (arith, nat_tests)
 
-  module _ (n : ℕ) where
-    found_at : (xs : List X) (i : ℕ) → Rises key xs → i < length xs → ((d : X) → key (get_or xs i d) ≡ n) → slice_get xs i ≡ find (λ y. key y == n) xs
+-- what is before another isn't behind it
+behind : (a b : OpName) → named_before a b ≡ true → is_lt (name_cmp b a) ≡ false
+behind a b h =
+    then_less (nat_cmp b.call a.call) (nat_cmp b.part a.part)
+    ∙ joined _ _ _ _ _ _ (nat_less b.call a.call) (nat_same b.call a.call) (nat_less b.part a.part)
+    ∙ not_behind a.call a.part b.call b.part h
+
+not_both : (a b c d n p : ℕ) → (nat_lt a c || ((a == c) && nat_lt b d)) ≡ true → ((c == n) && (d == p)) ≡ true → ((a == n) && (b == p)) ≡ false
+not_both a b c d n p h k = grind (arith, nat_tests)
+
+-- what is before a name isn't that name
+apart : (n a b : OpName) → named_before a b ≡ true → is_of n b ≡ true → is_of n a ≡ false
+apart n a b h k = not_both a.call a.part b.call b.part n.call n.part h k
+
+-- ---- the search
+
+module _ {X : Type 0} (name : X → OpName) where
+  in_order : (xs : List X) → Rises name xs → IsSortedBy (λ x y. is_lt (name_cmp (name x) (name y))) xs
+  in_order [] up k d low lt = absurd (omega arith)
+  in_order (x ∷ []) up k d low lt = absurd (omega arith)
+  in_order (x ∷ y ∷ xs) up zero d low lt = behind (name x) (name y) (up.0 y (inl refl))
+  in_order (x ∷ y ∷ xs) up (suc k) d low lt = let n : suc k + 1 ≡ suc (k + 1) = omega arith in rw n (in_order (y ∷ xs) up.1 k d (omega arith) (omega (arith, lt)))
+
+  module _ (n : OpName) where
+    found_at : (xs : List X) (i : ℕ) → Rises name xs → i < length xs → ((d : X) → is_of n (name (get_or xs i d)) ≡ true) → slice_get xs i ≡ find (λ y. is_of n (name y)) xs
     found_at [] i up lt h = absurd (omega arith)
-    found_at (x ∷ xs) zero up lt h = first (key x == n) (same (key x) n (h x))
+    found_at (x ∷ xs) zero up lt h = first (is_of n (name x)) (h x)
       where
-        first : (b : Bool) → b ≡ true → Some x ≡ cond b (Some x) (find (λ y. key y == n) xs)
+        first : (b : Bool) → b ≡ true → Some x ≡ cond b (Some x) (find (λ y. is_of n (name y)) xs)
         first true e = refl
         first false e = absurd (cc)
     found_at (x ∷ xs) (suc i) up lt h =
         let in_rest : i < length xs = omega (arith, lt) in
-        let miss = apart (key x) n (key (get_or xs i x)) (up.0 (get_or xs i x) (has_at xs i x in_rest)) (h x) in
-        subst (λ (b : Bool). slice_get xs i ≡ cond b (Some x) (find (λ y. key y == n) xs)) (sym miss) (found_at xs i up.1 in_rest h)
+        let miss = apart n (name x) (name (get_or xs i x)) (up.0 (get_or xs i x) (has_at xs i x in_rest)) (h x) in
+        subst (λ (b : Bool). slice_get xs i ≡ cond b (Some x) (find (λ y. is_of n (name y)) xs)) (sym miss) (found_at xs i up.1 in_rest h)
 
-    none_at : (xs : List X) → ((k : ℕ) (d : X) → k < length xs → (key (get_or xs k d) == n) ≡ false) → find (λ y. key y == n) xs ≡ None
+    none_at : (xs : List X) → ((k : ℕ) (d : X) → k < length xs → is_of n (name (get_or xs k d)) ≡ false) → find (λ y. is_of n (name y)) xs ≡ None
     none_at [] h = refl
     none_at (x ∷ xs) h =
-        subst (λ (b : Bool). cond b (Some x) (find (λ y. key y == n) xs) ≡ None) (sym (h 0 x (omega arith))) (none_at xs (λ k d lt. h (suc k) d (omega (arith, lt))))
+        subst (λ (b : Bool). cond b (Some x) (find (λ y. is_of n (name y)) xs) ≡ None) (sym (h 0 x (omega arith))) (none_at xs (λ k d lt. h (suc k) d (omega (arith, lt))))
 
-    pub searched : (xs : List X) → Rises key xs → (r : Result ℕ ℕ) → IsSearchInRange r (length xs) → IsBinarySearchResult (λ y. nat_cmp (key y) n) xs r → Finds (λ y. key y == n) xs r
-    searched xs up (Ok at) in_range equal = record { found = found_at xs at up in_range (λ d. ranked _ n _ (sym (equal d))); absent = tt }
+    -- an element has the name just where it compares as equal
+    compared : (x : X) → is_of n (name x) ≡ is_eq (name_cmp (name x) n)
+    compared x = sym (place_same ((name x).call, (name x).part) (n.call, n.part))
+
+    pub searched : (xs : List X) → Rises name xs → (r : Result ℕ ℕ) → IsSearchInRange r (length xs) → IsBinarySearchResult (λ y. name_cmp (name y) n) xs r → Finds (λ y. is_of n (name y)) xs r
+    searched xs up (Ok at) in_range equal = record { found = found_at xs at up in_range (λ d. compared _ ∙ ap is_eq (equal d)); absent = tt }
     searched xs up (Err at) in_range parted =
-        let rise : IsNonDecreasingBy (λ y. ordering_index (nat_cmp (key y) n)) xs = λ i j d le lt. higher (key (get_or xs i d)) (key (get_or xs j d)) n (rises_to xs up i j d le lt) in
-        let parts = parted rise in
+        let parts = parted (searchable_from_sorted name_total name xs n (in_order xs up)) in
         record {
           found = tt;
           absent = none_at xs (λ k d lt. ⊎_elim
-              (λ (l : k < at). less (key (get_or xs k d)) n (ranked _ n _ (sym (parts.0 k d (omega arith) l))))
-              (λ (l : at ≤ k). more (key (get_or xs k d)) n (ranked _ n _ (sym (parts.1 k d l lt))))
+              (λ (l : k < at). compared _ ∙ ap is_eq (parts.0 k d (omega arith) l))
+              (λ (l : at ≤ k). compared _ ∙ ap is_eq (parts.1 k d l lt))
               (split k at));
         }
 
@@ -106,20 +138,17 @@ both : (a b : Bool) → (a && b) ≡ true → (a ≡ true) × (b ≡ true)
 both true b h = (refl, h)
 both false b h = absurd (cc)
 
-below : (a b : ℕ) → nat_lt a b ≡ true → a < b
-below a b h = grind (arith, nat_tests)
-
-pub sends_rise : (ms : List Message) → AreInOrder ms → Rises (λ m. m.name.call) ms
+pub sends_rise : (ms : List Message) → AreInOrder ms → Rises (λ m. m.name) ms
 sends_rise [] o = tt
-sends_rise (m ∷ ms) o = (λ x i. below m.name.call x.name.call (both _ _ (o.0 x i)).1, sends_rise ms o.1)
+sends_rise (m ∷ ms) o = (λ x i. (both _ _ (o.0 x i)).1, sends_rise ms o.1)
 
-pub receives_rise : (qs : List Receive) → ArePosted qs → Rises (λ q. q.name.call) qs
+pub receives_rise : (qs : List Receive) → ArePosted qs → Rises (λ q. q.name) qs
 receives_rise [] o = tt
-receives_rise (q ∷ qs) o = (λ x i. below q.name.call x.name.call (both _ _ (o.0 x i)).1, receives_rise qs o.1)
+receives_rise (q ∷ qs) o = (λ x i. (both _ _ (o.0 x i)).1, receives_rise qs o.1)
 
-pub names_rise : (names : List OpName) → AreCalledInOrder names → Rises (λ a. a.call) names
+pub names_rise : (names : List OpName) → AreCalledInOrder names → Rises (λ a. a) names
 names_rise [] o = tt
-names_rise (a ∷ names) o = (λ x i. below a.call x.call (both _ _ (o.0 x i)).1, names_rise names o.1)
+names_rise (a ∷ names) o = (λ x i. (both _ _ (o.0 x i)).1, names_rise names o.1)
 
 -- the operations of a rank stand in order of their calls
 pub record StandInOrder (o : Ops) : Type 0 where

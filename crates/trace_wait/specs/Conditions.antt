@@ -3,7 +3,7 @@ use Rattle.std.specs.Prelude.{ℕ, ◌+◌, Option, List, [], ◌∷◌}
 use Rattle.std.specs.Option.{option_map}
 use Rattle.mpi_model.specs.declared.call.Call.{Call}
 use Rattle.mpi_model.specs.declared.call.Call.TheVariants as calls
-use Rattle.mpi_model.specs.declared.call.Call.TheVariants.{Local, Finalize, Send, Isend, Recv, Irecv, Sendrecv, Waitall, Waitany, Waitsome, Test, Testall, Testany, Testsome, Cancel, Free, Collective, Icollective, Probe, Unread}
+use Rattle.mpi_model.specs.declared.call.Call.TheVariants.{Local, Finalize, Send, Isend, Recv, Irecv, Sendrecv, Waitall, Waitany, Waitsome, Test, Testall, Testany, Testsome, Cancel, Free, Collective, Icollective, Probe, SendInit, RecvInit, Start, Startall, Mprobe, Improbe, Imrecv, Unread}
 use Rattle.trace_stuck.specs.Shape.{Wait, OnNothing, OnAll, waits_of}
 use Rattle.trace_ops.specs.Ops.{Ops}
 use Rattle.trace_ops.specs.Receive.{probed}
@@ -13,9 +13,9 @@ use Rattle.trace_wait.specs.Requests.{request, requests, choices, some_of}
 
 -- what rank r waits for in its call n; the other calls don't wait
 abbrev pub waits_for : Run → ℕ → Ops → ℕ → Call → Wait
-waits_for s r o n (Send mode e) = send_of_call s o n
-waits_for s r o n (Recv e) = receive_of_call s o n
-waits_for s r o n (Sendrecv x) = OnAll (waits_of (send_of_call s o n ∷ receive_of_call s o n ∷ []))
+waits_for s r o n (Send mode e) = send_of_call s r o n
+waits_for s r o n (Recv e) = receive_of_call s r o n
+waits_for s r o n (Sendrecv x) = OnAll (waits_of (send_of_call s r o n ∷ receive_of_call s r o n ∷ []))
 waits_for s r o n (calls.Wait x) = request s r o x
 waits_for s r o n (Waitall xs) = OnAll (waits_of (requests s r o xs))
 waits_for s r o n (Waitany xs) = some_of (choices s r o xs)
@@ -33,6 +33,13 @@ waits_for s r o n (Testany xs) = OnNothing
 waits_for s r o n (Testsome xs) = OnNothing
 waits_for s r o n (Cancel x) = OnNothing
 waits_for s r o n (Free x) = OnNothing
+waits_for s r o n (SendInit mode e) = OnNothing
+waits_for s r o n (RecvInit e) = OnNothing
+waits_for s r o n (Start x) = OnNothing
+waits_for s r o n (Startall xs) = OnNothing
+waits_for s r o n (Mprobe e) = receive_of_call s r o n
+waits_for s r o n (Improbe e) = OnNothing
+waits_for s r o n Imrecv = OnNothing
 waits_for s r o n Unread = OnNothing
 
 -- the condition of rank r, whose operations these are, where it waits

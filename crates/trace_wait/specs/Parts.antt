@@ -1,5 +1,5 @@
 -- The parts of which conditions are made: a send, a receive, a probe.
-use Rattle.std.specs.Prelude.{ℕ, Bool, true, false, ◌==◌, ◌||◌, Option, Some, None, is_some, List, [], map, unwrap_or, if◌then◌else◌}
+use Rattle.std.specs.Prelude.{ℕ, Bool, true, false, ◌==◌, ◌&&◌, ◌||◌, Option, Some, None, is_some, List, [], map, unwrap_or, if◌then◌else◌}
 use Rattle.std.specs.List.{list_any, find}
 use Rattle.mpi_model.specs.Layouts.{Parts}
 use Rattle.mpi_model.specs.Communicators.{members_of}
@@ -8,6 +8,7 @@ use Rattle.mpi_model.specs.declared.layout.Sends.TheVariants as sends
 use Rattle.mpi_model.specs.declared.envelope.Mode.{Mode}
 use Rattle.mpi_model.specs.declared.envelope.Mode.TheVariants.{Standard, Synchronous, Buffered, Ready}
 use Rattle.trace_stuck.specs.Shape.{Wait, OnNothing, OnRank, OnOne, waits_of}
+use Rattle.mpi_model.specs.declared.event.OpName.{OpName}
 use Rattle.mpi_model.specs.declared.message.Message.{Message}
 use Rattle.mpi_model.specs.declared.message.Receive.{Receive}
 use Rattle.trace_pair.specs.declared.pair.Pair.{Pair}
@@ -71,25 +72,33 @@ abbrev pub probe_part : Run → Option Receive → Wait
 probe_part s None = OnNothing
 probe_part s (Some q) = if may_probe s q then OnNothing else source_part s q
 
--- the send, and the receive, that call n of a rank started: there is none where it is of the null process or local
-abbrev pub send_of : Ops → ℕ → Option Message
-send_of o n = find (λ m. m.name.call == n) o.sends
+-- Of two names of one rank: they are of one call, and of one part of it.
+abbrev pub is_of : OpName → OpName → Bool
+is_of name other = (other.call == name.call) && (other.part == name.part)
 
--- the receive that a call posted
-abbrev pub receive_of : Ops → ℕ → Option Receive
-receive_of o n = find (λ q. q.name.call == n) o.receives
+-- the send of a name of a rank: there is none where it is of the null process or local
+abbrev pub send_of : Ops → OpName → Option Message
+send_of o name = find (λ m. is_of name m.name) o.sends
+
+-- the receive of a name of a rank
+abbrev pub receive_of : Ops → OpName → Option Receive
+receive_of o name = find (λ q. is_of name q.name) o.receives
+
+-- the operation of a rank's call, which is no Startall
+abbrev pub named : ℕ → ℕ → OpName
+named r n = record { rank = r; call = n; part = 0 }
 
 -- what the send of a call waits for: nothing where it started no message
-abbrev pub send_of_call : Run → Ops → ℕ → Wait
-send_of_call s o n = part (send_of o n)
+abbrev pub send_of_call : Run → ℕ → Ops → ℕ → Wait
+send_of_call s r o n = part (send_of o (named r n))
   where
     part : Option Message → Wait
     part (Some m) = send_part s m
     part None = OnNothing
 
 -- what the receive of a call waits for: nothing where it posted none
-abbrev pub receive_of_call : Run → Ops → ℕ → Wait
-receive_of_call s o n = part (receive_of o n)
+abbrev pub receive_of_call : Run → ℕ → Ops → ℕ → Wait
+receive_of_call s r o n = part (receive_of o (named r n))
   where
     part : Option Receive → Wait
     part (Some q) = receive_part s q

@@ -16,7 +16,8 @@
 //! - [`round`]: how a round stands; [`tally`]: the rounds of all communicators
 //! - [`sets`], [`paired`], [`unpaired`], [`mismatch`]: what is looked up for the conditions; [`overview`]: all of it together
 //! - [`groups`]: the members of each communicator, in one list that all conditions share
-//! - [`posts`]: what a call started; [`active`]: which call posted a request
+//! - [`posts`]: the message and the receive of a name; [`active`]: which operation a request stands for, and
+//!   which numbers are idle
 //! - [`parts`]: what a send, a receive and a probe wait for; [`collective`]: a collective call;
 //!   [`requests`]: requests
 //! - [`waiting`]: the condition of each rank

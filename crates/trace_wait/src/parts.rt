@@ -3,11 +3,11 @@
 ghost use Rattle.std.specs.Prelude.{◌≡◌, map, IfOk};
 ghost use Rattle.trace_ops.specs.Order.{AreInOrder, ArePosted};
 ghost use Rattle.trace_stuck.specs.Shape.{shape, waits_of, OnRank, OnOne};
-ghost use Rattle.trace_wait.specs.Parts.{members, is_buffered, may_send, send_part, source_part, may_receive, receive_part, probe_part, send_of_call, receive_of_call};
+ghost use Rattle.trace_wait.specs.Parts.{members, is_buffered, may_send, send_part, source_part, may_receive, receive_part, probe_part, named, send_of_call, receive_of_call};
 
 use crate::overview::Overview;
 use crate::posts::{receive_of, send_of};
-use mpi_model::{Message, Mode, Receive, Sends};
+use mpi_model::{Message, Mode, OpName, Receive, Sends};
 use std::alloc::{AllocError, Global};
 use trace_ops::RankOps;
 use trace_stuck::Condition;
@@ -96,11 +96,22 @@ pub(crate) fn probe_part(
     }
 }
 
-pub(crate) fn send_of_call(run: &Overview, o: &RankOps, n: u64) -> Condition
-    requires { AreInOrder o.now.sends }
-    ensures { shape result ≡ send_of_call run.now o.now n }
+/// The operation of a rank's call, which is no Startall.
+fn named(r: u32, n: u64) -> OpName
+    ensures { result ≡ named r n }
 {
-    match send_of(o, n) {
+    OpName {
+        rank: r,
+        call: n,
+        part: 0,
+    }
+}
+
+pub(crate) fn send_of_call(run: &Overview, r: u32, o: &RankOps, n: u64) -> Condition
+    requires { AreInOrder o.now.sends }
+    ensures { shape result ≡ send_of_call run.now r o.now n }
+{
+    match send_of(o, named(r, n)) {
         Some(m) => send_part(run, &m),
         None => Condition::yes(),
     }
@@ -109,13 +120,14 @@ pub(crate) fn send_of_call(run: &Overview, o: &RankOps, n: u64) -> Condition
 pub(crate) fn receive_of_call(
     alloc: Global,
     run: &Overview,
+    r: u32,
     o: &RankOps,
     n: u64,
 ) -> Result<Condition, AllocError>
     requires { ArePosted o.now.receives }
-    ensures { IfOk result (λ c. shape c ≡ receive_of_call run.now o.now n) }
+    ensures { IfOk result (λ c. shape c ≡ receive_of_call run.now r o.now n) }
 {
-    match receive_of(o, n) {
+    match receive_of(o, named(r, n)) {
         Some(q) => receive_part(alloc, run, &q),
         None => Ok(Condition::yes()),
     }

@@ -1,7 +1,8 @@
-//! What requests wait for, by the calls that posted them.
+//! What requests wait for, by the operations that they stand for.
 
-ghost use Rattle.std.specs.Prelude.{◌≡◌, ◌++◌, ◌∷◌, [], ℕ, Some, map, nat_eq, if◌then◌else◌, IfOk, OnOk};
+ghost use Rattle.std.specs.Prelude.{◌≡◌, ◌++◌, ◌∷◌, [], ℤ, Some, map, if◌then◌else◌, IfOk, OnOk};
 ghost use Rattle.std.specs.Option.{option_copied};
+ghost use Rattle.std.specs.Ordering.{int_eq};
 ghost use Rattle.indexmap.specs.IndexMap.{get};
 ghost use Rattle.trace_ops.specs.Order.{AreCalledInOrder, AreInOrder, ArePosted};
 ghost use Rattle.trace_stuck.specs.Shape.{shape};
@@ -13,100 +14,123 @@ use crate::overview::Overview;
 use crate::parts::{receive_part, send_part};
 use crate::posts::{has_cancel, receive_of, send_of};
 use indexmap::IndexMap;
-use mpi_model::NULL_REQUEST;
+use mpi_model::{NULL_REQUEST, OpName};
 use std::alloc::{AllocError, Global};
 use trace_ops::RankOps;
 use trace_stuck::Condition;
 
-/// What it waits for that call n of rank r started.
+/// What it waits for that an operation of rank r.
 fn started_part(
     alloc: Global,
     run: &Overview,
     r: u32,
     o: &RankOps,
-    n: u64,
+    name: OpName,
 ) -> Result<Condition, AllocError>
     requires sends { AreInOrder o.now.sends }
     requires receives { ArePosted o.now.receives }
-    ensures { IfOk result (λ c. shape c ≡ started_part run.now r o.now n) }
+    ensures { IfOk result (λ c. shape c ≡ started_part run.now r o.now name) }
 {
-    match send_of(o, n) {
+    match send_of(o, name) {
         Some(m) => Ok(send_part(run, &m)),
-        None => match receive_of(o, n) {
+        None => match receive_of(o, name) {
             Some(q) => receive_part(alloc, run, &q),
-            None => collective_of_call(alloc, run, r, o, n),
+            None => collective_of_call(alloc, run, r, o, name.call),
         },
     }
 }
 
-/// What the request waits for that call n of rank r posted.
+/// What the request of an operation of rank r waits for.
 fn post_part(
     alloc: Global,
     run: &Overview,
     r: u32,
     o: &RankOps,
-    n: u64,
+    name: OpName,
 ) -> Result<Condition, AllocError>
     requires sends { AreInOrder o.now.sends }
     requires receives { ArePosted o.now.receives }
     requires cancelled { AreCalledInOrder o.now.cancelled }
-    ensures { IfOk result (λ c. shape c ≡ post_part run.now r o.now n) }
+    ensures { IfOk result (λ c. shape c ≡ post_part run.now r o.now name) }
 {
-    if has_cancel(o, n) {
+    if has_cancel(o, name) {
         return Ok(Condition::yes());
     }
-    started_part(alloc, run, r, o, n)
+    started_part(alloc, run, r, o, name)
 }
 
-/// The call that posted the active request of this number.
-fn posted_by(o: &RankOps, x: &i64) -> Option<u64>
+/// The operation that the active request of this number stands for.
+fn posted_by(o: &RankOps, x: &i64) -> Option<OpName>
     ensures { result ≡ posted_by o.now x.now }
 {
     Some(o.active().iter().find(|a| a.0 == *x)?.1)
 }
 
-/// What requests wait for that were met before, by the calls that posted them.
-type Made = IndexMap<u64, Condition>;
+/// What requests wait for that were met before, by their numbers.
+type Made = IndexMap<i64, Condition>;
 
-/// What the request waits for that call n posted, where it was met before.
-fn made_before(made: &Made, n: u64) -> Option<&Condition>
-    ensures { option_copied result ≡ get nat_eq made.now n }
+/// What the request of a number waits for, where it was met before.
+fn made_before(made: &Made, x: i64) -> Option<&Condition>
+    ensures { option_copied result ≡ get int_eq made.now x }
 {
-    made.get(&n)
+    made.get(&x)
 }
 
-/// Notes what the request waits for that call n posted.
-fn note_made(made: &mut Made, n: u64, part: Condition) -> Result<(), AllocError>
-    ensures { OnOk result ((m : ℕ) → get nat_eq made.new m ≡ (if nat_eq n m then Some part else get nat_eq made.old m)) }
+/// Notes what the request of a number waits for.
+fn note_made(made: &mut Made, x: i64, part: Condition) -> Result<(), AllocError>
+    ensures { OnOk result ((y : ℤ) → get int_eq made.new y ≡ (if int_eq x y then Some part else get int_eq made.old y)) }
 {
-    made.insert(n, part)?;
+    made.insert(x, part)?;
     Ok(())
 }
 
-/// What the request waits for that call n of rank r posted. It is made once: a list of ranks in it
-/// is shared by all that ask for it.
+/// What the active request of a number waits for, which stands for this operation of rank r. It is
+/// made once: a list of ranks in it is shared by all that ask for it.
 #[tactic(auto, using(crate::proofs::Made::made_more))]
 fn part_of(
     alloc: Global,
     run: &Overview,
     r: u32,
     o: &RankOps,
-    n: u64,
+    x: i64,
+    name: OpName,
     made: &mut Made,
 ) -> Result<Condition, AllocError>
+    requires posted { posted_by o.now x ≡ Some name }
     requires sends { AreInOrder o.now.sends }
     requires receives { ArePosted o.now.receives }
     requires cancelled { AreCalledInOrder o.now.cancelled }
-    requires made { AreMade run.now r o.now (get nat_eq made.old) }
-    ensures part { IfOk result (λ c. shape c ≡ post_part run.now r o.now n) }
-    ensures made { OnOk result (AreMade run.now r o.now (get nat_eq made.new)) }
+    requires made { AreMade run.now r o.now (get int_eq made.old) }
+    ensures part { IfOk result (λ c. shape c ≡ post_part run.now r o.now name) }
+    ensures made { OnOk result (AreMade run.now r o.now (get int_eq made.new)) }
 {
-    if let Some(part) = made_before(made, n) {
+    if let Some(part) = made_before(made, x) {
         return part.try_clone(alloc);
     }
-    let part = post_part(alloc, run, r, o, n)?;
-    note_made(made, n, part.try_clone(alloc)?)?;
+    let part = post_part(alloc, run, r, o, name)?;
+    note_made(made, x, part.try_clone(alloc)?)?;
     Ok(part)
+}
+
+/// What the active requests of the list wait for, by what rank r posted.
+fn requests_of(
+    alloc: Global,
+    run: &Overview,
+    r: u32,
+    posts: &Posts,
+    xs: &[i64],
+) -> Result<Vec<Condition>, AllocError>
+    requires sends { AreInOrder posts.now.sends }
+    requires receives { ArePosted posts.now.receives }
+    requires cancelled { AreCalledInOrder posts.now.cancelled }
+    ensures { IfOk result (λ parts. map shape parts.items ≡ requests run.now r posts.now xs.now) }
+{
+    let mut made = Made::new(alloc);
+    let mut parts = Vec::new(alloc);
+    for x in xs {
+        push_request(alloc, run, r, posts, x, &mut made, &mut parts)?;
+    }
+    Ok(parts)
 }
 
 /// What the active requests of the list wait for.
@@ -122,13 +146,8 @@ pub(crate) fn requests(
     requires cancelled { AreCalledInOrder o.now.cancelled }
     ensures { IfOk result (λ parts. map shape parts.items ≡ requests run.now r o.now xs.now) }
 {
-    let posts = posts_of(alloc, o.active())?;
-    let mut made = Made::new(alloc);
-    let mut parts = Vec::new(alloc);
-    for x in xs {
-        push_request(alloc, run, r, o, &posts, x, &mut made, &mut parts)?;
-    }
-    Ok(parts)
+    let posts = posts_of(alloc, o)?;
+    requests_of(alloc, run, r, &posts, xs)
 }
 
 /// Adds what the request of this number waits for, where it is active.
@@ -136,24 +155,43 @@ fn push_request(
     alloc: Global,
     run: &Overview,
     r: u32,
-    o: &RankOps,
     posts: &Posts,
     x: &i64,
     made: &mut Made,
     parts: &mut Vec<Condition>,
 ) -> Result<(), AllocError>
-    requires posts { posts.now ≡ o.now.active }
-    requires sends { AreInOrder o.now.sends }
-    requires receives { ArePosted o.now.receives }
-    requires cancelled { AreCalledInOrder o.now.cancelled }
-    requires made { AreMade run.now r o.now (get nat_eq made.old) }
-    ensures made { OnOk result (AreMade run.now r o.now (get nat_eq made.new)) }
-    ensures parts { OnOk result (map shape parts.new.items ≡ map shape parts.old.items ++ requests run.now r o.now (x.now ∷ [])) }
+    requires sends { AreInOrder posts.now.sends }
+    requires receives { ArePosted posts.now.receives }
+    requires cancelled { AreCalledInOrder posts.now.cancelled }
+    requires made { AreMade run.now r posts.now (get int_eq made.old) }
+    ensures made { OnOk result (AreMade run.now r posts.now (get int_eq made.new)) }
+    ensures parts { OnOk result (map shape parts.new.items ≡ map shape parts.old.items ++ requests run.now r posts.now (x.now ∷ [])) }
 {
-    if let Some(n) = posts.call_of(*x) {
-        parts.push(part_of(alloc, run, r, o, n, made)?)?;
+    if let Some(name) = posts.name_of(*x) {
+        parts.push(part_of(alloc, run, r, posts.ops(), *x, name, made)?)?;
     }
     Ok(())
+}
+
+/// What each number of a list adds of which one request has to be completed, by what rank r posted.
+fn choices_of(
+    alloc: Global,
+    run: &Overview,
+    r: u32,
+    posts: &Posts,
+    xs: &[i64],
+) -> Result<Vec<Condition>, AllocError>
+    requires sends { AreInOrder posts.now.sends }
+    requires receives { ArePosted posts.now.receives }
+    requires cancelled { AreCalledInOrder posts.now.cancelled }
+    ensures { IfOk result (λ parts. map shape parts.items ≡ choices run.now r posts.now xs.now) }
+{
+    let mut made = Made::new(alloc);
+    let mut parts = Vec::new(alloc);
+    for x in xs {
+        push_choice(alloc, run, r, posts, x, &mut made, &mut parts)?;
+    }
+    Ok(parts)
 }
 
 /// What each number of a list adds of which one request has to be completed.
@@ -169,13 +207,8 @@ pub(crate) fn choices(
     requires cancelled { AreCalledInOrder o.now.cancelled }
     ensures { IfOk result (λ parts. map shape parts.items ≡ choices run.now r o.now xs.now) }
 {
-    let posts = posts_of(alloc, o.active())?;
-    let mut made = Made::new(alloc);
-    let mut parts = Vec::new(alloc);
-    for x in xs {
-        push_choice(alloc, run, r, o, &posts, x, &mut made, &mut parts)?;
-    }
-    Ok(parts)
+    let posts = posts_of(alloc, o)?;
+    choices_of(alloc, run, r, &posts, xs)
 }
 
 /// Adds what a number of a list adds of which one request has to be completed.
@@ -183,25 +216,23 @@ fn push_choice(
     alloc: Global,
     run: &Overview,
     r: u32,
-    o: &RankOps,
     posts: &Posts,
     x: &i64,
     made: &mut Made,
     parts: &mut Vec<Condition>,
 ) -> Result<(), AllocError>
-    requires posts { posts.now ≡ o.now.active }
-    requires sends { AreInOrder o.now.sends }
-    requires receives { ArePosted o.now.receives }
-    requires cancelled { AreCalledInOrder o.now.cancelled }
-    requires made { AreMade run.now r o.now (get nat_eq made.old) }
-    ensures made { OnOk result (AreMade run.now r o.now (get nat_eq made.new)) }
-    ensures parts { OnOk result (map shape parts.new.items ≡ map shape parts.old.items ++ choices run.now r o.now (x.now ∷ [])) }
+    requires sends { AreInOrder posts.now.sends }
+    requires receives { ArePosted posts.now.receives }
+    requires cancelled { AreCalledInOrder posts.now.cancelled }
+    requires made { AreMade run.now r posts.now (get int_eq made.old) }
+    ensures made { OnOk result (AreMade run.now r posts.now (get int_eq made.new)) }
+    ensures parts { OnOk result (map shape parts.new.items ≡ map shape parts.old.items ++ choices run.now r posts.now (x.now ∷ [])) }
 {
-    if *x == NULL_REQUEST {
+    if *x == NULL_REQUEST || posts.is_idle(*x) {
         return Ok(());
     }
-    let part = match posts.call_of(*x) {
-        Some(n) => part_of(alloc, run, r, o, n, made)?,
+    let part = match posts.name_of(*x) {
+        Some(name) => part_of(alloc, run, r, posts.ops(), *x, name, made)?,
         None => Condition::yes(),
     };
     parts.push(part)?;
@@ -233,7 +264,7 @@ pub(crate) fn request(
     ensures { IfOk result (λ c. shape c ≡ request run.now r o.now x.now) }
 {
     match posted_by(o, x) {
-        Some(n) => post_part(alloc, run, r, o, n),
+        Some(name) => post_part(alloc, run, r, o, name),
         None => Ok(Condition::yes()),
     }
 }

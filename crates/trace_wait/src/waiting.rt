@@ -47,12 +47,12 @@ fn waits_for(
     ensures { IfOk result (λ c. shape c ≡ waits_for run.now r o.now n call.now) }
 {
     match call {
-        Call::Send(_, _) => Ok(send_of_call(run, o, n)),
-        Call::Recv(_) => receive_of_call(alloc, run, o, n),
+        Call::Send(_, _) => Ok(send_of_call(run, r, o, n)),
+        Call::Recv(_) | Call::Mprobe(_) => receive_of_call(alloc, run, r, o, n),
         Call::Sendrecv(_) => both(
             alloc,
-            send_of_call(run, o, n),
-            receive_of_call(alloc, run, o, n)?,
+            send_of_call(run, r, o, n),
+            receive_of_call(alloc, run, r, o, n)?,
         ),
         Call::Wait(x) => request(alloc, run, r, o, x),
         Call::Waitall(xs) => Ok(Condition::all(requests(alloc, run, r, o, xs.as_slice())?)),
@@ -71,6 +71,12 @@ fn waits_for(
         | Call::Testsome(_)
         | Call::Cancel(_)
         | Call::Free(_)
+        | Call::SendInit(_, _)
+        | Call::RecvInit(_)
+        | Call::Start(_)
+        | Call::Startall(_)
+        | Call::Improbe(_)
+        | Call::Imrecv
         | Call::Unread => Ok(Condition::yes()),
     }
 }

@@ -13,7 +13,7 @@ use Rattle.mpi_model.specs.declared.outcome.Outs.TheVariants as outs
 use Rattle.mpi_model.specs.declared.event.Event.{Event}
 use Rattle.mpi_model.specs.declared.event.Event.TheVariants as events
 use Rattle.trace_wire.specs.Forms.{◌>>=◌, Form, number, byte, pair, list, signed, IsBytes}
-use Rattle.trace_wire.specs.Events.{icollective_code, icollective_fields, call_code, call_fields, call_at, further_call_at, outs_code, outs_fields, outs_at, body_at, is_even, event_at, event_bytes, event}
+use Rattle.trace_wire.specs.Events.{icollective_code, icollective_fields, call_code, call_fields, call_at, further_call_at, later_call_at, outs_code, outs_fields, outs_at, body_at, is_even, event_at, event_bytes, event}
 use Rattle.trace_wire.specs.Fields.{mode, flag, told, stamp, envelope, send_envelope, exchange, gathering, is_barrier, ibarrier, igathering, probe, made, index, element, index_fields, index_at, index_behind}
 use Rattle.mpi_model.specs.Events.{IsSigned, IsCall, IsOutcome, IsPosition, IsElement, IsEvent}
 use Rattle.trace_wire.proofs.FormLaws.{IsBytes-rest, Takes, Takes-then, IsForm, wide32, number_form, byte_form, pair_form, record_form, list_form, choose, no_value, some_is, bind_some}
@@ -41,6 +41,18 @@ requests_form = list_form signed IsSigned signed_form (λ z. omega arith)
 is_other : (g : CollectiveCall) → IsOtherCall g → is_barrier g.kind ≡ false
 is_other g ok = grind (arith, ok.1)
 
+later_takes : (n : ℕ) (bytes : List ℕ) (x : Call × List ℕ) → IsBytes bytes → later_call_at n bytes ≡ Some x → Behind call_code call_fields IsCall bytes x n
+unfolding later_call_at
+later_takes n bytes x fits e21 =
+    choose (Behind call_code call_fields IsCall bytes x) n 21 _ _ x e21 (filled (pair mode send_envelope) _ (pair_form mode send_envelope _ _ mode_form send_form) (λ x. calls.SendInit x.0 x.1) call_code call_fields IsCall bytes x 21 fits (λ a ok. refl) (λ a ok. refl) (λ a ok. ok.1)) (λ e22.
+    choose (Behind call_code call_fields IsCall bytes x) n 22 _ _ x e22 (filled (envelope) _ (envelope_form) (λ e. calls.RecvInit e) call_code call_fields IsCall bytes x 22 fits (λ a ok. refl) (λ a ok. refl) (λ a ok. ok)) (λ e23.
+    choose (Behind call_code call_fields IsCall bytes x) n 23 _ _ x e23 (filled (signed) _ (signed_form) (λ r. calls.Start r) call_code call_fields IsCall bytes x 23 fits (λ a ok. refl) (λ a ok. refl) (λ a ok. ok)) (λ e24.
+    choose (Behind call_code call_fields IsCall bytes x) n 24 _ _ x e24 (filled (list signed) _ (requests_form) (λ r. calls.Startall r) call_code call_fields IsCall bytes x 24 fits (λ a ok. refl) (λ a ok. refl) (λ a ok. ok)) (λ e25.
+    choose (Behind call_code call_fields IsCall bytes x) n 25 _ _ x e25 (filled (probe) _ (probe_form) (λ e. calls.Mprobe e) call_code call_fields IsCall bytes x 25 fits (λ a ok. refl) (λ a ok. refl) (λ a ok. ok)) (λ e26.
+    choose (Behind call_code call_fields IsCall bytes x) n 26 _ _ x e26 (filled (probe) _ (probe_form) (λ e. calls.Improbe e) call_code call_fields IsCall bytes x 26 fits (λ a ok. refl) (λ a ok. refl) (λ a ok. ok)) (λ e27.
+    choose (Behind call_code call_fields IsCall bytes x) n 27 _ _ x e27 (bare call_code call_fields IsCall bytes x 27 calls.Imrecv fits refl refl tt) (λ e28.
+    choose (Behind call_code call_fields IsCall bytes x) n 28 _ _ x e28 (filled (igathering) _ (igathering_form) (λ g. calls.Icollective g) call_code call_fields IsCall bytes x 28 fits (λ a ok. rw (is_other a ok) refl) (λ a ok. rw (is_other a ok) refl) (λ a ok. ok.0)) (λ e29. no_value _ x e29))))))))
+
 further_takes : (n : ℕ) (bytes : List ℕ) (x : Call × List ℕ) → IsBytes bytes → further_call_at n bytes ≡ Some x → Behind call_code call_fields IsCall bytes x n
 unfolding further_call_at
 further_takes n bytes x fits e15 =
@@ -49,8 +61,7 @@ further_takes n bytes x fits e15 =
     choose (Behind call_code call_fields IsCall bytes x) n 17 _ _ x e17 (filled (list signed) _ (requests_form) (λ r. calls.Testsome r) call_code call_fields IsCall bytes x 17 fits (λ a ok. refl) (λ a ok. refl) (λ a ok. ok)) (λ e18.
     choose (Behind call_code call_fields IsCall bytes x) n 18 _ _ x e18 (filled (signed) _ (signed_form) (λ r. calls.Cancel r) call_code call_fields IsCall bytes x 18 fits (λ a ok. refl) (λ a ok. refl) (λ a ok. ok)) (λ e19.
     choose (Behind call_code call_fields IsCall bytes x) n 19 _ _ x e19 (filled (signed) _ (signed_form) (λ r. calls.Free r) call_code call_fields IsCall bytes x 19 fits (λ a ok. refl) (λ a ok. refl) (λ a ok. ok)) (λ e20.
-    choose (Behind call_code call_fields IsCall bytes x) n 20 _ _ x e20 (bare call_code call_fields IsCall bytes x 20 calls.Unread fits refl refl tt) (λ e21.
-    choose (Behind call_code call_fields IsCall bytes x) n 28 _ _ x e21 (filled (igathering) _ (igathering_form) (λ g. calls.Icollective g) call_code call_fields IsCall bytes x 28 fits (λ a ok. rw (is_other a ok) refl) (λ a ok. rw (is_other a ok) refl) (λ a ok. ok.0)) (λ e22. no_value _ x e22)))))))
+    choose (Behind call_code call_fields IsCall bytes x) n 20 _ _ x e20 (bare call_code call_fields IsCall bytes x 20 calls.Unread fits refl refl tt) (λ e21. later_takes n bytes x fits e21))))))
 
 pub call_takes : (n : ℕ) (bytes : List ℕ) (x : Call × List ℕ) → IsBytes bytes → call_at n bytes ≡ Some x → Behind call_code call_fields IsCall bytes x n
 unfolding call_at
@@ -73,12 +84,12 @@ call_takes n bytes x fits e0 =
 
 -- by the kind, one spelling or the other
 icollective_again : (g : CollectiveCall) (b : Bool) (rest : List ℕ) → is_barrier g.kind ≡ b → IsCollective g → length (icollective_fields g) < 2 ^ 32 → call_at (icollective_code g.kind) (icollective_fields g ++ rest) ≡ Some (calls.Icollective g, rest)
-unfolding call_at further_call_at
+unfolding call_at further_call_at later_call_at
 icollective_again g true rest is fits short = rw is (ap (made (λ g. calls.Icollective g)) (ibarrier_form.again g rest (fits, is) (omega arith)))
 icollective_again g false rest is fits short = rw is (ap (made (λ g. calls.Icollective g)) (igathering_form.again g rest (fits, grind (arith, is)) (omega arith)))
 
 pub call_again : (c : Call) (rest : List ℕ) → IsCall c → length (call_fields c) < 2 ^ 32 → call_at (call_code c) (call_fields c ++ rest) ≡ Some (c, rest)
-unfolding call_at further_call_at
+unfolding call_at further_call_at later_call_at
 call_again calls.Local rest fits short = refl
 call_again calls.Finalize rest fits short = refl
 call_again (calls.Send m e) rest fits short = ap (made (λ x. calls.Send x.0 x.1)) ((pair_form mode send_envelope _ _ mode_form send_form).again (m, e) rest (tt, fits) short)
@@ -99,6 +110,13 @@ call_again (calls.Testany a) rest fits short = ap (made (λ r. calls.Testany r))
 call_again (calls.Testsome a) rest fits short = ap (made (λ r. calls.Testsome r)) ((requests_form).again a rest fits short)
 call_again (calls.Cancel a) rest fits short = ap (made (λ r. calls.Cancel r)) ((signed_form).again a rest fits short)
 call_again (calls.Free a) rest fits short = ap (made (λ r. calls.Free r)) ((signed_form).again a rest fits short)
+call_again (calls.SendInit m e) rest fits short = ap (made (λ x. calls.SendInit x.0 x.1)) ((pair_form mode send_envelope _ _ mode_form send_form).again (m, e) rest (tt, fits) short)
+call_again (calls.RecvInit a) rest fits short = ap (made (λ e. calls.RecvInit e)) ((envelope_form).again a rest fits short)
+call_again (calls.Start a) rest fits short = ap (made (λ r. calls.Start r)) ((signed_form).again a rest fits short)
+call_again (calls.Startall a) rest fits short = ap (made (λ r. calls.Startall r)) ((requests_form).again a rest fits short)
+call_again (calls.Mprobe a) rest fits short = ap (made (λ e. calls.Mprobe e)) ((probe_form).again a rest fits short)
+call_again (calls.Improbe a) rest fits short = ap (made (λ e. calls.Improbe e)) ((probe_form).again a rest fits short)
+call_again calls.Imrecv rest fits short = refl
 call_again calls.Unread rest fits short = refl
 
 past : (n k : ℕ) → k < n → eqb n k ≡ false
@@ -126,6 +144,11 @@ further n bytes lt =
       past n 14 (omega (arith, lt)),
     ) refl
 
+-- those behind the calls that aren't read are of none of the kinds before
+pub later : (n : ℕ) (bytes : List ℕ) → eqb n 15 ≡ false → eqb n 16 ≡ false → eqb n 17 ≡ false → eqb n 18 ≡ false → eqb n 19 ≡ false → eqb n 20 ≡ false → further_call_at n bytes ≡ later_call_at n bytes
+unfolding further_call_at
+later n bytes a b c d e f = rw (a, b, c, d, e, f) refl
+
 icollective_small : (b : Bool) → cond b 14 28 < 256
 icollective_small true = omega arith
 icollective_small false = omega arith
@@ -151,6 +174,13 @@ call_small (calls.Testany a) = omega arith
 call_small (calls.Testsome a) = omega arith
 call_small (calls.Cancel a) = omega arith
 call_small (calls.Free a) = omega arith
+call_small (calls.SendInit m e) = omega arith
+call_small (calls.RecvInit a) = omega arith
+call_small (calls.Start a) = omega arith
+call_small (calls.Startall a) = omega arith
+call_small (calls.Mprobe a) = omega arith
+call_small (calls.Improbe a) = omega arith
+call_small calls.Imrecv = omega arith
 call_small calls.Unread = omega arith
 
 -- ---- outcomes

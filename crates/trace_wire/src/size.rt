@@ -37,20 +37,22 @@ fn call_len(call: &Call) -> u64
     ensures { result ≡ min (length (call_fields call.now)) (2 ^ 64 - 1) }
 {
     match call {
-        Call::Local | Call::Finalize | Call::Unread => 0,
-        Call::Send(_, _) | Call::Isend(_, _) => 25,
-        Call::Recv(_) | Call::Irecv(_) => 24,
+        Call::Local | Call::Finalize | Call::Imrecv | Call::Unread => 0,
+        Call::Send(_, _) | Call::Isend(_, _) | Call::SendInit(_, _) => 25,
+        Call::Recv(_) | Call::Irecv(_) | Call::RecvInit(_) => 24,
         Call::Sendrecv(_) => 48,
-        Call::Wait(_) | Call::Test(_) | Call::Cancel(_) | Call::Free(_) => 8,
+        Call::Wait(_) | Call::Test(_) => 8,
+        Call::Cancel(_) | Call::Free(_) | Call::Start(_) => 8,
         Call::Waitall(requests)
         | Call::Waitany(requests)
         | Call::Waitsome(requests)
         | Call::Testall(requests)
         | Call::Testany(requests)
-        | Call::Testsome(requests) => list_len(requests.as_slice().len(), 8),
+        | Call::Testsome(requests)
+        | Call::Startall(requests) => list_len(requests.as_slice().len(), 8),
         Call::Collective(_) => 9,
         Call::Icollective(call) => icollective_len(call.kind()),
-        Call::Probe(_) => 12,
+        Call::Probe(_) | Call::Mprobe(_) | Call::Improbe(_) => 12,
     }
 }
 

@@ -6,7 +6,7 @@ use std::process::Abort;
 use trace_wire::Version;
 
 /// A name, the bytes, and what the format says of them.
-static ROWS: [(&str, &[u8], &str); 52] = [
+static ROWS: [(&str, &[u8], &str); 56] = [
     ("nothing is known", b"MPTX\0\x01\0\0\0\x04\0\0\0\0", "ok"),
     (
         "a byte more in the payload",
@@ -128,13 +128,33 @@ static ROWS: [(&str, &[u8], &str); 52] = [
         "ok",
     ),
     (
-        "a call of kind 21",
+        "a Send_init without its envelope",
         b"MPTX\0\x01\0\0\0\x22\0\0\0\x01\0\0\0\0\0\0\0\0\0\0\0\0\0\x15\0\0\0\0\0\0\0\0\0\0\0\0\0\0\0\0",
         "W7 Content",
     ),
     (
-        "a call of kind 27",
+        "a receive of what was probed",
         b"MPTX\0\x01\0\0\0\x22\0\0\0\x01\0\0\0\0\0\0\0\0\0\0\0\0\0\x1B\0\0\0\0\0\0\0\0\0\0\0\0\0\0\0\0",
+        "ok",
+    ),
+    (
+        "a Start of request 4",
+        b"MPTX\0\x01\0\0\0\x2A\0\0\0\x01\0\0\0\0\0\0\0\0\0\0\0\0\0\x17\0\0\0\0\0\0\0\0\0\0\0\0\0\0\0\0\0\0\0\0\0\0\0\x04",
+        "ok",
+    ),
+    (
+        "a Startall of no request",
+        b"MPTX\0\x01\0\0\0\x26\0\0\0\x01\0\0\0\0\0\0\0\0\0\0\0\0\0\x18\0\0\0\0\0\0\0\0\0\0\0\0\0\0\0\0\0\0\0\0",
+        "ok",
+    ),
+    (
+        "a matched probe of any source and tag",
+        b"MPTX\0\x01\0\0\0\x2E\0\0\0\x01\0\0\0\0\0\0\0\0\0\0\0\0\0\x19\0\0\0\0\0\0\0\0\0\0\0\0\0\0\0\0\xFF\xFF\xFF\xFF\xFF\xFF\xFF\xFF\xFF\xFF\xFF\xFF",
+        "ok",
+    ),
+    (
+        "a matched probe without its communicator",
+        b"MPTX\0\x01\0\0\0\x2A\0\0\0\x01\0\0\0\0\0\0\0\0\0\0\0\0\0\x1A\0\0\0\0\0\0\0\0\0\0\0\0\0\0\0\0\xFF\xFF\xFF\xFF\xFF\xFF\xFF\xFF",
         "W7 Content",
     ),
     (

@@ -135,7 +135,7 @@ fn sent<R: Abort>(rt: &R, row: &Sent) -> SendEnvelope {
 }
 
 /// The least and the greatest numbers, and each mode.
-static SENDS: [(&str, u8, Sent, &[u8]); 6] = [
+static SENDS: [(&str, u8, Sent, &[u8]); 7] = [
     (
         "to nobody",
         2,
@@ -178,12 +178,19 @@ static SENDS: [(&str, u8, Sent, &[u8]); 6] = [
         (Mode::Ready, Peer::Rank(1), 7, CommRef::Id(2), 11),
         b"\x03\0\0\0\x01\0\0\0\x07\0\0\0\x02\0\0\0\x01\0\0\0\0\0\0\0\x0B",
     ),
+    (
+        "described alone",
+        21,
+        (Mode::Ready, Peer::Rank(1), 7, CommRef::Id(2), 11),
+        b"\x03\0\0\0\x01\0\0\0\x07\0\0\0\x02\0\0\0\x01\0\0\0\0\0\0\0\x0B",
+    ),
 ];
 
-/// The send of a code: 2 is that of a Send, and else it is an Isend.
+/// The send of a code: 2 is that of a Send, 21 that of a Send_init, and else it is an Isend.
 fn send_call<R: Abort>(rt: &R, code: u8, row: &Sent) -> Call {
     match code {
         2 => Call::Send(row.0, sent(rt, row)),
+        21 => Call::SendInit(row.0, sent(rt, row)),
         _ => Call::Isend(row.0, sent(rt, row)),
     }
 }
@@ -213,7 +220,7 @@ fn received<R: Abort>(rt: &R, row: &Received) -> ReceiveEnvelope {
 }
 
 /// From any source and of any tag, and from the null process.
-static RECEIVES: [(u8, Received, &[u8]); 2] = [
+static RECEIVES: [(u8, Received, &[u8]); 3] = [
     (
         4,
         (Peer::Any, None, CommRef::Id(0)),
@@ -224,12 +231,18 @@ static RECEIVES: [(u8, Received, &[u8]); 2] = [
         (Peer::Null, Some(MOST), CommRef::World),
         b"\xFF\xFF\xFF\xFE\x7F\xFF\xFF\xFF\xFF\xFF\xFF\xFF\x7F\xFF\xFF\xFF\x80\0\0\0\0\0\0\0",
     ),
+    (
+        22,
+        (Peer::Rank(MOST), Some(0), CommRef::Id(MOST)),
+        b"\x7F\xFF\xFF\xFF\0\0\0\0\x7F\xFF\xFF\xFF\x7F\xFF\xFF\xFF\x80\0\0\0\0\0\0\0",
+    ),
 ];
 
-/// The receive of a code: 4 is that of a Recv, and else it is an Irecv.
+/// The receive of a code: 4 is that of a Recv, 22 that of a Recv_init, and else it is an Irecv.
 fn receive_call<R: Abort>(rt: &R, code: u8, row: &Received) -> Call {
     match code {
         4 => Call::Recv(received(rt, row)),
+        22 => Call::RecvInit(received(rt, row)),
         _ => Call::Irecv(received(rt, row)),
     }
 }
@@ -263,8 +276,14 @@ static PROBES: [(Received, &[u8]); 3] = [
 fn probes(rt: HostRuntime) {
     for ((source, tag, comm), fields) in &PROBES {
         let envelope = ProbeEnvelope::new(*source, *tag, *comm).expect(&rt, "a probe");
-        let is_so = enters(&rt, rt.alloc(), Call::Probe(envelope), (13, fields));
-        assert!(rt; is_so, "{fields:?}");
+        for (code, call) in [
+            (13, Call::Probe(envelope)),
+            (25, Call::Mprobe(envelope)),
+            (26, Call::Improbe(envelope)),
+        ] {
+            let is_so = enters(&rt, rt.alloc(), call, (code, fields));
+            assert!(rt; is_so, "{code}: {fields:?}");
+        }
     }
 }
 
@@ -302,7 +321,7 @@ fn sendrecv(rt: HostRuntime) {
 }
 
 /// Requests that a call names.
-static WAITS: [(u8, &[i64], &[u8]); 10] = [
+static WAITS: [(u8, &[i64], &[u8]); 12] = [
     (7, &[-1], b"\xFF\xFF\xFF\xFF\xFF\xFF\xFF\xFF"),
     (11, &[i64::MIN], b"\x80\0\0\0\0\0\0\0"),
     (8, &[], b"\0\0\0\0"),
@@ -325,6 +344,12 @@ static WAITS: [(u8, &[i64], &[u8]); 10] = [
     ),
     (18, &[4], b"\0\0\0\0\0\0\0\x04"),
     (19, &[-1], b"\xFF\xFF\xFF\xFF\xFF\xFF\xFF\xFF"),
+    (23, &[4], b"\0\0\0\0\0\0\0\x04"),
+    (
+        24,
+        &[1, -2],
+        b"\0\0\0\x02\0\0\0\0\0\0\0\x01\xFF\xFF\xFF\xFF\xFF\xFF\xFF\xFE",
+    ),
 ];
 
 /// The call of a code on these requests, or on the first of them.
@@ -344,6 +369,8 @@ fn wait_call<R: Abort>(rt: &R, alloc: Global, code: u8, numbers: &[i64]) -> Call
         17 => Call::Testsome(all),
         18 => Call::Cancel(first),
         19 => Call::Free(first),
+        23 => Call::Start(first),
+        24 => Call::Startall(all),
         _ => Call::Test(first),
     }
 }
@@ -351,6 +378,11 @@ fn wait_call<R: Abort>(rt: &R, alloc: Global, code: u8, numbers: &[i64]) -> Call
 #[test]
 fn unread_calls(rt: HostRuntime) {
     assert!(rt; enters(&rt, rt.alloc(), Call::Unread, (20, b"")));
+}
+
+#[test]
+fn receives_of_what_was_probed(rt: HostRuntime) {
+    assert!(rt; enters(&rt, rt.alloc(), Call::Imrecv, (27, b"")));
 }
 
 #[test]

@@ -3,7 +3,7 @@
 ghost use Rattle.std.specs.Prelude.{◌≡◌, ◌==◌, ◌<◌, ◌^◌, IfOk, length, option_map, slice_get};
 ghost use Rattle.std.specs.List.{position_from};
 ghost use Rattle.std.specs.List.Sorted.{IsStrictlyIncreasing};
-ghost use Rattle.mpi_model.specs.Communicators.{InOrder, communicators, has_member, ids, ids_with, members_of};
+ghost use Rattle.mpi_model.specs.Communicators.{InOrder, communicators, ids, members_of};
 
 use std::alloc::{AllocError, Global};
 use std::marker::Model;
@@ -56,13 +56,6 @@ impl Comm {
         ensures { result.now ≡ self.now.members }
     {
         &self.members
-    }
-
-    /// Whether the rank is a member.
-    fn has_member(&self, rank: u32) -> bool
-        ensures { result ≡ has_member rank self.now }
-    {
-        self.members.iter().any(|member| *member == rank)
     }
 
     pub(crate) fn numbers(&self) -> &[Option<Stretch>]
@@ -162,19 +155,6 @@ pub(crate) fn members_in(comms: &[Comm], comm: u32) -> Option<&[u32]>
     ensures { option_map (λ m. m.now) result ≡ members_of comms.now comm }
 {
     Some(comms.get(place_in(comms, comm))?.members())
-}
-
-/// The ids of the communicators that hold the rank, in the order of the list.
-pub(crate) fn ids_with(alloc: Global, comms: &[Comm], rank: u32) -> Result<Vec<u32>, AllocError>
-    ensures { IfOk result (λ v. v.items ≡ ids_with rank comms.now) }
-{
-    let mut ids = Vec::new(alloc);
-    for comm in comms {
-        if comm.has_member(rank) {
-            ids.push(comm.id())?;
-        }
-    }
-    Ok(ids)
 }
 
 /// The place of a rank among the members.

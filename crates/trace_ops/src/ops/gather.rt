@@ -1,22 +1,30 @@
 //! From what is known of a rank to what it did.
 
-ghost use Rattle.std.specs.Prelude.{◌≡◌, ◌<◌, ◌+◌, if◌then◌else◌, IfOk, OnOk, length};
+ghost use Rattle.std.specs.Prelude.{◌≡◌, ◌<◌, ◌≤◌, ◌+◌, ◌++◌, ◌∷◌, List, Some, true, if◌then◌else◌, IfOk, OnOk, length, map, reverse, slice_get};
+ghost use Rattle.std.specs.Ordering.{int_eq};
 ghost use Rattle.std.specs.Option.{option_map};
+ghost use Rattle.indexmap.specs.IndexMap.{get};
+ghost use Rattle.trace_ops.specs.Calls.{Entry};
 ghost use Rattle.trace_ops.specs.Foreign.{is_foreign_in};
 ghost use Rattle.trace_ops.specs.Groups.{plain};
+ghost use Rattle.trace_ops.specs.Held.{Holds, inits_at, plain_init};
 ghost use Rattle.trace_ops.specs.RankOps.{all_ops, ops_by_calls, ops_of};
+ghost use Rattle.trace_ops.specs.Request.{is_start};
+ghost use Rattle.trace_ops.specs.Steps.{Step, begun_step, steps_at, steps_of, whole};
 
+use crate::active::{idle_of, still_active};
 use crate::called::{Called, calls_of};
 use crate::completed::push_some;
 use crate::entered::Entered;
 use crate::fate::fate_of;
 use crate::group::{Group, group_of, is_foreign_in};
+use crate::held::{Held, Init, Part, as_started, begun_at, holding_of, is_start, started_by};
 use crate::message::{entered_in, message_in};
 use crate::ops::RankOps;
 use crate::rank_state::{state_of, waiting_of};
-use crate::receive::{active_post, receive_in};
-use crate::touched::{Touched, note};
-use crate::trust::cancelled_post;
+use crate::receive::receive_in;
+use crate::touched::{Touched, note, note_part};
+use crate::trust::{cancelled_with, gives_back};
 use mpi_model::{Call, Layout, Message, OpName, Receive};
 use std::alloc::{AllocError, Global};
 use trace_know::Knowledge;
@@ -33,23 +41,25 @@ fn with_call(count: u64, group: Option<Group<'_>>, call: &Call) -> u64
     }
 }
 
-/// What the calls from a place on tell, the last of them first.
+/// What the steps from a place on tell, the last of them first.
 #[derive(Drop)]
 struct Gathered {
     sends: Vec<Message>,
     receives: Vec<Receive>,
     rounds: Vec<Entered>,
-    active: Vec<(i64, u64)>,
+    active: Vec<(i64, OpName)>,
     cancelled: Vec<OpName>,
     foreign: u64,
+    /// Whether one of the steps is an Imrecv that may give its message back.
+    given_back: bool,
     touched: Touched,
 }
 
 impl Gathered {
     ghost use Rattle.trace_ops.specs.Gathered.{IsGathered};
 
-    /// Adds what the call at a place tells, behind which all calls were gathered.
-    fn add(
+    /// Adds what a call at a place tells that is one step, behind which all steps were gathered.
+    fn add_whole(
         &mut self,
         layout: &Layout,
         rank: u32,
@@ -57,30 +67,116 @@ impl Gathered {
         n: usize,
     ) -> Result<(), AllocError>
         requires place { n < length calls.now }
-        requires behind { IsGathered layout.now rank calls.now (n + 1) self.old }
-        ensures { OnOk result (IsGathered layout.now rank calls.now n self.new) }
+        requires few { self.old.foreign + n < length calls.now }
+        ensures few { OnOk result (self.new.foreign ≤ self.old.foreign + 1) }
+        ensures gathered { OnOk result ((c : Entry) (later : List Step) → slice_get calls.now n ≡ Some c → IsGathered layout.now rank calls.now later self.old → IsGathered layout.now rank calls.now (whole n c ∷ later) self.new) }
     {
         let called = &calls[n];
+        let call = called.call();
         let number = n as u64;
-        let group = group_of(layout, rank, number, called.call());
-        let fate = fate_of(&self.touched, calls, called);
-        push_some(
-            &mut self.sends,
-            message_in(group, rank, number, called, fate),
-        )?;
+        let name = OpName {
+            rank,
+            call: number,
+            part: 0,
+        };
+        let group = group_of(layout, rank, number, call);
+        let fate = fate_of(&self.touched, calls, called.posted());
+        push_some(&mut self.sends, message_in(group, name, call, fate))?;
         push_some(
             &mut self.receives,
-            receive_in(group, rank, number, called, fate),
+            receive_in(group, name, call, called.outs(), fate, self.given_back),
         )?;
-        push_some(&mut self.rounds, entered_in(group, number, called.call()))?;
-        push_some(&mut self.active, active_post(number, fate))?;
-        push_some(&mut self.cancelled, cancelled_post(rank, number, fate))?;
-        self.foreign = with_call(self.foreign, group, called.call());
+        push_some(&mut self.rounds, entered_in(group, number, call))?;
+        push_some(&mut self.active, still_active(name, fate))?;
+        push_some(&mut self.cancelled, cancelled_with(name, fate))?;
+        self.foreign = with_call(self.foreign, group, call);
+        self.given_back = gives_back(call, fate, self.given_back);
         note(&mut self.touched, calls, n)?;
         Ok(())
     }
 
-    /// What a rank did with these calls, all of which were gathered.
+    /// Adds what a part of the Start or Startall at a place tells, behind which all steps were gathered.
+    fn add_part(
+        &mut self,
+        layout: &Layout,
+        rank: u32,
+        calls: &[Called<'_>],
+        n: usize,
+        part: Part<'_>,
+    ) -> Result<(), AllocError>
+        requires place { n < length calls.now }
+        ensures few { OnOk result (self.new.foreign ≡ self.old.foreign) }
+        ensures gathered { OnOk result ((c : Entry) (later : List Step) → slice_get calls.now n ≡ Some c → is_start c.call ≡ true → IsGathered layout.now rank calls.now later self.old → IsGathered layout.now rank calls.now (begun_step n c part.entry ∷ later) self.new) }
+    {
+        let called = &calls[n];
+        let call = as_started(part.init.call);
+        let name = OpName {
+            rank,
+            call: n as u64,
+            part: part.part,
+        };
+        let group = group_of(layout, rank, part.init.number, &call);
+        let given = called.restarts(part.request);
+        let fate = fate_of(&self.touched, calls, given);
+        push_some(&mut self.sends, message_in(group, name, &call, fate))?;
+        push_some(
+            &mut self.receives,
+            receive_in(group, name, &call, called.outs(), fate, self.given_back),
+        )?;
+        push_some(&mut self.active, still_active(name, fate))?;
+        push_some(&mut self.cancelled, cancelled_with(name, fate))?;
+        note_part(&mut self.touched, n, given)?;
+        Ok(())
+    }
+
+    /// Adds what all parts of the Start or Startall at a place tell, by what holds its numbers.
+    fn add_parts(
+        &mut self,
+        layout: &Layout,
+        rank: u32,
+        calls: &[Called<'_>],
+        n: usize,
+        inits: &[Option<Init<'_>>],
+    ) -> Result<(), AllocError>
+        requires place { n < length calls.now }
+        ensures few { OnOk result (self.new.foreign ≡ self.old.foreign) }
+        ensures gathered { OnOk result ((before : List Entry) (c : Entry) (later : List Step) → slice_get calls.now n ≡ Some c → is_start c.call ≡ true → length before ≡ n → map (option_map plain_init) inits.now ≡ inits_at before c → IsGathered layout.now rank calls.now later self.old → IsGathered layout.now rank calls.now (steps_at before c ++ later) self.new) }
+    {
+        let requests = started_by(calls[n].call());
+        let mut place = requests.len();
+        while place > 0 {
+            place -= 1;
+            match begun_at(inits, requests, place) {
+                Some(part) => self.add_part(layout, rank, calls, n, part)?,
+                None => {}
+            }
+        }
+        Ok(())
+    }
+
+    /// Adds what the call at a place tells, behind which all steps were gathered, by what holds the numbers that it
+    /// starts.
+    fn add(
+        &mut self,
+        layout: &Layout,
+        rank: u32,
+        calls: &[Called<'_>],
+        n: usize,
+        inits: &[Option<Init<'_>>],
+    ) -> Result<(), AllocError>
+        requires place { n < length calls.now }
+        requires few { self.old.foreign + n < length calls.now }
+        ensures few { OnOk result (self.new.foreign ≤ self.old.foreign + 1) }
+        ensures gathered { OnOk result ((before : List Entry) (c : Entry) (later : List Step) → slice_get calls.now n ≡ Some c → length before ≡ n → map (option_map plain_init) inits.now ≡ inits_at before c → IsGathered layout.now rank calls.now later self.old → IsGathered layout.now rank calls.now (steps_at before c ++ later) self.new) }
+    {
+        if is_start(calls[n].call()) {
+            self.add_parts(layout, rank, calls, n, inits)
+        } else {
+            self.add_whole(layout, rank, calls, n)
+        }
+    }
+
+    /// What a rank did with these calls, all of whose steps were gathered, by what holds numbers at the end.
     fn into_ops(
         self,
         alloc: Global,
@@ -88,8 +184,10 @@ impl Gathered {
         rank: u32,
         beyond: bool,
         calls: &[Called<'_>],
+        held: &Held<'_>,
     ) -> Result<RankOps, AllocError>
-        requires { IsGathered layout.now rank calls.now 0 self }
+        requires gathered { IsGathered layout.now rank calls.now (steps_of calls.now) self }
+        requires held { Holds (reverse calls.now) (get int_eq held.now) }
         ensures { IfOk result (λ ops. ops ≡ ops_by_calls layout.now rank beyond calls.now) }
     {
         let state = state_of(layout, rank, beyond, calls);
@@ -105,12 +203,14 @@ impl Gathered {
         rounds.reverse();
         active.reverse();
         cancelled.reverse();
+        let idle = idle_of(alloc, held, &active, calls)?;
         Ok(RankOps {
             sends,
             receives,
             rounds,
             comms,
             active,
+            idle,
             cancelled,
             state,
             waiting,
@@ -119,9 +219,10 @@ impl Gathered {
     }
 }
 
-/// What a rank with these calls did. They are gone through from the last to the first, so that
-/// what the calls behind a post tell of its request is known when it is met; the lists are turned
-/// round at the end.
+/// What a rank with these calls did. They are gone through from the first to the last, by which it
+/// is known which inits hold the numbers that Starts and Startalls list; and from the last to the
+/// first, so that what the steps behind a post tell of its request is known when it is met. The
+/// lists are turned round at the end.
 fn gather(
     alloc: Global,
     layout: &Layout,
@@ -131,6 +232,7 @@ fn gather(
 ) -> Result<RankOps, AllocError>
     ensures { IfOk result (λ ops. ops ≡ ops_by_calls layout.now rank beyond calls.now) }
 {
+    let holding = holding_of(alloc, calls)?;
     let mut gathered = Gathered {
         sends: Vec::new(alloc),
         receives: Vec::new(alloc),
@@ -138,14 +240,18 @@ fn gather(
         active: Vec::new(alloc),
         cancelled: Vec::new(alloc),
         foreign: 0,
+        given_back: false,
         touched: Touched::new(alloc),
     };
+    let mut left = holding.inits.len();
     let mut n = calls.len();
     while n > 0 {
         n -= 1;
-        gathered.add(layout, rank, calls, n)?;
+        let end = left;
+        left -= started_by(calls[n].call()).len();
+        gathered.add(layout, rank, calls, n, &holding.inits[left..end])?;
     }
-    gathered.into_ops(alloc, layout, rank, beyond, calls)
+    gathered.into_ops(alloc, layout, rank, beyond, calls, &holding.held)
 }
 
 /// What a rank of the layout did, by its readable events.

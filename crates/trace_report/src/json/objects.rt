@@ -9,7 +9,7 @@ use crate::json::ranks::bool_text;
 use crate::seconds::put_seconds;
 use crate::sink::Sink;
 use crate::waits::put_wait;
-use crate::words::{put_function, put_number};
+use crate::words::{put_function, put_number, put_part};
 use mpi_model::{CollectiveFunction, OpName};
 use trace_node::Stuck;
 use trace_pair::Pair;
@@ -39,6 +39,7 @@ impl Value for OpName {
         put_number(out, self.rank as u64);
         out.put(b",\"call\":");
         put_number(out, self.call);
+        put_part(out, b",\"part\":", self.part);
         out.put(b"}");
     }
 }

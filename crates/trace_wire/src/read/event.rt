@@ -1,7 +1,7 @@
 //! Events, read from bytes.
 
 ghost use Rattle.trace_wire.specs.Outcomes.{Reads};
-ghost use Rattle.trace_wire.specs.Events.{call_at, further_call_at, outs_at, event_at, body_at};
+ghost use Rattle.trace_wire.specs.Events.{call_at, further_call_at, later_call_at, outs_at, event_at, body_at};
 ghost use Rattle.trace_wire.specs.Fields.{envelope, send_envelope, exchange, gathering, ibarrier, igathering, probe, index};
 
 use crate::kind::is_barrier;
@@ -127,6 +127,46 @@ fn index_field(bytes: &[u8]) -> Result<(Option<u32>, &[u8]), FieldFault>
     }
 }
 
+/// A call behind those that aren't read, by the code of its kind.
+#[tactic(auto, unfolding(crate::specs::Events::later_call_at))]
+fn later_call_of(alloc: Global, code: u8, bytes: &[u8]) -> Result<(Call, &[u8]), FieldFault>
+    ensures { Reads (λ x. (x.0, x.1.now)) result (later_call_at code bytes.now) }
+{
+    match code {
+        21 => {
+            let (mode, rest) = mode_field(bytes)?;
+            let (envelope, rest) = field!(send_field(rest));
+            Ok((Call::SendInit(mode, envelope), rest))
+        }
+        22 => {
+            let (envelope, rest) = field!(receive_field(bytes));
+            Ok((Call::RecvInit(envelope), rest))
+        }
+        23 => {
+            let (request, rest) = signed_of(bytes)?;
+            Ok((Call::Start(request), rest))
+        }
+        24 => {
+            let (requests, rest) = field!(list_of(alloc, bytes));
+            Ok((Call::Startall(Requests::from_vec(requests)), rest))
+        }
+        25 => {
+            let (envelope, rest) = field!(probe_field(bytes));
+            Ok((Call::Mprobe(envelope), rest))
+        }
+        26 => {
+            let (envelope, rest) = field!(probe_field(bytes));
+            Ok((Call::Improbe(envelope), rest))
+        }
+        27 => Ok((Call::Imrecv, bytes)),
+        28 => {
+            let (call, rest) = field!(icollective_field(bytes));
+            Ok((Call::Icollective(call), rest))
+        }
+        _ => Err(FieldFault::Content),
+    }
+}
+
 /// A call behind `MPI_Ibarrier`, by the code of its kind.
 #[tactic(auto, unfolding(crate::specs::Events::further_call_at))]
 fn further_call_of(alloc: Global, code: u8, bytes: &[u8]) -> Result<(Call, &[u8]), FieldFault>
@@ -154,11 +194,7 @@ fn further_call_of(alloc: Global, code: u8, bytes: &[u8]) -> Result<(Call, &[u8]
             Ok((Call::Free(request), rest))
         }
         20 => Ok((Call::Unread, bytes)),
-        28 => {
-            let (call, rest) = field!(icollective_field(bytes));
-            Ok((Call::Icollective(call), rest))
-        }
-        _ => Err(FieldFault::Content),
+        _ => later_call_of(alloc, code, bytes),
     }
 }
 

@@ -41,21 +41,26 @@ fn put_call<S: Sink>(out: &mut S, call: &Call)
     ensures { Sends (S.page out.old) (S.page out.new) (call_fields call.now) }
 {
     match call {
-        Call::Local | Call::Finalize | Call::Unread => out.put(&[]),
-        Call::Send(mode, e) | Call::Isend(mode, e) => put_sent(out, *mode, *e),
-        Call::Recv(e) | Call::Irecv(e) => put_envelope(out, e.envelope()),
+        Call::Local | Call::Finalize | Call::Imrecv | Call::Unread => out.put(&[]),
+        Call::Send(mode, e) | Call::Isend(mode, e) | Call::SendInit(mode, e) => {
+            put_sent(out, *mode, *e)
+        }
+        Call::Recv(e) | Call::Irecv(e) | Call::RecvInit(e) => put_envelope(out, e.envelope()),
         Call::Sendrecv(e) => put_exchange(out, e),
         Call::Wait(request) | Call::Test(request) => put_i64(out, *request),
-        Call::Cancel(request) | Call::Free(request) => put_i64(out, *request),
+        Call::Cancel(request) | Call::Free(request) | Call::Start(request) => {
+            put_i64(out, *request)
+        }
         Call::Waitall(requests)
         | Call::Waitany(requests)
         | Call::Waitsome(requests)
         | Call::Testall(requests)
         | Call::Testany(requests)
-        | Call::Testsome(requests) => put_list(out, requests.as_slice()),
+        | Call::Testsome(requests)
+        | Call::Startall(requests) => put_list(out, requests.as_slice()),
         Call::Collective(call) => put_collective(out, *call),
         Call::Icollective(call) => put_icollective(out, *call),
-        Call::Probe(e) => put_probe(out, *e),
+        Call::Probe(e) | Call::Mprobe(e) | Call::Improbe(e) => put_probe(out, *e),
     }
 }
 
@@ -109,6 +114,13 @@ fn byte_of_call(call: &Call) -> u8
         Call::Cancel(_) => 18,
         Call::Free(_) => 19,
         Call::Unread => 20,
+        Call::SendInit(_, _) => 21,
+        Call::RecvInit(_) => 22,
+        Call::Start(_) => 23,
+        Call::Startall(_) => 24,
+        Call::Mprobe(_) => 25,
+        Call::Improbe(_) => 26,
+        Call::Imrecv => 27,
     }
 }
 

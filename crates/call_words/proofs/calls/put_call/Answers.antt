@@ -1,5 +1,6 @@
 use Rattle.std.proofs.Common.{ℤ, List, ap, codes, length, sym, ◌∙◌}
-use Rattle.call_words.specs.Words.{call_text, of_requests_text}
+use Rattle.mpi_model.specs.declared.envelope.Envelope.{Envelope}
+use Rattle.call_words.specs.Words.{call_text, of_requests_text, receive_text}
 use Rattle.call_words.proofs.Adding.{reads}
 use Rattle.call_words.proofs.calls.put_call.Goals as goal
 
@@ -35,3 +36,18 @@ returns-in-Free c = reads c.put-in-Free.ensures (sym (ap call_text c.in-Free.is)
 
 pub returns-in-Unread : goal.returns-in-Unread
 returns-in-Unread c = reads c.put-in-Unread.ensures (sym (ap call_text c.in-Unread.is))
+
+pub returns-in-Start : goal.returns-in-Start
+returns-in-Start c = reads c.put-in-Start.ensures (sym (ap call_text c.in-Start.is))
+
+pub returns-in-Startall : goal.returns-in-Startall
+returns-in-Startall c = reads c.put_of_requests-in-Startall.ensures (ap (λ (l : List ℤ). of_requests_text (codes "MPI_Startall") (length l)) c.as_slice-in-Startall.ensures ∙ sym (ap call_text c.in-Startall.is))
+
+pub returns-in-Imrecv : goal.returns-in-Imrecv
+returns-in-Imrecv c = reads c.put-in-Imrecv.ensures (sym (ap call_text c.in-Imrecv.is))
+
+pub returns-in-RecvInit : goal.returns-in-RecvInit
+returns-in-RecvInit c = reads c.put_receive-in-RecvInit.ensures (ap (λ (e : Envelope). receive_text (codes "MPI_Recv_init") e) c.envelope-in-RecvInit.ensures.value ∙ sym (ap call_text c.in-RecvInit.is))
+
+pub returns-in-Improbe : goal.returns-in-Improbe
+returns-in-Improbe c = reads c.put_probe-in-Improbe.ensures (sym (ap call_text c.in-Improbe.is))

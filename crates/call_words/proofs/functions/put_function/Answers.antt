@@ -1,4 +1,5 @@
 use Rattle.std.proofs.Common.{ap, codes, sym, ◌∙◌}
+use Rattle.mpi_model.specs.declared.envelope.CommRef.{CommRef}
 use Rattle.mpi_model.specs.declared.envelope.Envelope.{Envelope}
 use Rattle.call_words.specs.Functions.{function_text}
 use Rattle.call_words.specs.Words.{on_text}
@@ -28,3 +29,15 @@ returns-in-Free c = reads c.put-in-Free.ensures (sym (ap function_text c.in-Free
 
 pub returns-in-Unread : goal.returns-in-Unread
 returns-in-Unread c = reads c.put-in-Unread.ensures (sym (ap function_text c.in-Unread.is))
+
+pub returns-in-Startall : goal.returns-in-Startall
+returns-in-Startall c = reads c.put-in-Startall.ensures (sym (ap function_text c.in-Startall.is))
+
+pub returns-in-Imrecv : goal.returns-in-Imrecv
+returns-in-Imrecv c = reads c.put-in-Imrecv.ensures (sym (ap function_text c.in-Imrecv.is))
+
+pub returns-in-RecvInit : goal.returns-in-RecvInit
+returns-in-RecvInit c = reads c.put_on-in-RecvInit.ensures (ap (λ (e : Envelope). on_text (codes "MPI_Recv_init") e.comm) c.envelope-in-RecvInit.ensures.value ∙ sym (ap function_text c.in-RecvInit.is))
+
+pub returns-in-Improbe : goal.returns-in-Improbe
+returns-in-Improbe c = reads c.put_on-in-Improbe.ensures (ap (λ (m : CommRef). on_text (codes "MPI_Improbe") m) c.comm-in-Improbe.ensures.value ∙ sym (ap function_text c.in-Improbe.is))

@@ -7,10 +7,10 @@ use Rattle.trace_pair.proofs.Settling.{adds_taken, adds_free, adds_open, adds_vo
 use Rattle.trace_pair.proofs.batch.add_receive.Goals as goal
 
 pub returns-then-is_open : goal.returns-then-is_open
-returns-then-is_open c = λ ms qs more adds s. adds_open (comes_after c.args.reaches.now) ms qs more c.args.q adds c.args.batch.now c.args.batch.now refl s _ (search rules) c.in_ok-insert.ensures
+returns-then-is_open c = λ ms qs more adds apart s. adds_open (comes_after c.args.reaches.now) ms qs more c.args.q adds apart c.args.batch.now c.args.batch.now refl s _ (search rules) c.in_ok-insert.ensures
 
 pub returns-then-not-is_settled : goal.returns-then-not-is_settled
-returns-then-not-is_settled c = λ ms qs more adds s. adds_void (comes_after c.args.reaches.now) ms qs more c.args.q adds c.args.batch.now c.args.batch.now refl s (search rules) (search rules)
+returns-then-not-is_settled c = λ ms qs more adds apart s. adds_void (comes_after c.args.reaches.now) ms qs more c.args.q adds apart c.args.batch.now c.args.batch.now refl s (search rules) (search rules)
 
 pub take-requires : goal.take-requires
 take-requires c =
@@ -18,11 +18,11 @@ take-requires c =
     subst (λ (b : Batch). c.in-Some.place < length b.messages.messages) (sym c.taken_by.ensures.kept) w
 
 pub returns-in_ok-take-in-Some : goal.returns-in_ok-take-in-Some
-returns-in_ok-take-in-Some c = λ ms qs more adds s.
-    let found = subst (λ (o : Option ℕ). IsTakenAt (comes_after c.args.reaches.now) ms qs c.args.batch.now.messages c.args.q o) c.in-Some.is (c.in_ok-place.ensures.found ms qs s) in
-    adds_taken (comes_after c.args.reaches.now) ms qs more c.args.q adds c.taken_by.new.batch c.args.batch.now c.taken_by.ensures.kept s c.in-Some.place c.taker_of.result c.take.new.self found c.taker_of.ensures c.in_ok-take-in-Some.ensures
+returns-in_ok-take-in-Some c = λ ms qs more adds apart s.
+    let found = subst (λ (o : Option ℕ). IsTakenAt (comes_after c.args.reaches.now) ms qs more c.args.q o) c.in-Some.is (c.in_ok-place.ensures.found ms qs more adds apart s) in
+    adds_taken (comes_after c.args.reaches.now) ms qs more c.args.q adds apart c.taken_by.new.batch c.args.batch.now c.taken_by.ensures.kept s (search rules) c.in-Some.place c.taker_of.result c.take.new.self found c.taker_of.ensures c.in_ok-take-in-Some.ensures
 
 pub returns-in_ok-insert-in-None : goal.returns-in_ok-insert-in-None
-returns-in_ok-insert-in-None c = λ ms qs more adds s.
-    let found = subst (λ (o : Option ℕ). IsTakenAt (comes_after c.args.reaches.now) ms qs c.args.batch.now.messages c.args.q o) c.in-None.is (c.in_ok-place.ensures.found ms qs s) in
-    adds_free (comes_after c.args.reaches.now) ms qs more c.args.q adds c.taken_by.new.batch c.args.batch.now c.taken_by.ensures.kept s _ (search rules) found c.in_ok-insert-in-None.ensures
+returns-in_ok-insert-in-None c = λ ms qs more adds apart s.
+    let found = subst (λ (o : Option ℕ). IsTakenAt (comes_after c.args.reaches.now) ms qs more c.args.q o) c.in-None.is (c.in_ok-place.ensures.found ms qs more adds apart s) in
+    adds_free (comes_after c.args.reaches.now) ms qs more c.args.q adds apart c.taken_by.new.batch c.args.batch.now c.taken_by.ensures.kept s _ (search rules) found c.in_ok-insert-in-None.ensures

@@ -1,18 +1,19 @@
-use Rattle.std.proofs.Common.{[], take, ◌+◌, subst, List, arith}
-use Rattle.std.proofs.lemmas.List.{take_all}
-use Rattle.mpi_model.specs.declared.message.Receive.{Receive}
-use Rattle.trace_pair.specs.After.{comes_after}
+use Rattle.std.proofs.Common.{[], arith, take}
 use Rattle.trace_pair.specs.Calls.{between}
-use Rattle.trace_pair.specs.Settled.{Settles}
-use Rattle.trace_pair.proofs.Posts.{adds_at}
+use Rattle.trace_pair.proofs.Posts.{adds_range}
+use Rattle.trace_pair.proofs.Settling.{first_apart}
 use Rattle.trace_pair.proofs.batch.add_receives.Goals as goal
 
-pub loop-q-preserved : goal.loop-q-preserved
-loop-q-preserved c = λ ms before p s.
-    let i = c.loop-q.q-index in
+pub loop-next-preserved : goal.loop-next-preserved
+loop-next-preserved c =
     let own = c.args.own.now in
-    c.in_ok-add_receive.ensures ms (between before (take i own) []) (between before (take (i + 1) own) []) (adds_at before [] own i _ c.loop-q-test.true p) (c.loop-q.invariant ms before p s)
-
-pub returns : goal.returns
-returns c = λ ms before p s.
-    subst (λ (l : List Receive). Settles (comes_after c.args.reaches.now) ms (between before l []) c.loop-q.batch) (take_all c.loop-q.q-index c.args.own.now (omega arith)) (c.loop-q.invariant ms before p s)
+    let next = c.loop-next.next in
+    let end = c.end_of_receives-end.result in
+    let w = c.loop-next.invariant in
+    let e = c.end_of_receives-end.ensures in
+    record {
+      high = e.bound;
+      whole = e.whole;
+      settled = λ ms before p apart s.
+          c.in_ok-add_call.ensures ms (between before (take next own) []) (between before (take end own) []) (adds_range before [] own next end (omega (arith, e.behind)) p e.one (w.whole p.order)) (first_apart before own end apart) (w.settled ms before p apart s);
+    }

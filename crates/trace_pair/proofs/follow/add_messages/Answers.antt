@@ -4,7 +4,7 @@ use Rattle.mpi_model.specs.declared.message.Message.{Message}
 use Rattle.trace_pair.specs.After.{comes_after}
 use Rattle.trace_pair.specs.Calls.{between}
 use Rattle.trace_pair.specs.Followed.{Indexes}
-use Rattle.trace_pair.proofs.Ranks.{adds_at}
+use Rattle.trace_pair.proofs.ByCall.{adds_at}
 use Rattle.trace_pair.proofs.follow.add_messages.Goals as goal
 
 pub loop-next-preserved : goal.loop-next-preserved

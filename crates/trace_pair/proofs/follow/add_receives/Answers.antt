@@ -4,7 +4,7 @@ use Rattle.mpi_model.specs.declared.message.Receive.{Receive}
 use Rattle.trace_pair.specs.After.{comes_after}
 use Rattle.trace_pair.specs.Calls.{between}
 use Rattle.trace_pair.specs.Followed.{Indexes}
-use Rattle.trace_pair.proofs.Posts.{adds_at}
+use Rattle.trace_pair.proofs.ByCall.{posts_at}
 use Rattle.trace_pair.proofs.follow.add_receives.Goals as goal
 
 pub loop-next-preserved : goal.loop-next-preserved
@@ -14,7 +14,7 @@ loop-next-preserved c =
       high = omega arith;
       state = λ before behind ms s x.
           c.in_ok-add_receive.ensures ms (between before (take i c.args.held.now) behind) (between before (take (i + 1) c.args.held.now) behind)
-          (adds_at before behind c.args.held.now i _ (omega arith) s)
+          (posts_at before behind c.args.held.now i _ (omega arith) s)
           (c.loop-next.invariant.state before behind ms s x);
     }
 

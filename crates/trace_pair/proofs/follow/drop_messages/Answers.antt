@@ -1,7 +1,7 @@
 use Rattle.std.proofs.Common.{◌≡◌, ◌+◌, ◌-◌, ℕ, subst, take, arith}
 use Rattle.trace_pair.specs.Calls.{between}
 use Rattle.trace_pair.specs.Followed.{Indexes}
-use Rattle.trace_pair.proofs.Ranks.{adds_at}
+use Rattle.trace_pair.proofs.ByCall.{adds_at}
 use Rattle.trace_pair.proofs.follow.drop_messages.Goals as goal
 
 pub loop-left-preserved : goal.loop-left-preserved

@@ -1,7 +1,7 @@
 use Rattle.std.proofs.Common.{◌≡◌, ◌+◌, ◌-◌, ℕ, subst, take, arith}
 use Rattle.trace_pair.specs.Calls.{between}
 use Rattle.trace_pair.specs.Followed.{Indexes}
-use Rattle.trace_pair.proofs.Posts.{adds_at}
+use Rattle.trace_pair.proofs.ByCall.{posts_at}
 use Rattle.trace_pair.proofs.follow.drop_receives.Goals as goal
 
 pub loop-left-preserved : goal.loop-left-preserved
@@ -13,7 +13,7 @@ loop-left-preserved c =
       low = omega arith;
       state = λ after before behind ms s x.
           c.in_ok-pop_receive.ensures after ms (between before (take i c.args.held.now) behind) (between before (take (i + 1) c.args.held.now) behind)
-          (adds_at before behind c.args.held.now i _ (omega arith) s)
+          (posts_at before behind c.args.held.now i _ (omega arith) s)
           (subst (λ (k : ℕ). Indexes after ms (between before (take k c.args.held.now) behind) c.loop-left.state) n (c.loop-left.invariant.state after before behind ms s x));
     }
 

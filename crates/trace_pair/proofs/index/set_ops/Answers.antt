@@ -1,41 +1,10 @@
-use Rattle.std.proofs.Common.{◌<◌, ℕ, List, subst, sym, ◌∙◌, get_or}
-use Rattle.trace_ops.specs.Ops.{Ops, no_ops, AreOwn}
-use Rattle.trace_pair.specs.After.{comes_after}
-use Rattle.trace_pair.specs.Followed.{Adds, Drops}
-use Rattle.trace_pair.specs.Fronts.{AreFronts}
-use Rattle.trace_pair.specs.Kept.{IsFollowed}
-use Rattle.trace_pair.specs.Reach.{AreReachesOf, IsReachOf}
-use Rattle.trace_pair.specs.declared.reach.RankReach.{RankReach}
-use Rattle.trace_pair.proofs.Afterwards.{length_zip}
+use Rattle.std.proofs.Common.{List, subst, sym}
+use Rattle.trace_ops.specs.Ops.{Ops, AreOwn}
 use Rattle.trace_pair.proofs.Ranked.{own_moved}
-use Rattle.trace_pair.proofs.Switched.{set_moves}
 use Rattle.trace_pair.proofs.index.set_ops.Goals as goal
 
-pub renew_rank-requires-clause-rank : goal.renew_rank-requires-clause-rank
-renew_rank-requires-clause-rank c =
-    let is = subst (λ (h : List Ops). IsFollowed h c.in_ok-state.state) c.deref.ensures.value c.in_ok-state.ensures in
-    subst (λ (n : ℕ). c.args.rank < n) (length_zip IsReachOf c.args.held.now.items c.in_ok-state.state.table.items is.table) c.requires.rank
-
-pub add_calls-requires-clause-table : goal.add_calls-requires-clause-table
-add_calls-requires-clause-table c =
-    let is = subst (λ (h : List Ops). IsFollowed h c.in_ok-state.state) c.deref.ensures.value c.in_ok-state.ensures in
-    subst (λ (t : List RankReach). AreReachesOf c.deref-3.result.now t) (sym c.deref-4.ensures.value)
-    (subst (λ (l : List Ops). AreReachesOf l c.renew_rank.new.table.items) (sym (c.deref-3.ensures.value ∙ c.put_ops.ensures)) (c.in_ok-renew_rank.ensures c.args.held.now.items is.table))
+pub returns-in_default-clause-own : goal.returns-in_default-clause-own
+returns-in_default-clause-own c = subst (λ (h : List Ops). AreOwn 0 h) (sym c.put_ops.ensures) (own_moved c.args.held.now.items c.args.rank c.args.ops c.requires.held c.requires.own)
 
 pub returns-clause-own : goal.returns-clause-own
-returns-clause-own c = subst (λ (h : List Ops). AreOwn 0 h) (sym c.put_ops.ensures) (own_moved c.args.held.now.items c.args.rank c.args.ops c.requires.held c.requires.own)
-
-pub returns-clause-state : goal.returns-clause-state
-returns-clause-state c =
-    let held = c.args.held.now.items in
-    let n = c.args.rank in
-    let f = c.in_ok-fronts.fronts in
-    let state = c.in_ok-state.state in
-    let is = subst (λ (h : List Ops). IsFollowed h state) c.deref.ensures.value c.in_ok-state.ensures in
-    let fronts = subst (λ (h : List Ops). AreFronts (get_or h n no_ops) c.args.ops f) c.deref-2.ensures.value c.in_ok-fronts.ensures.fronts in
-    let drops = subst (λ (h : List Ops). Drops (get_or h n no_ops) f state.sets c.drop_calls.new.state) c.deref-2.ensures.value c.in_ok-fronts.ensures.state in
-    let adds = subst (λ (h : List Ops). Adds (comes_after h) (get_or h n no_ops) f c.drop_calls.new.state c.add_calls.new.state) c.deref-3.ensures.value c.in_ok-add_calls.ensures in
-    record {
-      sets = set_moves held c.put_ops.new.held.items n c.args.ops f c.requires.held c.requires.own c.requires.rank c.put_ops.ensures fronts state.sets c.drop_calls.new.state c.add_calls.new.state drops adds is.sets;
-      table = subst (λ (l : List Ops). AreReachesOf l c.renew_rank.new.table.items) (sym c.put_ops.ensures) (c.in_ok-renew_rank.ensures held is.table);
-    }
+returns-clause-own c = subst (λ (h : List Ops). AreOwn 0 h) (sym c.in_ok-state-2.ensures.held) (own_moved c.args.held.now.items c.args.rank c.args.ops c.requires.held c.requires.own)

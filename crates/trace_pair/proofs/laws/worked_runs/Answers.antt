@@ -1,4 +1,8 @@
 use Rattle.std.proofs.Common.{refl}
+use Rattle.trace_pair.specs.After.{comes_after}
+use Rattle.trace_pair.specs.Table.{sends_of, receives_of}
+use Rattle.trace_pair.specs.Worked.{probed, given_back}
+use Rattle.trace_pair.proofs.Decided.{legal_by_test}
 use Rattle.trace_pair.specs.Pairing.{obeys, paired_below, paired}
 use Rattle.trace_pair.proofs.laws.worked_runs.Goals as goal
 
@@ -73,3 +77,23 @@ returns-clause-behind_the_end c = refl
 pub returns-clause-not_behind_the_end : goal.returns-clause-not_behind_the_end
 unfolding paired paired_below obeys
 returns-clause-not_behind_the_end c = refl
+
+pub returns-clause-parts_by_tag : goal.returns-clause-parts_by_tag
+unfolding paired paired_below obeys
+returns-clause-parts_by_tag c = (refl, refl)
+
+pub returns-clause-parts_in_any_order : goal.returns-clause-parts_in_any_order
+unfolding paired paired_below obeys
+returns-clause-parts_in_any_order c = (refl, refl)
+
+pub returns-clause-part_behind_part : goal.returns-clause-part_behind_part
+unfolding paired paired_below obeys
+returns-clause-part_behind_part c = (refl, refl)
+
+pub returns-clause-open_part : goal.returns-clause-open_part
+unfolding paired paired_below obeys
+returns-clause-open_part c = refl
+
+pub returns-clause-given_back : goal.returns-clause-given_back
+unfolding paired paired_below obeys
+returns-clause-given_back c = (refl, legal_by_test (comes_after probed) (sends_of probed) (receives_of probed) given_back refl)

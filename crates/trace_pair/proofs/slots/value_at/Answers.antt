@@ -1,5 +1,5 @@
 use Rattle.std.proofs.Common.{sym, ap, subst, ◌∙◌, arith}
-use Rattle.trace_pair.specs.Slots.{Rises, value_in}
+use Rattle.trace_pair.specs.Slots.{Rises, at_of, value_in}
 use Rattle.trace_pair.proofs.Slotted.{value_out, row_rises, row_value}
 use Rattle.trace_pair.proofs.slots.value_at.Goals as goal
 
@@ -11,5 +11,5 @@ get_in-requires g c = subst (λ l. Rises l) (sym c.deref.ensures.value) (row_ris
 
 pub returns : goal.returns
 returns g c =
-    c.get_in.ensures ∙ ap (λ l. value_in l c.args.name.now.call) c.deref.ensures.value
-    ∙ row_value c.args.rows.now.items c.args.name.now.rank c.index.result.now c.index.result.now (omega arith) c.index.ensures c.args.name.now.call
+    c.get_in.ensures ∙ ap (λ x. value_in c.deref.result.now x) c.at_of.ensures ∙ ap (λ l. value_in l (at_of c.args.name.now)) c.deref.ensures.value
+    ∙ row_value c.args.rows.now.items c.args.name.now.rank c.index.result.now c.index.result.now (omega arith) c.index.ensures (at_of c.args.name.now)

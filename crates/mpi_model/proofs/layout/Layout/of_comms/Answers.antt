@@ -17,6 +17,13 @@ returns-in-Some-clause-fault c = λ _.
     let found : comm_fault c.args.ranks c.args.world c.args.comms.items ≡ Some c.in-Some.fault = search rules in
     within c.args.ranks c.args.world c.args.comms.items (omega arith) (omega arith) short ∙ found
 
+pub held_in-requires : goal.held_in-requires
+held_in-requires c =
+    let short : length c.args.comms.items ≤ 65536 = omega arith in
+    let found : comm_fault c.args.ranks c.args.world c.args.comms.items ≡ None = search rules in
+    let order : InOrder c.args.comms.items c.in_ok-comms.comms.items = search rules in
+    rw c.deref-5.ensures.value (layout_known c.args.ranks c.args.world c.args.sends c.args.comms.items c.in_ok-comms.comms.items (omega arith) (omega arith) short found order).groups
+
 pub invariant_of-result : goal.invariant_of-result
 invariant_of-result c =
     let short : length c.args.comms.items ≤ 65536 = omega arith in
@@ -26,6 +33,7 @@ invariant_of-result c =
     let ordered : AreOrdered c.in_ok-names.names.items = search rules in (
       layout_known c.args.ranks c.args.world c.args.sends c.args.comms.items c.in_ok-comms.comms.items (omega arith) (omega arith) short found order,
       names_stay c.args.comms.items c.in_ok-comms.comms.items c.in_ok-names.names.items order.same moved ordered (clear c.args.ranks c.args.world c.args.comms.items found),
+      search rules,
       search rules,
     )
 

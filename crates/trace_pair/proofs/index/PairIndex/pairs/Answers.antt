@@ -10,15 +10,15 @@ returns-clause-table c = c.in_ok-table.ensures ∙ ap table_of (c.deref.ensures.
 
 pub returns-clause-certain : goal.returns-clause-certain
 returns-clause-certain c =
-    let kept = subst (λ (h : List Ops). IsKept h c.self.inside.state) c.self.view_is c.self.invariant in
+    let kept = subst (λ (h : List Ops). IsKept h c.self.inside.following) c.self.view_is c.self.invariant in
     certain_table c.args.self.now _ kept.own (returns-clause-table c)
 
 pub returns-clause-legal : goal.returns-clause-legal
 returns-clause-legal c =
-    let kept = subst (λ (h : List Ops). IsKept h c.self.inside.state) c.self.view_is c.self.invariant in
+    let kept = subst (λ (h : List Ops). IsKept h c.self.inside.following) c.self.view_is c.self.invariant in
     legal_table c.args.self.now _ kept.own (returns-clause-table c)
 
 pub returns-clause-only : goal.returns-clause-only
 returns-clause-only c =
-    let kept = subst (λ (h : List Ops). IsKept h c.self.inside.state) c.self.view_is c.self.invariant in
+    let kept = subst (λ (h : List Ops). IsKept h c.self.inside.following) c.self.view_is c.self.invariant in
     only_table c.args.self.now _ kept.own (returns-clause-table c)

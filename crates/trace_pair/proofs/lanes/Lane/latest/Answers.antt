@@ -1,4 +1,4 @@
-use Rattle.std.proofs.Common.{◌≡◌, ◌∙◌, List, None, ap, arith, false, filter, ltb, subst, sym, take, true}
+use Rattle.std.proofs.Common.{◌≡◌, ◌∙◌, List, None, ap, arith, false, filter, leb, subst, sym, take, true}
 use Rattle.std.specs.BTreeSet.{BTreeSet}
 use Rattle.std.specs.List.Sorted.{IsPartitionPoint}
 use Rattle.mpi_model.specs.declared.message.Receive.{Receive}
@@ -16,8 +16,8 @@ returns c =
     subst (λ (s : BTreeSet Receive). IsLatestOf (filter (is_within c.args.limit) s.keys) c.end_of_front.result) c.self.view_is (elim c.match-limit.branch [
       | in-None w ↦ latest_all c.args.limit steps.items n c.end_of_front.result c.self.invariant w.in-None.is (omega (arith, w.count-is, steps.ok.0)) told
       | in-Some w ↦
-          let point = subst (λ (l : List Step). IsPartitionPoint (λ (s : Step). ltb (call_of s) w.in-Some.call ≡ true) (λ (s : Step). ltb (call_of s) w.in-Some.call ≡ false) l w.called_before-count.result)
-          w.deref.ensures.value w.called_before-count.ensures.parted in
+          let point = subst (λ (l : List Step). IsPartitionPoint (λ (s : Step). leb (call_of s) w.in-Some.call ≡ true) (λ (s : Step). leb (call_of s) w.in-Some.call ≡ false) l w.called_by-count.result)
+          w.deref.ensures.value w.called_by-count.ensures.parted in
           latest_before c.args.limit steps.items w.in-Some.call n c.end_of_front.result c.self.invariant w.in-Some.is
-          (subst (λ k. IsPartitionPoint (λ (s : Step). ltb (call_of s) w.in-Some.call ≡ true) (λ (s : Step). ltb (call_of s) w.in-Some.call ≡ false) steps.items k) (sym w.count-is) point) told
+          (subst (λ k. IsPartitionPoint (λ (s : Step). leb (call_of s) w.in-Some.call ≡ true) (λ (s : Step). leb (call_of s) w.in-Some.call ≡ false) steps.items k) (sym w.count-is) point) told
     ])

@@ -17,8 +17,9 @@ returns-in_default-reach_at-2 c =
 pub is_passed-requires : goal.is_passed-requires
 is_passed-requires c =
     let of = subst (λ (l : List Ops). AreReachesOf l c.self.inside.table.now) c.self.view_is c.self.invariant in
-    rows_rise (get_or c.args.self.now c.args.m.now.from no_ops) c.in-Some-reach_at.sender.now
-    (reach_at c.args.self.now c.self.inside.table.now c.args.m.now.from c.in-Some-reach_at.sender.now of c.in-Some-reach_at.ensures.some)
+    let sender = reach_at c.args.self.now c.self.inside.table.now c.args.m.now.from c.in-Some-reach_at.sender.now of c.in-Some-reach_at.ensures.some in
+    let receiver = reach_at c.args.self.now c.self.inside.table.now c.args.at c.in-Some-reach_at-2.receiver.now of c.in-Some-reach_at-2.ensures.some in
+    record { rows = rows_rise (get_or c.args.self.now c.args.m.now.from no_ops) c.in-Some-reach_at.sender.now sender; comms = receiver.comms_rise }
 
 pub returns : goal.returns
 returns c =

@@ -1,0 +1,196 @@
+//! Which inits hold the request numbers that calls start.
+
+ghost use Rattle.std.specs.Prelude.{◌≡◌, ◌<◌, ◌++◌, ◌∷◌, ◌^◌, ℤ, pos, nat_lt, List, [], None, Some, map, length, reverse, slice_index_or, if◌then◌else◌, IfOk, OnOk};
+ghost use Rattle.std.specs.Ordering.{int_eq};
+ghost use Rattle.std.specs.Option.{option_map};
+ghost use Rattle.indexmap.specs.IndexMap.{get};
+ghost use Rattle.trace_ops.specs.Calls.{Entry};
+ghost use Rattle.trace_ops.specs.Held.{Holds, inits_at, inits_from, plain_init};
+ghost use Rattle.trace_ops.specs.Request.{is_init, is_start, started_by};
+ghost use Rattle.trace_ops.specs.Steps.{as_started, begun_step, part_of};
+
+use crate::called::Called;
+use indexmap::IndexMap;
+use mpi_model::Call;
+use std::alloc::{AllocError, Global};
+
+/// An init that has returned: its call, with its number.
+#[derive(Clone, Copy, Debug)]
+pub(crate) struct Init<'a> {
+    pub number: u64,
+    pub call: &'a Call,
+}
+
+/// By number, the init that holds it.
+pub(crate) type Held<'a> = IndexMap<i64, Init<'a>>;
+
+/// Whether the call describes a send or a receive, and starts nothing.
+pub(crate) fn is_init(call: &Call) -> bool
+    ensures { result ≡ is_init call.now }
+{
+    matches!(call, Call::SendInit(_, _) | Call::RecvInit(_))
+}
+
+/// Whether the call starts what inits describe.
+pub(crate) fn is_start(call: &Call) -> bool
+    ensures { result ≡ is_start call.now }
+{
+    matches!(call, Call::Start(_) | Call::Startall(_))
+}
+
+/// The numbers that a Start or Startall lists.
+pub(crate) fn started_by(call: &Call) -> &[i64]
+    ensures { result.now ≡ started_by call.now }
+{
+    match call {
+        Call::Start(request) => std::slice::from_ref(request),
+        Call::Startall(requests) => requests.as_slice(),
+        _ => &[],
+    }
+}
+
+/// The call as which starts what the init describes.
+pub(crate) fn as_started(init: &Call) -> Call
+    ensures { result ≡ as_started init.now }
+{
+    match init {
+        Call::SendInit(mode, envelope) => Call::Isend(*mode, *envelope),
+        Call::RecvInit(envelope) => Call::Irecv(*envelope),
+        _ => Call::Local,
+    }
+}
+
+/// What holds the number.
+pub(crate) fn init_of<'a>(held: &Held<'a>, x: i64) -> Option<Init<'a>>
+    ensures { result ≡ get int_eq held.now x }
+{
+    held.get(&x).copied()
+}
+
+/// Notes that an init holds the number.
+fn note_init<'a>(held: &mut Held<'a>, x: i64, init: Init<'a>) -> Result<(), AllocError>
+    ensures { OnOk result ((y : ℤ) → get int_eq held.new y ≡ (if int_eq x y then Some init.entry else get int_eq held.old y)) }
+{
+    held.insert(x, init)?;
+    Ok(())
+}
+
+/// Notes that no init holds the number.
+fn note_none(held: &mut Held<'_>, x: i64)
+    ensures { (y : ℤ) → get int_eq held.new y ≡ (if int_eq x y then None else get int_eq held.old y) }
+{
+    let _init = held.swap_remove(&x);
+}
+
+/// Goes one call on: the init holds its number, and a number that is given or freed otherwise is held no longer.
+fn hold<'a>(held: &mut Held<'a>, n: u64, called: &'a Called<'_>) -> Result<(), AllocError>
+    ensures { OnOk result ((before : List Entry) → length before ≡ n → Holds before (get int_eq held.old) → Holds (called.now ∷ before) (get int_eq held.new)) }
+{
+    match (called.given(), called.freed()) {
+        (Some(request), _) => {
+            if is_init(called.call()) {
+                let init = Init {
+                    number: n,
+                    call: called.call(),
+                };
+                note_init(held, request, init)?;
+            } else {
+                note_none(held, request);
+            }
+        }
+        (None, Some(request)) => note_none(held, request),
+        (None, None) => {}
+    }
+    Ok(())
+}
+
+/// Adds what holds each of the numbers.
+fn push_held<'a>(
+    inits: &mut Vec<Option<Init<'a>>>,
+    held: &Held<'a>,
+    requests: &[i64],
+) -> Result<(), AllocError>
+    ensures { OnOk result (inits.new.items ≡ inits.old.items ++ map (get int_eq held.now) requests.now) }
+{
+    for request in requests {
+        inits.push(init_of(held, *request))?;
+    }
+    Ok(())
+}
+
+/// A part of a Start or Startall: its place, the number that it starts, and the init that holds it.
+#[derive(Clone, Copy, Debug)]
+pub(crate) struct Part<'a> {
+    pub part: u32,
+    pub request: i64,
+    pub init: Init<'a>,
+}
+
+/// The number of the part at a place of a list, which an `int` counts.
+fn part_at(place: usize) -> Option<u32>
+    ensures { result ≡ (if nat_lt place (2 ^ 31) then Some place else None) }
+{
+    if place < 1 << 31 {
+        Some(place as u32)
+    } else {
+        None
+    }
+}
+
+/// The init at a place, where one is there.
+fn init_at<'a>(inits: &[Option<Init<'a>>], place: usize) -> Option<Init<'a>>
+    ensures { place < length inits.now → result ≡ slice_index_or inits.now place None }
+{
+    match inits.get(place) {
+        Some(init) => *init,
+        None => None,
+    }
+}
+
+/// The part at a place, where an init holds the number there.
+pub(crate) fn begun_at<'a>(
+    inits: &[Option<Init<'a>>],
+    requests: &[i64],
+    place: usize,
+) -> Option<Part<'a>>
+    requires { place < length requests.now }
+    ensures { (before : List Entry) (c : Entry) → requests.now ≡ started_by c.call → map (option_map plain_init) inits.now ≡ inits_at before c → option_map (begun_step (length before) c) result ≡ part_of before c place (slice_index_or requests.now place (pos 0)) }
+{
+    let part = part_at(place)?;
+    let init = init_at(inits, place)?;
+    Some(Part {
+        part,
+        request: requests[place],
+        init,
+    })
+}
+
+/// What holds the numbers that a rank's Starts and Startalls list, and what holds numbers at the end.
+#[derive(Drop)]
+pub(crate) struct Holding<'a> {
+    /// Of each number that a Start or Startall lists, in their order, what held it before the call.
+    pub inits: Vec<Option<Init<'a>>>,
+    /// What holds a number after all calls.
+    pub held: Held<'a>,
+}
+
+/// What holds the numbers that the calls list. They are gone through once, from the first to the last; it takes memory
+/// for the numbers that are held and for those that are listed.
+pub(crate) fn holding_of<'a>(
+    alloc: Global,
+    calls: &'a [Called<'_>],
+) -> Result<Holding<'a>, AllocError>
+    ensures listed { IfOk result (λ h. map (option_map plain_init) h.inits.items ≡ inits_from [] calls.now) }
+    ensures held { IfOk result (λ h. Holds (reverse calls.now) (get int_eq h.held)) }
+{
+    let mut inits = Vec::new(alloc);
+    let mut held = Held::new(alloc);
+    let mut n = 0;
+    while n < calls.len() {
+        let called = &calls[n];
+        push_held(&mut inits, &held, started_by(called.call()))?;
+        hold(&mut held, n as u64, called)?;
+        n += 1;
+    }
+    Ok(Holding { inits, held })
+}

@@ -1,0 +1,18 @@
+use Rattle.std.proofs.Common.{ℕ, Option, subst}
+use Rattle.trace_pair.specs.Settled.{IsOfferedAt}
+use Rattle.trace_pair.proofs.SettlingParts.{settles_none, settles_left, settles_taken}
+use Rattle.trace_pair.proofs.batch.settle_receive.Goals as goal
+
+pub returns-in_default-clause-settled : goal.returns-in_default-clause-settled
+returns-in_default-clause-settled c = λ after ms qs more call done adds i offered next s.
+    settles_none after ms qs more call adds c.args.q.now i done next c.args.batch.now s (subst (λ (o : Option ℕ). IsOfferedAt after ms qs more c.args.q.now o) c.in_default.is offered)
+
+pub returns-in_ok-insert-in-Some-first_for-clause-settled : goal.returns-in_ok-insert-in-Some-first_for-clause-settled
+returns-in_ok-insert-in-Some-first_for-clause-settled c = λ after ms qs more call done adds i offered next s.
+    settles_left after ms qs more call adds c.args.q.now i done next c.args.batch.now s c.in-Some.place (subst (λ (o : Option ℕ). IsOfferedAt after ms qs more c.args.q.now o) c.in-Some.is offered) c.messages.result.now _ c.messages.ensures
+    c.remove.new.self c.insert.new.self c.remove.ensures c.in_ok-insert-in-Some-first_for.ensures c.in-Some-first_for.field-0 c.in-Some-first_for.ensures.some
+
+pub returns-in_ok-take-in-None-clause-settled : goal.returns-in_ok-take-in-None-clause-settled
+returns-in_ok-take-in-None-clause-settled c = λ after ms qs more call done adds i offered next s.
+    settles_taken after ms qs more call adds c.args.q.now i done next c.args.batch.now s c.in-Some.place (subst (λ (o : Option ℕ). IsOfferedAt after ms qs more c.args.q.now o) c.in-Some.is offered) c.messages.result.now _ c.messages.ensures
+    c.remove.new.self c.remove.ensures c.in-None.ensures.none c.taker_of.result c.take.new.self c.taker_of.ensures c.in_ok-take-in-None.ensures

@@ -1,9 +1,0 @@
-use Rattle.trace_pair.specs.After.{comes_after}
-use Rattle.trace_pair.proofs.Hiding.{none_before, some_before}
-use Rattle.trace_pair.proofs.opened.Opened.hides_before.Goals as goal
-
-pub returns-then-m-q-clause-yes : goal.returns-then-m-q-clause-yes
-returns-then-m-q-clause-yes c = λ h. some_before (comes_after c.args.reaches.now) c.args.self.now c.args.m.now c.args.q.now c.if-m-q.true (c.hides_within.ensures.yes h)
-
-pub returns-then-m-q-clause-no : goal.returns-then-m-q-clause-no
-returns-then-m-q-clause-no c = λ h. none_before (comes_after c.args.reaches.now) c.args.self.now c.args.m.now c.args.q.now (c.hides_within.ensures.no h)
