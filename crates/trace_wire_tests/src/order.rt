@@ -464,8 +464,9 @@ fn wanted_of_one(position: usize, value: u8) -> &'static str {
         (34..=38, _) => "ok",
         (39, 1) => "W8 Rest",
         (39, _) => "W7 Content",
-        // Its event: of MPI_Local and of an unread call no field follows either, of each other kind one does; times up to the latest.
-        (40, 0 | 20) => "ok",
+        // Its event: of MPI_Local, an unread call and an Imrecv no field follows either, of each other kind one does; times up to the
+        // latest.
+        (40, 0 | 20 | 27) => "ok",
         (40, _) => "W7 Content",
         (41, 0x8B..=0xFF) => "W7 Content",
         (49, 0x8B..=0xFF) => "W7 Content",
@@ -504,8 +505,9 @@ fn wanted_of_two(position: usize, value: u8) -> &'static str {
         (43..=46, _) => "W7 Content",
         (47, 1) => "W8 Rest",
         (47, _) => "W7 Content",
-        // Its event: of MPI_Local and of an unread call no field follows either, of each other kind one does; times up to the latest.
-        (48, 0 | 20) => "ok",
+        // Its event: of MPI_Local, an unread call and an Imrecv no field follows either, of each other kind one does; times up to the
+        // latest.
+        (48, 0 | 20 | 27) => "ok",
         (48, _) => "W7 Content",
         (49, 0x8B..=0xFF) => "W7 Content",
         (57, 0x8B..=0xFF) => "W7 Content",
