@@ -30,7 +30,7 @@
 //! - [`index`]: the index
 //! - [`laws`]: what makes the rules easy to believe, as contracts of calls that do nothing
 //!
-//! Its tests are the runs of `tests/runs.txt`, and `crates/matching_tests/src/steps.rt`.
+//! Its tests are the runs of `tests/runs.txt`.
 #![tactic(auto)]
 
 mod batch;

@@ -27,7 +27,7 @@
 //! - [`release`]: the order of release; [`verdict`]: that order, and who is left
 //! - [`check`]: both checks; [`laws`]: what holds whatever the program does
 //!
-//! Its tests are in the crate `matching_tests`, and runs that hang in `tests/runs.txt`.
+//! Its tests are the runs that hang in `tests/runs.txt`.
 #![tactic(auto)]
 
 mod askers;
