@@ -21,7 +21,7 @@ use std::marker::Model;
 
 /// What the calls of a text say of communicators and groups. It is given the calls in their order, each once: as the sink
 /// of a walk over the text, or by [`read`](CommCalls::read).
-#[derive(Debug, Drop)]
+#[derive(Drop)]
 pub struct CommCalls {
     alloc: Global,
     place: u64,

@@ -5,7 +5,7 @@ ghost use Rattle.std.specs.Str.{bytes_eq};
 ghost use Rattle.comm_calls.specs.Functions.{function_named, giver_named, grid_named, group_named, maker_named, other_group_named, single_named};
 
 /// A function that makes communicators of the members of another (MPI 4.0, 7.4.2 and 8.5).
-#[derive(Clone, Copy, Debug, PartialEq, Eq)]
+#[derive(Clone, Copy)]
 pub(crate) enum Maker {
     Dup,
     DupWithInfo,
@@ -22,7 +22,7 @@ pub(crate) enum Maker {
 }
 
 /// A function that gives a group (MPI 4.0, 7.3.2).
-#[derive(Clone, Copy, Debug, PartialEq, Eq)]
+#[derive(Clone, Copy)]
 pub(crate) enum Grouper {
     OfComm,
     Incl,
@@ -39,7 +39,7 @@ pub(crate) enum Grouper {
 }
 
 /// By which parameter a function gives a communicator from which nothing is derived.
-#[derive(Clone, Copy, Debug, PartialEq, Eq)]
+#[derive(Clone, Copy)]
 pub(crate) enum Giver {
     /// `newcomm`.
     NewComm,
@@ -54,7 +54,7 @@ pub(crate) enum Giver {
 }
 
 /// A function whose calls are read.
-#[derive(Clone, Copy, Debug, PartialEq, Eq)]
+#[derive(Clone, Copy)]
 pub(crate) enum Function {
     Make(Maker),
     /// MPI_Comm_rank.

@@ -77,7 +77,7 @@ fn longer(uses: &mut Vec<Uses>, at: usize, place: u64)
 }
 
 /// The groups of calls that name one number, in the order of their first calls.
-#[derive(Debug, Drop)]
+#[derive(Drop)]
 pub(crate) struct NumberUses {
     pub groups: Vec<Uses>,
     /// The group of each number that goes on.

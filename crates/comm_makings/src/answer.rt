@@ -3,7 +3,7 @@
 use mpi_model::Comm;
 
 /// The communicators that the calls of all ranks make.
-#[derive(Debug, Drop)]
+#[derive(Drop)]
 pub struct Derived {
     /// The number of MPI_COMM_WORLD, 2 where no rank tells it.
     pub world: u32,
@@ -14,7 +14,7 @@ pub struct Derived {
 }
 
 /// A communicator that a call of a rank gave, and from which nothing is derived: its number stays foreign.
-#[derive(Clone, Copy, Debug, PartialEq, Eq)]
+#[derive(Clone, Copy)]
 pub struct LeftOut {
     pub rank: u32,
     /// The call that gave it.
@@ -28,7 +28,7 @@ pub struct LeftOut {
 }
 
 /// The function that gave a communicator.
-#[derive(Clone, Copy, Debug, PartialEq, Eq)]
+#[derive(Clone, Copy, PartialEq, Eq)]
 pub enum MadeBy {
     Dup,
     DupWithInfo,
@@ -47,7 +47,7 @@ pub enum MadeBy {
 }
 
 /// Why a communicator is left out.
-#[derive(Clone, Copy, Debug, PartialEq, Eq)]
+#[derive(Clone, Copy)]
 pub enum Why {
     /// Nothing is derived from calls of its function.
     Function,
@@ -67,7 +67,7 @@ pub enum Why {
 }
 
 /// Why nothing is derived.
-#[derive(Clone, Copy, Debug, PartialEq, Eq)]
+#[derive(Clone, Copy)]
 pub enum DeriveFault {
     Memory,
     /// Two ranks tell different numbers of MPI_COMM_WORLD.

@@ -1,7 +1,7 @@
 //! What the calls of a rank say of communicators and groups.
 
 /// What the calls of a rank say of its communicators and groups.
-#[derive(Debug, Drop)]
+#[derive(Drop)]
 pub struct RankCalls {
     /// The number of MPI_COMM_WORLD, where some call of the rank says it.
     pub world: Option<u32>,
@@ -16,7 +16,7 @@ pub struct RankCalls {
 }
 
 /// Calls of the profile that name a number, between two calls of the rank that give or free that number.
-#[derive(Clone, Copy, Debug, PartialEq, Eq)]
+#[derive(Clone, Copy)]
 pub struct Uses {
     pub number: u32,
     /// The first call that names it.
@@ -28,7 +28,7 @@ pub struct Uses {
 }
 
 /// One call on communicators or groups.
-#[derive(Debug, Drop)]
+#[derive(Drop)]
 pub struct CommCall {
     /// Its place among all calls of the rank, from 0. The places rise along a rank's list.
     pub call: u64,
@@ -38,7 +38,7 @@ pub struct CommCall {
 }
 
 /// What a call does. A value is `None` where the text lacks it or it can't be read.
-#[derive(Debug, Drop)]
+#[derive(Drop)]
 pub enum Action {
     /// A call that makes communicators of the members of another (MPI 4.0, 7.4.2 and 8.5).
     Make {
@@ -67,7 +67,7 @@ pub enum Action {
 }
 
 /// The calls that make communicators of a parent, with their parameters.
-#[derive(Debug, Drop)]
+#[derive(Drop)]
 pub enum Making {
     Dup,
     DupWithInfo,
@@ -106,14 +106,14 @@ pub enum Making {
 }
 
 /// The color of a split (MPI 4.0, 7.4.2): MPI_UNDEFINED, as each negative one counts, makes nothing.
-#[derive(Clone, Copy, Debug, PartialEq, Eq)]
+#[derive(Clone, Copy)]
 pub enum Color {
     Undefined,
     Number(u32),
 }
 
 /// The communicator that a call gives.
-#[derive(Clone, Copy, Debug, PartialEq, Eq)]
+#[derive(Clone, Copy)]
 pub enum Given {
     /// MPI_COMM_NULL.
     Null,
@@ -122,7 +122,7 @@ pub enum Given {
 }
 
 /// A group by the name that a call has for it.
-#[derive(Clone, Copy, Debug, PartialEq, Eq)]
+#[derive(Clone, Copy)]
 pub enum GroupName {
     /// MPI_GROUP_EMPTY.
     Empty,
@@ -131,7 +131,7 @@ pub enum GroupName {
 }
 
 /// The calls that give groups. A list of ranks is `None` also where one of them is negative.
-#[derive(Debug, Drop)]
+#[derive(Drop)]
 pub enum GroupCall {
     /// MPI_Comm_group.
     OfComm {
@@ -170,7 +170,7 @@ pub enum GroupCall {
 }
 
 /// A range of ranks: `first`, `first + stride` and so on, not beyond `last` (MPI 4.0, 7.3.2).
-#[derive(Clone, Copy, Debug, PartialEq, Eq)]
+#[derive(Clone, Copy)]
 pub struct RankRange {
     pub first: i32,
     pub last: i32,

@@ -15,7 +15,7 @@ use std::fmt;
 use text_layouts::MadeFault;
 
 /// What is said of a fault of texts by what was found out of its file.
-#[derive(Clone, Copy, Debug)]
+#[derive(Clone, Copy)]
 struct InitAdvice<'a> {
     fault: &'a InitFault,
     found: &'a Found,

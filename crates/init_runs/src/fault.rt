@@ -13,7 +13,7 @@ use text_layouts::MadeFault;
 
 /// Why nothing is made of the texts of all ranks, or why what was made isn't kept. Each names its files as the words
 /// spell them.
-#[derive(Debug, Drop)]
+#[derive(Drop)]
 pub enum InitFault {
     Memory,
     /// A text can't be opened or read, or it is refused as `report` refuses it.

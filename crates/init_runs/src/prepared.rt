@@ -14,7 +14,7 @@ use std::alloc::{AllocError, Global};
 use text_layouts::{Made, Order, made_of, order_of, put_notes};
 
 /// A layout and a manifest that were made of texts.
-#[derive(Debug, Drop)]
+#[derive(Drop)]
 pub struct Prepared {
     pub made: Made,
     /// What was found in the texts, and what is left out, for a person.

@@ -13,7 +13,7 @@ use std::alloc::{AllocError, Global};
 use text_layouts::rank_calls_of;
 
 /// What the texts of all ranks say.
-#[derive(Debug, Drop)]
+#[derive(Drop)]
 pub struct AllCalls {
     /// What each rank's text says of communicators.
     pub ranks: Vec<RankCalls>,

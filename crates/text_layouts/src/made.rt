@@ -18,7 +18,7 @@ use std::alloc::{AllocError, Global};
 pub const LONGEST_FILE: usize = 16_777_216;
 
 /// What is made of the texts of all ranks.
-#[derive(Debug, Drop)]
+#[derive(Drop)]
 pub struct Made {
     /// The communicators, and what is left out.
     pub derived: Derived,

@@ -6,7 +6,7 @@ ghost use Rattle.text_layouts.specs.Names.{IsByDigits, IsOrder, LacksRank, again
 use std::alloc::{AllocError, Global};
 
 /// Which text is of which rank.
-#[derive(Debug, Drop)]
+#[derive(Drop)]
 pub enum Order {
     /// The names don't tell: the order of the words.
     Words,
@@ -17,7 +17,7 @@ pub enum Order {
 }
 
 /// The digits at the end of some bytes, and before the extension that they have.
-#[derive(Clone, Copy, Debug)]
+#[derive(Clone, Copy)]
 pub(crate) struct Ends {
     pub run: Option<u64>,
     pub stem: Option<u64>,
