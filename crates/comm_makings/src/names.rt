@@ -1,6 +1,6 @@
 //! What the numbers in a rank's calls mean.
 
-ghost use Rattle.std.specs.Prelude.{◌≡◌, ◌++◌, ◌∷◌, [], ℕ, IfOk, OnOk, Some, false, length, nat_eq};
+ghost use Rattle.std.specs.Prelude.{◌≡◌, ◌++◌, ◌∷◌, [], ℕ, IfOk, OnOk, Some, cond, false, length, nat_eq};
 ghost use Rattle.std.specs.Option.{option_and_then};
 ghost use Rattle.indexmap.specs.IndexMap.{get};
 ghost use Rattle.comm_makings.specs.Naming.{after_given, comm_of_group, first_handles, first_naming, first_of_group, group_after, group_given, group_of_making, handles_of, meant_from, meant_in, meant_of, naming_after, naming_from, naming_of, second_of_group};
@@ -158,7 +158,26 @@ impl Names {
         Ok(place)
     }
 
-    /// What a call gives. The number may have named another communicator: in the call itself it still does.
+    /// A new handle from a call that gives this number. The number may have named another communicator: in the call itself it
+    /// still does.
+    fn give_number(&mut self, number: u32, call: u64) -> Result<Gives, AllocError>
+        ensures gives { IfOk result (λ g. g ≡ cond (is_taken self.old.world self.old.own number) (gives.Taken (length self.old.handles.items)) (gives.Handle (length self.old.handles.items))) }
+        ensures names { OnOk result ((m : ℕ) → get nat_eq self.new.comms m ≡ name_after (is_taken self.old.world self.old.own) (Some number) (length self.old.handles.items) (get nat_eq self.old.comms) m) }
+        ensures handles { OnOk result (self.new.handles.items ≡ handles_after (is_taken self.old.world self.old.own) (Some number) call (get nat_eq self.old.comms) self.old.handles.items) }
+        ensures groups { self.new.groups ≡ self.old.groups }
+        ensures world { self.new.world ≡ self.old.world }
+        ensures own { self.new.own ≡ self.old.own }
+    {
+        if self.is_taken(number) {
+            return Ok(Gives::Taken(self.add(number, call)?));
+        }
+        self.end(number, call.saturating_add(1));
+        let handle = self.add(number, call)?;
+        self.comms.insert(number, handle)?;
+        Ok(Gives::Handle(handle))
+    }
+
+    /// What a call gives.
     fn give(&mut self, call: &CommCall, given: Given) -> Result<Gives, AllocError>
         ensures gives { IfOk result (λ g. g ≡ gives_of (is_taken self.old.world self.old.own) call.now.returned given (length self.old.handles.items)) }
         ensures names { OnOk result ((m : ℕ) → get nat_eq self.new.comms m ≡ name_after (is_taken self.old.world self.old.own) (number_given call.now.returned given) (length self.old.handles.items) (get nat_eq self.old.comms) m) }
@@ -173,15 +192,7 @@ impl Names {
         match given {
             Given::Null => Ok(Gives::Null),
             Given::Unknown => Ok(Gives::Unknown),
-            Given::Number(number) => {
-                if self.is_taken(number) {
-                    return Ok(Gives::Taken(self.add(number, call.call)?));
-                }
-                self.end(number, call.call.saturating_add(1));
-                let handle = self.add(number, call.call)?;
-                self.comms.insert(number, handle)?;
-                Ok(Gives::Handle(handle))
-            },
+            Given::Number(number) => self.give_number(number, call.call),
         }
     }
 

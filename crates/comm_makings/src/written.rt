@@ -1,6 +1,8 @@
 //! The communicators as a layout has them: which are written, their ids, and by which numbers their members name them.
 
 ghost use Rattle.std.specs.Prelude.{◌≡◌, All, IfOk, IfSome, map};
+ghost use Rattle.std.specs.List.{slice_get};
+ghost use Rattle.std.specs.Option.{option_and_then};
 ghost use Rattle.comm_makings.specs.Written.{AreWrittenOf, IsNamedOnly, IsWorld, IsWritten, IsWrittenOf, entry_of, handle_at, is_only, only_number, stretch_of};
 
 use crate::handle::Handle;
@@ -27,15 +29,19 @@ fn handle_at(views: &[RankView], rank: u32, handle: usize) -> Option<Handle>
     views.get(rank as usize)?.handles.get(handle).copied()
 }
 
+/// Whether the number of a handle names nothing else of the rank, where there is such a handle.
+fn only_at(uses: &[HandleUses], rank: u32, handle: usize) -> Option<bool>
+    ensures { result ≡ option_and_then (λ u. slice_get u.only.items handle) (slice_get uses.now rank) }
+{
+    uses.get(rank as usize)?.only.get(handle).copied()
+}
+
 /// Whether its number names nothing else of the rank.
 fn is_only(uses: &[HandleUses], rank: u32, handle: usize) -> bool
     ensures { result ≡ is_only uses.now rank handle }
 {
-    match uses.get(rank as usize) {
-        Some(uses) => match uses.only.get(handle) {
-            Some(only) => *only,
-            None => false,
-        },
+    match only_at(uses, rank, handle) {
+        Some(only) => only,
         None => false,
     }
 }
