@@ -5,6 +5,8 @@ pub mod GroupByGroup
 pub mod NumberByNumber
 pub mod Missing
 pub mod Tolds
+pub mod Named
+pub mod Elements
 pub mod InPlace
 pub mod NextCall
 pub mod Failing

@@ -28,10 +28,10 @@ use mpi_model::{Call, Exit, Stamp};
 /// }
 ///
 /// impl SentTo {
-///     fn add(&mut self, call: &Call)
-///         ensures { self.new ≡ record { rank = self.old.rank; elements = elements_after self.old.rank self.old.elements call.now } }
+///     fn add(&mut self, call: Call)
+///         ensures { self.new ≡ record { rank = self.old.rank; elements = elements_after self.old.rank self.old.elements call } }
 ///     {
-///         let sent = match call {
+///         let sent = match &call {
 ///             Call::Send(_, envelope) | Call::Isend(_, envelope) => envelope.envelope(),
 ///             Call::Sendrecv(exchange) => exchange.send(),
 ///             _ => return,
@@ -51,7 +51,7 @@ use mpi_model::{Call, Exit, Stamp};
 ///     ghost step = { λ sink seen. record { rank = sink.rank; elements = elements_after sink.rank sink.elements seen.call } };
 ///
 ///     fn on_send(&mut self, call: Call, _enter: Stamp, _exit: Option<Exit>) -> Result<(), Infallible> {
-///         self.add(&call);
+///         self.add(call);
 ///         Ok(())
 ///     }
 ///

@@ -82,275 +82,309 @@ impl CallSink for Tally {
 
     ghost step = { λ t seen. tallied t seen.callback };
 
-    fn on_send(
-        &mut self,
-        _call: Call,
-        _enter: Stamp,
-        _exit: Option<Exit>,
-    ) -> Result<(), Infallible> {
+    fn on_send(&mut self, call: Call, _enter: Stamp, exit: Option<Exit>) -> Result<(), Infallible> {
         self.on_send = self.on_send.saturating_add(1);
+        drop(call);
+        drop(exit);
         Ok(())
     }
 
     fn on_isend(
         &mut self,
-        _call: Call,
+        call: Call,
         _enter: Stamp,
-        _exit: Option<Exit>,
+        exit: Option<Exit>,
     ) -> Result<(), Infallible> {
         self.on_isend = self.on_isend.saturating_add(1);
+        drop(call);
+        drop(exit);
         Ok(())
     }
 
-    fn on_recv(
-        &mut self,
-        _call: Call,
-        _enter: Stamp,
-        _exit: Option<Exit>,
-    ) -> Result<(), Infallible> {
+    fn on_recv(&mut self, call: Call, _enter: Stamp, exit: Option<Exit>) -> Result<(), Infallible> {
         self.on_recv = self.on_recv.saturating_add(1);
+        drop(call);
+        drop(exit);
         Ok(())
     }
 
     fn on_irecv(
         &mut self,
-        _call: Call,
+        call: Call,
         _enter: Stamp,
-        _exit: Option<Exit>,
+        exit: Option<Exit>,
     ) -> Result<(), Infallible> {
         self.on_irecv = self.on_irecv.saturating_add(1);
+        drop(call);
+        drop(exit);
         Ok(())
     }
 
     fn on_sendrecv(
         &mut self,
-        _call: Call,
+        call: Call,
         _enter: Stamp,
-        _exit: Option<Exit>,
+        exit: Option<Exit>,
     ) -> Result<(), Infallible> {
         self.on_sendrecv = self.on_sendrecv.saturating_add(1);
+        drop(call);
+        drop(exit);
         Ok(())
     }
 
     fn on_probe(
         &mut self,
-        _call: Call,
+        call: Call,
         _enter: Stamp,
-        _exit: Option<Exit>,
+        exit: Option<Exit>,
     ) -> Result<(), Infallible> {
         self.on_probe = self.on_probe.saturating_add(1);
+        drop(call);
+        drop(exit);
         Ok(())
     }
 
-    fn on_wait(
-        &mut self,
-        _call: Call,
-        _enter: Stamp,
-        _exit: Option<Exit>,
-    ) -> Result<(), Infallible> {
+    fn on_wait(&mut self, call: Call, _enter: Stamp, exit: Option<Exit>) -> Result<(), Infallible> {
         self.on_wait = self.on_wait.saturating_add(1);
+        drop(call);
+        drop(exit);
         Ok(())
     }
 
     fn on_waitall(
         &mut self,
-        _call: Call,
+        call: Call,
         _enter: Stamp,
-        _exit: Option<Exit>,
+        exit: Option<Exit>,
     ) -> Result<(), Infallible> {
         self.on_waitall = self.on_waitall.saturating_add(1);
+        drop(call);
+        drop(exit);
         Ok(())
     }
 
     fn on_waitany(
         &mut self,
-        _call: Call,
+        call: Call,
         _enter: Stamp,
-        _exit: Option<Exit>,
+        exit: Option<Exit>,
     ) -> Result<(), Infallible> {
         self.on_waitany = self.on_waitany.saturating_add(1);
+        drop(call);
+        drop(exit);
         Ok(())
     }
 
     fn on_waitsome(
         &mut self,
-        _call: Call,
+        call: Call,
         _enter: Stamp,
-        _exit: Option<Exit>,
+        exit: Option<Exit>,
     ) -> Result<(), Infallible> {
         self.on_waitsome = self.on_waitsome.saturating_add(1);
+        drop(call);
+        drop(exit);
         Ok(())
     }
 
-    fn on_test(
-        &mut self,
-        _call: Call,
-        _enter: Stamp,
-        _exit: Option<Exit>,
-    ) -> Result<(), Infallible> {
+    fn on_test(&mut self, call: Call, _enter: Stamp, exit: Option<Exit>) -> Result<(), Infallible> {
         self.on_test = self.on_test.saturating_add(1);
+        drop(call);
+        drop(exit);
         Ok(())
     }
 
     fn on_testall(
         &mut self,
-        _call: Call,
+        call: Call,
         _enter: Stamp,
-        _exit: Option<Exit>,
+        exit: Option<Exit>,
     ) -> Result<(), Infallible> {
         self.on_testall = self.on_testall.saturating_add(1);
+        drop(call);
+        drop(exit);
         Ok(())
     }
 
     fn on_testany(
         &mut self,
-        _call: Call,
+        call: Call,
         _enter: Stamp,
-        _exit: Option<Exit>,
+        exit: Option<Exit>,
     ) -> Result<(), Infallible> {
         self.on_testany = self.on_testany.saturating_add(1);
+        drop(call);
+        drop(exit);
         Ok(())
     }
 
     fn on_testsome(
         &mut self,
-        _call: Call,
+        call: Call,
         _enter: Stamp,
-        _exit: Option<Exit>,
+        exit: Option<Exit>,
     ) -> Result<(), Infallible> {
         self.on_testsome = self.on_testsome.saturating_add(1);
+        drop(call);
+        drop(exit);
         Ok(())
     }
 
     fn on_cancel(
         &mut self,
-        _call: Call,
+        call: Call,
         _enter: Stamp,
-        _exit: Option<Exit>,
+        exit: Option<Exit>,
     ) -> Result<(), Infallible> {
         self.on_cancel = self.on_cancel.saturating_add(1);
+        drop(call);
+        drop(exit);
         Ok(())
     }
 
     fn on_request_free(
         &mut self,
-        _call: Call,
+        call: Call,
         _enter: Stamp,
-        _exit: Option<Exit>,
+        exit: Option<Exit>,
     ) -> Result<(), Infallible> {
         self.on_request_free = self.on_request_free.saturating_add(1);
+        drop(call);
+        drop(exit);
         Ok(())
     }
 
     fn on_collective(
         &mut self,
-        _call: Call,
+        call: Call,
         _enter: Stamp,
-        _exit: Option<Exit>,
+        exit: Option<Exit>,
     ) -> Result<(), Infallible> {
         self.on_collective = self.on_collective.saturating_add(1);
+        drop(call);
+        drop(exit);
         Ok(())
     }
 
     fn on_icollective(
         &mut self,
-        _call: Call,
+        call: Call,
         _enter: Stamp,
-        _exit: Option<Exit>,
+        exit: Option<Exit>,
     ) -> Result<(), Infallible> {
         self.on_icollective = self.on_icollective.saturating_add(1);
+        drop(call);
+        drop(exit);
         Ok(())
     }
 
     fn on_send_init(
         &mut self,
-        _call: Call,
+        call: Call,
         _enter: Stamp,
-        _exit: Option<Exit>,
+        exit: Option<Exit>,
     ) -> Result<(), Infallible> {
         self.on_send_init = self.on_send_init.saturating_add(1);
+        drop(call);
+        drop(exit);
         Ok(())
     }
 
     fn on_recv_init(
         &mut self,
-        _call: Call,
+        call: Call,
         _enter: Stamp,
-        _exit: Option<Exit>,
+        exit: Option<Exit>,
     ) -> Result<(), Infallible> {
         self.on_recv_init = self.on_recv_init.saturating_add(1);
+        drop(call);
+        drop(exit);
         Ok(())
     }
 
     fn on_start(
         &mut self,
-        _call: Call,
+        call: Call,
         _enter: Stamp,
-        _exit: Option<Exit>,
+        exit: Option<Exit>,
     ) -> Result<(), Infallible> {
         self.on_start = self.on_start.saturating_add(1);
+        drop(call);
+        drop(exit);
         Ok(())
     }
 
     fn on_startall(
         &mut self,
-        _call: Call,
+        call: Call,
         _enter: Stamp,
-        _exit: Option<Exit>,
+        exit: Option<Exit>,
     ) -> Result<(), Infallible> {
         self.on_startall = self.on_startall.saturating_add(1);
+        drop(call);
+        drop(exit);
         Ok(())
     }
 
     fn on_mprobe(
         &mut self,
-        _call: Call,
+        call: Call,
         _enter: Stamp,
-        _exit: Option<Exit>,
+        exit: Option<Exit>,
     ) -> Result<(), Infallible> {
         self.on_mprobe = self.on_mprobe.saturating_add(1);
+        drop(call);
+        drop(exit);
         Ok(())
     }
 
     fn on_improbe(
         &mut self,
-        _call: Call,
+        call: Call,
         _enter: Stamp,
-        _exit: Option<Exit>,
+        exit: Option<Exit>,
     ) -> Result<(), Infallible> {
         self.on_improbe = self.on_improbe.saturating_add(1);
+        drop(call);
+        drop(exit);
         Ok(())
     }
 
     fn on_imrecv(
         &mut self,
-        _call: Call,
+        call: Call,
         _enter: Stamp,
-        _exit: Option<Exit>,
+        exit: Option<Exit>,
     ) -> Result<(), Infallible> {
         self.on_imrecv = self.on_imrecv.saturating_add(1);
+        drop(call);
+        drop(exit);
         Ok(())
     }
 
     fn on_unread(
         &mut self,
         _name: &[u8],
-        _call: Call,
+        call: Call,
         _enter: Stamp,
-        _exit: Option<Exit>,
+        exit: Option<Exit>,
     ) -> Result<(), Infallible> {
         self.on_unread = self.on_unread.saturating_add(1);
+        drop(call);
+        drop(exit);
         Ok(())
     }
 
     fn on_other(
         &mut self,
         _name: &[u8],
-        _call: Call,
+        call: Call,
         _enter: Stamp,
-        _exit: Option<Exit>,
+        exit: Option<Exit>,
     ) -> Result<(), Infallible> {
         self.on_other = self.on_other.saturating_add(1);
+        drop(call);
+        drop(exit);
         Ok(())
     }
 }
