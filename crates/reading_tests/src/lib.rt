@@ -1,5 +1,5 @@
-//! Tests of `mpi_model`, `dumpi_text`, `dumpi_calls`, `trace_know` and `layout_files`: of what no contract of
-//! theirs says and no run of the program shows.
+//! Tests of `mpi_model`, `dumpi_text`, `dumpi_calls` and `trace_know`: of what no contract of theirs says and
+//! no run of the program shows.
 //!
 //! What a text says to a user stands in `tests/texts.txt`, as rows that `tests/run_texts` gives to
 //! the built program. docs/gate.md says what makes a test cheap to prove. A failure names its row.
@@ -11,24 +11,18 @@
 //! | `times`, `values` | why a text is no time, and how values are kept |
 //! | `failing` | a reader that fails in the midst of a text |
 //! | `sinks`, `walks` | a sink of one's own, one that refuses, one that counts |
-//! | `events` | the numbers -1 and -2 in calls that are collected |
+//! | `events` | a call after one that has not returned |
 //! | `pieces`, `ways` | pieces that are taken, joined and copied in every way |
-//! | `cells` | cells that are put one by one |
-//! | `refused` | takes and joins where memory is refused |
-//! | `files` | layouts and manifests that are written, byte for byte, and what `input_files` reads of them |
+//! | `refused` | a text where memory is refused |
 //! | `printed` | what faults and envelopes print |
 #![tactic(auto)]
 
-#[cfg(test)]
-mod cells;
 #[cfg(test)]
 mod devices;
 #[cfg(test)]
 mod events;
 #[cfg(test)]
 mod failing;
-#[cfg(test)]
-mod files;
 #[cfg(test)]
 mod memory;
 #[cfg(test)]

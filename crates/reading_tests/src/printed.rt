@@ -2,8 +2,18 @@
 
 use dumpi_text::{LineFault, TextCause, TextFault, TimeFault};
 use mpi_model::{CommRef, Envelope, LayoutFault, Peer, ReceiveEnvelope};
+use std::alloc::Global;
+use std::fmt::Display;
 use std::test::Fail;
 use trace_know::SegmentFault;
+
+/// Whether a value is printed so.
+fn is_printed<T: Display>(alloc: Global, value: &T, want: &str) -> bool {
+    match format!(in alloc; "{value}") {
+        Ok(text) => text.as_str() == want,
+        Err(_) => false,
+    }
+}
 
 static LAYOUTS: [(LayoutFault, &str); 8] = [
     (LayoutFault::RankCount, "L1 RankCount"),
@@ -17,12 +27,10 @@ static LAYOUTS: [(LayoutFault, &str); 8] = [
 ];
 
 #[test]
-fn faults_of_layouts(rt: HostRuntime) -> Result<(), Fail> {
+fn faults_of_layouts(rt: HostRuntime) {
     for (fault, want) in LAYOUTS {
-        let text = format!(in rt.alloc(); "{fault}")?;
-        assert!(rt; text.as_str() == want, "{text}");
+        assert!(rt; is_printed(rt.alloc(), &fault, want), "{want}");
     }
-    Ok(())
 }
 
 static LINES: [(LineFault, &str); 9] = [
@@ -38,16 +46,14 @@ static LINES: [(LineFault, &str); 9] = [
 ];
 
 #[test]
-fn faults_of_lines(rt: HostRuntime) -> Result<(), Fail> {
+fn faults_of_lines(rt: HostRuntime) {
     for (fault, want) in LINES {
         let fault = TextFault::At {
             line: 3,
             cause: TextCause::Line(fault),
         };
-        let text = format!(in rt.alloc(); "{fault}")?;
-        assert!(rt; text.as_str() == want, "{text}");
+        assert!(rt; is_printed(rt.alloc(), &fault, want), "{want}");
     }
-    Ok(())
 }
 
 static TEXTS: [(TextFault, &str); 3] = [
@@ -63,12 +69,10 @@ static TEXTS: [(TextFault, &str); 3] = [
 ];
 
 #[test]
-fn faults_of_texts(rt: HostRuntime) -> Result<(), Fail> {
+fn faults_of_texts(rt: HostRuntime) {
     for (fault, want) in TEXTS {
-        let text = format!(in rt.alloc(); "{fault}")?;
-        assert!(rt; text.as_str() == want, "{text}");
+        assert!(rt; is_printed(rt.alloc(), &fault, want), "{want}");
     }
-    Ok(())
 }
 
 static TIMES: [(TimeFault, &str); 3] = [
@@ -78,12 +82,10 @@ static TIMES: [(TimeFault, &str); 3] = [
 ];
 
 #[test]
-fn faults_of_times(rt: HostRuntime) -> Result<(), Fail> {
+fn faults_of_times(rt: HostRuntime) {
     for (fault, want) in TIMES {
-        let text = format!(in rt.alloc(); "{fault}")?;
-        assert!(rt; text.as_str() == want, "{text}");
+        assert!(rt; is_printed(rt.alloc(), &fault, want), "{want}");
     }
-    Ok(())
 }
 
 static SEGMENTS: [(SegmentFault, &str); 4] = [
@@ -94,12 +96,10 @@ static SEGMENTS: [(SegmentFault, &str); 4] = [
 ];
 
 #[test]
-fn faults_of_segments(rt: HostRuntime) -> Result<(), Fail> {
+fn faults_of_segments(rt: HostRuntime) {
     for (fault, want) in SEGMENTS {
-        let text = format!(in rt.alloc(); "{fault}")?;
-        assert!(rt; text.as_str() == want, "{text}");
+        assert!(rt; is_printed(rt.alloc(), &fault, want), "{want}");
     }
-    Ok(())
 }
 
 #[test]

@@ -45,8 +45,8 @@ fn elements_after(rank: u32, elements: u64, call: &Call) -> u64
 
 impl SentTo {
     /// Adds what a call sends, unless too many came.
-    fn add(&mut self, call: &Call) -> Result<(), Full>
-        ensures ok { OnOk result (self.new ≡ record { rank = self.old.rank; elements = elements_after self.old.rank self.old.elements call.now; calls_left = self.old.calls_left - 1; asked = self.old.asked }) }
+    fn add(&mut self, call: Call) -> Result<(), Full>
+        ensures ok { OnOk result (self.new ≡ record { rank = self.old.rank; elements = elements_after self.old.rank self.old.elements call; calls_left = self.old.calls_left - 1; asked = self.old.asked }) }
         ensures err { OnErr result (self.new ≡ self.old) }
     {
         self.asked.set(self.asked.get().saturating_add(1));
@@ -54,7 +54,7 @@ impl SentTo {
             return Err(Full);
         }
         self.calls_left -= 1;
-        self.elements = elements_after(self.rank, self.elements, call);
+        self.elements = elements_after(self.rank, self.elements, &call);
         Ok(())
     }
 }
@@ -68,63 +68,63 @@ impl CallSink for SentTo {
     ghost step = { λ sink seen. record { rank = sink.rank; elements = elements_after sink.rank sink.elements seen.call; calls_left = sink.calls_left - 1; asked = sink.asked } };
 
     fn on_send(&mut self, call: Call, _enter: Stamp, _exit: Option<Exit>) -> Result<(), Full> {
-        self.add(&call)
+        self.add(call)
     }
 
     fn on_isend(&mut self, call: Call, _enter: Stamp, _exit: Option<Exit>) -> Result<(), Full> {
-        self.add(&call)
+        self.add(call)
     }
 
     fn on_recv(&mut self, call: Call, _enter: Stamp, _exit: Option<Exit>) -> Result<(), Full> {
-        self.add(&call)
+        self.add(call)
     }
 
     fn on_irecv(&mut self, call: Call, _enter: Stamp, _exit: Option<Exit>) -> Result<(), Full> {
-        self.add(&call)
+        self.add(call)
     }
 
     fn on_sendrecv(&mut self, call: Call, _enter: Stamp, _exit: Option<Exit>) -> Result<(), Full> {
-        self.add(&call)
+        self.add(call)
     }
 
     fn on_probe(&mut self, call: Call, _enter: Stamp, _exit: Option<Exit>) -> Result<(), Full> {
-        self.add(&call)
+        self.add(call)
     }
 
     fn on_wait(&mut self, call: Call, _enter: Stamp, _exit: Option<Exit>) -> Result<(), Full> {
-        self.add(&call)
+        self.add(call)
     }
 
     fn on_waitall(&mut self, call: Call, _enter: Stamp, _exit: Option<Exit>) -> Result<(), Full> {
-        self.add(&call)
+        self.add(call)
     }
 
     fn on_waitany(&mut self, call: Call, _enter: Stamp, _exit: Option<Exit>) -> Result<(), Full> {
-        self.add(&call)
+        self.add(call)
     }
 
     fn on_waitsome(&mut self, call: Call, _enter: Stamp, _exit: Option<Exit>) -> Result<(), Full> {
-        self.add(&call)
+        self.add(call)
     }
 
     fn on_test(&mut self, call: Call, _enter: Stamp, _exit: Option<Exit>) -> Result<(), Full> {
-        self.add(&call)
+        self.add(call)
     }
 
     fn on_testall(&mut self, call: Call, _enter: Stamp, _exit: Option<Exit>) -> Result<(), Full> {
-        self.add(&call)
+        self.add(call)
     }
 
     fn on_testany(&mut self, call: Call, _enter: Stamp, _exit: Option<Exit>) -> Result<(), Full> {
-        self.add(&call)
+        self.add(call)
     }
 
     fn on_testsome(&mut self, call: Call, _enter: Stamp, _exit: Option<Exit>) -> Result<(), Full> {
-        self.add(&call)
+        self.add(call)
     }
 
     fn on_cancel(&mut self, call: Call, _enter: Stamp, _exit: Option<Exit>) -> Result<(), Full> {
-        self.add(&call)
+        self.add(call)
     }
 
     fn on_request_free(
@@ -133,7 +133,7 @@ impl CallSink for SentTo {
         _enter: Stamp,
         _exit: Option<Exit>,
     ) -> Result<(), Full> {
-        self.add(&call)
+        self.add(call)
     }
 
     fn on_collective(
@@ -142,7 +142,7 @@ impl CallSink for SentTo {
         _enter: Stamp,
         _exit: Option<Exit>,
     ) -> Result<(), Full> {
-        self.add(&call)
+        self.add(call)
     }
 
     fn on_icollective(
@@ -151,35 +151,35 @@ impl CallSink for SentTo {
         _enter: Stamp,
         _exit: Option<Exit>,
     ) -> Result<(), Full> {
-        self.add(&call)
+        self.add(call)
     }
 
     fn on_send_init(&mut self, call: Call, _enter: Stamp, _exit: Option<Exit>) -> Result<(), Full> {
-        self.add(&call)
+        self.add(call)
     }
 
     fn on_recv_init(&mut self, call: Call, _enter: Stamp, _exit: Option<Exit>) -> Result<(), Full> {
-        self.add(&call)
+        self.add(call)
     }
 
     fn on_start(&mut self, call: Call, _enter: Stamp, _exit: Option<Exit>) -> Result<(), Full> {
-        self.add(&call)
+        self.add(call)
     }
 
     fn on_startall(&mut self, call: Call, _enter: Stamp, _exit: Option<Exit>) -> Result<(), Full> {
-        self.add(&call)
+        self.add(call)
     }
 
     fn on_mprobe(&mut self, call: Call, _enter: Stamp, _exit: Option<Exit>) -> Result<(), Full> {
-        self.add(&call)
+        self.add(call)
     }
 
     fn on_improbe(&mut self, call: Call, _enter: Stamp, _exit: Option<Exit>) -> Result<(), Full> {
-        self.add(&call)
+        self.add(call)
     }
 
     fn on_imrecv(&mut self, call: Call, _enter: Stamp, _exit: Option<Exit>) -> Result<(), Full> {
-        self.add(&call)
+        self.add(call)
     }
 
     fn on_unread(
@@ -189,7 +189,7 @@ impl CallSink for SentTo {
         _enter: Stamp,
         _exit: Option<Exit>,
     ) -> Result<(), Full> {
-        self.add(&call)
+        self.add(call)
     }
 
     fn on_other(
@@ -199,6 +199,6 @@ impl CallSink for SentTo {
         _enter: Stamp,
         _exit: Option<Exit>,
     ) -> Result<(), Full> {
-        self.add(&call)
+        self.add(call)
     }
 }

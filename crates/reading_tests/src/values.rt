@@ -1,98 +1,129 @@
 //! How values are kept: the kinds, words and names that no parameter of the profile asks for.
 
-use dumpi_text::{Field, Num, NumName, Value, parse_value};
+use dumpi_text::{Field, Group, Num, NumName, Value, ValueFault, parse_value};
 use std::alloc::Global;
-use std::fmt::Write;
-use std::test::Fail;
-
-/// Texts, and what they say.
-static VALUES: [(&str, &str); 16] = [
-    ("2 (MPI_COMM_WORLD)", "2 world"),
-    ("2 ( MPI_COMM_WORLD)", "2"),
-    ("[4 (MPI_ANY_TAG)] (x)", "4 any tag"),
-    ("[4] (MPI_ANY_TAG)", "4"),
-    ("{4}", "numbers 4"),
-    ("[0] {}", "numbers"),
-    (
-        "{4 (MPI_ANY_TAG), [5 (MPI_PROC_NULL)]}",
-        "numbers 4 any tag 5 null",
-    ),
-    ("1 (MPI_REQUEST_NULL)", "1 no request"),
-    ("-3 (MPI_ROOT)", "-3 root"),
-    ("-3 (MPI_ROOTS)", "-3"),
-    ("{a=1}", "groups {a=1;}"),
-    (
-        "{source=3 (MPI_ANY_SOURCE), tag = -1}",
-        "groups {source=3 any source;tag=-1;}",
-    ),
-    ("[2] {{a=3}, {b_9=0}}", "groups {a=3;} {b_9=0;}"),
-    ("{12 = 3}(x)", "groups {12=3;}"),
-    ("{{}}", "X4 BadValue"),
-    ("{4, {a=1}}", "X4 BadValue"),
-];
-
-/// The name of a number, in words.
-fn name_of(name: NumName) -> &'static str {
-    match name {
-        NumName::AnySource => " any source",
-        NumName::AnyTag => " any tag",
-        NumName::ProcNull => " null",
-        NumName::Root => " root",
-        NumName::CommWorld => " world",
-        NumName::RequestNull => " no request",
-        NumName::Other => "",
-    }
-}
 
 /// A number and its name.
-fn put_number(told: &mut String, number: &Num) -> Result<(), Fail> {
-    let name = name_of(number.name);
-    write!(told, "{}{name}", number.value)?;
-    Ok(())
+type Named = (i64, NumName);
+
+/// A field's word, and its number.
+type Worded = (&'static str, Named);
+
+/// What a text says.
+enum Said {
+    Number(Named),
+    Numbers(&'static [Named]),
+    Groups(&'static [&'static [Worded]]),
+    /// X4 BadValue.
+    Bad,
 }
 
-/// The fields of a group, each with its word.
-fn put_fields(told: &mut String, fields: &[Field]) -> Result<(), Fail> {
-    told.push_str(" {")?;
-    for field in fields {
-        let word = std::str::from_utf8(field.word.as_slice())?;
-        write!(told, "{word}=")?;
-        put_number(told, &field.number)?;
-        told.push_str(";")?;
+/// Texts, and what they say.
+static VALUES: [(&str, Said); 16] = [
+    ("2 (MPI_COMM_WORLD)", Said::Number((2, NumName::CommWorld))),
+    ("2 ( MPI_COMM_WORLD)", Said::Number((2, NumName::Other))),
+    ("[4 (MPI_ANY_TAG)] (x)", Said::Number((4, NumName::AnyTag))),
+    ("[4] (MPI_ANY_TAG)", Said::Number((4, NumName::Other))),
+    ("{4}", Said::Numbers(&[(4, NumName::Other)])),
+    ("[0] {}", Said::Numbers(&[])),
+    (
+        "{4 (MPI_ANY_TAG), [5 (MPI_PROC_NULL)]}",
+        Said::Numbers(&[(4, NumName::AnyTag), (5, NumName::ProcNull)]),
+    ),
+    (
+        "1 (MPI_REQUEST_NULL)",
+        Said::Number((1, NumName::RequestNull)),
+    ),
+    ("-3 (MPI_ROOT)", Said::Number((-3, NumName::Root))),
+    ("-3 (MPI_ROOTS)", Said::Number((-3, NumName::Other))),
+    ("{a=1}", Said::Groups(&[&[("a", (1, NumName::Other))]])),
+    (
+        "{source=3 (MPI_ANY_SOURCE), tag = -1}",
+        Said::Groups(&[&[
+            ("source", (3, NumName::AnySource)),
+            ("tag", (-1, NumName::Other)),
+        ]]),
+    ),
+    (
+        "[2] {{a=3}, {b_9=0}}",
+        Said::Groups(&[
+            &[("a", (3, NumName::Other))],
+            &[("b_9", (0, NumName::Other))],
+        ]),
+    ),
+    (
+        "{12 = 3}(x)",
+        Said::Groups(&[&[("12", (3, NumName::Other))]]),
+    ),
+    ("{{}}", Said::Bad),
+    ("{4, {a=1}}", Said::Bad),
+];
+
+fn is_number(found: &Num, wanted: &Named) -> bool {
+    found.value == wanted.0 && found.name == wanted.1
+}
+
+fn are_numbers(found: &[Num], wanted: &[Named]) -> bool {
+    if found.len() != wanted.len() {
+        return false;
     }
-    told.push_str("}")?;
-    Ok(())
+    for (at, number) in found.iter().enumerate() {
+        if !is_number(number, &wanted[at]) {
+            return false;
+        }
+    }
+    true
 }
 
-/// What a value says: a number, numbers or groups; or X4.
-fn told_value(alloc: Global, text: &str) -> Result<String, Fail> {
-    let mut told = String::new(alloc);
+fn is_field(found: &Field, wanted: &Worded) -> bool {
+    found.word.as_slice() == wanted.0.as_bytes() && is_number(&found.number, &wanted.1)
+}
+
+fn are_fields(found: &[Field], wanted: &[Worded]) -> bool {
+    if found.len() != wanted.len() {
+        return false;
+    }
+    for (at, field) in found.iter().enumerate() {
+        if !is_field(field, &wanted[at]) {
+            return false;
+        }
+    }
+    true
+}
+
+fn are_groups(found: &[Group], wanted: &[&[Worded]]) -> bool {
+    if found.len() != wanted.len() {
+        return false;
+    }
+    for (at, group) in found.iter().enumerate() {
+        if !are_fields(group.as_slice(), wanted[at]) {
+            return false;
+        }
+    }
+    true
+}
+
+/// Whether a value is what a text has to say.
+fn is_said(found: &Value, wanted: &Said) -> bool {
+    match (found, wanted) {
+        (Value::Number(number), Said::Number(wanted)) => is_number(number, wanted),
+        (Value::Numbers(numbers), Said::Numbers(wanted)) => are_numbers(numbers.as_slice(), wanted),
+        (Value::Groups(groups), Said::Groups(wanted)) => are_groups(groups.as_slice(), wanted),
+        _ => false,
+    }
+}
+
+/// Whether a text says this.
+fn says(alloc: Global, text: &str, wanted: &Said) -> bool {
     match parse_value(alloc, text.as_bytes()) {
-        Ok(Value::Number(number)) => put_number(&mut told, &number)?,
-        Ok(Value::Numbers(numbers)) => {
-            told.push_str("numbers")?;
-            for number in numbers.as_slice() {
-                told.push_str(" ")?;
-                put_number(&mut told, number)?;
-            }
-        }
-        Ok(Value::Groups(groups)) => {
-            told.push_str("groups")?;
-            for group in groups.as_slice() {
-                put_fields(&mut told, group.as_slice())?;
-            }
-        }
-        Err(fault) => write!(told, "{fault}")?,
+        Ok(found) => is_said(&found, wanted),
+        Err(fault) => fault == ValueFault::BadValue && matches!(wanted, Said::Bad),
     }
-    Ok(told)
 }
 
 #[test]
-fn values_keep_their_kind_words_and_names(rt: HostRuntime) -> Result<(), Fail> {
-    for row in &VALUES {
-        let (text, want) = *row;
-        let found = told_value(rt.alloc(), text)?;
-        assert!(rt; found.as_str() == want, "{text}: {found}");
+fn values_keep_their_kind_words_and_names(rt: HostRuntime) {
+    for (text, wanted) in &VALUES {
+        assert!(rt; says(rt.alloc(), text, wanted), "{text}");
     }
-    Ok(())
 }
