@@ -59,35 +59,3 @@ fn two_nodes_with_a_piece_each(rt: HostRuntime) {
     let is_so = meet(&rt, rt.alloc(), &layout);
     assert!(rt; is_so);
 }
-
-/// The worked frame of docs/formats.md in version 1: two contents of place 0 of rank 0, and of rank 1 the Enter of
-/// `MPI_Finalize` there.
-const FIRST: &[u8] =
-    b"MPTX\0\x01\0\0\0\x2F\0\0\0\x02\0\0\0\0\0\0\0\0\0\0\0\0\x01\0\0\0\x01\0\0\0\0\0\0\0\0\0\x01\0\0\0\0\0\0\0\x01\0\0\0\0\0\0\0\x02";
-
-/// The same in version 2.
-const SECOND: &[u8] =
-    b"MPTX\0\x02\0\0\0\x37\0\0\0\x02\0\0\0\0\0\0\0\0\0\0\0\0\0\0\0\x01\x01\0\0\0\x01\0\0\0\0\0\0\0\0\0\0\0\x01\0\x01\0\0\0\0\0\0\0\x01\0\0\0\0\0\0\0\x02";
-
-/// What a node that knew nothing sends back that is given this frame, and what it reports then.
-fn told<R: Abort>(rt: &R, alloc: Global, layout: &Layout, given: &[u8]) -> (Vec<u8>, Vec<u8>) {
-    let mut node = node_of(rt, alloc, layout, &[]);
-    let answered = followed(rt, alloc, &mut node, given);
-    let report = report_of(rt, alloc, &node);
-    drop(node);
-    (answered, report)
-}
-
-/// Whether both versions tell a node the same, and it sends back version 2.
-fn both_tell<R: Abort>(rt: &R, alloc: Global, layout: &Layout) -> bool {
-    let (one, first) = told(rt, alloc, layout, FIRST);
-    let (two, second) = told(rt, alloc, layout, SECOND);
-    one.as_slice() == SECOND && two.as_slice() == SECOND && first.as_slice() == second.as_slice()
-}
-
-#[test]
-fn a_frame_of_either_version(rt: HostRuntime) {
-    let layout = layout(&rt, rt.alloc());
-    let is_so = both_tell(&rt, rt.alloc(), &layout);
-    assert!(rt; is_so);
-}

@@ -9,14 +9,11 @@
 //! | File | Tests |
 //! |---|---|
 //! | `fixture` | pieces of two ranks, nodes that took them, their frames and reports |
-//! | `node` | `trace_node` and `trace_report`: reports of nodes and of their copies, and pieces that are held |
-//! | `exchange`, `socket` | the exchange of `trace_cluster`: both sides in memory (`pipe`), and over a socket of this machine |
-//! | `world` | `trace_world`: a node that is refreshed after a schedule |
-//! | `storm` | `trace_world`, `trace_node`: 2,000 steps over four nodes and eight ranks, beside new nodes and the rules |
+//! | `node` | `trace_node` and `trace_report`: reports of nodes and of their copies |
+//! | `exchange` | the exchange of `trace_cluster`: both sides in memory (`pipe`) |
 //! | `board` | the board of `trace_crew`: what is published is shown, beside threads that ask too, and one who has seen more is told so |
-//! | `crew`, `gates` | `trace_crew`: what it leaves, and, by gates, that its threads run at the same time |
+//! | `crew`, `gates` | `trace_crew`: what it leaves, and that its threads run at the same time |
 //! | `refused` | nodes, worlds and crews that go on after a request for memory was refused |
-//! | `deadlocks` | `trace_explain`: the hearts of small deadlocks, and of a large one |
 //! | `unplugged` | `trace_cluster`: a network that gives no port or no connection |
 //!
 //! What the program's verbs do, `replay` and `cluster` among them, is data in `tests/cases/`.
@@ -26,8 +23,6 @@
 mod board;
 #[cfg(test)]
 mod crew;
-#[cfg(test)]
-mod deadlocks;
 #[cfg(test)]
 mod exchange;
 #[cfg(test)]
@@ -41,10 +36,4 @@ mod pipe;
 #[cfg(test)]
 mod refused;
 #[cfg(test)]
-mod socket;
-#[cfg(test)]
-mod storm;
-#[cfg(test)]
 mod unplugged;
-#[cfg(test)]
-mod world;

@@ -1,10 +1,9 @@
 //! Nodes that were told of pieces: what they report, and so do their copies, their answers' copies, and they
-//! themselves once they are refreshed; and pieces that are held, in several orders.
+//! themselves once they are refreshed.
 
-use crate::fixture::{Does, PIECES, PINGPONG, Piece, layout, node_of, report_of, segment};
+use crate::fixture::{Does, PIECES, PINGPONG, Piece, layout, node_of, report_of};
 use std::alloc::Global;
 use std::process::Abort;
-use trace_know::ReadySegment;
 use trace_node::Node;
 use trace_report::report_text;
 
@@ -116,52 +115,5 @@ fn nodes_that_were_told_of_pieces(rt: HostRuntime) {
             let report = reported(&rt, rt.alloc(), pieces, *by);
             assert!(rt; report.as_slice() == *wanted, "{name}: {whose}");
         }
-    }
-}
-
-/// Whether the node takes the piece: every second one is made ready and moved to it, and the others are
-/// copied.
-fn is_held<R: Abort>(rt: &R, alloc: Global, node: &mut Node, place: usize) -> bool {
-    let piece = DISAGREEING.get(place).expect(rt, "a piece");
-    let segment = segment(rt, alloc, piece);
-    if place % 2 == 0 {
-        node.hold(&segment).is_ok()
-    } else {
-        let ready = ReadySegment::new(alloc, segment).expect(rt, "memory");
-        node.hold_ready(ready).is_ok()
-    }
-}
-
-/// Whether the node holds the four pieces in this order, each of which it prepares for, and has no answer
-/// before it catches up: after the first piece, wherever that stands, and at the end.
-fn holds<R: Abort>(rt: &R, alloc: Global, node: &mut Node, order: &str) -> bool {
-    let mut is_so = true;
-    for name in order.bytes() {
-        let place = usize::from(name.wrapping_sub(b'0'));
-        is_so = is_held(rt, alloc, node, place) && node.answer().is_err() && is_so;
-        node.prepare().expect(rt, "memory");
-        if place == 0 {
-            node.catch_up().expect(rt, "memory");
-        }
-    }
-    node.catch_up().expect(rt, "memory");
-    is_so
-}
-
-/// Whether the four pieces are held in this order, and what is reported of them then.
-fn held<R: Abort>(rt: &R, alloc: Global, order: &str) -> (bool, Vec<u8>) {
-    let layout = layout(rt, alloc);
-    let mut node = node_of(rt, alloc, &layout, &[]);
-    let is_held = holds(rt, alloc, &mut node, order);
-    let report = report_of(rt, alloc, &node);
-    drop(node);
-    (is_held, report)
-}
-
-#[test]
-fn pieces_are_held_in_several_orders(rt: HostRuntime) {
-    for order in ["0123", "1302", "2031", "3210"] {
-        let (is_held, report) = held(&rt, rt.alloc(), order);
-        assert!(rt; is_held && report.as_slice() == DISAGREED, "{order}");
     }
 }
