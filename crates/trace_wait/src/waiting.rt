@@ -99,6 +99,23 @@ fn condition_of(
     }
 }
 
+/// The condition of each rank of a run.
+fn conditions_in(
+    alloc: Global,
+    run: &Overview,
+    ops: &[RankOps],
+) -> Result<Vec<Option<Condition>>, AllocError>
+    requires few { length ops.now < 2 ^ 32 }
+    requires own { AreOwn 0 ops.now }
+    ensures { IfOk result (λ v. map (option_map shape) v.items ≡ conditions_from run.now 0 ops.now) }
+{
+    let mut out = Vec::new(alloc);
+    for (r, o) in ops.iter().enumerate() {
+        out.push(condition_of(alloc, run, r as u32, o)?)?;
+    }
+    Ok(out)
+}
+
 /// The condition of each rank, none where it isn't waiting.
 ///
 /// The ops of rank r stand at place r; the pairs and the rounds are those of these ops.
@@ -134,9 +151,5 @@ pub fn conditions(
         calls: &calls,
         groups: &groups,
     };
-    let mut out = Vec::new(alloc);
-    for (r, o) in ops.iter().enumerate() {
-        out.push(condition_of(alloc, &run, r as u32, o)?)?;
-    }
-    Ok(out)
+    conditions_in(alloc, &run, ops)
 }

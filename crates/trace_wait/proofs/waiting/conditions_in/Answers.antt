@@ -4,15 +4,13 @@ use Rattle.trace_ops.specs.Order.{AreCalledInOrder, AreInOrder, ArePosted}
 use Rattle.trace_wait.proofs.Searches.{own_at}
 use Rattle.std.specs.Option.{option_map}
 use Rattle.trace_stuck.specs.Shape.{shape}
-use Rattle.trace_wait.specs.Parts.{Run}
 use Rattle.trace_wait.proofs.Steps.{conditions_step}
-use Rattle.trace_wait.proofs.waiting.conditions.Goals as goal
+use Rattle.trace_wait.proofs.waiting.conditions_in.Goals as goal
 
 pub loop-r-preserved : goal.loop-r-preserved
 loop-r-preserved c =
-    let s : Run = record { layout = c.args.layout.now; ops = c.args.ops.now; pairs = c.args.pairs.now.pairs; rounds = c.args.rounds.now } in
     ap (map (option_map shape)) c.in_ok-push.ensures.items
-    ∙ conditions_step s c.args.ops.now c.loop-r.r c.index-ops-r.result c.loop-r.out.items c.in_ok-condition_of.field-0 c.loop-r-test.true c.index-ops-r.is c.loop-r.invariant c.in_ok-condition_of.ensures
+    ∙ conditions_step c.args.run.now c.args.ops.now c.loop-r.r c.index-ops-r.result c.loop-r.out.items c.in_ok-condition_of.field-0 c.loop-r-test.true c.index-ops-r.is c.loop-r.invariant c.in_ok-condition_of.ensures
 
 pub condition_of-requires-clause-sends : goal.condition_of-requires-clause-sends
 condition_of-requires-clause-sends c =
