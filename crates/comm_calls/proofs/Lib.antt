@@ -9,3 +9,4 @@ pub mod Longer
 pub mod UsesMore
 pub mod Changed
 pub mod InTurn
+pub mod Firsts
