@@ -91,6 +91,15 @@ impl Offers {
         }
     }
 
+    /// The groups that were given.
+    fn into_groups(self) -> Vec<Offer>
+        ensures { result.items ≡ self.groups.items }
+    {
+        let Offers { groups, by_rank } = self;
+        drop(by_rank);
+        groups
+    }
+
     /// Notes whose group each of these ranks is in; `false` where one is in another.
     fn take(&mut self, ranks: &[u32], group: usize) -> Result<bool, AllocError>
         ensures { self.new.groups ≡ self.old.groups }
@@ -240,10 +249,16 @@ fn offers_in(
     ensures { IfOk result (λ found. IfSome found (λ offers. AreWanted values.now comms.now all.now offers.items)) }
 {
     let mut offers = Offers::new(alloc);
-    if offers.add_all(alloc, values, comms, all)? {
-        Ok(Some(offers.groups))
-    } else {
-        Ok(None)
+    match offers.add_all(alloc, values, comms, all) {
+        Ok(true) => Ok(Some(offers.into_groups())),
+        Ok(false) => {
+            drop(offers);
+            Ok(None)
+        },
+        Err(fault) => {
+            drop(offers);
+            Err(fault)
+        },
     }
 }
 

@@ -1,6 +1,6 @@
 //! What the numbers in a rank's calls mean.
 
-ghost use Rattle.std.specs.Prelude.{◌≡◌, ◌++◌, ◌∷◌, [], ℕ, IfOk, OnOk, Some, cond, false, length, nat_eq};
+ghost use Rattle.std.specs.Prelude.{◌≡◌, ◌++◌, ◌∷◌, [], ℕ, IfOk, None, OnOk, Some, cond, false, length, nat_eq};
 ghost use Rattle.std.specs.Option.{option_and_then};
 ghost use Rattle.indexmap.specs.IndexMap.{get};
 ghost use Rattle.comm_makings.specs.Naming.{after_given, comm_of_group, first_handles, first_naming, first_of_group, group_after, group_given, group_of_making, handles_of, meant_from, meant_in, meant_of, naming_after, naming_from, naming_of, second_of_group};
@@ -67,11 +67,29 @@ fn first_comms(
     ensures { IfOk result (λ comms. (m : ℕ) → get nat_eq comms m ≡ (first_naming world own).comms m) }
 {
     let mut comms = IndexMap::new(alloc);
+    match name_first(&mut comms, world, own) {
+        Ok(()) => Ok(comms),
+        Err(fault) => {
+            drop(comms);
+            Err(fault)
+        },
+    }
+}
+
+/// Names them, where nothing is named yet.
+fn name_first(
+    comms: &mut IndexMap<u32, usize>,
+    world: u32,
+    own: Option<u32>,
+) -> Result<(), AllocError>
+    requires { (m : ℕ) → get nat_eq comms.old m ≡ None }
+    ensures { OnOk result ((m : ℕ) → get nat_eq comms.new m ≡ (first_naming world own).comms m) }
+{
     if let Some(number) = own {
         comms.insert(number, 1)?;
     }
     comms.insert(world, 0)?;
-    Ok(comms)
+    Ok(())
 }
 
 impl Names {
@@ -88,6 +106,21 @@ impl Names {
             comms: first_comms(alloc, world, own)?,
             groups: IndexMap::new(alloc),
         })
+    }
+
+    /// All handles that were given.
+    fn into_handles(self) -> Vec<Handle>
+        ensures { result.items ≡ self.handles.items }
+    {
+        let Names {
+            handles,
+            comms,
+            groups,
+            ..
+        } = self;
+        drop(comms);
+        drop(groups);
+        handles
     }
 
     /// Whether it is the number of the world or of MPI_COMM_SELF.
@@ -396,6 +429,11 @@ pub(crate) fn names_of(
     ensures meant { IfOk result (λ r. r.1.items ≡ meant_of world rank.now.own rank.now.calls.items) }
 {
     let mut names = Names::new(alloc, world, rank.own)?;
-    let meant = read_all(alloc, &mut names, &rank.calls)?;
-    Ok((names.handles, meant))
+    match read_all(alloc, &mut names, &rank.calls) {
+        Ok(meant) => Ok((names.into_handles(), meant)),
+        Err(fault) => {
+            drop(names);
+            Err(fault)
+        },
+    }
 }
