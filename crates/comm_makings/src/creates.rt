@@ -290,7 +290,9 @@ fn offered_parts(alloc: Global, ranks: &[u32], offers: &[Offer]) -> Result<Outco
     ensures { IfOk result (λ o. (parts : List Selection) → parts_in o ≡ Some parts → AreOfferedParts ranks.now offers.now parts) }
 {
     let placed = places_by_rank(alloc, ranks)?;
-    parts_at(alloc, &placed, offers)
+    let parts = parts_at(alloc, &placed, offers);
+    drop(placed);
+    parts
 }
 
 /// The communicators of a MPI_Comm_create.
