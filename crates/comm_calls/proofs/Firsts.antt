@@ -1,28 +1,13 @@
--- Lists of which each item may not be read: what was found so far, in front of what the rest gives.
+-- A list of which some item may not be read: what was found so far, in front of what the rest gives.
 use Rattle.std.proofs.Common.{◌≡◌, ℕ, ℤ, ◌+◌, ◌<◌, ◌++◌, List, [], ◌∷◌, Option, Some, None, length, get_or, drop, option_map, ap, ◌∙◌, sym, refl, append_assoc}
 use Rattle.std.proofs.lemmas.List.{at_drop_more}
-use Rattle.dumpi_text.specs.declared.number.Num.{Num}
-use Rattle.comm_calls.specs.Lists.{ints_of, naturals_of, with_first}
-use Rattle.comm_calls.specs.Numbers.{int_of, natural_of}
+use Rattle.comm_calls.specs.Lists.{naturals_of, with_first}
+use Rattle.comm_calls.specs.Numbers.{natural_of}
 
 with_more : {A : Type 0} (found : List A) (x : A) (rest : Option (List A))
     → option_map (λ (l : List A). (found ++ x ∷ []) ++ l) rest ≡ option_map (λ (l : List A). found ++ l) (with_first (Some x) rest)
 with_more found x None = refl
 with_more found x (Some rest) = ap Some (append_assoc found (x ∷ []) rest)
-
-module _ (numbers : List Num) (i : ℕ) (d : Num) (below : i < length numbers) (found : List ℤ) where
-  int_next : (o : Option ℤ) → int_of (get_or numbers i d).value ≡ o → option_map (λ (l : List ℤ). found ++ l) (ints_of (drop i numbers))
-      ≡ option_map (λ (l : List ℤ). found ++ l) (with_first o (ints_of (drop (i + 1) numbers)))
-  int_next o is =
-      ap (option_map (λ (l : List ℤ). found ++ l))
-      (at_drop_more ints_of numbers i d below ∙ ap (λ (q : Option ℤ). with_first q (ints_of (drop (i + 1) numbers))) is)
-
-  pub ints_more : (x : ℤ) → int_of (get_or numbers i d).value ≡ Some x
-      → option_map (λ (l : List ℤ). (found ++ x ∷ []) ++ l) (ints_of (drop (i + 1) numbers)) ≡ option_map (λ (l : List ℤ). found ++ l) (ints_of (drop i numbers))
-  ints_more x is = with_more found x (ints_of (drop (i + 1) numbers)) ∙ sym (int_next (Some x) is)
-
-  pub ints_end : int_of (get_or numbers i d).value ≡ None → None ≡ option_map (λ (l : List ℤ). found ++ l) (ints_of (drop i numbers))
-  ints_end is = sym (int_next None is)
 
 module _ (ints : List ℤ) (i : ℕ) (d : ℤ) (below : i < length ints) (found : List ℕ) where
   natural_next : (o : Option ℕ) → natural_of (get_or ints i d) ≡ o → option_map (λ (l : List ℕ). found ++ l) (naturals_of (drop i ints))
