@@ -118,6 +118,11 @@ pub event_moved : (es : List Event) (e : Event) (ks : List Known) → map (λ e.
 event_moved [] e ks = refl
 event_moved (f ∷ es) e ks = ap (λ xs. One f ∷ xs) (event_moved es e ks)
 
+-- an event put behind the cells of others
+pub ones_behind : (es : List Event) (e : Event) → map {B = Known} (λ e. One e) es ++ One e ∷ [] ≡ map (λ e. One e) (es ++ e ∷ [])
+ones_behind [] e = refl
+ones_behind (f ∷ es) e = ap (λ xs. One f ∷ xs) (ones_behind es e)
+
 -- cells tell which events they are of
 pub same_events : (es fs : List Event) → map {B = Known} (λ e. One e) es ≡ map (λ e. One e) fs → es ≡ fs
 same_events [] [] is = refl

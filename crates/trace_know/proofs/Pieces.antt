@@ -1,15 +1,15 @@
 -- Runs of the events of a segment.
-use Rattle.std.proofs.Common.{◌≡◌, List, [], ◌∷◌, length, map, refl, sym, ap, subst, ◌∙◌, arith}
+use Rattle.std.proofs.Common.{◌≡◌, ℕ, List, [], ◌∷◌, ◌++◌, length, map, refl, sym, ap, subst, ◌∙◌, arith}
 use Rattle.mpi_model.specs.declared.event.Event.{Event}
 use Rattle.trace_know.specs.declared.cell.Known.{Known}
-use Rattle.trace_know.specs.declared.cell.Known.TheVariants.{One}
+use Rattle.trace_know.specs.declared.cell.Known.TheVariants.{One, Contradiction}
 use Rattle.trace_know.specs.declared.run.Run.{Run}
 use Rattle.trace_know.specs.Placed.{IsKnowledge}
-use Rattle.trace_know.specs.Ready.{IsReady, events_among, segment_in}
-use Rattle.trace_know.specs.Runs.{of_run, IsAlike, IsCounted, IsFilled, conflicts_among}
+use Rattle.trace_know.specs.Ready.{AreEvents, IsReady, events_among, segment_in}
+use Rattle.trace_know.specs.Runs.{of_run, IsAlike, IsCounted, IsFilled, conflicts_among, sound_among}
 use Rattle.trace_know.specs.Segment.{PlacedEvents, IsSegment}
 use Rattle.trace_know.specs.Trace.{facts_of, view_of}
-use Rattle.trace_know.proofs.Counts.{conflicts-events, length-ones}
+use Rattle.trace_know.proofs.Counts.{conflicts-events, length-ones, ones_behind}
 use Rattle.trace_know.proofs.Order.{counted-alike}
 use Rattle.trace_know.proofs.Placed.{segment-IsKnowledge}
 use Rattle.trace_know.proofs.Rows.{run-facts}
@@ -54,3 +54,21 @@ alike-segment a b same = λ i. record { rank = same.rank i; first_place = same.f
 
 pub alike-ready : (a b : Run) → IsAlike a b → IsReady b → IsReady a
 alike-ready a b same ready = run-ready a (segment_in b) ready.segment same.rank same.first (same.cells ∙ ready.whole) (counted-alike a b same ready.counted)
+
+-- ---- an event behind others
+
+pub events_behind : (ks : List Known) (e : Event) → events_among (ks ++ One e ∷ []) ≡ events_among ks ++ e ∷ []
+events_behind [] e = refl
+events_behind (One f ∷ ks) e = ap (λ (es : List Event). f ∷ es) (events_behind ks e)
+events_behind (Contradiction ∷ ks) e = events_behind ks e
+
+pub are_events : (ks new : List Known) (sound : ℕ) (e : Event) → ks ≡ map (λ e. One e) (events_among ks) → new ≡ ks ++ One e ∷ [] → sound ≡ sound_among new → AreEvents new sound
+are_events ks new sound e whole is counted =
+    let events : events_among ks ++ e ∷ [] ≡ events_among new = sym (ap events_among is ∙ events_behind ks e) in
+    record {
+      whole = is
+          ∙ ap (λ (xs : List Known). xs ++ One e ∷ []) whole
+          ∙ ones_behind (events_among ks) e
+          ∙ ap (λ (es : List Event). map {B = Known} (λ e. One e) es) events;
+      counted = counted;
+    }

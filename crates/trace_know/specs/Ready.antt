@@ -1,10 +1,10 @@
 -- Segments whose events stand as cells.
-use Rattle.std.specs.Prelude.{◌≡◌, List, [], ◌∷◌, map}
+use Rattle.std.specs.Prelude.{◌≡◌, ℕ, List, [], ◌∷◌, map}
 use Rattle.mpi_model.specs.declared.event.Event.{Event}
 use Rattle.trace_know.specs.declared.cell.Known.{Known}
 use Rattle.trace_know.specs.declared.cell.Known.TheVariants.{One, Contradiction}
 use Rattle.trace_know.specs.declared.run.Run.{Run}
-use Rattle.trace_know.specs.Runs.{IsCounted}
+use Rattle.trace_know.specs.Runs.{IsCounted, sound_among}
 use Rattle.trace_know.specs.Segment.{PlacedEvents, IsSegment}
 
 -- the events of those cells that have one
@@ -22,3 +22,8 @@ pub record IsReady (run : Run) : Type 0 where
   pub whole : run.cells.items ≡ map (λ e. One e) (events_among run.cells.items)
   pub counted : IsCounted run
   pub segment : IsSegment (segment_in run)
+
+-- the cells are events, and so many of them stand before the first at which a readable prefix ends
+pub record AreEvents (cells : List Known) (sound : ℕ) : Type 0 where
+  pub whole : cells ≡ map (λ e. One e) (events_among cells)
+  pub counted : sound ≡ sound_among cells

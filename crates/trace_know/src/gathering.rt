@@ -7,7 +7,7 @@ ghost use Rattle.trace_know.specs.Trace.{facts_of, facts_of_all, view_of};
 ghost use Rattle.trace_know.specs.View.{join};
 
 use crate::knowledge::Knowledge;
-use crate::segment::Segment;
+use crate::ready::ReadySegment;
 use std::alloc::{AllocError, Global};
 use std::marker::Model;
 
@@ -27,7 +27,7 @@ const LONG_SEGMENT: usize = 1_024;
 pub struct Gathering {
     alloc: Global,
     know: Knowledge,
-    held: Vec<Segment>,
+    held: Vec<ReadySegment>,
     /// How many events are held, as far as they can be counted.
     events: usize,
 }
@@ -60,7 +60,7 @@ impl Gathering {
     }
 
     /// The gathering once it has read one segment more.
-    pub fn reading(self, segment: Segment) -> Result<Gathering, AllocError>
+    pub fn reading(self, segment: ReadySegment) -> Result<Gathering, AllocError>
         ensures { IfOk result (λ g. g ≡ join self (view_of (facts_of segment))) }
     {
         let more = self.holding(segment)?;
@@ -78,10 +78,10 @@ impl Gathering {
     }
 
     /// Holds one segment more.
-    fn holding(self, segment: Segment) -> Result<Gathering, AllocError>
+    fn holding(self, segment: ReadySegment) -> Result<Gathering, AllocError>
         ensures { IfOk result (λ g. g ≡ join self (view_of (facts_of segment))) }
     {
-        let events = self.events.saturating_add(segment.events().len());
+        let events = self.events.saturating_add(segment.count());
         let mut held = self.held;
         held.push(segment)?;
         Ok(Gathering {
@@ -112,7 +112,7 @@ impl Gathering {
 }
 
 /// What is known with these segments, which are joined in the order of their places.
-fn join_all(know: Knowledge, segments: Vec<Segment>) -> Result<Knowledge, AllocError>
+fn join_all(know: Knowledge, segments: Vec<ReadySegment>) -> Result<Knowledge, AllocError>
     ensures { IfOk result (λ all. all ≡ join know (view_of (facts_of_all segments.items))) }
 {
     let sorted = by_place(segments)?;
@@ -120,7 +120,7 @@ fn join_all(know: Knowledge, segments: Vec<Segment>) -> Result<Knowledge, AllocE
 }
 
 /// The segments in the order of their ranks and first places.
-fn by_place(segments: Vec<Segment>) -> Result<Vec<Segment>, AllocError>
+fn by_place(segments: Vec<ReadySegment>) -> Result<Vec<ReadySegment>, AllocError>
     ensures { IfOk result (λ sorted. IsPermutation segments.items sorted.items) }
 {
     let mut sorted = segments;
@@ -129,12 +129,12 @@ fn by_place(segments: Vec<Segment>) -> Result<Vec<Segment>, AllocError>
 }
 
 /// What is known with these segments, one after another.
-fn join_each(know: Knowledge, segments: Vec<Segment>) -> Result<Knowledge, AllocError>
+fn join_each(know: Knowledge, segments: Vec<ReadySegment>) -> Result<Knowledge, AllocError>
     ensures { IfOk result (λ all. all ≡ join know (view_of (facts_of_all segments.items))) }
 {
     let mut all = know;
     for segment in segments {
-        all.take_owned(segment)?;
+        all.take_ready(segment)?;
     }
     Ok(all)
 }

@@ -43,6 +43,6 @@ pub use cell::{Cell, Known};
 pub use gathering::Gathering;
 pub use knowledge::Knowledge;
 pub use laws::{growth_laws, join_laws, listing_laws, prefix_laws, view_laws};
-pub use ready::ReadySegment;
+pub use ready::{ReadyEvents, ReadySegment};
 pub use segment::{MOST_EVENTS, PLACES, Segment, SegmentFault};
 pub use walk::Walk;

@@ -1,12 +1,16 @@
 //! Segments whose events stand as cells, ready to be joined.
 
-ghost use Rattle.std.specs.Prelude.{◌≡◌, ◌≤◌, [], length, vec_capacity, IfOk, IfErr, OnOk, OnErr};
+ghost use Rattle.std.specs.Prelude.{◌≡◌, ◌+◌, ◌<◌, ◌≤◌, ◌++◌, ◌∷◌, [], length, true, vec_len, vec_capacity, IfOk, IfErr, OnOk, OnErr};
+ghost use Rattle.trace_know.specs.declared.cell.Known.TheVariants.{One};
+ghost use Rattle.trace_know.specs.declared.segment.TheConstants.{MOST_EVENTS, PLACES};
 ghost use Rattle.trace_know.specs.Ready.{IsReady, segment_in};
-ghost use Rattle.trace_know.specs.Segment.{IsSegment};
+ghost use Rattle.trace_know.specs.Runs.{sound_among};
+ghost use Rattle.trace_know.specs.Segment.{IsSegment, alternate, enter_place};
 
 use crate::boxed::BoxedRun;
+use crate::cell::{Known, enters_unread};
 use crate::copies::boxed_copy;
-use crate::run::run_with_room;
+use crate::run::{run_of_events, run_with_room};
 use crate::segment::Segment;
 use mpi_model::Event;
 use std::alloc::{AllocError, AllocFailed, Global};
@@ -70,11 +74,25 @@ impl ReadySegment {
         self.piece.rank()
     }
 
+    /// The place of the first event, that of an Enter.
+    pub fn first_place(&self) -> u64
+        ensures { result ≡ self.now.first_place }
+    {
+        self.piece.first()
+    }
+
     /// How many events there are.
     pub fn count(&self) -> usize
         ensures { result ≡ length self.now.events }
     {
         self.piece.len()
+    }
+
+    /// Tells what holds of every segment. It does nothing: it is for proofs.
+    pub fn known(&self)
+        ensures { IsSegment self.now }
+    {
+        let _ = &self.piece;
     }
 
     pub fn try_clone(&self) -> Result<ReadySegment, AllocError>
@@ -100,6 +118,132 @@ impl ReadySegment {
     {
         ReadySegment { piece }
     }
+}
+
+/// Events that are to be a segment, each put where it stands in what is known: they become a [`ReadySegment`], and none
+/// is moved.
+///
+/// In a contract they are their list.
+#[derive(Debug, Drop)]
+pub struct ReadyEvents {
+    cells: Vec<Known>,
+    /// How many cells stand before the first at which a readable prefix ends.
+    sound: usize,
+}
+
+impl Model for ReadyEvents {
+    ghost use Rattle.std.specs.Prelude.{List};
+    ghost use Rattle.mpi_model.specs.declared.event.Event.{Event};
+    ghost use Rattle.trace_know.specs.Ready.{AreEvents, events_among};
+
+    ghost Value = { List Event };
+
+    ghost view = { λ r. events_among r.cells.items };
+
+    ghost invariant = { λ r. AreEvents r.cells.items r.sound };
+}
+
+impl ReadyEvents {
+    /// No events. Takes no memory.
+    pub fn new(alloc: Global) -> ReadyEvents
+        ensures { result ≡ [] }
+    {
+        ReadyEvents {
+            cells: Vec::new(alloc),
+            sound: 0,
+        }
+    }
+
+    /// No events, and room for so many.
+    pub fn with_capacity(alloc: Global, capacity: usize) -> Result<ReadyEvents, AllocError>
+        ensures { IfOk result (λ events. events ≡ []) }
+    {
+        Ok(ReadyEvents {
+            cells: Vec::with_capacity(alloc, capacity)?,
+            sound: 0,
+        })
+    }
+
+    /// Whose memory they stand in.
+    pub fn allocator(&self) -> Global {
+        *self.cells.allocator()
+    }
+
+    /// How many events there are.
+    pub fn count(&self) -> usize
+        ensures { result ≡ length self.now }
+    {
+        self.cells.len()
+    }
+
+    /// Puts an event behind the others.
+    pub fn push(&mut self, event: Event) -> Result<(), AllocError>
+        ensures ok { OnOk result (self.new ≡ self.old ++ event ∷ []) }
+        ensures err { OnErr result (self.new ≡ self.old) }
+    {
+        self.cells.reserve(1)?;
+        self.sound = put_behind(&mut self.cells, self.sound, event);
+        Ok(())
+    }
+
+    /// Puts the two events of a call behind the others, or neither.
+    pub fn push_both(&mut self, enter: Event, exit: Event) -> Result<(), AllocError>
+        ensures ok { OnOk result (self.new ≡ self.old ++ enter ∷ exit ∷ []) }
+        ensures err { OnErr result (self.new ≡ self.old) }
+    {
+        self.cells.reserve(2)?;
+        let sound = put_behind(&mut self.cells, self.sound, enter);
+        self.sound = put_behind(&mut self.cells, sound, exit);
+        Ok(())
+    }
+
+    /// The segment of these events, ready, from the Enter of its call `first_call` on. No event is moved.
+    pub fn into_ready(self, rank: u32, first_call: u64) -> Result<ReadySegment, AllocError>
+        requires some { 0 < length self }
+        requires most { length self ≤ MOST_EVENTS }
+        requires places { enter_place first_call + length self ≤ PLACES }
+        requires halves { alternate true self ≡ true }
+        ensures { IfOk result (λ ready. ready ≡ record { rank = rank; first_place = enter_place first_call; events = self }) }
+    {
+        let alloc = self.allocator();
+        let run = run_of_events(rank, 2 * first_call, self.cells, self.sound);
+        Ok(ReadySegment {
+            piece: BoxedRun::new(alloc, run)?,
+        })
+    }
+}
+
+/// Puts an event behind the cells, of which so many stand before the first at which a readable prefix ends: how many
+/// then do. There is room for it.
+fn put_behind(cells: &mut Vec<Known>, sound: usize, event: Event) -> usize
+    requires room { vec_len cells.old < vec_capacity cells.old }
+    requires sound { sound ≡ sound_among cells.old.items }
+    ensures cells { cells.new.items ≡ cells.old.items ++ One event ∷ [] }
+    ensures len { vec_len cells.new ≡ vec_len cells.old + 1 }
+    ensures capacity { vec_capacity cells.old ≤ vec_capacity cells.new }
+    ensures sound { result ≡ sound_among cells.new.items }
+{
+    let sound = sound_with(cells, sound, &event);
+    let Ok(()) = cells.push(Known::One(event)) else {
+        unreachable!();
+    };
+    sound
+}
+
+/// How many cells stand before the first at which a readable prefix ends, with one more event behind them: so many do
+/// without it.
+fn sound_with(cells: &Vec<Known>, sound: usize, event: &Event) -> usize
+    requires room { vec_len cells.now < vec_capacity cells.now }
+    requires sound { sound ≡ sound_among cells.now.items }
+    ensures { result ≡ sound_among (cells.now.items ++ One event.now ∷ []) }
+{
+    if sound < cells.len() {
+        return sound;
+    }
+    if enters_unread(event) {
+        return sound;
+    }
+    sound + 1
 }
 
 /// The events of a segment as a run, moved out of their list, which keeps its memory. Without memory they stay in it.

@@ -404,6 +404,24 @@ pub(crate) fn run_of_cells(rank: u32, first: u64, cells: Vec<Known>) -> Run
     }
 }
 
+/// The cells of events as a run, of which so many stand before the first at which a readable prefix ends: the list
+/// becomes it, and none is moved.
+pub(crate) fn run_of_events(rank: u32, first: u64, cells: Vec<Known>, sound: usize) -> Run
+    requires sound { sound ≡ sound_among cells.items }
+    requires conflicts { conflicts_among cells.items ≡ 0 }
+    ensures place { (result.rank ≡ rank) × (result.first ≡ first) }
+    ensures cells { result.cells.items ≡ cells.items }
+    ensures counted { IsCounted result }
+{
+    Run {
+        rank,
+        first,
+        cells: VecDeque::from(cells),
+        sound,
+        conflicts: 0,
+    }
+}
+
 /// A run of one cell.
 pub(crate) fn run_of_one(
     alloc: Global,

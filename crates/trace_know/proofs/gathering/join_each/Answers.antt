@@ -14,7 +14,7 @@ loop-segment-init c = sym (join-empty c.args.know)
 
 pub loop-segment-preserved : goal.loop-segment-preserved
 loop-segment-preserved c =
-    c.in_ok-take_owned.ensures.ok ∙ ap (λ (v : View). join v (view_of (facts_of c.in-Some.segment))) c.loop-segment.invariant
+    c.in_ok-take_ready.ensures.ok ∙ ap (λ (v : View). join v (view_of (facts_of c.in-Some.segment))) c.loop-segment.invariant
     ∙ one_more c.args.know c.loop-segment.yielded c.in-Some.segment
 
 pub returns : goal.returns
