@@ -13,7 +13,10 @@ use mpi_model::{Call, Event, Exit, Stamp};
 use std::alloc::{AllocError, AllocFailed, Global};
 use std::marker::Model;
 use thiserror::Error;
-use trace_know::{PLACES, Segment, SegmentFault};
+use trace_know::{PLACES, ReadySegment, SegmentFault};
+
+/// A usual text has an event in somewhat more bytes than these.
+const BYTES_AN_EVENT: u64 = 128;
 
 /// No memory was left for a call's events.
 #[derive(Clone, Copy, Debug, PartialEq, Eq, Error)]
@@ -77,9 +80,21 @@ impl Collect {
         }
     }
 
-    /// The events as segments of a rank, from the Enter of its call `first_call` on, cut after each 65,536 events. No
-    /// event gives no segment. It answers `Place` where an event would have a place at 2^40 or past it, and `Memory`.
-    pub fn into_segments(self, rank: u32, first_call: u64) -> Result<Vec<Segment>, SegmentFault>
+    /// No events, and room for about as many as a text of so many bytes has, where there is memory for it: a list of
+    /// events that has to grow is moved each time.
+    pub fn for_text(alloc: Global, bytes: u64) -> Collect
+        ensures { result ≡ [] }
+    {
+        Collect {
+            parts: Parts::with_room(alloc, bytes / BYTES_AN_EVENT),
+            is_open: false,
+        }
+    }
+
+    /// The events as segments of a rank that stand ready, from the Enter of its call `first_call` on, cut after each
+    /// 65,536 events: none is moved. No event gives no segment. It answers `Place` where an event would have a place at
+    /// 2^40 or past it, and `Memory`.
+    pub fn into_ready(self, rank: u32, first_call: u64) -> Result<Vec<ReadySegment>, SegmentFault>
         ensures ok { IfOk result (λ segments. AreSegments rank first_call self segments.items) }
         ensures place { result ≡ Err Place ↔ HasPlacesPast first_call self }
         ensures err { IfErr result (λ fault. fault ≢ Place → fault ≡ NoMemory) }
@@ -87,12 +102,12 @@ impl Collect {
         let Collect { parts, .. } = self;
         let count = parts.count();
         if count == 0 {
-            return Ok(Vec::new(*parts.last.allocator()));
+            return Ok(Vec::new(parts.last.allocator()));
         }
         if has_places_past(first_call, count) {
             return Err(SegmentFault::Place);
         }
-        match parts.into_segments(rank, first_call) {
+        match parts.into_ready(rank, first_call) {
             Ok(segments) => Ok(segments),
             Err(_) => Err(SegmentFault::Memory),
         }

@@ -1,6 +1,6 @@
 use Rattle.std.proofs.Common.{◌≡◌, ◌+◌, ◌*◌, length}
 use Rattle.dumpi_calls.proofs.Joined.{placed_parts}
-use Rattle.dumpi_calls.proofs.parts.Parts.into_segments.Given as goal
+use Rattle.dumpi_calls.proofs.parts.Parts.into_ready.Given as goal
 
 abbrev pub invariant-loop-part : goal.invariant-loop-part
 invariant-loop-part l = record {

@@ -5,6 +5,6 @@ use Rattle.dumpi_calls.proofs.parts.Parts.push.Goals as goal
 
 pub returns-clause-ok : goal.returns-clause-ok
 returns-clause-ok c =
-    let parts = c.make_room.new.self in
-    let pushed : c.push.new.self.items ≡ parts.last.items ++ c.args.event ∷ [] = search rules in
-    rw pushed (joined_more parts.full.items parts.last.items (c.args.event ∷ []) ∙ ap (λ (events : List Event). events ++ c.args.event ∷ []) c.make_room.ensures.same)
+    let parts = c.see_room.new.self in
+    let pushed : c.push.new.self ≡ parts.last ++ c.args.event ∷ [] = search rules in
+    rw pushed (joined_more parts.full.items parts.last (c.args.event ∷ []) ∙ ap (λ (events : List Event). events ++ c.args.event ∷ []) c.see_room.ensures.same)
