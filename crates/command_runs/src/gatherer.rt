@@ -9,7 +9,7 @@ ghost use Rattle.trace_know.specs.View.{View, join};
 use mpi_model::Layout;
 use std::alloc::{AllocError, Global};
 use trace_check::Checker;
-use trace_know::{Gathering, Segment};
+use trace_know::{Gathering, ReadySegment};
 
 /// One who reads the segments of a run: for a report they are joined, and for a check an index of the
 /// pairs follows each of them too.
@@ -21,7 +21,7 @@ pub(crate) trait Gatherer: Drop {
     ghost known: { Self → View };
 
     /// The gatherer once it has read one segment more.
-    fn reading(self, segment: Segment) -> Result<Self, AllocError>
+    fn reading(self, segment: ReadySegment) -> Result<Self, AllocError>
         ensures known { IfOk result (λ g. known g ≡ join (known self) (view_of (facts_of segment))) }
         ensures layout { IfOk result (λ g. layout g ≡ layout self) };
 }
@@ -51,7 +51,7 @@ impl<'a> Gatherer for Gathered<'a> {
 
     ghost known = { λ g. g.know };
 
-    fn reading(self, segment: Segment) -> Result<Gathered<'a>, AllocError> {
+    fn reading(self, segment: ReadySegment) -> Result<Gathered<'a>, AllocError> {
         Ok(Gathered {
             layout: self.layout,
             know: self.know.reading(segment)?,
@@ -64,7 +64,7 @@ impl<'a> Gatherer for Checker<'a> {
 
     ghost known = { λ c. c.know };
 
-    fn reading(self, segment: Segment) -> Result<Checker<'a>, AllocError> {
+    fn reading(self, segment: ReadySegment) -> Result<Checker<'a>, AllocError> {
         Checker::reading(self, segment)
     }
 }

@@ -19,7 +19,7 @@ use crate::watch::{Watcher, announce};
 use input_files::Piece;
 use mpi_model::Layout;
 use std::alloc::{AllocError, Global};
-use trace_know::{Segment, join_laws, view_laws};
+use trace_know::{ReadySegment, join_laws, view_laws};
 
 /// What the pieces tell together, of a run of this layout, by who gathers it. All of them are read before
 /// a piece is refused for its rank.
@@ -65,7 +65,7 @@ pub(crate) fn with_stranger(
     stranger: Option<String>,
     layout: &Layout,
     piece: &Piece,
-    segments: &[Segment],
+    segments: &[ReadySegment],
 ) -> Result<Option<String>, AllocError>
     ensures { IfOk result (KeepsFirst layout.now.ranks piece.now (facts_of_all segments.now) stranger) }
 {
@@ -79,7 +79,7 @@ pub(crate) fn with_stranger(
 }
 
 /// Whether the segments tell anything: each has an event.
-fn have_calls(segments: &[Segment]) -> bool
+fn have_calls(segments: &[ReadySegment]) -> bool
     ensures some { result ≡ true → facts_of_all segments.now ≢ [] }
     ensures none { result ≡ false → facts_of_all segments.now ≡ [] }
 {
@@ -91,7 +91,10 @@ fn have_calls(segments: &[Segment]) -> bool
 }
 
 /// Takes segments that are not needed any more, with their events.
-pub(crate) fn take_all<G: Gatherer>(gatherer: G, segments: Vec<Segment>) -> Result<G, AllocError>
+pub(crate) fn take_all<G: Gatherer>(
+    gatherer: G,
+    segments: Vec<ReadySegment>,
+) -> Result<G, AllocError>
     ensures known { IfOk result (λ g. G.known g ≡ join (G.known gatherer) (view_of (facts_of_all segments.items))) }
     ensures layout { IfOk result (λ g. G.layout g ≡ G.layout gatherer) }
 {

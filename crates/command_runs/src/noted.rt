@@ -27,12 +27,12 @@ use input_files::Piece;
 use mpi_model::Layout;
 use std::alloc::{AllocError, Global};
 use text_notes::{Noting, Start, TextNote, noted_texts};
-use trace_know::{Segment, SegmentFault, join_laws, view_laws};
+use trace_know::{ReadySegment, SegmentFault, join_laws, view_laws};
 
 /// A piece that was read.
 #[derive(Drop)]
 struct NotedPiece {
-    segments: Vec<Segment>,
+    segments: Vec<ReadySegment>,
     note: TextNote,
 }
 
@@ -89,7 +89,7 @@ fn noted_piece<O: Opener, V: Watcher>(
     };
     watcher.has_read(path, &walked);
     let (collect, unread) = noting.into_parts();
-    let segments = match collect.into_segments(piece.rank(), piece.first()) {
+    let segments = match collect.into_ready(piece.rank(), piece.first()) {
         Ok(segments) => segments,
         Err(SegmentFault::Place) => {
             return Err(RunFault::Place {

@@ -15,16 +15,16 @@ use dumpi_calls::{Collect, Memory, WalkCause, WalkFault, walk, whole_segments, w
 use dumpi_text::TextFault;
 use input_files::Piece;
 use std::alloc::{AllocError, Global};
-use trace_know::{Segment, SegmentFault};
+use trace_know::{ReadySegment, SegmentFault};
 
-/// The segments of a piece, none of a text without calls.
+/// The segments of a piece, ready to be joined, none of a text without calls.
 #[tactic(auto, using(crate::proofs::Told::facts_told, crate::proofs::Told::segments_told, crate::proofs::Told::places_told, crate::proofs::Told::walk_told))]
 pub fn segments_of<O: Opener, V: Watcher>(
     alloc: Global,
     piece: &Piece,
     files: &mut O,
     watcher: &mut V,
-) -> Result<Vec<Segment>, RunFault>
+) -> Result<Vec<ReadySegment>, RunFault>
     ensures ok { IfOk result (λ segments. TellsFacts (O.file files.old piece.now.file) piece.now.rank piece.now.first (facts_of_all segments.items)) }
     ensures segments { IfOk result (λ segments. TellsSegments (O.file files.old piece.now.file) piece.now.rank piece.now.first segments.items) }
     ensures err { IfErr result (RefusesPiece piece.now.file piece.now.first (O.file files.old piece.now.file)) }
@@ -43,13 +43,13 @@ pub fn segments_of<O: Opener, V: Watcher>(
             });
         }
     };
-    let mut collect = Collect::new(alloc);
+    let mut collect = Collect::for_text(alloc, files.length(path).unwrap_or(0));
     let walked = match walk(alloc, Watched::new(reader, watcher), &mut collect) {
         Ok(walked) => walked,
         Err(fault) => return Err(refusal(alloc, path, fault)?),
     };
     watcher.has_read(path, &walked);
-    match collect.into_segments(piece.rank(), piece.first()) {
+    match collect.into_ready(piece.rank(), piece.first()) {
         Ok(segments) => Ok(segments),
         Err(SegmentFault::Place) => Err(RunFault::Place {
             path: path.to_string(alloc)?,

@@ -13,7 +13,7 @@ use crate::watch::{Watcher, announce};
 use dumpi_calls::whole_segments;
 use input_files::Piece;
 use std::alloc::{AllocError, Global};
-use trace_know::Segment;
+use trace_know::ReadySegment;
 use trace_world::SharedSegment;
 
 /// The segments of each piece, in the order of the pieces, for all steps that post them.
@@ -41,13 +41,14 @@ pub fn segments_of_all<O: Opener, V: Watcher>(
     Ok(lists)
 }
 
-/// The same segments, to be shared.
-fn shared(alloc: Global, segments: Vec<Segment>) -> Result<Vec<SharedSegment>, AllocError>
+/// The same segments, to be shared: their events are moved to lists.
+fn shared(alloc: Global, segments: Vec<ReadySegment>) -> Result<Vec<SharedSegment>, AllocError>
     ensures { IfOk result (λ list. list.items ≡ segments.items) }
 {
     let mut list = Vec::new(alloc);
     for segment in segments {
-        list.push(SharedSegment::new(alloc, segment)?)?;
+        let plain = segment.into_segment(alloc)?;
+        list.push(SharedSegment::new(alloc, plain)?)?;
     }
     Ok(list)
 }

@@ -12,8 +12,8 @@ fn collected_of_two(alloc: Global) -> Result<Option<usize>, Fail> {
     let mut collect = Collect::new(alloc);
     collect.on_other(b"MPI_Comm_rank", Call::Local, stamp, None)?;
     collect.on_other(b"MPI_Comm_rank", Call::Local, stamp, None)?;
-    let segments = collect.into_segments(0, 0)?;
-    Ok(segments.first().map(|segment| segment.events().len()))
+    let segments = collect.into_ready(0, 0)?;
+    Ok(segments.first().map(|segment| segment.count()))
 }
 
 #[test]

@@ -13,7 +13,7 @@ use crate::lines::check_lines;
 use mpi_model::Layout;
 use std::alloc::{AllocError, Global};
 use std::marker::Model;
-use trace_know::{Knowledge, Segment, join_laws, prefix_laws, view_laws};
+use trace_know::{Knowledge, ReadySegment, join_laws, prefix_laws, view_laws};
 use trace_ops::{RankOps, State, all_ops, ops_laws, ops_of};
 use trace_pair::{PairIndex, PairTable, pair_all};
 use trace_wait::{conditions, rounds, stuck};
@@ -60,7 +60,7 @@ impl<'a> Checker<'a> {
 
     /// The checker once it has read a segment: its facts are joined, and the index follows its rank, where
     /// the layout has that.
-    pub fn reading(self, segment: Segment) -> Result<Checker<'a>, AllocError>
+    pub fn reading(self, segment: ReadySegment) -> Result<Checker<'a>, AllocError>
         ensures { IfOk result (λ c. c ≡ held self.entry.layout (join self.entry.know (view_of (facts_of segment)))) }
     {
         ops_laws();
@@ -69,7 +69,7 @@ impl<'a> Checker<'a> {
         prefix_laws();
         let (alloc, layout, rank) = (self.alloc, self.layout, segment.rank());
         let mut know = self.know;
-        know.take_owned(segment)?;
+        know.take_ready(segment)?;
         let mut index = self.index;
         if rank < layout.ranks() {
             index.set(rank, ops_of(alloc, layout, &know, rank)?)?;

@@ -12,9 +12,9 @@ use crate::inbox::Worker;
 use dumpi_calls::{Collect, Memory, WalkCause, WalkFault, walk, whole_texts};
 use dumpi_text::{TextCause, TextFault};
 use mpi_model::Device;
-use std::alloc::{AllocError, Global};
+use std::alloc::Global;
 use thiserror::Error;
-use trace_know::{ReadySegment, Segment, SegmentFault};
+use trace_know::{ReadySegment, SegmentFault};
 
 /// The text of a rank's trace, from one of its calls on.
 #[derive(Debug, Drop)]
@@ -61,30 +61,16 @@ pub(crate) fn segments_of(alloc: Global, piece: &Piece) -> Result<Vec<ReadySegme
     ensures err { IfErr result (λ fault. IsRefusedFor piece.now fault) }
 {
     whole_texts();
-    let mut collect = Collect::new(alloc);
+    let mut collect = Collect::for_text(alloc, piece.text.len() as u64);
     match walk(alloc, Device::new(piece.text.as_slice()), &mut collect) {
         Ok(_) => {}
         Err(fault) => return Err(fault_of_walk(fault)),
     }
-    match collect.into_segments(piece.rank, piece.first) {
-        Ok(segments) => match all_ready(alloc, segments) {
-            Ok(segments) => Ok(segments),
-            Err(_) => Err(PieceFault::Memory),
-        },
+    match collect.into_ready(piece.rank, piece.first) {
+        Ok(segments) => Ok(segments),
         Err(SegmentFault::Place) => Err(PieceFault::Segment(SegmentFault::Place)),
         Err(_) => Err(PieceFault::Memory),
     }
-}
-
-/// The segments in their order, each made ready.
-fn all_ready(alloc: Global, segments: Vec<Segment>) -> Result<Vec<ReadySegment>, AllocError>
-    ensures { IfOk result (λ ready. ready.items ≡ segments.items) }
-{
-    let mut ready = Vec::with_capacity(alloc, segments.len())?;
-    for segment in segments {
-        ready.push(ReadySegment::new(alloc, segment)?)?;
-    }
-    Ok(ready)
 }
 
 /// The fault of a piece whose walk was stopped. A text in memory has no reader that fails, so what
