@@ -215,6 +215,7 @@ impl ReadyEvents {
 
 /// Puts an event behind the cells, of which so many stand before the first at which a readable prefix ends: how many
 /// then do. There is room for it.
+#[inline(always)]
 fn put_behind(cells: &mut Vec<Known>, sound: usize, event: Event) -> usize
     requires room { vec_len cells.old < vec_capacity cells.old }
     requires sound { sound ≡ sound_among cells.old.items }
@@ -232,6 +233,7 @@ fn put_behind(cells: &mut Vec<Known>, sound: usize, event: Event) -> usize
 
 /// How many cells stand before the first at which a readable prefix ends, with one more event behind them: so many do
 /// without it.
+#[inline(always)]
 fn sound_with(cells: &Vec<Known>, sound: usize, event: &Event) -> usize
     requires room { vec_len cells.now < vec_capacity cells.now }
     requires sound { sound ≡ sound_among cells.now.items }
