@@ -15,8 +15,8 @@ use Rattle.trace_ops.specs.declared.touched.End.{End}
 use Rattle.trace_ops.specs.declared.touched.Touch.{Touch}
 use Rattle.trace_ops.specs.Calls.{Entry}
 use Rattle.trace_ops.specs.Ended.{ended_by}
-use Rattle.trace_ops.specs.Request.{given_of, completions, is_completed, is_posted}
-use Rattle.trace_ops.specs.Steps.{Step, given_by, completed_by, touches, whole}
+use Rattle.trace_ops.specs.Request.{given_of, completions, is_completed, is_init, is_posted}
+use Rattle.trace_ops.specs.Steps.{Step, given_by, completed_by, posted_by, touches, whole}
 use Rattle.trace_ops.specs.Source.{told_in, told_by}
 use Rattle.trace_ops.specs.Touched.{Follows, ended_at, ends_at, end_of, marked, is_marked, is_void_end, tellings_of, voided_end, with_told, with_tellings}
 use Rattle.trace_ops.specs.Trust.{cancel_of, cancels, has_cancel, said_in, said_by}
@@ -32,7 +32,7 @@ quiet (RecvInit e) outs x h = refl
 quiet call outs x h = absurd (cc)
 
 -- a Cancel posts and completes nothing
-idle : (call : Call) (outs : Option Outs) (x : ℤ) → cancel_of call ≡ Some x → (given_of call outs ≡ None) × (completions call outs ≡ [])
+pub idle : (call : Call) (outs : Option Outs) (x : ℤ) → cancel_of call ≡ Some x → (given_of call outs ≡ None) × (completions call outs ≡ [])
 idle (Cancel request) outs x h = (refl, refl)
 idle call outs x h = absurd (cc)
 
@@ -206,3 +206,11 @@ read_at calls n c entry lt at k = let r = slice_get_read calls (length calls) n 
 
 pub entry_at : (calls : List Entry) (n : ℕ) (c : Entry) → n < length calls → c ≡ get_or calls n c → slice_get calls n ≡ Some c
 entry_at calls n c lt at = slice_get_read calls (length calls) n c refl lt at
+
+-- a call that posts a number gives it
+pub posts_given : (n : ℕ) (c : Entry) (x : ℤ) → posted_by (whole n c) ≡ Some x → given_of c.call c.outs ≡ Some x
+posts_given n c x h = by (is_init c.call) h
+  where
+    by : (b : Bool) → (if b then None else given_of c.call c.outs) ≡ Some x → given_of c.call c.outs ≡ Some x
+    by true k = absurd (cc)
+    by false k = k

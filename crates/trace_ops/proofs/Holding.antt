@@ -1,14 +1,19 @@
 -- What holds the numbers that calls list, one call more, and the steps of these calls.
-use Rattle.std.proofs.Common.{◌≡◌, ℕ, zero, suc, ◌+◌, ◌-◌, ◌<◌, ◌≤◌, List, [], ◌∷◌, ◌++◌, map, take, drop, get_or, length, reverse, refl, sym, ◌∙◌, ap, arith, append_assoc, length-append}
-use Rattle.std.specs.Prelude.{ℤ, Option}
+use Rattle.std.proofs.Common.{◌≡◌, ℕ, zero, suc, ◌+◌, ◌-◌, ◌<◌, ◌≤◌, Bool, true, false, List, [], ◌∷◌, ◌++◌, map, take, drop, get_or, length, reverse, refl, sym, ◌∙◌, ap, arith, append_assoc, length-append}
+use Rattle.std.specs.Prelude.{ℤ, Option, Some, None, if◌then◌else◌}
+use Rattle.std.specs.List.{cons_option, filter_map}
+use Rattle.std.specs.Map.{lookup}
 use Rattle.std.specs.Option.{option_map}
+use Rattle.std.specs.Ordering.{int_eq}
 use Rattle.std.proofs.lemmas.Grind.{reverse_onto}
 use Rattle.std.proofs.lemmas.List.{append-nil, drop_more, drop-map, length-map, length-reverse, length-take-le, map-append, reverse-append, take-map, take_more}
 use Rattle.std.proofs.Math.Seq.{drop-append_seam, take-append_seam}
 use Rattle.trace_ops.specs.declared.held.Init.{Init as Lent}
+use Rattle.mpi_model.specs.declared.event.OpName.{OpName}
+use Rattle.trace_ops.specs.Active.{held_of, held_still, idle_of, rising, unless_active}
 use Rattle.trace_ops.specs.Calls.{Entry}
-use Rattle.trace_ops.specs.Held.{Holds, Init, held_in, inits_at, inits_from, plain_init}
-use Rattle.trace_ops.specs.Request.{started_by}
+use Rattle.trace_ops.specs.Held.{Holds, Init, changes_hold, held_in, hold_by, inits_at, inits_from, plain_init}
+use Rattle.trace_ops.specs.Request.{given_of, is_init, started_by}
 use Rattle.trace_ops.specs.Steps.{steps_at, steps_from}
 
 -- the calls before the next place, the last of them first
@@ -112,3 +117,30 @@ pub steps_more : (calls : List Entry) (n : ℕ) (c : Entry) → n < length calls
 steps_more calls n c lt at =
     ap (λ (l : List Entry). steps_at (reverse (take n calls)) c ++ steps_from l (drop (n + 1) calls)) (before_more calls n c lt at)
     ∙ sym (ap (steps_from (reverse (take n calls))) (front calls n c lt at))
+
+-- a map without entries has nothing at any number
+pub none_kept : (es : List (ℤ × Lent)) (x : ℤ) → length es ≡ 0 → lookup (int_eq x) es ≡ None
+none_kept [] x h = refl
+none_kept (e ∷ es) x h = absurd (omega (arith, h))
+
+-- Where no number is held, none is held behind a call that is no init.
+pub none_more : (before : List Entry) (c : Entry) (kept : ℤ → Option Lent) → ((x : ℤ) → kept x ≡ None) → is_init c.call ≡ false → Holds before kept → Holds (c ∷ before) kept
+none_more before c kept none k h x = by (changes_hold x c)
+  where
+    by : (b : Bool) → option_map plain_init (kept x) ≡ (if b then hold_by (length before) c else held_in before x)
+    by true = ap (option_map plain_init) (none x) ∙ sym (rw k refl)
+    by false = h x
+
+no_still : (all : List Entry) (n : ℕ) (o : Option ℤ) → ((x : ℤ) → held_in all x ≡ None) → held_still all n o ≡ None
+no_still all n None none = refl
+no_still all n (Some x) none = rw (none x) refl
+
+no_held : (all : List Entry) (n : ℕ) (calls : List Entry) → ((x : ℤ) → held_in all x ≡ None) → held_of all n calls ≡ []
+no_held all n [] none = refl
+no_held all n (c ∷ calls) none =
+    ap (λ (o : Option ℤ). cons_option o (held_of all (n + 1) calls)) (no_still all n (given_of c.call c.outs) none) ∙ no_held all (n + 1) calls none
+
+-- Where no number is held at the end, none is idle.
+pub none_idle : (active : List (ℤ × OpName)) (calls : List Entry) (kept : ℤ → Option Lent) → ((x : ℤ) → kept x ≡ None) → Holds (reverse calls) kept → [] ≡ idle_of active calls
+none_idle active calls kept none h =
+    sym (ap (λ (l : List ℤ). rising (filter_map (unless_active active) l)) (no_held (reverse calls) 0 calls (λ x. sym (h x) ∙ ap (option_map plain_init) (none x))))

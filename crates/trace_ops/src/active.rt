@@ -14,7 +14,7 @@ ghost use Rattle.trace_ops.specs.Steps.{Step};
 use crate::called::Called;
 use crate::completed::push_some;
 use crate::fate::Fate;
-use crate::held::{Held, init_of};
+use crate::held::{Held, holds_none, init_of};
 use indexmap::IndexMap;
 use mpi_model::OpName;
 use std::alloc::{AllocError, Global};
@@ -113,6 +113,9 @@ pub(crate) fn idle_of(
     requires { Holds (reverse calls.now) (get int_eq held.now) }
     ensures { IfOk result (λ idle. idle.items ≡ idle_of active.now calls.now) }
 {
+    if holds_none(held) {
+        return Ok(Vec::new(alloc));
+    }
     let numbers = held_of(alloc, held, calls)?;
     rising(not_active(alloc, active, &numbers)?)
 }

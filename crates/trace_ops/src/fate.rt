@@ -1,8 +1,7 @@
 //! What becomes of a request, by the calls behind the one that posted it.
 
 ghost use Rattle.std.specs.Prelude.{◌≡◌, ℤ, Option, None, Some, List, if◌then◌else◌, drop, slice_get};
-ghost use Rattle.indexmap.specs.IndexMap.{get};
-ghost use Rattle.std.specs.Ordering.{int_eq};
+ghost use Rattle.trace_ops.specs.declared.touched.Touch.{Touch};
 ghost use Rattle.trace_ops.specs.Ended.{ended_of_post};
 ghost use Rattle.trace_ops.specs.Fate.{IsFateOf, TellsFate};
 ghost use Rattle.trace_ops.specs.Steps.{Step};
@@ -11,7 +10,7 @@ ghost use Rattle.trace_ops.specs.Touched.{Follows, completed_at, ended_at, is_ma
 
 use crate::called::Called;
 use crate::completed::Completed;
-use crate::touched::{End, Touch, Touched, end_of, touch_of};
+use crate::touched::{End, Touch, end_of};
 
 /// What the calls behind a post tell of the request that it posted.
 #[derive(Clone, Copy, Debug)]
@@ -124,11 +123,11 @@ fn ended_at(calls: &[Called<'_>], end: Option<End>) -> Option<u64>
     }
 }
 
-/// What becomes of the request of this number, where `touched` follows the calls behind its post.
-fn fate_by<'a>(touched: &Touched, calls: &'a [Called<'_>], request: i64) -> Fate<'a>
-    ensures { (later : List Step) → Follows calls.now later (get int_eq touched.now) → TellsFate request later result }
+/// What becomes of the request of this number, by what is kept of it of the steps behind its post.
+#[inline(always)]
+fn fate_by<'a>(touch: Option<Touch>, calls: &'a [Called<'_>], request: i64) -> Fate<'a>
+    ensures { (later : List Step) (kept : ℤ → Option Touch) → touch ≡ kept request → Follows calls.now later kept → TellsFate request later result }
 {
-    let touch = touch_of(touched, request);
     let end = end_of(touch);
     Fate {
         request,
@@ -140,16 +139,17 @@ fn fate_by<'a>(touched: &Touched, calls: &'a [Called<'_>], request: i64) -> Fate
     }
 }
 
-/// What becomes of the request that is posted, if one is, where `touched` follows the steps behind its post.
+/// What becomes of the request that is posted, if one is, by what is kept of its number of the steps behind its post.
+#[inline(always)]
 pub(crate) fn fate_of<'a>(
-    touched: &Touched,
+    touch: Option<Touch>,
     calls: &'a [Called<'_>],
     posted: Option<i64>,
 ) -> Option<Fate<'a>>
-    ensures { (later : List Step) → Follows calls.now later (get int_eq touched.now) → IsFateOf posted later result }
+    ensures { (later : List Step) (kept : ℤ → Option Touch) → ((x : ℤ) → posted ≡ Some x → touch ≡ kept x) → Follows calls.now later kept → IsFateOf posted later result }
 {
     let request = posted?;
-    Some(fate_by(touched, calls, request))
+    Some(fate_by(touch, calls, request))
 }
 
 /// What is told of the source of an Irecv, by the fate of its request.

@@ -1,6 +1,6 @@
 //! Which inits hold the request numbers that calls start.
 
-ghost use Rattle.std.specs.Prelude.{◌≡◌, ◌<◌, ◌++◌, ◌∷◌, ◌^◌, ℤ, pos, nat_lt, List, [], None, Some, map, length, reverse, slice_index_or, if◌then◌else◌, IfOk, OnOk};
+ghost use Rattle.std.specs.Prelude.{◌≡◌, ◌<◌, ◌++◌, ◌∷◌, ◌^◌, ℤ, pos, IsTrue, nat_lt, List, [], None, Some, map, length, reverse, slice_index_or, if◌then◌else◌, IfOk, OnOk};
 ghost use Rattle.std.specs.Ordering.{int_eq};
 ghost use Rattle.std.specs.Option.{option_map};
 ghost use Rattle.indexmap.specs.IndexMap.{get};
@@ -82,8 +82,33 @@ fn note_none(held: &mut Held<'_>, x: i64)
     let _init = held.swap_remove(&x);
 }
 
-/// Goes one call on: the init holds its number, and a number that is given or freed otherwise is held no longer.
+/// Whether no init holds a number.
+pub(crate) fn holds_none(held: &Held<'_>) -> bool
+    ensures { IsTrue result → (x : ℤ) → get int_eq held.now x ≡ None }
+{
+    held.is_empty()
+}
+
+/// Whether no init holds a number, and the call is none: then no init holds a number behind it.
+fn still_holds_none(held: &Held<'_>, called: &Called<'_>) -> bool
+    ensures { IsTrue result → (before : List Entry) → Holds before (get int_eq held.now) → Holds (called.now ∷ before) (get int_eq held.now) }
+{
+    holds_none(held) && !is_init(called.call())
+}
+
+/// Goes one call on. Nearly always no init holds a number, and there is nothing to look up.
 fn hold<'a>(held: &mut Held<'a>, n: u64, called: &'a Called<'_>) -> Result<(), AllocError>
+    ensures { OnOk result ((before : List Entry) → length before ≡ n → Holds before (get int_eq held.old) → Holds (called.now ∷ before) (get int_eq held.new)) }
+{
+    if still_holds_none(held, called) {
+        Ok(())
+    } else {
+        change_hold(held, n, called)
+    }
+}
+
+/// Goes one call on: the init holds its number, and a number that is given or freed otherwise is held no longer.
+fn change_hold<'a>(held: &mut Held<'a>, n: u64, called: &'a Called<'_>) -> Result<(), AllocError>
     ensures { OnOk result ((before : List Entry) → length before ≡ n → Holds before (get int_eq held.old) → Holds (called.now ∷ before) (get int_eq held.new)) }
 {
     match (called.given(), called.freed()) {

@@ -1,11 +1,11 @@
 //! Which request numbers the calls behind touch or cancel, and what they tell of them.
 
-ghost use Rattle.std.specs.Prelude.{◌≡◌, ◌<◌, ◌∷◌, ℤ, List, Some, if◌then◌else◌, length, slice_get, OnOk};
+ghost use Rattle.std.specs.Prelude.{◌≡◌, ◌<◌, ◌∷◌, ℤ, List, Some, if◌then◌else◌, length, slice_get, IfOk, OnOk};
 ghost use Rattle.std.specs.Option.{option_map};
 ghost use Rattle.indexmap.specs.IndexMap.{get};
 ghost use Rattle.std.specs.Ordering.{int_eq};
 ghost use Rattle.trace_ops.specs.Calls.{Entry};
-ghost use Rattle.trace_ops.specs.Request.{is_completed};
+ghost use Rattle.trace_ops.specs.Request.{given_of, is_completed};
 ghost use Rattle.trace_ops.specs.Steps.{IsPartOf, Step, given_by, whole};
 ghost use Rattle.trace_ops.specs.Touched.{Follows, end_of, ends_at, marked, voided, with_telling, with_tellings};
 
@@ -128,12 +128,14 @@ fn voided(touch: Touch) -> Touch
     }
 }
 
-/// Notes the number that the call posts.
-fn note_post(touched: &mut Touched, call: usize, request: i64) -> Result<(), AllocError>
-    ensures { OnOk result ((x : ℤ) → get int_eq touched.new x ≡ (if int_eq request x then Some (ends_at call 0) else get int_eq touched.old x)) }
+/// Notes the number that the call posts, and answers what was kept of it.
+#[inline(always)]
+fn note_post(touched: &mut Touched, call: usize, request: i64) -> Result<Option<Touch>, AllocError>
+    ensures noted { OnOk result ((x : ℤ) → get int_eq touched.new x ≡ (if int_eq request x then Some (ends_at call 0) else get int_eq touched.old x)) }
+    ensures kept { IfOk result (λ touch. touch ≡ get int_eq touched.old request) }
 {
-    touched.insert(request, ends_at(call, 0))?;
-    Ok(())
+    let touch = touched.insert(request, ends_at(call, 0))?;
+    Ok(touch)
 }
 
 /// Notes the number that a Cancel names.
@@ -151,33 +153,50 @@ fn note_cancel(touched: &mut Touched, request: i64) -> Result<(), AllocError>
     Ok(())
 }
 
-/// Goes one step on to the front: a call that is one step.
-pub(crate) fn note(touched: &mut Touched, calls: &[Called<'_>], n: usize) -> Result<(), AllocError>
+/// Goes one step on to the front: a call that is one step. Answers what was kept of the number that it gives.
+#[inline(always)]
+pub(crate) fn note(
+    touched: &mut Touched,
+    calls: &[Called<'_>],
+    n: usize,
+) -> Result<Option<Touch>, AllocError>
     requires { n < length calls.now }
-    ensures { OnOk result ((c : Entry) (later : List Step) → slice_get calls.now n ≡ Some c → Follows calls.now later (get int_eq touched.old) → Follows calls.now (whole n c ∷ later) (get int_eq touched.new)) }
+    ensures follows { OnOk result ((c : Entry) (later : List Step) → slice_get calls.now n ≡ Some c → Follows calls.now later (get int_eq touched.old) → Follows calls.now (whole n c ∷ later) (get int_eq touched.new)) }
+    ensures kept { IfOk result (λ touch. (c : Entry) (x : ℤ) → slice_get calls.now n ≡ Some c → given_of c.call c.outs ≡ Some x → touch ≡ get int_eq touched.old x) }
 {
     let called = &calls[n];
     match (called.cancels(), called.given()) {
-        (Some(request), _) => note_cancel(touched, request)?,
-        (None, Some(request)) => note_post(touched, n, request)?,
+        (Some(request), _) => {
+            note_cancel(touched, request)?;
+            Ok(None)
+        }
+        (None, Some(request)) => {
+            let touch = note_post(touched, n, request)?;
+            Ok(touch)
+        }
         (None, None) => {
             note_completed(touched, n, called.completed())?;
             note_tellings(touched, n, called.completed())?;
+            Ok(None)
         }
     }
-    Ok(())
 }
 
-/// Goes one step on to the front: a part of a Start or Startall, which gives its number anew, if one.
+/// Goes one step on to the front: a part of a Start or Startall, which gives its number anew, if one. Answers what was
+/// kept of that number.
 pub(crate) fn note_part(
     touched: &mut Touched,
     n: usize,
     given: Option<i64>,
-) -> Result<(), AllocError>
-    ensures { OnOk result ((calls : List Entry) (later : List Step) (s : Step) → IsPartOf calls n s → given ≡ given_by s → Follows calls later (get int_eq touched.old) → Follows calls (s ∷ later) (get int_eq touched.new)) }
+) -> Result<Option<Touch>, AllocError>
+    ensures follows { OnOk result ((calls : List Entry) (later : List Step) (s : Step) → IsPartOf calls n s → given ≡ given_by s → Follows calls later (get int_eq touched.old) → Follows calls (s ∷ later) (get int_eq touched.new)) }
+    ensures kept { IfOk result (λ touch. (x : ℤ) → given ≡ Some x → touch ≡ get int_eq touched.old x) }
 {
-    if let Some(request) = given {
-        note_post(touched, n, request)?;
+    match given {
+        Some(request) => {
+            let touch = note_post(touched, n, request)?;
+            Ok(touch)
+        }
+        None => Ok(None),
     }
-    Ok(())
 }

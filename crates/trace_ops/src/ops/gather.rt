@@ -80,7 +80,9 @@ impl Gathered {
             part: 0,
         };
         let group = group_of(layout, rank, number, call);
-        let fate = fate_of(&self.touched, calls, called.posted());
+        let posted = called.posted();
+        let touch = note(&mut self.touched, calls, n)?;
+        let fate = fate_of(touch, calls, posted);
         push_some(&mut self.sends, message_in(group, name, call, fate))?;
         push_some(
             &mut self.receives,
@@ -91,7 +93,6 @@ impl Gathered {
         push_some(&mut self.cancelled, cancelled_with(name, fate))?;
         self.foreign = with_call(self.foreign, group, call);
         self.given_back = gives_back(call, fate, self.given_back);
-        note(&mut self.touched, calls, n)?;
         Ok(())
     }
 
@@ -117,7 +118,8 @@ impl Gathered {
         };
         let group = group_of(layout, rank, part.init.number, &call);
         let given = called.restarts(part.request);
-        let fate = fate_of(&self.touched, calls, given);
+        let touch = note_part(&mut self.touched, n, given)?;
+        let fate = fate_of(touch, calls, given);
         push_some(&mut self.sends, message_in(group, name, &call, fate))?;
         push_some(
             &mut self.receives,
@@ -125,7 +127,6 @@ impl Gathered {
         )?;
         push_some(&mut self.active, still_active(name, fate))?;
         push_some(&mut self.cancelled, cancelled_with(name, fate))?;
-        note_part(&mut self.touched, n, given)?;
         Ok(())
     }
 

@@ -1,5 +1,7 @@
-use Rattle.std.proofs.Common.{◌≡◌, refl, ◌∙◌, ap, subst}
+use Rattle.std.proofs.Common.{◌≡◌, refl, sym, ◌∙◌, ap, subst}
 use Rattle.std.specs.Prelude.{ℤ, Option}
+use Rattle.std.specs.Ordering.{int_eq}
+use Rattle.indexmap.specs.IndexMap.{get}
 use Rattle.trace_ops.specs.Active.{active_of, active_post}
 use Rattle.trace_ops.specs.Calls.{Entry}
 use Rattle.trace_ops.specs.Fate.{IsFateOf}
@@ -9,7 +11,7 @@ use Rattle.trace_ops.specs.Receive.{receive_of, receives_of}
 use Rattle.trace_ops.specs.Round.{entered_of, rounds_of}
 use Rattle.trace_ops.specs.Steps.{Placed, Step, posted_by, whole}
 use Rattle.trace_ops.specs.Trust.{cancelled_of, cancelled_post}
-use Rattle.trace_ops.proofs.Behind.{read_at}
+use Rattle.trace_ops.proofs.Behind.{posts_given, read_at}
 use Rattle.trace_ops.proofs.Taken.{counted_more, turned_more}
 use Rattle.trace_ops.proofs.ops.gather.Gathered.add_whole.Goals as goal
 
@@ -21,9 +23,9 @@ returns-clause-gathered c read later k before =
     let same : c.index-calls-n.result ≡ read = read_at c.args.calls.now c.args.n c.index-calls-n.result read c.requires.place c.index-calls-n.is k in
     let s = whole n read in
     let p : Placed = record { step = s; later = later } in
-    let fate = c.fate_of-fate.ensures later before.touched in
     let call : c.call-call.result.now ≡ read.call = c.call-call.ensures ∙ ap (λ (e : Entry). e.call) same in
-    let posted : c.posted.result ≡ posted_by s = c.posted.ensures ∙ ap (λ (e : Entry). posted_by (whole n e)) same in
+    let posted : c.posted-posted.result ≡ posted_by s = c.posted-posted.ensures ∙ ap (λ (e : Entry). posted_by (whole n e)) same in
+    let fate = c.fate_of-fate.ensures later (get int_eq c.args.self.now.touched) (λ x h. c.in_ok-touch.ensures.kept read x k (posts_given n read x (sym posted ∙ h))) before.touched in
     let told : IsFateOf (posted_by s) later c.fate_of-fate.result = subst (λ (o : Option ℤ). IsFateOf o later c.fate_of-fate.result) posted fate in
     record {
       sends = turned_more c.args.self.now.sends.items c.push_some.new.list.items (sends_of layout rank later) c.message_in.result (message_of layout rank p)
@@ -39,5 +41,5 @@ returns-clause-gathered c read later k before =
       foreign = counted_more (λ (x : Step). is_foreign layout rank x.number x.entry.call) s later c.args.self.now.foreign c.with_call-self.result (is_foreign layout rank n read.call)
           refl (cc (c.with_call-self.ensures, c.group_of-group.ensures, call)) before.foreign;
       given_back = cc (c.gives_back-self.ensures later (posted_by s) told before.given_back, call);
-      touched = c.in_ok-note.ensures read later k before.touched;
+      touched = c.in_ok-touch.ensures.follows read later k before.touched;
     }
