@@ -18,8 +18,8 @@ use Rattle.trace_ops.specs.Ended.{ended_by}
 use Rattle.trace_ops.specs.Request.{given_of, completions, is_completed, is_init, is_posted}
 use Rattle.trace_ops.specs.Steps.{Step, given_by, completed_by, posted_by, touches, whole}
 use Rattle.trace_ops.specs.Source.{told_in, told_by}
-use Rattle.trace_ops.specs.Touched.{Follows, ended_at, ends_at, end_of, marked, is_marked, is_void_end, tellings_of, voided_end, with_told, with_tellings}
-use Rattle.trace_ops.specs.Trust.{cancel_of, cancels, has_cancel, said_in, said_by}
+use Rattle.trace_ops.specs.Touched.{Follows, ended_at, ends_at, end_of, is_any_cancelled, marked, is_marked, is_void_end, tellings_of, voided_end, with_firsts, with_told, with_tellings}
+use Rattle.trace_ops.specs.Trust.{cancel_of, cancels, first_said, has_cancel, said_in, said_by}
 
 -- a call that gives a number completes nothing
 quiet : (call : Call) (outs : Option Outs) (x : ℤ) → given_of call outs ≡ Some x → completions call outs ≡ []
@@ -50,6 +50,22 @@ drop_all : {X : Type 0} (xs : List X) → drop (length xs) xs ≡ []
 drop_all [] = refl
 drop_all (x ∷ xs) = drop_all xs
 
+or_right : (a b : Bool) → (a || b) ≡ false → b ≡ false
+or_right true b h = cc
+or_right false b h = h
+
+-- where no completion says that its request was cancelled, none says so of this one
+never_said : (x : ℤ) (done : List Completed) → is_any_cancelled done ≡ false → is_cancelled (said_in x done) ≡ false
+never_said x [] n = refl
+never_said x (c ∷ done) n = by (int_eq c.request x) c.told n (never_said x done)
+  where
+    by : (b : Bool) (told : Told) → (is_cancelled told || is_any_cancelled done) ≡ false → (is_any_cancelled done ≡ false → is_cancelled (said_in x done) ≡ false) →
+        is_cancelled (if b then first_said told (said_in x done) else said_in x done) ≡ false
+    by false told h more = more (or_right (is_cancelled told) (is_any_cancelled done) h)
+    by true Nothing h more = more h
+    by true (Source rank) h more = refl
+    by true Cancelled h more = cc
+
 -- What is kept of the number says what these completions tell, the last of the call's whole ones.
 record Tells (whole : List Completed) (call : ℕ) (x : ℤ) (rest : List Completed) (e : End) : Type 0 where
   at : e.call ≡ call
@@ -77,6 +93,32 @@ module _ (whole : List Completed) (call : ℕ) (x : ℤ) where
   all_told i (c ∷ rest) d =
       let more = all_told (i + 1) rest (drop_tail whole i c rest d) in
       one_more i c rest (with_tellings call (i + 1) rest x (Some (ends_at call (length whole)))) (int_eq c.request x) refl d more.0 more.1 more.2
+
+  -- the first completion of a number, where none says that it was cancelled
+  all_firsts : (i : ℕ) (rest : List Completed) (touch : Option Touch) → drop i whole ≡ rest → is_any_cancelled rest ≡ false → is_completed x rest ≡ true →
+      (e : End) × Kept (with_firsts call i rest x touch) e × Tells whole call x rest e
+  all_firsts i [] touch d n h = absurd (cc)
+  all_firsts i (c ∷ rest) touch d n h =
+      by (int_eq c.request x) refl h (all_firsts (i + 1) rest touch (drop_tail whole i c rest d) (or_right (is_cancelled c.told) (is_any_cancelled rest) n))
+    where
+      by : (b : Bool) → b ≡ int_eq c.request x → (b || is_completed x rest) ≡ true →
+          (is_completed x rest ≡ true → (e : End) × Kept (with_firsts call (i + 1) rest x touch) e × Tells whole call x rest e) →
+          (e : End) × Kept (if b then Some (ends_at call i) else with_firsts call (i + 1) rest x touch) e × Tells whole call x (c ∷ rest) e
+      by true k g later =
+          (record { call = call; place = i; void = false }, refl, record { at = refl; void = sym (never_said x (c ∷ rest) n); told = λ members. sym (ap (told_in members x) d) })
+      by false k g later =
+          let more = later g in
+          (more.0, more.1, record { at = more.2.at; void = rw (sym k) more.2.void; told = λ members. rw (sym k) (more.2.told members) })
+
+-- where none completes, none is noted
+unmet_firsts : (call i : ℕ) (x : ℤ) (done : List Completed) (touch : Option Touch) → is_completed x done ≡ false → with_firsts call i done x touch ≡ touch
+unmet_firsts call i x [] touch h = refl
+unmet_firsts call i x (c ∷ done) touch h = by (int_eq c.request x) h (unmet_firsts call (i + 1) x done touch)
+  where
+    by : (b : Bool) → (b || is_completed x done) ≡ false → (is_completed x done ≡ false → with_firsts call (i + 1) done x touch ≡ touch) →
+        (if b then Some (ends_at call i) else with_firsts call (i + 1) done x touch) ≡ touch
+    by false h more = more h
+    by true h more = cc
 
 -- where none completes, none tells
 unmet : (call i : ℕ) (x : ℤ) (done : List Completed) (touch : Option Touch) → is_completed x done ≡ false → with_tellings call i done x touch ≡ touch
@@ -182,6 +224,32 @@ module _ (calls : List Entry) (s : Step) (later : List Step) (old new : ℤ → 
             void = rw t all.2.void;
             told = λ members. rw (t, all.2.at, at) (sym (all.2.told members));
           })
+
+  follows_noted : slice_get calls s.number ≡ Some s.entry → cancel_of s.entry.call ≡ None → given_by s ≡ None → is_any_cancelled (completed_by s) ≡ false →
+      ((x : ℤ) → new x ≡ with_firsts s.number 0 (completed_by s) x (old x)) → Follows calls later old → Follows calls (s ∷ later) new
+  follows_noted at q p n h f = by_one new (λ x. one x (is_completed x (completed_by s)) refl)
+    where
+      touches_it : (x : ℤ) → touches x s ≡ is_completed x (completed_by s)
+      touches_it x = ap (λ (o : Option ℤ). is_posted o x || is_completed x (completed_by s)) p
+
+      one : (x : ℤ) (b : Bool) → b ≡ is_completed x (completed_by s) → FollowsOne calls (s ∷ later) x (new x)
+      one x false k = passes x (new x) f (h x ∙ unmet_firsts s.number 0 x (completed_by s) (old x) (sym k)) (touches_it x ∙ sym k) (cancels_none q x)
+      one x true k =
+          let all = all_firsts (completed_by s) s.number x 0 (completed_by s) (old x) refl n (sym k) in
+          let e : new x ≡ Some (record { end = Some all.0; cancelled = false }) = h x ∙ all.1 in
+          let t : touches x s ≡ true = touches_it x ∙ sym k in
+          rw e (record {
+            ended = rw t refl;
+            by = rw (t, all.2.at, at) refl;
+            cancelled = rw (t, cancels_none q x) refl;
+            void = rw t all.2.void;
+            told = λ members. rw (t, all.2.at, at) (sym (all.2.told members));
+          })
+
+  pub follows_firsts : (done : List Completed) → done ≡ completed_by s → slice_get calls s.number ≡ Some s.entry → cancel_of s.entry.call ≡ None → given_by s ≡ None →
+      is_any_cancelled done ≡ false → ((x : ℤ) → new x ≡ with_firsts s.number 0 done x (old x)) → Follows calls later old → Follows calls (s ∷ later) new
+  follows_firsts done e at q p n h f =
+      follows_noted at q p (ap is_any_cancelled (sym e) ∙ n) (λ x. h x ∙ ap (λ (l : List Completed). with_firsts s.number 0 l x (old x)) e) f
 
   pub follows_completed : (middle : ℤ → Option Touch) (one two : List Completed) → one ≡ completed_by s → two ≡ completed_by s → slice_get calls s.number ≡ Some s.entry → cancel_of s.entry.call ≡ None → given_by s ≡ None →
       ((x : ℤ) → middle x ≡ cond (is_completed x one) (Some (ends_at s.number (length one))) (old x)) →

@@ -43,6 +43,15 @@ abbrev pub with_tellings : ℕ → ℕ → List Completed → ℤ → Option Tou
 with_tellings call place [] x touch = touch
 with_tellings call place (c ∷ done) x touch = with_telling call place x c (with_tellings call (place + 1) done x touch)
 
+-- one of these completions says that its request was cancelled
+abbrev pub is_any_cancelled : List Completed → Bool
+is_any_cancelled done = list_any (λ c. is_cancelled c.told) done
+
+-- what the completions of a call, from a place on, make of what is kept of the number, where none says that it was cancelled
+abbrev pub with_firsts : ℕ → ℕ → List Completed → ℤ → Option Touch → Option Touch
+with_firsts call place [] x touch = touch
+with_firsts call place (c ∷ done) x touch = if int_eq c.request x then Some (ends_at call place) else with_firsts call (place + 1) done x touch
+
 -- the call that ends a number, where one does
 abbrev pub end_of : Option Touch → Option End
 end_of touch = option_and_then (λ t. t.end) touch

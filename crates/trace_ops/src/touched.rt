@@ -1,13 +1,14 @@
 //! Which request numbers the calls behind touch or cancel, and what they tell of them.
 
-ghost use Rattle.std.specs.Prelude.{◌≡◌, ◌<◌, ◌∷◌, ℤ, List, Some, if◌then◌else◌, length, slice_get, IfOk, OnOk};
+ghost use Rattle.std.specs.Prelude.{◌≡◌, ◌<◌, ◌∷◌, ℤ, List, Some, if◌then◌else◌, None, length, slice_get, IfOk, OnOk};
 ghost use Rattle.std.specs.Option.{option_map};
 ghost use Rattle.indexmap.specs.IndexMap.{get};
 ghost use Rattle.std.specs.Ordering.{int_eq};
 ghost use Rattle.trace_ops.specs.Calls.{Entry};
-ghost use Rattle.trace_ops.specs.Request.{given_of, is_completed};
+ghost use Rattle.trace_ops.specs.Request.{completions, given_of, is_completed};
 ghost use Rattle.trace_ops.specs.Steps.{IsPartOf, Step, given_by, whole};
-ghost use Rattle.trace_ops.specs.Touched.{Follows, end_of, ends_at, marked, voided, with_telling, with_tellings};
+ghost use Rattle.trace_ops.specs.Touched.{Follows, end_of, ends_at, is_any_cancelled, marked, voided, with_firsts, with_telling, with_tellings};
+ghost use Rattle.trace_ops.specs.Trust.{cancel_of};
 
 use crate::called::Called;
 use crate::completed::Completed;
@@ -84,6 +85,58 @@ fn note_tellings(touched: &mut Touched, call: usize, done: &[Completed]) -> Resu
         note_telling(touched, call, place, &done[place])?;
     }
     Ok(())
+}
+
+/// Whether one of the completions says that its request was cancelled.
+fn is_any_cancelled(done: &[Completed]) -> bool
+    ensures { result ≡ is_any_cancelled done.now }
+{
+    for completed in done {
+        if matches!(completed.told, Told::Cancelled) {
+            return true;
+        }
+    }
+    false
+}
+
+/// Notes the number that the completion at a place completes.
+fn note_first(
+    touched: &mut Touched,
+    call: usize,
+    place: usize,
+    completed: &Completed,
+) -> Result<(), AllocError>
+    ensures { OnOk result ((x : ℤ) → get int_eq touched.new x ≡ (if int_eq completed.now.request x then Some (ends_at call place) else get int_eq touched.old x)) }
+{
+    touched.insert(completed.request, ends_at(call, place))?;
+    Ok(())
+}
+
+/// Notes for each number its first completion: the last of them first, so that at the end the first one stays.
+fn note_firsts(touched: &mut Touched, call: usize, done: &[Completed]) -> Result<(), AllocError>
+    ensures { OnOk result ((x : ℤ) → get int_eq touched.new x ≡ with_firsts call 0 done.now x (get int_eq touched.old x)) }
+{
+    let mut place = done.len();
+    while place > 0 {
+        place -= 1;
+        note_first(touched, call, place, &done[place])?;
+    }
+    Ok(())
+}
+
+/// Goes one step on to the front: a call that gives no number and cancels none. Where none of its completions says that
+/// its request was cancelled, each is noted once.
+fn note_done(touched: &mut Touched, n: usize, done: &[Completed]) -> Result<(), AllocError>
+    ensures { OnOk result ((calls : List Entry) (c : Entry) (later : List Step) → slice_get calls n ≡ Some c → done.now ≡ completions c.call c.outs → cancel_of c.call ≡ None → given_of c.call c.outs ≡ None → Follows calls later (get int_eq touched.old) → Follows calls (whole n c ∷ later) (get int_eq touched.new)) }
+{
+    if is_any_cancelled(done) {
+        note_completed(touched, n, done)?;
+        note_tellings(touched, n, done)?;
+        Ok(())
+    } else {
+        note_firsts(touched, n, done)?;
+        Ok(())
+    }
 }
 
 /// Notes what the completion tells.
@@ -175,8 +228,7 @@ pub(crate) fn note(
             Ok(touch)
         }
         (None, None) => {
-            note_completed(touched, n, called.completed())?;
-            note_tellings(touched, n, called.completed())?;
+            note_done(touched, n, called.completed())?;
             Ok(None)
         }
     }

@@ -3,9 +3,8 @@ use Rattle.std.specs.Prelude.{ℤ, Some}
 use Rattle.std.proofs.lemmas.Int.{to_z-of_z}
 use Rattle.std.specs.Ordering.{int_eq}
 use Rattle.indexmap.specs.IndexMap.{get}
-use Rattle.trace_ops.specs.Steps.{whole}
 use Rattle.trace_ops.specs.Touched.{ends_at, marked}
-use Rattle.trace_ops.proofs.Behind.{read_at, follows_completed, idle, whole_cancel, whole_given}
+use Rattle.trace_ops.proofs.Behind.{read_at, idle, whole_cancel, whole_given}
 use Rattle.trace_ops.proofs.touched.note.Goals as goal
 
 pub returns-in_ok-note_cancel-in-Some-default-clause-follows : goal.returns-in_ok-note_cancel-in-Some-default-clause-follows
@@ -24,12 +23,10 @@ returns-in_ok-touch-in-None-Some-clause-follows c entry later at f =
     c.in-None-Some.request at (rw (sym same) (sym c.cancels.ensures ∙ c.in-None-Some.is-0)) (rw (sym same) (sym c.given.ensures ∙ c.in-None-Some.is-1))
     (λ x. c.in_ok-touch-in-None-Some.ensures.noted x ∙ ap (λ (z : ℤ). cond (int_eq z x) (Some (ends_at c.args.n 0)) (get int_eq c.args.touched.now x)) back) f
 
-pub returns-in_ok-note_tellings-in-None-None-clause-follows : goal.returns-in_ok-note_tellings-in-None-None-clause-follows
-returns-in_ok-note_tellings-in-None-None-clause-follows c entry later at f =
+pub returns-in_ok-note_done-in-None-None-clause-follows : goal.returns-in_ok-note_done-in-None-None-clause-follows
+returns-in_ok-note_done-in-None-None-clause-follows c entry later at f =
     let same = read_at c.args.calls.now c.args.n c.index-calls-n.result entry c.requires c.index-calls-n.is at in
-    follows_completed c.args.calls.now (whole c.args.n entry) later (get int_eq c.args.touched.now) (get int_eq c.note_tellings.new.touched)
-    (get int_eq c.note_completed.new.touched) c.completed.result.now c.completed-in-None-None.result.now (rw (sym same) c.completed.ensures) (rw (sym same) c.completed-in-None-None.ensures)
-    at (rw (sym same) (sym c.cancels.ensures ∙ c.in-None-None.is-0)) (rw (sym same) (sym c.given.ensures ∙ c.in-None-None.is-1)) c.in_ok-note_completed-in-None-None.ensures c.in_ok-note_tellings-in-None-None.ensures f
+    c.in_ok-note_done-in-None-None.ensures c.args.calls.now entry later at (rw (sym same) c.completed.ensures) (rw (sym same) (sym c.cancels.ensures ∙ c.in-None-None.is-0)) (rw (sym same) (sym c.given.ensures ∙ c.in-None-None.is-1)) f
 
 pub returns-in_ok-note_cancel-in-Some-default-clause-kept : goal.returns-in_ok-note_cancel-in-Some-default-clause-kept
 returns-in_ok-note_cancel-in-Some-default-clause-kept c entry x at given =
