@@ -71,6 +71,7 @@ impl<'a> Called<'a> {
     }
 
     /// The request number that it gave: to what it started, or as an init.
+    #[inline(always)]
     pub fn given(&self) -> Option<i64>
         ensures { result ≡ given_of self.now.call self.now.outs }
     {
@@ -78,6 +79,7 @@ impl<'a> Called<'a> {
     }
 
     /// The request number that it posted: an init posts none.
+    #[inline(always)]
     pub fn posted(&self) -> Option<i64>
         ensures { result ≡ (if is_init self.now.call then None else given_of self.now.call self.now.outs) }
     {

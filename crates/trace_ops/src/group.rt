@@ -111,6 +111,7 @@ fn are_within(members: &[u32], call: &Call) -> bool
 
 /// The group in which call `n` of the rank takes part: none where the call names no communicator,
 /// or is foreign.
+#[inline(always)]
 pub(crate) fn group_of<'a>(layout: &'a Layout, rank: u32, n: u64, call: &Call) -> Option<Group<'a>>
     ensures { option_map plain result ≡ group_of layout.now rank n call.now }
 {
@@ -127,7 +128,7 @@ pub(crate) fn group_of<'a>(layout: &'a Layout, rank: u32, n: u64, call: &Call) -
 pub(crate) fn is_foreign_in(group: Option<Group<'_>>, call: &Call) -> bool
     ensures { result ≡ is_foreign_in (option_map plain group.entry) call.now }
 {
-    comm_of(call).is_some() && group.is_none()
+    group.is_none() && comm_of(call).is_some()
 }
 
 pub(crate) fn is_foreign(layout: &Layout, rank: u32, n: u64, call: &Call) -> bool

@@ -108,6 +108,7 @@ fn hold<'a>(held: &mut Held<'a>, n: u64, called: &'a Called<'_>) -> Result<(), A
 }
 
 /// Goes one call on: the init holds its number, and a number that is given or freed otherwise is held no longer.
+#[inline(never)]
 fn change_hold<'a>(held: &mut Held<'a>, n: u64, called: &'a Called<'_>) -> Result<(), AllocError>
     ensures { OnOk result ((before : List Entry) → length before ≡ n → Holds before (get int_eq held.old) → Holds (called.now ∷ before) (get int_eq held.new)) }
 {

@@ -49,6 +49,7 @@ fn message_to(
 }
 
 /// The message of a send to a rank of the group; a send to the null process moves nothing.
+#[inline(always)]
 fn sent_with(
     group: Group<'_>,
     name: OpName,
@@ -64,6 +65,7 @@ fn sent_with(
 }
 
 /// The message that a step starts in its group as this call, where it starts one.
+#[inline(always)]
 fn sent_by(group: Group<'_>, name: OpName, call: &Call, fate: Option<Fate<'_>>) -> Option<Message>
     ensures { (s : Step) (later : List Step) → IsFateOf (posted_by s) later fate.entry → result ≡ sent_by (plain group.entry) name s later call.now }
 {
@@ -82,6 +84,7 @@ fn sent_by(group: Group<'_>, name: OpName, call: &Call, fate: Option<Fate<'_>>) 
 }
 
 /// The message that a step of this name starts in its group as this call, by the fate of the request that it posts.
+#[inline(always)]
 pub(crate) fn message_in(
     group: Option<Group<'_>>,
     name: OpName,

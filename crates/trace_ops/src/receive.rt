@@ -43,6 +43,7 @@ fn receive_from(
 }
 
 /// The receive as which a call looks for a message.
+#[inline(always)]
 fn taken_with(
     group: Group<'_>,
     name: OpName,
@@ -146,6 +147,7 @@ fn matched_with(
 }
 
 /// The receive as which a step looks for a message in its group as this call, where it does.
+#[inline(always)]
 fn taken_by(
     group: Group<'_>,
     name: OpName,
@@ -191,6 +193,7 @@ fn taken_by(
 
 /// The receive that a step of this name starts in its group as this call, by the fate of the request that it posts, and
 /// by whether an Imrecv behind it may give a message back.
+#[inline(always)]
 pub(crate) fn receive_in(
     group: Option<Group<'_>>,
     name: OpName,

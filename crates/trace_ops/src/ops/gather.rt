@@ -131,6 +131,7 @@ impl Gathered {
     }
 
     /// Adds what all parts of the Start or Startall at a place tell, by what holds its numbers.
+    #[inline(never)]
     fn add_parts(
         &mut self,
         layout: &Layout,
