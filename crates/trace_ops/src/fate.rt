@@ -112,6 +112,7 @@ fn tellings_of<'a>(calls: &'a [Called<'_>], end: Option<End>) -> &'a [Completed]
 }
 
 /// The call whose outcome completes a request, where the call that ends it has one.
+#[inline(always)]
 fn ended_at(calls: &[Called<'_>], end: Option<End>) -> Option<u64>
     ensures { result ≡ ended_at calls.now end }
 {

@@ -17,6 +17,7 @@ pub(crate) struct Group<'a> {
 }
 
 /// The group of the communicator that call `n` of the rank names, where the layout has one.
+#[inline(always)]
 pub(crate) fn group_named<'a>(
     layout: &'a Layout,
     rank: u32,
@@ -87,6 +88,7 @@ fn is_root_within(members: &[u32], c: Collective) -> bool
 }
 
 /// Whether the ranks that a call names, its peers or its root, are ranks in the group.
+#[inline(always)]
 fn are_within(members: &[u32], call: &Call) -> bool
     ensures { result ≡ are_within members.now call.now }
 {
