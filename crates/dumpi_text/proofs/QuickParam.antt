@@ -1,7 +1,7 @@
 -- Parameter lines as dumpi2ascii writes them: `type name=value`.
-use Rattle.std.proofs.Common.{◌≡◌, ◌||◌, ℕ, ◌<◌, ◌≤◌, ◌-◌, true, false, eqb, cond, codes, Option, Some, None, List, [], ◌∷◌, ◌++◌, length, take, drop, arith, ap, sym, refl, ◌∙◌, inl, inr, eq-eqb}
+use Rattle.std.proofs.Common.{◌≡◌, ◌||◌, ℕ, ◌<◌, ◌≤◌, true, false, eqb, cond, codes, Option, Some, None, List, [], ◌∷◌, ◌++◌, length, take, drop, arith, ap, sym, refl, ◌∙◌, inl, inr, eq-eqb}
 use Rattle.std.specs.List.{list_all, list_any}
-use Rattle.std.proofs.lemmas.List.{append-nil, drop_all, take_rest}
+use Rattle.std.proofs.lemmas.List.{append-nil, drop_all}
 use Rattle.dumpi_text.specs.Parameter.{parameter_from, parameter_name, parameter_of}
 use Rattle.dumpi_text.specs.Stamps.{Other, kind_from, kind_of, returning_word, stamp_word}
 use Rattle.dumpi_text.specs.Tokens.{byte_front}
@@ -148,7 +148,7 @@ no_stamp_line line named value n v some more whole returns =
     follows 32 (word_parts line).1 named n ∙ ap (λ (r : List ℕ). 32 ∷ r) (words_whole named ∙ ap (λ (r : List ℕ). (word_parts named).0 ++ r) (follows 61 (word_parts named).1 value v)) in
     ap kind_of same ∙ is_other line some (ap stamp_word rest ∙ no_stamp (word_parts named).0 value (words_front named))
 
-front_whole : (front text rest : List ℕ) → after_front front text ≡ Some rest → text ≡ front ++ rest
+pub front_whole : (front text rest : List ℕ) → after_front front text ≡ Some rest → text ≡ front ++ rest
 front_whole [] text rest e = cc
 front_whole (f ∷ fs) [] rest e = cc
 front_whole (f ∷ fs) (t ∷ ts) rest e =
@@ -162,12 +162,11 @@ unfolding after_text
 text_whole front text rest e = front_whole front text rest e
 
 -- the same where a front was compared byte by byte to its end
-pub whole_at_end : (at : ℕ) (front text : List ℕ) → after_front (drop at front) (drop at text) ≡ after_front front text → length front ≤ at → at ≤ length front
-    → text ≡ front ++ take (length text - length front) (drop (length front) text)
+pub whole_at_end : (at : ℕ) (front text : List ℕ) → after_front (drop at front) (drop at text) ≡ after_front front text → length front ≤ at → at ≤ length front → text ≡ front ++ drop (length front) text
 whole_at_end at front text same over within =
     let here : at ≡ length front = omega arith in
     let found : after_front front text ≡ Some (drop at text) = sym same ∙ ap (λ (f : List ℕ). after_front f (drop at text)) (drop_all at front over) in
-    front_whole front text (drop at text) found ∙ ap (λ (r : List ℕ). front ++ r) (ap (λ (k : ℕ). drop k text) here ∙ sym (take_rest text (length front)))
+    front_whole front text (drop at text) found ∙ ap (λ (k : ℕ). front ++ drop k text) here
 
 pub word_before : (word : List ℕ) (stop : ℕ) (more : List ℕ) → list_all is_word_byte word ≡ true → is_word_byte stop ≡ false → word_parts (word ++ stop ∷ more) ≡ (word, stop ∷ more)
 word_before [] stop more all stops = rw stops refl

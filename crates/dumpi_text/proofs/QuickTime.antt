@@ -1,10 +1,10 @@
 -- Times as dumpi2ascii writes them: digits, a point and nine digits.
-use Rattle.std.proofs.Common.{◌≡◌, ◌≢◌, ℕ, ◌+◌, ◌-◌, ◌*◌, ◌<◌, ◌≤◌, true, false, eqb, Option, Some, Result, Ok, List, [], ◌∷◌, ◌++◌, length, length-drop, get_or, drop, take, slice_range, replicate, nat_lt, arith, ap, sym, refl, ◌∙◌}
+use Rattle.std.proofs.Common.{◌≡◌, ◌≢◌, ℕ, ◌+◌, ◌-◌, ◌*◌, ◌<◌, ◌≤◌, true, false, eqb, Option, Some, Result, Ok, List, [], ◌∷◌, ◌++◌, length, length-drop, get_or, drop, take, slice_range, replicate, nat_lt, arith, ap, sym, refl, ◌∙◌, append_assoc, length-append}
 use Rattle.std.specs.List.{list_all}
 use Rattle.std.proofs.lemmas.Grind.{common_steps}
-use Rattle.std.proofs.lemmas.List.{append-nil, take_more, length-take-le, take-append-drop, drop_more, take_all, take_at}
+use Rattle.std.proofs.lemmas.List.{append-nil, take_more, length-take-le, take-append-drop, drop_more, take_all, take_at, take_rest}
 use Rattle.std.proofs.lemmas.List.Folds.{drop_split}
-use Rattle.dumpi_text.specs.Time.{is_digit, number_after, number_of, nine_digits, time_from, time_of, time_of_parts}
+use Rattle.dumpi_text.specs.Time.{HasTime, is_digit, is_time_byte, number_after, number_of, nine_digits, time_from, time_of, time_of_parts}
 use Rattle.dumpi_text.specs.Words.{split_at}
 use Rattle.dumpi_text.specs.declared.time.TimeFault.{TimeFault}
 use Rattle.dumpi_text.proofs.Splits.{first_passes, rest_passes, split_passes}
@@ -83,3 +83,45 @@ quick_value stop text n room some w point stops f other no_point small =
     ∙ ap (λ (p : List ℕ × Option (List ℕ)). time_of p.0) (split_time stop (take n text) (slice_range text (n + 1) (n + 10)) (drop (n + 11) text) w f other no_point)
     ∙ ap (λ (p : List ℕ × Option (List ℕ)). time_of_parts p.0 p.1) (split_point (take n text) (slice_range text (n + 1) (n + 10)) w)
     ∙ time_whole (take n text) (slice_range text (n + 1) (n + 10)) (omega (arith, length-take-le n text)) nine w f small
+
+-- a text that begins with such a time, up to what follows it
+time_parts : (text : List ℕ) (n : ℕ) → n + 10 ≤ length text → get_or text n 0 ≡ 46 → text ≡ (take n text ++ 46 ∷ slice_range text (n + 1) (n + 10)) ++ drop (n + 10) text
+time_parts text n room point =
+    let fraction : drop (n + 1) text ≡ slice_range text (n + 1) (n + 10) ++ drop (n + 10) text = drop_split text (n + 1) (n + 10) (omega arith) in
+    sym (take-append-drop n text)
+    ∙ ap (λ (r : List ℕ). take n text ++ r) (drop_more text n 0 (omega arith) ∙ ap (λ (b : ℕ). b ∷ drop (n + 1) text) point ∙ ap (λ (r : List ℕ). 46 ∷ r) fraction)
+    ∙ sym (append_assoc (take n text) (46 ∷ slice_range text (n + 1) (n + 10)) (drop (n + 10) text))
+
+digit_of_time : (b : ℕ) → is_digit b ≡ true → is_time_byte b ≡ true
+digit_of_time b h = rw h refl
+
+digits_of_time : (digits : List ℕ) → list_all is_digit digits ≡ true → list_all is_time_byte digits ≡ true
+digits_of_time [] all = refl
+digits_of_time (d ∷ ds) all = rw (digit_of_time d (first_passes is_digit d ds all)) (digits_of_time ds (rest_passes is_digit d ds all))
+
+both_of_time : (front rest : List ℕ) → list_all is_time_byte front ≡ true → list_all is_time_byte rest ≡ true → list_all is_time_byte (front ++ rest) ≡ true
+both_of_time [] rest f r = r
+both_of_time (b ∷ bs) rest f r = rw (first_passes is_time_byte b bs f) (both_of_time bs rest (rest_passes is_time_byte b bs f) r)
+
+digits_of_time_after : (fraction : List ℕ) → list_all is_digit fraction ≡ true → list_all is_time_byte (46 ∷ fraction) ≡ true
+digits_of_time_after fraction f = digits_of_time fraction f
+
+pub time_there : (text : List ℕ) (n seconds nanoseconds time : ℕ) → n + 10 ≤ length text → 0 < n → n ≤ 20 → list_all is_digit (take n text) ≡ true → get_or text n 0 ≡ 46
+    → list_all is_digit (slice_range text (n + 1) (n + 10)) ≡ true → seconds ≡ number_of (take n text) → seconds ≤ 9999999999 → nanoseconds ≡ number_of (slice_range text (n + 1) (n + 10))
+    → time ≡ seconds * 1000000000 + nanoseconds → HasTime time text (take (length text - (n + 10)) (drop (n + 10) text))
+time_there text n seconds nanoseconds time room some few w point f seconds_are small nanoseconds_are is =
+    let whole : List ℕ = take n text in
+    let fraction : List ℕ = slice_range text (n + 1) (n + 10) in
+    let left : take (length text - (n + 10)) (drop (n + 10) text) ≡ drop (n + 10) text = take_rest text (n + 10) in
+    let nine : length fraction ≡ 9 = omega (arith, length-take-le (n + 10 - (n + 1)) (drop (n + 1) text), length-drop {A = ℕ}) in
+    let long : length whole ≡ n = omega (arith, length-take-le n text) in
+    let said : time ≡ number_of whole * 1000000000 + number_of fraction = is ∙ ap (λ (s : ℕ). s * 1000000000 + nanoseconds) seconds_are ∙ ap (λ (m : ℕ). number_of whole * 1000000000 + m) nanoseconds_are in
+    let told : ℕ → Result ℕ TimeFault = λ t. Ok t in
+    record {
+      front = whole ++ 46 ∷ fraction;
+      whole = time_parts text n room point ∙ ap (λ (r : List ℕ). (whole ++ 46 ∷ fraction) ++ r) (sym left);
+      says = ap (λ (p : List ℕ × Option (List ℕ)). time_of_parts p.0 p.1) (split_point whole fraction w)
+          ∙ time_whole whole fraction (omega (arith, long)) nine w f (omega (arith, sym seconds_are)) ∙ ap told (sym said);
+      bytes = both_of_time whole (46 ∷ fraction) (digits_of_time whole w) (digits_of_time_after fraction f);
+      short = omega (arith, length-append whole (46 ∷ fraction), nine, long);
+    }

@@ -1,15 +1,21 @@
 -- Lines of calls that begin with a known word.
-use Rattle.std.proofs.Common.{◌≡◌, ℕ, ◌<◌, Bool, true, false, codes, Option, Some, Result, Ok, List, [], ◌∷◌, ◌++◌, length, nat_lt, arith, ap, sym, refl, ◌∙◌}
+use Rattle.std.proofs.Common.{◌≡◌, ◌==◌, ◌&&◌, not, ℕ, ◌+◌, ◌<◌, ◌≤◌, Bool, true, false, cond, eqb, codes, Option, Some, Result, Ok, List, [], ◌∷◌, ◌++◌, append_assoc, length, length-append, nat_lt, arith, ap, sym, refl, ◌∙◌}
 use Rattle.std.specs.List.{list_all}
+use Rattle.std.proofs.lemmas.Bool.{false≢true}
 use Rattle.std.proofs.lemmas.Grind.{common_steps}
+use Rattle.std.proofs.lemmas.List.{append-nil}
 use Rattle.mpi_model.specs.Times.{Times}
-use Rattle.dumpi_text.specs.Stamps.{Entering, Returning, kind_from, kind_of, returning_word, stamp_of, stamp_word, stamped}
+use Rattle.dumpi_text.specs.Lines.{IsOneLine}
+use Rattle.dumpi_text.specs.Stamps.{Entering, Returning, kind_from, kind_of, returning_word, stamp_fields, stamp_from, stamp_of, stamp_word, stamped, time_field}
+use Rattle.dumpi_text.specs.Time.{HasTime, is_time_byte, time_of}
 use Rattle.dumpi_text.specs.Tokens.{byte_front}
-use Rattle.dumpi_text.specs.Usual.{BeginsWith, HasLine, Tells, is_word}
-use Rattle.dumpi_text.specs.Words.{after_text, is_word_byte, trim_end, trimmed, without_last, word_parts}
+use Rattle.dumpi_text.specs.Usual.{BeginsWith, EndsStamp, HasLine, Tells, TellsByItsParts, before_value, begins_bare, ends_bare, is_inside, is_word}
+use Rattle.dumpi_text.specs.Words.{after_text, before_trimmed, is_blank, is_word_byte, split_at, trim_end, trim_start, trimmed, without_last, word_parts}
 use Rattle.dumpi_text.specs.declared.fault.LineFault.{LineFault}
+use Rattle.dumpi_text.specs.declared.time.TimeFault.{TimeFault}
+use Rattle.dumpi_text.proofs.Fronts.{front_there}
 use Rattle.dumpi_text.proofs.QuickParam.{end_kept, follows, its_parameter, last_kept, no_stamp_line, starts_bare, text_whole, word_before}
-use Rattle.dumpi_text.proofs.Splits.{both_true, first_passes}
+use Rattle.dumpi_text.proofs.Splits.{both_true, first_passes, rest_passes, split_passes, unlike}
 
 has_bytes : (n : ℕ) → nat_lt 0 n ≡ true → 0 < n
 has_bytes n h = grind (arith, common_steps)
@@ -100,6 +106,139 @@ returning_line name text rest line after stamp at named front begins word some e
   is = kind_is name line after (codes "returning at ") stamp named begins (text_whole (codes " returning at ") after stamp word) some end no_return false at (returns_word after stamp word) says;
 }
 
+-- ---- lines by bytes of which none ends a line
+
+inside_of : (test : ℕ → Bool) (xs : List ℕ) → test 10 ≡ false → list_all test xs ≡ true → list_all is_inside xs ≡ true
+inside_of test [] other all = refl
+inside_of test (b ∷ bs) other all = rw (unlike test b 10 (first_passes test b bs all) other) (inside_of test bs other (rest_passes test b bs all))
+
+inside_both : (xs ys : List ℕ) → list_all is_inside xs ≡ true → list_all is_inside ys ≡ true → list_all is_inside (xs ++ ys) ≡ true
+inside_both [] ys x y = y
+inside_both (b ∷ bs) ys x y = rw (first_passes is_inside b bs x) (inside_both bs ys (rest_passes is_inside b bs x) y)
+
+one_line : (xs : List ℕ) → list_all is_inside xs ≡ true → IsOneLine xs
+one_line [] all = tt
+one_line (b ∷ bs) all = (λ e. false≢true (sym (ap is_inside e) ∙ first_passes is_inside b bs all), one_line bs (rest_passes is_inside b bs all))
+
+-- ---- stamps as dumpi2ascii writes them
+
+split_off : (stop : ℕ) (time rest : List ℕ) → is_time_byte stop ≡ false → list_all is_time_byte time ≡ true → split_at stop (time ++ stop ∷ rest) ≡ (time, Some rest)
+split_off stop time rest other all =
+    let itself : eqb stop stop ≡ true = grind arith in
+    rw (split_passes is_time_byte stop time (stop ∷ rest) all other, itself, append-nil time) refl
+
+field_read : (front : List ℕ) (stop : ℕ) (time rest : List ℕ) (t : ℕ) → is_time_byte stop ≡ false → list_all is_time_byte time ≡ true → time_of time ≡ Ok t → time_field front stop (front ++ (time ++ stop ∷ rest)) ≡ Some (t, rest)
+unfolding time_field after_text
+field_read front stop time rest t other all says = rw (front_there front (time ++ stop ∷ rest), split_off stop time rest other all, says) refl
+
+abbrev last_part : List ℕ
+last_part = codes " seconds in thread 0."
+
+abbrev stamp_text : List ℕ → List ℕ → List ℕ
+stamp_text wall cpu = codes "walltime " ++ (wall ++ (codes ", cputime " ++ (cpu ++ last_part)))
+
+thread_read : after_text (codes "seconds in thread ") (codes "seconds in thread 0.") ≡ Some (codes "0.")
+unfolding after_text
+thread_read = front_there (codes "seconds in thread ") (codes "0.")
+
+fields_read : (wall cpu : List ℕ) (at : Times) → time_of wall ≡ Ok at.wall → time_of cpu ≡ Ok at.cpu → list_all is_time_byte wall ≡ true → list_all is_time_byte cpu ≡ true
+    → stamp_fields (stamp_text wall cpu) ≡ Some (at, codes "0.")
+unfolding stamp_fields
+fields_read wall cpu at wall_is cpu_is wall_bytes cpu_bytes =
+    let first : time_field (codes "walltime ") 44 (stamp_text wall cpu) ≡ Some (at.wall, codes " cputime " ++ (cpu ++ last_part)) = field_read (codes "walltime ") 44 wall (codes " cputime " ++ (cpu ++ last_part)) at.wall refl wall_bytes wall_is in
+    let second : time_field (codes " cputime ") 32 (codes " cputime " ++ (cpu ++ last_part)) ≡ Some (at.cpu, codes "seconds in thread 0.") = field_read (codes " cputime ") 32 cpu (codes "seconds in thread 0.") at.cpu refl cpu_bytes cpu_is in
+    rw (first, second, thread_read) refl
+
+stamp_read : (wall cpu : List ℕ) (at : Times) → time_of wall ≡ Ok at.wall → time_of cpu ≡ Ok at.cpu → list_all is_time_byte wall ≡ true → list_all is_time_byte cpu ≡ true → stamp_of (stamp_text wall cpu) ≡ Ok (at, true)
+unfolding stamp_of
+stamp_read wall cpu at wall_is cpu_is wall_bytes cpu_bytes = ap stamp_from (fields_read wall cpu at wall_is cpu_is wall_bytes cpu_bytes)
+
+-- what follows a stamp
+stamp_before : (wall cpu more : List ℕ) → stamp_text wall cpu ++ more ≡ codes "walltime " ++ (wall ++ (codes ", cputime " ++ (cpu ++ (last_part ++ more))))
+stamp_before wall cpu more =
+    ap (λ (t : List ℕ). codes "walltime " ++ t) (append_assoc wall (codes ", cputime " ++ (cpu ++ last_part)) more ∙ ap (λ (t : List ℕ). wall ++ (codes ", cputime " ++ t)) (append_assoc cpu last_part more))
+
+before_last : (wall cpu : List ℕ) → (codes "walltime " ++ (wall ++ (codes ", cputime " ++ cpu))) ++ last_part ≡ stamp_text wall cpu
+before_last wall cpu = ap (λ (t : List ℕ). codes "walltime " ++ t) (append_assoc wall (codes ", cputime " ++ cpu) last_part)
+
+stamp_inside : (wall cpu : List ℕ) → list_all is_time_byte wall ≡ true → list_all is_time_byte cpu ≡ true → list_all is_inside (stamp_text wall cpu) ≡ true
+stamp_inside wall cpu wall_bytes cpu_bytes =
+    let last : List ℕ = cpu ++ last_part in
+    let second : List ℕ = codes ", cputime " ++ last in
+    inside_both (codes "walltime ") (wall ++ second) refl (inside_both wall second (inside_of is_time_byte wall refl wall_bytes)
+    (inside_both (codes ", cputime ") last refl (inside_both cpu last_part (inside_of is_time_byte cpu refl cpu_bytes) refl)))
+
+-- a stamp line, by its parts
+module _ (name word text after behind rest : List ℕ) (at : Times) (named : is_word name ≡ true) (few : length name ≤ 100) (short : length word ≤ 20) (word_inside : list_all is_inside word ≡ true)
+    (begins : text ≡ name ++ after) (goes_on : after ≡ word ++ (codes "walltime " ++ behind)) (ends : EndsStamp at behind rest) where
+  abbrev its_stamp : List ℕ
+  its_stamp = stamp_text ends.wall ends.cpu
+
+  stamp_line : BeginsWith (name ++ (word ++ its_stamp)) text rest
+  stamp_line = record {
+    whole = begins ∙ ap (λ (t : List ℕ). name ++ t) (goes_on ∙ ap (λ (t : List ℕ). word ++ t) (ap (λ (t : List ℕ). codes "walltime " ++ t) ends.whole ∙ sym (stamp_before ends.wall ends.cpu (10 ∷ rest))) ∙ sym (append_assoc word its_stamp (10 ∷ rest)))
+        ∙ sym (append_assoc name (word ++ its_stamp) (10 ∷ rest));
+    one = one_line (name ++ (word ++ its_stamp)) (inside_both name (word ++ its_stamp) (inside_of is_word_byte name refl (word_all name named)) (inside_both word its_stamp word_inside (stamp_inside ends.wall ends.cpu ends.wall_bytes ends.cpu_bytes)));
+    short = omega (
+      arith,
+      ends.short,
+      length-append name (word ++ its_stamp),
+      length-append word its_stamp,
+      length-append (codes "walltime ") (ends.wall ++ (codes ", cputime " ++ (ends.cpu ++ last_part))),
+      length-append ends.wall (codes ", cputime " ++ (ends.cpu ++ last_part)),
+      length-append (codes ", cputime ") (ends.cpu ++ last_part),
+      length-append ends.cpu last_part,
+    );
+  }
+
+  stamp_some : 0 < length its_stamp
+  stamp_some = omega arith
+
+  stamp_end : trim_end its_stamp ≡ its_stamp
+  stamp_end = ap trim_end (sym (before_last ends.wall ends.cpu)) ∙ end_kept (codes "walltime " ++ (ends.wall ++ (codes ", cputime " ++ ends.cpu))) last_part (omega arith) refl ∙ before_last ends.wall ends.cpu
+
+  stamp_return : without_last 13 its_stamp ≡ its_stamp
+  stamp_return = ap (without_last 13) (sym (before_last ends.wall ends.cpu)) ∙ last_kept 13 (codes "walltime " ++ (ends.wall ++ (codes ", cputime " ++ ends.cpu))) last_part (omega arith) refl ∙ before_last ends.wall ends.cpu
+
+pub entering_there : (name text after behind rest : List ℕ) (at : Times) → is_word name ≡ true → length name ≤ 100 → text ≡ name ++ after → after ≡ codes " entering at walltime " ++ behind → EndsStamp at behind rest
+    → HasLine (Entering name at) text rest
+unfolding after_text
+entering_there name text after behind rest at named few begins goes_on ends =
+    let word : List ℕ = codes " entering at " in
+    let stamp : List ℕ = stamp_text ends.wall ends.cpu in
+    entering_line name text rest (name ++ (word ++ stamp)) (word ++ stamp) stamp at named (stamp_line name word text after behind rest at named few (omega arith) refl begins goes_on ends)
+    (front_there name (word ++ stamp)) (front_there word stamp) (stamp_some name word text after behind rest at named few (omega arith) refl begins goes_on ends)
+    (stamp_end name word text after behind rest at named few (omega arith) refl begins goes_on ends) (stamp_return name word text after behind rest at named few (omega arith) refl begins goes_on ends)
+    (stamp_read ends.wall ends.cpu at ends.wall_is ends.cpu_is ends.wall_bytes ends.cpu_bytes)
+
+pub returning_there : (name text after behind rest : List ℕ) (at : Times) → is_word name ≡ true → length name ≤ 100 → text ≡ name ++ after → after ≡ codes " returning at walltime " ++ behind → EndsStamp at behind rest
+    → HasLine (Returning name at) text rest
+unfolding after_text
+returning_there name text after behind rest at named few begins goes_on ends =
+    let word : List ℕ = codes " returning at " in
+    let stamp : List ℕ = stamp_text ends.wall ends.cpu in
+    returning_line name text rest (name ++ (word ++ stamp)) (word ++ stamp) stamp at named (stamp_line name word text after behind rest at named few (omega arith) refl begins goes_on ends)
+    (front_there name (word ++ stamp)) (front_there word stamp) (stamp_some name word text after behind rest at named few (omega arith) refl begins goes_on ends)
+    (stamp_end name word text after behind rest at named few (omega arith) refl begins goes_on ends) (stamp_return name word text after behind rest at named few (omega arith) refl begins goes_on ends)
+    (stamp_read ends.wall ends.cpu at ends.wall_is ends.cpu_is ends.wall_bytes ends.cpu_bytes)
+
+-- two times and the end of their line
+pub stamp_ends : (at : Times) (wall cpu : ℕ) (text t1 t2 t3 rest : List ℕ) → HasTime wall text t1 → t1 ≡ codes ", cputime " ++ t2 → HasTime cpu t2 t3 → t3 ≡ codes " seconds in thread 0.\n" ++ rest
+    → at ≡ record { wall = wall; cpu = cpu } → EndsStamp at text rest
+stamp_ends at wall cpu text t1 t2 t3 rest first comma second closes is =
+    let told : ℕ → Result ℕ TimeFault = λ t. Ok t in
+    let after : t2 ≡ second.front ++ (last_part ++ 10 ∷ rest) = second.whole ∙ ap (λ (t : List ℕ). second.front ++ t) closes in
+    record {
+      wall = first.front;
+      cpu = second.front;
+      whole = first.whole ∙ ap (λ (t : List ℕ). first.front ++ t) (comma ∙ ap (λ (t : List ℕ). codes ", cputime " ++ t) after);
+      wall_is = first.says ∙ ap told (ap (λ (a : Times). a.wall) (sym is));
+      cpu_is = second.says ∙ ap told (ap (λ (a : Times). a.cpu) (sym is));
+      wall_bytes = first.bytes;
+      cpu_bytes = second.bytes;
+      short = omega (arith, first.short, second.short);
+    }
+
 pub parameter_line : (kind name text rest line after named beyond value : List ℕ) → is_word kind ≡ true → is_word name ≡ true → BeginsWith line text rest
     → after_text kind line ≡ Some after → byte_front 32 after ≡ Some named → after_text name named ≡ Some beyond → byte_front 61 beyond ≡ Some value
     → 0 < length value → trimmed value ≡ value → trim_end value ≡ value → without_last 13 value ≡ value → Tells (record { name = name; value = value }) text rest
@@ -121,3 +260,53 @@ parameter_line kind name text rest line after named beyond value is_kind is_name
       parameter = its_parameter line named value after_kind after_name name_some bare ∙ ap (λ (n : List ℕ). found n value) is;
       named = word_has name is_name;
     }
+
+-- ---- a parameter's line by what stands before its value, and by the value
+
+start_kept : (xs : List ℕ) → begins_bare xs ≡ true → trim_start xs ≡ xs
+start_kept [] h = cc
+start_kept (b ∷ bs) h = elim (is_blank b) as (λ blank. not blank ≡ true → cond blank (trim_start bs) (b ∷ bs) ≡ b ∷ bs) [ true ↦ (λ e. cc) | false ↦ (λ e. refl) ] h
+
+ends_kept : (xs : List ℕ) → ends_bare xs ≡ true → trim_end xs ≡ xs
+ends_kept [] h = cc
+ends_kept (b ∷ []) h = elim (is_blank b) as (λ blank. (not blank && not (b == 13)) ≡ true → cond blank [] (b ∷ []) ≡ b ∷ []) [ true ↦ (λ e. cc) | false ↦ (λ e. refl) ] h
+ends_kept (b ∷ c ∷ cs) h = ap (before_trimmed b) (ends_kept (c ∷ cs) h)
+
+never : (p : Bool) → (p && false) ≡ false
+never true = refl
+never false = refl
+
+no_return_kept : (xs : List ℕ) → ends_bare xs ≡ true → without_last 13 xs ≡ xs
+no_return_kept [] h = cc
+no_return_kept (b ∷ []) h = elim (b == 13) as (λ last. (not (is_blank b) && not last) ≡ true → cond last [] (b ∷ []) ≡ b ∷ []) [ true ↦ (λ e. absurd (false≢true (sym (never (not (is_blank b))) ∙ e))) | false ↦ (λ e. refl) ] h
+no_return_kept (b ∷ c ∷ cs) h = ap (λ (r : List ℕ). b ∷ r) (no_return_kept (c ∷ cs) h)
+
+bare_kept : (xs : List ℕ) → begins_bare xs ≡ true → ends_bare xs ≡ true → trimmed xs ≡ xs
+unfolding trimmed
+bare_kept xs s e = ap trim_end (start_kept xs s) ∙ ends_kept xs e
+
+bare_some : (xs : List ℕ) → begins_bare xs ≡ true → 0 < length xs
+bare_some [] h = cc
+bare_some (b ∷ bs) h = omega arith
+
+line_whole : (kind name value more : List ℕ) → before_value kind name ++ (value ++ more) ≡ (kind ++ 32 ∷ (name ++ 61 ∷ value)) ++ more
+line_whole kind name value more =
+    append_assoc kind (32 ∷ (name ++ 61 ∷ [])) (value ++ more)
+    ∙ ap (λ (t : List ℕ). kind ++ 32 ∷ t) (append_assoc name (61 ∷ []) (value ++ more) ∙ sym (append_assoc name (61 ∷ value) more))
+    ∙ sym (append_assoc kind (32 ∷ (name ++ 61 ∷ value)) more)
+
+pub parts_tell : TellsByItsParts
+unfolding after_text
+parts_tell kind name start value text behind rest is_kind is_name start_is few begins ends =
+    let line : List ℕ = kind ++ 32 ∷ (name ++ 61 ∷ value) in
+    let kind_in = inside_of is_word_byte kind refl (word_all kind is_kind) in
+    let name_in = inside_of is_word_byte name refl (word_all name is_name) in
+    let long : length start ≡ length kind + (length name + 2) = ap (λ (t : List ℕ). length t) start_is ∙ omega (arith, length-append kind (32 ∷ (name ++ 61 ∷ [])), length-append name (61 ∷ [])) in
+    let front : BeginsWith line text rest = record {
+      whole = begins ∙ ap (λ (t : List ℕ). t ++ behind) start_is ∙ ap (λ (t : List ℕ). before_value kind name ++ t) ends.whole ∙ line_whole kind name value (10 ∷ rest);
+      one = one_line line (inside_both kind (32 ∷ (name ++ 61 ∷ value)) kind_in (inside_both name (61 ∷ value) name_in ends.inside));
+      short = omega (arith, long, few, ends.short, length-append kind (32 ∷ (name ++ 61 ∷ value)), length-append name (61 ∷ value));
+    } in
+    parameter_line kind name text rest line (32 ∷ (name ++ 61 ∷ value)) (name ++ 61 ∷ value) (61 ∷ value) value is_kind is_name front
+    (front_there kind (32 ∷ (name ++ 61 ∷ value))) refl (front_there name (61 ∷ value)) refl
+    (bare_some value ends.starts) (bare_kept value ends.starts ends.ends) (ends_kept value ends.ends) (no_return_kept value ends.ends)

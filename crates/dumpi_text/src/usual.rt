@@ -1,14 +1,12 @@
 //! Lines of calls, read where they stand in front of a text, each in one pass and without a copy. What these functions
 //! don't answer for is read as any line is.
 
-ghost use Rattle.std.specs.Prelude.{◌≡◌, ◌<◌, IfSome, Ok, length, true};
-ghost use Rattle.dumpi_text.specs.Bytes.{carriage_return};
-ghost use Rattle.dumpi_text.specs.Stamps.{Entering, Other, Returning, kind_of, stamp_of};
-ghost use Rattle.dumpi_text.specs.Usual.{BeginsWith, HasLine, Tells, is_word};
-ghost use Rattle.dumpi_text.specs.Words.{trim_end, trimmed, without_last};
+ghost use Rattle.std.specs.Prelude.{◌≡◌, IfSome, true};
+ghost use Rattle.dumpi_text.specs.Stamps.{Entering, Returning};
+ghost use Rattle.dumpi_text.specs.Usual.{BeginsWith, EndsStamp, HasLine, Tells, is_word};
 
 use crate::source::{LONGEST_LINE, feed_in};
-use crate::stamps::read_stamp;
+use crate::time::time_front;
 use crate::tokens::strip_byte;
 use crate::words::{is_bare, strip};
 use mpi_model::Stamp;
@@ -25,21 +23,19 @@ fn line_front(text: &[u8]) -> Option<(&[u8], &[u8])>
     Some((&text[..count], &text[count + 1..]))
 }
 
-/// What a stamp says that fills its line.
-#[inline(always)]
-fn stamp_on(text: &[u8]) -> Option<Stamp>
-    ensures value { IfSome result (λ at. stamp_of text.now ≡ Ok (at, true)) }
-    ensures some { IfSome result (λ at. 0 < length text.now) }
-    ensures end { IfSome result (λ at. trim_end text.now ≡ text.now) }
-    ensures no_return { IfSome result (λ at. without_last carriage_return text.now ≡ text.now) }
+/// The longest name of a function whose stamp lines are read here.
+const LONGEST_NAME: usize = 100;
+
+/// The times of a stamp of thread 0, by what follows its `walltime `, and what follows its line.
+fn stamp_front(text: &[u8]) -> Option<(Stamp, &[u8])>
+    ensures { IfSome result (λ x. EndsStamp x.0 text.now x.1.now) }
 {
-    if !is_bare(text) {
-        return None;
-    }
-    match read_stamp(text) {
-        Ok((at, own)) => { if own { Some(at) } else { None } }
-        Err(_) => None,
-    }
+    let (wall, rest) = time_front(text)?;
+    let second = strip(b", cputime ", rest)?;
+    let (cpu, rest) = time_front(second)?;
+    let rest = strip(b" seconds in thread 0.\n", rest)?;
+    let stamp = Stamp::new(wall, cpu)?;
+    Some((stamp, rest))
 }
 
 /// When the entering line in front of a text enters a call of this name, and what follows the line.
@@ -48,10 +44,14 @@ pub fn entering_front<'a>(name: &[u8], text: &'a [u8]) -> Option<(Stamp, &'a [u8
     requires { is_word name.now ≡ true }
     ensures { IfSome result (λ x. HasLine (Entering name.now x.0) text.now x.1.now) }
 {
-    let (line, rest) = line_front(text)?;
-    let after = strip(name, line)?;
-    let stamp = strip(b" entering at ", after)?;
-    let at = stamp_on(stamp)?;
+    if name.len() > LONGEST_NAME {
+        return None;
+    }
+    let after = strip(name, text)?;
+    let stamp = strip(b" entering at walltime ", after)?;
+    let Some((at, rest)) = stamp_front(stamp) else {
+        return None;
+    };
     Some((at, rest))
 }
 
@@ -61,10 +61,14 @@ pub fn returning_front<'a>(name: &[u8], text: &'a [u8]) -> Option<(Stamp, &'a [u
     requires { is_word name.now ≡ true }
     ensures { IfSome result (λ x. HasLine (Returning name.now x.0) text.now x.1.now) }
 {
-    let (line, rest) = line_front(text)?;
-    let after = strip(name, line)?;
-    let stamp = strip(b" returning at ", after)?;
-    let at = stamp_on(stamp)?;
+    if name.len() > LONGEST_NAME {
+        return None;
+    }
+    let after = strip(name, text)?;
+    let stamp = strip(b" returning at walltime ", after)?;
+    let Some((at, rest)) = stamp_front(stamp) else {
+        return None;
+    };
     Some((at, rest))
 }
 

@@ -1,9 +1,13 @@
-use Rattle.std.proofs.Common.{sym}
-use Rattle.dumpi_text.proofs.UsualLines.{returning_line}
+use Rattle.std.proofs.Common.{rules, arith}
+use Rattle.std.proofs.lemmas.Grind.{common_steps}
+use Rattle.dumpi_text.specs.Stamps.{Returning}
+use Rattle.dumpi_text.specs.Usual.{HasLine}
+use Rattle.dumpi_text.proofs.UsualLines.{returning_there}
 use Rattle.dumpi_text.proofs.usual.returning_front.Goals as goal
 
 pub returns : goal.returns
 returns c =
-    let stamp = c.in_ok-at.ensures in
-    returning_line c.args.name.now c.args.text.now c.in_ok-line.rest.now c.in_ok-line.line.now c.in_ok-after.after.now c.in_ok-stamp.stamp.now c.in_ok-at.at
-    c.requires c.in_ok-line.ensures (sym c.in_ok-after.ensures.rest) (sym c.in_ok-stamp.ensures.rest) stamp.some stamp.end stamp.no_return stamp.value
+    let there : HasLine (Returning c.args.name.now c.in-Some.at) c.args.text.now c.in-Some.rest.now =
+    returning_there c.args.name.now c.args.text.now c.in_ok-after.after.now c.in_ok-stamp.stamp.now c.in-Some.rest.now c.in-Some.at c.requires (omega arith)
+    c.in_ok-after.ensures.whole c.in_ok-stamp.ensures.whole c.in-Some.ensures in
+    first_of (search (rules, there), grind (arith, common_steps, there))

@@ -1,5 +1,5 @@
-use Rattle.dumpi_text.proofs.QuickParam.{whole_at_end}
+use Rattle.dumpi_text.proofs.Fronts.{rest_of_strip}
 use Rattle.dumpi_text.proofs.words.strip.Goals as goal
 
-pub returns-clause-whole : goal.returns-clause-whole
-returns-clause-whole c = whole_at_end c.loop-at.at c.args.front.now c.args.text.now c.loop-at.invariant c.loop-at-test.false c.loop-at.auto.at-end
+pub returns-then-begins_with-clause-rest : goal.returns-then-begins_with-clause-rest
+returns-then-begins_with-clause-rest c = rest_of_strip c.args.front.now c.args.text.now (c.begins_with.ensures.there c.if-begins_with.true)
