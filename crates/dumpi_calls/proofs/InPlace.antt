@@ -1,5 +1,5 @@
 -- Calls that are read where they stand: what their lines say of any call that has them.
-use Rattle.std.proofs.Common.{◌≡◌, ℕ, ℤ, ◌+◌, ◌-◌, ◌&&◌, not, Bool, true, false, List, [], ◌∷◌, ◌++◌, length, drop, codes, Option, Some, None, Result, Ok, refl, sym, ap, ◌∙◌, subst, append_assoc, length-append, arith}
+use Rattle.std.proofs.Common.{◌≡◌, ℕ, ℤ, ◌+◌, ◌-◌, ◌≤◌, ◌&&◌, not, Bool, true, false, List, [], ◌∷◌, ◌++◌, length, drop, codes, Option, Some, None, Result, Ok, refl, sym, ap, ◌∙◌, subst, append_assoc, length-append, arith}
 use Rattle.std.specs.Str.{bytes_eq}
 use Rattle.std.proofs.Math.Seq.{drop-append_seam}
 use Rattle.std.proofs.lemmas.Slice.Eq.{bytes_eq-Decides}
@@ -19,13 +19,13 @@ use Rattle.mpi_model.specs.declared.told.Told.{Told}
 use Rattle.mpi_model.specs.declared.told.Told.TheVariants.{Nothing}
 use Rattle.dumpi_text.specs.Call.{Param, TextCall, first_value, same_bytes}
 use Rattle.dumpi_text.specs.Stamps.{Entering, Kind, Returning}
-use Rattle.dumpi_text.specs.Usual.{HasCall, HasLine, Tells, TellsAll, call_after, is_word}
+use Rattle.dumpi_text.specs.Usual.{HasCall, HasLine, Tells, TellsAll, TellsByItsParts, before_value, call_after, is_word}
 use Rattle.dumpi_text.specs.Number.{integer_front, number_front}
 use Rattle.dumpi_text.specs.Value.{value_of}
 use Rattle.dumpi_text.specs.declared.number.Num.{Num}
 use Rattle.dumpi_text.specs.declared.value.Value.{Value}
 use Rattle.dumpi_text.specs.declared.value.Value.TheVariants.{Number}
-use Rattle.dumpi_calls.specs.InPlace.{IsWhole, PassesLines, TellsCall, TellsNumber, TellsReceive, TellsRequests, TellsSend, TellsStatus, TellsStatuses, is_unread, param_of, receive_lines, send_lines, usual_name}
+use Rattle.dumpi_calls.specs.InPlace.{EndsNumber, IsWhole, PassesLines, TellsCall, TellsNumber, TellsReceive, TellsRequests, TellsSend, TellsStatus, TellsStatuses, is_unread, param_of, receive_lines, send_lines, usual_name}
 use Rattle.dumpi_calls.specs.Outcomes.{groups_by, groups_from, groups_in, outcome_in, posted, told_at, tolds_from}
 use Rattle.dumpi_calls.specs.Skims.{requests_from}
 use Rattle.dumpi_calls.specs.Readings.{all_numbers, asked_tag_by, asked_tag_in, comm_by, comm_in, dest_by, dest_in, name_of, non_negative, non_negative_in, number_in, numbers_in, request_by, request_in, requests_in, requests_of, root_by, root_named, source_by, source_in, text_of}
@@ -66,6 +66,15 @@ number_told parameter name value text rest number tells is means = record {
   value = value;
   tells = subst (λ (n : List ℕ). Tells (record { name = n; value = value }) text rest) is tells;
   means = means;
+}
+
+-- the same, by what stands before the number
+pub number_behind : (parameter : Parameter) (kind start text behind rest : List ℕ) (number : Num) → TellsByItsParts → is_word kind ≡ true → start ≡ before_value kind (name_of parameter) → length start ≤ 100
+    → text ≡ start ++ behind → EndsNumber number behind rest → TellsNumber parameter number text rest
+number_behind parameter kind start text behind rest number law is_kind is few begins n = record {
+  value = n.value;
+  tells = law kind (name_of parameter) start n.value text behind rest is_kind (named_by_a_word parameter) is few begins n.line;
+  means = n.means;
 }
 
 number_said : (parameter : Parameter) (raw : TextCall) (value : List ℕ) (number : Num) → text_of parameter raw ≡ Some value → value_of value ≡ Some (Number number) → number_in parameter raw ≡ Ok number

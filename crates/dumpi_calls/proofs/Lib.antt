@@ -1,5 +1,6 @@
 pub mod Names
 pub mod QuickNumber
+pub mod NumberLines
 pub mod FieldByField
 pub mod GroupByGroup
 pub mod NumberByNumber

@@ -66,7 +66,7 @@ unfolding number_front
 number_read d ds rest left name all small none note = rw (integer_read d ds rest all small none, note) refl
 
 -- the value of digits and what follows them
-value_read : (digits rest : List ℕ) (name : NumName) → 0 < length digits → list_all is_digit digits ≡ true → number_of digits < 1000000000000000000 → digit_parts rest ≡ ([], rest)
+pub value_read : (digits rest : List ℕ) (name : NumName) → 0 < length digits → list_all is_digit digits ≡ true → number_of digits < 1000000000000000000 → digit_parts rest ≡ ([], rest)
     → note_front (after_spaces rest) ≡ Some (name, []) → value_of (digits ++ rest) ≡ Some (Number (record { value = pos (number_of digits); name = name }))
 unfolding value_of
 value_read [] rest name some all small none note = absurd (omega arith)
@@ -94,7 +94,7 @@ number_negative : (d : ℕ) (ds rest left : List ℕ) (name : NumName) → list_
 unfolding number_front
 number_negative d ds rest left name all small none note = rw (integer_negative d ds rest all small none, note) refl
 
-value_negative : (digits rest : List ℕ) (name : NumName) → 0 < length digits → list_all is_digit digits ≡ true → number_of digits < 1000000000000000000 → digit_parts rest ≡ ([], rest)
+pub value_negative : (digits rest : List ℕ) (name : NumName) → 0 < length digits → list_all is_digit digits ≡ true → number_of digits < 1000000000000000000 → digit_parts rest ≡ ([], rest)
     → note_front (after_spaces rest) ≡ Some (name, []) → value_of (45 ∷ (digits ++ rest)) ≡ Some (Number (record { value = neg_ℤ (pos (number_of digits)); name = name }))
 unfolding value_of
 value_negative [] rest name some all small none note = absurd (omega arith)
@@ -121,7 +121,7 @@ unfolding bracketed_front
 closed_read d ds all small = rw (unlike d 32 (first_digit d ds all) refl, number_read d ds (93 ∷ []) (93 ∷ []) Other all small refl refl) refl
 
 -- the value of digits in brackets
-bracketed_read : (digits : List ℕ) → 0 < length digits → list_all is_digit digits ≡ true → number_of digits < 1000000000000000000
+pub bracketed_read : (digits : List ℕ) → 0 < length digits → list_all is_digit digits ≡ true → number_of digits < 1000000000000000000
     → value_of (91 ∷ (digits ++ 93 ∷ [])) ≡ Some (Number (record { value = pos (number_of digits); name = Other }))
 unfolding value_of
 bracketed_read [] some all small = absurd (omega arith)

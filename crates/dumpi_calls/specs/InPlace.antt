@@ -1,5 +1,6 @@
 -- Calls that stand whole in front of a text, read where they stand.
-use Rattle.std.specs.Prelude.{◌≡◌, ◌≤◌, ℕ, ◌+◌, ℤ, Bool, ◌&&◌, not, List, [], ◌∷◌, ◌++◌, length, Some, None, Ok, codes, drop}
+use Rattle.std.specs.Prelude.{◌≡◌, ◌≤◌, ℕ, ◌+◌, ℤ, Bool, true, ◌&&◌, not, List, [], ◌∷◌, ◌++◌, length, Some, None, Ok, codes, drop}
+use Rattle.std.specs.List.{list_all}
 use Rattle.mpi_model.specs.Times.{Times}
 use Rattle.mpi_model.specs.declared.call.Call.{Call}
 use Rattle.mpi_model.specs.declared.kind.Kind.TheVariants.{Barrier, Bcast, Scatter, Gather, Reduce, Allreduce, Allgather, Alltoall}
@@ -8,9 +9,13 @@ use Rattle.mpi_model.specs.declared.envelope.Mode.TheVariants.{Standard, Synchro
 use Rattle.mpi_model.specs.declared.outcome.Outs.{Outs}
 use Rattle.mpi_model.specs.declared.told.Told.{Told}
 use Rattle.dumpi_text.specs.Call.{Param, TextCall, first_value, same_bytes}
-use Rattle.dumpi_text.specs.Usual.{HasCall, Tells, TellsAll, call_after}
+use Rattle.dumpi_text.specs.Bytes.{line_feed}
+use Rattle.dumpi_text.specs.Number.{note_front}
+use Rattle.dumpi_text.specs.Tokens.{after_spaces, digit_parts}
+use Rattle.dumpi_text.specs.Usual.{EndsLine, HasCall, Tells, TellsAll, call_after, ends_bare, is_inside}
 use Rattle.dumpi_text.specs.Value.{value_of}
 use Rattle.dumpi_text.specs.declared.number.Num.{Num}
+use Rattle.dumpi_text.specs.declared.number.NumName.{NumName}
 use Rattle.dumpi_text.specs.declared.step.Position.{Position}
 use Rattle.dumpi_text.specs.declared.value.Value.TheVariants.{Number}
 use Rattle.dumpi_calls.specs.Outcomes.{groups_by, told_at, tolds_from}
@@ -32,6 +37,27 @@ pub record TellsNumber (parameter : Parameter) (number : Num) (text rest : List 
   pub value : List ℕ
   pub tells : Tells (param_of parameter value) text rest
   pub means : value_of value ≡ Some (Number number)
+
+-- A text begins with a value that says this number and with its line feed, and then comes the rest.
+pub record EndsNumber (number : Num) (text rest : List ℕ) : Type 0 where
+  pub value : List ℕ
+  pub line : EndsLine value text rest
+  pub means : value_of value ≡ Some (Number number)
+
+-- nothing, or what ends with a byte that is not cut off
+abbrev pub ends_note : List ℕ → Bool
+ends_note [] = true
+ends_note (byte ∷ bytes) = ends_bare (byte ∷ bytes)
+
+-- A text begins with a note that gives a number this name, or with nothing, and with a line feed, and then comes the rest.
+pub record EndsNote (name : NumName) (text rest : List ℕ) : Type 0 where
+  pub note : List ℕ
+  pub whole : text ≡ note ++ line_feed ∷ rest
+  pub short : length note ≤ 50
+  pub inside : list_all is_inside note ≡ true
+  pub ends : ends_note note ≡ true
+  pub digits : digit_parts note ≡ ([], note)
+  pub means : note_front (after_spaces note) ≡ Some (name, [])
 
 -- the parameters of a send and of a receive in the order in which dumpi2ascii writes them
 abbrev pub send_lines : List ℕ → List ℕ → List ℕ → List ℕ → List ℕ → List Param

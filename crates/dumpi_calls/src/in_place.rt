@@ -95,11 +95,16 @@ fn posted(request: Num) -> Outs
 fn send_front(text: &[u8]) -> Option<(SendEnvelope, &[u8])>
     ensures { IfSome result (λ x. TellsSend x.0 text.now x.1.now) }
 {
-    let (count, rest) = number_front(b"int", Parameter::Count, text)?;
-    let (datatype, rest) = number_front(b"MPI_Datatype", Parameter::Datatype, rest)?;
-    let (dest, rest) = number_front(b"int", Parameter::Dest, rest)?;
-    let (tag, rest) = number_front(b"int", Parameter::Tag, rest)?;
-    let (comm, rest) = number_front(b"MPI_Comm", Parameter::Comm, rest)?;
+    let (count, rest) = number_front(b"int", b"int count=", Parameter::Count, text)?;
+    let (datatype, rest) = number_front(
+        b"MPI_Datatype",
+        b"MPI_Datatype datatype=",
+        Parameter::Datatype,
+        rest,
+    )?;
+    let (dest, rest) = number_front(b"int", b"int dest=", Parameter::Dest, rest)?;
+    let (tag, rest) = number_front(b"int", b"int tag=", Parameter::Tag, rest)?;
+    let (comm, rest) = number_front(b"MPI_Comm", b"MPI_Comm comm=", Parameter::Comm, rest)?;
     let elements = small_of(count)?;
     let peer = dest_of(dest)?;
     let asked = small_of(tag)?;
@@ -111,11 +116,16 @@ fn send_front(text: &[u8]) -> Option<(SendEnvelope, &[u8])>
 fn receive_front(text: &[u8]) -> Option<(ReceiveEnvelope, &[u8])>
     ensures { IfSome result (λ x. TellsReceive x.0 text.now x.1.now) }
 {
-    let (count, rest) = number_front(b"int", Parameter::Count, text)?;
-    let (datatype, rest) = number_front(b"MPI_Datatype", Parameter::Datatype, rest)?;
-    let (source, rest) = number_front(b"int", Parameter::Source, rest)?;
-    let (tag, rest) = number_front(b"int", Parameter::Tag, rest)?;
-    let (comm, rest) = number_front(b"MPI_Comm", Parameter::Comm, rest)?;
+    let (count, rest) = number_front(b"int", b"int count=", Parameter::Count, text)?;
+    let (datatype, rest) = number_front(
+        b"MPI_Datatype",
+        b"MPI_Datatype datatype=",
+        Parameter::Datatype,
+        rest,
+    )?;
+    let (source, rest) = number_front(b"int", b"int source=", Parameter::Source, rest)?;
+    let (tag, rest) = number_front(b"int", b"int tag=", Parameter::Tag, rest)?;
+    let (comm, rest) = number_front(b"MPI_Comm", b"MPI_Comm comm=", Parameter::Comm, rest)?;
     let elements = small_of(count)?;
     let peer = source_of(source)?;
     let asked = asked_tag_of(tag)?;
@@ -144,7 +154,12 @@ fn isend_lines(mode: Mode, text: &[u8]) -> Option<(Call, Outs, u64, &[u8])>
     let Some((envelope, rest)) = send_front(text) else {
         return None;
     };
-    let (request, rest) = number_front(b"MPI_Request", Parameter::Request, rest)?;
+    let (request, rest) = number_front(
+        b"MPI_Request",
+        b"MPI_Request request=",
+        Parameter::Request,
+        rest,
+    )?;
     let outs = posted(request);
     Some((Call::Isend(mode, envelope), outs, 6, rest))
 }
@@ -173,7 +188,12 @@ fn irecv_lines(text: &[u8]) -> Option<(Call, Outs, u64, &[u8])>
     let Some((envelope, rest)) = receive_front(text) else {
         return None;
     };
-    let (request, rest) = number_front(b"MPI_Request", Parameter::Request, rest)?;
+    let (request, rest) = number_front(
+        b"MPI_Request",
+        b"MPI_Request request=",
+        Parameter::Request,
+        rest,
+    )?;
     let outs = posted(request);
     Some((Call::Irecv(envelope), outs, 6, rest))
 }
@@ -184,7 +204,12 @@ fn wait_lines(text: &[u8]) -> Option<(Call, Outs, u64, &[u8])>
     ensures says { IfSome result (λ x. TellsCall Function.Wait x.0 x.1 x.2 text.now x.3.now) }
     ensures few { IfSome result (λ x. x.2 ≤ 14) }
 {
-    let (request, rest) = number_front(b"MPI_Request", Parameter::Request, text)?;
+    let (request, rest) = number_front(
+        b"MPI_Request",
+        b"MPI_Request request=",
+        Parameter::Request,
+        text,
+    )?;
     let Some((told, lines, rest)) = status_front(rest) else {
         return None;
     };
@@ -219,7 +244,7 @@ fn group_lines(kind: Kind, text: &[u8]) -> Option<(Call, Outs, u64, &[u8])>
     ensures few { IfSome result (λ x. x.2 ≤ 14) }
 {
     let (passed, rest) = moved_front(kind, text);
-    let (comm, rest) = number_front(b"MPI_Comm", Parameter::Comm, rest)?;
+    let (comm, rest) = number_front(b"MPI_Comm", b"MPI_Comm comm=", Parameter::Comm, rest)?;
     let group = comm_of(comm)?;
     let collective = Collective::new(kind, None, group)?;
     Some((
@@ -237,8 +262,8 @@ fn rooted_lines(kind: Kind, text: &[u8]) -> Option<(Call, Outs, u64, &[u8])>
     ensures few { IfSome result (λ x. x.2 ≤ 14) }
 {
     let (passed, rest) = moved_front(kind, text);
-    let (root, rest) = number_front(b"int", Parameter::Root, rest)?;
-    let (comm, rest) = number_front(b"MPI_Comm", Parameter::Comm, rest)?;
+    let (root, rest) = number_front(b"int", b"int root=", Parameter::Root, rest)?;
+    let (comm, rest) = number_front(b"MPI_Comm", b"MPI_Comm comm=", Parameter::Comm, rest)?;
     let rank = root_of(root)?;
     let group = comm_of(comm)?;
     let collective = Collective::new(kind, rank, group)?;

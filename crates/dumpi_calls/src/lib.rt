@@ -11,7 +11,8 @@
 //!   dumpi2ascii writes them, in one pass; [`skim`]: so the source of a status; [`requests`]: so a list of requests
 //! - [`function`]: the functions, by their names; [`envelope`], [`outcome`]: what calls name and bring back;
 //!   [`typing`]: a call by the row of its function
-//! - [`in_place`]: calls as dumpi2ascii writes them, read whole where they stand; [`lines`]: their parameter lines
+//! - [`in_place`]: calls as dumpi2ascii writes them, read whole where they stand; [`lines`]: their parameter lines;
+//!   [`number_lines`]: those of numbers, in one pass
 //! - [`sink`]: the callbacks; [`fault`], [`walking`]: the walk; [`raw`]: one that hands on calls as they stand in the text
 //! - [`collect`], over events in [`parts`], and [`tally`]: two sinks; [`laws`]: what holds of walks over whole texts
 //!
@@ -26,6 +27,7 @@ mod function;
 mod in_place;
 mod laws;
 mod lines;
+mod number_lines;
 mod outcome;
 mod parameter;
 mod parts;

@@ -1,28 +1,28 @@
 //! Parameter lines as dumpi2ascii writes them, read where they stand in front of a text: what they tell, and what follows
 //! them. What these functions don't answer for is read line by line.
 
-ghost use Rattle.std.specs.Prelude.{◌≡◌, ◌≤◌, ◌<◌, ◌^◌, IfSome, true};
+ghost use Rattle.std.specs.Prelude.{◌≡◌, ◌≤◌, ◌<◌, ◌^◌, IfSome, length, true};
 ghost use Rattle.dumpi_calls.specs.InPlace.{PassesLines, TellsNumber, TellsRequests, TellsStatus, TellsStatuses, is_unread};
 ghost use Rattle.dumpi_calls.specs.Outcomes.{groups_from, told_at};
-ghost use Rattle.dumpi_calls.specs.Readings.{non_negative};
-ghost use Rattle.dumpi_text.specs.Usual.{is_word};
+ghost use Rattle.dumpi_calls.specs.Readings.{name_of, non_negative};
+ghost use Rattle.dumpi_text.specs.Usual.{before_value, is_word};
 ghost use Rattle.dumpi_text.specs.Value.{value_of};
 
 use crate::function::is;
+use crate::number_lines::number_line;
 use crate::outcome::{sources_in, tolds};
 use crate::parameter::Parameter;
 use crate::quick::quick_number;
 use crate::reading::non_negative_of;
 use crate::requests::quick_requests;
 use crate::skim::quick_status;
-use dumpi_text::{Num, parameter_front};
+use dumpi_text::{Num, parameter_front, parameter_lines, strip};
 use mpi_model::{Kind, Requests, Sources, Told};
 use std::alloc::Global;
 
 /// The number that the line in front of a text tells as this parameter, and what follows the line.
-#[inline(always)]
 #[tactic(auto, using(crate::proofs::InPlace::number_told, crate::proofs::InPlace::named_by_a_word))]
-pub fn number_front<'a>(
+fn any_number_front<'a>(
     kind: &[u8],
     parameter: Parameter,
     text: &'a [u8],
@@ -33,6 +33,27 @@ pub fn number_front<'a>(
     let (value, rest) = parameter_front(kind, parameter.name().as_bytes(), text)?;
     let number = quick_number(value)?;
     Some((number, rest))
+}
+
+/// The same, by what stands before the number: its line is read in one pass where dumpi2ascii wrote it.
+#[inline(always)]
+pub fn number_front<'a>(
+    kind: &[u8],
+    start: &[u8],
+    parameter: Parameter,
+    text: &'a [u8],
+) -> Option<(Num, &'a [u8])>
+    requires kind { is_word kind.now ≡ true }
+    requires start { start.now ≡ before_value kind.now (name_of parameter) }
+    requires short { length start.now ≤ 100 }
+    ensures { IfSome result (λ x. TellsNumber parameter x.0 text.now x.1.now) }
+{
+    parameter_lines();
+    let behind = strip(start, text)?;
+    match number_line(behind) {
+        Some((number, rest)) => Some((number, rest)),
+        None => any_number_front(kind, parameter, text),
+    }
 }
 
 /// A count or a tag of a send.

@@ -19,6 +19,7 @@ use dumpi_text::{Num, NumName};
 const ROOM: u64 = 100_000_000_000_000_000;
 
 /// The digits in front of a text, while the number is below 10^17: what they say, and how many they are.
+#[inline(always)]
 #[tactic(auto, using(crate::proofs::QuickNumber::number_more, crate::proofs::QuickNumber::digits_more))]
 pub fn digits_front(text: &[u8]) -> (u64, usize)
     ensures within { result.1 ≤ length text.now }
@@ -150,7 +151,7 @@ fn plain_number(text: &[u8]) -> Option<Num>
 }
 
 /// A number below 10^18 with a `-` before it.
-fn negative(number: u64) -> i64
+pub fn negative(number: u64) -> i64
     requires { number < 1000000000000000000 }
     ensures { result ≡ neg_ℤ (pos number) }
 {
