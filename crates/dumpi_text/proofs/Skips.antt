@@ -1,16 +1,16 @@
 -- The first line of a text that is skipped.
-use Rattle.std.proofs.Common.{◌≡◌, ◌≤◌, ◌+◌, ℕ, Bool, true, false, cond, nat_lt, List, [], ◌∷◌, ◌++◌, length, map, Option, Some, None, is_some, refl, sym, ap, arith, ◌∙◌}
+use Rattle.std.proofs.Common.{◌≡◌, ◌+◌, ℕ, Bool, true, false, cond, nat_lt, List, [], ◌∷◌, ◌++◌, length, map, Option, Some, None, is_some, refl, sym, ap, arith, ◌∙◌}
 use Rattle.std.specs.Option.{option_or}
 use Rattle.std.specs.List.{list_any}
 use Rattle.mpi_model.specs.Times.{Times}
-use Rattle.dumpi_text.specs.Call.{TextCall, same_bytes}
+use Rattle.dumpi_text.specs.Call.{same_bytes}
 use Rattle.dumpi_text.specs.Effects.{Opening, Taken, Stays, Gives, Ends, Refuses, by_kind, call_of, count_line, inside, last_by_kind, last_inside, last_step, outside, returning, step, threaded, with_param, within_limit}
-use Rattle.dumpi_text.specs.Grammar.{Complete, Ending, Meaning, Stopped, at_end, ended, follow, from_lines, meaning_of, text_meaning}
+use Rattle.dumpi_text.specs.Grammar.{Complete, Meaning, at_end, ended, follow, from_lines, meaning_of, text_meaning}
 use Rattle.dumpi_text.specs.Lines.{split_text}
 use Rattle.dumpi_text.specs.Parameter.{parameter_of}
 use Rattle.dumpi_text.specs.Skips.{IsLeast, SkipsLine, TellsFirstSkipped, is_inside, is_inside_after, is_threaded, kinds_of, says_nothing, whole_kind}
 use Rattle.dumpi_text.specs.Stamps.{Kind, Blank, Entering, Returning, Threaded, Bad, Other, kind_of}
-use Rattle.dumpi_text.specs.Words.{trimmed, without_last}
+use Rattle.dumpi_text.specs.Words.{trimmed}
 use Rattle.dumpi_text.specs.declared.fault.LineFault.{LineFault}
 use Rattle.dumpi_text.specs.declared.step.Position.{Position}
 

@@ -7,7 +7,7 @@ use Rattle.dumpi_text.specs.Grammar.{Complete}
 use Rattle.dumpi_text.specs.Lines.{split_text}
 use Rattle.dumpi_text.specs.Parameter.{parameter_of}
 use Rattle.dumpi_text.specs.Reading.{MeansAll}
-use Rattle.dumpi_text.specs.Stamps.{Kind, Blank, Entering, Returning, Threaded, Bad, Other, kind_of}
+use Rattle.dumpi_text.specs.Stamps.{Kind, Entering, Returning, Threaded, Other, kind_of}
 use Rattle.dumpi_text.specs.Words.{trimmed, without_last}
 use Rattle.dumpi_text.specs.declared.step.Position.{Position}
 

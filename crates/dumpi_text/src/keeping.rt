@@ -1,0 +1,30 @@
+//! Which of a call's parameters are kept while it is read.
+
+ghost use Rattle.std.specs.Prelude.{◌≡◌};
+ghost use Rattle.dumpi_text.specs.Kept.{Choice};
+
+use crate::raw_call::RawCall;
+
+/// Which of a call's parameters are kept while it is read. The others are read as far as these, and let go.
+pub trait Keeping {
+    /// Whether a parameter is kept, by its function's name, the parameters that were kept before it, and its own name.
+    ghost choice: { Choice };
+
+    /// Whether one parameter more of a call is kept.
+    fn keeps(call: &RawCall, name: &[u8]) -> bool
+        ensures { result ≡ choice call.now.name call.now.params name.now };
+}
+
+/// Every parameter is kept.
+pub(crate) struct All;
+
+impl Keeping for All {
+    ghost use Rattle.dumpi_text.specs.Kept.{keep_all};
+
+    ghost choice = { keep_all };
+
+    #[inline(always)]
+    fn keeps(_call: &RawCall, _name: &[u8]) -> bool {
+        true
+    }
+}
