@@ -1,6 +1,7 @@
 -- One call more of a text that is walked: read whole, and handed on.
 use Rattle.std.proofs.Common.{◌≡◌, ◌+◌, ◌++◌, ◌∷◌, [], ℕ, List, Option, Some, Result, IsOk, IsSome, None, subst, sym, ap, refl, inl, inr, ◌∙◌}
 use Rattle.dumpi_text.specs.Call.{TextCall}
+use Rattle.dumpi_text.specs.Kept.{kept_call}
 use Rattle.dumpi_text.specs.Next.{IsNext}
 use Rattle.dumpi_text.specs.Grammar.{Complete}
 use Rattle.dumpi_text.specs.Reading.{HasRead, MeansAll, ReadsOneMore}
@@ -12,17 +13,19 @@ use Rattle.dumpi_text.specs.declared.standing.Standing.{Standing}
 use Rattle.dumpi_text.specs.declared.standing.Standing.TheVariants.{Reading, Finished}
 use Rattle.dumpi_text.specs.declared.step.Position.{Position}
 use Rattle.dumpi_calls.specs.InPlace.{IsWhole, usual_name}
+use Rattle.dumpi_calls.specs.Looked.{looked_choice}
 use Rattle.dumpi_calls.specs.Rows.{Row, row}
 use Rattle.dumpi_calls.specs.Seen.{Seen, seen_by}
-use Rattle.dumpi_calls.specs.Walks.{Begins, Follows, FollowsWhole, HandedOn, IsRead, IsStopped, IsTypedAs, IsWalked, RefusesCall, StopsWalk, Takes, TakesNext, open_line, unfinished_line, unless_returned}
+use Rattle.dumpi_calls.specs.Walks.{Begins, Follows, FollowsKept, FollowsWhole, HandedOn, IsRead, IsStopped, IsTypedAs, IsWalked, RefusesCall, StopsWalk, Takes, TakesNext, open_line, unfinished_line, unless_returned}
 use Rattle.mpi_model.specs.Times.{Times}
 use Rattle.dumpi_calls.specs.declared.fault.WalkCause.{WalkCause}
-use Rattle.dumpi_calls.specs.declared.fault.WalkCause.TheVariants.{Sink}
+use Rattle.dumpi_calls.specs.declared.fault.WalkCause.TheVariants.{Text, Missing, Wrong, Sink, Memory}
 use Rattle.dumpi_calls.specs.declared.function.Function.{Function}
 use Rattle.dumpi_calls.specs.declared.parameter.CallFault.{CallFault}
 use Rattle.dumpi_calls.specs.declared.fault.WalkFault.{WalkFault}
 use Rattle.dumpi_calls.specs.declared.typing.TypedCall.{TypedCall}
 use Rattle.dumpi_calls.specs.declared.walking.Walked.{Walked}
+use Rattle.dumpi_calls.proofs.Looked.{kept_typed}
 use Rattle.dumpi_calls.proofs.Handed.{last_unfinished, one_handed}
 
 -- a whole call may be passed
@@ -141,3 +144,38 @@ line_next step text calls raw open_at view old new follows takes open_is = recor
 pub line_refused : {F : Type 0} → (text : Option (List ℕ)) (calls : List TextCall) (raw : TextCall) (cause : WalkCause F) (line : ℕ) (view : TextState)
     → Follows text calls (Some raw) view → RefusesCall raw cause line → StopsWalk text calls cause line
 line_refused text calls raw cause line view follows refuses = inr (raw, begins text (calls ++ raw ∷ []) view follows, refuses)
+
+-- the sink took a call by what is kept of it
+takes_kept : {S : Type 0} → (step : S → Seen → S) (raw : TextCall) (old new : S) → Takes step (kept_call looked_choice raw) old new → Takes step raw old new
+takes_kept step raw old new takes = record { call = takes.call; typed_as = sym (kept_typed raw) ∙ takes.typed_as; state = takes.state }
+
+-- or refused it
+refuses_kept : {F : Type 0} → (raw : TextCall) (cause : WalkCause F) (line : ℕ) → RefusesCall (kept_call looked_choice raw) cause line → RefusesCall raw cause line
+refuses_kept raw (Text fault) line r = (r.0, r.1, r.2, (r.3.0, sym (kept_typed raw) ∙ r.3.1))
+refuses_kept raw (Missing parameter) line r = (r.0, r.1, sym (kept_typed raw) ∙ r.2)
+refuses_kept raw (Wrong parameter) line r = (r.0, sym (kept_typed raw) ∙ r.1)
+refuses_kept raw (Sink fault) line r = (r.0, subst (λ (t : Result TypedCall CallFault). IsOk t) (kept_typed raw) r.1)
+refuses_kept raw Memory line r = r
+
+-- the call was read line by line, as far as it is looked at, and taken
+pub kept_next : {S : Type 0} → (step : S → Seen → S) (text : Option (List ℕ)) (calls : List TextCall) (kept : TextCall) (open_at : Option ℕ) (view : TextState) (old new : S)
+    → FollowsKept text calls (Some kept) view → Takes step kept old new → open_at ≡ open_line kept → TakesNext step text calls open_at view old new
+unfolding FollowsKept
+kept_next step text calls kept open_at view old new follows takes open_is = record {
+  raw = follows.0;
+  read = follows.2;
+  takes = takes_kept step follows.0 old new (subst (λ (k : TextCall). Takes step k old new) follows.1 takes);
+  open_is = open_is ∙ ap open_line follows.1;
+}
+
+-- or refused
+pub kept_refused : {F : Type 0} → (text : Option (List ℕ)) (calls : List TextCall) (kept : TextCall) (cause : WalkCause F) (line : ℕ) (view : TextState)
+    → FollowsKept text calls (Some kept) view → RefusesCall kept cause line → StopsWalk text calls cause line
+unfolding FollowsKept
+kept_refused text calls kept cause line view follows refuses =
+    inr (follows.0, begins text (calls ++ follows.0 ∷ []) view follows.2, refuses_kept follows.0 cause line (subst (λ (k : TextCall). RefusesCall k cause line) follows.1 refuses))
+
+-- there was no call more
+pub none_follows : (text : Option (List ℕ)) (calls : List TextCall) (view : TextState) → FollowsKept text calls None view → MeansAll text calls (Complete view.told)
+unfolding FollowsKept
+none_follows text calls view follows = follows

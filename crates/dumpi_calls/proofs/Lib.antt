@@ -18,3 +18,4 @@ pub mod Alternating
 pub mod Joined
 pub mod Whole
 pub mod Facts
+pub mod Looked

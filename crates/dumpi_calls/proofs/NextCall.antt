@@ -4,6 +4,7 @@ use Rattle.std.proofs.lemmas.Bool.{false≢true}
 use Rattle.std.specs.Io.KnownBytes.{IsAtEnd}
 use Rattle.dumpi_text.specs.Call.{TextCall}
 use Rattle.dumpi_text.specs.Grammar.{Complete}
+use Rattle.dumpi_text.specs.Kept.{IsNextKept, kept_found}
 use Rattle.dumpi_text.specs.Next.{IsNext, is_cut}
 use Rattle.dumpi_text.specs.Shown.{put_in}
 use Rattle.dumpi_text.specs.Reading.{EndsAfterTheLast, EndsAtAThread, HasRead, MeansAll, ReadsOneMore, ReadsToTheEnd, StopsAtTheFault}
@@ -16,7 +17,8 @@ use Rattle.dumpi_text.specs.declared.fault.TextFault.TheVariants as faults
 use Rattle.dumpi_text.specs.declared.standing.Standing.{Standing}
 use Rattle.dumpi_text.specs.declared.standing.Standing.TheVariants.{Reading, Finished, Ended}
 use Rattle.dumpi_text.specs.declared.step.Position.{Position}
-use Rattle.dumpi_calls.specs.Walks.{Follows, IsRead, RefusesNext}
+use Rattle.dumpi_calls.specs.Looked.{looked_choice}
+use Rattle.dumpi_calls.specs.Walks.{Follows, FollowsKept, IsRead, RefusesNext}
 
 -- how a text stands after one call more that no other thread ended
 stands_on : EndsAfterTheLast → (text : Option (List ℕ)) (calls : List TextCall) (standing : Standing) (at : Position) (rest : Option (List ℕ)) → HasRead text calls at rest
@@ -79,6 +81,40 @@ pub goes_on : Laws → (text : Option (List ℕ)) (calls : List TextCall) (found
 goes_on laws text calls found old new next told goes over whole finished same is_read = elim is_read.stands [
   | inl e ↦ reads_on laws text calls found old new e.1 (next e.0) goes (over e.0) whole (told e.0)
   | inr e ↦ was_last text calls found old new is_read.told e.1 (finished e.0) (same e.0)
+]
+
+-- whether another thread ended a call is kept of it
+cut_kept : (whole : Option TextCall) → is_cut (kept_found looked_choice whole) ≡ is_cut whole
+cut_kept None = refl
+cut_kept (Some call) = refl
+
+follows_kept : (text : Option (List ℕ)) (calls : List TextCall) (whole : Option TextCall) (view : TextState) → Follows text calls whole view → FollowsKept text calls (kept_found looked_choice whole) view
+unfolding FollowsKept
+follows_kept text calls None view follows = follows
+follows_kept text calls (Some raw) view follows = (raw, refl, follows)
+
+-- the next call while the text is read, of which this is kept
+keeps_on : Laws → (text : Option (List ℕ)) (calls : List TextCall) (found : Option TextCall) (old new : TextState) → HasRead text calls old.at (rest_of old.rest)
+    → IsNextKept looked_choice old.at (rest_of old.rest) found new.at (rest_of new.rest)
+    → (new.standing ≡ Ended → ⊥) → (new.standing ≡ Finished → is_cut found ≡ false → IsAtEnd (rest_of new.rest)) → (new.standing ≡ Reading → is_cut found ≡ false) → new.told ≡ new.at
+    → FollowsKept text calls found new
+unfolding IsNextKept
+keeps_on laws text calls found old new read next goes over whole told =
+    let cut : is_cut found ≡ is_cut next.0 = ap is_cut next.1 ∙ cut_kept next.0 in
+    subst (λ (f : Option TextCall). FollowsKept text calls f new) (sym next.1)
+    (follows_kept text calls next.0 new (reads_on laws text calls next.0 old new read next.2 goes (λ finished no_cut. over finished (cut ∙ no_cut)) (λ reading. sym cut ∙ whole reading) told))
+
+-- an answer that is no refusal, so
+pub keeps_going : Laws → (text : Option (List ℕ)) (calls : List TextCall) (found : Option TextCall) (old new : TextState)
+    → (old.standing ≡ Reading → IsNextKept looked_choice old.at (rest_of old.rest) found new.at (rest_of new.rest))
+    → (old.standing ≡ Reading → new.told ≡ new.at)
+    → (new.standing ≡ Ended → ⊥) → (old.standing ≡ Reading → new.standing ≡ Finished → is_cut found ≡ false → IsAtEnd (rest_of new.rest))
+    → (new.standing ≡ Reading → is_cut found ≡ false)
+    → (old.standing ≡ Finished → found ≡ None) → (old.standing ≡ Finished → new ≡ old)
+    → IsRead text calls old → FollowsKept text calls found new
+keeps_going laws text calls found old new next told goes over whole finished same is_read = elim is_read.stands [
+  | inl e ↦ keeps_on laws text calls found old new e.1 (next e.0) goes (over e.0) whole (told e.0)
+  | inr e ↦ subst (λ (f : Option TextCall). FollowsKept text calls f new) (sym (finished e.0)) (follows_kept text calls None new (was_last text calls None old new is_read.told e.1 refl (same e.0)))
 ]
 
 -- a call that was put in a place is no other than that one

@@ -5,6 +5,7 @@ use Rattle.mpi_model.specs.Failures.{one_more}
 use Rattle.mpi_model.specs.Times.{Times}
 use Rattle.dumpi_text.specs.Call.{TextCall}
 use Rattle.dumpi_text.specs.Grammar.{Complete, Stopped}
+use Rattle.dumpi_text.specs.Kept.{kept_call}
 use Rattle.dumpi_text.specs.Lines.{CountsLines}
 use Rattle.dumpi_text.specs.Next.{ReadsInto}
 use Rattle.dumpi_text.specs.Reading.{HasRead, MeansAll}
@@ -19,6 +20,7 @@ use Rattle.dumpi_text.specs.declared.fault.TextFault.{TextFault}
 use Rattle.dumpi_text.specs.declared.fault.TextFault.TheVariants as faults
 use Rattle.dumpi_text.specs.declared.step.Position.{Position}
 use Rattle.dumpi_calls.specs.InPlace.{usual_name}
+use Rattle.dumpi_calls.specs.Looked.{looked_choice}
 use Rattle.dumpi_calls.specs.Rows.{row, row_of, typed}
 use Rattle.dumpi_calls.specs.Seen.{Seen, after, seen_by, seen_in}
 use Rattle.dumpi_calls.specs.declared.function.Function.{Function}
@@ -42,6 +44,11 @@ pub record IsRead (text : Option (List ℕ)) (calls : List TextCall) (view : Tex
 abbrev pub Follows : Option (List ℕ) → List TextCall → Option TextCall → TextState → Type 0
 Follows text calls (Some call) view = IsRead text (calls ++ call ∷ []) view
 Follows text calls None view = MeansAll text calls (Complete view.told)
+
+-- One call more was read, of which this is kept, or the text was over.
+unfoldable pub FollowsKept : Option (List ℕ) → List TextCall → Option TextCall → TextState → Type 0
+FollowsKept text calls (Some kept) view = (raw : TextCall) × (kept ≡ kept_call looked_choice raw) × IsRead text (calls ++ raw ∷ []) view
+FollowsKept text calls None view = MeansAll text calls (Complete view.told)
 
 -- the text begins with these calls, and the last of them ends at this line (0 before the first)
 abbrev pub BeginsTo : Option (List ℕ) → List TextCall → ℕ → Type 0

@@ -6,11 +6,12 @@ ghost use Rattle.dumpi_text.specs.Failing.{Fails};
 ghost use Rattle.dumpi_text.specs.Shown.{put_in};
 ghost use Rattle.dumpi_text.specs.declared.step.TheConstants.{MOST_LINES};
 ghost use Rattle.dumpi_calls.specs.Rows.{row_of, typed, typed_by, row};
-ghost use Rattle.dumpi_calls.specs.Walks.{Advances, FailsAfter, FailsIn, Follows, FollowsWhole, IsRead, IsReadFault, IsReadStop, IsStopped, IsTypedAs, IsWalked, LacksNext, RefusesCall, RefusesNext, StopsWalk, Takes, open_line};
+ghost use Rattle.dumpi_calls.specs.Walks.{Advances, FailsAfter, FailsIn, Follows, FollowsKept, FollowsWhole, IsRead, IsReadFault, IsReadStop, IsStopped, IsTypedAs, IsWalked, LacksNext, RefusesCall, RefusesNext, StopsWalk, Takes, open_line};
 
 use crate::fault::{WalkCause, WalkFault};
 use crate::function::function_in;
 use crate::in_place::{Whole, usual_name, whole_front};
+use crate::looking::Looked;
 use crate::parameter::CallFault;
 use crate::sink::{CallSink, hand_on};
 use crate::typing::typed_call;
@@ -136,6 +137,27 @@ pub fn next_call<R: Read>(texts: &mut Texts<R>, raw: &mut RawCall) -> Result<boo
     }
 }
 
+/// The next call of the text, as [`next_call`], of which no more is kept than what it is read by.
+#[tactic(auto, using(crate::proofs::Failing::fails))]
+fn next_looked<R: Read>(texts: &mut Texts<R>, raw: &mut RawCall) -> Result<bool, TextFault>
+    ensures goes_on { (text : Option (List ℕ)) (calls : List TextCall) → IsRead text calls texts.old → IfOk result (λ found. FollowsKept text calls (put_in found raw.new) texts.new) }
+    ensures stops { (text : Option (List ℕ)) (calls : List TextCall) → IsRead text calls texts.old → IfErr result (λ fault. RefusesNext text calls fault texts.new.told.line) }
+    ensures failed { IfErr result (λ fault. IsReadFault fault → Fails R.failures) }
+    ensures failure { (text : Option (List ℕ)) (calls : List TextCall) → IsRead text calls texts.old → IfErr result (λ fault. IsReadFault fault → FailsAfter R.left R.failures text texts.old.rest.failures calls texts.new.told.line) }
+    ensures no_failure { OnOk result (texts.new.rest.failures ≡ texts.old.rest.failures) }
+    ensures progress { result ≡ Ok true → texts.old.at.line < texts.new.at.line }
+    ensures lines { texts.new.at.line ≤ MOST_LINES }
+{
+    reading_call_by_call();
+    texts.known();
+    let read = texts.next_kept::<Looked>(raw);
+    texts.known();
+    match read {
+        Ok(found) => Ok(found),
+        Err(fault) => Err(fault),
+    }
+}
+
 /// Why a text has no next call.
 pub(crate) fn lack<F: Drop>(fault: TextFault, line: u64, calls: u64) -> WalkFault<F>
     ensures cause { (text : Option (List ℕ)) (before : List TextCall) → RefusesNext text before fault line → LacksNext text before result.cause result.line }
@@ -226,7 +248,7 @@ fn advance<R: Read, S: CallSink>(
             Err(fault) => Err(fault),
         };
     }
-    match next_call(texts, raw) {
+    match next_looked(texts, raw) {
         Ok(true) => match take(alloc, raw, sink, calls) {
             Ok(()) => Ok(Some(handed(raw))),
             Err(fault) => Err(fault),
