@@ -4,8 +4,9 @@
 //! its function. A [`CallSink`] says what becomes of it: [`Collect`] keeps the calls' events and cuts them into segments,
 //! [`Tally`] counts, and a sink of one's own does whatever it states as its step.
 //!
-//! A text is read in one pass. What a walk keeps is one call at a time, and of it what it is read by, so memory grows only with what the
-//! sink keeps; a parameter that is one number takes none. A call that is refused is not handed on, and ends the walk.
+//! A text is read in one pass. What a walk keeps is one call at a time, and of it what it is read by, so memory grows only
+//! with what the sink keeps; a parameter that is one number takes none. A call that is refused is not handed on, and ends
+//! the walk.
 //!
 //! - [`parameter`]: the parameters and why a call is refused for one; [`reading`]: what each says; [`quick`]: numbers as
 //!   dumpi2ascii writes them, in one pass; [`skim`]: so the source of a status; [`requests`]: so a list of requests
