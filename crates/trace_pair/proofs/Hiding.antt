@@ -1,5 +1,5 @@
 -- Whether some open receive may have taken a message: by a test of all of them, and by those that are called before a limit.
-use Rattle.std.proofs.Common.{◌≡◌, ◌⊎◌, ℕ, Bool, true, false, ◌&&◌, List, [], ◌∷◌, Some, None, inl, inr, ⊎_elim, sym, refl, ◌∙◌, ap, arith, cond, eqb, subst}
+use Rattle.std.proofs.Common.{◌≡◌, ◌⊎◌, Bool, true, false, ◌&&◌, List, [], ◌∷◌, Some, None, inl, inr, ⊎_elim, sym, refl, ◌∙◌, ap, arith, cond, eqb, subst}
 use Rattle.std.specs.Prelude.{not}
 use Rattle.std.specs.Bool.{Decides}
 use Rattle.std.specs.List.{filter, list_any}
@@ -14,9 +14,6 @@ use Rattle.trace_pair.specs.Pairing.{After}
 use Rattle.trace_pair.specs.Sets.{DropsFrom}
 use Rattle.trace_pair.proofs.Obeyed.{and_true, any_found, any_of, both, unless_not}
 use Rattle.trace_pair.proofs.Queued.{fit_parts}
-
-eqb_self : (n : ℕ) → eqb n n ≡ true
-eqb_self n = grind (arith, nat_tests)
 
 not_yes : (b : Bool) → not b ≡ true → b ≡ false
 not_yes true h = absurd (cc)

@@ -1,5 +1,5 @@
 -- The four sets of an index, as what is paired becomes more, and as calls come to them or go from them.
-use Rattle.std.proofs.Common.{subst, ◌≡◌, true, ◌⊎◌, List, [], inl, inr, ⊎_elim, sym, refl}
+use Rattle.std.proofs.Common.{subst, ◌≡◌, true, ◌⊎◌, List, inl, inr, ⊎_elim, sym, refl}
 use Rattle.mpi_model.specs.declared.message.Message.{Message}
 use Rattle.mpi_model.specs.declared.message.Receive.{Receive}
 use Rattle.mpi_model.specs.Trusts.{is_open, is_settled}
@@ -59,23 +59,6 @@ module _ (P : Message → Receive → Type 0) (ms : List Message) (qs : List Rec
     opens_all = λ q i t. held.opens_all q (s.was q i) t;
     coupled = λ c i. let v = held.coupled c i in (v.0, s.keeps c.receive v.1, v.2);
     coupled_all = λ m q i j h. held.coupled_all m q i (s.was q j) h;
-  }
-
-  -- and the same messages
-  pub same_messages : (ns : List Message) → IsSameSet ms ns → AreSets P ns qs waiting free opened couples
-  same_messages ns s = record {
-    senders = λ m i. held.senders m (s.was m i);
-    receivers = held.receivers;
-    messages_apart = λ m n i j e. held.messages_apart m n (s.was m i) (s.was n j) e;
-    receives_apart = held.receives_apart;
-    waits = λ m i. let v = held.waits m i in (s.keeps m v.0, v.1, v.2);
-    waits_all = λ m i l u. held.waits_all m (s.was m i) l u;
-    frees = λ q i. let v = held.frees q i in (v.0, v.1, λ m j h. v.2 m (s.was m j) h);
-    frees_all = λ q i t u. held.frees_all q i t (λ m j h. u m (s.keeps m j) h);
-    opens = held.opens;
-    opens_all = held.opens_all;
-    coupled = λ c i. let v = held.coupled c i in (s.keeps c.message v.0, v.1, v.2);
-    coupled_all = λ m q i j h. held.coupled_all m q (s.was m i) j h;
   }
 
   -- a message and a receive become a couple
@@ -241,20 +224,3 @@ module _ (P : Message → Receive → Type 0) (ms more : List Message) (qs : Lis
 -- the couples stand in another list
 pub couples_kept : (P : Message → Receive → Type 0) (ms : List Message) (qs : List Receive) (waiting : List Message) (free opened : List Receive) (old new : List Couple) → AreSets P ms qs waiting free opened old → IsSameSet old new → AreSets P ms qs waiting free opened new
 couples_kept P ms qs waiting free opened old new held same = same_lists P ms qs waiting free opened old held waiting free new (record { keeps = λ n i. i; was = λ n i. i }) (record { keeps = λ r i. i; was = λ r i. i }) same
-
--- of no calls
-pub nothing_held : (P : Message → Receive → Type 0) → AreSets P [] [] [] [] [] []
-nothing_held P = record {
-  senders = λ m i. absurd i;
-  receivers = λ q i. absurd i;
-  messages_apart = λ m n i j e. absurd i;
-  receives_apart = λ q r i j e. absurd i;
-  waits = λ m i. absurd i;
-  waits_all = λ m i l u. absurd i;
-  frees = λ q i. absurd i;
-  frees_all = λ q i t u. absurd i;
-  opens = λ q i. absurd i;
-  opens_all = λ q i t. absurd i;
-  coupled = λ c i. absurd i;
-  coupled_all = λ m q i j h. absurd i;
-}

@@ -1,5 +1,5 @@
 -- The ends of open receives, as one comes and as a message asks for them.
-use Rattle.std.proofs.Common.{◌≡◌, ℕ, Bool, true, false, ◌||◌, List, ◌∷◌, inl, inr, ⊎_elim, sym, refl, ◌∙◌, ap, arith, subst, cond, Option, Some, None}
+use Rattle.std.proofs.Common.{◌≡◌, ℕ, true, false, List, ◌∷◌, inl, inr, ⊎_elim, sym, refl, ◌∙◌, ap, arith, subst, cond, Option, Some, None}
 use Rattle.std.specs.Ordering.{is_eq}
 use Rattle.std.specs.BTreeMap.{get}
 use Rattle.std.specs.Cmp.{tied_itself}
@@ -14,7 +14,6 @@ use Rattle.trace_pair.specs.Queues.{had, kinds_with, of_kind}
 use Rattle.trace_pair.specs.declared.ends.Ends.{Ends}
 use Rattle.trace_pair.specs.declared.queues.Kinds.{Kinds}
 use Rattle.trace_pair.proofs.LaterEnds.{later_left, later_one, later_right}
-use Rattle.trace_pair.proofs.Obeyed.{either}
 use Rattle.trace_pair.proofs.Orders.{receive_keys_total, exact_receive_keys}
 use Rattle.trace_pair.proofs.PutAt.{says_equal}
 use Rattle.trace_pair.proofs.Queued.{all_kinds, fit_from, had_alike, had_still, had_with, kinds, receive_key_fits}
@@ -126,21 +125,6 @@ module _ (opened : List Receive) (ends : Ends) (s : AreLast opened ends) (m : Me
             let d : v.0 ≡ e = cc in
             subst (λ (y : Option ℕ). ends_by r.ended y ≡ true) d v.2,
       )
-
-module _ (xs : List Receive) (m : Message) (p t : Receive → Bool) where
-  pub last_second : (b : Option (Option ℕ)) → IsLastAmong xs m p None → IsLastAmong xs m t b → IsLastAmong xs m (λ r. p r || t r) b
-  last_second None h g = λ r i k f. ⊎_elim (λ (x : p r ≡ true). h r i x f) (λ (x : t r ≡ true). g r i x f) (either (p r) (t r) k)
-  last_second (Some e) h g = (g.0, λ r i k f. ⊎_elim (λ (x : p r ≡ true). absurd (h r i x f)) (λ (x : t r ≡ true). g.1 r i x f) (either (p r) (t r) k))
-
-  pub last_first : (e : Option ℕ) → IsLastAmong xs m p (Some e) → IsLastAmong xs m t None → IsLastAmong xs m (λ r. p r || t r) (Some e)
-  last_first e h g = (h.0, λ r i k f. ⊎_elim (λ (x : p r ≡ true). h.1 r i x f) (λ (x : t r ≡ true). absurd (g r i x f)) (either (p r) (t r) k))
-
-  pub last_both : (d e : Option ℕ) → IsLastAmong xs m p (Some d) → IsLastAmong xs m t (Some e) → IsLastAmong xs m (λ r. p r || t r) (Some (later_end d e))
-  last_both d e h g = (
-    ⊎_elim (λ (x : later_end d e ≡ d). (h.0.0, h.0.1, h.0.2, h.0.3 ∙ sym x)) (λ (x : later_end d e ≡ e). (g.0.0, g.0.1, g.0.2, g.0.3 ∙ sym x)) (later_one d e),
-    λ r i k f. ⊎_elim (λ (x : p r ≡ true). ends_along r.ended d (later_end d e) (h.1 r i x f) (later_left d e))
-        (λ (x : t r ≡ true). ends_along r.ended e (later_end d e) (g.1 r i x f) (later_right d e)) (either (p r) (t r) k),
-  )
 
 -- each receive is of one of the four kinds
 pub last_of_all : (xs : List Receive) (m : Message) (o : Option (Option ℕ)) → IsLastAmong xs m (all_kinds m) o → IsLastFor xs m o

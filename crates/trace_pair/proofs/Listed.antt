@@ -55,9 +55,6 @@ has_take (y ∷ ys) (suc k) x i = ⊎_elim (λ (d : x ≡ y). inl d) (λ j. inr 
 pub name_apart : (a b : OpName) → name_lt a b ≡ true → a ≡ b → ⊥
 name_apart a b h e = let f = ap (λ (o : OpName). o.rank) e in let g = ap (λ (o : OpName). o.call) e in let p = ap (λ (o : OpName). o.part) e in grind (arith, nat_tests)
 
-pub name_apart_back : (a b : OpName) → name_lt a b ≡ true → name_lt b a ≡ true → ⊥
-name_apart_back a b h g = grind (arith, nat_tests)
-
 -- elements of one name are one element
 pub one_named : {X : Type 0} (name : X → OpName) (xs : List X) (x y : X) → AreRising name xs → Has xs x → Has xs y → name x ≡ name y → x ≡ y
 one_named name [] x y o i j e = absurd i

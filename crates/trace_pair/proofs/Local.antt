@@ -7,10 +7,9 @@ use Rattle.mpi_model.specs.declared.event.OpName.{OpName}
 use Rattle.mpi_model.specs.declared.message.Message.{Message}
 use Rattle.mpi_model.specs.declared.message.Receive.{Receive}
 use Rattle.mpi_model.specs.Fit.{fits}
-use Rattle.mpi_model.specs.Trusts.{is_settled}
-use Rattle.trace_ops.specs.Order.{Has, sent_before, posted_before}
+use Rattle.trace_ops.specs.Order.{Has}
 use Rattle.trace_pair.specs.Pairing.{After, Paired}
-use Rattle.trace_pair.specs.Places.{sent_at, posted_at, sent_no_later, posted_no_later, earlier, together, no_later}
+use Rattle.trace_pair.specs.Places.{sent_at, posted_at, earlier, together, no_later}
 use Rattle.trace_pair.proofs.Fitting.{fits_at}
 use Rattle.trace_pair.proofs.Obeyed.{both, either, before_lt, posted_lt, sent_earlier, posted_earlier, pair_obeys, obeys_paired}
 
@@ -81,16 +80,6 @@ module _ (after : After) (ms : List Message) (qs : List Receive) (other : After)
 
   pub pairs_are_local : (m : Message) (q : Receive) → Has other_ms m → SameUpTo after ms qs other other_ms other_qs m q → Paired after ms qs m q → Paired other other_ms other_qs m q
   pairs_are_local m q i h g = local_below (suc (m.name.call + q.name.call)) m q (omega arith) i h g
-
--- another message of no later call that fits the receive was received before
-pub only_first_message : (after : After) (ms : List Message) (qs : List Receive) (m n : Message) (q : Receive) → Paired after ms qs m q → Has ms n → sent_no_later n m ≡ true → fits n q ≡ true →
-    ((r : Receive) → Has qs r → posted_before r q ≡ true → Paired after ms qs n r → ⊥) → ⊥
-only_first_message after ms qs m n q h i s f none = let w = (pair_obeys after ms qs m q h).messages n i s f in none w.0 w.1 w.2 w.3
-
--- another settled receive of no later call that fits the message took one before
-pub only_first_receive : (after : After) (ms : List Message) (qs : List Receive) (m : Message) (q r : Receive) → Paired after ms qs m q → Has qs r → is_settled r ≡ true → posted_no_later r q ≡ true → fits m r ≡ true →
-    ((n : Message) → Has ms n → sent_before n m ≡ true → Paired after ms qs n r → ⊥) → ⊥
-only_first_receive after ms qs m q r h i t p f none = let w = (pair_obeys after ms qs m q h).receives r i t p f in none w.0 w.1 w.2 w.3
 
 -- Whole calls that come at the ranks' ends, with no source told, no trust changed and no receive ended, leave each couple
 -- as it was.

@@ -1,5 +1,5 @@
 -- The takers and the taken messages of couples, as a couple comes or goes.
-use Rattle.std.proofs.Common.{subst, ◌≡◌, true, false, [], inl, inr, ⊎_elim, sym, refl, ◌∙◌, ap, ◌⊎◌, cond, Option, Some, None}
+use Rattle.std.proofs.Common.{subst, ◌≡◌, true, false, inl, inr, ⊎_elim, sym, refl, ◌∙◌, ap, ◌⊎◌, cond, Option, Some, None}
 use Rattle.std.specs.Option.{option_map}
 use Rattle.std.specs.Prelude.{IfSome, IfNone}
 use Rattle.mpi_model.specs.declared.event.OpName.{OpName}
@@ -251,22 +251,6 @@ same_again a c e key t free put took k =
       | true ↦ λ h. took k ∙ ap (λ b. cond b None (value_of c k)) h ∙ sym (ap (λ (n : OpName). value_of a n) (sym (agree key k h)) ∙ free)
       | false ↦ λ h. took k ∙ ap (λ b. cond b None (value_of c k)) h ∙ put k ∙ ap (λ b. cond b (Some t) (value_of a k)) h
     ] refl
-
--- maps without entries
-pub mutual_empty : (a : Takers) (b : Taken) → a ≡ [] → b ≡ [] → AreSlots a → AreSlots b → AreMutual a b
-mutual_empty a b e f o p =
-    let g : (n : OpName) → value_of a n ≡ None = λ n. ap (λ x. value_of x n) e in
-    let h : (r : OpName) → value_of b r ≡ None = λ r. ap (λ x. value_of x r) f in
-    record {
-      takers_rise = o;
-      taken_rise = p;
-      there = λ n t i. absurd (some_or_none (value_of a n) t i (g n));
-      back = λ r m i. absurd (some_or_none (value_of b r) m i (h r));
-      once = λ r s m n i j k. absurd (some_or_none (value_of b r) m i (h r));
-    }
-
-pub couples_empty : (a : Takers) (b : Taken) → b ≡ [] → couples_in a b ≡ []
-couples_empty a b f = ap (λ b. couples_in a b) f
 
 -- nothing stood at the key that is taken out
 pub nothing_left : {V : Type 0} (old new : Slots V) (key : OpName) → value_of old key ≡ None →

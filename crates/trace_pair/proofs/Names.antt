@@ -1,28 +1,18 @@
 -- The order of names: by rank, then by call, and then by part.
-use Rattle.std.proofs.Common.{◌≡◌, ◌<◌, ℕ, true, false, ◌&&◌, ◌∙◌, sym, ap, arith, eqb, ltb}
+use Rattle.std.proofs.Common.{◌≡◌, ℕ, true, ◌&&◌, ◌∙◌, sym, ap, arith, eqb}
 use Rattle.std.proofs.lemmas.Bool.Decides.{nat_tests}
 use Rattle.mpi_model.specs.declared.event.OpName.{OpName}
 use Rattle.mpi_model.specs.declared.message.Message.{Message}
 use Rattle.mpi_model.specs.declared.message.Receive.{Receive}
-use Rattle.trace_ops.specs.Order.{sent_before, posted_before, named_before}
+use Rattle.trace_ops.specs.Order.{named_before}
 use Rattle.trace_pair.specs.Places.{sent_at, posted_at}
 use Rattle.trace_pair.specs.Calls.{IsOwnMessage, IsOwnReceive}
 use Rattle.trace_pair.specs.Indexed.{name_lt}
-use Rattle.trace_pair.proofs.Obeyed.{both, before_lt, posted_lt}
+use Rattle.trace_pair.proofs.Obeyed.{both}
 use Rattle.trace_pair.proofs.Certain.{same_name, one_call, one_part}
 
 same_number : (a b : ℕ) → eqb a b ≡ true → a ≡ b
 same_number a b h = grind (arith, nat_tests)
-
--- a later call of one rank has the later name
-name_later : (a b : OpName) → a.rank ≡ b.rank → a.call < b.call → name_lt a b ≡ true
-name_later a b e lt = grind (arith, nat_tests)
-
-pub sent_name : (m n : Message) → IsOwnMessage m → IsOwnMessage n → sent_before m n ≡ true → name_lt m.name n.name ≡ true
-sent_name m n o p h = name_later m.name n.name (o ∙ same_number m.from n.from (both (eqb m.from n.from) (ltb m.name.call n.name.call) h).0 ∙ sym p) (before_lt n m h)
-
-pub posted_name : (q r : Receive) → IsOwnReceive q → IsOwnReceive r → posted_before q r ≡ true → name_lt q.name r.name ≡ true
-posted_name q r o p h = name_later q.name r.name (o ∙ same_number q.at r.at (both (eqb q.at r.at) (ltb q.name.call r.name.call) h).0 ∙ sym p) (posted_lt r q h)
 
 -- and so what stands before in the list of a rank
 listed_name : (a b : OpName) → a.rank ≡ b.rank → named_before a b ≡ true → name_lt a b ≡ true
@@ -40,10 +30,6 @@ posted_listed q r o p h =
 
 pub name_along : (a b c : OpName) → name_lt a b ≡ true → name_lt b c ≡ true → name_lt a c ≡ true
 name_along a b c h g = grind (arith, nat_tests)
-
--- what is before b is before all that is not before b
-pub name_not_later : (a b c : OpName) → name_lt a b ≡ true → name_lt c b ≡ false → name_lt a c ≡ true
-name_not_later a b c h g = grind (arith, nat_tests)
 
 -- calls of one name stand at one place
 pub placed : (m n : Message) → IsOwnMessage m → IsOwnMessage n → m.name ≡ n.name → sent_at m ≡ sent_at n

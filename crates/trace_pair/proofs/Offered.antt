@@ -1,6 +1,6 @@
 -- All messages with what takes each, as a receive asks for one and takes it.
-use Rattle.std.proofs.Common.{subst, ◌≡◌, ℕ, zero, suc, List, [], ◌∷◌, sym, refl, ◌∙◌, ap, cond, Option, Some, None, length}
-use Rattle.std.specs.Prelude.{slice_set, replicate, is_some, IfSome}
+use Rattle.std.proofs.Common.{subst, ◌≡◌, ℕ, suc, List, [], ◌∷◌, sym, refl, ◌∙◌, ap, cond, Option, Some, None, length}
+use Rattle.std.specs.Prelude.{replicate, is_some, IfSome}
 use Rattle.std.specs.Ordering.{is_eq}
 use Rattle.std.specs.BTreeMap.{BTreeMap, IsOrdered}
 use Rattle.mpi_model.specs.declared.message.Message.{Message}
@@ -11,7 +11,7 @@ use Rattle.trace_pair.specs.Waiting.{from_waiting, places_at, sole_of, ArePlaces
 use Rattle.trace_pair.specs.declared.pair.Taker.{Taker}
 use Rattle.trace_pair.proofs.Orders.{exact_lanes, exact_queues, lanes_total, queues_total}
 use Rattle.trace_pair.proofs.Queued.{queue, lane, queue_fits, fits_queue, lane_fits, fits_lane}
-use Rattle.trace_pair.proofs.Waited.{places_passed, places_taken}
+use Rattle.trace_pair.proofs.Waited.{places_passed}
 use Rattle.trace_pair.proofs.SolePlaces.{line_at, sole_in}
 
 abbrev nones : List Message → List (Option Taker)
@@ -20,11 +20,6 @@ nones ms = replicate (length ms) None
 length_none : (ms : List Message) → length (nones ms) ≡ length ms
 length_none [] = refl
 length_none (m ∷ ms) = ap suc (length_none ms)
-
-length_set : (ts : List (Option Taker)) (p : ℕ) (t : Option Taker) → length (slice_set ts p t) ≡ length ts
-length_set [] p t = refl
-length_set (x ∷ ts) zero t = refl
-length_set (x ∷ ts) (suc p) t = ap suc (length_set ts p t)
 
 pub new_takings : (ms : List Message) (ts : List (Option Taker)) (queues : BTreeMap Queue (List ℕ)) → AreRising (λ (m : Message). m.name) ms → ts ≡ replicate (length ms) None → ((us : List (Option Taker)) → ArePlaces queue_cmp queue_of ms us queues) → AreTakings ms ts queues None
 new_takings ms ts queues rise e placed = record { rise = rise; many = ap (λ (l : List (Option Taker)). length l) e ∙ length_none ms; queued = placed ts; laned = tt }
@@ -57,18 +52,6 @@ module _ (ms : List Message) (ts : List (Option Taker)) (queues : BTreeMap Queue
       subst (λ (l : List Message). ArePlaces lane_cmp lane_of l ts made) f
       (law ts (subst (λ (o : Option (BTreeMap Lane (List ℕ))). IfSome o (ArePlaces lane_cmp lane_of ns ts)) (sym e)
       (subst (λ (l : List Message). IfSome lanes (ArePlaces lane_cmp lane_of l ts)) (sym f) are.laned)))
-
-  lanes_taken : (o : Option (BTreeMap Lane (List ℕ))) (p : ℕ) (t : Taker) → IfSome o (ArePlaces lane_cmp lane_of ms ts) → IfSome o (ArePlaces lane_cmp lane_of ms (slice_set ts p (Some t)))
-  lanes_taken None p t h = tt
-  lanes_taken (Some l) p t h = places_taken lanes_total exact_lanes lane_of ms ts p t l h
-
-  pub taken_at : (p : ℕ) (t : Taker) → AreTakings ms (slice_set ts p (Some t)) queues lanes
-  taken_at p t = record {
-    rise = are.rise;
-    many = length_set ts p (Some t) ∙ are.many;
-    queued = places_taken queues_total exact_queues queue_of ms ts p t queues are.queued;
-    laned = lanes_taken lanes p t are.laned;
-  }
 
   pub sole_in_queue : (q : Receive) (s t : ℕ) (ns : List Message) (us : List (Option Taker)) (o : Option ℕ) → ns ≡ ms → us ≡ ts → q.source ≡ Some s → q.tag ≡ Some t
       → o ≡ sole_of ns us (from_waiting us (places_at queue_cmp queues (queue q.comm s q.at t))) → IsSolePlace (record { messages = ms; takers = ts }) q o

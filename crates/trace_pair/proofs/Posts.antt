@@ -25,14 +25,6 @@ pub order_front : (xs ys : List Receive) → ArePosted (xs ++ ys) → ArePosted 
 order_front [] ys o = tt
 order_front (x ∷ xs) ys o = (λ n i. o.0 n (has_left xs ys n i), order_front xs ys o.1)
 
-pub sequence_front : (before after xs ys : List Receive) → IsPosting before after (xs ++ ys) → IsPosting before after xs
-sequence_front before after xs ys s = record {
-  own = λ m i. s.own m (has_left xs ys m i);
-  order = order_front xs ys s.order;
-  apart_before = λ n m i j. s.apart_before n m i (has_left xs ys m j);
-  apart_after = λ n m i j. s.apart_after n m i (has_left xs ys m j);
-}
-
 order_back : (xs ys : List Receive) → ArePosted (xs ++ ys) → ArePosted ys
 order_back [] ys o = o
 order_back (x ∷ xs) ys o = order_back xs ys o.1

@@ -1,5 +1,5 @@
 -- Where the messages and receives of an index stand.
-use Rattle.std.proofs.Common.{subst, cond, ◌≡◌, ℕ, Bool, true, false, ◌&&◌, ◌||◌, List, inl, inr, ⊎_elim, sym, refl, ◌∙◌, ap, arith, ◌⊎◌, Option, Some, None, eqb}
+use Rattle.std.proofs.Common.{subst, cond, ◌≡◌, ℕ, Bool, true, false, ◌&&◌, ◌||◌, List, ⊎_elim, sym, refl, ◌∙◌, ap, arith, ◌⊎◌, Option, Some, None, eqb}
 use Rattle.std.specs.Prelude.{is_some, is_none, IfSome, IfNone}
 use Rattle.std.specs.Ordering.{is_eq, is_gt}
 use Rattle.std.specs.BTreeMap.{BTreeMap, IsOrdered}
@@ -10,12 +10,11 @@ use Rattle.mpi_model.specs.declared.message.Receive.{Receive}
 use Rattle.mpi_model.specs.Fit.{envelopes_fit, admits}
 use Rattle.trace_ops.specs.Order.{Has}
 use Rattle.trace_pair.specs.Groups.{has, members}
-use Rattle.trace_pair.specs.Indexed.{IsFirstMessage, IsFirstReceive, name_lt}
+use Rattle.trace_pair.specs.Indexed.{IsFirstMessage, IsFirstReceive}
 use Rattle.trace_pair.specs.KeyOrders.{message_cmp, receive_cmp, Queue, queue_cmp, queue_of, Lane, lane_cmp, lane_of, ReceiveKey, receive_key_cmp, receive_key_of}
 use Rattle.trace_pair.specs.Queues.{AreQueued, AreGrouped, alike, of_kind, had, kinds_with, IsBestAmong}
 use Rattle.trace_pair.specs.declared.queues.Kinds.{Kinds}
 use Rattle.trace_pair.proofs.Obeyed.{both, and_true}
-use Rattle.trace_pair.proofs.Names.{name_along, name_not_later}
 use Rattle.trace_pair.proofs.Members.{has_member, same_members, stands, adds, drops, placed_more, placed_less}
 use Rattle.trace_pair.proofs.Orders.{messages_total, receives_total, queues_total, receive_keys_total, exact_messages, exact_receives, exact_queues, exact_receive_keys, later_message, later_receive}
 
@@ -251,30 +250,6 @@ module _ (kinds : Kinds) (old new : BTreeMap ReceiveKey (BTreeSet Receive)) (inv
     placed = placed_less receive_keys_total exact_receive_keys receives_total exact_receives receive_key_of old new inv.placed (receive_key_of q) q law;
     marked = λ r i. inv.marked r ((drops receive_keys_total exact_receive_keys receives_total exact_receives receive_key_of old new inv.ordered o inv.placed q law).was r i);
   }
-
--- the earlier of two
-or_left : (a b : Bool) → (a || b) ≡ true → (a ≡ true) ⊎ (b ≡ true)
-or_left true b h = inl refl
-or_left false b h = inr h
-
-module _ (xs : List Receive) (m : Message) (p t : Receive → Bool) where
-  pub best_second : (b : Option Receive) → IsBestAmong xs m p None → IsBestAmong xs m t b → IsBestAmong xs m (λ r. p r || t r) b
-  best_second None h g = λ r i k f. ⊎_elim (λ (x : p r ≡ true). h r i x f) (λ (x : t r ≡ true). g r i x f) (or_left (p r) (t r) k)
-  best_second (Some q) h g = (g.0, g.1, λ r i k f b. ⊎_elim (λ (x : p r ≡ true). h r i x f) (λ (x : t r ≡ true). g.2 r i x f b) (or_left (p r) (t r) k))
-
-  pub best_first : (q : Receive) → IsBestAmong xs m p (Some q) → IsBestAmong xs m t None → IsBestAmong xs m (λ r. p r || t r) (Some q)
-  best_first q h g = (h.0, h.1, λ r i k f b. ⊎_elim (λ (x : p r ≡ true). h.2 r i x f b) (λ (x : t r ≡ true). g r i x f) (or_left (p r) (t r) k))
-
-  pub best_later : (q s : Receive) → name_lt s.name q.name ≡ true → IsBestAmong xs m p (Some q) → IsBestAmong xs m t (Some s) → IsBestAmong xs m (λ r. p r || t r) (Some s)
-  best_later q s e h g = (g.0, g.1, λ r i k f b. ⊎_elim (λ (x : p r ≡ true). h.2 r i x f (name_along r.name s.name q.name b e)) (λ (x : t r ≡ true). g.2 r i x f b) (or_left (p r) (t r) k))
-
-  pub best_earlier : (q s : Receive) → name_lt s.name q.name ≡ false → IsBestAmong xs m p (Some q) → IsBestAmong xs m t (Some s) → IsBestAmong xs m (λ r. p r || t r) (Some q)
-  best_earlier q s e h g = (
-    h.0,
-    h.1,
-    λ r i k f b. ⊎_elim (λ (x : p r ≡ true). h.2 r i x f b)
-        (λ (x : t r ≡ true). g.2 r i x f (name_not_later r.name q.name s.name b e)) (or_left (p r) (t r) k),
-  )
 
 -- each receive is of one of the four kinds
 pub kinds : (a b : Option ℕ) (x y : ℕ) → ((alike (Some x) a && alike (Some y) b) || (alike (Some x) a && alike None b) || ((alike None a && alike (Some y) b) || (alike None a && alike None b))) ≡ true

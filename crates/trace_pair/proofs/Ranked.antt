@@ -3,7 +3,7 @@ use Rattle.std.proofs.Common.{subst, ◌≡◌, ℕ, zero, suc, ◌+◌, ◌<◌
 use Rattle.std.specs.List.{flat_map}
 use Rattle.mpi_model.specs.declared.message.Message.{Message}
 use Rattle.mpi_model.specs.declared.message.Receive.{Receive}
-use Rattle.trace_ops.specs.Ops.{Ops, no_ops, IsOwn, AreOwn}
+use Rattle.trace_ops.specs.Ops.{Ops, IsOwn, AreOwn}
 use Rattle.trace_ops.specs.Order.{Has}
 use Rattle.trace_pair.specs.Calls.{between, IsSequence, IsPosting, IsPostingByCall, IsSingle}
 use Rattle.trace_pair.specs.Followed.{Indexes, FollowsBy, Moves}
@@ -30,10 +30,6 @@ module _ {X : Type 0} (part : Ops → List X) where
       ap (λ l. part o ++ l) (split_set os i n (omega arith))
       ∙ sym (append_assoc (part o) (flat_map part (take i os) ++ part n) (flat_map part (drop (suc i) os)))
       ∙ ap (λ l. l ++ flat_map part (drop (suc i) os)) (sym (append_assoc (part o) (flat_map part (take i os)) (part n)))
-
-  pub fresh_part : part no_ops ≡ [] → (n : ℕ) → flat_map part (fresh n) ≡ []
-  fresh_part e zero = refl
-  fresh_part e (suc n) = ap (λ l. l ++ flat_map part (fresh n)) e ∙ fresh_part e n
 
   module _ (rank : X → ℕ) (own : (r : ℕ) (o : Ops) (x : X) → IsOwn r o → Has (part o) x → rank x ≡ r) where
     pub below : (os : List Ops) (first i : ℕ) (x : X) → AreOwn first os → Has (flat_map part (take i os)) x → rank x < first + i

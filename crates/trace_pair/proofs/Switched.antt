@@ -4,7 +4,7 @@ use Rattle.std.specs.Prelude.{nat_le}
 use Rattle.std.specs.List.{All, AllZip, list_any}
 use Rattle.std.proofs.lemmas.Bool.Decides.{nat_tests}
 use Rattle.std.proofs.lemmas.List.Elements.{All-get_or}
-use Rattle.std.proofs.lemmas.List.{get_or_default, get_or-set_same, get_or-set_other, length-set, take-append-drop}
+use Rattle.std.proofs.lemmas.List.{get_or_default, get_or-set_same, get_or-set_other, take-append-drop}
 use Rattle.std.proofs.Math.Seq.{drop-length}
 use Rattle.mpi_model.specs.declared.message.Message.{Message}
 use Rattle.mpi_model.specs.declared.message.Receive.{Receive}
@@ -283,13 +283,6 @@ at_place held i d lt e = e ∙ get_or_default held i d no_ops lt
 module _ (held all : List Ops) (i : ℕ) (n : Ops) (f : Fronts) (own : AreOwn 0 held) (own_new : IsOwn i n) (lt : i < length held) (is : all ≡ set held i n) (fronts : AreFronts (get_or held i no_ops) n f) where
   put : get_or all i no_ops ≡ n
   put = ap (λ (l : List Ops). get_or l i no_ops) is ∙ get_or-set_same held i n no_ops lt
-
-  pub stays_within : (i < length all) × (f.sends ≤ length (get_or all i no_ops).sends) × (f.receives ≤ length (get_or all i no_ops).receives)
-  stays_within = (
-    (let e = ap (λ (l : List Ops). length l) is in let k = length-set held i n in omega (arith, e, k)),
-    subst (λ (o : Ops). f.sends ≤ length o.sends) (sym put) fronts.sends_new,
-    subst (λ (o : Ops). f.receives ≤ length o.receives) (sym put) fronts.receives_new,
-  )
 
   pub set_moves : All IsSingle held → IsSingle n → (s0 s1 s2 : Matched) → Drops (get_or held i no_ops) f s0 s1 → Adds (comes_after all) (get_or all i no_ops) f s1 s2 → Follows held s0 → Follows all s2
   set_moves singles single s0 s1 s2 drops adds x =

@@ -32,13 +32,6 @@ left_there (n ∷ ms) (None ∷ ts) (suc i) m e h = inr (left_there ms ts i m e 
 left_there (n ∷ ms) (Some t ∷ ts) zero m e h = absurd (cc)
 left_there (n ∷ ms) (Some t ∷ ts) (suc i) m e h = left_there ms ts i m e h
 
-pub still_waits : (ts : List (Option Taker)) (p i : ℕ) (t : Taker) → waits_at (slice_set ts p (Some t)) i ≡ true → waits_at ts i ≡ true
-still_waits [] p i t h = h
-still_waits (x ∷ ts) zero zero t h = absurd (cc)
-still_waits (x ∷ ts) zero (suc i) t h = h
-still_waits (x ∷ ts) (suc p) zero t h = h
-still_waits (x ∷ ts) (suc p) (suc i) t h = still_waits ts p i t h
-
 waits_among : (ms : List Message) (ts : List (Option Taker)) (m : Message) → Has (left_in ms ts) m → Has ms m
 waits_among ms ts m h = let w = left_found ms ts m h in stands ms w.0 m w.1
 

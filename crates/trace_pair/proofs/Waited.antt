@@ -1,12 +1,11 @@
 -- Places of messages at keys, as one comes, as some are passed, and as a message is taken.
 use Rattle.std.proofs.Common.{subst, ◌≡◌, ℕ, zero, suc, ◌+◌, ◌<◌, Bool, true, false, List, [], ◌∷◌, ◌++◌, inl, inr, ⊎_elim, sym, refl, ◌∙◌, ap, arith, ◌⊎◌, cond, Option, Some, None, Result, Ok, Err, length, drop, take, get_or}
 use Rattle.std.proofs.lemmas.List.{take_more, length-take-le}
-use Rattle.std.specs.Prelude.{slice_get, slice_set, IfOk}
+use Rattle.std.specs.Prelude.{slice_get, IfOk}
 use Rattle.std.specs.declared.cmp.Ordering.{Ordering}
 use Rattle.std.specs.Ordering.{is_eq}
 use Rattle.std.specs.Cmp.{IsTotalOrder}
-use Rattle.std.specs.BTreeMap.{BTreeMap, get, is_at, IsEmpty, IsOrdered, WritesThrough}
-use Rattle.std.specs.Map.{lookup}
+use Rattle.std.specs.BTreeMap.{BTreeMap, get, IsOrdered, WritesThrough}
 use Rattle.std.specs.Option.{IsSome}
 use Rattle.std.proofs.lemmas.Cmp.{tied_itself}
 use Rattle.std.proofs.lemmas.Map.Lookups.{CmpEqualImpliesEq}
@@ -22,7 +21,6 @@ use Rattle.trace_pair.specs.declared.pair.Taker.{Taker}
 use Rattle.trace_pair.proofs.PutAt.{at_equal, says_equal}
 use Rattle.trace_pair.proofs.Ranks.{has_left, has_right, has_either}
 use Rattle.trace_pair.proofs.Searched.{stands}
-use Rattle.trace_pair.proofs.Taken.{still_waits}
 
 -- What stood at a key is changed by f.
 module _ {K : Type 0} {cmp : K → K → Ordering} (keys : IsTotalOrder cmp) (old : BTreeMap K (List ℕ)) (key : K) (f : List ℕ → List ℕ) where
@@ -45,22 +43,9 @@ module _ {K : Type 0} {cmp : K → K → Ordering} (keys : IsTotalOrder cmp) (ol
       (k : K) → places_at cmp new k ≡ cond (is_eq (cmp key k)) (f (places_at cmp old k)) (places_at cmp old k)
   put_new_at new ys none made puts = put_at new [] ys (ap (λ (g : Option (List ℕ)). items_of g) (sym none)) made puts
 
-  -- nothing stood there, and f leaves nothing as it is
-  pub none_at : None ≡ get cmp old key → f [] ≡ [] → (k : K) → places_at cmp old k ≡ cond (is_eq (cmp key k)) (f (places_at cmp old k)) (places_at cmp old k)
-  none_at none still k =
-      elim (is_eq (cmp key k)) as (λ b. is_eq (cmp key k) ≡ b → items_of (get cmp old k) ≡ cond b (f (items_of (get cmp old k))) (items_of (get cmp old k))) [
-        | true ↦ λ h.
-            let e : items_of (get cmp old k) ≡ [] = sym (ap (λ (g : Option (List ℕ)). items_of g) (none ∙ at_equal keys old key k (says_equal (cmp key k) h))) in
-            e ∙ sym still ∙ ap f (sym e)
-        | false ↦ λ h. refl
-      ] refl
-
 pub if_ok : {X E : Type 0} {P Q : X → Type 0} (r : Result X E) → ((x : X) → P x → Q x) → IfOk r P → IfOk r Q
 if_ok (Ok x) f h = f x h
 if_ok (Err e) f h = tt
-
-pub empty_places : {K : Type 0} (cmp : K → K → Ordering) (places : BTreeMap K (List ℕ)) → IsEmpty places → (k : K) → places_at cmp places k ≡ []
-empty_places {K = K} cmp places e k = ap (λ (es : List (K × List ℕ)). items_of (lookup (is_at (cmp k)) es)) e
 
 module _ (ts : List (Option Taker)) where
   pub stays : (ps : List ℕ) (i : ℕ) → waits_at ts i ≡ true → Has ps i → Has (from_waiting ts ps) i
@@ -173,24 +158,6 @@ module _ {K : Type 0} {cmp : K → K → Ordering} (keys : IsTotalOrder cmp) (ex
     all = λ i m e l w. stays_if ts (is_eq (cmp key (key_of m))) (places_at cmp old (key_of m)) (places_at cmp new (key_of m)) i (law (key_of m)) w (are.all i m e l w);
     own = λ k i h. are.own k i (was_if ts (is_eq (cmp key k)) (places_at cmp old k) (places_at cmp new k) i (law k) h);
     rise = λ k. rise_if ts (is_eq (cmp key k)) (places_at cmp old k) (places_at cmp new k) (law k) (are.rise k);
-  }
-
-  -- a message is taken
-  pub places_taken : (ms : List Message) (ts : List (Option Taker)) (p : ℕ) (t : Taker) (places : BTreeMap K (List ℕ)) → ArePlaces cmp key_of ms ts places → ArePlaces cmp key_of ms (slice_set ts p (Some t)) places
-  places_taken ms ts p t places are = record {
-    ordered = are.ordered;
-    all = λ i m e l w. are.all i m e l (still_waits ts p i t w);
-    own = are.own;
-    rise = are.rise;
-  }
-
-  -- no message is there
-  pub no_places : (ts : List (Option Taker)) (places : BTreeMap K (List ℕ)) → IsOrdered cmp places → ((k : K) → places_at cmp places k ≡ []) → ArePlaces cmp key_of [] ts places
-  no_places ts places ordered none = record {
-    ordered = ordered;
-    all = λ i m e l w. absurd (cc);
-    own = λ k i h. absurd (subst (λ (l : List ℕ). Has l i) (none k) h);
-    rise = λ k. subst (λ (l : List ℕ). AreRisingPlaces l) (sym (none k)) tt;
   }
 
   added_left : (b : Bool) (xs ys : List ℕ) (n i : ℕ) → ys ≡ cond b (xs ++ n ∷ []) xs → Has xs i → Has ys i
