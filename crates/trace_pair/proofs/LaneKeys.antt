@@ -60,18 +60,18 @@ module _ (kinds : Kinds) (lanes : BTreeMap ReceiveKey (BTreeSet Receive)) (inv :
   none_of_kind none = λ r i g f. kind_none kinds lanes inv m source tag none r (was_kept p (members lanes) r i).0 g f
 
   module _ (a : admits source m.from ≡ true) (b : admits tag m.tag ≡ true) where
-    at_key : (r : Receive) → Has (members lanes) r → of_kind source tag r ≡ true → envelopes_fit m r ≡ true → has receive_key_cmp receive_cmp lanes (m.comm, m.to, source, tag) r ≡ true
+    at_key : (r : Receive) → Has (members lanes) r → of_kind source tag r ≡ true → envelopes_fit m r ≡ true → has receive_key_cmp receive_cmp lanes (m.to, tag, source, m.comm) r ≡ true
     at_key r i g f =
         ap (λ (k : ReceiveKey). has receive_key_cmp receive_cmp lanes k r) (receive_key_fits m source tag r a b g f)
         ∙ stands receive_keys_total exact_receive_keys receives_total exact_receives receive_key_of lanes inv.ordered inv.placed r i
 
     -- no receive stands at the key
-    pub none_at_key : None ≡ get receive_key_cmp lanes (m.comm, m.to, source, tag) → IsLastAmong (filter p (members lanes)) m (of_kind source tag) None
+    pub none_at_key : None ≡ get receive_key_cmp lanes (m.to, tag, source, m.comm) → IsLastAmong (filter p (members lanes)) m (of_kind source tag) None
     none_at_key none = λ r i g f.
         let h = at_key r (was_kept p (members lanes) r i).0 g f in
         let n = ap (λ (o : Option (BTreeSet Receive)). holds receive_cmp o r) none in absurd (cc)
 
-    module _ (s : BTreeSet Receive) (stood : Some s ≡ get receive_key_cmp lanes (m.comm, m.to, source, tag)) where
+    module _ (s : BTreeSet Receive) (stood : Some s ≡ get receive_key_cmp lanes (m.to, tag, source, m.comm)) where
       in_lane : (r : Receive) → Has (filter p (members lanes)) r → of_kind source tag r ≡ true → envelopes_fit m r ≡ true → Has (filter p s.keys) r
       in_lane r i g f =
           let w = was_kept p (members lanes) r i in
@@ -81,10 +81,10 @@ module _ (kinds : Kinds) (lanes : BTreeMap ReceiveKey (BTreeSet Receive)) (inv :
       from_lane u i =
           let w = was_kept p s.keys u i in
           let h = sym (ap (λ (o : Option (BTreeSet Receive)). holds receive_cmp o u) stood) ∙ set_has s.keys u w.0 in
-          let k = inv.placed (m.comm, m.to, source, tag) u h in (
-            kept_has p (members lanes) u (has_member receive_keys_total exact_receive_keys receives_total exact_receives lanes inv.ordered (m.comm, m.to, source, tag) u h) w.1,
-            fit_from m u (ap (λ (x : ReceiveKey). x.0) k) (ap (λ (x : ReceiveKey). x.1) k)
-                (ap (λ (x : ReceiveKey). admits x.2 m.from) (sym k) ∙ a) (ap (λ (x : ReceiveKey). admits x.3 m.tag) (sym k) ∙ b),
+          let k = inv.placed (m.to, tag, source, m.comm) u h in (
+            kept_has p (members lanes) u (has_member receive_keys_total exact_receive_keys receives_total exact_receives lanes inv.ordered (m.to, tag, source, m.comm) u h) w.1,
+            fit_from m u (ap (λ (x : ReceiveKey). x.3) k) (ap (λ (x : ReceiveKey). x.0) k)
+                (ap (λ (x : ReceiveKey). admits x.2 m.from) (sym k) ∙ a) (ap (λ (x : ReceiveKey). admits x.1 m.tag) (sym k) ∙ b),
           )
 
       pub last_in_lane : (o : Option (Option ℕ)) → IsLatestOf (filter p s.keys) o → IsLastAmong (filter p (members lanes)) m (of_kind source tag) o

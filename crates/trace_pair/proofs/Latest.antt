@@ -108,15 +108,15 @@ module _ (opened : List Receive) (ends : Ends) (s : AreLast opened ends) (m : Me
   pub none_of_kind : had ends.kinds source tag ≡ false → IsLastAmong opened m (of_kind source tag) None
   none_of_kind none = λ r i g f. let x = s.marked r i in let y = had_alike ends.kinds source tag r.source r.tag g ∙ none in absurd (cc)
 
-  pub last_at : (o : Option (Option ℕ)) → o ≡ get receive_key_cmp ends.last (m.comm, m.to, source, tag) → IsLastAmong opened m (of_kind source tag) o
+  pub last_at : (o : Option (Option ℕ)) → o ≡ get receive_key_cmp ends.last (m.to, tag, source, m.comm) → IsLastAmong opened m (of_kind source tag) o
   last_at None h = λ r i g f.
       let w = s.within r i in
       let k = receive_key_fits m source tag r a b g f in
       let x : None ≡ Some w.0 = h ∙ ap (get receive_key_cmp ends.last) k ∙ w.1 in absurd (cc)
   last_at (Some e) h =
-      let w = s.own (m.comm, m.to, source, tag) e (sym h) in
-      let fit = fit_from m w.0 (sym (ap (λ (x : ReceiveKey). x.0) w.2)) (sym (ap (λ (x : ReceiveKey). x.1) w.2))
-      (ap (λ (x : ReceiveKey). admits x.2 m.from) w.2 ∙ a) (ap (λ (x : ReceiveKey). admits x.3 m.tag) w.2 ∙ b) in (
+      let w = s.own (m.to, tag, source, m.comm) e (sym h) in
+      let fit = fit_from m w.0 (sym (ap (λ (x : ReceiveKey). x.3) w.2)) (sym (ap (λ (x : ReceiveKey). x.0) w.2))
+      (ap (λ (x : ReceiveKey). admits x.2 m.from) w.2 ∙ a) (ap (λ (x : ReceiveKey). admits x.1 m.tag) w.2 ∙ b) in (
         (w.0, w.1, fit, w.3),
         λ r i g f.
             let v = s.within r i in

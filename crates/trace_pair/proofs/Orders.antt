@@ -84,7 +84,7 @@ pub lanes_total : IsTotalOrder lane_cmp
 lanes_total = then_total (then_total (on_total (λ (x : Lane). x.0) nat_cmp_total) (on_total (λ (x : Lane). x.1) nat_cmp_total)) (on_total (λ (x : Lane). x.2) nat_cmp_total)
 
 pub receive_keys_total : IsTotalOrder receive_key_cmp
-receive_keys_total = then_total (then_total (then_total (on_total (λ (x : ReceiveKey). x.0) nat_cmp_total) (on_total (λ (x : ReceiveKey). x.1) nat_cmp_total)) (on_total (λ (x : ReceiveKey). x.2) (options_total nat_cmp_total))) (on_total (λ (x : ReceiveKey). x.3) (options_total nat_cmp_total))
+receive_keys_total = then_total (then_total (then_total (on_total (λ (x : ReceiveKey). x.0) nat_cmp_total) (on_total (λ (x : ReceiveKey). x.1) (options_total nat_cmp_total))) (on_total (λ (x : ReceiveKey). x.2) (options_total nat_cmp_total))) (on_total (λ (x : ReceiveKey). x.3) nat_cmp_total)
 
 abbrev name : ℕ → ℕ → ℕ → OpName
 name r c p = record { rank = r; call = c; part = p }
@@ -101,7 +101,7 @@ queue a b c d = (a, b, c, d)
 abbrev lane : ℕ → ℕ → ℕ → Lane
 lane a b c = (a, b, c)
 
-abbrev receive_key : ℕ → ℕ → Option ℕ → Option ℕ → ReceiveKey
+abbrev receive_key : ℕ → Option ℕ → Option ℕ → ℕ → ReceiveKey
 receive_key a b c d = (a, b, c, d)
 
 pub exact_names : CmpEqualImpliesEq name_cmp
@@ -172,13 +172,13 @@ exact_lanes a b h =
 
 pub exact_receive_keys : CmpEqualImpliesEq receive_key_cmp
 exact_receive_keys a b h =
-    let h3 = then_equal (ordering_then (ordering_then (nat_cmp a.0 b.0) (nat_cmp a.1 b.1)) (option_cmp nat_cmp a.2 b.2)) (option_cmp nat_cmp a.3 b.3) h in
-    let h2 = then_equal (ordering_then (nat_cmp a.0 b.0) (nat_cmp a.1 b.1)) (option_cmp nat_cmp a.2 b.2) h3.0 in
-    let h1 = then_equal (nat_cmp a.0 b.0) (nat_cmp a.1 b.1) h2.0 in
+    let h3 = then_equal (ordering_then (ordering_then (nat_cmp a.0 b.0) (option_cmp nat_cmp a.1 b.1)) (option_cmp nat_cmp a.2 b.2)) (nat_cmp a.3 b.3) h in
+    let h2 = then_equal (ordering_then (nat_cmp a.0 b.0) (option_cmp nat_cmp a.1 b.1)) (option_cmp nat_cmp a.2 b.2) h3.0 in
+    let h1 = then_equal (nat_cmp a.0 b.0) (option_cmp nat_cmp a.1 b.1) h2.0 in
     ap (λ x. receive_key x a.1 a.2 a.3) (exact_nats a.0 b.0 h1.0)
-    ∙ ap (λ x. receive_key b.0 x a.2 a.3) (exact_nats a.1 b.1 h1.1)
+    ∙ ap (λ x. receive_key b.0 x a.2 a.3) (exact_options a.1 b.1 h1.1)
     ∙ ap (λ x. receive_key b.0 b.1 x a.3) (exact_options a.2 b.2 h2.1)
-    ∙ ap (λ x. receive_key b.0 b.1 b.2 x) (exact_options a.3 b.3 h3.1)
+    ∙ ap (λ x. receive_key b.0 b.1 b.2 x) (exact_nats a.3 b.3 h3.1)
 
 -- where the first of two orders is one, or the next decides
 first_above : (x y : Ordering) → x ≡ Greater → ordering_then x y ≡ Greater

@@ -12,9 +12,9 @@ use Rattle.trace_ops.specs.Order.{Has}
 use Rattle.trace_pair.specs.Groups.{has, members}
 use Rattle.trace_pair.specs.Indexed.{IsFirstMessage, IsFirstReceive}
 use Rattle.trace_pair.specs.KeyOrders.{message_cmp, receive_cmp, Queue, queue_cmp, queue_of, Lane, lane_cmp, lane_of, ReceiveKey, receive_key_cmp, receive_key_of}
-use Rattle.trace_pair.specs.Queues.{AreQueued, AreGrouped, alike, of_kind, had, kinds_with, IsBestAmong}
+use Rattle.trace_pair.specs.Queues.{AreQueued, AreGrouped, alike, of_kind, had, kinds_with, IsBestAmong, NoneFits, SomeFits}
 use Rattle.trace_pair.specs.declared.queues.Kinds.{Kinds}
-use Rattle.trace_pair.proofs.Obeyed.{both, and_true}
+use Rattle.trace_pair.proofs.Obeyed.{both, and_true, either}
 use Rattle.trace_pair.proofs.Members.{has_member, same_members, stands, adds, drops, placed_more, placed_less}
 use Rattle.trace_pair.proofs.Orders.{messages_total, receives_total, queues_total, receive_keys_total, exact_messages, exact_receives, exact_queues, exact_receive_keys, later_message, later_receive}
 
@@ -43,13 +43,13 @@ not_least true h g = cc
 not_least false h g = cc
 
 abbrev pub queue : ℕ → ℕ → ℕ → ℕ → Queue
-queue a b c d = (a, b, c, d)
+queue comm from to tag = (to, from, tag, comm)
 
 abbrev pub lane : ℕ → ℕ → ℕ → Lane
-lane a b c = (a, b, c)
+lane comm from to = (to, from, comm)
 
 abbrev receive_key : ℕ → ℕ → Option ℕ → Option ℕ → ReceiveKey
-receive_key a b c d = (a, b, c, d)
+receive_key comm at source tag = (at, tag, source, comm)
 
 -- messages whose envelopes fit a receive of a tag are those of its queue
 pub queue_fits : (q : Receive) (s t : ℕ) (n : Message) → q.source ≡ Some s → q.tag ≡ Some t → envelopes_fit n q ≡ true → queue q.comm s q.at t ≡ queue_of n
@@ -61,9 +61,9 @@ queue_fits q s t n e f h =
 
 pub fits_queue : (q : Receive) (s t : ℕ) (n : Message) → q.source ≡ Some s → q.tag ≡ Some t → queue q.comm s q.at t ≡ queue_of n → envelopes_fit n q ≡ true
 fits_queue q s t n e f k =
-    fit_from n q (sym (ap (λ (x : Queue). x.0) k)) (sym (ap (λ (x : Queue). x.2) k))
+    fit_from n q (sym (ap (λ (x : Queue). x.3) k)) (sym (ap (λ (x : Queue). x.0) k))
     (ap (λ (o : Option ℕ). admits o n.from) e ∙ equal_nats s n.from (ap (λ (x : Queue). x.1) k))
-    (ap (λ (o : Option ℕ). admits o n.tag) f ∙ equal_nats t n.tag (ap (λ (x : Queue). x.3) k))
+    (ap (λ (o : Option ℕ). admits o n.tag) f ∙ equal_nats t n.tag (ap (λ (x : Queue). x.2) k))
 
 -- and those that fit one of any tag are those of its lane
 pub lane_fits : (q : Receive) (s : ℕ) (n : Message) → q.source ≡ Some s → envelopes_fit n q ≡ true → lane q.comm s q.at ≡ lane_of n
@@ -74,7 +74,7 @@ lane_fits q s n e h =
 
 pub fits_lane : (q : Receive) (s : ℕ) (n : Message) → q.source ≡ Some s → q.tag ≡ None → lane q.comm s q.at ≡ lane_of n → envelopes_fit n q ≡ true
 fits_lane q s n e f k =
-    fit_from n q (sym (ap (λ (x : Lane). x.0) k)) (sym (ap (λ (x : Lane). x.2) k))
+    fit_from n q (sym (ap (λ (x : Lane). x.2) k)) (sym (ap (λ (x : Lane). x.0) k))
     (ap (λ (o : Option ℕ). admits o n.from) e ∙ equal_nats s n.from (ap (λ (x : Lane). x.1) k))
     (ap (λ (o : Option ℕ). admits o n.tag) f)
 
@@ -208,8 +208,8 @@ module _ (kinds : Kinds) (groups : BTreeMap ReceiveKey (BTreeSet Receive)) (inv 
   receive_key_first m source tag q a b h least =
       let k : receive_key m.comm m.to source tag ≡ receive_key_of q = inv.placed (receive_key m.comm m.to source tag) q h in (
         has_member receive_keys_total exact_receive_keys receives_total exact_receives groups inv.ordered (receive_key m.comm m.to source tag) q h,
-        fit_from m q (ap (λ (x : ReceiveKey). x.0) k) (ap (λ (x : ReceiveKey). x.1) k)
-            (ap (λ (o : Option ℕ). admits o m.from) (sym (ap (λ (x : ReceiveKey). x.2) k)) ∙ a) (ap (λ (o : Option ℕ). admits o m.tag) (sym (ap (λ (x : ReceiveKey). x.3) k)) ∙ b),
+        fit_from m q (ap (λ (x : ReceiveKey). x.3) k) (ap (λ (x : ReceiveKey). x.0) k)
+            (ap (λ (o : Option ℕ). admits o m.from) (sym (ap (λ (x : ReceiveKey). x.2) k)) ∙ a) (ap (λ (o : Option ℕ). admits o m.tag) (sym (ap (λ (x : ReceiveKey). x.1) k)) ∙ b),
         λ r i g f p. not_least (is_gt (receive_cmp q r)) (later_receive r q p)
             (least r (ap (λ (x : ReceiveKey). has receive_key_cmp receive_cmp groups x r) (receive_key_fits m source tag r a b g f) ∙ at_receive_key r i)),
       )
@@ -224,6 +224,15 @@ module _ (kinds : Kinds) (groups : BTreeMap ReceiveKey (BTreeSet Receive)) (inv 
       IfNone o ((d : Receive) → has receive_key_cmp receive_cmp groups (receive_key m.comm m.to source tag) d ≡ false) → IsBestAmong (members groups) m (of_kind source tag) o
   receive_key_if m source tag None a b h g = receive_key_none m source tag a b g
   receive_key_if m source tag (Some q) a b h g = receive_key_first m source tag q a b h.0 h.1
+
+-- one stands there, or none does
+pub best_some : (xs : List Receive) (m : Message) (p : Receive → Bool) (o : Option Receive) → IsBestAmong xs m p o → is_some o ≡ true → SomeFits xs m
+best_some xs m p None h e = absurd (cc)
+best_some xs m p (Some q) h e = (q, h.0, h.1)
+
+pub best_none : (xs : List Receive) (m : Message) (p : Receive → Bool) (o : Option Receive) → IsBestAmong xs m p o → is_some o ≡ false → IsBestAmong xs m p None
+best_none xs m p None h e = h
+best_none xs m p (Some q) h e = absurd (cc)
 
 -- the groups, as a receive comes or goes
 module _ (kinds : Kinds) (old new : BTreeMap ReceiveKey (BTreeSet Receive)) (inv : AreGrouped kinds old) (o : IsOrdered receive_key_cmp new) where
@@ -261,10 +270,22 @@ kinds (Some a) (Some b) x y = refl
 abbrev pub all_kinds : Message → Receive → Bool
 all_kinds m r = (of_kind (Some m.from) (Some m.tag) r || of_kind (Some m.from) None r) || (of_kind None (Some m.tag) r || of_kind None None r)
 
+pub none_of_kinds : (xs : List Receive) (m : Message) → IsBestAmong xs m (of_kind (Some m.from) (Some m.tag)) None → IsBestAmong xs m (of_kind (Some m.from) None) None →
+    IsBestAmong xs m (of_kind None (Some m.tag)) None → IsBestAmong xs m (of_kind None None) None → NoneFits xs m
+none_of_kinds xs m a b d e r i f =
+    let told = of_kind (Some m.from) (Some m.tag) r || of_kind (Some m.from) None r in
+    let untold = of_kind None (Some m.tag) r || of_kind None None r in
+    ⊎_elim
+    (λ (h : told ≡ true). ⊎_elim (λ (g : of_kind (Some m.from) (Some m.tag) r ≡ true). a r i g f) (λ (g : of_kind (Some m.from) None r ≡ true). b r i g f)
+    (either (of_kind (Some m.from) (Some m.tag) r) (of_kind (Some m.from) None r) h))
+    (λ (h : untold ≡ true). ⊎_elim (λ (g : of_kind None (Some m.tag) r ≡ true). d r i g f) (λ (g : of_kind None None r ≡ true). e r i g f)
+    (either (of_kind None (Some m.tag) r) (of_kind None None r) h))
+    (either told untold (kinds r.source r.tag m.from m.tag))
+
 pub best_if : (xs : List Receive) (m : Message) (o : Option Receive) → IsBestAmong xs m (all_kinds m) o → IfSome o (IsFirstReceive xs m)
 best_if xs m None h = tt
 best_if xs m (Some q) h = record { member = h.0; fit = h.1; first = λ r i f b. h.2 r i (kinds r.source r.tag m.from m.tag) f b }
 
-pub best_if_none : (xs : List Receive) (m : Message) (o : Option Receive) → IsBestAmong xs m (all_kinds m) o → IfNone o ((r : Receive) → Has xs r → envelopes_fit m r ≡ true → ⊥)
+pub best_if_none : (xs : List Receive) (m : Message) (o : Option Receive) → IsBestAmong xs m (all_kinds m) o → IfNone o (NoneFits xs m)
 best_if_none xs m None h = λ r i f. h r i (kinds r.source r.tag m.from m.tag) f
 best_if_none xs m (Some q) h = tt

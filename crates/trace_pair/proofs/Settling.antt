@@ -5,16 +5,16 @@ use Rattle.std.proofs.lemmas.Option.{get_or_from_slice_get}
 use Rattle.std.specs.Prelude.{slice_get}
 use Rattle.mpi_model.specs.declared.message.Message.{Message}
 use Rattle.mpi_model.specs.declared.message.Receive.{Receive}
-use Rattle.mpi_model.specs.Fit.{envelopes_fit}
 use Rattle.mpi_model.specs.Trusts.{is_sure, is_open, is_settled}
 use Rattle.trace_ops.specs.Ops.{Ops, IsOwn, AreOwn}
 use Rattle.trace_ops.specs.Order.{Has}
 use Rattle.trace_pair.specs.Calls.{AddsReceives, ArePostedApart, IsPosting, between}
 use Rattle.trace_pair.specs.Coupled.{taker_of, receive_by}
-use Rattle.trace_pair.specs.Indexed.{AwaitReceives, IsIndexed, IsFirstReceive, couple_of}
+use Rattle.trace_pair.specs.Indexed.{AwaitReceives, IsIndexed, couple_of}
 use Rattle.trace_pair.specs.After.{comes_after}
 use Rattle.trace_pair.specs.Ends.{AreLast, NoneHides, SomeHides}
 use Rattle.trace_pair.specs.Pairing.{After, receive_of}
+use Rattle.trace_pair.specs.Queues.{NoneFits, SomeFits}
 use Rattle.trace_pair.specs.Rising.{AreRising}
 use Rattle.trace_pair.specs.Sets.{AddsTo, DropsFrom}
 use Rattle.trace_pair.specs.Settled.{Settles, IsOfferedAt, IsTakenAt, couples_of, waiting_of}
@@ -75,19 +75,19 @@ module _ (after : After) (ms : List Message) (qs : List Receive) (b : Batch) (s 
       stands_there : get_or l place d ≡ offered.0
       stands_there = get_or_from_slice_get l place offered.0 d (ap (λ (k : List Message). slice_get k place) (same ∙ ap (λ (x : Batch). x.messages.messages) kept ∙ s.messages) ∙ offered.1)
 
-      pub free_at : (r : Receive) → IsFirstReceive new.free (get_or l place d) r → IsTakenAt after ms qs more q None
-      free_at r f =
-          let g = subst (λ (x : Batch). IsFirstReceive x.free offered.0 r) kept (subst (λ (x : Message). IsFirstReceive new.free x r) stands_there f) in
+      pub free_at : SomeFits new.free (get_or l place d) → IsTakenAt after ms qs more q None
+      free_at f =
+          let g = subst (λ (x : Batch). SomeFits x.free offered.0) kept (subst (λ (x : Message). SomeFits new.free x) stands_there f) in
           receive_left after ms qs more q adds apart settled _ b.free _ _ _ (put_front b.free q) awaits_here offered.0 offered.2.1
-          (λ i. absent_receive after ms qs more q adds apart _ _ _ _ s.held (s.held.frees q i).0) r g.member g.fit
+          (λ i. absent_receive after ms qs more q adds apart _ _ _ _ s.held (s.held.frees q i).0) g.0 g.1 g.2
 
-      pub taken_at : ((r : Receive) → Has new.free r → envelopes_fit (get_or l place d) r ≡ true → ⊥) → IsTakenAt after ms qs more q (Some place)
+      pub taken_at : NoneFits new.free (get_or l place d) → IsTakenAt after ms qs more q (Some place)
       taken_at none = (
         offered.0,
         offered.1,
         offered.2.1,
         receive_taken after ms qs more q adds apart settled _ b.free _ _ _ (put_front b.free q) awaits_here offered.0 offered.2.1
-            (subst (λ (x : Batch). (r : Receive) → Has x.free r → envelopes_fit offered.0 r ≡ true → ⊥) kept (subst (λ (x : Message). (r : Receive) → Has new.free r → envelopes_fit x r ≡ true → ⊥) stands_there none)),
+            (subst (λ (x : Batch). NoneFits x.free offered.0) kept (subst (λ (x : Message). NoneFits new.free x) stands_there none)),
       )
 
   -- the receive that takes the message at a place

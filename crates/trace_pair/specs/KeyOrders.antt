@@ -36,7 +36,7 @@ receive_cmp a b = ordering_then (name_cmp a.name b.name) (ordering_then (nat_cmp
 abbrev pub same_receive : Receive → Receive → Bool
 same_receive = (receive_eq.ghosts).eq
 
--- communicator, sender, receiver and tag
+-- receiver, sender, tag and communicator: what tells most keys apart comes first
 abbrev pub Queue : Type 0
 Queue = ℕ × ℕ × ℕ × ℕ
 
@@ -44,11 +44,11 @@ Queue = ℕ × ℕ × ℕ × ℕ
 abbrev pub queue_cmp : Queue → Queue → Ordering
 queue_cmp a b = ordering_then (ordering_then (ordering_then (nat_cmp a.0 b.0) (nat_cmp a.1 b.1)) (nat_cmp a.2 b.2)) (nat_cmp a.3 b.3)
 
--- the queue of a message: its communicator, sender, destination and tag
+-- the queue of a message: its destination, sender, tag and communicator
 abbrev pub queue_of : Message → Queue
-queue_of m = (m.comm, m.from, m.to, m.tag)
+queue_of m = (m.to, m.from, m.tag, m.comm)
 
--- communicator, sender and receiver
+-- receiver, sender and communicator
 abbrev pub Lane : Type 0
 Lane = ℕ × ℕ × ℕ
 
@@ -56,18 +56,18 @@ Lane = ℕ × ℕ × ℕ
 abbrev pub lane_cmp : Lane → Lane → Ordering
 lane_cmp a b = ordering_then (ordering_then (nat_cmp a.0 b.0) (nat_cmp a.1 b.1)) (nat_cmp a.2 b.2)
 
--- the lane of a message: its communicator, its sender and its destination
+-- the lane of a message: its destination, its sender and its communicator
 abbrev pub lane_of : Message → Lane
-lane_of m = (m.comm, m.from, m.to)
+lane_of m = (m.to, m.from, m.comm)
 
--- communicator, receiver, source and tag
+-- receiver, tag, source and communicator
 abbrev pub ReceiveKey : Type 0
-ReceiveKey = ℕ × ℕ × Option ℕ × Option ℕ
+ReceiveKey = ℕ × Option ℕ × Option ℕ × ℕ
 
 -- keys of receives by their numbers, one after another
 abbrev pub receive_key_cmp : ReceiveKey → ReceiveKey → Ordering
-receive_key_cmp a b = ordering_then (ordering_then (ordering_then (nat_cmp a.0 b.0) (nat_cmp a.1 b.1)) (option_cmp nat_cmp a.2 b.2)) (option_cmp nat_cmp a.3 b.3)
+receive_key_cmp a b = ordering_then (ordering_then (ordering_then (nat_cmp a.0 b.0) (option_cmp nat_cmp a.1 b.1)) (option_cmp nat_cmp a.2 b.2)) (nat_cmp a.3 b.3)
 
--- the key of a receive: its communicator, rank, source and tag
+-- the key of a receive: its rank, tag, source and communicator
 abbrev pub receive_key_of : Receive → ReceiveKey
-receive_key_of q = (q.comm, q.at, q.source, q.tag)
+receive_key_of q = (q.at, q.tag, q.source, q.comm)

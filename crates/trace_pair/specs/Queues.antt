@@ -42,6 +42,14 @@ alike a b = cond (is_some a) (is_some b) (is_none b)
 abbrev pub of_kind : Option ℕ → Option ℕ → Receive → Bool
 of_kind source tag r = alike source r.source && alike tag r.tag
 
+-- the envelope of one of the receives fits the message's
+abbrev pub SomeFits : List Receive → Message → Type 0
+SomeFits xs m = (r : Receive) × Has xs r × (envelopes_fit m r ≡ true)
+
+-- that of none does
+abbrev pub NoneFits : List Receive → Message → Type 0
+NoneFits xs m = (r : Receive) → Has xs r → envelopes_fit m r ≡ true → ⊥
+
 -- the first of the receives that pass the test and whose envelopes fit the message's
 abbrev pub IsBestAmong : List Receive → Message → (Receive → Bool) → Option Receive → Type 0
 IsBestAmong xs m p None = (r : Receive) → Has xs r → p r ≡ true → envelopes_fit m r ≡ true → ⊥

@@ -1,5 +1,5 @@
 -- Values by names, in a list of slots for each rank.
-use Rattle.std.specs.Prelude.{◌≡◌, ◌<◌, ◌≤◌, ◌==◌, ◌&&◌, ◌||◌, ◌++◌, nat_lt, Bool, true, ℕ, zero, suc, cond, Option, None, List, [], ◌∷◌, length, slice_index_or, Vec}
+use Rattle.std.specs.Prelude.{◌≡◌, ◌<◌, ◌≤◌, ◌==◌, ◌&&◌, ◌||◌, ◌++◌, nat_lt, if◌then◌else◌, Bool, true, ℕ, zero, suc, cond, Option, None, List, [], ◌∷◌, length, slice_index_or, Vec}
 use Rattle.std.specs.declared.cmp.Ordering.{Ordering}
 use Rattle.std.specs.List.{filter_map}
 use Rattle.std.specs.Ordering.{nat_cmp, ordering_then}
@@ -7,6 +7,7 @@ use Rattle.std.specs.Option.{option_map}
 use Rattle.std.specs.declared.alloc.Global.{Global}
 use Rattle.mpi_model.specs.declared.event.OpName.{OpName}
 use Rattle.trace_ops.specs.Order.{Has}
+use Rattle.trace_pair.specs.Table.{same_name}
 use Rattle.trace_pair.specs.declared.slots.At.{At}
 use Rattle.trace_pair.specs.declared.slots.Slot.{Slot}
 
@@ -36,6 +37,10 @@ abbrev pub value_in : {V : Type 0} → List (Slot V) → At → Option V
 value_in [] at = None
 value_in (s ∷ row) at = cond (at_eq s.at at) s.value (value_in row at)
 
+-- the part has the value, and any other the one that it had
+abbrev pub SetsIn : {V : Type 0} → At → Option V → List (Slot V) → List (Slot V) → Type 0
+SetsIn {V} at value old new = (c : At) → value_in new c ≡ (if at_eq at c then value else value_in old c)
+
 -- its slot stands at the place
 abbrev pub IsSlotAt : {V : Type 0} → List (Slot V) → ℕ → At → Type 0
 IsSlotAt {V} row i at = (i < length row) × ((d : Slot V) → (slice_index_or row i d).at ≡ at)
@@ -63,6 +68,14 @@ pub record AreSlots {V : Type 0} (rows : Slots V) : Type 0 where
 -- the value of the call of that name
 abbrev pub value_of : {V : Type 0} → Slots V → OpName → Option V
 value_of rows name = value_in (slots_at rows name.rank) (at_of name)
+
+-- the call of that name has the value, and any other the one that it had
+abbrev pub SetsOf : {V : Type 0} → OpName → Option V → Slots V → Slots V → Type 0
+SetsOf {V} name value old new = (n : OpName) → value_of new n ≡ (if same_name name n then value else value_of old n)
+
+-- each call has the value that it had
+abbrev pub KeepsValues : {V : Type 0} → Slots V → Slots V → Type 0
+KeepsValues {V} old new = (n : OpName) → value_of new n ≡ value_of old n
 
 -- a value with its name
 abbrev pub named : {V : Type 0} → ℕ → At → V → OpName × V

@@ -1,6 +1,7 @@
 -- All messages in their order, what takes each, and the places of those that wait.
-use Rattle.std.specs.Prelude.{◌≡◌, ◌<◌, ◌==◌, ℕ, Bool, true, false, cond, Option, Some, None, IfSome, List, [], ◌∷◌, filter, length, replicate, slice_get, slice_set}
+use Rattle.std.specs.Prelude.{◌≡◌, ◌<◌, ◌==◌, ◌++◌, if◌then◌else◌, ℕ, Bool, true, false, cond, Option, Some, None, IfSome, List, [], ◌∷◌, filter, length, replicate, slice_get, slice_set}
 use Rattle.std.specs.declared.cmp.Ordering.{Ordering}
+use Rattle.std.specs.Ordering.{is_eq}
 use Rattle.std.specs.BTreeMap.{BTreeMap, get, IsOrdered}
 use Rattle.mpi_model.specs.declared.message.Message.{Message}
 use Rattle.mpi_model.specs.declared.message.Receive.{Receive}
@@ -97,6 +98,14 @@ items_of (Some places) = places
 -- the places at a key
 abbrev pub places_at : {K : Type 0} → (K → K → Ordering) → BTreeMap K (List ℕ) → K → List ℕ
 places_at cmp places k = items_of (get cmp places k)
+
+-- the place stands behind the others at the key
+abbrev pub AddsPlace : {K : Type 0} → (K → K → Ordering) → K → ℕ → BTreeMap K (List ℕ) → BTreeMap K (List ℕ) → Type 0
+AddsPlace {K} cmp key place old new = (k : K) → places_at cmp new k ≡ (if is_eq (cmp key k) then places_at cmp old k ++ place ∷ [] else places_at cmp old k)
+
+-- at the key those before the first that waits are gone
+abbrev pub DropsTaken : {K : Type 0} → (K → K → Ordering) → K → List (Option Taker) → BTreeMap K (List ℕ) → BTreeMap K (List ℕ) → Type 0
+DropsTaken {K} cmp key takers old new = (k : K) → places_at cmp new k ≡ (if is_eq (cmp key k) then from_waiting takers (places_at cmp old k) else places_at cmp old k)
 
 -- Each place is below those that follow.
 abbrev pub AreRisingPlaces : List ℕ → Type 0

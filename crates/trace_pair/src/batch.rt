@@ -125,7 +125,7 @@ fn taken_by(batch: &mut Batch, reaches: &Reaches, q: &Receive) -> Result<Option<
         return Ok(None);
     };
     let m = batch.messages.messages()[place];
-    if let Some(_) = batch.free.first_for(&m) {
+    if batch.free.fits_some(&m) {
         return Ok(None);
     }
     Ok(Some(place))

@@ -16,12 +16,12 @@ use mpi_model::{Message, Receive};
 use std::alloc::{AllocError, Global};
 use std::collections::BTreeMap;
 
-/// Of some receives, the call that ends the one which ends last, by communicator, receiver, source and tag. `None` is one
+/// Of some receives, the call that ends the one which ends last, by receiver, tag, source and communicator. `None` is one
 /// that doesn't end.
 #[derive(Drop)]
 pub struct Ends {
     kinds: Kinds,
-    last: BTreeMap<(u32, u32, Option<u32>, Option<u32>), Option<u64>>,
+    last: BTreeMap<(u32, Option<u32>, Option<u32>, u32), Option<u64>>,
 }
 
 impl Ends {
@@ -39,7 +39,7 @@ impl Ends {
     pub fn insert(&mut self, q: &Receive) -> Result<(), AllocError>
         ensures { OnOk result ((opened : List Receive) → AreLast opened self.old → AreLast (q.now ∷ opened) self.new) }
     {
-        let key = (q.comm, q.at, q.source, q.tag);
+        let key = (q.at, q.tag, q.source, q.comm);
         let end = with_end(self.last.get(&key).copied(), q.ended);
         self.kinds = self.kinds.marked(q.source, q.tag);
         self.last.insert(key, end)?;
@@ -55,7 +55,7 @@ impl Ends {
         if !self.kinds.has(source, tag) {
             return None;
         }
-        self.last.get(&(m.comm, m.to, source, tag)).copied()
+        self.last.get(&(m.to, tag, source, m.comm)).copied()
     }
 
     /// The end of the last of the receives whose envelopes fit the message's.

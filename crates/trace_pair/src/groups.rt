@@ -1,8 +1,7 @@
 //! A sorted set of members for each key, in an ordered map.
-ghost use Rattle.std.specs.Prelude.{◌≡◌, true, false, None, IfSome, IfNone, OnOk, OnErr, IsTrue, if◌then◌else◌, ◌||◌, ◌&&◌};
+ghost use Rattle.std.specs.Prelude.{◌≡◌, false, None, IfSome, IfNone, OnOk, OnErr, IsTrue};
 ghost use Rattle.std.specs.BTreeMap.{IsOrdered, get};
-ghost use Rattle.std.specs.Ordering.{is_eq, is_gt};
-ghost use Rattle.trace_pair.specs.Groups.{HasMember, has};
+ghost use Rattle.trace_pair.specs.Groups.{ClearsAt, HasMember, HasNoneAt, HasSame, IsFirstAt, PutsAt, TakesAt, has};
 
 use crate::one_or_many::Members;
 use std::alloc::{AllocError, Global};
@@ -10,7 +9,7 @@ use std::collections::BTreeMap;
 
 /// The first member at a key.
 pub(crate) fn first_at<K: Ord, T: Ord + Copy>(sets: &BTreeMap<K, Members<T>>, key: &K) -> Option<T>
-    ensures some { IfSome result (λ c. IsTrue (has K.cmp T.cmp sets.now key.now c) × ((d : T) → has K.cmp T.cmp sets.now key.now d ≡ true → is_gt (T.cmp c d) ≡ false)) }
+    ensures some { IfSome result (IsFirstAt K.cmp T.cmp sets.now key.now) }
     ensures none { IfNone result ((d : T) → has K.cmp T.cmp sets.now key.now d ≡ false) }
 {
     match sets.get(key) {
@@ -26,8 +25,8 @@ fn put_first<K: Ord + Drop, T: Ord + Drop>(
     x: T,
 ) -> Result<(), AllocError>
     requires { get K.cmp sets.old key ≡ None }
-    ensures ok { OnOk result ((k : K) (d : T) → has K.cmp T.cmp sets.new k d ≡ ((is_eq (K.cmp key k) && is_eq (T.cmp x d)) || has K.cmp T.cmp sets.old k d)) }
-    ensures err { OnErr result ((k : K) (d : T) → has K.cmp T.cmp sets.new k d ≡ has K.cmp T.cmp sets.old k d) }
+    ensures ok { OnOk result (PutsAt K.cmp T.cmp key x sets.old sets.new) }
+    ensures err { OnErr result (HasSame K.cmp T.cmp sets.old sets.new) }
     ensures ordered { IsOrdered K.cmp sets.new }
 {
     sets.insert(key, Members::one(x))?;
@@ -41,8 +40,8 @@ pub(crate) fn add<K: Ord + Drop, T: Ord + Copy + Drop>(
     key: K,
     x: T,
 ) -> Result<(), AllocError>
-    ensures ok { OnOk result ((k : K) (d : T) → has K.cmp T.cmp sets.new k d ≡ ((is_eq (K.cmp key k) && is_eq (T.cmp x d)) || has K.cmp T.cmp sets.old k d)) }
-    ensures err { OnErr result ((k : K) (d : T) → has K.cmp T.cmp sets.new k d ≡ has K.cmp T.cmp sets.old k d) }
+    ensures ok { OnOk result (PutsAt K.cmp T.cmp key x sets.old sets.new) }
+    ensures err { OnErr result (HasSame K.cmp T.cmp sets.old sets.new) }
     ensures ordered { IsOrdered K.cmp sets.new }
 {
     if let Some(members) = sets.get_mut(&key) {
@@ -59,8 +58,8 @@ fn take_from<K: Ord, T: Ord + Copy + Drop>(
     key: &K,
     x: &T,
 ) -> bool
-    ensures dropped { (k : K) (d : T) → has K.cmp T.cmp sets.new k d ≡ (if is_eq (K.cmp key.now k) && is_eq (T.cmp x.now d) then false else has K.cmp T.cmp sets.old k d) }
-    ensures none { IsTrue result → (k : K) → is_eq (K.cmp key.now k) ≡ true → (d : T) → has K.cmp T.cmp sets.new k d ≡ false }
+    ensures dropped { TakesAt K.cmp T.cmp key.now x.now sets.old sets.new }
+    ensures none { IsTrue result → HasNoneAt K.cmp T.cmp sets.new key.now }
     ensures some { result ≡ false → IfSome (get K.cmp sets.new key.now) (HasMember T.cmp) }
     ensures ordered { IsOrdered K.cmp sets.new }
 {
@@ -75,7 +74,7 @@ fn take_from<K: Ord, T: Ord + Copy + Drop>(
 
 /// Takes out a key, and what stands there.
 fn forget<K: Ord + Drop, T: Ord + Drop>(sets: &mut BTreeMap<K, Members<T>>, key: &K)
-    ensures gone { (k : K) (d : T) → has K.cmp T.cmp sets.new k d ≡ (if is_eq (K.cmp key.now k) then false else has K.cmp T.cmp sets.old k d) }
+    ensures gone { ClearsAt K.cmp T.cmp key.now sets.old sets.new }
     ensures none { get K.cmp sets.new key.now ≡ None }
     ensures ordered { IsOrdered K.cmp sets.new }
 {
@@ -90,7 +89,7 @@ pub(crate) fn drop_at<K: Ord + Drop, T: Ord + Copy + Drop>(
     key: &K,
     x: &T,
 )
-    ensures dropped { (k : K) (d : T) → has K.cmp T.cmp sets.new k d ≡ (if is_eq (K.cmp key.now k) && is_eq (T.cmp x.now d) then false else has K.cmp T.cmp sets.old k d) }
+    ensures dropped { TakesAt K.cmp T.cmp key.now x.now sets.old sets.new }
     ensures used { IfSome (get K.cmp sets.new key.now) (HasMember T.cmp) }
     ensures ordered { IsOrdered K.cmp sets.new }
 {

@@ -1,7 +1,7 @@
 //! The open receives of an index, in a lane for each key: a message asks each of the lanes that fit it for one end, and
 //! then the Barriers once.
 
-ghost use Rattle.std.specs.Prelude.{◌≡◌, ◌||◌, ◌&&◌, true, false, None, if◌then◌else◌, filter, [], IfSome, IsTrue, OnOk, OnErr};
+ghost use Rattle.std.specs.Prelude.{◌≡◌, true, false, None, filter, [], IfSome, IsTrue, OnOk, OnErr};
 ghost use Rattle.std.specs.BTreeMap.{IsOrdered, get};
 ghost use Rattle.std.specs.BTreeSet.{contains};
 ghost use Rattle.std.specs.Ordering.{is_eq};
@@ -9,8 +9,8 @@ ghost use Rattle.mpi_model.specs.declared.message.Receive.{Receive};
 ghost use Rattle.mpi_model.specs.Fit.{admits};
 ghost use Rattle.trace_pair.specs.After.{comes_after};
 ghost use Rattle.trace_pair.specs.Ends.{IsLastAmong, IsLastFor, NoneHides, NoneHidesUpTo, SomeHides, SomeHidesUpTo};
-ghost use Rattle.trace_pair.specs.Groups.{HasMember, has};
-ghost use Rattle.trace_pair.specs.KeyOrders.{ReceiveKey, receive_cmp, receive_key_cmp, receive_key_of};
+ghost use Rattle.trace_pair.specs.Groups.{ClearsAt, HasMember, HasNoneAt, HasSame, PutsAt, TakesAt};
+ghost use Rattle.trace_pair.specs.KeyOrders.{receive_cmp, receive_key_cmp, receive_key_of};
 ghost use Rattle.trace_pair.specs.Lanes.{is_within};
 ghost use Rattle.trace_pair.specs.Queues.{of_kind};
 ghost use Rattle.trace_pair.specs.Sets.{AddsTo, DropsFrom};
@@ -24,28 +24,28 @@ use std::alloc::{AllocError, Global};
 use std::collections::BTreeMap;
 use std::marker::Model;
 
-/// The communicator, the receiver, the source and the tag of receives.
-type Key = (u32, u32, Option<u32>, Option<u32>);
+/// The receiver, the tag, the source and the communicator of receives.
+type Key = (u32, Option<u32>, Option<u32>, u32);
 
 /// Puts a lane of one receive at its key, where none stands.
 fn put_first(lanes: &mut BTreeMap<Key, Lane>, q: &Receive, lane: Lane) -> Result<(), AllocError>
     requires free { get receive_key_cmp lanes.old (receive_key_of q.now) ≡ None }
     requires alone { (d : Receive) → contains receive_cmp lane d ≡ is_eq (receive_cmp q.now d) }
-    ensures ok { OnOk result ((k : ReceiveKey) (d : Receive) → has receive_key_cmp receive_cmp lanes.new k d ≡ ((is_eq (receive_key_cmp (receive_key_of q.now) k) && is_eq (receive_cmp q.now d)) || has receive_key_cmp receive_cmp lanes.old k d)) }
-    ensures err { OnErr result ((k : ReceiveKey) (d : Receive) → has receive_key_cmp receive_cmp lanes.new k d ≡ has receive_key_cmp receive_cmp lanes.old k d) }
+    ensures ok { OnOk result (PutsAt receive_key_cmp receive_cmp (receive_key_of q.now) q.now lanes.old lanes.new) }
+    ensures err { OnErr result (HasSame receive_key_cmp receive_cmp lanes.old lanes.new) }
     ensures ordered { IsOrdered receive_key_cmp lanes.new }
 {
-    lanes.insert((q.comm, q.at, q.source, q.tag), lane)?;
+    lanes.insert((q.at, q.tag, q.source, q.comm), lane)?;
     Ok(())
 }
 
 /// Adds a receive at its key.
 fn add(alloc: Global, lanes: &mut BTreeMap<Key, Lane>, q: Receive) -> Result<(), AllocError>
-    ensures ok { OnOk result ((k : ReceiveKey) (d : Receive) → has receive_key_cmp receive_cmp lanes.new k d ≡ ((is_eq (receive_key_cmp (receive_key_of q) k) && is_eq (receive_cmp q d)) || has receive_key_cmp receive_cmp lanes.old k d)) }
-    ensures err { OnErr result ((k : ReceiveKey) (d : Receive) → has receive_key_cmp receive_cmp lanes.new k d ≡ has receive_key_cmp receive_cmp lanes.old k d) }
+    ensures ok { OnOk result (PutsAt receive_key_cmp receive_cmp (receive_key_of q) q lanes.old lanes.new) }
+    ensures err { OnErr result (HasSame receive_key_cmp receive_cmp lanes.old lanes.new) }
     ensures ordered { IsOrdered receive_key_cmp lanes.new }
 {
-    if let Some(lane) = lanes.get_mut(&(q.comm, q.at, q.source, q.tag)) {
+    if let Some(lane) = lanes.get_mut(&(q.at, q.tag, q.source, q.comm)) {
         lane.insert(q)?;
         return Ok(());
     }
@@ -55,12 +55,12 @@ fn add(alloc: Global, lanes: &mut BTreeMap<Key, Lane>, q: Receive) -> Result<(),
 
 /// Takes a receive from its key, and tells whether it left none there.
 fn take_from(lanes: &mut BTreeMap<Key, Lane>, q: &Receive) -> bool
-    ensures dropped { (k : ReceiveKey) (d : Receive) → has receive_key_cmp receive_cmp lanes.new k d ≡ (if is_eq (receive_key_cmp (receive_key_of q.now) k) && is_eq (receive_cmp q.now d) then false else has receive_key_cmp receive_cmp lanes.old k d) }
-    ensures none { IsTrue result → (k : ReceiveKey) → is_eq (receive_key_cmp (receive_key_of q.now) k) ≡ true → (d : Receive) → has receive_key_cmp receive_cmp lanes.new k d ≡ false }
+    ensures dropped { TakesAt receive_key_cmp receive_cmp (receive_key_of q.now) q.now lanes.old lanes.new }
+    ensures none { IsTrue result → HasNoneAt receive_key_cmp receive_cmp lanes.new (receive_key_of q.now) }
     ensures some { result ≡ false → IfSome (get receive_key_cmp lanes.new (receive_key_of q.now)) (HasMember receive_cmp) }
     ensures ordered { IsOrdered receive_key_cmp lanes.new }
 {
-    match lanes.get_mut(&(q.comm, q.at, q.source, q.tag)) {
+    match lanes.get_mut(&(q.at, q.tag, q.source, q.comm)) {
         Some(lane) => {
             lane.remove(q);
             lane.is_empty()
@@ -71,7 +71,7 @@ fn take_from(lanes: &mut BTreeMap<Key, Lane>, q: &Receive) -> bool
 
 /// Takes out a key, and what stands there.
 fn forget(lanes: &mut BTreeMap<Key, Lane>, key: &Key)
-    ensures gone { (k : ReceiveKey) (d : Receive) → has receive_key_cmp receive_cmp lanes.new k d ≡ (if is_eq (receive_key_cmp key.now k) then false else has receive_key_cmp receive_cmp lanes.old k d) }
+    ensures gone { ClearsAt receive_key_cmp receive_cmp key.now lanes.old lanes.new }
     ensures none { get receive_key_cmp lanes.new key.now ≡ None }
     ensures ordered { IsOrdered receive_key_cmp lanes.new }
 {
@@ -80,14 +80,14 @@ fn forget(lanes: &mut BTreeMap<Key, Lane>, key: &Key)
 
 /// Takes a receive from its key. A key whose last receive goes, goes with it: tags that never come back would all stay.
 fn drop_from(lanes: &mut BTreeMap<Key, Lane>, q: &Receive)
-    ensures dropped { (k : ReceiveKey) (d : Receive) → has receive_key_cmp receive_cmp lanes.new k d ≡ (if is_eq (receive_key_cmp (receive_key_of q.now) k) && is_eq (receive_cmp q.now d) then false else has receive_key_cmp receive_cmp lanes.old k d) }
+    ensures dropped { TakesAt receive_key_cmp receive_cmp (receive_key_of q.now) q.now lanes.old lanes.new }
     ensures used { IfSome (get receive_key_cmp lanes.new (receive_key_of q.now)) (HasMember receive_cmp) }
     ensures ordered { IsOrdered receive_key_cmp lanes.new }
 {
     if !take_from(lanes, q) {
         return;
     }
-    forget(lanes, &(q.comm, q.at, q.source, q.tag));
+    forget(lanes, &(q.at, q.tag, q.source, q.comm));
 }
 
 /// A set of open receives.
@@ -152,7 +152,7 @@ impl Opened {
         if !self.kinds.has(source, tag) {
             return None;
         }
-        match self.lanes.get(&(m.comm, m.to, source, tag)) {
+        match self.lanes.get(&(m.to, tag, source, m.comm)) {
             Some(lane) => lane.latest(limit),
             None => None,
         }

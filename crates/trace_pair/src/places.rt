@@ -1,10 +1,9 @@
 //! Places of messages, in their order, at keys: where the first message that waits is found without
 //! going through those that were taken again.
 
-ghost use Rattle.std.specs.Prelude.{◌≡◌, ◌++◌, ◌∷◌, [], None, OnOk, IfOk, if◌then◌else◌, drop, slice_get};
+ghost use Rattle.std.specs.Prelude.{◌≡◌, ◌++◌, ◌∷◌, [], None, OnOk, IfOk, drop, slice_get};
 ghost use Rattle.std.specs.BTreeMap.{IsOrdered, get};
-ghost use Rattle.std.specs.Ordering.{is_eq};
-ghost use Rattle.trace_pair.specs.Waiting.{waits_at, from_waiting, is_followed, is_of_call, call_at, sole_of, places_at};
+ghost use Rattle.trace_pair.specs.Waiting.{AddsPlace, DropsTaken, waits_at, from_waiting, is_followed, is_of_call, call_at, sole_of, places_at};
 
 use crate::pair::Taker;
 use mpi_model::Message;
@@ -143,7 +142,7 @@ pub(crate) fn sole_at<K: Ord>(
     takers: &[Option<Taker>],
 ) -> Option<usize>
     ensures sole { result ≡ sole_of messages.now takers.now (from_waiting takers.now (places_at K.cmp places.old key.now)) }
-    ensures left { (k : K) → places_at K.cmp places.new k ≡ (if is_eq (K.cmp key.now k) then from_waiting takers.now (places_at K.cmp places.old k) else places_at K.cmp places.old k) }
+    ensures left { DropsTaken K.cmp key.now takers.now places.old places.new }
     ensures ordered { IsOrdered K.cmp places.new }
 {
     match places.get_mut(key) {
@@ -160,7 +159,7 @@ fn put_first<K: Ord + Drop>(
     place: usize,
 ) -> Result<(), AllocError>
     requires { get K.cmp places.old key ≡ None }
-    ensures added { OnOk result ((k : K) → places_at K.cmp places.new k ≡ (if is_eq (K.cmp key k) then places_at K.cmp places.old k ++ place ∷ [] else places_at K.cmp places.old k)) }
+    ensures added { OnOk result (AddsPlace K.cmp key place places.old places.new) }
     ensures ordered { OnOk result (IsOrdered K.cmp places.new) }
 {
     let own = Places::one(alloc, place)?;
@@ -175,7 +174,7 @@ pub(crate) fn add_place<K: Ord + Drop>(
     key: K,
     place: usize,
 ) -> Result<(), AllocError>
-    ensures added { OnOk result ((k : K) → places_at K.cmp places.new k ≡ (if is_eq (K.cmp key k) then places_at K.cmp places.old k ++ place ∷ [] else places_at K.cmp places.old k)) }
+    ensures added { OnOk result (AddsPlace K.cmp key place places.old places.new) }
     ensures ordered { OnOk result (IsOrdered K.cmp places.new) }
 {
     if let Some(own) = places.get_mut(&key) {

@@ -1,10 +1,10 @@
 //! The sets of an index: messages and receives, found by a few probes of an ordered map.
-ghost use Rattle.std.specs.Prelude.{◌≡◌, ◌||◌, true, OnOk, IfSome, IfNone, is_some, List, Bool, []};
+ghost use Rattle.std.specs.Prelude.{◌≡◌, ◌||◌, true, false, None, OnOk, IfSome, IfNone, is_some, List, Bool, []};
 ghost use Rattle.mpi_model.specs.Fit.{envelopes_fit, admits};
 ghost use Rattle.trace_ops.specs.Order.{Has};
 ghost use Rattle.trace_pair.specs.Sets.{AddsTo, DropsFrom};
 ghost use Rattle.trace_pair.specs.Indexed.{IsFirstMessage, IsFirstReceive, name_lt};
-ghost use Rattle.trace_pair.specs.Queues.{IsBestAmong, of_kind, had, kinds_with};
+ghost use Rattle.trace_pair.specs.Queues.{IsBestAmong, NoneFits, SomeFits, of_kind, had, kinds_with};
 
 use crate::groups::{add, drop_at, first_at};
 use crate::one_or_many::Members;
@@ -13,7 +13,7 @@ use std::alloc::{AllocError, Global};
 use std::collections::BTreeMap;
 use std::marker::Model;
 
-/// A set of messages, by communicator, sender, receiver and tag; and the same ones without the tag, for a receive of any.
+/// A set of messages, by receiver, sender, tag and communicator; and the same ones without the tag, for a receive of any.
 #[derive(Drop)]
 pub(crate) struct Messages {
     alloc: Global,
@@ -51,19 +51,19 @@ impl Messages {
         add(
             self.alloc,
             &mut self.tagged,
-            (m.comm, m.from, m.to, m.tag),
+            (m.to, m.from, m.tag, m.comm),
             m,
         )?;
-        match add(self.alloc, &mut self.lanes, (m.comm, m.from, m.to), m) {
+        match add(self.alloc, &mut self.lanes, (m.to, m.from, m.comm), m) {
             Ok(()) => Ok(()),
             Err(error) => {
                 drop_at(
                     self.alloc,
                     &mut self.tagged,
-                    &(m.comm, m.from, m.to, m.tag),
+                    &(m.to, m.from, m.tag, m.comm),
                     &m,
                 );
-                drop_at(self.alloc, &mut self.lanes, &(m.comm, m.from, m.to), &m);
+                drop_at(self.alloc, &mut self.lanes, &(m.to, m.from, m.comm), &m);
                 Err(error)
             }
         }
@@ -75,10 +75,10 @@ impl Messages {
         drop_at(
             self.alloc,
             &mut self.tagged,
-            &(m.comm, m.from, m.to, m.tag),
+            &(m.to, m.from, m.tag, m.comm),
             m,
         );
-        drop_at(self.alloc, &mut self.lanes, &(m.comm, m.from, m.to), m);
+        drop_at(self.alloc, &mut self.lanes, &(m.to, m.from, m.comm), m);
     }
 
     /// The first message whose envelope fits that of a receive whose source is told.
@@ -89,8 +89,8 @@ impl Messages {
         match q.source {
             None => None,
             Some(source) => match q.tag {
-                Some(tag) => first_at(&self.tagged, &(q.comm, source, q.at, tag)),
-                None => first_at(&self.lanes, &(q.comm, source, q.at)),
+                Some(tag) => first_at(&self.tagged, &(q.at, source, tag, q.comm)),
+                None => first_at(&self.lanes, &(q.at, source, q.comm)),
             },
         }
     }
@@ -142,12 +142,12 @@ impl Kinds {
     }
 }
 
-/// A set of receives, by communicator, receiver, source and tag.
+/// A set of receives, by receiver, tag, source and communicator.
 #[derive(Drop)]
 pub(crate) struct Receives {
     alloc: Global,
     kinds: Kinds,
-    groups: BTreeMap<(u32, u32, Option<u32>, Option<u32>), Members<Receive>>,
+    groups: BTreeMap<(u32, Option<u32>, Option<u32>, u32), Members<Receive>>,
 }
 
 impl Model for Receives {
@@ -181,7 +181,7 @@ impl Receives {
         add(
             self.alloc,
             &mut self.groups,
-            (q.comm, q.at, q.source, q.tag),
+            (q.at, q.tag, q.source, q.comm),
             q,
         )?;
         Ok(())
@@ -193,7 +193,7 @@ impl Receives {
         drop_at(
             self.alloc,
             &mut self.groups,
-            &(q.comm, q.at, q.source, q.tag),
+            &(q.at, q.tag, q.source, q.comm),
             q,
         );
     }
@@ -207,13 +207,45 @@ impl Receives {
         if !self.kinds.has(source, tag) {
             return None;
         }
-        first_at(&self.groups, &(m.comm, m.to, source, tag))
+        first_at(&self.groups, &(m.to, tag, source, m.comm))
+    }
+
+    /// Whether one of the receives with this source and tag has an envelope that fits the message's.
+    fn fits_with(&self, m: &Message, source: Option<u32>, tag: Option<u32>) -> bool
+        requires source { admits source m.now.from ≡ true }
+        requires tag { admits tag m.now.tag ≡ true }
+        ensures yes { result ≡ true → SomeFits self.now m.now }
+        ensures no { result ≡ false → IsBestAmong self.now m.now (of_kind source tag) None }
+    {
+        if !self.kinds.has(source, tag) {
+            return false;
+        }
+        first_at(&self.groups, &(m.to, tag, source, m.comm)).is_some()
+    }
+
+    /// Whether the envelope of one of the receives fits the message's: as `first_for`, but no receive is copied.
+    pub(crate) fn fits_some(&self, m: &Message) -> bool
+        ensures yes { result ≡ true → SomeFits self.now m.now }
+        ensures no { result ≡ false → NoneFits self.now m.now }
+    {
+        let source = Some(m.from);
+        let tag = Some(m.tag);
+        if self.fits_with(m, source, tag) {
+            return true;
+        }
+        if self.fits_with(m, source, None) {
+            return true;
+        }
+        if self.fits_with(m, None, tag) {
+            return true;
+        }
+        self.fits_with(m, None, None)
     }
 
     /// The first receive whose envelope fits the message's.
     pub(crate) fn first_for(&self, m: &Message) -> Option<Receive>
         ensures some { IfSome result (IsFirstReceive self.now m.now) }
-        ensures none { IfNone result ((r : Receive) → Has self.now r → envelopes_fit m.now r ≡ true → ⊥) }
+        ensures none { IfNone result (NoneFits self.now m.now) }
     {
         let source = Some(m.from);
         let tag = Some(m.tag);

@@ -4,11 +4,9 @@
 //! holes in memory among what else is put in and taken out meanwhile. A list has neither. Names come
 //! at the end of their list, or find the slot that was made for them; one that comes in between moves
 //! what stands behind it.
-ghost use Rattle.std.specs.Prelude.{◌≡◌, ◌<◌, ℕ, false, IfOk, IfErr, OnOk, OnErr, IsTrue, length, Some, None, if◌then◌else◌, ◌==◌};
-ghost use Rattle.mpi_model.specs.declared.event.OpName.{OpName};
-ghost use Rattle.trace_pair.specs.Slots.{Rises, AreSlots, IsSlotAt, IsGapAt, at_eq, at_of, slots_at, value_in, value_of};
+ghost use Rattle.std.specs.Prelude.{◌≡◌, ◌<◌, ℕ, false, IfOk, IfErr, OnOk, OnErr, IsTrue, length, Some, None, ◌==◌};
+ghost use Rattle.trace_pair.specs.Slots.{KeepsValues, Rises, SetsIn, SetsOf, AreSlots, IsSlotAt, IsGapAt, at_of, slots_at, value_in, value_of};
 ghost use Rattle.trace_pair.specs.declared.slots.At.{At};
-ghost use Rattle.trace_pair.specs.Table.{same_name};
 
 use mpi_model::OpName;
 use std::alloc::{AllocError, Global};
@@ -90,7 +88,7 @@ fn set_slot<V: Copy>(row: &mut Vec<Slot<V>>, place: usize, slot: Slot<V>)
     requires rises { Rises row.old.items }
     requires there { IsSlotAt row.old.items place slot.at }
     ensures rises { Rises row.new.items }
-    ensures set { (c : At) → value_in row.new.items c ≡ (if at_eq slot.at c then slot.value else value_in row.old.items c) }
+    ensures set { SetsIn slot.at slot.value row.old.items row.new.items }
 {
     row[place] = slot;
 }
@@ -120,7 +118,7 @@ fn put_slot<V: Copy>(row: &mut Vec<Slot<V>>, place: usize, slot: Slot<V>) -> Res
     requires rises { Rises row.old.items }
     requires gap { IsGapAt row.old.items place slot.at }
     ensures rises { Rises row.new.items }
-    ensures put { OnOk result ((c : At) → value_in row.new.items c ≡ (if at_eq slot.at c then slot.value else value_in row.old.items c)) }
+    ensures put { OnOk result (SetsIn slot.at slot.value row.old.items row.new.items) }
     ensures err { OnErr result (row.new.items ≡ row.old.items) }
 {
     make_room(row)?;
@@ -145,7 +143,7 @@ fn fill_slot<V: Copy>(row: &mut Vec<Slot<V>>, place: usize, slot: Slot<V>) -> bo
     requires there { IsSlotAt row.old.items place slot.at }
     ensures rises { Rises row.new.items }
     ensures free { IsTrue result → value_in row.old.items slot.at ≡ None }
-    ensures put { IsTrue result → (c : At) → value_in row.new.items c ≡ (if at_eq slot.at c then slot.value else value_in row.old.items c) }
+    ensures put { IsTrue result → SetsIn slot.at slot.value row.old.items row.new.items }
     ensures there { result ≡ false → value_in row.old.items slot.at ≡ None → ⊥ }
     ensures kept { result ≡ false → row.new.items ≡ row.old.items }
 {
@@ -163,7 +161,7 @@ fn put_in<V: Copy>(row: &mut Vec<Slot<V>>, at: At, value: V) -> Result<bool, All
     requires { Rises row.old.items }
     ensures rises { Rises row.new.items }
     ensures free { IfOk result (λ put. IsTrue put → value_in row.old.items at ≡ None) }
-    ensures put { IfOk result (λ put. IsTrue put → (c : At) → value_in row.new.items c ≡ (if at_eq at c then Some value else value_in row.old.items c)) }
+    ensures put { IfOk result (λ put. IsTrue put → SetsIn at (Some value) row.old.items row.new.items) }
     ensures there { IfOk result (λ put. put ≡ false → value_in row.old.items at ≡ None → ⊥) }
     ensures kept { IfOk result (λ put. put ≡ false → row.new.items ≡ row.old.items) }
     ensures err { OnErr result (row.new.items ≡ row.old.items) }
@@ -186,7 +184,7 @@ fn take_in<V: Copy>(row: &mut Vec<Slot<V>>, at: At) -> Option<V>
     requires { Rises row.old.items }
     ensures rises { Rises row.new.items }
     ensures taken { result ≡ value_in row.old.items at }
-    ensures left { (c : At) → value_in row.new.items c ≡ (if at_eq at c then None else value_in row.old.items c) }
+    ensures left { SetsIn at None row.old.items row.new.items }
 {
     match place_of(row, at) {
         Ok(place) => {
@@ -250,10 +248,10 @@ pub(crate) fn put_new<V: Copy>(
     requires { AreSlots rows.old.items }
     ensures slots { AreSlots rows.new.items }
     ensures free { IfOk result (λ put. IsTrue put → value_of rows.old.items name ≡ None) }
-    ensures put { IfOk result (λ put. IsTrue put → (n : OpName) → value_of rows.new.items n ≡ (if same_name name n then Some value else value_of rows.old.items n)) }
+    ensures put { IfOk result (λ put. IsTrue put → SetsOf name (Some value) rows.old.items rows.new.items) }
     ensures there { IfOk result (λ put. put ≡ false → value_of rows.old.items name ≡ None → ⊥) }
-    ensures kept { IfOk result (λ put. put ≡ false → (n : OpName) → value_of rows.new.items n ≡ value_of rows.old.items n) }
-    ensures err { OnErr result ((n : OpName) → value_of rows.new.items n ≡ value_of rows.old.items n) }
+    ensures kept { IfOk result (λ put. put ≡ false → KeepsValues rows.old.items rows.new.items) }
+    ensures err { OnErr result (KeepsValues rows.old.items rows.new.items) }
 {
     reach(rows, name.rank)?;
     let put = put_in(&mut rows[name.rank as usize], at_of(&name), value)?;
@@ -265,7 +263,7 @@ pub(crate) fn take_at<V: Copy>(rows: &mut Vec<Vec<Slot<V>>>, name: &OpName) -> O
     requires { AreSlots rows.old.items }
     ensures slots { AreSlots rows.new.items }
     ensures taken { result ≡ value_of rows.old.items name.now }
-    ensures left { (n : OpName) → value_of rows.new.items n ≡ (if same_name name.now n then None else value_of rows.old.items n) }
+    ensures left { SetsOf name.now None rows.old.items rows.new.items }
 {
     if name.rank as usize >= rows.len() {
         return None;
@@ -277,7 +275,7 @@ pub(crate) fn take_at<V: Copy>(rows: &mut Vec<Vec<Slot<V>>>, name: &OpName) -> O
 pub(crate) fn expect<V: Copy>(rows: &mut Vec<Vec<Slot<V>>>, name: &OpName) -> Result<(), AllocError>
     requires { AreSlots rows.old.items }
     ensures slots { AreSlots rows.new.items }
-    ensures same { (n : OpName) → value_of rows.new.items n ≡ value_of rows.old.items n }
+    ensures same { KeepsValues rows.old.items rows.new.items }
 {
     reach(rows, name.rank)?;
     expect_in(&mut rows[name.rank as usize], at_of(name))?;
@@ -292,7 +290,7 @@ pub(crate) fn reserve<V: Copy>(
 ) -> Result<(), AllocError>
     requires { AreSlots rows.old.items }
     ensures slots { AreSlots rows.new.items }
-    ensures same { (n : OpName) → value_of rows.new.items n ≡ value_of rows.old.items n }
+    ensures same { KeepsValues rows.old.items rows.new.items }
 {
     reach(rows, rank)?;
     reserve_in(&mut rows[rank as usize], more)?;

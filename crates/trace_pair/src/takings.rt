@@ -14,7 +14,7 @@ use std::alloc::{AllocError, Global};
 use std::collections::BTreeMap;
 use std::marker::Model;
 
-/// Places by communicator, sender, receiver and tag.
+/// Places by receiver, sender, tag and communicator.
 type Queues = BTreeMap<(u32, u32, u32, u32), Places>;
 
 /// The same ones without the tag.
@@ -51,7 +51,7 @@ fn queues_of(alloc: Global, messages: &[Message]) -> Result<Queues, AllocError>
         if m.trust.is_void() {
             continue;
         }
-        add_place(alloc, &mut queues, (m.comm, m.from, m.to, m.tag), place)?;
+        add_place(alloc, &mut queues, (m.to, m.from, m.tag, m.comm), place)?;
     }
     Ok(queues)
 }
@@ -65,7 +65,7 @@ fn lanes_of(alloc: Global, messages: &[Message]) -> Result<Lanes, AllocError>
         if m.trust.is_void() {
             continue;
         }
-        add_place(alloc, &mut lanes, (m.comm, m.from, m.to), place)?;
+        add_place(alloc, &mut lanes, (m.to, m.from, m.comm), place)?;
     }
     Ok(lanes)
 }
@@ -138,7 +138,7 @@ impl Takings {
     {
         sole_at(
             &mut self.queues,
-            &(q.comm, source, q.at, tag),
+            &(q.at, source, tag, q.comm),
             &self.messages,
             &self.takers,
         )
@@ -156,7 +156,7 @@ impl Takings {
         let mut lanes = lanes_or_new(alloc, &self.messages, had)?;
         let place = sole_at(
             &mut lanes,
-            &(q.comm, source, q.at),
+            &(q.at, source, q.comm),
             &self.messages,
             &self.takers,
         );

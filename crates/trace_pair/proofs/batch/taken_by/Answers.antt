@@ -10,16 +10,16 @@ returns-in_default-clause-found c = λ ms qs more adds apart s.
     let held = awaits_here (comes_after c.args.reaches.now) ms qs c.args.batch.now s more q adds apart c.requires in
     subst (λ (o : Option ℕ). IsOfferedAt (comes_after c.args.reaches.now) ms qs more q o) c.in_default.is (c.in_ok-place.ensures.found ms qs more (q ∷ []) _ s.opened adds (inl refl) s.last s.messages held)
 
-pub returns-in-Some-first_for-clause-found : goal.returns-in-Some-first_for-clause-found
-returns-in-Some-first_for-clause-found c = λ ms qs more adds apart s.
+pub returns-then-fits_some-clause-found : goal.returns-then-fits_some-clause-found
+returns-then-fits_some-clause-found c = λ ms qs more adds apart s.
     let q = c.args.q.now in
     let held = awaits_here (comes_after c.args.reaches.now) ms qs c.args.batch.now s more q adds apart c.requires in
     let offered = subst (λ (o : Option ℕ). IsOfferedAt (comes_after c.args.reaches.now) ms qs more q o) c.in-Some.is (c.in_ok-place.ensures.found ms qs more (q ∷ []) _ s.opened adds (inl refl) s.last s.messages held) in
-    free_at (comes_after c.args.reaches.now) ms qs c.args.batch.now s more q adds apart c.requires c.offered_place.new.batch c.offered_place.ensures.kept c.in-Some.place c.messages.result.now _ c.messages.ensures offered c.in-Some-first_for.field-0 c.in-Some-first_for.ensures.some
+    free_at (comes_after c.args.reaches.now) ms qs c.args.batch.now s more q adds apart c.requires c.offered_place.new.batch c.offered_place.ensures.kept c.in-Some.place c.messages.result.now _ c.messages.ensures offered (c.fits_some.ensures.yes c.if-fits_some.true)
 
 pub returns-clause-found : goal.returns-clause-found
 returns-clause-found c = λ ms qs more adds apart s.
     let q = c.args.q.now in
     let held = awaits_here (comes_after c.args.reaches.now) ms qs c.args.batch.now s more q adds apart c.requires in
     let offered = subst (λ (o : Option ℕ). IsOfferedAt (comes_after c.args.reaches.now) ms qs more q o) c.in-Some.is (c.in_ok-place.ensures.found ms qs more (q ∷ []) _ s.opened adds (inl refl) s.last s.messages held) in
-    taken_at (comes_after c.args.reaches.now) ms qs c.args.batch.now s more q adds apart c.requires c.offered_place.new.batch c.offered_place.ensures.kept c.in-Some.place c.messages.result.now _ c.messages.ensures offered c.in_default-first_for.ensures.none
+    taken_at (comes_after c.args.reaches.now) ms qs c.args.batch.now s more q adds apart c.requires c.offered_place.new.batch c.offered_place.ensures.kept c.in-Some.place c.messages.result.now _ c.messages.ensures offered (c.fits_some.ensures.no c.if-fits_some.false)
