@@ -11,11 +11,10 @@ use Rattle.trace_ops.specs.RankOps.{all_ops}
 use Rattle.trace_ops.specs.declared.state.State.{State}
 use Rattle.trace_ops.specs.declared.state.State.TheVariants.{Ended, Free, Waiting}
 use Rattle.trace_node.specs.Answer.{Answered, AreStuck, Stopped, states_of, waits_of}
-use Rattle.call_words.specs.Names.{number_text}
 use Rattle.call_words.specs.Ranges.{named_ranks_text, ranges_text}
 use Rattle.trace_explain.specs.Hearts.{AreHearts}
 use Rattle.trace_explain.specs.Lacking.{lacking_text}
-use Rattle.trace_explain.specs.LeftText.{left_over_text}
+use Rattle.trace_explain.specs.LeftText.{left_over_text, named_call_text}
 use Rattle.trace_explain.specs.Mismatches.{is_mismatched, mismatched, mismatches_text}
 use Rattle.trace_explain.specs.Sections.{headed_text, lines_of}
 use Rattle.trace_explain.specs.Shown.{more_text, most_shown}
@@ -91,13 +90,13 @@ abbrev pub conflicts_text : List (ℕ × ℕ) → List ℕ
 conflicts_text places = flat_map conflict_text (take most_shown places) ++ more_text (length places - most_shown)
 
 -- a message that is in no pair, since an open receive may have taken it
-abbrev pub postponed_text : OpName → List ℕ
-postponed_text n = codes "  the message of rank " ++ decimal n.rank ++ codes ", call " ++ number_text n
-    ++ codes ", is left out: it may belong to a receive whose source no status tells\n"
+abbrev pub postponed_text : View → OpName → List ℕ
+postponed_text view n = codes "  " ++ named_call_text view n
+    ++ codes "; its message is left out: it may belong to a receive whose source no status tells\n"
 
 -- the first postponed messages, and how many more there are
-abbrev pub all_postponed_text : List OpName → List ℕ
-all_postponed_text names = flat_map postponed_text (take most_shown names) ++ more_text (length names - most_shown)
+abbrev pub all_postponed_text : View → List OpName → List ℕ
+all_postponed_text view names = flat_map (postponed_text view) (take most_shown names) ++ more_text (length names - most_shown)
 
 -- nothing can be read of the rank
 abbrev pub is_unread : Answered → ℕ → Bool
@@ -180,7 +179,7 @@ doubts_text layout a view = codes "\nWhat should make one doubt this:\n"
     ++ ends_unread_text a
     ++ gapped_text a
     ++ conflicts_text a.conflicts
-    ++ all_postponed_text a.postponed
+    ++ all_postponed_text view a.postponed
     ++ foreign_text a.foreign
     ++ lacking_text layout a view
     ++ codes "  calls of functions that mpimatch doesn't know count as local\n"

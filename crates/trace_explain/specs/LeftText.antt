@@ -7,13 +7,12 @@ use Rattle.trace_know.specs.View.{View}
 use Rattle.trace_ops.specs.Ops.{Ops}
 use Rattle.trace_node.specs.Answer.{Answered}
 use Rattle.trace_explain.specs.LeftOver.{left_in, loose_in, near_misses, other_names, standing, starved_in, undecided_in}
-use Rattle.trace_explain.specs.Sections.{entry_of}
 use Rattle.trace_explain.specs.Shown.{more_text, most_shown}
-use Rattle.trace_explain.specs.Standing.{place_text}
+use Rattle.trace_explain.specs.Started.{op_text}
 
--- `rank 1, call 3: ` and the call
+-- `rank 1, call 3: ` and the operation of the call
 abbrev pub named_call_text : View → OpName → List ℕ
-named_call_text view n = codes "rank " ++ decimal n.rank ++ codes ", call " ++ number_text n ++ codes ": " ++ place_text view n.rank (entry_of n.call)
+named_call_text view n = codes "rank " ++ decimal n.rank ++ codes ", call " ++ number_text n ++ codes ": " ++ op_text view n
 
 -- the line of one operation
 abbrev pub call_line : View → OpName → List ℕ

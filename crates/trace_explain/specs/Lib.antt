@@ -3,6 +3,7 @@ pub mod Chains
 pub mod Hearts
 pub mod Search
 pub mod Standing
+pub mod Started
 pub mod Waited
 pub mod Rounds
 pub mod Sections

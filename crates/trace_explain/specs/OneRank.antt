@@ -18,7 +18,8 @@ use Rattle.trace_explain.specs.Explained.{ends_unread, is_gapped, is_waiting, ne
 use Rattle.trace_explain.specs.Lacking.{calls_read}
 use Rattle.trace_explain.specs.Sections.{Said, entry_of, line_text, said_of}
 use Rattle.trace_explain.specs.Shown.{most_shown}
-use Rattle.trace_explain.specs.Standing.{place_text, rank_text}
+use Rattle.trace_explain.specs.Standing.{rank_text}
+use Rattle.trace_explain.specs.Started.{has_parts, whole_text}
 
 -- The messages of a call
 
@@ -30,29 +31,38 @@ is_call rank call name = name.rank == rank && name.call == call
 abbrev pub named_text : OpName → List ℕ
 named_text name = codes "call " ++ number_text name ++ codes " of rank " ++ decimal name.rank
 
+-- the message of a part of a Startall
+abbrev pub of_part_text : ℕ → List ℕ
+of_part_text part = codes "; the message of part " ++ decimal part
+
+-- `; its message`, or of a call with parts `; the message of part 1`
+abbrev pub whose_text : Bool → ℕ → List ℕ
+whose_text true part = of_part_text part
+whose_text false part = codes "; its message"
+
 -- `; its message went to call 5 of rank 1`
-abbrev pub to_call_text : OpName → List ℕ
-to_call_text name = codes "; its message went to " ++ named_text name
+abbrev pub to_call_text : Bool → ℕ → OpName → List ℕ
+to_call_text has_parts part name = whose_text has_parts part ++ codes " went to " ++ named_text name
 
 -- where the message of a call went, by one pair
-abbrev pub went_text : ℕ → ℕ → Pair → List ℕ
-went_text rank call pair = if is_call rank call pair.message then to_call_text pair.receive else []
+abbrev pub went_text : Bool → ℕ → ℕ → Pair → List ℕ
+went_text has_parts rank call pair = if is_call rank call pair.message then to_call_text has_parts pair.message.part pair.receive else []
 
 -- `; its message came from call 1 of rank 0`
-abbrev pub from_call_text : OpName → List ℕ
-from_call_text name = codes "; its message came from " ++ named_text name
+abbrev pub from_call_text : Bool → ℕ → OpName → List ℕ
+from_call_text has_parts part name = whose_text has_parts part ++ codes " came from " ++ named_text name
 
 -- where the message that a call received came from, by one pair
-abbrev pub came_text : ℕ → ℕ → Pair → List ℕ
-came_text rank call pair = if is_call rank call pair.receive then from_call_text pair.message else []
+abbrev pub came_text : Bool → ℕ → ℕ → Pair → List ℕ
+came_text has_parts rank call pair = if is_call rank call pair.receive then from_call_text has_parts pair.receive.part pair.message else []
 
 -- what a pair tells of a call
-abbrev pub partner_text : ℕ → ℕ → Pair → List ℕ
-partner_text rank call pair = went_text rank call pair ++ came_text rank call pair
+abbrev pub partner_text : Bool → ℕ → ℕ → Pair → List ℕ
+partner_text has_parts rank call pair = went_text has_parts rank call pair ++ came_text has_parts rank call pair
 
 -- all partners of a call
-abbrev pub partners_text : List Pair → ℕ → ℕ → List ℕ
-partners_text pairs rank call = flat_map (partner_text rank call) pairs
+abbrev pub partners_text : List Pair → Bool → ℕ → ℕ → List ℕ
+partners_text pairs has_parts rank call = flat_map (partner_text has_parts rank call) pairs
 
 -- When a call was entered and returned
 
@@ -89,7 +99,7 @@ prefix_in a rank = unwrap_or (slice_get a.prefixes rank) 0
 abbrev pub call_line : Answered → View → ℕ → ℕ → List ℕ
 call_line a view rank call =
     codes "  call " ++ decimal call ++ codes ", " ++ span_text view rank (prefix_in a rank) (entry_of call) ++ codes ": "
-    ++ place_text view rank (entry_of call) ++ partners_text a.pairs rank call ++ codes "\n"
+    ++ whole_text view rank call ++ partners_text a.pairs (has_parts view rank call) rank call ++ codes "\n"
 
 -- so many calls from a first one on
 abbrev pub calls_from : Answered → View → ℕ → ℕ → ℕ → List ℕ

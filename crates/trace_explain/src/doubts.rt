@@ -6,8 +6,9 @@ ghost use Rattle.call_words.specs.Texts.{Adds};
 ghost use Rattle.trace_explain.specs.Explained.{all_postponed_text, conflict_text, conflicts_text, doubts_text, ends_unread, ends_unread_below, ends_unread_text, foreign_text, gapped_below, gapped_text, is_gapped, is_unknown, is_unread, postponed_text, side_text, some_end_text, some_foreign_text, some_ranks_text, these_end_text, unknown_below, unknown_in, unread_below, unread_text};
 
 use crate::lacking::put_lacking;
+use crate::left_text::put_named_call;
 use crate::shown::{MOST_SHOWN, put_more, shown};
-use call_words::{Text, put_named_ranks, put_op_number, put_ranges};
+use call_words::{Text, put_named_ranks, put_ranges};
 use mpi_model::{Layout, OpName};
 use std::alloc::{AllocError, Global};
 use trace_know::Knowledge;
@@ -53,30 +54,30 @@ fn put_conflicts(out: &mut Text, places: &[(u32, u64)])
 }
 
 /// A message that is in no pair, since an open receive may have taken it.
-fn put_postponed(out: &mut Text, name: &OpName)
-    ensures { Adds out.old out.new (postponed_text name.now) }
+fn put_postponed(out: &mut Text, know: &Knowledge, name: &OpName)
+    ensures { Adds out.old out.new (postponed_text know.now name.now) }
 {
-    out.put(b"  the message of rank ");
-    out.put_number(name.rank as u64);
-    out.put(b", call ");
-    put_op_number(out, name);
-    out.put(b", is left out: it may belong to a receive whose source no status tells\n");
+    out.put(b"  ");
+    put_named_call(out, know, name);
+    out.put(
+        b"; its message is left out: it may belong to a receive whose source no status tells\n",
+    );
 }
 
 /// A line for each postponed message.
-fn put_each_postponed(out: &mut Text, names: &[OpName])
-    ensures { Adds out.old out.new (flat_map postponed_text names.now) }
+fn put_each_postponed(out: &mut Text, know: &Knowledge, names: &[OpName])
+    ensures { Adds out.old out.new (flat_map (postponed_text know.now) names.now) }
 {
     for name in names {
-        put_postponed(out, name);
+        put_postponed(out, know, name);
     }
 }
 
 /// The first postponed messages, and how many more there are.
-fn put_all_postponed(out: &mut Text, names: &[OpName])
-    ensures { Adds out.old out.new (all_postponed_text names.now) }
+fn put_all_postponed(out: &mut Text, know: &Knowledge, names: &[OpName])
+    ensures { Adds out.old out.new (all_postponed_text know.now names.now) }
 {
-    put_each_postponed(out, shown(names));
+    put_each_postponed(out, know, shown(names));
     put_more(out, names.len().saturating_sub(MOST_SHOWN));
 }
 
@@ -258,7 +259,7 @@ pub(crate) fn put_doubts(
     put_ends_unread(alloc, out, answer);
     put_gapped(alloc, out, answer);
     put_conflicts(out, answer.conflicts());
-    put_all_postponed(out, answer.postponed());
+    put_all_postponed(out, know, answer.postponed());
     put_foreign(out, answer.foreign());
     put_lacking(alloc, out, layout, answer, know);
     out.put(b"  calls of functions that mpimatch doesn't know count as local\n");

@@ -126,7 +126,7 @@ fn undecided_names(
 }
 
 /// The operation of a rank's call, which is no Startall.
-fn named(rank: u32, call: u64) -> OpName
+pub(crate) fn named(rank: u32, call: u64) -> OpName
     ensures { result ≡ named rank call }
 {
     OpName {

@@ -7,7 +7,7 @@ ghost use Rattle.trace_explain.specs.LeftText.{call_line, calls_below, left_over
 
 use crate::left_over::{LeftOver, left_over};
 use crate::shown::{MOST_SHOWN, put_more, shown};
-use crate::standing::put_place;
+use crate::started::put_op;
 use call_words::{Text, put_op_number};
 use mpi_model::OpName;
 use std::alloc::Global;
@@ -15,7 +15,7 @@ use trace_know::Knowledge;
 use trace_node::Answer;
 use trace_ops::RankOps;
 
-/// A call with its rank and its number.
+/// An operation, with the rank and the number of its call.
 pub(crate) fn put_named_call(out: &mut Text, know: &Knowledge, name: &OpName)
     ensures { Adds out.old out.new (named_call_text know.now name.now) }
 {
@@ -24,7 +24,7 @@ pub(crate) fn put_named_call(out: &mut Text, know: &Knowledge, name: &OpName)
     out.put(b", call ");
     put_op_number(out, name);
     out.put(b": ");
-    put_place(out, know, name.rank, name.call.saturating_mul(2));
+    put_op(out, know, name);
 }
 
 /// The line of one operation.

@@ -22,14 +22,16 @@
 //! - [`mismatch`]: collective calls of one round that don't match; [`shown`]: how many lines of a kind
 //!   are shown
 //! - [`left_over`]: messages without a receive and receives without a message, by [`names`] of calls, by
-//!   [`offers`] of messages and by which of them are [`wanted`]; [`left_text`]: the same in words
+//!   [`offers`] of messages and by which of them are [`wanted`]; [`left_text`]: the same in words, with what Starts and
+//!   Startalls have [`started`]
 //! - [`head`]: how it stands, and under the other kind of sends, with who would be stuck then ([`others`]); [`doubts`]:
 //!   what makes it doubtful; [`lacking`]: communicators that calls name and the layout doesn't have
 //! - [`explained`]: the whole; [`one_rank`]: what is known of one rank
 //!
 //! Its words come from `call_words`. They cost what they say, and a comparison of each two stuck ranks.
 //! What the ranks did is looked at where a rank waits or collective calls don't match: one pass over all
-//! calls, with a few look-ups in ordered sets for each message and each receive.
+//! calls, with a few look-ups in ordered sets for each message and each receive. For each line on what a Start or
+//! Startall has started the calls of its rank before it are looked at, from the last on.
 #![tactic(auto)]
 
 mod doubts;
@@ -52,6 +54,7 @@ mod search;
 mod section;
 mod shown;
 mod standing;
+mod started;
 mod waited;
 mod wanted;
 

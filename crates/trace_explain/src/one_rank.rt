@@ -7,7 +7,7 @@ ghost use Rattle.trace_know.specs.Cell.{shown};
 ghost use Rattle.trace_know.specs.Prefix.{event_of};
 ghost use Rattle.trace_node.specs.Stopped.{stopped};
 ghost use Rattle.trace_explain.specs.Sections.{said, said_of};
-ghost use Rattle.trace_explain.specs.OneRank.{call_line, calls_from, calls_text, came_text, end_text, from_call_text, gap_text, is_call, is_of, last_calls_text, named_text, not_stuck_text, one_rank_text, partner_text, partners_text, prefix_in, rank_explained_text, since_text, span_text, standing_text, stuck_line, stuck_text, to_call_text, to_text, waits_in, wall_at, wall_of, went_text};
+ghost use Rattle.trace_explain.specs.OneRank.{call_line, calls_from, calls_text, came_text, end_text, from_call_text, gap_text, is_call, is_of, last_calls_text, named_text, not_stuck_text, of_part_text, one_rank_text, partner_text, partners_text, prefix_in, rank_explained_text, since_text, span_text, standing_text, stuck_line, stuck_text, to_call_text, to_text, waits_in, wall_at, wall_of, went_text, whose_text};
 
 use crate::doubts::{ends_unread, is_gapped};
 use crate::explained::{is_waiting, needed_ops};
@@ -15,7 +15,8 @@ use crate::lacking::calls_read;
 use crate::line::{Line, line_of};
 use crate::section::put_line;
 use crate::shown::MOST_SHOWN;
-use crate::standing::{put_place, put_rank};
+use crate::standing::put_rank;
+use crate::started::{has_parts, put_whole};
 use call_words::{Text, put_op_number, put_seconds};
 use mpi_model::{Event, Layout, OpName};
 use std::alloc::{AllocError, Global};
@@ -41,54 +42,75 @@ fn put_named(out: &mut Text, name: &OpName)
     out.put_number(name.rank as u64);
 }
 
-/// `; its message went to call 5 of rank 1`.
-fn put_to_call(out: &mut Text, name: &OpName)
-    ensures { Adds out.old out.new (to_call_text name.now) }
+/// The message of a part of a Startall.
+fn put_of_part(out: &mut Text, part: u32)
+    ensures { Adds out.old out.new (of_part_text part) }
 {
-    out.put(b"; its message went to ");
+    out.put(b"; the message of part ");
+    out.put_number(part as u64);
+}
+
+/// `; its message`, or of a call with parts `; the message of part 1`.
+fn put_whose(out: &mut Text, has_parts: bool, part: u32)
+    ensures { Adds out.old out.new (whose_text has_parts part) }
+{
+    if has_parts {
+        put_of_part(out, part);
+    } else {
+        out.put(b"; its message");
+    }
+}
+
+/// `; its message went to call 5 of rank 1`.
+fn put_to_call(out: &mut Text, has_parts: bool, part: u32, name: &OpName)
+    ensures { Adds out.old out.new (to_call_text has_parts part name.now) }
+{
+    put_whose(out, has_parts, part);
+    out.put(b" went to ");
     put_named(out, name);
 }
 
 /// `; its message came from call 1 of rank 0`.
-fn put_from_call(out: &mut Text, name: &OpName)
-    ensures { Adds out.old out.new (from_call_text name.now) }
+fn put_from_call(out: &mut Text, has_parts: bool, part: u32, name: &OpName)
+    ensures { Adds out.old out.new (from_call_text has_parts part name.now) }
 {
-    out.put(b"; its message came from ");
+    put_whose(out, has_parts, part);
+    out.put(b" came from ");
     put_named(out, name);
 }
 
 /// Where the message of a call went, by one pair.
-fn put_went(out: &mut Text, rank: u32, call: u64, pair: &Pair)
-    ensures { Adds out.old out.new (went_text rank call pair.now) }
+fn put_went(out: &mut Text, has_parts: bool, rank: u32, call: u64, pair: &Pair)
+    ensures { Adds out.old out.new (went_text has_parts rank call pair.now) }
 {
     if is_call(rank, call, &pair.message) {
-        put_to_call(out, &pair.receive);
+        put_to_call(out, has_parts, pair.message.part, &pair.receive);
     }
 }
 
 /// Where the message that a call received came from, by one pair.
-fn put_came(out: &mut Text, rank: u32, call: u64, pair: &Pair)
-    ensures { Adds out.old out.new (came_text rank call pair.now) }
+fn put_came(out: &mut Text, has_parts: bool, rank: u32, call: u64, pair: &Pair)
+    ensures { Adds out.old out.new (came_text has_parts rank call pair.now) }
 {
     if is_call(rank, call, &pair.receive) {
-        put_from_call(out, &pair.message);
+        put_from_call(out, has_parts, pair.receive.part, &pair.message);
     }
 }
 
 /// What a pair tells of a call.
-fn put_partner(out: &mut Text, rank: u32, call: u64, pair: &Pair)
-    ensures { Adds out.old out.new (partner_text rank call pair.now) }
+fn put_partner(out: &mut Text, has_parts: bool, rank: u32, call: u64, pair: &Pair)
+    ensures { Adds out.old out.new (partner_text has_parts rank call pair.now) }
 {
-    put_went(out, rank, call, pair);
-    put_came(out, rank, call, pair);
+    put_went(out, has_parts, rank, call, pair);
+    put_came(out, has_parts, rank, call, pair);
 }
 
 /// All partners of a call.
-fn put_partners(out: &mut Text, pairs: &[Pair], rank: u32, call: u64)
-    ensures { Adds out.old out.new (partners_text pairs.now rank call) }
+fn put_partners(out: &mut Text, pairs: &[Pair], has_parts: bool, rank: u32, call: u64)
+    ensures { Adds out.old out.new (partners_text pairs.now has_parts rank call) }
 {
     for pair in pairs {
-        put_partner(out, rank, call, pair);
+        put_partner(out, has_parts, rank, call, pair);
     }
 }
 
@@ -157,8 +179,8 @@ fn put_call_line(out: &mut Text, answer: &Answer, know: &Knowledge, rank: u32, c
     out.put(b", ");
     put_span(out, know, rank, prefix_in(answer, rank), place);
     out.put(b": ");
-    put_place(out, know, rank, place);
-    put_partners(out, answer.pairs(), rank, call);
+    put_whole(out, know, rank, call);
+    put_partners(out, answer.pairs(), has_parts(know, rank, call), rank, call);
     out.put(b"\n");
 }
 

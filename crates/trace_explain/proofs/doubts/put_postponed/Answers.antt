@@ -2,4 +2,4 @@ use Rattle.trace_explain.proofs.Adding.{then}
 use Rattle.trace_explain.proofs.doubts.put_postponed.Goals as goal
 
 pub returns : goal.returns
-returns c = then (then (then (then c.put.ensures c.put_number.ensures) c.put-2.ensures) c.put_op_number.ensures) c.put-3.ensures
+returns c = then (then c.put.ensures c.put_named_call.ensures) c.put-2.ensures
