@@ -1,4 +1,4 @@
-use Rattle.std.proofs.Common.{rules, ◌≡◌, [], ◌∷◌, ◌++◌, length, arith}
+use Rattle.std.proofs.Common.{rules, ◌≡◌, [], ◌∷◌, ◌++◌, arith}
 use Rattle.dumpi_calls.proofs.Joined.{full_more, joined_full}
 use Rattle.dumpi_calls.proofs.parts.Parts.begin_part.Goals as goal
 
