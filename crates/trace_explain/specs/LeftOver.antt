@@ -1,6 +1,6 @@
 -- What is left over where it may be why ranks wait: messages without a receive, and receives without a message
 -- (MPI 4.0, 3.2.3, 3.2.4 and 3.5).
-use Rattle.std.specs.Prelude.{ℕ, zero, suc, ◌&&◌, not, Bool, Option, Some, None, List, [], ◌∷◌, ◌++◌, filter, map, slice_get}
+use Rattle.std.specs.Prelude.{◌≡◌, ℕ, zero, suc, ◌&&◌, not, Bool, Option, Some, None, List, [], ◌∷◌, ◌++◌, filter, map, slice_get}
 use Rattle.std.specs.List.{filter_map, find, flat_map, list_any}
 use Rattle.std.specs.Option.{option_map}
 use Rattle.mpi_model.specs.declared.call.Call.{Call}
@@ -13,6 +13,7 @@ use Rattle.trace_ops.specs.Ops.{Ops}
 use Rattle.trace_pair.specs.declared.pair.Pair.{Pair}
 use Rattle.trace_pair.specs.Table.{same_name}
 use Rattle.trace_node.specs.Answer.{Answered}
+use Rattle.trace_explain.specs.declared.left_over.LooseNames.{LooseNames}
 
 -- the name is one of these
 abbrev pub has_name : List OpName → OpName → Bool
@@ -75,6 +76,11 @@ left_names postponed standing wanting messages = map (λ m. m.name) (filter (is_
 abbrev pub undecided_names : List OpName → List OpName → List Receive → List Message → List OpName
 undecided_names postponed standing wanting messages = map (λ m. m.name) (filter (is_undecided postponed standing wanting) messages)
 
+-- The names are those of the messages that are left over, and of those that are undecided, under an answer.
+pub record AreSorted (a : Answered) (standing : List OpName) (wanting : List Receive) (messages : List Message) (names : LooseNames) : Type 0 where
+  pub left : names.left.items ≡ left_names a.postponed standing wanting messages
+  pub undecided : names.undecided.items ≡ undecided_names a.postponed standing wanting messages
+
 -- the operations for which a rank may wait, where it waits in a call: that of the call, and those of its active requests
 abbrev pub pending_in : ℕ → Option (ℕ × Call) → Ops → List OpName
 pending_in rank None o = []
@@ -132,9 +138,21 @@ near_misses messages receives = filter_map (near_miss messages) receives
 abbrev pub loose_in : Answered → List Ops → List Message
 loose_in a ops = loose (taken a.pairs) ops
 
+-- the receives that starve under an answer, beside these loose messages
+abbrev pub starved_beside : Answered → List Message → List Ops → List Receive
+starved_beside a messages ops = starved (pending_below ops a.ranks) (given a.pairs) messages ops
+
 -- the receives that starve under an answer
 abbrev pub starved_in : Answered → List Ops → List Receive
-starved_in a ops = starved (pending_below ops a.ranks) (given a.pairs) (loose_in a ops) ops
+starved_in a ops = starved_beside a (loose_in a ops) ops
+
+-- those in whose call no stuck rank stands
+abbrev pub others_in : Answered → List Ops → List OpName
+others_in a ops = other_names (standing a) (starved_in a ops)
+
+-- those that have a nearest miss, each with it
+abbrev pub near_in : Answered → List Ops → List (OpName × OpName)
+near_in a ops = near_misses (loose_in a ops) (starved_in a ops)
 
 -- the settled receives without a message under an answer
 abbrev pub wanting_in : Answered → List Ops → List Receive

@@ -6,7 +6,7 @@ use Rattle.call_words.specs.Names.{number_text}
 use Rattle.trace_know.specs.View.{View}
 use Rattle.trace_ops.specs.Ops.{Ops}
 use Rattle.trace_node.specs.Answer.{Answered}
-use Rattle.trace_explain.specs.LeftOver.{left_in, loose_in, near_misses, other_names, standing, starved_in, undecided_in}
+use Rattle.trace_explain.specs.LeftOver.{left_in, near_in, others_in, undecided_in}
 use Rattle.trace_explain.specs.Shown.{more_text, most_shown}
 use Rattle.trace_explain.specs.Started.{op_text}
 
@@ -59,4 +59,4 @@ left_text view messages undecided receives near =
 
 -- what is left over
 abbrev pub left_over_text : Answered → View → List Ops → List ℕ
-left_over_text a view ops = left_text view (left_in a ops) (undecided_in a ops) (other_names (standing a) (starved_in a ops)) (near_misses (loose_in a ops) (starved_in a ops))
+left_over_text a view ops = left_text view (left_in a ops) (undecided_in a ops) (others_in a ops) (near_in a ops)

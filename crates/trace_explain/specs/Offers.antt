@@ -1,5 +1,5 @@
 -- What is looked up of messages and of names. No public clause speaks of it.
-use Rattle.std.specs.Prelude.{ℕ, Bool, ◌||◌, Option, Some, None, List}
+use Rattle.std.specs.Prelude.{◌≡◌, ℕ, Bool, ◌||◌, cond, Option, Some, None, List}
 use Rattle.std.specs.declared.cmp.Ordering.{Ordering}
 use Rattle.std.specs.Ordering.{nat_cmp, ordering_then}
 use Rattle.std.specs.List.{find, list_any}
@@ -12,6 +12,10 @@ use Rattle.trace_wait.specs.Patterns.{Pattern, pattern_of, same_pattern, suits}
 -- the first message that suits what is named
 abbrev pub first_suiting : List Message → Pattern → Option OpName
 first_suiting messages p = option_map (λ m. m.name) (find (λ m. suits m p) messages)
+
+-- The name is kept under the patterns that are picked, and all others have what they had.
+abbrev pub Keeps : (Pattern → Bool) → OpName → (Pattern → Option OpName) → (Pattern → Option OpName) → Type 0
+Keeps picks name before after = (p : Pattern) → after p ≡ cond (picks p) (Some name) (before p)
 
 -- some receive names just this
 abbrev pub some_names : List Receive → Pattern → Bool

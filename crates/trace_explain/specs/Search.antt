@@ -71,6 +71,15 @@ pub record Begun (step : ℕ → ℕ → Bool) (starts : ℕ → Bool) (done : �
   pub closed : (x l : ℕ) → heart_at labels x ≡ Some l → (y : ℕ) → step x y ≡ true → AtMost l (heart_at labels y)
   pub started : (m : ℕ) → m < done → starts m ≡ true → AtMost m (heart_at labels m)
 
+-- What was true of the search with r beside the stack is true of it with the edges of r gone through.
+abbrev pub GoesThrough : List (Vec ℕ Global) → ℕ → ℕ → List ℕ → List (Option ℕ) → List ℕ → List (Option ℕ) → Type 0
+GoesThrough edges first r stack labels stack_after labels_after = (starts : ℕ → Bool) → (done : ℕ) →
+    Spreads (edge edges) starts first done (held_with stack r) labels → Spreads (edge edges) starts first done (among stack_after) labels_after
+
+-- Where the starts below the first were gone through, it was gone through too.
+abbrev pub GoesOn : List (Vec ℕ Global) → (ℕ → Bool) → ℕ → List (Option ℕ) → List (Option ℕ) → Type 0
+GoesOn edges starts first labels labels_after = Begun (edge edges) starts first labels → Begun (edge edges) starts (first + 1) labels_after
+
 -- one edge more
 abbrev pub with_edge : (ℕ → ℕ → Bool) → ℕ → ℕ → ℕ → ℕ → Bool
 with_edge step r s x y = step x y || (r == x && s == y)

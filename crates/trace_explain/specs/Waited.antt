@@ -51,6 +51,10 @@ abbrev mutual
   more_text does none = []
   more_text does (and next rest) = codes "; " ++ wait_text does next ++ more_text does rest
 
+-- all of or one of some parts, behind their word
+abbrev pub listed_text : (ℕ → List ℕ) → List ℕ → Waits → List ℕ
+listed_text does word parts = list_text does word (plain_ranks parts) (parts_text does parts)
+
 -- what stands before a part, by its place among the parts
 abbrev pub mark_before : ℕ → List ℕ
 mark_before zero = []

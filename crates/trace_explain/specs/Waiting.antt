@@ -1,10 +1,15 @@
 -- Who waits for whom among the stuck ranks: the edges of a wait-for graph.
-use Rattle.std.specs.Prelude.{ℕ, Bool, ◌&&◌, ◌==◌, List, [], ◌∷◌, ◌++◌}
+use Rattle.std.specs.Prelude.{ℕ, Bool, ◌&&◌, ◌==◌, List, [], ◌∷◌, ◌++◌, map}
 use Rattle.std.specs.List.{list_any}
 use Rattle.trace_stuck.specs.Shape as waits
-use Rattle.trace_stuck.specs.Shape.{Waits, OnNothing, OnRank, OnAll, OnOne, none, and}
+use Rattle.trace_stuck.specs.Shape.{Waits, OnNothing, OnRank, OnAll, OnOne, none, and, shape, waits_of}
+use Rattle.trace_stuck.specs.declared.condition.Condition.{Condition}
 use Rattle.trace_stuck.specs.Release.{among}
 use Rattle.trace_node.specs.Answer.{Stopped}
+
+-- what these parts wait for
+abbrev pub waits_by : List Condition → Waits
+waits_by parts = waits_of (map shape parts)
 
 abbrev mutual
   -- the ranks that stand in a condition, in order

@@ -3,9 +3,9 @@
 ghost use Rattle.std.specs.Prelude.{◌≡◌, ◌∷◌, [], ◌<◌, ◌≤◌, ◌^◌, ◌||◌, ◌==◌, ℕ, true, false, IfOk, OnOk, length, map, vec_len};
 ghost use Rattle.trace_stuck.specs.Named.{at_rank};
 ghost use Rattle.trace_stuck.specs.Release.{among};
-ghost use Rattle.trace_stuck.specs.Shape.{shape, waits_of};
+ghost use Rattle.trace_stuck.specs.Shape.{shape};
 ghost use Rattle.trace_node.specs.Stopped.{stopped};
-ghost use Rattle.trace_explain.specs.Waiting.{is_stuck, ranks_in, ranks_of, waits_for};
+ghost use Rattle.trace_explain.specs.Waiting.{is_stuck, ranks_in, ranks_of, waits_by, waits_for};
 ghost use Rattle.trace_explain.specs.Search.{Draws, DrawsEdge, Show, is_up};
 
 use crate::search::{edges_at, is_up};
@@ -163,7 +163,7 @@ fn draw_parts(
     requires waits { length waits.old ≡ length flags.now }
     requires askers { length askers.old ≡ length flags.now }
     requires there { r < length flags.now }
-    ensures { OnOk result (Draws flags.now r (ranks_of (waits_of (map shape parts.now))) waits.old askers.old waits.new askers.new) }
+    ensures { OnOk result (Draws flags.now r (ranks_of (waits_by parts.now)) waits.old askers.old waits.new askers.new) }
 {
     for part in parts {
         draw_condition(flags, waits, askers, r, part)?;

@@ -1,7 +1,7 @@
 //! What is left over where it may be why ranks wait.
 
 ghost use Rattle.std.specs.Prelude.{◌≡◌, ◌++◌, IfOk, OnOk, filter, map, slice_get};
-ghost use Rattle.trace_explain.specs.LeftOver.{given, is_left, is_loose, is_starved, is_undecided, is_unsaid, left_in, left_names, loose, loose_in, named, near_misses, other_names, pending_at, pending_below, pending_of, standing, starved, starved_in, taken, undecided_in, undecided_names, wanting_in};
+ghost use Rattle.trace_explain.specs.LeftOver.{AreSorted, given, is_left, is_loose, is_starved, is_undecided, is_unsaid, left_in, left_names, loose, loose_in, named, near_in, near_misses, other_names, others_in, pending_at, pending_below, pending_of, standing, starved, starved_beside, taken, undecided_in, undecided_names, wanting_in};
 
 use crate::names::Names;
 use crate::offers::Offers;
@@ -267,7 +267,7 @@ fn starved_beside(
     ops: &[RankOps],
     offers: &Offers<'_>,
 ) -> Result<Vec<Receive>, AllocError>
-    ensures { IfOk result (λ found. found.items ≡ starved (pending_below ops.now answer.now.ranks) (given answer.now.pairs) offers.now ops.now) }
+    ensures { IfOk result (λ found. found.items ≡ starved_beside answer.now offers.now ops.now) }
 {
     let waited = pending(alloc, answer.ranks(), ops)?;
     let pending = Names::of(alloc, &waited)?;
@@ -304,8 +304,7 @@ fn loose_names(
     wanting: &[Receive],
     messages: &[Message],
 ) -> Result<LooseNames, AllocError>
-    ensures left { IfOk result (λ names. names.left.items ≡ left_names answer.now.postponed standing.now wanting.now messages.now) }
-    ensures undecided { IfOk result (λ names. names.undecided.items ≡ undecided_names answer.now.postponed standing.now wanting.now messages.now) }
+    ensures { IfOk result (AreSorted answer.now standing.now wanting.now messages.now) }
 {
     let wanted = Wanted::of(alloc, wanting)?;
     let postponed = Names::of(alloc, answer.postponed())?;
@@ -323,8 +322,7 @@ fn loose_beside(
     standing: &Names<'_>,
     messages: &[Message],
 ) -> Result<LooseNames, AllocError>
-    ensures left { IfOk result (λ names. names.left.items ≡ left_names answer.now.postponed standing.now (wanting_in answer.now ops.now) messages.now) }
-    ensures undecided { IfOk result (λ names. names.undecided.items ≡ undecided_names answer.now.postponed standing.now (wanting_in answer.now ops.now) messages.now) }
+    ensures { IfOk result (AreSorted answer.now standing.now (wanting_in answer.now ops.now) messages.now) }
 {
     let wanting = wanting_in(alloc, answer, ops)?;
     loose_names(alloc, answer, standing, &wanting, messages)
@@ -355,8 +353,8 @@ pub(crate) fn left_over(
 ) -> Result<LeftOver, AllocError>
     ensures messages { IfOk result (λ left. left.messages.left.items ≡ left_in answer.now ops.now) }
     ensures undecided { IfOk result (λ left. left.messages.undecided.items ≡ undecided_in answer.now ops.now) }
-    ensures receives { IfOk result (λ left. left.receives.items ≡ other_names (standing answer.now) (starved_in answer.now ops.now)) }
-    ensures near { IfOk result (λ left. left.near.items ≡ near_misses (loose_in answer.now ops.now) (starved_in answer.now ops.now)) }
+    ensures receives { IfOk result (λ left. left.receives.items ≡ others_in answer.now ops.now) }
+    ensures near { IfOk result (λ left. left.near.items ≡ near_in answer.now ops.now) }
 {
     let messages = loose_in(alloc, answer, ops)?;
     let offers = Offers::of(alloc, &messages)?;

@@ -4,13 +4,13 @@
 //! be named in four ways, and the first message that suits each way is kept. The messages are gone through
 //! from the last to the first, each in place of those behind it.
 
-ghost use Rattle.std.specs.Prelude.{◌≡◌, IfOk, None, OnOk, Some, cond};
+ghost use Rattle.std.specs.Prelude.{◌≡◌, IfOk, None, OnOk, Some};
 ghost use Rattle.std.specs.List.{find};
 ghost use Rattle.std.specs.Ordering.{is_eq};
 ghost use Rattle.std.specs.BTreeMap.{get};
 ghost use Rattle.trace_wait.specs.Patterns.{Pattern as Named, pattern_cmp, suits};
 ghost use Rattle.trace_explain.specs.LeftOver.{fits_some, near_miss};
-ghost use Rattle.trace_explain.specs.Offers.{first_suiting};
+ghost use Rattle.trace_explain.specs.Offers.{Keeps, first_suiting};
 
 use mpi_model::{Message, OpName, Receive};
 use std::alloc::{AllocError, Global};
@@ -47,7 +47,7 @@ fn keep(
     pattern: Pattern,
     name: OpName,
 ) -> Result<(), AllocError>
-    ensures { OnOk result ((p : Named) → get pattern_cmp first.new p ≡ cond (is_eq (pattern_cmp pattern p)) (Some name) (get pattern_cmp first.old p)) }
+    ensures { OnOk result (Keeps (λ p. is_eq (pattern_cmp pattern p)) name (get pattern_cmp first.old) (get pattern_cmp first.new)) }
 {
     first.insert(pattern, name)?;
     Ok(())
@@ -55,7 +55,7 @@ fn keep(
 
 /// Keeps the message under each way in which a receive can name it.
 fn offer(first: &mut BTreeMap<Pattern, OpName>, m: &Message) -> Result<(), AllocError>
-    ensures { OnOk result ((p : Named) → get pattern_cmp first.new p ≡ cond (suits m.now p) (Some m.now.name) (get pattern_cmp first.old p)) }
+    ensures { OnOk result (Keeps (suits m.now) m.now.name (get pattern_cmp first.old) (get pattern_cmp first.new)) }
 {
     keep(first, (m.comm, m.to, None, None), m.name)?;
     keep(first, (m.comm, m.to, None, Some(m.tag)), m.name)?;

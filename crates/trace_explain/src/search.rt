@@ -2,9 +2,8 @@
 
 ghost use Rattle.std.specs.Prelude.{◌≡◌, ◌<◌, ◌≤◌, ◌+◌, ◌^◌, ℕ, Bool, true, None, IfOk, OnOk, length, vec_len};
 ghost use Rattle.trace_stuck.specs.Named.{at_rank};
-ghost use Rattle.trace_stuck.specs.Release.{among};
 ghost use Rattle.trace_explain.specs.Hearts.{heart_at};
-ghost use Rattle.trace_explain.specs.Search.{Begun, IsFirst, Labelled, Spreads, bare, edge, held_with, is_bare, is_up};
+ghost use Rattle.trace_explain.specs.Search.{GoesOn, GoesThrough, IsFirst, Labelled, bare, edge, is_bare, is_up};
 
 use std::alloc::{AllocError, Global};
 
@@ -63,7 +62,7 @@ fn label_next(
 ) -> Result<(), AllocError>
     requires { length labels.old ≡ length edges.now }
     ensures fewer { OnOk result (bare labels.new + length stack.new.items ≤ bare labels.old + length stack.old.items) }
-    ensures spreads { OnOk result ((starts : ℕ → Bool) → (done : ℕ) → Spreads (edge edges.now) starts first done (held_with stack.old.items r) labels.old → Spreads (edge edges.now) starts first done (among stack.new.items) labels.new) }
+    ensures spreads { OnOk result (GoesThrough edges.now first r stack.old.items labels.old stack.new.items labels.new) }
 {
     let ranks = edges_at(edges, r);
     for s in ranks {
@@ -81,7 +80,7 @@ fn spread(
 ) -> Result<(), AllocError>
     requires within { length labels.old ≡ length edges.now }
     requires bare { is_bare labels.old first ≡ true }
-    ensures { OnOk result ((starts : ℕ → Bool) → starts first ≡ true → Begun (edge edges.now) starts first labels.old → Begun (edge edges.now) starts (first + 1) labels.new) }
+    ensures { OnOk result ((starts : ℕ → Bool) → starts first ≡ true → GoesOn edges.now starts first labels.old labels.new) }
 {
     let mut stack = Vec::new(alloc);
     label(labels, &mut stack, first, first)?;
@@ -113,7 +112,7 @@ fn begin(
 ) -> Result<(), AllocError>
     requires within { length labels.old ≡ length edges.now }
     requires there { first < length edges.now }
-    ensures { OnOk result (Begun (edge edges.now) (is_up starts.now) first labels.old → Begun (edge edges.now) (is_up starts.now) (first + 1) labels.new) }
+    ensures { OnOk result (GoesOn edges.now (is_up starts.now) first labels.old labels.new) }
 {
     if is_up(starts, first) && is_bare(labels, first) {
         spread(alloc, edges, labels, first)

@@ -1,11 +1,12 @@
 //! For whom a rank waits, in words.
 
-ghost use Rattle.std.specs.Prelude.{◌≡◌, ◌++◌, IfOk, codes, map, option_map};
-ghost use Rattle.trace_stuck.specs.Shape.{OnRank, shape, waits_of};
+ghost use Rattle.std.specs.Prelude.{◌≡◌, ◌++◌, IfOk, codes, option_map};
+ghost use Rattle.trace_stuck.specs.Shape.{OnRank, shape};
 ghost use Rattle.call_words.specs.Ranges.{ranges_text};
 ghost use Rattle.call_words.specs.Texts.{Adds};
 ghost use Rattle.trace_explain.specs.Standing.{rank_text};
-ghost use Rattle.trace_explain.specs.Waited.{list_text, mark_before, nested_text, part_text, parts_text, plain_ranks, rank_of, ranks_text, wait_text};
+ghost use Rattle.trace_explain.specs.Waiting.{waits_by};
+ghost use Rattle.trace_explain.specs.Waited.{listed_text, mark_before, nested_text, part_text, parts_text, plain_ranks, rank_of, ranks_text, wait_text};
 
 use crate::standing::put_rank;
 use call_words::{Text, put_ranges};
@@ -26,7 +27,7 @@ fn rank_in(part: &Condition) -> Option<u32>
 
 /// The ranks for which the parts wait, where each waits for one.
 fn plain_ranks_in(alloc: Global, parts: &[Condition]) -> Result<Option<Vec<u32>>, AllocError>
-    ensures { IfOk result (λ found. option_map (λ v. v.items) found ≡ plain_ranks (waits_of (map shape parts.now))) }
+    ensures { IfOk result (λ found. option_map (λ v. v.items) found ≡ plain_ranks (waits_by parts.now)) }
 {
     let mut ranks = Vec::new(alloc);
     for part in parts {
@@ -97,7 +98,7 @@ fn put_list(
     word: &[u8],
     parts: &[Condition],
 )
-    ensures { Adds out.old out.new (list_text (rank_text answer.now know.now) word.now (plain_ranks (waits_of (map shape parts.now))) (parts_text (rank_text answer.now know.now) (waits_of (map shape parts.now)))) }
+    ensures { Adds out.old out.new (listed_text (rank_text answer.now know.now) word.now (waits_by parts.now)) }
 {
     match plain_ranks_in(alloc, parts) {
         Ok(Some(ranks)) => put_ranks(out, answer, know, word, &ranks),
@@ -116,7 +117,7 @@ fn put_nested(
     word: &[u8],
     parts: &[Condition],
 )
-    ensures { Adds out.old out.new (nested_text word.now (parts_text (rank_text answer.now know.now) (waits_of (map shape parts.now)))) }
+    ensures { Adds out.old out.new (nested_text word.now (parts_text (rank_text answer.now know.now) (waits_by parts.now))) }
 {
     out.put(word);
     out.put(b" (");
@@ -127,7 +128,7 @@ fn put_nested(
 /// The parts, one behind the other.
 #[cycle(words)]
 fn put_parts(alloc: Global, out: &mut Text, answer: &Answer, know: &Knowledge, parts: &[Condition])
-    ensures { Adds out.old out.new (parts_text (rank_text answer.now know.now) (waits_of (map shape parts.now))) }
+    ensures { Adds out.old out.new (parts_text (rank_text answer.now know.now) (waits_by parts.now)) }
 {
     for (i, part) in parts.iter().enumerate() {
         put_part(alloc, out, answer, know, i, part);
