@@ -8,5 +8,6 @@ pub mod Placed
 pub mod Listing
 pub mod Rows
 pub mod Runs
+pub mod Touching
 pub mod Patches
 pub mod Ready

@@ -3,11 +3,11 @@ use Rattle.std.specs.Prelude.{◌≡◌, ◌⊎◌, ℕ, None, ◌+◌, ◌-◌,
 use Rattle.std.specs.FinMap.{get}
 use Rattle.trace_know.specs.declared.run.Run.{Run}
 use Rattle.trace_know.specs.View.{View, join}
-use Rattle.trace_know.specs.Runs.{of_run, start_of, end_of}
+use Rattle.trace_know.specs.Runs.{of_run, end_place, start_of, end_of}
 
 -- nothing in the view stands at a place of the run, right before it or right behind it
 abbrev pub IsClear : Run → View → Type 0
-IsClear run view = (place : ℕ) → run.first ≤ place + 1 → place ≤ run.first + length run.cells.items → get view (run.rank, place) ≡ None
+IsClear run view = (place : ℕ) → run.first ≤ place + 1 → place ≤ end_place run → get view (run.rank, place) ≡ None
 
 -- the view has all that the run has, or nothing that touches it
 abbrev pub IsSettled : Run → View → Type 0

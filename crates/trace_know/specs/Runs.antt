@@ -28,9 +28,13 @@ spot rank place = rank * 2 ^ 41 + place + 1
 abbrev pub start_of : Run → ℕ
 start_of run = spot run.rank run.first
 
+-- the place behind a run's last
+abbrev pub end_place : Run → ℕ
+end_place run = run.first + length run.cells.items
+
 -- where a run ends, behind its last place
 abbrev pub end_of : Run → ℕ
-end_of run = spot run.rank (run.first + length run.cells.items)
+end_of run = spot run.rank (end_place run)
 
 -- A readable prefix ends at the cell.
 abbrev pub ends_prefix : Known → Bool
@@ -56,7 +60,7 @@ pub record IsCounted (run : Run) : Type 0 where
 -- the run has cells, all at places of a trace, and counts them rightly
 pub record IsFilled (run : Run) : Type 0 where
   pub some : 0 < length run.cells.items
-  pub places : run.first + length run.cells.items ≤ 2 ^ 40
+  pub places : end_place run ≤ 2 ^ 40
   pub counted : IsCounted run
 
 -- the runs rise from a spot on, with a gap before each
@@ -73,9 +77,9 @@ last_end low (run ∷ runs) = last_end (end_of run) runs
 pub record Joins (rank first end room most low : ℕ) (run : Run) : Type 0 where
   pub ranked : run.rank ≡ rank
   pub before : run.first ≤ end
-  pub behind : first ≤ run.first + length run.cells.items
+  pub behind : first ≤ end_place run
   pub floor : low ≤ run.first
-  pub ceiling : run.first + length run.cells.items ≤ low + room
+  pub ceiling : end_place run ≤ low + room
   pub shorter : length run.cells.items ≤ most
 
 -- the runs have the same cells at the same places

@@ -5,7 +5,8 @@ ghost use Rattle.std.specs.VecDeque.{deque_capacity};
 ghost use Rattle.trace_know.specs.declared.segment.TheConstants.{PLACES};
 ghost use Rattle.trace_know.specs.View.{join};
 ghost use Rattle.trace_know.specs.Rows.{single};
-ghost use Rattle.trace_know.specs.Runs.{of_run, IsAlike, IsCounted, conflicts_among};
+ghost use Rattle.trace_know.specs.Runs.{of_run, end_place, IsAlike, IsCounted, conflicts_among};
+ghost use Rattle.trace_know.specs.Touching.{FitTogether, IsNoLonger, Touches};
 ghost use Rattle.trace_know.specs.declared.cell.Known.TheVariants.{One};
 
 use crate::cell::Known;
@@ -135,15 +136,15 @@ impl BoxedRun {
 /// touches or overlaps it.
 pub(crate) fn absorb(run: &mut BoxedRun, piece: BoxedRun)
     requires rank { piece.rank ≡ run.old.rank }
-    requires touches { (piece.first ≤ run.old.first + length run.old.cells.items) × (run.old.first ≤ piece.first + length piece.cells.items) }
-    requires shorter { length piece.cells.items ≤ length run.old.cells.items }
-    requires room { (piece.first + length piece.cells.items ≤ run.old.first + deque_capacity run.old.cells) × (run.old.first + length run.old.cells.items ≤ piece.first + deque_capacity run.old.cells) }
-    requires ends { (run.old.first + length run.old.cells.items ≤ PLACES) × (piece.first + length piece.cells.items ≤ PLACES) }
+    requires touches { Touches piece run.old }
+    requires shorter { IsNoLonger piece run.old }
+    requires room { FitTogether (deque_capacity run.old.cells) piece run.old }
+    requires ends { (end_place run.old ≤ PLACES) × (end_place piece ≤ PLACES) }
     requires counted { IsCounted run.old }
     ensures view { of_run run.new ≡ join (of_run run.old) (of_run piece) }
     ensures rank { run.new.rank ≡ run.old.rank }
     ensures first { run.new.first ≡ min run.old.first piece.first }
-    ensures end { run.new.first + length run.new.cells.items ≡ max (run.old.first + length run.old.cells.items) (piece.first + length piece.cells.items) }
+    ensures end { end_place run.new ≡ max (end_place run.old) (end_place piece) }
     ensures capacity { deque_capacity run.new.cells ≡ deque_capacity run.old.cells }
     ensures counted { IsCounted run.new }
 {
@@ -154,14 +155,14 @@ pub(crate) fn absorb(run: &mut BoxedRun, piece: BoxedRun)
 /// run has what it had, and the piece comes back.
 pub(crate) fn grow_by(run: &mut BoxedRun, piece: BoxedRun) -> Result<(), BoxedRun>
     requires rank { piece.rank ≡ run.old.rank }
-    requires touches { (piece.first ≤ run.old.first + length run.old.cells.items) × (run.old.first ≤ piece.first + length piece.cells.items) }
-    requires shorter { length piece.cells.items ≤ length run.old.cells.items }
-    requires ends { (run.old.first + length run.old.cells.items ≤ PLACES) × (piece.first + length piece.cells.items ≤ PLACES) }
+    requires touches { Touches piece run.old }
+    requires shorter { IsNoLonger piece run.old }
+    requires ends { (end_place run.old ≤ PLACES) × (end_place piece ≤ PLACES) }
     requires counted { IsCounted run.old }
     ensures ok { OnOk result (of_run run.new ≡ join (of_run run.old) (of_run piece)) }
     ensures rank { run.new.rank ≡ run.old.rank }
     ensures first { OnOk result (run.new.first ≡ min run.old.first piece.first) }
-    ensures end { OnOk result (run.new.first + length run.new.cells.items ≡ max (run.old.first + length run.old.cells.items) (piece.first + length piece.cells.items)) }
+    ensures end { OnOk result (end_place run.new ≡ max (end_place run.old) (end_place piece)) }
     ensures counted { IsCounted run.new }
     ensures err { OnErr result (IsAlike run.new run.old) }
     ensures back { IfErr result (λ b. b ≡ piece) }
@@ -177,7 +178,7 @@ pub(crate) fn grow_by(run: &mut BoxedRun, piece: BoxedRun) -> Result<(), BoxedRu
 /// it had.
 pub(crate) fn extend(run: &mut BoxedRun, known: Known) -> Result<(), AllocError>
     requires counted { IsCounted run.old }
-    ensures ok { OnOk result (of_run run.new ≡ join (of_run run.old) (single run.old.rank (run.old.first + length run.old.cells.items) known)) }
+    ensures ok { OnOk result (of_run run.new ≡ join (of_run run.old) (single run.old.rank (end_place run.old) known)) }
     ensures len { OnOk result (length run.new.cells.items ≡ length run.old.cells.items + 1) }
     ensures same { (run.new.rank ≡ run.old.rank) × (run.new.first ≡ run.old.first) }
     ensures counted { IsCounted run.new }

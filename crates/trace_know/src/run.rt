@@ -8,7 +8,8 @@ ghost use Rattle.trace_know.specs.declared.segment.TheConstants.{PLACES};
 ghost use Rattle.trace_know.specs.Cell.{join_known, is_contradiction};
 ghost use Rattle.trace_know.specs.View.{join};
 ghost use Rattle.trace_know.specs.Rows.{single, row};
-ghost use Rattle.trace_know.specs.Runs.{of_run, IsAlike, IsCounted, IsFilled, conflicts_among, ends_prefix, sound_among};
+ghost use Rattle.trace_know.specs.Runs.{of_run, end_place, IsAlike, IsCounted, IsFilled, conflicts_among, ends_prefix, sound_among};
+ghost use Rattle.trace_know.specs.Touching.{FitTogether, IsNoLonger, Touches};
 
 use crate::cell::{Known, enters_unread};
 use mpi_model::Event;
@@ -129,7 +130,7 @@ fn add_back(run: &mut Run, known: Known)
 /// it had.
 pub(crate) fn extend(run: &mut Run, known: Known) -> Result<(), AllocError>
     requires counted { IsCounted run.old }
-    ensures ok { OnOk result (of_run run.new ≡ join (of_run run.old) (single run.old.rank (run.old.first + length run.old.cells.items) known)) }
+    ensures ok { OnOk result (of_run run.new ≡ join (of_run run.old) (single run.old.rank (end_place run.old) known)) }
     ensures len { OnOk result (length run.new.cells.items ≡ length run.old.cells.items + 1) }
     ensures same { (run.new.rank ≡ run.old.rank) × (run.new.first ≡ run.old.first) }
     ensures counted { IsCounted run.new }
@@ -180,15 +181,15 @@ fn meet_back(run: &mut Run, at: usize, known: Known)
 /// touches or overlaps it.
 pub(crate) fn absorb(run: &mut Run, piece: Run)
     requires rank { piece.rank ≡ run.old.rank }
-    requires touches { (piece.first ≤ run.old.first + length run.old.cells.items) × (run.old.first ≤ piece.first + length piece.cells.items) }
-    requires shorter { length piece.cells.items ≤ length run.old.cells.items }
-    requires room { (piece.first + length piece.cells.items ≤ run.old.first + deque_capacity run.old.cells) × (run.old.first + length run.old.cells.items ≤ piece.first + deque_capacity run.old.cells) }
-    requires ends { (run.old.first + length run.old.cells.items ≤ PLACES) × (piece.first + length piece.cells.items ≤ PLACES) }
+    requires touches { Touches piece run.old }
+    requires shorter { IsNoLonger piece run.old }
+    requires room { FitTogether (deque_capacity run.old.cells) piece run.old }
+    requires ends { (end_place run.old ≤ PLACES) × (end_place piece ≤ PLACES) }
     requires counted { IsCounted run.old }
     ensures view { of_run run.new ≡ join (of_run run.old) (of_run piece) }
     ensures rank { run.new.rank ≡ run.old.rank }
     ensures first { run.new.first ≡ min run.old.first piece.first }
-    ensures end { run.new.first + length run.new.cells.items ≡ max (run.old.first + length run.old.cells.items) (piece.first + length piece.cells.items) }
+    ensures end { end_place run.new ≡ max (end_place run.old) (end_place piece) }
     ensures capacity { deque_capacity run.new.cells ≡ deque_capacity run.old.cells }
     ensures counted { IsCounted run.new }
 {
@@ -201,10 +202,10 @@ pub(crate) fn absorb(run: &mut Run, piece: Run)
 
 /// Gives the run room for a piece that it touches. It has what it had.
 pub(crate) fn make_room(run: &mut Run, piece: &Run) -> Result<(), AllocError>
-    requires touches { (piece.now.first ≤ run.old.first + length run.old.cells.items) × (run.old.first ≤ piece.now.first + length piece.now.cells.items) }
-    requires ends { (run.old.first + length run.old.cells.items ≤ PLACES) × (piece.now.first + length piece.now.cells.items ≤ PLACES) }
+    requires touches { Touches piece.now run.old }
+    requires ends { (end_place run.old ≤ PLACES) × (end_place piece.now ≤ PLACES) }
     ensures same { IsAlike run.new run.old }
-    ensures room { OnOk result ((piece.now.first + length piece.now.cells.items ≤ run.old.first + deque_capacity run.new.cells) × (run.old.first + length run.old.cells.items ≤ piece.now.first + deque_capacity run.new.cells)) }
+    ensures room { OnOk result (FitTogether (deque_capacity run.new.cells) piece.now run.old) }
 {
     let from = run.first.min(piece.first);
     let held = run.cells.len();
@@ -216,14 +217,14 @@ pub(crate) fn make_room(run: &mut Run, piece: &Run) -> Result<(), AllocError>
 /// Joins a piece that begins within the run, or right behind it, and for which there is room.
 fn absorb_back(run: &mut Run, piece: Run)
     requires rank { piece.rank ≡ run.old.rank }
-    requires touches { (run.old.first ≤ piece.first) × (piece.first ≤ run.old.first + length run.old.cells.items) }
-    requires room { piece.first + length piece.cells.items ≤ run.old.first + deque_capacity run.old.cells }
-    requires ends { piece.first + length piece.cells.items ≤ PLACES }
+    requires touches { (run.old.first ≤ piece.first) × (piece.first ≤ end_place run.old) }
+    requires room { end_place piece ≤ run.old.first + deque_capacity run.old.cells }
+    requires ends { end_place piece ≤ PLACES }
     requires counted { IsCounted run.old }
     ensures view { of_run run.new ≡ join (of_run run.old) (of_run piece) }
     ensures rank { run.new.rank ≡ run.old.rank }
     ensures first { run.new.first ≡ run.old.first }
-    ensures end { run.new.first + length run.new.cells.items ≡ max (run.old.first + length run.old.cells.items) (piece.first + length piece.cells.items) }
+    ensures end { end_place run.new ≡ max (end_place run.old) (end_place piece) }
     ensures capacity { deque_capacity run.new.cells ≡ deque_capacity run.old.cells }
     ensures counted { IsCounted run.new }
 {
@@ -238,15 +239,15 @@ fn absorb_back(run: &mut Run, piece: Run)
 /// Joins a piece that begins no later than the run and ends within it, or right before it.
 fn absorb_front(run: &mut Run, piece: Run)
     requires rank { piece.rank ≡ run.old.rank }
-    requires touches { (piece.first ≤ run.old.first) × (run.old.first ≤ piece.first + length piece.cells.items) }
-    requires inside { piece.first + length piece.cells.items ≤ run.old.first + length run.old.cells.items }
-    requires room { run.old.first + length run.old.cells.items ≤ piece.first + deque_capacity run.old.cells }
-    requires ends { piece.first + length piece.cells.items ≤ PLACES }
+    requires touches { (piece.first ≤ run.old.first) × (run.old.first ≤ end_place piece) }
+    requires inside { end_place piece ≤ end_place run.old }
+    requires room { end_place run.old ≤ piece.first + deque_capacity run.old.cells }
+    requires ends { end_place piece ≤ PLACES }
     requires counted { IsCounted run.old }
     ensures view { of_run run.new ≡ join (of_run run.old) (of_run piece) }
     ensures rank { run.new.rank ≡ run.old.rank }
     ensures first { run.new.first ≡ piece.first }
-    ensures end { run.new.first + length run.new.cells.items ≡ run.old.first + length run.old.cells.items }
+    ensures end { end_place run.new ≡ end_place run.old }
     ensures capacity { deque_capacity run.new.cells ≡ deque_capacity run.old.cells }
     ensures counted { IsCounted run.new }
 {
