@@ -8,14 +8,14 @@ use Rattle.trace_know.specs.declared.cell.Known.{Known}
 use Rattle.trace_know.specs.declared.cell.Known.TheVariants.{Contradiction}
 use Rattle.trace_know.specs.declared.run.Run.{Run}
 use Rattle.trace_know.specs.Cell.{IsAtMost}
-use Rattle.trace_know.specs.Patches.{Covers, IsClear, IsSettled, last_of}
+use Rattle.trace_know.specs.Patches.{Covers, IsClear, IsSettled}
 use Rattle.trace_know.specs.Rows.{single, row}
-use Rattle.trace_know.specs.Runs.{of_run, of_runs, spot, start_of, end_of, IsFilled, Above, last_end}
+use Rattle.trace_know.specs.Runs.{of_run, of_runs, spot, start_of, end_of, IsFilled, Above, last_end, last_of}
 use Rattle.trace_know.specs.View.{View, IsBelow, place_cmp, join}
 use Rattle.trace_know.proofs.Fronts.{between, runs-past}
 use Rattle.trace_know.proofs.Joins.{exact_places, equal, get-join, join-assoc, join-comm, join-idem, join-empty, join-below, above_other, least_above}
 use Rattle.trace_know.proofs.Lookups.{nothing, row-in, runs-found}
-use Rattle.trace_know.proofs.Order.{filled, lower, rises, runs-remove, taken_below, last_end-next}
+use Rattle.trace_know.proofs.Order.{filled, lower, rises, same-rank, runs-remove, taken_below, last_end-next}
 use Rattle.trace_know.proofs.Rows.{get-single, join-swap}
 use Rattle.trace_know.proofs.SameEvents.{false_or_true}
 
@@ -134,9 +134,6 @@ cell-held r v place d held low high =
     let below : IsBelow (of_run r) v = subst (λ (x : View). IsBelow (of_run r) x) held (above_other v (of_run r)) in
     let is : get (of_run r) (r.rank, place) ≡ Some (slice_index_or r.cells.items i d) = ap (λ (p : ℕ). get (of_run r) (r.rank, p)) (sym at) ∙ row-in r.rank r.first i r.cells.items d (omega arith) in
     subst (λ (c : Option Known). IsAtMost c (get v (r.rank, place))) is (below r.rank place)
-
-same-rank : (r p : Run) → IsFilled r → IsFilled p → start_of r ≤ end_of p → start_of p ≤ end_of r → r.rank ≡ p.rank
-same-rank r p f g s t = let a = f.places in let b = g.places in omega arith
 
 -- what is held of the patch and touches one of its runs lies within that
 covered : (patch : List Run) (j : ℕ) (p r : Run) → Above 0 patch → j < length patch → p ≡ slice_index_or patch j p → IsFilled r → start_of r ≤ end_of p → start_of p ≤ end_of r

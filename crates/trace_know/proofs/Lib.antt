@@ -12,6 +12,7 @@ pub mod Counts
 pub mod Rows
 pub mod Pieces
 pub mod Order
+pub mod Touching
 pub mod Lookups
 pub mod Entries
 pub mod Listing

@@ -9,5 +9,6 @@ pub mod Listing
 pub mod Rows
 pub mod Runs
 pub mod Touching
+pub mod Among
 pub mod Patches
 pub mod Ready

@@ -1,5 +1,5 @@
 -- Patches: runs that take the place of those of ours that they touch.
-use Rattle.std.specs.Prelude.{◌≡◌, ◌⊎◌, ℕ, None, ◌+◌, ◌-◌, ◌<◌, ◌≤◌, List, length, slice_index_or}
+use Rattle.std.specs.Prelude.{◌≡◌, ◌⊎◌, ℕ, None, ◌+◌, ◌<◌, ◌≤◌, List, length, slice_index_or}
 use Rattle.std.specs.FinMap.{get}
 use Rattle.trace_know.specs.declared.run.Run.{Run}
 use Rattle.trace_know.specs.View.{View, join}
@@ -18,7 +18,3 @@ abbrev pub Covers : List Run → List Run → Type 0
 Covers patch runs = (i j : ℕ) (d e : Run) → i < length runs → j < length patch
     → start_of (slice_index_or runs i d) ≤ end_of (slice_index_or patch j e) → start_of (slice_index_or patch j e) ≤ end_of (slice_index_or runs i d)
     → join (of_run (slice_index_or patch j e)) (of_run (slice_index_or runs i d)) ≡ of_run (slice_index_or patch j e)
-
--- the last of the runs, if there is one
-abbrev pub last_of : List Run → Run → Run
-last_of runs d = slice_index_or runs (length runs - 1) d

@@ -1,5 +1,5 @@
 -- Runs.
-use Rattle.std.specs.Prelude.{◌≡◌, ℕ, suc, Some, ◌+◌, ◌*◌, ◌^◌, ◌<◌, ◌≤◌, ⊤, Bool, true, if◌then◌else◌, List, [], ◌∷◌, ◌++◌, length}
+use Rattle.std.specs.Prelude.{◌≡◌, ℕ, suc, Some, ◌+◌, ◌-◌, ◌*◌, ◌^◌, ◌<◌, ◌≤◌, ⊤, Bool, true, if◌then◌else◌, List, [], ◌∷◌, ◌++◌, length, slice_index_or}
 use Rattle.std.specs.List.{slice_get}
 use Rattle.std.specs.FinMap.{empty, get, len}
 use Rattle.trace_know.specs.declared.cell.Known.{Known}
@@ -73,14 +73,9 @@ abbrev pub last_end : ℕ → List Run → ℕ
 last_end low [] = low
 last_end low (run ∷ runs) = last_end (end_of run) runs
 
--- the run can be joined to one that is at least as long and has room from a lowest place on
-pub record Joins (rank first end room most low : ℕ) (run : Run) : Type 0 where
-  pub ranked : run.rank ≡ rank
-  pub before : run.first ≤ end
-  pub behind : first ≤ end_place run
-  pub floor : low ≤ run.first
-  pub ceiling : end_place run ≤ low + room
-  pub shorter : length run.cells.items ≤ most
+-- the last of the runs, if there is one
+abbrev pub last_of : List Run → Run → Run
+last_of runs d = slice_index_or runs (length runs - 1) d
 
 -- the runs have the same cells at the same places
 pub record IsAlike (one other : Run) : Type 0 where

@@ -1,5 +1,6 @@
--- Runs that touch.
-use Rattle.std.specs.Prelude.{ℕ, ◌+◌, ◌≤◌, length}
+-- Runs that touch, and room for them.
+use Rattle.std.specs.Prelude.{◌≡◌, ℕ, ◌+◌, ◌≤◌, length}
+use Rattle.std.specs.VecDeque.{deque_capacity}
 use Rattle.trace_know.specs.declared.run.Run.{Run}
 use Rattle.trace_know.specs.Runs.{end_place}
 
@@ -14,3 +15,14 @@ FitTogether room one other = (end_place one ≤ other.first + room) × (end_plac
 -- the one has no more cells than the other
 abbrev pub IsNoLonger : Run → Run → Type 0
 IsNoLonger one other = length one.cells.items ≤ length other.cells.items
+
+-- the places of the run are among those that the base's memory has room for, from a lowest one on
+abbrev pub HasRoomFrom : ℕ → Run → Run → Type 0
+HasRoomFrom low base run = (low ≤ run.first) × (end_place run ≤ low + deque_capacity base.cells)
+
+-- the run can go into the base, where a piece that it touches goes too
+pub record GoesInto (low : ℕ) (base piece run : Run) : Type 0 where
+  pub ranked : run.rank ≡ piece.rank
+  pub touches : Touches run piece
+  pub room : HasRoomFrom low base run
+  pub shorter : IsNoLonger run base

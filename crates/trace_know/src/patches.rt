@@ -2,8 +2,8 @@
 
 ghost use Rattle.std.specs.Prelude.{◌≡◌, ◌⊎◌, ◌+◌, ◌-◌, ◌<◌, ◌≤◌, ℕ, vec_len, vec_capacity, length, take, reverse, IsTrue, IsFalse, OnOk, OnErr, IfOk, [], ◌∷◌, ◌++◌, slice_index_or};
 ghost use Rattle.trace_know.specs.declared.run.Run.{Run as RunValue};
-ghost use Rattle.trace_know.specs.Patches.{Covers, IsClear, IsSettled, last_of};
-ghost use Rattle.trace_know.specs.Runs.{Above, IsFilled, of_run, of_runs, start_of, end_of, last_end};
+ghost use Rattle.trace_know.specs.Patches.{Covers, IsClear, IsSettled};
+ghost use Rattle.trace_know.specs.Runs.{Above, IsFilled, of_run, of_runs, start_of, end_of, last_end, last_of};
 ghost use Rattle.trace_know.specs.View.{join};
 
 use crate::boxed::BoxedRun;

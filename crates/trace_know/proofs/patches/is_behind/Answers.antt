@@ -3,8 +3,7 @@ use Rattle.std.proofs.lemmas.Bool.{cases_lt}
 use Rattle.std.proofs.lemmas.List.{get_or_default}
 use Rattle.std.specs.Prelude.{IsTrue}
 use Rattle.trace_know.specs.declared.run.Run.{Run}
-use Rattle.trace_know.specs.Patches.{last_of}
-use Rattle.trace_know.specs.Runs.{Above, IsFilled, start_of, end_of, last_end}
+use Rattle.trace_know.specs.Runs.{Above, IsFilled, start_of, end_of, last_end, last_of}
 use Rattle.trace_know.proofs.Order.{filled}
 use Rattle.trace_know.proofs.Covering.{end-last}
 use Rattle.trace_know.proofs.patches.is_behind.Goals as goal

@@ -1,7 +1,7 @@
 use Rattle.std.proofs.Common.{◌≡◌, ◌+◌, ◌-◌, ◌<◌, ◌≤◌, List, [], ◌∷◌, ◌++◌, length, reverse, refl, sym, subst, ap, ◌∙◌, arith}
 use Rattle.trace_know.specs.declared.run.Run.{Run}
-use Rattle.trace_know.specs.Patches.{Covers, last_of}
-use Rattle.trace_know.specs.Runs.{Above, of_runs, start_of, end_of, last_end}
+use Rattle.trace_know.specs.Patches.{Covers}
+use Rattle.trace_know.specs.Runs.{Above, of_runs, start_of, end_of, last_end, last_of}
 use Rattle.trace_know.specs.View.{View, join}
 use Rattle.std.specs.FinMap.{empty}
 use Rattle.trace_know.proofs.Joins.{empty-join, join-empty}

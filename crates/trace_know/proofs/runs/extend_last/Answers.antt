@@ -23,8 +23,8 @@ returns-clause-ok c =
     let is : r ≡ slice_index_or runs at r = c.index_mut.ensures.value in
     let here : at ≡ length runs - 1 = omega arith in
     let last : r ≡ slice_index_or runs (length runs - 1) r = is ∙ ap (λ (n : ℕ). slice_index_or runs n r) here in
-    let rank : r.rank ≡ c.args.rank = ap (λ (x : Run). x.rank) last ∙ (c.requires.last r).0 in
-    let place : r.first + length r.cells.items ≡ c.args.place = ap (λ (x : Run). x.first + length x.cells.items) last ∙ (c.requires.last r).1 in
+    let rank : r.rank ≡ c.args.rank = ap (λ (x : Run). x.rank) last ∙ c.requires.behind.ranked r in
+    let place : r.first + length r.cells.items ≡ c.args.place = ap (λ (x : Run). x.first + length x.cells.items) last ∙ c.requires.behind.placed r in
     on_ok c.extend.result (of_run new ≡ join (of_run r) (single r.rank (r.first + length r.cells.items) c.args.known)) (of_runs (slice_set runs at new) ≡ join (of_runs runs) (single c.args.rank c.args.place c.args.known))
     (λ grown. runs-joined runs at new r (single c.args.rank c.args.place c.args.known) bound is (grown ∙ (λ i. join (of_run r) (single (rank i) (place i) c.args.known)))) c.extend.ensures.ok
 
@@ -56,6 +56,6 @@ returns-clause-above c =
     let first = c.extend.ensures.same.1 in
     let here : at ≡ length runs - 1 = omega arith in
     let last : r ≡ slice_index_or runs (length runs - 1) r = is ∙ ap (λ (n : ℕ). slice_index_or runs n r) here in
-    let place : r.first + length r.cells.items ≡ c.args.place = ap (λ (x : Run). x.first + length x.cells.items) last ∙ (c.requires.last r).1 in
+    let place : r.first + length r.cells.items ≡ c.args.place = ap (λ (x : Run). x.first + length x.cells.items) last ∙ c.requires.behind.placed r in
     above-replace 0 at runs new c.requires.above bound (omega arith) (record { some = omega arith; places = omega arith; counted = c.extend.ensures.counted })
     (λ d l. absurd (omega arith))
