@@ -1,9 +1,14 @@
 -- The cells of a view one after another, in rising order of rank and place.
 use Rattle.std.specs.Prelude.{ℕ, suc, ◌+◌, Bool, ◌==◌, ◌&&◌, if◌then◌else◌, Option, Some, List, [], ◌∷◌, filter, map}
+use Rattle.std.specs.Borrow.{Bor}
 use Rattle.std.specs.FinMap.{entries}
 use Rattle.trace_know.specs.declared.cell.Known.{Known}
 use Rattle.trace_know.specs.Cell.{is_contradiction}
 use Rattle.trace_know.specs.View.{View}
+
+-- a rank, a place and what is known there, as an entry of a view
+abbrev pub as_entry : ℕ × ℕ × Bor Known → (ℕ × ℕ) × Known
+as_entry e = ((e.0, e.1), e.2.now)
 
 -- an entry of a view, as a reader shows it
 abbrev pub as_shown : (ℕ × ℕ) × Known → (ℕ × ℕ) × Option Known

@@ -90,10 +90,14 @@ abbrev pub placed_cells : ℕ → ℕ → List Known → List ((ℕ × ℕ) × K
 placed_cells rank place [] = []
 placed_cells rank place (known ∷ cells) = ((rank, place), known) ∷ placed_cells rank (place + 1) cells
 
+-- the cells of a run, each with its rank and place
+abbrev pub cells_of_run : Run → List ((ℕ × ℕ) × Known)
+cells_of_run run = placed_cells run.rank run.first run.cells.items
+
 -- the cells of runs, in their order
 abbrev pub listed : List Run → List ((ℕ × ℕ) × Known)
 listed [] = []
-listed (run ∷ runs) = placed_cells run.rank run.first run.cells.items ++ listed runs
+listed (run ∷ runs) = cells_of_run run ++ listed runs
 
 -- the lists have the same runs
 abbrev pub AreAlike : List Run → List Run → Type 0

@@ -1,9 +1,9 @@
 //! Comparing what is known, cell by cell, by walks.
 
-ghost use Rattle.std.specs.Prelude.{◌≡◌, ◌↔◌, ℕ, Some, IsTrue};
+ghost use Rattle.std.specs.Prelude.{◌≡◌, ◌↔◌, Some, IsTrue};
 ghost use Rattle.std.specs.Option.{option_map, option_copied};
 ghost use Rattle.trace_know.specs.Cell.{IsAtMost};
-ghost use Rattle.trace_know.specs.declared.cell.Known.{Known as KnownValue};
+ghost use Rattle.trace_know.specs.Listing.{as_entry};
 ghost use Rattle.trace_know.specs.Runs.{Above, AllHeld, IsFilled, of_run, of_runs};
 ghost use Rattle.trace_know.specs.View.{join};
 
@@ -28,7 +28,7 @@ pub(crate) fn same_cells(ones: Walk<'_>, others: Walk<'_>) -> bool
 
 /// Whether there is a cell, and it is the other.
 fn is_cell(found: Option<(u32, u64, &Known)>, cell: (u32, u64, &Known)) -> bool
-    ensures { IsTrue result ↔ (option_map {U = (ℕ × ℕ) × KnownValue} (λ e. ((e.0, e.1), e.2.now)) found.entry ≡ Some ((cell.entry.0, cell.entry.1), cell.entry.2.now)) }
+    ensures { IsTrue result ↔ (option_map as_entry found.entry ≡ Some (as_entry cell.entry)) }
 {
     match found {
         Some((rank, place, known)) => { rank == cell.0 && place == cell.1 && known.same(cell.2) }

@@ -8,7 +8,7 @@ ghost use Rattle.trace_know.specs.Placed.{ArePlaced, IsPast, IsPlaced, IsKnowled
 ghost use Rattle.trace_know.specs.Listing.{cells_of, conflicts_of};
 ghost use Rattle.trace_know.specs.Prefix.{events_of, prefix_of, is_beyond, is_unread};
 ghost use Rattle.trace_know.specs.Runs.{of_run, placed_cells, IsAlike, IsFilled};
-ghost use Rattle.trace_know.specs.Segment.{IsSegment};
+ghost use Rattle.trace_know.specs.Segment.{IsSegment, placed_events};
 ghost use Rattle.trace_know.specs.Trace.{facts_of, view_of};
 ghost use Rattle.trace_know.specs.View.{IsBelow, cell, join};
 
@@ -137,8 +137,8 @@ impl Knowledge {
         first_place: u64,
         events: &mut Vec<Event>,
     ) -> Result<(), AllocError>
-        requires { IsSegment (record { rank = rank; first_place = first_place; events = events.old.items }) }
-        ensures ok { OnOk result (self.new ≡ join self.old (view_of (facts_of (record { rank = rank; first_place = first_place; events = events.old.items })))) }
+        requires { IsSegment (placed_events rank first_place events.old.items) }
+        ensures ok { OnOk result (self.new ≡ join self.old (view_of (facts_of (placed_events rank first_place events.old.items)))) }
         ensures err { OnErr result (self.new ≡ self.old) }
         ensures back { OnErr result (events.new.items ≡ events.old.items) }
     {

@@ -5,9 +5,9 @@ ghost use Rattle.std.specs.Option.{option_map};
 ghost use Rattle.std.specs.VecDeque.{deque_len};
 ghost use Rattle.std.specs.Option.{option_copied};
 ghost use Rattle.std.specs.FinMap.{get};
-ghost use Rattle.trace_know.specs.Listing.{conflicts_in};
+ghost use Rattle.trace_know.specs.Listing.{as_entry, conflicts_in};
 ghost use Rattle.trace_know.specs.Prefix.{IsBeyond, event_of, events_of, is_unread, is_unread_enter, prefix_of, readable_of};
-ghost use Rattle.trace_know.specs.Runs.{Above, IsFilled, IsFront, listed, of_runs, placed_cells};
+ghost use Rattle.trace_know.specs.Runs.{Above, IsFilled, IsFront, cells_of_run, listed, of_runs};
 
 use crate::boxed::BoxedRun;
 use crate::cell::{Known, enters_unread};
@@ -32,7 +32,7 @@ pub(crate) fn count_cells(runs: &[BoxedRun]) -> usize
 /// The `i`-th cell, with its rank and place.
 pub(crate) fn cell_in(runs: &[BoxedRun], i: usize) -> Option<(u32, u64, &Known)>
     requires { Above 0 runs.now }
-    ensures { option_map (λ e. ((e.0, e.1), e.2.now)) result ≡ slice_get (listed runs.now) i }
+    ensures { option_map as_entry result ≡ slice_get (listed runs.now) i }
 {
     let mut left = i;
     for run in runs {
@@ -171,7 +171,7 @@ pub(crate) fn count_conflicts(runs: &[BoxedRun]) -> usize
 /// The place of the `i`-th contradiction of a run.
 fn conflict_of(run: &Run, i: usize) -> Option<(u32, u64)>
     requires { IsFilled run.now }
-    ensures { result ≡ slice_get (conflicts_in (placed_cells run.now.rank run.now.first run.now.cells.items)) i }
+    ensures { result ≡ slice_get (conflicts_in (cells_of_run run.now)) i }
 {
     let mut left = i;
     for at in 0..run.cells.len() {
@@ -188,7 +188,7 @@ fn conflict_of(run: &Run, i: usize) -> Option<(u32, u64)>
 /// The place of the `i`-th contradiction of a run in a list.
 fn conflict_in_run(run: &BoxedRun, i: usize) -> Option<(u32, u64)>
     requires { IsFilled run.now }
-    ensures { result ≡ slice_get (conflicts_in (placed_cells run.now.rank run.now.first run.now.cells.items)) i }
+    ensures { result ≡ slice_get (conflicts_in (cells_of_run run.now)) i }
 {
     conflict_of(run.get(), i)
 }
@@ -211,7 +211,7 @@ pub(crate) fn conflict_in(runs: &[BoxedRun], i: usize) -> Option<(u32, u64)>
 /// Adds the places of a run's contradictions to a list.
 fn add_conflicts(places: &mut Vec<(u32, u64)>, run: &BoxedRun) -> Result<(), AllocError>
     requires { IsFilled run.now }
-    ensures { OnOk result (places.new.items ≡ places.old.items ++ conflicts_in (placed_cells run.now.rank run.now.first run.now.cells.items)) }
+    ensures { OnOk result (places.new.items ≡ places.old.items ++ conflicts_in (cells_of_run run.now)) }
 {
     for at in 0..run.len() {
         if run.cell(at).is_contradiction() {

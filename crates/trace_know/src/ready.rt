@@ -5,7 +5,7 @@ ghost use Rattle.trace_know.specs.declared.cell.Known.TheVariants.{One};
 ghost use Rattle.trace_know.specs.declared.segment.TheConstants.{MOST_EVENTS, PLACES};
 ghost use Rattle.trace_know.specs.Ready.{IsReady, segment_in};
 ghost use Rattle.trace_know.specs.Runs.{sound_among};
-ghost use Rattle.trace_know.specs.Segment.{IsSegment, alternate, enter_place};
+ghost use Rattle.trace_know.specs.Segment.{IsSegment, alternate, enter_place, placed_events};
 
 use crate::boxed::BoxedRun;
 use crate::cell::{Known, enters_unread};
@@ -255,9 +255,9 @@ pub(crate) fn piece_of(
     first_place: u64,
     events: &mut Vec<Event>,
 ) -> Result<BoxedRun, AllocError>
-    requires { IsSegment (record { rank = rank; first_place = first_place; events = events.old.items }) }
+    requires { IsSegment (placed_events rank first_place events.old.items) }
     ensures ready { IfOk result (λ piece. IsReady piece) }
-    ensures segment { IfOk result (λ piece. segment_in piece ≡ record { rank = rank; first_place = first_place; events = events.old.items }) }
+    ensures segment { IfOk result (λ piece. segment_in piece ≡ placed_events rank first_place events.old.items) }
     ensures emptied { OnOk result (events.new.items ≡ []) }
     ensures fits { OnOk result (length events.old.items ≤ vec_capacity events.new) }
     ensures err { OnErr result (events.new.items ≡ events.old.items) }
