@@ -8,7 +8,7 @@ use Rattle.trace_know.specs.declared.cell.Known.{Known}
 use Rattle.trace_know.specs.declared.cell.Known.TheVariants.{Contradiction}
 use Rattle.trace_know.specs.declared.run.Run.{Run}
 use Rattle.trace_know.specs.Cell.{IsAtMost}
-use Rattle.trace_know.specs.Patches.{Covers, IsClear, IsSettled}
+use Rattle.trace_know.specs.Patches.{AllSettled, Covers, IsClear, IsSettled}
 use Rattle.trace_know.specs.Rows.{single, row}
 use Rattle.trace_know.specs.Runs.{of_run, of_runs, spot, start_of, end_of, IsFilled, Above, last_end, last_of}
 use Rattle.trace_know.specs.View.{View, IsBelow, place_cmp, join}
@@ -180,7 +180,7 @@ not-touched patch j p r a h is f s t clear =
     at-run patch j p place a h is (omega arith) (omega arith) ∙ ap (λ (n : ℕ). get (of_run p) (p.rank, n)) (sym at) ∙ row-in p.rank p.first i p.cells.items d (omega arith) in
     not_both (slice_index_or p.cells.items i d) (get (of_runs patch) (p.rank, place)) (ap (λ (n : ℕ). get (of_runs patch) (n, place)) (sym rank) ∙ clear place (omega arith) (omega arith)) found
 
-pub settled-covers : (patch runs : List Run) → Above 0 patch → Above 0 runs → ((k : ℕ) (d : Run) → k < length runs → IsSettled (slice_index_or runs k d) (of_runs patch)) → Covers patch runs
+pub settled-covers : (patch runs : List Run) → Above 0 patch → Above 0 runs → AllSettled runs (of_runs patch) → Covers patch runs
 settled-covers patch runs a b settled = λ i j d e k h s t.
     let r = slice_index_or runs i d in
     let p = slice_index_or patch j e in

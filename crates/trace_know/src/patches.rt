@@ -2,7 +2,7 @@
 
 ghost use Rattle.std.specs.Prelude.{◌≡◌, ◌⊎◌, ◌+◌, ◌-◌, ◌<◌, ◌≤◌, ℕ, vec_len, vec_capacity, length, take, reverse, IsTrue, IsFalse, OnOk, OnErr, IfOk, [], ◌∷◌, ◌++◌, slice_index_or};
 ghost use Rattle.trace_know.specs.declared.run.Run.{Run as RunValue};
-ghost use Rattle.trace_know.specs.Patches.{Covers, IsClear, IsSettled};
+ghost use Rattle.trace_know.specs.Patches.{AddTheSame, AllSettled, Covers, IsClear, LastIsBehind, LastIsReached};
 ghost use Rattle.trace_know.specs.Runs.{Above, IsFilled, of_run, of_runs, start_of, end_of, last_end, last_of};
 ghost use Rattle.trace_know.specs.View.{join};
 
@@ -21,7 +21,7 @@ fn unheld(
 ) -> Result<Vec<BoxedRun>, AllocError>
     requires above { Above 0 runs.now }
     requires others { Above 0 others.now }
-    ensures view { IfOk result (λ patch. join (of_runs runs.now) (of_runs patch.items) ≡ join (of_runs runs.now) (of_runs others.now)) }
+    ensures view { IfOk result (λ patch. AddTheSame runs.now patch.items others.now) }
     ensures above { IfOk result (λ patch. Above 0 patch.items) }
 {
     let mut patch = Vec::new(alloc);
@@ -56,8 +56,8 @@ fn take_touched(
 ) -> Result<(), AllocError>
     requires above { Above 0 runs.now }
     requires patch { Above 0 patch.old.items }
-    ensures view { OnOk result (join (of_runs runs.now) (of_runs patch.new.items) ≡ join (of_runs runs.now) (of_runs patch.old.items)) }
-    ensures settled { OnOk result ((k : ℕ) (d : RunValue) → k < length runs.now → IsSettled (slice_index_or runs.now k d) (of_runs patch.new.items)) }
+    ensures view { OnOk result (AddTheSame runs.now patch.new.items patch.old.items) }
+    ensures settled { OnOk result (AllSettled runs.now (of_runs patch.new.items)) }
     ensures above { Above 0 patch.new.items }
 {
     for run in runs {
@@ -74,10 +74,8 @@ fn take_touched(
 fn is_behind(runs: &[BoxedRun], others: &[BoxedRun]) -> bool
     requires above { Above 0 runs.now }
     requires others { Above 0 others.now }
-    ensures some { IsTrue result → 0 < length runs.now }
-    ensures behind { (d : RunValue) → IsTrue result → last_end 0 others.now < start_of (last_of runs.now d) }
-    ensures others { IsFalse result → 0 < length runs.now → 0 < length others.now }
-    ensures touching { (d e : RunValue) → IsFalse result → 0 < length runs.now → start_of (last_of runs.now d) ≤ end_of (last_of others.now e) }
+    ensures behind { IsTrue result → LastIsBehind runs.now others.now }
+    ensures reached { IsFalse result → 0 < length runs.now → LastIsReached runs.now others.now }
 {
     let count = runs.len();
     if count == 0 {

@@ -35,11 +35,11 @@ begins_by-requires-clause-place c =
     omega arith
 
 pub returns-clause-behind : goal.returns-clause-behind
-returns-clause-behind c = λ d t.
+returns-clause-behind c = λ t.
     let r = c.index-runs-count.result in
     let o = c.index-others-other_count.result in
     elim (cases_lt (end_of o) (start_of r)) [
-      | inl lt ↦ last_behind c.args.runs.now c.args.others.now r o d (omega arith) (omega arith) c.index-runs-count.is c.index-others-other_count.is lt
+      | inl lt ↦ record { some = omega arith; behind = λ d. last_behind c.args.runs.now c.args.others.now r o d (omega arith) (omega arith) c.index-runs-count.is c.index-others-other_count.is lt }
       | inr le ↦
           let rank = c.rank.ensures in
           let end = c.end.ensures in

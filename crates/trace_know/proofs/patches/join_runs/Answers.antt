@@ -1,6 +1,6 @@
-use Rattle.std.proofs.Common.{◌≡◌, ◌<◌, ℕ, List, [], ◌∷◌, length, slice_index_or, sym, subst, ap, ◌∙◌, arith, rules}
+use Rattle.std.proofs.Common.{◌≡◌, List, [], ◌∷◌, length, sym, subst, ap, ◌∙◌, arith, rules}
 use Rattle.trace_know.specs.declared.run.Run.{Run}
-use Rattle.trace_know.specs.Patches.{Covers, IsSettled}
+use Rattle.trace_know.specs.Patches.{AddTheSame, AllSettled, Covers}
 use Rattle.trace_know.specs.Runs.{of_runs}
 use Rattle.trace_know.specs.View.{View, join}
 use Rattle.trace_know.proofs.Covering.{settled-covers}
@@ -18,14 +18,13 @@ returns-then-is_empty-clause-ok c =
     let others = c.args.others.now in
     let none : length patch ≡ 0 = search rules in
     all_held c.args.runs.now.items patch (join (of_runs c.args.runs.now.items) (of_runs others)) none
-    (subst (λ (rs : List Run). join (of_runs rs) (of_runs patch) ≡ join (of_runs rs) (of_runs others)) c.deref.ensures.value c.in_ok-patch.ensures.view)
+    (subst (λ (rs : List Run). AddTheSame rs patch others) c.deref.ensures.value c.in_ok-patch.ensures.view)
 
 pub patched-requires-clause-covers : goal.patched-requires-clause-covers
 patched-requires-clause-covers c =
     let patch = c.take_touched.new.patch.items in
     let runs = c.args.runs.now.items in
-    let settled : (k : ℕ) (d : Run) → k < length runs → IsSettled (slice_index_or runs k d) (of_runs patch) =
-    subst (λ (rs : List Run). (k : ℕ) (d : Run) → k < length rs → IsSettled (slice_index_or rs k d) (of_runs patch)) c.deref-2.ensures.value c.in_ok-take_touched.ensures.settled in
+    let settled : AllSettled runs (of_runs patch) = subst (λ (rs : List Run). AllSettled rs (of_runs patch)) c.deref-2.ensures.value c.in_ok-take_touched.ensures.settled in
     subst (λ v. Covers patch v.items) (sym c.replace-ours.ensures.value) (settled-covers patch runs c.take_touched.ensures.above c.requires.above settled)
 
 pub returns-clause-ok : goal.returns-clause-ok
@@ -35,5 +34,5 @@ returns-clause-ok c =
     let runs = c.args.runs.now.items in
     c.patched.ensures.view
     ∙ ap (λ v. join (of_runs v.items) (of_runs c.take_touched.new.patch.items)) c.replace-ours.ensures.value
-    ∙ subst (λ (rs : List Run). join (of_runs rs) (of_runs c.take_touched.new.patch.items) ≡ join (of_runs rs) (of_runs patch)) c.deref-2.ensures.value c.in_ok-take_touched.ensures.view
-    ∙ subst (λ (rs : List Run). join (of_runs rs) (of_runs patch) ≡ join (of_runs rs) (of_runs others)) c.deref.ensures.value c.in_ok-patch.ensures.view
+    ∙ subst (λ (rs : List Run). AddTheSame rs c.take_touched.new.patch.items patch) c.deref-2.ensures.value c.in_ok-take_touched.ensures.view
+    ∙ subst (λ (rs : List Run). AddTheSame rs patch others) c.deref.ensures.value c.in_ok-patch.ensures.view

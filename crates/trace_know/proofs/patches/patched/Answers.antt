@@ -1,7 +1,7 @@
-use Rattle.std.proofs.Common.{◌≡◌, ◌+◌, ◌-◌, ◌<◌, ◌≤◌, List, [], ◌∷◌, ◌++◌, length, reverse, refl, sym, subst, ap, ◌∙◌, arith}
+use Rattle.std.proofs.Common.{◌≡◌, ◌+◌, ◌-◌, ◌<◌, List, [], ◌∷◌, ◌++◌, length, reverse, refl, sym, subst, ap, ◌∙◌, arith}
 use Rattle.trace_know.specs.declared.run.Run.{Run}
-use Rattle.trace_know.specs.Patches.{Covers}
-use Rattle.trace_know.specs.Runs.{Above, of_runs, start_of, end_of, last_end, last_of}
+use Rattle.trace_know.specs.Patches.{Covers, LastIsBehind, LastIsReached}
+use Rattle.trace_know.specs.Runs.{Above, of_runs, last_end, last_of}
 use Rattle.trace_know.specs.View.{View, join}
 use Rattle.std.specs.FinMap.{empty}
 use Rattle.trace_know.proofs.Joins.{empty-join, join-empty}
@@ -24,8 +24,12 @@ loop-runs-init c = record {
 risen : (fs new : List Run) (x : Run) → new ≡ fs ++ x ∷ [] → reverse new ≡ x ∷ reverse fs
 risen fs new x is = ap (λ (rs : List Run). reverse rs) is ∙ reverse-last fs x
 
+-- what holds of two lists holds of them under the names that the code has for them
+of_lists : (P : List Run → List Run → Type 0) (rs ps xs ys : List Run) → xs ≡ rs → ys ≡ ps → P xs ys → P rs ps
+of_lists P rs ps xs ys e f h = subst (P rs) f (subst (λ (zs : List Run). P zs ys) e h)
+
 pub move_last-requires-clause-some : goal.move_last-requires-clause-some
-move_last-requires-clause-some c = subst (λ (rs : List Run). 0 < length rs) c.deref.ensures.value (c.is_behind.ensures.some c.if-is_behind.true)
+move_last-requires-clause-some c = subst (λ (rs : List Run). 0 < length rs) c.deref.ensures.value (c.is_behind.ensures.behind c.if-is_behind.true).some
 
 pub loop-runs-preserved-then-is_behind : goal.loop-runs-preserved-then-is_behind
 loop-runs-preserved-then-is_behind c =
@@ -33,13 +37,11 @@ loop-runs-preserved-then-is_behind c =
     let ps = c.loop-runs.patch.items in
     let fs = c.loop-runs.falling.items in
     let so_far = c.loop-runs.invariant in
-    let some : 0 < length rs = subst (λ (xs : List Run). 0 < length xs) c.deref.ensures.value (c.is_behind.ensures.some c.if-is_behind.true) in
+    let last : LastIsBehind rs ps = of_lists LastIsBehind rs ps c.deref.result.now c.deref-in-loop-runs.result.now c.deref.ensures.value c.deref-in-loop-runs.ensures.value (c.is_behind.ensures.behind c.if-is_behind.true) in
+    let some = last.some in
     some-run rs some (λ d.
-    let behind : last_end 0 ps < start_of (last_of rs d) =
-    subst (λ (xs : List Run). last_end 0 xs < start_of (last_of rs d)) c.deref-in-loop-runs.ensures.value
-    (subst (λ (xs : List Run). last_end 0 c.deref-in-loop-runs.result.now < start_of (last_of xs d)) c.deref.ensures.value (c.is_behind.ensures.behind d c.if-is_behind.true)) in
     let up : reverse c.move_last.new.falling.items ≡ last_of rs d ∷ reverse fs = risen fs c.move_last.new.falling.items (last_of rs d) (c.move_last.ensures.falling d) in
-    let rise = moved-runs rs ps (reverse fs) d so_far.runs some behind so_far.behind_runs in
+    let rise = moved-runs rs ps (reverse fs) d so_far.runs some (last.behind d) so_far.behind_runs in
     let fewer = c.move_last.ensures.runs in
     let room = so_far.room in
     record {
@@ -53,7 +55,7 @@ loop-runs-preserved-then-is_behind c =
     })
 
 pub move_last-requires-then-is_behind-2-clause-some : goal.move_last-requires-then-is_behind-2-clause-some
-move_last-requires-then-is_behind-2-clause-some c = subst (λ (ps : List Run). 0 < length ps) c.deref-in-loop-runs-2.ensures.value (c.is_behind-in-loop-runs.ensures.some c.if-is_behind-2.true)
+move_last-requires-then-is_behind-2-clause-some c = subst (λ (ps : List Run). 0 < length ps) c.deref-in-loop-runs-2.ensures.value (c.is_behind-in-loop-runs.ensures.behind c.if-is_behind-2.true).some
 
 pub loop-runs-preserved-then-is_behind-2 : goal.loop-runs-preserved-then-is_behind-2
 loop-runs-preserved-then-is_behind-2 c =
@@ -61,14 +63,12 @@ loop-runs-preserved-then-is_behind-2 c =
     let ps = c.loop-runs.patch.items in
     let fs = c.loop-runs.falling.items in
     let so_far = c.loop-runs.invariant in
-    let some : 0 < length ps = subst (λ (xs : List Run). 0 < length xs) c.deref-in-loop-runs-2.ensures.value (c.is_behind-in-loop-runs.ensures.some c.if-is_behind-2.true) in
+    let last : LastIsBehind ps rs = of_lists LastIsBehind ps rs c.deref-in-loop-runs-2.result.now c.deref-in-loop-runs-3.result.now c.deref-in-loop-runs-2.ensures.value c.deref-in-loop-runs-3.ensures.value (c.is_behind-in-loop-runs.ensures.behind c.if-is_behind-2.true) in
+    let some = last.some in
     some-run ps some (λ d.
-    let behind : last_end 0 rs < start_of (last_of ps d) =
-    subst (λ (xs : List Run). last_end 0 xs < start_of (last_of ps d)) c.deref-in-loop-runs-3.ensures.value
-    (subst (λ (xs : List Run). last_end 0 c.deref-in-loop-runs-3.result.now < start_of (last_of xs d)) c.deref-in-loop-runs-2.ensures.value (c.is_behind-in-loop-runs.ensures.behind d c.if-is_behind-2.true)) in
     let step = c.move_last-then-is_behind-2 in
     let up : reverse step.new.falling.items ≡ last_of ps d ∷ reverse fs = risen fs step.new.falling.items (last_of ps d) (step.ensures.falling d) in
-    let rise = moved-runs ps rs (reverse fs) d so_far.patch some behind so_far.behind_patch in
+    let rise = moved-runs ps rs (reverse fs) d so_far.patch some (last.behind d) so_far.behind_patch in
     let fewer = step.ensures.runs in
     let room = so_far.room in
     record {
@@ -81,21 +81,28 @@ loop-runs-preserved-then-is_behind-2 c =
       view = (λ i. join (join (of_runs rs) (of_runs (fewer i))) (of_runs (up i))) ∙ moved-patch rs ps (reverse fs) d some ∙ so_far.view;
     })
 
--- where neither last run is behind the other list, both lists have one
-both_some : (rs ps : List Run) → 0 < length rs + length ps → (0 < length rs → 0 < length ps) → (0 < length ps → 0 < length rs) → (0 < length rs) × (0 < length ps)
-both_some [] [] h f g = absurd (omega arith)
-both_some [] (p ∷ ps) h f g = absurd (omega (arith, g (omega arith)))
-both_some (r ∷ rs) ps h f g = (omega arith, f (omega arith))
+-- where neither last run is behind the other list, both lists have one, and each ends no earlier than the other begins
+pub record LastsMeet (rs ps : List Run) : Type 0 where
+  pub runs : LastIsReached ps rs
+  pub patch : LastIsReached rs ps
+
+lasts-meet : (rs ps : List Run) → 0 < length rs + length ps → (0 < length rs → LastIsReached rs ps) → (0 < length ps → LastIsReached ps rs) → LastsMeet rs ps
+lasts-meet [] [] h f g = absurd (omega arith)
+lasts-meet [] (p ∷ ps) h f g = absurd (let none = (g (omega arith)).some in omega arith)
+lasts-meet (r ∷ rs) ps h f g = let reached = f (omega arith) in record { patch = reached; runs = g reached.some }
+
+-- the last runs meet, as the two tests of the loop say it
+met : (rs ps xs ys zs ws : List Run) → xs ≡ rs → ys ≡ ps → zs ≡ ps → ws ≡ rs → 0 < length rs + length ps → (0 < length xs → LastIsReached xs ys) → (0 < length zs → LastIsReached zs ws) → LastsMeet rs ps
+met rs ps xs ys zs ws a b c d h f g =
+    let Reached : List Run → List Run → Type 0 = λ (vs us : List Run). 0 < length vs → LastIsReached vs us in
+    lasts-meet rs ps h (of_lists Reached rs ps xs ys a b f) (of_lists Reached ps rs zs ws c d g)
 
 pub drop_last-requires : goal.drop_last-requires
 drop_last-requires c =
-    let rs = c.loop-runs.runs.items in
-    let ps = c.loop-runs.patch.items in
-    let one : 0 < length rs → 0 < length ps =
-    subst (λ (xs : List Run). 0 < length rs → 0 < length xs) c.deref-in-loop-runs.ensures.value (subst (λ (xs : List Run). 0 < length xs → 0 < length c.deref-in-loop-runs.result.now) c.deref.ensures.value (c.is_behind.ensures.others c.if-is_behind.false)) in
-    let other : 0 < length ps → 0 < length rs =
-    subst (λ (xs : List Run). 0 < length ps → 0 < length xs) c.deref-in-loop-runs-3.ensures.value (subst (λ (xs : List Run). 0 < length xs → 0 < length c.deref-in-loop-runs-3.result.now) c.deref-in-loop-runs-2.ensures.value (c.is_behind-in-loop-runs.ensures.others c.if-is_behind-2.false)) in
-    record { some = (both_some rs ps (omega arith) one other).0 }
+    record {
+      some = (met c.loop-runs.runs.items c.loop-runs.patch.items _ _ _ _ c.deref.ensures.value c.deref-in-loop-runs.ensures.value c.deref-in-loop-runs-2.ensures.value c.deref-in-loop-runs-3.ensures.value
+          (omega arith) (c.is_behind.ensures.reached c.if-is_behind.false) (c.is_behind-in-loop-runs.ensures.reached c.if-is_behind-2.false)).runs.some;
+    }
 
 pub loop-runs-preserved : goal.loop-runs-preserved
 loop-runs-preserved c =
@@ -103,29 +110,22 @@ loop-runs-preserved c =
     let ps = c.loop-runs.patch.items in
     let fs = c.loop-runs.falling.items in
     let so_far = c.loop-runs.invariant in
-    let one : 0 < length rs → 0 < length ps =
-    subst (λ (xs : List Run). 0 < length rs → 0 < length xs) c.deref-in-loop-runs.ensures.value (subst (λ (xs : List Run). 0 < length xs → 0 < length c.deref-in-loop-runs.result.now) c.deref.ensures.value (c.is_behind.ensures.others c.if-is_behind.false)) in
-    let other : 0 < length ps → 0 < length rs =
-    subst (λ (xs : List Run). 0 < length ps → 0 < length xs) c.deref-in-loop-runs-3.ensures.value (subst (λ (xs : List Run). 0 < length xs → 0 < length c.deref-in-loop-runs-3.result.now) c.deref-in-loop-runs-2.ensures.value (c.is_behind-in-loop-runs.ensures.others c.if-is_behind-2.false)) in
-    let some = both_some rs ps (omega arith) one other in
-    some-run rs some.0 (λ d.
-    let begins : start_of (last_of rs d) ≤ end_of (last_of ps d) =
-    subst (λ (xs : List Run). start_of (last_of rs d) ≤ end_of (last_of xs d)) c.deref-in-loop-runs.ensures.value
-    (subst (λ (xs : List Run). 0 < length xs → start_of (last_of xs d) ≤ end_of (last_of c.deref-in-loop-runs.result.now d)) c.deref.ensures.value (c.is_behind.ensures.touching d d c.if-is_behind.false) some.0) in
-    let ends : start_of (last_of ps d) ≤ end_of (last_of rs d) =
-    subst (λ (xs : List Run). start_of (last_of ps d) ≤ end_of (last_of xs d)) c.deref-in-loop-runs-3.ensures.value
-    (subst (λ (xs : List Run). 0 < length xs → start_of (last_of xs d) ≤ end_of (last_of c.deref-in-loop-runs-3.result.now d)) c.deref-in-loop-runs-2.ensures.value (c.is_behind-in-loop-runs.ensures.touching d d c.if-is_behind-2.false) some.1) in
-    let has = so_far.covers (length rs - 1) (length ps - 1) d d (omega (arith, some.0)) (omega (arith, some.1)) begins ends in
+    let meet : LastsMeet rs ps = met rs ps _ _ _ _ c.deref.ensures.value c.deref-in-loop-runs.ensures.value c.deref-in-loop-runs-2.ensures.value c.deref-in-loop-runs-3.ensures.value
+    (omega arith) (c.is_behind.ensures.reached c.if-is_behind.false) (c.is_behind-in-loop-runs.ensures.reached c.if-is_behind-2.false) in
+    let some_run = meet.runs.some in
+    let some_patch = meet.patch.some in
+    some-run rs some_run (λ d.
+    let has = so_far.covers (length rs - 1) (length ps - 1) d d (omega (arith, some_run)) (omega (arith, some_patch)) (meet.patch.reached d d) (meet.runs.reached d d) in
     let fewer = c.drop_last.ensures.runs in
     let room = so_far.room in
     record {
       room = omega arith;
       runs = subst (λ (xs : List Run). Above 0 xs) (sym fewer) (above-take 0 (length rs - 1) rs so_far.runs);
       patch = so_far.patch;
-      behind_runs = subst (λ (xs : List Run). Above (last_end 0 xs) (reverse fs)) (sym fewer) (less-behind rs (reverse fs) d so_far.runs some.0 so_far.behind_runs);
+      behind_runs = subst (λ (xs : List Run). Above (last_end 0 xs) (reverse fs)) (sym fewer) (less-behind rs (reverse fs) d so_far.runs some_run so_far.behind_runs);
       behind_patch = so_far.behind_patch;
-      covers = subst (λ (xs : List Run). Covers ps xs) (sym fewer) (covers-fewer ps rs so_far.covers some.0);
-      view = ap (λ (xs : List Run). join (join (of_runs xs) (of_runs ps)) (of_runs (reverse fs))) fewer ∙ dropped-view rs ps (reverse fs) d d some.0 some.1 has ∙ so_far.view;
+      covers = subst (λ (xs : List Run). Covers ps xs) (sym fewer) (covers-fewer ps rs so_far.covers some_run);
+      view = ap (λ (xs : List Run). join (join (of_runs xs) (of_runs ps)) (of_runs (reverse fs))) fewer ∙ dropped-view rs ps (reverse fs) d d some_run some_patch has ∙ so_far.view;
     })
 
 no_runs : (rs : List Run) → length rs ≡ 0 → rs ≡ []

@@ -1,13 +1,12 @@
-use Rattle.std.proofs.Common.{◌≡◌, ◌<◌, ℕ, slice_index_or}
+use Rattle.std.proofs.Common.{◌<◌, ℕ, slice_index_or}
 use Rattle.trace_know.specs.declared.run.Run.{Run}
-use Rattle.trace_know.specs.Patches.{IsSettled}
+use Rattle.trace_know.specs.Patches.{AddTheSame, IsSettled}
 use Rattle.trace_know.specs.Runs.{of_runs, Above}
-use Rattle.trace_know.specs.View.{join}
 use Rattle.trace_know.proofs.patches.take_touched.Given as goal
 
 abbrev pub invariant-loop-run : goal.invariant-loop-run
 invariant-loop-run l = record {
   above : Above 0 l.patch.items;
-  view : join (of_runs l.runs) (of_runs l.patch.items) ≡ join (of_runs l.runs) (of_runs l.fn.patch.items);
+  view : AddTheSame l.runs l.patch.items l.fn.patch.items;
   settled : (k : ℕ) (d : Run) → k < l.run-index → IsSettled (slice_index_or l.runs k d) (of_runs l.patch.items);
 }
