@@ -18,7 +18,7 @@ use Rattle.trace_know.specs.Listing.{as_shown, cells_of, conflicts_in}
 use Rattle.trace_know.specs.declared.run.Run.{Run}
 use Rattle.trace_know.specs.View.{View, place_cmp, kept, join}
 use Rattle.trace_know.specs.Rows.{single, row}
-use Rattle.trace_know.specs.Runs.{of_run, of_runs, spot, end_of, Above, placed_cells, listed, conflicts_among}
+use Rattle.trace_know.specs.Runs.{of_run, of_runs, spot, end_of, Above, cells_of_run, placed_cells, listed, conflicts_among}
 use Rattle.trace_know.proofs.SameEvents.{false_or_true}
 use Rattle.trace_know.proofs.Joins.{places_total, exact_places, equal, get-join, join-assoc, empty-join, same_views}
 use Rattle.trace_know.proofs.Rows.{get-single}
@@ -172,12 +172,12 @@ no-conflict [] h = refl
 no-conflict (q ∷ qs) h = absurd (omega arith)
 
 pub next-conflicts : (rs : List Run) (i : ℕ) (r : Run) → i < length rs → get_or rs i r ≡ r
-    → conflicts_in (listed (drop i rs)) ≡ conflicts_in (placed_cells r.rank r.first r.cells.items) ++ conflicts_in (listed (drop (i + 1) rs))
-next-conflicts rs i r h is = ap (λ (xs : List Run). conflicts_in (listed xs)) (next_run rs i r h is) ∙ conflicts-append (placed_cells r.rank r.first r.cells.items) (listed (drop (i + 1) rs))
+    → conflicts_in (listed (drop i rs)) ≡ conflicts_in (cells_of_run r) ++ conflicts_in (listed (drop (i + 1) rs))
+next-conflicts rs i r h is = ap (λ (xs : List Run). conflicts_in (listed xs)) (next_run rs i r h is) ∙ conflicts-append (cells_of_run r) (listed (drop (i + 1) rs))
 
 pub passed-conflicts : (rs : List Run) (i : ℕ) (r : Run) → i < length rs → get_or rs i r ≡ r → conflicts_among r.cells.items ≡ 0 → conflicts_in (listed (drop i rs)) ≡ conflicts_in (listed (drop (i + 1) rs))
 passed-conflicts rs i r h is none = next-conflicts rs i r h is
-    ∙ ap (λ (qs : List (ℕ × ℕ)). qs ++ conflicts_in (listed (drop (i + 1) rs))) (no-conflict (conflicts_in (placed_cells r.rank r.first r.cells.items)) (conflicts-of-run r.rank r.first r.cells.items ∙ none))
+    ∙ ap (λ (qs : List (ℕ × ℕ)). qs ++ conflicts_in (listed (drop (i + 1) rs))) (no-conflict (conflicts_in (cells_of_run r)) (conflicts-of-run r.rank r.first r.cells.items ∙ none))
 
 pub get-front : {X : Type 0} (xs ys : List X) (i : ℕ) → i < length xs → slice_get (xs ++ ys) i ≡ slice_get xs i
 get-front [] ys i h = absurd (omega arith)

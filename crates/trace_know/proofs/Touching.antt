@@ -60,6 +60,7 @@ begins-past runs low high first piece from a p t is least =
     let below = subst (λ (x : Run). last_end 0 (take low runs) < start_of x) (sym is) (taken_below 0 low runs first a inside) in
     omega arith
 
+-- so is a run with the same cells at the same places
 pub reached-alike : (from to : ℕ) (piece one other : Run) → IsAlike one other → IsReached from to piece other → IsReached from to piece one
 reached-alike from to piece one other same r =
     let cells : length one.cells.items ≡ length other.cells.items = ap (λ (ks : List Known). length ks) same.cells in
@@ -73,6 +74,7 @@ reached-alike from to piece one other same r =
 
 -- ---- a base that runs go into
 
+-- a run that a piece reaches goes into a base that has room for all of them and is no shorter
 pub goes-into : (from to : ℕ) (base piece run : Run) → to ≤ from + deque_capacity base.cells → IsReached from to piece run → IsNoLonger run base → GoesInto from base piece run
 goes-into from to base piece run wide r short =
     let low = r.low in
@@ -91,12 +93,13 @@ into-grown low base piece grown run rank room first end most g =
 
 -- ---- the one run that a piece touches
 
--- the run that a piece touches alone
+-- the run has cells, is of the piece's rank, and touches it
 pub record IsTouched (run piece : Run) : Type 0 where
   pub filled : IsFilled run
   pub ranked : run.rank ≡ piece.rank
   pub touches : Touches piece run
 
+-- where it is the only one that the piece touches
 pub touched-alone : (runs : List Run) (at : ℕ) (run piece : Run) → Above 0 runs → IsFilled piece → AreTouched at (at + 1) runs piece → run ≡ slice_index_or runs at run → IsTouched run piece
 touched-alone runs at run piece a p t is =
     let bound = t.bound in

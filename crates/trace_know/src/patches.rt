@@ -1,9 +1,9 @@
 //! Joining whole lists of runs by a patch: runs that take the place of those that they touch.
 
-ghost use Rattle.std.specs.Prelude.{◌≡◌, ◌⊎◌, ◌+◌, ◌-◌, ◌<◌, ◌≤◌, ℕ, vec_len, vec_capacity, length, take, reverse, IsTrue, IsFalse, OnOk, OnErr, IfOk, [], ◌∷◌, ◌++◌, slice_index_or};
+ghost use Rattle.std.specs.Prelude.{◌≡◌, ◌+◌, ◌-◌, ◌<◌, ◌≤◌, vec_len, vec_capacity, length, take, reverse, IsTrue, IsFalse, OnOk, OnErr, IfOk, [], ◌∷◌, ◌++◌};
 ghost use Rattle.trace_know.specs.declared.run.Run.{Run as RunValue};
 ghost use Rattle.trace_know.specs.Patches.{AddTheSame, AllSettled, Covers, IsClear, LastIsBehind, LastIsReached};
-ghost use Rattle.trace_know.specs.Runs.{Above, IsFilled, of_run, of_runs, start_of, end_of, last_end, last_of};
+ghost use Rattle.trace_know.specs.Runs.{Above, IsFilled, of_runs, last_of};
 ghost use Rattle.trace_know.specs.View.{join};
 
 use crate::boxed::BoxedRun;

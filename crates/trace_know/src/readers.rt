@@ -1,6 +1,6 @@
 //! What runs tell: their cells in order, their counts, and what is readable of a rank.
 
-ghost use Rattle.std.specs.Prelude.{◌≡◌, ◌↔◌, ◌+◌, ◌++◌, ◌^◌, ◌<◌, ◌≤◌, ℕ, IsTrue, IfOk, OnOk, IsSome, length, slice_get, slice_index_or, map, MatchOption, None};
+ghost use Rattle.std.specs.Prelude.{◌≡◌, ◌↔◌, ◌+◌, ◌++◌, ◌^◌, ◌<◌, IsTrue, IfOk, OnOk, IsSome, length, slice_get, map, MatchOption, None};
 ghost use Rattle.std.specs.Option.{option_map};
 ghost use Rattle.std.specs.VecDeque.{deque_len};
 ghost use Rattle.std.specs.Option.{option_copied};

@@ -1,14 +1,14 @@
 //! A run: cells of one rank without a gap, and how it takes in another.
 
-ghost use Rattle.std.specs.Prelude.{◌≡◌, ◌+◌, ◌-◌, ◌<◌, ◌≤◌, ◌^◌, ◌++◌, length, min, max, ℕ, true, false, if◌then◌else◌, IfOk, OnOk, OnErr, IsTrue, IsFalse, slice_set, slice_index_or, map, [], ◌∷◌, vec_len, vec_capacity};
+ghost use Rattle.std.specs.Prelude.{◌≡◌, ◌+◌, ◌-◌, ◌<◌, ◌≤◌, ◌++◌, length, min, max, true, false, IfOk, OnOk, OnErr, IsTrue, IsFalse, slice_set, slice_index_or, map, [], ◌∷◌, vec_len, vec_capacity};
 ghost use Rattle.std.specs.VecDeque.{deque_len, deque_capacity};
 ghost use Rattle.trace_know.specs.declared.cell.Known.{Known as KnownValue};
 ghost use Rattle.trace_know.specs.declared.cell.Known.TheVariants.{Contradiction, One};
 ghost use Rattle.trace_know.specs.declared.segment.TheConstants.{PLACES};
 ghost use Rattle.trace_know.specs.Cell.{join_known, is_contradiction};
 ghost use Rattle.trace_know.specs.View.{join};
-ghost use Rattle.trace_know.specs.Rows.{single, row};
-ghost use Rattle.trace_know.specs.Runs.{of_run, end_place, IsAlike, IsCounted, IsFilled, conflicts_among, ends_prefix, sound_among};
+ghost use Rattle.trace_know.specs.Rows.{single};
+ghost use Rattle.trace_know.specs.Runs.{of_run, end_place, IsAlike, IsCounted, conflicts_among, ends_prefix, sound_among};
 ghost use Rattle.trace_know.specs.Touching.{FitTogether, IsNoLonger, Touches};
 
 use crate::cell::{Known, enters_unread};

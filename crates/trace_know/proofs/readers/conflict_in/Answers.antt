@@ -1,7 +1,7 @@
 use Rattle.std.proofs.Common.{◌≡◌, ◌<◌, ◌≤◌, ◌+◌, ◌-◌, ℕ, List, length, drop, sym, ap, subst, ◌∙◌, arith}
 use Rattle.std.specs.List.{slice_get}
 use Rattle.trace_know.specs.Listing.{conflicts_in}
-use Rattle.trace_know.specs.Runs.{IsFilled, listed, placed_cells}
+use Rattle.trace_know.specs.Runs.{IsFilled, listed, cells_of_run}
 use Rattle.trace_know.proofs.Order.{filled}
 use Rattle.trace_know.proofs.Listing.{next-conflicts, conflicts-of-run, get-front, get-back}
 use Rattle.trace_know.proofs.readers.conflict_in.Goals as goal
@@ -17,7 +17,7 @@ returns-then-left-conflicts c =
     let inside : c.loop-run.run-index < length c.args.runs.now = omega arith in
     let f : IsFilled c.run-item.result = subst IsFilled (sym c.run-item.is) (filled 0 c.loop-run.run-index c.args.runs.now c.run-item.result c.requires inside) in
     let r = c.run-item.result in
-    let mine = conflicts_in (placed_cells r.rank r.first r.cells.items) in
+    let mine = conflicts_in (cells_of_run r) in
     let n = f.counted.conflicts in
     let size = conflicts-of-run r.rank r.first r.cells.items in
     let within : c.loop-run.left < length mine = omega arith in
@@ -29,7 +29,7 @@ loop-run-preserved c =
     let inside : c.loop-run.run-index < length c.args.runs.now = omega arith in
     let f : IsFilled c.run-item.result = subst IsFilled (sym c.run-item.is) (filled 0 c.loop-run.run-index c.args.runs.now c.run-item.result c.requires inside) in
     let r = c.run-item.result in
-    let mine = conflicts_in (placed_cells r.rank r.first r.cells.items) in
+    let mine = conflicts_in (cells_of_run r) in
     let rest = conflicts_in (listed (drop (c.loop-run.run-index + 1) c.args.runs.now)) in
     let n = f.counted.conflicts in
     let size = conflicts-of-run r.rank r.first r.cells.items in
