@@ -10,6 +10,7 @@ ghost use Rattle.trace_ops.specs.Request.{is_init, is_start, started_by};
 ghost use Rattle.trace_ops.specs.Steps.{as_started, begun_step, part_of};
 
 use crate::called::Called;
+use crate::room::Room;
 use indexmap::IndexMap;
 use mpi_model::Call;
 use std::alloc::{AllocError, Global};
@@ -198,6 +199,8 @@ pub(crate) struct Holding<'a> {
     pub inits: Vec<Option<Init<'a>>>,
     /// What holds a number after all calls.
     pub held: Held<'a>,
+    /// For the messages and the receives of the calls.
+    pub room: Room,
 }
 
 /// What holds the numbers that the calls list. They are gone through once, from the first to the last; it takes memory
@@ -211,12 +214,15 @@ pub(crate) fn holding_of<'a>(
 {
     let mut inits = Vec::new(alloc);
     let mut held = Held::new(alloc);
+    let mut room = Room::empty();
     let mut n = 0;
     while n < calls.len() {
         let called = &calls[n];
-        push_held(&mut inits, &held, started_by(called.call()))?;
+        let call = called.call();
+        room.count(call);
+        push_held(&mut inits, &held, started_by(call))?;
         hold(&mut held, n as u64, called)?;
         n += 1;
     }
-    Ok(Holding { inits, held })
+    Ok(Holding { inits, held, room })
 }

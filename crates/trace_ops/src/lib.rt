@@ -18,7 +18,7 @@
 //!   Cancel leaves of it; [`active`]: the active requests, and the idle numbers
 //! - [`message`]: messages and collective entries; [`receive`]: receives with their told sources,
 //!   and what a probe looks for
-//! - [`rank_state`]: how a rank stands
+//! - [`rank_state`]: how a rank stands; [`room`]: room for the lists of messages and receives
 //! - `ops::gather`: the way from what is known to all of that
 //! - [`laws`]: how a rank's ops grow with its readable events, as contracts of calls that do nothing
 //!
@@ -37,6 +37,7 @@ mod message;
 mod ops;
 mod rank_state;
 mod receive;
+mod room;
 mod state;
 mod touched;
 mod trust;

@@ -236,8 +236,8 @@ fn gather(
 {
     let holding = holding_of(alloc, calls)?;
     let mut gathered = Gathered {
-        sends: Vec::new(alloc),
-        receives: Vec::new(alloc),
+        sends: Vec::with_capacity(alloc, holding.room.sends)?,
+        receives: Vec::with_capacity(alloc, holding.room.receives)?,
         rounds: Vec::new(alloc),
         active: Vec::new(alloc),
         cancelled: Vec::new(alloc),

@@ -14,7 +14,7 @@ loop-n-preserved c =
     let entry = c.index-calls-n.result in
     let old = get int_eq c.loop-n.held in
     let pushed : c.push_held.new.inits.items ≡ c.loop-n.inits.items ++ map (get int_eq c.loop-n.held) (started_by c.index-calls-n.result.call) =
-    c.in_ok-push_held.ensures ∙ ap (λ (l : List _). c.loop-n.inits.items ++ map (get int_eq c.loop-n.held) l) (c.started_by.ensures ∙ ap started_by c.call.ensures) in
+    c.in_ok-push_held.ensures ∙ ap (λ (l : List _). c.loop-n.inits.items ++ map (get int_eq c.loop-n.held) l) (c.started_by.ensures ∙ ap started_by c.call-call.ensures) in
     let held = c.in_ok-hold.ensures (reverse (take n calls)) (before_count calls n c.loop-n.invariant.within) c.loop-n.invariant.held in
     record {
       within = omega arith;
