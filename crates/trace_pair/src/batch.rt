@@ -32,6 +32,7 @@ use crate::couples::{receive_by, taker_of};
 use crate::ends::Ends;
 use crate::queues::Receives;
 use crate::reach::Reaches;
+use crate::rows::count_sends;
 use crate::takings::Takings;
 use crate::whole::end_of_receives;
 use mpi_model::{Message, Receive};
@@ -290,7 +291,7 @@ fn all_waiting(alloc: Global, ops: &[RankOps]) -> Result<Batch, AllocError>
 fn all_sends(alloc: Global, ops: &[RankOps]) -> Result<Vec<Message>, AllocError>
     ensures { IfOk result (λ all. all.items ≡ sends_of ops.now) }
 {
-    let mut all = Vec::new(alloc);
+    let mut all = Vec::with_capacity(alloc, count_sends(ops))?;
     for own in ops {
         all.extend_from_slice(own.sends())?;
     }

@@ -177,7 +177,7 @@ impl Rows {
 }
 
 /// How many messages there are.
-fn count_sends(held: &[RankOps]) -> usize {
+pub(crate) fn count_sends(held: &[RankOps]) -> usize {
     let mut count: usize = 0;
     for ops in held {
         count = count.saturating_add(ops.sends().len());
