@@ -1,5 +1,5 @@
 -- The calls of a rank, as its readable events tell them.
-use Rattle.std.specs.Prelude.{Option, Some, None, List, [], ◌∷◌}
+use Rattle.std.specs.Prelude.{◌≡◌, ℕ, Option, Some, None, List, [], ◌∷◌, slice_get}
 use Rattle.mpi_model.specs.declared.call.Call.{Call}
 use Rattle.mpi_model.specs.declared.call.Call.TheVariants.{Local}
 use Rattle.mpi_model.specs.declared.outcome.Outs.{Outs}
@@ -10,6 +10,10 @@ use Rattle.mpi_model.specs.declared.event.Event.TheVariants.{Enter, Return}
 pub record Entry : Type 0 where
   pub call : Call
   pub outs : Option Outs
+
+-- This holds of the call at a place, where one is there.
+abbrev pub OfCallAt : ℕ → List Entry → (Entry → Type 0) → Type 0
+OfCallAt n calls P = (c : Entry) → slice_get calls n ≡ Some c → P c
 
 -- the call of an Enter (an event at an even place is one)
 abbrev pub call_of : Event → Call

@@ -24,3 +24,7 @@ IsFateOf None later None = Unit {0}
 IsFateOf None later (Some fate) = ⊥
 IsFateOf (Some x) later None = ⊥
 IsFateOf (Some x) later (Some fate) = TellsFate x later fate
+
+-- whatever steps and number posted before them it is the fate of
+abbrev pub OfFate : Option Fate → (List Step → Option ℤ → Type 0) → Type 0
+OfFate fate P = (later : List Step) (posted : Option ℤ) → IsFateOf posted later fate → P later posted

@@ -5,6 +5,7 @@ pub mod Foreign
 pub mod Groups
 pub mod Request
 pub mod Held
+pub mod Tables
 pub mod Steps
 pub mod Active
 pub mod Source

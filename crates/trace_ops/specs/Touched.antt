@@ -1,8 +1,9 @@
 -- What is kept, while a rank's steps are gone through from the last to the first, of the steps behind.
-use Rattle.std.specs.Prelude.{◌≡◌, ℕ, ℤ, ◌+◌, Bool, false, true, if◌then◌else◌, Option, Some, None, is_some, List, [], ◌∷◌, drop, slice_get}
+use Rattle.std.specs.Prelude.{◌≡◌, ℕ, ℤ, ◌+◌, Bool, false, true, if◌then◌else◌, Option, Some, None, is_some, List, [], ◌∷◌, drop, length, slice_get}
 use Rattle.std.specs.List.{list_any}
 use Rattle.std.specs.Option.{option_map, option_and_then}
 use Rattle.std.specs.Ordering.{int_eq}
+use Rattle.indexmap.specs.IndexMap.{IndexMap, get}
 use Rattle.mpi_model.specs.declared.told.Told.{Told}
 use Rattle.mpi_model.specs.declared.told.Told.TheVariants.{Nothing, Source, Cancelled}
 use Rattle.mpi_model.specs.Tells.{is_cancelled}
@@ -11,10 +12,10 @@ use Rattle.trace_ops.specs.declared.touched.End.{End}
 use Rattle.trace_ops.specs.declared.touched.Touch.{Touch}
 use Rattle.trace_ops.specs.Calls.{Entry}
 use Rattle.trace_ops.specs.Ended.{ended_by}
-use Rattle.trace_ops.specs.Request.{completions, is_completing}
-use Rattle.trace_ops.specs.Steps.{Step, touches}
+use Rattle.trace_ops.specs.Request.{completions, given_of, is_completed, is_completing}
+use Rattle.trace_ops.specs.Steps.{IsPartOf, Step, given_by, touches, whole}
 use Rattle.trace_ops.specs.Source.{told_in, told_by}
-use Rattle.trace_ops.specs.Trust.{has_cancel, said_by}
+use Rattle.trace_ops.specs.Trust.{cancel_of, has_cancel, said_by}
 
 -- a call ends the number, and its completions from a place on tell of it
 abbrev pub ends_at : ℕ → ℕ → Touch
@@ -42,6 +43,10 @@ with_telling call place x c touch = if int_eq c.request x then with_told call pl
 abbrev pub with_tellings : ℕ → ℕ → List Completed → ℤ → Option Touch → Option Touch
 with_tellings call place [] x touch = touch
 with_tellings call place (c ∷ done) x touch = with_telling call place x c (with_tellings call (place + 1) done x touch)
+
+-- what a call that completes these requests, and tells nothing of them, makes of what is kept of the number
+abbrev pub with_ends : ℕ → List Completed → ℤ → Option Touch → Option Touch
+with_ends call done x touch = if is_completed x done then Some (ends_at call (length done)) else touch
 
 -- one of these completions says that its request was cancelled
 abbrev pub is_any_cancelled : List Completed → Bool
@@ -98,3 +103,29 @@ pub record Follows (calls : List Entry) (later : List Step) (kept : ℤ → Opti
   pub cancelled : (x : ℤ) → is_marked (kept x) ≡ has_cancel x later
   pub void : (x : ℤ) → is_void_end (end_of (kept x)) ≡ is_cancelled (said_by x later)
   pub told : (members : List ℕ) (x : ℤ) → told_in members x (tellings_of calls (end_of (kept x))) ≡ told_by members x later
+
+-- whatever is kept of whatever steps of these calls
+abbrev pub OfFollowed : List Entry → (List Step → (ℤ → Option Touch) → Type 0) → Type 0
+OfFollowed calls P = (later : List Step) (kept : ℤ → Option Touch) → Follows calls later kept → P later kept
+
+-- the touch is what was kept of the number, where there is one
+abbrev pub IsKept : Option ℤ → (ℤ → Option Touch) → Option Touch → Type 0
+IsKept given kept touch = (x : ℤ) → given ≡ Some x → touch ≡ kept x
+
+-- The step is noted: of whatever steps behind it something was kept, now it is kept of both.
+abbrev pub Notes : {S : Type 0} → List Entry → Step → (old new : IndexMap ℤ Touch S) → Type 0
+Notes calls s old new = (later : List Step) → Follows calls later (get int_eq old) → Follows calls (s ∷ later) (get int_eq new)
+
+-- call n, which is one step, is noted
+abbrev pub NotesCall : {S : Type 0} → ℕ → Entry → (old new : IndexMap ℤ Touch S) → Type 0
+NotesCall n c old new = (calls : List Entry) → slice_get calls n ≡ Some c → Notes calls (whole n c) old new
+
+-- a part of call n that gives this number, if one, is noted
+abbrev pub NotesPart : {S : Type 0} → ℕ → Option ℤ → (old new : IndexMap ℤ Touch S) → Type 0
+NotesPart n given old new = (calls : List Entry) (s : Step) → IsPartOf calls n s → given ≡ given_by s → Notes calls s old new
+
+-- The call completes these requests, and does nothing else with a request: it cancels none, and gives no number.
+pub record OnlyCompletes (c : Entry) (done : List Completed) : Type 0 where
+  pub completed : done ≡ completions c.call c.outs
+  pub cancels_none : cancel_of c.call ≡ None
+  pub gives_none : given_of c.call c.outs ≡ None

@@ -1,12 +1,10 @@
 //! What becomes of a request, by the calls behind the one that posted it.
 
-ghost use Rattle.std.specs.Prelude.{◌≡◌, ℤ, Option, None, Some, List, if◌then◌else◌, drop, slice_get};
-ghost use Rattle.trace_ops.specs.declared.touched.Touch.{Touch};
+ghost use Rattle.std.specs.Prelude.{◌≡◌, drop, slice_get};
 ghost use Rattle.trace_ops.specs.Ended.{ended_of_post};
-ghost use Rattle.trace_ops.specs.Fate.{IsFateOf, TellsFate};
-ghost use Rattle.trace_ops.specs.Steps.{Step};
+ghost use Rattle.trace_ops.specs.Fate.{IsFateOf, OfFate, TellsFate};
 ghost use Rattle.trace_ops.specs.Source.{source_in, told_at, told_in, told_of_post};
-ghost use Rattle.trace_ops.specs.Touched.{Follows, completed_at, ended_at, is_marked, is_void_end, tellings_of};
+ghost use Rattle.trace_ops.specs.Touched.{IsKept, OfFollowed, completed_at, ended_at, is_marked, is_void_end, tellings_of};
 
 use crate::called::Called;
 use crate::completed::Completed;
@@ -127,7 +125,7 @@ fn ended_at(calls: &[Called<'_>], end: Option<End>) -> Option<u64>
 /// What becomes of the request of this number, by what is kept of it of the steps behind its post.
 #[inline(always)]
 fn fate_by<'a>(touch: Option<Touch>, calls: &'a [Called<'_>], request: i64) -> Fate<'a>
-    ensures { (later : List Step) (kept : ℤ → Option Touch) → touch ≡ kept request → Follows calls.now later kept → TellsFate request later result }
+    ensures { OfFollowed calls.now (λ later kept. touch ≡ kept request → TellsFate request later result) }
 {
     let end = end_of(touch);
     Fate {
@@ -147,7 +145,7 @@ pub(crate) fn fate_of<'a>(
     calls: &'a [Called<'_>],
     posted: Option<i64>,
 ) -> Option<Fate<'a>>
-    ensures { (later : List Step) (kept : ℤ → Option Touch) → ((x : ℤ) → posted ≡ Some x → touch ≡ kept x) → Follows calls.now later kept → IsFateOf posted later result }
+    ensures { OfFollowed calls.now (λ later kept. IsKept posted kept touch → IsFateOf posted later result) }
 {
     let request = posted?;
     Some(fate_by(touch, calls, request))
@@ -155,7 +153,7 @@ pub(crate) fn fate_of<'a>(
 
 /// What is told of the source of an Irecv, by the fate of its request.
 pub(crate) fn told_of_post(members: &[u32], fate: Option<Fate<'_>>) -> Option<u32>
-    ensures { (later : List Step) (posted : Option ℤ) → IsFateOf posted later fate.entry → result ≡ told_of_post members.now later posted }
+    ensures { OfFate fate.entry (λ later posted. result ≡ told_of_post members.now later posted) }
 {
     let fate = fate?;
     told_in(members, fate.request, fate.tellings)
@@ -163,7 +161,7 @@ pub(crate) fn told_of_post(members: &[u32], fate: Option<Fate<'_>>) -> Option<u3
 
 /// The call whose outcome completes an Irecv, by the fate of its request.
 pub(crate) fn ended_of_post(fate: Option<Fate<'_>>) -> Option<u64>
-    ensures { (later : List Step) (posted : Option ℤ) → IsFateOf posted later fate.entry → result ≡ ended_of_post later posted }
+    ensures { OfFate fate.entry (λ later posted. result ≡ ended_of_post later posted) }
 {
     fate?.by
 }

@@ -1,14 +1,14 @@
 //! Which request numbers the calls behind touch or cancel, and what they tell of them.
 
-ghost use Rattle.std.specs.Prelude.{◌≡◌, ◌<◌, ◌∷◌, ℤ, List, Some, if◌then◌else◌, None, length, slice_get, IfOk, OnOk};
+ghost use Rattle.std.specs.Prelude.{◌≡◌, ◌<◌, ℤ, Some, length, IfOk, OnOk};
 ghost use Rattle.std.specs.Option.{option_map};
 ghost use Rattle.indexmap.specs.IndexMap.{get};
 ghost use Rattle.std.specs.Ordering.{int_eq};
-ghost use Rattle.trace_ops.specs.Calls.{Entry};
-ghost use Rattle.trace_ops.specs.Request.{completions, given_of, is_completed};
-ghost use Rattle.trace_ops.specs.Steps.{IsPartOf, Step, given_by, whole};
-ghost use Rattle.trace_ops.specs.Touched.{Follows, end_of, ends_at, is_any_cancelled, marked, voided, with_firsts, with_telling, with_tellings};
-ghost use Rattle.trace_ops.specs.Trust.{cancel_of};
+ghost use Rattle.trace_ops.specs.Calls.{Entry, OfCallAt};
+ghost use Rattle.trace_ops.specs.Request.{given_of};
+ghost use Rattle.trace_ops.specs.Steps.{whole};
+ghost use Rattle.trace_ops.specs.Tables.{ChangesAt};
+ghost use Rattle.trace_ops.specs.Touched.{IsKept, Notes, NotesCall, NotesPart, OnlyCompletes, end_of, ends_at, is_any_cancelled, marked, voided, with_ends, with_firsts, with_telling, with_tellings};
 
 use crate::called::Called;
 use crate::completed::Completed;
@@ -66,7 +66,7 @@ fn ends_at(call: usize, place: usize) -> Touch
 
 /// Notes all numbers that the call completes, as if it told nothing.
 fn note_completed(touched: &mut Touched, call: usize, done: &[Completed]) -> Result<(), AllocError>
-    ensures { OnOk result ((x : ℤ) → get int_eq touched.new x ≡ (if is_completed x done.now then Some (ends_at call (length done.now)) else get int_eq touched.old x)) }
+    ensures { OnOk result ((x : ℤ) → get int_eq touched.new x ≡ with_ends call done.now x (get int_eq touched.old x)) }
 {
     for completed in done {
         touched.insert(completed.request, ends_at(call, done.len()))?;
@@ -106,7 +106,7 @@ fn note_first(
     place: usize,
     completed: &Completed,
 ) -> Result<(), AllocError>
-    ensures { OnOk result ((x : ℤ) → get int_eq touched.new x ≡ (if int_eq completed.now.request x then Some (ends_at call place) else get int_eq touched.old x)) }
+    ensures { OnOk result (ChangesAt completed.now.request (λ touch. Some (ends_at call place)) touched.old touched.new) }
 {
     touched.insert(completed.request, ends_at(call, place))?;
     Ok(())
@@ -127,7 +127,7 @@ fn note_firsts(touched: &mut Touched, call: usize, done: &[Completed]) -> Result
 /// Goes one step on to the front: a call that gives no number and cancels none. Where none of its completions says that
 /// its request was cancelled, each is noted once.
 fn note_done(touched: &mut Touched, n: usize, done: &[Completed]) -> Result<(), AllocError>
-    ensures { OnOk result ((calls : List Entry) (c : Entry) (later : List Step) → slice_get calls n ≡ Some c → done.now ≡ completions c.call c.outs → cancel_of c.call ≡ None → given_of c.call c.outs ≡ None → Follows calls later (get int_eq touched.old) → Follows calls (whole n c ∷ later) (get int_eq touched.new)) }
+    ensures { OnOk result ((c : Entry) → OnlyCompletes c done.now → NotesCall n c touched.old touched.new) }
 {
     if is_any_cancelled(done) {
         note_completed(touched, n, done)?;
@@ -160,7 +160,7 @@ fn note_telling(
 
 /// Notes that the call which ends the number says that its request was cancelled.
 fn note_void(touched: &mut Touched, request: i64) -> Result<(), AllocError>
-    ensures { OnOk result ((x : ℤ) → get int_eq touched.new x ≡ (if int_eq request x then option_map voided (get int_eq touched.old x) else get int_eq touched.old x)) }
+    ensures { OnOk result (ChangesAt request (option_map voided) touched.old touched.new) }
 {
     if let Some(touch) = touch_of(touched, request) {
         touched.insert(request, voided(touch))?;
@@ -184,7 +184,7 @@ fn voided(touch: Touch) -> Touch
 /// Notes the number that the call posts, and answers what was kept of it.
 #[inline(always)]
 fn note_post(touched: &mut Touched, call: usize, request: i64) -> Result<Option<Touch>, AllocError>
-    ensures noted { OnOk result ((x : ℤ) → get int_eq touched.new x ≡ (if int_eq request x then Some (ends_at call 0) else get int_eq touched.old x)) }
+    ensures noted { OnOk result (ChangesAt request (λ touch. Some (ends_at call 0)) touched.old touched.new) }
     ensures kept { IfOk result (λ touch. touch ≡ get int_eq touched.old request) }
 {
     let touch = touched.insert(request, ends_at(call, 0))?;
@@ -193,7 +193,7 @@ fn note_post(touched: &mut Touched, call: usize, request: i64) -> Result<Option<
 
 /// Notes the number that a Cancel names.
 fn note_cancel(touched: &mut Touched, request: i64) -> Result<(), AllocError>
-    ensures { OnOk result ((x : ℤ) → get int_eq touched.new x ≡ (if int_eq request x then Some (marked (get int_eq touched.old x)) else get int_eq touched.old x)) }
+    ensures { OnOk result (ChangesAt request (λ touch. Some (marked touch)) touched.old touched.new) }
 {
     let end = end_of(touch_of(touched, request));
     touched.insert(
@@ -214,8 +214,8 @@ pub(crate) fn note(
     n: usize,
 ) -> Result<Option<Touch>, AllocError>
     requires { n < length calls.now }
-    ensures follows { OnOk result ((c : Entry) (later : List Step) → slice_get calls.now n ≡ Some c → Follows calls.now later (get int_eq touched.old) → Follows calls.now (whole n c ∷ later) (get int_eq touched.new)) }
-    ensures kept { IfOk result (λ touch. (c : Entry) (x : ℤ) → slice_get calls.now n ≡ Some c → given_of c.call c.outs ≡ Some x → touch ≡ get int_eq touched.old x) }
+    ensures follows { OnOk result (OfCallAt n calls.now (λ c. Notes calls.now (whole n c) touched.old touched.new)) }
+    ensures kept { IfOk result (λ touch. OfCallAt n calls.now (λ c. IsKept (given_of c.call c.outs) (get int_eq touched.old) touch)) }
 {
     let called = &calls[n];
     match (called.cancels(), called.given()) {
@@ -241,8 +241,8 @@ pub(crate) fn note_part(
     n: usize,
     given: Option<i64>,
 ) -> Result<Option<Touch>, AllocError>
-    ensures follows { OnOk result ((calls : List Entry) (later : List Step) (s : Step) → IsPartOf calls n s → given ≡ given_by s → Follows calls later (get int_eq touched.old) → Follows calls (s ∷ later) (get int_eq touched.new)) }
-    ensures kept { IfOk result (λ touch. (x : ℤ) → given ≡ Some x → touch ≡ get int_eq touched.old x) }
+    ensures follows { OnOk result (NotesPart n given touched.old touched.new) }
+    ensures kept { IfOk result (IsKept given (get int_eq touched.old)) }
 {
     match given {
         Some(request) => {

@@ -28,7 +28,7 @@ returns-clause-gathered c read later k start before =
     let same : c.index-calls-n.result ≡ read = read_at c.args.calls.now c.args.n c.index-calls-n.result read c.requires.place c.index-calls-n.is k in
     let s = part_step n c.args.part.part read c.args.part.request (plain_init c.args.part.init) in
     let p : Placed = record { step = s; later = later } in
-    let fate = c.fate_of-fate.ensures later (get int_eq c.args.self.now.touched) c.in_ok-touch.ensures.kept before.touched in
+    let fate = c.fate_of-fate.ensures later (get int_eq c.args.self.now.touched) before.touched c.in_ok-touch.ensures.kept in
     let back : to_z w64 (of_z w64 c.args.part.request) ≡ c.args.part.request = to_z-of_z w64 c.args.part.request (search rules) in
     let posted : c.restarts-given.result ≡ posted_by s =
     c.restarts-given.ensures ∙ ap (λ (z : ℤ). if is_some c.index-calls-n.result.outs then Some z else None) back ∙ ap (λ (e : Entry). if is_some e.outs then Some c.args.part.request else None) same ∙ sym (part_posts n c.args.part.part read c.args.part.request (plain_init c.args.part.init) start) in
@@ -45,5 +45,5 @@ returns-clause-gathered c read later k start before =
           (c.cancelled_with.ensures later (posted_by s) told) c.in_ok-push_some-4.ensures before.cancelled;
       foreign = before.foreign ∙ sym (uncounted (λ (x : Step). is_foreign layout rank x.number x.entry.call) s later (start_is_known layout rank n read.call start));
       given_back = before.given_back ∙ sym (part_gives_nothing_back n c.args.part.part read c.args.part.request (plain_init c.args.part.init) later start);
-      touched = c.in_ok-touch.ensures.follows c.args.calls.now later s (record { number = refl; at = k; start = start }) (posted ∙ part_gives n c.args.part.part read c.args.part.request (plain_init c.args.part.init) start) before.touched;
+      touched = c.in_ok-touch.ensures.follows c.args.calls.now s (record { number = refl; at = k; start = start }) (posted ∙ part_gives n c.args.part.part read c.args.part.request (plain_init c.args.part.init) start) later before.touched;
     }

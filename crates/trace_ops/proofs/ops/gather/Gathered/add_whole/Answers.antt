@@ -25,7 +25,7 @@ returns-clause-gathered c read later k before =
     let p : Placed = record { step = s; later = later } in
     let call : c.call-call.result.now ≡ read.call = c.call-call.ensures ∙ ap (λ (e : Entry). e.call) same in
     let posted : c.posted-posted.result ≡ posted_by s = c.posted-posted.ensures ∙ ap (λ (e : Entry). posted_by (whole n e)) same in
-    let fate = c.fate_of-fate.ensures later (get int_eq c.args.self.now.touched) (λ x h. c.in_ok-touch.ensures.kept read x k (posts_given n read x (sym posted ∙ h))) before.touched in
+    let fate = c.fate_of-fate.ensures later (get int_eq c.args.self.now.touched) before.touched (λ x h. c.in_ok-touch.ensures.kept read k x (posts_given n read x (sym posted ∙ h))) in
     let told : IsFateOf (posted_by s) later c.fate_of-fate.result = subst (λ (o : Option ℤ). IsFateOf o later c.fate_of-fate.result) posted fate in
     record {
       sends = turned_more c.args.self.now.sends.items c.push_some.new.list.items (sends_of layout rank later) c.message_in.result (message_of layout rank p)
@@ -41,5 +41,5 @@ returns-clause-gathered c read later k before =
       foreign = counted_more (λ (x : Step). is_foreign layout rank x.number x.entry.call) s later c.args.self.now.foreign c.with_call-self.result (is_foreign layout rank n read.call)
           refl (cc (c.with_call-self.ensures, c.group_of-group.ensures, call)) before.foreign;
       given_back = cc (c.gives_back-self.ensures later (posted_by s) told before.given_back, call);
-      touched = c.in_ok-touch.ensures.follows read later k before.touched;
+      touched = c.in_ok-touch.ensures.follows read k later before.touched;
     }

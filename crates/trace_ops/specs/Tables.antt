@@ -1,0 +1,8 @@
+-- Tables by request number, and how they change.
+use Rattle.std.specs.Prelude.{◌≡◌, ℤ, if◌then◌else◌, Option}
+use Rattle.std.specs.Ordering.{int_eq}
+use Rattle.indexmap.specs.IndexMap.{IndexMap, get}
+
+-- What is kept of this number became what the change makes of it. What is kept of the others stays.
+abbrev pub ChangesAt : {V S : Type 0} → ℤ → (Option V → Option V) → (old new : IndexMap ℤ V S) → Type 0
+ChangesAt x change old new = (y : ℤ) → get int_eq new y ≡ (if int_eq x y then change (get int_eq old y) else get int_eq old y)
