@@ -1,5 +1,5 @@
 -- Which requests are active, and which numbers are idle (MPI 4.0, 3.7.3 and 3.9).
-use Rattle.std.specs.Prelude.{ℕ, ℤ, ◌+◌, ◌==◌, Bool, false, if◌then◌else◌, Option, Some, None, List, [], ◌∷◌, reverse}
+use Rattle.std.specs.Prelude.{◌≡◌, ℕ, ℤ, ◌+◌, ◌==◌, Bool, false, if◌then◌else◌, Option, Some, None, is_some, List, [], ◌∷◌, reverse}
 use Rattle.std.specs.List.{list_any, filter_map, cons_option}
 use Rattle.std.specs.Ordering.{int_cmp, int_eq, is_le}
 use Rattle.mpi_model.specs.declared.event.OpName.{OpName}
@@ -25,6 +25,10 @@ active_of rank steps = filter_map (active_post rank) (placed steps)
 -- The number is one of the active ones.
 abbrev pub is_active : List (ℤ × OpName) → ℤ → Bool
 is_active active x = list_any (λ a. int_eq a.0 x) active
+
+-- By number, whether it is one of the active ones.
+abbrev pub KnowsActive : {V : Type 0} → List (ℤ × OpName) → (ℤ → Option V) → Type 0
+KnowsActive active kept = (x : ℤ) → is_some (kept x) ≡ is_active active x
 
 -- the init of call n is what holds the number
 abbrev pub is_held_by : ℕ → Option Init → Bool

@@ -34,9 +34,17 @@ plain_init i = record { number = i.number; call = i.call.now }
 abbrev pub Holds : List Entry → (ℤ → Option Lent) → Type 0
 Holds before kept = (x : ℤ) → option_map plain_init (kept x) ≡ held_in before x
 
+-- Call n is followed: what was kept of the calls before it is now of both.
+abbrev pub HoldsNext : ℕ → Entry → (old new : ℤ → Option Lent) → Type 0
+HoldsNext n c old new = (before : List Entry) → length before ≡ n → Holds before old → Holds (c ∷ before) new
+
 -- what holds the numbers that a Start or Startall lists, behind these calls
 abbrev pub inits_at : List Entry → Entry → List (Option Init)
 inits_at before c = map (held_in before) (started_by c.call)
+
+-- the inits, as they are lent, that hold the numbers which the call lists
+abbrev pub AreInitsAt : List Entry → Entry → List (Option Lent) → Type 0
+AreInitsAt before c inits = map (option_map plain_init) inits ≡ inits_at before c
 
 -- the same of all calls that follow
 abbrev pub inits_from : List Entry → List Entry → List (Option Init)

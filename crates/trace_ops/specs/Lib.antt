@@ -16,6 +16,7 @@ pub mod Receive
 pub mod Round
 pub mod RankState
 pub mod RankOps
+pub mod Laws
 pub mod Touched
 pub mod Fate
 pub mod Gathered

@@ -8,6 +8,7 @@ use Rattle.mpi_model.specs.declared.message.Receive.{Receive}
 use Rattle.mpi_model.specs.declared.message.Trust.{Trust}
 use Rattle.mpi_model.specs.Trusts.{is_sure, is_void}
 use Rattle.trace_ops.specs.declared.entered.Entered.{Entered}
+use Rattle.trace_ops.specs.declared.ops.RankOps.TheInside.{Inside}
 use Rattle.trace_ops.specs.declared.state.State.{State}
 use Rattle.trace_ops.specs.declared.state.State.TheVariants.{Free}
 use Rattle.trace_ops.specs.Order.{Has, AreInOrder, ArePosted, AreEntered, AreCalledInOrder}
@@ -26,6 +27,21 @@ pub record Ops : Type 0 where
   pub state : State
   pub waiting : Option (ℕ × Call)
   pub foreign : ℕ
+
+-- the same, as the code has it
+abbrev pub ops_view : Inside → Ops
+ops_view o = record {
+  sends = o.sends.items;
+  receives = o.receives.items;
+  rounds = o.rounds.items;
+  comms = o.comms.items;
+  active = o.active.items;
+  idle = o.idle.items;
+  cancelled = o.cancelled.items;
+  state = o.state;
+  waiting = o.waiting;
+  foreign = o.foreign;
+}
 
 -- of a rank without calls
 abbrev pub no_ops : Ops

@@ -67,14 +67,18 @@ abbrev pub has_taken : Option Outs → Bool
 has_taken (Some (Flag done told)) = done
 has_taken outs = false
 
+-- the receive of a matched probe, which takes its message itself and ends with its own call
+abbrev pub matched_with : Group → OpName → Probed → Trust → (told : Option ℕ) → Option Outs → Option Receive
+matched_with g name e trust told outs = taken_with g name (probe_envelope any_count e) trust told (ended_of_own name.call outs)
+
 -- The receive that a step starts in its group, as this call. A Mprobe takes its message itself, and an Improbe once its
 -- flag tells so. One that posts a request can be cancelled, and what a matched probe took can be given back.
 abbrev pub taken_by : Group → OpName → Step → List Step → Call → Option Receive
 taken_by g name s later (Recv e) = taken_with g name e Sure (told_of_own g.members s.entry.outs) (ended_of_own name.call s.entry.outs)
 taken_by g name s later (Sendrecv x) = taken_with g name x.receive Sure (told_of_own g.members s.entry.outs) (ended_of_own name.call s.entry.outs)
 taken_by g name s later (Irecv e) = taken_with g name e (trust_of_receive g.members later (posted_by s)) (told_of_post g.members later (posted_by s)) (ended_of_post later (posted_by s))
-taken_by g name s later (Mprobe e) = taken_with g name (probe_envelope any_count e) (trust_of_probe later) (told_of_own g.members s.entry.outs) (ended_of_own name.call s.entry.outs)
-taken_by g name s later (Improbe e) = if has_taken s.entry.outs then taken_with g name (probe_envelope any_count e) (trust_of_probe later) (told_of_flag g.members s.entry.outs) (ended_of_own name.call s.entry.outs) else None
+taken_by g name s later (Mprobe e) = matched_with g name e (trust_of_probe later) (told_of_own g.members s.entry.outs) s.entry.outs
+taken_by g name s later (Improbe e) = if has_taken s.entry.outs then matched_with g name e (trust_of_probe later) (told_of_flag g.members s.entry.outs) s.entry.outs else None
 taken_by g name s later call = None
 
 -- the receive of a step, where the layout has the communicator that it names

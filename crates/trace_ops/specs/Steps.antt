@@ -1,5 +1,5 @@
 -- The steps of a rank. A step is a call, or one part of a Start or Startall: each of these starts for itself (MPI 4.0, 3.9).
-use Rattle.std.specs.Prelude.{◌≡◌, ℕ, ℤ, ◌+◌, ◌^◌, Bool, true, ◌||◌, nat_lt, if◌then◌else◌, Option, Some, None, is_some, List, [], ◌∷◌, ◌++◌, length, slice_get}
+use Rattle.std.specs.Prelude.{◌≡◌, ℕ, ℤ, ◌+◌, ◌^◌, Bool, true, ◌||◌, nat_lt, if◌then◌else◌, Option, Some, None, is_some, List, [], ◌∷◌, ◌++◌, length, slice_get, slice_index_or, pos}
 use Rattle.std.specs.List.{cons_option}
 use Rattle.std.specs.Option.{option_map}
 use Rattle.mpi_model.specs.declared.call.Call.{Call}
@@ -7,8 +7,9 @@ use Rattle.mpi_model.specs.declared.call.Call.TheVariants.{Isend, Irecv, SendIni
 use Rattle.mpi_model.specs.declared.event.OpName.{OpName}
 use Rattle.trace_ops.specs.declared.completed.Completed.{Completed}
 use Rattle.trace_ops.specs.Calls.{Entry}
+use Rattle.trace_ops.specs.declared.held.Init.{Init as LentInit}
 use Rattle.trace_ops.specs.declared.held.Part.{Part as Lent}
-use Rattle.trace_ops.specs.Held.{Init, held_in, plain_init}
+use Rattle.trace_ops.specs.Held.{AreInitsAt, Init, held_in, plain_init}
 use Rattle.trace_ops.specs.Request.{completions, given_of, is_completed, is_init, is_posted, is_start, started_by}
 
 -- a number that a Start or Startall lists, with the init that holds it
@@ -39,6 +40,14 @@ begun_step n c p = part_step n p.part c p.request (plain_init p.init)
 -- the parts, so that one past 2^31 is none.
 abbrev pub part_of : List Entry → Entry → ℕ → ℤ → Option Step
 part_of before c part x = if nat_lt part (2 ^ 31) then option_map (part_step (length before) part c x) (held_in before x) else None
+
+-- what is lent is the part that starts the number at a place of this list, where an init holds that
+abbrev pub IsPartAt : List Entry → Entry → List ℤ → ℕ → Option Lent → Type 0
+IsPartAt before c requests part lent = option_map (begun_step (length before) c) lent ≡ part_of before c part (slice_index_or requests part (pos 0))
+
+-- whatever call lists these numbers, and whatever is before it, where these inits hold them
+abbrev pub OfListed : List ℤ → List (Option LentInit) → (List Entry → Entry → Type 0) → Type 0
+OfListed requests inits P = (before : List Entry) (c : Entry) → requests ≡ started_by c.call → AreInitsAt before c inits → P before c
 
 -- the parts for these numbers, the first of which has this place
 abbrev pub parts_from : List Entry → Entry → ℕ → List ℤ → List Step

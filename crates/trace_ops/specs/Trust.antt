@@ -83,6 +83,10 @@ abbrev pub gives_back : List Step → Bool
 gives_back [] = false
 gives_back (s ∷ later) = (is_matched_receive s.entry.call && is_cancelled_post (posted_by s) later) || gives_back later
 
+-- the same of a call that posts this number and is before these steps, and of the steps
+abbrev pub gives_back_with : Call → Option ℤ → List Step → Bool
+gives_back_with call posted later = (is_matched_receive call && is_cancelled_post posted later) || gives_back later
+
 -- by whether a message may have been given back
 abbrev pub trust_by : Bool → Trust
 trust_by true = Doubtful

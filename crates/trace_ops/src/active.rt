@@ -1,15 +1,14 @@
 //! Which requests are active, and which numbers are idle.
 
-ghost use Rattle.std.specs.Prelude.{◌≡◌, ℤ, Option, List, is_some, reverse, IfOk};
+ghost use Rattle.std.specs.Prelude.{◌≡◌, ℤ, List, reverse, IfOk};
 ghost use Rattle.std.specs.List.{filter_map};
 ghost use Rattle.mpi_model.specs.declared.event.OpName.{OpName};
 ghost use Rattle.std.specs.Ordering.{int_eq};
 ghost use Rattle.indexmap.specs.IndexMap.{get};
-ghost use Rattle.trace_ops.specs.Active.{held_of, held_still, idle_of, is_active, rising, still_active, unless_active};
+ghost use Rattle.trace_ops.specs.Active.{KnowsActive, held_of, held_still, idle_of, rising, still_active, unless_active};
 ghost use Rattle.trace_ops.specs.Calls.{Entry};
-ghost use Rattle.trace_ops.specs.Fate.{IsFateOf};
+ghost use Rattle.trace_ops.specs.Fate.{OfFate};
 ghost use Rattle.trace_ops.specs.Held.{Holds};
-ghost use Rattle.trace_ops.specs.Steps.{Step};
 
 use crate::called::Called;
 use crate::completed::push_some;
@@ -21,7 +20,7 @@ use std::alloc::{AllocError, Global};
 
 /// The number of the request that was posted, with the name of what was posted, where no step behind it ends it.
 pub(crate) fn still_active(name: OpName, fate: Option<Fate<'_>>) -> Option<(i64, OpName)>
-    ensures { (later : List Step) (posted : Option ℤ) → IsFateOf posted later fate.entry → result ≡ still_active name later posted }
+    ensures { OfFate fate.entry (λ later posted. result ≡ still_active name later posted) }
 {
     let fate = fate?;
     if fate.ended {
@@ -46,7 +45,7 @@ fn held_still(held: &Held<'_>, n: u64, given: Option<i64>) -> Option<i64>
 
 /// The numbers that inits hold at the end, by the calls of the inits.
 fn held_of(alloc: Global, held: &Held<'_>, calls: &[Called<'_>]) -> Result<Vec<i64>, AllocError>
-    ensures { IfOk result (λ numbers. (all : List Entry) → Holds all (get int_eq held.now) → numbers.items ≡ held_of all 0 calls.now) }
+    ensures { IfOk result (λ found. (all : List Entry) → Holds all (get int_eq held.now) → found.items ≡ held_of all 0 calls.now) }
 {
     let mut numbers = Vec::new(alloc);
     let mut n = 0;
@@ -59,7 +58,7 @@ fn held_of(alloc: Global, held: &Held<'_>, calls: &[Called<'_>]) -> Result<Vec<i
 
 /// The numbers of the active requests.
 fn numbers_of(alloc: Global, active: &[(i64, OpName)]) -> Result<IndexMap<i64, ()>, AllocError>
-    ensures { IfOk result (λ numbers. (x : ℤ) → is_some (get int_eq numbers x) ≡ is_active active.now x) }
+    ensures { IfOk result (λ numbers. KnowsActive active.now (get int_eq numbers)) }
 {
     let mut numbers = IndexMap::new(alloc);
     for request in active {
@@ -70,7 +69,7 @@ fn numbers_of(alloc: Global, active: &[(i64, OpName)]) -> Result<IndexMap<i64, (
 
 /// The number, unless it is one of the active requests'.
 fn unless_active(numbers: &IndexMap<i64, ()>, x: i64) -> Option<i64>
-    ensures { (active : List (ℤ × OpName)) → ((y : ℤ) → is_some (get int_eq numbers.now y) ≡ is_active active y) → result ≡ unless_active active x }
+    ensures { (active : List (ℤ × OpName)) → KnowsActive active (get int_eq numbers.now) → result ≡ unless_active active x }
 {
     match numbers.get(&x) {
         Some(_) => None,

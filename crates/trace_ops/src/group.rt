@@ -1,9 +1,8 @@
 //! The communicators that calls name, and the calls that the layout doesn't know.
 
 ghost use Rattle.std.specs.Prelude.{◌≡◌};
-ghost use Rattle.std.specs.Option.{option_map};
 ghost use Rattle.trace_ops.specs.Foreign.{are_within, comm_of, group_named, group_of, is_foreign, is_foreign_in, is_root_within, is_within, peer_rank};
-ghost use Rattle.trace_ops.specs.Groups.{plain};
+ghost use Rattle.trace_ops.specs.Groups.{plain_group};
 
 use mpi_model::{Call, Collective, CommRef, Layout, Peer};
 
@@ -24,7 +23,7 @@ pub(crate) fn group_named<'a>(
     n: u64,
     comm: CommRef,
 ) -> Option<Group<'a>>
-    ensures { option_map plain result ≡ group_named layout.now rank n comm }
+    ensures { plain_group result ≡ group_named layout.now rank n comm }
 {
     let comm = layout.named(rank, n, comm)?;
     let members = layout.members(comm)?;
@@ -115,7 +114,7 @@ fn are_within(members: &[u32], call: &Call) -> bool
 /// or is foreign.
 #[inline(always)]
 pub(crate) fn group_of<'a>(layout: &'a Layout, rank: u32, n: u64, call: &Call) -> Option<Group<'a>>
-    ensures { option_map plain result ≡ group_of layout.now rank n call.now }
+    ensures { plain_group result ≡ group_of layout.now rank n call.now }
 {
     let group = group_named(layout, rank, n, comm_of(call)?)?;
     if are_within(group.members, call) {
@@ -128,7 +127,7 @@ pub(crate) fn group_of<'a>(layout: &'a Layout, rank: u32, n: u64, call: &Call) -
 /// Whether the call, which takes part in this group, if in any, is foreign: the layout gives its
 /// rank no communicator as the call names it, or its peer or root is outside the group.
 pub(crate) fn is_foreign_in(group: Option<Group<'_>>, call: &Call) -> bool
-    ensures { result ≡ is_foreign_in (option_map plain group.entry) call.now }
+    ensures { result ≡ is_foreign_in (plain_group group.entry) call.now }
 {
     group.is_none() && comm_of(call).is_some()
 }

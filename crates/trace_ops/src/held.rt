@@ -1,13 +1,13 @@
 //! Which inits hold the request numbers that calls start.
 
-ghost use Rattle.std.specs.Prelude.{◌≡◌, ◌<◌, ◌++◌, ◌∷◌, ◌^◌, ℤ, pos, IsTrue, nat_lt, List, [], None, Some, map, length, reverse, slice_index_or, if◌then◌else◌, IfOk, OnOk};
+ghost use Rattle.std.specs.Prelude.{◌≡◌, ◌<◌, ◌++◌, ◌^◌, ℕ, ℤ, IsTrue, nat_lt, [], None, Some, map, length, reverse, slice_index_or, if◌then◌else◌, IfOk, OnOk};
 ghost use Rattle.std.specs.Ordering.{int_eq};
 ghost use Rattle.std.specs.Option.{option_map};
 ghost use Rattle.indexmap.specs.IndexMap.{get};
-ghost use Rattle.trace_ops.specs.Calls.{Entry};
-ghost use Rattle.trace_ops.specs.Held.{Holds, inits_at, inits_from, plain_init};
+ghost use Rattle.trace_ops.specs.Held.{Holds, HoldsNext, inits_from, plain_init};
 ghost use Rattle.trace_ops.specs.Request.{is_init, is_start, started_by};
-ghost use Rattle.trace_ops.specs.Steps.{as_started, begun_step, part_of};
+ghost use Rattle.trace_ops.specs.Steps.{IsPartAt, OfListed, as_started};
+ghost use Rattle.trace_ops.specs.Tables.{ChangesAt};
 
 use crate::called::Called;
 use crate::room::Room;
@@ -70,7 +70,7 @@ pub(crate) fn init_of<'a>(held: &Held<'a>, x: i64) -> Option<Init<'a>>
 
 /// Notes that an init holds the number.
 fn note_init<'a>(held: &mut Held<'a>, x: i64, init: Init<'a>) -> Result<(), AllocError>
-    ensures { OnOk result ((y : ℤ) → get int_eq held.new y ≡ (if int_eq x y then Some init.entry else get int_eq held.old y)) }
+    ensures { OnOk result (ChangesAt x (λ before. Some init.entry) held.old held.new) }
 {
     held.insert(x, init)?;
     Ok(())
@@ -78,7 +78,7 @@ fn note_init<'a>(held: &mut Held<'a>, x: i64, init: Init<'a>) -> Result<(), Allo
 
 /// Notes that no init holds the number.
 fn note_none(held: &mut Held<'_>, x: i64)
-    ensures { (y : ℤ) → get int_eq held.new y ≡ (if int_eq x y then None else get int_eq held.old y) }
+    ensures { ChangesAt x (λ before. None) held.old held.new }
 {
     let _init = held.swap_remove(&x);
 }
@@ -92,14 +92,14 @@ pub(crate) fn holds_none(held: &Held<'_>) -> bool
 
 /// Whether no init holds a number, and the call is none: then no init holds a number behind it.
 fn still_holds_none(held: &Held<'_>, called: &Called<'_>) -> bool
-    ensures { IsTrue result → (before : List Entry) → Holds before (get int_eq held.now) → Holds (called.now ∷ before) (get int_eq held.now) }
+    ensures { IsTrue result → (n : ℕ) → HoldsNext n called.now (get int_eq held.now) (get int_eq held.now) }
 {
     holds_none(held) && !is_init(called.call())
 }
 
 /// Goes one call on. Nearly always no init holds a number, and there is nothing to look up.
 fn hold<'a>(held: &mut Held<'a>, n: u64, called: &'a Called<'_>) -> Result<(), AllocError>
-    ensures { OnOk result ((before : List Entry) → length before ≡ n → Holds before (get int_eq held.old) → Holds (called.now ∷ before) (get int_eq held.new)) }
+    ensures { OnOk result (HoldsNext n called.now (get int_eq held.old) (get int_eq held.new)) }
 {
     if still_holds_none(held, called) {
         Ok(())
@@ -111,7 +111,7 @@ fn hold<'a>(held: &mut Held<'a>, n: u64, called: &'a Called<'_>) -> Result<(), A
 /// Goes one call on: the init holds its number, and a number that is given or freed otherwise is held no longer.
 #[inline(never)]
 fn change_hold<'a>(held: &mut Held<'a>, n: u64, called: &'a Called<'_>) -> Result<(), AllocError>
-    ensures { OnOk result ((before : List Entry) → length before ≡ n → Holds before (get int_eq held.old) → Holds (called.now ∷ before) (get int_eq held.new)) }
+    ensures { OnOk result (HoldsNext n called.now (get int_eq held.old) (get int_eq held.new)) }
 {
     match (called.given(), called.freed()) {
         (Some(request), _) => {
@@ -181,7 +181,7 @@ pub(crate) fn begun_at<'a>(
     place: usize,
 ) -> Option<Part<'a>>
     requires { place < length requests.now }
-    ensures { (before : List Entry) (c : Entry) → requests.now ≡ started_by c.call → map (option_map plain_init) inits.now ≡ inits_at before c → option_map (begun_step (length before) c) result ≡ part_of before c place (slice_index_or requests.now place (pos 0)) }
+    ensures { OfListed requests.now inits.now (λ before c. IsPartAt before c requests.now place result) }
 {
     let part = part_at(place)?;
     let init = init_at(inits, place)?;

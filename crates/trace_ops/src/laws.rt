@@ -1,12 +1,13 @@
 //! What holds of the ops of a rank. Each law is the contract of a call that does nothing, so that
 //! the check proves it.
 
-ghost use Rattle.std.specs.Prelude.{◌⊎◌, ◌++◌, ℕ, Bool, List};
+ghost use Rattle.std.specs.Prelude.{ℕ, Bool, List};
 ghost use Rattle.mpi_model.specs.declared.event.Event.{Event};
 ghost use Rattle.mpi_model.specs.Layouts.{Parts};
-ghost use Rattle.trace_know.specs.View.{View, join};
-ghost use Rattle.trace_ops.specs.Ops.{AreOwn, IsOwn, Grows};
-ghost use Rattle.trace_ops.specs.RankOps.{all_ops, ops_by, ops_of};
+ghost use Rattle.trace_know.specs.View.{View};
+ghost use Rattle.trace_ops.specs.Laws.{JoinGrowsOrCuts, OpsGrow};
+ghost use Rattle.trace_ops.specs.Ops.{AreOwn, IsOwn};
+ghost use Rattle.trace_ops.specs.RankOps.{all_ops, ops_by};
 
 use trace_know::{growth_laws, join_laws};
 
@@ -17,12 +18,12 @@ use trace_know::{growth_laws, join_laws};
 pub fn ops_laws()
     ensures own { (layout : Parts) (rank : ℕ) (beyond : Bool) (events : List Event) → IsOwn rank (ops_by layout rank beyond events) }
     ensures all { (layout : Parts) (view : View) → AreOwn 0 (all_ops layout view) }
-    ensures grow { (layout : Parts) (rank : ℕ) (one other : Bool) (events more : List Event) → Grows (ops_by layout rank one events) (ops_by layout rank other (events ++ more)) }
+    ensures grow { OpsGrow }
 {}
 
 /// Where more is known, by one join, the ops of a rank grow or are cut.
 pub fn join_law()
-    ensures { (layout : Parts) (a b : View) (rank : ℕ) → Grows (ops_of layout a rank) (ops_of layout (join a b) rank) ⊎ Grows (ops_of layout (join a b) rank) (ops_of layout a rank) }
+    ensures { JoinGrowsOrCuts }
 {
     ops_laws();
     join_laws();

@@ -1,12 +1,11 @@
 //! The messages of a rank, and its entries into collective calls.
 
-ghost use Rattle.std.specs.Prelude.{◌≡◌, List};
-ghost use Rattle.std.specs.Option.{option_map};
-ghost use Rattle.trace_ops.specs.Fate.{IsFateOf};
-ghost use Rattle.trace_ops.specs.Groups.{plain};
+ghost use Rattle.std.specs.Prelude.{◌≡◌};
+ghost use Rattle.trace_ops.specs.Fate.{OfPost};
+ghost use Rattle.trace_ops.specs.Groups.{plain, plain_group};
 ghost use Rattle.trace_ops.specs.Message.{message_in, message_to, sent_by, sent_with, tag_of};
 ghost use Rattle.trace_ops.specs.Round.{entered_by, entered_in, entry_of};
-ghost use Rattle.trace_ops.specs.Steps.{Step, posted_by, starting};
+ghost use Rattle.trace_ops.specs.Steps.{starting};
 
 use crate::entered::Entered;
 use crate::fate::Fate;
@@ -67,7 +66,7 @@ fn sent_with(
 /// The message that a step starts in its group as this call, where it starts one.
 #[inline(always)]
 fn sent_by(group: Group<'_>, name: OpName, call: &Call, fate: Option<Fate<'_>>) -> Option<Message>
-    ensures { (s : Step) (later : List Step) → IsFateOf (posted_by s) later fate.entry → result ≡ sent_by (plain group.entry) name s later call.now }
+    ensures { OfPost fate.entry (λ p. result ≡ sent_by (plain group.entry) name p.step p.later call.now) }
 {
     match call {
         Call::Send(mode, e) => sent_with(group, name, *mode, e.envelope(), Trust::Sure),
@@ -91,7 +90,7 @@ pub(crate) fn message_in(
     call: &Call,
     fate: Option<Fate<'_>>,
 ) -> Option<Message>
-    ensures { (s : Step) (later : List Step) → call.now ≡ starting s → IsFateOf (posted_by s) later fate.entry → result ≡ message_in (option_map plain group.entry) name (record { step = s; later = later }) }
+    ensures { OfPost fate.entry (λ p. call.now ≡ starting p.step → result ≡ message_in (plain_group group.entry) name p) }
 {
     sent_by(group?, name, call, fate)
 }
@@ -125,7 +124,7 @@ fn entered_by(group: Group<'_>, n: u64, call: &Call) -> Option<Entered>
 
 /// The entry of call `n` into a round of its group, where it is a collective one.
 pub(crate) fn entered_in(group: Option<Group<'_>>, n: u64, call: &Call) -> Option<Entered>
-    ensures { result ≡ entered_in (option_map plain group.entry) n call.now }
+    ensures { result ≡ entered_in (plain_group group.entry) n call.now }
 {
     entered_by(group?, n, call)
 }

@@ -29,11 +29,11 @@ pub struct RankOps {
 }
 
 impl Model for RankOps {
-    ghost use Rattle.trace_ops.specs.Ops.{Ops};
+    ghost use Rattle.trace_ops.specs.Ops.{Ops, ops_view};
 
     ghost Value = { Ops };
 
-    ghost view = { λ o. record { sends = o.sends.items; receives = o.receives.items; rounds = o.rounds.items; comms = o.comms.items; active = o.active.items; idle = o.idle.items; cancelled = o.cancelled.items; state = o.state; waiting = o.waiting; foreign = o.foreign } };
+    ghost view = { ops_view };
 }
 
 impl RankOps {

@@ -1,14 +1,14 @@
 //! The receives of a rank, with their told sources, and what a probe looks for.
 
-ghost use Rattle.std.specs.Prelude.{◌≡◌, List};
-ghost use Rattle.std.specs.Option.{option_copied, option_map};
+ghost use Rattle.std.specs.Prelude.{◌≡◌};
+ghost use Rattle.std.specs.Option.{option_copied};
 ghost use Rattle.trace_ops.specs.Ended.{ended_of_own};
-ghost use Rattle.trace_ops.specs.Fate.{IsFateOf};
-ghost use Rattle.trace_ops.specs.Groups.{plain};
-ghost use Rattle.trace_ops.specs.Receive.{any_count, has_taken, probe_envelope, probed, receive_from, receive_in, taken_by, taken_with};
+ghost use Rattle.trace_ops.specs.Fate.{OfStep};
+ghost use Rattle.trace_ops.specs.Groups.{plain, plain_group};
+ghost use Rattle.trace_ops.specs.Receive.{has_taken, matched_with, probe_envelope, probed, receive_from, receive_in, taken_by, taken_with};
 ghost use Rattle.trace_ops.specs.Source.{told_of_flag, told_of_own};
-ghost use Rattle.trace_ops.specs.Steps.{Step, posted_by, starting};
-ghost use Rattle.trace_ops.specs.Trust.{gives_back, trust_by};
+ghost use Rattle.trace_ops.specs.Steps.{starting};
+ghost use Rattle.trace_ops.specs.Trust.{trust_by};
 
 use crate::fate::{Fate, ended_of_post, source_in, told_of_post};
 use crate::group::{Group, group_named};
@@ -139,7 +139,7 @@ fn matched_with(
     outs: Option<&Outs>,
     given_back: bool,
 ) -> Option<Receive>
-    ensures { result ≡ taken_with (plain group.entry) name (probe_envelope any_count envelope) (trust_by given_back) told (ended_of_own name.call (option_copied outs.entry)) }
+    ensures { result ≡ matched_with (plain group.entry) name envelope (trust_by given_back) told (option_copied outs.entry) }
 {
     let e = probe_envelope(ANY_COUNT, envelope);
     let ended = ended_of_own(name.call, outs);
@@ -156,7 +156,7 @@ fn taken_by(
     fate: Option<Fate<'_>>,
     given_back: bool,
 ) -> Option<Receive>
-    ensures { (s : Step) (later : List Step) → option_copied outs.entry ≡ s.entry.outs → IsFateOf (posted_by s) later fate.entry → given_back ≡ gives_back later → result ≡ taken_by (plain group.entry) name s later call.now }
+    ensures { OfStep outs.entry fate.entry given_back (λ p. result ≡ taken_by (plain group.entry) name p.step p.later call.now) }
 {
     match call {
         Call::Recv(e) => {
@@ -202,7 +202,7 @@ pub(crate) fn receive_in(
     fate: Option<Fate<'_>>,
     given_back: bool,
 ) -> Option<Receive>
-    ensures { (s : Step) (later : List Step) → call.now ≡ starting s → option_copied outs.entry ≡ s.entry.outs → IsFateOf (posted_by s) later fate.entry → given_back ≡ gives_back later → result ≡ receive_in (option_map plain group.entry) name (record { step = s; later = later }) }
+    ensures { OfStep outs.entry fate.entry given_back (λ p. call.now ≡ starting p.step → result ≡ receive_in (plain_group group.entry) name p) }
 {
     taken_by(group?, name, call, outs, fate, given_back)
 }

@@ -1,9 +1,8 @@
 //! What a Cancel leaves of messages and receives, and which requests a Cancel names.
 
-ghost use Rattle.std.specs.Prelude.{◌≡◌, ◌&&◌, ◌||◌, ℤ, Option, List};
-ghost use Rattle.trace_ops.specs.Fate.{IsFateOf};
-ghost use Rattle.trace_ops.specs.Steps.{Step};
-ghost use Rattle.trace_ops.specs.Trust.{cancelled_with, gives_back, is_cancelled_post, is_matched_receive, trust_by, trust_of_post, trust_with};
+ghost use Rattle.std.specs.Prelude.{◌≡◌};
+ghost use Rattle.trace_ops.specs.Fate.{OfFate};
+ghost use Rattle.trace_ops.specs.Trust.{cancelled_with, gives_back, gives_back_with, is_cancelled_post, trust_by, trust_of_post, trust_with};
 
 use crate::fate::Fate;
 use mpi_model::{Call, OpName, Trust};
@@ -22,7 +21,7 @@ fn trust_with(cancelled: bool, void: bool, told: bool) -> Trust
 
 /// The trust of what a call posted, by the fate of its request and whether a source is told.
 pub(crate) fn trust_of_post(fate: Option<Fate<'_>>, told: bool) -> Trust
-    ensures { (later : List Step) (posted : Option ℤ) → IsFateOf posted later fate.entry → result ≡ trust_of_post later posted told }
+    ensures { OfFate fate.entry (λ later posted. result ≡ trust_of_post later posted told) }
 {
     match fate {
         Some(fate) => trust_with(fate.cancelled, fate.void, told),
@@ -32,7 +31,7 @@ pub(crate) fn trust_of_post(fate: Option<Fate<'_>>, told: bool) -> Trust
 
 /// Whether a Cancel names the request that was posted.
 fn is_cancelled_post(fate: Option<Fate<'_>>) -> bool
-    ensures { (later : List Step) (posted : Option ℤ) → IsFateOf posted later fate.entry → result ≡ is_cancelled_post posted later }
+    ensures { OfFate fate.entry (λ later posted. result ≡ is_cancelled_post posted later) }
 {
     match fate {
         Some(fate) => fate.cancelled,
@@ -42,7 +41,7 @@ fn is_cancelled_post(fate: Option<Fate<'_>>) -> bool
 
 /// The name of what was posted, where a Cancel names its request.
 pub(crate) fn cancelled_with(name: OpName, fate: Option<Fate<'_>>) -> Option<OpName>
-    ensures { (later : List Step) (posted : Option ℤ) → IsFateOf posted later fate.entry → result ≡ cancelled_with name later posted }
+    ensures { OfFate fate.entry (λ later posted. result ≡ cancelled_with name later posted) }
 {
     if is_cancelled_post(fate) {
         Some(name)
@@ -53,7 +52,7 @@ pub(crate) fn cancelled_with(name: OpName, fate: Option<Fate<'_>>) -> Option<OpN
 
 /// Whether a step or one behind it is an Imrecv whose request a Cancel names, so that it may give its message back.
 pub(crate) fn gives_back(call: &Call, fate: Option<Fate<'_>>, behind: bool) -> bool
-    ensures { (later : List Step) (posted : Option ℤ) → IsFateOf posted later fate.entry → behind ≡ gives_back later → result ≡ ((is_matched_receive call.now && is_cancelled_post posted later) || gives_back later) }
+    ensures { OfFate fate.entry (λ later posted. behind ≡ gives_back later → result ≡ gives_back_with call.now posted later) }
 {
     (matches!(call, Call::Imrecv) && is_cancelled_post(fate)) || behind
 }

@@ -1,16 +1,13 @@
 //! From what is known of a rank to what it did.
 
-ghost use Rattle.std.specs.Prelude.{◌≡◌, ◌<◌, ◌≤◌, ◌+◌, ◌++◌, ◌∷◌, List, Some, true, if◌then◌else◌, IfOk, OnOk, length, map, reverse, slice_get};
+ghost use Rattle.std.specs.Prelude.{◌≡◌, ◌<◌, ◌≤◌, ◌+◌, ◌∷◌, [], if◌then◌else◌, IfOk, OnOk, length, reverse};
 ghost use Rattle.std.specs.Ordering.{int_eq};
-ghost use Rattle.std.specs.Option.{option_map};
 ghost use Rattle.indexmap.specs.IndexMap.{get};
-ghost use Rattle.trace_ops.specs.Calls.{Entry};
 ghost use Rattle.trace_ops.specs.Foreign.{is_foreign_in};
-ghost use Rattle.trace_ops.specs.Groups.{plain};
-ghost use Rattle.trace_ops.specs.Held.{Holds, inits_at, plain_init};
+ghost use Rattle.trace_ops.specs.Groups.{plain_group};
+ghost use Rattle.trace_ops.specs.Held.{Holds};
 ghost use Rattle.trace_ops.specs.RankOps.{all_ops, ops_by_calls, ops_of};
-ghost use Rattle.trace_ops.specs.Request.{is_start};
-ghost use Rattle.trace_ops.specs.Steps.{Step, begun_step, steps_at, steps_of, whole};
+ghost use Rattle.trace_ops.specs.Steps.{begun_step, steps_of, whole};
 
 use crate::active::{idle_of, still_active};
 use crate::called::{Called, calls_of};
@@ -32,7 +29,7 @@ use trace_know::Knowledge;
 /// The count of foreign calls with one call more.
 fn with_call(count: u64, group: Option<Group<'_>>, call: &Call) -> u64
     requires { count < u64.MAX }
-    ensures { result ≡ count + (if is_foreign_in (option_map plain group.entry) call.now then 1 else 0) }
+    ensures { result ≡ count + (if is_foreign_in (plain_group group.entry) call.now then 1 else 0) }
 {
     if is_foreign_in(group, call) {
         count + 1
@@ -56,7 +53,7 @@ struct Gathered {
 }
 
 impl Gathered {
-    ghost use Rattle.trace_ops.specs.Gathered.{IsGathered};
+    ghost use Rattle.trace_ops.specs.Gathered.{AddsAt, AddsCall, IsGathered, IsStartAt, StartAdds};
 
     /// Adds what a call at a place tells that is one step, behind which all steps were gathered.
     fn add_whole(
@@ -69,7 +66,7 @@ impl Gathered {
         requires place { n < length calls.now }
         requires few { self.old.foreign + n < length calls.now }
         ensures few { OnOk result (self.new.foreign ≤ self.old.foreign + 1) }
-        ensures gathered { OnOk result ((c : Entry) (later : List Step) → slice_get calls.now n ≡ Some c → IsGathered layout.now rank calls.now later self.old → IsGathered layout.now rank calls.now (whole n c ∷ later) self.new) }
+        ensures gathered { OnOk result (AddsAt layout.now rank calls.now n (λ c. whole n c ∷ []) self.old self.new) }
     {
         let called = &calls[n];
         let call = called.call();
@@ -107,7 +104,7 @@ impl Gathered {
     ) -> Result<(), AllocError>
         requires place { n < length calls.now }
         ensures few { OnOk result (self.new.foreign ≡ self.old.foreign) }
-        ensures gathered { OnOk result ((c : Entry) (later : List Step) → slice_get calls.now n ≡ Some c → is_start c.call ≡ true → IsGathered layout.now rank calls.now later self.old → IsGathered layout.now rank calls.now (begun_step n c part.entry ∷ later) self.new) }
+        ensures gathered { OnOk result (StartAdds layout.now rank calls.now n (λ c. begun_step n c part.entry ∷ []) self.old self.new) }
     {
         let called = &calls[n];
         let call = as_started(part.init.call);
@@ -142,7 +139,7 @@ impl Gathered {
     ) -> Result<(), AllocError>
         requires place { n < length calls.now }
         ensures few { OnOk result (self.new.foreign ≡ self.old.foreign) }
-        ensures gathered { OnOk result ((before : List Entry) (c : Entry) (later : List Step) → slice_get calls.now n ≡ Some c → is_start c.call ≡ true → length before ≡ n → map (option_map plain_init) inits.now ≡ inits_at before c → IsGathered layout.now rank calls.now later self.old → IsGathered layout.now rank calls.now (steps_at before c ++ later) self.new) }
+        ensures gathered { OnOk result (IsStartAt calls.now n → AddsCall layout.now rank calls.now n inits.now self.old self.new) }
     {
         let requests = started_by(calls[n].call());
         let mut place = requests.len();
@@ -169,7 +166,7 @@ impl Gathered {
         requires place { n < length calls.now }
         requires few { self.old.foreign + n < length calls.now }
         ensures few { OnOk result (self.new.foreign ≤ self.old.foreign + 1) }
-        ensures gathered { OnOk result ((before : List Entry) (c : Entry) (later : List Step) → slice_get calls.now n ≡ Some c → length before ≡ n → map (option_map plain_init) inits.now ≡ inits_at before c → IsGathered layout.now rank calls.now later self.old → IsGathered layout.now rank calls.now (steps_at before c ++ later) self.new) }
+        ensures gathered { OnOk result (AddsCall layout.now rank calls.now n inits.now self.old self.new) }
     {
         if is_start(calls[n].call()) {
             self.add_parts(layout, rank, calls, n, inits)

@@ -40,8 +40,8 @@ loop-n-preserved c =
     ∙ ap (map (option_map plain_init)) (middle (c.loop-n.left - length c.started_by.result.now) c.loop-n.left inits (omega arith)) in
     let old : IsGathered c.args.layout.now c.args.rank calls (steps_from (reverse (take (m + 1) calls)) (drop (m + 1) calls)) c.loop-n.gathered =
     subst (λ (k : _). IsGathered c.args.layout.now c.args.rank calls (steps_from (reverse (take k calls)) (drop k calls)) c.loop-n.gathered) up c.loop-n.invariant.gathered in
-    let new = c.in_ok-add.ensures.gathered (reverse (take m calls)) entry (steps_from (reverse (take (m + 1) calls)) (drop (m + 1) calls)) (entry_at calls m entry lt c.index-calls-n.is)
-    (before_count calls m (omega arith)) (slice ∙ here) old in
+    let new = c.in_ok-add.ensures.gathered (reverse (take m calls)) entry (entry_at calls m entry lt c.index-calls-n.is)
+    (before_count calls m (omega arith)) (slice ∙ here) (steps_from (reverse (take (m + 1) calls)) (drop (m + 1) calls)) old in
     record {
       within = omega arith;
       few = (let few = c.in_ok-add.ensures.few in omega (arith, few));

@@ -13,7 +13,7 @@ pub loop-place-init : goal.loop-place-init
 loop-place-init c = record {
   within = omega arith;
   few = refl;
-  gathered = λ before read later k start count h g.
+  gathered = λ starts before read k count h later g.
       let same : c.index-calls-n.result ≡ read = read_at c.args.calls.now c.args.n c.index-calls-n.result read c.requires.place c.index-calls-n.is k in
       let listed : c.started_by-requests.result.now ≡ started_by read.call = c.started_by-requests.ensures ∙ ap started_by (c.call.ensures ∙ ap (λ (e : Entry). e.call) same) in
       subst (λ (l : List Step). IsGathered c.args.layout.now c.args.rank c.args.calls.now (l ++ later) c.args.self.now) (sym (no_parts before read (length c.started_by-requests.result.now) (ap (λ (l : List ℤ). length l) listed))) g;
@@ -38,33 +38,33 @@ pub loop-place-preserved-in-Continue-1 : goal.loop-place-preserved-in-Continue-1
 loop-place-preserved-in-Continue-1 c = record {
   within = omega arith;
   few = c.in_ok-add_part-in-Some.ensures.few ∙ c.loop-place.invariant.few;
-  gathered = λ before read later k start count h g.
+  gathered = λ starts before read k count h later g.
       let same : c.index-calls-n.result ≡ read = read_at c.args.calls.now c.args.n c.index-calls-n.result read c.requires.place c.index-calls-n.is k in
       let listed : c.started_by-requests.result.now ≡ started_by read.call = c.started_by-requests.ensures ∙ ap started_by (c.call.ensures ∙ ap (λ (e : Entry). e.call) same) in
       let part : Some (begun_step c.args.n read c.in-Some.part) ≡ part_of before read (c.loop-place.place - 1) (get_or c.started_by-requests.result.now (c.loop-place.place - 1) (pos 0)) =
       ap (λ (n : ℕ). Some (begun_step n read c.in-Some.part)) (sym count) ∙ c.in-Some.ensures before read listed h in
       let old = moved read before later c.started_by-requests.result.now c.loop-place.place (c.loop-place.place - 1) (Some (begun_step c.args.n read c.in-Some.part)) (omega arith) (omega arith) listed part
-      (λ (l : List Step). IsGathered c.args.layout.now c.args.rank c.args.calls.now l c.loop-place.self) (c.loop-place.invariant.gathered before read later k start count h g) in
+      (λ (l : List Step). IsGathered c.args.layout.now c.args.rank c.args.calls.now l c.loop-place.self) (c.loop-place.invariant.gathered starts before read k count h later g) in
       joined read before later c.started_by-requests.result.now c.loop-place.place (c.loop-place.place - 1) (Some (begun_step c.args.n read c.in-Some.part)) (omega arith) (omega arith) listed part
       (λ (l : List Step). IsGathered c.args.layout.now c.args.rank c.args.calls.now l c.add_part.new.self)
-      (c.in_ok-add_part-in-Some.ensures.gathered read (parts_from before read (c.loop-place.place - 1 + 1) (drop (c.loop-place.place - 1 + 1) (started_by read.call)) ++ later) k start old);
+      (c.in_ok-add_part-in-Some.ensures.gathered read k (starts read k) (parts_from before read (c.loop-place.place - 1 + 1) (drop (c.loop-place.place - 1 + 1) (started_by read.call)) ++ later) old);
 }
 
 pub loop-place-preserved : goal.loop-place-preserved
 loop-place-preserved c = record {
   within = omega arith;
   few = c.loop-place.invariant.few;
-  gathered = λ before read later k start count h g.
+  gathered = λ starts before read k count h later g.
       let same : c.index-calls-n.result ≡ read = read_at c.args.calls.now c.args.n c.index-calls-n.result read c.requires.place c.index-calls-n.is k in
       let listed : c.started_by-requests.result.now ≡ started_by read.call = c.started_by-requests.ensures ∙ ap started_by (c.call.ensures ∙ ap (λ (e : Entry). e.call) same) in
       let old = moved read before later c.started_by-requests.result.now c.loop-place.place (c.loop-place.place - 1) None (omega arith) (omega arith) listed (c.in-None.ensures before read listed h)
-      (λ (l : List Step). IsGathered c.args.layout.now c.args.rank c.args.calls.now l c.loop-place.self) (c.loop-place.invariant.gathered before read later k start count h g) in
+      (λ (l : List Step). IsGathered c.args.layout.now c.args.rank c.args.calls.now l c.loop-place.self) (c.loop-place.invariant.gathered starts before read k count h later g) in
       joined read before later c.started_by-requests.result.now c.loop-place.place (c.loop-place.place - 1) None (omega arith) (omega arith) listed (c.in-None.ensures before read listed h)
       (λ (l : List Step). IsGathered c.args.layout.now c.args.rank c.args.calls.now l c.loop-place.self) old;
 }
 
 pub returns-clause-gathered : goal.returns-clause-gathered
-returns-clause-gathered c before read later k start count h g =
+returns-clause-gathered c starts before read k count h later g =
     let zero : c.loop-place.place ≡ 0 = omega arith in
     subst (λ (l : List Step). IsGathered c.args.layout.now c.args.rank c.args.calls.now (l ++ later) c.loop-place.self)
-    (ap (λ (m : ℕ). parts_from before read m (drop m (started_by read.call))) zero ∙ sym (all_parts before read start)) (c.loop-place.invariant.gathered before read later k start count h g)
+    (ap (λ (m : ℕ). parts_from before read m (drop m (started_by read.call))) zero ∙ sym (all_parts before read (starts read k))) (c.loop-place.invariant.gathered starts before read k count h later g)
