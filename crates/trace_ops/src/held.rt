@@ -25,8 +25,8 @@ pub(crate) struct Init<'a> {
 /// By number, the init that holds it.
 pub(crate) type Held<'a> = IndexMap<i64, Init<'a>>;
 
-/// Whether the call describes a send or a receive, and starts nothing.
-pub(crate) fn is_init(call: &Call) -> bool
+/// Whether the call describes a send or a receive, and starts nothing (MPI 4.0, 3.9).
+pub fn is_init(call: &Call) -> bool
     ensures { result ≡ is_init call.now }
 {
     matches!(call, Call::SendInit(_, _) | Call::RecvInit(_))
@@ -39,8 +39,8 @@ pub(crate) fn is_start(call: &Call) -> bool
     matches!(call, Call::Start(_) | Call::Startall(_))
 }
 
-/// The numbers that a Start or Startall lists.
-pub(crate) fn started_by(call: &Call) -> &[i64]
+/// The numbers that a Start or Startall lists, in its order (MPI 4.0, 3.9).
+pub fn started_by(call: &Call) -> &[i64]
     ensures { result.now ≡ started_by call.now }
 {
     match call {
