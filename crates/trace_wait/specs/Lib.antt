@@ -1,6 +1,7 @@
 pub mod Ranks
 pub mod Matching
 pub mod Patterns
+pub mod Sets
 pub mod Rounds
 pub mod Entries
 pub mod Parts

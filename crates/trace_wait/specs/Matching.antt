@@ -1,5 +1,5 @@
 -- The messages and the receives that are in no pair, and which of them may still be matched.
-use Rattle.std.specs.Prelude.{Bool, ◌&&◌, not, is_none, List, filter}
+use Rattle.std.specs.Prelude.{Bool, ◌&&◌, ◌++◌, not, is_none, List, filter}
 use Rattle.std.specs.List.{flat_map}
 use Rattle.mpi_model.specs.declared.message.Message.{Message}
 use Rattle.mpi_model.specs.declared.message.Receive.{Receive}
@@ -7,6 +7,8 @@ use Rattle.mpi_model.specs.Fit.{fits}
 use Rattle.mpi_model.specs.Trusts.{is_void}
 use Rattle.trace_ops.specs.Ops.{Ops}
 use Rattle.trace_pair.specs.After.{comes_after}
+use Rattle.trace_pair.specs.Ends.{AreLast}
+use Rattle.trace_pair.specs.declared.ends.Ends.{Ends}
 use Rattle.trace_pair.specs.declared.pair.Pair.{Pair}
 use Rattle.trace_pair.specs.Table.{taken_by, given_by}
 
@@ -38,3 +40,7 @@ is_free pairs q = not (is_void q.trust) && is_unpaired_receive pairs q
 -- such receives of all ranks
 abbrev pub free_receives : List Ops → List Pair → List Receive
 free_receives ops pairs = flat_map (λ o. filter (is_free pairs) o.receives) ops
+
+-- The ends of such receives among these came to those of others that stand before them.
+abbrev pub AsksFree : List Pair → List Receive → (old new : Ends) → Type 0
+AsksFree pairs qs old new = (before : List Receive) → AreLast before old → AreLast (before ++ filter (is_free pairs) qs) new

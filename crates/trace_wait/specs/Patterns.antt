@@ -1,12 +1,15 @@
 -- The keys of the ordered sets in which things are looked up: what a receive names of a message, and rounds. No public clause speaks of it.
-use Rattle.std.specs.Prelude.{ℕ, Bool, true, false, ◌==◌, ◌&&◌, not, if◌then◌else◌, Option, Some, None}
+use Rattle.std.specs.Prelude.{ℕ, Bool, true, false, ◌==◌, ◌&&◌, not, if◌then◌else◌, Option, Some, None, List, filter}
 use Rattle.std.specs.declared.cmp.Ordering.{Ordering}
 use Rattle.std.specs.Ordering.{nat_cmp, ordering_then}
+use Rattle.std.specs.List.{list_any}
 use Rattle.std.specs.Option.{option_cmp}
 use Rattle.mpi_model.specs.Fit.{admits}
 use Rattle.mpi_model.specs.Trusts.{is_void}
 use Rattle.mpi_model.specs.declared.message.Message.{Message}
 use Rattle.mpi_model.specs.declared.message.Receive.{Receive}
+use Rattle.trace_pair.specs.declared.pair.Pair.{Pair}
+use Rattle.trace_wait.specs.Matching.{is_unpaired_message}
 
 -- communicator, receiver, source and tag
 abbrev pub Pattern : Type 0
@@ -42,6 +45,14 @@ is_void_or_not void m = if void then is_void m.trust else not (is_void m.trust)
 -- The message suits what is named; it was cancelled, or it was not.
 abbrev pub offers : Bool → Message → Pattern → Bool
 offers void m p = suits m p && is_void_or_not void m
+
+-- The message is in no pair, and offers what is named.
+abbrev pub offers_unpaired : Bool → List Pair → Message → Pattern → Bool
+offers_unpaired void pairs m p = is_unpaired_message pairs m && offers void m p
+
+-- one of these messages that are in no pair offers what is named
+abbrev pub is_offered : Bool → List Pair → List Message → Pattern → Bool
+is_offered void pairs sends p = list_any (λ m. offers void m p) (filter (is_unpaired_message pairs) sends)
 
 -- a round as a key: its communicator and its number
 abbrev pub Place : Type 0

@@ -1,10 +1,11 @@
 //! The mismatched rounds, looked up by communicator and k.
 
-ghost use Rattle.std.specs.Prelude.{◌≡◌, ◌||◌, ℕ, IfOk, OnOk};
+ghost use Rattle.std.specs.Prelude.{◌≡◌, ℕ, IfOk, OnOk};
 ghost use Rattle.std.specs.List.{list_any};
 ghost use Rattle.std.specs.BTreeSet.{contains};
 ghost use Rattle.trace_wait.specs.Patterns.{place_cmp};
 ghost use Rattle.trace_wait.specs.Collectives.{is_mismatch, is_mismatched_at};
+ghost use Rattle.trace_wait.specs.Sets.{Notes};
 
 use crate::round::{Round, Standing};
 use crate::sets::note;
@@ -24,7 +25,7 @@ fn is_mismatch(standing: Standing) -> bool
 
 /// Notes a round that is mismatched.
 fn note_round(round: &Round, set: &mut BTreeSet<(u32, u64)>) -> Result<(), AllocError>
-    ensures { OnOk result ((c k : ℕ) → contains place_cmp set.new (c, k) ≡ (is_mismatched_at c k round.now || contains place_cmp set.old (c, k))) }
+    ensures { OnOk result (Notes place_cmp (λ place. is_mismatched_at place.0 place.1 round.now) set.old set.new) }
 {
     if !is_mismatch(round.standing) {
         return Ok(());

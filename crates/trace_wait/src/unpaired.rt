@@ -7,13 +7,12 @@
 //! receives that name the same, a message can be taken by some exactly where it can be by the one
 //! that ends last: so its end is all that is kept of them.
 
-ghost use Rattle.std.specs.Prelude.{◌≡◌, ◌&&◌, ◌||◌, ◌++◌, ◌∷◌, [], List, IfOk, OnOk, filter};
+ghost use Rattle.std.specs.Prelude.{◌≡◌, ◌∷◌, [], IfOk, OnOk};
 ghost use Rattle.std.specs.List.{list_any};
-ghost use Rattle.std.specs.BTreeSet.{contains};
-ghost use Rattle.mpi_model.specs.declared.message.Receive.{Receive};
 ghost use Rattle.trace_pair.specs.Ends.{AreLast};
-ghost use Rattle.trace_wait.specs.Matching.{free_receives, is_free, is_unpaired_message, unpaired_messages};
-ghost use Rattle.trace_wait.specs.Patterns.{Pattern as Named, pattern_cmp, suits, offers, is_void_or_not};
+ghost use Rattle.trace_wait.specs.Matching.{AsksFree, free_receives, unpaired_messages};
+ghost use Rattle.trace_wait.specs.Patterns.{is_offered, is_void_or_not, offers, offers_unpaired, pattern_cmp, suits};
+ghost use Rattle.trace_wait.specs.Sets.{IsSetOf, Notes};
 
 use crate::paired::{is_given, is_taken};
 use crate::sets::note;
@@ -28,7 +27,7 @@ pub(crate) type Pattern = (u32, u32, Option<u32>, Option<u32>);
 
 /// Notes each way in which a receive can name the message.
 fn offer(m: &Message, set: &mut BTreeSet<Pattern>) -> Result<(), AllocError>
-    ensures { OnOk result ((p : Named) → contains pattern_cmp set.new p ≡ (suits m.now p || contains pattern_cmp set.old p)) }
+    ensures { OnOk result (Notes pattern_cmp (suits m.now) set.old set.new) }
 {
     note(set, (m.comm, m.to, None, None))?;
     note(set, (m.comm, m.to, None, Some(m.tag)))?;
@@ -56,7 +55,7 @@ fn offer_unpaired(
     place: &mut usize,
     set: &mut BTreeSet<Pattern>,
 ) -> Result<(), AllocError>
-    ensures { OnOk result ((p : Named) → contains pattern_cmp set.new p ≡ ((is_unpaired_message pairs.now.pairs m.now && offers void m.now p) || contains pattern_cmp set.old p)) }
+    ensures { OnOk result (Notes pattern_cmp (offers_unpaired void pairs.now.pairs m.now) set.old set.new) }
 {
     if !is_void_or_not(void, m) {
         return Ok(());
@@ -76,7 +75,7 @@ fn offer_all(
     place: &mut usize,
     set: &mut BTreeSet<Pattern>,
 ) -> Result<(), AllocError>
-    ensures { OnOk result ((p : Named) → contains pattern_cmp set.new p ≡ (list_any (λ m. offers void m p) (filter (is_unpaired_message pairs.now.pairs) sends.now) || contains pattern_cmp set.old p)) }
+    ensures { OnOk result (Notes pattern_cmp (is_offered void pairs.now.pairs sends.now) set.old set.new) }
 {
     for m in sends {
         offer_unpaired(pairs, void, m, place, set)?;
@@ -91,7 +90,7 @@ pub(crate) fn patterns_offered(
     ops: &[RankOps],
     pairs: &PairTable,
 ) -> Result<BTreeSet<Pattern>, AllocError>
-    ensures { IfOk result (λ s. (p : Named) → contains pattern_cmp s p ≡ list_any (λ m. offers void m p) (unpaired_messages ops.now pairs.now.pairs)) }
+    ensures { IfOk result (IsSetOf pattern_cmp (λ p. list_any (λ m. offers void m p) (unpaired_messages ops.now pairs.now.pairs))) }
 {
     let mut set = BTreeSet::new(alloc);
     let mut place = 0;
@@ -108,7 +107,7 @@ fn ask_unpaired(
     place: &mut usize,
     asked: &mut Ends,
 ) -> Result<(), AllocError>
-    ensures { OnOk result ((before : List Receive) → AreLast before asked.old → AreLast (before ++ filter (is_free pairs.now.pairs) (q.now ∷ [])) asked.new) }
+    ensures { OnOk result (AsksFree pairs.now.pairs (q.now ∷ []) asked.old asked.new) }
 {
     if q.trust.is_void() {
         return Ok(());
@@ -127,7 +126,7 @@ fn ask_all(
     place: &mut usize,
     asked: &mut Ends,
 ) -> Result<(), AllocError>
-    ensures { OnOk result ((before : List Receive) → AreLast before asked.old → AreLast (before ++ filter (is_free pairs.now.pairs) receives.now) asked.new) }
+    ensures { OnOk result (AsksFree pairs.now.pairs receives.now asked.old asked.new) }
 {
     for q in receives {
         ask_unpaired(pairs, q, place, asked)?;
