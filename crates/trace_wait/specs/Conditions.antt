@@ -1,21 +1,28 @@
 -- What a waiting rank waits for, call by call.
 use Rattle.std.specs.Prelude.{ℕ, ◌+◌, Option, List, [], ◌∷◌}
 use Rattle.std.specs.Option.{option_map}
+use Rattle.mpi_model.specs.Layouts.{Parts}
 use Rattle.mpi_model.specs.declared.call.Call.{Call}
 use Rattle.mpi_model.specs.declared.call.Call.TheVariants as calls
 use Rattle.mpi_model.specs.declared.call.Call.TheVariants.{Local, Finalize, Send, Isend, Recv, Irecv, Sendrecv, Waitall, Waitany, Waitsome, Test, Testall, Testany, Testsome, Cancel, Free, Collective, Icollective, Probe, SendInit, RecvInit, Start, Startall, Mprobe, Improbe, Imrecv, Unread}
 use Rattle.trace_stuck.specs.Shape.{Wait, OnNothing, OnAll, waits_of}
 use Rattle.trace_ops.specs.Ops.{Ops}
 use Rattle.trace_ops.specs.Receive.{probed}
+use Rattle.trace_pair.specs.declared.pair.Pair.{Pair}
+use Rattle.trace_wait.specs.declared.round.Round.{Round}
 use Rattle.trace_wait.specs.Parts.{Run, send_of_call, receive_of_call, probe_part}
 use Rattle.trace_wait.specs.Collectives.{collective_of_call}
 use Rattle.trace_wait.specs.Requests.{request, requests, choices, some_of}
+
+-- what both sides of a Sendrecv wait for
+abbrev pub both_of_call : Run → ℕ → Ops → ℕ → Wait
+both_of_call s r o n = OnAll (waits_of (send_of_call s r o n ∷ receive_of_call s r o n ∷ []))
 
 -- what rank r waits for in its call n; the other calls don't wait
 abbrev pub waits_for : Run → ℕ → Ops → ℕ → Call → Wait
 waits_for s r o n (Send mode e) = send_of_call s r o n
 waits_for s r o n (Recv e) = receive_of_call s r o n
-waits_for s r o n (Sendrecv x) = OnAll (waits_of (send_of_call s r o n ∷ receive_of_call s r o n ∷ []))
+waits_for s r o n (Sendrecv x) = both_of_call s r o n
 waits_for s r o n (calls.Wait x) = request s r o x
 waits_for s r o n (Waitall xs) = OnAll (waits_of (requests s r o xs))
 waits_for s r o n (Waitany xs) = some_of (choices s r o xs)
@@ -50,3 +57,7 @@ condition_of s r o = option_map (λ w. waits_for s r o w.0 w.1) o.waiting
 abbrev pub conditions_from : Run → ℕ → List Ops → List (Option Wait)
 conditions_from s first [] = []
 conditions_from s first (o ∷ ops) = condition_of s first o ∷ conditions_from s (first + 1) ops
+
+-- the conditions of all ranks, by their operations, the pairs and the rounds
+abbrev pub conditions_of : Parts → List Ops → List Pair → List Round → List (Option Wait)
+conditions_of layout ops pairs rounds = conditions_from (record { layout = layout; ops = ops; pairs = pairs; rounds = rounds }) 0 ops

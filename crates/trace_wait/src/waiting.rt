@@ -1,11 +1,12 @@
 //! The condition of each waiting rank.
 
-ghost use Rattle.std.specs.Prelude.{◌≡◌, ◌<◌, ◌^◌, ◌∷◌, [], map, length, IfOk};
+ghost use Rattle.std.specs.Prelude.{◌≡◌, ◌<◌, ◌^◌, map, length, IfOk};
 ghost use Rattle.std.specs.Option.{option_map};
 ghost use Rattle.trace_ops.specs.Ops.{AreOwn};
 ghost use Rattle.trace_ops.specs.Order.{AreCalledInOrder, AreInOrder, ArePosted};
 ghost use Rattle.trace_stuck.specs.Shape.{shape, waits_of, OnAll};
-ghost use Rattle.trace_wait.specs.Conditions.{waits_for, condition_of, conditions_from};
+ghost use Rattle.trace_wait.specs.Conditions.{both_of_call, condition_of, conditions_from, conditions_of, waits_for};
+ghost use Rattle.trace_wait.specs.Requests.{choices, requests, some_of};
 
 use crate::collective::collective_of_call;
 use crate::counts::all_calls;
@@ -22,14 +23,55 @@ use trace_ops::{RankOps, probed};
 use trace_pair::{PairTable, Reaches, reaches_of};
 use trace_stuck::Condition;
 
-/// Both of two conditions.
-fn both(alloc: Global, first: Condition, second: Condition) -> Result<Condition, AllocError>
-    ensures { IfOk result (λ c. shape c ≡ OnAll (waits_of (shape first ∷ shape second ∷ []))) }
+/// What both sides of a Sendrecv wait for.
+fn both_of_call(
+    alloc: Global,
+    run: &Overview,
+    r: u32,
+    o: &RankOps,
+    n: u64,
+) -> Result<Condition, AllocError>
+    requires sends { AreInOrder o.now.sends }
+    requires receives { ArePosted o.now.receives }
+    ensures { IfOk result (λ c. shape c ≡ both_of_call run.now r o.now n) }
 {
+    let receive = receive_of_call(alloc, run, r, o, n)?;
     let mut parts = Vec::new(alloc);
-    parts.push(first)?;
-    parts.push(second)?;
+    parts.push(send_of_call(run, r, o, n))?;
+    parts.push(receive)?;
     Ok(Condition::all(parts))
+}
+
+/// What all requests of a list wait for.
+fn all_of_list(
+    alloc: Global,
+    run: &Overview,
+    r: u32,
+    o: &RankOps,
+    xs: &[i64],
+) -> Result<Condition, AllocError>
+    requires sends { AreInOrder o.now.sends }
+    requires receives { ArePosted o.now.receives }
+    requires cancelled { AreCalledInOrder o.now.cancelled }
+    ensures { IfOk result (λ c. shape c ≡ OnAll (waits_of (requests run.now r o.now xs.now))) }
+{
+    Ok(Condition::all(requests(alloc, run, r, o, xs)?))
+}
+
+/// What one request of a list waits for, whichever that is.
+fn some_of_list(
+    alloc: Global,
+    run: &Overview,
+    r: u32,
+    o: &RankOps,
+    xs: &[i64],
+) -> Result<Condition, AllocError>
+    requires sends { AreInOrder o.now.sends }
+    requires receives { ArePosted o.now.receives }
+    requires cancelled { AreCalledInOrder o.now.cancelled }
+    ensures { IfOk result (λ c. shape c ≡ some_of (choices run.now r o.now xs.now)) }
+{
+    Ok(some_of(choices(alloc, run, r, o, xs)?))
 }
 
 /// What rank r waits for in its call n; the other calls don't wait.
@@ -49,15 +91,11 @@ fn waits_for(
     match call {
         Call::Send(_, _) => Ok(send_of_call(run, r, o, n)),
         Call::Recv(_) | Call::Mprobe(_) => receive_of_call(alloc, run, r, o, n),
-        Call::Sendrecv(_) => both(
-            alloc,
-            send_of_call(run, r, o, n),
-            receive_of_call(alloc, run, r, o, n)?,
-        ),
+        Call::Sendrecv(_) => both_of_call(alloc, run, r, o, n),
         Call::Wait(x) => request(alloc, run, r, o, x),
-        Call::Waitall(xs) => Ok(Condition::all(requests(alloc, run, r, o, xs.as_slice())?)),
-        Call::Waitany(xs) => Ok(some_of(choices(alloc, run, r, o, xs.as_slice())?)),
-        Call::Waitsome(xs) => Ok(some_of(choices(alloc, run, r, o, xs.as_slice())?)),
+        Call::Waitall(xs) => all_of_list(alloc, run, r, o, xs.as_slice()),
+        Call::Waitany(xs) => some_of_list(alloc, run, r, o, xs.as_slice()),
+        Call::Waitsome(xs) => some_of_list(alloc, run, r, o, xs.as_slice()),
         Call::Collective(_) => collective_of_call(alloc, run, r, o, n),
         Call::Probe(e) => probe_part(alloc, run, probed(run.layout, r, n, *e)),
         Call::Local
@@ -128,7 +166,7 @@ pub fn conditions(
 ) -> Result<Vec<Option<Condition>>, AllocError>
     requires few { length ops.now < 2 ^ 32 }
     requires own { AreOwn 0 ops.now }
-    ensures { IfOk result (λ v. map (option_map shape) v.items ≡ conditions_from (record { layout = layout.now; ops = ops.now; pairs = pairs.now.pairs; rounds = rounds.now }) 0 ops.now) }
+    ensures { IfOk result (λ v. map (option_map shape) v.items ≡ conditions_of layout.now ops.now pairs.now.pairs rounds.now) }
 {
     let offered = patterns_offered(alloc, false, ops, pairs)?;
     let withdrawn = patterns_offered(alloc, true, ops, pairs)?;
