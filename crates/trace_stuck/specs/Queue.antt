@@ -1,5 +1,6 @@
 -- How a queue of released ranks stands. No public clause speaks of it.
-use Rattle.std.specs.Prelude.{◌≡◌, ◌≤◌, ◌+◌, ◌&&◌, ◌||◌, ◌⊎◌, not, ℕ, Bool, true, false, Option, List, [], ◌∷◌, ◌++◌, length, set, drop, slice_get, unwrap_or}
+use Rattle.std.specs.Prelude.{◌≡◌, ◌≤◌, ◌+◌, ◌&&◌, ◌||◌, ◌⊎◌, not, ℕ, Bool, true, false, Option, List, [], ◌∷◌, ◌++◌, length, set, drop, slice_get, unwrap_or, Vec}
+use Rattle.std.specs.declared.alloc.Global.{Global}
 use Rattle.trace_ops.specs.declared.state.State.{State}
 use Rattle.trace_stuck.specs.declared.condition.Condition.{Condition}
 use Rattle.trace_stuck.specs.States.{is_free, is_waiting}
@@ -47,3 +48,13 @@ pub record Ready (states : List State) (conditions : List (Option Condition)) (f
   pub ties : (r : ℕ) → flag able r ≡ (is_free states r || among release r)
   pub next : (r : ℕ) → is_next states conditions able r ≡ true →
       (todo r ≡ true) ⊎ ((s : ℕ) × (among (drop from release) s ≡ true) × (among (names conditions r) s ≡ true))
+
+-- Where these ranks were still to be tried, no rank is any more.
+abbrev pub Settles : List State → List (Option Condition) → ℕ → (ℕ → Bool) → (able : Vec Bool Global) → (release : Vec ℕ Global) → Vec Bool Global → Vec ℕ Global → Type 0
+Settles states conditions from todo able release able_after release_after =
+    Ready states conditions from todo able.items release.items → Ready states conditions from nobody able_after.items release_after.items
+
+-- what tries of these ranks leave, however many of the released ranks were gone through
+abbrev pub TriedAll : List State → List (Option Condition) → List ℕ → (able : Vec Bool Global) → (release : Vec ℕ Global) → Vec Bool Global → Vec ℕ Global → Type 0
+TriedAll states conditions ranks able release able_after release_after = (from : ℕ) → from ≤ length release.items →
+    Settles states conditions from (among ranks) able release able_after release_after

@@ -25,3 +25,11 @@ IsReleaseOrder states conditions ranks = IsReleasedAfter states conditions [] ra
 -- the rank waits, and the release leaves it out
 abbrev pub left : List State → List ℕ → ℕ → Bool
 left states release r = is_waiting states r && not (among release r)
+
+-- No rank that is left may go on where the free ranks and the released ones can.
+abbrev pub IsWhole : List State → List (Option Condition) → List ℕ → Type 0
+IsWhole states conditions release = (r : ℕ) → left states release r ≡ true → may_go conditions (λ s. is_free states s || among release s) r ≡ false
+
+-- none of the ranks is inside the set
+abbrev pub AreOutside : List ℕ → (ℕ → Bool) → Type 0
+AreOutside ranks inside = (r : ℕ) → among ranks r ≡ true → inside r ≡ false

@@ -1,9 +1,9 @@
 //! Whether a list is an order of release, and whether it is a closed set. No memory is taken.
 
-ghost use Rattle.std.specs.Prelude.{◌≡◌, ◌↔◌, ◌&&◌, ◌||◌, not, ℕ, List, Option, Bool, true, false};
+ghost use Rattle.std.specs.Prelude.{◌≡◌, ◌↔◌, ◌&&◌, ◌||◌, not, ℕ, List, Option, Bool, true};
 ghost use Rattle.trace_ops.specs.declared.state.State.{State};
 ghost use Rattle.trace_stuck.specs.declared.condition.Condition.{Condition};
-ghost use Rattle.trace_stuck.specs.Release.{among, IsReleaseOrder};
+ghost use Rattle.trace_stuck.specs.Release.{AreOutside, IsReleaseOrder, among};
 ghost use Rattle.trace_stuck.specs.States.{is_waiting, is_free, is_ended};
 ghost use Rattle.trace_stuck.specs.Holds.{may_go};
 ghost use Rattle.trace_stuck.specs.Stuck.{IsClosed, IsStuck};
@@ -78,7 +78,7 @@ fn is_shut(states: &[State], conditions: &[Option<Condition>], ranks: &[u32], r:
 /// Whether the list is an order of release. Then none of its ranks is in any closed set.
 pub fn check_release(states: &[State], conditions: &[Option<Condition>], release: &[u32]) -> bool
     ensures order { (result ≡ true) ↔ IsReleaseOrder states.now conditions.now release.now }
-    ensures out { result ≡ true → (inside : ℕ → Bool) → IsClosed states.now conditions.now inside → (r : ℕ) → among release.now r ≡ true → inside r ≡ false }
+    ensures out { result ≡ true → (inside : ℕ → Bool) → IsClosed states.now conditions.now inside → AreOutside release.now inside }
 {
     for i in 0..release.len() {
         if !is_step(states, conditions, &release[..i], release[i]) {

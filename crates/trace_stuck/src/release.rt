@@ -1,12 +1,11 @@
 //! The order of release: a list that is its own queue. A rank that is released lets those be tried
 //! again whose condition names it, and no others.
 
-ghost use Rattle.std.specs.Prelude.{◌≡◌, ◌<◌, ◌≤◌, ◌^◌, ◌||◌, ℕ, true, false, IfOk, OnOk, length, vec_len};
+ghost use Rattle.std.specs.Prelude.{◌≡◌, ◌<◌, ◌≤◌, ◌^◌, ℕ, IfOk, OnOk, length, vec_len};
 ghost use Rattle.trace_stuck.specs.Queue.{flag, is_next};
 ghost use Rattle.trace_stuck.specs.States.{is_free};
-ghost use Rattle.trace_stuck.specs.Holds.{may_go};
-ghost use Rattle.trace_stuck.specs.Release.{among, left, IsReleaseOrder};
-ghost use Rattle.trace_stuck.specs.Queue.{Tried, Ready, nobody, everybody};
+ghost use Rattle.trace_stuck.specs.Release.{IsReleaseOrder, IsWhole};
+ghost use Rattle.trace_stuck.specs.Queue.{Settles, Tried, TriedAll, everybody};
 
 use crate::askers::{askers_at, askers_of};
 use crate::condition::Condition;
@@ -46,7 +45,7 @@ fn try_rank(
 ) -> Result<(), AllocError>
     requires { vec_len able.old ≡ length states.now }
     ensures len { vec_len able.new ≡ vec_len able.old }
-    ensures tried { OnOk result (Tried states.now conditions.now r able.old.items release.old.items able.new.items release.new.items) }
+    ensures turn { OnOk result (Tried states.now conditions.now r able.old.items release.old.items able.new.items release.new.items) }
 {
     if is_rank_next(states, conditions, able, r as usize) {
         able[r as usize] = true;
@@ -66,7 +65,7 @@ fn try_ranks(
     requires { vec_len able.old ≡ length states.now }
     ensures len { OnOk result (vec_len able.new ≡ vec_len able.old) }
     ensures grows { OnOk result (length release.old.items ≤ length release.new.items) }
-    ensures ready { OnOk result ((from : ℕ) → from ≤ length release.old.items → Ready states.now conditions.now from (among ranks.now) able.old.items release.old.items → Ready states.now conditions.now from nobody able.new.items release.new.items) }
+    ensures ready { OnOk result (TriedAll states.now conditions.now ranks.now able.old release.old able.new release.new) }
 {
     for r in ranks {
         try_rank(states, conditions, *r, able, release)?;
@@ -84,7 +83,7 @@ fn try_all(
     requires few { length states.now < 2 ^ 32 }
     requires len { vec_len able.old ≡ length states.now }
     ensures len { OnOk result (vec_len able.new ≡ vec_len able.old) }
-    ensures ready { OnOk result (Ready states.now conditions.now 0 everybody able.old.items release.old.items → Ready states.now conditions.now 0 nobody able.new.items release.new.items) }
+    ensures ready { OnOk result (Settles states.now conditions.now 0 everybody able.old release.old able.new release.new) }
 {
     for r in 0..states.len() {
         try_rank(states, conditions, r as u32, able, release)?;
@@ -100,7 +99,7 @@ pub(crate) fn release_all(
 ) -> Result<Vec<u32>, AllocError>
     requires { length states.now < 2 ^ 32 }
     ensures order { IfOk result (λ release. IsReleaseOrder states.now conditions.now release.items) }
-    ensures rest { IfOk result (λ release. (r : ℕ) → left states.now release.items r ≡ true → may_go conditions.now (λ s. is_free states.now s || among release.items s) r ≡ false) }
+    ensures rest { IfOk result (λ release. IsWhole states.now conditions.now release.items) }
 {
     let askers = askers_of(alloc, conditions, states.len())?;
     let mut able = free_flags(alloc, states)?;

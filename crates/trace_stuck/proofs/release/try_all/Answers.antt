@@ -11,7 +11,7 @@ loop-r-preserved c = record {
   len = c.try_rank.ensures.len ∙ c.loop-r.invariant.len;
   ready = λ start.
       ready_tried c.args.states.now c.args.conditions.now 0 (nat_le c.loop-r.r) (nat_le (c.loop-r.r + 1)) c.loop-r.r c.loop-r.able.items c.loop-r.release.items
-      (omega arith) (c.loop-r.invariant.ready start) (next_rank c.loop-r.r) _ _ c.in_ok-try_rank.ensures.tried;
+      (omega arith) (c.loop-r.invariant.ready start) (next_rank c.loop-r.r) _ _ c.in_ok-try_rank.ensures.turn;
 }
 
 pub returns-clause-ready : goal.returns-clause-ready

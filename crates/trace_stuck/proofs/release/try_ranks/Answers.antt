@@ -15,7 +15,7 @@ next_in ranks i lt s h =
 
 pub loop-r-preserved : goal.loop-r-preserved
 loop-r-preserved c =
-    let g = tried_grows c.args.states.now c.args.conditions.now _ _ _ _ _ _ c.in_ok-try_rank.ensures.tried in
+    let g = tried_grows c.args.states.now c.args.conditions.now _ _ _ _ _ _ c.in_ok-try_rank.ensures.turn in
     let lt : c.loop-r.r-index < length c.args.ranks.now = omega arith in
     record {
       len = c.try_rank.ensures.len ∙ c.loop-r.invariant.len;
@@ -23,7 +23,7 @@ loop-r-preserved c =
       ready = λ from le start.
           ready_tried c.args.states.now c.args.conditions.now from (among (drop c.loop-r.r-index c.args.ranks.now)) (among (drop (c.loop-r.r-index + 1) c.args.ranks.now))
           (get_or c.args.ranks.now c.loop-r.r-index 0) c.loop-r.able.items c.loop-r.release.items
-          (omega (arith, le, c.loop-r.invariant.grows)) (c.loop-r.invariant.ready from le start) (next_in c.args.ranks.now c.loop-r.r-index lt) _ _ c.in_ok-try_rank.ensures.tried;
+          (omega (arith, le, c.loop-r.invariant.grows)) (c.loop-r.invariant.ready from le start) (next_in c.args.ranks.now c.loop-r.r-index lt) _ _ c.in_ok-try_rank.ensures.turn;
     }
 
 pub returns-clause-ready : goal.returns-clause-ready
