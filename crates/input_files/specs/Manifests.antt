@@ -85,11 +85,15 @@ numbers_from n (item value values) = if is_packed value then None ∷ numbers_fr
 
 -- ---- its fields
 
--- the fields of a manifest; a step posts a piece by its number in the whole list
-pub record GivenParts : Type 0 where
+-- what a list of pieces holds: its texts, its packed files, and the number of each piece among the texts, none of a packed one
+pub record ListedParts : Type 0 where
   pub pieces : List PieceParts
   pub packed : List PackedParts
   pub numbers : List (Option ℕ)
+
+-- the fields of a manifest; a step posts a piece by its number in the whole list
+pub record GivenParts : Type 0 where
+  pub listed : ListedParts
   pub nodes : ℕ
   pub schedule : List PlannedStep
 
@@ -97,20 +101,27 @@ pub record GivenParts : Type 0 where
 abbrev pub schedule_in : Data → Option (List PlannedStep)
 schedule_in value = option_and_then steps_in (as_array value)
 
+-- what is listed, where all of its pieces can be read
+abbrev pub listed_from : Option (List PieceParts) → Option (List PackedParts) → List (Option ℕ) → Option ListedParts
+listed_from None _ _ = None
+listed_from (Some pieces) None _ = None
+listed_from (Some pieces) (Some packed) numbers = Some (record { pieces = pieces; packed = packed; numbers = numbers })
+
+-- the pieces of a list
+abbrev pub listed_in : Items → Option ListedParts
+listed_in listed = listed_from (pieces_in listed) (all_packed_in listed) (numbers_from 0 listed)
+
 -- a manifest, where all of its fields can be read
-abbrev pub given_from : Option (List PieceParts) → Option (List PackedParts) → List (Option ℕ) → Option ℕ → Option (List PlannedStep) → Option GivenParts
-given_from None _ _ _ _ = None
-given_from (Some pieces) None _ _ _ = None
-given_from (Some pieces) (Some packed) numbers None _ = None
-given_from (Some pieces) (Some packed) numbers (Some nodes) None = None
-given_from (Some pieces) (Some packed) numbers (Some nodes) (Some schedule) =
-    Some (record { pieces = pieces; packed = packed; numbers = numbers; nodes = nodes; schedule = schedule })
+abbrev pub given_from : Option ListedParts → Option ℕ → Option (List PlannedStep) → Option GivenParts
+given_from None _ _ = None
+given_from (Some listed) None _ = None
+given_from (Some listed) (Some nodes) None = None
+given_from (Some listed) (Some nodes) (Some schedule) = Some (record { listed = listed; nodes = nodes; schedule = schedule })
 
 -- the fields by the list of pieces
 abbrev pub given_by : Data → Option Items → Option GivenParts
 given_by value None = None
-given_by value (Some listed) = given_from (pieces_in listed) (all_packed_in listed) (numbers_from 0 listed)
-    (or_absent 1 u64_in (get (codes "nodes") value))
+given_by value (Some listed) = given_from (listed_in listed) (or_absent 1 u64_in (get (codes "nodes") value))
     (or_absent [] schedule_in (get (codes "schedule") value))
 
 -- the fields of a manifest: without a number of nodes it has one, and without a schedule no step
@@ -135,15 +146,20 @@ TellsFields text given = (value : Data) × IsJson text value × (given_in value 
 
 -- whether the schedule posts a piece that isn't listed
 abbrev pub posts_absent : GivenParts → Bool
-posts_absent g = list_any (posts_past (length g.numbers)) g.schedule
+posts_absent g = list_any (posts_past (length g.listed.numbers)) g.schedule
 
 -- whether the schedule posts a packed piece
 abbrev pub posts_a_packed : GivenParts → Bool
-posts_a_packed g = list_any (posts_packed g.numbers) g.schedule
+posts_a_packed g = list_any (posts_packed g.listed.numbers) g.schedule
 
 -- the manifest of these fields
 abbrev pub manifest_of : GivenParts → ManifestParts
-manifest_of g = record { pieces = g.pieces; packed = g.packed; nodes = g.nodes; schedule = map (renumbered g.numbers) g.schedule }
+manifest_of g = record {
+  pieces = g.listed.pieces;
+  packed = g.listed.packed;
+  nodes = g.nodes;
+  schedule = map (renumbered g.listed.numbers) g.schedule;
+}
 
 -- The text is this manifest: that of the fields that it tells, and each piece that is posted is listed, and a text.
 abbrev pub IsManifestOf : List ℕ → ManifestParts → Type 0

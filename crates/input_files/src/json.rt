@@ -3,7 +3,7 @@
 //! An answer `Result<Option<T>, AllocError>` has want of memory on its outside, and inside whether
 //! the value has the form.
 
-ghost use Rattle.std.specs.Prelude.{◌≡◌, IfErr, IfOk, MatchOption, Some, option_and_then, option_map};
+ghost use Rattle.std.specs.Prelude.{◌≡◌, IfErr, IfOk, IfSome, IsNone, Some, option_and_then, option_map};
 ghost use Rattle.serde_json.specs.Data.{item, no_items};
 ghost use Rattle.serde_json.specs.Find.{as_array, as_str, get};
 ghost use Rattle.serde_json.specs.View.{items_view, view};
@@ -74,7 +74,8 @@ pub(crate) fn list_at<'v>(value: &'v Value, name: &str) -> Option<&'v [Value]>
 
 /// The first of some values, and the rest.
 pub(crate) fn parted<'v>(values: &'v [Value]) -> Option<(&'v Value, &'v [Value])>
-    ensures { MatchOption result (items_view values.now ≡ no_items) (λ p. items_view values.now ≡ item (view p.0.now) (items_view p.1.now)) }
+    ensures none { IsNone result → items_view values.now ≡ no_items }
+    ensures some { IfSome result (λ p. items_view values.now ≡ item (view p.0.now) (items_view p.1.now)) }
 {
     values.split_first()
 }

@@ -11,6 +11,7 @@ use crate::numbers::numbers_at;
 use mpi_model::{Comm, Layout, LayoutFault, Sends};
 use serde_json::Value;
 use std::alloc::{AllocError, Global};
+use std::marker::Model;
 
 /// The layout that a text is: [`InputFault::Json`], then [`InputFault::Shape`], then the first rule
 /// of layouts that is broken.
@@ -43,9 +44,17 @@ struct Given {
     comms: Vec<Comm>,
 }
 
+impl Model for Given {
+    ghost use Rattle.mpi_model.specs.Layouts.{Parts};
+
+    ghost Value = { Parts };
+
+    ghost view = { λ g. record { ranks = g.ranks; world = g.world; sends = g.sends; comms = g.comms.items } };
+}
+
 /// The fields of a layout, its communicators in the order of the file.
 fn given_in(alloc: Global, value: &Value) -> Result<Option<Given>, AllocError>
-    ensures { IfOk result (λ o. option_map (λ g. record { ranks = g.ranks; world = g.world; sends = g.sends; comms = g.comms.items }) o ≡ parts_in (view value.now)) }
+    ensures { IfOk result (λ o. o ≡ parts_in (view value.now)) }
 {
     let Some(ranks) = u32_at(value, "ranks") else {
         return Ok(None);

@@ -5,7 +5,7 @@ ghost use Rattle.std.specs.Prelude.{◌≡◌, [], IfErr, IfOk, codes, option_ma
 ghost use Rattle.serde_json.specs.Find.{get};
 ghost use Rattle.input_files.specs.Fields.{bit_in, or_absent};
 ghost use Rattle.serde_json.specs.View.{items_view, view};
-ghost use Rattle.input_files.specs.Manifests.{IsManifestOf, RefusesManifest, all_packed_in, given_in, is_packed, manifest_of, numbers_from, packed_in, piece_in, pieces_in, posts_a_packed, posts_absent, schedule_in, unreadable_field};
+ghost use Rattle.input_files.specs.Manifests.{IsManifestOf, RefusesManifest, all_packed_in, given_in, is_packed, listed_in, manifest_of, numbers_from, packed_in, piece_in, pieces_in, posts_a_packed, posts_absent, schedule_in, unreadable_field};
 
 use crate::fault::{Field, InputFault};
 use crate::json::{bit_or_0, list_at, str_at, u32_at, u64_at, usize_or, value_of};
@@ -176,6 +176,14 @@ struct Listed {
     numbers: Vec<Option<usize>>,
 }
 
+impl Model for Listed {
+    ghost use Rattle.input_files.specs.Manifests.{ListedParts};
+
+    ghost Value = { ListedParts };
+
+    ghost view = { λ l. record { pieces = l.pieces.items; packed = l.packed.items; numbers = l.numbers.items } };
+}
+
 /// The fields of a manifest, whose schedule posts pieces by their numbers in the whole list.
 #[derive(Drop)]
 struct Given {
@@ -189,12 +197,12 @@ impl Model for Given {
 
     ghost Value = { GivenParts };
 
-    ghost view = { λ g. record { pieces = g.listed.pieces.items; packed = g.listed.packed.items; numbers = g.listed.numbers.items; nodes = g.nodes; schedule = g.schedule.items } };
+    ghost view = { λ g. record { listed = g.listed; nodes = g.nodes; schedule = g.schedule.items } };
 }
 
 impl Given {
     fn new(listed: Listed, nodes: usize, schedule: Vec<PlannedStep>) -> Given
-        ensures { result ≡ record { pieces = listed.pieces.items; packed = listed.packed.items; numbers = listed.numbers.items; nodes = nodes; schedule = schedule.items } }
+        ensures { result ≡ record { listed = listed; nodes = nodes; schedule = schedule.items } }
     {
         Given {
             listed,
@@ -277,6 +285,22 @@ fn given_in(alloc: Global, value: &Value) -> Result<Option<Given>, AllocError>
     let Some(values) = list_at(value, "pieces") else {
         return Ok(None);
     };
+    let Some(listed) = listed_of(alloc, values)? else {
+        return Ok(None);
+    };
+    let Some(nodes) = usize_or(value, "nodes", 1) else {
+        return Ok(None);
+    };
+    let Some(schedule) = schedule_at(alloc, value)? else {
+        return Ok(None);
+    };
+    Ok(Some(Given::new(listed, nodes, schedule)))
+}
+
+/// The pieces of a list.
+fn listed_of(alloc: Global, values: &[Value]) -> Result<Option<Listed>, AllocError>
+    ensures { IfOk result (λ o. o ≡ listed_in (items_view values.now)) }
+{
     let Some(pieces) = pieces_of(alloc, values)? else {
         return Ok(None);
     };
@@ -284,18 +308,11 @@ fn given_in(alloc: Global, value: &Value) -> Result<Option<Given>, AllocError>
         return Ok(None);
     };
     let numbers = numbers_of(alloc, values)?;
-    let Some(nodes) = usize_or(value, "nodes", 1) else {
-        return Ok(None);
-    };
-    let Some(schedule) = schedule_at(alloc, value)? else {
-        return Ok(None);
-    };
-    let listed = Listed {
+    Ok(Some(Listed {
         pieces,
         packed,
         numbers,
-    };
-    Ok(Some(Given::new(listed, nodes, schedule)))
+    }))
 }
 
 /// A field that can't be read of a manifest of which one can't.

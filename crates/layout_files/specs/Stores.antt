@@ -1,6 +1,9 @@
 -- Files by their names, and how a store of them changes.
 use Rattle.std.specs.Prelude.{◌≡◌, ◌≢◌, ℕ, List, Option, Some, None}
 use Rattle.layout_files.specs.declared.store.NewFile.{NewFile}
+use Rattle.layout_files.specs.declared.store.PutFault.{PutFault}
+use Rattle.layout_files.specs.declared.store.PutFault.TheVariants.{Half}
+use Rattle.layout_files.specs.declared.store.Which.{Which}
 
 -- the bytes of the file of each name, where there is one
 abbrev pub Files : Type 0
@@ -53,3 +56,7 @@ pub record AreDistinct (a b c d : List ℕ) : Type 0 where
   pub first : (a ≢ b) × (a ≢ c) × (a ≢ d)
   pub second : (b ≢ c) × (b ≢ d)
   pub third : c ≢ d
+
+-- The fault says that nothing is left of what was to be kept.
+abbrev pub LeavesNothing : PutFault → Type 0
+LeavesNothing fault = (half : Which) → fault ≢ Half half

@@ -52,6 +52,10 @@ abbrev pub sends_word : Sends → List ℕ
 sends_word Wait = codes "wait"
 sends_word Buffer = codes "buffer"
 
+-- the layout of these ranks, this world, these sends and these communicators
+abbrev pub parts_of : ℕ → ℕ → Sends → List Communicator → Parts
+parts_of ranks world sends comms = record { ranks = ranks; world = world; sends = sends; comms = comms }
+
 -- `{"ranks":N,"world":C,"sends":"wait","comms":[..]}`
 abbrev pub layout_value : Parts → Json
 layout_value l = object (member (codes "ranks") (number_of l.ranks) (member (codes "world") (number_of l.world)

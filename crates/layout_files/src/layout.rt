@@ -3,7 +3,7 @@
 ghost use Rattle.std.specs.Prelude.{◌≡◌, ◌∷◌, IfOk};
 ghost use Rattle.json.specs.Token.{begin_array};
 ghost use Rattle.json.specs.Tree.{items_tokens, json_tokens, members_tokens};
-ghost use Rattle.layout_files.specs.Values.{Puts, communicator_value, items_of, layout_value, line_of, numbers_field, sends_word};
+ghost use Rattle.layout_files.specs.Values.{Puts, communicator_value, items_of, layout_value, line_of, numbers_field, parts_of, sends_word};
 
 use crate::numbers::put_entries;
 use crate::values::{line_of, put_number_field, put_numbers, put_string_field};
@@ -21,7 +21,7 @@ pub fn layout_bytes(
     sends: Sends,
     comms: &[Comm],
 ) -> Result<Vec<u8>, AllocError>
-    ensures { IfOk result (λ text. text.items ≡ line_of (layout_value (record { ranks = ranks; world = world; sends = sends; comms = comms.now }))) }
+    ensures { IfOk result (λ text. text.items ≡ line_of (layout_value (parts_of ranks world sends comms.now))) }
 {
     let mut out = Writer::new(Vec::new(alloc));
     put_layout(&mut out, ranks, world, sends, comms)?;
@@ -46,7 +46,7 @@ fn put_layout(
     sends: Sends,
     comms: &[Comm],
 ) -> Result<(), AllocError>
-    ensures { Puts result out.old out.new (json_tokens (layout_value (record { ranks = ranks; world = world; sends = sends; comms = comms.now }))) }
+    ensures { Puts result out.old out.new (json_tokens (layout_value (parts_of ranks world sends comms.now))) }
 {
     out.begin_object()?;
     put_number_field(out, "ranks", ranks as u64)?;

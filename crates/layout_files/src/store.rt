@@ -1,7 +1,7 @@
 //! Where the two files are kept: both or none.
 
-ghost use Rattle.std.specs.Prelude.{◌≡◌, ◌≢◌, IfErr, None, OnErr, OnOk, Option, true};
-ghost use Rattle.layout_files.specs.Stores.{Adds, AddsBoth, AreDistinct, Files, Goes, HasBoth, Moves, Removes, RemovesBoth, Same};
+ghost use Rattle.std.specs.Prelude.{◌≡◌, IfErr, None, OnErr, OnOk, Option, true};
+ghost use Rattle.layout_files.specs.Stores.{Adds, AddsBoth, AreDistinct, Files, Goes, HasBoth, LeavesNothing, Moves, Removes, RemovesBoth, Same};
 
 use std::alloc::{AllocError, Global};
 
@@ -78,7 +78,7 @@ impl From<AllocError> for PutFault {
 
 /// Why one of two files wasn't added.
 fn fault_of(fault: StoreFault, which: Which) -> PutFault
-    ensures { (half : Which) → result ≢ PutFault.Half half }
+    ensures { LeavesNothing result }
 {
     match fault {
         StoreFault::There => PutFault::There(which),
@@ -93,7 +93,7 @@ pub fn add_both<S: Store>(
     other: NewFile<'_>,
 ) -> Result<(), PutFault>
     ensures ok { OnOk result (Goes (AddsBoth one.entry other.entry) (S.files store.old) (S.files store.new)) }
-    ensures err { IfErr result (λ fault. ((half : Which) → fault ≢ PutFault.Half half) → Goes Same (S.files store.old) (S.files store.new)) }
+    ensures err { IfErr result (λ fault. LeavesNothing fault → Goes Same (S.files store.old) (S.files store.new)) }
 {
     if let Err(fault) = store.add(one.name, one.bytes) {
         return Err(fault_of(fault, Which::First));
@@ -131,7 +131,7 @@ fn replace_by<S: Store>(
 ) -> Result<(), PutFault>
     requires distinct { AreDistinct one.name.now other.name.now spares.0.now spares.1.now }
     ensures ok { OnOk result (Goes (HasBoth one.entry other.entry) (S.files store.old) (S.files store.new)) }
-    ensures err { IfErr result (λ fault. ((half : Which) → fault ≢ PutFault.Half half) → Goes Same (S.files store.old) (S.files store.new)) }
+    ensures err { IfErr result (λ fault. LeavesNothing fault → Goes Same (S.files store.old) (S.files store.new)) }
 {
     let (first, second) = spares;
     let spare = NewFile {
@@ -163,7 +163,7 @@ pub fn replace_both<S: Store>(
     other: NewFile<'_>,
 ) -> Result<(), PutFault>
     ensures ok { OnOk result (Goes (HasBoth one.entry other.entry) (S.files store.old) (S.files store.new)) }
-    ensures err { IfErr result (λ fault. ((half : Which) → fault ≢ PutFault.Half half) → Goes Same (S.files store.old) (S.files store.new)) }
+    ensures err { IfErr result (λ fault. LeavesNothing fault → Goes Same (S.files store.old) (S.files store.new)) }
 {
     let first = format!(in alloc; "{}.new", one.name)?;
     let second = format!(in alloc; "{}.new", other.name)?;

@@ -1,4 +1,4 @@
-use Rattle.std.proofs.Common.{rules, ◌≡◌, Some}
+use Rattle.std.proofs.Common.{rules, ◌≡◌, ◌∙◌, Some, ap, sym}
 use Rattle.serde_json.specs.View.{view}
 use Rattle.mpi_model.specs.Layouts.{Parts}
 use Rattle.input_files.specs.Layouts.{parts_in}
@@ -6,16 +6,18 @@ use Rattle.input_files.proofs.layout.layout_of.Goals as goal
 
 pub returns-in-Ok-clause-ok : goal.returns-in-Ok-clause-ok
 returns-in-Ok-clause-ok c =
-    let g = c.in-Ok-Some.given in
+    let g = c.given.inside in
     let given : Parts = record { ranks = g.ranks; world = g.world; sends = g.sends; comms = g.comms.items } in
-    let told : parts_in (view c.in_ok-value.value) ≡ Some given = search rules in
+    let read : parts_in (view c.in_ok-value.value) ≡ Some c.in-Ok-Some.given = search rules in
+    let told : parts_in (view c.in_ok-value.value) ≡ Some given = read ∙ sym (ap Some c.given.view_is) in
     (given, (view c.in_ok-value.value, c.in_ok-value.ensures.ok, told), c.in-Ok.ensures.none, c.in-Ok.ensures.ok)
 
 pub returns : goal.returns
 returns c =
-    let g = c.in-Ok-Some.given in
+    let g = c.given.inside in
     let given : Parts = record { ranks = g.ranks; world = g.world; sends = g.sends; comms = g.comms.items } in
-    let told : parts_in (view c.in_ok-value.value) ≡ Some given = search rules in
+    let read : parts_in (view c.in_ok-value.value) ≡ Some c.in-Ok-Some.given = search rules in
+    let told : parts_in (view c.in_ok-value.value) ≡ Some given = read ∙ sym (ap Some c.given.view_is) in
     record {
       ok = tt;
       err = (given, (view c.in_ok-value.value, c.in_ok-value.ensures.ok, told), c.in-Err-of_comms.ensures.fault c.in_default.not-Memory);

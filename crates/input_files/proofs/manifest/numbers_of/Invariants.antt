@@ -1,4 +1,4 @@
-use Rattle.std.proofs.Common.{◌≡◌, ◌≤◌, ◌++◌, ℕ, List, Option, drop}
+use Rattle.std.proofs.Common.{◌≡◌, ◌≤◌, ◌++◌, drop}
 use Rattle.serde_json.specs.View.{items_view}
 use Rattle.input_files.specs.Manifests.{numbers_from}
 use Rattle.input_files.proofs.manifest.numbers_of.Given as goal
