@@ -1,5 +1,6 @@
 -- The command line of the program, as clap reads it.
 use Rattle.std.specs.Prelude.{◌≡◌, ◌∷◌, ℕ, Bool, List, [], Option, Some, None, if◌then◌else◌, false, true, codes, map, option_map, option_and_then}
+use denote.Bor.{Bor}
 use Rattle.std.specs.Str.{bytes_eq}
 use Rattle.std.specs.Str.Parse.{digits_value, without_leading_plus}
 use Rattle.clap.specs.Words.{App, IsAmong, Row, Rule, Text, all_of, fault_of, first_of, kind_of, new_app, new_rule, subcommand_of, with_rule, with_subcommand}
@@ -19,6 +20,14 @@ use Rattle.command_line.specs.declared.CommandFault.TheVariants.{Memory, Shown, 
 use Rattle.command_line.specs.declared.Wanted.{Wanted}
 use Rattle.command_line.specs.declared.Verb.{Verb}
 use Rattle.command_line.specs.declared.Verb.TheVariants.{Explain, ExplainRank, Graph, Report, ReportJson, Replay, Cluster, Check, Pack}
+
+-- the texts behind these references
+abbrev pub texts_of : List (Bor Text) → List Text
+texts_of texts = map (λ t. t.now) texts
+
+-- the text behind a reference, where there is one
+abbrev pub text_of : Option (Bor Text) → Option Text
+text_of text = option_map (λ t. t.now) text
 
 -- a file that has to be named
 abbrev pub file_rule : Text → Rule
@@ -142,8 +151,8 @@ pub data Request : Type 0 where
 -- what the words ask for
 abbrev pub request_of : Asked → Request
 request_of (asked.Pair verb layout manifest) = pair verb layout.now manifest.now
-request_of (asked.Files verb names) = files verb (map (λ n. n.now) names.items)
-request_of (asked.Init names wanted) = init (map (λ n. n.now) names.items) (wish_of wanted)
+request_of (asked.Files verb names) = files verb (texts_of names.items)
+request_of (asked.Init names wanted) = init (texts_of names.items) (wish_of wanted)
 
 -- a report, as JSON where the value of the flag says so
 abbrev pub report_in : Text → Verb

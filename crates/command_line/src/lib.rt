@@ -9,10 +9,10 @@
 //! Its tests are rows of `tests/inputs.txt` and cases of `tests/cases/`, which the built program runs.
 #![tactic(auto)]
 
-ghost use Rattle.std.specs.Prelude.{◌≡◌, [], IfErr, IfOk, OnOk, Some, codes, false, map, option_and_then, option_map};
+ghost use Rattle.std.specs.Prelude.{◌≡◌, [], IfErr, IfOk, OnOk, Some, codes, false, option_and_then, option_map};
 ghost use Rattle.clap.specs.Words.{app_of, fault_of, found_of, new_app, rows_of, rule_of, subcommand_of, subcommand_rows_of};
 ghost use Rattle.clap.specs.declared.builder.command.Command.TheViews.{out-Command};
-ghost use Rattle.command_line.specs.Program.{Refuses, answering, bare, explain_app, explain_in, file_rule, files_app, files_in, force_rule, form_in, in_form, init_app, init_in, json_rule, layout_rule, wanted_of, wish_in, wish_of, manifest_rule, option_rule, pair_app, pair_in, pair_of, program, rank_rule, report_app, report_in, request_in, request_of, sends_named, sends_rule, several_rule, shown_status_of, verb_named, with_explain as and_explain, with_files as and_files, with_init as and_init, with_pair as and_pair, with_report as and_report};
+ghost use Rattle.command_line.specs.Program.{Refuses, answering, bare, explain_app, explain_in, file_rule, files_app, files_in, force_rule, form_in, in_form, init_app, init_in, json_rule, layout_rule, wanted_of, wish_in, wish_of, manifest_rule, option_rule, pair_app, pair_in, pair_of, program, rank_rule, report_app, report_in, request_in, request_of, sends_named, sends_rule, several_rule, shown_status_of, text_of, texts_of, verb_named, with_explain as and_explain, with_files as and_files, with_init as and_init, with_pair as and_pair, with_report as and_report};
 
 use clap::builder::ValueParser;
 use clap::error::ErrorKind;
@@ -122,9 +122,9 @@ fn shown_status(kind: ErrorKind) -> u8
 
 /// What the words ask for; the first word is the name of the program.
 pub fn command_of<'a>(alloc: Global, words: &'a [&'a str]) -> Result<Asked<'a>, CommandFault>
-    ensures asked { IfOk result (λ a. request_in (subcommand_of program (map (λ w. w.now) words.entry.now)) ≡ Some (request_of a)) }
-    ensures taken { OnOk result (fault_of program (map (λ w. w.now) words.entry.now) ≡ []) }
-    ensures refused { IfErr result (Refuses (map (λ w. w.now) words.entry.now)) }
+    ensures asked { IfOk result (λ a. request_in (subcommand_of program (texts_of words.entry.now)) ≡ Some (request_of a)) }
+    ensures taken { OnOk result (fault_of program (texts_of words.entry.now) ≡ []) }
+    ensures refused { IfErr result (Refuses (texts_of words.entry.now)) }
 {
     let command = match program_command(alloc) {
         Ok(command) => command,
@@ -634,7 +634,7 @@ fn verb_of(name: &str) -> Option<Verb>
 
 /// The verb with its flag, where that is set; none where a rank is no number, which `clap` has seen to.
 fn in_form(verb: Verb, json: Option<&str>, rank: Option<&str>) -> Option<Verb>
-    ensures { result ≡ in_form verb (option_map (λ t. t.now) json.entry) (option_map (λ t. t.now) rank.entry) }
+    ensures { result ≡ in_form verb (text_of json.entry) (text_of rank.entry) }
 {
     match (verb, json, rank) {
         (Verb::Explain, _, Some(text)) => explain_in(text),
@@ -676,7 +676,7 @@ fn form_in(name: &str, inner: &ArgMatches<'_>) -> Option<Verb>
 
 /// A verb over a layout and a manifest, where both are named.
 fn pair_of<'a>(verb: Verb, layout: Option<&'a str>, manifest: Option<&'a str>) -> Option<Asked<'a>>
-    ensures { option_map request_of result ≡ pair_of verb (option_map (λ t. t.now) layout.entry) (option_map (λ t. t.now) manifest.entry) }
+    ensures { option_map request_of result ≡ pair_of verb (text_of layout.entry) (text_of manifest.entry) }
 {
     match (layout, manifest) {
         (Some(layout), Some(manifest)) => Some(Asked::Pair {
@@ -729,7 +729,7 @@ fn sends_of(word: &str) -> Option<Sends>
 
 /// How sends of standard mode complete, where a word says it.
 fn named_sends(word: Option<&str>) -> Option<Sends>
-    ensures { result ≡ option_and_then sends_named (option_map (λ t. t.now) word.entry) }
+    ensures { result ≡ option_and_then sends_named (text_of word.entry) }
 {
     match word {
         Some(word) => sends_of(word),
@@ -744,7 +744,7 @@ fn wanted_of<'a>(
     manifest: Option<&'a str>,
     force: Option<&str>,
 ) -> Option<Wanted<'a>>
-    ensures { option_map wish_of result ≡ wanted_of sends (option_map (λ t. t.now) layout.entry) (option_map (λ t. t.now) manifest.entry) (option_map (λ t. t.now) force.entry) }
+    ensures { option_map wish_of result ≡ wanted_of sends (text_of layout.entry) (text_of manifest.entry) (text_of force.entry) }
 {
     match (sends, layout, manifest, force) {
         (Some(sends), Some(layout), Some(manifest), Some(force)) => Some(Wanted {
