@@ -9,6 +9,7 @@ use Rattle.trace_node.specs.Answer.{Answered}
 use Rattle.trace_explain.specs.LeftOver.{left_in, near_in, others_in, undecided_in}
 use Rattle.trace_explain.specs.Shown.{more_text, most_shown}
 use Rattle.trace_explain.specs.Started.{op_text}
+use Rattle.trace_explain.specs.declared.left_over.LeftOver.{LeftOver}
 
 -- `rank 1, call 3: ` and the operation of the call
 abbrev pub named_call_text : View → OpName → List ℕ
@@ -56,6 +57,10 @@ receives_head = codes "\nLeft over are receives of waiting ranks that no message
 abbrev pub left_text : View → List OpName → List OpName → List OpName → List (OpName × OpName) → List ℕ
 left_text view messages undecided receives near =
     calls_below view messages_head messages ++ calls_below view undecided_head undecided ++ calls_below view receives_head receives ++ near_below view near
+
+-- the same of what was found to be left over
+abbrev pub found_left_text : View → LeftOver → List ℕ
+found_left_text view left = left_text view left.messages.left.items left.messages.undecided.items left.receives.items left.near.items
 
 -- what is left over
 abbrev pub left_over_text : Answered → View → List Ops → List ℕ

@@ -75,10 +75,14 @@ abbrev pub group_text : List Said → Option Said → List Said → List ℕ
 group_text before None after = []
 group_text before (Some s) after = if list_any (is_alike s) before then [] else line_text s (s.rank ∷ ranks_alike s after)
 
+-- what is written at a place of a list: the line of its rank, with those behind it
+abbrev pub group_at : ℕ → List Said → List ℕ
+group_at i lines = group_text (take i lines) (slice_get lines i) (drop (suc i) lines)
+
 -- the lines of the first ranks of a list
 abbrev pub groups_text : List Said → ℕ → List ℕ
 groups_text lines zero = []
-groups_text lines (suc i) = groups_text lines i ++ group_text (take i lines) (slice_get lines i) (drop (suc i) lines)
+groups_text lines (suc i) = groups_text lines i ++ group_at i lines
 
 -- the lines of a section
 abbrev pub section_text : List Said → List ℕ

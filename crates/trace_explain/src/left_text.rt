@@ -3,7 +3,7 @@
 ghost use Rattle.std.specs.Prelude.{◌≡◌};
 ghost use Rattle.std.specs.List.{flat_map};
 ghost use Rattle.call_words.specs.Texts.{Adds};
-ghost use Rattle.trace_explain.specs.LeftText.{call_line, calls_below, left_over_text, left_text, messages_head, named_call_text, near_below, near_line, receives_head, these_calls, these_near, undecided_head};
+ghost use Rattle.trace_explain.specs.LeftText.{call_line, calls_below, found_left_text, left_over_text, messages_head, named_call_text, near_below, near_line, receives_head, these_calls, these_near, undecided_head};
 
 use crate::left_over::{LeftOver, left_over};
 use crate::shown::{MOST_SHOWN, put_more, shown};
@@ -124,7 +124,7 @@ fn receives_head() -> &'static [u8]
 
 /// Calls of messages and of receives, and nearest misses.
 fn put_left(out: &mut Text, know: &Knowledge, left: &LeftOver)
-    ensures { Adds out.old out.new (left_text know.now left.now.messages.left.items left.now.messages.undecided.items left.now.receives.items left.now.near.items) }
+    ensures { Adds out.old out.new (found_left_text know.now left.now) }
 {
     put_calls_below(out, know, messages_head(), &left.messages.left);
     put_calls_below(out, know, undecided_head(), &left.messages.undecided);

@@ -83,7 +83,7 @@ pub(crate) fn lines_of(
     hearts: &[Option<u32>],
     in_heart: bool,
 ) -> Result<Vec<Line>, AllocError>
-    ensures { IfOk result (λ lines. map said lines.items ≡ lines_of ops.now answer.now know.now hearts.now in_heart answer.now.stuck) }
+    ensures { IfOk result (λ v. map said v.items ≡ lines_of ops.now answer.now know.now hearts.now in_heart answer.now.stuck) }
 {
     let mut lines = Vec::new(alloc);
     for stuck in answer.stuck() {

@@ -3,7 +3,7 @@
 ghost use Rattle.std.specs.Prelude.{◌≡◌, ◌∷◌, ◌<◌, IfOk, drop, length, map, slice_get, suc, take};
 ghost use Rattle.std.specs.List.{list_any};
 ghost use Rattle.call_words.specs.Texts.{Adds};
-ghost use Rattle.trace_explain.specs.Sections.{alone_text, group_text, headed_text, is_alike, groups_text, line_text, ranks_alike, said, section_text, together_text, who_text};
+ghost use Rattle.trace_explain.specs.Sections.{alone_text, group_at, headed_text, is_alike, groups_text, line_text, ranks_alike, said, section_text, together_text, who_text};
 
 use crate::line::Line;
 use call_words::{Text, put_ranges, put_seconds};
@@ -86,7 +86,7 @@ pub(crate) fn put_line(out: &mut Text, line: &Line, ranks: &[u32])
 /// The line of a rank with those behind it that stand alike, where none before it does.
 fn put_group(alloc: Global, out: &mut Text, lines: &[Line], i: usize)
     requires { i < length lines.now }
-    ensures { Adds out.old out.new (group_text (take i (map said lines.now)) (slice_get (map said lines.now) i) (drop (suc i) (map said lines.now))) }
+    ensures { Adds out.old out.new (group_at i (map said lines.now)) }
 {
     let line = &lines[i];
     if has_alike(line, &lines[..i]) {
