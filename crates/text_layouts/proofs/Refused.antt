@@ -7,7 +7,7 @@ use Rattle.mpi_model.specs.declared.layout.Sends.{Sends}
 use Rattle.mpi_model.specs.declared.layout.fault.LayoutFault.TheVariants.{RankCount}
 use Rattle.comm_makings.specs.World.{world_of}
 use Rattle.comm_makings.specs.declared.calls.RankCalls.{RankCalls}
-use Rattle.layout_files.specs.Values.{layout_value, manifest_value}
+use Rattle.layout_files.specs.Values.{layout_value, manifest_value, parts_of}
 use Rattle.text_layouts.specs.Making.{RefusesLayout, RefusesLayoutFile, RefusesMaking, RefusesManifestFile, RefusesWorld}
 use Rattle.text_layouts.specs.declared.fault.MadeFault.{MadeFault}
 use Rattle.text_layouts.specs.declared.fault.MadeFault.TheVariants as faults
@@ -40,7 +40,7 @@ by_layout sends files ranks n world comms fault n_is world_is h =
     layout_refused sends files ranks comms fault (subst (λ (m : ℕ). RefusesLayout m (world_of ranks) comms fault) n_is (subst (λ (w : ℕ). RefusesLayout n w comms fault) world_is h))
 
 file_refused : (sends : Sends) (files : List (List ℕ)) (ranks : List RankCalls) (comms : List Communicator) (fault : MadeFault)
-    → RefusesLayoutFile (layout_value (record { ranks = length ranks; world = world_of ranks; sends = sends; comms = comms })) fault → RefusesMaking sends files ranks fault
+    → RefusesLayoutFile (layout_value (parts_of (length ranks) (world_of ranks) sends comms)) fault → RefusesMaking sends files ranks fault
 file_refused sends files ranks comms faults.Memory h = tt
 file_refused sends files ranks comms (faults.Size rank size) h = absurd h
 file_refused sends files ranks comms (faults.World first second) h = absurd h
@@ -49,11 +49,11 @@ file_refused sends files ranks comms faults.LayoutFile h = record { comms = comm
 file_refused sends files ranks comms faults.ManifestFile h = absurd h
 
 pub by_file : (sends : Sends) (files : List (List ℕ)) (ranks : List RankCalls) (n world : ℕ) (comms : List Communicator) (fault : MadeFault) → n ≡ length ranks → world ≡ world_of ranks
-    → RefusesLayoutFile (layout_value (record { ranks = n; world = world; sends = sends; comms = comms })) fault → RefusesMaking sends files ranks fault
+    → RefusesLayoutFile (layout_value (parts_of n world sends comms)) fault → RefusesMaking sends files ranks fault
 by_file sends files ranks n world comms fault n_is world_is h =
     file_refused sends files ranks comms fault
-    (subst (λ (m : ℕ). RefusesLayoutFile (layout_value (record { ranks = m; world = world_of ranks; sends = sends; comms = comms })) fault) n_is
-    (subst (λ (w : ℕ). RefusesLayoutFile (layout_value (record { ranks = n; world = w; sends = sends; comms = comms })) fault) world_is h))
+    (subst (λ (m : ℕ). RefusesLayoutFile (layout_value (parts_of m (world_of ranks) sends comms)) fault) n_is
+    (subst (λ (w : ℕ). RefusesLayoutFile (layout_value (parts_of n w sends comms)) fault) world_is h))
 
 pub by_manifest : (sends : Sends) (files : List (List ℕ)) (ranks : List RankCalls) (fault : MadeFault) → RefusesManifestFile (manifest_value files) fault → RefusesMaking sends files ranks fault
 by_manifest sends files ranks faults.Memory h = tt

@@ -6,8 +6,9 @@ use Rattle.mpi_model.specs.Layouts.{fault_of}
 use Rattle.mpi_model.specs.declared.layout.Sends.{Sends}
 use Rattle.comm_makings.specs.World.{world_fault, world_of}
 use Rattle.comm_makings.specs.declared.answer.DeriveFault.TheVariants as derives
+use Rattle.comm_makings.specs.declared.answer.Derived.{Derived}
 use Rattle.comm_makings.specs.declared.calls.RankCalls.{RankCalls}
-use Rattle.layout_files.specs.Values.{layout_value, line_of, manifest_value}
+use Rattle.layout_files.specs.Values.{layout_value, line_of, manifest_value, parts_of}
 use Rattle.text_layouts.specs.Sizes.{size_fault}
 use Rattle.text_layouts.specs.declared.fault.MadeFault.{MadeFault}
 use Rattle.text_layouts.specs.declared.fault.MadeFault.TheVariants as faults
@@ -33,6 +34,10 @@ RefusesLayout ranks world comms faults.Memory = Unit {0}
 RefusesLayout ranks world comms (faults.Layout fault) = fault_of ranks world comms ≡ Some fault
 RefusesLayout ranks world comms _ = ⊥
 
+-- the value of the layout of so many ranks, with the communicators that were derived
+abbrev pub made_layout : ℕ → Sends → Derived → Json
+made_layout ranks sends derived = layout_value (parts_of ranks derived.world sends derived.comms.items)
+
 -- why the file of the layout isn't made: it is too long
 abbrev pub RefusesLayoutFile : Json → MadeFault → Type 0
 RefusesLayoutFile value faults.Memory = Unit {0}
@@ -48,7 +53,7 @@ RefusesManifestFile value _ = ⊥
 -- Some communicators of these ranks make no layout, by a rule of layouts or since its file is too long.
 pub record RefusesComms (sends : Sends) (ranks : List RankCalls) (fault : MadeFault) : Type 0 where
   pub comms : List Communicator
-  pub why : RefusesLayout (length ranks) (world_of ranks) comms fault ⊎ RefusesLayoutFile (layout_value (record { ranks = length ranks; world = world_of ranks; sends = sends; comms = comms })) fault
+  pub why : RefusesLayout (length ranks) (world_of ranks) comms fault ⊎ RefusesLayoutFile (layout_value (parts_of (length ranks) (world_of ranks) sends comms)) fault
 
 -- Why no layout is made: the size or the number of the world, the communicators, or the manifest.
 abbrev pub RefusesMaking : Sends → List (List ℕ) → List RankCalls → MadeFault → Type 0

@@ -3,9 +3,9 @@
 ghost use Rattle.std.specs.Prelude.{◌≡◌, ◌<◌, ◌^◌, IfErr, IfOk, None, OnOk, length, map, string_bytes};
 ghost use Rattle.mpi_model.specs.Layouts.{Holds, fault_of};
 ghost use Rattle.comm_makings.specs.World.{world_fault, world_of};
-ghost use Rattle.layout_files.specs.Values.{layout_value, line_of, manifest_value};
+ghost use Rattle.layout_files.specs.Values.{line_of, manifest_value};
 ghost use Rattle.text_layouts.specs.Sizes.{other_size, size_fault};
-ghost use Rattle.text_layouts.specs.Making.{IsFile, RefusesLayout, RefusesLayoutFile, RefusesMaking, RefusesManifestFile, RefusesWorld};
+ghost use Rattle.text_layouts.specs.Making.{IsFile, RefusesLayout, RefusesLayoutFile, RefusesMaking, RefusesManifestFile, RefusesWorld, made_layout};
 
 use crate::fault::MadeFault;
 use crate::size::other_size;
@@ -113,8 +113,8 @@ fn layout_file_of(
     sends: Sends,
     derived: &Derived,
 ) -> Result<Vec<u8>, MadeFault>
-    ensures ok { IfOk result (λ file. IsFile (layout_value (record { ranks = ranks; world = derived.now.world; sends = sends; comms = derived.now.comms.items })) file.items) }
-    ensures fault { IfErr result (λ e. RefusesLayoutFile (layout_value (record { ranks = ranks; world = derived.now.world; sends = sends; comms = derived.now.comms.items })) e) }
+    ensures ok { IfOk result (λ file. IsFile (made_layout ranks sends derived.now) file.items) }
+    ensures fault { IfErr result (λ e. RefusesLayoutFile (made_layout ranks sends derived.now) e) }
 {
     let file = layout_bytes(alloc, ranks, derived.world, sends, &derived.comms)?;
     if file.len() > LONGEST_FILE {
@@ -150,7 +150,7 @@ pub fn made_of(
     ensures sizes { OnOk result (size_fault ranks.now ≡ None) }
     ensures layout { IfOk result (λ m. Holds (length ranks.now) m.derived.world sends m.derived.comms.items m.layout) }
     ensures rules { IfOk result (λ m. fault_of (length ranks.now) m.derived.world m.derived.comms.items ≡ None) }
-    ensures layout_file { IfOk result (λ m. IsFile (layout_value (record { ranks = length ranks.now; world = m.derived.world; sends = sends; comms = m.derived.comms.items })) m.layout_file.items) }
+    ensures layout_file { IfOk result (λ m. IsFile (made_layout (length ranks.now) sends m.derived) m.layout_file.items) }
     ensures manifest_file { IfOk result (λ m. IsFile (manifest_value (map string_bytes files.now)) m.manifest_file.items) }
     ensures fault { IfErr result (RefusesMaking sends (map string_bytes files.now) ranks.now) }
 {
