@@ -37,6 +37,27 @@ fn is_run(first: u64, count: u32) -> bool
     count > 0 && first < PLACES && count as u64 <= PLACES - first
 }
 
+/// An event has no fewer bytes than its codes and its times.
+const LEAST_EVENT: usize = 18;
+
+/// How many times the cells that came may come at once more.
+const MORE_CELLS: usize = 8;
+
+/// Room for further cells of a run, where there is none: for some times as many as came, but for no more than are left or
+/// than the payload can hold. So a list is seldom moved, and memory follows the bytes that came. Without memory for so
+/// many there is room for none, and the list grows by itself.
+#[inline(always)]
+fn make_room(cells: &mut Vec<Known>, left: u32, window: &Window)
+    ensures { cells.new.items ≡ cells.old.items }
+{
+    if cells.len() == cells.capacity() {
+        let held = window.held().len();
+        let came = (cells.len().saturating_mul(MORE_CELLS)).max(held / LEAST_EVENT);
+        let coming = held.saturating_add(window.coming()) / LEAST_EVENT;
+        let _ = cells.reserve(came.min(coming).min(left as usize));
+    }
+}
+
 /// What stands at so many places from one on. Memory grows with the cells that are there, whatever the count says.
 fn knowns_of<R: Read>(
     alloc: Global,
@@ -55,6 +76,7 @@ fn knowns_of<R: Read>(
     let mut cells = Vec::new(alloc);
     for at in 0..count {
         let known = field!(next_known(alloc, reader, window, first + at as u64));
+        make_room(&mut cells, count - at, window);
         match cells.push(known) {
             Ok(()) => {}
             Err(_) => return Err(Unread::Payload(WireFault::Memory)),

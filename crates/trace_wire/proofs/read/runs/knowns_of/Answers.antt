@@ -14,7 +14,7 @@ loop-at-init g c = record {
 
 pub loop-at-preserved : goal.loop-at-preserved
 loop-at-preserved g c = record {
-  far = rw c.in-Ok-push.ensures.items (knowns_next _ _ _ _ _ _ c.args.first c.args.count c.loop-at.at c.loop-at.cells.items c.in-Ok.found c.loop-at-test.true c.loop-at.invariant.far c.in-Ok.ensures.ok);
+  far = rw c.in-Ok-push.ensures.items (rw c.make_room.ensures (knowns_next _ _ _ _ _ _ c.args.first c.args.count c.loop-at.at c.loop-at.cells.items c.in-Ok.found c.loop-at-test.true c.loop-at.invariant.far c.in-Ok.ensures.ok));
   no_failure = c.in-Ok.ensures.no_failure ∙ c.loop-at.invariant.no_failure;
   beside = leaves_both _ _ _ c.loop-at.invariant.beside c.in-Ok.ensures.beside;
 }
