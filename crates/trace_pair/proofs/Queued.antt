@@ -1,5 +1,5 @@
 -- Where the messages and receives of an index stand.
-use Rattle.std.proofs.Common.{subst, cond, ◌≡◌, ℕ, Bool, true, false, ◌&&◌, ◌||◌, List, ⊎_elim, sym, refl, ◌∙◌, ap, arith, ◌⊎◌, Option, Some, None, eqb}
+use Rattle.std.proofs.Common.{subst, cond, ◌≡◌, ℕ, Bool, true, false, ◌&&◌, ◌||◌, List, ⊎_elim, sym, refl, ◌∙◌, ap, arith, Option, Some, None, eqb}
 use Rattle.std.specs.Prelude.{is_some, is_none, IfSome, IfNone}
 use Rattle.std.specs.Ordering.{is_eq, is_gt}
 use Rattle.std.specs.BTreeMap.{BTreeMap, IsOrdered}

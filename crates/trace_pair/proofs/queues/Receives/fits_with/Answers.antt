@@ -1,4 +1,4 @@
-use Rattle.std.proofs.Common.{◌∙◌, sym, subst, List, None, Option}
+use Rattle.std.proofs.Common.{◌∙◌, sym, subst, List, None}
 use Rattle.mpi_model.specs.declared.message.Receive.{Receive}
 use Rattle.trace_pair.specs.Queues.{of_kind, IsBestAmong, SomeFits}
 use Rattle.trace_pair.proofs.Queued.{best_none, best_some, kind_none, receive_key_if}
