@@ -34,6 +34,7 @@ pub mod LaterEnds
 pub mod Laned
 pub mod LaneSteps
 pub mod LaneKeys
+pub mod Turned
 pub mod Twice
 pub mod Slotted
 pub mod Mutual

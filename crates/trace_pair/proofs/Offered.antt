@@ -1,6 +1,7 @@
 -- All messages with what takes each, as a receive asks for one and takes it.
 use Rattle.std.proofs.Common.{subst, ◌≡◌, ℕ, suc, List, [], ◌∷◌, sym, refl, ◌∙◌, ap, cond, Option, Some, None, length}
-use Rattle.std.specs.Prelude.{replicate, is_some, IfSome}
+use Rattle.std.proofs.lemmas.List.{length-set}
+use Rattle.std.specs.Prelude.{replicate, is_some, slice_set, IfSome}
 use Rattle.std.specs.Ordering.{is_eq}
 use Rattle.std.specs.BTreeMap.{BTreeMap, IsOrdered}
 use Rattle.mpi_model.specs.declared.message.Message.{Message}
@@ -11,7 +12,7 @@ use Rattle.trace_pair.specs.Waiting.{from_waiting, places_at, sole_of, ArePlaces
 use Rattle.trace_pair.specs.declared.pair.Taker.{Taker}
 use Rattle.trace_pair.proofs.Orders.{exact_lanes, exact_queues, lanes_total, queues_total}
 use Rattle.trace_pair.proofs.Queued.{queue, lane, queue_fits, fits_queue, lane_fits, fits_lane}
-use Rattle.trace_pair.proofs.Waited.{places_passed}
+use Rattle.trace_pair.proofs.Waited.{places_passed, places_with}
 use Rattle.trace_pair.proofs.SolePlaces.{line_at, sole_in}
 
 abbrev nones : List Message → List (Option Taker)
@@ -44,6 +45,19 @@ module _ (ms : List Message) (ts : List (Option Taker)) (queues : BTreeMap Queue
     laned = places_passed lanes_total exact_lanes lane_of ms ts made new key placed ordered
         (subst (λ (vs : List (Option Taker)). (k : Lane) → places_at lane_cmp new k ≡ cond (is_eq (lane_cmp key k)) (from_waiting vs (places_at lane_cmp made k)) (places_at lane_cmp made k)) e law);
   }
+
+  -- a message more is taken
+  pub takings_with : (us : List (Option Taker)) (place : ℕ) (t : Taker) → us ≡ slice_set ts place (Some t) → AreTakings ms us queues lanes
+  takings_with us place t e = subst (λ (vs : List (Option Taker)). AreTakings ms vs queues lanes) (sym e) (record {
+    rise = are.rise;
+    many = length-set ts place (Some t) ∙ are.many;
+    queued = places_with queue_cmp queue_of ms ts place t queues are.queued;
+    laned = lanes_with lanes are.laned;
+  })
+    where
+      lanes_with : (had : Option (BTreeMap Lane (List ℕ))) → IfSome had (ArePlaces lane_cmp lane_of ms ts) → IfSome had (ArePlaces lane_cmp lane_of ms (slice_set ts place (Some t)))
+      lanes_with None h = tt
+      lanes_with (Some made) h = places_with lane_cmp lane_of ms ts place t made h
 
   -- the lanes that there were, or new ones
   pub lanes_made : (had : Option (BTreeMap Lane (List ℕ))) (made : BTreeMap Lane (List ℕ)) (ns : List Message) → had ≡ lanes → ns ≡ ms →

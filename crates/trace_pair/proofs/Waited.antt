@@ -1,7 +1,7 @@
 -- Places of messages at keys, as one comes, as some are passed, and as a message is taken.
 use Rattle.std.proofs.Common.{subst, ◌≡◌, ℕ, zero, suc, ◌+◌, ◌<◌, Bool, true, false, List, [], ◌∷◌, ◌++◌, inl, inr, ⊎_elim, sym, refl, ◌∙◌, ap, arith, ◌⊎◌, cond, Option, Some, None, Result, Ok, Err, length, drop, take, get_or}
 use Rattle.std.proofs.lemmas.List.{take_more, length-take-le}
-use Rattle.std.specs.Prelude.{slice_get, IfOk}
+use Rattle.std.specs.Prelude.{slice_get, slice_set, IfOk}
 use Rattle.std.specs.declared.cmp.Ordering.{Ordering}
 use Rattle.std.specs.Ordering.{is_eq}
 use Rattle.std.specs.Cmp.{IsTotalOrder}
@@ -219,3 +219,20 @@ module _ {K : Type 0} {cmp : K → K → Ordering} (keys : IsTotalOrder cmp) (ex
   places_next ms i d ts old new lt live are ordered law =
       subst (λ (l : List Message). ArePlaces cmp key_of l ts new) (sym (take_more ms i d lt))
       (places_more (take i ms) (get_or ms i d) ts i old new (sym (length-take-le i ms (omega arith))) live are ordered law)
+
+-- where one more is taken, the places stand as they are
+waits_less : (ts : List (Option Taker)) (place : ℕ) (t : Taker) (i : ℕ) → waits_at (slice_set ts place (Some t)) i ≡ true → waits_at ts i ≡ true
+waits_less [] place t i h = h
+waits_less (x ∷ ts) zero t zero h = absurd (cc)
+waits_less (x ∷ ts) zero t (suc i) h = h
+waits_less (x ∷ ts) (suc place) t zero h = h
+waits_less (x ∷ ts) (suc place) t (suc i) h = waits_less ts place t i h
+
+pub places_with : {K : Type 0} (cmp : K → K → Ordering) (key_of : Message → K) (ms : List Message) (ts : List (Option Taker)) (place : ℕ) (t : Taker) (places : BTreeMap K (List ℕ)) → ArePlaces cmp key_of ms ts places
+    → ArePlaces cmp key_of ms (slice_set ts place (Some t)) places
+places_with cmp key_of ms ts place t places are = record {
+  ordered = are.ordered;
+  all = λ i m e l w. are.all i m e l (waits_less ts place t i w);
+  own = are.own;
+  rise = are.rise;
+}

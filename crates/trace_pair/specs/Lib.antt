@@ -5,6 +5,7 @@ pub mod Barriers
 pub mod Reach
 pub mod Matching
 pub mod Table
+pub mod Turns
 pub mod Searched
 pub mod Certainty
 pub mod Rising

@@ -15,8 +15,8 @@
 //!
 //! - [`pair`]: a pair, and the two sides of one
 //! - [`scratch`]: the pairing from scratch; [`batch`]: its pass over all receives; [`takings`]: all
-//!   messages with what takes each; [`places`]: where those that wait stand; [`ends`]: the ends of receives, and
-//!   whether some of them may take a message
+//!   messages with what takes each; [`turns`]: in little memory; [`places`]: where those that wait stand;
+//!   [`ends`]: the ends of receives, and whether some of them may take a message
 //! - [`rules`]: whether names are one, and a message is its receiver's own; [`reach`]: which messages come after which
 //!   receives, asked of a table
 //! - [`rows`], [`near`], [`table`]: the pairs and the postponed messages, their order by the receive,
@@ -57,6 +57,7 @@ mod slots;
 mod table;
 mod takings;
 mod together;
+mod turns;
 mod whole;
 
 pub use ends::Ends;

@@ -3,23 +3,13 @@
 
 ghost use Rattle.std.specs.Prelude.{◌≡◌, ◌++◌, ◌∷◌, [], None, OnOk, IfOk, drop, slice_get};
 ghost use Rattle.std.specs.BTreeMap.{IsOrdered, get};
-ghost use Rattle.trace_pair.specs.Waiting.{AddsPlace, DropsTaken, waits_at, from_waiting, is_followed, is_of_call, call_at, sole_of, places_at};
+ghost use Rattle.trace_pair.specs.Waiting.{AddsPlace, DropsTaken, from_waiting, is_followed, is_of_call, call_at, sole_of, places_at};
 
-use crate::pair::Taker;
+use crate::turns::Turns;
 use mpi_model::Message;
 use std::alloc::{AllocError, Global};
 use std::collections::{BTreeMap, VecDeque};
 use std::marker::Model;
-
-/// Whether the message at a place waits.
-fn waits_at(takers: &[Option<Taker>], place: usize) -> bool
-    ensures { result ≡ waits_at takers.now place }
-{
-    match takers.get(place) {
-        Some(None) => true,
-        _ => false,
-    }
-}
 
 /// Places, the first in front.
 #[derive(Drop)]
@@ -68,12 +58,12 @@ impl Places {
     }
 
     /// The first place at which a message waits. Those before it go.
-    fn first_waiting(&mut self, takers: &[Option<Taker>]) -> Option<usize>
+    fn first_waiting(&mut self, takers: &Turns) -> Option<usize>
         ensures first { result ≡ slice_get (from_waiting takers.now self.old) 0 }
         ensures left { self.new ≡ from_waiting takers.now self.old }
     {
         while let Some(place) = self.front() {
-            if waits_at(takers, place) {
+            if takers.waits_at(place) {
                 return Some(place);
             }
             self.pop();
@@ -82,7 +72,7 @@ impl Places {
     }
 
     /// Whether a message waits behind the one in front that is of its call.
-    fn has_sibling(&self, messages: &[Message], takers: &[Option<Taker>], call: u64) -> bool
+    fn has_sibling(&self, messages: &[Message], takers: &Turns, call: u64) -> bool
         ensures { result ≡ is_followed messages.now takers.now call (drop 1 self.now) }
     {
         let mut next = 1;
@@ -90,7 +80,7 @@ impl Places {
             if !is_of_call(messages, place, call) {
                 return false;
             }
-            if waits_at(takers, place) {
+            if takers.waits_at(place) {
                 return true;
             }
             next += 1;
@@ -100,7 +90,7 @@ impl Places {
 
     /// The first place at which a message waits, if no other one of its call does. Those before the first
     /// go.
-    fn sole_waiting(&mut self, messages: &[Message], takers: &[Option<Taker>]) -> Option<usize>
+    fn sole_waiting(&mut self, messages: &[Message], takers: &Turns) -> Option<usize>
         ensures sole { result ≡ sole_of messages.now takers.now (from_waiting takers.now self.old) }
         ensures left { self.new ≡ from_waiting takers.now self.old }
     {
@@ -139,7 +129,7 @@ pub(crate) fn sole_at<K: Ord>(
     places: &mut BTreeMap<K, Places>,
     key: &K,
     messages: &[Message],
-    takers: &[Option<Taker>],
+    takers: &Turns,
 ) -> Option<usize>
     ensures sole { result ≡ sole_of messages.now takers.now (from_waiting takers.now (places_at K.cmp places.old key.now)) }
     ensures left { DropsTaken K.cmp key.now takers.now places.old places.new }

@@ -1,7 +1,7 @@
 //! All messages, in their order, with what takes each; those that wait are found by a receive that
 //! they fit.
 
-ghost use Rattle.std.specs.Prelude.{◌≡◌, ◌<◌, true, false, Some, IfOk, IfSome, OnOk, is_some, length, replicate, List, None, Option};
+ghost use Rattle.std.specs.Prelude.{◌≡◌, ◌<◌, true, false, Some, IfOk, IfSome, OnOk, is_some, length, List, None, Option};
 ghost use Rattle.trace_pair.specs.KeyOrders.{queue_cmp, queue_of, lane_cmp, lane_of};
 ghost use Rattle.trace_pair.specs.Rising.{AreRising};
 ghost use Rattle.trace_pair.specs.Waiting.{ArePlaces, IsSolePlace, taker_at, untaken, with_taker};
@@ -9,6 +9,7 @@ ghost use Rattle.trace_pair.specs.declared.pair.Taker.{Taker};
 
 use crate::pair::Taker;
 use crate::places::{Places, add_place, sole_at};
+use crate::turns::Turns;
 use mpi_model::{Message, Receive};
 use std::alloc::{AllocError, Global};
 use std::collections::BTreeMap;
@@ -24,12 +25,10 @@ type Lanes = BTreeMap<(u32, u32, u32), Places>;
 #[derive(Drop)]
 pub(crate) struct Takings {
     messages: Vec<Message>,
-    takers: Vec<Option<Taker>>,
+    takers: Turns,
     queues: Queues,
     /// Made when the first receive of any tag comes.
     lanes: Option<Lanes>,
-    /// The places of taken messages, as their receives came.
-    order: Vec<usize>,
 }
 
 impl Model for Takings {
@@ -37,9 +36,9 @@ impl Model for Takings {
 
     ghost Value = { Takings };
 
-    ghost view = { λ s. record { messages = s.messages.items; takers = s.takers.items } };
+    ghost view = { λ s. record { messages = s.messages.items; takers = s.takers } };
 
-    ghost invariant = { λ s. AreTakings s.messages.items s.takers.items s.queues s.lanes };
+    ghost invariant = { λ s. AreTakings s.messages.items s.takers s.queues s.lanes };
 }
 
 /// The places of the messages by queue.
@@ -84,14 +83,6 @@ fn lanes_or_new(
     }
 }
 
-/// Nothing takes any of these messages.
-fn no_takers(alloc: Global, messages: &[Message]) -> Result<Vec<Option<Taker>>, AllocError>
-    ensures { IfOk result (λ takers. takers.items ≡ replicate (length messages.now) None) }
-{
-    let takers = Vec::from_elem(alloc, None, messages.len())?;
-    Ok(takers)
-}
-
 impl Takings {
     /// Nothing takes any of these messages.
     pub(crate) fn new(alloc: Global, messages: Vec<Message>) -> Result<Takings, AllocError>
@@ -99,13 +90,12 @@ impl Takings {
         ensures { IfOk result (λ t. t ≡ untaken messages.items) }
     {
         let queues = queues_of(alloc, &messages)?;
-        let takers = no_takers(alloc, &messages)?;
+        let takers = Turns::none(alloc, messages.len())?;
         Ok(Takings {
             messages,
             takers,
             queues,
             lanes: None,
-            order: Vec::new(alloc),
         })
     }
 
@@ -123,10 +113,7 @@ impl Takings {
     pub(crate) fn taker_at(&self, place: usize) -> Option<Taker>
         ensures { result ≡ taker_at self.now place }
     {
-        match self.takers.get(place) {
-            Some(taker) => *taker,
-            None => None,
-        }
+        self.takers.at(place)
     }
 
     /// The place of the first message of a queue that waits, if no other one of its call does.
@@ -185,32 +172,12 @@ impl Takings {
         requires { place < length self.old.messages }
         ensures { OnOk result (self.new ≡ with_taker self.old place taker) }
     {
-        self.order.push(place)?;
-        self.takers[place] = Some(taker);
+        self.takers.take(place, taker)?;
         Ok(())
     }
 
-    /// Of each message how many before it are taken.
-    fn taken_before(&self, alloc: Global) -> Result<Vec<usize>, AllocError> {
-        let mut counts = Vec::with_capacity(alloc, self.takers.len())?;
-        let mut count: usize = 0;
-        for taker in &self.takers {
-            counts.push(count)?;
-            if taker.is_some() {
-                count = count.saturating_add(1);
-            }
-        }
-        Ok(counts)
-    }
-
-    /// The places of the pairs, as the receives that take them came: a start from which the sort by the
-    /// receive has nothing left to do. Nothing is claimed of that order.
+    /// The places of the pairs, nearly in order of the receive.
     pub(crate) fn places_near(&self, alloc: Global) -> Result<Vec<usize>, AllocError> {
-        let counts = self.taken_before(alloc)?;
-        let mut places = Vec::with_capacity(alloc, self.order.len())?;
-        for place in &self.order {
-            places.push(counts.get(*place).copied().unwrap_or(0))?;
-        }
-        Ok(places)
+        self.takers.places_near(alloc)
     }
 }
