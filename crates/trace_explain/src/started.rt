@@ -5,31 +5,14 @@ ghost use Rattle.call_words.specs.Texts.{Adds};
 ghost use Rattle.trace_explain.specs.Started.{brings, enters_init, enters_startall, has_parts, init_of, init_text, is_init_of, last_init, op_call_text, op_event_text, op_text, part_text, start_text, started_text, whole_call_text, whole_event_text, whole_text};
 ghost use Rattle.trace_know.specs.Cell.{shown};
 ghost use Rattle.trace_know.specs.Prefix.{event_of};
-ghost use Rattle.trace_ops.specs.Request.{is_init, started_by};
+ghost use Rattle.trace_ops.specs.Request.{started_by};
 
 use crate::left_over::named;
 use crate::standing::put_place;
 use call_words::{Text, put_call};
 use mpi_model::{Call, Event, OpName, Outs};
 use trace_know::{Cell, Knowledge};
-
-/// Whether the call describes a send or a receive, and starts nothing.
-fn is_init(call: &Call) -> bool
-    ensures { result ≡ is_init call.now }
-{
-    matches!(call, Call::SendInit(_, _) | Call::RecvInit(_))
-}
-
-/// The requests that a Start or Startall lists.
-fn started_by(call: &Call) -> &[i64]
-    ensures { result.now ≡ started_by call.now }
-{
-    match call {
-        Call::Start(request) => std::slice::from_ref(request),
-        Call::Startall(requests) => requests.as_slice(),
-        _ => &[],
-    }
-}
+use trace_ops::{is_init, started_by};
 
 /// The request that a Start or Startall lists at a place.
 fn request_at(call: &Call, part: u32) -> Option<i64>
