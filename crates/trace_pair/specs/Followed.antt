@@ -1,10 +1,10 @@
 -- The state of an index stands for these calls.
-use Rattle.std.specs.Prelude.{List, take}
+use Rattle.std.specs.Prelude.{List, [], ◌∷◌, take}
 use Rattle.mpi_model.specs.declared.message.Message.{Message}
 use Rattle.mpi_model.specs.declared.message.Receive.{Receive}
 use Rattle.trace_ops.specs.Ops.{Ops}
 use Rattle.trace_pair.specs.After.{comes_after}
-use Rattle.trace_pair.specs.Calls.{between, AreSentAlone, ArePostedAlone, IsSequence, IsPostingByCall}
+use Rattle.trace_pair.specs.Calls.{AddsMessage, AddsReceives, between, AreSentAlone, ArePostedAlone, IsSequence, IsPostingByCall}
 use Rattle.trace_pair.specs.Indexed.{IsIndexed}
 use Rattle.trace_pair.specs.Pairing.{After}
 use Rattle.trace_pair.specs.Table.{sends_of, receives_of}
@@ -16,6 +16,26 @@ pub record Indexes (after : After) (ms : List Message) (qs : List Receive) (s : 
   pub sets : IsIndexed after ms qs s.waiting s.free s.opened s.couples
   pub sent_alone : AreSentAlone ms
   pub posted_alone : ArePostedAlone qs
+
+-- whatever the state stood for, it still does
+abbrev pub KeepsCalls : Matched → Matched → Type 0
+KeepsCalls old new = (after : After) (ms : List Message) (qs : List Receive) → Indexes after ms qs old → Indexes after ms qs new
+
+-- the state stands for a message more, behind those of its sender
+abbrev pub GainsMessage : After → Message → Matched → Matched → Type 0
+GainsMessage after m old new = (ms more : List Message) (qs : List Receive) → AddsMessage ms more m → Indexes after ms qs old → Indexes after more qs new
+
+-- the state stands for a receive more, behind those of its rank
+abbrev pub GainsReceive : After → Receive → Matched → Matched → Type 0
+GainsReceive after q old new = (ms : List Message) (qs more : List Receive) → AddsReceives qs more (q ∷ []) → Indexes after ms qs old → Indexes after ms more new
+
+-- the last message of a sender is gone from what the state stands for
+abbrev pub LosesMessage : Message → Matched → Matched → Type 0
+LosesMessage m old new = (after : After) (ms more : List Message) (qs : List Receive) → AddsMessage ms more m → Indexes after more qs old → Indexes after ms qs new
+
+-- the last receive of a rank is gone from what the state stands for
+abbrev pub LosesReceive : Receive → Matched → Matched → Type 0
+LosesReceive q old new = (after : After) (ms : List Message) (qs more : List Receive) → AddsReceives qs more (q ∷ []) → Indexes after ms more old → Indexes after ms qs new
 
 -- the state stands for the calls of all ranks, where so much is known of what comes after what
 abbrev pub FollowsBy : After → List Ops → Matched → Type 0

@@ -3,6 +3,7 @@ use Rattle.std.specs.Prelude.{◌≡◌, ◌<◌, ◌⊎◌, ℕ, Bool, true, Op
 use Rattle.mpi_model.specs.declared.message.Message.{Message}
 use Rattle.mpi_model.specs.declared.message.Receive.{Receive}
 use Rattle.trace_ops.specs.Order.{Has}
+use Rattle.trace_pair.specs.Calls.{AddsReceives, ArePostedApart}
 use Rattle.trace_pair.specs.Ends.{AreLast}
 use Rattle.trace_pair.specs.Indexed.{AreSets, Found, IsIndexed, IsOfferedMessage, OffersMessage, is_of}
 use Rattle.trace_pair.specs.Pairing.{After, Paired}
@@ -26,6 +27,10 @@ pub record Settles (after : After) (ms : List Message) (qs : List Receive) (b : 
   pub opened : List Receive
   pub held : IsIndexed after ms qs (waiting_of b) b.free opened (couples_of b)
   pub last : AreLast opened b.opened
+
+-- it stands for the receives of a call more, behind those of their rank
+abbrev pub SettlesCall : After → List Receive → Batch → Batch → Type 0
+SettlesCall after call old new = (ms : List Message) (qs more : List Receive) → AddsReceives qs more call → ArePostedApart more → Settles after ms qs old → Settles after ms more new
 
 -- The same of receives of which some are done: of the pairs of all receives it has those alone whose receives are.
 pub record SettlesAmong (after : After) (ms : List Message) (all done qs : List Receive) (b : Batch) : Type 0 where

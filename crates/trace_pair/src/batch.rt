@@ -22,7 +22,7 @@ ghost use Rattle.trace_ops.specs.Order.{Has};
 ghost use Rattle.trace_pair.specs.After.{comes_after};
 ghost use Rattle.trace_pair.specs.Calls.{AddsReceives, ArePostedApart, IsOwnReceive, between, IsPosting};
 ghost use Rattle.trace_pair.specs.Indexed.{AwaitReceives, with_kind};
-ghost use Rattle.trace_pair.specs.Settled.{Settles, SettlesAmong, IsNextKind, IsNextPart, IsOfferedAt, IsTakenAt, IsWithin, couples_of, waiting_of};
+ghost use Rattle.trace_pair.specs.Settled.{Settles, SettlesAmong, SettlesCall, IsNextKind, IsNextPart, IsOfferedAt, IsTakenAt, IsWithin, couples_of, waiting_of};
 ghost use Rattle.trace_pair.specs.Sets.{AddsTo};
 ghost use Rattle.trace_pair.specs.Ends.{AreLast, NoneHides, SomeHides};
 ghost use Rattle.trace_pair.specs.Pairing.{After, receive_of};
@@ -134,7 +134,7 @@ fn taken_by(batch: &mut Batch, reaches: &Reaches, q: &Receive) -> Result<Option<
 
 /// Puts a receive that is alone of its call behind those of its rank.
 fn add_receive(batch: &mut Batch, reaches: &Reaches, q: Receive) -> Result<(), AllocError>
-    ensures { OnOk result ((ms : List Message) (qs more : List Receive) → AddsReceives qs more (q ∷ []) → ArePostedApart more → Settles (comes_after reaches.now) ms qs batch.old → Settles (comes_after reaches.now) ms more batch.new) }
+    ensures { OnOk result (SettlesCall (comes_after reaches.now) (q ∷ []) batch.old batch.new) }
 {
     if q.is_open() {
         batch.opened.insert(&q)?;
@@ -240,7 +240,7 @@ fn settle_receives(
 /// Puts the receives of a call of several parts behind those of its rank. Parts that are alike each need
 /// the other to go first, and none of them takes anything.
 fn add_parts(batch: &mut Batch, reaches: &Reaches, call: &[Receive]) -> Result<(), AllocError>
-    ensures { OnOk result ((ms : List Message) (qs more : List Receive) → AddsReceives qs more call.now → ArePostedApart more → Settles (comes_after reaches.now) ms qs batch.old → Settles (comes_after reaches.now) ms more batch.new) }
+    ensures { OnOk result (SettlesCall (comes_after reaches.now) call.now batch.old batch.new) }
 {
     enter_receives(batch, call)?;
     let found = offered_places(batch, reaches, call)?;
@@ -251,7 +251,7 @@ fn add_parts(batch: &mut Batch, reaches: &Reaches, call: &[Receive]) -> Result<(
 
 /// Puts the receives of a call behind those of its rank.
 fn add_call(batch: &mut Batch, reaches: &Reaches, call: &[Receive]) -> Result<(), AllocError>
-    ensures { OnOk result ((ms : List Message) (qs more : List Receive) → AddsReceives qs more call.now → ArePostedApart more → Settles (comes_after reaches.now) ms qs batch.old → Settles (comes_after reaches.now) ms more batch.new) }
+    ensures { OnOk result (SettlesCall (comes_after reaches.now) call.now batch.old batch.new) }
 {
     if call.len() == 1 {
         return add_receive(batch, reaches, call[0]);

@@ -7,8 +7,8 @@ ghost use Rattle.mpi_model.specs.declared.message.Receive.{Receive};
 ghost use Rattle.mpi_model.specs.Trusts.{is_settled};
 ghost use Rattle.trace_ops.specs.Order.{Has};
 ghost use Rattle.trace_pair.specs.After.{comes_after};
-ghost use Rattle.trace_pair.specs.Calls.{AddsMessage, AddsReceives};
-ghost use Rattle.trace_pair.specs.Followed.{Indexes};
+ghost use Rattle.trace_pair.specs.Calls.{AddsReceives};
+ghost use Rattle.trace_pair.specs.Followed.{GainsMessage, GainsReceive, Indexes, KeepsCalls, LosesMessage, LosesReceive};
 ghost use Rattle.trace_pair.specs.Indexed.{IsFree, OffersMessage, TakesMessage};
 ghost use Rattle.trace_pair.specs.Pairing.{After, Paired, receive_of};
 ghost use Rattle.trace_pair.specs.Table.{fits_open};
@@ -50,7 +50,7 @@ impl Matched {
         sends: usize,
         receives: usize,
     ) -> Result<(), AllocError>
-        ensures { (after : After) (ms : List Message) (qs : List Receive) → Indexes after ms qs self.old → Indexes after ms qs self.new }
+        ensures { KeepsCalls self.old self.new }
     {
         self.couples.reserve_messages(rank, sends)?;
         self.couples.reserve_receives(rank, receives)?;
@@ -132,7 +132,7 @@ fn taken_by(state: &Matched, reaches: &Reaches, q: &Receive) -> Option<Message>
 
 /// Adds a rank's next message: it goes to the first receive that the rules allow, or waits.
 fn push_message(state: &mut Matched, reaches: &Reaches, m: Message) -> Result<(), AllocError>
-    ensures { OnOk result ((ms more : List Message) (qs : List Receive) → AddsMessage ms more m → Indexes (comes_after reaches.now) ms qs state.old → Indexes (comes_after reaches.now) more qs state.new) }
+    ensures { OnOk result (GainsMessage (comes_after reaches.now) m state.old state.new) }
 {
     if m.trust.is_void() {
         return Ok(());
@@ -152,7 +152,7 @@ fn push_message(state: &mut Matched, reaches: &Reaches, m: Message) -> Result<()
 
 /// Adds a rank's next receive: it takes the first message that the rules allow, or waits.
 fn push_receive(state: &mut Matched, reaches: &Reaches, q: Receive) -> Result<(), AllocError>
-    ensures { OnOk result ((ms : List Message) (qs more : List Receive) → AddsReceives qs more (q ∷ []) → Indexes (comes_after reaches.now) ms qs state.old → Indexes (comes_after reaches.now) ms more state.new) }
+    ensures { OnOk result (GainsReceive (comes_after reaches.now) q state.old state.new) }
 {
     if q.is_open() {
         state.opened.insert(q)?;
@@ -176,7 +176,7 @@ fn push_receive(state: &mut Matched, reaches: &Reaches, q: Receive) -> Result<()
 
 /// Takes a rank's last message back, with what it had taken.
 pub(crate) fn pop_message(state: &mut Matched, m: &Message) -> Result<(), AllocError>
-    ensures { OnOk result ((after : After) (ms more : List Message) (qs : List Receive) → AddsMessage ms more m.now → Indexes after more qs state.old → Indexes after ms qs state.new) }
+    ensures { OnOk result (LosesMessage m.now state.old state.new) }
 {
     let mut anywhere = 0;
     match state.couples.of_message(&mut anywhere, m) {
@@ -194,7 +194,7 @@ pub(crate) fn pop_message(state: &mut Matched, m: &Message) -> Result<(), AllocE
 
 /// Takes a rank's last receive back, with what it had taken.
 pub(crate) fn pop_receive(state: &mut Matched, q: &Receive) -> Result<(), AllocError>
-    ensures { OnOk result ((after : After) (ms : List Message) (qs more : List Receive) → AddsReceives qs more (q.now ∷ []) → Indexes after ms more state.old → Indexes after ms qs state.new) }
+    ensures { OnOk result (LosesReceive q.now state.old state.new) }
 {
     if q.is_open() {
         state.opened.remove(q);
@@ -220,7 +220,7 @@ pub(crate) fn add_message(
     reaches: &Reaches,
     m: Message,
 ) -> Result<(), AllocError>
-    ensures { OnOk result ((ms more : List Message) (qs : List Receive) → AddsMessage ms more m → Indexes (comes_after reaches.now) ms qs state.old → Indexes (comes_after reaches.now) more qs state.new) }
+    ensures { OnOk result (GainsMessage (comes_after reaches.now) m state.old state.new) }
 {
     state.couples.expect_message(&m)?;
     push_message(state, reaches, m)?;
@@ -229,7 +229,7 @@ pub(crate) fn add_message(
 
 /// Makes room for the message of a receive, if it is settled.
 fn expect_settled(state: &mut Matched, q: &Receive) -> Result<(), AllocError>
-    ensures { (after : After) (ms : List Message) (qs : List Receive) → Indexes after ms qs state.old → Indexes after ms qs state.new }
+    ensures { KeepsCalls state.old state.new }
 {
     if !q.is_settled() {
         return Ok(());
@@ -244,7 +244,7 @@ pub(crate) fn add_receive(
     reaches: &Reaches,
     q: Receive,
 ) -> Result<(), AllocError>
-    ensures { OnOk result ((ms : List Message) (qs more : List Receive) → AddsReceives qs more (q ∷ []) → Indexes (comes_after reaches.now) ms qs state.old → Indexes (comes_after reaches.now) ms more state.new) }
+    ensures { OnOk result (GainsReceive (comes_after reaches.now) q state.old state.new) }
 {
     expect_settled(state, &q)?;
     push_receive(state, reaches, q)?;

@@ -6,14 +6,11 @@
 //! parts, and the ranks go forward together, as they did in the run: a part of each, then the next
 //! part of each.
 
-ghost use Rattle.std.specs.Prelude.{◌≡◌, ◌≤◌, ◌<◌, ◌+◌, All, List, [], OnOk};
-ghost use Rattle.mpi_model.specs.declared.message.Message.{Message};
-ghost use Rattle.mpi_model.specs.declared.message.Receive.{Receive};
+ghost use Rattle.std.specs.Prelude.{◌≡◌, ◌≤◌, ◌<◌, ◌+◌, All, [], OnOk};
 ghost use Rattle.trace_ops.specs.Ops.{AreOwn};
 ghost use Rattle.trace_pair.specs.After.{comes_after};
 ghost use Rattle.trace_pair.specs.Calls.{IsSingle};
-ghost use Rattle.trace_pair.specs.Followed.{Indexes, Follows, FollowsBy, Moves};
-ghost use Rattle.trace_pair.specs.Pairing.{After};
+ghost use Rattle.trace_pair.specs.Followed.{Indexes, Follows, FollowsBy, KeepsCalls, Moves};
 ghost use Rattle.trace_pair.specs.Parts.{first_parts, begun, all_begun};
 ghost use Rattle.trace_pair.specs.Reach.{AreReachesOf};
 
@@ -40,7 +37,7 @@ fn rank_of(ops: &RankOps) -> Option<u32> {
 
 /// Makes room for the couples of a rank's calls.
 fn reserve_rank(state: &mut Matched, own: &RankOps) -> Result<(), AllocError>
-    ensures { (after : After) (ms : List Message) (qs : List Receive) → Indexes after ms qs state.old → Indexes after ms qs state.new }
+    ensures { KeepsCalls state.old state.new }
 {
     let Some(rank) = rank_of(own) else {
         return Ok(());
@@ -51,7 +48,7 @@ fn reserve_rank(state: &mut Matched, own: &RankOps) -> Result<(), AllocError>
 /// Makes room for the couples of all ranks' calls: before any call comes, so that it stands in one
 /// piece.
 fn reserve_ranks(state: &mut Matched, ops: &[RankOps]) -> Result<(), AllocError>
-    ensures { (after : After) (ms : List Message) (qs : List Receive) → Indexes after ms qs state.old → Indexes after ms qs state.new }
+    ensures { KeepsCalls state.old state.new }
 {
     for own in ops {
         reserve_rank(state, own)?;
