@@ -1,9 +1,14 @@
 -- The edges of a picture: from a stuck rank to those for which it waits.
-use Rattle.std.specs.Prelude.{ℕ, ◌+◌, ◌==◌, Bool, true, false, if◌then◌else◌, Option, Some, None, List, [], ◌∷◌, ◌++◌, codes, decimal, map, slice_get, unwrap_or}
+use Rattle.std.specs.Prelude.{ℕ, ◌+◌, ◌==◌, Bool, true, false, if◌then◌else◌, Option, Some, None, List, [], ◌∷◌, ◌++◌, codes, decimal, map, option_map, slice_get, unwrap_or}
+use denote.Bor.{Bor}
 use Rattle.std.specs.List.{cons_option}
 use Rattle.trace_stuck.specs.Shape as waits
 use Rattle.trace_stuck.specs.Shape.{Waits, OnNothing, OnRank, OnAll, OnOne, none, and}
 use Rattle.call_words.specs.Ranges.{ranges_text}
+
+-- the nodes behind a reference, where there are some
+abbrev pub nodes_in : Option (Bor (List ℕ)) → Option (List ℕ)
+nodes_in nodes = option_map (λ n. n.now) nodes
 
 -- the node that has a rank, where the list has that of each; a rank that it lacks has its own
 abbrev pub node_at : List ℕ → ℕ → ℕ

@@ -16,9 +16,13 @@ head_text = codes "strict digraph deadlock {\n  node [shape=box];\n"
 abbrev pub node_name : ℕ → List ℕ
 node_name rank = codes "r" ++ decimal rank
 
+-- for whom a stuck rank waits, drawn from a node of this name
+abbrev pub drawn_from : List ℕ → List ℕ → Stopped → List ℕ
+drawn_from nodes name s = wait_text (Some nodes) true name (decimal s.rank) s.waits
+
 -- for whom a stuck rank waits; those that stand alike wait for the same, which is drawn at the first of them
 abbrev pub stuck_text : List ℕ → Stopped → List ℕ
-stuck_text nodes s = if node_at nodes s.rank == s.rank then wait_text (Some nodes) true (node_name s.rank) (decimal s.rank) s.waits else []
+stuck_text nodes s = if node_at nodes s.rank == s.rank then drawn_from nodes (node_name s.rank) s else []
 
 -- a picture of what is said of each rank, and of the stuck ranks
 abbrev pub picture_text : List ℕ → List Standing → List Stopped → List ℕ

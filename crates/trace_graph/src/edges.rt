@@ -1,8 +1,8 @@
 //! Edges to nodes, and points for a one-of.
 
-ghost use Rattle.std.specs.Prelude.{◌≡◌, IfOk, map, option_map};
+ghost use Rattle.std.specs.Prelude.{◌≡◌, IfOk, map};
 ghost use Rattle.call_words.specs.Texts.{Adds};
-ghost use Rattle.trace_graph.specs.Edges.{behind_text, edge_text, edges_text, is_apart, is_last, next_text, node_at, numbers_text, opening_text, origin, place_below, point_name, point_text, tip_text};
+ghost use Rattle.trace_graph.specs.Edges.{behind_text, edge_text, edges_text, is_apart, is_last, next_text, node_at, nodes_in, numbers_text, opening_text, origin, place_below, point_name, point_text, tip_text};
 
 use call_words::{Text, put_ranges};
 use std::alloc::{AllocError, Global};
@@ -82,7 +82,7 @@ pub(crate) fn put_edges(
     from: &[u8],
     ranks: &[u32],
 )
-    ensures { Adds out.old out.new (edges_text (option_map (λ n. n.now) nodes.entry) all from.now ranks.now) }
+    ensures { Adds out.old out.new (edges_text (nodes_in nodes.entry) all from.now ranks.now) }
 {
     match nodes {
         None => put_numbers(out, all, from, ranks),

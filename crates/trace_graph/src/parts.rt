@@ -1,9 +1,9 @@
 //! For whom a rank waits, drawn.
 
-ghost use Rattle.std.specs.Prelude.{◌≡◌, IfOk, map, option_map};
+ghost use Rattle.std.specs.Prelude.{◌≡◌, IfOk, map};
 ghost use Rattle.trace_stuck.specs.Shape.{shape, waits_of};
 ghost use Rattle.call_words.specs.Texts.{Adds};
-ghost use Rattle.trace_graph.specs.Edges.{list_text, nested_text, part_text, parts_text, rank_of, ranks_among, ranks_text, wait_text};
+ghost use Rattle.trace_graph.specs.Edges.{list_text, nested_text, nodes_in, part_text, parts_text, rank_of, ranks_among, ranks_text, wait_text};
 
 use crate::edges::{origin, place_below, put_edges, put_opening};
 use call_words::Text;
@@ -45,7 +45,7 @@ fn put_ranks(
     place: &[u8],
     ranks: &[u32],
 )
-    ensures { Adds out.old out.new (ranks_text (option_map (λ n. n.now) nodes.entry) outer all from.now place.now ranks.now) }
+    ensures { Adds out.old out.new (ranks_text (nodes_in nodes.entry) outer all from.now place.now ranks.now) }
 {
     put_opening(out, outer, all, from, place);
     match origin(alloc, outer, all, from, place) {
@@ -65,7 +65,7 @@ pub(crate) fn put_wait(
     place: &[u8],
     condition: &Condition,
 )
-    ensures { Adds out.old out.new (wait_text (option_map (λ n. n.now) nodes.entry) outer from.now place.now (shape condition.now)) }
+    ensures { Adds out.old out.new (wait_text (nodes_in nodes.entry) outer from.now place.now (shape condition.now)) }
 {
     match condition {
         Condition::Yes => {}
@@ -89,7 +89,7 @@ fn put_list(
     place: &[u8],
     parts: &[Condition],
 )
-    ensures { Adds out.old out.new (list_text (option_map (λ n. n.now) nodes.entry) outer all from.now place.now (waits_of (map shape parts.now))) }
+    ensures { Adds out.old out.new (list_text (nodes_in nodes.entry) outer all from.now place.now (waits_of (map shape parts.now))) }
 {
     put_opening(out, outer, all, from, place);
     match origin(alloc, outer, all, from, place) {
@@ -109,7 +109,7 @@ fn put_parts(
     place: &[u8],
     parts: &[Condition],
 )
-    ensures { Adds out.old out.new (parts_text (option_map (λ n. n.now) nodes.entry) all from.now place.now (waits_of (map shape parts.now))) }
+    ensures { Adds out.old out.new (parts_text (nodes_in nodes.entry) all from.now place.now (waits_of (map shape parts.now))) }
 {
     match ranks_among(alloc, parts) {
         Ok(ranks) => {
@@ -131,7 +131,7 @@ fn put_nested(
     place: &[u8],
     parts: &[Condition],
 )
-    ensures { Adds out.old out.new (nested_text (option_map (λ n. n.now) nodes.entry) all from.now place.now 0 (waits_of (map shape parts.now))) }
+    ensures { Adds out.old out.new (nested_text (nodes_in nodes.entry) all from.now place.now 0 (waits_of (map shape parts.now))) }
 {
     for (i, part) in parts.iter().enumerate() {
         put_part(alloc, out, nodes, all, from, place, i, part);
@@ -150,7 +150,7 @@ fn put_part(
     i: usize,
     part: &Condition,
 )
-    ensures { Adds out.old out.new (part_text (option_map (λ n. n.now) nodes.entry) all from.now place.now i (shape part.now)) }
+    ensures { Adds out.old out.new (part_text (nodes_in nodes.entry) all from.now place.now i (shape part.now)) }
 {
     if rank_of(part).is_some() {
         return;

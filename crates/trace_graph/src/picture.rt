@@ -1,12 +1,10 @@
 //! The whole picture.
 
-ghost use Rattle.std.specs.Prelude.{◌≡◌, IfOk, Some, decimal, map, true};
+ghost use Rattle.std.specs.Prelude.{◌≡◌, IfOk, decimal, map};
 ghost use Rattle.std.specs.List.{flat_map};
-ghost use Rattle.trace_stuck.specs.Shape.{shape};
 ghost use Rattle.trace_node.specs.Stopped.{stopped};
 ghost use Rattle.call_words.specs.Texts.{Adds};
-ghost use Rattle.trace_graph.specs.Edges.{wait_text};
-ghost use Rattle.trace_graph.specs.Graph.{IsGraph, head_text, node_name, picture_text, standings_text, stuck_text};
+ghost use Rattle.trace_graph.specs.Graph.{IsGraph, drawn_from, head_text, node_name, picture_text, standings_text, stuck_text};
 ghost use Rattle.trace_graph.specs.Standing.{standing};
 
 use crate::edges::node_at;
@@ -77,7 +75,7 @@ fn put_stuck(alloc: Global, out: &mut Text, nodes: &[u32], stuck: &Stuck)
 
 /// What a rank waits for, drawn from its node.
 fn put_from_node(alloc: Global, out: &mut Text, nodes: &[u32], stuck: &Stuck)
-    ensures { Adds out.old out.new (wait_text (Some nodes.now) true (node_name stuck.now.rank) (decimal stuck.now.rank) (shape stuck.now.waits)) }
+    ensures { Adds out.old out.new (drawn_from nodes.now (node_name stuck.now.rank) (stopped stuck.now)) }
 {
     match name_of(alloc, stuck.rank) {
         Ok(name) => put_from(alloc, out, nodes, &name, stuck),
@@ -87,7 +85,7 @@ fn put_from_node(alloc: Global, out: &mut Text, nodes: &[u32], stuck: &Stuck)
 
 /// What a rank waits for, drawn from a node of this name.
 fn put_from(alloc: Global, out: &mut Text, nodes: &[u32], name: &[u8], stuck: &Stuck)
-    ensures { Adds out.old out.new (wait_text (Some nodes.now) true name.now (decimal stuck.now.rank) (shape stuck.now.waits)) }
+    ensures { Adds out.old out.new (drawn_from nodes.now name.now (stopped stuck.now)) }
 {
     match number_of(alloc, stuck.rank) {
         Ok(number) => put_wait(alloc, out, Some(nodes), true, name, &number, &stuck.waits),
