@@ -3,6 +3,7 @@ use Rattle.std.specs.Prelude.{◌≡◌, ◌↔◌, ◌++◌, ℕ, Bool, true, i
 use Rattle.trace_ops.specs.declared.state.State.{State}
 use Rattle.trace_pair.specs.Table.{Table}
 use Rattle.trace_stuck.specs.declared.condition.Condition.{Condition}
+use Rattle.trace_stuck.specs.declared.verdict.Verdict.{Verdict}
 use Rattle.trace_check.specs.Right.{IsRight}
 
 -- whether both tables are the same, in a word that ends its line
@@ -39,3 +40,7 @@ abbrev pub IsCheckText : Table → Table → List State → List (Option Conditi
 IsCheckText first second states conditions stuck release text = (equal : Bool) × (valid : Bool)
     × ((equal ≡ true) ↔ (first ≡ second)) × ((valid ≡ true) ↔ IsRight states conditions stuck release)
     × (text ≡ check_text (length first.pairs) (length first.postponed) equal (length stuck) (length release) valid)
+
+-- the lines tell of two tables and of both lists of a verdict
+abbrev pub TellsCheck : Table → Table → List State → List (Option Condition) → Verdict → List ℕ → Type 0
+TellsCheck first second states conditions verdict text = IsCheckText first second states conditions verdict.stuck.items verdict.release.items text

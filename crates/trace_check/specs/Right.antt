@@ -6,6 +6,7 @@ use Rattle.trace_stuck.specs.declared.condition.Condition.{Condition}
 use Rattle.trace_stuck.specs.Release.{IsReleaseOrder, among, left}
 use Rattle.trace_stuck.specs.States.{is_waiting}
 use Rattle.trace_stuck.specs.Stuck.{IsStuck}
+use Rattle.trace_stuck.specs.declared.verdict.Verdict.{Verdict}
 
 -- the rank doesn't wait, or stands in one of the lists
 abbrev pub is_listed : List State → List ℕ → List ℕ → ℕ → Bool
@@ -22,3 +23,7 @@ pub record IsRight (states : List State) (conditions : List (Option Condition)) 
   pub once : AllPairs (λ r s. r ≢ s) stuck
   pub order : IsReleaseOrder states conditions release
   pub others : (r : ℕ) → among stuck r ≡ left states release r
+
+-- both lists of a verdict are right
+abbrev pub IsRightVerdict : List State → List (Option Condition) → Verdict → Type 0
+IsRightVerdict states conditions verdict = IsRight states conditions verdict.stuck.items verdict.release.items
