@@ -1,5 +1,6 @@
 //! Events, read from bytes.
 
+ghost use Rattle.std.specs.Prelude.{◌≡◌, List, ℕ, Some};
 ghost use Rattle.trace_wire.specs.Outcomes.{Reads};
 ghost use Rattle.trace_wire.specs.Events.{call_at, further_call_at, later_call_at, outs_at, event_at, body_at};
 ghost use Rattle.trace_wire.specs.Fields.{envelope, send_envelope, exchange, gathering, ibarrier, igathering, probe, index};
@@ -303,7 +304,21 @@ fn outs_of(alloc: Global, code: u8, bytes: &[u8]) -> Result<(Outs, &[u8]), Field
     }
 }
 
-/// An Enter or a Return, behind its kind and times.
+/// The event without fields that code 0 stands for: a call that isn't MPI's, or an outcome that tells nothing.
+#[inline(always)]
+#[tactic(auto, unfolding(crate::specs::Events::call_at, crate::specs::Events::outs_at))]
+fn plain_event(is_enter: bool, time: Stamp) -> Event
+    ensures { (bytes : List ℕ) → body_at is_enter 0 time bytes ≡ Some (result, bytes) }
+{
+    if is_enter {
+        Event::Enter(Call::Local, time)
+    } else {
+        Event::Return(Outs::Nothing, time)
+    }
+}
+
+/// An Enter or a Return, behind its kind and times. One without fields, the most common one, goes a short way: on the
+/// other one room is made for the fields of every kind.
 #[inline(always)]
 fn body_of(
     alloc: Global,
@@ -314,6 +329,9 @@ fn body_of(
 ) -> Result<(Event, &[u8]), FieldFault>
     ensures { Reads (λ x. (x.0, x.1.now)) result (body_at is_enter code time bytes.now) }
 {
+    if code == 0 {
+        return Ok((plain_event(is_enter, time), bytes));
+    }
     if is_enter {
         let (call, rest) = field!(call_of(alloc, code, bytes));
         Ok((Event::Enter(call, time), rest))
