@@ -9,10 +9,10 @@ use Rattle.command_line.specs.Program.{Refuses, files, pair}
 use Rattle.command_line.specs.declared.CommandFault.{CommandFault}
 use Rattle.command_line.specs.declared.Verb.{Verb}
 use Rattle.command_line.specs.declared.Verb.TheVariants.{Cluster}
-use Rattle.command_runs.specs.Endings.{Ask, AskOver, IsEndedBy, IsEnding, IsEndingFor, IsTurn, Output, strange_line}
+use Rattle.command_runs.specs.Endings.{Ask, AskOver, EndsCluster, IsEndedBy, IsEnding, IsEndingFor, IsTurn, Output, output_of, strange_line}
 use Rattle.command_runs.specs.Advice.{IsShown}
 use Rattle.command_runs.specs.FaultLines.{fault_line_of}
-use Rattle.command_runs.specs.Verbs.{BreaksOff, IsOutputOf, RefusesVerb}
+use Rattle.command_runs.specs.Verbs.{IsOutputOf, Ran, RefusesVerb}
 use Rattle.command_runs.specs.declared.ending.Ending.{Ending}
 use Rattle.command_runs.specs.declared.ending.Turn.{Turn}
 use Rattle.command_runs.specs.declared.fault.RunFault.{RunFault}
@@ -22,7 +22,7 @@ use Rattle.command_runs.specs.declared.fault.RunFault.TheVariants.{Memory, Write
 pub reported : (file : List ℕ → Option (List ℕ)) (words : List Text) (verb : Verb) (layout manifest : List ℕ) (text errors : List ℕ) (old new : Output)
     → AskOver words verb layout manifest → IsOutputOf file verb layout manifest text → Appends old.bytes new.bytes text → errors ≡ []
     → IsEnding file words 0 errors old new
-reported file words verb layout manifest text errors old new ask is appends silent = inl (refl, (silent, inl (verb, layout, manifest, ask, text, is, appends)))
+reported file words verb layout manifest text errors old new ask is appends silent = inl (refl, (silent, inl (verb, layout, manifest, ask, (text, is, appends))))
 
 -- memory was wanting before the words were read, and nothing was done
 pub wanting : (file : List ℕ → Option (List ℕ)) (words : List Text) (status : ℕ) (errors : List ℕ) (now : Output)
@@ -32,49 +32,41 @@ wanting file words status errors now one line = inr (inl (one, (Memory, inr (lin
 -- the run is refused, or its output could not be written
 pub not_reported : (file : List ℕ → Option (List ℕ)) (words : List Text) (verb : Verb) (layout manifest : List ℕ) (fault : RunFault) (errors : List ℕ) (old new : Output)
     → AskOver words verb layout manifest → IsShown file verb fault errors
-    → (fault ≡ Write) ⊎ RefusesVerb file verb layout manifest fault → (fault ≡ Write) ⊎ Keeps old.bytes new.bytes
+    → (fault ≡ Write) ⊎ (RefusesVerb file verb layout manifest fault × Keeps old.bytes new.bytes)
     → (fault ≡ Write → HasFailed old.failures new.failures) → IsEnding file words 1 errors old new
-not_reported file words verb layout manifest fault errors old new ask shown (inl writing) kept failed =
+not_reported file words verb layout manifest fault errors old new ask shown (inl writing) failed =
     inr (inl (refl, (fault, inl (verb, layout, manifest, ask, shown), inl (writing, failed writing))))
-not_reported file words verb layout manifest fault errors old new ask shown (inr refused) (inl writing) failed =
-    inr (inl (refl, (fault, inl (verb, layout, manifest, ask, shown), inl (writing, failed writing))))
-not_reported file words verb layout manifest fault errors old new ask shown (inr refused) (inr kept) failed =
-    inr (inl (refl, (fault, inl (verb, layout, manifest, ask, shown), inr (kept, inr (verb, layout, manifest, ask, refused)))))
+not_reported file words verb layout manifest fault errors old new ask shown (inr refused) failed =
+    inr (inl (refl, (fault, inl (verb, layout, manifest, ask, shown), inr (refused.1, inr (verb, layout, manifest, ask, refused.0)))))
 
 -- the run of what the words ask for has answered
-pub ended : (file : List ℕ → Option (List ℕ)) (words : List Text) (verb : Verb) (layout manifest : List ℕ) (ran : Result Bool RunFault) (status : ℕ) (errors : List ℕ) (old new : Output)
-    → AskOver words verb layout manifest
-    → OnOk ran ((text : List ℕ) × IsOutputOf file verb layout manifest text × Appends old.bytes new.bytes text)
-    → IfOk ran (λ held. held ≡ true)
-    → IfErr ran (λ fault. (fault ≡ Write) ⊎ RefusesVerb file verb layout manifest fault)
-    → IfErr ran (λ fault. (fault ≡ Write) ⊎ Keeps old.bytes new.bytes)
-    → (ran ≡ Err Write → BreaksOff file verb layout manifest old.bytes new.bytes old.failures new.failures)
-    → IsEndedBy file verb ran status errors → IsEnding file words status errors old new
-ended file words verb layout manifest (Ok true) status errors old new ask output held refused nothing broken is =
-    subst (λ (s : ℕ). IsEnding file words s errors old new) (sym is.0)
-    (reported file words verb layout manifest output.0 errors old new ask output.1 output.2 is.1)
-ended file words verb layout manifest (Ok false) status errors old new ask output held refused nothing broken is = absurd (cc held)
-ended file words verb layout manifest (Err fault) status errors old new ask output held refused nothing broken is =
-    subst (λ (s : ℕ). IsEnding file words s errors old new) (sym is.0)
-    (not_reported file words verb layout manifest fault errors old new ask is.1 refused nothing (λ w. (broken (ap (λ (f : RunFault). Err f) w)).3))
+pub ended : {W : Type 0} (file : List ℕ → Option (List ℕ)) (words : List Text) (verb : Verb) (layout manifest : List ℕ) (ran : Result Bool RunFault) (status : ℕ) (errors : List ℕ)
+    (written : W → Option (List ℕ)) (failures : W → ℕ) (old new : W) → AskOver words verb layout manifest → Ran file verb layout manifest ran written failures old new
+    → IsEndedBy file verb ran status errors → IsEnding file words status errors (output_of written failures old) (output_of written failures new)
+ended file words verb layout manifest (Ok true) status errors written failures old new ask h is =
+    let before : Output = output_of written failures old in
+    let after : Output = output_of written failures new in
+    subst (λ (s : ℕ). IsEnding file words s errors before after) (sym is.0)
+    (reported file words verb layout manifest h.1.0 errors before after ask h.1.1 h.1.2 is.1)
+ended file words verb layout manifest (Ok false) status errors written failures old new ask h is = absurd (cc h.0)
+ended file words verb layout manifest (Err fault) status errors written failures old new ask h is =
+    let before : Output = output_of written failures old in
+    let after : Output = output_of written failures new in
+    subst (λ (s : ℕ). IsEnding file words s errors before after) (sym is.0)
+    (not_reported file words verb layout manifest fault errors before after ask is.1 h.1 (λ w. (h.0 w).3))
 
 -- the same of an answer after the run of a cluster
-pub ended_cluster : {E : Type 0} (file now : List ℕ → Option (List ℕ)) (layout manifest : List ℕ) (ran : Result Bool RunFault) (ending : Result Ending E) (old new : Output)
-    → OnOk ran ((text : List ℕ) × IsOutputOf file Cluster layout manifest text × Appends old.bytes new.bytes text)
-    → IfOk ran (λ held. held ≡ true)
-    → IfErr ran (λ fault. (fault ≡ Write) ⊎ RefusesVerb file Cluster layout manifest fault)
-    → IfErr ran (λ fault. (fault ≡ Write) ⊎ Keeps old.bytes new.bytes)
-    → (ran ≡ Err Write → BreaksOff file Cluster layout manifest old.bytes new.bytes old.failures new.failures)
-    → IfOk ending (λ e. IsEndedBy now Cluster ran e.status (string_bytes e.errors))
-    → IfOk ending (λ e. (words : List Text) → AskOver words Cluster layout manifest → IsEnding file words e.status (string_bytes e.errors) old new)
-ended_cluster file now layout manifest ran (Ok e) old new output held refused nothing broken is =
-    λ words ask. ended file words Cluster layout manifest ran e.status (string_bytes e.errors) old new ask output held refused nothing broken (alike ran e is)
+pub ended_cluster : {E W : Type 0} (file now : List ℕ → Option (List ℕ)) (layout manifest : List ℕ) (ran : Result Bool RunFault) (ending : Result Ending E)
+    (written : W → Option (List ℕ)) (failures : W → ℕ) (old new : W) → Ran file Cluster layout manifest ran written failures old new
+    → IfOk ending (λ e. IsEndedBy now Cluster ran e.status (string_bytes e.errors)) → IfOk ending (EndsCluster file layout manifest written failures old new)
+ended_cluster file now layout manifest ran (Ok e) written failures old new h is =
+    λ words ask. ended file words Cluster layout manifest ran e.status (string_bytes e.errors) written failures old new ask h (alike ran e is)
   where
     alike : (ran : Result Bool RunFault) (e : Ending) → IsEndedBy now Cluster ran e.status (string_bytes e.errors) → IsEndedBy file Cluster ran e.status (string_bytes e.errors)
     alike (Ok true) e h = h
     alike (Ok false) e h = h
     alike (Err fault) e h = h
-ended_cluster file now layout manifest ran (Err error) old new output held refused nothing broken is = tt
+ended_cluster file now layout manifest ran (Err error) written failures old new h is = tt
 
 -- the words ask for nothing
 pub unasked : (file : List ℕ → Option (List ℕ)) (words : List Text) (fault : CommandFault) (status : ℕ) (errors : List ℕ) (old new : Output)

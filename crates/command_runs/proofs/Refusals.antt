@@ -1,5 +1,8 @@
--- What is refused before anything is written is no failure of writing.
-use Rattle.std.proofs.Common.{◌≡◌, ◌∙◌, ◌⊎◌, ap, inl, inr, ℕ, List, Option, Result, Err, Bool, subst}
+-- What is refused before anything is written is no failure of writing, and what a run comes to.
+use Rattle.std.proofs.Common.{◌≡◌, ◌∙◌, ◌⊎◌, ap, inl, inr, ℕ, List, Option, Result, Err, Bool, subst, sym}
+use Rattle.std.proofs.KnownBytes.{Keeps-refl}
+use Rattle.command_line.specs.declared.Verb.{Verb}
+use Rattle.command_line.specs.declared.Verb.TheVariants.{Explain, ExplainRank, Graph, Report, ReportJson, Replay, Cluster, Check, Pack}
 use Rattle.mpi_model.specs.Layouts.{Parts}
 use Rattle.input_files.specs.declared.fault.InputFault.{InputFault}
 use Rattle.input_files.specs.declared.fault.InputFault.TheVariants as inputs
@@ -7,10 +10,14 @@ use Rattle.trace_know.specs.Segment.{PlacedEvents}
 use Rattle.trace_node.specs.Node.{Held}
 use Rattle.trace_world.specs.declared.step.Step.{Step}
 use Rattle.input_files.specs.Manifests.{ManifestParts, PieceParts, RefusesManifest}
+use Rattle.command_runs.specs.Clusters.{RefusesCluster, RefusesClusterNodes, RefusesLoads}
 use Rattle.command_runs.specs.Inputs.{IsFaultOf, RefusesInput, TellsLayout, TellsManifest}
+use Rattle.command_runs.specs.OneRanks.{RefusesRank}
+use Rattle.command_runs.specs.Packs.{RefusesPack}
 use Rattle.command_runs.specs.Refusals.{RefusesFirst, RefusesNamed, RefusesNode, RefusesPieces, RefusesRun}
 use Rattle.command_runs.specs.Replays.{AreNodesOf, CanReplay, RefusesNodes, RefusesReplay, RefusesSteps, nodes_after}
 use Rattle.command_runs.specs.Schedules.{TellSegments, world_steps}
+use Rattle.command_runs.specs.Verbs.{Ran, RefusesVerb}
 use Rattle.command_runs.specs.declared.fault.RunFault.{RunFault}
 use Rattle.command_runs.specs.declared.fault.RunFault.TheVariants.{Memory, Write}
 
@@ -45,18 +52,10 @@ node_is_not_writing file l manifest (inl e) = memory_is_not_writing e
 node_is_not_writing file l manifest (inr (inl h)) = input_is_not_writing RefusesManifest manifest (file manifest) h
 node_is_not_writing file l manifest (inr (inr h)) = named_is_not_writing file l.ranks h.0 h.2
 
-pub run_is_not_writing : (file : List ℕ → Option (List ℕ)) (layout manifest : List ℕ) → RefusesRun file layout manifest Write → ⊥
+run_is_not_writing : (file : List ℕ → Option (List ℕ)) (layout manifest : List ℕ) → RefusesRun file layout manifest Write → ⊥
 run_is_not_writing file layout manifest (inl e) = memory_is_not_writing e
 run_is_not_writing file layout manifest (inr (inl h)) = input_is_not_writing _ layout (file layout) h
 run_is_not_writing file layout manifest (inr (inr h)) = node_is_not_writing file h.0 manifest h.2
-
-pub one_fault : (fault : RunFault) (answer : Result Bool RunFault) → answer ≡ Err fault → answer ≡ Err Write → fault ≡ Write
-one_fault fault answer is writes = cc (is, writes)
-
--- A run that is refused for this has not failed in writing.
-pub no_writing : (file : List ℕ → Option (List ℕ)) (layout manifest : List ℕ) (fault : RunFault) (answer : Result Bool RunFault) → RefusesRun file layout manifest fault
-    → answer ≡ Err fault → answer ≡ Err Write → ⊥
-no_writing file layout manifest fault answer h is writes = run_is_not_writing file layout manifest (subst (RefusesRun file layout manifest) (one_fault fault answer is writes) h)
 
 nodes_are_not_writing : (file : List ℕ → Option (List ℕ)) (l : Parts) (manifest : List ℕ) → RefusesNodes file l manifest Write → ⊥
 nodes_are_not_writing file l manifest (inl e) = memory_is_not_writing e
@@ -71,11 +70,63 @@ replay_is_not_writing file layout manifest (inl e) = memory_is_not_writing e
 replay_is_not_writing file layout manifest (inr (inl h)) = input_is_not_writing _ layout (file layout) h
 replay_is_not_writing file layout manifest (inr (inr h)) = nodes_are_not_writing file h.0 manifest h.2
 
--- A replay that is refused for this has not failed in writing.
-pub no_writing_yet : (file : List ℕ → Option (List ℕ)) (layout manifest : List ℕ) (fault : RunFault) (answer : Result Bool RunFault) → RefusesReplay file layout manifest fault
-    → answer ≡ Err fault → answer ≡ Err Write → ⊥
-no_writing_yet file layout manifest fault answer h is writes =
-    replay_is_not_writing file layout manifest (subst (RefusesReplay file layout manifest) (one_fault fault answer is writes) h)
+-- what a manifest of a cluster names
+loads_are_not_writing : (file : List ℕ → Option (List ℕ)) (ranks : ℕ) (m : ManifestParts) → RefusesLoads file ranks m Write → ⊥
+loads_are_not_writing file ranks m (inl h) = h.5
+loads_are_not_writing file ranks m (inr h) = elim h.1 [
+  | inl bytes ↦ elim bytes [
+    | inl e ↦ memory_is_not_writing e
+    | inr first ↦ first.4
+  ]
+  | inr crews ↦ crews
+]
+
+cluster_nodes_are_not_writing : (file : List ℕ → Option (List ℕ)) (l : Parts) (manifest : List ℕ) → RefusesClusterNodes file l manifest Write → ⊥
+cluster_nodes_are_not_writing file l manifest (inl e) = memory_is_not_writing e
+cluster_nodes_are_not_writing file l manifest (inr (inl h)) = input_is_not_writing RefusesManifest manifest (file manifest) h
+cluster_nodes_are_not_writing file l manifest (inr (inr h)) = loads_are_not_writing file l.ranks h.0 h.2
+
+cluster_is_not_writing : (file : List ℕ → Option (List ℕ)) (layout manifest : List ℕ) → RefusesCluster file layout manifest Write → ⊥
+cluster_is_not_writing file layout manifest (inl e) = memory_is_not_writing e
+cluster_is_not_writing file layout manifest (inr (inl h)) = input_is_not_writing _ layout (file layout) h
+cluster_is_not_writing file layout manifest (inr (inr h)) = cluster_nodes_are_not_writing file h.0 manifest h.2
+
+rank_is_not_writing : (rank : ℕ) (file : List ℕ → Option (List ℕ)) (layout manifest : List ℕ) → RefusesRank rank file layout manifest Write → ⊥
+rank_is_not_writing rank file layout manifest (inl h) = run_is_not_writing file layout manifest h
+rank_is_not_writing rank file layout manifest (inr h) = absurd (cc h.0)
+
+pack_is_not_writing : (file : List ℕ → Option (List ℕ)) (layout manifest : List ℕ) → RefusesPack file layout manifest Write → ⊥
+pack_is_not_writing file layout manifest (inl h) = run_is_not_writing file layout manifest h
+pack_is_not_writing file layout manifest (inr h) = absurd (cc h.0)
+
+verb_is_not_writing : (file : List ℕ → Option (List ℕ)) (verb : Verb) (layout manifest : List ℕ) → RefusesVerb file verb layout manifest Write → ⊥
+verb_is_not_writing file Explain layout manifest h = run_is_not_writing file layout manifest h
+verb_is_not_writing file (ExplainRank rank) layout manifest h = rank_is_not_writing rank file layout manifest h
+verb_is_not_writing file Graph layout manifest h = run_is_not_writing file layout manifest h
+verb_is_not_writing file Report layout manifest h = run_is_not_writing file layout manifest h
+verb_is_not_writing file ReportJson layout manifest h = run_is_not_writing file layout manifest h
+verb_is_not_writing file Replay layout manifest h = replay_is_not_writing file layout manifest h
+verb_is_not_writing file Cluster layout manifest h = cluster_is_not_writing file layout manifest h
+verb_is_not_writing file Check layout manifest h = run_is_not_writing file layout manifest h
+verb_is_not_writing file Pack layout manifest h = pack_is_not_writing file layout manifest h
+
+-- ---- what a run comes to
+
+-- it is refused for this before anything is written
+pub refused : {W : Type 0} (file : List ℕ → Option (List ℕ)) (verb : Verb) (layout manifest : List ℕ) (fault : RunFault)
+    (written : W → Option (List ℕ)) (failures : W → ℕ) (now : W) → RefusesVerb file verb layout manifest fault
+    → Ran file verb layout manifest (Err fault) written failures now now
+refused file verb layout manifest fault written failures now h = (
+  λ e. absurd (verb_is_not_writing file verb layout manifest (subst (RefusesVerb file verb layout manifest) e h)),
+  inr (h, Keeps-refl (written now)),
+)
+
+-- a verb that was named is the one that ran
+pub ran_as : {W : Type 0} (file : List ℕ → Option (List ℕ)) (verb other : Verb) (layout manifest : List ℕ) (result : Result Bool RunFault)
+    (written : W → Option (List ℕ)) (failures : W → ℕ) (old new : W) → verb ≡ other
+    → Ran file other layout manifest result written failures old new → Ran file verb layout manifest result written failures old new
+ran_as file verb other layout manifest result written failures old new is ran =
+    subst (λ (v : Verb). Ran file v layout manifest result written failures old new) (sym is) ran
 
 -- ---- the parts of a replay
 

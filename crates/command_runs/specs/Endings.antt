@@ -1,9 +1,9 @@
 -- How the program ends: its status, what it wrote, and what it showed.
-use Rattle.std.specs.Prelude.{◌≡◌, ◌≢◌, ◌⊎◌, ◌∷◌, ◌++◌, ℕ, Bool, true, false, List, [], Option, Some, Result, Ok, Err, codes, length, map, string_bytes}
-use Rattle.std.specs.Io.KnownBytes.{Appends, Keeps}
+use Rattle.std.specs.Prelude.{◌≡◌, ◌≢◌, ◌⊎◌, ◌∷◌, ◌++◌, ℕ, Bool, true, false, List, [], Option, Some, Result, Ok, Err, codes, length, string_bytes}
+use Rattle.std.specs.Io.KnownBytes.{Keeps}
 use Rattle.mpi_model.specs.Failures.{HasFailed}
 use Rattle.clap.specs.Words.{Text, subcommand_of}
-use Rattle.command_line.specs.Program.{Refuses, Request, files, init, wish_of, pair, program, request_in, status_of}
+use Rattle.command_line.specs.Program.{Refuses, Request, files, init, wish_of, pair, program, request_in, status_of, texts_of}
 use Rattle.command_line.specs.declared.CommandFault.{CommandFault}
 use Rattle.command_line.specs.declared.Verb.{Verb}
 use Rattle.command_line.specs.declared.Verb.TheVariants as verbs
@@ -11,7 +11,9 @@ use Rattle.command_runs.specs.Advice.{IsShown}
 use Rattle.command_runs.specs.FaultLines.{fault_line_of}
 use Rattle.command_runs.specs.FileNames.{shown_name}
 use Rattle.command_runs.specs.Looks.{BeginsAsText}
+use Rattle.command_runs.specs.Replays.{Writes}
 use Rattle.command_runs.specs.Verbs.{IsOutputOf, RefusesVerb}
+use Rattle.command_runs.specs.declared.ending.Ending.{Ending}
 use Rattle.command_runs.specs.declared.ending.Turn.{Turn}
 use Rattle.command_runs.specs.declared.ending.Turn.TheVariants as turns
 use Rattle.command_runs.specs.declared.fault.RunFault.{RunFault}
@@ -51,7 +53,7 @@ AskNothing words status = (fault : CommandFault) × Refuses words fault × (stat
 -- What the words ask for was written, whole.
 abbrev pub Reports : (List ℕ → Option (List ℕ)) → List Text → Option (List ℕ) → Option (List ℕ) → Type 0
 Reports file words old new = (verb : Verb) × (layout manifest : Text) × AskOver words verb layout manifest
-    × (text : List ℕ) × IsOutputOf file verb layout manifest text × Appends old new text
+    × Writes (IsOutputOf file verb layout manifest) old new
 
 -- The run that the words ask for is refused for this.
 abbrev pub IsRefusedRun : (List ℕ → Option (List ℕ)) → List Text → RunFault → Type 0
@@ -62,9 +64,9 @@ pub record Output : Type 0 where
   pub bytes : Option (List ℕ)
   pub failures : ℕ
 
--- the standard output with these bytes, where it tells them, and so many failed writes
-abbrev pub output_of : Option (List ℕ) → ℕ → Output
-output_of bytes failures = record { bytes = bytes; failures = failures }
+-- what a writer tells, as the standard output
+abbrev pub output_of : {W : Type 0} → (W → Option (List ℕ)) → (W → ℕ) → W → Output
+output_of written failures out = record { bytes = written out; failures = failures out }
 
 -- Status 0: no line was shown, and what the words ask for was written, or the words ask for the help or the version, and no write failed.
 abbrev pub EndsWell : (List ℕ → Option (List ℕ)) → List Text → List ℕ → Output → Output → Type 0
@@ -112,6 +114,32 @@ IsEndedBy file verb (Err fault) status errors = (status ≡ 1) × IsShown file v
 abbrev pub IsTurn : (List ℕ → Option (List ℕ)) → List Text → Turn → Output → Output → Type 0
 IsTurn file words (turns.Ended e) old new = IsEnding file words e.status (string_bytes e.errors) old new
 IsTurn file words (turns.Cluster layout manifest) old new = AskOver words verbs.Cluster layout.now manifest.now × (new ≡ old)
-IsTurn file words (turns.Texts verb texts) old new = Ask words (files verb (map (λ t. t.now) texts.items))
-    × BeginsWithText file (map (λ t. t.now) texts.items) × (new ≡ old)
-IsTurn file words (turns.Init texts wanted) old new = Ask words (init (map (λ t. t.now) texts.items) (wish_of wanted)) × (new ≡ old)
+IsTurn file words (turns.Texts verb texts) old new = Ask words (files verb (texts_of texts.items))
+    × BeginsWithText file (texts_of texts.items) × (new ≡ old)
+IsTurn file words (turns.Init texts wanted) old new = Ask words (init (texts_of texts.items) (wish_of wanted)) × (new ≡ old)
+
+-- ---- by what a writer tells before and after
+
+-- Where the words ask for nothing for this cause, the program ends so.
+abbrev pub EndsFor : {W : Type 0} → CommandFault → (W → Option (List ℕ)) → (W → ℕ) → W → W → Ending → Type 0
+EndsFor fault written failures old new e =
+    IsEndingFor fault e.status (string_bytes e.errors) (output_of written failures old) (output_of written failures new)
+
+-- On these words the program has ended so, or has this left to do.
+abbrev pub Turns : {W : Type 0} → (List ℕ → Option (List ℕ)) → List Text → (W → Option (List ℕ)) → (W → ℕ) → W → W → Turn → Type 0
+Turns file words written failures old new turn = IsTurn file words turn (output_of written failures old) (output_of written failures new)
+
+-- The same on all words that ask for a verb over this layout and this manifest.
+abbrev pub TurnsPair : {W : Type 0} → (List ℕ → Option (List ℕ)) → Verb → Text → Text → (W → Option (List ℕ)) → (W → ℕ) → W → W → Turn → Type 0
+TurnsPair file verb layout manifest written failures old new turn = (words : List Text) → AskOver words verb layout manifest
+    → Turns file words written failures old new turn
+
+-- The same on all words that ask for a verb over these files.
+abbrev pub TurnsFiles : {W : Type 0} → (List ℕ → Option (List ℕ)) → Verb → List Text → (W → Option (List ℕ)) → (W → ℕ) → W → W → Turn → Type 0
+TurnsFiles file verb names written failures old new turn = (words : List Text) → Ask words (files verb names)
+    → Turns file words written failures old new turn
+
+-- The program ends so on all words that ask for a cluster of this layout and this manifest.
+abbrev pub EndsCluster : {W : Type 0} → (List ℕ → Option (List ℕ)) → Text → Text → (W → Option (List ℕ)) → (W → ℕ) → W → W → Ending → Type 0
+EndsCluster file layout manifest written failures old new e = (words : List Text) → AskOver words verbs.Cluster layout manifest
+    → IsEnding file words e.status (string_bytes e.errors) (output_of written failures old) (output_of written failures new)

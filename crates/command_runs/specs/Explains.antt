@@ -27,11 +27,19 @@ under_other l = record l { sends = other_sends l.sends }
 abbrev pub SaysAnswer : Parts → View → Answered → List ℕ → Type 0
 SaysAnswer l view answer text = IsExplained l (under_other l) answer view text
 
+-- what was said, then of which of these ranks no text was given, what is noted of the texts that were read, and where stuck calls stand in them, of which so many more do
+abbrev pub told_text : List ℕ → List ℕ → List NoteParts → List PlaceParts → ℕ → List ℕ
+told_text said unknown notes places more = said ++ pieceless_text (pieceless notes unknown) ++ notes_text notes ++ places_text places more
+
 -- The text says that, then of which ranks nothing is known and no text was given, what is noted of the texts that were read, and then where the first ten stuck calls stand in them.
 abbrev pub IsTold : (List ℕ → Option (List ℕ)) → Parts → View → List NoteParts → List ℕ → Type 0
 IsTold file l view notes text = (answer : Answered) × (said : List ℕ) × (places : List PlaceParts)
     × IsAnswer l view answer × SaysAnswer l view answer said × ArePlacesOf file notes (take most_shown answer.stuck) places
-    × (text ≡ said ++ pieceless_text (pieceless notes (unknown_in answer)) ++ notes_text notes ++ places_text places (length answer.stuck - length places))
+    × (text ≡ told_text said (unknown_in answer) notes places (length answer.stuck - length places))
+
+-- The text says that of what a node holds.
+abbrev pub IsNodeTold : (List ℕ → Option (List ℕ)) → Held → List NoteParts → List ℕ → Type 0
+IsNodeTold file node notes text = IsTold file node.layout node.know notes text
 
 -- The node knows, for this layout, all that the pieces tell that the manifest names, and these are the notes of their texts.
 abbrev pub IsNotedNodeOf : (List ℕ → Option (List ℕ)) → Parts → List ℕ → Held → List NoteParts → Type 0

@@ -1,5 +1,6 @@
 -- What is noted of the texts of a run, and where its stuck calls stand in them.
 use Rattle.std.specs.Prelude.{◌≡◌, ◌-◌, ℕ, List, [], ◌∷◌, ◌++◌, IfSome, Option, Some, None, option_to_list, slice_get, Vec}
+use Rattle.std.specs.List.{All}
 use Rattle.std.specs.declared.alloc.Global.{Global}
 use Rattle.trace_node.specs.Answer.{Stopped}
 use Rattle.input_files.specs.Manifests.{PieceParts}
@@ -26,6 +27,10 @@ HasValueSo text line name (Some value) = IsValueAt text line name (Some value.it
 -- The note tells what the text of its file does.
 abbrev pub IsTrueOf : (List ℕ → Option (List ℕ)) → NoteParts → Type 0
 IsTrueOf file note = TellsNotes (file note.path) note.unread (walked_in note)
+
+-- This holds of all files of which the notes tell what their texts do.
+abbrev pub WhereTrue : List NoteParts → ((List ℕ → Option (List ℕ)) → Type 0) → Type 0
+WhereTrue notes Holds = (file : List ℕ → Option (List ℕ)) → All (IsTrueOf file) notes → Holds file
 
 -- The note is that of the piece: of its rank and first call, under the name of its file, and what its text tells.
 pub record IsNoteOf (file : List ℕ → Option (List ℕ)) (piece : PieceParts) (note : NoteParts) : Type 0 where

@@ -1,5 +1,5 @@
 -- What the packed files of a manifest tell together, and why one of them is refused.
-use Rattle.std.specs.Prelude.{◌≡◌, ℕ, List, [], ◌∷◌, ◌++◌, Option, None}
+use Rattle.std.specs.Prelude.{◌≡◌, ◌⊎◌, ℕ, List, [], ◌∷◌, ◌++◌, Option, None}
 use Rattle.std.specs.FinMap.{empty}
 use Rattle.trace_know.specs.View.{View, join}
 use Rattle.trace_wire.specs.Packed.{RefusesCause, Unpacks}
@@ -34,3 +34,17 @@ abbrev pub RefusesFirstPacked : (List ℕ → Option (List ℕ)) → ℕ → Lis
 RefusesFirstPacked file ranks packed fault = (front : List PackedParts) × (piece : PackedParts) × (back : List PackedParts)
     × (packed ≡ front ++ piece ∷ back) × ((view : View) × TellPacked file ranks front view)
     × RefusesPackedFile piece.file ranks (file piece.file) fault
+
+-- Why packed files tell nothing: memory was wanting, or one of them is refused.
+abbrev pub RefusesPacked : (List ℕ → Option (List ℕ)) → ℕ → List PackedParts → RunFault → Type 0
+RefusesPacked file ranks packed fault = (fault ≡ Memory) ⊎ RefusesFirstPacked file ranks packed fault
+
+-- Two packed files tell the same in the other order.
+abbrev pub OrderDoesNotShow : Type 0
+OrderDoesNotShow = (file : List ℕ → Option (List ℕ)) (ranks : ℕ) (one other : PackedParts) (packed : List PackedParts) (view : View)
+    → TellPacked file ranks (one ∷ other ∷ packed) view → TellPacked file ranks (other ∷ one ∷ packed) view
+
+-- A packed file that comes twice tells what it tells once.
+abbrev pub TwiceDoesNotShow : Type 0
+TwiceDoesNotShow = (file : List ℕ → Option (List ℕ)) (ranks : ℕ) (one : PackedParts) (packed : List PackedParts) (view : View)
+    → TellPacked file ranks (one ∷ packed) view → TellPacked file ranks (one ∷ one ∷ packed) view

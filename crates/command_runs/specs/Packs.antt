@@ -10,7 +10,7 @@ use Rattle.trace_wire.specs.declared.fault.WireFault.TheVariants.{Length}
 use Rattle.command_runs.specs.Inputs.{TellsLayout}
 use Rattle.command_runs.specs.Known.{IsKnownBy}
 use Rattle.command_runs.specs.Refusals.{RefusesRun}
-use Rattle.command_runs.specs.Replays.{AppendsFront}
+use Rattle.command_runs.specs.Replays.{WritesFront}
 use Rattle.command_runs.specs.declared.fault.RunFault.{RunFault}
 use Rattle.command_runs.specs.declared.fault.RunFault.TheVariants.{Memory, Frame, Write}
 
@@ -29,8 +29,8 @@ abbrev pub RefusesPack : (List ℕ → Option (List ℕ)) → List ℕ → List 
 RefusesPack file layout manifest fault = RefusesRun file layout manifest fault ⊎ ((fault ≡ Frame Length) × KnowsLongCell file layout manifest)
 
 -- Why what is known was not written. Nothing was, unless the writer failed.
-abbrev pub IsUnwritten : View → Option (List ℕ) → Option (List ℕ) → ℕ → ℕ → RunFault → Type 0
-IsUnwritten view old new before now Memory = Keeps old new
-IsUnwritten view old new before now (Frame Length) = HasLongCell (entries view) × Keeps old new
-IsUnwritten view old new before now Write = ((bytes : List ℕ) × IsPacked view bytes × AppendsFront old new bytes) × HasFailed before now
-IsUnwritten view old new before now _ = ⊥
+abbrev pub IsUnwritten : {W : Type 0} → View → (W → Option (List ℕ)) → (W → ℕ) → W → W → RunFault → Type 0
+IsUnwritten view written failures old new Memory = Keeps (written old) (written new)
+IsUnwritten view written failures old new (Frame Length) = HasLongCell (entries view) × Keeps (written old) (written new)
+IsUnwritten view written failures old new Write = WritesFront (IsPacked view) (written old) (written new) × HasFailed (failures old) (failures new)
+IsUnwritten view written failures old new _ = ⊥

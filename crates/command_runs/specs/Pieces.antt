@@ -6,6 +6,7 @@ use Rattle.dumpi_text.specs.Call.{TextCall}
 use Rattle.dumpi_text.specs.declared.fault.TextFault.TheVariants.{At}
 use Rattle.trace_know.specs.Segment.{PlacedEvents, enter_place}
 use Rattle.trace_know.specs.Trace.{Trace, facts_from}
+use Rattle.input_files.specs.Manifests.{PieceParts}
 use Rattle.dumpi_calls.specs.Collected.{AreSegments, HasPlacesPast}
 use Rattle.dumpi_calls.specs.Seen.{seen_in}
 use Rattle.dumpi_calls.specs.Walks.{StopsWalk}
@@ -24,6 +25,14 @@ TellsFacts text rank first facts = (events : List Event) × TellsEvents text eve
 -- The segments of a piece: the events of its text from the Enter of its first call on, cut after each 65,536.
 abbrev pub TellsSegments : Option (List ℕ) → ℕ → ℕ → List PlacedEvents → Type 0
 TellsSegments text rank first segments = (events : List Event) × TellsEvents text events × AreSegments rank first events segments
+
+-- The facts are those of a piece, by its file.
+abbrev pub AreFactsOf : (List ℕ → Option (List ℕ)) → PieceParts → Trace → Type 0
+AreFactsOf file piece facts = TellsFacts (file piece.file) piece.rank piece.first facts
+
+-- The segments are those of a piece, by its file.
+abbrev pub AreSegmentsOf : (List ℕ → Option (List ℕ)) → PieceParts → List PlacedEvents → Type 0
+AreSegmentsOf file piece segments = TellsSegments (file piece.file) piece.rank piece.first segments
 
 -- ---- why a piece is refused
 

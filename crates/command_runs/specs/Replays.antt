@@ -34,6 +34,10 @@ pub record CanReplay (l : Parts) (nodes : ℕ) (steps : List Step) : Type 0 wher
   pub few : nodes ≤ most_nodes
   pub each : CanDo l (opening nodes) steps
 
+-- Each of these steps can be done, in turn, and they leave these nodes.
+abbrev pub AreLeft : Parts → ℕ → List Step → List Held → Type 0
+AreLeft l nodes steps left = CanReplay l nodes steps × (left ≡ nodes_after l nodes steps)
+
 -- The manifest's schedule can be replayed, of pieces with the texts of their files, and the nodes hold what it leaves.
 abbrev pub AreNodesOf : (List ℕ → Option (List ℕ)) → Parts → List ℕ → List Held → Type 0
 AreNodesOf file l manifest nodes = (m : ManifestParts) × (lists : List (List PlacedEvents)) × TellsManifest (file manifest) m × TellSegments file m.pieces lists
@@ -77,9 +81,21 @@ IsTextOf nodes text = (answers : List Answered) × AreAnswers nodes answers × (
 abbrev pub AppendsFront : Option (List ℕ) → Option (List ℕ) → List ℕ → Type 0
 AppendsFront old new text = (count : ℕ) × (count < length text) × Appends old new (take count text)
 
+-- The bytes grew by a text of this kind.
+abbrev pub Writes : (List ℕ → Type 0) → Option (List ℕ) → Option (List ℕ) → Type 0
+Writes Is old new = (text : List ℕ) × Is text × Appends old new text
+
+-- The bytes grew by a text of this kind, but for its end.
+abbrev pub WritesFront : (List ℕ → Type 0) → Option (List ℕ) → Option (List ℕ) → Type 0
+WritesFront Is old new = (text : List ℕ) × Is text × AppendsFront old new text
+
 -- What the files tell of a replay: its layout, and the nodes that its schedule leaves.
 abbrev pub IsReplay : (List ℕ → Option (List ℕ)) → List ℕ → List ℕ → List Held → Type 0
 IsReplay file layout manifest nodes = (l : Parts) × TellsLayout (file layout) l × AreNodesOf file l manifest nodes
+
+-- The line and the report of each of the first nodes.
+abbrev pub BeginsTextOf : List Held → List ℕ → Type 0
+BeginsTextOf nodes text = (count : ℕ) × IsTextOf (take count nodes) text
 
 -- The text of a replay: the line and the report of each node that the schedule leaves.
 abbrev pub IsReplayOf : (List ℕ → Option (List ℕ)) → List ℕ → List ℕ → List ℕ → Type 0

@@ -1,9 +1,9 @@
 -- The packed files of two nodes: which are whose, and what they tell.
-use Rattle.std.specs.Prelude.{◌≡◌, ℕ, List, Option}
+use Rattle.std.specs.Prelude.{◌≡◌, ℕ, List, Option, if◌then◌else◌}
 use Rattle.std.specs.List.{filter}
 use Rattle.trace_cluster.specs.declared.side.Side.{Side}
 use Rattle.trace_cluster.specs.declared.side.Side.TheVariants as sides
-use Rattle.trace_know.specs.View.{View, IsBelow}
+use Rattle.trace_know.specs.View.{View, IsBelow, join}
 use Rattle.input_files.specs.Manifests.{PackedParts}
 use Rattle.command_runs.specs.Packed.{TellPacked}
 use Rattle.command_runs.specs.Texts.{is_side, side_of}
@@ -23,6 +23,10 @@ told_to shares sides.Second = shares.second
 abbrev pub so_far : SoFar → Side → View
 so_far told sides.First = told.first
 so_far told sides.Second = told.second
+
+-- This node has been told this too, and the other nothing more.
+abbrev pub IsToldMore : Side → View → SoFar → SoFar → Type 0
+IsToldMore node know old new = (one : Side) → so_far new one ≡ (if is_side one node then join (so_far old one) know else so_far old one)
 
 -- Each node has what its packed files tell together, of ranks below a number.
 abbrev pub TellShares : (List ℕ → Option (List ℕ)) → ℕ → List PackedParts → (Side → View) → Type 0

@@ -1,5 +1,5 @@
 -- The texts of pieces, by the node and the worker that they name.
-use Rattle.std.specs.Prelude.{◌≡◌, ◌⊎◌, ◌&&◌, ◌==◌, ℕ, Bool, true, false, List, [], ◌∷◌, Option, if◌then◌else◌}
+use Rattle.std.specs.Prelude.{◌≡◌, ◌⊎◌, ◌&&◌, ◌==◌, ℕ, Bool, true, false, List, [], ◌∷◌, ◌++◌, Option, if◌then◌else◌}
 use Rattle.std.specs.List.{All, filter}
 use Rattle.trace_cluster.specs.declared.side.Side.{Side}
 use Rattle.trace_cluster.specs.declared.side.Side.TheVariants as sides
@@ -46,6 +46,10 @@ share_in texts sides.First workers.First = texts.first.first.items
 share_in texts sides.First workers.Second = texts.first.second.items
 share_in texts sides.Second workers.First = texts.second.first.items
 share_in texts sides.Second workers.Second = texts.second.second.items
+
+-- This worker of this node has a text more, and no other has.
+abbrev pub AddsText : Side → Worker → Piece → AllTexts → AllTexts → Type 0
+AddsText node worker text old new = (one : Side) (by : Worker) → share_in new one by ≡ share_in old one by ++ (if is_side one node && is_from by worker then text ∷ [] else [])
 
 -- what a node is told besides
 abbrev pub known_in : AllTexts → Side → View

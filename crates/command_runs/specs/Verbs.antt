@@ -1,5 +1,6 @@
 -- What each verb prints, and why it is refused.
-use Rattle.std.specs.Prelude.{ℕ, List, Option}
+use Rattle.std.specs.Prelude.{◌≡◌, ◌⊎◌, ℕ, Bool, true, List, Option, Result, Ok, Err}
+use Rattle.std.specs.Io.KnownBytes.{Keeps}
 use Rattle.mpi_model.specs.Failures.{HasFailed}
 use Rattle.command_line.specs.declared.Verb.{Verb}
 use Rattle.command_line.specs.declared.Verb.TheVariants.{Explain, ExplainRank, Graph, Report, ReportJson, Replay, Cluster, Check, Pack}
@@ -10,9 +11,10 @@ use Rattle.command_runs.specs.Clusters.{IsClusterOf, RefusesCluster}
 use Rattle.command_runs.specs.OneRanks.{IsRankExplainOf, RefusesRank}
 use Rattle.command_runs.specs.Packs.{IsPackOf, RefusesPack}
 use Rattle.command_runs.specs.Refusals.{RefusesRun}
-use Rattle.command_runs.specs.Replays.{AppendsFront, BeginsReplayOf, IsReplayOf, RefusesReplay}
+use Rattle.command_runs.specs.Replays.{AppendsFront, BeginsReplayOf, IsReplayOf, RefusesReplay, Writes}
 use Rattle.command_runs.specs.Runs.{IsJsonOf, IsReportOf}
 use Rattle.command_runs.specs.declared.fault.RunFault.{RunFault}
+use Rattle.command_runs.specs.declared.fault.RunFault.TheVariants.{Write}
 
 -- What a verb prints of these files, whole.
 abbrev pub IsOutputOf : (List ℕ → Option (List ℕ)) → Verb → List ℕ → List ℕ → List ℕ → Type 0
@@ -54,3 +56,12 @@ RefusesVerb file Replay layout manifest fault = RefusesReplay file layout manife
 RefusesVerb file Cluster layout manifest fault = RefusesCluster file layout manifest fault
 RefusesVerb file Check layout manifest fault = RefusesRun file layout manifest fault
 RefusesVerb file Pack layout manifest fault = RefusesPack file layout manifest fault
+
+-- Output or refusal: a verb ran over these files and answered so, and a writer tells its bytes and its failures before and after.
+-- Its output was written whole, and all that was checked held; or a write failed and the output broke off; or the run is refused
+-- for this fault, and nothing was written.
+abbrev pub Ran : {W : Type 0} → (List ℕ → Option (List ℕ)) → Verb → List ℕ → List ℕ → Result Bool RunFault → (W → Option (List ℕ)) → (W → ℕ) → W → W → Type 0
+Ran file verb layout manifest (Ok held) written failures old new = (held ≡ true) × Writes (IsOutputOf file verb layout manifest) (written old) (written new)
+Ran file verb layout manifest (Err fault) written failures old new =
+    (fault ≡ Write → BreaksOff file verb layout manifest (written old) (written new) (failures old) (failures new))
+    × ((fault ≡ Write) ⊎ (RefusesVerb file verb layout manifest fault × Keeps (written old) (written new)))

@@ -5,8 +5,8 @@ use Rattle.mpi_model.specs.Failures.{one_more}
 use Rattle.command_runs.specs.declared.whole.WholeFault.{WholeFault}
 use Rattle.command_runs.specs.declared.whole.WholeFault.TheVariants.{Memory, Failed, TooLong}
 
--- Its last call of the reader failed; or it has taken more than the limit.
-abbrev pub IsRefusedFor : ℕ → Option (List ℕ) → Option (List ℕ) → ℕ → ℕ → WholeFault → Type 0
-IsRefusedFor most old new before now Memory = Unit {0}
-IsRefusedFor most old new before now Failed = now ≡ one_more before
-IsRefusedFor most old new before now TooLong = (taken : List ℕ) × Consumes old new taken × (most < length taken)
+-- Why a reader that told what it has left, and how often it has failed, is not read whole: its last call failed; or it has taken more than the limit.
+abbrev pub IsRefusedFor : {R : Type 0} → ℕ → (R → Option (List ℕ)) → (R → ℕ) → R → R → WholeFault → Type 0
+IsRefusedFor most left failures old new Memory = Unit {0}
+IsRefusedFor most left failures old new Failed = failures new ≡ one_more (failures old)
+IsRefusedFor most left failures old new TooLong = (taken : List ℕ) × Consumes (left old) (left new) taken × (most < length taken)

@@ -1,12 +1,11 @@
 //! A check: whether the rules say the same of the pieces as a report does.
 
-ghost use Rattle.std.specs.Prelude.{◌≡◌, ◌⊎◌, ℕ, true, IfErr, IfOk, List, OnOk};
-ghost use Rattle.std.specs.Io.KnownBytes.{Appends, Keeps};
+ghost use Rattle.std.specs.Prelude.{◌≡◌, IfErr, IfOk};
 ghost use Rattle.dumpi_text.specs.Failing.{Fails};
-ghost use Rattle.command_runs.specs.Checks.{IsCheckOf, IsCheckerOf};
+ghost use Rattle.command_runs.specs.Checks.{IsCheckerOf};
 ghost use Rattle.command_runs.specs.Files.{NamesFailed, NamesUnreadable};
-ghost use Rattle.command_runs.specs.Refusals.{RefusesNode, RefusesRun};
-ghost use Rattle.command_runs.specs.Verbs.{BreaksOff};
+ghost use Rattle.command_runs.specs.Refusals.{RefusesNode};
+ghost use Rattle.command_runs.specs.Verbs.{Ran};
 ghost use Rattle.command_runs.specs.declared.whole.TheConstants.{LONGEST_FILE};
 
 use crate::fault::RunFault;
@@ -25,26 +24,22 @@ use trace_know::join_laws;
 /// Writes the two lines of a check of what the files tell. The answer is whether both say that it held.
 pub(crate) fn check_with<O: Opener, V: Watcher, W: Write>(
     alloc: Global,
-    layout_name: &str,
-    manifest_name: &str,
+    layout: &str,
+    manifest: &str,
     files: &mut O,
     watcher: &mut V,
     out: &mut W,
 ) -> Result<bool, RunFault>
-    ensures output { OnOk result ((text : List ℕ) × IsCheckOf (O.file files.old) layout_name.now manifest_name.now text × Appends (W.written out.old) (W.written out.new) text) }
-    ensures held { IfOk result (λ held. held ≡ true) }
-    ensures refused { IfErr result (λ fault. (fault ≡ RunFault.Write) ⊎ RefusesRun (O.file files.old) layout_name.now manifest_name.now fault) }
+    ensures ran { Ran (O.file files.old) Verb.Check layout.now manifest.now result W.written W.failures out.old out.new }
     ensures unread { IfErr result (λ fault. NamesUnreadable LONGEST_FILE (Fails O.R.failures) (O.file files.old) fault) }
     ensures failed { IfErr result (NamesFailed (Fails O.R.failures)) }
-    ensures nothing { IfErr result (λ fault. (fault ≡ RunFault.Write) ⊎ Keeps (W.written out.old) (W.written out.new)) }
-    ensures broken_off { result ≡ Err RunFault.Write → BreaksOff (O.file files.old) Verb.Check layout_name.now manifest_name.now (W.written out.old) (W.written out.new) (W.failures out.old) (W.failures out.new) }
     ensures same { O.file files.new ≡ O.file files.old }
 {
-    let layout = match layout_at(alloc, layout_name, files) {
+    let layout = match layout_at(alloc, layout, files) {
         Ok(layout) => layout,
         Err(fault) => return Err(fault),
     };
-    let checker = match checker_with(alloc, &layout, manifest_name, files, watcher) {
+    let checker = match checker_with(alloc, &layout, manifest, files, watcher) {
         Ok(checker) => checker,
         Err(fault) => return Err(fault),
     };

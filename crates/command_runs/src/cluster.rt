@@ -1,16 +1,15 @@
 //! A cluster: two nodes of one run, each with the pieces that name it, which exchange what they know;
 //! and the reports of both.
 
-ghost use Rattle.std.specs.Prelude.{◌≡◌, ◌⊎◌, ◌==◌, ◌∷◌, [], ℕ, false, true, IfErr, IfOk, List, OnErr, OnOk, option_map};
-ghost use Rattle.std.specs.Io.KnownBytes.{Appends, Keeps};
+ghost use Rattle.std.specs.Prelude.{◌≡◌, ◌==◌, ◌∷◌, [], false, IfErr, IfOk, OnErr, OnOk, option_map};
 ghost use Rattle.mpi_model.specs.Failures.{HasFailed};
 ghost use Rattle.dumpi_text.specs.Failing.{Fails};
 ghost use Rattle.trace_crew.specs.Views.{is_from};
-ghost use Rattle.command_runs.specs.Clusters.{AreClusterNodes, IsBothText, IsClusterOf, IsEqualLine, IsFaultFor, IsTextFault, NamesOne, NamesUnreadAmong, RefusesCluster, RefusesClusterNodes, SayBoth, of_exchange, of_node, of_wire, piece_at};
+ghost use Rattle.command_runs.specs.Clusters.{AreClusterNodes, IsBothText, IsEqualLine, IsFaultFor, IsTextFault, NamesOne, NamesUnreadAmong, RefusesClusterNodes, SayBoth, of_exchange, of_node, of_wire, piece_at};
 ghost use Rattle.command_runs.specs.Files.{NamesFailed};
-ghost use Rattle.command_runs.specs.Replays.{AppendsFront};
+ghost use Rattle.command_runs.specs.Replays.{Writes, WritesFront};
 ghost use Rattle.command_runs.specs.Texts.{is_share, is_side};
-ghost use Rattle.command_runs.specs.Verbs.{BreaksOff};
+ghost use Rattle.command_runs.specs.Verbs.{Ran};
 
 use crate::answerer::Answerer;
 use crate::fault::RunFault;
@@ -44,24 +43,20 @@ pub fn run_cluster<
 >(
     rt: &R,
     alloc: Global,
-    layout_name: &str,
-    manifest_name: &str,
+    layout: &str,
+    manifest: &str,
     files: &mut O,
     out: &mut W,
 ) -> Result<bool, RunFault>
-    ensures output { OnOk result ((text : List ℕ) × IsClusterOf (O.file files.old) layout_name.now manifest_name.now text × Appends (W.written out.old) (W.written out.new) text) }
-    ensures held { IfOk result (λ held. held ≡ true) }
-    ensures refused { IfErr result (λ fault. (fault ≡ RunFault.Write) ⊎ RefusesCluster (O.file files.old) layout_name.now manifest_name.now fault) }
-    ensures unread { IfErr result (NamesUnreadAmong (layout_name.now ∷ manifest_name.now ∷ []) (Fails O.R.failures) (O.file files.old)) }
+    ensures ran { Ran (O.file files.old) Verb.Cluster layout.now manifest.now result W.written W.failures out.old out.new }
+    ensures unread { IfErr result (NamesUnreadAmong (layout.now ∷ manifest.now ∷ []) (Fails O.R.failures) (O.file files.old)) }
     ensures failed { IfErr result (NamesFailed ⊥) }
-    ensures nothing { IfErr result (λ fault. (fault ≡ RunFault.Write) ⊎ Keeps (W.written out.old) (W.written out.new)) }
-    ensures broken_off { result ≡ Err RunFault.Write → BreaksOff (O.file files.old) Verb.Cluster layout_name.now manifest_name.now (W.written out.old) (W.written out.new) (W.failures out.old) (W.failures out.new) }
 {
-    let layout = match layout_at(alloc, layout_name, files) {
+    let layout = match layout_at(alloc, layout, files) {
         Ok(layout) => layout,
         Err(fault) => return Err(fault),
     };
-    let nodes = match nodes_with(rt, alloc, &layout, manifest_name, files) {
+    let nodes = match nodes_with(rt, alloc, &layout, manifest, files) {
         Ok(nodes) => nodes,
         Err(fault) => return Err(fault),
     };
@@ -217,8 +212,8 @@ fn of_wire(fault: WireFault) -> RunFault
 fn write_nodes<N: Answerer, W: Write>(nodes: (N, N), out: &mut W) -> Result<(), Failed>
     requires one { (N.held nodes.0).is_stale ≡ false }
     requires other { (N.held nodes.1).is_stale ≡ false }
-    ensures ok { OnOk result ((text : List ℕ) × SayBoth (N.held nodes.0) (N.held nodes.1) text × Appends (W.written out.old) (W.written out.new) text) }
-    ensures err { OnErr result ((text : List ℕ) × SayBoth (N.held nodes.0) (N.held nodes.1) text × AppendsFront (W.written out.old) (W.written out.new) text) }
+    ensures ok { OnOk result (Writes (SayBoth (N.held nodes.0) (N.held nodes.1)) (W.written out.old) (W.written out.new)) }
+    ensures err { OnErr result (WritesFront (SayBoth (N.held nodes.0) (N.held nodes.1)) (W.written out.old) (W.written out.new)) }
     ensures failed { OnErr result (HasFailed (W.failures out.old) (W.failures out.new)) }
 {
     let (one, other) = nodes;
@@ -234,8 +229,8 @@ fn write_nodes<N: Answerer, W: Write>(nodes: (N, N), out: &mut W) -> Result<(), 
 
 /// Writes the line and the report of both nodes, and whether both say the same.
 fn write_both<W: Write>(one: &Answer, other: &Answer, out: &mut W) -> Result<(), Failed>
-    ensures ok { OnOk result ((text : List ℕ) × IsBothText one.now other.now text × Appends (W.written out.old) (W.written out.new) text) }
-    ensures err { OnErr result ((text : List ℕ) × IsBothText one.now other.now text × AppendsFront (W.written out.old) (W.written out.new) text) }
+    ensures ok { OnOk result (Writes (IsBothText one.now other.now) (W.written out.old) (W.written out.new)) }
+    ensures err { OnErr result (WritesFront (IsBothText one.now other.now) (W.written out.old) (W.written out.new)) }
     ensures failed { OnErr result (HasFailed (W.failures out.old) (W.failures out.new)) }
 {
     let line = equal_line(one, other);

@@ -1,9 +1,8 @@
 //! How the program ends: from words to a status and what standard error shows.
 
-ghost use Rattle.std.specs.Prelude.{◌≡◌, ◌≢◌, ◌∷◌, [], IfOk, IfSome, IsTrue, List, None, length, map, string_bytes};
-ghost use Rattle.clap.specs.Words.{Text};
-ghost use Rattle.command_line.specs.Program.{files as over_files};
-ghost use Rattle.command_runs.specs.Endings.{Ask, AskOver, BeginsWithText, IsEndedBy, IsEnding, IsEndingFor, IsTurn, first_name, output_of, strange_line};
+ghost use Rattle.std.specs.Prelude.{◌≡◌, ◌≢◌, ◌∷◌, [], IfOk, IfSome, IsTrue, None, length, string_bytes};
+ghost use Rattle.command_line.specs.Program.{texts_of};
+ghost use Rattle.command_runs.specs.Endings.{BeginsWithText, EndsCluster, EndsFor, IsEndedBy, Turns, TurnsFiles, TurnsPair, first_name, strange_line};
 ghost use Rattle.command_runs.specs.FaultLines.{fault_line_of};
 
 use crate::advice::shown_fault;
@@ -63,7 +62,7 @@ pub fn ending_of<'a, O: Opener, V: Watcher, W: Write>(
     watcher: &mut V,
     out: &mut W,
 ) -> Result<Turn<'a>, AllocError>
-    ensures { IfOk result (λ turn. IsTurn (O.file files.old) (map (λ w. w.now) words.entry.now) turn (output_of (W.written out.old) (W.failures out.old)) (output_of (W.written out.new) (W.failures out.new))) }
+    ensures { IfOk result (Turns (O.file files.old) (texts_of words.entry.now) W.written W.failures out.old out.new) }
 {
     let asked = match command_of(alloc, words) {
         Ok(asked) => asked,
@@ -93,7 +92,7 @@ fn turn_of_pair<'a, O: Opener, V: Watcher, W: Write>(
     watcher: &mut V,
     out: &mut W,
 ) -> Result<Turn<'a>, AllocError>
-    ensures { IfOk result (λ turn. (words : List Text) → AskOver words verb layout.now manifest.now → IsTurn (O.file files.old) words turn (output_of (W.written out.old) (W.failures out.old)) (output_of (W.written out.new) (W.failures out.new))) }
+    ensures { IfOk result (TurnsPair (O.file files.old) verb layout.now manifest.now W.written W.failures out.old out.new) }
 {
     let ran = match verb {
         Verb::Cluster => return Ok(Turn::Cluster { layout, manifest }),
@@ -112,7 +111,7 @@ fn turn_of_files<'a, O: Opener, V: Watcher, W: Write>(
     watcher: &mut V,
     out: &mut W,
 ) -> Result<Turn<'a>, AllocError>
-    ensures { IfOk result (λ turn. (words : List Text) → Ask words (over_files verb (map (λ n. n.now) names.entry.items)) → IsTurn (O.file files.old) words turn (output_of (W.written out.old) (W.failures out.old)) (output_of (W.written out.new) (W.failures out.new))) }
+    ensures { IfOk result (TurnsFiles (O.file files.old) verb (texts_of names.entry.items) W.written W.failures out.old out.new) }
 {
     if are_texts(names.as_slice(), files) {
         return Ok(Turn::Texts { verb, texts: names });
@@ -128,8 +127,8 @@ fn turn_of_files<'a, O: Opener, V: Watcher, W: Write>(
 /// The names, where they are two.
 #[tactic(auto, using(crate::proofs::Endings::two_names, crate::proofs::Endings::not_two))]
 fn two_of<'a>(names: &[&'a str]) -> Option<(&'a str, &'a str)>
-    ensures two { IfSome result (λ both. map (λ n. n.now) names.now ≡ both.0.now ∷ both.1.now ∷ []) }
-    ensures other { result ≡ None → length (map (λ n. n.now) names.now) ≢ 2 }
+    ensures two { IfSome result (λ both. texts_of names.now ≡ both.0.now ∷ both.1.now ∷ []) }
+    ensures other { result ≡ None → length (texts_of names.now) ≢ 2 }
 {
     if names.len() == 2 {
         Some((names[0], names[1]))
@@ -140,7 +139,7 @@ fn two_of<'a>(names: &[&'a str]) -> Option<(&'a str, &'a str)>
 
 /// Whether the names are those of texts: the first one tells it.
 fn are_texts<O: Opener>(names: &[&str], files: &mut O) -> bool
-    ensures told { IsTrue result → BeginsWithText (O.file files.old) (map (λ n. n.now) names.now) }
+    ensures told { IsTrue result → BeginsWithText (O.file files.old) (texts_of names.now) }
     ensures same { O.file files.new ≡ O.file files.old }
 {
     match names {
@@ -151,7 +150,7 @@ fn are_texts<O: Opener>(names: &[&str], files: &mut O) -> bool
 
 /// The name of the first of some files.
 fn first_name<'a>(names: &[&'a str]) -> &'a str
-    ensures { result.now ≡ first_name (map (λ n. n.now) names.now) }
+    ensures { result.now ≡ first_name (texts_of names.now) }
 {
     match names {
         [first, ..] => *first,
@@ -162,7 +161,7 @@ fn first_name<'a>(names: &[&'a str]) -> &'a str
 /// The words are mistaken: these files are no layout and manifest, and no texts.
 fn strange_files(alloc: Global, names: &[&str]) -> Result<Ending, AllocError>
     ensures status { IfOk result (λ e. e.status ≡ 2) }
-    ensures errors { IfOk result (λ e. string_bytes e.errors ≡ strange_line (map (λ n. n.now) names.now)) }
+    ensures errors { IfOk result (λ e. string_bytes e.errors ≡ strange_line (texts_of names.now)) }
 {
     let first = FileName::new(first_name(names));
     Ok(Ending {
@@ -186,7 +185,7 @@ pub fn ending_of_cluster<
     files: &mut O,
     out: &mut W,
 ) -> Result<Ending, AllocError>
-    ensures { IfOk result (λ e. (words : List Text) → AskOver words Verb.Cluster layout.now manifest.now → IsEnding (O.file files.old) words e.status (string_bytes e.errors) (output_of (W.written out.old) (W.failures out.old)) (output_of (W.written out.new) (W.failures out.new))) }
+    ensures { IfOk result (EndsCluster (O.file files.old) layout.now manifest.now W.written W.failures out.old out.new) }
 {
     let ran = run_cluster(rt, alloc, layout, manifest, files, out);
     ending_after(alloc, Verb::Cluster, ran, files)
@@ -245,7 +244,7 @@ fn refused(alloc: Global, fault: &RunFault) -> Result<Ending, AllocError>
 
 /// Shows why the words ask for nothing; the help and the version go to standard output.
 fn shown<W: Write>(alloc: Global, fault: &CommandFault, out: &mut W) -> Result<Ending, AllocError>
-    ensures { IfOk result (λ e. IsEndingFor fault.now e.status (string_bytes e.errors) (output_of (W.written out.old) (W.failures out.old)) (output_of (W.written out.new) (W.failures out.new))) }
+    ensures { IfOk result (EndsFor fault.now W.written W.failures out.old out.new) }
 {
     let text = format!(in alloc; "{fault}")?;
     let status = fault.status();

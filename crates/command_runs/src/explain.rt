@@ -1,15 +1,13 @@
 //! An answer in words, with who would be stuck under the other kind of sends.
 
-ghost use Rattle.std.specs.Prelude.{◌≡◌, ◌⊎◌, ◌++◌, ℕ, false, true, IfErr, IfOk, List, OnOk, Option, take};
-ghost use Rattle.std.specs.Io.KnownBytes.{Appends, Keeps};
-ghost use Rattle.std.specs.List.{All};
+ghost use Rattle.std.specs.Prelude.{◌≡◌, false, IfErr, IfOk, take};
 ghost use Rattle.dumpi_text.specs.Failing.{Fails};
-ghost use Rattle.text_notes.specs.Words.{most_shown, notes_text, pieceless, pieceless_text, places_text};
-ghost use Rattle.command_runs.specs.Explains.{IsExplainOf, IsNotedNodeOf, IsTold, other_sends, under_other};
+ghost use Rattle.text_notes.specs.Words.{most_shown};
+ghost use Rattle.command_runs.specs.Explains.{IsExplainOf, IsNodeTold, IsNotedNodeOf, other_sends, told_text, under_other};
 ghost use Rattle.command_runs.specs.Files.{NamesFailed, NamesUnreadable};
-ghost use Rattle.command_runs.specs.Notes.{IsTrueOf};
+ghost use Rattle.command_runs.specs.Notes.{WhereTrue};
 ghost use Rattle.command_runs.specs.Refusals.{RefusesNode, RefusesRun};
-ghost use Rattle.command_runs.specs.Verbs.{BreaksOff};
+ghost use Rattle.command_runs.specs.Verbs.{Ran};
 ghost use Rattle.command_runs.specs.declared.whole.TheConstants.{LONGEST_FILE};
 
 use crate::answerer::Answerer;
@@ -33,22 +31,18 @@ use trace_node::{Node, NodeFault, Stuck};
 /// Writes in words what the files tell.
 pub(crate) fn explain_with<O: Opener, V: Watcher, W: Write>(
     alloc: Global,
-    layout_name: &str,
-    manifest_name: &str,
+    layout: &str,
+    manifest: &str,
     files: &mut O,
     watcher: &mut V,
     out: &mut W,
 ) -> Result<bool, RunFault>
-    ensures output { OnOk result ((text : List ℕ) × IsExplainOf (O.file files.old) layout_name.now manifest_name.now text × Appends (W.written out.old) (W.written out.new) text) }
-    ensures held { IfOk result (λ held. held ≡ true) }
-    ensures refused { IfErr result (λ fault. (fault ≡ RunFault.Write) ⊎ RefusesRun (O.file files.old) layout_name.now manifest_name.now fault) }
+    ensures ran { Ran (O.file files.old) Verb.Explain layout.now manifest.now result W.written W.failures out.old out.new }
     ensures unread { IfErr result (λ fault. NamesUnreadable LONGEST_FILE (Fails O.R.failures) (O.file files.old) fault) }
     ensures failed { IfErr result (NamesFailed (Fails O.R.failures)) }
-    ensures nothing { IfErr result (λ fault. (fault ≡ RunFault.Write) ⊎ Keeps (W.written out.old) (W.written out.new)) }
-    ensures broken_off { result ≡ Err RunFault.Write → BreaksOff (O.file files.old) Verb.Explain layout_name.now manifest_name.now (W.written out.old) (W.written out.new) (W.failures out.old) (W.failures out.new) }
     ensures same { O.file files.new ≡ O.file files.old }
 {
-    let text = match text_with(alloc, layout_name, manifest_name, files, watcher) {
+    let text = match text_with(alloc, layout, manifest, files, watcher) {
         Ok(text) => text,
         Err(fault) => return Err(fault),
     };
@@ -158,7 +152,7 @@ fn explained<N: Answerer>(
     requires fresh { (N.held node).is_stale ≡ false }
     requires own { layout.now ≡ (N.held node).layout }
     requires other { other.now ≡ under_other (N.held node).layout }
-    ensures { (file : List ℕ → Option (List ℕ)) → All (IsTrueOf file) notes.now → IfOk result (λ text. IsTold file (N.held node).layout (N.held node).know notes.now text.items) }
+    ensures { WhereTrue notes.now (λ file. IfOk result (λ text. IsNodeTold file (N.held node) notes.now text.items)) }
 {
     // (a new node isn't stale)
     let Ok(answer) = node.told() else {
@@ -182,7 +176,7 @@ fn text_of(
     places: &[CallPlace],
     more: usize,
 ) -> Result<Vec<u8>, AllocError>
-    ensures { IfOk result (λ text. text.items ≡ said.now ++ pieceless_text (pieceless notes.now unknown.now) ++ notes_text notes.now ++ places_text places.now more) }
+    ensures { IfOk result (λ text. text.items ≡ told_text said.now unknown.now notes.now places.now more) }
 {
     let mut text = Text::new(alloc);
     text.put(said);

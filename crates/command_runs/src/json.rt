@@ -1,16 +1,12 @@
 //! The report of an answer, as JSON.
 
-ghost use Rattle.std.specs.Prelude.{◌≡◌, ◌⊎◌, ℕ, false, true, IfErr, IfOk, List, OnErr, OnOk};
-ghost use Rattle.std.specs.Io.KnownBytes.{Appends, Keeps};
+ghost use Rattle.std.specs.Prelude.{◌≡◌, false, IfErr, OnErr, OnOk};
 ghost use Rattle.mpi_model.specs.Failures.{HasFailed};
 ghost use Rattle.dumpi_text.specs.Failing.{Fails};
-ghost use Rattle.trace_node.specs.Answer.{Answered, IsAnswer};
-ghost use Rattle.trace_report.specs.Json.{json_text};
 ghost use Rattle.command_runs.specs.Files.{NamesFailed, NamesUnreadable};
-ghost use Rattle.command_runs.specs.Refusals.{RefusesRun};
-ghost use Rattle.command_runs.specs.Replays.{AppendsFront};
-ghost use Rattle.command_runs.specs.Runs.{IsJsonOf};
-ghost use Rattle.command_runs.specs.Verbs.{BreaksOff};
+ghost use Rattle.command_runs.specs.Replays.{Writes, WritesFront};
+ghost use Rattle.command_runs.specs.Runs.{IsNodeJson};
+ghost use Rattle.command_runs.specs.Verbs.{Ran};
 ghost use Rattle.command_runs.specs.declared.whole.TheConstants.{LONGEST_FILE};
 
 use crate::answerer::Answerer;
@@ -27,26 +23,22 @@ use trace_report::write_json;
 /// Writes the report of what the files tell, as JSON.
 pub(crate) fn json_with<O: Opener, V: Watcher, W: Write>(
     alloc: Global,
-    layout_name: &str,
-    manifest_name: &str,
+    layout: &str,
+    manifest: &str,
     files: &mut O,
     watcher: &mut V,
     out: &mut W,
 ) -> Result<bool, RunFault>
-    ensures output { OnOk result ((text : List ℕ) × IsJsonOf (O.file files.old) layout_name.now manifest_name.now text × Appends (W.written out.old) (W.written out.new) text) }
-    ensures held { IfOk result (λ held. held ≡ true) }
-    ensures refused { IfErr result (λ fault. (fault ≡ RunFault.Write) ⊎ RefusesRun (O.file files.old) layout_name.now manifest_name.now fault) }
+    ensures ran { Ran (O.file files.old) Verb.ReportJson layout.now manifest.now result W.written W.failures out.old out.new }
     ensures unread { IfErr result (λ fault. NamesUnreadable LONGEST_FILE (Fails O.R.failures) (O.file files.old) fault) }
     ensures failed { IfErr result (NamesFailed (Fails O.R.failures)) }
-    ensures nothing { IfErr result (λ fault. (fault ≡ RunFault.Write) ⊎ Keeps (W.written out.old) (W.written out.new)) }
-    ensures broken_off { result ≡ Err RunFault.Write → BreaksOff (O.file files.old) Verb.ReportJson layout_name.now manifest_name.now (W.written out.old) (W.written out.new) (W.failures out.old) (W.failures out.new) }
     ensures same { O.file files.new ≡ O.file files.old }
 {
-    let layout = match layout_at(alloc, layout_name, files) {
+    let layout = match layout_at(alloc, layout, files) {
         Ok(layout) => layout,
         Err(fault) => return Err(fault),
     };
-    let node = match node_with(alloc, &layout, manifest_name, files, watcher) {
+    let node = match node_with(alloc, &layout, manifest, files, watcher) {
         Ok(node) => node,
         Err(fault) => return Err(fault),
     };
@@ -59,8 +51,8 @@ pub(crate) fn json_with<O: Opener, V: Watcher, W: Write>(
 /// Writes the report of a node with its answer, as JSON, and lets go of it.
 fn write_told_json<N: Answerer, W: Write>(node: N, out: &mut W) -> Result<(), Failed>
     requires fresh { (N.held node).is_stale ≡ false }
-    ensures ok { OnOk result ((answer : Answered) × IsAnswer (N.held node).layout (N.held node).know answer × Appends (W.written out.old) (W.written out.new) (json_text answer)) }
-    ensures err { OnErr result ((answer : Answered) × IsAnswer (N.held node).layout (N.held node).know answer × AppendsFront (W.written out.old) (W.written out.new) (json_text answer)) }
+    ensures ok { OnOk result (Writes (IsNodeJson (N.held node)) (W.written out.old) (W.written out.new)) }
+    ensures err { OnErr result (WritesFront (IsNodeJson (N.held node)) (W.written out.old) (W.written out.new)) }
     ensures failed { OnErr result (HasFailed (W.failures out.old) (W.failures out.new)) }
 {
     // (a new node isn't stale)

@@ -9,7 +9,7 @@ ghost use Rattle.trace_node.specs.Node.{IsWithin};
 ghost use Rattle.command_runs.specs.FileNames.{shown_name};
 ghost use Rattle.command_runs.specs.Files.{NamesFailed};
 ghost use Rattle.command_runs.specs.Notes.{AreNotesOf, BeginsSo, IsNoteOf};
-ghost use Rattle.command_runs.specs.Pieces.{RefusesPiece, TellsFacts};
+ghost use Rattle.command_runs.specs.Pieces.{AreFactsOf, RefusesPiece};
 ghost use Rattle.command_runs.specs.Refusals.{RefusesPieces};
 ghost use Rattle.command_runs.specs.Traces.{IsInside, IsKnown};
 
@@ -63,7 +63,7 @@ fn noted_piece<O: Opener, V: Watcher>(
     files: &mut O,
     watcher: &mut V,
 ) -> Result<NotedPiece, RunFault>
-    ensures ok { IfOk result (λ read. TellsFacts (O.file files.old piece.now.file) piece.now.rank piece.now.first (facts_of_all read.segments.items)) }
+    ensures ok { IfOk result (λ read. AreFactsOf (O.file files.old) piece.now (facts_of_all read.segments.items)) }
     ensures note { IfOk result (λ read. IsNoteOf (O.file files.old) piece.now read.note) }
     ensures err { IfErr result (RefusesPiece piece.now.file piece.now.first (O.file files.old piece.now.file)) }
     ensures failed { IfErr result (NamesFailed (Fails O.R.failures)) }

@@ -1,11 +1,10 @@
 //! What is known of one rank, in words.
 
-ghost use Rattle.std.specs.Prelude.{◌≡◌, ◌⊎◌, ◌≤◌, ℕ, false, true, IfErr, IfOk, List, OnOk};
-ghost use Rattle.std.specs.Io.KnownBytes.{Appends, Keeps};
+ghost use Rattle.std.specs.Prelude.{◌≡◌, ◌≤◌, false, IfErr, IfOk};
 ghost use Rattle.dumpi_text.specs.Failing.{Fails};
 ghost use Rattle.command_runs.specs.Files.{NamesFailed, NamesUnreadable};
 ghost use Rattle.command_runs.specs.OneRanks.{IsRankExplainOf, IsRankTold, RefusesRank};
-ghost use Rattle.command_runs.specs.Verbs.{BreaksOff};
+ghost use Rattle.command_runs.specs.Verbs.{Ran};
 ghost use Rattle.command_runs.specs.declared.whole.TheConstants.{LONGEST_FILE};
 
 use crate::answerer::Answerer;
@@ -24,22 +23,18 @@ use trace_explain::explain_rank;
 pub(crate) fn explain_rank_with<O: Opener, V: Watcher, W: Write>(
     alloc: Global,
     rank: u32,
-    layout_name: &str,
-    manifest_name: &str,
+    layout: &str,
+    manifest: &str,
     files: &mut O,
     watcher: &mut V,
     out: &mut W,
 ) -> Result<bool, RunFault>
-    ensures output { OnOk result ((text : List ℕ) × IsRankExplainOf rank (O.file files.old) layout_name.now manifest_name.now text × Appends (W.written out.old) (W.written out.new) text) }
-    ensures held { IfOk result (λ held. held ≡ true) }
-    ensures refused { IfErr result (λ fault. (fault ≡ RunFault.Write) ⊎ RefusesRank rank (O.file files.old) layout_name.now manifest_name.now fault) }
+    ensures ran { Ran (O.file files.old) (Verb.ExplainRank rank) layout.now manifest.now result W.written W.failures out.old out.new }
     ensures unread { IfErr result (λ fault. NamesUnreadable LONGEST_FILE (Fails O.R.failures) (O.file files.old) fault) }
     ensures failed { IfErr result (NamesFailed (Fails O.R.failures)) }
-    ensures nothing { IfErr result (λ fault. (fault ≡ RunFault.Write) ⊎ Keeps (W.written out.old) (W.written out.new)) }
-    ensures broken_off { result ≡ Err RunFault.Write → BreaksOff (O.file files.old) (Verb.ExplainRank rank) layout_name.now manifest_name.now (W.written out.old) (W.written out.new) (W.failures out.old) (W.failures out.new) }
     ensures same { O.file files.new ≡ O.file files.old }
 {
-    let text = match rank_text_with(alloc, rank, layout_name, manifest_name, files, watcher) {
+    let text = match rank_text_with(alloc, rank, layout, manifest, files, watcher) {
         Ok(text) => text,
         Err(fault) => return Err(fault),
     };

@@ -1,12 +1,12 @@
 //! What the pieces of a manifest tell, as frames.
 
-ghost use Rattle.std.specs.Prelude.{◌≡◌, ◌⊎◌, ℕ, true, IfErr, IfOk, List, OnOk};
-ghost use Rattle.std.specs.Io.KnownBytes.{Appends, Keeps};
+ghost use Rattle.std.specs.Prelude.{◌≡◌, IfErr, OnOk};
 ghost use Rattle.dumpi_text.specs.Failing.{Fails};
 ghost use Rattle.trace_wire.specs.Packed.{IsPacked};
 ghost use Rattle.command_runs.specs.Files.{NamesFailed, NamesUnreadable};
-ghost use Rattle.command_runs.specs.Packs.{IsPackOf, IsUnwritten, RefusesPack};
-ghost use Rattle.command_runs.specs.Verbs.{BreaksOff};
+ghost use Rattle.command_runs.specs.Packs.{IsUnwritten};
+ghost use Rattle.command_runs.specs.Replays.{Writes};
+ghost use Rattle.command_runs.specs.Verbs.{Ran};
 ghost use Rattle.command_runs.specs.declared.whole.TheConstants.{LONGEST_FILE};
 
 use crate::fault::RunFault;
@@ -23,26 +23,22 @@ use trace_wire::{WireFault, write_frames};
 /// Writes what the files tell as frames, which [`read_frames`](trace_wire::read_frames) gives back.
 pub(crate) fn pack_with<O: Opener, V: Watcher, W: Write>(
     alloc: Global,
-    layout_name: &str,
-    manifest_name: &str,
+    layout: &str,
+    manifest: &str,
     files: &mut O,
     watcher: &mut V,
     out: &mut W,
 ) -> Result<bool, RunFault>
-    ensures output { OnOk result ((bytes : List ℕ) × IsPackOf (O.file files.old) layout_name.now manifest_name.now bytes × Appends (W.written out.old) (W.written out.new) bytes) }
-    ensures held { IfOk result (λ held. held ≡ true) }
-    ensures refused { IfErr result (λ fault. (fault ≡ RunFault.Write) ⊎ RefusesPack (O.file files.old) layout_name.now manifest_name.now fault) }
+    ensures ran { Ran (O.file files.old) Verb.Pack layout.now manifest.now result W.written W.failures out.old out.new }
     ensures unread { IfErr result (λ fault. NamesUnreadable LONGEST_FILE (Fails O.R.failures) (O.file files.old) fault) }
     ensures failed { IfErr result (NamesFailed (Fails O.R.failures)) }
-    ensures nothing { IfErr result (λ fault. (fault ≡ RunFault.Write) ⊎ Keeps (W.written out.old) (W.written out.new)) }
-    ensures broken_off { result ≡ Err RunFault.Write → BreaksOff (O.file files.old) Verb.Pack layout_name.now manifest_name.now (W.written out.old) (W.written out.new) (W.failures out.old) (W.failures out.new) }
     ensures same { O.file files.new ≡ O.file files.old }
 {
-    let layout = match layout_at(alloc, layout_name, files) {
+    let layout = match layout_at(alloc, layout, files) {
         Ok(layout) => layout,
         Err(fault) => return Err(fault),
     };
-    let know = match known_with(alloc, &layout, manifest_name, files, watcher) {
+    let know = match known_with(alloc, &layout, manifest, files, watcher) {
         Ok(know) => know,
         Err(fault) => return Err(fault),
     };
@@ -54,8 +50,8 @@ pub(crate) fn pack_with<O: Opener, V: Watcher, W: Write>(
 
 /// Writes what is known as frames.
 fn write_known<W: Write>(alloc: Global, know: &Knowledge, out: &mut W) -> Result<(), RunFault>
-    ensures ok { OnOk result ((bytes : List ℕ) × IsPacked know.now bytes × Appends (W.written out.old) (W.written out.new) bytes) }
-    ensures err { IfErr result (IsUnwritten know.now (W.written out.old) (W.written out.new) (W.failures out.old) (W.failures out.new)) }
+    ensures ok { OnOk result (Writes (IsPacked know.now) (W.written out.old) (W.written out.new)) }
+    ensures err { IfErr result (IsUnwritten know.now W.written W.failures out.old out.new) }
 {
     match write_frames(alloc, know, out) {
         Ok(()) => Ok(()),

@@ -1,12 +1,12 @@
 //! What the packed files of a manifest tell together.
 
-ghost use Rattle.std.specs.Prelude.{◌≡◌, ◌⊎◌, IfErr, IfOk};
+ghost use Rattle.std.specs.Prelude.{◌≡◌, IfErr, IfOk};
 ghost use Rattle.dumpi_text.specs.Failing.{Fails};
 ghost use Rattle.trace_know.specs.View.{join};
 ghost use Rattle.trace_node.specs.Node.{IsWithin};
 ghost use Rattle.trace_wire.specs.Packed.{IsOfRanks, Unpacks};
 ghost use Rattle.command_runs.specs.Files.{NamesFailed, NamesUnreadable};
-ghost use Rattle.command_runs.specs.Packed.{IsFrameFault, RefusesFirstPacked, RefusesPackedFile, TellPacked};
+ghost use Rattle.command_runs.specs.Packed.{IsFrameFault, RefusesPacked, RefusesPackedFile, TellPacked};
 ghost use Rattle.command_runs.specs.declared.whole.TheConstants.{LONGEST_FILE};
 
 use crate::fault::RunFault;
@@ -68,7 +68,7 @@ pub(crate) fn packed_of<O: Opener>(
 ) -> Result<Knowledge, RunFault>
     ensures ok { IfOk result (λ know. TellPacked (O.file files.old) layout.now.ranks packed.now know) }
     ensures within { IfOk result (λ know. IsWithin layout.now know) }
-    ensures err { IfErr result (λ fault. (fault ≡ RunFault.Memory) ⊎ RefusesFirstPacked (O.file files.old) layout.now.ranks packed.now fault) }
+    ensures err { IfErr result (RefusesPacked (O.file files.old) layout.now.ranks packed.now) }
     ensures unread { IfErr result (λ fault. NamesUnreadable LONGEST_FILE (Fails O.R.failures) (O.file files.old) fault) }
     ensures failed { IfErr result (NamesFailed (Fails O.R.failures)) }
     ensures same { O.file files.new ≡ O.file files.old }

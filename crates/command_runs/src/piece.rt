@@ -4,7 +4,7 @@ ghost use Rattle.std.specs.Prelude.{IfErr, IfOk, ◌≡◌};
 ghost use Rattle.dumpi_calls.specs.Walks.{IsReadStop};
 ghost use Rattle.dumpi_text.specs.Failing.{Fails};
 ghost use Rattle.command_runs.specs.Files.{NamesFailed};
-ghost use Rattle.command_runs.specs.Pieces.{IsWalkFault, RefusesPiece, TellsFacts, TellsSegments};
+ghost use Rattle.command_runs.specs.Pieces.{AreFactsOf, AreSegmentsOf, IsWalkFault, RefusesPiece};
 ghost use Rattle.trace_know.specs.Trace.{facts_of_all};
 
 use crate::fault::RunFault;
@@ -25,8 +25,8 @@ pub fn segments_of<O: Opener, V: Watcher>(
     files: &mut O,
     watcher: &mut V,
 ) -> Result<Vec<ReadySegment>, RunFault>
-    ensures ok { IfOk result (λ segments. TellsFacts (O.file files.old piece.now.file) piece.now.rank piece.now.first (facts_of_all segments.items)) }
-    ensures segments { IfOk result (λ segments. TellsSegments (O.file files.old piece.now.file) piece.now.rank piece.now.first segments.items) }
+    ensures ok { IfOk result (λ segments. AreFactsOf (O.file files.old) piece.now (facts_of_all segments.items)) }
+    ensures segments { IfOk result (λ segments. AreSegmentsOf (O.file files.old) piece.now segments.items) }
     ensures err { IfErr result (RefusesPiece piece.now.file piece.now.first (O.file files.old piece.now.file)) }
     ensures failed { IfErr result (NamesFailed (Fails O.R.failures)) }
     ensures same { O.file files.new ≡ O.file files.old }

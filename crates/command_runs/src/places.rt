@@ -1,9 +1,8 @@
 //! Where the stuck calls of an answer stand in the texts.
 
-ghost use Rattle.std.specs.Prelude.{◌≡◌, ◌++◌, ℕ, IfOk, List, OnOk, Option, map, option_to_list};
-ghost use Rattle.std.specs.List.{All};
+ghost use Rattle.std.specs.Prelude.{◌≡◌, ◌++◌, IfOk, OnOk, map, option_to_list};
 ghost use Rattle.trace_node.specs.Stopped.{stopped};
-ghost use Rattle.command_runs.specs.Notes.{ArePlacesOf, IsPlaceOf, IsTrueOf};
+ghost use Rattle.command_runs.specs.Notes.{ArePlacesOf, IsPlaceOf, WhereTrue};
 
 use std::alloc::{AllocError, Global};
 use text_notes::{CallPlace, TextNote, note_of, noted_texts};
@@ -16,7 +15,7 @@ fn place_of(
     call: u64,
     notes: &[TextNote],
 ) -> Result<Option<CallPlace>, AllocError>
-    ensures { (file : List ℕ → Option (List ℕ)) → All (IsTrueOf file) notes.now → IfOk result (IsPlaceOf file notes.now rank call) }
+    ensures { WhereTrue notes.now (λ file. IfOk result (IsPlaceOf file notes.now rank call)) }
 {
     noted_texts();
     let Some(at) = note_of(notes, rank, call) else {
@@ -44,7 +43,7 @@ pub(crate) fn places_of(
     stuck: &[Stuck],
     notes: &[TextNote],
 ) -> Result<Vec<CallPlace>, AllocError>
-    ensures { (file : List ℕ → Option (List ℕ)) → All (IsTrueOf file) notes.now → IfOk result (λ places. ArePlacesOf file notes.now (map stopped stuck.now) places.items) }
+    ensures { WhereTrue notes.now (λ file. IfOk result (λ places. ArePlacesOf file notes.now (map stopped stuck.now) places.items)) }
 {
     let mut places = Vec::new(alloc);
     for one in stuck {

@@ -1,14 +1,14 @@
 //! A replay: the manifest's schedule, run step by step, and the reports of its nodes.
 
-ghost use Rattle.std.specs.Prelude.{◌≡◌, ◌⊎◌, ℕ, true, IfErr, IfOk, List, OnErr, OnOk, take};
-ghost use Rattle.std.specs.Io.KnownBytes.{Appends, Keeps};
+ghost use Rattle.std.specs.Prelude.{◌≡◌, IfErr, IfOk, OnErr, OnOk};
+ghost use Rattle.std.specs.Io.KnownBytes.{Appends};
 ghost use Rattle.mpi_model.specs.Failures.{CountsFailure, HasFailed};
 ghost use Rattle.trace_node.specs.Node.{Held};
 ghost use Rattle.dumpi_text.specs.Failing.{Fails};
 ghost use Rattle.command_runs.specs.Files.{NamesFailed, NamesUnreadable};
 ghost use Rattle.command_runs.specs.declared.whole.TheConstants.{LONGEST_FILE};
-ghost use Rattle.command_runs.specs.Replays.{AppendsFront, AreNodesOf, CanReplay, IsReplayOf, IsTextOf, NoneStale, RefusesNodes, RefusesReplay, RefusesSteps, node_line, node_text, nodes_after, stop_of};
-ghost use Rattle.command_runs.specs.Verbs.{BreaksOff};
+ghost use Rattle.command_runs.specs.Replays.{AppendsFront, AreLeft, AreNodesOf, BeginsTextOf, IsTextOf, NoneStale, RefusesNodes, RefusesSteps, Writes, WritesFront, node_line, node_text, stop_of};
+ghost use Rattle.command_runs.specs.Verbs.{Ran};
 
 use crate::fault::RunFault;
 use crate::input::{layout_at, manifest_at};
@@ -27,26 +27,22 @@ use trace_world::{Step, World, WorldFault, states_refuse};
 /// Writes, for each node that the schedule leaves, its line and its report.
 pub(crate) fn replay_with<O: Opener, V: Watcher, W: Write>(
     alloc: Global,
-    layout_name: &str,
-    manifest_name: &str,
+    layout: &str,
+    manifest: &str,
     files: &mut O,
     watcher: &mut V,
     out: &mut W,
 ) -> Result<bool, RunFault>
-    ensures output { OnOk result ((text : List ℕ) × IsReplayOf (O.file files.old) layout_name.now manifest_name.now text × Appends (W.written out.old) (W.written out.new) text) }
-    ensures held { IfOk result (λ held. held ≡ true) }
-    ensures refused { IfErr result (λ fault. (fault ≡ RunFault.Write) ⊎ RefusesReplay (O.file files.old) layout_name.now manifest_name.now fault) }
+    ensures ran { Ran (O.file files.old) Verb.Replay layout.now manifest.now result W.written W.failures out.old out.new }
     ensures unread { IfErr result (λ fault. NamesUnreadable LONGEST_FILE (Fails O.R.failures) (O.file files.old) fault) }
     ensures failed { IfErr result (NamesFailed (Fails O.R.failures)) }
-    ensures nothing { IfErr result (λ fault. (fault ≡ RunFault.Write) ⊎ Keeps (W.written out.old) (W.written out.new)) }
-    ensures broken_off { result ≡ Err RunFault.Write → BreaksOff (O.file files.old) Verb.Replay layout_name.now manifest_name.now (W.written out.old) (W.written out.new) (W.failures out.old) (W.failures out.new) }
     ensures same { O.file files.new ≡ O.file files.old }
 {
-    let layout = match layout_at(alloc, layout_name, files) {
+    let layout = match layout_at(alloc, layout, files) {
         Ok(layout) => layout,
         Err(fault) => return Err(fault),
     };
-    let world = match world_with(alloc, &layout, manifest_name, files, watcher) {
+    let world = match world_with(alloc, &layout, manifest, files, watcher) {
         Ok(world) => world,
         Err(fault) => return Err(fault),
     };
@@ -92,7 +88,7 @@ fn world_after<'a>(
     nodes: usize,
     steps: &[Step],
 ) -> Result<World<'a>, RunFault>
-    ensures ok { IfOk result (λ world. CanReplay layout.now nodes steps.now × (world.nodes ≡ nodes_after layout.now nodes steps.now)) }
+    ensures ok { IfOk result (λ world. AreLeft layout.now nodes steps.now world.nodes) }
     ensures fresh { IfOk result (λ world. NoneStale world.nodes) }
     ensures err { IfErr result (λ fault. RefusesSteps layout.now nodes steps.now fault) }
 {
@@ -125,8 +121,8 @@ fn stop_of(fault: WorldFault, step: usize) -> RunFault
 /// Writes the line and the report of each node.
 fn write_nodes<W: Write>(world: &World<'_>, out: &mut W) -> Result<(), Failed>
     requires fresh { NoneStale world.now.nodes }
-    ensures ok { OnOk result ((text : List ℕ) × IsTextOf world.now.nodes text × Appends (W.written out.old) (W.written out.new) text) }
-    ensures err { OnErr result ((count : ℕ) × (text : List ℕ) × IsTextOf (take count world.now.nodes) text × AppendsFront (W.written out.old) (W.written out.new) text) }
+    ensures ok { OnOk result (Writes (IsTextOf world.now.nodes) (W.written out.old) (W.written out.new)) }
+    ensures err { OnErr result (WritesFront (BeginsTextOf world.now.nodes) (W.written out.old) (W.written out.new)) }
     ensures failed { OnErr result (HasFailed (W.failures out.old) (W.failures out.new)) }
 {
     world.known();

@@ -1,18 +1,15 @@
 //! A run of a verb over the files that it names.
 
-ghost use Rattle.std.specs.Prelude.{◌≡◌, ◌≢◌, ◌⊎◌, ℕ, false, true, IfErr, IfOk, List, OnErr, OnOk};
-ghost use Rattle.std.specs.Io.KnownBytes.{Appends, Keeps};
+ghost use Rattle.std.specs.Prelude.{◌≡◌, ◌≢◌, false, IfErr, IfOk, OnErr, OnOk};
 ghost use Rattle.mpi_model.specs.Failures.{HasFailed};
-ghost use Rattle.trace_node.specs.Answer.{Answered, IsAnswer};
-ghost use Rattle.trace_report.specs.Report.{report_text};
-ghost use Rattle.command_runs.specs.Replays.{AppendsFront};
-ghost use Rattle.command_runs.specs.Runs.{IsReportOf};
 ghost use Rattle.dumpi_text.specs.Failing.{Fails};
 ghost use Rattle.command_runs.specs.Files.{NamesFailed, NamesUnreadable};
 ghost use Rattle.command_runs.specs.declared.whole.TheConstants.{LONGEST_FILE};
-ghost use Rattle.command_runs.specs.Verbs.{BreaksOff, IsOutputOf, RefusesVerb};
 ghost use Rattle.command_runs.specs.Nodes.{IsNodeOf};
-ghost use Rattle.command_runs.specs.Refusals.{RefusesNode, RefusesRun};
+ghost use Rattle.command_runs.specs.Refusals.{RefusesNode};
+ghost use Rattle.command_runs.specs.Replays.{Writes, WritesFront};
+ghost use Rattle.command_runs.specs.Runs.{IsNodeReport};
+ghost use Rattle.command_runs.specs.Verbs.{Ran};
 
 use crate::answerer::Answerer;
 use crate::check::check_with;
@@ -47,13 +44,9 @@ pub fn run_with<O: Opener, V: Watcher, W: Write>(
     out: &mut W,
 ) -> Result<bool, RunFault>
     requires alone { verb ≢ Verb.Cluster }
-    ensures output { OnOk result ((text : List ℕ) × IsOutputOf (O.file files.old) verb layout.now manifest.now text × Appends (W.written out.old) (W.written out.new) text) }
-    ensures held { IfOk result (λ held. held ≡ true) }
-    ensures refused { IfErr result (λ fault. (fault ≡ RunFault.Write) ⊎ RefusesVerb (O.file files.old) verb layout.now manifest.now fault) }
+    ensures ran { Ran (O.file files.old) verb layout.now manifest.now result W.written W.failures out.old out.new }
     ensures unread { IfErr result (λ fault. NamesUnreadable LONGEST_FILE (Fails O.R.failures) (O.file files.old) fault) }
     ensures failed { IfErr result (NamesFailed (Fails O.R.failures)) }
-    ensures nothing { IfErr result (λ fault. (fault ≡ RunFault.Write) ⊎ Keeps (W.written out.old) (W.written out.new)) }
-    ensures broken_off { result ≡ Err RunFault.Write → BreaksOff (O.file files.old) verb layout.now manifest.now (W.written out.old) (W.written out.new) (W.failures out.old) (W.failures out.new) }
     ensures same { O.file files.new ≡ O.file files.old }
 {
     match verb {
@@ -74,26 +67,22 @@ pub fn run_with<O: Opener, V: Watcher, W: Write>(
 /// Writes the report of what the files tell.
 fn report_with<O: Opener, V: Watcher, W: Write>(
     alloc: Global,
-    layout_name: &str,
-    manifest_name: &str,
+    layout: &str,
+    manifest: &str,
     files: &mut O,
     watcher: &mut V,
     out: &mut W,
 ) -> Result<bool, RunFault>
-    ensures report { OnOk result ((text : List ℕ) × IsReportOf (O.file files.old) layout_name.now manifest_name.now text × Appends (W.written out.old) (W.written out.new) text) }
-    ensures held { IfOk result (λ held. held ≡ true) }
-    ensures refused { IfErr result (λ fault. (fault ≡ RunFault.Write) ⊎ RefusesRun (O.file files.old) layout_name.now manifest_name.now fault) }
+    ensures ran { Ran (O.file files.old) Verb.Report layout.now manifest.now result W.written W.failures out.old out.new }
     ensures unread { IfErr result (λ fault. NamesUnreadable LONGEST_FILE (Fails O.R.failures) (O.file files.old) fault) }
     ensures failed { IfErr result (NamesFailed (Fails O.R.failures)) }
-    ensures nothing { IfErr result (λ fault. (fault ≡ RunFault.Write) ⊎ Keeps (W.written out.old) (W.written out.new)) }
-    ensures broken_off { result ≡ Err RunFault.Write → BreaksOff (O.file files.old) Verb.Report layout_name.now manifest_name.now (W.written out.old) (W.written out.new) (W.failures out.old) (W.failures out.new) }
     ensures same { O.file files.new ≡ O.file files.old }
 {
-    let layout = match layout_at(alloc, layout_name, files) {
+    let layout = match layout_at(alloc, layout, files) {
         Ok(layout) => layout,
         Err(fault) => return Err(fault),
     };
-    let node = match node_with(alloc, &layout, manifest_name, files, watcher) {
+    let node = match node_with(alloc, &layout, manifest, files, watcher) {
         Ok(node) => node,
         Err(fault) => return Err(fault),
     };
@@ -106,8 +95,8 @@ fn report_with<O: Opener, V: Watcher, W: Write>(
 /// Writes the report of a node with its answer, and lets go of it.
 fn write_told<N: Answerer, W: Write>(node: N, out: &mut W) -> Result<(), Failed>
     requires fresh { (N.held node).is_stale ≡ false }
-    ensures ok { OnOk result ((answer : Answered) × IsAnswer (N.held node).layout (N.held node).know answer × Appends (W.written out.old) (W.written out.new) (report_text answer)) }
-    ensures err { OnErr result ((answer : Answered) × IsAnswer (N.held node).layout (N.held node).know answer × AppendsFront (W.written out.old) (W.written out.new) (report_text answer)) }
+    ensures ok { OnOk result (Writes (IsNodeReport (N.held node)) (W.written out.old) (W.written out.new)) }
+    ensures err { OnErr result (WritesFront (IsNodeReport (N.held node)) (W.written out.old) (W.written out.new)) }
     ensures failed { OnErr result (HasFailed (W.failures out.old) (W.failures out.new)) }
 {
     // (a new node isn't stale)

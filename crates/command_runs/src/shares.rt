@@ -1,15 +1,14 @@
 //! What the packed files of each of two nodes tell.
 
-ghost use Rattle.std.specs.Prelude.{◌≡◌, ◌⊎◌, if◌then◌else◌, IfErr, IfOk, OnOk};
+ghost use Rattle.std.specs.Prelude.{◌≡◌, IfErr, IfOk, OnOk};
 ghost use Rattle.std.specs.FinMap.{empty};
 ghost use Rattle.dumpi_text.specs.Failing.{Fails};
 ghost use Rattle.trace_cluster.specs.declared.side.Side.{Side as SideValue};
-ghost use Rattle.trace_know.specs.View.{View, join};
+ghost use Rattle.trace_know.specs.View.{View};
 ghost use Rattle.trace_node.specs.Node.{IsWithin};
 ghost use Rattle.command_runs.specs.Files.{NamesFailed, NamesUnreadable};
-ghost use Rattle.command_runs.specs.Packed.{RefusesFirstPacked, TellPacked};
-ghost use Rattle.command_runs.specs.Shares.{TellShares, so_far, told_to};
-ghost use Rattle.command_runs.specs.Texts.{is_side};
+ghost use Rattle.command_runs.specs.Packed.{RefusesPacked, TellPacked};
+ghost use Rattle.command_runs.specs.Shares.{IsToldMore, TellShares, so_far, told_to};
 ghost use Rattle.command_runs.specs.declared.whole.TheConstants.{LONGEST_PIECE};
 
 use crate::fault::RunFault;
@@ -50,7 +49,7 @@ impl SoFar {
 
     /// The same once a file of a node has told this.
     fn taking(self, node: Side, know: Knowledge) -> Result<SoFar, AllocError>
-        ensures { IfOk result (λ more. (one : SideValue) → so_far more one ≡ (if is_side one node then join (so_far self one) know else so_far self one)) }
+        ensures { IfOk result (IsToldMore node know self) }
     {
         let SoFar { first, second } = self;
         match node {
@@ -87,7 +86,7 @@ pub(crate) fn shares_of<O: Opener>(
     ensures ok { IfOk result (λ shares. TellShares (O.file files.old) layout.now.ranks packed.now (told_to shares)) }
     ensures within { IfOk result (λ shares. (node : SideValue) → IsWithin layout.now (told_to shares node)) }
     ensures together { OnOk result ((view : View) × TellPacked (O.file files.old) layout.now.ranks packed.now view) }
-    ensures err { IfErr result (λ fault. (fault ≡ RunFault.Memory) ⊎ RefusesFirstPacked (O.file files.old) layout.now.ranks packed.now fault) }
+    ensures err { IfErr result (RefusesPacked (O.file files.old) layout.now.ranks packed.now) }
     ensures unread { IfErr result (λ fault. NamesUnreadable LONGEST_PIECE (Fails O.R.failures) (O.file files.old) fault) }
     ensures failed { IfErr result (NamesFailed ⊥) }
     ensures same { O.file files.new ≡ O.file files.old }

@@ -1,14 +1,13 @@
 //! The texts of all pieces, by the node and the worker that they name.
 
-ghost use Rattle.std.specs.Prelude.{◌≡◌, ◌++◌, ◌∷◌, ◌&&◌, [], if◌then◌else◌, IfErr, IfOk, OnOk};
+ghost use Rattle.std.specs.Prelude.{◌≡◌, [], IfErr, IfOk, OnOk};
 ghost use Rattle.trace_cluster.specs.declared.side.Side.{Side as SideValue};
-ghost use Rattle.trace_crew.specs.Views.{is_from};
 ghost use Rattle.trace_crew.specs.declared.inbox.item.Worker.{Worker as WorkerValue};
 ghost use Rattle.dumpi_text.specs.Failing.{Fails};
 ghost use Rattle.command_runs.specs.Files.{NamesFailed, NamesUnreadable};
 ghost use Rattle.command_runs.specs.declared.whole.TheConstants.{LONGEST_PIECE};
 ghost use Rattle.command_runs.specs.Shares.{told_to};
-ghost use Rattle.command_runs.specs.Texts.{AreShares, RefusesBytes, is_side, known_in, share_in, side_of, worker_of};
+ghost use Rattle.command_runs.specs.Texts.{AddsText, AreShares, RefusesBytes, known_in, share_in, side_of, worker_of};
 
 use crate::fault::RunFault;
 use crate::input::file_at;
@@ -49,7 +48,7 @@ impl AllTexts {
 
     /// Adds a text for a worker of a node.
     fn add(&mut self, node: Side, worker: Worker, text: TextPiece) -> Result<(), AllocError>
-        ensures shares { OnOk result ((one : SideValue) (by : WorkerValue) → share_in self.new one by ≡ share_in self.old one by ++ (if is_side one node && is_from by worker then text ∷ [] else [])) }
+        ensures shares { OnOk result (AddsText node worker text self.old self.new) }
         ensures known { OnOk result ((one : SideValue) → known_in self.new one ≡ known_in self.old one) }
     {
         match (node, worker) {

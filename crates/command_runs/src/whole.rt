@@ -54,7 +54,7 @@ pub fn read_whole<R: Read>(
     ensures bytes { IfOk result (λ bytes. Consumes (R.left reader.old) (R.left reader.new) bytes.items) }
     ensures end { IfOk result (λ bytes. IsAtEnd (R.left reader.new)) }
     ensures limit { IfOk result (λ bytes. length bytes.items ≤ most) }
-    ensures err { IfErr result (IsRefusedFor most (R.left reader.old) (R.left reader.new) (R.failures reader.old) (R.failures reader.new)) }
+    ensures err { IfErr result (IsRefusedFor most R.left R.failures reader.old reader.new) }
 {
     let mut bytes = Vec::new(alloc);
     let mut chunk = [0; 4096];

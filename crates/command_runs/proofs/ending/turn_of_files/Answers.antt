@@ -13,7 +13,7 @@ returns g c = λ words ask.
     let line : string_bytes c.in_ok-strange_files-in-None.field-0.errors ≡ strange_line (map (λ n. n.now) c.as_slice-in-None.result.now) = c.in_ok-strange_files-in-None.ensures.errors in
     strange (g.O.Opener.file c.args.files.now) words c.args.verb (map (λ n. n.now) c.args.names.items)
     c.in_ok-strange_files-in-None.field-0.status (string_bytes c.in_ok-strange_files-in-None.field-0.errors)
-    (output_of (g.W.Write.written c.args.out.now) (g.W.Write.failures c.args.out.now)) ask
+    (output_of g.W.Write.written g.W.Write.failures c.args.out.now) ask
     (subst (λ (l : List (Bor Text)). length (map (λ n. n.now) l) ≢ 2) first other)
     c.in_ok-strange_files-in-None.ensures.status
     (line ∙ ap (λ (l : List (Bor Text)). strange_line (map (λ n. n.now) l)) later)

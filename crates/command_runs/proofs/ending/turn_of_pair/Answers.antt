@@ -1,5 +1,5 @@
 use Rattle.std.proofs.Common.{ℕ, List, Option, string_bytes, subst}
-use Rattle.command_runs.specs.Endings.{IsEndedBy, output_of}
+use Rattle.command_runs.specs.Endings.{IsEndedBy}
 use Rattle.command_runs.proofs.Endings.{ended}
 use Rattle.command_runs.proofs.ending.turn_of_pair.Goals as goal
 
@@ -10,7 +10,4 @@ returns g c = λ words ask.
     let is : IsEndedBy (g.O.Opener.file c.args.files.now) c.args.verb c.run_with-ran.result status errors =
     subst (λ (f : List ℕ → Option (List ℕ)). IsEndedBy f c.args.verb c.run_with-ran.result status errors) c.run_with-ran.ensures.same c.in_ok-ending_after.ensures in
     ended (g.O.Opener.file c.args.files.now) words c.args.verb c.args.layout.now c.args.manifest.now c.run_with-ran.result status errors
-    (output_of (g.W.Write.written c.args.out.now) (g.W.Write.failures c.args.out.now))
-    (output_of (g.W.Write.written c.run_with-ran.new.out) (g.W.Write.failures c.run_with-ran.new.out))
-    ask c.run_with-ran.ensures.output c.run_with-ran.ensures.held c.run_with-ran.ensures.refused c.run_with-ran.ensures.nothing
-    c.run_with-ran.ensures.broken_off is
+    g.W.Write.written g.W.Write.failures c.args.out.now c.run_with-ran.new.out ask c.run_with-ran.ensures.ran is

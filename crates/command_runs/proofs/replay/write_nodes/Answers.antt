@@ -45,9 +45,8 @@ returns-in_err-write_node-clause-err g c =
     let at : slice_get nodes c.loop-node.n ≡ Some c.in-Some.node.now = sym c.in-Some.ensures in
     let w = c.loop-node.invariant.written in
     on_err c.from_residual.result (
-      c.loop-node.n + 1,
       w.0 ++ node_text c.loop-node.n c.in-Ok.answer.now,
-      text_more nodes c.loop-node.n c.in-Some.node.now c.in-Ok.answer.now w.0 at w.1 c.in-Ok.ensures.ok,
+      (c.loop-node.n + 1, text_more nodes c.loop-node.n c.in-Some.node.now c.in-Ok.answer.now w.0 at w.1 c.in-Ok.ensures.ok),
       front_after _ _ _ w.0 (node_text c.loop-node.n c.in-Ok.answer.now) w.2 c.in_err-write_node.ensures.err,
     )
 
