@@ -1,6 +1,6 @@
 -- How the program ends over texts alone.
-use Rattle.std.specs.Prelude.{◌≡◌, ◌≢◌, ◌⊎◌, ◌++◌, ℕ, Bool, List, [], Option, Some, Result, IfErr, OnOk, codes}
-use Rattle.std.specs.Io.KnownBytes.{Appends, Keeps}
+use Rattle.std.specs.Prelude.{◌≡◌, ◌≢◌, ◌⊎◌, ◌++◌, ℕ, Bool, List, [], Option, Some, Result, IfErr, OnOk, codes, string_bytes}
+use Rattle.std.specs.Io.KnownBytes.{Keeps}
 use Rattle.mpi_model.specs.Failures.{HasFailed}
 use Rattle.mpi_model.specs.declared.layout.Sends.{Sends}
 use Rattle.mpi_model.specs.declared.layout.Sends.TheVariants.{Wait}
@@ -8,7 +8,9 @@ use Rattle.layout_files.specs.Stores.{AddsBoth, Files, Goes, HasBoth, Same}
 use Rattle.layout_files.specs.declared.store.NewFile.{NewFile}
 use Rattle.command_line.specs.declared.Verb.{Verb}
 use Rattle.command_runs.specs.Endings.{IsEndedBy, Output}
+use Rattle.command_runs.specs.Replays.{Writes}
 use Rattle.command_runs.specs.Verbs.{IsOutputOf, RefusesVerb}
+use Rattle.command_runs.specs.declared.ending.Ending.{Ending}
 use Rattle.command_runs.specs.declared.fault.RunFault.{RunFault}
 use Rattle.command_runs.specs.declared.fault.RunFault.TheVariants as runs
 use Rattle.text_layouts.specs.declared.made.Made.{Made}
@@ -32,18 +34,19 @@ files_of file made = with_made file layout_name made.layout_file.items manifest_
 
 -- A verb ran over a layout and a manifest that were made, and the program ends so: with what the verb prints of them, or
 -- what it shows of the fault for which it refuses them.
-pub record EndsOver (file : List ℕ → Option (List ℕ)) (verb : Verb) (made : Made) (status : ℕ) (errors : List ℕ) (old new : Option (List ℕ)) : Type 0 where
+pub record EndsOver {W : Type 0} (file : List ℕ → Option (List ℕ)) (verb : Verb) (made : Made) (written : W → Option (List ℕ)) (old new : W) (e : Ending) : Type 0 where
   pub ran : Result Bool RunFault
-  pub ended : IsEndedBy (files_of file made) verb ran status errors
-  pub output : OnOk ran ((text : List ℕ) × IsOutputOf (files_of file made) verb layout_name manifest_name text × Appends old new text)
+  pub ended : IsEndedBy (files_of file made) verb ran e.status (string_bytes e.errors)
+  pub output : OnOk ran (Writes (IsOutputOf (files_of file made) verb layout_name manifest_name) (written old) (written new))
   pub refused : IfErr ran (λ fault. (fault ≡ runs.Write) ⊎ RefusesVerb (files_of file made) verb layout_name manifest_name fault)
-  pub nothing : IfErr ran (λ fault. (fault ≡ runs.Write) ⊎ Keeps old new)
+  pub nothing : IfErr ran (λ fault. (fault ≡ runs.Write) ⊎ Keeps (written old) (written new))
 
 -- The texts that these words name are refused, and the program ends with what the verb shows of the fault.
-abbrev pub EndsRefused : (List ℕ → Option (List ℕ)) → Verb → Sends → List (List ℕ) → ℕ → List ℕ → Type 0
-EndsRefused file verb sends words status errors = (fault : InitFault) × (status ≡ 1) × IsInitShown file verb fault errors × RefusesWords file sends words fault
+abbrev pub EndsRefused : (List ℕ → Option (List ℕ)) → Verb → Sends → List (List ℕ) → Ending → Type 0
+EndsRefused file verb sends words e = (fault : InitFault) × (e.status ≡ 1)
+    × IsInitShown file verb fault (string_bytes e.errors) × RefusesWords file sends words fault
 
 -- A verb over texts ends so: they are refused and nothing is written, or it ran over what was made of them.
-abbrev pub EndsOverTexts : (List ℕ → Option (List ℕ)) → Verb → List (List ℕ) → ℕ → List ℕ → Option (List ℕ) → Option (List ℕ) → Type 0
-EndsOverTexts file verb words status errors old new = (EndsRefused file verb Wait words status errors × Keeps old new)
-    ⊎ ((made : Made) × IsMadeOf file Wait words made × EndsOver file verb made status errors old new)
+abbrev pub EndsTexts : {W : Type 0} → (List ℕ → Option (List ℕ)) → Verb → List (List ℕ) → (W → Option (List ℕ)) → W → W → Ending → Type 0
+EndsTexts file verb words written old new e = (EndsRefused file verb Wait words e × Keeps (written old) (written new))
+    ⊎ ((made : Made) × IsMadeOf file Wait words made × EndsOver file verb made written old new e)

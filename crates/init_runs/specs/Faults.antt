@@ -11,11 +11,19 @@ use Rattle.text_layouts.specs.declared.fault.MadeFault.TheVariants as mades
 use Rattle.init_runs.specs.declared.fault.InitFault.{InitFault}
 use Rattle.init_runs.specs.declared.fault.InitFault.TheVariants.{Memory, Text, NoCall, TooMany, Twice, Made, There, NotWritten, Half, OneName, Write}
 
+-- two ranks, and what is said of them
+abbrev pub ranks_text : ℕ → ℕ → List ℕ → List ℕ
+ranks_text first second said = codes "ranks " ++ decimal first ++ codes " and " ++ decimal second ++ said
+
+-- a rank, the size of the world that it tells, and what is said of it
+abbrev pub size_text : ℕ → ℕ → List ℕ → List ℕ
+size_text rank size said = codes "rank " ++ decimal rank ++ codes " tells " ++ decimal size ++ said
+
 -- why texts make no layout, in words
 abbrev pub made_fault_text : MadeFault → List ℕ
 made_fault_text mades.Memory = codes "Memory"
-made_fault_text (mades.Size rank size) = codes "rank " ++ decimal rank ++ codes " tells " ++ decimal size ++ codes " ranks of MPI_COMM_WORLD, and there is not one text for each"
-made_fault_text (mades.World first second) = codes "ranks " ++ decimal first ++ codes " and " ++ decimal second ++ codes " have two numbers for MPI_COMM_WORLD: their texts are not of one run"
+made_fault_text (mades.Size rank size) = size_text rank size (codes " ranks of MPI_COMM_WORLD, and there is not one text for each")
+made_fault_text (mades.World first second) = ranks_text first second (codes " have two numbers for MPI_COMM_WORLD: their texts are not of one run")
 made_fault_text (mades.Layout fault) = layout_fault_name fault ++ codes " in the layout of the texts"
 made_fault_text mades.LayoutFile = codes "the layout has more than 16777216 bytes"
 made_fault_text mades.ManifestFile = codes "the manifest has more than 16777216 bytes"

@@ -4,8 +4,8 @@ use Rattle.mpi_model.specs.Layouts.{Holds}
 use Rattle.mpi_model.specs.declared.layout.Sends.{Sends}
 use Rattle.comm_makings.specs.World.{world_of}
 use Rattle.comm_makings.specs.declared.calls.RankCalls.{RankCalls}
-use Rattle.layout_files.specs.Values.{layout_value, manifest_value}
-use Rattle.text_layouts.specs.Making.{IsFile, RefusesMaking}
+use Rattle.layout_files.specs.Values.{manifest_value}
+use Rattle.text_layouts.specs.Making.{IsFile, RefusesMaking, made_layout}
 use Rattle.text_layouts.specs.Names.{IsOrder, IsTwice, numbers_of}
 use Rattle.text_layouts.specs.Words.{notes_text}
 use Rattle.text_layouts.specs.declared.made.Made.{Made}
@@ -37,7 +37,7 @@ pub record IsMadeOf (file : List ℕ → Option (List ℕ)) (sends : Sends) (wor
   pub say : AllSay file names ranks
   pub world : made.derived.world ≡ world_of ranks
   pub layout : Holds (length ranks) made.derived.world sends made.derived.comms.items made.layout
-  pub layout_file : IsFile (layout_value (record { ranks = length ranks; world = made.derived.world; sends = sends; comms = made.derived.comms.items })) made.layout_file.items
+  pub layout_file : IsFile (made_layout (length ranks) sends made.derived) made.layout_file.items
   pub manifest_file : IsFile (manifest_value names) made.manifest_file.items
 
 -- ---- why nothing is made
@@ -66,7 +66,11 @@ abbrev pub digits_text : Bool → List ℕ
 digits_text true = codes "ranks by the digits at the ends of the names\n"
 digits_text false = []
 
--- The notes say this of what was made: by what the texts' ranks are known, how many calls they have, and what was found.
+-- what is said of so many ranks with so many calls and of what they made: by what their ranks are known, and what was found
+abbrev pub made_notes : Bool → ℕ → ℕ → Made → List ℕ
+made_notes by_digits ranks calls made = digits_text by_digits ++ notes_text ranks calls made.derived.comms.items made.derived.left_out.items
+
+-- The notes say this of what was made.
 abbrev pub AreNotes : Made → List ℕ → Type 0
 AreNotes made notes = (by_digits : Bool) × (ranks calls : ℕ)
-    × (notes ≡ digits_text by_digits ++ notes_text ranks calls made.derived.comms.items made.derived.left_out.items)
+    × (notes ≡ made_notes by_digits ranks calls made)

@@ -1,8 +1,9 @@
 //! How the program ends where it is given texts alone.
 
-ghost use Rattle.std.specs.Prelude.{◌≡◌, ◌≢◌, IfOk, map, string_bytes};
+ghost use Rattle.std.specs.Prelude.{◌≡◌, ◌≢◌, IfOk, string_bytes};
+ghost use Rattle.command_line.specs.Program.{texts_of};
 ghost use Rattle.init_runs.specs.Advice.{IsInitShown};
-ghost use Rattle.init_runs.specs.Endings.{EndsOver, EndsOverTexts};
+ghost use Rattle.init_runs.specs.Endings.{EndsOver, EndsTexts};
 ghost use Rattle.init_runs.specs.Faults.{init_fault_line_of};
 
 use crate::advice::shown_init_fault;
@@ -51,7 +52,7 @@ fn run_prepared<O: Opener, V: Watcher, W: Write>(
     out: &mut W,
 ) -> Result<Ending, AllocError>
     requires alone { verb ≢ Verb.Cluster }
-    ensures { IfOk result (λ e. EndsOver (O.file files.old) verb prepared.now.made e.status (string_bytes e.errors) (W.written out.old) (W.written out.new)) }
+    ensures { IfOk result (EndsOver (O.file files.old) verb prepared.now.made W.written out.old out.new) }
 {
     let mut made = MadeFiles::new(
         &prepared.made.layout_file,
@@ -88,7 +89,7 @@ pub fn ending_of_texts<R: Eprint, O: Opener, V: Watcher, W: Write>(
     watcher: &mut V,
     out: &mut W,
 ) -> Result<Ending, AllocError>
-    ensures { verb ≢ Verb.Cluster → IfOk result (λ e. EndsOverTexts (O.file files.old) verb (map (λ t. t.now) texts.now) e.status (string_bytes e.errors) (W.written out.old) (W.written out.new)) }
+    ensures { verb ≢ Verb.Cluster → IfOk result (EndsTexts (O.file files.old) verb (texts_of texts.now) W.written out.old out.new) }
 {
     if let Verb::Cluster = verb {
         return no_cluster(alloc);
@@ -115,7 +116,7 @@ fn over_texts<R: Eprint, O: Opener, V: Watcher, W: Write>(
     out: &mut W,
 ) -> Result<Ending, AllocError>
     requires alone { verb ≢ Verb.Cluster }
-    ensures { IfOk result (λ e. EndsOverTexts (O.file files.old) verb (map (λ t. t.now) texts.now) e.status (string_bytes e.errors) (W.written out.old) (W.written out.new)) }
+    ensures { IfOk result (EndsTexts (O.file files.old) verb (texts_of texts.now) W.written out.old out.new) }
 {
     let prepared = match prepare(alloc, Sends::Wait, texts, files) {
         Ok(prepared) => prepared,

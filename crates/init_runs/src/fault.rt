@@ -2,7 +2,7 @@
 
 ghost use Rattle.std.specs.Prelude.{◌≡◌, ◌++◌, IfOk, codes, decimal, string_bytes};
 ghost use Rattle.std.specs.Fmt.{WritesOnOk};
-ghost use Rattle.init_runs.specs.Faults.{IsPutFault, init_fault_line_of, made_fault_text, name_of};
+ghost use Rattle.init_runs.specs.Faults.{IsPutFault, init_fault_line_of, made_fault_text, name_of, ranks_text, size_text};
 ghost use Rattle.command_runs.specs.FileNames.{shown_name};
 
 use command_runs::{FileName, RunFault, name_of_layout};
@@ -81,7 +81,7 @@ fn put_ranks<W: fmt::Write>(
     second: u32,
     text: &str,
 ) -> fmt::Result
-    ensures { WritesOnOk W.write_str_gives f.old result (codes "ranks " ++ decimal first ++ codes " and " ++ decimal second ++ text.now) f.new }
+    ensures { WritesOnOk W.write_str_gives f.old result (ranks_text first second text.now) f.new }
 {
     write!(f, "ranks {first} and {second}{text}")
 }
@@ -110,7 +110,7 @@ fn put_size<W: fmt::Write>(
     size: u32,
     text: &str,
 ) -> fmt::Result
-    ensures { WritesOnOk W.write_str_gives f.old result (codes "rank " ++ decimal rank ++ codes " tells " ++ decimal size ++ text.now) f.new }
+    ensures { WritesOnOk W.write_str_gives f.old result (size_text rank size text.now) f.new }
 {
     write!(f, "rank {rank} tells {size}{text}")
 }

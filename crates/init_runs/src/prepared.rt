@@ -1,9 +1,9 @@
 //! From the words that name texts to a layout and a manifest, and what is said of them.
 
-ghost use Rattle.std.specs.Prelude.{◌≡◌, ◌<◌, ◌≤◌, ◌++◌, IfErr, IfOk, length, map, string_bytes};
+ghost use Rattle.std.specs.Prelude.{◌≡◌, ◌<◌, ◌≤◌, IfErr, IfOk, length, map, string_bytes};
 ghost use Rattle.std.specs.List.{All};
-ghost use Rattle.init_runs.specs.Prepared.{AreAt, AreNotes, IsByRank, IsMadeOf, RefusesNames, RefusesWords, digits_text};
-ghost use Rattle.text_layouts.specs.Words.{notes_text};
+ghost use Rattle.command_line.specs.Program.{texts_of};
+ghost use Rattle.init_runs.specs.Prepared.{AreAt, AreNotes, IsByRank, IsMadeOf, RefusesNames, RefusesWords, made_notes};
 
 use crate::fault::InitFault;
 use crate::texts::{AllCalls, calls_of_all};
@@ -23,7 +23,7 @@ pub struct Prepared {
 
 /// Copies of the words, as names that faults may keep.
 fn owned(alloc: Global, words: &[&str]) -> Result<Vec<String>, AllocError>
-    ensures { IfOk result (λ names. map string_bytes names.items ≡ map (λ w. w.now) words.now) }
+    ensures { IfOk result (λ names. map string_bytes names.items ≡ texts_of words.now) }
 {
     let mut names = Vec::new(alloc);
     for word in words {
@@ -46,9 +46,9 @@ fn in_order(alloc: Global, names: &[String], places: &[usize]) -> Result<Vec<Str
 
 /// The texts by rank, and whether the digits of their names say so.
 fn by_rank(alloc: Global, words: &[&str]) -> Result<(Vec<String>, bool), InitFault>
-    ensures ok { IfOk result (λ read. IsByRank (map (λ w. w.now) words.now) (map string_bytes read.0.items)) }
+    ensures ok { IfOk result (λ read. IsByRank (texts_of words.now) (map string_bytes read.0.items)) }
     ensures few { IfOk result (λ read. length read.0.items ≤ 1024) }
-    ensures err { IfErr result (RefusesNames (map (λ w. w.now) words.now)) }
+    ensures err { IfErr result (RefusesNames (texts_of words.now)) }
 {
     if words.len() > MOST_RANKS as usize {
         return Err(InitFault::TooMany);
@@ -71,7 +71,7 @@ fn notes_of(
     calls: u64,
     made: &Made,
 ) -> Result<Vec<u8>, AllocError>
-    ensures { IfOk result (λ notes. notes.items ≡ digits_text by_digits ++ notes_text ranks calls made.now.derived.comms.items made.now.derived.left_out.items) }
+    ensures { IfOk result (λ notes. notes.items ≡ made_notes by_digits ranks calls made.now) }
 {
     let mut out = Text::new(alloc);
     if by_digits {
@@ -89,9 +89,9 @@ pub fn prepare<O: Opener>(
     words: &[&str],
     files: &mut O,
 ) -> Result<Prepared, InitFault>
-    ensures made { IfOk result (λ p. IsMadeOf (O.file files.old) sends (map (λ w. w.now) words.now) p.made) }
+    ensures made { IfOk result (λ p. IsMadeOf (O.file files.old) sends (texts_of words.now) p.made) }
     ensures notes { IfOk result (λ p. AreNotes p.made p.notes.items) }
-    ensures err { IfErr result (RefusesWords (O.file files.old) sends (map (λ w. w.now) words.now)) }
+    ensures err { IfErr result (RefusesWords (O.file files.old) sends (texts_of words.now)) }
     ensures same { O.file files.new ≡ O.file files.old }
 {
     let (texts, by_digits) = by_rank(alloc, words)?;

@@ -25,6 +25,6 @@ returns g c =
     (λ e h. inr (
       c.in-Ok.prepared.made,
       c.in-Ok.ensures.made,
-      subst (λ (f : List ℕ → Option (List ℕ)). EndsOver f c.args.verb c.in-Ok.prepared.made e.status (string_bytes e.errors) (g.W.Write.written c.args.out.now) (g.W.Write.written c.run_prepared.new.out))
+      subst (λ (f : List ℕ → Option (List ℕ)). EndsOver f c.args.verb c.in-Ok.prepared.made g.W.Write.written c.args.out.now c.run_prepared.new.out e)
           c.prepare.ensures.same h,
     )) c.run_prepared.ensures
