@@ -1,7 +1,7 @@
 -- What a crew leaves.
 use Rattle.std.specs.Prelude.{◌≡◌, List, ◌++◌, map, All}
 use Rattle.std.specs.List.{filter, flat_map}
-use Rattle.crossbeam_channel.specs.Claims.{view}
+use Rattle.crossbeam_channel.specs.Claims.{Pass, view}
 use Rattle.mpi_model.specs.Layouts.{Parts}
 use Rattle.trace_know.specs.Segment.{PlacedEvents}
 use Rattle.trace_know.specs.Trace.{view_of}
@@ -19,8 +19,8 @@ use Rattle.trace_crew.specs.declared.piece.Piece.{Piece}
 use Rattle.trace_crew.specs.declared.piece.FaultyPiece.{FaultyPiece}
 use Rattle.trace_crew.specs.declared.owner.Refusal.{Refusal}
 use Rattle.trace_crew.specs.Pieces.{Gave}
-use Rattle.trace_crew.specs.Taking.{HasAll, IsFair, Sorted, Taken, ends_in, joined_in, refused_in}
-use Rattle.trace_crew.specs.Work.{HasWorked}
+use Rattle.trace_crew.specs.Taking.{HasAll, IsFair, IsNew, Keeping, Sorted, Taken, ends_in, joined_in, refused_in}
+use Rattle.trace_crew.specs.Work.{Leaves}
 
 -- the segments of one worker among those that were taken, in their order
 abbrev pub segments_by : Worker → List Taken → List PlacedEvents
@@ -62,5 +62,23 @@ pub record HasRun (layout : Parts) (first second : List Piece) (owner : View) (n
   pub owner_is : owner ≡ Owner (desk taken Running Running)
   pub sorted : Sorted layout taken node refused
   pub two : ends_in taken ≡ 2
-  pub one_worked : HasWorked First first (view one.seat) one.faults.items one.stop
-  pub other_worked : HasWorked Second second (view other.seat) other.faults.items other.stop
+  pub one_worked : Leaves First first one
+  pub other_worked : Leaves Second second other
+
+-- ---- from a new node on
+
+-- Where the node was new, the owner has taken all that both workers posted.
+abbrev pub Gathers : List Piece → List Piece → Keeping → Keeping → List FaultyPiece → Type 0
+Gathers first second old new faults = (layout : Parts) → IsNew layout old → HasGathered layout first second new.node new.refused faults
+
+-- Where the node was new, the workers have left, and the owner has taken two ends.
+abbrev pub Runs : List Piece → List Piece → Keeping → Pass Item View → Keeping → Worked → Worked → Type 0
+Runs first second old seat new one other = (layout : Parts) → IsNew layout old → HasRun layout first second (view seat) new.node new.refused one other
+
+-- of some layout and some texts the workers have left, and the owner has taken two ends
+abbrev pub HasRunSome : Pass Item View → Keeping → Worked → Worked → Type 0
+HasRunSome seat kept one other = (layout : Parts) × (first : List Piece) × (second : List Piece) × HasRun layout first second (view seat) kept.node kept.refused one other
+
+-- Whatever the layout and the texts were of which this is left, the owner has now taken all that both workers posted.
+abbrev pub Finishes : Pass Item View → Keeping → Worked → Worked → Keeping → List FaultyPiece → Type 0
+Finishes seat old one other new faults = (layout : Parts) (first second : List Piece) → HasRun layout first second (view seat) old.node old.refused one other → HasGathered layout first second new.node new.refused faults

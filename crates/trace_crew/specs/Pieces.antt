@@ -11,7 +11,9 @@ use Rattle.trace_know.specs.declared.segment.SegmentFault.TheVariants.{Place}
 use Rattle.dumpi_calls.specs.Collected.{AreSegments, HasPlacesPast, collected}
 use Rattle.dumpi_calls.specs.Walks.{IsStopped}
 use Rattle.dumpi_calls.specs.Whole.{AreEvents}
+use Rattle.dumpi_calls.specs.declared.collect.Memory.{Memory as NoMemory}
 use Rattle.dumpi_calls.specs.declared.fault.WalkCause.{WalkCause}
+use Rattle.dumpi_calls.specs.declared.fault.WalkFault.{WalkFault}
 use Rattle.dumpi_calls.specs.declared.fault.WalkCause.TheVariants.{Text, Missing, Wrong, Sink, Memory}
 use Rattle.trace_crew.specs.declared.piece.Piece.{Piece}
 use Rattle.trace_crew.specs.declared.inbox.item.Worker.{Worker}
@@ -50,6 +52,10 @@ abbrev pub IsRefusedFor : Piece → PieceFault → Type 0
 IsRefusedFor piece (pieces.Walk fault) = (held : List Event) × IsStopped collected (Some piece.text.items) [] held fault × IsOwn fault.cause
 IsRefusedFor piece (pieces.Segment fault) = (fault ≡ Place) × ((events : List Event) × AreEvents piece.text.items events × HasPlacesPast piece.first events)
 IsRefusedFor piece pieces.Memory = ⊤
+
+-- of a piece at which a walk stops for this, that is why it gives no segments
+abbrev pub IsFaultOfWalk : WalkFault NoMemory → PieceFault → Type 0
+IsFaultOfWalk fault told = (piece : Piece) (held : List Event) → IsStopped collected (Some piece.text.items) [] held fault → IsRefusedFor piece told
 
 -- ---- the pieces of a worker
 

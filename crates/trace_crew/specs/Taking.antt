@@ -13,8 +13,12 @@ use Rattle.trace_crew.specs.declared.inbox.item.Post.{Post}
 use Rattle.trace_crew.specs.declared.inbox.item.Post.TheVariants.{Segment, End}
 use Rattle.trace_crew.specs.declared.inbox.item.Worker.{Worker}
 use Rattle.trace_crew.specs.declared.inbox.item.Worker.TheVariants.{First, Second}
+use Rattle.trace_crew.specs.declared.owner.Hall.{Hall}
 use Rattle.trace_crew.specs.declared.owner.Refusal.{Refusal}
-use Rattle.trace_crew.specs.Views.{of}
+use Rattle.trace_crew.specs.declared.inbox.rule.Standing.TheVariants.{Joined, Running}
+use Rattle.trace_crew.specs.declared.inbox.rule.View.{View as InboxView}
+use Rattle.trace_crew.specs.declared.inbox.rule.View.TheVariants.{Owner}
+use Rattle.trace_crew.specs.Views.{desk, of}
 
 -- ---- one segment
 
@@ -112,6 +116,27 @@ pub record Sorts (layout : Parts) (items : List Item) (segments : List Taken) (n
 abbrev pub Sorted : Parts → List Item → Held → List Refusal → Type 0
 Sorted layout items node refused = (segments : List Taken) × Sorts layout items segments node refused
 
+-- What an owner keeps: what its node holds, and the segments that it refused.
+pub record Keeping : Type 0 where
+  pub node : Held
+  pub refused : List Refusal
+
+-- what the owner keeps in a hall
+abbrev pub kept_in : Hall → Keeping
+kept_in hall = record { node = hall.node; refused = hall.refused.items }
+
+-- what is kept is what was made of these items
+abbrev pub IsOfItems : Parts → List Item → Keeping → Type 0
+IsOfItems layout items kept = Sorted layout items kept.node kept.refused
+
+-- nothing was taken yet
+abbrev pub IsNew : Parts → Keeping → Type 0
+IsNew layout kept = IsOfItems layout [] kept
+
+-- What was made of some items is, with this one more, what is made of them and it.
+abbrev pub TakesIn : Item → Keeping → Keeping → Type 0
+TakesIn item old new = (layout : Parts) (taken : List Item) → IsOfItems layout taken old → IsOfItems layout (taken ++ item ∷ []) new
+
 -- The owner took all that the two workers posted, in an order of its own.
 pub record HasAll (layout : Parts) (first second : List Item) (node : Held) (refused : List Refusal) : Type 0 where
   pub items : List Item
@@ -144,3 +169,29 @@ ends_in (item ∷ items) = counted (is_end item) + ends_in items
 abbrev pub ends_told : Option (Worker × ℕ) → ℕ
 ends_told None = 1
 ends_told (Some segment) = 0
+
+-- ---- both workers
+
+-- The owner has taken two ends among its items, both workers run still, and what is kept is what was made of the items.
+abbrev pub HasBothEnds : Parts → InboxView → Keeping → Type 0
+HasBothEnds layout owner kept = (taken : List Item) × (owner ≡ Owner (desk taken Running Running)) × (ends_in taken ≡ 2) × IsOfItems layout taken kept
+
+-- Where the node was new, the owner has taken two ends among its items, and keeps what was made of them.
+abbrev pub TakesBothEnds : InboxView → Keeping → Keeping → Type 0
+TakesBothEnds owner old new = (layout : Parts) → IsNew layout old → HasBothEnds layout owner new
+
+-- the owner has taken these items, and has joined both workers, which posted these
+abbrev pub IsJoined : InboxView → List Item → List Item → List Item → Type 0
+IsJoined owner taken first second = owner ≡ Owner (desk taken (Joined first) (Joined second))
+
+-- the owner has joined both workers
+abbrev pub HasJoined : InboxView → Type 0
+HasJoined owner = (taken : List Item) × (first : List Item) × (second : List Item) × IsJoined owner taken first second
+
+-- Of an owner that had joined both workers, and kept what it had made of its items: it has taken all that they posted.
+abbrev pub TakesTheRest : InboxView → Keeping → Keeping → Type 0
+TakesTheRest owner old new = (layout : Parts) (taken first second : List Item) → IsJoined owner taken first second → IsOfItems layout taken old → HasAll layout first second new.node new.refused
+
+-- The items that the owner had taken have no more ends than both workers posted.
+abbrev pub HasTheirEnds : InboxView → Type 0
+HasTheirEnds owner = (taken first second : List Item) → IsJoined owner taken first second → ends_in taken ≤ ends_in first + ends_in second

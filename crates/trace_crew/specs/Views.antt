@@ -1,6 +1,11 @@
 -- What seats at an inbox know, and how each step changes it.
 use Rattle.std.specs.Prelude.{◌≡◌, Bool, true, false, List, [], ◌∷◌, ◌++◌, map}
 use Rattle.std.specs.List.{filter}
+use Rattle.atomic_table.specs.declared.badge.Badge.{Badge}
+use Rattle.crossbeam_channel.specs.Claims.{IsSeatAt, Pass}
+use Rattle.crossbeam_channel.specs.declared.flavors.array.Doing.{Doing}
+use Rattle.crossbeam_channel.specs.declared.flavors.array.Key.{Key}
+use Rattle.crossbeam_channel.specs.declared.flavors.array.Rows.{Rows}
 use Rattle.trace_know.specs.Segment.{PlacedEvents}
 use Rattle.trace_crew.specs.declared.inbox.item.Worker.{Worker}
 use Rattle.trace_crew.specs.declared.inbox.item.Worker.TheVariants.{First, Second}
@@ -64,6 +69,10 @@ IsWithout w v = (d : Desk) × (v ≡ Owner d) × (standing d w ≡ Unmade)
 -- the seat is this worker's
 abbrev pub IsPoster : Worker → View → Type 0
 IsPoster w v = (posted : List Item) × (v ≡ Poster w posted)
+
+-- these are seats at one inbox
+abbrev pub AreSeatsAt : {Q M L A : Type 0} → Rows (Badge (Key Item)) (Doing Item View) Q M (Key Item) L A → Pass Item View → Pass Item View → Pass Item View → Type 0
+AreSeatsAt inbox owner first second = IsSeatAt inbox owner × IsSeatAt inbox first × IsSeatAt inbox second
 
 -- ---- steps: each by the role of its seat, and nothing at another role
 

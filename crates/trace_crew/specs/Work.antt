@@ -1,5 +1,6 @@
 -- What a worker has read and posted.
 use Rattle.std.specs.Prelude.{◌≡◌, ℕ, Bool, true, false, Option, Some, None, List, [], ◌∷◌, ◌++◌, map, ◌⊎◌}
+use Rattle.crossbeam_channel.specs.Claims.{view}
 use Rattle.trace_know.specs.Segment.{PlacedEvents}
 use Rattle.trace_crew.specs.declared.inbox.item.Item.{Item}
 use Rattle.trace_crew.specs.declared.inbox.item.Worker.{Worker}
@@ -9,6 +10,8 @@ use Rattle.trace_crew.specs.Views.{IsPoster, end_item, posts_of, segment_item}
 use Rattle.trace_crew.specs.Taking.{ends_in}
 use Rattle.trace_crew.specs.declared.piece.Piece.{Piece}
 use Rattle.trace_crew.specs.declared.piece.FaultyPiece.{FaultyPiece}
+use Rattle.trace_crew.specs.declared.worker.Hand.{Hand}
+use Rattle.trace_crew.specs.declared.worker.Worked.{Worked}
 use Rattle.trace_crew.specs.declared.worker.Stop.{Stop}
 use Rattle.trace_crew.specs.declared.worker.Stop.TheVariants.{Memory, Closed}
 use Rattle.trace_crew.specs.Pieces.{Gave, IsOutcome, Outcome, faults_in, segments_in}
@@ -19,12 +22,20 @@ after_posts (Poster w posted) items = Poster w (posted ++ items)
 after_posts (Owner d) items = Owner d
 after_posts Spent items = Spent
 
+-- a worker's seat has posted these segments, in their order
+abbrev pub PostsAll : Worker → List PlacedEvents → View → View → Type 0
+PostsAll w segments old new = new ≡ after_posts old (map (segment_item w) segments)
+
 -- One text more was read: its segments were posted, or its fault was noted.
 pub record ReadsOne (w : Worker) (place : ℕ) (piece : Piece) (old : View) (faults : List FaultyPiece) (new : View) (more : List FaultyPiece) : Type 0 where
   pub outcome : Outcome
   pub is : IsOutcome piece outcome
-  pub posted : new ≡ after_posts old (map (segment_item w) (segments_in outcome))
+  pub posted : PostsAll w (segments_in outcome) old new
   pub noted : more ≡ faults ++ faults_in w place outcome
+
+-- a worker has read the text at this place
+abbrev pub ReadsNext : ℕ → Piece → Hand → Hand → Type 0
+ReadsNext place piece old new = ReadsOne old.worker place piece (view old.seat) old.faults.items (view new.seat) new.faults.items
 
 -- These texts were read, and what they gave was posted and noted.
 pub record HasRead (w : Worker) (pieces : List Piece) (seat : View) (faults : List FaultyPiece) : Type 0 where
@@ -66,3 +77,7 @@ pub record HasWorked (w : Worker) (pieces : List Piece) (seat : View) (faults : 
   pub poster : IsPoster w seat
   pub ends : ends_posted seat ≡ ends_at stop
   pub whole : stop ≡ None → HasEnded w pieces seat faults
+
+-- what is left by a worker of these pieces
+abbrev pub Leaves : Worker → List Piece → Worked → Type 0
+Leaves w pieces left = HasWorked w pieces (view left.seat) left.faults.items left.stop

@@ -1,16 +1,12 @@
 //! How the owner takes.
 
-ghost use Rattle.std.specs.Prelude.{◌≡◌, ◌≤◌, ◌+◌, ◌∷◌, ◌++◌, [], List, false, IfNone, IfOk, IfSome, OnErr, OnOk};
+ghost use Rattle.std.specs.Prelude.{◌≡◌, ◌≤◌, [], false, IfNone, IfOk, IfSome, OnErr, OnOk};
 ghost use Rattle.crossbeam_channel.specs.Claims.{view, IsSeatAt};
 ghost use Rattle.crossbeam_channel.specs.Ends.{receives_on};
-ghost use Rattle.mpi_model.specs.Layouts.{Parts};
-ghost use Rattle.trace_node.specs.Node.{Held};
 ghost use Rattle.trace_crew.specs.Views.{IsOwner, after_take, desk};
-ghost use Rattle.trace_crew.specs.declared.inbox.item.Item.{Item as ItemValue};
-ghost use Rattle.trace_crew.specs.declared.inbox.rule.Standing.TheVariants.{Joined, Running};
+ghost use Rattle.trace_crew.specs.declared.inbox.rule.Standing.TheVariants.{Running};
 ghost use Rattle.trace_crew.specs.declared.inbox.rule.View.TheVariants.{Owner};
-ghost use Rattle.trace_crew.specs.declared.owner.Refusal.{Refusal};
-ghost use Rattle.trace_crew.specs.Taking.{HasAll, IsKept, Sorted, counted, ends_in, ends_told, is_end};
+ghost use Rattle.trace_crew.specs.Taking.{HasJoined, HasTheirEnds, IsKept, Keeping, TakesBothEnds, TakesIn, TakesTheRest, counted, ends_told, is_end};
 
 use crate::gate::Gate;
 use crate::inbox::{InboxReceiver, Item, Seat, Worker, take, take_now};
@@ -20,30 +16,27 @@ use std::sync::Wait;
 /// What keeps the node and the refused segments, as the threads of a crew know it. They know it by
 /// this trait alone, since what is captured beside them can't name the lifetimes inside it.
 pub trait Keeper: Drop {
-    /// What its node holds.
-    ghost held: { Self → Held };
-
-    /// The segments that it refused.
-    ghost listed: { Self → List Refusal };
+    /// What its node holds, and the segments that it refused.
+    ghost kept: { Self → Keeping };
 
     /// Takes one item in, and answers which segment of which worker it was: None where it ends its
     /// worker's posts. Only a segment can be refused: no memory was left to list it.
     fn take_in(&mut self, item: Item) -> Result<Option<(Worker, u64)>, AllocError>
         ensures err { OnErr result (is_end item ≡ false) }
         ensures end { IfOk result (λ taken. ends_told taken ≡ counted (is_end item)) }
-        ensures sorted { OnOk result ((layout : Parts) (taken : List ItemValue) → Sorted layout taken (held self.old) (listed self.old) → Sorted layout (taken ++ item ∷ []) (held self.new) (listed self.new)) };
+        ensures sorted { OnOk result (TakesIn item (kept self.old) (kept self.new)) };
 
     /// Makes the answer to all that was joined, where it isn't made yet, and shows it. Without memory for
     /// it the node stays stale.
     fn settle<R: Wait>(&mut self, rt: &R) -> Result<(), AllocError>
-        ensures kept { IsKept (held self.old) (held self.new) }
-        ensures listed { listed self.new ≡ listed self.old }
-        ensures fresh { OnOk result ((held self.new).is_stale ≡ false) };
+        ensures kept { IsKept (kept self.old).node (kept self.new).node }
+        ensures listed { (kept self.new).refused ≡ (kept self.old).refused }
+        ensures fresh { OnOk result ((kept self.new).node.is_stale ≡ false) };
 
     /// Nothing waits to be taken: prepares for the next answer, or makes one, where it is worth its time.
     fn rest<R: Wait>(&mut self, rt: &R)
-        ensures kept { IsKept (held self.old) (held self.new) }
-        ensures listed { listed self.new ≡ listed self.old };
+        ensures kept { IsKept (kept self.old).node (kept self.new).node }
+        ensures listed { (kept self.new).refused ≡ (kept self.old).refused };
 }
 
 /// Tells the gate which segment was taken, where one was, and answers of how many workers the item ends
@@ -74,8 +67,8 @@ fn next_item<R: Wait, H: Keeper>(
     ensures seat { IsSeatAt (receives_on inbox.now) seat.new }
     ensures some { IfSome result (λ item. view seat.new ≡ after_take (view seat.old) item) }
     ensures none { IfNone result (view seat.new ≡ view seat.old) }
-    ensures kept { IsKept (H.held hall.old) (H.held hall.new) }
-    ensures listed { H.listed hall.new ≡ H.listed hall.old }
+    ensures kept { IsKept (H.kept hall.old).node (H.kept hall.new).node }
+    ensures listed { (H.kept hall.new).refused ≡ (H.kept hall.old).refused }
 {
     if let Some(item) = take_now(rt, inbox, seat) {
         return Some(item);
@@ -96,7 +89,7 @@ pub fn own<R: Wait, G: Gate, H: Keeper>(
     requires seat { IsSeatAt (receives_on inbox.now) seat.old }
     requires new { view seat.old ≡ Owner (desk [] Running Running) }
     ensures seat { IsSeatAt (receives_on inbox.now) seat.new }
-    ensures ok { OnOk result ((layout : Parts) → Sorted layout [] (H.held hall.old) (H.listed hall.old) → (taken : List ItemValue) × (view seat.new ≡ Owner (desk taken Running Running)) × (ends_in taken ≡ 2) × Sorted layout taken (H.held hall.new) (H.listed hall.new)) }
+    ensures ok { OnOk result (TakesBothEnds (view seat.new) (H.kept hall.old) (H.kept hall.new)) }
 {
     let mut ends: u8 = 0;
     for _ in rt.forever() {
@@ -122,9 +115,9 @@ pub fn drain<R: Wait, G: Gate, H: Keeper>(
     gate: &G,
 ) -> Result<(), AllocError>
     requires seat { IsSeatAt (receives_on inbox.now) seat.old }
-    requires joined { (taken : List ItemValue) × (first : List ItemValue) × (second : List ItemValue) × (view seat.old ≡ Owner (desk taken (Joined first) (Joined second))) }
-    ensures all { OnOk result ((layout : Parts) (taken : List ItemValue) (first : List ItemValue) (second : List ItemValue) → (view seat.old ≡ Owner (desk taken (Joined first) (Joined second))) → Sorted layout taken (H.held hall.old) (H.listed hall.old) → HasAll layout first second (H.held hall.new) (H.listed hall.new)) }
-    ensures ends { OnOk result ((taken : List ItemValue) (first : List ItemValue) (second : List ItemValue) → (view seat.old ≡ Owner (desk taken (Joined first) (Joined second))) → ends_in taken ≤ ends_in first + ends_in second) }
+    requires joined { HasJoined (view seat.old) }
+    ensures all { OnOk result (TakesTheRest (view seat.old) (H.kept hall.old) (H.kept hall.new)) }
+    ensures ends { OnOk result (HasTheirEnds (view seat.old)) }
 {
     for _ in rt.forever() {
         let Some(item) = take_now(rt, inbox, seat) else {

@@ -1,9 +1,7 @@
 //! What the owner keeps: the node, which it alone holds, and the segments that were refused.
 
-ghost use Rattle.std.specs.Prelude.{◌≡◌, ◌∷◌, ◌++◌, [], List, false, IfOk, OnErr, OnOk};
-ghost use Rattle.mpi_model.specs.Layouts.{Parts};
-ghost use Rattle.trace_crew.specs.declared.inbox.item.Item.{Item as ItemValue};
-ghost use Rattle.trace_crew.specs.Taking.{Handles, IsKept, Sorted, counted, ends_told, is_end};
+ghost use Rattle.std.specs.Prelude.{◌≡◌, [], false, IfOk, OnErr, OnOk};
+ghost use Rattle.trace_crew.specs.Taking.{Handles, IsKept, Sorted, TakesIn, counted, ends_told, is_end, kept_in};
 
 use crate::board::Board;
 use crate::hold::hold;
@@ -154,7 +152,7 @@ impl<'s, 'a> Hall<'s, 'a> {
     fn handle(&mut self, item: Item) -> Result<Option<(Worker, u64)>, AllocError>
         ensures err { OnErr result (is_end item ≡ false) }
         ensures end { IfOk result (λ taken. ends_told taken ≡ counted (is_end item)) }
-        ensures sorted { OnOk result ((layout : Parts) (taken : List ItemValue) → Sorted layout taken self.old.node self.old.refused.items → Sorted layout (taken ++ item ∷ []) self.new.node self.new.refused.items) }
+        ensures sorted { OnOk result (TakesIn item (kept_in self.old) (kept_in self.new)) }
     {
         view_laws();
         let from = item.from;
@@ -170,9 +168,7 @@ impl<'s, 'a> Hall<'s, 'a> {
 }
 
 impl<'s, 'a> Keeper for Hall<'s, 'a> {
-    ghost held = { λ h. h.node };
-
-    ghost listed = { λ h. h.refused.items };
+    ghost kept = { λ h. kept_in h };
 
     fn take_in(&mut self, item: Item) -> Result<Option<(Worker, u64)>, AllocError> {
         self.handle(item)

@@ -1,11 +1,7 @@
 //! Pieces: texts of ranks, their segments, and why one gives none.
 
-ghost use Rattle.std.specs.Prelude.{◌≡◌, [], List, Some, IfOk, IfErr};
-ghost use Rattle.mpi_model.specs.declared.event.Event.{Event};
-ghost use Rattle.dumpi_calls.specs.Collected.{collected};
-ghost use Rattle.dumpi_calls.specs.Walks.{IsStopped};
-ghost use Rattle.trace_crew.specs.Pieces.{GivesSegments, IsOwn, IsRefusedFor};
-ghost use Rattle.trace_crew.specs.declared.piece.Piece.{Piece as PieceValue};
+ghost use Rattle.std.specs.Prelude.{◌≡◌, IfOk, IfErr};
+ghost use Rattle.trace_crew.specs.Pieces.{GivesSegments, IsFaultOfWalk, IsOwn, IsRefusedFor};
 ghost use Rattle.trace_crew.specs.declared.piece.PieceFault.TheVariants.{Walk};
 
 use crate::inbox::Worker;
@@ -77,7 +73,7 @@ pub(crate) fn segments_of(alloc: Global, piece: &Piece) -> Result<Vec<ReadySegme
 /// isn't the text's own fault is want of memory.
 fn fault_of_walk(fault: WalkFault<Memory>) -> PieceFault
     ensures own { IsOwn fault.cause → result ≡ Walk fault }
-    ensures cause { (piece : PieceValue) (held : List Event) → IsStopped collected (Some piece.text.items) [] held fault → IsRefusedFor piece result }
+    ensures cause { IsFaultOfWalk fault result }
 {
     match &fault.cause {
         WalkCause::Text(

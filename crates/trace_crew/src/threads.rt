@@ -4,16 +4,15 @@ ghost use Rattle.std.specs.Prelude.{◌≡◌, ◌++◌, [], List, None, Some, f
 ghost use Rattle.crossbeam_channel.specs.Claims.{view, IsSeatAt};
 ghost use Rattle.crossbeam_channel.specs.Ends.{receives_on, sends_on};
 ghost use Rattle.mpi_model.specs.Layouts.{Parts};
-ghost use Rattle.trace_crew.specs.Views.{IsPoster, after_join, desk};
+ghost use Rattle.trace_crew.specs.Views.{AreSeatsAt, IsPoster, after_join, desk};
 ghost use Rattle.trace_crew.specs.declared.inbox.item.Item.{Item as ItemValue};
 ghost use Rattle.trace_crew.specs.declared.inbox.item.Worker.TheVariants.{First, Second};
 ghost use Rattle.trace_crew.specs.declared.inbox.rule.Standing.TheVariants.{Running};
 ghost use Rattle.trace_crew.specs.declared.inbox.rule.View.TheVariants.{Owner, Poster};
-ghost use Rattle.trace_crew.specs.Crewed.{HasGathered, HasRun, IsCrewOut};
-ghost use Rattle.trace_crew.specs.Taking.{Sorted};
+ghost use Rattle.trace_crew.specs.Crewed.{Finishes, Gathers, HasRunSome, IsCrewOut, Runs};
+ghost use Rattle.trace_crew.specs.Taking.{IsNew};
 ghost use Rattle.trace_crew.specs.Work.{HasWorked, is_closed};
 ghost use Rattle.trace_crew.specs.declared.threads.CrewFault.TheVariants.{Memory};
-ghost use Rattle.trace_crew.specs.declared.piece.Piece.{Piece as PieceValue};
 
 use crate::board::Board;
 use crate::gate::Gate;
@@ -119,8 +118,8 @@ fn gathered<R: Threads + Wait + Sync, G: Gate, H: Keeper>(
     hall: H,
     gate: &G,
 ) -> Result<Left<H>, CrewFault>
-    requires new { (layout : Parts) × Sorted layout [] (H.held hall) (H.listed hall) }
-    ensures { IfOk result (λ left. (layout : Parts) → Sorted layout [] (H.held hall) (H.listed hall) → HasGathered layout pieces.entry.0.now pieces.entry.1.now (H.held left.hall) (H.listed left.hall) left.faults.items) }
+    requires new { (layout : Parts) × IsNew layout (H.kept hall) }
+    ensures { IfOk result (λ left. Gathers pieces.entry.0.now pieces.entry.1.now (H.kept hall) (H.kept left.hall) left.faults.items) }
 {
     let Ok((sender, receiver, seat)) = open(alloc) else {
         return Err(CrewFault::Memory);
@@ -148,7 +147,9 @@ fn run<R: Threads + Wait + Sync, G: Gate, H: Keeper>(
     requires seat { IsSeatAt (sends_on sender.now) seats.0 × (view seats.0 ≡ Owner (desk [] Running Running)) }
     requires first { IsSeatAt (sends_on sender.now) seats.1 × (view seats.1 ≡ Poster First []) }
     requires second { IsSeatAt (sends_on sender.now) seats.2 × (view seats.2 ≡ Poster Second []) }
-    ensures { IfOk result (λ ran. (receives_on ran.receiver ≡ sends_on sender.now) × IsSeatAt (sends_on sender.now) ran.seat × IsSeatAt (sends_on sender.now) ran.first.seat × IsSeatAt (sends_on sender.now) ran.second.seat × ((layout : Parts) → Sorted layout [] (H.held hall) (H.listed hall) → HasRun layout pieces.entry.0.now pieces.entry.1.now (view ran.seat) (H.held ran.hall) (H.listed ran.hall) ran.first ran.second)) }
+    ensures channel { IfOk result (λ ran. receives_on ran.receiver ≡ sends_on sender.now) }
+    ensures seats { IfOk result (λ ran. AreSeatsAt (sends_on sender.now) ran.seat ran.first.seat ran.second.seat) }
+    ensures ok { IfOk result (λ r. Runs pieces.entry.0.now pieces.entry.1.now (H.kept hall) r.seat (H.kept r.hall) r.first r.second) }
 {
     let (seat, one, two) = seats;
     let (first, second) = pieces;
@@ -160,7 +161,9 @@ fn run<R: Threads + Wait + Sync, G: Gate, H: Keeper>(
             requires seat { IsSeatAt (sends_on sender.now) seat × (view seat ≡ Owner (desk [] Running Running)) }
             requires first { IsSeatAt (sends_on sender.now) one × (view one ≡ Poster First []) }
             requires second { IsSeatAt (sends_on sender.now) two × (view two ≡ Poster Second []) }
-            ensures { IfOk result (λ ran. (receives_on ran.receiver ≡ sends_on sender.entry.now) × IsSeatAt (sends_on sender.entry.now) ran.seat × IsSeatAt (sends_on sender.entry.now) ran.first.seat × IsSeatAt (sends_on sender.entry.now) ran.second.seat × ((layout : Parts) → Sorted layout [] (H.held hall) (H.listed hall) → HasRun layout first.entry.now second.entry.now (view ran.seat) (H.held ran.hall) (H.listed ran.hall) ran.first ran.second)) }
+            ensures channel { IfOk result (λ ran. receives_on ran.receiver ≡ sends_on sender.entry.now) }
+            ensures seats { IfOk result (λ ran. AreSeatsAt (sends_on sender.entry.now) ran.seat ran.first.seat ran.second.seat) }
+            ensures ok { IfOk result (λ r. Runs first.entry.now second.entry.now (H.kept hall) r.seat (H.kept r.hall) r.first r.second) }
         {
             let mut seat = seat;
             let mut hall = hall;
@@ -249,9 +252,9 @@ fn finish<R: Wait, G: Gate, H: Keeper>(
     gate: &G,
 ) -> Result<Left<H>, AllocError>
     requires channel { receives_on ran.receiver ≡ sends_on sender.now }
-    requires seats { IsSeatAt (sends_on sender.now) ran.seat × IsSeatAt (sends_on sender.now) ran.first.seat × IsSeatAt (sends_on sender.now) ran.second.seat }
-    requires run { (layout : Parts) × (first : List PieceValue) × (second : List PieceValue) × HasRun layout first second (view ran.seat) (H.held ran.hall) (H.listed ran.hall) ran.first ran.second }
-    ensures { IfOk result (λ left. (layout : Parts) (first second : List PieceValue) → HasRun layout first second (view ran.seat) (H.held ran.hall) (H.listed ran.hall) ran.first ran.second → HasGathered layout first second (H.held left.hall) (H.listed left.hall) left.faults.items) }
+    requires seats { AreSeatsAt (sends_on sender.now) ran.seat ran.first.seat ran.second.seat }
+    requires run { HasRunSome ran.seat (H.kept ran.hall) ran.first ran.second }
+    ensures { IfOk result (λ left. Finishes ran.seat (H.kept ran.hall) ran.first ran.second (H.kept left.hall) left.faults.items) }
 {
     let Ran {
         receiver,

@@ -1,11 +1,11 @@
 //! A worker: it reads its texts in order, and posts the segments of each.
 
-ghost use Rattle.std.specs.Prelude.{◌≡◌, [], OnOk, map};
+ghost use Rattle.std.specs.Prelude.{◌≡◌, [], OnOk};
 ghost use Rattle.crossbeam_channel.specs.Claims.{view, IsSeatAt};
 ghost use Rattle.crossbeam_channel.specs.Ends.{sends_on};
-ghost use Rattle.trace_crew.specs.Views.{IsPoster, segment_item};
+ghost use Rattle.trace_crew.specs.Views.{IsPoster};
 ghost use Rattle.trace_crew.specs.declared.inbox.rule.View.TheVariants.{Poster};
-ghost use Rattle.trace_crew.specs.Work.{Ends, HasRead, HasWorked, ReadsOne, after_posts, ends_posted};
+ghost use Rattle.trace_crew.specs.Work.{Ends, HasRead, HasWorked, PostsAll, ReadsNext, ends_posted};
 
 use crate::gate::Gate;
 use crate::inbox::{Closed, InboxSender, Item, Post, Seat, Worker, post};
@@ -52,7 +52,7 @@ impl Hand {
         ensures worker { self.new.worker ≡ self.old.worker }
         ensures faults { self.new.faults.items ≡ self.old.faults.items }
         ensures ends { ends_posted (view self.new.seat) ≡ ends_posted (view self.old.seat) }
-        ensures ok { OnOk result (view self.new.seat ≡ after_posts (view self.old.seat) (map (segment_item self.old.worker) segments.items)) }
+        ensures ok { OnOk result (PostsAll self.old.worker segments.items (view self.old.seat) (view self.new.seat)) }
     {
         for segment in segments {
             gate.before_post(self.worker, self.posted);
@@ -82,7 +82,7 @@ impl Hand {
         ensures poster { IsPoster self.old.worker (view self.new.seat) }
         ensures worker { self.new.worker ≡ self.old.worker }
         ensures ends { ends_posted (view self.new.seat) ≡ ends_posted (view self.old.seat) }
-        ensures ok { OnOk result (ReadsOne self.old.worker place piece.now (view self.old.seat) self.old.faults.items (view self.new.seat) self.new.faults.items) }
+        ensures ok { OnOk result (ReadsNext place piece.now self.old self.new) }
     {
         let at = PieceAt {
             worker: self.worker,
@@ -217,9 +217,9 @@ pub struct Working<'a> {
 }
 
 impl<'a> Promise<Worked> for Working<'a> {
-    ghost use Rattle.crossbeam_channel.specs.Claims.{view, IsSeatAt};
+    ghost use Rattle.crossbeam_channel.specs.Claims.{IsSeatAt};
     ghost use Rattle.crossbeam_channel.specs.Ends.{sends_on};
-    ghost use Rattle.trace_crew.specs.Work.{HasWorked};
+    ghost use Rattle.trace_crew.specs.Work.{Leaves};
 
-    ghost kept_by = { λ p r. IsSeatAt (sends_on p.inbox.value) r.seat × HasWorked p.worker p.pieces.now (view r.seat) r.faults.items r.stop };
+    ghost kept_by = { λ p r. IsSeatAt (sends_on p.inbox.value) r.seat × Leaves p.worker p.pieces.now r };
 }

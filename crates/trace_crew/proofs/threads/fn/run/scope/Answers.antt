@@ -12,4 +12,8 @@ returns g c =
     let other : IsSeatAt (sends_on c.captures.sender.now) c.join-second.result.seat = search rules in
     let worked : HasWorked First c.captures.first.now (view c.join-first.result.seat) c.join-first.result.faults.items c.join-first.result.stop = search rules in
     let worked' : HasWorked Second c.captures.second.now (view c.join-second.result.seat) c.join-second.result.faults.items c.join-second.result.stop = search rules in
-    (c.requires.channel, seat, one, other, (λ layout h. let t = c.in_ok-own.ensures.ok layout h in record { taken = t.0; owner_is = t.1; sorted = t.3; two = t.2; one_worked = worked; other_worked = worked' }))
+    record {
+      channel = c.requires.channel;
+      seats = (seat, one, other);
+      ok = λ layout h. let t = c.in_ok-own.ensures.ok layout h in record { taken = t.0; owner_is = t.1; sorted = t.3; two = t.2; one_worked = worked; other_worked = worked' };
+    }
