@@ -10,10 +10,10 @@ Workloads of the libraries between knowledge and the report:
                                    waits for all of them in one MPI_Waitall
     FOLDER RANKS                   the trace of bench/make_trace.py in FOLDER, made with --piece 1000000: read, too
 
-Workloads of frames, each written into memory and read from it ten times:
+Workloads of frames, each written into memory and read from it ten times; what was read is dropped outside of that time:
 
-    calls RANKS       32,768 calls of each rank without fields, in cells of 30 bytes
-    sends RANKS       32,768 calls of each rank that send, in cells of 55 and of 38 bytes
+    calls RANKS       32,768 calls of each rank without fields, in cells of 18 bytes
+    sends RANKS       32,768 calls of each rank that send, in cells of 43 and of 26 bytes
     list SOURCES      one call whose outcome tells so many sources, four bytes for each
 
 `names` makes a layout in which all ranks name COMMS communicators by one number, each in a call of its own, and asks ten
