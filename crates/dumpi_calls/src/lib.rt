@@ -50,4 +50,4 @@ pub use parameter::Parameter;
 pub use raw::{RawSink, walk_raw};
 pub use sink::CallSink;
 pub use tally::Tally;
-pub use walking::{Walked, next_call, walk};
+pub use walking::{Walked, next_call, walk, walk_with_buffer};

@@ -1,9 +1,10 @@
 //! A walk over the calls of a text.
 
-ghost use Rattle.std.specs.Prelude.{◌≡◌, ◌<◌, ◌≤◌, ℕ, List, Option, Err, Ok, Some, None, IfErr, IfNone, IfOk, IfSome, OnErr, OnOk, true};
+ghost use Rattle.std.specs.Prelude.{◌≡◌, ◌<◌, ◌≤◌, ℕ, List, Option, Err, Ok, Some, None, IfErr, IfNone, IfOk, IfSome, OnErr, OnOk, true, vec_len};
 ghost use Rattle.dumpi_text.specs.Call.{TextCall};
 ghost use Rattle.dumpi_text.specs.Failing.{Fails};
 ghost use Rattle.dumpi_text.specs.Shown.{put_in};
+ghost use Rattle.dumpi_text.specs.declared.source.TheConstants.{CHUNK};
 ghost use Rattle.dumpi_text.specs.declared.step.TheConstants.{MOST_LINES};
 ghost use Rattle.dumpi_calls.specs.Rows.{row_of, typed, typed_by, row};
 ghost use Rattle.dumpi_calls.specs.Walks.{Advances, FailsAfter, FailsIn, Follows, FollowsKept, FollowsWhole, IsRead, IsReadFault, IsReadStop, IsStopped, IsTypedAs, IsWalked, LacksNext, RefusesCall, RefusesNext, StopsWalk, Takes, open_line};
@@ -20,6 +21,7 @@ use dumpi_text::{
 };
 use mpi_model::Read;
 use std::alloc::Global;
+use std::mem;
 
 /// A text that was walked to its end.
 #[derive(Clone, Copy, Debug, PartialEq, Eq)]
@@ -260,7 +262,6 @@ fn advance<R: Read, S: CallSink>(
 
 /// Hands the calls of a text to a sink, in order, each by the callback of its function, up to the first that can't be
 /// read or that the sink refuses. The text is read in one pass, and memory doesn't grow with it.
-#[tactic(auto, using(crate::proofs::Advancing::advanced, crate::proofs::Advancing::walked_all, crate::proofs::Advancing::walk_stopped, crate::proofs::Failing::fails_in))]
 pub fn walk<R: Read, S: CallSink>(
     alloc: Global,
     reader: R,
@@ -272,11 +273,32 @@ pub fn walk<R: Read, S: CallSink>(
     ensures failed { IfErr result (λ fault. IsReadStop fault.cause → Fails R.failures) }
     ensures failure { IfErr result (λ fault. IsReadStop fault.cause → FailsIn R.left R.failures reader fault.calls fault.line) }
 {
+    let mut buffer = Vec::new(alloc);
+    walk_with_buffer(alloc, reader, sink, &mut buffer)
+}
+
+/// A [`walk`] that reads the text into the buffer that the one before has left, or into one of its own where there is
+/// none, and leaves its own for the next. What the buffer holds before and after means nothing.
+#[tactic(auto, using(crate::proofs::Advancing::advanced, crate::proofs::Advancing::walked_all, crate::proofs::Advancing::walk_stopped, crate::proofs::Failing::fails_in))]
+pub fn walk_with_buffer<R: Read, S: CallSink>(
+    alloc: Global,
+    reader: R,
+    sink: &mut S,
+    buffer: &mut Vec<u8>,
+) -> Result<Walked, WalkFault<S::Fault>>
+    ensures ok { IfOk result (λ walked. IsWalked S.step (R.left reader) sink.old sink.new walked) }
+    ensures err { IfErr result (λ fault. IsStopped S.step (R.left reader) sink.old sink.new fault) }
+    // a text that can't be read: a reader of this kind fails, and this one did so where the walk stopped
+    ensures failed { IfErr result (λ fault. IsReadStop fault.cause → Fails R.failures) }
+    ensures failure { IfErr result (λ fault. IsReadStop fault.cause → FailsIn R.left R.failures reader fault.calls fault.line) }
+    ensures buffer { OnOk result (vec_len buffer.new ≡ CHUNK) }
+{
     reading_call_by_call();
     skipped_lines();
     let mut calls: u64 = 0;
     let mut unfinished = None;
-    let mut texts = match Texts::new(alloc, reader) {
+    let left = mem::replace(buffer, Vec::new(alloc));
+    let mut texts = match Texts::with_buffer(alloc, reader, left) {
         Ok(texts) => texts,
         Err(_) => {
             return Err(WalkFault {
@@ -294,12 +316,14 @@ pub fn walk<R: Read, S: CallSink>(
                 unfinished = handed.open_line;
             }
             Ok(None) => {
-                return Ok(Walked {
+                let walked = Walked {
                     calls,
                     skipped: texts.skipped(),
                     first_skipped: texts.first_skipped(),
                     unfinished,
-                });
+                };
+                *buffer = texts.into_buffer();
+                return Ok(walked);
             }
             Err(fault) => return Err(fault),
         }

@@ -3,7 +3,7 @@ use Rattle.dumpi_calls.specs.Walks.{Advances, IsRead, TakesNext}
 use Rattle.dumpi_calls.specs.declared.walking.HandedCall.{HandedCall}
 use Rattle.dumpi_calls.proofs.Advancing.{advanced}
 use Rattle.dumpi_calls.proofs.Handed.{is_begun, not_begun, nothing_handed}
-use Rattle.dumpi_calls.proofs.walking.walk.Goals as goal
+use Rattle.dumpi_calls.proofs.walking.walk_with_buffer.Goals as goal
 
 pub returns-in-Err-clause-err : goal.returns-in-Err-clause-err
 returns-in-Err-clause-err g c = not_begun c.reading_call_by_call.ensures.starts g.S.CallSink.step (g.R.Read.left c.args.reader) c.args.sink.now
