@@ -5,6 +5,7 @@ use Rattle.dumpi_text.specs.Call.{CallContent, Param, TextCall}
 use Rattle.dumpi_text.specs.Effects.{Opening, Taken, Stays, Gives, Ends, Refuses, count_line, inside, outside, skip_line, within_limit}
 use Rattle.dumpi_text.specs.Next.{IsNext, SameMeaning}
 use Rattle.dumpi_text.specs.Parameter.{parameter_of}
+use Rattle.dumpi_text.specs.Source.{Rest, rest_of}
 use Rattle.dumpi_text.specs.Stamps.{Kind, Blank, Entering, Returning, Threaded, Bad, Other, kind_of}
 use Rattle.dumpi_text.specs.Words.{trimmed, without_last}
 use Rattle.dumpi_text.specs.declared.fault.LineFault.TheVariants.{BadParameter, LineTooLong}
@@ -102,3 +103,7 @@ SameKept keep first known at current rest = (whole : Option Opening) × (current
 -- The call that came is what is kept of the text's next one; or no call did.
 unfoldable pub IsNextKept : Choice → Position → Option (List ℕ) → Option TextCall → Position → Option (List ℕ) → Type 0
 IsNextKept keep at rest found next left = (whole : Option TextCall) × (found ≡ kept_found keep whole) × IsNext at rest whole next left
+
+-- The call that came from a source of lines, so.
+abbrev pub ComesKept : Choice → Position → Rest → Option TextCall → Position → Rest → Type 0
+ComesKept keep at old found next new = IsNextKept keep at (rest_of old) found next (rest_of new)
