@@ -13,7 +13,7 @@ use Rattle.mpi_model.specs.declared.outcome.Outs.TheVariants as outs
 use Rattle.mpi_model.specs.declared.event.Event.{Event}
 use Rattle.mpi_model.specs.declared.event.Event.TheVariants as events
 use Rattle.trace_wire.specs.Forms.{◌>>=◌, Form, number, byte, pair, list, signed, IsBytes}
-use Rattle.trace_wire.specs.Events.{icollective_code, icollective_fields, call_code, call_fields, call_at, further_call_at, later_call_at, outs_code, outs_fields, outs_at, body_at, is_even, event_at, event_bytes, event}
+use Rattle.trace_wire.specs.Events.{icollective_code, icollective_fields, call_code, call_fields, call_at, further_call_at, later_call_at, middle_call_at, outs_code, outs_fields, outs_at, body_at, is_even, event_at, event_bytes, event}
 use Rattle.trace_wire.specs.Fields.{mode, flag, told, stamp, envelope, send_envelope, exchange, gathering, is_barrier, ibarrier, igathering, probe, made, index, element, index_fields, index_at, index_behind}
 use Rattle.mpi_model.specs.Events.{IsSigned, IsCall, IsOutcome, IsPosition, IsElement, IsEvent}
 use Rattle.trace_wire.proofs.FormLaws.{IsBytes-rest, Takes, Takes-then, IsForm, wide32, number_form, byte_form, pair_form, record_form, list_form, choose, no_value, some_is, bind_some}
@@ -63,6 +63,18 @@ further_takes n bytes x fits e15 =
     choose (Behind call_code call_fields IsCall bytes x) n 19 _ _ x e19 (filled (signed) _ (signed_form) (λ r. calls.Free r) call_code call_fields IsCall bytes x 19 fits (λ a ok. refl) (λ a ok. refl) (λ a ok. ok)) (λ e20.
     choose (Behind call_code call_fields IsCall bytes x) n 20 _ _ x e20 (bare call_code call_fields IsCall bytes x 20 calls.Unread fits refl refl tt) (λ e21. later_takes n bytes x fits e21))))))
 
+middle_takes : (n : ℕ) (bytes : List ℕ) (x : Call × List ℕ) → IsBytes bytes → middle_call_at n bytes ≡ Some x → Behind call_code call_fields IsCall bytes x n
+unfolding middle_call_at
+middle_takes n bytes x fits e7 =
+    choose (Behind call_code call_fields IsCall bytes x) n 7 _ _ x e7 (filled (signed) _ (signed_form) (λ r. calls.Wait r) call_code call_fields IsCall bytes x 7 fits (λ a ok. refl) (λ a ok. refl) (λ a ok. ok)) (λ e8.
+    choose (Behind call_code call_fields IsCall bytes x) n 8 _ _ x e8 (filled (list signed) _ (requests_form) (λ r. calls.Waitall r) call_code call_fields IsCall bytes x 8 fits (λ a ok. refl) (λ a ok. refl) (λ a ok. ok)) (λ e9.
+    choose (Behind call_code call_fields IsCall bytes x) n 9 _ _ x e9 (filled (list signed) _ (requests_form) (λ r. calls.Waitany r) call_code call_fields IsCall bytes x 9 fits (λ a ok. refl) (λ a ok. refl) (λ a ok. ok)) (λ e10.
+    choose (Behind call_code call_fields IsCall bytes x) n 10 _ _ x e10 (filled (list signed) _ (requests_form) (λ r. calls.Waitsome r) call_code call_fields IsCall bytes x 10 fits (λ a ok. refl) (λ a ok. refl) (λ a ok. ok)) (λ e11.
+    choose (Behind call_code call_fields IsCall bytes x) n 11 _ _ x e11 (filled (signed) _ (signed_form) (λ r. calls.Test r) call_code call_fields IsCall bytes x 11 fits (λ a ok. refl) (λ a ok. refl) (λ a ok. ok)) (λ e12.
+    choose (Behind call_code call_fields IsCall bytes x) n 12 _ _ x e12 (filled (gathering) _ (gathering_form) (λ g. calls.Collective g) call_code call_fields IsCall bytes x 12 fits (λ a ok. refl) (λ a ok. refl) (λ a ok. ok)) (λ e13.
+    choose (Behind call_code call_fields IsCall bytes x) n 13 _ _ x e13 (filled (probe) _ (probe_form) (λ e. calls.Probe e) call_code call_fields IsCall bytes x 13 fits (λ a ok. refl) (λ a ok. refl) (λ a ok. ok)) (λ e14.
+    choose (Behind call_code call_fields IsCall bytes x) n 14 _ _ x e14 (filled (ibarrier) _ (ibarrier_form) (λ g. calls.Icollective g) call_code call_fields IsCall bytes x 14 fits (λ a ok. rw ok.1 refl) (λ a ok. rw ok.1 refl) (λ a ok. ok.0)) (λ e15. further_takes n bytes x fits e15))))))))
+
 pub call_takes : (n : ℕ) (bytes : List ℕ) (x : Call × List ℕ) → IsBytes bytes → call_at n bytes ≡ Some x → Behind call_code call_fields IsCall bytes x n
 unfolding call_at
 call_takes n bytes x fits e0 =
@@ -72,24 +84,16 @@ call_takes n bytes x fits e0 =
     choose (Behind call_code call_fields IsCall bytes x) n 3 _ _ x e3 (filled (pair mode send_envelope) _ (pair_form mode send_envelope _ _ mode_form send_form) (λ x. calls.Isend x.0 x.1) call_code call_fields IsCall bytes x 3 fits (λ a ok. refl) (λ a ok. refl) (λ a ok. ok.1)) (λ e4.
     choose (Behind call_code call_fields IsCall bytes x) n 4 _ _ x e4 (filled (envelope) _ (envelope_form) (λ e. calls.Recv e) call_code call_fields IsCall bytes x 4 fits (λ a ok. refl) (λ a ok. refl) (λ a ok. ok)) (λ e5.
     choose (Behind call_code call_fields IsCall bytes x) n 5 _ _ x e5 (filled (envelope) _ (envelope_form) (λ e. calls.Irecv e) call_code call_fields IsCall bytes x 5 fits (λ a ok. refl) (λ a ok. refl) (λ a ok. ok)) (λ e6.
-    choose (Behind call_code call_fields IsCall bytes x) n 6 _ _ x e6 (filled (exchange) _ (exchange_form) (λ b. calls.Sendrecv b) call_code call_fields IsCall bytes x 6 fits (λ a ok. refl) (λ a ok. refl) (λ a ok. ok)) (λ e7.
-    choose (Behind call_code call_fields IsCall bytes x) n 7 _ _ x e7 (filled (signed) _ (signed_form) (λ r. calls.Wait r) call_code call_fields IsCall bytes x 7 fits (λ a ok. refl) (λ a ok. refl) (λ a ok. ok)) (λ e8.
-    choose (Behind call_code call_fields IsCall bytes x) n 8 _ _ x e8 (filled (list signed) _ (requests_form) (λ r. calls.Waitall r) call_code call_fields IsCall bytes x 8 fits (λ a ok. refl) (λ a ok. refl) (λ a ok. ok)) (λ e9.
-    choose (Behind call_code call_fields IsCall bytes x) n 9 _ _ x e9 (filled (list signed) _ (requests_form) (λ r. calls.Waitany r) call_code call_fields IsCall bytes x 9 fits (λ a ok. refl) (λ a ok. refl) (λ a ok. ok)) (λ e10.
-    choose (Behind call_code call_fields IsCall bytes x) n 10 _ _ x e10 (filled (list signed) _ (requests_form) (λ r. calls.Waitsome r) call_code call_fields IsCall bytes x 10 fits (λ a ok. refl) (λ a ok. refl) (λ a ok. ok)) (λ e11.
-    choose (Behind call_code call_fields IsCall bytes x) n 11 _ _ x e11 (filled (signed) _ (signed_form) (λ r. calls.Test r) call_code call_fields IsCall bytes x 11 fits (λ a ok. refl) (λ a ok. refl) (λ a ok. ok)) (λ e12.
-    choose (Behind call_code call_fields IsCall bytes x) n 12 _ _ x e12 (filled (gathering) _ (gathering_form) (λ g. calls.Collective g) call_code call_fields IsCall bytes x 12 fits (λ a ok. refl) (λ a ok. refl) (λ a ok. ok)) (λ e13.
-    choose (Behind call_code call_fields IsCall bytes x) n 13 _ _ x e13 (filled (probe) _ (probe_form) (λ e. calls.Probe e) call_code call_fields IsCall bytes x 13 fits (λ a ok. refl) (λ a ok. refl) (λ a ok. ok)) (λ e14.
-    choose (Behind call_code call_fields IsCall bytes x) n 14 _ _ x e14 (filled (ibarrier) _ (ibarrier_form) (λ g. calls.Icollective g) call_code call_fields IsCall bytes x 14 fits (λ a ok. rw ok.1 refl) (λ a ok. rw ok.1 refl) (λ a ok. ok.0)) (λ e15. further_takes n bytes x fits e15)))))))))))))))
+    choose (Behind call_code call_fields IsCall bytes x) n 6 _ _ x e6 (filled (exchange) _ (exchange_form) (λ b. calls.Sendrecv b) call_code call_fields IsCall bytes x 6 fits (λ a ok. refl) (λ a ok. refl) (λ a ok. ok)) (λ e7. middle_takes n bytes x fits e7)))))))
 
 -- by the kind, one spelling or the other
 icollective_again : (g : CollectiveCall) (b : Bool) (rest : List ℕ) → is_barrier g.kind ≡ b → IsCollective g → length (icollective_fields g) < 2 ^ 32 → call_at (icollective_code g.kind) (icollective_fields g ++ rest) ≡ Some (calls.Icollective g, rest)
-unfolding call_at further_call_at later_call_at
+unfolding call_at middle_call_at further_call_at later_call_at
 icollective_again g true rest is fits short = rw is (ap (made (λ g. calls.Icollective g)) (ibarrier_form.again g rest (fits, is) (omega arith)))
 icollective_again g false rest is fits short = rw is (ap (made (λ g. calls.Icollective g)) (igathering_form.again g rest (fits, grind (arith, is)) (omega arith)))
 
 pub call_again : (c : Call) (rest : List ℕ) → IsCall c → length (call_fields c) < 2 ^ 32 → call_at (call_code c) (call_fields c ++ rest) ≡ Some (c, rest)
-unfolding call_at further_call_at later_call_at
+unfolding call_at middle_call_at further_call_at later_call_at
 call_again calls.Local rest fits short = refl
 call_again calls.Finalize rest fits short = refl
 call_again (calls.Send m e) rest fits short = ap (made (λ x. calls.Send x.0 x.1)) ((pair_form mode send_envelope _ _ mode_form send_form).again (m, e) rest (tt, fits) short)
@@ -122,10 +126,10 @@ call_again calls.Unread rest fits short = refl
 past : (n k : ℕ) → k < n → eqb n k ≡ false
 past n k lt = grind (arith, nat_tests)
 
--- the kinds behind MPI_Ibarrier have greater codes than those up to it
-pub further : (n : ℕ) (bytes : List ℕ) → 14 < n → call_at n bytes ≡ further_call_at n bytes
+-- the kinds behind MPI_Sendrecv have greater codes than those up to it
+pub middle : (n : ℕ) (bytes : List ℕ) → 6 < n → call_at n bytes ≡ middle_call_at n bytes
 unfolding call_at
-further n bytes lt =
+middle n bytes lt =
     rw (
       past n 0 (omega (arith, lt)),
       past n 1 (omega (arith, lt)),
@@ -134,15 +138,12 @@ further n bytes lt =
       past n 4 (omega (arith, lt)),
       past n 5 (omega (arith, lt)),
       past n 6 (omega (arith, lt)),
-      past n 7 (omega (arith, lt)),
-      past n 8 (omega (arith, lt)),
-      past n 9 (omega (arith, lt)),
-      past n 10 (omega (arith, lt)),
-      past n 11 (omega (arith, lt)),
-      past n 12 (omega (arith, lt)),
-      past n 13 (omega (arith, lt)),
-      past n 14 (omega (arith, lt)),
     ) refl
+
+-- those behind MPI_Ibarrier are of none of the kinds from there up to it
+pub further : (n : ℕ) (bytes : List ℕ) → eqb n 7 ≡ false → eqb n 8 ≡ false → eqb n 9 ≡ false → eqb n 10 ≡ false → eqb n 11 ≡ false → eqb n 12 ≡ false → eqb n 13 ≡ false → eqb n 14 ≡ false → middle_call_at n bytes ≡ further_call_at n bytes
+unfolding middle_call_at
+further n bytes a b c d e f g h = rw (a, b, c, d, e, f, g, h) refl
 
 -- those behind the calls that aren't read are of none of the kinds before
 pub later : (n : ℕ) (bytes : List ℕ) → eqb n 15 ≡ false → eqb n 16 ≡ false → eqb n 17 ≡ false → eqb n 18 ≡ false → eqb n 19 ≡ false → eqb n 20 ≡ false → further_call_at n bytes ≡ later_call_at n bytes

@@ -2,7 +2,7 @@
 
 ghost use Rattle.std.specs.Prelude.{◌≡◌, List, ℕ, Some};
 ghost use Rattle.trace_wire.specs.Outcomes.{Reads};
-ghost use Rattle.trace_wire.specs.Events.{call_at, further_call_at, later_call_at, outs_at, event_at, body_at};
+ghost use Rattle.trace_wire.specs.Events.{call_at, further_call_at, later_call_at, middle_call_at, outs_at, event_at, body_at};
 ghost use Rattle.trace_wire.specs.Fields.{envelope, send_envelope, exchange, gathering, ibarrier, igathering, probe, index};
 
 use crate::kind::is_barrier;
@@ -199,37 +199,13 @@ fn further_call_of(alloc: Global, code: u8, bytes: &[u8]) -> Result<(Call, &[u8]
     }
 }
 
-/// A call by the code of its kind.
+/// A call behind `MPI_Sendrecv`, by the code of its kind.
 #[inline(always)]
-#[tactic(auto, unfolding(crate::specs::Events::call_at))]
-fn call_of(alloc: Global, code: u8, bytes: &[u8]) -> Result<(Call, &[u8]), FieldFault>
-    ensures { Reads (λ x. (x.0, x.1.now)) result (call_at code bytes.now) }
+#[tactic(auto, unfolding(crate::specs::Events::middle_call_at))]
+fn middle_call_of(alloc: Global, code: u8, bytes: &[u8]) -> Result<(Call, &[u8]), FieldFault>
+    ensures { Reads (λ x. (x.0, x.1.now)) result (middle_call_at code bytes.now) }
 {
     match code {
-        0 => Ok((Call::Local, bytes)),
-        1 => Ok((Call::Finalize, bytes)),
-        2 => {
-            let (mode, rest) = mode_field(bytes)?;
-            let (envelope, rest) = field!(send_field(rest));
-            Ok((Call::Send(mode, envelope), rest))
-        }
-        3 => {
-            let (mode, rest) = mode_field(bytes)?;
-            let (envelope, rest) = field!(send_field(rest));
-            Ok((Call::Isend(mode, envelope), rest))
-        }
-        4 => {
-            let (envelope, rest) = field!(receive_field(bytes));
-            Ok((Call::Recv(envelope), rest))
-        }
-        5 => {
-            let (envelope, rest) = field!(receive_field(bytes));
-            Ok((Call::Irecv(envelope), rest))
-        }
-        6 => {
-            let (both, rest) = field!(exchange_field(alloc, bytes));
-            Ok((Call::Sendrecv(both), rest))
-        }
         7 => {
             let (request, rest) = signed_of(bytes)?;
             Ok((Call::Wait(request), rest))
@@ -263,6 +239,41 @@ fn call_of(alloc: Global, code: u8, bytes: &[u8]) -> Result<(Call, &[u8]), Field
             Ok((Call::Icollective(call), rest))
         }
         _ => further_call_of(alloc, code, bytes),
+    }
+}
+
+/// A call by the code of its kind.
+#[inline(always)]
+#[tactic(auto, unfolding(crate::specs::Events::call_at))]
+fn call_of(alloc: Global, code: u8, bytes: &[u8]) -> Result<(Call, &[u8]), FieldFault>
+    ensures { Reads (λ x. (x.0, x.1.now)) result (call_at code bytes.now) }
+{
+    match code {
+        0 => Ok((Call::Local, bytes)),
+        1 => Ok((Call::Finalize, bytes)),
+        2 => {
+            let (mode, rest) = mode_field(bytes)?;
+            let (envelope, rest) = field!(send_field(rest));
+            Ok((Call::Send(mode, envelope), rest))
+        }
+        3 => {
+            let (mode, rest) = mode_field(bytes)?;
+            let (envelope, rest) = field!(send_field(rest));
+            Ok((Call::Isend(mode, envelope), rest))
+        }
+        4 => {
+            let (envelope, rest) = field!(receive_field(bytes));
+            Ok((Call::Recv(envelope), rest))
+        }
+        5 => {
+            let (envelope, rest) = field!(receive_field(bytes));
+            Ok((Call::Irecv(envelope), rest))
+        }
+        6 => {
+            let (both, rest) = field!(exchange_field(alloc, bytes));
+            Ok((Call::Sendrecv(both), rest))
+        }
+        _ => middle_call_of(alloc, code, bytes),
     }
 }
 
