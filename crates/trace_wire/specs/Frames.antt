@@ -1,5 +1,5 @@
 -- What the frames of a knowledge are, and which lists of cells have one.
-use Rattle.std.specs.Prelude.{ℕ, ◌≤◌, List, ◌∷◌, ◌++◌, length, None}
+use Rattle.std.specs.Prelude.{◌≡◌, ℕ, ◌≤◌, List, ◌∷◌, ◌++◌, length, None}
 use Rattle.std.specs.Int.{w32}
 use Rattle.std.specs.FinMap.{entries}
 use Rattle.trace_know.specs.View.{View}
@@ -44,6 +44,10 @@ longest_of Two = 67108864
 -- What has a frame of a version: cells in order and in their ranges, and no more than the longest payload holds.
 abbrev pub HasFrameAs : Version → List Entry → Type 0
 HasFrameAs version es = AreCells None es × (length (payload_as version es) ≤ longest_of version)
+
+-- A frame of these cells, of one of the versions, stands in front of the bytes, and this behind it.
+abbrev pub BeginsWithFrame : List ℕ → List Entry → List ℕ → Type 0
+BeginsWithFrame bytes es rest = (version : Version) × (bytes ≡ frame_as version es ++ rest) × HasFrameAs version es
 
 -- ---- version 2, which is written where no version is asked for
 

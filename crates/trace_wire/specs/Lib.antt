@@ -16,3 +16,5 @@ pub mod Writing
 pub mod Packed
 pub mod Joining
 pub mod Planning
+pub mod Readers
+pub mod Writers

@@ -2,7 +2,7 @@
 use Rattle.std.specs.Prelude.{◌≡◌, ◌⊎◌, ℕ, ◌-◌, ◌^◌, ◌<◌, ◌≤◌, List, [], ◌∷◌, ◌++◌, length, Option, Some, None, Err, IfSome, IsSome}
 use Rattle.std.specs.FinMap.{empty, entries}
 use Rattle.std.specs.List.{All, flat_map}
-use Rattle.std.specs.Io.KnownBytes.{Keeps}
+use Rattle.std.specs.Io.KnownBytes.{Appends, Keeps}
 use Rattle.mpi_model.specs.Failures.{one_more}
 use Rattle.trace_know.specs.View.{View, cell, join}
 use Rattle.trace_wire.specs.declared.fault.WireFault.{WireFault}
@@ -41,6 +41,10 @@ frames_of parts = flat_map frame parts
 -- The bytes are the frames of the parts of all that is known.
 abbrev pub IsPacked : View → List ℕ → Type 0
 IsPacked view bytes = (parts : List (List Entry)) × AreParts (entries view) parts × (bytes ≡ frames_of parts)
+
+-- Such bytes were appended.
+abbrev pub AppendsPacked : Option (List ℕ) → Option (List ℕ) → View → Type 0
+AppendsPacked old new view = (bytes : List ℕ) × IsPacked view bytes × Appends old new bytes
 
 -- One of the cells goes into no frame, even by itself.
 abbrev pub HasLongCell : List Entry → Type 0
@@ -92,6 +96,10 @@ TellsPacked ranks bytes view = (frames : List Framed) × (0 < length frames) × 
 abbrev pub Unpacks : ℕ → Option (List ℕ) → View → Type 0
 Unpacks ranks None view = Unit {0}
 Unpacks ranks (Some bytes) view = TellsPacked ranks bytes view
+
+-- Where something is known of ranks below a number alone, the bytes that it is packed as tell just that.
+abbrev pub IsToldPacked : View → Type 0
+IsToldPacked view = (bytes : List ℕ) (ranks : ℕ) → IsPacked view bytes → IsOfRanks ranks view → TellsPacked ranks bytes view
 
 -- ---- why packed bytes are refused
 

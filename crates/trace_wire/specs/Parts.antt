@@ -1,8 +1,10 @@
 -- Reading the parts of a payload, cells or runs, with the first fault.
-use Rattle.std.specs.Prelude.{ℕ, zero, suc, ◌+◌, ◌^◌, Bool, List, [], ◌∷◌, Option, Some, None, Result, Ok, Err, nat_le, nat_lt, ◌==◌, ◌&&◌, if◌then◌else◌}
+use Rattle.std.specs.Prelude.{◌≡◌, ℕ, zero, suc, ◌+◌, ◌^◌, Bool, List, [], ◌∷◌, Option, Some, None, Result, Ok, Err, nat_le, nat_lt, ◌==◌, ◌&&◌, if◌then◌else◌}
+use Rattle.std.specs.FinMap.{insert}
 use Rattle.std.specs.Int.{w32}
 use Rattle.trace_know.specs.declared.cell.Known.{Known}
 use Rattle.trace_know.specs.declared.cell.Known.TheVariants as knowns
+use Rattle.trace_know.specs.View.{View}
 use Rattle.trace_wire.specs.declared.fault.WireFault.{WireFault}
 use Rattle.trace_wire.specs.declared.fault.WireFault.TheVariants.{Order, Content}
 use Rattle.trace_wire.specs.Forms.{◌>>=◌, number_at}
@@ -43,6 +45,24 @@ knowns_at place (suc n) bytes = do
   others ← knowns_at (place + 1) n first.1
   Some (first.0 ∷ others.0, others.1)
 
+-- ---- in front of bytes, with the fault of what can't be read
+
+-- a number of four bytes
+abbrev pub next_count : List ℕ → Result (ℕ × List ℕ) WireFault
+next_count bytes = or_fault Content (number_at w32 bytes)
+
+-- a rank and a place
+abbrev pub next_place : List ℕ → Result ((ℕ × ℕ) × List ℕ) WireFault
+next_place bytes = or_fault Content (place_form.read bytes)
+
+-- what stands at a place
+abbrev pub next_known : ℕ → List ℕ → Result (Known × List ℕ) WireFault
+next_known place bytes = or_fault Content (known_at place bytes)
+
+-- what stands at so many places from one on
+abbrev pub next_knowns : ℕ → ℕ → List ℕ → Result (List Known × List ℕ) WireFault
+next_knowns first count bytes = or_fault Content (knowns_at first count bytes)
+
 -- ---- a cell
 
 -- after the rank and the place: their order, the greatest place, and what stands there
@@ -55,6 +75,10 @@ cell_after before x =
 -- a cell that follows another: its place, and what comes behind it
 abbrev pub cell_at : Option (ℕ × ℕ) → List ℕ → Result (Entry × List ℕ) WireFault
 cell_at before bytes = or_fault Content (place_form.read bytes) >=> cell_after before
+
+-- A cell that follows another stands in front of the bytes, at this place, and was put among what is known.
+abbrev pub PutsCell : Option (ℕ × ℕ) → List ℕ → ℕ × ℕ → List ℕ → View → View → Type 0
+PutsCell before bytes here rest old new = (known : Known) × (cell_at before bytes ≡ Ok ((here, known), rest)) × (new ≡ insert old here known)
 
 -- ---- a run
 

@@ -1,16 +1,20 @@
 -- How large the frames of parts are, and how the parts are found cell by cell.
-use Rattle.std.specs.Prelude.{◌≡◌, ◌⊎◌, ℕ, ◌+◌, ◌<◌, ◌≤◌, Bool, List, [], ◌∷◌, ◌++◌, length, if◌then◌else◌}
+use Rattle.std.specs.Prelude.{◌≡◌, ◌⊎◌, ℕ, ◌+◌, ◌<◌, ◌≤◌, Bool, List, [], ◌∷◌, ◌++◌, length, map, if◌then◌else◌}
 use Rattle.trace_wire.specs.declared.fault.WireFault.{WireFault}
 use Rattle.trace_wire.specs.declared.fault.WireFault.TheVariants as faults
 use Rattle.trace_wire.specs.declared.packed.plan.PartSize.{PartSize}
 use Rattle.trace_wire.specs.Cells.{Entry}
 use Rattle.trace_wire.specs.Frames.{payload}
-use Rattle.trace_wire.specs.Packed.{HasLongCell}
+use Rattle.trace_wire.specs.Packed.{AreParts, HasLongCell}
 use Rattle.trace_wire.specs.Runs.{runs_of}
 
 -- how many cells a part has, how many runs, and how many bytes its payload
 abbrev pub size_of : List Entry → PartSize
 size_of es = record { cells = length es; runs = length (runs_of es); len = length (payload es) }
+
+-- These are the sizes of the parts of cells.
+abbrev pub AreSizes : List Entry → List PartSize → Type 0
+AreSizes es sizes = (parts : List (List Entry)) × AreParts es parts × (sizes ≡ map size_of parts)
 
 -- the bytes of a cell that goes on with a run, or begins one
 abbrev pub cell_len : Bool → ℕ → ℕ

@@ -1,11 +1,13 @@
 -- Runs: cells of one rank without a gap.
 use Rattle.std.specs.Prelude.{◌≡◌, ℕ, ◌+◌, ◌^◌, ◌<◌, ◌≤◌, ⊤, true, Option, Some, List, [], ◌∷◌, ◌++◌, length, if◌then◌else◌}
+use Rattle.std.specs.FinMap.{entries}
 use Rattle.std.specs.Int.{w32}
 use Rattle.std.specs.List.{flat_map}
 use Rattle.trace_know.specs.declared.cell.Known.{Known}
 use Rattle.trace_know.specs.Listing.{is_behind}
 use Rattle.trace_know.specs.Placed.{IsPlaced}
 use Rattle.trace_know.specs.Runs.{placed_cells}
+use Rattle.trace_know.specs.View.{View}
 use Rattle.trace_wire.specs.Forms.{number}
 use Rattle.trace_wire.specs.Cells.{Entry, IsInRange, is_past, knowns_bytes, place_form}
 
@@ -58,6 +60,10 @@ pub record RunFits (before : Option (ℕ × ℕ)) (r : PlacedRun) : Type 0 where
 abbrev pub AreRuns : Option (ℕ × ℕ) → List PlacedRun → Type 0
 AreRuns before [] = ⊤
 AreRuns before (r ∷ rs) = RunFits before r × AreRuns (Some (behind r)) rs
+
+-- A run that can follow a place was put behind what is known, and ends right before this place.
+abbrev pub AddsRun : Option (ℕ × ℕ) → PlacedRun → View → View → ℕ × ℕ → Type 0
+AddsRun before r old new end = (is_past before (r.rank, r.first) ≡ true) × (end ≡ behind r) × (entries new ≡ entries old ++ run_cells r)
 
 -- a run: rank and first place, how many cells, and what is known at each
 abbrev pub run_bytes : PlacedRun → List ℕ

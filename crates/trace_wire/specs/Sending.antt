@@ -1,8 +1,10 @@
 -- Bytes put into a sink, and how many of them have reached the device.
-use Rattle.std.specs.Prelude.{[], ◌<◌, ◌≤◌, ◌≡◌, ℕ, Bool, true, false, Option, List, ◌++◌, length}
+use Rattle.std.specs.Prelude.{[], ◌∷◌, ◌<◌, ◌≤◌, ◌≡◌, ℕ, Bool, true, false, Option, List, ◌++◌, length}
 use Rattle.std.specs.Io.KnownBytes.{Appends}
 use Rattle.mpi_model.specs.Failures.{one_more}
 use Rattle.mpi_model.specs.Side.{Side, LeavesSide}
+use Rattle.trace_wire.specs.Cells.{Entry}
+use Rattle.trace_wire.specs.Runs.{PlacedRun, run_bytes, runs_of}
 
 -- How a sink stands: the name of the reference that it was lent; the bytes, the failures and the other side of its
 -- device; what it still holds; and whether a write failed.
@@ -35,6 +37,10 @@ opening out failures side = record { lent = 0; out = out; failures = failures; s
 -- the device after a frame
 abbrev pub closing : Option (List ℕ) → ℕ → Side → Bool → Page
 closing out failures side failed = record { lent = 0; out = out; failures = failures; side = side; pending = []; failed = failed }
+
+-- The first run of the cells was put into the sink, and these are left.
+abbrev pub SendsRun : Page → Page → List Entry → List Entry → Type 0
+SendsRun s t cells left = (r : PlacedRun) × (runs_of cells ≡ r ∷ runs_of left) × Sends s t (run_bytes r)
 
 -- A front of the bytes was put into the sink, and the rest is still to come.
 pub record Comes (s t : Page) (bytes rest : List ℕ) : Type 0 where

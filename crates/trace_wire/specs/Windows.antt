@@ -1,6 +1,8 @@
 -- Reading a payload through a window: the bytes of it that are held, and those that are still to come from the device.
 use Rattle.std.specs.Prelude.{◌≡◌, ◌⊎◌, ℕ, ◌+◌, List, ◌++◌, length, Option, Some, Result, Ok}
+use Rattle.std.specs.FinMap.{entries}
 use Rattle.std.specs.Io.KnownBytes.{Consumes}
+use Rattle.trace_know.specs.View.{View}
 use Rattle.trace_wire.specs.declared.fault.WireFault.{WireFault}
 use Rattle.trace_wire.specs.declared.read.unread.Unread.{Unread}
 use Rattle.trace_wire.specs.declared.read.unread.Unread.TheVariants.{Device, Payload}
@@ -39,6 +41,10 @@ abbrev pub Passes : {A : Type 0} → Held → Held → (List ℕ → Option (A �
 Passes s t read x = (t.coming ≡ s.coming) × ((more : List ℕ) → read (s.bytes ++ more) ≡ Some (x, t.bytes ++ more))
 
 -- ---- a whole payload
+
+-- What was left is a payload, with the cells of all that is known.
+abbrev pub IsPayloadOf : Version → View → List ℕ → List ℕ → Type 0
+IsPayloadOf version know whole rest = payload_of version whole ≡ Ok (entries know)
 
 -- Just a payload of so many bytes was read, with these cells.
 abbrev pub ReadsPayload : Version → ℕ → Option (List ℕ) → Option (List ℕ) → List Entry → Type 0

@@ -8,7 +8,7 @@ ghost use Rattle.trace_wire.specs.declared.version.Version.{Version};
 ghost use Rattle.trace_wire.specs.Cells.{AreCells, Entry};
 ghost use Rattle.trace_wire.specs.FirstFault.{frame_at};
 ghost use Rattle.trace_wire.specs.Forms.{IsBytes};
-ghost use Rattle.trace_wire.specs.Frames.{HasFrame, HasFrameAs, frame_as};
+ghost use Rattle.trace_wire.specs.Frames.{BeginsWithFrame, HasFrame, HasFrameAs, frame_as};
 ghost use Rattle.trace_wire.specs.Runs.{AreRuns, PlacedRun, cells_in, runs_of};
 
 use trace_know::join_laws;
@@ -16,16 +16,21 @@ use trace_know::join_laws;
 /// The laws of frames of both versions.
 pub fn frame_laws()
     // What is read is spelled so, in one of the versions, and what is spelled so is read, whatever follows.
-    ensures read { (bytes rest : List ℕ) (es : List Entry) → IsBytes bytes → frame_at bytes ≡ Ok (es, rest) → (version : Version) × (bytes ≡ frame_as version es ++ rest) × HasFrameAs version es }
-    ensures again { (version : Version) (es : List Entry) (rest : List ℕ) → HasFrameAs version es → frame_at (frame_as version es ++ rest) ≡ Ok (es, rest) }
+    ensures read { (bytes rest : List ℕ) (es : List Entry) → IsBytes bytes → frame_at bytes ≡ Ok (es, rest)
+        → BeginsWithFrame bytes es rest }
+    ensures again { (version : Version) (es : List Entry) (rest : List ℕ) → HasFrameAs version es
+        → frame_at (frame_as version es ++ rest) ≡ Ok (es, rest) }
 
     // Where a frame stands in front, nothing is refused.
-    ensures refused { (version : Version) (bytes rest : List ℕ) (es : List Entry) (fault : WireFault) → HasFrameAs version es → bytes ≡ frame_as version es ++ rest → frame_at bytes ≡ Err fault → ⊥ }
+    ensures refused { (version : Version) (bytes rest : List ℕ) (es : List Entry) (fault : WireFault) → HasFrameAs version es
+        → bytes ≡ frame_as version es ++ rest → frame_at bytes ≡ Err fault → ⊥ }
 
     // No frame of a version begins another of that version or of the other, and a byte string is the frame of at most one
     // list of cells, so of one view.
-    ensures one { (one other : Version) (es fs : List Entry) (more : List ℕ) → HasFrameAs one es → HasFrameAs other fs → frame_as other fs ≡ frame_as one es ++ more → (other ≡ one) × (fs ≡ es) × (more ≡ []) }
-    ensures views { (one other : Version) (v w : View) → HasFrameAs one (entries v) → HasFrameAs other (entries w) → frame_as one (entries v) ≡ frame_as other (entries w) → v ≡ w }
+    ensures one { (one other : Version) (es fs : List Entry) (more : List ℕ) → HasFrameAs one es → HasFrameAs other fs
+        → frame_as other fs ≡ frame_as one es ++ more → (other ≡ one) × (fs ≡ es) × (more ≡ []) }
+    ensures views { (one other : Version) (v w : View) → HasFrameAs one (entries v) → HasFrameAs other (entries w)
+        → frame_as one (entries v) ≡ frame_as other (entries w) → v ≡ w }
 
     // What has a frame of some version has one of version 2.
     ensures second { (version : Version) (es : List Entry) → HasFrameAs version es → HasFrame es }

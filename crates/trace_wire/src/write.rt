@@ -5,8 +5,7 @@ ghost use Rattle.std.specs.FinMap.{entries};
 ghost use Rattle.std.specs.Io.KnownBytes.{Appends};
 ghost use Rattle.mpi_model.specs.Side.{LeavesSide};
 ghost use Rattle.trace_wire.specs.Frames.{HasFrame, HasFrameAs, frame, frame_as, parts_in, payload_as};
-ghost use Rattle.trace_wire.specs.Sending.{Sends, closing, opening};
-ghost use Rattle.trace_wire.specs.Writing.{IsUnwritten, IsUnwrittenAs};
+ghost use Rattle.trace_wire.specs.Writers.{SendsAll, StaysUnwritten, StaysUnwrittenAs};
 
 pub(crate) mod cells;
 pub(crate) mod direct;
@@ -38,7 +37,7 @@ fn send<W: Write>(
 ) -> bool
     requires len { length (payload_as version (entries knowledge.now)) ≡ len }
     requires parts { parts_in version (entries knowledge.now) ≡ parts }
-    ensures { Sends (opening (W.written writer.old) (W.failures writer.old) (W.read_side writer.old)) (closing (W.written writer.new) (W.failures writer.new) (W.read_side writer.new) result) (frame_as version (entries knowledge.now)) }
+    ensures { SendsAll W.written W.failures W.read_side writer.old writer.new result (frame_as version (entries knowledge.now)) }
 {
     let direct = Direct {
         writer,
@@ -63,7 +62,7 @@ pub fn write_frame_as<W: Write>(
     ensures ok { OnOk result (Appends (W.written writer.old) (W.written writer.new) (frame_as version (entries knowledge.now))) }
     ensures fits { OnOk result (HasFrameAs version (entries knowledge.now)) }
     ensures no_failure { OnOk result (W.failures writer.new ≡ W.failures writer.old) }
-    ensures err { IfErr result (λ fault. IsUnwrittenAs version (entries knowledge.now) (W.written writer.old) (W.written writer.new) (W.failures writer.old) (W.failures writer.new) fault) }
+    ensures err { IfErr result (StaysUnwrittenAs W.written W.failures writer.old writer.new version (entries knowledge.now)) }
     ensures later { W.failures writer.old ≤ W.failures writer.new }
     ensures beside { LeavesSide (W.read_side writer.old) (W.read_side writer.new) }
 {
@@ -83,7 +82,7 @@ pub fn write_frame<W: Write>(knowledge: &Knowledge, writer: &mut W) -> Result<()
     ensures ok { OnOk result (Appends (W.written writer.old) (W.written writer.new) (frame (entries knowledge.now))) }
     ensures fits { OnOk result (HasFrame (entries knowledge.now)) }
     ensures no_failure { OnOk result (W.failures writer.new ≡ W.failures writer.old) }
-    ensures err { IfErr result (λ fault. IsUnwritten (entries knowledge.now) (W.written writer.old) (W.written writer.new) (W.failures writer.old) (W.failures writer.new) fault) }
+    ensures err { IfErr result (StaysUnwritten W.written W.failures writer.old writer.new (entries knowledge.now)) }
     ensures later { W.failures writer.old ≤ W.failures writer.new }
     ensures beside { LeavesSide (W.read_side writer.old) (W.read_side writer.new) }
 {

@@ -1,11 +1,12 @@
 //! The next of the frames of a device.
 
-ghost use Rattle.std.specs.Prelude.{◌≡◌, ◌<◌, ℕ, List, Option, None, Ok, Err, length, true, false, IfErr, IfOk, IfSome, OnOk};
+ghost use Rattle.std.specs.Prelude.{◌≡◌, ◌<◌, None, Ok, Err, length, true, false, IfErr, IfOk, IfSome, OnOk};
 ghost use Rattle.std.specs.FinMap.{entries};
 ghost use Rattle.std.specs.Io.KnownBytes.{Consumes, IsAtEnd};
 ghost use Rattle.mpi_model.specs.Side.{LeavesSide};
 ghost use Rattle.trace_wire.specs.Packed.{BreaksOff};
-ghost use Rattle.trace_wire.specs.Reading.{IsUnfilled, IsUnread, ReadsFrame};
+ghost use Rattle.trace_wire.specs.Readers.{StaysUnfilled};
+ghost use Rattle.trace_wire.specs.Reading.{EndsFrame, IsUnreadBehind, ReadsFrame};
 
 use crate::fault::WireFault;
 use crate::read::cells::are_bytes;
@@ -20,7 +21,7 @@ fn begin<R: Read>(reader: &mut R, head: &mut [u8]) -> Result<bool, WireFault>
     ensures filled { result ≡ Ok true → Consumes (R.left reader.old) (R.left reader.new) head.new }
     ensures end { result ≡ Ok false → IsAtEnd (R.left reader.old) }
     ensures no_failure { OnOk result (R.failures reader.new ≡ R.failures reader.old) }
-    ensures err { IfErr result (λ fault. IsUnfilled (length head.new) (R.left reader.old) (R.failures reader.old) (R.failures reader.new) fault) }
+    ensures err { IfErr result (StaysUnfilled R.left R.failures reader.old reader.new (length head.new)) }
     ensures some { result ≡ Err WireFault.Short → IfSome (R.left reader.old) (λ bytes. 0 < length bytes) }
     ensures beside { LeavesSide (R.write_side reader.old) (R.write_side reader.new) }
 {
@@ -35,9 +36,9 @@ fn begin<R: Read>(reader: &mut R, head: &mut [u8]) -> Result<bool, WireFault>
 /// The frame whose head was read.
 fn behind_head<R: Read>(alloc: Global, reader: &mut R, head: &[u8]) -> Result<Knowledge, WireFault>
     requires len { length head.now ≡ 10 }
-    ensures ok { IfOk result (λ k. (left : Option (List ℕ)) → Consumes left (R.left reader.old) head.now → ReadsFrame left (R.left reader.new) (entries k)) }
+    ensures ok { IfOk result (EndsFrame head.now (R.left reader.old) (R.left reader.new)) }
     ensures no_failure { OnOk result (R.failures reader.new ≡ R.failures reader.old) }
-    ensures err { IfErr result (λ fault. (left : Option (List ℕ)) → Consumes left (R.left reader.old) head.now → IsUnread left (R.failures reader.old) (R.failures reader.new) fault) }
+    ensures err { IfErr result (IsUnreadBehind head.now (R.left reader.old) (R.failures reader.old) (R.failures reader.new)) }
     ensures beside { LeavesSide (R.write_side reader.old) (R.write_side reader.new) }
 {
     are_bytes(head);

@@ -1,10 +1,10 @@
 //! The frame of a part, put into a sink.
 
-ghost use Rattle.std.specs.Prelude.{◌≡◌, ◌-◌, ◌<◌, ◌≤◌, ◌^◌, ◌∷◌, drop, length, take};
+ghost use Rattle.std.specs.Prelude.{◌≡◌, ◌-◌, ◌<◌, ◌≤◌, ◌^◌, drop, length, take};
 ghost use Rattle.trace_wire.specs.Frames.{frame};
 ghost use Rattle.trace_wire.specs.Planning.{size_of};
-ghost use Rattle.trace_wire.specs.Runs.{PlacedRun, run_bytes, runs_bytes, runs_of};
-ghost use Rattle.trace_wire.specs.Sending.{Sends};
+ghost use Rattle.trace_wire.specs.Runs.{runs_bytes, runs_of};
+ghost use Rattle.trace_wire.specs.Sending.{Sends, SendsRun};
 
 use crate::packed::plan::PartSize;
 use crate::version::Version;
@@ -20,7 +20,7 @@ fn put_front<S: Sink>(out: &mut S, most: usize, cells: &mut Walk<'_>) -> usize
     requires some { 0 < most }
     requires there { most ≤ length cells.old }
     requires short { length (runs_bytes (runs_of (take most cells.old))) < 2 ^ 32 }
-    ensures sends { (r : PlacedRun) × (runs_of (take most cells.old) ≡ r ∷ runs_of (take (most - result) cells.new)) × Sends (S.page out.old) (S.page out.new) (run_bytes r) }
+    ensures sends { SendsRun (S.page out.old) (S.page out.new) (take most cells.old) (take (most - result) cells.new) }
     ensures count { (0 < result) × (result ≤ most) }
     ensures rest { cells.new ≡ drop result cells.old }
 {

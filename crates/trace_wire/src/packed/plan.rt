@@ -1,10 +1,9 @@
 //! How cells are cut into parts, each of which goes into a frame.
 
-ghost use Rattle.std.specs.Prelude.{◌≡◌, ◌+◌, ◌<◌, ◌≤◌, [], None, List, IfErr, IfOk, IfSome, OnOk, map, if◌then◌else◌};
+ghost use Rattle.std.specs.Prelude.{◌≡◌, ◌+◌, ◌<◌, ◌≤◌, [], None, IfErr, IfOk, IfSome, OnOk, if◌then◌else◌};
 ghost use Rattle.std.specs.FinMap.{entries};
-ghost use Rattle.trace_wire.specs.Cells.{AreCells, Entry};
-ghost use Rattle.trace_wire.specs.Packed.{AreParts};
-ghost use Rattle.trace_wire.specs.Planning.{AddsCell, IsUnplanned, NeedsMore, size_of};
+ghost use Rattle.trace_wire.specs.Cells.{AreCells};
+ghost use Rattle.trace_wire.specs.Planning.{AddsCell, AreSizes, IsUnplanned, NeedsMore, size_of};
 
 use crate::fault::WireFault;
 use crate::size::known_len;
@@ -42,7 +41,9 @@ impl PartSize {
         requires cells { self.cells ≤ self.len }
         requires runs { self.runs ≤ self.len }
         requires len { self.len ≤ 67108864 }
-        ensures some { IfSome result (λ p. (p.cells ≡ self.cells + 1) × (p.runs ≡ self.runs + (if goes_on then 0 else 1)) × (p.len ≡ self.len + (if goes_on then 0 else 16) + known)) }
+        ensures cells { IfSome result (λ p. p.cells ≡ self.cells + 1) }
+        ensures runs { IfSome result (λ p. p.runs ≡ self.runs + (if goes_on then 0 else 1)) }
+        ensures len { IfSome result (λ p. p.len ≡ self.len + (if goes_on then 0 else 16) + known) }
         ensures fits { IfSome result (λ p. p.len ≤ 67108864) }
         ensures none { result ≡ None → 67108864 < self.len + (if goes_on then 0 else 16) + known }
     {
@@ -84,7 +85,7 @@ fn add_cell(
 
 /// The sizes of the parts of all that is known. It also tells that the cells are those of frames.
 pub(crate) fn plan_of(alloc: Global, knowledge: &Knowledge) -> Result<Vec<PartSize>, WireFault>
-    ensures ok { IfOk result (λ plan. (parts : List (List Entry)) × AreParts (entries knowledge.now) parts × (plan.items ≡ map size_of parts)) }
+    ensures ok { IfOk result (λ plan. AreSizes (entries knowledge.now) plan.items) }
     ensures cells { OnOk result (AreCells None (entries knowledge.now)) }
     ensures err { IfErr result (IsUnplanned (entries knowledge.now)) }
 {

@@ -1,12 +1,11 @@
 //! Writing knowledge of any size to a device.
 
-ghost use Rattle.std.specs.Prelude.{◌≡◌, ◌≤◌, ℕ, List, drop, length, take, IfErr, OnOk};
-ghost use Rattle.std.specs.Io.KnownBytes.{Appends};
+ghost use Rattle.std.specs.Prelude.{◌≡◌, ◌≤◌, drop, length, take, IfErr, OnOk};
 ghost use Rattle.mpi_model.specs.Side.{LeavesSide};
 ghost use Rattle.trace_wire.specs.Frames.{frame};
-ghost use Rattle.trace_wire.specs.Packed.{IsOfRanks, IsPacked, IsUnpacked, TellsPacked};
+ghost use Rattle.trace_wire.specs.Packed.{AppendsPacked, IsToldPacked};
 ghost use Rattle.trace_wire.specs.Planning.{size_of};
-ghost use Rattle.trace_wire.specs.Sending.{Sends, closing, opening};
+ghost use Rattle.trace_wire.specs.Writers.{SendsAll, StaysUnpacked};
 
 use crate::fault::WireFault;
 use crate::packed::part::put_part;
@@ -23,7 +22,7 @@ use trace_know::{Knowledge, Walk, join_laws};
 fn send_part<W: Write>(part: PartSize, cells: &mut Walk<'_>, writer: &mut W) -> bool
     requires there { part.cells ≤ length cells.old }
     requires size { part ≡ size_of (take part.cells cells.old) }
-    ensures sends { Sends (opening (W.written writer.old) (W.failures writer.old) (W.read_side writer.old)) (closing (W.written writer.new) (W.failures writer.new) (W.read_side writer.new) result) (frame (take part.cells cells.old)) }
+    ensures sends { SendsAll W.written W.failures W.read_side writer.old writer.new result (frame (take part.cells cells.old)) }
     ensures rest { cells.new ≡ drop part.cells cells.old }
 {
     let direct = Direct {
@@ -50,10 +49,10 @@ pub fn write_frames<W: Write>(
     writer: &mut W,
 ) -> Result<(), WireFault>
     // What was written tells all that is known.
-    ensures ok { OnOk result ((bytes : List ℕ) × IsPacked knowledge.now bytes × Appends (W.written writer.old) (W.written writer.new) bytes) }
-    ensures again { OnOk result ((bytes : List ℕ) (ranks : ℕ) → IsPacked knowledge.now bytes → IsOfRanks ranks knowledge.now → TellsPacked ranks bytes knowledge.now) }
+    ensures ok { OnOk result (AppendsPacked (W.written writer.old) (W.written writer.new) knowledge.now) }
+    ensures again { OnOk result (IsToldPacked knowledge.now) }
     ensures no_failure { OnOk result (W.failures writer.new ≡ W.failures writer.old) }
-    ensures err { IfErr result (IsUnpacked knowledge.now (W.written writer.old) (W.written writer.new) (W.failures writer.old) (W.failures writer.new)) }
+    ensures err { IfErr result (StaysUnpacked W.written W.failures writer.old writer.new knowledge.now) }
     ensures later { W.failures writer.old ≤ W.failures writer.new }
     ensures beside { LeavesSide (W.read_side writer.old) (W.read_side writer.new) }
 {

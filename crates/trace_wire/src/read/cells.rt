@@ -1,14 +1,13 @@
 //! Cells, read from the bytes of a payload.
 
 ghost use Rattle.std.specs.Prelude.{◌≡◌, ℕ, None, Ok, IfOk, IfErr, true};
-ghost use Rattle.std.specs.FinMap.{entries, insert};
+ghost use Rattle.std.specs.FinMap.{entries};
 ghost use Rattle.trace_know.specs.Cell.{put_known};
 ghost use Rattle.trace_know.specs.Placed.{IsPast};
-ghost use Rattle.trace_know.specs.declared.cell.Known.{Known as KnownValue};
 ghost use Rattle.trace_wire.specs.Forms.{IsBytes};
 ghost use Rattle.trace_wire.specs.Outcomes.{Reads, Gives, FailsWith, wire_of, IsOfBytes};
 ghost use Rattle.trace_wire.specs.Cells.{place_form, is_past};
-ghost use Rattle.trace_wire.specs.Parts.{cell, cell_at, known_at, parts_at};
+ghost use Rattle.trace_wire.specs.Parts.{PutsCell, cell, cell_at, known_at, parts_at};
 
 use crate::fault::WireFault;
 use crate::read::event::event_of;
@@ -85,7 +84,7 @@ fn put_cell<'a>(
     bytes: &'a [u8],
 ) -> Result<((u32, u64), &'a [u8]), WireFault>
     requires { (rank place : ℕ) → is_past before (rank, place) ≡ true → IsPast knowledge.old rank place }
-    ensures ok { IfOk result (λ x. (known : KnownValue) × (cell_at before bytes.now ≡ Ok ((x.0, known), x.1.now)) × (knowledge.new ≡ insert knowledge.old x.0 known)) }
+    ensures ok { IfOk result (λ x. PutsCell before bytes.now x.0 x.1.now knowledge.old knowledge.new) }
     ensures past { IfOk result (λ x. is_past before x.0 ≡ true) }
     ensures err { IfErr result (λ fault. FailsWith fault (cell_at before bytes.now)) }
     ensures cause { IfErr result IsOfBytes }

@@ -1,9 +1,9 @@
 //! A window, filled from a device.
 
-ghost use Rattle.std.specs.Prelude.{◌≡◌, ◌≤◌, ◌<◌, List, ℕ, length, IfErr, OnOk};
-ghost use Rattle.std.specs.Io.KnownBytes.{Consumes};
+ghost use Rattle.std.specs.Prelude.{◌≡◌, ◌≤◌, ◌<◌, length, IfErr, OnOk};
 ghost use Rattle.mpi_model.specs.Side.{LeavesSide};
-ghost use Rattle.trace_wire.specs.Reading.{IsUnfilled, TakesAtMost};
+ghost use Rattle.trace_wire.specs.Readers.{StaysUnfilled};
+ghost use Rattle.trace_wire.specs.Reading.{TakesAtMost, TakesJust};
 ghost use Rattle.trace_wire.specs.Windows.{Comes, IsLeft};
 
 use crate::fault::WireFault;
@@ -23,7 +23,7 @@ pub(crate) fn fill_to<R: Read>(
     ensures ok { OnOk result (Comes (R.left reader.old) (R.left reader.new) window.old window.new IsLeft) }
     ensures enough { OnOk result (0 < window.new.coming → wanted ≤ length window.new.bytes) }
     ensures no_failure { OnOk result (R.failures reader.new ≡ R.failures reader.old) }
-    ensures err { IfErr result (IsUnfilled window.old.coming (R.left reader.old) (R.failures reader.old) (R.failures reader.new)) }
+    ensures err { IfErr result (StaysUnfilled R.left R.failures reader.old reader.new window.old.coming) }
     ensures taken { TakesAtMost window.old.coming (R.left reader.old) (R.left reader.new) }
     ensures beside { LeavesSide (R.write_side reader.old) (R.write_side reader.new) }
 {
@@ -39,7 +39,7 @@ pub(crate) fn ready<R: Read>(reader: &mut R, window: &mut Window) -> Result<(), 
     ensures ok { OnOk result (Comes (R.left reader.old) (R.left reader.new) window.old window.new IsLeft) }
     ensures enough { OnOk result (0 < window.new.coming → 4096 ≤ length window.new.bytes) }
     ensures no_failure { OnOk result (R.failures reader.new ≡ R.failures reader.old) }
-    ensures err { IfErr result (IsUnfilled window.old.coming (R.left reader.old) (R.failures reader.old) (R.failures reader.new)) }
+    ensures err { IfErr result (StaysUnfilled R.left R.failures reader.old reader.new window.old.coming) }
     ensures taken { TakesAtMost window.old.coming (R.left reader.old) (R.left reader.new) }
     ensures beside { LeavesSide (R.write_side reader.old) (R.write_side reader.new) }
 {
@@ -55,7 +55,7 @@ pub(crate) fn widen<R: Read>(reader: &mut R, window: &mut Window) -> Result<(), 
     ensures ok { OnOk result (Comes (R.left reader.old) (R.left reader.new) window.old window.new IsLeft) }
     ensures less { OnOk result (0 < window.old.coming → window.new.coming < window.old.coming) }
     ensures no_failure { OnOk result (R.failures reader.new ≡ R.failures reader.old) }
-    ensures err { IfErr result (IsUnfilled window.old.coming (R.left reader.old) (R.failures reader.old) (R.failures reader.new)) }
+    ensures err { IfErr result (StaysUnfilled R.left R.failures reader.old reader.new window.old.coming) }
     ensures taken { TakesAtMost window.old.coming (R.left reader.old) (R.left reader.new) }
     ensures beside { LeavesSide (R.write_side reader.old) (R.write_side reader.new) }
 {
@@ -65,9 +65,9 @@ pub(crate) fn widen<R: Read>(reader: &mut R, window: &mut Window) -> Result<(), 
 
 /// Reads the rest of the payload, and throws it away.
 pub(crate) fn drain<R: Read>(reader: &mut R, window: &mut Window) -> Result<(), WireFault>
-    ensures ok { OnOk result ((rest : List ℕ) × Consumes (R.left reader.old) (R.left reader.new) rest × (length rest ≡ window.old.coming)) }
+    ensures ok { OnOk result (TakesJust window.old.coming (R.left reader.old) (R.left reader.new)) }
     ensures no_failure { OnOk result (R.failures reader.new ≡ R.failures reader.old) }
-    ensures err { IfErr result (IsUnfilled window.old.coming (R.left reader.old) (R.failures reader.old) (R.failures reader.new)) }
+    ensures err { IfErr result (StaysUnfilled R.left R.failures reader.old reader.new window.old.coming) }
     ensures taken { TakesAtMost window.old.coming (R.left reader.old) (R.left reader.new) }
     ensures beside { LeavesSide (R.write_side reader.old) (R.write_side reader.new) }
 {

@@ -3,13 +3,13 @@
 ghost use Rattle.std.specs.Prelude.{◌≡◌, IfErr, IfOk, OnErr, OnOk};
 ghost use Rattle.std.specs.Int.{w32};
 ghost use Rattle.mpi_model.specs.Side.{LeavesSide};
-ghost use Rattle.trace_wire.specs.declared.fault.WireFault.TheVariants.{Content};
 ghost use Rattle.trace_wire.specs.Cells.{place_form};
 ghost use Rattle.trace_wire.specs.Forms.{number_at};
 ghost use Rattle.trace_wire.specs.Outcomes.{Fails};
-ghost use Rattle.trace_wire.specs.Parts.{known_at, or_fault};
+ghost use Rattle.trace_wire.specs.Parts.{known_at, next_count, next_known, next_place};
+ghost use Rattle.trace_wire.specs.Readers.{Finds, Misses};
 ghost use Rattle.trace_wire.specs.Reading.{TakesAtMost};
-ghost use Rattle.trace_wire.specs.Windows.{Comes, Gave, Passes, Stops};
+ghost use Rattle.trace_wire.specs.Windows.{Passes};
 
 use crate::read::cells::{fault_of, known_of, place_of};
 use crate::read::field::{FieldFault, u32_of};
@@ -80,9 +80,9 @@ fn held_known(alloc: Global, window: &mut Window, place: u64) -> Result<Known, F
 
 /// A number of four bytes.
 pub(crate) fn next_u32<R: Read>(reader: &mut R, window: &mut Window) -> Result<u32, Unread>
-    ensures ok { IfOk result (λ n. Comes (R.left reader.old) (R.left reader.new) window.old window.new (Gave (λ b. or_fault Content (number_at w32 b)) n)) }
+    ensures ok { IfOk result (Finds R.left reader.old reader.new window.old window.new next_count) }
     ensures no_failure { OnOk result (R.failures reader.new ≡ R.failures reader.old) }
-    ensures err { IfErr result (Stops (R.left reader.old) (R.left reader.new) (R.failures reader.old) (R.failures reader.new) window.old window.new (λ b. or_fault Content (number_at w32 b))) }
+    ensures err { IfErr result (Misses R.left R.failures reader.old reader.new window.old window.new next_count) }
     ensures taken { TakesAtMost window.old.coming (R.left reader.old) (R.left reader.new) }
     ensures beside { LeavesSide (R.write_side reader.old) (R.write_side reader.new) }
 {
@@ -98,9 +98,9 @@ pub(crate) fn next_u32<R: Read>(reader: &mut R, window: &mut Window) -> Result<u
 
 /// A rank and a place.
 pub(crate) fn next_place<R: Read>(reader: &mut R, window: &mut Window) -> Result<(u32, u64), Unread>
-    ensures ok { IfOk result (λ here. Comes (R.left reader.old) (R.left reader.new) window.old window.new (Gave (λ b. or_fault Content (place_form.read b)) here)) }
+    ensures ok { IfOk result (Finds R.left reader.old reader.new window.old window.new next_place) }
     ensures no_failure { OnOk result (R.failures reader.new ≡ R.failures reader.old) }
-    ensures err { IfErr result (Stops (R.left reader.old) (R.left reader.new) (R.failures reader.old) (R.failures reader.new) window.old window.new (λ b. or_fault Content (place_form.read b))) }
+    ensures err { IfErr result (Misses R.left R.failures reader.old reader.new window.old window.new next_place) }
     ensures taken { TakesAtMost window.old.coming (R.left reader.old) (R.left reader.new) }
     ensures beside { LeavesSide (R.write_side reader.old) (R.write_side reader.new) }
 {
@@ -122,9 +122,9 @@ pub(crate) fn next_known<R: Read>(
     window: &mut Window,
     place: u64,
 ) -> Result<Known, Unread>
-    ensures ok { IfOk result (λ k. Comes (R.left reader.old) (R.left reader.new) window.old window.new (Gave (λ b. or_fault Content (known_at place b)) k)) }
+    ensures ok { IfOk result (Finds R.left reader.old reader.new window.old window.new (next_known place)) }
     ensures no_failure { OnOk result (R.failures reader.new ≡ R.failures reader.old) }
-    ensures err { IfErr result (Stops (R.left reader.old) (R.left reader.new) (R.failures reader.old) (R.failures reader.new) window.old window.new (λ b. or_fault Content (known_at place b))) }
+    ensures err { IfErr result (Misses R.left R.failures reader.old reader.new window.old window.new (next_known place)) }
     ensures taken { TakesAtMost window.old.coming (R.left reader.old) (R.left reader.new) }
     ensures beside { LeavesSide (R.write_side reader.old) (R.write_side reader.new) }
 {

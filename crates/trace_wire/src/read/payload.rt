@@ -1,12 +1,13 @@
 //! A payload, read through a window.
 
-ghost use Rattle.std.specs.Prelude.{◌≡◌, Ok, IfErr, IfOk, OnOk};
+ghost use Rattle.std.specs.Prelude.{◌≡◌, IfErr, IfOk, OnOk};
 ghost use Rattle.std.specs.FinMap.{entries};
 ghost use Rattle.mpi_model.specs.Side.{LeavesSide};
 ghost use Rattle.trace_wire.specs.declared.version.Version.TheVariants.{One};
 ghost use Rattle.trace_wire.specs.FirstFault.{parts_of, payload_of};
 ghost use Rattle.trace_wire.specs.Reading.{TakesAtMost};
-ghost use Rattle.trace_wire.specs.Windows.{Comes, Gave, IsRefused, ReadsPayload, Stops};
+ghost use Rattle.trace_wire.specs.Readers.{FindsCells, Misses, RefusesPayload};
+ghost use Rattle.trace_wire.specs.Windows.{Comes, IsPayloadOf, ReadsPayload};
 
 use crate::fault::WireFault;
 use crate::read::cells::cells_of;
@@ -27,9 +28,9 @@ fn cells_held<R: Read>(
     window: &mut Window,
     count: u32,
 ) -> Result<Knowledge, Unread>
-    ensures ok { IfOk result (λ k. Comes (R.left reader.old) (R.left reader.new) window.old window.new (Gave (parts_of One count) (entries k))) }
+    ensures ok { IfOk result (FindsCells R.left reader.old reader.new window.old window.new (parts_of One count)) }
     ensures no_failure { OnOk result (R.failures reader.new ≡ R.failures reader.old) }
-    ensures err { IfErr result (Stops (R.left reader.old) (R.left reader.new) (R.failures reader.old) (R.failures reader.new) window.old window.new (parts_of One count)) }
+    ensures err { IfErr result (Misses R.left R.failures reader.old reader.new window.old window.new (parts_of One count)) }
     ensures taken { TakesAtMost window.old.coming (R.left reader.old) (R.left reader.new) }
     ensures beside { LeavesSide (R.write_side reader.old) (R.write_side reader.new) }
 {
@@ -56,9 +57,9 @@ fn read_parts<R: Read>(
     version: Version,
     count: u32,
 ) -> Result<Knowledge, Unread>
-    ensures ok { IfOk result (λ k. Comes (R.left reader.old) (R.left reader.new) window.old window.new (Gave (parts_of version count) (entries k))) }
+    ensures ok { IfOk result (FindsCells R.left reader.old reader.new window.old window.new (parts_of version count)) }
     ensures no_failure { OnOk result (R.failures reader.new ≡ R.failures reader.old) }
-    ensures err { IfErr result (Stops (R.left reader.old) (R.left reader.new) (R.failures reader.old) (R.failures reader.new) window.old window.new (parts_of version count)) }
+    ensures err { IfErr result (Misses R.left R.failures reader.old reader.new window.old window.new (parts_of version count)) }
     ensures taken { TakesAtMost window.old.coming (R.left reader.old) (R.left reader.new) }
     ensures beside { LeavesSide (R.write_side reader.old) (R.write_side reader.new) }
 {
@@ -75,10 +76,10 @@ fn read_all<R: Read>(
     window: &mut Window,
     version: Version,
 ) -> Result<Knowledge, Unread>
-    ensures ok { IfOk result (λ k. Comes (R.left reader.old) (R.left reader.new) window.old window.new (λ whole rest. payload_of version whole ≡ Ok (entries k))) }
+    ensures ok { IfOk result (λ k. Comes (R.left reader.old) (R.left reader.new) window.old window.new (IsPayloadOf version k)) }
     ensures end { OnOk result (window.new.coming ≡ 0) }
     ensures no_failure { OnOk result (R.failures reader.new ≡ R.failures reader.old) }
-    ensures err { IfErr result (Stops (R.left reader.old) (R.left reader.new) (R.failures reader.old) (R.failures reader.new) window.old window.new (payload_of version)) }
+    ensures err { IfErr result (Misses R.left R.failures reader.old reader.new window.old window.new (payload_of version)) }
     ensures taken { TakesAtMost window.old.coming (R.left reader.old) (R.left reader.new) }
     ensures beside { LeavesSide (R.write_side reader.old) (R.write_side reader.new) }
 {
@@ -99,7 +100,7 @@ pub(crate) fn read_payload<R: Read>(
 ) -> Result<Knowledge, WireFault>
     ensures ok { IfOk result (λ k. ReadsPayload version len (R.left reader.old) (R.left reader.new) (entries k)) }
     ensures no_failure { OnOk result (R.failures reader.new ≡ R.failures reader.old) }
-    ensures err { IfErr result (IsRefused version len (R.left reader.old) (R.left reader.new) (R.failures reader.old) (R.failures reader.new)) }
+    ensures err { IfErr result (RefusesPayload R.left R.failures reader.old reader.new version len) }
     ensures taken { TakesAtMost len (R.left reader.old) (R.left reader.new) }
     ensures beside { LeavesSide (R.write_side reader.old) (R.write_side reader.new) }
 {

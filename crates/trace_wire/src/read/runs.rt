@@ -1,17 +1,15 @@
 //! Runs, read through a window.
 
-ghost use Rattle.std.specs.Prelude.{◌≡◌, ◌+◌, ◌≤◌, ◌++◌, ◌^◌, ℕ, IfErr, IfOk, OnOk, true};
-ghost use Rattle.std.specs.FinMap.{entries};
+ghost use Rattle.std.specs.Prelude.{◌≡◌, ◌+◌, ◌≤◌, ◌^◌, ℕ, IfErr, IfOk, OnOk, true};
 ghost use Rattle.mpi_model.specs.Side.{LeavesSide};
 ghost use Rattle.trace_know.specs.Placed.{IsPast};
-ghost use Rattle.trace_wire.specs.declared.fault.WireFault.TheVariants.{Content};
 ghost use Rattle.trace_wire.specs.declared.version.Version.TheVariants.{Two};
 ghost use Rattle.trace_wire.specs.Cells.{is_past};
 ghost use Rattle.trace_wire.specs.FirstFault.{parts_of};
-ghost use Rattle.trace_wire.specs.Parts.{is_run, knowns_at, or_fault, run_at};
+ghost use Rattle.trace_wire.specs.Parts.{is_run, next_knowns, run_at};
+ghost use Rattle.trace_wire.specs.Readers.{Finds, FindsCells, Misses, run_in};
 ghost use Rattle.trace_wire.specs.Reading.{TakesAtMost};
-ghost use Rattle.trace_wire.specs.Runs.{PlacedRun, behind, placed_run, run_cells};
-ghost use Rattle.trace_wire.specs.Windows.{Comes, Gave, Stops};
+ghost use Rattle.trace_wire.specs.Runs.{AddsRun, PlacedRun};
 
 use crate::fault::WireFault;
 use crate::read::cells::{are_bytes, is_past};
@@ -67,9 +65,9 @@ fn knowns_of<R: Read>(
     count: u32,
 ) -> Result<Vec<Known>, Unread>
     requires { first + count ≤ 2 ^ 40 }
-    ensures ok { IfOk result (λ ks. Comes (R.left reader.old) (R.left reader.new) window.old window.new (Gave (λ b. or_fault Content (knowns_at first count b)) ks.items)) }
+    ensures ok { IfOk result (λ ks. Finds R.left reader.old reader.new window.old window.new (next_knowns first count) ks.items) }
     ensures no_failure { OnOk result (R.failures reader.new ≡ R.failures reader.old) }
-    ensures err { IfErr result (Stops (R.left reader.old) (R.left reader.new) (R.failures reader.old) (R.failures reader.new) window.old window.new (λ b. or_fault Content (knowns_at first count b))) }
+    ensures err { IfErr result (Misses R.left R.failures reader.old reader.new window.old window.new (next_knowns first count)) }
     ensures taken { TakesAtMost window.old.coming (R.left reader.old) (R.left reader.new) }
     ensures beside { LeavesSide (R.write_side reader.old) (R.write_side reader.new) }
 {
@@ -92,9 +90,9 @@ fn run_of<R: Read>(
     window: &mut Window,
     before: Option<(u32, u64)>,
 ) -> Result<Run, Unread>
-    ensures ok { IfOk result (λ r. Comes (R.left reader.old) (R.left reader.new) window.old window.new (Gave (run_at before) (placed_run (r.rank, r.first) r.cells.items))) }
+    ensures ok { IfOk result (λ r. Finds R.left reader.old reader.new window.old window.new (run_at before) (run_in r)) }
     ensures no_failure { OnOk result (R.failures reader.new ≡ R.failures reader.old) }
-    ensures err { IfErr result (Stops (R.left reader.old) (R.left reader.new) (R.failures reader.old) (R.failures reader.new) window.old window.new (run_at before)) }
+    ensures err { IfErr result (Misses R.left R.failures reader.old reader.new window.old window.new (run_at before)) }
     ensures taken { TakesAtMost window.old.coming (R.left reader.old) (R.left reader.new) }
     ensures beside { LeavesSide (R.write_side reader.old) (R.write_side reader.new) }
 {
@@ -121,9 +119,10 @@ fn put_run<R: Read>(
     before: Option<(u32, u64)>,
 ) -> Result<(u32, u64), Unread>
     requires { (rank place : ℕ) → is_past before (rank, place) ≡ true → IsPast knowledge.old rank place }
-    ensures ok { IfOk result (λ end. (r : PlacedRun) × Comes (R.left reader.old) (R.left reader.new) window.old window.new (Gave (run_at before) r) × (is_past before (r.rank, r.first) ≡ true) × (end ≡ behind r) × (entries knowledge.new ≡ entries knowledge.old ++ run_cells r)) }
+    ensures ok { IfOk result (λ end. (r : PlacedRun) × Finds R.left reader.old reader.new window.old window.new (run_at before) r
+        × AddsRun before r knowledge.old knowledge.new end) }
     ensures no_failure { OnOk result (R.failures reader.new ≡ R.failures reader.old) }
-    ensures err { IfErr result (Stops (R.left reader.old) (R.left reader.new) (R.failures reader.old) (R.failures reader.new) window.old window.new (run_at before)) }
+    ensures err { IfErr result (Misses R.left R.failures reader.old reader.new window.old window.new (run_at before)) }
     ensures taken { TakesAtMost window.old.coming (R.left reader.old) (R.left reader.new) }
     ensures beside { LeavesSide (R.write_side reader.old) (R.write_side reader.new) }
 {
@@ -144,9 +143,9 @@ pub(crate) fn runs_of<R: Read>(
     window: &mut Window,
     count: u32,
 ) -> Result<Knowledge, Unread>
-    ensures ok { IfOk result (λ k. Comes (R.left reader.old) (R.left reader.new) window.old window.new (Gave (parts_of Two count) (entries k))) }
+    ensures ok { IfOk result (FindsCells R.left reader.old reader.new window.old window.new (parts_of Two count)) }
     ensures no_failure { OnOk result (R.failures reader.new ≡ R.failures reader.old) }
-    ensures err { IfErr result (Stops (R.left reader.old) (R.left reader.new) (R.failures reader.old) (R.failures reader.new) window.old window.new (parts_of Two count)) }
+    ensures err { IfErr result (Misses R.left R.failures reader.old reader.new window.old window.new (parts_of Two count)) }
     ensures taken { TakesAtMost window.old.coming (R.left reader.old) (R.left reader.new) }
     ensures beside { LeavesSide (R.write_side reader.old) (R.write_side reader.new) }
 {

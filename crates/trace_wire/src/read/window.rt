@@ -3,7 +3,8 @@
 ghost use Rattle.std.specs.Prelude.{◌≡◌, ◌≤◌, ◌<◌, ◌+◌, ◌-◌, ◌^◌, [], length, drop, IfErr, OnOk};
 ghost use Rattle.mpi_model.specs.Side.{LeavesSide};
 ghost use Rattle.trace_wire.specs.Forms.{IsBytes};
-ghost use Rattle.trace_wire.specs.Reading.{IsUnfilled, TakesAtMost};
+ghost use Rattle.trace_wire.specs.Readers.{StaysUnfilled};
+ghost use Rattle.trace_wire.specs.Reading.{TakesAtMost};
 ghost use Rattle.trace_wire.specs.Windows.{Comes, IsLeft};
 
 use crate::fault::WireFault;
@@ -92,7 +93,7 @@ impl Window {
         ensures ok { OnOk result (Comes (R.left reader.old) (R.left reader.new) self.old self.new IsLeft) }
         ensures less { OnOk result (0 < self.old.coming → self.new.coming < self.old.coming) }
         ensures no_failure { OnOk result (R.failures reader.new ≡ R.failures reader.old) }
-        ensures err { IfErr result (IsUnfilled self.old.coming (R.left reader.old) (R.failures reader.old) (R.failures reader.new)) }
+        ensures err { IfErr result (StaysUnfilled R.left R.failures reader.old reader.new self.old.coming) }
         ensures taken { TakesAtMost self.old.coming (R.left reader.old) (R.left reader.new) }
         ensures beside { LeavesSide (R.write_side reader.old) (R.write_side reader.new) }
     {

@@ -1,10 +1,10 @@
 //! Runs, put into a sink.
 
-ghost use Rattle.std.specs.Prelude.{◌≡◌, ◌<◌, ◌≤◌, ◌^◌, ◌∷◌, drop, length, take};
+ghost use Rattle.std.specs.Prelude.{◌≡◌, ◌<◌, ◌≤◌, ◌^◌, drop, length, take};
 ghost use Rattle.trace_know.specs.Listing.{run_len};
 ghost use Rattle.trace_wire.specs.Cells.{knowns_bytes, knowns_of};
-ghost use Rattle.trace_wire.specs.Runs.{PlacedRun, run_bytes, runs_bytes, runs_of};
-ghost use Rattle.trace_wire.specs.Sending.{Sends};
+ghost use Rattle.trace_wire.specs.Runs.{runs_bytes, runs_of};
+ghost use Rattle.trace_wire.specs.Sending.{Sends, SendsRun};
 
 use crate::write::cells::{put_known, put_place};
 use crate::write::field::put_u32;
@@ -30,7 +30,7 @@ pub(crate) fn put_knowns<S: Sink>(out: &mut S, count: usize, cells: &mut Walk<'_
 fn put_run<S: Sink>(out: &mut S, cells: &mut Walk<'_>)
     requires some { 0 < run_len cells.old }
     requires short { length (runs_bytes (runs_of cells.old)) < 2 ^ 32 }
-    ensures { (r : PlacedRun) × (runs_of cells.old ≡ r ∷ runs_of cells.new) × Sends (S.page out.old) (S.page out.new) (run_bytes r) }
+    ensures { SendsRun (S.page out.old) (S.page out.new) cells.old cells.new }
 {
     let count = cells.run_len();
     let Some((rank, first, known)) = cells.next() else {

@@ -24,4 +24,4 @@ returns-in-Ok-put_run-clause-ok g c =
     let run = c.in-Ok.found in
     let fits = run_fits _ _ _ _ c.args.before _ c.held.ensures.bytes c.in-Ok.ensures.ok in
     let len : c.len.result ≡ length run.cells.items = omega arith in
-    (placed_run (run.rank, run.first) run.cells.items, c.in-Ok.ensures.ok, fits.past, ap (λ (n : ℕ). (run.rank, run.first + n)) len, c.in-Ok-put_run.ensures.ok)
+    (placed_run (run.rank, run.first) run.cells.items, c.in-Ok.ensures.ok, (fits.past, ap (λ (n : ℕ). (run.rank, run.first + n)) len, c.in-Ok-put_run.ensures.ok))

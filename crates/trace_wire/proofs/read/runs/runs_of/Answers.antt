@@ -25,11 +25,11 @@ loop-preserved g c =
     let ok = c.in-Ok.ensures.ok in
     let r = ok.0 in
     let end = c.in-Ok.found in
-    let now : entries c.put_run.new.knowledge ≡ entries c.loop.knowledge ++ run_cells r = ok.4 in
-    let before = up_to_before c.loop.last (r.rank, r.first) (entries c.loop.knowledge) ok.2 c.loop.invariant.up_to in
+    let now : entries c.put_run.new.knowledge ≡ entries c.loop.knowledge ++ run_cells r = ok.2.2 in
+    let before = up_to_before c.loop.last (r.rank, r.first) (entries c.loop.knowledge) ok.2.0 c.loop.invariant.up_to in
     record {
-      far = runs_next _ _ _ _ _ _ c.args.count c.loop.counter (entries c.loop.knowledge) _ c.loop.last r end c.loop-test.true c.loop.invariant.far ok.1 ok.3 now;
-      up_to = subst (λ (es : List Entry). AllUpTo (Some end) es) (sym now) (rw ok.3 (run_behind_all r.rank r.first r.cells (entries c.loop.knowledge) before));
+      far = runs_next _ _ _ _ _ _ c.args.count c.loop.counter (entries c.loop.knowledge) _ c.loop.last r end c.loop-test.true c.loop.invariant.far ok.1 ok.2.1 now;
+      up_to = subst (λ (es : List Entry). AllUpTo (Some end) es) (sym now) (rw ok.2.1 (run_behind_all r.rank r.first r.cells (entries c.loop.knowledge) before));
       no_failure = c.in-Ok.ensures.no_failure ∙ c.loop.invariant.no_failure;
       beside = leaves_both _ _ _ c.loop.invariant.beside c.in-Ok.ensures.beside;
     }
