@@ -10,14 +10,11 @@ use Rattle.trace_stuck.specs.Holds.{may_go}
 use Rattle.trace_stuck.specs.Release.{among}
 use Rattle.trace_stuck.specs.Shape.{Wait, OnNothing, shape}
 use Rattle.trace_stuck.specs.Stuck.{IsStuck}
-use Rattle.trace_node.specs.Answer.{AreStuck, IsStuckBy, Stopped, call_of, stopped_at, wait_at, wall_of}
+use Rattle.trace_node.specs.Answer.{AreStuck, IsStuckBy, Stopped, call_of, shapes, stopped_at, wait_at, wall_of}
 use Rattle.trace_know.specs.View.{View}
 use Rattle.trace_ops.specs.Ops.{Ops}
 use Rattle.trace_wait.specs.Ranks.{ops_of}
 use Rattle.trace_node.proofs.Shapes.{holds_alike}
-
-abbrev pub shapes : List (Option Condition) → List (Option Wait)
-shapes conditions = map (option_map shape) conditions
 
 -- ranks whose conditions have one shape may go alike
 goes_alike : (cs ds : List (Option Condition)) (able : ℕ → Bool) (r : ℕ) → shapes cs ≡ shapes ds → may_go cs able r ≡ may_go ds able r

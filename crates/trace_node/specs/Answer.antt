@@ -85,9 +85,13 @@ run_of layout ops = record { layout = layout; ops = ops; pairs = (table_of ops).
 abbrev pub waits_of : Parts → List Ops → List (Option Wait)
 waits_of layout ops = conditions_from (run_of layout ops) 0 ops
 
+-- what each of these conditions waits for; where its parts lie in memory is left out
+abbrev pub shapes : List (Option Condition) → List (Option Wait)
+shapes conditions = map (option_map shape) conditions
+
 -- The rank is stuck where these are the conditions. They say it as trees; where their parts lie in memory is left out.
 abbrev pub IsStuckBy : List State → List (Option Wait) → ℕ → Type 0
-IsStuckBy states waits r = (conditions : List (Option Condition)) × (map (option_map shape) conditions ≡ waits) × IsStuck states conditions r
+IsStuckBy states waits r = (conditions : List (Option Condition)) × (shapes conditions ≡ waits) × IsStuck states conditions r
 
 -- the stuck ranks, in rising order
 pub record AreStuck (states : List State) (waits : List (Option Wait)) (ranks : List ℕ) : Type 0 where
@@ -97,7 +101,7 @@ pub record AreStuck (states : List State) (waits : List (Option Wait)) (ranks : 
 -- A rising list of the ranks that are stuck under some conditions tells those that are stuck under their shapes.
 abbrev pub StuckGoByShape : Type 0
 StuckGoByShape = (ranks : List ℕ) (states : List State) (conditions : List (Option Condition)) → IsStrictlyIncreasing ranks
-    → ((r : ℕ) → (among ranks r ≡ true) ↔ IsStuck states conditions r) → AreStuck states (map (option_map shape) conditions) ranks
+    → ((r : ℕ) → (among ranks r ≡ true) ↔ IsStuck states conditions r) → AreStuck states (shapes conditions) ranks
 
 -- the number of the call in which a rank waits
 abbrev pub call_of : Ops → ℕ
@@ -125,6 +129,11 @@ stopped_in view waits r call = record { rank = r; call = call; wall = wall_of vi
 abbrev pub stopped_at : View → List Ops → List (Option Wait) → ℕ → Stopped
 stopped_at view ops waits r = stopped_in view waits r (call_of (ops_of ops r))
 
+-- The list tells of each stuck rank, in rising order, where it stands and what it waits for.
+abbrev pub TellsStuck : Parts → View → List Ops → List Stopped → Type 0
+TellsStuck layout view ops told = (ranks : List ℕ) × AreStuck (states_of ops) (waits_of layout ops) ranks
+    × (told ≡ map (stopped_at view ops (waits_of layout ops)) ranks)
+
 -- ---- the answer
 
 -- what an answer tells of these ops
@@ -139,7 +148,7 @@ pub record IsAnswerBy (layout : Parts) (view : View) (ops : List Ops) (a : Answe
   pub postponed : a.postponed ≡ (table_of ops).postponed
   pub rounds : a.rounds ≡ rounds_of layout.comms ops
   pub states : a.states ≡ states_of ops
-  pub stuck : (ranks : List ℕ) × AreStuck (states_of ops) (waits_of layout ops) ranks × (a.stuck ≡ map (stopped_at view ops (waits_of layout ops)) ranks)
+  pub stuck : TellsStuck layout view ops a.stuck
   pub foreign : a.foreign ≡ foreign_of ops
 
 -- The answer of what is known. There is one (`answers_are_one`).

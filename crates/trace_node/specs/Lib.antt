@@ -1,4 +1,5 @@
 pub mod Answer
+pub mod Certainty
 pub mod Stopped
 pub mod Node
 pub mod Codes

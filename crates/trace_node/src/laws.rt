@@ -1,10 +1,7 @@
 //! What holds of answers, as the contract of a call that does nothing, so that the check proves it.
 
-ghost use Rattle.mpi_model.specs.Layouts.{Parts};
-ghost use Rattle.trace_know.specs.View.{View};
-ghost use Rattle.trace_ops.specs.RankOps.{all_ops};
-ghost use Rattle.trace_pair.specs.Certainty.{AreAllSettled, AreCertain, AreLegal, AreNoneAfter, AreTheOnlyLegal};
-ghost use Rattle.trace_node.specs.Answer.{AnswersAreOne, Answered, IsAnswer, StuckGoByShape};
+ghost use Rattle.trace_node.specs.Answer.{AnswersAreOne, StuckGoByShape};
+ghost use Rattle.trace_node.specs.Certainty.{AnswersAreCertain, AnswersAreLegal, AnswersAreTheOnlyLegal};
 
 use trace_ops::ops_laws;
 use trace_pair::tables_are_certain;
@@ -28,10 +25,9 @@ pub fn stuck_go_by_shape()
 /// no message doubtful, and no two parts of one Startall fit the same, no other is allowed (MPI 4.0, 3.5 and
 /// 3.9), and they are such a matching where also no message of a pair comes after its receive.
 pub fn answers_are_certain()
-    ensures certain { (layout : Parts) (view : View) (a : Answered) → IsAnswer layout view a → AreCertain (all_ops layout view) a.pairs }
-    ensures legal { (layout : Parts) (view : View) (a : Answered) → IsAnswer layout view a → AreAllSettled (all_ops layout view)
-        → AreNoneAfter (all_ops layout view) a.pairs → AreLegal (all_ops layout view) a.pairs }
-    ensures only { (layout : Parts) (view : View) (a : Answered) → IsAnswer layout view a → AreAllSettled (all_ops layout view) → AreTheOnlyLegal (all_ops layout view) a.pairs }
+    ensures certain { AnswersAreCertain }
+    ensures legal { AnswersAreLegal }
+    ensures only { AnswersAreTheOnlyLegal }
 {
     ops_laws();
     tables_are_certain();

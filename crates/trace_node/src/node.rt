@@ -7,7 +7,7 @@ ghost use Rattle.trace_know.specs.View.{join};
 ghost use Rattle.trace_ops.specs.RankOps.{all_ops};
 ghost use Rattle.trace_node.specs.Answer.{IsAnswer};
 ghost use Rattle.trace_node.specs.Following.{IsFollowing};
-ghost use Rattle.trace_node.specs.Node.{HasStranger, IsWithin, held};
+ghost use Rattle.trace_node.specs.Node.{HasStranger, IsWithin, held, held_with};
 
 use crate::answer::{Answer, answer_of};
 use crate::fault::{NodeFault, Stale};
@@ -98,13 +98,13 @@ impl<'a> Node<'a> {
     /// Joins the facts of the segment, and makes the answer to all that is known then. A stale node
     /// joins them too, and stays stale.
     pub fn take(&mut self, segment: &Segment) -> Result<(), NodeFault>
-        ensures ok { OnOk result (self.new ≡ held self.old.layout (join self.old.know (view_of (facts_of segment.now))) false) }
+        ensures ok { OnOk result (self.new ≡ held_with self.old (view_of (facts_of segment.now)) false) }
         ensures fresh { OnOk result (self.old.is_stale ≡ false) }
 
         ensures rank { IsErrOf result NodeFault.Rank ↔ (self.old.layout.ranks ≤ segment.now.rank) }
         ensures unchanged { IsErrOf result NodeFault.Rank → self.new ≡ self.old }
         ensures memory { IsErrOf result NodeFault.Memory → self.new ≡ self.old }
-        ensures stale { IsErrOf result NodeFault.Stale → self.new ≡ held self.old.layout (join self.old.know (view_of (facts_of segment.now))) true }
+        ensures stale { IsErrOf result NodeFault.Stale → self.new ≡ held_with self.old (view_of (facts_of segment.now)) true }
     {
         let was_stale = self.answer.is_none();
         self.hold(segment)?;
@@ -114,7 +114,7 @@ impl<'a> Node<'a> {
     /// Joins the facts of the segment, and makes no answer: the node is stale then. So many segments
     /// can be held, and then answered at once, by [`catch_up`](Self::catch_up).
     pub fn hold(&mut self, segment: &Segment) -> Result<(), NodeFault>
-        ensures ok { OnOk result (self.new ≡ held self.old.layout (join self.old.know (view_of (facts_of segment.now))) true) }
+        ensures ok { OnOk result (self.new ≡ held_with self.old (view_of (facts_of segment.now)) true) }
         ensures rank { IsErrOf result NodeFault.Rank ↔ (self.old.layout.ranks ≤ segment.now.rank) }
         ensures err { IfErr result (λ fault. (fault ≢ NodeFault.Stale) × (self.new ≡ self.old)) }
     {
@@ -134,7 +134,7 @@ impl<'a> Node<'a> {
     /// events: here they are copied only where what is known is shown to others. Where it is refused
     /// nothing changes, and the segment comes back with why.
     pub fn hold_ready(&mut self, segment: ReadySegment) -> Result<(), (ReadySegment, NodeFault)>
-        ensures ok { OnOk result (self.new ≡ held self.old.layout (join self.old.know (view_of (facts_of segment))) true) }
+        ensures ok { OnOk result (self.new ≡ held_with self.old (view_of (facts_of segment)) true) }
         ensures inside { OnOk result (segment.rank < self.old.layout.ranks) }
         ensures err { OnErr result (self.new ≡ self.old) }
         ensures back { IfErr result (λ refused. refused.0 ≡ segment) }
@@ -159,13 +159,13 @@ impl<'a> Node<'a> {
     /// Joins all that the other knows, and makes the answer to all that is known then; where that is
     /// nothing new, the answer stays. A stale node joins it too, and stays stale.
     pub fn merge(&mut self, other: &Knowledge) -> Result<(), NodeFault>
-        ensures ok { OnOk result (self.new ≡ held self.old.layout (join self.old.know other.now) false) }
+        ensures ok { OnOk result (self.new ≡ held_with self.old other.now false) }
         ensures fresh { OnOk result (self.old.is_stale ≡ false) }
 
         ensures rank { IsErrOf result NodeFault.Rank ↔ HasStranger self.old.layout other.now }
         ensures unchanged { IsErrOf result NodeFault.Rank → self.new ≡ self.old }
         ensures memory { IsErrOf result NodeFault.Memory → self.new ≡ self.old }
-        ensures stale { IsErrOf result NodeFault.Stale → self.new ≡ held self.old.layout (join self.old.know other.now) true }
+        ensures stale { IsErrOf result NodeFault.Stale → self.new ≡ held_with self.old other.now true }
     {
         let was_stale = self.answer.is_none();
         self.hold_all(other)?;
@@ -185,7 +185,7 @@ impl<'a> Node<'a> {
     /// Joins all that the other knows, and makes no answer: the node is stale then, unless that is
     /// nothing new and it had an answer, which stays.
     pub fn hold_all(&mut self, other: &Knowledge) -> Result<(), NodeFault>
-        ensures ok { OnOk result (self.new ≡ held self.old.layout (join self.old.know other.now) self.new.is_stale) }
+        ensures ok { OnOk result (self.new ≡ held_with self.old other.now self.new.is_stale) }
         ensures fresh { OnOk result (self.new.is_stale ≡ false → self.old.is_stale ≡ false) }
         ensures rank { IsErrOf result NodeFault.Rank ↔ HasStranger self.old.layout other.now }
         ensures err { IfErr result (λ fault. (fault ≢ NodeFault.Stale) × (self.new ≡ self.old)) }
@@ -198,7 +198,7 @@ impl<'a> Node<'a> {
 
     /// Joins all that the other knows, and makes no answer.
     fn join_all(&mut self, other: &Knowledge) -> Result<(), NodeFault>
-        ensures ok { OnOk result (self.new ≡ held self.old.layout (join self.old.know other.now) true) }
+        ensures ok { OnOk result (self.new ≡ held_with self.old other.now true) }
         ensures rank { IsErrOf result NodeFault.Rank ↔ HasStranger self.old.layout other.now }
         ensures err { IfErr result (λ fault. (fault ≢ NodeFault.Stale) × (self.new ≡ self.old)) }
     {

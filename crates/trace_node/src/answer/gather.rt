@@ -1,6 +1,6 @@
 //! From what is known to what is told of it.
 
-ghost use Rattle.std.specs.Prelude.{◌≡◌, ◌<◌, ◌^◌, ℕ, List, IfOk, length, map, unwrap_or};
+ghost use Rattle.std.specs.Prelude.{◌≡◌, ◌<◌, ◌^◌, ℕ, IfOk, length, map, unwrap_or};
 ghost use Rattle.std.specs.List.Sorted.{IsStrictlyIncreasing};
 ghost use Rattle.std.specs.Option.{option_copied, option_map};
 ghost use Rattle.trace_know.specs.Listing.{conflicts_of};
@@ -10,7 +10,7 @@ ghost use Rattle.trace_pair.specs.Table.{table_of};
 ghost use Rattle.trace_stuck.specs.Shape.{OnNothing, shape};
 ghost use Rattle.trace_wait.specs.Ranks.{ops_of};
 ghost use Rattle.trace_wait.specs.Rounds.{rounds_of};
-ghost use Rattle.trace_node.specs.Answer.{AreStuck, IsAnswerBy, beyond_of, call_of, entry_of, foreign_of, prefixes_of, states_of, stopped_at, unread_of, wait_at, waits_of, wall_of};
+ghost use Rattle.trace_node.specs.Answer.{IsAnswerBy, TellsStuck, beyond_of, call_of, entry_of, foreign_of, prefixes_of, shapes, states_of, stopped_at, unread_of, wait_at, wall_of};
 ghost use Rattle.trace_node.specs.Stopped.{stopped};
 
 use crate::answer::Answer;
@@ -124,8 +124,8 @@ fn call_of(ops: &[RankOps], rank: u32) -> u64
 
 /// The condition of a rank, moved out of the list. What the later ranks wait for stays.
 fn take_condition(conditions: &mut [Option<Condition>], rank: u32) -> Option<Condition>
-    ensures taken { unwrap_or (option_map shape result) OnNothing ≡ wait_at (map (option_map shape) conditions.old) rank }
-    ensures later { (r : ℕ) → rank < r → wait_at (map (option_map shape) conditions.new) r ≡ wait_at (map (option_map shape) conditions.old) r }
+    ensures taken { unwrap_or (option_map shape result) OnNothing ≡ wait_at (shapes conditions.old) rank }
+    ensures later { (r : ℕ) → rank < r → wait_at (shapes conditions.new) r ≡ wait_at (shapes conditions.old) r }
 {
     let at = rank as usize;
     if at < conditions.len() {
@@ -154,7 +154,7 @@ fn stuck_of(
     ranks: &[u32],
 ) -> Result<Vec<Stuck>, AllocError>
     requires { IsStrictlyIncreasing ranks.now }
-    ensures { IfOk result (λ v. map stopped v.items ≡ map (stopped_at know.now ops.now (map (option_map shape) conditions.old)) ranks.now) }
+    ensures { IfOk result (λ v. map stopped v.items ≡ map (stopped_at know.now ops.now (shapes conditions.old)) ranks.now) }
 {
     let mut all = Vec::new(alloc);
     for rank in ranks {
@@ -206,7 +206,7 @@ fn waiting_of(
     requires table { table.now ≡ table_of ops.now }
     ensures rounds { IfOk result (λ s. s.rounds.items ≡ rounds_of layout.now.comms ops.now) }
     ensures states { IfOk result (λ s. s.states.items ≡ states_of ops.now) }
-    ensures stuck { IfOk result (λ s. (ranks : List ℕ) × AreStuck (states_of ops.now) (waits_of layout.now ops.now) ranks × (map stopped s.stuck.items ≡ map (stopped_at know.now ops.now (waits_of layout.now ops.now)) ranks)) }
+    ensures stuck { IfOk result (λ s. TellsStuck layout.now know.now ops.now (map stopped s.stuck.items)) }
 {
     let rounds = rounds(alloc, layout, ops)?;
     let mut conditions = conditions(alloc, layout, ops, table, &rounds)?;

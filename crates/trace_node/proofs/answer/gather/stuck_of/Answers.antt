@@ -1,8 +1,8 @@
 use Rattle.std.proofs.Common.{◌∙◌, ap, arith, map, get_or}
 use Rattle.trace_stuck.specs.Shape.{shape}
-use Rattle.trace_node.specs.Answer.{stopped_at}
+use Rattle.trace_node.specs.Answer.{shapes, stopped_at}
 use Rattle.trace_node.specs.Stopped.{stopped}
-use Rattle.trace_node.proofs.Waits.{shapes, rising_below, stop_is, told_more}
+use Rattle.trace_node.proofs.Waits.{rising_below, stop_is, told_more}
 use Rattle.trace_node.proofs.answer.gather.stuck_of.Goals as goal
 
 pub loop-rank-preserved : goal.loop-rank-preserved

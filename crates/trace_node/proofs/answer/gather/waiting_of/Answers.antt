@@ -1,7 +1,7 @@
 use Rattle.std.proofs.Common.{◌≡◌, ◌∙◌, ap, map}
 use Rattle.trace_wait.specs.Conditions.{conditions_from}
-use Rattle.trace_node.specs.Answer.{states_of, stopped_at, waits_of}
-use Rattle.trace_node.proofs.Waits.{are_stuck, shapes}
+use Rattle.trace_node.specs.Answer.{shapes, states_of, stopped_at, waits_of}
+use Rattle.trace_node.proofs.Waits.{are_stuck}
 use Rattle.trace_node.proofs.answer.gather.waiting_of.Goals as goal
 
 pub returns-clause-stuck : goal.returns-clause-stuck
