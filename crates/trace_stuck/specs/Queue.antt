@@ -39,6 +39,10 @@ TriedAs false r able release able_after release_after = (able_after ≡ able) ×
 abbrev pub Tried : List State → List (Option Condition) → ℕ → List Bool → List ℕ → List Bool → List ℕ → Type 0
 Tried states conditions r able release able_after release_after = TriedAs (is_next states conditions able r) r able release able_after release_after
 
+-- the same of the lists that hold the flags and the released ranks
+abbrev pub Tries : List State → List (Option Condition) → ℕ → (able : Vec Bool Global) → (release : Vec ℕ Global) → Vec Bool Global → Vec ℕ Global → Type 0
+Tries states conditions r able release able_after release_after = Tried states conditions r able.items release.items able_after.items release_after.items
+
 -- The first `from` released ranks were gone through. A rank that is next is still to be tried, or its condition
 -- names a released rank that was not gone through.
 pub record Ready (states : List State) (conditions : List (Option Condition)) (from : ℕ) (todo : ℕ → Bool) (able : List Bool) (release : List ℕ) : Type 0 where

@@ -3,10 +3,10 @@
 ghost use Rattle.std.specs.Prelude.{◌≡◌, ◌↔◌, ◌&&◌, ◌||◌, not, ℕ, List, Option, Bool, true};
 ghost use Rattle.trace_ops.specs.declared.state.State.{State};
 ghost use Rattle.trace_stuck.specs.declared.condition.Condition.{Condition};
-ghost use Rattle.trace_stuck.specs.Release.{AreOutside, IsReleaseOrder, among};
+ghost use Rattle.trace_stuck.specs.Release.{IsReleaseOrder, among};
 ghost use Rattle.trace_stuck.specs.States.{is_waiting, is_free, is_ended};
 ghost use Rattle.trace_stuck.specs.Holds.{may_go};
-ghost use Rattle.trace_stuck.specs.Stuck.{IsClosed, IsStuck};
+ghost use Rattle.trace_stuck.specs.Stuck.{AreInNoClosedSet, IsClosed, IsStuck};
 ghost use Rattle.trace_stuck.specs.Verdicts.{is_step, is_shut};
 
 use crate::condition::Condition;
@@ -78,7 +78,7 @@ fn is_shut(states: &[State], conditions: &[Option<Condition>], ranks: &[u32], r:
 /// Whether the list is an order of release. Then none of its ranks is in any closed set.
 pub fn check_release(states: &[State], conditions: &[Option<Condition>], release: &[u32]) -> bool
     ensures order { (result ≡ true) ↔ IsReleaseOrder states.now conditions.now release.now }
-    ensures out { result ≡ true → (inside : ℕ → Bool) → IsClosed states.now conditions.now inside → AreOutside release.now inside }
+    ensures out { result ≡ true → AreInNoClosedSet states.now conditions.now release.now }
 {
     for i in 0..release.len() {
         if !is_step(states, conditions, &release[..i], release[i]) {

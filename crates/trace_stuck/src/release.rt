@@ -5,7 +5,7 @@ ghost use Rattle.std.specs.Prelude.{◌≡◌, ◌<◌, ◌≤◌, ◌^◌, ℕ,
 ghost use Rattle.trace_stuck.specs.Queue.{flag, is_next};
 ghost use Rattle.trace_stuck.specs.States.{is_free};
 ghost use Rattle.trace_stuck.specs.Release.{IsReleaseOrder, IsWhole};
-ghost use Rattle.trace_stuck.specs.Queue.{Settles, Tried, TriedAll, everybody};
+ghost use Rattle.trace_stuck.specs.Queue.{Settles, Tries, TriedAll, everybody};
 
 use crate::askers::{askers_at, askers_of};
 use crate::condition::Condition;
@@ -45,7 +45,7 @@ fn try_rank(
 ) -> Result<(), AllocError>
     requires { vec_len able.old ≡ length states.now }
     ensures len { vec_len able.new ≡ vec_len able.old }
-    ensures turn { OnOk result (Tried states.now conditions.now r able.old.items release.old.items able.new.items release.new.items) }
+    ensures turn { OnOk result (Tries states.now conditions.now r able.old release.old able.new release.new) }
 {
     if is_rank_next(states, conditions, able, r as usize) {
         able[r as usize] = true;
