@@ -8,3 +8,4 @@ pub mod Lefts
 pub mod Noted
 pub mod Checks
 pub mod Rising
+pub mod Kept

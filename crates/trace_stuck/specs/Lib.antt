@@ -7,3 +7,4 @@ pub mod Laws
 pub mod Named
 pub mod Queue
 pub mod Verdicts
+pub mod Distinct

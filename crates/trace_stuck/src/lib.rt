@@ -10,19 +10,23 @@
 //! names no rank too many, the closed set one that names none too few, and two checks that take no
 //! memory tell both apart from anything else.
 //!
-//! Cost over n ranks whose conditions have c parts together, where a list of ranks counts in each part
-//! that shares it: never more than n c steps. A condition is looked at once, and then once for each
+//! Cost over n ranks: before the search the parts of an all-of or a one-of are left out that come twice.
+//! That costs each part one comparison, of two lists of ranks place by place. Let c be the
+//! parts that are left, in which a list of ranks counts with its length. Then the search takes
+//! never more than n c steps. A condition is looked at once, and then once for each
 //! rank that it names and that was released before its own; so at most n times, and each time only up
 //! to the first part that decides. One-of ranks is looked at twice at most. So where conditions are
 //! that, or name few ranks, all is in the order of n + c. What costs more is an all-of whose ranks are
 //! released in just the order in which it names them: half of the square of their number.
 //! [`check_release`] and [`check_closed`] take no memory, so they look through the list for each part:
-//! n c steps at most.
+//! n c steps at most, where c counts all parts.
 //!
 //! Memory: a part takes the size of a [`Condition`], and a list that parts share is held once. The
-//! search keeps for each rank who names it, each once, and no list of names.
+//! search keeps for each rank who names it, each once, no list of names, and a copy of the parts that
+//! are left.
 //!
 //! - [`state`]: the state of each rank; [`condition`]: what it waits for
+//! - [`distinct`]: conditions without the parts that come twice
 //! - [`hold`]: whether a condition holds; [`askers`]: which conditions name a rank
 //! - [`release`]: the order of release; [`verdict`]: that order, and who is left
 //! - [`check`]: both checks; [`laws`]: what holds whatever the program does
@@ -33,6 +37,7 @@
 mod askers;
 mod check;
 mod condition;
+mod distinct;
 mod hold;
 mod laws;
 mod release;

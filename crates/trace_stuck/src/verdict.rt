@@ -3,13 +3,14 @@
 ghost use Rattle.std.specs.Prelude.{◌≡◌, ◌<◌, ◌^◌, ◌&&◌, ◌||◌, ℕ, not, true, IfOk, length, vec_len};
 ghost use Rattle.std.specs.Prelude.{◌↔◌};
 ghost use Rattle.std.specs.List.Sorted.{IsStrictlyIncreasing};
-ghost use Rattle.trace_stuck.specs.Release.{among, left, IsReleaseOrder};
+ghost use Rattle.trace_stuck.specs.Release.{among, left, IsReleaseOrder, IsWhole};
 ghost use Rattle.trace_stuck.specs.Queue.{flag};
 ghost use Rattle.trace_stuck.specs.States.{is_waiting};
 ghost use Rattle.trace_stuck.specs.Stuck.{IsStuck};
 ghost use Rattle.trace_stuck.specs.Verdicts.{left_below};
 
 use crate::condition::Condition;
+use crate::distinct::distinct_conditions;
 use crate::hold::flag_at;
 use crate::release::release_all;
 use crate::state::is_rank_waiting;
@@ -71,6 +72,21 @@ fn ranks_left(alloc: Global, states: &[State], release: &[u32]) -> Result<Vec<u3
     Ok(ranks)
 }
 
+/// The order of release of all ranks that can go on, found by conditions in which no part comes twice.
+fn release_of(
+    alloc: Global,
+    states: &[State],
+    conditions: &[Option<Condition>],
+) -> Result<Vec<u32>, AllocError>
+    requires { length states.now < 2 ^ 32 }
+    ensures order { IfOk result (λ release. IsReleaseOrder states.now conditions.now release.items) }
+    ensures rest { IfOk result (λ release. IsWhole states.now conditions.now release.items) }
+{
+    let distinct = distinct_conditions(alloc, conditions)?;
+    let release = release_all(alloc, states, &distinct)?;
+    Ok(release)
+}
+
 /// The stuck ranks (the union of all closed sets) in rising order, and an order of release of all
 /// other waiting ranks.
 pub fn stuck(
@@ -84,7 +100,7 @@ pub fn stuck(
     ensures order { IfOk result (λ v. IsReleaseOrder states.now conditions.now v.release.items) }
     ensures others { IfOk result (λ v. (r : ℕ) → among v.stuck.items r ≡ left states.now v.release.items r) }
 {
-    let release = release_all(alloc, states, conditions)?;
+    let release = release_of(alloc, states, conditions)?;
     let stuck = ranks_left(alloc, states, &release)?;
     Ok(Verdict { stuck, release })
 }

@@ -1,0 +1,180 @@
+//! Conditions in which no rank and no list of ranks comes twice among the parts of an all-of or a one-of.
+//!
+//! A call may list one request many times, and many requests may wait for one of the same members. The search for stuck ranks
+//! then goes through one list in place of them all. An equal part is looked for where the last part of its kind was kept: a
+//! guess, which is compared before it is believed. So a part costs one comparison, whatever stands before it.
+
+ghost use Rattle.std.specs.Prelude.{◌≡◌, ◌++◌, ◌∷◌, [], ℕ, Bool, Some, IsTrue, IfOk, IfSome, OnOk, slice_get};
+ghost use Rattle.std.specs.Option.{option_map};
+ghost use Rattle.trace_stuck.specs.Holds.{holds};
+ghost use Rattle.trace_stuck.specs.Distinct.{AllHoldAlike, HasAlike, HoldAlike, PartsHoldAlike};
+
+use crate::condition::{Condition, are_same_ranks};
+use std::alloc::{AllocError, Global};
+use std::sync::Arc;
+
+/// How many guesses there are: half of them for ranks, half for lists of ranks.
+const GUESSES: usize = 2048;
+
+/// No guesses: each is the first part that is kept.
+fn no_guesses(alloc: Global) -> Result<Vec<usize>, AllocError> {
+    let mut guesses = Vec::new(alloc);
+    for _ in 0..GUESSES {
+        guesses.push(0)?;
+    }
+    Ok(guesses)
+}
+
+/// The number of the guess for a list of ranks, by its ends and its length.
+fn number_of_list(ranks: &[u32]) -> u32 {
+    let first = ranks.first().copied().unwrap_or(0);
+    let last = ranks.last().copied().unwrap_or(0);
+    let count = (ranks.len() % 1024) as u32;
+    let mixed = first.wrapping_mul(31).wrapping_add(last);
+    mixed.wrapping_mul(31).wrapping_add(count) % 1024 + 1024
+}
+
+/// The number of the guess for a part.
+fn number_of(part: &Condition) -> usize {
+    match part {
+        Condition::Rank(r) => (*r % 1024) as usize,
+        Condition::OneRank(ranks) => number_of_list(ranks) as usize,
+        Condition::AllRanks(ranks) => number_of_list(ranks) as usize,
+        _ => 0,
+    }
+}
+
+/// Where an equal part may be kept.
+fn guess_for(guesses: &[usize], part: &Condition) -> usize {
+    guesses.get(number_of(part)).copied().unwrap_or(0)
+}
+
+/// Notes where the part is kept.
+fn note_guess(guesses: &mut [usize], part: &Condition, at: usize) {
+    let number = number_of(part);
+    if number < guesses.len() {
+        guesses[number] = at;
+    }
+}
+
+/// The part that is kept at a place.
+fn part_at(kept: &[Condition], at: usize) -> Option<&Condition>
+    ensures { IfSome result (λ part. slice_get kept.now at ≡ Some part.now) }
+{
+    kept.get(at)
+}
+
+/// Whether both are one rank, or of both kinds the same list of ranks.
+fn is_repeated(first: &Condition, second: &Condition) -> bool
+    ensures { IsTrue result → HoldAlike first.now second.now }
+{
+    match (first, second) {
+        (Condition::Rank(r), Condition::Rank(s)) => *r == *s,
+        (Condition::OneRank(ranks), Condition::OneRank(others)) => are_same_ranks(ranks, others),
+        (Condition::AllRanks(ranks), Condition::AllRanks(others)) => are_same_ranks(ranks, others),
+        _ => false,
+    }
+}
+
+/// Whether an equal part is kept, as far as the guess tells.
+fn is_kept(kept: &[Condition], guesses: &[usize], part: &Condition) -> bool
+    ensures { IsTrue result → HasAlike kept.now part.now }
+{
+    match part_at(kept, guess_for(guesses, part)) {
+        Some(earlier) => is_repeated(earlier, part),
+        None => false,
+    }
+}
+
+/// Keeps the part, where none is kept that is equal to it.
+fn keep(kept: &mut Vec<Condition>, guesses: &mut [usize], part: Condition) -> Result<(), AllocError>
+    ensures { OnOk result (PartsHoldAlike kept.new.items (kept.old.items ++ part ∷ [])) }
+{
+    if is_kept(kept, guesses, &part) {
+        return Ok(());
+    }
+    note_guess(guesses, &part, kept.len());
+    kept.push(part)?;
+    Ok(())
+}
+
+/// The condition, without the parts that come twice. Lists of ranks are shared with it.
+#[cycle(distinct)]
+fn distinct_of(
+    alloc: Global,
+    guesses: &mut [usize],
+    condition: &Condition,
+) -> Result<Condition, AllocError>
+    ensures { IfOk result (λ c. HoldAlike c condition.now) }
+{
+    match condition {
+        Condition::Yes => Ok(Condition::Yes),
+        Condition::Rank(r) => Ok(Condition::Rank(*r)),
+        Condition::All(parts) => {
+            let all = distinct_parts(alloc, guesses, parts)?;
+            Ok(Condition::All(all))
+        },
+        Condition::One(parts) => {
+            let some = distinct_parts(alloc, guesses, parts)?;
+            Ok(Condition::One(some))
+        },
+        Condition::OneRank(ranks) => {
+            let list = Arc::try_clone(ranks)?;
+            Ok(Condition::OneRank(list))
+        },
+        Condition::AllRanks(ranks) => {
+            let each = Arc::try_clone(ranks)?;
+            Ok(Condition::AllRanks(each))
+        },
+    }
+}
+
+/// The parts, without those that come twice.
+#[cycle(distinct)]
+fn distinct_parts(
+    alloc: Global,
+    guesses: &mut [usize],
+    parts: &[Condition],
+) -> Result<Vec<Condition>, AllocError>
+    ensures { IfOk result (λ kept. PartsHoldAlike kept.items parts.now) }
+{
+    let mut kept = Vec::new(alloc);
+    for part in parts {
+        let copy = distinct_of(alloc, guesses, part)?;
+        keep(&mut kept, guesses, copy)?;
+    }
+    Ok(kept)
+}
+
+/// The condition of a rank, if it has one, without the parts that come twice.
+fn distinct_option(
+    alloc: Global,
+    guesses: &mut [usize],
+    condition: &Option<Condition>,
+) -> Result<Option<Condition>, AllocError>
+    ensures { IfOk result (λ c. (able : ℕ → Bool) → option_map (holds able) c ≡ option_map (holds able) condition.now) }
+{
+    match condition {
+        Some(told) => {
+            let copy = distinct_of(alloc, guesses, told)?;
+            Ok(Some(copy))
+        },
+        None => Ok(None),
+    }
+}
+
+/// The conditions, each without the parts that come twice.
+pub(crate) fn distinct_conditions(
+    alloc: Global,
+    conditions: &[Option<Condition>],
+) -> Result<Vec<Option<Condition>>, AllocError>
+    ensures { IfOk result (λ v. AllHoldAlike v.items conditions.now) }
+{
+    let mut guesses = no_guesses(alloc)?;
+    let mut distinct = Vec::new(alloc);
+    for condition in conditions {
+        let copy = distinct_option(alloc, &mut guesses, condition)?;
+        distinct.push(copy)?;
+    }
+    Ok(distinct)
+}
