@@ -21,6 +21,10 @@ abbrev pub IsValueAt : Option (List ℕ) → ℕ → List ℕ → Option (List �
 IsValueAt None line name value = Unit {0}
 IsValueAt (Some text) line name value = value ≡ value_in name (call_at line (text_meaning text).calls)
 
+-- Whatever calls of whatever text were read so far, this holds of them.
+abbrev pub OfRead : TextState → (Option (List ℕ) → List TextCall → Type 0) → Type 0
+OfRead view P = (text : Option (List ℕ)) (calls : List TextCall) → IsRead text calls view → P text calls
+
 -- One call more was read; or the text has no other, since it is over or refused there.
 abbrev pub GoesOn : Option (List ℕ) → List TextCall → Option TextCall → TextState → Type 0
 GoesOn text calls (Some call) view = IsRead text (calls ++ call ∷ []) view

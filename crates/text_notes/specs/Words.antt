@@ -25,6 +25,21 @@ pub record NoteParts : Type 0 where
   pub unread : List UnreadParts
   pub start : Option Start
 
+-- the same, by the piece's rank and first call, the name of its file and how a line shows it, and what was told of its text
+abbrev pub noted_of : ℕ × ℕ → List ℕ → List ℕ → Walked → List UnreadParts → Option Start → NoteParts
+noted_of piece path file walked unread start = record {
+  rank = piece.0;
+  first = piece.1;
+  path = path;
+  file = file;
+  calls = walked.calls;
+  skipped = walked.skipped;
+  first_skipped = walked.first_skipped;
+  unfinished = walked.unfinished;
+  unread = unread;
+  start = start;
+}
+
 -- what a walk over the text told
 abbrev pub walked_in : NoteParts → Walked
 walked_in note = record { calls = note.calls; skipped = note.skipped; first_skipped = note.first_skipped; unfinished = note.unfinished }

@@ -1,7 +1,7 @@
 //! What was noted of one text.
 
 ghost use Rattle.std.specs.Prelude.{◌≡◌, ◌<◌, IfSome, length, string_bytes};
-ghost use Rattle.text_notes.specs.Words.{has_call, line_in_note, note_of};
+ghost use Rattle.text_notes.specs.Words.{has_call, line_in_note, note_of, noted_of};
 
 use crate::function::UnreadFunction;
 use crate::start::Start;
@@ -22,11 +22,11 @@ pub struct TextNote {
 
 impl Model for TextNote {
     ghost use Rattle.std.specs.Prelude.{string_bytes};
-    ghost use Rattle.text_notes.specs.Words.{NoteParts};
+    ghost use Rattle.text_notes.specs.Words.{NoteParts, noted_of};
 
     ghost Value = { NoteParts };
 
-    ghost view = { λ n. record { rank = n.rank; first = n.first; path = string_bytes n.path; file = n.file.items; calls = n.walked.calls; skipped = n.walked.skipped; first_skipped = n.walked.first_skipped; unfinished = n.walked.unfinished; unread = n.unread.items; start = n.start } };
+    ghost view = { λ n. noted_of (n.rank, n.first) (string_bytes n.path) n.file.items n.walked n.unread.items n.start };
 }
 
 impl TextNote {
@@ -41,7 +41,7 @@ impl TextNote {
         unread: Vec<UnreadFunction>,
         start: Option<Start>,
     ) -> TextNote
-        ensures { result ≡ record { rank = piece.0; first = piece.1; path = string_bytes path; file = file.items; calls = walked.calls; skipped = walked.skipped; first_skipped = walked.first_skipped; unfinished = walked.unfinished; unread = unread.items; start = start } }
+        ensures { result ≡ noted_of piece (string_bytes path) file.items walked unread.items start }
     {
         let (rank, first) = piece;
         TextNote {

@@ -1,13 +1,11 @@
 //! A second look at a text: at the value of one parameter of one of its calls.
 
-ghost use Rattle.std.specs.Prelude.{◌≡◌, ◌<◌, ◌≤◌, ℕ, Err, IfOk, List, Ok, Option, true};
+ghost use Rattle.std.specs.Prelude.{◌≡◌, ◌<◌, ◌≤◌, Err, IfOk, Ok, true};
 ghost use Rattle.std.specs.Option.{option_copied, option_map};
-ghost use Rattle.dumpi_text.specs.Call.{TextCall};
 ghost use Rattle.dumpi_text.specs.Failing.{Fails};
 ghost use Rattle.dumpi_text.specs.Shown.{put_in};
 ghost use Rattle.dumpi_text.specs.declared.step.TheConstants.{MOST_LINES};
-ghost use Rattle.dumpi_calls.specs.Walks.{IsRead};
-ghost use Rattle.text_notes.specs.Values.{GoesOn, IsValueAt};
+ghost use Rattle.text_notes.specs.Values.{GoesOn, IsValueAt, OfRead};
 
 use dumpi_text::{RawCall, TextCause, TextFault, Texts};
 use mpi_model::Read;
@@ -36,8 +34,8 @@ impl From<AllocError> for LookFault {
 /// The next call of the text, put in the place of the one before: whether there is one. Behind a line that is refused there is
 /// none.
 fn next_call<R: Read>(texts: &mut Texts<R>, raw: &mut RawCall) -> Result<bool, LookFault>
-    ensures goes_on { (text : Option (List ℕ)) (calls : List TextCall) → IsRead text calls texts.old → IfOk result (λ found. GoesOn text calls (put_in found raw.new) texts.new) }
-    ensures failed { (text : Option (List ℕ)) (calls : List TextCall) → IsRead text calls texts.old → result ≡ Err LookFault.Read → Fails R.failures }
+    ensures goes_on { OfRead texts.old (λ text calls. IfOk result (λ found. GoesOn text calls (put_in found raw.new) texts.new)) }
+    ensures failed { OfRead texts.old (λ text calls. result ≡ Err LookFault.Read → Fails R.failures) }
     ensures progress { result ≡ Ok true → texts.old.at.line < texts.new.at.line }
     ensures lines { texts.new.at.line ≤ MOST_LINES }
 {
