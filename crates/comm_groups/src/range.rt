@@ -1,9 +1,8 @@
 //! Ranges of ranks (MPI 4.0, 7.3.2).
 
-ghost use Rattle.std.specs.Prelude.{◌≡◌, ◌&&◌, ◌++◌, ◌*◌, ◌<◌, ◌≤◌, IfOk, MatchOption, IfSome, OnOk, false, length, option_map, true};
-ghost use Rattle.std.specs.List.{flat_map, list_all};
-ghost use Rattle.comm_groups.specs.Groups.{are_ranks};
-ghost use Rattle.comm_groups.specs.Ranges.{count_of, is_range, range_excl_of, range_incl_of, rank_of, ranks_of, span_of};
+ghost use Rattle.std.specs.Prelude.{◌≡◌, ◌++◌, ◌*◌, ◌<◌, ◌≤◌, IfOk, MatchOption, IfSome, OnOk, false, length, option_map, true};
+ghost use Rattle.std.specs.List.{flat_map};
+ghost use Rattle.comm_groups.specs.Ranges.{are_ranges, are_within, count_of, is_range, range_excl_of, range_incl_of, rank_of, ranks_of, span_of};
 
 use crate::group::{excl, incl};
 use std::alloc::{AllocError, Global};
@@ -82,7 +81,7 @@ fn all_ranks(
     size: usize,
     ranges: &[RankRange],
 ) -> Result<Option<Vec<u32>>, AllocError>
-    ensures none { IfOk result (λ found. MatchOption found ((list_all is_range ranges.now && are_ranks size (flat_map ranks_of ranges.now)) ≡ false) (λ _. list_all is_range ranges.now ≡ true)) }
+    ensures none { IfOk result (λ o. MatchOption o (are_within size ranges.now ≡ false) (λ _. are_ranges ranges.now ≡ true)) }
     ensures ranks { IfOk result (λ found. IfSome found (λ v. v.items ≡ flat_map ranks_of ranges.now)) }
 {
     let mut ranks = Vec::new(alloc);

@@ -1,15 +1,14 @@
 //! The order of ranks that were told which rank they have.
 
-ghost use Rattle.std.specs.Prelude.{◌≡◌, IfOk, IfSome, MatchOption, false, length, true};
-ghost use Rattle.comm_groups.specs.Groups.{are_ranks};
-ghost use Rattle.comm_groups.specs.Orders.{IsOrderOf};
+ghost use Rattle.std.specs.Prelude.{◌≡◌, IfOk, IfSome, MatchOption, false, true};
+ghost use Rattle.comm_groups.specs.Orders.{IsOrderOf, are_each_once};
 
 use crate::group::are_ranks;
 use std::alloc::{AllocError, Global};
 
 /// At each rank who was told it.
 fn places_of(alloc: Global, told: &[u32]) -> Result<Vec<usize>, AllocError>
-    requires { are_ranks (length told.now) told.now ≡ true }
+    requires { are_each_once told.now ≡ true }
     ensures { IfOk result (λ v. IsOrderOf told.now v.items) }
 {
     let mut order = vec![in alloc; 0; told.len()]?;
@@ -22,7 +21,7 @@ fn places_of(alloc: Global, told: &[u32]) -> Result<Vec<usize>, AllocError>
 /// Who was told rank 0, who rank 1, and so on, of those that were told these ranks; `None` where these are not the ranks
 /// from 0 on, each once.
 pub fn order_of(alloc: Global, told: &[u32]) -> Result<Option<Vec<usize>>, AllocError>
-    ensures none { IfOk result (λ found. MatchOption found (are_ranks (length told.now) told.now ≡ false) (λ _. are_ranks (length told.now) told.now ≡ true)) }
+    ensures none { IfOk result (λ o. MatchOption o (are_each_once told.now ≡ false) (λ _. are_each_once told.now ≡ true)) }
     ensures order { IfOk result (λ found. IfSome found (λ v. IsOrderOf told.now v.items)) }
 {
     if !are_ranks(alloc, told.len(), told)? {
