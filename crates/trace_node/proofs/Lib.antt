@@ -3,6 +3,8 @@ pub mod Waits
 pub mod LastCell
 pub mod Within
 pub mod Walls
+pub mod SortedPlaces
+pub mod ByRank
 pub mod One
 pub mod Same
 pub mod Below

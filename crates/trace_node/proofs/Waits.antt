@@ -1,6 +1,6 @@
 -- Which ranks are stuck is known by the shapes of the conditions.
 use Rattle.std.proofs.Common.{◌≡◌, ◌↔◌, ◌<◌, ◌≤◌, ◌+◌, ◌⊎◌, ⊎_elim, ℕ, zero, suc, Bool, true, Option, Some, None, List, [], ◌∷◌, ◌++◌, map, refl, sym, ◌∙◌, ap, subst, arith, length, get_or, set, take}
-use Rattle.std.specs.Prelude.{unwrap_or}
+use Rattle.std.specs.Prelude.{slice_index_or, unwrap_or}
 use Rattle.std.proofs.lemmas.List.{take_more}
 use Rattle.std.specs.List.Sorted.{IsStrictlyIncreasing}
 use Rattle.std.specs.Option.{option_map}
@@ -10,7 +10,8 @@ use Rattle.trace_stuck.specs.Holds.{may_go}
 use Rattle.trace_stuck.specs.Release.{among}
 use Rattle.trace_stuck.specs.Shape.{Wait, OnNothing, shape}
 use Rattle.trace_stuck.specs.Stuck.{IsStuck}
-use Rattle.trace_node.specs.Answer.{AreStuck, IsStuckBy, Stopped, call_of, shapes, stopped_at, wait_at, wall_of}
+use Rattle.trace_node.specs.Answer.{AreStuck, IsStuckBy, Stopped, call_of, shapes, stopped_at, wait_at}
+use Rattle.trace_node.specs.ByRank.{AreWalls, stopped_by}
 use Rattle.trace_know.specs.View.{View}
 use Rattle.trace_ops.specs.Ops.{Ops}
 use Rattle.trace_wait.specs.Ranks.{ops_of}
@@ -80,9 +81,17 @@ rising_below ranks up (suc i) k lt le =
     split k i lt = grind arith
 
 -- what is told of a stuck rank, part by part
-pub stop_is : (view : View) (ops : List Ops) (waits : List (Option Wait)) (r call wall : ℕ) (w : Wait) → call ≡ call_of (ops_of ops r) → wall ≡ wall_of view r call → w ≡ wait_at waits r →
-    record { rank = r; call = call; wall = wall; waits = w } ≡ stopped_at view ops waits r
-stop_is view ops waits r call wall w a b e = λ i. record { rank = r; call = a i; wall = (b ∙ ap (wall_of view r) a) i; waits = e i }
+pub stop_is : (walls : List ℕ) (ops : List Ops) (waits : List (Option Wait)) (r call wall : ℕ) (w : Wait) → call ≡ call_of (ops_of ops r) → wall ≡ slice_index_or walls r 0 → w ≡ wait_at waits r →
+    record { rank = r; call = call; wall = wall; waits = w } ≡ stopped_by walls ops waits r
+stop_is walls ops waits r call wall w a b e = λ i. record { rank = r; call = a i; wall = b i; waits = e i }
+
+-- the stuck ranks, where it is told of each when it entered the call in which it waits
+pub all_stopped : (view : View) (walls : List ℕ) (ops : List Ops) (waits : List (Option Wait)) → AreWalls view ops walls → (ranks : List ℕ) →
+    map (stopped_by walls ops waits) ranks ≡ map (stopped_at view ops waits) ranks
+all_stopped view walls ops waits tell [] = refl
+all_stopped view walls ops waits tell (r ∷ ranks) =
+    let rest = all_stopped view walls ops waits tell ranks in
+    λ i. record { rank = r; call = call_of (ops_of ops r); wall = tell r i; waits = wait_at waits r } ∷ rest i
 
 map_push : {X Y : Type 0} (f : X → Y) (xs : List X) (x : X) → map f (xs ++ x ∷ []) ≡ map f xs ++ f x ∷ []
 map_push f [] x = refl

@@ -5,3 +5,4 @@ pub mod Node
 pub mod Codes
 pub mod Following
 pub mod Schedule
+pub mod ByRank

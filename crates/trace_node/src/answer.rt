@@ -3,7 +3,7 @@
 ghost use Rattle.std.specs.Prelude.{◌≡◌, ◌↔◌, IsTrue, IfOk, map};
 ghost use Rattle.trace_node.specs.Stopped.{stopped};
 
-use crate::answer::parts::{Matching, Reading, Waiting};
+use crate::answer::parts::{Matching, Waiting};
 use crate::answer::same::{has_same_calls, has_same_places, has_same_ranks};
 use crate::stuck::Stuck;
 use mpi_model::{OpName, Sends};
@@ -17,7 +17,8 @@ mod gather;
 mod parts;
 mod same;
 
-pub(crate) use gather::answer_of;
+pub(crate) use gather::{answer_of, reading_of, waiting_call, wall_of, walls_of};
+pub(crate) use parts::Reading;
 
 /// What is told of a layout and of what is known: what the report prints.
 #[derive(Debug, Drop)]

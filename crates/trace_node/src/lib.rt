@@ -24,13 +24,14 @@
 //! - [`strangers`]: whether something is known of a rank that the layout doesn't have
 //! - [`follow`]: the index of the pairs, as more is known, and how far each rank was known in it
 //! - [`shared`]: what is known, and an answer, each by one owner or more
-//! - [`node`]: knowledge with its answer
+//! - [`node`]: knowledge with its answer; [`by_rank`]: an answer by one rank after another, whose events aren't kept
 //! - [`laws`]: that there is one answer, that its pairs are certain, and that shapes tell who is stuck, as contracts of calls that do nothing
 //!
 //! Its tests are in `crates/node_tests/src/node.rt`.
 #![tactic(auto)]
 
 mod answer;
+mod by_rank;
 mod fault;
 mod follow;
 mod laws;
@@ -40,6 +41,7 @@ mod strangers;
 mod stuck;
 
 pub use answer::Answer;
+pub use by_rank::RankByRank;
 pub use fault::{NodeFault, Stale};
 pub use laws::{answers_are_certain, answers_are_one, stuck_go_by_shape};
 pub use node::Node;

@@ -9,7 +9,7 @@ ghost use Rattle.trace_node.specs.Answer.{IsAnswer};
 ghost use Rattle.trace_node.specs.Following.{IsFollowing};
 ghost use Rattle.trace_node.specs.Node.{HasStranger, IsWithin, held, held_with};
 
-use crate::answer::{Answer, answer_of};
+use crate::answer::{Answer, answer_of, reading_of, walls_of};
 use crate::fault::{NodeFault, Stale};
 use crate::follow::{Followed, caught_up, prepared};
 use crate::shared::{SharedAnswer, SharedKnowledge};
@@ -366,7 +366,8 @@ fn told_after(
     know: &Knowledge,
     before: Option<Followed>,
 ) -> Result<Told, AllocError>
-    requires { IfSome before (IsFollowing layout.now know.now) }
+    requires follows { IfSome before (IsFollowing layout.now know.now) }
+    requires within { IsWithin layout.now know.now }
     ensures follows { IfOk result (λ told. IsFollowing layout.now know.now told.followed) }
     ensures answer { IfOk result (λ told. IsAnswer layout.now know.now told.answer) }
 {
@@ -383,10 +384,15 @@ fn answer_to(
     know: &Knowledge,
     index: &PairIndex,
 ) -> Result<Answer, AllocError>
-    requires { index.now ≡ all_ops layout.now know.now }
+    requires ops { index.now ≡ all_ops layout.now know.now }
+    requires within { IsWithin layout.now know.now }
     ensures { IfOk result (λ a. IsAnswer layout.now know.now a) }
 {
     layout.known();
     ops_laws();
-    answer_of(alloc, layout, know, index.ops(), index.pairs()?)
+    let own = index.ops();
+    let reading = reading_of(alloc, layout, know)?;
+    let walls = walls_of(alloc, layout, know, own)?;
+    let answer = answer_of(alloc, layout, reading, &walls, own, index.pairs()?)?;
+    Ok(answer)
 }

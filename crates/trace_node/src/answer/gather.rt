@@ -1,16 +1,17 @@
 //! From what is known to what is told of it.
 
-ghost use Rattle.std.specs.Prelude.{◌≡◌, ◌<◌, ◌^◌, ℕ, IfOk, length, map, unwrap_or};
+ghost use Rattle.std.specs.Prelude.{◌≡◌, ◌<◌, ◌^◌, ℕ, List, IfOk, length, map, slice_index_or, unwrap_or};
 ghost use Rattle.std.specs.List.Sorted.{IsStrictlyIncreasing};
 ghost use Rattle.std.specs.Option.{option_copied, option_map};
-ghost use Rattle.trace_know.specs.Listing.{conflicts_of};
 ghost use Rattle.trace_know.specs.Prefix.{event_at};
+ghost use Rattle.trace_know.specs.View.{View};
 ghost use Rattle.trace_ops.specs.Ops.{AreOwn};
 ghost use Rattle.trace_pair.specs.Table.{table_of};
 ghost use Rattle.trace_stuck.specs.Shape.{OnNothing, shape};
 ghost use Rattle.trace_wait.specs.Ranks.{ops_of};
 ghost use Rattle.trace_wait.specs.Rounds.{rounds_of};
-ghost use Rattle.trace_node.specs.Answer.{IsAnswerBy, TellsStuck, beyond_of, call_of, entry_of, foreign_of, prefixes_of, shapes, states_of, stopped_at, unread_of, wait_at, wall_of};
+ghost use Rattle.trace_node.specs.Answer.{IsAnswerBy, beyond_of, call_of, entry_of, foreign_of, prefixes_of, shapes, states_of, unread_of, wait_at, wall_of};
+ghost use Rattle.trace_node.specs.ByRank.{AreStopped, AreWalls, IsReading, stopped_by, walls_of};
 ghost use Rattle.trace_node.specs.Stopped.{stopped};
 
 use crate::answer::Answer;
@@ -102,11 +103,21 @@ fn entry_of(event: Option<&Event>) -> u64
 
 /// The wall time at which a call was entered. Nothing is known of places past 2^40, so a number at
 /// the end of its type stands for all behind it.
-fn wall_of(know: &Knowledge, rank: u32, call: u64) -> u64
+pub(crate) fn wall_of(know: &Knowledge, rank: u32, call: u64) -> u64
     ensures { result ≡ wall_of know.now rank call }
 {
     know.known();
     entry_of(event_at(know, rank, call.saturating_mul(2)))
+}
+
+/// The number of the call in which a rank waits that did this.
+pub(crate) fn waiting_call(own: &RankOps) -> u64
+    ensures { result ≡ call_of own.now }
+{
+    match own.waiting() {
+        Some((call, _)) => call,
+        None => 0,
+    }
 }
 
 /// The number of the call in which a rank waits.
@@ -114,10 +125,33 @@ fn call_of(ops: &[RankOps], rank: u32) -> u64
     ensures { result ≡ call_of (ops_of ops.now rank) }
 {
     match ops.get(rank as usize) {
-        Some(own) => match own.waiting() {
-            Some((call, _)) => call,
-            None => 0,
-        },
+        Some(own) => waiting_call(own),
+        None => 0,
+    }
+}
+
+/// When each rank entered the call in which it waits.
+pub(crate) fn walls_of(
+    alloc: Global,
+    layout: &Layout,
+    know: &Knowledge,
+    ops: &[RankOps],
+) -> Result<Vec<u64>, AllocError>
+    ensures { IfOk result (λ v. v.items ≡ walls_of layout.now know.now ops.now) }
+{
+    let mut walls = Vec::new(alloc);
+    for rank in 0..layout.ranks() {
+        walls.push(wall_of(know, rank, call_of(ops, rank)))?;
+    }
+    Ok(walls)
+}
+
+/// When a rank entered the call in which it waits, by the list of all ranks'.
+fn wall_at(walls: &[u64], rank: u32) -> u64
+    ensures { result ≡ slice_index_or walls.now rank 0 }
+{
+    match walls.get(rank as usize) {
+        Some(wall) => *wall,
         None => 0,
     }
 }
@@ -148,21 +182,20 @@ fn wait_of(condition: Option<Condition>) -> Condition
 /// What is told of the stuck ranks. Their conditions are moved.
 fn stuck_of(
     alloc: Global,
-    know: &Knowledge,
+    walls: &[u64],
     ops: &[RankOps],
     conditions: &mut [Option<Condition>],
     ranks: &[u32],
 ) -> Result<Vec<Stuck>, AllocError>
     requires { IsStrictlyIncreasing ranks.now }
-    ensures { IfOk result (λ v. map stopped v.items ≡ map (stopped_at know.now ops.now (shapes conditions.old)) ranks.now) }
+    ensures { IfOk result (λ v. map stopped v.items ≡ map (stopped_by walls.now ops.now (shapes conditions.old)) ranks.now) }
 {
     let mut all = Vec::new(alloc);
     for rank in ranks {
-        let call = call_of(ops, *rank);
         all.push(Stuck {
             rank: *rank,
-            call,
-            wall: wall_of(know, *rank, call),
+            call: call_of(ops, *rank),
+            wall: wall_at(walls, *rank),
             waits: wait_of(take_condition(conditions, *rank)),
         })?;
     }
@@ -179,11 +212,12 @@ fn matching_of(table: PairTable) -> Matching
 }
 
 /// How far the ranks can be read, and where they are contradicted.
-fn reading_of(alloc: Global, layout: &Layout, know: &Knowledge) -> Result<Reading, AllocError>
-    ensures prefixes { IfOk result (λ r. r.prefixes.items ≡ prefixes_of layout.now know.now) }
-    ensures beyond { IfOk result (λ r. r.beyond.items ≡ beyond_of layout.now know.now) }
-    ensures unread { IfOk result (λ r. r.unread.items ≡ unread_of layout.now know.now) }
-    ensures conflicts { IfOk result (λ r. r.conflicts.items ≡ conflicts_of know.now) }
+pub(crate) fn reading_of(
+    alloc: Global,
+    layout: &Layout,
+    know: &Knowledge,
+) -> Result<Reading, AllocError>
+    ensures { IfOk result (IsReading layout.now.ranks know.now) }
 {
     Ok(Reading {
         prefixes: prefixes_of(alloc, layout, know)?,
@@ -197,7 +231,7 @@ fn reading_of(alloc: Global, layout: &Layout, know: &Knowledge) -> Result<Readin
 fn waiting_of(
     alloc: Global,
     layout: &Layout,
-    know: &Knowledge,
+    walls: &[u64],
     ops: &[RankOps],
     table: &PairTable,
 ) -> Result<Waiting, AllocError>
@@ -206,13 +240,13 @@ fn waiting_of(
     requires table { table.now ≡ table_of ops.now }
     ensures rounds { IfOk result (λ s. s.rounds.items ≡ rounds_of layout.now.comms ops.now) }
     ensures states { IfOk result (λ s. s.states.items ≡ states_of ops.now) }
-    ensures stuck { IfOk result (λ s. TellsStuck layout.now know.now ops.now (map stopped s.stuck.items)) }
+    ensures stuck { IfOk result (λ s. AreStopped layout.now walls.now ops.now (map stopped s.stuck.items)) }
 {
     let rounds = rounds(alloc, layout, ops)?;
     let mut conditions = conditions(alloc, layout, ops, table, &rounds)?;
     let states = states_of(alloc, ops)?;
     let verdict = stuck(alloc, &states, &conditions)?;
-    let stuck = stuck_of(alloc, know, ops, &mut conditions, &verdict.stuck)?;
+    let stuck = stuck_of(alloc, walls, ops, &mut conditions, &verdict.stuck)?;
     Ok(Waiting {
         rounds,
         states,
@@ -220,21 +254,22 @@ fn waiting_of(
     })
 }
 
-/// What is told of all that is known, by the ops of the ranks and their pairs.
+/// What is told of the ranks of a layout: by how far they can be read, when each entered the call in which it waits, what
+/// they did, and their pairs.
 pub(crate) fn answer_of(
     alloc: Global,
     layout: &Layout,
-    know: &Knowledge,
+    reading: Reading,
+    walls: &[u64],
     ops: &[RankOps],
     table: PairTable,
 ) -> Result<Answer, AllocError>
     requires few { length ops.now < 2 ^ 32 }
     requires own { AreOwn 0 ops.now }
     requires table { table ≡ table_of ops.now }
-    ensures { IfOk result (λ a. IsAnswerBy layout.now know.now ops.now a) }
+    ensures { IfOk result (λ a. (view : View) → IsReading layout.now.ranks view reading → AreWalls view ops.now walls.now → IsAnswerBy layout.now view ops.now a) }
 {
-    let reading = reading_of(alloc, layout, know)?;
-    let waiting = waiting_of(alloc, layout, know, ops, &table)?;
+    let waiting = waiting_of(alloc, layout, walls, ops, &table)?;
     Ok(Answer {
         ranks: layout.ranks(),
         sends: layout.sends(),

@@ -4,11 +4,14 @@
 //! until then, and is proved over that: so an answer is made, copied and kept in parts.
 
 ghost use Rattle.std.specs.Prelude.{◌≡◌, IfOk, map};
+ghost use Rattle.std.specs.FinMap.{empty};
+ghost use Rattle.trace_node.specs.ByRank.{AddsRank, IsReading};
 ghost use Rattle.trace_node.specs.Stopped.{stopped};
 
 use crate::stuck::Stuck;
 use mpi_model::OpName;
 use std::alloc::{AllocError, Global};
+use trace_know::{Knowledge, listing_laws};
 use trace_ops::State;
 use trace_pair::Pair;
 use trace_wait::Round;
@@ -23,6 +26,37 @@ pub(crate) struct Reading {
 }
 
 impl Reading {
+    /// Of no rank.
+    pub(crate) fn none(alloc: Global) -> Reading
+        ensures { IsReading 0 empty result }
+    {
+        listing_laws();
+        Reading {
+            prefixes: Vec::new(alloc),
+            beyond: Vec::new(alloc),
+            unread: Vec::new(alloc),
+            conflicts: Vec::new(alloc),
+        }
+    }
+
+    /// The same with the next rank, of which this is known.
+    pub(crate) fn with(
+        self,
+        alloc: Global,
+        rank: u32,
+        know: &Knowledge,
+    ) -> Result<Reading, AllocError>
+        ensures { IfOk result (λ r. AddsRank rank know.now self r) }
+    {
+        let mut more = self;
+        more.prefixes.push(know.prefix(rank))?;
+        more.beyond.push(know.beyond(rank))?;
+        more.unread.push(know.is_unread(rank))?;
+        let own = know.conflict_places(alloc)?;
+        more.conflicts.extend_from_slice(&own)?;
+        Ok(more)
+    }
+
     pub(crate) fn try_clone(&self) -> Result<Reading, AllocError>
         ensures prefixes { IfOk result (λ copy. copy.prefixes.items ≡ self.now.prefixes.items) }
         ensures beyond { IfOk result (λ copy. copy.beyond.items ≡ self.now.beyond.items) }

@@ -1,6 +1,7 @@
 use Rattle.std.proofs.Common.{◌≡◌, ◌∙◌, ap, map}
 use Rattle.trace_wait.specs.Conditions.{conditions_from}
-use Rattle.trace_node.specs.Answer.{shapes, states_of, stopped_at, waits_of}
+use Rattle.trace_node.specs.Answer.{shapes, states_of, waits_of}
+use Rattle.trace_node.specs.ByRank.{stopped_by}
 use Rattle.trace_node.proofs.Waits.{are_stuck}
 use Rattle.trace_node.proofs.answer.gather.waiting_of.Goals as goal
 
@@ -14,5 +15,5 @@ returns-clause-stuck c =
       c.in_ok-verdict.verdict.stuck.items,
       are_stuck c.in_ok-verdict.verdict.stuck.items (states_of c.args.ops.now) c.deref-2.result.now c.deref-3.result.now (waits_of c.args.layout.now c.args.ops.now)
           (c.deref-2.ensures.value ∙ c.in_ok-states.ensures) conditions c.in_ok-verdict.ensures.rising c.in_ok-verdict.ensures.stuck,
-      c.in_ok-stuck.ensures ∙ (λ i. map (stopped_at c.args.know.now c.args.ops.now (told i)) (c.deref-4.ensures.value i)),
+      c.in_ok-stuck.ensures ∙ (λ i. map (stopped_by c.args.walls.now c.args.ops.now (told i)) (c.deref-4.ensures.value i)),
     )
