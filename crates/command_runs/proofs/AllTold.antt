@@ -7,7 +7,7 @@ use Rattle.input_files.specs.Manifests.{ManifestParts}
 use Rattle.command_runs.specs.Inputs.{TellsManifest}
 use Rattle.command_runs.specs.Known.{TellAll}
 use Rattle.command_runs.specs.Packed.{RefusesFirstPacked, TellPacked}
-use Rattle.command_runs.specs.Refusals.{RefusesNode, RefusesPieces}
+use Rattle.command_runs.specs.Refusals.{RefusesNamed, RefusesNode, RefusesPieces}
 use Rattle.command_runs.specs.Traces.{IsInside, IsKnown}
 use Rattle.command_runs.specs.declared.fault.RunFault.{RunFault}
 use Rattle.command_runs.specs.declared.fault.RunFault.TheVariants.{Memory}
@@ -20,6 +20,16 @@ packed_refused file l manifest m fault told (inr h) = inr (inr (m, told, inr (in
 pub texts_refused : (file : List ℕ → Option (List ℕ)) (l : Parts) (manifest : List ℕ) (m : ManifestParts) (packed : View) (fault : RunFault) → TellsManifest (file manifest) m
     → TellPacked file l.ranks m.packed packed → RefusesPieces file l.ranks m.pieces fault → RefusesNode file l manifest fault
 texts_refused file l manifest m packed fault told tell h = inr (inr (m, told, inr (inr ((packed, tell), h))))
+
+-- the same of what a manifest names
+pub packed_named : (file : List ℕ → Option (List ℕ)) (ranks : ℕ) (m : ManifestParts) (fault : RunFault) → (fault ≡ Memory) ⊎ RefusesFirstPacked file ranks m.packed fault
+    → RefusesNamed file ranks m fault
+packed_named file ranks m fault (inl e) = inl e
+packed_named file ranks m fault (inr h) = inr (inl h)
+
+pub texts_named : (file : List ℕ → Option (List ℕ)) (ranks : ℕ) (m : ManifestParts) (packed : View) (fault : RunFault) → TellPacked file ranks m.packed packed
+    → RefusesPieces file ranks m.pieces fault → RefusesNamed file ranks m fault
+texts_named file ranks m packed fault tell h = inr (inr ((packed, tell), h))
 
 -- what packed files tell and what texts do, joined
 pub all_told : (file : List ℕ → Option (List ℕ)) (ranks : ℕ) (m : ManifestParts) (packed texts view : View) → TellPacked file ranks m.packed packed

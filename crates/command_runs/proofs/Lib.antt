@@ -7,6 +7,7 @@ pub mod Notes
 pub mod Looks
 pub mod Worlds
 pub mod Within
+pub mod ByRank
 pub mod Unpacking
 pub mod AllTold
 pub mod Packing

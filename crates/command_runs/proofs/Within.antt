@@ -17,7 +17,7 @@ use Rattle.command_runs.specs.Pieces.{TellsFacts}
 use Rattle.command_runs.specs.Traces.{KeepsFirst}
 
 -- the facts of a rank's events are of that rank
-of_rank : (rank place : ℕ) (events : List Event) (i : ℕ) (fact : Fact) → i < length (facts_from rank place events) → get_or (facts_from rank place events) i fact ≡ fact → fact.rank ≡ rank
+pub of_rank : (rank place : ℕ) (events : List Event) (i : ℕ) (fact : Fact) → i < length (facts_from rank place events) → get_or (facts_from rank place events) i fact ≡ fact → fact.rank ≡ rank
 of_rank rank place [] i fact below e = absurd (omega (arith, below))
 of_rank rank place (event ∷ events) zero fact below e = sym (ap (λ (f : Fact). f.rank) e)
 of_rank rank place (event ∷ events) (suc i) fact below e = of_rank rank (place + 1) events i fact (omega (arith, below)) e
@@ -34,7 +34,7 @@ facts_below text ranks piece facts told (inr none) fact among =
     absurd (omega (arith, here.1))
 
 -- where something is known of a place, a fact tells it
-fact_at : (facts : Trace) (rank place : ℕ) (known : Option Known) → IsCellOf facts rank place known → IsSome known → (fact : Fact) × Contains facts fact × (fact.rank ≡ rank)
+pub fact_at : (facts : Trace) (rank place : ℕ) (known : Option Known) → IsCellOf facts rank place known → IsSome known → (fact : Fact) × Contains facts fact × (fact.rank ≡ rank)
 fact_at facts rank place None is some = absurd (cc some)
 fact_at facts rank place (Some (One event)) is some = (record { rank = rank; place = place; event = event }, is.0, refl)
 fact_at facts rank place (Some Contradiction) is some = (record { rank = rank; place = place; event = is.0 }, is.3, refl)

@@ -25,5 +25,6 @@ pub mod Shares
 pub mod ShownBytes
 pub mod Texts
 pub mod Traces
+pub mod Ranks
 pub mod Verbs
 pub mod Whole

@@ -3,19 +3,10 @@ use Rattle.std.specs.Prelude.{◌≡◌, ℕ, List, Option}
 use Rattle.mpi_model.specs.Layouts.{Parts}
 use Rattle.trace_know.specs.View.{View}
 use Rattle.trace_node.specs.Answer.{Answered, IsAnswer}
-use Rattle.trace_node.specs.Node.{Held}
 use Rattle.trace_report.specs.Json.{json_text}
 use Rattle.trace_report.specs.Report.{report_text}
 use Rattle.command_runs.specs.Inputs.{TellsLayout}
 use Rattle.command_runs.specs.Known.{IsKnownBy}
-
--- The text is the report of what a node holds.
-abbrev pub IsNodeReport : Held → List ℕ → Type 0
-IsNodeReport node text = (answer : Answered) × IsAnswer node.layout node.know answer × (text ≡ report_text answer)
-
--- The same report, as JSON.
-abbrev pub IsNodeJson : Held → List ℕ → Type 0
-IsNodeJson node text = (answer : Answered) × IsAnswer node.layout node.know answer × (text ≡ json_text answer)
 
 -- The report of what the files tell: that of the answer, for the layout, to all that the pieces tell that the manifest names.
 -- All of that is of ranks of the layout.

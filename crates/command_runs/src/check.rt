@@ -14,7 +14,7 @@ use crate::knowing::know_of;
 use crate::opener::Opener;
 use crate::packed::packed_of;
 use crate::replay::write_piece;
-use crate::watch::Watcher;
+use crate::watch::{Watcher, announce};
 use command_line::Verb;
 use mpi_model::{Layout, Write};
 use std::alloc::Global;
@@ -81,7 +81,9 @@ fn checker_with<'a, O: Opener, V: Watcher>(
     let Ok(nothing) = Checker::new(alloc, layout) else {
         return Err(RunFault::Memory);
     };
-    let checker = match know_of(alloc, layout, manifest.pieces(), files, watcher, nothing) {
+    announce(manifest.pieces(), files, watcher);
+    let mut buffer = Vec::new(alloc);
+    let checker = match know_of(alloc, layout, manifest.pieces(), files, watcher, &mut buffer, nothing) {
         Ok(checker) => checker,
         Err(fault) => return Err(fault),
     };

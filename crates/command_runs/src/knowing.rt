@@ -15,20 +15,21 @@ use crate::fault::RunFault;
 use crate::gatherer::Gatherer;
 use crate::opener::Opener;
 use crate::piece::segments_of;
-use crate::watch::{Watcher, announce};
+use crate::watch::Watcher;
 use input_files::Piece;
 use mpi_model::Layout;
 use std::alloc::{AllocError, Global};
 use trace_know::{ReadySegment, join_laws, view_laws};
 
 /// What the pieces tell together, of a run of this layout, by who gathers it. All of them are read before
-/// a piece is refused for its rank.
+/// a piece is refused for its rank. The buffer is one for all texts.
 pub(crate) fn know_of<G: Gatherer, O: Opener, V: Watcher>(
     alloc: Global,
     layout: &Layout,
     pieces: &[Piece],
     files: &mut O,
     watcher: &mut V,
+    buffer: &mut Vec<u8>,
     gatherer: G,
 ) -> Result<G, RunFault>
     requires { G.known gatherer ≡ empty }
@@ -42,11 +43,10 @@ pub(crate) fn know_of<G: Gatherer, O: Opener, V: Watcher>(
 {
     join_laws();
     view_laws();
-    announce(pieces, files, watcher);
     let mut know = gatherer;
     let mut stranger = None;
     for piece in pieces {
-        let segments = match segments_of(alloc, piece, files, watcher) {
+        let segments = match segments_of(alloc, piece, files, watcher, buffer) {
             Ok(segments) => segments,
             Err(fault) => return Err(fault),
         };

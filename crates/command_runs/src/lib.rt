@@ -43,6 +43,8 @@
 
 mod advice;
 mod answerer;
+mod answering;
+mod by_rank;
 mod check;
 mod cluster;
 mod ending;

@@ -11,19 +11,20 @@ use crate::fault::RunFault;
 use crate::opener::{OpenFault, Opener};
 use crate::watch::Watcher;
 use crate::watched::Watched;
-use dumpi_calls::{Collect, Memory, WalkCause, WalkFault, walk, whole_segments, whole_texts};
+use dumpi_calls::{Collect, Memory, WalkCause, WalkFault, walk_with_buffer, whole_segments, whole_texts};
 use dumpi_text::TextFault;
 use input_files::Piece;
 use std::alloc::{AllocError, Global};
 use trace_know::{ReadySegment, SegmentFault};
 
-/// The segments of a piece, ready to be joined, none of a text without calls.
+/// The segments of a piece, ready to be joined, none of a text without calls. The buffer is one for all pieces.
 #[tactic(auto, using(crate::proofs::Told::facts_told, crate::proofs::Told::segments_told, crate::proofs::Told::places_told, crate::proofs::Told::walk_told))]
 pub fn segments_of<O: Opener, V: Watcher>(
     alloc: Global,
     piece: &Piece,
     files: &mut O,
     watcher: &mut V,
+    buffer: &mut Vec<u8>,
 ) -> Result<Vec<ReadySegment>, RunFault>
     ensures ok { IfOk result (λ segments. AreFactsOf (O.file files.old) piece.now (facts_of_all segments.items)) }
     ensures segments { IfOk result (λ segments. AreSegmentsOf (O.file files.old) piece.now segments.items) }
@@ -44,7 +45,8 @@ pub fn segments_of<O: Opener, V: Watcher>(
         }
     };
     let mut collect = Collect::for_text(alloc, files.length(path).unwrap_or(0));
-    let walked = match walk(alloc, Watched::new(reader, watcher), &mut collect) {
+    let watched = Watched::new(reader, watcher);
+    let walked = match walk_with_buffer(alloc, watched, &mut collect, buffer) {
         Ok(walked) => walked,
         Err(fault) => return Err(refusal(alloc, path, fault)?),
     };

@@ -30,9 +30,10 @@ pub fn segments_of_all<O: Opener, V: Watcher>(
 {
     whole_segments();
     announce(pieces, files, watcher);
+    let mut buffer = Vec::new(alloc);
     let mut lists = Vec::new(alloc);
     for piece in pieces {
-        let segments = match segments_of(alloc, piece, files, watcher) {
+        let segments = match segments_of(alloc, piece, files, watcher, &mut buffer) {
             Ok(segments) => segments,
             Err(fault) => return Err(fault),
         };

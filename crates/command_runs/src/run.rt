@@ -1,17 +1,14 @@
 //! A run of a verb over the files that it names.
 
-ghost use Rattle.std.specs.Prelude.{◌≡◌, ◌≢◌, false, IfErr, IfOk, OnErr, OnOk};
-ghost use Rattle.mpi_model.specs.Failures.{HasFailed};
+ghost use Rattle.std.specs.Prelude.{◌≡◌, ◌≢◌, IfErr, IfOk};
 ghost use Rattle.dumpi_text.specs.Failing.{Fails};
 ghost use Rattle.command_runs.specs.Files.{NamesFailed, NamesUnreadable};
 ghost use Rattle.command_runs.specs.declared.whole.TheConstants.{LONGEST_FILE};
 ghost use Rattle.command_runs.specs.Nodes.{IsNodeOf};
 ghost use Rattle.command_runs.specs.Refusals.{RefusesNode};
-ghost use Rattle.command_runs.specs.Replays.{Writes, WritesFront};
-ghost use Rattle.command_runs.specs.Runs.{IsNodeReport};
 ghost use Rattle.command_runs.specs.Verbs.{Ran};
 
-use crate::answerer::Answerer;
+use crate::answering::answer_with;
 use crate::check::check_with;
 use crate::explain::explain_with;
 use crate::fault::RunFault;
@@ -25,7 +22,7 @@ use crate::pack::pack_with;
 use crate::replay::replay_with;
 use crate::watch::Watcher;
 use command_line::Verb;
-use mpi_model::{Failed, Layout, Write};
+use mpi_model::{Layout, Write};
 use std::alloc::Global;
 use trace_node::{Node, NodeFault};
 use trace_report::write_report;
@@ -82,30 +79,13 @@ fn report_with<O: Opener, V: Watcher, W: Write>(
         Ok(layout) => layout,
         Err(fault) => return Err(fault),
     };
-    let node = match node_with(alloc, &layout, manifest, files, watcher) {
-        Ok(node) => node,
+    let answer = match answer_with(alloc, &layout, manifest, files, watcher) {
+        Ok(answer) => answer,
         Err(fault) => return Err(fault),
     };
-    match write_told(node, out) {
-        Ok(()) => Ok(true),
+    match write_report(&answer, out) {
+        Ok(_) => Ok(true),
         Err(_) => Err(RunFault::Write),
-    }
-}
-
-/// Writes the report of a node with its answer, and lets go of it.
-fn write_told<N: Answerer, W: Write>(node: N, out: &mut W) -> Result<(), Failed>
-    requires fresh { (N.held node).is_stale ≡ false }
-    ensures ok { OnOk result (Writes (IsNodeReport (N.held node)) (W.written out.old) (W.written out.new)) }
-    ensures err { OnErr result (WritesFront (IsNodeReport (N.held node)) (W.written out.old) (W.written out.new)) }
-    ensures failed { OnErr result (HasFailed (W.failures out.old) (W.failures out.new)) }
-{
-    // (a new node isn't stale)
-    let Ok(answer) = node.told() else {
-        unreachable!()
-    };
-    match write_report(answer, out) {
-        Ok(_) => Ok(()),
-        Err(_) => Err(Failed),
     }
 }
 

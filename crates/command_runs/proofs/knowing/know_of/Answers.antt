@@ -1,11 +1,12 @@
-use Rattle.std.proofs.Common.{rules, refl, arith, ◌≡◌, ◌∙◌, ◌+◌, ◌<◌, ◌++◌, ◌∷◌, [], ℕ, List, Some, ap, sym, subst, inl, inr, length, take}
+use Rattle.std.proofs.Common.{rules, refl, arith, ◌≡◌, ◌∙◌, ◌+◌, ◌<◌, ◌++◌, ◌∷◌, [], ℕ, List, None, Some, ap, sym, subst, inl, inr, length, take}
+use Rattle.std.specs.List.{All}
 use Rattle.std.proofs.Math.Seq.{take-length}
 use Rattle.std.proofs.lemmas.List.{take_more}
 use Rattle.trace_know.specs.Trace.{facts_of_all, view_of}
 use Rattle.trace_know.specs.View.{join}
 use Rattle.input_files.specs.Manifests.{PieceParts}
 use Rattle.command_runs.specs.Pieces.{RefusesPiece, TellsFacts}
-use Rattle.command_runs.specs.Traces.{IsFirstStranger, IsKnown}
+use Rattle.command_runs.specs.Traces.{IsFirstStranger, IsInside, IsKnown}
 use Rattle.command_runs.proofs.Traces.{IsOutside, begins, known_more, outside_later}
 use Rattle.command_runs.proofs.Within.{within_more, within_nothing}
 use Rattle.command_runs.proofs.knowing.know_of.Goals as goal
@@ -70,3 +71,12 @@ returns-in-Some-clause-err g c =
       (g.G.Gatherer.known c.loop-piece.know, subst (λ (ps : List PieceParts). IsKnown file ps (g.G.Gatherer.known c.loop-piece.know)) all c.loop-piece.invariant.known),
       subst (λ (ps : List PieceParts). IsFirstStranger file c.args.layout.now.ranks ps c.in-Some.path) all outside,
     ))
+
+pub returns-in-None-clause-inside : goal.returns-in-None-clause-inside
+returns-in-None-clause-inside g c =
+    let file = g.O.Opener.file c.args.files.now in
+    let end : c.loop-piece.piece-index ≡ length c.args.pieces.now = omega arith in
+    let all : take c.loop-piece.piece-index c.args.pieces.now ≡ c.args.pieces.now =
+    ap (λ (n : ℕ). take n c.args.pieces.now) end ∙ take-length c.args.pieces.now in
+    let outside : IsOutside file c.args.layout.now.ranks (take c.loop-piece.piece-index c.args.pieces.now) None = rw c.in-None.is at c.loop-piece.invariant.outside in
+    subst (λ (ps : List PieceParts). All (IsInside file c.args.layout.now.ranks) ps) all outside

@@ -1,43 +1,16 @@
-use Rattle.std.proofs.Common.{◌≡◌, ◌∙◌, ◌⊎◌, sym, subst}
-use Rattle.std.specs.List.{All}
-use Rattle.trace_know.specs.View.{View, join}
-use Rattle.trace_wire.specs.Packed.{IsOfRanks}
-use Rattle.command_runs.specs.Packed.{RefusesFirstPacked, TellPacked}
-use Rattle.command_runs.specs.Traces.{IsInside, IsKnown}
-use Rattle.command_runs.specs.Refusals.{RefusesPieces}
-use Rattle.command_runs.specs.declared.fault.RunFault.TheVariants.{Memory}
-use Rattle.command_runs.proofs.AllTold.{all_told, packed_refused, texts_refused}
+use Rattle.std.proofs.Common.{inr}
+use Rattle.command_runs.specs.Known.{TellAll}
+use Rattle.command_runs.specs.Refusals.{RefusesNamed}
 use Rattle.command_runs.proofs.known.known_with.Goals as goal
 
-pub returns-in-Err-packed_of-clause-err : goal.returns-in-Err-packed_of-clause-err
-returns-in-Err-packed_of-clause-err g c =
+pub returns-in-Ok-known_of-clause-ok : goal.returns-in-Ok-known_of-clause-ok
+returns-in-Ok-known_of-clause-ok g c =
     let file = g.O.Opener.file c.args.files.now in
-    let refuses : (c.in-Err-packed_of.fault ≡ Memory) ⊎ RefusesFirstPacked file c.args.layout.now.ranks c.in-Ok.manifest.packed c.in-Err-packed_of.fault =
-    rw (c.manifest_at.ensures.same, c.packed.ensures) at c.in-Err-packed_of.ensures.err in
-    packed_refused file c.args.layout.now c.args.manifest_name.now c.in-Ok.manifest c.in-Err-packed_of.fault c.in-Ok.ensures.ok refuses
+    let told : TellAll file c.args.layout.now.ranks c.in-Ok.manifest c.in-Ok-known_of.know = rw c.manifest_at.ensures.same at c.in-Ok-known_of.ensures.ok in
+    (c.in-Ok.manifest, c.in-Ok.ensures.ok, told)
 
-pub returns-in-Err-know_of-clause-err : goal.returns-in-Err-know_of-clause-err
-returns-in-Err-know_of-clause-err g c =
+pub returns-clause-err : goal.returns-clause-err
+returns-clause-err g c =
     let file = g.O.Opener.file c.args.files.now in
-    let tell : TellPacked file c.args.layout.now.ranks c.in-Ok.manifest.packed c.in-Ok-packed_of.packed =
-    rw (c.manifest_at.ensures.same, c.packed.ensures) at c.in-Ok-packed_of.ensures.ok in
-    let refuses : RefusesPieces file c.args.layout.now.ranks c.in-Ok.manifest.pieces c.in-Err-know_of.fault =
-    rw (c.packed_of.ensures.same, c.manifest_at.ensures.same, c.pieces.ensures) at c.in-Err-know_of.ensures.err in
-    texts_refused file c.args.layout.now c.args.manifest_name.now c.in-Ok.manifest c.in-Ok-packed_of.packed c.in-Err-know_of.fault c.in-Ok.ensures.ok tell refuses
-
-pub returns-clause-ok : goal.returns-clause-ok
-returns-clause-ok g c =
-    let file = g.O.Opener.file c.args.files.now in
-    let ranks = c.args.layout.now.ranks in
-    let m = c.in-Ok.manifest in
-    let tell : TellPacked file ranks m.packed c.in-Ok-packed_of.packed = rw (c.manifest_at.ensures.same, c.packed.ensures) at c.in-Ok-packed_of.ensures.ok in
-    let known : IsKnown file m.pieces c.in-Ok-know_of.gathered.know =
-    rw (c.packed_of.ensures.same, c.manifest_at.ensures.same, c.pieces.ensures) at c.in-Ok-know_of.ensures.ok in
-    let inside : All (IsInside file ranks) m.pieces =
-    rw (c.packed_of.ensures.same, c.manifest_at.ensures.same, c.pieces.ensures) at c.in-Ok-know_of.ensures.inside in
-    let texts : IsKnown file m.pieces c.in_ok-texts.texts = subst (λ (v : View). IsKnown file m.pieces v) (sym c.in_ok-texts.ensures) known in
-    (m, c.in-Ok.ensures.ok, all_told file ranks m c.in-Ok-packed_of.packed c.in_ok-texts.texts c.in_ok-all.all tell texts inside c.in_ok-all.ensures.know)
-
-pub joined-requires-clause-texts : goal.joined-requires-clause-texts
-joined-requires-clause-texts g c =
-    subst (λ (v : View). IsOfRanks c.args.layout.now.ranks v) (sym c.in_ok-texts.ensures) c.in-Ok-know_of.ensures.within
+    let refuses : RefusesNamed file c.args.layout.now.ranks c.in-Ok.manifest c.in-Err-known_of.fault = rw c.manifest_at.ensures.same at c.in-Err-known_of.ensures.err in
+    inr (inr (c.in-Ok.manifest, c.in-Ok.ensures.ok, refuses))

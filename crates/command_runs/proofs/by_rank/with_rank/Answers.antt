@@ -1,0 +1,18 @@
+use Rattle.std.proofs.Common.{◌≡◌, sym, subst}
+use Rattle.trace_know.specs.View.{View, join}
+use Rattle.trace_node.specs.ByRank.{AreTold, IsOfRank}
+use Rattle.command_runs.specs.Traces.{IsKnown}
+use Rattle.command_runs.proofs.ByRank.{known_of, own_refused}
+use Rattle.command_runs.proofs.by_rank.with_rank.Goals as goal
+
+pub returns-in-Err-clause-err : goal.returns-in-Err-clause-err
+returns-in-Err-clause-err g c =
+    own_refused (g.O.Opener.file c.args.files.now) c.args.layout.now.ranks c.args.rank c.args.pieces.now c.in-Err.fault c.requires.rank c.requires.own c.in-Err.ensures.err
+
+pub returns-clause-ok : goal.returns-clause-ok
+returns-clause-ok g c =
+    let file = g.O.Opener.file c.args.files.now in
+    let know : View = c.in_ok-know.know in
+    let known : IsKnown file c.args.pieces.now know = subst (λ (v : View). IsKnown file c.args.pieces.now v) (sym c.in_ok-know.ensures) c.in-Ok.ensures.ok in
+    let of : IsOfRank know c.args.rank = known_of c.view_laws.ensures.cells (λ r. r ≡ c.args.rank) file c.args.pieces.now know known c.requires.own in
+    (know, known, λ view was. c.in_ok-more.ensures view was of)
