@@ -106,6 +106,6 @@ walk-run : (at : ℕ) (run : Run) (runs : List Run) → IsWalk at (run ∷ runs)
 walk-run at run runs walk =
     run-from run.rank run.first at run.cells.items (listed runs) walk.0 (λ p is. off_runs run.rank p (end_of run) runs (omega (arith, is)) walk.1.1.2)
 
-pub walk-first : (at : ℕ) (runs : List Run) (run : Run) (n : ℕ) → Some run ≡ slice_get runs 0 → n ≡ length run.cells.items → IsWalk at runs → run_len (drop at (listed runs)) ≡ n - at
-walk-first at [] run n is len walk = absurd cc
-walk-first at (r ∷ runs) run n is len walk = let same : run ≡ r = cc in walk-run at r runs walk ∙ ap (λ (m : ℕ). m - at) (sym (len ∙ ap (λ (x : Run). length x.cells.items) same))
+pub walk-first : (at : ℕ) (runs : List Run) (run : Run) (rest : List Run) (n : ℕ) → runs ≡ run ∷ rest → n ≡ length run.cells.items → IsWalk at runs → run_len (drop at (listed runs)) ≡ n - at
+walk-first at runs run rest n is len walk =
+    ap (λ (rs : List Run). run_len (drop at (listed rs))) is ∙ walk-run at run rest (subst (λ (rs : List Run). IsWalk at rs) is walk) ∙ ap (λ (m : ℕ). m - at) (sym len)

@@ -26,3 +26,5 @@ pub mod Beyond
 pub mod Covering
 pub mod AnyOrder
 pub mod Alone
+pub mod Packing
+pub mod InRoom

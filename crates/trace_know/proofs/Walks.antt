@@ -1,9 +1,9 @@
 -- A walk over the cells of runs, one step at a time.
-use Rattle.std.proofs.Common.{◌≡◌, ℕ, ◌+◌, ◌<◌, suc, zero, Some, List, [], ◌∷◌, ◌++◌, length, drop, get_or, refl, sym, ap, subst, ◌∙◌, arith}
+use Rattle.std.proofs.Common.{◌≡◌, ℕ, ◌+◌, ◌<◌, ◌≤◌, suc, zero, Some, List, [], ◌∷◌, ◌++◌, length, drop, get_or, refl, sym, ap, subst, ◌∙◌, arith}
 use Rattle.std.specs.List.{slice_get}
 use Rattle.trace_know.specs.declared.cell.Known.{Known}
 use Rattle.trace_know.specs.declared.run.Run.{Run}
-use Rattle.trace_know.specs.Runs.{placed_cells, listed, IsWalk}
+use Rattle.trace_know.specs.Runs.{placed_cells, listed, end_of, Above, IsWalk}
 use Rattle.trace_know.proofs.Listing.{placed-at}
 
 abbrev Entries : Type 0
@@ -55,3 +55,26 @@ within_first runs run rest at is h = (subst (λ (rs : List Run). IsWalk at rs) i
 
 pub shorter : (xs ys : Entries) (x : (ℕ × ℕ) × Known) → xs ≡ x ∷ ys → length ys < length xs
 shorter xs ys x h = let size : length xs ≡ length (x ∷ ys) = ap length h in omega arith
+
+-- past the last run no cell is left
+pub walk-ended : (runs : List Run) (index at : ℕ) → length runs ≤ index → IsWalk at (drop index runs) → drop at (listed (drop index runs)) ≡ []
+walk-ended [] zero at h walk = let none : Entries = [] in ap (λ (n : ℕ). drop n none) walk
+walk-ended [] (suc index) at h walk = let none : Entries = [] in ap (λ (n : ℕ). drop n none) walk
+walk-ended (r ∷ runs) zero at h walk = absurd (omega arith)
+walk-ended (r ∷ runs) (suc index) at h walk = walk-ended runs index at (omega arith) walk
+
+-- a walk in its run
+pub walk-inside : (runs : List Run) (run : Run) (rest : List Run) (at : ℕ) → runs ≡ run ∷ rest → IsWalk at runs → at + 1 < length run.cells.items → IsWalk (at + 1) runs
+walk-inside runs run rest at is walk h =
+    let here = subst (λ (rs : List Run). IsWalk at rs) is walk in
+    subst (λ (rs : List Run). IsWalk (at + 1) rs) (sym is) (h, here.1)
+
+-- before the first cell of the next run
+pub walk-next : (runs : List Run) (run : Run) (rest : List Run) (at : ℕ) → runs ≡ run ∷ rest → IsWalk at runs → IsWalk 0 rest
+walk-next runs run rest at is walk =
+    let here = subst (λ (rs : List Run). IsWalk at rs) is walk in
+    begun (end_of run) rest here.1.1.2
+  where
+    begun : (low : ℕ) (rs : List Run) → Above low rs → IsWalk 0 rs
+    begun low [] a = refl
+    begun low (r ∷ rs) a = (a.1.some, (low, a))

@@ -12,3 +12,5 @@ pub mod Touching
 pub mod Among
 pub mod Patches
 pub mod Ready
+pub mod Chunks
+pub mod Lent

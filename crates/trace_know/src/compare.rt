@@ -10,6 +10,7 @@ ghost use Rattle.trace_know.specs.View.{join};
 use crate::boxed::BoxedRun;
 use crate::cell::Known;
 use crate::readers::known_in;
+use crate::run_list::RunList;
 use crate::walk::Walk;
 
 /// Whether both walks have the same cells.
@@ -49,9 +50,9 @@ fn is_held(held: Option<&Known>, known: &Known) -> bool
 }
 
 /// Whether runs hold all cells of a walk.
-pub(crate) fn holds_all(runs: &[BoxedRun], others: Walk<'_>) -> bool
-    requires { Above 0 runs.now }
-    ensures { IsTrue result ↔ AllHeld others.entry (of_runs runs.now) }
+pub(crate) fn holds_all(runs: &RunList, others: Walk<'_>) -> bool
+    requires { Above 0 runs.now.items }
+    ensures { IsTrue result ↔ AllHeld others.entry (of_runs runs.now.items) }
 {
     let mut others = others;
     while let Some((rank, place, known)) = others.next() {
@@ -63,10 +64,10 @@ pub(crate) fn holds_all(runs: &[BoxedRun], others: Walk<'_>) -> bool
 }
 
 /// Whether runs hold all cells of another.
-pub(crate) fn holds_run(runs: &[BoxedRun], other: &BoxedRun) -> bool
-    requires above { Above 0 runs.now }
+pub(crate) fn holds_run(runs: &RunList, other: &BoxedRun) -> bool
+    requires above { Above 0 runs.now.items }
     requires filled { IsFilled other.now }
-    ensures { IsTrue result → join (of_runs runs.now) (of_run other.now) ≡ of_runs runs.now }
+    ensures { IsTrue result → join (of_runs runs.now.items) (of_run other.now) ≡ of_runs runs.now.items }
 {
     for i in 0..other.len() {
         let place = other.first() + i as u64;

@@ -19,7 +19,7 @@ const LONG_SEGMENT: usize = 1_024;
 
 /// What segments tell together, whatever order they come in. They are held back and joined in the order
 /// of their places, so that each goes to the end of what is known: a million short segments cost the
-/// sorting, where [`Knowledge::take`] moves a pointer for each run behind a new one. Long ones are
+/// sorting, where [`Knowledge::take`] moves pointers for each new run among others. Long ones are
 /// joined once a hundred thousand events are held.
 ///
 /// In a contract it is the view of all that was read.

@@ -23,6 +23,7 @@ use crate::readers::{
 };
 use crate::ready::{ReadySegment, piece_of};
 use crate::run::{run_of, run_of_cells};
+use crate::run_list::RunList;
 use crate::runs::{take_cell, take_or_return};
 use crate::segment::Segment;
 use crate::walk::Walk;
@@ -31,20 +32,20 @@ use std::alloc::{AllocError, AllocFailed, Global};
 use std::marker::Model;
 
 /// The run, where there is one alone.
-fn only_run(runs: &[BoxedRun]) -> Option<&BoxedRun>
-    ensures { IfSome result (λ run. runs.now ≡ run.now ∷ []) }
+fn only_run(runs: &RunList) -> Option<&BoxedRun>
+    ensures { IfSome result (λ run. runs.now.items ≡ run.now ∷ []) }
 {
-    match runs {
-        [run] => Some(run),
-        _ => None,
+    if runs.len() != 1 {
+        return None;
     }
+    Some(runs.at(0))
 }
 
 /// What is known of each place of each rank. Empty knowledge takes no memory; a copy takes its own.
 #[derive(Debug, Drop)]
 pub struct Knowledge {
     alloc: Global,
-    runs: Vec<BoxedRun>,
+    runs: RunList,
     /// No fewer than there are cells.
     most: usize,
 }
@@ -74,7 +75,7 @@ impl Knowledge {
     {
         Knowledge {
             alloc,
-            runs: Vec::new(alloc),
+            runs: RunList::new(alloc),
             most: 0,
         }
     }

@@ -8,15 +8,16 @@
 //! The cells are kept as runs, stretches of places of a rank without a gap. Taking a segment finds
 //! by halving the runs that it touches, and moves its cells into the longest of them, or that one's
 //! into it: at a run's end it costs its own cells, and in any order of the segments a cell moves as
-//! often as the logarithm of their number. A new run among others moves a pointer for each later
-//! one. Joining other knowledge costs its cells, and of ours those of the runs that it touches with
-//! something new; of all others a pointer is moved. The readable prefix of a rank is one halving, and
-//! so is a cell. A walk over all cells takes no memory.
+//! often as the logarithm of their number. The list of runs is cut into chunks of 1,024: a new run among
+//! others moves some pointers of its chunk, and one of each chunk behind. Joining other knowledge costs its
+//! cells, and of ours those of the runs that it touches with something new; of all others a pointer is moved.
+//! The readable prefix of a rank is one halving, and so is a cell. A walk over all cells takes no memory.
 //!
 //! - [`cell`]: what is known of one place
 //! - [`segment`]: events of one rank at consecutive places; [`ready`]: such whose events stand as cells
 //! - [`run`]: cells of one rank without a gap; [`boxed`]: a run in memory of its own; [`runs`]: such
-//!   runs in their order; [`copies`]: of runs; [`patches`]: joins of whole lists of runs
+//!   runs in their order; [`run_list`]: the list that they stand in, [`chunks`]: what it is cut into;
+//!   [`copies`]: of runs; [`patches`]: joins of whole lists of runs
 //! - [`readers`]: what runs tell; [`walk`]: their cells one after another; [`compare`]: by walks
 //! - [`knowledge`]: all that is known; [`gathering`]: segments that come in any order
 //! - [`laws`]: what holds of joins and views, as contracts of calls that do nothing
@@ -26,6 +27,7 @@
 
 mod boxed;
 mod cell;
+mod chunks;
 mod compare;
 mod copies;
 mod gathering;
@@ -35,6 +37,7 @@ mod patches;
 mod readers;
 mod ready;
 mod run;
+mod run_list;
 mod runs;
 mod segment;
 mod walk;

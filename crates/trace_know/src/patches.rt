@@ -9,58 +9,55 @@ ghost use Rattle.trace_know.specs.View.{join};
 use crate::boxed::BoxedRun;
 use crate::compare::holds_run;
 use crate::copies::boxed_copy;
+use crate::run_list::RunList;
 use crate::runs::{begins_by, end, first_at, take_run};
 use std::alloc::{AllocError, Global};
 use std::mem;
 
 /// Copies of those of the others that tell more than is held.
-fn unheld(
-    alloc: Global,
-    runs: &[BoxedRun],
-    others: &[BoxedRun],
-) -> Result<Vec<BoxedRun>, AllocError>
-    requires above { Above 0 runs.now }
-    requires others { Above 0 others.now }
-    ensures view { IfOk result (λ patch. AddTheSame runs.now patch.items others.now) }
+fn unheld(alloc: Global, runs: &RunList, others: &RunList) -> Result<RunList, AllocError>
+    requires above { Above 0 runs.now.items }
+    requires others { Above 0 others.now.items }
+    ensures view { IfOk result (λ patch. AddTheSame runs.now.items patch.items others.now.items) }
     ensures above { IfOk result (λ patch. Above 0 patch.items) }
 {
-    let mut patch = Vec::new(alloc);
-    for other in others {
+    let mut patch = RunList::new(alloc);
+    for index in 0..others.len() {
+        let other = others.at(index);
         if holds_run(runs, other) {
             continue;
         }
-        patch.push(boxed_copy(alloc, other)?)?;
+        let copy = boxed_copy(alloc, other)?;
+        patch.reserve(1)?;
+        patch.push(copy);
     }
     Ok(patch)
 }
 
 /// Whether a run touches one of others.
-fn touches_any(runs: &[BoxedRun], run: &BoxedRun) -> bool
-    requires above { Above 0 runs.now }
+fn touches_any(runs: &RunList, run: &BoxedRun) -> bool
+    requires above { Above 0 runs.now.items }
     requires filled { IsFilled run.now }
-    ensures { IsFalse result → IsClear run.now (of_runs runs.now) }
+    ensures { IsFalse result → IsClear run.now (of_runs runs.now.items) }
 {
     let at = first_at(runs, run.rank(), run.first());
     if at >= runs.len() {
         return false;
     }
-    begins_by(&runs[at], run.rank(), end(run))
+    begins_by(runs.at(at), run.rank(), end(run))
 }
 
 /// Joins copies of the runs to a patch that touch it. The runs stand apart, so that one which is
 /// passed over touches none of the copies either.
-fn take_touched(
-    alloc: Global,
-    patch: &mut Vec<BoxedRun>,
-    runs: &[BoxedRun],
-) -> Result<(), AllocError>
-    requires above { Above 0 runs.now }
+fn take_touched(alloc: Global, patch: &mut RunList, runs: &RunList) -> Result<(), AllocError>
+    requires above { Above 0 runs.now.items }
     requires patch { Above 0 patch.old.items }
-    ensures view { OnOk result (AddTheSame runs.now patch.new.items patch.old.items) }
-    ensures settled { OnOk result (AllSettled runs.now (of_runs patch.new.items)) }
+    ensures view { OnOk result (AddTheSame runs.now.items patch.new.items patch.old.items) }
+    ensures settled { OnOk result (AllSettled runs.now.items (of_runs patch.new.items)) }
     ensures above { Above 0 patch.new.items }
 {
-    for run in runs {
+    for index in 0..runs.len() {
+        let run = runs.at(index);
         if !touches_any(patch, run) {
             continue;
         }
@@ -71,29 +68,27 @@ fn take_touched(
 }
 
 /// Whether there are runs, and the last of them begins behind all others.
-fn is_behind(runs: &[BoxedRun], others: &[BoxedRun]) -> bool
-    requires above { Above 0 runs.now }
-    requires others { Above 0 others.now }
-    ensures behind { IsTrue result → LastIsBehind runs.now others.now }
-    ensures reached { IsFalse result → 0 < length runs.now → LastIsReached runs.now others.now }
+fn is_behind(runs: &RunList, others: &RunList) -> bool
+    requires above { Above 0 runs.now.items }
+    requires others { Above 0 others.now.items }
+    ensures behind { IsTrue result → LastIsBehind runs.now.items others.now.items }
+    ensures reached { IsFalse result → 0 < length runs.now.items → LastIsReached runs.now.items others.now.items }
 {
-    let count = runs.len();
-    if count == 0 {
+    if runs.len() == 0 {
         return false;
     }
-    let other_count = others.len();
-    if other_count == 0 {
+    if others.len() == 0 {
         return true;
     }
-    let other = &others[other_count - 1];
-    if begins_by(&runs[count - 1], other.rank(), end(other)) {
+    let other = others.last();
+    if begins_by(runs.last(), other.rank(), end(other)) {
         return false;
     }
     true
 }
 
 /// Moves the last run of a list to the end of another.
-fn move_last(runs: &mut Vec<BoxedRun>, falling: &mut Vec<BoxedRun>)
+fn move_last(runs: &mut RunList, falling: &mut Vec<BoxedRun>)
     requires some { 0 < length runs.old.items }
     requires room { vec_len falling.old < vec_capacity falling.old }
     ensures runs { runs.new.items ≡ take (length runs.old.items - 1) runs.old.items }
@@ -101,14 +96,12 @@ fn move_last(runs: &mut Vec<BoxedRun>, falling: &mut Vec<BoxedRun>)
     ensures falling { (d : RunValue) → falling.new.items ≡ falling.old.items ++ last_of runs.old.items d ∷ [] }
     ensures room { (vec_len falling.new ≡ vec_len falling.old + 1) × (vec_capacity falling.new ≡ vec_capacity falling.old) }
 {
-    let Some(run) = runs.pop() else {
-        unreachable!();
-    };
+    let run = runs.pop();
     falling.push_reserved(run);
 }
 
 /// Lets the last run of a list go.
-fn drop_last(runs: &mut Vec<BoxedRun>)
+fn drop_last(runs: &mut RunList)
     requires some { 0 < length runs.old.items }
     ensures runs { runs.new.items ≡ take (length runs.old.items - 1) runs.old.items }
     ensures len { length runs.new.items + 1 ≡ length runs.old.items }
@@ -116,19 +109,34 @@ fn drop_last(runs: &mut Vec<BoxedRun>)
     runs.pop();
 }
 
-/// The runs with a patch in the place of those that it touches, by way of a list with room for all of them.
-fn patched(runs: Vec<BoxedRun>, patch: Vec<BoxedRun>, room: Vec<BoxedRun>) -> Vec<BoxedRun>
+/// Moves the runs of a list to one that has room for them, the last first.
+fn turned(falling: Vec<BoxedRun>, room: RunList) -> RunList
+    requires empty { room.items ≡ [] }
+    requires room { length falling.items ≤ room.room }
+    ensures { result.items ≡ reverse falling.items }
+{
+    let mut falling = falling;
+    let mut runs = room;
+    while let Some(run) = falling.pop() {
+        runs.push(run);
+    }
+    runs
+}
+
+/// The runs with a patch in the place of those that it touches, by way of lists with room for all of them.
+fn patched(runs: RunList, patch: RunList, between: Vec<BoxedRun>, room: RunList) -> RunList
     requires above { Above 0 runs.items }
     requires patch { Above 0 patch.items }
     requires covers { Covers patch.items runs.items }
-    requires empty { room.items ≡ [] }
-    requires room { length runs.items + length patch.items + vec_len room ≤ vec_capacity room }
+    requires empty { (between.items ≡ []) × (room.items ≡ []) }
+    requires between { length runs.items + length patch.items + vec_len between ≤ vec_capacity between }
+    requires room { length runs.items + length patch.items ≤ room.room }
     ensures view { of_runs result.items ≡ join (of_runs runs.items) (of_runs patch.items) }
     ensures above { Above 0 result.items }
 {
     let mut runs = runs;
     let mut patch = patch;
-    let mut falling = room;
+    let mut falling = between;
     while runs.len() + patch.len() > 0 {
         if is_behind(&runs, &patch) {
             move_last(&mut runs, &mut falling);
@@ -141,30 +149,31 @@ fn patched(runs: Vec<BoxedRun>, patch: Vec<BoxedRun>, room: Vec<BoxedRun>) -> Ve
         // (the patch has all that this one has)
         drop_last(&mut runs);
     }
-    falling.reverse();
-    falling
+    turned(falling, room)
 }
 
 /// Joins copies of other runs to these. All growths come before the first write, so at `Err` the runs hold what they
 /// held. The runs that the others don't touch are not copied: only their pointers are moved.
 pub(crate) fn join_runs(
     alloc: Global,
-    runs: &mut Vec<BoxedRun>,
-    others: &[BoxedRun],
+    runs: &mut RunList,
+    others: &RunList,
 ) -> Result<(), AllocError>
     requires above { Above 0 runs.old.items }
-    requires others { Above 0 others.now }
-    ensures ok { OnOk result (of_runs runs.new.items ≡ join (of_runs runs.old.items) (of_runs others.now)) }
+    requires others { Above 0 others.now.items }
+    ensures ok { OnOk result (of_runs runs.new.items ≡ join (of_runs runs.old.items) (of_runs others.now.items)) }
     ensures err { OnErr result (of_runs runs.new.items ≡ of_runs runs.old.items) }
     ensures above { Above 0 runs.new.items }
 {
     let mut patch = unheld(alloc, runs, others)?;
-    if patch.is_empty() {
+    if patch.len() == 0 {
         return Ok(());
     }
     take_touched(alloc, &mut patch, runs)?;
-    let room = Vec::with_capacity(alloc, runs.len() + patch.len())?;
-    let ours = mem::replace(runs, Vec::new(alloc));
-    *runs = patched(ours, patch, room);
+    let most = runs.len().checked_add(patch.len()).ok_or(AllocError)?;
+    let between = Vec::with_capacity(alloc, most)?;
+    let room = RunList::with_room(alloc, most)?;
+    let ours = mem::replace(runs, RunList::new(alloc));
+    *runs = patched(ours, patch, between, room);
     Ok(())
 }

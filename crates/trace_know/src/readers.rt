@@ -12,30 +12,33 @@ ghost use Rattle.trace_know.specs.Runs.{Above, IsFilled, IsFront, cells_of_run, 
 use crate::boxed::BoxedRun;
 use crate::cell::{Known, enters_unread};
 use crate::run::Run;
+use crate::run_list::RunList;
 use crate::runs::{first_at, known_at};
 use crate::segment::PLACES;
 use mpi_model::Event;
 use std::alloc::{AllocError, Global};
 
 /// How many cells there are.
-pub(crate) fn count_cells(runs: &[BoxedRun]) -> usize
-    requires { length (listed runs.now) < 2 ^ 64 }
-    ensures { result ≡ length (listed runs.now) }
+pub(crate) fn count_cells(runs: &RunList) -> usize
+    requires { length (listed runs.now.items) < 2 ^ 64 }
+    ensures { result ≡ length (listed runs.now.items) }
 {
     let mut count = 0;
-    for run in runs {
+    for index in 0..runs.len() {
+        let run = runs.at(index);
         count += run.len();
     }
     count
 }
 
 /// The `i`-th cell, with its rank and place.
-pub(crate) fn cell_in(runs: &[BoxedRun], i: usize) -> Option<(u32, u64, &Known)>
-    requires { Above 0 runs.now }
-    ensures { option_map as_entry result ≡ slice_get (listed runs.now) i }
+pub(crate) fn cell_in(runs: &RunList, i: usize) -> Option<(u32, u64, &Known)>
+    requires { Above 0 runs.now.items }
+    ensures { option_map as_entry result ≡ slice_get (listed runs.now.items) i }
 {
     let mut left = i;
-    for run in runs {
+    for index in 0..runs.len() {
+        let run = runs.at(index);
         if left < run.len() {
             return Some((run.rank(), run.first() + left as u64, run.cell(left)));
         }
@@ -45,9 +48,9 @@ pub(crate) fn cell_in(runs: &[BoxedRun], i: usize) -> Option<(u32, u64, &Known)>
 }
 
 /// What is known of a place, its run found by halving.
-pub(crate) fn known_in(runs: &[BoxedRun], rank: u32, place: u64) -> Option<&Known>
-    requires { Above 0 runs.now }
-    ensures { option_copied result ≡ get (of_runs runs.now) (rank, place) }
+pub(crate) fn known_in(runs: &RunList, rank: u32, place: u64) -> Option<&Known>
+    requires { Above 0 runs.now.items }
+    ensures { option_copied result ≡ get (of_runs runs.now.items) (rank, place) }
 {
     if place >= PLACES {
         return None;
@@ -56,15 +59,15 @@ pub(crate) fn known_in(runs: &[BoxedRun], rank: u32, place: u64) -> Option<&Know
 }
 
 /// The run of a rank that begins at place 0.
-fn front_run(runs: &[BoxedRun], rank: u32) -> Option<&BoxedRun>
-    requires { Above 0 runs.now }
-    ensures { MatchOption result (get (of_runs runs.now) (rank, 0) ≡ None) (λ run. IsFront runs.now rank run.now) }
+fn front_run(runs: &RunList, rank: u32) -> Option<&BoxedRun>
+    requires { Above 0 runs.now.items }
+    ensures { MatchOption result (get (of_runs runs.now.items) (rank, 0) ≡ None) (λ run. IsFront runs.now.items rank run.now) }
 {
     let at = first_at(runs, rank, 1);
     if at >= runs.len() {
         return None;
     }
-    let run = &runs[at];
+    let run = runs.at(at);
     if run.rank() != rank {
         return None;
     }
@@ -75,9 +78,9 @@ fn front_run(runs: &[BoxedRun], rank: u32) -> Option<&BoxedRun>
 }
 
 /// The readable prefix of a rank.
-pub(crate) fn prefix_in(runs: &[BoxedRun], rank: u32) -> u64
-    requires { Above 0 runs.now }
-    ensures { result ≡ prefix_of (of_runs runs.now) rank }
+pub(crate) fn prefix_in(runs: &RunList, rank: u32) -> u64
+    requires { Above 0 runs.now.items }
+    ensures { result ≡ prefix_of (of_runs runs.now.items) rank }
 {
     match front_run(runs, rank) {
         Some(run) => run.sound() as u64,
@@ -109,11 +112,11 @@ fn is_unread_at(run: &BoxedRun, i: usize) -> bool
 /// The events below the readable prefix of a rank.
 pub(crate) fn readable_in(
     alloc: Global,
-    runs: &[BoxedRun],
+    runs: &RunList,
     rank: u32,
 ) -> Result<Vec<&Event>, AllocError>
-    requires { Above 0 runs.now }
-    ensures { IfOk result (λ events. map (λ e. e.now) events.items ≡ events_of (of_runs runs.now) rank) }
+    requires { Above 0 runs.now.items }
+    ensures { IfOk result (λ events. map (λ e. e.now) events.items ≡ events_of (of_runs runs.now.items) rank) }
 {
     let Some(run) = front_run(runs, rank) else {
         return Ok(Vec::new(alloc));
@@ -126,9 +129,9 @@ pub(crate) fn readable_in(
 }
 
 /// Whether the readable prefix of a rank ends at the Enter of an unread call.
-pub(crate) fn is_unread_in(runs: &[BoxedRun], rank: u32) -> bool
-    requires { Above 0 runs.now }
-    ensures { result ≡ is_unread (of_runs runs.now) rank }
+pub(crate) fn is_unread_in(runs: &RunList, rank: u32) -> bool
+    requires { Above 0 runs.now.items }
+    ensures { result ≡ is_unread (of_runs runs.now.items) rank }
 {
     match front_run(runs, rank) {
         Some(run) => is_unread_at(run, run.sound()),
@@ -137,9 +140,9 @@ pub(crate) fn is_unread_in(runs: &[BoxedRun], rank: u32) -> bool
 }
 
 /// Whether something is known of the rank at the place or past it.
-pub(crate) fn any_from(runs: &[BoxedRun], rank: u32, place: u64) -> bool
-    requires { Above 0 runs.now }
-    ensures { IsTrue result ↔ IsBeyond (of_runs runs.now) rank place }
+pub(crate) fn any_from(runs: &RunList, rank: u32, place: u64) -> bool
+    requires { Above 0 runs.now.items }
+    ensures { IsTrue result ↔ IsBeyond (of_runs runs.now.items) rank place }
 {
     if place >= PLACES {
         return false;
@@ -148,7 +151,7 @@ pub(crate) fn any_from(runs: &[BoxedRun], rank: u32, place: u64) -> bool
     if at >= runs.len() {
         return false;
     }
-    let run = &runs[at];
+    let run = runs.at(at);
     if run.rank() != rank {
         return false;
     }
@@ -156,13 +159,14 @@ pub(crate) fn any_from(runs: &[BoxedRun], rank: u32, place: u64) -> bool
 }
 
 /// How many cells are contradictions.
-pub(crate) fn count_conflicts(runs: &[BoxedRun]) -> usize
-    requires above { Above 0 runs.now }
-    requires few { length (listed runs.now) < 2 ^ 64 }
-    ensures { result ≡ length (conflicts_in (listed runs.now)) }
+pub(crate) fn count_conflicts(runs: &RunList) -> usize
+    requires above { Above 0 runs.now.items }
+    requires few { length (listed runs.now.items) < 2 ^ 64 }
+    ensures { result ≡ length (conflicts_in (listed runs.now.items)) }
 {
     let mut count = 0;
-    for run in runs {
+    for index in 0..runs.len() {
+        let run = runs.at(index);
         count += run.conflicts();
     }
     count
@@ -194,12 +198,13 @@ fn conflict_in_run(run: &BoxedRun, i: usize) -> Option<(u32, u64)>
 }
 
 /// The place of the `i`-th contradiction.
-pub(crate) fn conflict_in(runs: &[BoxedRun], i: usize) -> Option<(u32, u64)>
-    requires { Above 0 runs.now }
-    ensures { result ≡ slice_get (conflicts_in (listed runs.now)) i }
+pub(crate) fn conflict_in(runs: &RunList, i: usize) -> Option<(u32, u64)>
+    requires { Above 0 runs.now.items }
+    ensures { result ≡ slice_get (conflicts_in (listed runs.now.items)) i }
 {
     let mut left = i;
-    for run in runs {
+    for index in 0..runs.len() {
+        let run = runs.at(index);
         if left < run.conflicts() {
             return conflict_in_run(run, left);
         }
@@ -224,13 +229,14 @@ fn add_conflicts(places: &mut Vec<(u32, u64)>, run: &BoxedRun) -> Result<(), All
 /// The places of all contradictions.
 pub(crate) fn conflict_places_in(
     alloc: Global,
-    runs: &[BoxedRun],
+    runs: &RunList,
 ) -> Result<Vec<(u32, u64)>, AllocError>
-    requires { Above 0 runs.now }
-    ensures { IfOk result (λ places. places.items ≡ conflicts_in (listed runs.now)) }
+    requires { Above 0 runs.now.items }
+    ensures { IfOk result (λ places. places.items ≡ conflicts_in (listed runs.now.items)) }
 {
     let mut places = Vec::new(alloc);
-    for run in runs {
+    for index in 0..runs.len() {
+        let run = runs.at(index);
         if run.conflicts() == 0 {
             continue;
         }

@@ -5,16 +5,18 @@ ghost use Rattle.std.specs.Iterator.{YieldsFirstBy, item_count};
 ghost use Rattle.trace_know.specs.Listing.{run_len};
 ghost use Rattle.trace_know.specs.Runs.{Above, listed};
 
-use crate::boxed::BoxedRun;
 use crate::cell::Known;
+use crate::run_list::RunList;
 use std::marker::Model;
 
 /// The cells that a walk has left, in rising order of rank and place: the rank, the place, and
 /// what is known there. Each step costs the same, and none takes memory.
 #[derive(Debug, Drop)]
 pub struct Walk<'a> {
-    runs: &'a [BoxedRun],
-    /// The index of the next cell in the first run.
+    runs: &'a RunList,
+    /// The index of the run that has the next cell.
+    index: usize,
+    /// The index of the next cell in its run.
     at: usize,
 }
 
@@ -29,18 +31,22 @@ impl<'a> Model for Walk<'a> {
 
     ghost coded = { coded_list (coded× (coded× coded_ℕ coded_ℕ) known.the_row.coded) };
 
-    ghost view = { λ w. drop w.at (listed w.runs.now) };
+    ghost view = { λ w. drop w.at (listed (drop w.index w.runs.now.items)) };
 
-    ghost invariant = { λ w. IsWalk w.at w.runs.now };
+    ghost invariant = { λ w. IsWalk w.at (drop w.index w.runs.now.items) };
 }
 
 impl<'a> Walk<'a> {
     /// A walk over the cells of runs.
-    pub(crate) fn new(runs: &'a [BoxedRun]) -> Walk<'a>
-        requires { Above 0 runs.now }
-        ensures { result ≡ listed runs.now }
+    pub(crate) fn new(runs: &'a RunList) -> Walk<'a>
+        requires { Above 0 runs.now.items }
+        ensures { result ≡ listed runs.now.items }
     {
-        Walk { runs, at: 0 }
+        Walk {
+            runs,
+            index: 0,
+            at: 0,
+        }
     }
 
     /// How many of the cells that are left stand without a gap from the next one on: all of its rank, each
@@ -48,10 +54,11 @@ impl<'a> Walk<'a> {
     pub fn run_len(&self) -> usize
         ensures { result ≡ run_len self.now }
     {
-        match self.runs.first() {
-            None => 0,
-            Some(run) => run.len() - self.at,
+        let count = self.runs.len();
+        if self.index >= count {
+            return 0;
         }
+        self.runs.at(self.index).len() - self.at
     }
 }
 
@@ -63,14 +70,18 @@ impl<'a> Iterator for Walk<'a> {
     ghost remaining = { item_count (λ rest. rest) };
 
     fn next(&mut self) -> Option<(u32, u64, &'a Known)> {
-        let (run, rest) = self.runs.split_first()?;
+        let count = self.runs.len();
+        if self.index >= count {
+            return None;
+        }
+        let run = self.runs.at(self.index);
         let known = run.cell(self.at);
         let place = run.first() + self.at as u64;
         if self.at + 1 < run.len() {
             self.at += 1;
             return Some((run.rank(), place, known));
         }
-        self.runs = rest;
+        self.index += 1;
         self.at = 0;
         Some((run.rank(), place, known))
     }

@@ -11,7 +11,7 @@ use Rattle.trace_know.proofs.compare.holds_run.Goals as goal
 pub loop-i-preserved : goal.loop-i-preserved
 loop-i-preserved c = λ k d l.
     let other = c.args.other.now in
-    let view = of_runs c.args.runs.now in
+    let view = of_runs c.args.runs.now.items in
     let i = c.loop-i.i in
     elim (cases_lt k i) [
       | inl lt ↦ c.loop-i.invariant k d lt
@@ -25,4 +25,4 @@ loop-i-preserved c = λ k d l.
     ]
 
 pub returns : goal.returns
-returns c = λ t. run-held c.args.other.now (of_runs c.args.runs.now) (λ i d l. c.loop-i.invariant i d (omega arith))
+returns c = λ t. run-held c.args.other.now (of_runs c.args.runs.now.items) (λ i d l. c.loop-i.invariant i d (omega arith))

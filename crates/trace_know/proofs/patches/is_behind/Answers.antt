@@ -22,24 +22,24 @@ not_so true e t = absurd cc
 not_so false e t = absurd cc
 
 pub end-requires : goal.end-requires
-end-requires c = last_filled c.args.others.now c.index-others-other_count.result c.requires.others (omega arith) c.index-others-other_count.is
+end-requires c = last_filled c.args.others.now.items c.last-other.result.now c.requires.others (omega arith) c.last-other.ensures
 
 pub begins_by-requires-clause-filled : goal.begins_by-requires-clause-filled
-begins_by-requires-clause-filled c = last_filled c.args.runs.now c.index-runs-count.result c.requires.above (omega arith) c.index-runs-count.is
+begins_by-requires-clause-filled c = last_filled c.args.runs.now.items c.last.result.now c.requires.above (omega arith) c.last.ensures
 
 pub begins_by-requires-clause-place : goal.begins_by-requires-clause-place
 begins_by-requires-clause-place c =
-    let f = last_filled c.args.others.now c.index-others-other_count.result c.requires.others (omega arith) c.index-others-other_count.is in
+    let f = last_filled c.args.others.now.items c.last-other.result.now c.requires.others (omega arith) c.last-other.ensures in
     let places = f.places in
     let end = c.end.ensures in
     omega arith
 
 pub returns-clause-behind : goal.returns-clause-behind
 returns-clause-behind c = λ t.
-    let r = c.index-runs-count.result in
-    let o = c.index-others-other_count.result in
+    let r = c.last.result.now in
+    let o = c.last-other.result.now in
     elim (cases_lt (end_of o) (start_of r)) [
-      | inl lt ↦ record { some = omega arith; behind = λ d. last_behind c.args.runs.now c.args.others.now r o d (omega arith) (omega arith) c.index-runs-count.is c.index-others-other_count.is lt }
+      | inl lt ↦ record { some = omega arith; behind = λ d. last_behind c.args.runs.now.items c.args.others.now.items r o d (omega arith) (omega arith) c.last.ensures c.last-other.ensures lt }
       | inr le ↦
           let rank = c.rank.ensures in
           let end = c.end.ensures in

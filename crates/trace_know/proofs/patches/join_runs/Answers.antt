@@ -12,27 +12,27 @@ all_held : (rs patch : List Run) (v : View) → length patch ≡ 0 → join (of_
 all_held rs [] v h is = sym (join-empty (of_runs rs)) ∙ is
 all_held rs (p ∷ patch) v h is = absurd (omega arith)
 
-pub returns-then-is_empty-clause-ok : goal.returns-then-is_empty-clause-ok
-returns-then-is_empty-clause-ok c =
+pub returns-then-len-eq0-clause-ok : goal.returns-then-len-eq0-clause-ok
+returns-then-len-eq0-clause-ok c =
     let patch = c.in_ok-patch.patch.items in
-    let others = c.args.others.now in
-    let none : length patch ≡ 0 = search rules in
+    let others = c.args.others.now.items in
+    let none : length patch ≡ 0 = omega arith in
     all_held c.args.runs.now.items patch (join (of_runs c.args.runs.now.items) (of_runs others)) none
-    (subst (λ (rs : List Run). AddTheSame rs patch others) c.deref.ensures.value c.in_ok-patch.ensures.view)
+    (c.in_ok-patch.ensures.view)
 
 pub patched-requires-clause-covers : goal.patched-requires-clause-covers
 patched-requires-clause-covers c =
     let patch = c.take_touched.new.patch.items in
     let runs = c.args.runs.now.items in
-    let settled : AllSettled runs (of_runs patch) = subst (λ (rs : List Run). AllSettled rs (of_runs patch)) c.deref-2.ensures.value c.in_ok-take_touched.ensures.settled in
+    let settled : AllSettled runs (of_runs patch) = c.in_ok-take_touched.ensures.settled in
     subst (λ v. Covers patch v.items) (sym c.replace-ours.ensures.value) (settled-covers patch runs c.take_touched.ensures.above c.requires.above settled)
 
 pub returns-clause-ok : goal.returns-clause-ok
 returns-clause-ok c =
     let patch = c.in_ok-patch.patch.items in
-    let others = c.args.others.now in
+    let others = c.args.others.now.items in
     let runs = c.args.runs.now.items in
     c.patched.ensures.view
     ∙ ap (λ v. join (of_runs v.items) (of_runs c.take_touched.new.patch.items)) c.replace-ours.ensures.value
-    ∙ subst (λ (rs : List Run). AddTheSame rs c.take_touched.new.patch.items patch) c.deref-2.ensures.value c.in_ok-take_touched.ensures.view
-    ∙ subst (λ (rs : List Run). AddTheSame rs patch others) c.deref.ensures.value c.in_ok-patch.ensures.view
+    ∙ c.in_ok-take_touched.ensures.view
+    ∙ c.in_ok-patch.ensures.view

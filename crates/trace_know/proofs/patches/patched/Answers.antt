@@ -11,13 +11,14 @@ use Rattle.trace_know.proofs.patches.patched.Goals as goal
 
 pub loop-runs-init : goal.loop-runs-init
 loop-runs-init c = record {
-  room = let none : length c.args.room.items ≡ 0 = ap length c.requires.empty in let room = c.requires.room in omega arith;
+  turned = let none : length c.args.between.items ≡ 0 = ap length c.requires.empty.0 in let room = c.requires.room in omega arith;
+  room = let none : length c.args.between.items ≡ 0 = ap length c.requires.empty.0 in let between = c.requires.between in omega arith;
   runs = c.requires.above;
   patch = c.requires.patch;
-  behind_runs = subst (λ (rs : List Run). Above (last_end 0 c.args.runs.items) (reverse rs)) (sym c.requires.empty) tt;
-  behind_patch = subst (λ (rs : List Run). Above (last_end 0 c.args.patch.items) (reverse rs)) (sym c.requires.empty) tt;
+  behind_runs = subst (λ (rs : List Run). Above (last_end 0 c.args.runs.items) (reverse rs)) (sym c.requires.empty.0) tt;
+  behind_patch = subst (λ (rs : List Run). Above (last_end 0 c.args.patch.items) (reverse rs)) (sym c.requires.empty.0) tt;
   covers = c.requires.covers;
-  view = ap (λ (rs : List Run). join (join (of_runs c.args.runs.items) (of_runs c.args.patch.items)) (of_runs (reverse rs))) c.requires.empty ∙ join-empty (join (of_runs c.args.runs.items) (of_runs c.args.patch.items));
+  view = ap (λ (rs : List Run). join (join (of_runs c.args.runs.items) (of_runs c.args.patch.items)) (of_runs (reverse rs))) c.requires.empty.0 ∙ join-empty (join (of_runs c.args.runs.items) (of_runs c.args.patch.items));
 }
 
 -- what the list has that runs are moved to, read from behind
@@ -29,7 +30,7 @@ of_lists : (P : List Run → List Run → Type 0) (rs ps xs ys : List Run) → x
 of_lists P rs ps xs ys e f h = subst (P rs) f (subst (λ (zs : List Run). P zs ys) e h)
 
 pub move_last-requires-clause-some : goal.move_last-requires-clause-some
-move_last-requires-clause-some c = subst (λ (rs : List Run). 0 < length rs) c.deref.ensures.value (c.is_behind.ensures.behind c.if-is_behind.true).some
+move_last-requires-clause-some c = (c.is_behind.ensures.behind c.if-is_behind.true).some
 
 pub loop-runs-preserved-then-is_behind : goal.loop-runs-preserved-then-is_behind
 loop-runs-preserved-then-is_behind c =
@@ -37,15 +38,17 @@ loop-runs-preserved-then-is_behind c =
     let ps = c.loop-runs.patch.items in
     let fs = c.loop-runs.falling.items in
     let so_far = c.loop-runs.invariant in
-    let last : LastIsBehind rs ps = of_lists LastIsBehind rs ps c.deref.result.now c.deref-in-loop-runs.result.now c.deref.ensures.value c.deref-in-loop-runs.ensures.value (c.is_behind.ensures.behind c.if-is_behind.true) in
+    let last : LastIsBehind rs ps = c.is_behind.ensures.behind c.if-is_behind.true in
     let some = last.some in
     some-run rs some (λ d.
     let up : reverse c.move_last.new.falling.items ≡ last_of rs d ∷ reverse fs = risen fs c.move_last.new.falling.items (last_of rs d) (c.move_last.ensures.falling d) in
     let rise = moved-runs rs ps (reverse fs) d so_far.runs some (last.behind d) so_far.behind_runs in
     let fewer = c.move_last.ensures.runs in
     let room = so_far.room in
+    let turned = so_far.turned in
     record {
       room = omega arith;
+      turned = omega arith;
       runs = subst (λ (xs : List Run). Above 0 xs) (sym fewer) (above-take 0 (length rs - 1) rs so_far.runs);
       patch = so_far.patch;
       behind_runs = subst (λ (xs : List Run). Above (last_end 0 c.move_last.new.runs.items) xs) (sym up) (subst (λ (xs : List Run). Above (last_end 0 xs) (last_of rs d ∷ reverse fs)) (sym fewer) rise.0);
@@ -55,7 +58,7 @@ loop-runs-preserved-then-is_behind c =
     })
 
 pub move_last-requires-then-is_behind-2-clause-some : goal.move_last-requires-then-is_behind-2-clause-some
-move_last-requires-then-is_behind-2-clause-some c = subst (λ (ps : List Run). 0 < length ps) c.deref-in-loop-runs-2.ensures.value (c.is_behind-in-loop-runs.ensures.behind c.if-is_behind-2.true).some
+move_last-requires-then-is_behind-2-clause-some c = (c.is_behind-in-loop-runs.ensures.behind c.if-is_behind-2.true).some
 
 pub loop-runs-preserved-then-is_behind-2 : goal.loop-runs-preserved-then-is_behind-2
 loop-runs-preserved-then-is_behind-2 c =
@@ -63,7 +66,7 @@ loop-runs-preserved-then-is_behind-2 c =
     let ps = c.loop-runs.patch.items in
     let fs = c.loop-runs.falling.items in
     let so_far = c.loop-runs.invariant in
-    let last : LastIsBehind ps rs = of_lists LastIsBehind ps rs c.deref-in-loop-runs-2.result.now c.deref-in-loop-runs-3.result.now c.deref-in-loop-runs-2.ensures.value c.deref-in-loop-runs-3.ensures.value (c.is_behind-in-loop-runs.ensures.behind c.if-is_behind-2.true) in
+    let last : LastIsBehind ps rs = c.is_behind-in-loop-runs.ensures.behind c.if-is_behind-2.true in
     let some = last.some in
     some-run ps some (λ d.
     let step = c.move_last-then-is_behind-2 in
@@ -71,8 +74,10 @@ loop-runs-preserved-then-is_behind-2 c =
     let rise = moved-runs ps rs (reverse fs) d so_far.patch some (last.behind d) so_far.behind_patch in
     let fewer = step.ensures.runs in
     let room = so_far.room in
+    let turned = so_far.turned in
     record {
       room = omega arith;
+      turned = omega arith;
       runs = so_far.runs;
       patch = subst (λ (xs : List Run). Above 0 xs) (sym fewer) (above-take 0 (length ps - 1) ps so_far.patch);
       behind_runs = subst (λ (xs : List Run). Above (last_end 0 rs) xs) (sym up) rise.1;
@@ -100,7 +105,7 @@ met rs ps xs ys zs ws a b c d h f g =
 pub drop_last-requires : goal.drop_last-requires
 drop_last-requires c =
     record {
-      some = (met c.loop-runs.runs.items c.loop-runs.patch.items _ _ _ _ c.deref.ensures.value c.deref-in-loop-runs.ensures.value c.deref-in-loop-runs-2.ensures.value c.deref-in-loop-runs-3.ensures.value
+      some = (met c.loop-runs.runs.items c.loop-runs.patch.items c.loop-runs.runs.items c.loop-runs.patch.items c.loop-runs.patch.items c.loop-runs.runs.items refl refl refl refl
           (omega arith) (c.is_behind.ensures.reached c.if-is_behind.false) (c.is_behind-in-loop-runs.ensures.reached c.if-is_behind-2.false)).runs.some;
     }
 
@@ -110,7 +115,7 @@ loop-runs-preserved c =
     let ps = c.loop-runs.patch.items in
     let fs = c.loop-runs.falling.items in
     let so_far = c.loop-runs.invariant in
-    let meet : LastsMeet rs ps = met rs ps _ _ _ _ c.deref.ensures.value c.deref-in-loop-runs.ensures.value c.deref-in-loop-runs-2.ensures.value c.deref-in-loop-runs-3.ensures.value
+    let meet : LastsMeet rs ps = met rs ps c.loop-runs.runs.items c.loop-runs.patch.items c.loop-runs.patch.items c.loop-runs.runs.items refl refl refl refl
     (omega arith) (c.is_behind.ensures.reached c.if-is_behind.false) (c.is_behind-in-loop-runs.ensures.reached c.if-is_behind-2.false) in
     let some_run = meet.runs.some in
     let some_patch = meet.patch.some in
@@ -118,8 +123,10 @@ loop-runs-preserved c =
     let has = so_far.covers (length rs - 1) (length ps - 1) d d (omega (arith, some_run)) (omega (arith, some_patch)) (meet.patch.reached d d) (meet.runs.reached d d) in
     let fewer = c.drop_last.ensures.runs in
     let room = so_far.room in
+    let turned = so_far.turned in
     record {
       room = omega arith;
+      turned = omega arith;
       runs = subst (λ (xs : List Run). Above 0 xs) (sym fewer) (above-take 0 (length rs - 1) rs so_far.runs);
       patch = so_far.patch;
       behind_runs = subst (λ (xs : List Run). Above (last_end 0 xs) (reverse fs)) (sym fewer) (less-behind rs (reverse fs) d so_far.runs some_run so_far.behind_runs);
@@ -140,9 +147,9 @@ pub returns-clause-view : goal.returns-clause-view
 returns-clause-view c =
     let rs = c.loop-runs.runs.items in
     let ps = c.loop-runs.patch.items in
-    ap of_runs c.reverse.ensures.items
+    ap of_runs c.turned.ensures
     ∙ all_moved rs ps (reverse c.loop-runs.falling.items) (join (of_runs c.args.runs.items) (of_runs c.args.patch.items)) (no_runs rs (omega arith)) (no_runs ps (omega arith)) c.loop-runs.invariant.view
 
 pub returns-clause-above : goal.returns-clause-above
-returns-clause-above c = subst (λ (xs : List Run). Above 0 xs) (sym c.reverse.ensures.items)
+returns-clause-above c = subst (λ (xs : List Run). Above 0 xs) (sym c.turned.ensures)
     (lower (last_end 0 c.loop-runs.runs.items) 0 (reverse c.loop-runs.falling.items) (omega arith) c.loop-runs.invariant.behind_runs)

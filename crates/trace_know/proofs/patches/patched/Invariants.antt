@@ -8,6 +8,7 @@ use Rattle.trace_know.proofs.patches.patched.Given as goal
 abbrev pub invariant-loop-runs : goal.invariant-loop-runs
 invariant-loop-runs l = record {
   room : length l.runs.items + length l.patch.items + vec_len l.falling ≤ vec_capacity l.falling;
+  turned : length l.runs.items + length l.patch.items + length l.falling.items ≤ l.room.room;
   runs : Above 0 l.runs.items;
   patch : Above 0 l.patch.items;
   behind_runs : Above (last_end 0 l.runs.items) (reverse l.falling.items);

@@ -21,42 +21,45 @@ up_to rs i r v h is before here k d l = elim (cases_lt k i) [
 
 pub touches_any-requires-clause-filled : goal.touches_any-requires-clause-filled
 touches_any-requires-clause-filled c =
-    let inside : c.loop-run.run-index < length c.args.runs.now = omega arith in
-    subst IsFilled (sym c.run-item.is) (filled 0 c.loop-run.run-index c.args.runs.now c.run-item.result c.requires.above inside)
+    let inside : c.loop-index.index < length c.args.runs.now.items = omega arith in
+    subst IsFilled (sym c.at-run.ensures) (filled 0 c.loop-index.index c.args.runs.now.items c.at-run.result.now c.requires.above inside)
 
 pub take_run-requires-clause-filled : goal.take_run-requires-clause-filled
 take_run-requires-clause-filled c =
-    let inside : c.loop-run.run-index < length c.args.runs.now = omega arith in
-    filled-alike c.in_ok-copy.copy c.run-item.result c.in_ok-copy.ensures (subst IsFilled (sym c.run-item.is) (filled 0 c.loop-run.run-index c.args.runs.now c.run-item.result c.requires.above inside))
+    let inside : c.loop-index.index < length c.args.runs.now.items = omega arith in
+    filled-alike c.in_ok-copy.copy c.at-run.result.now c.in_ok-copy.ensures (subst IsFilled (sym c.at-run.ensures) (filled 0 c.loop-index.index c.args.runs.now.items c.at-run.result.now c.requires.above inside))
 
-pub loop-run-preserved-then-not-touches_any : goal.loop-run-preserved-then-not-touches_any
-loop-run-preserved-then-not-touches_any c =
-    let runs = c.args.runs.now in
-    let i = c.loop-run.run-index in
-    let r = c.run-item.result in
+pub loop-index-preserved-then-not-touches_any : goal.loop-index-preserved-then-not-touches_any
+loop-index-preserved-then-not-touches_any c =
+    let runs = c.args.runs.now.items in
+    let i = c.loop-index.index in
+    let r = c.at-run.result.now in
     let inside : i < length runs = omega arith in
-    let clear : IsClear r (of_runs c.loop-run.patch.items) = subst (λ (rs : List Run). IsClear r (of_runs rs)) c.deref.ensures.value (c.touches_any.ensures c.if-not-touches_any.true) in
+    let clear : IsClear r (of_runs c.loop-index.patch.items) = (c.touches_any.ensures c.if-not-touches_any.true) in
     record {
-      above = c.loop-run.invariant.above;
-      view = c.loop-run.invariant.view;
-      settled = up_to runs i r (of_runs c.loop-run.patch.items) inside c.run-item.is c.loop-run.invariant.settled (inr clear);
+      above = c.loop-index.invariant.above;
+      view = c.loop-index.invariant.view;
+      settled = up_to runs i r (of_runs c.loop-index.patch.items) inside c.at-run.ensures c.loop-index.invariant.settled (inr clear);
     }
 
-pub loop-run-preserved : goal.loop-run-preserved
-loop-run-preserved c =
-    let runs = c.args.runs.now in
-    let i = c.loop-run.run-index in
-    let r = c.run-item.result in
+pub loop-index-preserved : goal.loop-index-preserved
+loop-index-preserved c =
+    let runs = c.args.runs.now.items in
+    let i = c.loop-index.index in
+    let r = c.at-run.result.now in
     let copy = c.in_ok-copy.copy in
     let inside : i < length runs = omega arith in
-    let so_far = c.loop-run.invariant in
-    let patch = of_runs c.loop-run.patch.items in
+    let so_far = c.loop-index.invariant in
+    let patch = of_runs c.loop-index.patch.items in
     let grown : of_runs c.take_run.new.runs.items ≡ join patch (of_run r) = c.in_ok-take_run.ensures.ok ∙ ap (join patch) (view-alike copy r c.in_ok-copy.ensures) in
     record {
       above = c.take_run.ensures.above;
-      view = ap (join (of_runs runs)) grown ∙ touched (of_runs runs) patch (of_runs c.args.patch.now.items) (of_run r) so_far.view (member runs i r inside c.run-item.is);
+      view = ap (join (of_runs runs)) grown ∙ touched (of_runs runs) patch (of_runs c.args.patch.now.items) (of_run r) so_far.view (member runs i r inside c.at-run.ensures);
       settled = λ k d l. subst (λ (v : View). IsSettled (slice_index_or runs k d) v) (sym grown)
-          (up_to runs i r (join patch (of_run r)) inside c.run-item.is
-          (λ n e m. settled-more runs n i e r patch c.requires.above m inside c.run-item.is (so_far.settled n e m))
+          (up_to runs i r (join patch (of_run r)) inside c.at-run.ensures
+          (λ n e m. settled-more runs n i e r patch c.requires.above m inside c.at-run.ensures (so_far.settled n e m))
           (inl (held-now patch r)) k d l);
     }
+
+pub returns-clause-settled : goal.returns-clause-settled
+returns-clause-settled c = λ k d l. c.loop-index.invariant.settled k d (omega arith)

@@ -4,5 +4,5 @@ use Rattle.trace_know.specs.Listing.{conflicts_in}
 use Rattle.trace_know.specs.Runs.{listed}
 use Rattle.trace_know.proofs.readers.conflict_in.Given as goal
 
-abbrev pub invariant-loop-run : goal.invariant-loop-run
-invariant-loop-run l = slice_get (conflicts_in (listed (drop l.run-index l.runs))) l.left ≡ slice_get (conflicts_in (listed l.runs)) l.i
+abbrev pub invariant-loop-index : goal.invariant-loop-index
+invariant-loop-index l = slice_get (conflicts_in (listed (drop l.index l.runs.items))) l.left ≡ slice_get (conflicts_in (listed l.runs.items)) l.i

@@ -3,5 +3,5 @@ use Rattle.trace_know.specs.Listing.{conflicts_in}
 use Rattle.trace_know.specs.Runs.{listed}
 use Rattle.trace_know.proofs.readers.count_conflicts.Given as goal
 
-abbrev pub invariant-loop-run : goal.invariant-loop-run
-invariant-loop-run l = l.count + length (conflicts_in (listed (drop l.run-index l.runs))) ≡ length (conflicts_in (listed l.runs))
+abbrev pub invariant-loop-index : goal.invariant-loop-index
+invariant-loop-index l = l.count + length (conflicts_in (listed (drop l.index l.runs.items))) ≡ length (conflicts_in (listed l.runs.items))

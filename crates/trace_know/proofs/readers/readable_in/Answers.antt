@@ -31,13 +31,13 @@ if_none A B (Some x) h m = absurd (h x (λ i. Some x))
 
 pub returns-in_default : goal.returns-in_default
 returns-in_default c =
-    let view = of_runs c.args.runs.now in
-    let none = if_none (get view (c.args.rank, 0) ≡ None) (λ run. IsFront c.args.runs.now c.args.rank run.now) c.front_run.result c.in_default.not-Some c.front_run.ensures in
+    let view = of_runs c.args.runs.now.items in
+    let none = if_none (get view (c.args.rank, 0) ≡ None) (λ run. IsFront c.args.runs.now.items c.args.rank run.now) c.front_run.result c.in_default.not-Some c.front_run.ensures in
     ap shown c.new.ensures.items ∙ events_are view c.args.rank [] (record { each = λ i l. absurd (omega arith); end = ap readable_of none })
 
 pub loop-event-preserved : goal.loop-event-preserved
 loop-event-preserved c =
-    let view = of_runs c.args.runs.now in
+    let view = of_runs c.args.runs.now.items in
     let es = c.loop-event.events in
     let n : c.len.result ≡ length (shown es.items) = omega (arith, length-shown es.items) in
     let within = c.loop-event.invariant.within in
@@ -50,7 +50,7 @@ loop-event-preserved c =
 
 pub returns : goal.returns
 returns c =
-    let view = of_runs c.args.runs.now in
+    let view = of_runs c.args.runs.now.items in
     let es = c.loop-event.events in
     let n : c.len.result ≡ length (shown es.items) = omega (arith, length-shown es.items) in
     let within = c.loop-event.invariant.within in

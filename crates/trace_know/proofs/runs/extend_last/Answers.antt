@@ -9,18 +9,18 @@ use Rattle.trace_know.proofs.runs.extend_last.Goals as goal
 pub extend-requires : goal.extend-requires
 extend-requires c =
     let runs = c.args.runs.now.items in
-    let r = c.index_mut.result.now in
-    let f : IsFilled r = subst IsFilled (sym c.index_mut.ensures.value) (filled 0 (c.len-last.result - 1) runs r c.requires.above (omega arith)) in
+    let r = c.at_mut.result.now in
+    let f : IsFilled r = subst IsFilled (sym c.at_mut.ensures.value) (filled 0 (c.len-last.result - 1) runs r c.requires.above (omega arith)) in
     record { counted = f.counted }
 
 pub returns-clause-ok : goal.returns-clause-ok
 returns-clause-ok c =
     let runs = c.args.runs.now.items in
     let at = c.len-last.result - 1 in
-    let r = c.index_mut.result.now in
+    let r = c.at_mut.result.now in
     let new = c.extend.new.run in
     let bound : at < length runs = omega arith in
-    let is : r ≡ slice_index_or runs at r = c.index_mut.ensures.value in
+    let is : r ≡ slice_index_or runs at r = c.at_mut.ensures.value in
     let here : at ≡ length runs - 1 = omega arith in
     let last : r ≡ slice_index_or runs (length runs - 1) r = is ∙ ap (λ (n : ℕ). slice_index_or runs n r) here in
     let rank : r.rank ≡ c.args.rank = ap (λ (x : Run). x.rank) last ∙ c.requires.behind.ranked r in
@@ -32,20 +32,20 @@ pub returns-clause-err : goal.returns-clause-err
 returns-clause-err c =
     let runs = c.args.runs.now.items in
     let at = c.len-last.result - 1 in
-    let r = c.index_mut.result.now in
+    let r = c.at_mut.result.now in
     let new = c.extend.new.run in
     let bound : at < length runs = omega arith in
     on_err c.extend.result (IsAlike new r) (of_runs (slice_set runs at new) ≡ of_runs runs)
-    (λ same. runs-set runs at new r bound c.index_mut.ensures.value (view-alike new r same)) c.extend.ensures.err
+    (λ same. runs-set runs at new r bound c.at_mut.ensures.value (view-alike new r same)) c.extend.ensures.err
 
 pub returns-clause-above : goal.returns-clause-above
 returns-clause-above c =
     let runs = c.args.runs.now.items in
     let at = c.len-last.result - 1 in
-    let r = c.index_mut.result.now in
+    let r = c.at_mut.result.now in
     let new = c.extend.new.run in
     let bound : at < length runs = omega arith in
-    let is : r ≡ slice_index_or runs at r = c.index_mut.ensures.value in
+    let is : r ≡ slice_index_or runs at r = c.at_mut.ensures.value in
     let f : IsFilled r = subst IsFilled (sym is) (filled 0 at runs r c.requires.above bound) in
     let some = f.some in
     let below : last_end 0 (take at runs) < start_of r = subst (λ (x : Run). last_end 0 (take at runs) < start_of x) (sym is) (taken_below 0 at runs r c.requires.above bound) in

@@ -5,4 +5,4 @@ use Rattle.trace_know.proofs.Listing.{entries-listed}
 use Rattle.trace_know.proofs.knowledge.Knowledge.cells.Goals as goal
 
 pub returns : goal.returns
-returns c = c.new.ensures ∙ ap listed c.deref.ensures.value ∙ sym (entries-listed c.self.inside.runs.items c.self.invariant.above) ∙ ap entries c.self.view_is
+returns c = c.new.ensures ∙ sym (entries-listed c.self.inside.runs.items c.self.invariant.above) ∙ ap entries c.self.view_is

@@ -8,5 +8,5 @@ use Rattle.trace_know.proofs.Listing.{entries-listed}
 use Rattle.trace_know.proofs.knowledge.Knowledge.conflict.Goals as goal
 
 pub returns : goal.returns
-returns c = c.conflict_in.ensures ∙ ap (λ (rs : List Run). slice_get (conflicts_in (listed rs)) c.args.i) c.deref.ensures.value
+returns c = c.conflict_in.ensures
     ∙ ap (λ es. slice_get (conflicts_in es) c.args.i) (sym (entries-listed c.self.inside.runs.items c.self.invariant.above) ∙ ap entries c.self.view_is)

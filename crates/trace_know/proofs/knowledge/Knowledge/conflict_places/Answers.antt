@@ -9,4 +9,4 @@ use Rattle.trace_know.proofs.knowledge.Knowledge.conflict_places.Goals as goal
 
 pub returns : goal.returns
 returns c = subst (λ (qs : List (ℕ × ℕ)). IfOk c.conflict_places_in.result (λ places. places.items ≡ qs))
-    (ap (λ (rs : List Run). conflicts_in (listed rs)) c.deref.ensures.value ∙ ap conflicts_in (sym (entries-listed c.self.inside.runs.items c.self.invariant.above) ∙ ap entries c.self.view_is)) c.conflict_places_in.ensures
+    (ap conflicts_in (sym (entries-listed c.self.inside.runs.items c.self.invariant.above) ∙ ap entries c.self.view_is)) c.conflict_places_in.ensures

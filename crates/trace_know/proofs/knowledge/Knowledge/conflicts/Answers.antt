@@ -11,8 +11,8 @@ count_conflicts-requires-clause-few c =
     let few = c.self.invariant.few in
     let fits = c.self.invariant.fits in
     let n = len-listed c.self.inside.runs.items c.self.invariant.above in
-    subst (λ (rs : List Run). length (listed rs) < 2 ^ 64) (sym c.deref.ensures.value) (omega arith)
+    (omega arith)
 
 pub returns : goal.returns
-returns c = c.count_conflicts.ensures ∙ ap (λ (rs : List Run). length (conflicts_in (listed rs))) c.deref.ensures.value
+returns c = c.count_conflicts.ensures
     ∙ ap (λ es. length (conflicts_in es)) (sym (entries-listed c.self.inside.runs.items c.self.invariant.above) ∙ ap entries c.self.view_is)

@@ -14,8 +14,8 @@ invariant_of-self-2 c =
     let others : c.count.result ≡ len (of_runs b) = c.count.ensures ∙ sym (ap len c.other.view_is) in
     let most = c.in_ok-most.ensures in
     both-IsHeld c.self.inside.most c.in_ok-most.most c.other.inside.most a b c.join_runs.new.runs.items c.self.invariant c.other.invariant (omega (arith, most.0)) most.1 c.join_runs.ensures.above
-    (c.in_ok-join_runs.ensures.ok ∙ ap (λ (rs : List Run). join (of_runs a) (of_runs rs)) c.deref.ensures.value)
+    (c.in_ok-join_runs.ensures.ok)
 
 pub returns-clause-ok : goal.returns-clause-ok
 returns-clause-ok c =
-    c.in_ok-join_runs.ensures.ok ∙ ap (λ (v : View). join v (of_runs c.deref.result.now)) c.self.view_is ∙ ap (λ (rs : List Run). join c.args.self.now (of_runs rs)) c.deref.ensures.value ∙ ap (join c.args.self.now) c.other.view_is
+    c.in_ok-join_runs.ensures.ok ∙ ap (λ (v : View). join v (of_runs c.other.inside.runs.items)) c.self.view_is ∙ ap (join c.args.self.now) c.other.view_is
