@@ -14,6 +14,8 @@ use Rattle.trace_crew.specs.declared.inbox.rule.View.{View}
 use Rattle.trace_crew.specs.declared.inbox.rule.View.TheVariants.{Owner}
 use Rattle.trace_crew.specs.Views.{desk, is_from, posts_of}
 use Rattle.trace_crew.specs.declared.threads.CrewOut.{CrewOut}
+use Rattle.trace_crew.specs.declared.threads.Left.{Left}
+use Rattle.trace_crew.specs.declared.threads.Ran.{Ran}
 use Rattle.trace_crew.specs.declared.worker.Worked.{Worked}
 use Rattle.trace_crew.specs.declared.piece.Piece.{Piece}
 use Rattle.trace_crew.specs.declared.piece.FaultyPiece.{FaultyPiece}
@@ -75,6 +77,14 @@ Gathers first second old new faults = (layout : Parts) → IsNew layout old → 
 abbrev pub Runs : List Piece → List Piece → Keeping → Pass Item View → Keeping → Worked → Worked → Type 0
 Runs first second old seat new one other = (layout : Parts) → IsNew layout old → HasRun layout first second (view seat) new.node new.refused one other
 
+-- The same of what the threads leave, by what the owner keeps in its hall.
+abbrev pub RunsBoth : {H : Type 0} → (H → Keeping) → List Piece → List Piece → H → Ran H → Type 0
+RunsBoth kept first second hall ran = Runs first second (kept hall) ran.seat (kept ran.hall) ran.first ran.second
+
+-- Where the node in the hall was new, all that both workers posted was taken, and their faults are listed.
+abbrev pub GathersAll : {H : Type 0} → (H → Keeping) → List Piece → List Piece → H → Left H → Type 0
+GathersAll kept first second hall left = Gathers first second (kept hall) (kept left.hall) left.faults.items
+
 -- of some layout and some texts the workers have left, and the owner has taken two ends
 abbrev pub HasRunSome : Pass Item View → Keeping → Worked → Worked → Type 0
 HasRunSome seat kept one other = (layout : Parts) × (first : List Piece) × (second : List Piece) × HasRun layout first second (view seat) kept.node kept.refused one other
@@ -82,3 +92,7 @@ HasRunSome seat kept one other = (layout : Parts) × (first : List Piece) × (se
 -- Whatever the layout and the texts were of which this is left, the owner has now taken all that both workers posted.
 abbrev pub Finishes : Pass Item View → Keeping → Worked → Worked → Keeping → List FaultyPiece → Type 0
 Finishes seat old one other new faults = (layout : Parts) (first second : List Piece) → HasRun layout first second (view seat) old.node old.refused one other → HasGathered layout first second new.node new.refused faults
+
+-- The same of what the threads have left, by what the owner keeps in its hall.
+abbrev pub FinishesAll : {H : Type 0} → (H → Keeping) → Ran H → Left H → Type 0
+FinishesAll kept ran left = Finishes ran.seat (kept ran.hall) ran.first ran.second (kept left.hall) left.faults.items

@@ -9,7 +9,7 @@ ghost use Rattle.trace_crew.specs.declared.inbox.item.Item.{Item as ItemValue};
 ghost use Rattle.trace_crew.specs.declared.inbox.item.Worker.TheVariants.{First, Second};
 ghost use Rattle.trace_crew.specs.declared.inbox.rule.Standing.TheVariants.{Running};
 ghost use Rattle.trace_crew.specs.declared.inbox.rule.View.TheVariants.{Owner, Poster};
-ghost use Rattle.trace_crew.specs.Crewed.{Finishes, Gathers, HasRunSome, IsCrewOut, Runs};
+ghost use Rattle.trace_crew.specs.Crewed.{FinishesAll, GathersAll, HasRunSome, IsCrewOut, RunsBoth};
 ghost use Rattle.trace_crew.specs.Taking.{IsNew};
 ghost use Rattle.trace_crew.specs.Work.{HasWorked, is_closed};
 ghost use Rattle.trace_crew.specs.declared.threads.CrewFault.TheVariants.{Memory};
@@ -119,7 +119,7 @@ fn gathered<R: Threads + Wait + Sync, G: Gate, H: Keeper>(
     gate: &G,
 ) -> Result<Left<H>, CrewFault>
     requires new { (layout : Parts) × IsNew layout (H.kept hall) }
-    ensures { IfOk result (λ left. Gathers pieces.entry.0.now pieces.entry.1.now (H.kept hall) (H.kept left.hall) left.faults.items) }
+    ensures { IfOk result (GathersAll H.kept pieces.entry.0.now pieces.entry.1.now hall) }
 {
     let Ok((sender, receiver, seat)) = open(alloc) else {
         return Err(CrewFault::Memory);
@@ -149,7 +149,7 @@ fn run<R: Threads + Wait + Sync, G: Gate, H: Keeper>(
     requires second { IsSeatAt (sends_on sender.now) seats.2 × (view seats.2 ≡ Poster Second []) }
     ensures channel { IfOk result (λ ran. receives_on ran.receiver ≡ sends_on sender.now) }
     ensures seats { IfOk result (λ ran. AreSeatsAt (sends_on sender.now) ran.seat ran.first.seat ran.second.seat) }
-    ensures ok { IfOk result (λ r. Runs pieces.entry.0.now pieces.entry.1.now (H.kept hall) r.seat (H.kept r.hall) r.first r.second) }
+    ensures ok { IfOk result (RunsBoth H.kept pieces.entry.0.now pieces.entry.1.now hall) }
 {
     let (seat, one, two) = seats;
     let (first, second) = pieces;
@@ -163,7 +163,7 @@ fn run<R: Threads + Wait + Sync, G: Gate, H: Keeper>(
             requires second { IsSeatAt (sends_on sender.now) two × (view two ≡ Poster Second []) }
             ensures channel { IfOk result (λ ran. receives_on ran.receiver ≡ sends_on sender.entry.now) }
             ensures seats { IfOk result (λ ran. AreSeatsAt (sends_on sender.entry.now) ran.seat ran.first.seat ran.second.seat) }
-            ensures ok { IfOk result (λ r. Runs first.entry.now second.entry.now (H.kept hall) r.seat (H.kept r.hall) r.first r.second) }
+            ensures ok { IfOk result (RunsBoth H.kept first.entry.now second.entry.now hall) }
         {
             let mut seat = seat;
             let mut hall = hall;
@@ -254,7 +254,7 @@ fn finish<R: Wait, G: Gate, H: Keeper>(
     requires channel { receives_on ran.receiver ≡ sends_on sender.now }
     requires seats { AreSeatsAt (sends_on sender.now) ran.seat ran.first.seat ran.second.seat }
     requires run { HasRunSome ran.seat (H.kept ran.hall) ran.first ran.second }
-    ensures { IfOk result (λ left. Finishes ran.seat (H.kept ran.hall) ran.first ran.second (H.kept left.hall) left.faults.items) }
+    ensures { IfOk result (FinishesAll H.kept ran) }
 {
     let Ran {
         receiver,
