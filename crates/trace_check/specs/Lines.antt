@@ -4,7 +4,7 @@ use Rattle.trace_ops.specs.declared.state.State.{State}
 use Rattle.trace_pair.specs.Table.{Table}
 use Rattle.trace_stuck.specs.declared.condition.Condition.{Condition}
 use Rattle.trace_stuck.specs.declared.verdict.Verdict.{Verdict}
-use Rattle.trace_check.specs.Right.{IsRight}
+use Rattle.trace_check.specs.Right.{IsRight, IsRightVerdict}
 
 -- whether both tables are the same, in a word that ends its line
 abbrev pub equal_word : Bool → List ℕ
@@ -44,3 +44,7 @@ IsCheckText first second states conditions stuck release text = (equal : Bool) �
 -- the lines tell of two tables and of both lists of a verdict
 abbrev pub TellsCheck : Table → Table → List State → List (Option Condition) → Verdict → List ℕ → Type 0
 TellsCheck first second states conditions verdict text = IsCheckText first second states conditions verdict.stuck.items verdict.release.items text
+
+-- both lines say so: the tables are the same, and the verdict is right
+abbrev pub IsRightCheck : Table → Table → List State → List (Option Condition) → Verdict → Type 0
+IsRightCheck first second states conditions verdict = (first ≡ second) × IsRightVerdict states conditions verdict

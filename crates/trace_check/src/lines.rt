@@ -1,9 +1,8 @@
 //! The two lines of a check.
 
 ghost use Rattle.std.specs.Prelude.{◌≡◌, ◌↔◌, ◌++◌, IfOk, IsTrue, length, string_bytes};
-ghost use Rattle.trace_check.specs.Lines.{TellsCheck, equal_word, valid_word};
+ghost use Rattle.trace_check.specs.Lines.{IsRightCheck, TellsCheck, equal_word, valid_word};
 ghost use Rattle.trace_check.specs.Printed.{line_text};
-ghost use Rattle.trace_check.specs.Right.{IsRightVerdict};
 
 use crate::tables::are_same_tables;
 use crate::verdict::is_right_verdict;
@@ -24,8 +23,8 @@ pub fn check_lines(
     conditions: &[Option<Condition>],
     verdict: &Verdict,
 ) -> Result<(String, bool), AllocError>
-    ensures text { IfOk result (λ told. TellsCheck first.now second.now states.now conditions.now verdict.now (string_bytes told.0)) }
-    ensures held { IfOk result (λ told. IsTrue told.1 ↔ ((first.now ≡ second.now) × IsRightVerdict states.now conditions.now verdict.now)) }
+    ensures text { IfOk result (λ t. TellsCheck first.now second.now states.now conditions.now verdict.now (string_bytes t.0)) }
+    ensures held { IfOk result (λ t. IsTrue t.1 ↔ IsRightCheck first.now second.now states.now conditions.now verdict.now) }
 {
     let equal = are_same_tables(first, second);
     let valid = is_right_verdict(states, conditions, &verdict.stuck, &verdict.release);
