@@ -3,7 +3,7 @@ use Rattle.std.proofs.Common.{◌≡◌, ℕ, ◌==◌, Bool, true, false, List,
 use Rattle.std.proofs.lemmas.Bool.Decides.{nat_tests}
 use Rattle.comm_groups.specs.Grids.{size_within}
 use Rattle.comm_makings.specs.Makes.{AllSay, IsPartOfGrid, remain_in}
-use Rattle.comm_makings.specs.Parts.{IsGridOutcome, IsParts}
+use Rattle.comm_makings.specs.Parts.{IsGridOutcome, IsGridWithin, IsParts, IsSizedGrid}
 use Rattle.comm_makings.specs.Selection.{Selection}
 use Rattle.comm_makings.specs.State.{parts_in}
 use Rattle.comm_makings.specs.declared.calls.RankCalls.{RankCalls}
@@ -20,15 +20,15 @@ parts_are outcomes.Waits made parts is e = absurd is
 module _ (ranks : List RankCalls) (known : Option (List ℕ)) (dims : List ℕ) (remain : List Bool) (all : List (Option Here)) (members : ℕ) (outcome : Outcome)
     (is : known ≡ Some dims) (said : AllSay ranks remain_in remain all) (many : members ≡ length all)
     (differ : (length remain ≡ length dims → ⊥) → outcome ≡ outcomes.Unsound)
-    (unfit : length remain ≡ length dims → size_within members dims ≡ None → outcome ≡ outcomes.Untold)
-    (fit : (size : ℕ) → length remain ≡ length dims → size_within members dims ≡ Some size → IsGridOutcome dims remain outcome) where
+    (fit : length remain ≡ length dims → IsGridWithin members dims remain outcome) where
   by_size : (o : Option ℕ) → size_within members dims ≡ o → length remain ≡ length dims → (parts : List Selection) → parts_in outcome ≡ Some parts
       → IsPartOfGrid ranks known all parts
   by_size None e same parts f =
-      let none : parts_in outcome ≡ None = ap parts_in (unfit same e) in
+      let untold : outcome ≡ outcomes.Untold = subst (λ (o : Option ℕ). IsSizedGrid o dims remain outcome) e (fit same) in
+      let none : parts_in outcome ≡ None = ap parts_in untold in
       absurd (cc)
   by_size (Some size) e same parts f =
-      let grid = fit size same e in
+      let grid : IsGridOutcome dims remain outcome = subst (λ (o : Option ℕ). IsSizedGrid o dims remain outcome) e (fit same) in
       record {
         sizes = dims;
         known = is;

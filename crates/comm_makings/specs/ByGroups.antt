@@ -14,6 +14,7 @@ use Rattle.comm_makings.specs.declared.by_groups.Offered.TheVariants as offers
 use Rattle.comm_makings.specs.declared.calls.RankCalls.{RankCalls}
 use Rattle.comm_makings.specs.declared.group_value.GroupValue.{GroupValue}
 use Rattle.comm_makings.specs.declared.here.Here.{Here}
+use Rattle.comm_makings.specs.declared.run.Run.{Run}
 use Rattle.comm_makings.specs.declared.state.Made.{Made}
 use Rattle.comm_makings.specs.declared.state.Member.{Member}
 use Rattle.comm_makings.specs.declared.view.RankView.{RankView}
@@ -25,6 +26,10 @@ pub record IsRightOffer (ranks : List RankCalls) (views : List RankView) (values
 
 pub record AreRightOffers (ranks : List RankCalls) (views : List RankView) (values : List (Vec GroupValue Global)) (comms : List Made) (members : List Member) (calls : List Offer) : Type 0 where
   pub each : (k : ℕ) (offer : Offer) → slice_get calls k ≡ Some offer → IsRightOffer ranks views values comms members offer
+
+-- The same, as far as a run knows their groups.
+abbrev pub AreOffersIn : List RankCalls → List RankView → Run → List Member → List Offer → Type 0
+AreOffersIn ranks views run members calls = AreRightOffers ranks views run.values.items run.comms.items members calls
 
 -- A call of a rank names a group with a tag, which are known.
 pub record IsNoted (ranks : List RankCalls) (views : List RankView) (values : List (Vec GroupValue Global)) (comms : List Made) (rank place at : ℕ) (offer : Offer) : Type 0 where

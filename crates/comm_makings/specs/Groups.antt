@@ -12,6 +12,7 @@ use Rattle.comm_makings.specs.declared.group_value.GroupValue.{GroupValue}
 use Rattle.comm_makings.specs.declared.group_value.GroupValue.TheVariants as values
 use Rattle.comm_makings.specs.declared.handle.GroupAt.{GroupAt}
 use Rattle.comm_makings.specs.declared.handle.GroupAt.TheVariants as groups
+use Rattle.comm_makings.specs.declared.handle.Meant.{Meant}
 use Rattle.comm_makings.specs.declared.state.Made.{Made}
 use Rattle.comm_makings.specs.declared.state.Standing.{Standing}
 use Rattle.comm_makings.specs.declared.state.Standing.TheVariants as standings
@@ -125,6 +126,15 @@ abbrev pub IsMadeOfOne : GroupCall → Option (List ℕ) → Bool → GroupValue
 IsMadeOfOne call None waits value = value ≡ unlisted waits
 IsMadeOfOne call (Some members) waits value = IsListed (made_of_one call members) value
 
+-- the group that a call makes of the two others that it names
+abbrev pub IsOfTwoNamed : List Made → List GroupValue → GroupCall → Meant → GroupValue → Type 0
+IsOfTwoNamed comms values call meant value = (waits : Bool)
+    × IsMadeOfTwo call (ranks_at comms values meant.group) (ranks_at comms values meant.second) waits value
+
+-- the group that a call makes of the one that it names
+abbrev pub IsOfOneNamed : List Made → List GroupValue → GroupCall → Meant → GroupValue → Type 0
+IsOfOneNamed comms values call meant value = (waits : Bool) × IsMadeOfOne call (ranks_at comms values meant.group) waits value
+
 -- The group that a call gives: of a communicator, by how its handle stands, or of one or two groups, where they are known.
 abbrev pub IsValueOf : GroupCall → Option Standing → Option (List ℕ) → Option (List ℕ) → GroupValue → Type 0
 IsValueOf (calls.OfComm comm) standing first second value = value ≡ group_of_comm standing
@@ -136,3 +146,8 @@ IsValueOf (calls.Incl group ranks) standing first second value = (waits : Bool) 
 IsValueOf (calls.Excl group ranks) standing first second value = (waits : Bool) × IsMadeOfOne (calls.Excl group ranks) first waits value
 IsValueOf (calls.RangeIncl group ranges) standing first second value = (waits : Bool) × IsMadeOfOne (calls.RangeIncl group ranges) first waits value
 IsValueOf (calls.RangeExcl group ranges) standing first second value = (waits : Bool) × IsMadeOfOne (calls.RangeExcl group ranges) first waits value
+
+-- the same, by how the handles of the rank stand and what the groups of its other calls are
+abbrev pub IsValueNamed : List Standing → List GroupValue → List Made → GroupCall → Meant → GroupValue → Type 0
+IsValueNamed standings values comms call meant value =
+    IsValueOf call (option_and_then (slice_get standings) meant.comm) (ranks_at comms values meant.group) (ranks_at comms values meant.second) value

@@ -1,3 +1,4 @@
+pub mod Each
 pub mod Selection
 pub mod Here
 pub mod Parts

@@ -1,16 +1,16 @@
 -- What the calls of a communicator's members make together (MPI 4.0, chapters 7 and 8).
-use Rattle.std.specs.Prelude.{◌≡◌, ◌≤◌, ◌⊎◌, ◌||◌, ℕ, ℤ, pos, Bool, true, false, not, List, [], ◌∷◌, Option, Some, None, All, length, map, is_some}
-use Rattle.std.specs.List.{filter_map, list_all, list_any, range_with_len, slice_get}
-use Rattle.std.specs.Option.{option_map}
+use Rattle.std.specs.Prelude.{◌≡◌, ◌≤◌, ◌⊎◌, ◌||◌, ℕ, ℤ, pos, Bool, true, false, not, List, [], ◌∷◌, Option, Some, None, All, length, map}
+use Rattle.std.specs.List.{filter_map, list_any, range_with_len, slice_get}
 use Rattle.comm_groups.specs.Grids.{AreParts, kept, size_within}
-use Rattle.comm_groups.specs.Groups.{are_ranks, has}
-use Rattle.comm_groups.specs.Orders.{IsOrderOf}
+use Rattle.comm_groups.specs.Groups.{has}
+use Rattle.comm_groups.specs.Orders.{IsOrderOf, are_each_once}
 use Rattle.comm_groups.specs.Splits.{Group, IsSplit}
+use Rattle.comm_makings.specs.Each.{list_in}
 use Rattle.comm_makings.specs.Here.{HasFunction, first_of, gives_later, gives_unknown, making_at}
 use Rattle.comm_makings.specs.Parts.{one_of, part_with}
-use Rattle.comm_makings.specs.Reordered.{given_places, is_returned, told_ranks}
+use Rattle.comm_makings.specs.Reordered.{AreReturned, given_places, told_ranks}
 use Rattle.comm_makings.specs.Selection.{Selection}
-use Rattle.comm_makings.specs.Splits.{colored, is_unknown}
+use Rattle.comm_makings.specs.Splits.{all_here, colored, some_unknown}
 use Rattle.comm_makings.specs.declared.answer.MadeBy.{MadeBy}
 use Rattle.comm_makings.specs.declared.answer.MadeBy.TheVariants as functions
 use Rattle.comm_makings.specs.declared.calls.Making.{Making}
@@ -23,12 +23,12 @@ use Rattle.comm_makings.specs.declared.view.RankView.{RankView}
 
 -- the sizes of the dimensions that a call says
 abbrev pub dims_in : Making → Option (List ℕ)
-dims_in (makings.CartCreate dims reorder) = option_map (λ v. v.items) dims
+dims_in (makings.CartCreate dims reorder) = list_in dims
 dims_in _ = None
 
 -- which dimensions remain, as a call says
 abbrev pub remain_in : Making → Option (List Bool)
-remain_in (makings.CartSub remain) = option_map (λ v. v.items) remain
+remain_in (makings.CartSub remain) = list_in remain
 remain_in _ = None
 
 -- whether the ranks may be ordered anew, as a call says
@@ -60,18 +60,18 @@ AllSay ranks said x all = All (Says ranks said x) all
 
 -- A split needs the call of each member.
 pub record IsSplitMade (ranks : List RankCalls) (all : List (Option Here)) (parts : List Selection) : Type 0 where
-  pub readable : list_any (is_unknown ranks) all ≡ false
-  pub complete : list_all is_some all ≡ true
+  pub readable : some_unknown ranks all ≡ false
+  pub complete : all_here all ≡ true
   pub groups : List Group
   pub split : IsSplit (colored ranks 0 all) groups
   pub made : parts ≡ map (part_with None) groups
 
 -- Those that get the communicator, in the order of the ranks that MPI_Comm_rank first tells them on it.
 pub record IsReordered (views : List RankView) (all : List (Option Here)) (dims : Option (List ℕ)) (parts : List Selection) : Type 0 where
-  pub complete : list_all is_returned all ≡ true
+  pub complete : AreReturned all
   pub told : List ℕ
   pub all_told : told_ranks views all ≡ Some told
-  pub each_once : are_ranks (length told) told ≡ true
+  pub each_once : are_each_once told ≡ true
   pub order : List ℕ
   pub by_rank : IsOrderOf told order
   pub made : parts ≡ one_of (filter_map (slice_get (given_places 0 all)) order) dims
@@ -110,6 +110,13 @@ pub record IsKnownGraph (ranks : List RankCalls) (views : List RankView) (all : 
   pub same_reorder : AllSay ranks reorder_in reorder all
   pub made : IsOfMany views all reorder nodes None parts
 
+-- A grid or a graph, of which the dimensions or nodes are known or not.
+abbrev pub IsGrid : List RankCalls → List RankView → List (Option Here) → List Selection → Type 0
+IsGrid ranks views all parts = IsKnownGrid ranks views all parts ⊎ IsUnknownGrid ranks views all parts
+
+abbrev pub IsGraph : List RankCalls → List RankView → List (Option Here) → List Selection → Type 0
+IsGraph ranks views all parts = IsKnownGraph ranks views all parts ⊎ IsUnknownGrid ranks views all parts
+
 -- A distributed graph: all members of the parent, or where they may be ordered anew those that get it.
 abbrev pub IsDistGraph : List RankView → List (Option Here) → Bool → List Selection → Type 0
 IsDistGraph views all false parts = parts ≡ one_of (range_with_len 0 (length all)) None
@@ -141,9 +148,9 @@ IsMadeBy ranks views dims all functions.DupWithInfo parts = parts ≡ one_of (ra
 IsMadeBy ranks views dims all functions.Idup parts = parts ≡ one_of (range_with_len 0 (length all)) dims
 IsMadeBy ranks views dims all functions.IdupWithInfo parts = parts ≡ one_of (range_with_len 0 (length all)) dims
 IsMadeBy ranks views dims all functions.Split parts = IsSplitMade ranks all parts
-IsMadeBy ranks views dims all functions.CartCreate parts = IsKnownGrid ranks views all parts ⊎ IsUnknownGrid ranks views all parts
+IsMadeBy ranks views dims all functions.CartCreate parts = IsGrid ranks views all parts
 IsMadeBy ranks views dims all functions.CartSub parts = IsPartOfGrid ranks dims all parts
-IsMadeBy ranks views dims all functions.GraphCreate parts = IsKnownGraph ranks views all parts ⊎ IsUnknownGrid ranks views all parts
+IsMadeBy ranks views dims all functions.GraphCreate parts = IsGraph ranks views all parts
 IsMadeBy ranks views dims all functions.DistGraphCreate parts = IsDistGraphMade ranks views all parts
 IsMadeBy ranks views dims all functions.DistGraphCreateAdjacent parts = IsDistGraphMade ranks views all parts
 IsMadeBy ranks views dims all functions.Create parts = ⊥
@@ -174,6 +181,11 @@ gives_so later covered (gives.Taken handle) = later
 abbrev pub is_given_so : Bool → Bool → Option Here → Bool
 is_given_so later covered None = true
 is_given_so later covered (Some here) = gives_so later covered here.gives
+
+-- The calls give so, where this says of each place whether it is in a communicator.
+abbrev pub AreGivenBy : Bool → List (Option Here) → List Bool → Type 0
+AreGivenBy later all covered = (k : ℕ) (here : Option Here) → slice_get all k ≡ Some here
+    → (b : Bool) × (slice_get covered k ≡ Some b) × (is_given_so later b here ≡ true)
 
 -- The calls give what is made.
 abbrev pub AreGiven : Bool → List (Option Here) → List Selection → Type 0

@@ -1,7 +1,7 @@
 -- What the numbers in a rank's calls mean, from its first call on: each call is read by what the calls before it gave.
-use Rattle.std.specs.Prelude.{ℕ, ◌+◌, ◌==◌, Bool, true, false, List, [], ◌∷◌, Option, Some, None, cond, length, nat_eq}
+use Rattle.std.specs.Prelude.{◌≡◌, ℕ, ◌+◌, ◌==◌, Bool, true, false, List, [], ◌∷◌, Option, Some, None, cond, length, nat_eq}
 use Rattle.std.specs.Option.{option_and_then}
-use Rattle.indexmap.specs.IndexMap.{get}
+use Rattle.indexmap.specs.IndexMap.{IndexMap, get}
 use Rattle.mpi_model.specs.declared.layout.comm.Stretch.{Stretch}
 use Rattle.comm_makings.specs.Names.{always, gives_of, group_at, handles_after, handles_ended, is_taken, name_after, name_ended, number_given}
 use Rattle.comm_makings.specs.declared.calls.Action.{Action}
@@ -28,6 +28,14 @@ pub record Naming : Type 0 where
 -- what the numbers mean as these names say
 abbrev pub naming_of : Names → Naming
 naming_of names = record { handles = names.handles.items; comms = get nat_eq names.comms; groups = get nat_eq names.groups }
+
+-- the number of the world or of MPI_COMM_SELF of the rank
+abbrev pub taken_by : Names → ℕ → Bool
+taken_by names = is_taken names.world names.own
+
+-- Each number names what this says.
+abbrev pub AreNamed : {S : Type 0} → IndexMap ℕ ℕ S → (ℕ → Option ℕ) → Type 0
+AreNamed names says = (m : ℕ) → get nat_eq names m ≡ says m
 
 -- the handles before the first call: the world's, and that of MPI_COMM_SELF where its number is told
 abbrev pub first_handles : ℕ → Option ℕ → List Stretch
@@ -98,22 +106,45 @@ gives_by taken place returned (actions.Make parent making given) = gives_of take
 gives_by taken place returned (actions.GivesComm given) = gives_of taken returned given place
 gives_by taken place returned _ = gives.Nothing
 
--- what the numbers in a call mean
-abbrev pub meant_in : (ℕ → Bool) → Naming → CommCall → Meant
-meant_in taken naming call = record {
-  comm = option_and_then naming.comms (comm_named call.action);
-  gives = gives_by taken (length naming.handles) call.returned call.action;
-  group = group_at naming.groups (group_named call.action);
-  second = group_at naming.groups (second_named call.action);
+-- what a call gives, as these names say
+abbrev pub gives_as : Names → Bool → Given → Gives
+gives_as names returned given = gives_of (taken_by names) returned given (length names.handles.items)
+
+-- what the numbers in a call mean, by whether it returned and what it does
+abbrev pub meant_of_action : (ℕ → Bool) → Naming → Bool → Action → Meant
+meant_of_action taken naming returned action = record {
+  comm = option_and_then naming.comms (comm_named action);
+  gives = gives_by taken (length naming.handles) returned action;
+  group = group_at naming.groups (group_named action);
+  second = group_at naming.groups (second_named action);
 }
 
--- what the numbers mean behind a call that gives a communicator
-abbrev pub after_given : (ℕ → Bool) → Naming → CommCall → Given → Naming
-after_given taken naming call given = record {
-  handles = handles_after taken (number_given call.returned given) call.call naming.comms naming.handles;
-  comms = name_after taken (number_given call.returned given) (length naming.handles) naming.comms;
+-- the same, as these names say
+abbrev pub meant_by : Names → Bool → Action → Meant
+meant_by names returned action = meant_of_action (taken_by names) (naming_of names) returned action
+
+-- what the numbers in a call mean
+abbrev pub meant_in : (ℕ → Bool) → Naming → CommCall → Meant
+meant_in taken naming call = meant_of_action taken naming call.returned call.action
+
+-- what the numbers mean behind a call that gives a communicator, by the number that it gives, where there is one
+abbrev pub after_number : (ℕ → Bool) → Naming → ℕ → Option ℕ → Naming
+after_number taken naming call number = record {
+  handles = handles_after taken number call naming.comms naming.handles;
+  comms = name_after taken number (length naming.handles) naming.comms;
   groups = naming.groups;
 }
+
+-- the same, by what the call gives
+abbrev pub after_given : (ℕ → Bool) → Naming → CommCall → Given → Naming
+after_given taken naming call given = after_number taken naming call.call (number_given call.returned given)
+
+-- what these names say behind a call that gives this number, and behind one that gives a communicator
+abbrev pub with_number : Names → ℕ → ℕ → Naming
+with_number names call number = after_number (taken_by names) (naming_of names) call (Some number)
+
+abbrev pub with_given : Names → CommCall → Given → Naming
+with_given names call given = after_given (taken_by names) (naming_of names) call given
 
 -- what the numbers mean behind a call that frees a communicator
 abbrev pub after_free : (ℕ → Bool) → Naming → ℕ → Option ℕ → Naming
@@ -123,6 +154,10 @@ after_free taken naming call (Some number) = record {
   comms = name_ended (taken number) number naming.comms;
   groups = naming.groups;
 }
+
+-- what these names say behind a call from which on this number names nothing
+abbrev pub without_number : Names → ℕ → ℕ → Naming
+without_number names call number = after_free (taken_by names) (naming_of names) call (Some number)
 
 -- the number of the group that a call gives
 abbrev pub group_given : Bool → GroupName → Option ℕ

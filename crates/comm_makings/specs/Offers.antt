@@ -7,9 +7,11 @@ use Rattle.comm_groups.specs.Groups.{has}
 use Rattle.comm_makings.specs.Derives.{ArePlaces}
 use Rattle.comm_makings.specs.Groups.{ranks_at}
 use Rattle.comm_makings.specs.Selection.{Selection}
+use Rattle.comm_makings.specs.State.{parts_in}
 use Rattle.comm_makings.specs.declared.creates.Offer.{Offer}
 use Rattle.comm_makings.specs.declared.group_value.GroupValue.{GroupValue}
 use Rattle.comm_makings.specs.declared.here.Here.{Here}
+use Rattle.comm_makings.specs.declared.parts.Outcome.{Outcome}
 use Rattle.comm_makings.specs.declared.state.Made.{Made}
 
 -- the ranks of the group that a call names, where they are known
@@ -70,3 +72,8 @@ pub record AreOfWanted (values : List (Vec GroupValue Global)) (comms : List Mad
 -- The place that is looked up for a rank is one at which it stands.
 pub record AreRanked (place_of : ℕ → Option ℕ) (ranks : List ℕ) : Type 0 where
   pub each : (rank place : ℕ) → place_of rank ≡ Some place → slice_get ranks place ≡ Some rank
+
+-- The communicators of an outcome are offers, by the places of their ranks in each list whose places are these.
+abbrev pub AreOffersAt : (ℕ → Option ℕ) → List Offer → Outcome → Type 0
+AreOffersAt place_of offers outcome = (ranks : List ℕ) (parts : List Selection) → AreRanked place_of ranks → parts_in outcome ≡ Some parts
+    → AreOfferedParts ranks offers parts

@@ -1,9 +1,10 @@
 -- Communicators whose members may be ordered anew (MPI 4.0, chapter 8): each is told by MPI_Comm_rank which rank it got.
-use Rattle.std.specs.Prelude.{◌≡◌, ℕ, ◌+◌, ◌==◌, Bool, true, false, not, List, [], ◌∷◌, Option, Some, None, is_some, length, cond}
-use Rattle.std.specs.List.{filter_map, slice_get}
+use Rattle.std.specs.Prelude.{◌≡◌, ℕ, ◌+◌, ◌==◌, Bool, true, false, not, List, [], ◌∷◌, Option, Some, None, Vec, is_some, length, cond}
+use Rattle.std.specs.List.{filter_map, list_all, slice_get}
 use Rattle.std.specs.Option.{option_and_then, option_map}
-use Rattle.comm_groups.specs.Groups.{are_ranks}
-use Rattle.comm_groups.specs.Orders.{IsOrderOf}
+use Rattle.std.specs.declared.alloc.Global.{Global}
+use Rattle.comm_groups.specs.Orders.{IsOrderOf, are_each_once}
+use Rattle.comm_makings.specs.Each.{list_in}
 use Rattle.comm_makings.specs.Here.{handle_of}
 use Rattle.comm_makings.specs.Parts.{IsOne}
 use Rattle.comm_makings.specs.declared.handle.Gives.{Gives}
@@ -22,6 +23,10 @@ gives_some _ = true
 abbrev pub is_returned : Option Here → Bool
 is_returned None = false
 is_returned (Some here) = gives_some here.gives
+
+-- Each member has a call that returned.
+abbrev pub AreReturned : List (Option Here) → Type 0
+AreReturned all = list_all is_returned all ≡ true
 
 -- the places of those that get a communicator, the first of which is this one
 abbrev pub given_places : ℕ → List (Option Here) → List ℕ
@@ -52,6 +57,10 @@ abbrev pub differs : Option ℕ → ℕ → Bool
 differs None given = false
 differs (Some count) given = not (given == count)
 
+-- the same, of those that get the communicator
+abbrev pub others_given : Option ℕ → List (Option Here) → Bool
+others_given count all = differs count (length (given_places 0 all))
+
 -- at these places, in the order of the ranks that they are told
 abbrev pub IsOrdered : List ℕ → List ℕ → Option (List ℕ) → Outcome → Type 0
 IsOrdered places told dims outcome = (order : List ℕ) × IsOrderOf told order × IsOne (filter_map (slice_get places) order) dims outcome
@@ -64,4 +73,8 @@ IsOrderedBy true places told dims outcome = IsOrdered places told dims outcome
 -- The members at these places in the order of the ranks that they are told, which are those from 0 on, each once.
 abbrev pub IsInToldOrder : List ℕ → Option (List ℕ) → Option (List ℕ) → Outcome → Type 0
 IsInToldOrder places None dims outcome = outcome ≡ outcomes.Untold
-IsInToldOrder places (Some told) dims outcome = IsOrderedBy (are_ranks (length told) told) places told dims outcome
+IsInToldOrder places (Some told) dims outcome = IsOrderedBy (are_each_once told) places told dims outcome
+
+-- those that get the communicator, in the order of the ranks that they are told on it
+abbrev pub IsOfTold : List RankView → List (Option Here) → Option (Vec ℕ Global) → Outcome → Type 0
+IsOfTold views all dims outcome = IsInToldOrder (given_places 0 all) (told_ranks views all) (list_in dims) outcome

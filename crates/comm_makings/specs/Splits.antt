@@ -1,5 +1,6 @@
 -- Splitting a communicator (MPI 4.0, 7.4.2).
-use Rattle.std.specs.Prelude.{ℕ, ℤ, ◌+◌, Bool, true, false, List, [], ◌∷◌, Option, Some, None}
+use Rattle.std.specs.Prelude.{ℕ, ℤ, ◌+◌, Bool, true, false, List, [], ◌∷◌, Option, Some, None, is_some}
+use Rattle.std.specs.List.{list_all, list_any}
 use Rattle.comm_groups.specs.Splits.{Group, IsSplit}
 use Rattle.comm_groups.specs.declared.color.Colored.{Colored}
 use Rattle.comm_makings.specs.Here.{making_at}
@@ -45,6 +46,14 @@ tells_nothing _ = false
 abbrev pub is_unknown : List RankCalls → Option Here → Bool
 is_unknown ranks here = tells_nothing (asked_by ranks here)
 
+-- the call of some member says what can't be read
+abbrev pub some_unknown : List RankCalls → List (Option Here) → Bool
+some_unknown ranks all = list_any (is_unknown ranks) all
+
+-- Each member has its call.
+abbrev pub all_here : List (Option Here) → Bool
+all_here all = list_all is_some all
+
 -- a member at this place before others
 abbrev pub colored_by : ℕ → Asked → List Colored → List Colored
 colored_by place (asks.Part color key) others = record { color = color; key = key; rank = place } ∷ others
@@ -58,3 +67,7 @@ colored ranks place (here ∷ all) = colored_by place (asked_by ranks here) (col
 -- one communicator for each color that is named, with the members by key and then by their ranks in the parent
 abbrev pub IsOfColors : List Colored → Outcome → Type 0
 IsOfColors asked outcome = (groups : List Group) × IsSplit asked groups × IsOfGroups groups None outcome
+
+-- the same of the colors that the members' calls name
+abbrev pub IsOfCalls : List RankCalls → List (Option Here) → Outcome → Type 0
+IsOfCalls ranks all outcome = IsOfColors (colored ranks 0 all) outcome

@@ -2,9 +2,10 @@
 -- derived communicator is that of one of its members.
 use Rattle.std.specs.Prelude.{◌≡◌, ◌⊎◌, ℕ, List, Option, Some, None, Vec}
 use Rattle.std.specs.List.{slice_get}
-use Rattle.std.specs.Option.{option_and_then, option_map}
+use Rattle.std.specs.Option.{option_and_then}
 use Rattle.std.specs.declared.alloc.Global.{Global}
 use Rattle.comm_makings.specs.Derives.{Derives, communicator, ranks_of, member_with, members_at, ranks_in}
+use Rattle.comm_makings.specs.Each.{list_in}
 use Rattle.comm_makings.specs.Selection.{Selection}
 use Rattle.comm_makings.specs.declared.calls.RankCalls.{RankCalls}
 use Rattle.comm_makings.specs.declared.group_value.GroupValue.{GroupValue}
@@ -23,7 +24,7 @@ use Rattle.comm_makings.specs.declared.view.RankView.{RankView}
 
 -- the sizes of a communicator's dimensions, where it is a grid and they are known
 abbrev pub dims_of : Made → Option (List ℕ)
-dims_of comm = option_map (λ v. v.items) comm.dims
+dims_of comm = list_in comm.dims
 
 -- a communicator that derives, with its ranks beside its members
 pub record IsDerivedComm (ranks : List RankCalls) (views : List RankView) (comm : Made) : Type 0 where
@@ -115,6 +116,10 @@ pub record NoneListedAt (rows : List (Vec GroupValue Global)) : Type 0 where
 abbrev pub parts_in : Outcome → Option (List Selection)
 parts_in (outcomes.Parts made) = Some made.items
 parts_in _ = None
+
+-- Where communicators are made, they are such.
+abbrev pub IfParts : (List Selection → Type 0) → Outcome → Type 0
+IfParts P outcome = (parts : List Selection) → parts_in outcome ≡ Some parts → P parts
 
 -- Each communicator of the outcome derives.
 pub record IsDerivedOutcome (ranks : List RankCalls) (views : List RankView) (members : List Member) (all : List (Option Here)) (outcome : Outcome) : Type 0 where

@@ -1,7 +1,7 @@
 -- What a rank called on each of its communicators.
 use Rattle.std.specs.Prelude.{◌≡◌, ℕ, ◌+◌, ◌==◌, ◌&&◌, Bool, true, false, not, List, [], ◌∷◌, Option, Some, None, cond, length}
 use Rattle.std.specs.List.{slice_get}
-use Rattle.std.specs.Option.{option_map}
+use Rattle.comm_makings.specs.Each.{EachIs, ListsAre}
 use Rattle.comm_makings.specs.Here.{making_of}
 use Rattle.comm_makings.specs.Naming.{handles_of, meant_of}
 use Rattle.comm_makings.specs.declared.calls.Action.{Action}
@@ -70,9 +70,9 @@ first_told_on handle (call ∷ calls) (here ∷ meant) = told_before handle here
 pub record IsView (world : ℕ) (calls : RankCalls) (view : RankView) : Type 0 where
   pub handles : view.handles.items ≡ handles_of world calls.own calls.calls.items
   pub meant : view.meant.items ≡ meant_of world calls.own calls.calls.items
-  pub makings : (handle : ℕ) (list : List ℕ) → option_map (λ l. l.items) (slice_get view.makings.items handle) ≡ Some list → list ≡ makings_on false handle 0 calls.calls.items view.meant.items
-  pub by_group : (handle : ℕ) (list : List ℕ) → option_map (λ l. l.items) (slice_get view.by_group.items handle) ≡ Some list → list ≡ makings_on true handle 0 calls.calls.items view.meant.items
-  pub told : (handle : ℕ) (told : Option ℕ) → slice_get view.told.items handle ≡ Some told → told ≡ first_told_on handle calls.calls.items view.meant.items
+  pub makings : ListsAre view.makings.items (λ handle. makings_on false handle 0 calls.calls.items view.meant.items)
+  pub by_group : ListsAre view.by_group.items (λ handle. makings_on true handle 0 calls.calls.items view.meant.items)
+  pub told : EachIs view.told.items (λ handle. first_told_on handle calls.calls.items view.meant.items)
 
 -- those of all ranks
 pub record AreViews (world : ℕ) (ranks : List RankCalls) (views : List RankView) : Type 0 where

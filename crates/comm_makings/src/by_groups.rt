@@ -4,7 +4,7 @@ ghost use Rattle.std.specs.Prelude.{◌≡◌, ◌≤◌, ◌↔◌, [], IfOk, I
 ghost use Rattle.std.specs.List.{slice_get};
 ghost use Rattle.std.specs.Option.{option_copied};
 ghost use Rattle.indexmap.specs.IndexMap.{get};
-ghost use Rattle.comm_makings.specs.ByGroups.{AreFound, AreFoundSame, AreOfCalls, AreRightOffers, AreSame, AreSameTo, AreSomeOf, IsKnownOffer, IsListOn, IsSoundAt, part_at};
+ghost use Rattle.comm_makings.specs.ByGroups.{AreFound, AreFoundSame, AreOfCalls, AreOffersIn, AreSame, AreSameTo, AreSomeOf, IsKnownOffer, IsListOn, IsSoundAt, part_at};
 ghost use Rattle.comm_makings.specs.Derives.{tag_in};
 ghost use Rattle.comm_makings.specs.Makes.{said_by};
 ghost use Rattle.comm_makings.specs.Offers.{AreRanked};
@@ -144,8 +144,8 @@ fn offer_all<'a>(
     offers: &mut Vec<Offer<'a>>,
 ) -> Result<bool, AllocError>
     requires member { slice_get members.now place ≡ Some member }
-    requires offers { AreRightOffers ranks.now views.now run.now.values.items run.now.comms.items members.now offers.old.items }
-    ensures { OnOk result (AreRightOffers ranks.now views.now run.now.values.items run.now.comms.items members.now offers.new.items) }
+    requires offers { AreOffersIn ranks.now views.now run.now members.now offers.old.items }
+    ensures { OnOk result (AreOffersIn ranks.now views.now run.now members.now offers.new.items) }
 {
     for at in calls_of(views, member) {
         match offer_at(
@@ -195,8 +195,8 @@ fn offer_members<'a>(
     calls: &mut Vec<Offer<'a>>,
     waits: &mut Vec<bool>,
 ) -> Result<(), AllocError>
-    requires { AreRightOffers ranks.now views.now run.now.values.items run.now.comms.items members.now calls.old.items }
-    ensures { OnOk result (AreRightOffers ranks.now views.now run.now.values.items run.now.comms.items members.now calls.new.items) }
+    requires { AreOffersIn ranks.now views.now run.now members.now calls.old.items }
+    ensures { OnOk result (AreOffersIn ranks.now views.now run.now members.now calls.new.items) }
 {
     for (at, member) in members.iter().enumerate() {
         if let Ok(place) = u32::try_from(at) {
@@ -216,7 +216,7 @@ fn offers_of<'a>(
     members: &[Member],
     last: bool,
 ) -> Result<Offers<'a>, AllocError>
-    ensures { IfOk result (λ offers. AreRightOffers ranks.now views.now run.now.values.items run.now.comms.items members.now offers.calls.items) }
+    ensures { IfOk result (λ offers. AreOffersIn ranks.now views.now run.now members.now offers.calls.items) }
 {
     let mut calls = Vec::new(alloc);
     let mut waits = Vec::new(alloc);
@@ -439,49 +439,33 @@ fn one_made(
     made_of(alloc, members, all, &part)
 }
 
-/// What the calls of one list of members and one tag make.
-#[derive(Drop)]
-struct Read {
-    made: Vec<Made>,
-    /// Whether more may be made of them.
-    goes_on: bool,
-}
-
-/// Reads the calls of one list of members and one tag, and notes those that are read.
+/// Reads the calls of one list of members and one tag, and notes those that are read. Says whether more may be made of them.
 #[tactic(auto, using(crate::proofs::GroupCalls::found_more))]
-fn read_same(
+fn read_each(
     alloc: Global,
     parent: &Made,
     calls: &[Offer<'_>],
     places: &[u32],
     waits: &[bool],
     read: &mut Vec<(u32, usize)>,
-) -> Result<Read, AllocError>
-    ensures { IfOk result (λ r. AreFoundSame calls.now parent.now.members.items parent.now.ranks.items places.now r.made.items) }
+    made: &mut Vec<Made>,
+) -> Result<bool, AllocError>
+    requires { AreFoundSame calls.now parent.now.members.items parent.now.ranks.items places.now made.old.items }
+    ensures { OnOk result (AreFoundSame calls.now parent.now.members.items parent.now.ranks.items places.now made.new.items) }
 {
-    let mut made = Vec::new(alloc);
     for k in 0..calls.len() {
         let all = kth_of(alloc, calls, places, parent.members.len(), k)?;
         if may_come(&all, places, waits) || !some_here(&all) {
-            return Ok(Read {
-                made,
-                goes_on: true,
-            });
+            return Ok(true);
         }
         if !is_sound(alloc, &all, places)? {
-            return Ok(Read {
-                made,
-                goes_on: false,
-            });
+            return Ok(false);
         }
         note_read(calls, &all, read)?;
         let comm = one_made(alloc, &parent.members, &all, places)?;
         made.push(comm)?;
     }
-    Ok(Read {
-        made,
-        goes_on: true,
-    })
+    Ok(true)
 }
 
 /// Reads the calls of one list of members and one tag, unless nothing more is made of them.
@@ -509,8 +493,8 @@ fn read_key(
         end(alloc, calls, first.ranks, first.tag, found)?;
         return Ok(Vec::new(alloc));
     };
-    let Read { made, goes_on } = read_same(alloc, parent, calls, &places, waits, &mut found.read)?;
-    if !goes_on {
+    let mut made = Vec::new(alloc);
+    if !read_each(alloc, parent, calls, &places, waits, &mut found.read, &mut made)? {
         end(alloc, calls, first.ranks, first.tag, found)?;
     }
     Ok(made)

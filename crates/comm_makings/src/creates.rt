@@ -4,9 +4,8 @@ ghost use Rattle.std.specs.Prelude.{◌≡◌, [], ℕ, IfOk, IfSome, IsTrue, Li
 ghost use Rattle.std.specs.Option.{option_copied};
 ghost use Rattle.indexmap.specs.IndexMap.{get};
 ghost use Rattle.comm_groups.specs.Groups.{has};
-ghost use Rattle.comm_makings.specs.Offers.{AddsOffer, AreKnown, AreOfWanted, AreOfferedParts, AreRanked, AreWanted, IsKnown, group_of};
-ghost use Rattle.comm_makings.specs.Selection.{Selection};
-ghost use Rattle.comm_makings.specs.State.{parts_in};
+ghost use Rattle.comm_makings.specs.Offers.{AddsOffer, AreKnown, AreOfWanted, AreOfferedParts, AreOffersAt, AreRanked, AreWanted, IsKnown, group_of};
+ghost use Rattle.comm_makings.specs.State.{IfParts};
 ghost use Rattle.comm_makings.specs.declared.creates.Known.TheVariants as knowing;
 
 use crate::group_value::{GroupValue, ranks_at, waits_at};
@@ -269,7 +268,7 @@ fn parts_at(
     placed: &IndexMap<u32, u32>,
     offers: &[Offer],
 ) -> Result<Outcome, AllocError>
-    ensures { IfOk result (λ o. (ranks : List ℕ) (parts : List Selection) → AreRanked (get nat_eq placed.now) ranks → parts_in o ≡ Some parts → AreOfferedParts ranks offers.now parts) }
+    ensures { IfOk result (AreOffersAt (get nat_eq placed.now) offers.now) }
 {
     let mut parts = Vec::new(alloc);
     for offer in offers {
@@ -287,7 +286,7 @@ fn parts_at(
 
 /// A communicator of each group that one of its own gives.
 fn offered_parts(alloc: Global, ranks: &[u32], offers: &[Offer]) -> Result<Outcome, AllocError>
-    ensures { IfOk result (λ o. (parts : List Selection) → parts_in o ≡ Some parts → AreOfferedParts ranks.now offers.now parts) }
+    ensures { IfOk result (IfParts (AreOfferedParts ranks.now offers.now)) }
 {
     let placed = places_by_rank(alloc, ranks)?;
     let parts = parts_at(alloc, &placed, offers);
@@ -304,8 +303,8 @@ pub(crate) fn create_outcome(
     parent: &Made,
     all: &[Option<Here>],
 ) -> Result<Outcome, AllocError>
-    ensures known { IfOk result (λ o. (parts : List Selection) → parts_in o ≡ Some parts → AreKnown values.now comms.now all.now) }
-    ensures made { IfOk result (λ o. (parts : List Selection) → parts_in o ≡ Some parts → AreOfWanted values.now comms.now all.now parent.now.ranks.items parts) }
+    ensures known { IfOk result (IfParts (λ parts. AreKnown values.now comms.now all.now)) }
+    ensures made { IfOk result (IfParts (AreOfWanted values.now comms.now all.now parent.now.ranks.items)) }
 {
     match knows_all(values, comms, all) {
         Known::Waits => Ok(Outcome::Waits),

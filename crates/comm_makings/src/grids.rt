@@ -1,13 +1,13 @@
 //! Makings that give a communicator a topology (MPI 4.0, chapter 8).
 
-ghost use Rattle.std.specs.Prelude.{◌≡◌, ◌≤◌, ◌<◌, ◌^◌, ◌⊎◌, ◌↔◌, IfOk, IfSome, IsTrue, List, Some, false, length, option_map, pos, true};
+ghost use Rattle.std.specs.Prelude.{◌≡◌, ◌≤◌, ◌<◌, ◌^◌, ◌↔◌, IfOk, IfSome, IsTrue, false, length, pos, true};
 ghost use Rattle.std.specs.List.{filter_map, list_all, slice_get};
 ghost use Rattle.std.specs.Option.{option_copied};
-ghost use Rattle.comm_makings.specs.Makes.{AllSay, IsDistGraphMade, IsKnownGraph, IsKnownGrid, IsPartOfGrid, IsTopology, IsUnknownGrid, Says, dims_in, nodes_in, remain_in, reorder_in, said_by};
-ghost use Rattle.comm_makings.specs.Selection.{Selection};
-ghost use Rattle.comm_makings.specs.State.{parts_in};
-ghost use Rattle.comm_makings.specs.Reordered.{IsInToldOrder, differs, given_places, gives_some, is_returned, told_at, told_here, told_ranks};
-ghost use Rattle.comm_makings.specs.declared.parts.Outcome.TheVariants as outcomes;
+ghost use Rattle.comm_makings.specs.Each.{list_in};
+ghost use Rattle.comm_makings.specs.Makes.{AllSay, IsDistGraphMade, IsGraph, IsGrid, IsPartOfGrid, IsTopology, Says, dims_in, nodes_in, remain_in, reorder_in, said_by};
+ghost use Rattle.comm_makings.specs.Parts.{IsUnsound, IsUntold};
+ghost use Rattle.comm_makings.specs.Reordered.{AreReturned, IsInToldOrder, IsOfTold, differs, given_places, gives_some, is_returned, others_given, told_at, told_here, told_ranks};
+ghost use Rattle.comm_makings.specs.State.{IfParts, dims_of};
 
 use crate::calls::{Making, RankCalls};
 use crate::handle::Gives;
@@ -324,7 +324,7 @@ fn told_ranks(
     views: &[RankView],
     all: &[Option<Here>],
 ) -> Result<Option<Vec<u32>>, AllocError>
-    ensures { IfOk result (λ found. option_map (λ v. v.items) found ≡ told_ranks views.now all.now) }
+    ensures { IfOk result (λ found. list_in found ≡ told_ranks views.now all.now) }
 {
     let mut told = Vec::new(alloc);
     for here in all {
@@ -370,9 +370,9 @@ fn reordered(
     dims: Option<Vec<u32>>,
 ) -> Result<Outcome, AllocError>
     requires { length all.now < 2 ^ 32 }
-    ensures returned { list_all is_returned all.now ≡ false → IfOk result (λ o. o ≡ outcomes.Untold) }
-    ensures count { list_all is_returned all.now ≡ true → differs count (length (given_places 0 all.now)) ≡ true → IfOk result (λ o. o ≡ outcomes.Unsound) }
-    ensures told { list_all is_returned all.now ≡ true → differs count (length (given_places 0 all.now)) ≡ false → IfOk result (IsInToldOrder (given_places 0 all.now) (told_ranks views.now all.now) (option_map (λ v. v.items) dims)) }
+    ensures returned { list_all is_returned all.now ≡ false → IfOk result IsUntold }
+    ensures count { AreReturned all.now → others_given count all.now ≡ true → IfOk result IsUnsound }
+    ensures told { AreReturned all.now → others_given count all.now ≡ false → IfOk result (IsOfTold views.now all.now dims) }
 {
     if !all_returned(all) {
         return Ok(Outcome::Untold);
@@ -392,7 +392,7 @@ fn told_part(
     told: Option<Vec<u32>>,
     dims: Option<Vec<u32>>,
 ) -> Result<Outcome, AllocError>
-    ensures { IfOk result (IsInToldOrder places.now (option_map (λ v. v.items) told) (option_map (λ v. v.items) dims)) }
+    ensures { IfOk result (IsInToldOrder places.now (list_in told) (list_in dims)) }
 {
     match told {
         None => Ok(Outcome::Untold),
@@ -413,7 +413,7 @@ fn topology(
     dims: Option<Vec<u32>>,
 ) -> Result<Outcome, AllocError>
     requires { length all.now < 2 ^ 32 }
-    ensures { IfOk result (λ o. (parts : List Selection) → parts_in o ≡ Some parts → IsTopology ranks.now views.now all.now count (option_map (λ v. v.items) dims) parts) }
+    ensures { IfOk result (IfParts (IsTopology ranks.now views.now all.now count (list_in dims))) }
 {
     match agreed_reorder(ranks, all) {
         None => Ok(Outcome::Unsound),
@@ -435,7 +435,7 @@ pub(crate) fn cart_outcome(
 ) -> Result<Outcome, AllocError>
     requires few { length all.now < 2 ^ 32 }
     requires members { members ≡ length all.now }
-    ensures { IfOk result (λ o. (parts : List Selection) → parts_in o ≡ Some parts → IsKnownGrid ranks.now views.now all.now parts ⊎ IsUnknownGrid ranks.now views.now all.now parts) }
+    ensures { IfOk result (IfParts (IsGrid ranks.now views.now all.now)) }
 {
     if wrong_dims(ranks, all, members) {
         return Ok(Outcome::Unsound);
@@ -462,7 +462,7 @@ pub(crate) fn graph_outcome(
 ) -> Result<Outcome, AllocError>
     requires few { length all.now < 2 ^ 32 }
     requires members { members ≡ length all.now }
-    ensures { IfOk result (λ o. (parts : List Selection) → parts_in o ≡ Some parts → IsKnownGraph ranks.now views.now all.now parts ⊎ IsUnknownGrid ranks.now views.now all.now parts) }
+    ensures { IfOk result (IfParts (IsGraph ranks.now views.now all.now)) }
 {
     if wrong_nodes(ranks, all, members) {
         return Ok(Outcome::Unsound);
@@ -486,7 +486,7 @@ pub(crate) fn dist_graph_outcome(
 ) -> Result<Outcome, AllocError>
     requires few { length all.now < 2 ^ 32 }
     requires members { members ≡ length all.now }
-    ensures { IfOk result (λ o. (parts : List Selection) → parts_in o ≡ Some parts → IsDistGraphMade ranks.now views.now all.now parts) }
+    ensures { IfOk result (IfParts (IsDistGraphMade ranks.now views.now all.now)) }
 {
     match agreed_reorder(ranks, all) {
         None => Ok(Outcome::Unsound),
@@ -504,7 +504,7 @@ pub(crate) fn cart_sub_outcome(
     members: u32,
 ) -> Result<Outcome, AllocError>
     requires { members ≡ length all.now }
-    ensures { IfOk result (λ o. (parts : List Selection) → parts_in o ≡ Some parts → IsPartOfGrid ranks.now (option_map (λ v. v.items) parent.now.dims) all.now parts) }
+    ensures { IfOk result (IfParts (IsPartOfGrid ranks.now (dims_of parent.now) all.now)) }
 {
     let Some(dims) = &parent.dims else {
         return Ok(Outcome::Untold);

@@ -1,10 +1,11 @@
 //! The groups that a rank's calls give (MPI 4.0, 7.3.2).
 
-ghost use Rattle.std.specs.Prelude.{◌≡◌, Bool, IfOk, option_map};
+ghost use Rattle.std.specs.Prelude.{◌≡◌, IfOk};
 ghost use Rattle.comm_groups.specs.Ranges.{range_excl_of, range_incl_of};
 ghost use Rattle.std.specs.List.{slice_get};
 ghost use Rattle.std.specs.Option.{option_and_then, option_copied};
-ghost use Rattle.comm_makings.specs.Groups.{IsListed, IsMadeOfOne, IsMadeOfTwo, IsValueOf, group_of_comm, is_known, last_from, last_of, made_of_one, made_of_two, range_of, ranges_of, ranks_at, ranks_of, unlisted, waits, waits_at};
+ghost use Rattle.comm_makings.specs.Each.{list_in};
+ghost use Rattle.comm_makings.specs.Groups.{IsListed, IsMadeOfTwo, IsOfOneNamed, IsOfTwoNamed, IsValueNamed, group_of_comm, is_known, last_from, last_of, made_of_one, made_of_two, range_of, ranges_of, ranks_at, ranks_of, unlisted, waits, waits_at};
 
 use crate::calls::{GroupCall, RankRange};
 use crate::handle::{GroupAt, Meant};
@@ -95,7 +96,7 @@ fn standing_at(standings: &[Standing], comm: Option<usize>) -> Option<Standing>
 
 /// The group of these ranks, where there is one.
 fn listed(ranks: Option<Vec<u32>>) -> GroupValue
-    ensures { IsListed (option_map (λ v. v.items) ranks) result }
+    ensures { IsListed (list_in ranks) result }
 {
     match ranks {
         Some(ranks) => GroupValue::Listed(ranks),
@@ -167,7 +168,7 @@ fn ranges_of(
     alloc: Global,
     ranges: &[RankRange],
 ) -> Result<Option<Vec<comm_groups::RankRange>>, AllocError>
-    ensures { IfOk result (λ found. option_map (λ v. v.items) found ≡ ranges_of ranges.now) }
+    ensures { IfOk result (λ found. list_in found ≡ ranges_of ranges.now) }
 {
     let mut all = Vec::new(alloc);
     for range in ranges {
@@ -185,7 +186,7 @@ fn with_ranges(
     members: &[u32],
     ranges: &[RankRange],
 ) -> Result<Option<Vec<u32>>, AllocError>
-    ensures { IfOk result (λ found. option_map (λ v. v.items) found ≡ option_and_then (range_incl_of members.now) (ranges_of ranges.now)) }
+    ensures { IfOk result (λ found. list_in found ≡ option_and_then (range_incl_of members.now) (ranges_of ranges.now)) }
 {
     match ranges_of(alloc, ranges)? {
         Some(ranges) => comm_groups::range_incl(alloc, members, &ranges),
@@ -199,7 +200,7 @@ fn without_ranges(
     members: &[u32],
     ranges: &[RankRange],
 ) -> Result<Option<Vec<u32>>, AllocError>
-    ensures { IfOk result (λ found. option_map (λ v. v.items) found ≡ option_and_then (range_excl_of members.now) (ranges_of ranges.now)) }
+    ensures { IfOk result (λ found. list_in found ≡ option_and_then (range_excl_of members.now) (ranges_of ranges.now)) }
 {
     match ranges_of(alloc, ranges)? {
         Some(ranges) => comm_groups::range_excl(alloc, members, &ranges),
@@ -209,7 +210,7 @@ fn without_ranges(
 
 /// A group that is made of one other.
 fn of_one(alloc: Global, group: &GroupCall, members: &[u32]) -> Result<Option<Vec<u32>>, AllocError>
-    ensures { IfOk result (λ found. option_map (λ v. v.items) found ≡ made_of_one group.now members.now) }
+    ensures { IfOk result (λ found. list_in found ≡ made_of_one group.now members.now) }
 {
     match group {
         GroupCall::Incl { ranks, .. } => match ranks {
@@ -243,7 +244,7 @@ fn of_two(
     first: &[u32],
     second: &[u32],
 ) -> Result<Option<Vec<u32>>, AllocError>
-    ensures { IfOk result (λ found. option_map (λ v. v.items) found ≡ made_of_two group.now first.now second.now) }
+    ensures { IfOk result (λ found. list_in found ≡ made_of_two group.now first.now second.now) }
 {
     match group {
         GroupCall::Union { .. } => Ok(Some(comm_groups::union(alloc, first, second)?)),
@@ -297,7 +298,7 @@ fn value_of_two(
     values: &[GroupValue],
     comms: &[Made],
 ) -> Result<GroupValue, AllocError>
-    ensures { IfOk result (λ value. (waits : Bool) × IsMadeOfTwo group.now (ranks_at comms.now values.now meant.now.group) (ranks_at comms.now values.now meant.now.second) waits value) }
+    ensures { IfOk result (IsOfTwoNamed comms.now values.now group.now meant.now) }
 {
     let first = ranks_at(values, comms, meant.group);
     let second = ranks_at(values, comms, meant.second);
@@ -314,7 +315,7 @@ fn value_of_one(
     values: &[GroupValue],
     comms: &[Made],
 ) -> Result<GroupValue, AllocError>
-    ensures { IfOk result (λ value. (waits : Bool) × IsMadeOfOne group.now (ranks_at comms.now values.now meant.now.group) waits value) }
+    ensures { IfOk result (IsOfOneNamed comms.now values.now group.now meant.now) }
 {
     match ranks_at(values, comms, meant.group) {
         None => Ok(unlisted(waits_at(values, meant.group))),
@@ -331,7 +332,7 @@ pub(crate) fn value_of(
     standings: &[Standing],
     comms: &[Made],
 ) -> Result<GroupValue, AllocError>
-    ensures { IfOk result (IsValueOf group.now (option_and_then (slice_get standings.now) meant.now.comm) (ranks_at comms.now values.now meant.now.group) (ranks_at comms.now values.now meant.now.second)) }
+    ensures { IfOk result (IsValueNamed standings.now values.now comms.now group.now meant.now) }
 {
     match group {
         GroupCall::OfComm { .. } => Ok(group_of(standing_at(standings, meant.comm))),

@@ -1,12 +1,13 @@
 //! What the numbers in a rank's calls mean.
 
-ghost use Rattle.std.specs.Prelude.{◌≡◌, ◌++◌, ◌∷◌, [], ℕ, IfOk, None, OnOk, Some, cond, false, length, nat_eq};
+ghost use Rattle.std.specs.Prelude.{◌≡◌, ◌++◌, ◌∷◌, [], IfOk, None, OnOk, Some, false, length, nat_eq, true};
 ghost use Rattle.std.specs.Option.{option_and_then};
 ghost use Rattle.indexmap.specs.IndexMap.{get};
-ghost use Rattle.comm_makings.specs.Naming.{after_given, comm_of_group, first_handles, first_naming, first_of_group, group_after, group_given, group_of_making, handles_of, meant_from, meant_in, meant_of, naming_after, naming_from, naming_of, second_of_group};
-ghost use Rattle.comm_makings.specs.declared.handle.Gives.TheVariants as gives;
+ghost use Rattle.comm_makings.specs.Naming.{AreNamed, after_group, comm_of_group, first_handles, first_naming, first_of_group, gives_as, group_of_making, handles_of, meant_by, meant_from, meant_in, meant_of, naming_after, naming_from, naming_of, second_of_group, taken_by, with_given, with_number, without_number};
+ghost use Rattle.comm_makings.specs.declared.calls.Action.TheVariants as actions;
+ghost use Rattle.comm_makings.specs.declared.calls.Given.TheVariants as givens;
 ghost use Rattle.comm_makings.specs.declared.handle.GroupAt.TheVariants as groups;
-ghost use Rattle.comm_makings.specs.Names.{always, from_next, gives_of, group_at, handles_after, handles_ended, is_taken, name_after, name_ended, number_given};
+ghost use Rattle.comm_makings.specs.Names.{always, from_next, group_at, handles_ended};
 
 use crate::calls::{Action, CommCall, Given, GroupCall, GroupName, Making, RankCalls};
 use crate::handle::{Gives, GroupAt, Handle, Meant};
@@ -64,7 +65,7 @@ fn first_comms(
     world: u32,
     own: Option<u32>,
 ) -> Result<IndexMap<u32, usize>, AllocError>
-    ensures { IfOk result (λ comms. (m : ℕ) → get nat_eq comms m ≡ (first_naming world own).comms m) }
+    ensures { IfOk result (λ comms. AreNamed comms (first_naming world own).comms) }
 {
     let mut comms = IndexMap::new(alloc);
     match name_first(&mut comms, world, own) {
@@ -82,8 +83,8 @@ fn name_first(
     world: u32,
     own: Option<u32>,
 ) -> Result<(), AllocError>
-    requires { (m : ℕ) → get nat_eq comms.old m ≡ None }
-    ensures { OnOk result ((m : ℕ) → get nat_eq comms.new m ≡ (first_naming world own).comms m) }
+    requires { AreNamed comms.old (λ m. None) }
+    ensures { OnOk result (AreNamed comms.new (first_naming world own).comms) }
 {
     if let Some(number) = own {
         comms.insert(number, 1)?;
@@ -125,7 +126,7 @@ impl Names {
 
     /// Whether it is the number of the world or of MPI_COMM_SELF.
     fn is_taken(&self, number: u32) -> bool
-        ensures { result ≡ is_taken self.now.world self.now.own number }
+        ensures { result ≡ taken_by self.now number }
     {
         if number == self.world {
             return true;
@@ -159,8 +160,8 @@ impl Names {
 
     /// From this call on the number names nothing.
     fn end(&mut self, number: u32, call: u64)
-        ensures names { (m : ℕ) → get nat_eq self.new.comms m ≡ name_ended (is_taken self.old.world self.old.own number) number (get nat_eq self.old.comms) m }
-        ensures handles { self.new.handles.items ≡ handles_ended (is_taken self.old.world self.old.own number) call (get nat_eq self.old.comms number) self.old.handles.items }
+        ensures names { AreNamed self.new.comms (without_number self.old call number).comms }
+        ensures handles { self.new.handles.items ≡ (without_number self.old call number).handles }
         ensures groups { self.new.groups ≡ self.old.groups }
         ensures world { self.new.world ≡ self.old.world }
         ensures own { self.new.own ≡ self.old.own }
@@ -194,9 +195,9 @@ impl Names {
     /// A new handle from a call that gives this number. The number may have named another communicator: in the call itself it
     /// still does.
     fn give_number(&mut self, number: u32, call: u64) -> Result<Gives, AllocError>
-        ensures gives { IfOk result (λ g. g ≡ cond (is_taken self.old.world self.old.own number) (gives.Taken (length self.old.handles.items)) (gives.Handle (length self.old.handles.items))) }
-        ensures names { OnOk result ((m : ℕ) → get nat_eq self.new.comms m ≡ name_after (is_taken self.old.world self.old.own) (Some number) (length self.old.handles.items) (get nat_eq self.old.comms) m) }
-        ensures handles { OnOk result (self.new.handles.items ≡ handles_after (is_taken self.old.world self.old.own) (Some number) call (get nat_eq self.old.comms) self.old.handles.items) }
+        ensures gives { IfOk result (λ g. g ≡ gives_as self.old true (givens.Number number)) }
+        ensures names { OnOk result (AreNamed self.new.comms (with_number self.old call number).comms) }
+        ensures handles { OnOk result (self.new.handles.items ≡ (with_number self.old call number).handles) }
         ensures groups { self.new.groups ≡ self.old.groups }
         ensures world { self.new.world ≡ self.old.world }
         ensures own { self.new.own ≡ self.old.own }
@@ -212,9 +213,9 @@ impl Names {
 
     /// What a call gives.
     fn give(&mut self, call: &CommCall, given: Given) -> Result<Gives, AllocError>
-        ensures gives { IfOk result (λ g. g ≡ gives_of (is_taken self.old.world self.old.own) call.now.returned given (length self.old.handles.items)) }
-        ensures names { OnOk result ((m : ℕ) → get nat_eq self.new.comms m ≡ name_after (is_taken self.old.world self.old.own) (number_given call.now.returned given) (length self.old.handles.items) (get nat_eq self.old.comms) m) }
-        ensures handles { OnOk result (self.new.handles.items ≡ handles_after (is_taken self.old.world self.old.own) (number_given call.now.returned given) call.now.call (get nat_eq self.old.comms) self.old.handles.items) }
+        ensures gives { IfOk result (λ g. g ≡ gives_as self.old call.now.returned given) }
+        ensures names { OnOk result (AreNamed self.new.comms (with_given self.old call.now given).comms) }
+        ensures handles { OnOk result (self.new.handles.items ≡ (with_given self.old call.now given).handles) }
         ensures groups { self.new.groups ≡ self.old.groups }
         ensures world { self.new.world ≡ self.old.world }
         ensures own { self.new.own ≡ self.old.own }
@@ -231,7 +232,7 @@ impl Names {
 
     /// Behind the call that gives it a number names the new group.
     fn give_group(&mut self, call: &CommCall, at: usize, given: GroupName) -> Result<(), AllocError>
-        ensures groups { OnOk result ((m : ℕ) → get nat_eq self.new.groups m ≡ group_after at (group_given call.now.returned given) (get nat_eq self.old.groups) m) }
+        ensures groups { OnOk result (AreNamed self.new.groups (after_group at (naming_of self.old) call.now given).groups) }
         ensures names { self.new.comms ≡ self.old.comms }
         ensures handles { self.new.handles ≡ self.old.handles }
         ensures world { self.new.world ≡ self.old.world }
@@ -254,8 +255,8 @@ impl Names {
         making: &Making,
         given: Given,
     ) -> Result<Meant, AllocError>
-        ensures meant { IfOk result (λ m. m ≡ record { comm = option_and_then (get nat_eq self.old.comms) parent; gives = gives_of (is_taken self.old.world self.old.own) call.now.returned given (length self.old.handles.items); group = group_at (get nat_eq self.old.groups) (group_of_making making.now); second = groups.Unknown }) }
-        ensures naming { OnOk result (naming_of self.new ≡ after_given (is_taken self.old.world self.old.own) (naming_of self.old) call.now given) }
+        ensures meant { IfOk result (λ m. m ≡ meant_by self.old call.now.returned (actions.Make parent making.now given)) }
+        ensures naming { OnOk result (naming_of self.new ≡ with_given self.old call.now given) }
         ensures world { self.new.world ≡ self.old.world }
         ensures own { self.new.own ≡ self.old.own }
     {
@@ -278,8 +279,8 @@ impl Names {
         group: &GroupCall,
         given: GroupName,
     ) -> Result<Meant, AllocError>
-        ensures meant { IfOk result (λ m. m ≡ record { comm = option_and_then (get nat_eq self.old.comms) (comm_of_group group.now); gives = gives.Nothing; group = group_at (get nat_eq self.old.groups) (first_of_group group.now); second = group_at (get nat_eq self.old.groups) (second_of_group group.now) }) }
-        ensures groups { OnOk result ((m : ℕ) → get nat_eq self.new.groups m ≡ group_after at (group_given call.now.returned given) (get nat_eq self.old.groups) m) }
+        ensures meant { IfOk result (λ m. m ≡ meant_by self.old call.now.returned (actions.Group group.now given)) }
+        ensures groups { OnOk result (AreNamed self.new.groups (after_group at (naming_of self.old) call.now given).groups) }
         ensures names { self.new.comms ≡ self.old.comms }
         ensures handles { self.new.handles ≡ self.old.handles }
         ensures world { self.new.world ≡ self.old.world }
@@ -297,8 +298,8 @@ impl Names {
 
     /// Reads a call at this place of the rank's list.
     fn read(&mut self, at: usize, call: &CommCall) -> Result<Meant, AllocError>
-        ensures meant { IfOk result (λ m. m ≡ meant_in (is_taken self.old.world self.old.own) (naming_of self.old) call.now) }
-        ensures naming { OnOk result (naming_of self.new ≡ naming_after (is_taken self.old.world self.old.own) at (naming_of self.old) call.now) }
+        ensures meant { IfOk result (λ m. m ≡ meant_in (taken_by self.old) (naming_of self.old) call.now) }
+        ensures naming { OnOk result (naming_of self.new ≡ naming_after (taken_by self.old) at (naming_of self.old) call.now) }
         ensures world { self.new.world ≡ self.old.world }
         ensures own { self.new.own ≡ self.old.own }
     {
@@ -409,8 +410,8 @@ fn second_of_group(group: &GroupCall) -> GroupName
 
 /// What each of the calls means, and what the numbers mean behind the last.
 fn read_all(alloc: Global, names: &mut Names, calls: &[CommCall]) -> Result<Vec<Meant>, AllocError>
-    ensures meant { IfOk result (λ v. v.items ≡ meant_from (is_taken names.old.world names.old.own) 0 (naming_of names.old) calls.now) }
-    ensures naming { OnOk result (naming_of names.new ≡ naming_from (is_taken names.old.world names.old.own) 0 (naming_of names.old) calls.now) }
+    ensures meant { IfOk result (λ v. v.items ≡ meant_from (taken_by names.old) 0 (naming_of names.old) calls.now) }
+    ensures naming { OnOk result (naming_of names.new ≡ naming_from (taken_by names.old) 0 (naming_of names.old) calls.now) }
 {
     let mut meant = Vec::new(alloc);
     for (at, call) in calls.iter().enumerate() {

@@ -1,13 +1,13 @@
 //! What one making makes.
 
-ghost use Rattle.std.specs.Prelude.{◌≡◌, ◌||◌, ℕ, Bool, IfOk, IsTrue, List, Option, Some, false, option_map, slice_set, true};
-ghost use Rattle.std.specs.List.{list_any, slice_get};
+ghost use Rattle.std.specs.Prelude.{◌≡◌, ◌||◌, ℕ, IfOk, IsTrue, Some, false, slice_set, true};
+ghost use Rattle.std.specs.List.{list_any};
 ghost use Rattle.comm_groups.specs.Groups.{has};
 ghost use Rattle.comm_makings.specs.Derives.{kth_calls};
+ghost use Rattle.comm_makings.specs.Each.{EachBecomes, EachIs};
 ghost use Rattle.comm_makings.specs.Here.{gives_unknown};
-ghost use Rattle.comm_makings.specs.Makes.{AreGiven, IsMadeBy, IsOneMaking, gives_so, is_covered, is_given_so};
-ghost use Rattle.comm_makings.specs.Selection.{Selection};
-ghost use Rattle.comm_makings.specs.State.{AreAllDerivedGroups, IsDerivedComm, IsDerivedOutcome, parts_in};
+ghost use Rattle.comm_makings.specs.Makes.{AreGiven, AreGivenBy, IsMadeBy, IsOneMaking, gives_so, is_covered, is_given_so};
+ghost use Rattle.comm_makings.specs.State.{AreAllDerivedGroups, IfParts, IsDerivedComm, IsDerivedOutcome, dims_of, parts_in};
 ghost use Rattle.comm_makings.specs.declared.answer.MadeBy.TheVariants as functions;
 
 use crate::answer::MadeBy;
@@ -33,7 +33,7 @@ fn outcome_of(
     all: &[Option<Here>],
     function: MadeBy,
 ) -> Result<Outcome, AllocError>
-    ensures { IfOk result (λ o. (parts : List Selection) → parts_in o ≡ Some parts → IsMadeBy ranks.now views.now (option_map (λ v. v.items) parent.now.dims) all.now function parts) }
+    ensures { IfOk result (IfParts (IsMadeBy ranks.now views.now (dims_of parent.now) all.now function)) }
 {
     let Ok(members) = u32::try_from(all.len()) else {
         return Ok(Outcome::Unsound);
@@ -55,7 +55,7 @@ fn outcome_of(
 
 /// Of each place whether it is in a communicator that is made.
 fn covered(alloc: Global, parts: &[Part], count: usize) -> Result<Vec<bool>, AllocError>
-    ensures { IfOk result (λ v. (k : ℕ) (b : Bool) → slice_get v.items k ≡ Some b → b ≡ is_covered parts.now k) }
+    ensures { IfOk result (λ v. EachIs v.items (is_covered parts.now)) }
 {
     let mut covered = vec![in alloc; false; count]?;
     cover_all(&mut covered, parts);
@@ -64,8 +64,8 @@ fn covered(alloc: Global, parts: &[Part], count: usize) -> Result<Vec<bool>, All
 
 /// Marks the places that are in one of the communicators.
 fn cover_all(covered: &mut Vec<bool>, parts: &[Part])
-    requires { (k : ℕ) (b : Bool) → slice_get covered.old.items k ≡ Some b → b ≡ false }
-    ensures { (k : ℕ) (b : Bool) → slice_get covered.new.items k ≡ Some b → b ≡ is_covered parts.now k }
+    requires { EachIs covered.old.items (λ k. false) }
+    ensures { EachIs covered.new.items (is_covered parts.now) }
 {
     for part in parts {
         cover(covered, &part.places);
@@ -85,7 +85,7 @@ fn mark(covered: &mut Vec<bool>, place: u32)
 /// Marks these places.
 #[tactic(auto, using(crate::proofs::Marks::marked))]
 fn cover(covered: &mut Vec<bool>, places: &[u32])
-    ensures { (k : ℕ) (b : Bool) → slice_get covered.new.items k ≡ Some b → (a : Bool) × (slice_get covered.old.items k ≡ Some a) × (b ≡ (a || has places.now k)) }
+    ensures { EachBecomes covered.old.items covered.new.items (λ k before. before || has places.now k) }
 {
     for place in places {
         mark(covered, *place);
@@ -117,7 +117,7 @@ fn is_given_so(here: Option<Here>, is_covered: bool, later: bool) -> bool
 
 /// Whether the calls give so, where this says of each place whether it is in a communicator.
 fn all_given(all: &[Option<Here>], covered: &[bool], later: bool) -> bool
-    ensures { IsTrue result → (k : ℕ) (here : Option _) → slice_get all.now k ≡ Some here → (b : Bool) × (slice_get covered.now k ≡ Some b) × (is_given_so later b here ≡ true) }
+    ensures { IsTrue result → AreGivenBy later all.now covered.now }
 {
     for (place, here) in all.iter().enumerate() {
         match covered.get(place) {
@@ -152,8 +152,8 @@ fn checked(
     all: &[Option<Here>],
     later: bool,
 ) -> Result<Outcome, AllocError>
-    ensures same { IfOk result (λ o. (parts : List Selection) → parts_in o ≡ Some parts → parts_in outcome ≡ Some parts) }
-    ensures given { IfOk result (λ o. (parts : List Selection) → parts_in o ≡ Some parts → AreGiven later all.now parts) }
+    ensures same { IfOk result (IfParts (λ parts. parts_in outcome ≡ Some parts)) }
+    ensures given { IfOk result (IfParts (AreGiven later all.now)) }
 {
     match outcome {
         Outcome::Parts(parts) => {

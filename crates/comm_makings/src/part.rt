@@ -1,6 +1,7 @@
 //! One of the communicators that a making makes.
 
-ghost use Rattle.std.specs.Prelude.{◌≡◌, option_map};
+ghost use Rattle.std.specs.Prelude.{◌≡◌};
+ghost use Rattle.comm_makings.specs.Each.{list_in};
 
 use std::marker::Model;
 
@@ -14,17 +15,17 @@ pub(crate) struct Part {
 }
 
 impl Model for Part {
-    ghost use Rattle.std.specs.Prelude.{option_map};
+    ghost use Rattle.comm_makings.specs.Each.{list_in};
     ghost use Rattle.comm_makings.specs.Selection.{Selection};
 
     ghost Value = { Selection };
 
-    ghost view = { λ p. record { places = p.places.items; dims = option_map (λ v. v.items) p.dims } };
+    ghost view = { λ p. record { places = p.places.items; dims = list_in p.dims } };
 }
 
 impl Part {
     pub(crate) fn new(places: Vec<u32>, dims: Option<Vec<u32>>) -> Part
-        ensures { result ≡ record { places = places.items; dims = option_map (λ v. v.items) dims } }
+        ensures { result ≡ record { places = places.items; dims = list_in dims } }
     {
         Part { places, dims }
     }

@@ -1,10 +1,9 @@
 //! The communicators that one making makes, as places in the parent.
 
-ghost use Rattle.std.specs.Prelude.{◌≡◌, ◌≢◌, [], ◌∷◌, ℕ, IfOk, None, Some, length, map, option_map};
+ghost use Rattle.std.specs.Prelude.{◌≡◌, ◌≢◌, IfOk, length};
 ghost use Rattle.std.specs.List.{range_with_len};
-ghost use Rattle.comm_groups.specs.Grids.{kept, size_within};
-ghost use Rattle.comm_makings.specs.Parts.{IsGridOutcome, IsOfGroups, IsOne, part_with};
-ghost use Rattle.comm_makings.specs.declared.parts.Outcome.TheVariants as outcomes;
+ghost use Rattle.comm_makings.specs.Each.{list_in};
+ghost use Rattle.comm_makings.specs.Parts.{IsGridWithin, IsOfGroups, IsOne, IsUnsound, part_with};
 
 use crate::part::Part;
 use crate::state::dims_of;
@@ -39,7 +38,7 @@ pub(crate) fn one_part(
     places: Vec<u32>,
     dims: Option<Vec<u32>>,
 ) -> Result<Outcome, AllocError>
-    ensures { IfOk result (IsOne places.items (option_map (λ v. v.items) dims)) }
+    ensures { IfOk result (IsOne places.items (list_in dims)) }
 {
     let mut parts = Vec::new(alloc);
     if !places.is_empty() {
@@ -54,14 +53,14 @@ pub(crate) fn first_part(
     count: u32,
     dims: Option<Vec<u32>>,
 ) -> Result<Outcome, AllocError>
-    ensures { IfOk result (IsOne (range_with_len 0 count) (option_map (λ v. v.items) dims)) }
+    ensures { IfOk result (IsOne (range_with_len 0 count) (list_in dims)) }
 {
     one_part(alloc, first_places(alloc, count)?, dims)
 }
 
 /// The communicator of a group, with these dimensions where it is a grid.
 fn part_of(alloc: Global, group: ColorGroup, dims: &Option<Vec<u32>>) -> Result<Part, AllocError>
-    ensures { IfOk result (λ p. p ≡ part_with (option_map (λ v. v.items) dims.now) group) }
+    ensures { IfOk result (λ p. p ≡ part_with (list_in dims.now) group) }
 {
     let ColorGroup { ranks, .. } = group;
     Ok(Part::new(ranks, dims_of(alloc, dims)?))
@@ -73,7 +72,7 @@ pub(crate) fn color_parts(
     groups: Vec<ColorGroup>,
     dims: &Option<Vec<u32>>,
 ) -> Result<Outcome, AllocError>
-    ensures { IfOk result (IsOfGroups groups.items (option_map (λ v. v.items) dims.now)) }
+    ensures { IfOk result (IsOfGroups groups.items (list_in dims.now)) }
 {
     let mut parts = Vec::new(alloc);
     for group in groups {
@@ -89,9 +88,8 @@ pub(crate) fn grid_outcome(
     remain: &[bool],
     members: u32,
 ) -> Result<Outcome, AllocError>
-    ensures length { length remain.now ≢ length dims.now → IfOk result (λ o. o ≡ outcomes.Unsound) }
-    ensures none { length remain.now ≡ length dims.now → size_within members dims.now ≡ None → IfOk result (λ o. o ≡ outcomes.Untold) }
-    ensures parts { (size : ℕ) → length remain.now ≡ length dims.now → size_within members dims.now ≡ Some size → IfOk result (IsGridOutcome dims.now remain.now) }
+    ensures length { length remain.now ≢ length dims.now → IfOk result IsUnsound }
+    ensures parts { length remain.now ≡ length dims.now → IfOk result (IsGridWithin members dims.now remain.now) }
 {
     if remain.len() != dims.len() {
         return Ok(Outcome::Unsound);

@@ -1,9 +1,10 @@
 //! From the world to all communicators that are made of it.
 
-ghost use Rattle.std.specs.Prelude.{◌≡◌, ◌∷◌, ◌<◌, ◌^◌, [], ℕ, IfOk, OnOk, length, map, option_map, slice_set};
+ghost use Rattle.std.specs.Prelude.{◌≡◌, ◌∷◌, ◌<◌, ◌^◌, [], ℕ, IfOk, OnOk, length, map, slice_set};
 ghost use Rattle.std.specs.List.{filter_map};
 ghost use Rattle.std.specs.Option.{option_copied};
 ghost use Rattle.comm_makings.specs.Derives.{group_call_at, kth_calls, member_with, world_members};
+ghost use Rattle.comm_makings.specs.Each.{list_in};
 ghost use Rattle.comm_makings.specs.Made.{member_at};
 ghost use Rattle.comm_makings.specs.State.{AreAllDerivedGroups, AreDerived, AreDerivedGroups, AreMadeOf, AreMembers, AreMembersIn, BindsMember, IsDerivedComm, IsDerivedGroup, IsFirstComm, IsOfDerived, IsRight, KeepsDerived, NamesMembers, NoneListed, NoneListedAt, NoneStands, NoneStandsAt, SetsStanding};
 
@@ -162,7 +163,7 @@ pub(crate) fn made_of(
 ) -> Result<Made, AllocError>
     ensures members { IfOk result (λ c. c.members.items ≡ filter_map (member_at members.now all.now) part.now.places) }
     ensures ranks { IfOk result (λ c. c.ranks.items ≡ map (λ m. m.rank) c.members.items) }
-    ensures dims { IfOk result (λ c. option_map (λ v. v.items) c.dims ≡ part.now.dims) }
+    ensures dims { IfOk result (λ c. list_in c.dims ≡ part.now.dims) }
 {
     let chosen = members_at(alloc, members, all, &part.places)?;
     Ok(Made {
@@ -730,6 +731,28 @@ fn own_of(alloc: Global, rank: u32) -> Result<Made, AllocError>
     })
 }
 
+/// Adds the world, and MPI_COMM_SELF of each rank that tells its number, where nothing is derived yet.
+fn add_first(
+    alloc: Global,
+    ranks: &[RankCalls],
+    views: &[RankView],
+    comms: &mut Vec<Made>,
+) -> Result<(), AllocError>
+    requires few { length ranks.now < 2 ^ 32 }
+    requires none { comms.old.items ≡ [] }
+    ensures { OnOk result (AreDerived ranks.now views.now comms.new.items) }
+{
+    comms.push(world_of(alloc, ranks.len() as u32)?)?;
+    let mut rank = 0u32;
+    for calls in ranks {
+        if calls.own.is_some() {
+            comms.push(own_of(alloc, rank)?)?;
+        }
+        rank += 1;
+    }
+    Ok(())
+}
+
 /// The world, and MPI_COMM_SELF of each rank that tells its number.
 fn first_comms(
     alloc: Global,
@@ -740,14 +763,7 @@ fn first_comms(
     ensures { IfOk result (λ comms. AreDerived ranks.now views.now comms.items) }
 {
     let mut comms = Vec::new(alloc);
-    comms.push(world_of(alloc, ranks.len() as u32)?)?;
-    let mut rank = 0u32;
-    for calls in ranks {
-        if calls.own.is_some() {
-            comms.push(own_of(alloc, rank)?)?;
-        }
-        rank += 1;
-    }
+    add_first(alloc, ranks, views, &mut comms)?;
     Ok(comms)
 }
 

@@ -1,10 +1,9 @@
 //! MPI_Comm_split: the members of each color (MPI 4.0, 7.4.2).
 
-ghost use Rattle.std.specs.Prelude.{◌≡◌, ◌<◌, ◌^◌, IfOk, false, is_some, length, true};
-ghost use Rattle.std.specs.List.{list_all, list_any};
+ghost use Rattle.std.specs.Prelude.{◌≡◌, ◌<◌, ◌^◌, IfOk, false, length, true};
 ghost use Rattle.std.specs.Option.{option_copied};
-ghost use Rattle.comm_makings.specs.Splits.{IsOfColors, asked_with, asked_by, asked_in, asked_of, colored, is_unknown, tells_nothing};
-ghost use Rattle.comm_makings.specs.declared.parts.Outcome.TheVariants as outcomes;
+ghost use Rattle.comm_makings.specs.Parts.{IsUnsound, IsUntold};
+ghost use Rattle.comm_makings.specs.Splits.{IsOfCalls, all_here, asked_by, asked_in, asked_of, asked_with, colored, is_unknown, some_unknown, tells_nothing};
 
 use crate::calls::{Color, Making, RankCalls};
 use crate::here::{Here, making_at};
@@ -120,16 +119,28 @@ fn colored(
 
 /// Whether some call says what can't be read.
 fn some_unknown(ranks: &[RankCalls], all: &[Option<Here>]) -> bool
-    ensures { result ≡ list_any (is_unknown ranks.now) all.now }
+    ensures { result ≡ some_unknown ranks.now all.now }
 {
     all.iter().any(|here| is_unknown(ranks, *here))
 }
 
 /// Whether each member has its call.
 fn all_here(all: &[Option<Here>]) -> bool
-    ensures { result ≡ list_all is_some all.now }
+    ensures { result ≡ all_here all.now }
 {
     all.iter().all(|here| here.is_some())
+}
+
+/// One communicator for each color that the calls of the members name.
+fn color_outcome(
+    alloc: Global,
+    ranks: &[RankCalls],
+    all: &[Option<Here>],
+) -> Result<Outcome, AllocError>
+    requires { length all.now < 2 ^ 32 }
+    ensures { IfOk result (IsOfCalls ranks.now all.now) }
+{
+    color_parts(alloc, split(alloc, colored(alloc, ranks, all)?)?, &None)
 }
 
 /// The communicators of a split.
@@ -139,9 +150,9 @@ pub(crate) fn split_outcome(
     all: &[Option<Here>],
 ) -> Result<Outcome, AllocError>
     requires { length all.now < 2 ^ 32 }
-    ensures unknown { list_any (is_unknown ranks.now) all.now ≡ true → IfOk result (λ o. o ≡ outcomes.Unsound) }
-    ensures missing { list_any (is_unknown ranks.now) all.now ≡ false → list_all is_some all.now ≡ false → IfOk result (λ o. o ≡ outcomes.Untold) }
-    ensures parts { list_any (is_unknown ranks.now) all.now ≡ false → list_all is_some all.now ≡ true → IfOk result (IsOfColors (colored ranks.now 0 all.now)) }
+    ensures unknown { some_unknown ranks.now all.now ≡ true → IfOk result IsUnsound }
+    ensures missing { some_unknown ranks.now all.now ≡ false → all_here all.now ≡ false → IfOk result IsUntold }
+    ensures parts { some_unknown ranks.now all.now ≡ false → all_here all.now ≡ true → IfOk result (IsOfCalls ranks.now all.now) }
 {
     if some_unknown(ranks, all) {
         return Ok(Outcome::Unsound);
@@ -149,5 +160,5 @@ pub(crate) fn split_outcome(
     if !all_here(all) {
         return Ok(Outcome::Untold);
     }
-    color_parts(alloc, split(alloc, colored(alloc, ranks, all)?)?, &None)
+    color_outcome(alloc, ranks, all)
 }

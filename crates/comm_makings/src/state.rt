@@ -1,8 +1,9 @@
 //! What is derived so far.
 
-ghost use Rattle.std.specs.Prelude.{◌≡◌, IfOk, option_map};
+ghost use Rattle.std.specs.Prelude.{◌≡◌, IfOk};
 ghost use Rattle.std.specs.List.{slice_get};
 ghost use Rattle.std.specs.Option.{option_copied};
+ghost use Rattle.comm_makings.specs.Each.{list_in};
 
 use crate::answer::Why;
 use std::alloc::{AllocError, Global};
@@ -68,7 +69,7 @@ pub(crate) fn dims_of(
     alloc: Global,
     dims: &Option<Vec<u32>>,
 ) -> Result<Option<Vec<u32>>, AllocError>
-    ensures { IfOk result (λ d. option_map (λ v. v.items) d ≡ option_map (λ v. v.items) dims.now) }
+    ensures { IfOk result (λ d. list_in d ≡ list_in dims.now) }
 {
     match dims {
         Some(sizes) => Ok(Some(copy_of(alloc, sizes)?)),

@@ -1,8 +1,9 @@
 //! What each rank called on each of its communicators.
 
-ghost use Rattle.std.specs.Prelude.{◌≡◌, ◌==◌, ◌++◌, [], ℕ, IfOk, List, OnOk, Option, Some, length, option_map};
+ghost use Rattle.std.specs.Prelude.{◌≡◌, ◌==◌, ◌++◌, [], IfOk, OnOk};
 ghost use Rattle.std.specs.List.{slice_get};
 ghost use Rattle.std.specs.Option.{option_and_then};
+ghost use Rattle.comm_makings.specs.Each.{EachBecomes, EachIs, ListsAre, ListsBecome};
 ghost use Rattle.comm_makings.specs.Views.{AreViews, IsView, first_told_on, is_by_group, is_kind, makings_on, place_if, rank_told, told_now};
 
 use crate::calls::{Action, CommCall, Making, RankCalls};
@@ -29,7 +30,7 @@ pub(crate) struct RankView {
 
 /// An empty list for each of this many handles.
 fn lists(alloc: Global, count: usize) -> Result<Vec<Vec<usize>>, AllocError>
-    ensures { IfOk result (λ lists. (handle : ℕ) (list : List ℕ) → option_map (λ l. l.items) (slice_get lists.items handle) ≡ Some list → list ≡ []) }
+    ensures { IfOk result (λ lists. ListsAre lists.items (λ handle. [])) }
 {
     let mut lists = Vec::new(alloc);
     for _ in 0..count {
@@ -40,7 +41,7 @@ fn lists(alloc: Global, count: usize) -> Result<Vec<Vec<usize>>, AllocError>
 
 /// Adds a call to the list of a handle.
 fn add_to(lists: &mut Vec<Vec<usize>>, at: usize, call: usize) -> Result<(), AllocError>
-    ensures { OnOk result ((handle : ℕ) (list : List ℕ) → option_map (λ l. l.items) (slice_get lists.new.items handle) ≡ Some list → (before : List ℕ) × (option_map (λ l. l.items) (slice_get lists.old.items handle) ≡ Some before) × (list ≡ before ++ place_if (at == handle) call [])) }
+    ensures { OnOk result (ListsBecome lists.old.items lists.new.items (λ handle list. list ++ place_if (at == handle) call [])) }
 {
     if at < lists.len() {
         lists[at].push(call)?;
@@ -106,7 +107,7 @@ fn makings_by(
     count: usize,
     by_group: bool,
 ) -> Result<Vec<Vec<usize>>, AllocError>
-    ensures { IfOk result (λ lists. (handle : ℕ) (list : List ℕ) → option_map (λ l. l.items) (slice_get lists.items handle) ≡ Some list → list ≡ makings_on by_group handle 0 calls.now meant.now) }
+    ensures { IfOk result (λ lists. ListsAre lists.items (λ handle. makings_on by_group handle 0 calls.now meant.now)) }
 {
     let mut lists = lists(alloc, count)?;
     for (at, call) in calls.iter().enumerate() {
@@ -142,7 +143,7 @@ fn rank_told(call: &CommCall) -> Option<u32>
 
 /// Notes the rank that is told on a handle, unless one was told before.
 fn note_told(told: &mut Vec<Option<u32>>, handle: usize, rank: u32)
-    ensures { (h : ℕ) (now : Option ℕ) → slice_get told.new.items h ≡ Some now → (before : Option ℕ) × (slice_get told.old.items h ≡ Some before) × (now ≡ told_now (handle == h) rank before) }
+    ensures { EachBecomes told.old.items told.new.items (λ at before. told_now (handle == at) rank before) }
 {
     if handle < told.len() && told[handle].is_none() {
         told[handle] = Some(rank);
@@ -156,7 +157,7 @@ fn told_on(
     meant: &[Meant],
     count: usize,
 ) -> Result<Vec<Option<u32>>, AllocError>
-    ensures { IfOk result (λ told. (handle : ℕ) (rank : Option ℕ) → slice_get told.items handle ≡ Some rank → rank ≡ first_told_on handle calls.now meant.now) }
+    ensures { IfOk result (λ told. EachIs told.items (λ handle. first_told_on handle calls.now meant.now)) }
 {
     let mut told = vec![in alloc; None; count]?;
     for (at, call) in calls.iter().enumerate() {

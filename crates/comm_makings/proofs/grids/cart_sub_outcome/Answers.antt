@@ -6,4 +6,4 @@ pub returns-in_ok-outcome-in-Some-agreed_remain : goal.returns-in_ok-outcome-in-
 returns-in_ok-outcome-in-Some-agreed_remain c = λ parts e.
     grid_part c.args.ranks.now _ c.deref.result.now c.in-Some-agreed_remain.remain.now c.args.all.now c.args.members _
     (ap (option_map (λ (v : Vec ℕ Global). v.items)) c.in-Some.is ∙ ap Some (sym c.deref.ensures.value)) c.in-Some-agreed_remain.ensures c.requires
-    c.in_ok-outcome-in-Some-agreed_remain.ensures.length c.in_ok-outcome-in-Some-agreed_remain.ensures.none c.in_ok-outcome-in-Some-agreed_remain.ensures.parts parts e
+    c.in_ok-outcome-in-Some-agreed_remain.ensures.length c.in_ok-outcome-in-Some-agreed_remain.ensures.parts parts e

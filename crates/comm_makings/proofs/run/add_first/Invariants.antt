@@ -1,6 +1,6 @@
 use Rattle.std.proofs.Common.{◌≡◌}
 use Rattle.comm_makings.specs.State.{AreDerived}
-use Rattle.comm_makings.proofs.run.first_comms.Given as goal
+use Rattle.comm_makings.proofs.run.add_first.Given as goal
 
 abbrev pub invariant-loop-calls : goal.invariant-loop-calls
 invariant-loop-calls l = record {

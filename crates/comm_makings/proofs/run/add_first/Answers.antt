@@ -2,15 +2,15 @@ use Rattle.std.proofs.Common.{◌≡◌, ◌∙◌, Some, ap, refl, sym, arith}
 use Rattle.std.specs.List.{slice_get}
 use Rattle.std.proofs.lemmas.Option.{slice_get-get_or}
 use Rattle.comm_makings.proofs.Derivations.{derived_more, derived_none, own_some, world_derives}
-use Rattle.comm_makings.proofs.run.first_comms.Goals as goal
-use Rattle.comm_makings.proofs.run.first_comms.Goals.{then-is_some+in_ok-own_of+in_ok-push-2, else-is_some}
+use Rattle.comm_makings.proofs.run.add_first.Goals as goal
+use Rattle.comm_makings.proofs.run.add_first.Goals.{then-is_some+in_ok-own_of+in_ok-push-2, else-is_some}
 
 pub loop-calls-init : goal.loop-calls-init
 loop-calls-init c = record {
   counted = refl;
   derived = rw c.in_ok-push.ensures.items
-      (derived_more c.args.ranks.now c.args.views.now c.new-comms.result.items c.in_ok-world_of.field-0
-      (rw c.new-comms.ensures.items (derived_none c.args.ranks.now c.args.views.now))
+      (derived_more c.args.ranks.now c.args.views.now c.args.comms.now.items c.in_ok-world_of.field-0
+      (rw c.requires.none (derived_none c.args.ranks.now c.args.views.now))
       (world_derives c.args.ranks.now c.args.views.now c.in_ok-world_of.field-0 c.in_ok-world_of.ensures));
 }
 
