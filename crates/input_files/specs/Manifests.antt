@@ -101,6 +101,10 @@ pub record GivenParts : Type 0 where
 abbrev pub schedule_in : Data → Option (List PlannedStep)
 schedule_in value = option_and_then steps_in (as_array value)
 
+-- the steps of a manifest's schedule, none where it has no schedule
+abbrev pub schedule_of : Data → Option (List PlannedStep)
+schedule_of value = or_absent [] schedule_in (get (codes "schedule") value)
+
 -- what is listed, where all of its pieces can be read
 abbrev pub listed_from : Option (List PieceParts) → Option (List PackedParts) → List (Option ℕ) → Option ListedParts
 listed_from None _ _ = None
@@ -122,7 +126,7 @@ given_from (Some listed) (Some nodes) (Some schedule) = Some (record { listed = 
 abbrev pub given_by : Data → Option Items → Option GivenParts
 given_by value None = None
 given_by value (Some listed) = given_from (listed_in listed) (or_absent 1 u64_in (get (codes "nodes") value))
-    (or_absent [] schedule_in (get (codes "schedule") value))
+    (schedule_of value)
 
 -- the fields of a manifest: without a number of nodes it has one, and without a schedule no step
 abbrev pub given_in : Data → Option GivenParts
@@ -136,7 +140,7 @@ unreadable_from (Some nodes) (Some schedule) = fields.Pieces
 
 -- a field that can't be read of a manifest of which one can't
 abbrev pub unreadable_field : Data → Field
-unreadable_field value = unreadable_from (or_absent 1 u64_in (get (codes "nodes") value)) (or_absent [] schedule_in (get (codes "schedule") value))
+unreadable_field value = unreadable_from (or_absent 1 u64_in (get (codes "nodes") value)) (schedule_of value)
 
 -- The text tells these fields.
 abbrev pub TellsFields : List ℕ → GivenParts → Type 0

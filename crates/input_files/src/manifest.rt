@@ -1,11 +1,11 @@
 //! The manifest of a run: the pieces of its trace, each a text file of one rank or a file of packed
 //! knowledge, and what its nodes are to do with them.
 
-ghost use Rattle.std.specs.Prelude.{◌≡◌, [], IfErr, IfOk, codes, option_map, string_bytes};
+ghost use Rattle.std.specs.Prelude.{◌≡◌, IfErr, IfOk, codes, option_map, string_bytes};
 ghost use Rattle.serde_json.specs.Find.{get};
 ghost use Rattle.input_files.specs.Fields.{bit_in, or_absent};
 ghost use Rattle.serde_json.specs.View.{items_view, view};
-ghost use Rattle.input_files.specs.Manifests.{IsManifestOf, RefusesManifest, all_packed_in, given_in, is_packed, listed_in, manifest_of, numbers_from, packed_in, piece_in, pieces_in, posts_a_packed, posts_absent, schedule_in, unreadable_field};
+ghost use Rattle.input_files.specs.Manifests.{IsManifestOf, RefusesManifest, all_packed_in, given_in, is_packed, listed_in, manifest_of, numbers_from, packed_in, piece_in, pieces_in, posts_a_packed, posts_absent, schedule_of, unreadable_field};
 
 use crate::fault::{Field, InputFault};
 use crate::json::{bit_or_0, list_at, str_at, u32_at, u64_at, usize_or, value_of};
@@ -330,7 +330,7 @@ fn unreadable_field(alloc: Global, value: &Value) -> Result<Field, AllocError>
 
 /// The steps of the schedule, none where there is no schedule.
 fn schedule_at(alloc: Global, value: &Value) -> Result<Option<Vec<PlannedStep>>, AllocError>
-    ensures { IfOk result (λ o. option_map (λ v. v.items) o ≡ or_absent [] schedule_in (get (codes "schedule") (view value.now))) }
+    ensures { IfOk result (λ o. option_map (λ v. v.items) o ≡ schedule_of (view value.now)) }
 {
     let Some(found) = value.get("schedule") else {
         return Ok(Some(Vec::new(alloc)));
