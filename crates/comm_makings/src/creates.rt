@@ -1,6 +1,6 @@
 //! MPI_Comm_create: the groups that the members give (MPI 4.0, 7.4.2).
 
-ghost use Rattle.std.specs.Prelude.{◌≡◌, [], ℕ, IfOk, IfSome, IsTrue, List, OnOk, Some, map, nat_eq, true};
+ghost use Rattle.std.specs.Prelude.{◌≡◌, [], IfOk, IfSome, IsTrue, OnOk, Some, map, nat_eq, true};
 ghost use Rattle.std.specs.Option.{option_copied};
 ghost use Rattle.indexmap.specs.IndexMap.{get};
 ghost use Rattle.comm_groups.specs.Groups.{has};
