@@ -13,6 +13,14 @@ abbrev pub or_text : Option (List ℕ) → Option (List ℕ) → Option (List �
 or_text (Some text) next = Some text
 or_text None next = next
 
+-- the text of the first of two parameters that is there
+abbrev pub either_text : List ℕ → List ℕ → TextCall → Option (List ℕ)
+either_text name other raw = or_text (text_of name raw) (text_of other raw)
+
+-- and of the first of three
+abbrev pub any_text : List ℕ → List ℕ → List ℕ → TextCall → Option (List ℕ)
+any_text name other last raw = or_text (text_of name raw) (either_text other last raw)
+
 -- the bytes up to the closing parenthesis, behind an opening one
 abbrev pub note_after : Option (List ℕ) → List ℕ
 note_after None = []

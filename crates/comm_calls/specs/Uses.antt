@@ -1,8 +1,9 @@
 -- Which calls of the profile name which communicators by their numbers. A number comes back once its communicator is freed
 -- (MPI 4.0, 7.4.3), so calls that name one number are told apart where a call between them gives or frees it.
-use Rattle.std.specs.Prelude.{◌≡◌, ◌≢◌, ◌<◌, ◌≤◌, ℕ, ◌+◌, ◌-◌, ◌^◌, ◌==◌, List, [], ◌∷◌, ◌++◌, Option, Some, None, Result, Ok, Err, codes, cond, count_by, is_some, min, slice_get, slice_set, if◌then◌else◌, Bool, false}
+use Rattle.std.specs.Prelude.{◌≡◌, ◌≢◌, ◌<◌, ◌≤◌, ℕ, ◌+◌, ◌-◌, ◌^◌, ◌==◌, List, [], ◌∷◌, ◌++◌, Option, Some, None, Result, Ok, Err, codes, cond, count_by, is_some, length, min, nat_eq, slice_get, slice_set, if◌then◌else◌, Bool, false}
 use Rattle.std.specs.List.{range_with_len}
 use Rattle.std.specs.Option.{option_and_then}
+use Rattle.indexmap.specs.IndexMap.{get}
 use Rattle.mpi_model.specs.declared.call.Call.{Call}
 use Rattle.mpi_model.specs.declared.call.Call.TheVariants as mpi
 use Rattle.mpi_model.specs.declared.envelope.CommRef.{CommRef}
@@ -22,6 +23,7 @@ use Rattle.comm_calls.specs.Numbers.{comm_in, given_in}
 use Rattle.comm_calls.specs.Parameters.{text_of}
 use Rattle.comm_calls.specs.declared.function.Function.{Function}
 use Rattle.comm_calls.specs.declared.function.Function.TheVariants as functions
+use Rattle.comm_calls.specs.declared.uses.NumberUses.{NumberUses}
 
 -- ---- what one call says
 
@@ -209,6 +211,17 @@ uses_after place (Some number) going groups = with_use place number (going numbe
 abbrev pub open_with : ℕ → Option ℕ → ℕ → (ℕ → Option ℕ) → ℕ → Option ℕ
 open_with number None next going m = cond (number == m) (Some next) (going m)
 open_with number (Some at) next going m = going m
+
+-- which group of a number goes on, and where the next group comes, as is noted of the calls so far
+abbrev pub going_in : NumberUses → ℕ → Option ℕ
+going_in uses = get nat_eq uses.going
+
+abbrev pub next_in : NumberUses → ℕ
+next_in uses = length uses.groups.items
+
+-- Of each number the group that goes on is what this says.
+abbrev pub AreGoing : NumberUses → (ℕ → Option ℕ) → Type 0
+AreGoing uses says = (m : ℕ) → going_in uses m ≡ says m
 
 -- Which group of a number m goes on behind a call that names one number, and gives or frees another, if any: behind one
 -- that gives or frees it, none.

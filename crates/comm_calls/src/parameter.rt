@@ -4,7 +4,7 @@ ghost use Rattle.std.specs.Prelude.{◌≡◌};
 ghost use Rattle.std.specs.Option.{option_copied};
 ghost use Rattle.std.specs.Str.{bytes_eq};
 ghost use Rattle.dumpi_text.specs.Words.{split_at};
-ghost use Rattle.comm_calls.specs.Parameters.{note_of, or_text, text_of};
+ghost use Rattle.comm_calls.specs.Parameters.{any_text, either_text, note_of, text_of};
 
 use crate::function::is;
 use dumpi_text::RawCall;
@@ -18,7 +18,7 @@ pub(crate) fn text_of<'a>(raw: &'a RawCall, name: &str) -> Option<&'a [u8]>
 
 /// The text of the first of two parameters that the call has.
 pub(crate) fn either_of<'a>(raw: &'a RawCall, name: &str, other: &str) -> Option<&'a [u8]>
-    ensures { option_copied result ≡ or_text (text_of name.now raw.now) (text_of other.now raw.now) }
+    ensures { option_copied result ≡ either_text name.now other.now raw.now }
 {
     match text_of(raw, name) {
         Some(text) => Some(text),
@@ -28,7 +28,7 @@ pub(crate) fn either_of<'a>(raw: &'a RawCall, name: &str, other: &str) -> Option
 
 /// The text of the first of three parameters that the call has.
 pub(crate) fn any_of<'a>(raw: &'a RawCall, name: &str, other: &str, last: &str) -> Option<&'a [u8]>
-    ensures { option_copied result ≡ or_text (text_of name.now raw.now) (or_text (text_of other.now raw.now) (text_of last.now raw.now)) }
+    ensures { option_copied result ≡ any_text name.now other.now last.now raw.now }
 {
     match text_of(raw, name) {
         Some(text) => Some(text),

@@ -1,8 +1,7 @@
 //! Which calls of the profile name which communicators by their numbers.
 
-ghost use Rattle.std.specs.Prelude.{◌≡◌, ◌==◌, ◌++◌, ◌∷◌, [], ℕ, None, OnErr, OnOk, Some, cond, length, nat_eq, slice_get};
-ghost use Rattle.indexmap.specs.IndexMap.{get};
-ghost use Rattle.comm_calls.specs.Uses.{comm_of, first_use, longer_at, named_number, number_of, open_after, uses_after};
+ghost use Rattle.std.specs.Prelude.{◌≡◌, ◌++◌, ◌∷◌, [], None, OnErr, OnOk, slice_get};
+ghost use Rattle.comm_calls.specs.Uses.{AreGoing, comm_of, first_use, going_in, longer_at, named_number, next_in, number_of, open_after, open_with, uses_after};
 
 use crate::fault::Memory;
 use comm_makings::Uses;
@@ -98,7 +97,7 @@ impl NumberUses {
     /// A group with this call alone.
     fn begin(&mut self, number: u32, place: u64) -> Result<(), Memory>
         ensures groups { OnOk result (self.new.groups.items ≡ self.old.groups.items ++ first_use place number ∷ []) }
-        ensures going { OnOk result ((m : ℕ) → get nat_eq self.new.going m ≡ cond (number == m) (Some (length self.old.groups.items)) (get nat_eq self.old.going m)) }
+        ensures going { OnOk result (AreGoing self.new (open_with number None (next_in self.old) (going_in self.old))) }
         ensures same { OnErr result (self.new.groups.items ≡ self.old.groups.items) }
         ensures still { OnErr result (self.new.going.entries ≡ self.old.going.entries) }
     {
@@ -115,8 +114,8 @@ impl NumberUses {
 
     /// The call at a place names this number, or none.
     pub(crate) fn name(&mut self, named: Option<u32>, place: u64) -> Result<(), Memory>
-        ensures groups { OnOk result (self.new.groups.items ≡ uses_after place named (get nat_eq self.old.going) self.old.groups.items) }
-        ensures going { OnOk result ((m : ℕ) → get nat_eq self.new.going m ≡ open_after named None (length self.old.groups.items) (get nat_eq self.old.going) m) }
+        ensures groups { OnOk result (self.new.groups.items ≡ uses_after place named (going_in self.old) self.old.groups.items) }
+        ensures going { OnOk result (AreGoing self.new (open_after named None (next_in self.old) (going_in self.old))) }
         ensures same { OnErr result (self.new.groups.items ≡ self.old.groups.items) }
         ensures still { OnErr result (self.new.going.entries ≡ self.old.going.entries) }
     {
@@ -135,7 +134,7 @@ impl NumberUses {
     /// A call gives or frees this number, or none.
     pub(crate) fn change(&mut self, changed: Option<u32>)
         ensures groups { self.new.groups.items ≡ self.old.groups.items }
-        ensures going { (m : ℕ) → get nat_eq self.new.going m ≡ open_after None changed (length self.old.groups.items) (get nat_eq self.old.going) m }
+        ensures going { AreGoing self.new (open_after None changed (next_in self.old) (going_in self.old)) }
     {
         if let Some(number) = changed {
             self.going.swap_remove(&number);
