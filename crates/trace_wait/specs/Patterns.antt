@@ -9,7 +9,8 @@ use Rattle.mpi_model.specs.Trusts.{is_void}
 use Rattle.mpi_model.specs.declared.message.Message.{Message}
 use Rattle.mpi_model.specs.declared.message.Receive.{Receive}
 use Rattle.trace_pair.specs.declared.pair.Pair.{Pair}
-use Rattle.trace_wait.specs.Matching.{is_unpaired_message}
+use Rattle.trace_ops.specs.Ops.{Ops}
+use Rattle.trace_wait.specs.Matching.{is_unpaired_message, unpaired_messages}
 
 -- communicator, receiver, source and tag
 abbrev pub Pattern : Type 0
@@ -53,6 +54,10 @@ offers_unpaired void pairs m p = is_unpaired_message pairs m && offers void m p
 -- one of these messages that are in no pair offers what is named
 abbrev pub is_offered : Bool → List Pair → List Message → Pattern → Bool
 is_offered void pairs sends p = list_any (λ m. offers void m p) (filter (is_unpaired_message pairs) sends)
+
+-- one of the messages of all ranks that are in no pair offers what is named
+abbrev pub some_offers : Bool → List Ops → List Pair → Pattern → Bool
+some_offers void ops pairs p = list_any (λ m. offers void m p) (unpaired_messages ops pairs)
 
 -- a round as a key: its communicator and its number
 abbrev pub Place : Type 0

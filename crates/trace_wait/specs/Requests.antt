@@ -1,5 +1,5 @@
 -- What a request waits for, by the operation that it stands for (MPI 4.0, 3.7.3, 3.7.5, 3.9 and 6.12).
-use Rattle.std.specs.Prelude.{◌≡◌, ◌||◌, ℕ, ℤ, Bool, Option, Some, None, List, [], ◌∷◌, if◌then◌else◌}
+use Rattle.std.specs.Prelude.{◌≡◌, ◌||◌, ◌++◌, ℕ, ℤ, Bool, Option, Some, None, List, [], ◌∷◌, map, if◌then◌else◌}
 use Rattle.std.specs.List.{find, filter_map, list_any}
 use Rattle.std.specs.Option.{option_map}
 use Rattle.std.specs.Ordering.{int_eq}
@@ -59,6 +59,14 @@ request s r o x = part (posted_by o x)
     part : Option OpName → Wait
     part (Some name) = post_part s r o name
     part None = OnNothing
+
+-- Under this number the value came, and under no other anything changed.
+abbrev pub PutsAt : {V : Type 0} → ℤ → V → (old new : ℤ → Option V) → Type 0
+PutsAt x v old new = (y : ℤ) → new y ≡ (if int_eq x y then Some v else old y)
+
+-- Parts with these shapes came behind the others.
+abbrev pub AddsShapes : (old new : List Condition) → List Wait → Type 0
+AddsShapes old new added = map shape new ≡ map shape old ++ added
 
 -- These are what requests of the rank wait for, each found by its number.
 abbrev pub AreMade : Run → ℕ → Ops → (ℤ → Option Condition) → Type 0

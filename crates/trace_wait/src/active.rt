@@ -1,11 +1,11 @@
 //! The requests of a rank, looked up by number: the active ones, and the idle ones.
 
-ghost use Rattle.std.specs.Prelude.{◌≡◌, ◌||◌, ℤ, Some, if◌then◌else◌, IfOk, OnOk};
+ghost use Rattle.std.specs.Prelude.{◌≡◌, ◌||◌, ℤ, IfOk, OnOk};
 ghost use Rattle.std.specs.List.{list_any};
 ghost use Rattle.std.specs.Ordering.{int_eq};
 ghost use Rattle.indexmap.specs.IndexMap.{get};
 ghost use Rattle.indexmap.specs.IndexSet.{contains};
-ghost use Rattle.trace_wait.specs.Requests.{is_idle, posted_by, posted_in};
+ghost use Rattle.trace_wait.specs.Requests.{PutsAt, is_idle, posted_by, posted_in};
 
 use indexmap::{IndexMap, IndexSet};
 use mpi_model::OpName;
@@ -41,7 +41,7 @@ impl<'a> Model for Posts<'a> {
 
 /// Notes which operation an active request stands for.
 fn note_post(named: &mut IndexMap<i64, OpName>, post: &(i64, OpName)) -> Result<(), AllocError>
-    ensures { OnOk result ((x : ℤ) → get int_eq named.new x ≡ (if int_eq post.now.0 x then Some post.now.1 else get int_eq named.old x)) }
+    ensures { OnOk result (PutsAt post.now.0 post.now.1 (get int_eq named.old) (get int_eq named.new)) }
 {
     named.insert(post.0, post.1)?;
     Ok(())

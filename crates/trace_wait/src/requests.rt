@@ -1,12 +1,12 @@
 //! What requests wait for, by the operations that they stand for.
 
-ghost use Rattle.std.specs.Prelude.{◌≡◌, ◌++◌, ◌∷◌, [], ℤ, Some, map, if◌then◌else◌, IfOk, OnOk};
+ghost use Rattle.std.specs.Prelude.{◌≡◌, ◌∷◌, [], Some, map, IfOk, OnOk};
 ghost use Rattle.std.specs.Option.{option_copied};
 ghost use Rattle.std.specs.Ordering.{int_eq};
 ghost use Rattle.indexmap.specs.IndexMap.{get};
 ghost use Rattle.trace_ops.specs.Order.{AreCalledInOrder, AreInOrder, ArePosted};
 ghost use Rattle.trace_stuck.specs.Shape.{shape};
-ghost use Rattle.trace_wait.specs.Requests.{AreMade, choices, post_part, posted_by, request, requests, some_of, started_part};
+ghost use Rattle.trace_wait.specs.Requests.{AddsShapes, AreMade, PutsAt, choices, post_part, posted_by, request, requests, some_of, started_part};
 
 use crate::active::{Posts, posts_of};
 use crate::collective::collective_of_call;
@@ -78,7 +78,7 @@ fn made_before(made: &Made, x: i64) -> Option<&Condition>
 
 /// Notes what the request of a number waits for.
 fn note_made(made: &mut Made, x: i64, part: Condition) -> Result<(), AllocError>
-    ensures { OnOk result ((y : ℤ) → get int_eq made.new y ≡ (if int_eq x y then Some part else get int_eq made.old y)) }
+    ensures { OnOk result (PutsAt x part (get int_eq made.old) (get int_eq made.new)) }
 {
     made.insert(x, part)?;
     Ok(())
@@ -165,7 +165,7 @@ fn push_request(
     requires cancelled { AreCalledInOrder posts.now.cancelled }
     requires made { AreMade run.now r posts.now (get int_eq made.old) }
     ensures made { OnOk result (AreMade run.now r posts.now (get int_eq made.new)) }
-    ensures parts { OnOk result (map shape parts.new.items ≡ map shape parts.old.items ++ requests run.now r posts.now (x.now ∷ [])) }
+    ensures parts { OnOk result (AddsShapes parts.old.items parts.new.items (requests run.now r posts.now (x.now ∷ []))) }
 {
     if let Some(name) = posts.name_of(*x) {
         parts.push(part_of(alloc, run, r, posts.ops(), *x, name, made)?)?;
@@ -226,7 +226,7 @@ fn push_choice(
     requires cancelled { AreCalledInOrder posts.now.cancelled }
     requires made { AreMade run.now r posts.now (get int_eq made.old) }
     ensures made { OnOk result (AreMade run.now r posts.now (get int_eq made.new)) }
-    ensures parts { OnOk result (map shape parts.new.items ≡ map shape parts.old.items ++ choices run.now r posts.now (x.now ∷ [])) }
+    ensures parts { OnOk result (AddsShapes parts.old.items parts.new.items (choices run.now r posts.now (x.now ∷ []))) }
 {
     if *x == NULL_REQUEST || posts.is_idle(*x) {
         return Ok(());

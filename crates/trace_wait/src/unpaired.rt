@@ -8,10 +8,9 @@
 //! that ends last: so its end is all that is kept of them.
 
 ghost use Rattle.std.specs.Prelude.{◌≡◌, ◌∷◌, [], IfOk, OnOk};
-ghost use Rattle.std.specs.List.{list_any};
 ghost use Rattle.trace_pair.specs.Ends.{AreLast};
-ghost use Rattle.trace_wait.specs.Matching.{AsksFree, free_receives, unpaired_messages};
-ghost use Rattle.trace_wait.specs.Patterns.{is_offered, is_void_or_not, offers, offers_unpaired, pattern_cmp, suits};
+ghost use Rattle.trace_wait.specs.Matching.{AsksFree, free_receives};
+ghost use Rattle.trace_wait.specs.Patterns.{is_offered, is_void_or_not, offers_unpaired, pattern_cmp, some_offers, suits};
 ghost use Rattle.trace_wait.specs.Sets.{IsSetOf, Notes};
 
 use crate::paired::{is_given, is_taken};
@@ -90,7 +89,7 @@ pub(crate) fn patterns_offered(
     ops: &[RankOps],
     pairs: &PairTable,
 ) -> Result<BTreeSet<Pattern>, AllocError>
-    ensures { IfOk result (IsSetOf pattern_cmp (λ p. list_any (λ m. offers void m p) (unpaired_messages ops.now pairs.now.pairs))) }
+    ensures { IfOk result (IsSetOf pattern_cmp (some_offers void ops.now pairs.now.pairs)) }
 {
     let mut set = BTreeSet::new(alloc);
     let mut place = 0;
