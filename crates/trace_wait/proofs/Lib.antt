@@ -8,3 +8,4 @@ pub mod Fronts
 pub mod Rows
 pub mod Posted
 pub mod Made
+pub mod Waits

@@ -1,5 +1,6 @@
 -- What a waiting rank waits for, call by call.
-use Rattle.std.specs.Prelude.{ℕ, ◌+◌, Option, List, [], ◌∷◌}
+use Rattle.std.specs.Prelude.{ℕ, ◌+◌, Bool, Option, is_some, List, [], ◌∷◌}
+use Rattle.std.specs.List.{list_any}
 use Rattle.std.specs.Option.{option_map}
 use Rattle.mpi_model.specs.Layouts.{Parts}
 use Rattle.mpi_model.specs.declared.call.Call.{Call}
@@ -52,6 +53,10 @@ waits_for s r o n Unread = OnNothing
 -- the condition of rank r, whose operations these are, where it waits
 abbrev pub condition_of : Run → ℕ → Ops → Option Wait
 condition_of s r o = option_map (λ w. waits_for s r o w.0 w.1) o.waiting
+
+-- some rank waits
+abbrev pub does_one_wait : List Ops → Bool
+does_one_wait ops = list_any (λ (o : Ops). is_some o.waiting) ops
 
 -- the conditions of the ranks from `first` on
 abbrev pub conditions_from : Run → ℕ → List Ops → List (Option Wait)

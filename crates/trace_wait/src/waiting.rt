@@ -1,11 +1,12 @@
 //! The condition of each waiting rank.
 
-ghost use Rattle.std.specs.Prelude.{◌≡◌, ◌<◌, ◌^◌, map, length, IfOk};
+ghost use Rattle.std.specs.Prelude.{◌≡◌, ◌<◌, ◌^◌, false, is_some, map, length, IfOk};
 ghost use Rattle.std.specs.Option.{option_map};
 ghost use Rattle.trace_ops.specs.Ops.{AreOwn};
 ghost use Rattle.trace_ops.specs.Order.{AreCalledInOrder, AreInOrder, ArePosted};
 ghost use Rattle.trace_stuck.specs.Shape.{shape, waits_of, OnAll};
-ghost use Rattle.trace_wait.specs.Conditions.{both_of_call, condition_of, conditions_from, conditions_of, waits_for};
+ghost use Rattle.trace_wait.specs.Conditions.{both_of_call, condition_of, conditions_from, conditions_of, does_one_wait, waits_for};
+ghost use Rattle.trace_wait.specs.Parts.{Run};
 ghost use Rattle.trace_wait.specs.Requests.{choices, requests, some_of};
 
 use crate::collective::collective_of_call;
@@ -154,10 +155,8 @@ fn conditions_in(
     Ok(out)
 }
 
-/// The condition of each rank, none where it isn't waiting.
-///
-/// The ops of rank r stand at place r; the pairs and the rounds are those of these ops.
-pub fn conditions(
+/// The condition of each rank, by what is gathered of the whole run.
+fn conditions_gathered(
     alloc: Global,
     layout: &Layout,
     ops: &[RankOps],
@@ -190,4 +189,60 @@ pub fn conditions(
         groups: &groups,
     };
     conditions_in(alloc, &run, ops)
+}
+
+/// Whether the rank waits.
+fn does_wait(o: &RankOps) -> bool
+    ensures { result ≡ is_some o.now.waiting }
+{
+    match o.waiting() {
+        Some(_) => true,
+        None => false,
+    }
+}
+
+/// Whether some rank waits.
+fn does_one_wait(ops: &[RankOps]) -> bool
+    ensures { result ≡ does_one_wait ops.now }
+{
+    for o in ops {
+        if does_wait(o) {
+            return true;
+        }
+    }
+    false
+}
+
+/// No condition for any rank, where none waits.
+fn no_conditions(alloc: Global, ops: &[RankOps]) -> Result<Vec<Option<Condition>>, AllocError>
+    requires { does_one_wait ops.now ≡ false }
+    ensures { IfOk result (λ v. (run : Run) → map (option_map shape) v.items ≡ conditions_from run 0 ops.now) }
+{
+    let mut out = Vec::new(alloc);
+    for o in ops {
+        let _o = o;
+        out.push(None)?;
+    }
+    Ok(out)
+}
+
+/// The condition of each rank, none where it isn't waiting.
+///
+/// The ops of rank r stand at place r; the pairs and the rounds are those of these ops.
+pub fn conditions(
+    alloc: Global,
+    layout: &Layout,
+    ops: &[RankOps],
+    pairs: &PairTable,
+    rounds: &[Round],
+) -> Result<Vec<Option<Condition>>, AllocError>
+    requires few { length ops.now < 2 ^ 32 }
+    requires own { AreOwn 0 ops.now }
+    ensures { IfOk result (λ v. map (option_map shape) v.items ≡ conditions_of layout.now ops.now pairs.now.pairs rounds.now) }
+{
+    if does_one_wait(ops) {
+        return conditions_gathered(alloc, layout, ops, pairs, rounds);
+    }
+    let out = no_conditions(alloc, ops)?;
+    Ok(out)
 }
