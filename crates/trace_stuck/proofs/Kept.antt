@@ -134,3 +134,8 @@ module _ (states : List State) (first second : List (Option Condition)) (alike :
 
   pub whole_alike : (release : List ℕ) → IsWhole states first release → IsWhole states second release
   whole_alike release w r l = sym (go_alike (λ s. is_free states s || among release s) first second r (alike (λ s. is_free states s || among release s))) ∙ w r l
+
+-- two lists are the same up to one place more
+pub equal_more : (xs ys : List ℕ) (i : ℕ) → i < length xs → length xs ≡ length ys → get_or xs i 0 ≡ get_or ys i 0 → take i xs ≡ take i ys → take (i + 1) xs ≡ take (i + 1) ys
+equal_more xs ys i lt len e h =
+    take_more xs i 0 lt ∙ ap (λ (l : List ℕ). l ++ get_or xs i 0 ∷ []) h ∙ ap (λ (z : ℕ). take i ys ++ z ∷ []) e ∙ sym (take_more ys i 0 (omega (arith, lt, len)))

@@ -114,7 +114,7 @@ fn copies_of(alloc: Global, parts: &[Condition]) -> Result<Vec<Condition>, Alloc
 }
 
 /// Whether the two lists are equal.
-pub(crate) fn are_same_ranks(first: &[u32], second: &[u32]) -> bool
+fn are_same_ranks(first: &[u32], second: &[u32]) -> bool
     ensures { IsTrue result ↔ (first.now ≡ second.now) }
 {
     first == second

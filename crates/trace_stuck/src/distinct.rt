@@ -9,7 +9,7 @@ ghost use Rattle.std.specs.Option.{option_map};
 ghost use Rattle.trace_stuck.specs.Holds.{holds};
 ghost use Rattle.trace_stuck.specs.Distinct.{AllHoldAlike, HasAlike, HoldAlike, PartsHoldAlike};
 
-use crate::condition::{Condition, are_same_ranks};
+use crate::condition::Condition;
 use std::alloc::{AllocError, Global};
 use std::sync::Arc;
 
@@ -64,14 +64,35 @@ fn part_at(kept: &[Condition], at: usize) -> Option<&Condition>
     kept.get(at)
 }
 
+/// Whether what was the same up to here is the same with these two.
+fn is_still_same(is_same: bool, first: u32, second: u32) -> bool
+    ensures { IsTrue result → IsTrue is_same × (first ≡ second) }
+{
+    if first == second { is_same } else { false }
+}
+
+/// Whether the two lists are equal. All places are compared, whatever is found before, so that several can be at once.
+fn are_equal(first: &[u32], second: &[u32]) -> bool
+    ensures { IsTrue result → first.now ≡ second.now }
+{
+    if first.len() != second.len() {
+        return false;
+    }
+    let mut is_same = true;
+    for i in 0..first.len() {
+        is_same = is_still_same(is_same, first[i], second[i]);
+    }
+    is_same
+}
+
 /// Whether both are one rank, or of both kinds the same list of ranks.
 fn is_repeated(first: &Condition, second: &Condition) -> bool
     ensures { IsTrue result → HoldAlike first.now second.now }
 {
     match (first, second) {
         (Condition::Rank(r), Condition::Rank(s)) => *r == *s,
-        (Condition::OneRank(ranks), Condition::OneRank(others)) => are_same_ranks(ranks, others),
-        (Condition::AllRanks(ranks), Condition::AllRanks(others)) => are_same_ranks(ranks, others),
+        (Condition::OneRank(ranks), Condition::OneRank(others)) => are_equal(ranks, others),
+        (Condition::AllRanks(ranks), Condition::AllRanks(others)) => are_equal(ranks, others),
         _ => false,
     }
 }

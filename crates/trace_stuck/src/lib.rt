@@ -11,7 +11,7 @@
 //! memory tell both apart from anything else.
 //!
 //! Cost over n ranks: before the search the parts of an all-of or a one-of are left out that come twice.
-//! That costs each part one comparison, of two lists of ranks place by place. Let c be the
+//! That costs each part one comparison, of two lists of ranks at several places at once. Let c be the
 //! parts that are left, in which a list of ranks counts with its length. Then the search takes
 //! never more than n c steps. A condition is looked at once, and then once for each
 //! rank that it names and that was released before its own; so at most n times, and each time only up

@@ -10,11 +10,11 @@ returns-in-Rank-Rank c = λ h.
 pub returns-in-OneRank-OneRank : goal.returns-in-OneRank-OneRank
 returns-in-OneRank-OneRank c = λ h.
     alike_one c.args.first.now c.args.second.now c.in-OneRank-OneRank.ranks c.in-OneRank-OneRank.others c.in-OneRank-OneRank.is-0 c.in-OneRank-OneRank.is-1
-    (sym (c.deref-in-OneRank-OneRank.ensures.value ∙ ap (λ (v : Vec ℕ Global). v.items) c.deref.ensures) ∙ c.are_same_ranks.ensures.0 h
+    (sym (c.deref-in-OneRank-OneRank.ensures.value ∙ ap (λ (v : Vec ℕ Global). v.items) c.deref.ensures) ∙ c.are_equal.ensures h
     ∙ (c.deref-in-OneRank-OneRank-3.ensures.value ∙ ap (λ (v : Vec ℕ Global). v.items) c.deref-in-OneRank-OneRank-2.ensures))
 
 pub returns-in-AllRanks-AllRanks : goal.returns-in-AllRanks-AllRanks
 returns-in-AllRanks-AllRanks c = λ h.
     alike_all c.args.first.now c.args.second.now c.in-AllRanks-AllRanks.ranks c.in-AllRanks-AllRanks.others c.in-AllRanks-AllRanks.is-0 c.in-AllRanks-AllRanks.is-1
-    (sym (c.deref-in-AllRanks-AllRanks-2.ensures.value ∙ ap (λ (v : Vec ℕ Global). v.items) c.deref-in-AllRanks-AllRanks.ensures) ∙ c.are_same_ranks-in-AllRanks-AllRanks.ensures.0 h
+    (sym (c.deref-in-AllRanks-AllRanks-2.ensures.value ∙ ap (λ (v : Vec ℕ Global). v.items) c.deref-in-AllRanks-AllRanks.ensures) ∙ c.are_equal-in-AllRanks-AllRanks.ensures h
     ∙ (c.deref-in-AllRanks-AllRanks-4.ensures.value ∙ ap (λ (v : Vec ℕ Global). v.items) c.deref-in-AllRanks-AllRanks-3.ensures))
