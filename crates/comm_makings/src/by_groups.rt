@@ -494,7 +494,15 @@ fn read_key(
         return Ok(Vec::new(alloc));
     };
     let mut made = Vec::new(alloc);
-    if !read_each(alloc, parent, calls, &places, waits, &mut found.read, &mut made)? {
+    if !read_each(
+        alloc,
+        parent,
+        calls,
+        &places,
+        waits,
+        &mut found.read,
+        &mut made,
+    )? {
         end(alloc, calls, first.ranks, first.tag, found)?;
     }
     Ok(made)

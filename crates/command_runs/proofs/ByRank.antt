@@ -213,7 +213,7 @@ rises_on pieces i here before some lt a b le rises =
     let long : length (take i pieces) ≡ i = length-take-le i pieces (omega (arith, lt)) in
     subst (λ (ps : List PieceParts). IsNonDecreasingBy (λ p. p.rank) ps) (sym more)
     (IsNonDecreasingBy-push (λ p. p.rank) (take i pieces) here rises (λ d full.
-        let at : get_or (take i pieces) (length (take i pieces) - 1) d ≡ before =
-        ap (λ (n : ℕ). get_or (take i pieces) (n - 1) d) long ∙ get_or-take i pieces (i - 1) d (omega (arith, some)) ∙ get_or_default pieces (i - 1) d before (omega (arith, lt)) ∙ sym b in
-        let rank : (get_or (take i pieces) (length (take i pieces) - 1) d).rank ≡ before.rank = ap (λ (p : PieceParts). p.rank) at in
-        omega (arith, rank, le)))
+    let at : get_or (take i pieces) (length (take i pieces) - 1) d ≡ before =
+    ap (λ (n : ℕ). get_or (take i pieces) (n - 1) d) long ∙ get_or-take i pieces (i - 1) d (omega (arith, some)) ∙ get_or_default pieces (i - 1) d before (omega (arith, lt)) ∙ sym b in
+    let rank : (get_or (take i pieces) (length (take i pieces) - 1) d).rank ≡ before.rank = ap (λ (p : PieceParts). p.rank) at in
+    omega (arith, rank, le)))

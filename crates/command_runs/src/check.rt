@@ -83,7 +83,15 @@ fn checker_with<'a, O: Opener, V: Watcher>(
     };
     announce(manifest.pieces(), files, watcher);
     let mut buffer = Vec::new(alloc);
-    let checker = match know_of(alloc, layout, manifest.pieces(), files, watcher, &mut buffer, nothing) {
+    let checker = match know_of(
+        alloc,
+        layout,
+        manifest.pieces(),
+        files,
+        watcher,
+        &mut buffer,
+        nothing,
+    ) {
         Ok(checker) => checker,
         Err(fault) => return Err(fault),
     };

@@ -11,7 +11,9 @@ use crate::fault::RunFault;
 use crate::opener::{OpenFault, Opener};
 use crate::watch::Watcher;
 use crate::watched::Watched;
-use dumpi_calls::{Collect, Memory, WalkCause, WalkFault, walk_with_buffer, whole_segments, whole_texts};
+use dumpi_calls::{
+    Collect, Memory, WalkCause, WalkFault, walk_with_buffer, whole_segments, whole_texts,
+};
 use dumpi_text::TextFault;
 use input_files::Piece;
 use std::alloc::{AllocError, Global};

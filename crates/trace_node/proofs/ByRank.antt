@@ -150,9 +150,9 @@ module _ (joins : JoinsCells) (view know : View) (count : ℕ) (below : IsBelowR
       → ((v : View) → IsStrictlySortedBy place_cmp (conflicts_of v)) → conflicts_of (join view know) ≡ conflicts_of view ++ conflicts_of know
   conflicts_next lists rises = one_list (conflicts_of (join view know)) (conflicts_of view ++ conflicts_of know) (rises (join view know))
       (behind (conflicts_of view) (conflicts_of know) (rises view) (rises know) (λ x y a b.
-          let lt = below x.0 x.1 (contradicted _ ((lists view x.0 x.1).0 a)) in
-          let is = of y.0 y.1 (contradicted _ ((lists know y.0 y.1).0 b)) in
-          rank_less x.0 x.1 y.0 y.1 (omega (arith, lt, is))))
+      let lt = below x.0 x.1 (contradicted _ ((lists view x.0 x.1).0 a)) in
+      let is = of y.0 y.1 (contradicted _ ((lists know y.0 y.1).0 b)) in
+      rank_less x.0 x.1 y.0 y.1 (omega (arith, lt, is))))
       (λ x. let test = either (cell view x.0 x.1) (cell know x.0 x.1) (one_nothing x.0 x.1) in (
         λ c. elim (test.0 (sym (joins view know x.0 x.1) ∙ (lists (join view know) x.0 x.1).0 c)) [
           | inl old ↦ Contains-append_left (conflicts_of view) (conflicts_of know) x ((lists view x.0 x.1).1 old)

@@ -70,14 +70,22 @@ impl RankByRank {
         join_laws();
         prefix_laws();
         listing_laws();
-        let RankByRank { reading, ops, walls } = self;
+        let RankByRank {
+            reading,
+            ops,
+            walls,
+        } = self;
         let reading = reading.with(alloc, rank, know)?;
         let mut ops = ops;
         let mut walls = walls;
         let own = ops_of(alloc, layout, know, rank)?;
         walls.push(wall_of(know, rank, waiting_call(&own)))?;
         ops.push(own)?;
-        Ok(RankByRank { reading, ops, walls })
+        Ok(RankByRank {
+            reading,
+            ops,
+            walls,
+        })
     }
 
     /// The answer, once all ranks of the layout were told.
@@ -87,7 +95,11 @@ impl RankByRank {
     {
         layout.known();
         ops_laws();
-        let RankByRank { reading, ops, walls } = self;
+        let RankByRank {
+            reading,
+            ops,
+            walls,
+        } = self;
         let index = PairIndex::of_all(alloc, ops)?;
         let own = index.ops();
         let answer = answer_of(alloc, layout, reading, &walls, own, index.pairs()?)?;

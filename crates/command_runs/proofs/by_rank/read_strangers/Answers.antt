@@ -8,7 +8,7 @@ pub returns-in-Ok-clause-ok : goal.returns-in-Ok-clause-ok
 returns-in-Ok-clause-ok g c =
     let file = g.O.Opener.file c.args.files.now in
     let none = none_known c.join_laws.ensures.same_cells c.in-Ok._others.know (λ r p some.
-        let high = known_of c.view_laws.ensures.cells (λ r. c.args.layout.now.ranks ≤ r) file c.args.pieces.now c.in-Ok._others.know c.in-Ok.ensures.ok c.requires r p some in
-        let low = c.in-Ok.ensures.within r p some in
-        omega (arith, high, low)) in
+    let high = known_of c.view_laws.ensures.cells (λ r. c.args.layout.now.ranks ≤ r) file c.args.pieces.now c.in-Ok._others.know c.in-Ok.ensures.ok c.requires r p some in
+    let low = c.in-Ok.ensures.within r p some in
+    omega (arith, high, low)) in
     subst (λ (v : View). IsKnown file c.args.pieces.now v) none c.in-Ok.ensures.ok
