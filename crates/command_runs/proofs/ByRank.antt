@@ -9,17 +9,15 @@ use Rattle.std.proofs.lemmas.Bool.{cases_order}
 use Rattle.std.proofs.lemmas.List.{drop-take, get_or-drop, get_or-take, get_or_default, length-drop, length-take-le, take-append-drop, take-take, take_all, take_more}
 use Rattle.std.proofs.lemmas.List.Folds.{drop_split}
 use Rattle.std.proofs.lemmas.List.Sorted.{IsNonDecreasingBy-push}
-use Rattle.std.proofs.lemmas.List.Elements.{All-append, All-contains, All-head, All-nil, All-tail, All-weaker, Contains-append_cases, Contains-append_right, Contains-push}
+use Rattle.std.proofs.lemmas.List.Elements.{All-append, All-contains, All-head, All-nil, All-tail, All-weaker, Contains-append_cases, Contains-append_right}
 use Rattle.mpi_model.specs.Layouts.{Parts}
 use Rattle.trace_know.specs.Segment.{enter_place}
 use Rattle.trace_know.specs.Trace.{Fact, Trace, facts_from, view_of}
 use Rattle.trace_know.specs.View.{View, cell, join, place_cmp}
 use Rattle.trace_know.specs.declared.cell.Known.{Known}
-use Rattle.trace_node.specs.ByRank.{AreTold, IsOfRank}
-use Rattle.trace_node.specs.Node.{IsWithin}
+use Rattle.trace_node.specs.ByRank.{AreTold}
 use Rattle.trace_node.specs.declared.by_rank.RankByRank.{RankByRank}
 use Rattle.input_files.specs.Manifests.{PieceParts}
-use Rattle.command_runs.specs.Pieces.{TellsFacts}
 use Rattle.command_runs.specs.Ranks.{TellRanks}
 use Rattle.command_runs.specs.Refusals.{NamesStranger, RefusesFirst, RefusesPieces}
 use Rattle.command_runs.specs.Traces.{Begin, IsFirstStranger, IsInside, IsKnown, TellTrace}

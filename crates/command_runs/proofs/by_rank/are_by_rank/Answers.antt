@@ -1,4 +1,4 @@
-use Rattle.std.proofs.Common.{◌≤◌, arith, length, refl, subst, List, take}
+use Rattle.std.proofs.Common.{◌≤◌, arith, length, refl, subst, List}
 use Rattle.std.specs.List.Sorted.{IsNonDecreasingBy}
 use Rattle.std.proofs.lemmas.List.{take_all}
 use Rattle.input_files.specs.Manifests.{PieceParts}

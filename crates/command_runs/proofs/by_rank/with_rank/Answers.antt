@@ -1,6 +1,6 @@
 use Rattle.std.proofs.Common.{◌≡◌, sym, subst}
-use Rattle.trace_know.specs.View.{View, join}
-use Rattle.trace_node.specs.ByRank.{AreTold, IsOfRank}
+use Rattle.trace_know.specs.View.{View}
+use Rattle.trace_node.specs.ByRank.{IsOfRank}
 use Rattle.command_runs.specs.Traces.{IsKnown}
 use Rattle.command_runs.proofs.ByRank.{known_of, own_refused}
 use Rattle.command_runs.proofs.by_rank.with_rank.Goals as goal

@@ -1,6 +1,6 @@
-use Rattle.std.proofs.Common.{◌≡◌, ◌∙◌, ◌⊎◌, sym, subst}
+use Rattle.std.proofs.Common.{◌≡◌, ◌⊎◌, sym, subst}
 use Rattle.std.specs.List.{All}
-use Rattle.trace_know.specs.View.{View, join}
+use Rattle.trace_know.specs.View.{View}
 use Rattle.trace_wire.specs.Packed.{IsOfRanks}
 use Rattle.command_runs.specs.Packed.{RefusesFirstPacked, TellPacked}
 use Rattle.command_runs.specs.Traces.{IsInside, IsKnown}
