@@ -1,6 +1,6 @@
 -- What holds the numbers that calls list, one call more, and the steps of these calls.
 use Rattle.std.proofs.Common.{◌≡◌, ℕ, zero, suc, ◌+◌, ◌-◌, ◌<◌, ◌≤◌, Bool, true, false, List, [], ◌∷◌, ◌++◌, map, take, drop, get_or, length, reverse, refl, sym, ◌∙◌, ap, arith, append_assoc, length-append}
-use Rattle.std.specs.Prelude.{ℤ, Option, Some, None, if◌then◌else◌}
+use Rattle.std.specs.Prelude.{ℤ, Option, Some, None, slice_get, if◌then◌else◌}
 use Rattle.std.specs.List.{cons_option, filter_map}
 use Rattle.std.specs.Map.{lookup}
 use Rattle.std.specs.Option.{option_map}
@@ -15,6 +15,7 @@ use Rattle.trace_ops.specs.Calls.{Entry}
 use Rattle.trace_ops.specs.Held.{Holds, Init, changes_hold, held_in, hold_by, inits_at, inits_from, plain_init}
 use Rattle.trace_ops.specs.Request.{given_of, is_init, started_by}
 use Rattle.trace_ops.specs.Steps.{steps_at, steps_from}
+use Rattle.trace_ops.proofs.Placing.{drop_at}
 
 -- the calls before the next place, the last of them first
 pub before_more : (calls : List Entry) (n : ℕ) (c : Entry) → n < length calls → c ≡ get_or calls n c → reverse (take (n + 1) calls) ≡ c ∷ reverse (take n calls)
@@ -144,3 +145,15 @@ no_held all n (c ∷ calls) none =
 pub none_idle : (active : List (ℤ × OpName)) (calls : List Entry) (kept : ℤ → Option Lent) → ((x : ℤ) → kept x ≡ None) → Holds (reverse calls) kept → [] ≡ idle_of active calls
 none_idle active calls kept none h =
     sym (ap (λ (l : List ℤ). rising (filter_map (unless_active active) l)) (no_held (reverse calls) 0 calls (λ x. sym (h x) ∙ ap (option_map plain_init) (none x))))
+
+joined : (o : Option ℤ) (rest : List ℤ) → cons_option o [] ++ rest ≡ cons_option o rest
+joined None rest = refl
+joined (Some x) rest = refl
+
+-- the numbers that inits hold, of one call more
+pub held_more : (all calls : List Entry) (n : ℕ) (c : Entry) (done new : List ℤ) (o : Option ℤ) (whole : List ℤ) → slice_get calls n ≡ Some c → o ≡ held_still all n (given_of c.call c.outs) →
+    new ≡ done ++ cons_option o [] → done ++ held_of all n (drop n calls) ≡ whole → new ++ held_of all (n + 1) (drop (n + 1) calls) ≡ whole
+held_more all calls n c done new o whole at k j e =
+    let rest = held_of all (n + 1) (drop (n + 1) calls) in
+    ap (λ (l : List ℤ). l ++ rest) j ∙ append_assoc done (cons_option o []) rest ∙ ap (λ (l : List ℤ). done ++ l) (joined o rest)
+    ∙ ap (λ (p : Option ℤ). done ++ cons_option p rest) k ∙ sym (ap (λ (l : List Entry). done ++ held_of all n l) (drop_at calls n c at)) ∙ e

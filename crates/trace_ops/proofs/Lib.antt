@@ -1,5 +1,6 @@
 pub mod Taken
 pub mod Sorting
+pub mod Placing
 pub mod Behind
 pub mod Holding
 pub mod Parts

@@ -1,5 +1,5 @@
 -- One element more of a list that is gone through.
-use Rattle.std.proofs.Common.{◌≡◌, ℕ, zero, suc, ◌+◌, ◌<◌, List, [], ◌∷◌, ◌++◌, map, take, drop, get_or, length, reverse, refl, sym, ◌∙◌, ap, arith, append_assoc, Bor}
+use Rattle.std.proofs.Common.{◌≡◌, ℕ, zero, suc, ◌+◌, ◌*◌, ◌/◌, ◌%◌, ◌<◌, List, [], ◌∷◌, ◌++◌, map, take, drop, get_or, length, reverse, refl, sym, ◌∙◌, ap, arith, append_assoc, Bor}
 use Rattle.std.specs.Prelude.{Bool, true, false, if◌then◌else◌, filter, Option, Some, None, slice_get}
 use Rattle.std.specs.List.{filter_map, cons_option}
 use Rattle.std.specs.Option.{option_and_then, option_map}
@@ -9,24 +9,26 @@ use Rattle.mpi_model.specs.declared.event.Event.{Event}
 use Rattle.trace_ops.specs.Calls.{Entry, call_of, outs_of, calls_of}
 use Rattle.trace_ops.specs.Steps.{Step}
 
--- the calls from a place on
-calls_next : (es : List (Bor Event)) (i : ℕ) (e : Bor Event) → i < length es → e ≡ get_or es i e →
-    calls_of (drop i (map (λ e. e.now) es)) ≡ record { call = call_of e.now; outs = option_and_then outs_of (option_map (λ e. e.now) (slice_get es (i + 1))) } ∷ calls_of (drop (i + 2) (map (λ e. e.now) es))
-calls_next [] i e lt h = absurd (omega (arith, lt))
-calls_next (x ∷ []) zero e lt h = rw h refl
-calls_next (x ∷ y ∷ es) zero e lt h = rw h refl
-calls_next (x ∷ es) (suc i) e lt h =
-    let n : suc i + 1 ≡ suc (i + 1) = omega arith in
-    let m : suc i + 2 ≡ suc (i + 2) = omega arith in
-    rw (n, m) (calls_next es i e (omega (arith, lt)) h)
+-- the call at a place, by the events at its places
+pub call_placed : (es : List (Bor Event)) (n k : ℕ) (e : Bor Event) → k ≡ 2 * n → k < length es → e ≡ get_or es k e →
+    slice_get (calls_of (map (λ e. e.now) es)) n ≡ Some (record { call = call_of e.now; outs = option_and_then outs_of (option_map (λ e. e.now) (slice_get es (k + 1))) })
+call_placed [] n k e two lt at = absurd (omega (arith, lt))
+call_placed (x ∷ []) zero zero e two lt at = rw at refl
+call_placed (x ∷ []) (suc n) zero e two lt at = absurd (omega (arith, two))
+call_placed (x ∷ []) n (suc k) e two lt at = absurd (omega (arith, lt))
+call_placed (x ∷ y ∷ es) zero zero e two lt at = rw at refl
+call_placed (x ∷ y ∷ es) (suc n) zero e two lt at = absurd (omega (arith, two))
+call_placed (x ∷ y ∷ es) zero (suc k) e two lt at = absurd (omega (arith, two))
+call_placed (x ∷ y ∷ es) (suc n) (suc zero) e two lt at = absurd (omega (arith, two))
+call_placed (x ∷ y ∷ es) (suc n) (suc (suc k)) e two lt at =
+    let m : suc (suc k) + 1 ≡ suc (suc (k + 1)) = omega arith in
+    rw m (call_placed es n k e (omega (arith, two)) (omega (arith, lt)) at)
 
-pub calls_go : (es : List (Bor Event)) (i : ℕ) (e : Bor Event) (done new : List Entry) (c : Entry) → i < length es → e ≡ get_or es i e →
-    c ≡ record { call = call_of e.now; outs = option_and_then outs_of (option_map (λ e. e.now) (slice_get es (i + 1))) } → new ≡ done ++ c ∷ [] →
-    done ++ calls_of (drop i (map (λ e. e.now) es)) ≡ calls_of (map (λ e. e.now) es) → new ++ calls_of (drop (i + 2) (map (λ e. e.now) es)) ≡ calls_of (map (λ e. e.now) es)
-calls_go es i e done new c lt at k j h =
-    ap (λ (l : List Entry). l ++ calls_of (drop (i + 2) (map (λ e. e.now) es))) j
-    ∙ rw append_assoc (ap (λ (x : Entry). done ++ x ∷ calls_of (drop (i + 2) (map (λ e. e.now) es))) k
-    ∙ ap (λ (l : List Entry). done ++ l) (sym (calls_next es i e lt at)) ∙ h)
+-- how many calls there are
+pub calls_count : (es : List (Bor Event)) → length (calls_of (map (λ e. e.now) es)) ≡ length es / 2 + length es % 2
+calls_count [] = refl
+calls_count (x ∷ []) = refl
+calls_count (x ∷ y ∷ es) = let more = calls_count es in omega (arith, more)
 
 -- what is kept of the items of a list, one more
 pub kept_more : {X Y : Type 0} (f : X → Option Y) (xs : List X) (i : ℕ) (d x : X) (done new : List Y) (item : Option Y) → i < length xs →

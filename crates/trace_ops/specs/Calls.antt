@@ -1,5 +1,6 @@
 -- The calls of a rank, as its readable events tell them.
-use Rattle.std.specs.Prelude.{◌≡◌, ℕ, Option, Some, None, List, [], ◌∷◌, slice_get}
+use Rattle.std.specs.Prelude.{◌≡◌, ℕ, Option, Some, None, List, [], ◌∷◌, map, slice_get}
+use denote.Ref.{Bor}
 use Rattle.mpi_model.specs.declared.call.Call.{Call}
 use Rattle.mpi_model.specs.declared.call.Call.TheVariants.{Local}
 use Rattle.mpi_model.specs.declared.outcome.Outs.{Outs}
@@ -11,9 +12,9 @@ pub record Entry : Type 0 where
   pub call : Call
   pub outs : Option Outs
 
--- This holds of the call at a place, where one is there.
-abbrev pub OfCallAt : ℕ → List Entry → (Entry → Type 0) → Type 0
-OfCallAt n calls P = (c : Entry) → slice_get calls n ≡ Some c → P c
+-- This is the call at a place.
+abbrev pub IsCallAt : List Entry → ℕ → Entry → Type 0
+IsCallAt calls n c = slice_get calls n ≡ Some c
 
 -- the call of an Enter (an event at an even place is one)
 abbrev pub call_of : Event → Call
@@ -30,3 +31,7 @@ abbrev pub calls_of : List Event → List Entry
 calls_of [] = []
 calls_of (enter ∷ []) = record { call = call_of enter; outs = None } ∷ []
 calls_of (enter ∷ exit ∷ events) = record { call = call_of enter; outs = outs_of exit } ∷ calls_of events
+
+-- the same of events that are lent
+abbrev pub calls_in : List (Bor Event) → List Entry
+calls_in events = calls_of (map (λ e. e.now) events)

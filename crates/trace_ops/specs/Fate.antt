@@ -1,5 +1,5 @@
 -- What the steps behind a post tell of the request that it posted.
-use Rattle.std.specs.Prelude.{◌≡◌, ℕ, ℤ, Bool, Option, Some, None, List}
+use Rattle.std.specs.Prelude.{◌≡◌, ℕ, ℤ, Bool, Option, Some, None, is_some, List}
 use denote.Ref.{Bor}
 use Rattle.std.specs.List.{list_any}
 use Rattle.std.specs.Option.{option_copied}
@@ -9,17 +9,18 @@ use Rattle.trace_ops.specs.declared.fate.Fate.{Fate}
 use Rattle.trace_ops.specs.Ended.{ended_by}
 use Rattle.trace_ops.specs.Steps.{Placed, Step, posted_by, touches}
 use Rattle.trace_ops.specs.Source.{told_in, told_by}
+use Rattle.trace_ops.specs.Touched.{end_of, ended_at, is_marked, is_void_end, tellings_of}
 use Rattle.trace_ops.specs.Trust.{gives_back, has_cancel, said_by}
 
--- Of the request x: whether one of these steps ends it or gives its number anew, which call completes it, whether a Cancel
--- names it before that, whether the outcome says that it was cancelled, and the completions that tell its source.
+-- Of the request x: what is kept of it tells whether one of these steps ends it or gives its number anew, which call completes
+-- it, whether a Cancel names it before that, whether the outcome says that it was cancelled, and its source.
 pub record TellsFate (x : ℤ) (later : List Step) (fate : Fate) : Type 0 where
   pub request : fate.request ≡ x
-  pub ended : fate.ended ≡ list_any (touches x) later
-  pub by : fate.by ≡ ended_by x later
-  pub cancelled : fate.cancelled ≡ has_cancel x later
-  pub void : fate.void ≡ is_cancelled (said_by x later)
-  pub told : (members : List ℕ) → told_in members x fate.tellings.now ≡ told_by members x later
+  pub ended : is_some (end_of fate.touch) ≡ list_any (touches x) later
+  pub by : ended_at fate.calls.now (end_of fate.touch) ≡ ended_by x later
+  pub cancelled : is_marked fate.touch ≡ has_cancel x later
+  pub void : is_void_end (end_of fate.touch) ≡ is_cancelled (said_by x later)
+  pub told : (members : List ℕ) → told_in members x (tellings_of fate.calls.now (end_of fate.touch)) ≡ told_by members x later
 
 -- of a step that posts this number, if any
 abbrev pub IsFateOf : Option ℤ → List Step → Option Fate → Type 0

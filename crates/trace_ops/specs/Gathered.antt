@@ -1,20 +1,22 @@
 -- What is gathered of a rank's steps from a place on, while they are gone through from the last to the first.
-use Rattle.std.specs.Prelude.{◌≡◌, ℕ, true, Option, Some, List, ◌++◌, length, reverse, slice_get}
+use Rattle.std.specs.Prelude.{◌≡◌, ℕ, Option, List, [], ◌∷◌, ◌++◌, length, reverse}
 use Rattle.std.specs.Ordering.{int_eq}
 use Rattle.indexmap.specs.IndexMap.{get}
 use Rattle.mpi_model.specs.Layouts.{Parts}
 use Rattle.trace_ops.specs.Active.{active_of}
-use Rattle.trace_ops.specs.Calls.{Entry, OfCallAt}
+use Rattle.trace_ops.specs.Called.{plain_called}
+use Rattle.trace_ops.specs.Calls.{Entry}
 use Rattle.trace_ops.specs.Held.{AreInitsAt}
 use Rattle.trace_ops.specs.Message.{sends_of}
 use Rattle.trace_ops.specs.RankOps.{foreign_of}
 use Rattle.trace_ops.specs.Receive.{receives_of}
-use Rattle.trace_ops.specs.Request.{is_start}
 use Rattle.trace_ops.specs.Round.{rounds_of}
-use Rattle.trace_ops.specs.Steps.{Step, steps_at}
+use Rattle.trace_ops.specs.Steps.{Step, begun_step, steps_at, whole}
 use Rattle.trace_ops.specs.Touched.{Follows}
 use Rattle.trace_ops.specs.Trust.{cancelled_of, gives_back}
+use Rattle.trace_ops.specs.declared.called.Called.{Called}
 use Rattle.trace_ops.specs.declared.held.Init.{Init as Lent}
+use Rattle.trace_ops.specs.declared.held.Part.{Part}
 use Rattle.trace_ops.specs.declared.ops.gather.Gathered.{Gathered}
 
 -- The lists have what these steps tell, turned round; the foreign ones of them are counted, what they touch is followed, and
@@ -33,19 +35,15 @@ pub record IsGathered (layout : Parts) (rank : ℕ) (calls : List Entry) (steps 
 abbrev pub Adds : Parts → ℕ → List Entry → List Step → (old new : Gathered) → Type 0
 Adds layout rank calls steps old new = (later : List Step) → IsGathered layout rank calls later old → IsGathered layout rank calls (steps ++ later) new
 
--- the call at place n adds these steps
-abbrev pub AddsAt : Parts → ℕ → List Entry → ℕ → (Entry → List Step) → (old new : Gathered) → Type 0
-AddsAt layout rank calls n steps old new = OfCallAt n calls (λ c. Adds layout rank calls (steps c) old new)
+-- call n, which is one step, is added
+abbrev pub AddsWhole : Parts → ℕ → List Entry → ℕ → Called → (old new : Gathered) → Type 0
+AddsWhole layout rank calls n called old new = Adds layout rank calls (whole n (plain_called called) ∷ []) old new
 
--- the same of a Start or Startall
-abbrev pub StartAdds : Parts → ℕ → List Entry → ℕ → (Entry → List Step) → (old new : Gathered) → Type 0
-StartAdds layout rank calls n steps old new = OfCallAt n calls (λ c. is_start c.call ≡ true → Adds layout rank calls (steps c) old new)
+-- a part of call n, a Start or Startall, is added
+abbrev pub AddsPart : Parts → ℕ → List Entry → ℕ → Called → Part → (old new : Gathered) → Type 0
+AddsPart layout rank calls n called part old new = Adds layout rank calls (begun_step n (plain_called called) part ∷ []) old new
 
--- The call at place n adds its steps, behind as many calls, where these inits hold the numbers that it lists.
-abbrev pub AddsCall : Parts → ℕ → List Entry → ℕ → List (Option Lent) → (old new : Gathered) → Type 0
-AddsCall layout rank calls n inits old new = (before : List Entry) (c : Entry) → slice_get calls n ≡ Some c → length before ≡ n →
-    AreInitsAt before c inits → Adds layout rank calls (steps_at before c) old new
-
--- the call at place n is a Start or a Startall
-abbrev pub IsStartAt : List Entry → ℕ → Type 0
-IsStartAt calls n = OfCallAt n calls (λ c. is_start c.call ≡ true)
+-- Call n adds its steps, behind as many calls, where these inits hold the numbers that it lists.
+abbrev pub AddsCall : Parts → ℕ → List Entry → ℕ → Called → List (Option Lent) → (old new : Gathered) → Type 0
+AddsCall layout rank calls n called inits old new = (before : List Entry) → length before ≡ n → AreInitsAt before (plain_called called) inits →
+    Adds layout rank calls (steps_at before (plain_called called)) old new

@@ -4,6 +4,8 @@ pub mod Calls
 pub mod Foreign
 pub mod Groups
 pub mod Request
+pub mod Places
+pub mod Called
 pub mod Held
 pub mod Tables
 pub mod Steps

@@ -30,6 +30,10 @@ given_of (SendInit mode e) (Some (Posted request)) = number_for request
 given_of (RecvInit e) (Some (Posted request)) = number_for request
 given_of call outs = None
 
+-- the same of a call with its outcome
+abbrev pub given_in : Entry → Option ℤ
+given_in c = given_of c.call c.outs
+
 -- The call is an init: it describes a send or a receive, and starts nothing (MPI 4.0, 3.9).
 abbrev pub is_init : Call → Bool
 is_init (SendInit mode e) = true

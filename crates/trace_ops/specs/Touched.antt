@@ -12,9 +12,11 @@ use Rattle.trace_ops.specs.declared.touched.End.{End}
 use Rattle.trace_ops.specs.declared.touched.Touch.{Touch}
 use Rattle.trace_ops.specs.Calls.{Entry}
 use Rattle.trace_ops.specs.Ended.{ended_by}
-use Rattle.trace_ops.specs.Request.{completions, given_of, is_completed, is_completing}
+use Rattle.trace_ops.specs.Places.{completed_in, places_of}
+use Rattle.trace_ops.specs.Request.{given_in, is_completing}
 use Rattle.trace_ops.specs.Steps.{IsPartOf, Step, given_by, touches, whole}
-use Rattle.trace_ops.specs.Source.{told_in, told_by}
+use Rattle.trace_ops.specs.Source.{told_at, told_in, told_by}
+use Rattle.trace_ops.specs.Tables.{Becomes}
 use Rattle.trace_ops.specs.Trust.{cancel_of, has_cancel, said_by}
 
 -- a call ends the number, and its completions from a place on tell of it
@@ -35,27 +37,42 @@ with_told call place Nothing touch = touch
 with_told call place (Source rank) touch = Some (ends_at call place)
 with_told call place Cancelled touch = option_map voided touch
 
+-- the place completes this number
+abbrev pub is_completed_at : ℤ → Option Completed → Bool
+is_completed_at x None = false
+is_completed_at x (Some c) = int_eq c.request x
+
 -- what one completion of a call makes of what is kept of the number
 abbrev pub with_telling : ℕ → ℕ → ℤ → Completed → Option Touch → Option Touch
 with_telling call place x c touch = if int_eq c.request x then with_told call place c.told touch else touch
 
--- what the completions of a call, from a place on, make of what is kept of the number
-abbrev pub with_tellings : ℕ → ℕ → List Completed → ℤ → Option Touch → Option Touch
+-- what one place of a call makes of what is kept of the number
+abbrev pub with_place : ℕ → ℕ → ℤ → Option Completed → Option Touch → Option Touch
+with_place call place x None touch = touch
+with_place call place x (Some c) touch = with_telling call place x c touch
+
+-- what the places of a call, from one on, make of what is kept of the number
+abbrev pub with_tellings : ℕ → ℕ → List (Option Completed) → ℤ → Option Touch → Option Touch
 with_tellings call place [] x touch = touch
-with_tellings call place (c ∷ done) x touch = with_telling call place x c (with_tellings call (place + 1) done x touch)
+with_tellings call place (o ∷ places) x touch = with_place call place x o (with_tellings call (place + 1) places x touch)
 
--- what a call that completes these requests, and tells nothing of them, makes of what is kept of the number
-abbrev pub with_ends : ℕ → List Completed → ℤ → Option Touch → Option Touch
-with_ends call done x touch = if is_completed x done then Some (ends_at call (length done)) else touch
+-- what a call that completes what these places do, and tells nothing of it, makes of what is kept of the number
+abbrev pub with_ends : ℕ → List (Option Completed) → ℤ → Option Touch → Option Touch
+with_ends call places x touch = if list_any (is_completed_at x) places then Some (ends_at call (length places)) else touch
 
--- one of these completions says that its request was cancelled
-abbrev pub is_any_cancelled : List Completed → Bool
-is_any_cancelled done = list_any (λ c. is_cancelled c.told) done
+-- the place says that its request was cancelled
+abbrev pub is_cancelled_at : Option Completed → Bool
+is_cancelled_at None = false
+is_cancelled_at (Some c) = is_cancelled c.told
 
--- what the completions of a call, from a place on, make of what is kept of the number, where none says that it was cancelled
-abbrev pub with_firsts : ℕ → ℕ → List Completed → ℤ → Option Touch → Option Touch
+-- one of these places says that its request was cancelled
+abbrev pub is_any_cancelled : List (Option Completed) → Bool
+is_any_cancelled places = list_any is_cancelled_at places
+
+-- what the places of a call, from one on, make of what is kept of the number, where none says that it was cancelled
+abbrev pub with_firsts : ℕ → ℕ → List (Option Completed) → ℤ → Option Touch → Option Touch
 with_firsts call place [] x touch = touch
-with_firsts call place (c ∷ done) x touch = if int_eq c.request x then Some (ends_at call place) else with_firsts call (place + 1) done x touch
+with_firsts call place (o ∷ places) x touch = if is_completed_at x o then Some (ends_at call place) else with_firsts call (place + 1) places x touch
 
 -- the call that ends a number, where one does
 abbrev pub end_of : Option Touch → Option End
@@ -75,15 +92,20 @@ abbrev pub is_void_end : Option End → Bool
 is_void_end None = false
 is_void_end (Some e) = e.void
 
--- the requests that a call completes, none where there is no call
-abbrev pub completed_at : Option Entry → List Completed
-completed_at None = []
-completed_at (Some c) = completions c.call c.outs
+-- the places of a call, none where there is no call
+abbrev pub places_at : Option Entry → List (Option Completed)
+places_at None = []
+places_at (Some c) = places_of c.call c.outs
 
--- the completions of a call, from the first on that tells a source of the number
+-- what a place tells of the request x
+abbrev pub told_at_place : List ℕ → ℤ → Option Completed → Option ℕ
+told_at_place members x None = None
+told_at_place members x (Some c) = told_at members x c
+
+-- the completions of a call, from the first place on that tells a source of the number
 abbrev pub tellings_of : List Entry → Option End → List Completed
 tellings_of calls None = []
-tellings_of calls (Some e) = drop e.place (completed_at (slice_get calls e.call))
+tellings_of calls (Some e) = completed_in (drop e.place (places_at (slice_get calls e.call)))
 
 -- the number of a call, where that completes the requests that it touches
 abbrev pub completing : ℕ → Option Entry → Option ℕ
@@ -116,6 +138,10 @@ IsKept given kept touch = (x : ℤ) → given ≡ Some x → touch ≡ kept x
 abbrev pub Notes : {S : Type 0} → List Entry → Step → (old new : IndexMap ℤ Touch S) → Type 0
 Notes calls s old new = (later : List Step) → Follows calls later (get int_eq old) → Follows calls (s ∷ later) (get int_eq new)
 
+-- the number that a place completes, if one, is noted
+abbrev pub NotesEnd : {S : Type 0} → ℕ → ℕ → Option Completed → (old new : IndexMap ℤ Touch S) → Type 0
+NotesEnd call place completed old new = Becomes (λ x touch. if is_completed_at x completed then Some (ends_at call place) else touch) old new
+
 -- call n, which is one step, is noted
 abbrev pub NotesCall : {S : Type 0} → ℕ → Entry → (old new : IndexMap ℤ Touch S) → Type 0
 NotesCall n c old new = (calls : List Entry) → slice_get calls n ≡ Some c → Notes calls (whole n c) old new
@@ -124,8 +150,11 @@ NotesCall n c old new = (calls : List Entry) → slice_get calls n ≡ Some c �
 abbrev pub NotesPart : {S : Type 0} → ℕ → Option ℤ → (old new : IndexMap ℤ Touch S) → Type 0
 NotesPart n given old new = (calls : List Entry) (s : Step) → IsPartOf calls n s → given ≡ given_by s → Notes calls s old new
 
--- The call completes these requests, and does nothing else with a request: it cancels none, and gives no number.
-pub record OnlyCompletes (c : Entry) (done : List Completed) : Type 0 where
-  pub completed : done ≡ completions c.call c.outs
+-- The call cancels no request, and gives no number.
+pub record IsQuiet (c : Entry) : Type 0 where
   pub cancels_none : cancel_of c.call ≡ None
-  pub gives_none : given_of c.call c.outs ≡ None
+  pub gives_none : given_in c ≡ None
+
+-- Call n, which cancels no request and gives no number, is noted.
+abbrev pub NotesQuiet : {S : Type 0} → ℕ → Entry → (old new : IndexMap ℤ Touch S) → Type 0
+NotesQuiet n c old new = IsQuiet c → NotesCall n c old new

@@ -10,10 +10,11 @@ ghost use Rattle.trace_ops.specs.Calls.{Entry};
 ghost use Rattle.trace_ops.specs.Fate.{OfFate};
 ghost use Rattle.trace_ops.specs.Held.{Holds};
 
-use crate::called::Called;
+use crate::called::Calls;
 use crate::completed::push_some;
 use crate::fate::Fate;
 use crate::held::{Held, holds_none, init_of};
+use crate::touched::end_of;
 use indexmap::IndexMap;
 use mpi_model::OpName;
 use std::alloc::{AllocError, Global};
@@ -23,7 +24,7 @@ pub(crate) fn still_active(name: OpName, fate: Option<Fate<'_>>) -> Option<(i64,
     ensures { OfFate fate.entry (λ later posted. result ≡ still_active name later posted) }
 {
     let fate = fate?;
-    if fate.ended {
+    if end_of(fate.touch).is_some() {
         None
     } else {
         Some((fate.request, name))
@@ -44,14 +45,15 @@ fn held_still(held: &Held<'_>, n: u64, given: Option<i64>) -> Option<i64>
 }
 
 /// The numbers that inits hold at the end, by the calls of the inits.
-fn held_of(alloc: Global, held: &Held<'_>, calls: &[Called<'_>]) -> Result<Vec<i64>, AllocError>
+fn held_of(alloc: Global, held: &Held<'_>, calls: &Calls<'_>) -> Result<Vec<i64>, AllocError>
     ensures { IfOk result (λ found. (all : List Entry) → Holds all (get int_eq held.now) → found.items ≡ held_of all 0 calls.now) }
 {
     let mut numbers = Vec::new(alloc);
-    let mut n = 0;
-    while n < calls.len() {
-        push_some(&mut numbers, held_still(held, n as u64, calls[n].given()))?;
-        n += 1;
+    for n in 0..calls.len() {
+        push_some(
+            &mut numbers,
+            held_still(held, n as u64, calls.at(n).given()),
+        )?;
     }
     Ok(numbers)
 }
@@ -107,7 +109,7 @@ pub(crate) fn idle_of(
     alloc: Global,
     held: &Held<'_>,
     active: &[(i64, OpName)],
-    calls: &[Called<'_>],
+    calls: &Calls<'_>,
 ) -> Result<Vec<i64>, AllocError>
     requires { Holds (reverse calls.now) (get int_eq held.now) }
     ensures { IfOk result (λ idle. idle.items ≡ idle_of active.now calls.now) }

@@ -1,68 +1,30 @@
 //! The calls of a rank, as its readable events tell them.
 
-ghost use Rattle.std.specs.Prelude.{◌≡◌, Some, None, if◌then◌else◌, is_some, IfOk, map, slice_get};
+ghost use Rattle.std.specs.Prelude.{◌≡◌, ◌<◌, Some, None, if◌then◌else◌, is_some, length, map, slice_get};
 ghost use Rattle.std.specs.Option.{option_and_then, option_copied, option_map};
 ghost use Rattle.mpi_model.specs.declared.call.Call.TheVariants.{Local};
-ghost use Rattle.trace_ops.specs.Calls.{call_of, calls_of, outs_of};
-ghost use Rattle.trace_ops.specs.Request.{completions, freed_of, given_of, is_completing, is_init};
+ghost use Rattle.trace_ops.specs.Calls.{IsCallAt, call_of, calls_in, outs_of};
+ghost use Rattle.trace_ops.specs.Called.{places_by, plain_called};
+ghost use Rattle.trace_ops.specs.Request.{freed_of, given_in, given_of, is_completing, is_init};
 ghost use Rattle.trace_ops.specs.Trust.{cancel_of};
 
-use crate::completed::{Completed, completions, given_of};
+use crate::completed::{Completed, given_of, place_at, place_count};
 use crate::held::{is_init, is_start};
 use mpi_model::{Call, Event, Outs};
-use std::alloc::{AllocError, Global};
 use std::marker::Model;
 
-/// A call that was entered, with its outcome, where it has returned, and what that completes.
-#[derive(Debug, Drop)]
+/// A call that was entered, with its outcome, where it has returned.
+#[derive(Clone, Copy, Debug)]
 pub(crate) struct Called<'a> {
-    call: &'a Call,
-    outs: Option<&'a Outs>,
-    completed: Vec<Completed>,
-}
-
-impl<'a> Model for Called<'a> {
-    ghost use Rattle.std.specs.Prelude.{◌≡◌};
-    ghost use Rattle.std.specs.Option.{option_copied};
-    ghost use Rattle.mpi_model.specs.declared.call.Call.TheVariants.{Local};
-    ghost use Rattle.trace_ops.specs.Calls.{Entry};
-    ghost use Rattle.trace_ops.specs.Request.{completions};
-
-    ghost Value = { Entry };
-
-    ghost view = { λ c. record { call = c.call.now; outs = option_copied c.outs } };
-
-    ghost invariant = { λ c. c.completed.items ≡ completions c.call.now (option_copied c.outs) };
+    pub call: &'a Call,
+    pub outs: Option<&'a Outs>,
 }
 
 impl<'a> Called<'a> {
-    fn new(alloc: Global, call: &'a Call, outs: Option<&'a Outs>) -> Result<Called<'a>, AllocError>
-        ensures { IfOk result (λ c. c ≡ record { call = call.now; outs = option_copied outs.entry }) }
-    {
-        let completed = completions(alloc, call, outs)?;
-        Ok(Called {
-            call,
-            outs,
-            completed,
-        })
-    }
-
-    pub fn call(&self) -> &Call
-        ensures { result.now ≡ self.now.call }
-    {
-        self.call
-    }
-
-    pub fn outs(&self) -> Option<&Outs>
-        ensures { option_copied result ≡ self.now.outs }
-    {
-        self.outs
-    }
-
     /// The number that a part of a Start or Startall gives anew: that of its init, once the call has returned, whatever
     /// its outcome.
     pub fn restarts(&self, request: i64) -> Option<i64>
-        ensures { result ≡ (if is_some self.now.outs then Some request else None) }
+        ensures { result ≡ (if is_some (option_copied self.now.outs) then Some request else None) }
     {
         match self.outs {
             Some(_) => Some(request),
@@ -73,7 +35,7 @@ impl<'a> Called<'a> {
     /// The request number that it gave: to what it started, or as an init.
     #[inline(always)]
     pub fn given(&self) -> Option<i64>
-        ensures { result ≡ given_of self.now.call self.now.outs }
+        ensures { result ≡ given_of self.now.call.now (option_copied self.now.outs) }
     {
         given_of(self.call, self.outs)
     }
@@ -81,7 +43,7 @@ impl<'a> Called<'a> {
     /// The request number that it posted: an init posts none.
     #[inline(always)]
     pub fn posted(&self) -> Option<i64>
-        ensures { result ≡ (if is_init self.now.call then None else given_of self.now.call self.now.outs) }
+        ensures { result ≡ (if is_init self.now.call.now then None else given_in (plain_called self.now)) }
     {
         if is_init(self.call) {
             None
@@ -92,7 +54,7 @@ impl<'a> Called<'a> {
 
     /// The request number that it freed.
     pub fn freed(&self) -> Option<i64>
-        ensures { result ≡ freed_of self.now.call self.now.outs }
+        ensures { result ≡ freed_of self.now.call.now (option_copied self.now.outs) }
     {
         match (self.call, self.outs) {
             (Call::Free(request), Some(_)) => Some(*request),
@@ -102,7 +64,7 @@ impl<'a> Called<'a> {
 
     /// The request number that it asks to be cancelled.
     pub fn cancels(&self) -> Option<i64>
-        ensures { result ≡ cancel_of self.now.call }
+        ensures { result ≡ cancel_of self.now.call.now }
     {
         match self.call {
             Call::Cancel(request) => Some(*request),
@@ -113,20 +75,31 @@ impl<'a> Called<'a> {
     /// Whether its outcome completes the requests that it touches: it gives no number, starts none anew, and frees none.
     #[inline(always)]
     pub fn is_completing(&self) -> bool
-        ensures { result ≡ is_completing self.now }
+        ensures { result ≡ is_completing (plain_called self.now) }
     {
         self.given().is_none() && !is_start(self.call) && !matches!(self.call, Call::Free(_))
     }
 
-    /// The requests that it completed.
-    pub fn completed(&self) -> &[Completed]
-        ensures { result.now ≡ completions self.now.call self.now.outs }
+    /// How many places its outcome has, each of which may complete a request.
+    #[inline(always)]
+    pub fn places(&self) -> usize
+        ensures { result ≡ length (places_by self.now) }
     {
-        &self.completed
+        place_count(self.call, self.outs)
+    }
+
+    /// The request that it completed at a place of its outcome.
+    #[inline(always)]
+    pub fn completed_at(&self, place: usize) -> Option<Completed>
+        requires { place < length (places_by self.now) }
+        ensures { slice_get (places_by self.now) place ≡ Some result }
+    {
+        place_at(self.call, self.outs, place)
     }
 }
 
 /// The call of an Enter; `local` stands where none was entered.
+#[inline(always)]
 fn call_of<'a>(event: &'a Event, local: &'a Call) -> &'a Call
     requires { local.now ≡ Local }
     ensures { result.now ≡ call_of event.now }
@@ -138,6 +111,7 @@ fn call_of<'a>(event: &'a Event, local: &'a Call) -> &'a Call
 }
 
 /// The outcome of a Return.
+#[inline(always)]
 fn outs_of(event: &Event) -> Option<&Outs>
     ensures { option_copied result ≡ outs_of event.now }
 {
@@ -147,33 +121,84 @@ fn outs_of(event: &Event) -> Option<&Outs>
     }
 }
 
-/// The outcome of the Return at a place, where there is one.
-fn outs_at<'a>(events: &[&'a Event], place: usize) -> Option<&'a Outs>
+/// The outcome of the Return at a place, where there is one before the end.
+#[inline(always)]
+fn outs_at<'a>(events: &[&'a Event], place: usize, end: usize) -> Option<&'a Outs>
+    requires { end ≡ length events.now }
     ensures { option_copied result ≡ option_and_then outs_of (option_map (λ e. e.now) (slice_get events.now place)) }
 {
-    if place < events.len() {
+    if place < end {
         outs_of(events[place])
     } else {
         None
     }
 }
 
-/// The calls of a rank's readable events: call `n` has its Enter at `2n` and its Return behind it.
-/// `local` stands where no call was entered.
-pub(crate) fn calls_of<'a>(
-    alloc: Global,
-    events: &[&'a Event],
-    local: &'a Call,
-) -> Result<Vec<Called<'a>>, AllocError>
-    requires { local.now ≡ Local }
-    ensures { IfOk result (λ calls. calls.items ≡ calls_of (map (λ e. e.now) events.now)) }
+/// How many calls these events tell: the last may have no Return.
+#[inline(always)]
+fn count_in(events: &[&Event]) -> usize
+    ensures { result ≡ length (calls_in events.now) }
 {
-    let mut calls = Vec::with_capacity(alloc, events.len() / 2 + 1)?;
-    let mut place = 0;
-    while place < events.len() {
-        let call = call_of(events[place], local);
-        calls.push(Called::new(alloc, call, outs_at(events, place + 1))?)?;
-        place += 2;
+    events.len() / 2 + events.len() % 2
+}
+
+/// The call at a place.
+#[inline(always)]
+fn called_in<'a>(events: &[&'a Event], local: &'a Call, n: usize) -> Called<'a>
+    requires place { n < length (calls_in events.now) }
+    requires local { local.now ≡ Local }
+    ensures { IsCallAt (calls_in events.now) n (plain_called result) }
+{
+    let end = events.len();
+    let place = 2 * n;
+    let call = call_of(events[place], local);
+    let outs = outs_at(events, place + 1, end);
+    Called { call, outs }
+}
+
+/// The calls of a rank's readable events, which stay where they are: call `n` has its Enter at `2n` and its Return
+/// behind it.
+#[derive(Drop)]
+pub(crate) struct Calls<'a> {
+    events: &'a [&'a Event],
+    /// It stands where no call was entered.
+    local: &'a Call,
+}
+
+impl<'a> Model for Calls<'a> {
+    ghost use Rattle.std.specs.Prelude.{◌≡◌, List};
+    ghost use Rattle.mpi_model.specs.declared.call.Call.TheVariants.{Local};
+    ghost use Rattle.trace_ops.specs.Calls.{Entry, calls_in};
+
+    ghost Value = { List Entry };
+
+    ghost view = { λ c. calls_in c.events.now };
+
+    ghost invariant = { λ c. c.local.now ≡ Local };
+}
+
+impl<'a> Calls<'a> {
+    pub fn new(events: &'a [&'a Event], local: &'a Call) -> Calls<'a>
+        requires { local.now ≡ Local }
+        ensures { result ≡ calls_in events.now }
+    {
+        Calls { events, local }
     }
-    Ok(calls)
+
+    /// How many calls there are: the last may have no Return.
+    #[inline(always)]
+    pub fn len(&self) -> usize
+        ensures { result ≡ length self.now }
+    {
+        count_in(self.events)
+    }
+
+    /// The call at a place.
+    #[inline(always)]
+    pub fn at(&self, n: usize) -> Called<'a>
+        requires { n < length self.now }
+        ensures { IsCallAt self.now n (plain_called result) }
+    {
+        called_in(self.events, self.local, n)
+    }
 }

@@ -1,12 +1,14 @@
 //! Requests that an outcome completes.
 
-ghost use Rattle.std.specs.Prelude.{◌≡◌, ◌++◌, ◌∷◌, [], IfOk, OnOk};
-ghost use Rattle.std.specs.List.{cons_option, filter_map};
-ghost use Rattle.std.specs.Option.{option_copied};
-ghost use Rattle.trace_ops.specs.Request.{all_of, any_of, completes, completions, element_of, given_of, indexed, number_for};
+ghost use Rattle.std.specs.Prelude.{◌≡◌, ◌++◌, ◌<◌, [], Some, length, map, slice_get, OnOk};
+ghost use Rattle.std.specs.List.{cons_option};
+ghost use Rattle.std.specs.Option.{option_copied, unwrap_or};
+ghost use Rattle.mpi_model.specs.declared.told.Told.TheVariants.{Nothing};
+ghost use Rattle.trace_ops.specs.Places.{all_places, places_of};
+ghost use Rattle.trace_ops.specs.Request.{any_of, completes, element_of, given_of, indexed, number_for};
 
 use mpi_model::{Call, Element, NULL_REQUEST, Outs, Told};
-use std::alloc::{AllocError, Global};
+use std::alloc::AllocError;
 
 /// A request that an outcome completes, and what the outcome tells of it.
 #[derive(Clone, Copy, Debug, PartialEq, Eq)]
@@ -42,35 +44,6 @@ pub(crate) fn given_of(call: &Call, outs: Option<&Outs>) -> Option<i64>
     }
 }
 
-/// The requests that a returned call completes, in the order of its outcome.
-pub(crate) fn completions(
-    alloc: Global,
-    call: &Call,
-    outs: Option<&Outs>,
-) -> Result<Vec<Completed>, AllocError>
-    ensures { IfOk result (λ done. done.items ≡ completions call.now (option_copied outs.entry)) }
-{
-    match (call, outs) {
-        (Call::Wait(request), Some(Outs::Status(told))) => one_of(alloc, *request, *told),
-        (Call::Test(request), Some(Outs::Flag(done, told))) => {
-            if *done {
-                one_of(alloc, *request, *told)
-            } else {
-                Ok(Vec::new(alloc))
-            }
-        }
-        (Call::Waitall(requests) | Call::Testall(requests), Some(Outs::Statuses(tells))) => {
-            all_of(alloc, requests.as_slice(), tells.as_slice())
-        }
-        (Call::Waitany(requests) | Call::Testany(requests), Some(Outs::Index(position, told))) =>
-            any_of(alloc, requests.as_slice(), *position, *told),
-        (Call::Waitsome(requests) | Call::Testsome(requests), Some(Outs::Several(elements))) =>
-            several_of(alloc, requests.as_slice(), elements.as_slice()),
-        (Call::Free(request), Some(_)) => one_of(alloc, *request, Told::Nothing),
-        _ => Ok(Vec::new(alloc)),
-    }
-}
-
 /// A request that is completed, with what is told of it.
 fn completes(request: i64, told: Told) -> Completed
     ensures { result ≡ completes request told }
@@ -78,33 +51,32 @@ fn completes(request: i64, told: Told) -> Completed
     Completed { request, told }
 }
 
-/// One request that is completed.
-fn one_of(alloc: Global, request: i64, told: Told) -> Result<Vec<Completed>, AllocError>
-    ensures { IfOk result (λ done. done.items ≡ completes request told ∷ []) }
+/// What the entry at a place tells: a missing one tells nothing.
+fn entry_at(tells: &[Told], place: usize) -> Told
+    ensures { result ≡ unwrap_or (slice_get tells.now place) Nothing }
 {
-    let mut done = Vec::new(alloc);
-    done.push(completes(request, told))?;
-    Ok(done)
+    match tells.get(place) {
+        Some(told) => *told,
+        None => Told::Nothing,
+    }
 }
 
-/// All of the list, each with the entry at its own place.
-fn all_of(alloc: Global, requests: &[i64], tells: &[Told]) -> Result<Vec<Completed>, AllocError>
-    ensures { IfOk result (λ done. done.items ≡ all_of requests.now tells.now) }
+/// The request at a place of a list, with the entry at its own place.
+fn each_at(requests: &[i64], tells: &[Told], place: usize) -> Option<Completed>
+    requires { place < length (all_places requests.now tells.now) }
+    ensures { slice_get (all_places requests.now tells.now) place ≡ Some result }
 {
-    let mut done = Vec::with_capacity(alloc, requests.len())?;
-    let mut place = 0;
-    for request in requests {
-        let told = match tells.get(place) {
-            Some(told) => *told,
-            None => Told::Nothing,
-        };
-        done.push(Completed {
-            request: *request,
-            told,
-        })?;
-        place += 1;
-    }
-    Ok(done)
+    let told = entry_at(tells, place);
+    Some(completes(requests[place], told))
+}
+
+/// The request that the element at a place names.
+fn indexed_at(requests: &[i64], elements: &[Element], place: usize) -> Option<Completed>
+    requires { place < length (map (element_of requests.now) elements.now) }
+    ensures { slice_get (map (element_of requests.now) elements.now) place ≡ Some result }
+{
+    let element = elements[place];
+    indexed(requests, element.position, element.told)
 }
 
 /// The request at a position of the call's list.
@@ -116,34 +88,65 @@ fn indexed(requests: &[i64], position: u32, told: Told) -> Option<Completed>
 }
 
 /// The request of a Waitany or Testany, where its outcome has an index.
-fn any_of(
-    alloc: Global,
-    requests: &[i64],
-    position: Option<u32>,
-    told: Told,
-) -> Result<Vec<Completed>, AllocError>
-    ensures { IfOk result (λ done. done.items ≡ any_of requests.now position told) }
+fn any_of(requests: &[i64], position: Option<u32>, told: Told) -> Option<Completed>
+    ensures { cons_option result [] ≡ any_of requests.now position told }
 {
-    let mut done = Vec::new(alloc);
-    if let Some(position) = position {
-        push_some(&mut done, indexed(requests, position, told))?;
-    }
-    Ok(done)
+    indexed(requests, position?, told)
 }
 
-/// The indexed ones of the list, in the order of the outcome.
-fn several_of(
-    alloc: Global,
-    requests: &[i64],
-    elements: &[Element],
-) -> Result<Vec<Completed>, AllocError>
-    ensures { IfOk result (λ done. done.items ≡ filter_map (element_of requests.now) elements.now) }
+/// How many of a request that may be completed are.
+fn count_of(completed: Option<Completed>) -> usize
+    ensures { result ≡ length (map (λ c. Some c) (cons_option completed [])) }
 {
-    let mut done = Vec::new(alloc);
-    for element in elements {
-        push_some(&mut done, indexed(requests, element.position, element.told))?;
+    match completed {
+        Some(_) => 1,
+        None => 0,
     }
-    Ok(done)
+}
+
+/// How many places the outcome of a returned call has, each of which may complete a request.
+#[tactic(auto, using(crate::proofs::Placing::each_count, std::proofs::lemmas::Grind::common_steps))]
+#[inline(always)]
+pub(crate) fn place_count(call: &Call, outs: Option<&Outs>) -> usize
+    ensures { result ≡ length (places_of call.now (option_copied outs.entry)) }
+{
+    match (call, outs) {
+        (Call::Wait(_), Some(Outs::Status(_))) => 1,
+        (Call::Test(_), Some(Outs::Flag(done, _))) => { if *done { 1 } else { 0 } }
+        (Call::Waitall(requests) | Call::Testall(requests), Some(Outs::Statuses(_))) => requests
+            .as_slice()
+            .len(),
+        (Call::Waitany(requests) | Call::Testany(requests), Some(Outs::Index(position, told))) =>
+            count_of(any_of(requests.as_slice(), *position, *told)),
+        (Call::Waitsome(_) | Call::Testsome(_), Some(Outs::Several(elements))) => elements
+            .as_slice()
+            .len(),
+        (Call::Free(_), Some(_)) => 1,
+        _ => 0,
+    }
+}
+
+/// The request that a returned call completes at a place of its outcome.
+#[inline(always)]
+pub(crate) fn place_at(call: &Call, outs: Option<&Outs>, place: usize) -> Option<Completed>
+    requires { place < length (places_of call.now (option_copied outs)) }
+    ensures { slice_get (places_of call.now (option_copied outs.entry)) place ≡ Some result }
+{
+    match (call, outs) {
+        (Call::Wait(request), Some(Outs::Status(told))) => Some(completes(*request, *told)),
+        (Call::Test(request), Some(Outs::Flag(_, told))) => Some(completes(*request, *told)),
+        (Call::Waitall(requests) | Call::Testall(requests), Some(Outs::Statuses(tells))) => each_at(
+            requests.as_slice(),
+            tells.as_slice(),
+            place,
+        ),
+        (Call::Waitany(requests) | Call::Testany(requests), Some(Outs::Index(position, told))) =>
+            any_of(requests.as_slice(), *position, *told),
+        (Call::Waitsome(requests) | Call::Testsome(requests), Some(Outs::Several(elements))) =>
+            indexed_at(requests.as_slice(), elements.as_slice(), place),
+        (Call::Free(request), Some(_)) => Some(completes(*request, Told::Nothing)),
+        _ => None,
+    }
 }
 
 /// Adds the item at the end, where there is one.

@@ -1,35 +1,32 @@
 //! What becomes of a request, by the calls behind the one that posted it.
 
 ghost use Rattle.std.specs.Prelude.{◌≡◌, drop, slice_get};
+ghost use Rattle.std.specs.Option.{option_map};
+ghost use Rattle.trace_ops.specs.Called.{places_by, plain_called};
 ghost use Rattle.trace_ops.specs.Ended.{ended_of_post};
-ghost use Rattle.trace_ops.specs.Fate.{IsFateOf, OfFate, TellsFate};
-ghost use Rattle.trace_ops.specs.Source.{source_in, told_at, told_in, told_of_post};
-ghost use Rattle.trace_ops.specs.Touched.{IsKept, OfFollowed, completed_at, ended_at, is_marked, is_void_end, tellings_of};
+ghost use Rattle.trace_ops.specs.Fate.{IsFateOf, OfFate};
+ghost use Rattle.trace_ops.specs.Places.{completed_in};
+ghost use Rattle.trace_ops.specs.Source.{source_in, told_in, told_of_post};
+ghost use Rattle.trace_ops.specs.Touched.{IsKept, OfFollowed, ended_at, is_marked, is_void_end, tellings_of, told_at_place};
 
-use crate::called::Called;
+use crate::called::{Called, Calls};
 use crate::completed::Completed;
 use crate::touched::{End, Touch, end_of};
 
-/// What the calls behind a post tell of the request that it posted.
-#[derive(Clone, Copy, Debug)]
+/// What the calls behind a post tell of the request that it posted: what is kept of its number, of these calls. It is
+/// read where it is asked for.
+#[derive(Clone, Copy)]
 pub(crate) struct Fate<'a> {
     pub request: i64,
-    /// Whether one of them completes it, frees it or posts its number anew.
-    pub ended: bool,
-    /// The call whose outcome completes it.
-    pub by: Option<u64>,
-    /// Whether a Cancel names it before that.
-    pub cancelled: bool,
-    /// Whether its outcome says that it was cancelled.
-    pub void: bool,
-    /// The completions of its outcome, from the first on that may tell its source.
-    pub tellings: &'a [Completed],
+    pub touch: Option<Touch>,
+    pub calls: &'a Calls<'a>,
 }
 
 /// What a place of an outcome tells of the request.
-fn told_at(members: &[u32], x: i64, completed: &Completed) -> Option<u32>
-    ensures { result ≡ told_at members.now x completed.now }
+fn told_at(members: &[u32], x: i64, completed: Option<Completed>) -> Option<u32>
+    ensures { result ≡ told_at_place members.now x completed }
 {
+    let completed = completed?;
     if completed.request == x {
         source_in(members, completed.told.rank())
     } else {
@@ -37,15 +34,17 @@ fn told_at(members: &[u32], x: i64, completed: &Completed) -> Option<u32>
     }
 }
 
-/// What the completions tell of the number.
-fn told_in(members: &[u32], x: i64, done: &[Completed]) -> Option<u32>
-    ensures { result ≡ told_in members.now x done.now }
+/// What the completions from a place on tell of the number.
+fn told_in(members: &[u32], x: i64, called: &Called<'_>, first: usize) -> Option<u32>
+    ensures { result ≡ told_in members.now x (completed_in (drop first (places_by called.now))) }
 {
-    for completed in done {
-        let told = told_at(members, x, completed);
+    let mut place = first;
+    while place < called.places() {
+        let told = told_at(members, x, called.completed_at(place));
         if told.is_some() {
             return told;
         }
+        place += 1;
     }
     None
 }
@@ -58,7 +57,7 @@ pub(crate) fn source_in(members: &[u32], told: Option<u32>) -> Option<u32>
 }
 
 /// Whether a later Cancel names the number.
-fn is_marked(touch: Option<Touch>) -> bool
+pub(crate) fn is_marked(touch: Option<Touch>) -> bool
     ensures { result ≡ is_marked touch }
 {
     match touch {
@@ -68,7 +67,7 @@ fn is_marked(touch: Option<Touch>) -> bool
 }
 
 /// Whether a status says that the request was cancelled.
-fn is_void_end(end: Option<End>) -> bool
+pub(crate) fn is_void_end(end: Option<End>) -> bool
     ensures { result ≡ is_void_end end }
 {
     match end {
@@ -77,64 +76,38 @@ fn is_void_end(end: Option<End>) -> bool
     }
 }
 
-/// The requests that a call completes, none where there is no call.
-fn completed_at<'a>(calls: &'a [Called<'_>], call: usize) -> &'a [Completed]
-    ensures { result.now ≡ completed_at (slice_get calls.now call) }
-{
-    if call < calls.len() {
-        calls[call].completed()
-    } else {
-        &[]
-    }
-}
-
-/// The completions from a place on.
-fn tail_of(done: &[Completed], place: usize) -> &[Completed]
-    ensures { result.now ≡ drop place done.now }
-{
-    if place < done.len() {
-        &done[place..]
-    } else {
-        &[]
-    }
-}
-
-/// The completions of a call, from the first on that tells a source of the number.
-fn tellings_of<'a>(calls: &'a [Called<'_>], end: Option<End>) -> &'a [Completed]
-    ensures { result.now ≡ tellings_of calls.now end }
-{
-    match end {
-        Some(end) => tail_of(completed_at(calls, end.call), end.place),
-        None => &[],
-    }
-}
-
-/// The call whose outcome completes a request, where the call that ends it has one.
+/// The call at a place, where there is one.
 #[inline(always)]
-fn ended_at(calls: &[Called<'_>], end: Option<End>) -> Option<u64>
-    ensures { result ≡ ended_at calls.now end }
+fn called_at<'a>(calls: &'a Calls<'_>, n: usize) -> Option<Called<'a>>
+    ensures { option_map plain_called result ≡ slice_get calls.now n }
 {
-    let end = end?;
-    if end.call < calls.len() && calls[end.call].is_completing() {
-        Some(end.call as u64)
+    if n < calls.len() {
+        Some(calls.at(n))
     } else {
         None
     }
 }
 
-/// What becomes of the request of this number, by what is kept of it of the steps behind its post.
-#[inline(always)]
-fn fate_by<'a>(touch: Option<Touch>, calls: &'a [Called<'_>], request: i64) -> Fate<'a>
-    ensures { OfFollowed calls.now (λ later kept. touch ≡ kept request → TellsFate request later result) }
+/// What the completions of the call that ends a number tell of it.
+fn tellings_of(members: &[u32], x: i64, calls: &Calls<'_>, end: Option<End>) -> Option<u32>
+    ensures { result ≡ told_in members.now x (tellings_of calls.now end) }
 {
-    let end = end_of(touch);
-    Fate {
-        request,
-        ended: end.is_some(),
-        by: ended_at(calls, end),
-        cancelled: is_marked(touch),
-        void: is_void_end(end),
-        tellings: tellings_of(calls, end),
+    let end = end?;
+    let called = called_at(calls, end.call)?;
+    told_in(members, x, &called, end.place)
+}
+
+/// The call whose outcome completes a request, where the call that ends it has one.
+#[inline(always)]
+fn ended_at(calls: &Calls<'_>, end: Option<End>) -> Option<u64>
+    ensures { result ≡ ended_at calls.now end }
+{
+    let end = end?;
+    let called = called_at(calls, end.call)?;
+    if called.is_completing() {
+        Some(end.call as u64)
+    } else {
+        None
     }
 }
 
@@ -142,13 +115,17 @@ fn fate_by<'a>(touch: Option<Touch>, calls: &'a [Called<'_>], request: i64) -> F
 #[inline(always)]
 pub(crate) fn fate_of<'a>(
     touch: Option<Touch>,
-    calls: &'a [Called<'_>],
+    calls: &'a Calls<'_>,
     posted: Option<i64>,
 ) -> Option<Fate<'a>>
     ensures { OfFollowed calls.now (λ later kept. IsKept posted kept touch → IsFateOf posted later result) }
 {
     let request = posted?;
-    Some(fate_by(touch, calls, request))
+    Some(Fate {
+        request,
+        touch,
+        calls,
+    })
 }
 
 /// What is told of the source of an Irecv, by the fate of its request.
@@ -156,12 +133,13 @@ pub(crate) fn told_of_post(members: &[u32], fate: Option<Fate<'_>>) -> Option<u3
     ensures { OfFate fate.entry (λ later posted. result ≡ told_of_post members.now later posted) }
 {
     let fate = fate?;
-    told_in(members, fate.request, fate.tellings)
+    tellings_of(members, fate.request, fate.calls, end_of(fate.touch))
 }
 
 /// The call whose outcome completes an Irecv, by the fate of its request.
 pub(crate) fn ended_of_post(fate: Option<Fate<'_>>) -> Option<u64>
     ensures { OfFate fate.entry (λ later posted. result ≡ ended_of_post later posted) }
 {
-    fate?.by
+    let fate = fate?;
+    ended_at(fate.calls, end_of(fate.touch))
 }

@@ -4,12 +4,13 @@ ghost use Rattle.std.specs.Prelude.{◌≡◌, ◌<◌, ◌++◌, ◌^◌, ℕ, 
 ghost use Rattle.std.specs.Ordering.{int_eq};
 ghost use Rattle.std.specs.Option.{option_map};
 ghost use Rattle.indexmap.specs.IndexMap.{get};
+ghost use Rattle.trace_ops.specs.Called.{plain_called};
 ghost use Rattle.trace_ops.specs.Held.{Holds, HoldsNext, inits_from, plain_init};
 ghost use Rattle.trace_ops.specs.Request.{is_init, is_start, started_by};
 ghost use Rattle.trace_ops.specs.Steps.{IsPartAt, OfListed, as_started};
 ghost use Rattle.trace_ops.specs.Tables.{ChangesAt};
 
-use crate::called::Called;
+use crate::called::{Called, Calls};
 use crate::room::Room;
 use indexmap::IndexMap;
 use mpi_model::Call;
@@ -92,14 +93,14 @@ pub(crate) fn holds_none(held: &Held<'_>) -> bool
 
 /// Whether no init holds a number, and the call is none: then no init holds a number behind it.
 fn still_holds_none(held: &Held<'_>, called: &Called<'_>) -> bool
-    ensures { IsTrue result → (n : ℕ) → HoldsNext n called.now (get int_eq held.now) (get int_eq held.now) }
+    ensures { IsTrue result → (n : ℕ) → HoldsNext n (plain_called called.now) (get int_eq held.now) (get int_eq held.now) }
 {
-    holds_none(held) && !is_init(called.call())
+    holds_none(held) && !is_init(called.call)
 }
 
 /// Goes one call on. Nearly always no init holds a number, and there is nothing to look up.
-fn hold<'a>(held: &mut Held<'a>, n: u64, called: &'a Called<'_>) -> Result<(), AllocError>
-    ensures { OnOk result (HoldsNext n called.now (get int_eq held.old) (get int_eq held.new)) }
+fn hold<'a>(held: &mut Held<'a>, n: u64, called: &Called<'a>) -> Result<(), AllocError>
+    ensures { OnOk result (HoldsNext n (plain_called called.now) (get int_eq held.old) (get int_eq held.new)) }
 {
     if still_holds_none(held, called) {
         Ok(())
@@ -110,15 +111,15 @@ fn hold<'a>(held: &mut Held<'a>, n: u64, called: &'a Called<'_>) -> Result<(), A
 
 /// Goes one call on: the init holds its number, and a number that is given or freed otherwise is held no longer.
 #[inline(never)]
-fn change_hold<'a>(held: &mut Held<'a>, n: u64, called: &'a Called<'_>) -> Result<(), AllocError>
-    ensures { OnOk result (HoldsNext n called.now (get int_eq held.old) (get int_eq held.new)) }
+fn change_hold<'a>(held: &mut Held<'a>, n: u64, called: &Called<'a>) -> Result<(), AllocError>
+    ensures { OnOk result (HoldsNext n (plain_called called.now) (get int_eq held.old) (get int_eq held.new)) }
 {
     match (called.given(), called.freed()) {
         (Some(request), _) => {
-            if is_init(called.call()) {
+            if is_init(called.call) {
                 let init = Init {
                     number: n,
-                    call: called.call(),
+                    call: called.call,
                 };
                 note_init(held, request, init)?;
             } else {
@@ -205,10 +206,7 @@ pub(crate) struct Holding<'a> {
 
 /// What holds the numbers that the calls list. They are gone through once, from the first to the last; it takes memory
 /// for the numbers that are held and for those that are listed.
-pub(crate) fn holding_of<'a>(
-    alloc: Global,
-    calls: &'a [Called<'_>],
-) -> Result<Holding<'a>, AllocError>
+pub(crate) fn holding_of<'a>(alloc: Global, calls: &Calls<'a>) -> Result<Holding<'a>, AllocError>
     ensures listed { IfOk result (λ h. map (option_map plain_init) h.inits.items ≡ inits_from [] calls.now) }
     ensures held { IfOk result (λ h. Holds (reverse calls.now) (get int_eq h.held)) }
 {
@@ -217,11 +215,10 @@ pub(crate) fn holding_of<'a>(
     let mut room = Room::empty();
     let mut n = 0;
     while n < calls.len() {
-        let called = &calls[n];
-        let call = called.call();
-        room.count(call);
-        push_held(&mut inits, &held, started_by(call))?;
-        hold(&mut held, n as u64, called)?;
+        let called = calls.at(n);
+        room.count(called.call);
+        push_held(&mut inits, &held, started_by(called.call))?;
+        hold(&mut held, n as u64, &called)?;
         n += 1;
     }
     Ok(Holding { inits, held, room })

@@ -10,7 +10,8 @@
 //! at most 80.
 //!
 //! - [`entered`], [`state`], [`ops`]: what is told of a rank
-//! - [`completed`], [`called`]: its calls, with the requests that their outcomes complete
+//! - [`completed`], [`called`]: its calls, with the requests that their outcomes complete, read out
+//!   of the events where they are
 //! - [`group`]: the groups that calls name, and the calls that the layout doesn't know
 //! - [`held`]: which inits hold the numbers that calls start: each part of a Startall is a step of
 //!   its own, as each other call is one

@@ -2,9 +2,10 @@
 
 ghost use Rattle.std.specs.Prelude.{◌≡◌, IfOk};
 ghost use Rattle.std.specs.Option.{option_map};
+ghost use Rattle.trace_ops.specs.Called.{plain_called};
 ghost use Rattle.trace_ops.specs.RankState.{is_finalize, is_waiting_call, last_of, may_block, state_after, state_of, waiting_at, waits_in};
 
-use crate::called::Called;
+use crate::called::{Called, Calls};
 use crate::group::is_foreign;
 use crate::state::State;
 use mpi_model::{Call, Layout};
@@ -44,9 +45,9 @@ fn is_waiting_call(layout: &Layout, rank: u32, n: u64, call: &Call) -> bool
 
 /// Whether the call has not returned, and is a waiting call.
 fn waits_in(layout: &Layout, rank: u32, n: u64, called: &Called<'_>) -> bool
-    ensures { result ≡ waits_in layout.now rank n called.now }
+    ensures { result ≡ waits_in layout.now rank n (plain_called called.now) }
 {
-    called.outs().is_none() && is_waiting_call(layout, rank, n, called.call())
+    called.outs.is_none() && is_waiting_call(layout, rank, n, called.call)
 }
 
 fn is_finalize(call: &Call) -> bool
@@ -57,9 +58,9 @@ fn is_finalize(call: &Call) -> bool
 
 /// The state of a rank whose last call is this one.
 fn state_after(layout: &Layout, rank: u32, n: u64, called: &Called<'_>) -> State
-    ensures { result ≡ state_after layout.now rank n called.now }
+    ensures { result ≡ state_after layout.now rank n (plain_called called.now) }
 {
-    if is_finalize(called.call()) {
+    if is_finalize(called.call) {
         State::Ended
     } else if waits_in(layout, rank, n, called) {
         State::Waiting
@@ -69,35 +70,32 @@ fn state_after(layout: &Layout, rank: u32, n: u64, called: &Called<'_>) -> State
 }
 
 /// The last call, with its number.
-fn last_of<'a, 'b>(calls: &'a [Called<'b>]) -> Option<(u64, &'a Called<'b>)>
-    ensures { option_map (λ last. (last.0, last.1.now)) result ≡ last_of calls.now }
+fn last_of<'a>(calls: &Calls<'a>) -> Option<(u64, Called<'a>)>
+    ensures { option_map (λ last. (last.0, plain_called last.1)) result ≡ last_of calls.now }
 {
     let n = calls.len().checked_sub(1)?;
-    Some((n as u64, calls.get(n)?))
+    Some((n as u64, calls.at(n)))
 }
 
 /// The state of a rank with these calls.
-pub(crate) fn state_of(layout: &Layout, rank: u32, beyond: bool, calls: &[Called<'_>]) -> State
+pub(crate) fn state_of(layout: &Layout, rank: u32, beyond: bool, calls: &Calls<'_>) -> State
     ensures { result ≡ state_of layout.now rank beyond calls.now }
 {
     if beyond {
         return State::Free;
     }
     match last_of(calls) {
-        Some((n, called)) => state_after(layout, rank, n, called),
+        Some((n, called)) => state_after(layout, rank, n, &called),
         None => State::Free,
     }
 }
 
 /// A copy of the call in which a rank with this state waits, with its number.
-pub(crate) fn waiting_of(
-    state: State,
-    calls: &[Called<'_>],
-) -> Result<Option<(u64, Call)>, AllocError>
+pub(crate) fn waiting_of(state: State, calls: &Calls<'_>) -> Result<Option<(u64, Call)>, AllocError>
     ensures { IfOk result (λ w. w ≡ waiting_at state (last_of calls.now)) }
 {
     match (state, last_of(calls)) {
-        (State::Waiting, Some((n, called))) => Ok(Some((n, called.call().try_clone()?))),
+        (State::Waiting, Some((n, called))) => Ok(Some((n, called.call.try_clone()?))),
         _ => Ok(None),
     }
 }

@@ -1,14 +1,13 @@
 //! Which request numbers the calls behind touch or cancel, and what they tell of them.
 
-ghost use Rattle.std.specs.Prelude.{◌≡◌, ◌<◌, ℤ, Some, length, IfOk, OnOk};
+ghost use Rattle.std.specs.Prelude.{◌≡◌, Some, IfOk, OnOk};
 ghost use Rattle.std.specs.Option.{option_map};
 ghost use Rattle.indexmap.specs.IndexMap.{get};
 ghost use Rattle.std.specs.Ordering.{int_eq};
-ghost use Rattle.trace_ops.specs.Calls.{Entry, OfCallAt};
-ghost use Rattle.trace_ops.specs.Request.{given_of};
-ghost use Rattle.trace_ops.specs.Steps.{whole};
-ghost use Rattle.trace_ops.specs.Tables.{ChangesAt};
-ghost use Rattle.trace_ops.specs.Touched.{IsKept, Notes, NotesCall, NotesPart, OnlyCompletes, end_of, ends_at, is_any_cancelled, marked, voided, with_ends, with_firsts, with_telling, with_tellings};
+ghost use Rattle.trace_ops.specs.Called.{places_by, plain_called};
+ghost use Rattle.trace_ops.specs.Request.{given_in};
+ghost use Rattle.trace_ops.specs.Tables.{Becomes, ChangesAt};
+ghost use Rattle.trace_ops.specs.Touched.{IsKept, NotesCall, NotesEnd, NotesPart, NotesQuiet, end_of, ends_at, is_any_cancelled, is_cancelled_at, marked, voided, with_ends, with_firsts, with_place, with_tellings};
 
 use crate::called::Called;
 use crate::completed::Completed;
@@ -64,90 +63,119 @@ fn ends_at(call: usize, place: usize) -> Touch
     }
 }
 
-/// Notes all numbers that the call completes, as if it told nothing.
-fn note_completed(touched: &mut Touched, call: usize, done: &[Completed]) -> Result<(), AllocError>
-    ensures { OnOk result ((x : ℤ) → get int_eq touched.new x ≡ with_ends call done.now x (get int_eq touched.old x)) }
+/// Notes the number that a place of the call completes.
+fn note_end(
+    touched: &mut Touched,
+    call: usize,
+    place: usize,
+    completed: Option<Completed>,
+) -> Result<(), AllocError>
+    ensures { OnOk result (NotesEnd call place completed touched.old touched.new) }
 {
-    for completed in done {
-        touched.insert(completed.request, ends_at(call, done.len()))?;
+    if let Some(completed) = completed {
+        touched.insert(completed.request, ends_at(call, place))?;
+    }
+    Ok(())
+}
+
+/// Notes all numbers that the call completes, as if it told nothing.
+fn note_completed(touched: &mut Touched, call: usize, called: &Called<'_>) -> Result<(), AllocError>
+    ensures { OnOk result (Becomes (with_ends call (places_by called.now)) touched.old touched.new) }
+{
+    let count = called.places();
+    let mut place = count;
+    while place > 0 {
+        place -= 1;
+        note_end(touched, call, count, called.completed_at(place))?;
     }
     Ok(())
 }
 
 /// Notes for each number what the completions tell of it: the last of them first, so that at the
 /// end the first one decides.
-fn note_tellings(touched: &mut Touched, call: usize, done: &[Completed]) -> Result<(), AllocError>
-    ensures { OnOk result ((x : ℤ) → get int_eq touched.new x ≡ with_tellings call 0 done.now x (get int_eq touched.old x)) }
+fn note_tellings(touched: &mut Touched, call: usize, called: &Called<'_>) -> Result<(), AllocError>
+    ensures { OnOk result (Becomes (with_tellings call 0 (places_by called.now)) touched.old touched.new) }
 {
-    let mut place = done.len();
+    let mut place = called.places();
     while place > 0 {
         place -= 1;
-        note_telling(touched, call, place, &done[place])?;
+        note_telling(touched, call, place, called.completed_at(place))?;
     }
     Ok(())
 }
 
-/// Whether one of the completions says that its request was cancelled.
-fn is_any_cancelled(done: &[Completed]) -> bool
-    ensures { result ≡ is_any_cancelled done.now }
+/// Whether the place says that its request was cancelled.
+fn is_cancelled_at(completed: Option<Completed>) -> bool
+    ensures { result ≡ is_cancelled_at completed }
 {
-    for completed in done {
-        if matches!(completed.told, Told::Cancelled) {
+    match completed {
+        Some(completed) => matches!(completed.told, Told::Cancelled),
+        None => false,
+    }
+}
+
+/// Whether one of the completions says that its request was cancelled.
+#[inline(always)]
+fn is_any_cancelled(called: &Called<'_>) -> bool
+    ensures { result ≡ is_any_cancelled (places_by called.now) }
+{
+    for place in 0..called.places() {
+        if is_cancelled_at(called.completed_at(place)) {
             return true;
         }
     }
     false
 }
 
-/// Notes the number that the completion at a place completes.
-fn note_first(
-    touched: &mut Touched,
-    call: usize,
-    place: usize,
-    completed: &Completed,
-) -> Result<(), AllocError>
-    ensures { OnOk result (ChangesAt completed.now.request (λ touch. Some (ends_at call place)) touched.old touched.new) }
+/// Notes for each number its first completion: the last of them first, so that at the end the first one stays.
+#[inline(always)]
+fn note_firsts(touched: &mut Touched, call: usize, called: &Called<'_>) -> Result<(), AllocError>
+    ensures { OnOk result (Becomes (with_firsts call 0 (places_by called.now)) touched.old touched.new) }
 {
-    touched.insert(completed.request, ends_at(call, place))?;
+    let mut place = called.places();
+    while place > 0 {
+        place -= 1;
+        note_end(touched, call, place, called.completed_at(place))?;
+    }
     Ok(())
 }
 
-/// Notes for each number its first completion: the last of them first, so that at the end the first one stays.
-fn note_firsts(touched: &mut Touched, call: usize, done: &[Completed]) -> Result<(), AllocError>
-    ensures { OnOk result ((x : ℤ) → get int_eq touched.new x ≡ with_firsts call 0 done.now x (get int_eq touched.old x)) }
+/// Notes first what the call completes, and then what its completions tell.
+#[inline(never)]
+fn note_cancelled(touched: &mut Touched, n: usize, called: &Called<'_>) -> Result<(), AllocError>
+    ensures { OnOk result (NotesQuiet n (plain_called called.now) touched.old touched.new) }
 {
-    let mut place = done.len();
-    while place > 0 {
-        place -= 1;
-        note_first(touched, call, place, &done[place])?;
-    }
+    note_completed(touched, n, called)?;
+    note_tellings(touched, n, called)?;
     Ok(())
 }
 
 /// Goes one step on to the front: a call that gives no number and cancels none. Where none of its completions says that
 /// its request was cancelled, each is noted once.
-fn note_done(touched: &mut Touched, n: usize, done: &[Completed]) -> Result<(), AllocError>
-    ensures { OnOk result ((c : Entry) → OnlyCompletes c done.now → NotesCall n c touched.old touched.new) }
+#[inline(always)]
+fn note_done(touched: &mut Touched, n: usize, called: &Called<'_>) -> Result<(), AllocError>
+    ensures { OnOk result (NotesQuiet n (plain_called called.now) touched.old touched.new) }
 {
-    if is_any_cancelled(done) {
-        note_completed(touched, n, done)?;
-        note_tellings(touched, n, done)?;
-        Ok(())
+    if is_any_cancelled(called) {
+        note_cancelled(touched, n, called)
     } else {
-        note_firsts(touched, n, done)?;
+        note_firsts(touched, n, called)?;
         Ok(())
     }
 }
 
-/// Notes what the completion tells.
+/// Notes what the place tells.
 fn note_telling(
     touched: &mut Touched,
     call: usize,
     place: usize,
-    completed: &Completed,
+    completed: Option<Completed>,
 ) -> Result<(), AllocError>
-    ensures { OnOk result ((x : ℤ) → get int_eq touched.new x ≡ with_telling call place x completed.now (get int_eq touched.old x)) }
+    ensures { OnOk result (Becomes (λ x touch. with_place call place x completed touch) touched.old touched.new) }
 {
+    let Some(completed) = completed else {
+        return Ok(());
+    };
     match completed.told {
         Told::Nothing => {}
         Told::Source(_) => {
@@ -210,14 +238,12 @@ fn note_cancel(touched: &mut Touched, request: i64) -> Result<(), AllocError>
 #[inline(always)]
 pub(crate) fn note(
     touched: &mut Touched,
-    calls: &[Called<'_>],
     n: usize,
+    called: &Called<'_>,
 ) -> Result<Option<Touch>, AllocError>
-    requires { n < length calls.now }
-    ensures follows { OnOk result (OfCallAt n calls.now (λ c. Notes calls.now (whole n c) touched.old touched.new)) }
-    ensures kept { IfOk result (λ touch. OfCallAt n calls.now (λ c. IsKept (given_of c.call c.outs) (get int_eq touched.old) touch)) }
+    ensures follows { OnOk result (NotesCall n (plain_called called.now) touched.old touched.new) }
+    ensures kept { IfOk result (IsKept (given_in (plain_called called.now)) (get int_eq touched.old)) }
 {
-    let called = &calls[n];
     match (called.cancels(), called.given()) {
         (Some(request), _) => {
             note_cancel(touched, request)?;
@@ -228,7 +254,7 @@ pub(crate) fn note(
             Ok(touch)
         }
         (None, None) => {
-            note_done(touched, n, called.completed())?;
+            note_done(touched, n, called)?;
             Ok(None)
         }
     }

@@ -4,7 +4,8 @@ ghost use Rattle.std.specs.Prelude.{◌≡◌};
 ghost use Rattle.trace_ops.specs.Fate.{OfFate};
 ghost use Rattle.trace_ops.specs.Trust.{cancelled_with, gives_back, gives_back_with, is_cancelled_post, trust_by, trust_of_post, trust_with};
 
-use crate::fate::Fate;
+use crate::fate::{Fate, is_marked, is_void_end};
+use crate::touched::end_of;
 use mpi_model::{Call, OpName, Trust};
 
 /// The trust by whether a Cancel names the request, its outcome says that it was cancelled, and a source is told.
@@ -24,7 +25,10 @@ pub(crate) fn trust_of_post(fate: Option<Fate<'_>>, told: bool) -> Trust
     ensures { OfFate fate.entry (λ later posted. result ≡ trust_of_post later posted told) }
 {
     match fate {
-        Some(fate) => trust_with(fate.cancelled, fate.void, told),
+        Some(fate) => {
+            let void = is_void_end(end_of(fate.touch));
+            trust_with(is_marked(fate.touch), void, told)
+        }
         None => Trust::Sure,
     }
 }
@@ -34,7 +38,7 @@ fn is_cancelled_post(fate: Option<Fate<'_>>) -> bool
     ensures { OfFate fate.entry (λ later posted. result ≡ is_cancelled_post posted later) }
 {
     match fate {
-        Some(fate) => fate.cancelled,
+        Some(fate) => is_marked(fate.touch),
         None => false,
     }
 }

@@ -1,16 +1,16 @@
 //! From what is known of a rank to what it did.
 
-ghost use Rattle.std.specs.Prelude.{◌≡◌, ◌<◌, ◌≤◌, ◌+◌, ◌∷◌, [], if◌then◌else◌, IfOk, OnOk, length, reverse};
+ghost use Rattle.std.specs.Prelude.{◌≡◌, ◌<◌, ◌≤◌, ◌+◌, if◌then◌else◌, IfOk, OnOk, length, reverse};
 ghost use Rattle.std.specs.Ordering.{int_eq};
 ghost use Rattle.indexmap.specs.IndexMap.{get};
 ghost use Rattle.trace_ops.specs.Foreign.{is_foreign_in};
 ghost use Rattle.trace_ops.specs.Groups.{plain_group};
 ghost use Rattle.trace_ops.specs.Held.{Holds};
 ghost use Rattle.trace_ops.specs.RankOps.{all_ops, ops_by_calls, ops_of};
-ghost use Rattle.trace_ops.specs.Steps.{begun_step, steps_of, whole};
+ghost use Rattle.trace_ops.specs.Steps.{steps_of};
 
 use crate::active::{idle_of, still_active};
-use crate::called::{Called, calls_of};
+use crate::called::{Called, Calls};
 use crate::completed::push_some;
 use crate::entered::Entered;
 use crate::fate::fate_of;
@@ -53,23 +53,28 @@ struct Gathered {
 }
 
 impl Gathered {
-    ghost use Rattle.trace_ops.specs.Gathered.{AddsAt, AddsCall, IsGathered, IsStartAt, StartAdds};
+    ghost use Rattle.std.specs.Prelude.{IsTrue};
+    ghost use Rattle.trace_ops.specs.Called.{plain_called};
+    ghost use Rattle.trace_ops.specs.Calls.{IsCallAt};
+    ghost use Rattle.trace_ops.specs.Gathered.{AddsCall, AddsPart, AddsWhole, IsGathered};
+    ghost use Rattle.trace_ops.specs.Request.{is_start};
 
     /// Adds what a call at a place tells that is one step, behind which all steps were gathered.
+    #[inline(always)]
     fn add_whole(
         &mut self,
         layout: &Layout,
         rank: u32,
-        calls: &[Called<'_>],
+        calls: &Calls<'_>,
         n: usize,
+        called: &Called<'_>,
     ) -> Result<(), AllocError>
-        requires place { n < length calls.now }
-        requires few { self.old.foreign + n < length calls.now }
+        requires place { IsCallAt calls.now n (plain_called called.now) }
+        requires few { self.old.foreign < u64.MAX }
         ensures few { OnOk result (self.new.foreign ≤ self.old.foreign + 1) }
-        ensures gathered { OnOk result (AddsAt layout.now rank calls.now n (λ c. whole n c ∷ []) self.old self.new) }
+        ensures gathered { OnOk result (AddsWhole layout.now rank calls.now n called.now self.old self.new) }
     {
-        let called = &calls[n];
-        let call = called.call();
+        let call = called.call;
         let number = n as u64;
         let name = OpName {
             rank,
@@ -78,12 +83,12 @@ impl Gathered {
         };
         let group = group_of(layout, rank, number, call);
         let posted = called.posted();
-        let touch = note(&mut self.touched, calls, n)?;
+        let touch = note(&mut self.touched, n, called)?;
         let fate = fate_of(touch, calls, posted);
         push_some(&mut self.sends, message_in(group, name, call, fate))?;
         push_some(
             &mut self.receives,
-            receive_in(group, name, call, called.outs(), fate, self.given_back),
+            receive_in(group, name, call, called.outs, fate, self.given_back),
         )?;
         push_some(&mut self.rounds, entered_in(group, number, call))?;
         push_some(&mut self.active, still_active(name, fate))?;
@@ -98,15 +103,16 @@ impl Gathered {
         &mut self,
         layout: &Layout,
         rank: u32,
-        calls: &[Called<'_>],
+        calls: &Calls<'_>,
         n: usize,
+        called: &Called<'_>,
         part: Part<'_>,
     ) -> Result<(), AllocError>
-        requires place { n < length calls.now }
+        requires place { IsCallAt calls.now n (plain_called called.now) }
+        requires start { IsTrue (is_start called.now.call.now) }
         ensures few { OnOk result (self.new.foreign ≡ self.old.foreign) }
-        ensures gathered { OnOk result (StartAdds layout.now rank calls.now n (λ c. begun_step n c part.entry ∷ []) self.old self.new) }
+        ensures gathered { OnOk result (AddsPart layout.now rank calls.now n called.now part.entry self.old self.new) }
     {
-        let called = &calls[n];
         let call = as_started(part.init.call);
         let name = OpName {
             rank,
@@ -120,7 +126,7 @@ impl Gathered {
         push_some(&mut self.sends, message_in(group, name, &call, fate))?;
         push_some(
             &mut self.receives,
-            receive_in(group, name, &call, called.outs(), fate, self.given_back),
+            receive_in(group, name, &call, called.outs, fate, self.given_back),
         )?;
         push_some(&mut self.active, still_active(name, fate))?;
         push_some(&mut self.cancelled, cancelled_with(name, fate))?;
@@ -133,20 +139,22 @@ impl Gathered {
         &mut self,
         layout: &Layout,
         rank: u32,
-        calls: &[Called<'_>],
+        calls: &Calls<'_>,
         n: usize,
+        called: &Called<'_>,
         inits: &[Option<Init<'_>>],
     ) -> Result<(), AllocError>
-        requires place { n < length calls.now }
+        requires place { IsCallAt calls.now n (plain_called called.now) }
+        requires start { IsTrue (is_start called.now.call.now) }
         ensures few { OnOk result (self.new.foreign ≡ self.old.foreign) }
-        ensures gathered { OnOk result (IsStartAt calls.now n → AddsCall layout.now rank calls.now n inits.now self.old self.new) }
+        ensures gathered { OnOk result (AddsCall layout.now rank calls.now n called.now inits.now self.old self.new) }
     {
-        let requests = started_by(calls[n].call());
+        let requests = started_by(called.call);
         let mut place = requests.len();
         while place > 0 {
             place -= 1;
             match begun_at(inits, requests, place) {
-                Some(part) => self.add_part(layout, rank, calls, n, part)?,
+                Some(part) => self.add_part(layout, rank, calls, n, called, part)?,
                 None => {}
             }
         }
@@ -155,23 +163,25 @@ impl Gathered {
 
     /// Adds what the call at a place tells, behind which all steps were gathered, by what holds the numbers that it
     /// starts.
+    #[inline(always)]
     fn add(
         &mut self,
         layout: &Layout,
         rank: u32,
-        calls: &[Called<'_>],
+        calls: &Calls<'_>,
         n: usize,
+        called: &Called<'_>,
         inits: &[Option<Init<'_>>],
     ) -> Result<(), AllocError>
-        requires place { n < length calls.now }
-        requires few { self.old.foreign + n < length calls.now }
+        requires place { IsCallAt calls.now n (plain_called called.now) }
+        requires few { self.old.foreign < u64.MAX }
         ensures few { OnOk result (self.new.foreign ≤ self.old.foreign + 1) }
-        ensures gathered { OnOk result (AddsCall layout.now rank calls.now n inits.now self.old self.new) }
+        ensures gathered { OnOk result (AddsCall layout.now rank calls.now n called.now inits.now self.old self.new) }
     {
-        if is_start(calls[n].call()) {
-            self.add_parts(layout, rank, calls, n, inits)
+        if is_start(called.call) {
+            self.add_parts(layout, rank, calls, n, called, inits)
         } else {
-            self.add_whole(layout, rank, calls, n)
+            self.add_whole(layout, rank, calls, n, called)
         }
     }
 
@@ -182,7 +192,7 @@ impl Gathered {
         layout: &Layout,
         rank: u32,
         beyond: bool,
-        calls: &[Called<'_>],
+        calls: &Calls<'_>,
         held: &Held<'_>,
     ) -> Result<RankOps, AllocError>
         requires gathered { IsGathered layout.now rank calls.now (steps_of calls.now) self }
@@ -227,7 +237,7 @@ fn gather(
     layout: &Layout,
     rank: u32,
     beyond: bool,
-    calls: &[Called<'_>],
+    calls: &Calls<'_>,
 ) -> Result<RankOps, AllocError>
     ensures { IfOk result (λ ops. ops ≡ ops_by_calls layout.now rank beyond calls.now) }
 {
@@ -246,9 +256,10 @@ fn gather(
     let mut n = calls.len();
     while n > 0 {
         n -= 1;
+        let called = calls.at(n);
         let end = left;
-        left -= started_by(calls[n].call()).len();
-        gathered.add(layout, rank, calls, n, &holding.inits[left..end])?;
+        left -= started_by(called.call).len();
+        gathered.add(layout, rank, calls, n, &called, &holding.inits[left..end])?;
     }
     gathered.into_ops(alloc, layout, rank, beyond, calls, &holding.held)
 }
@@ -265,7 +276,7 @@ pub fn ops_of(
 {
     let events = know.readable(alloc, rank)?;
     let local = Call::Local;
-    let calls = calls_of(alloc, &events, &local)?;
+    let calls = Calls::new(&events, &local);
     gather(alloc, layout, rank, know.beyond(rank), &calls)
 }
 

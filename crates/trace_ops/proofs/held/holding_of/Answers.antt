@@ -1,9 +1,11 @@
-use Rattle.std.proofs.Common.{◌≡◌, List, reverse, take, arith, ap, sym, ◌∙◌, subst, ◌++◌, map}
+use Rattle.std.proofs.Common.{◌≡◌, ◌<◌, List, length, reverse, take, arith, ap, sym, ◌∙◌, subst, ◌++◌, map}
 use Rattle.std.specs.Ordering.{int_eq}
 use Rattle.indexmap.specs.IndexMap.{get}
+use Rattle.trace_ops.specs.Called.{plain_called}
 use Rattle.trace_ops.specs.Calls.{Entry}
 use Rattle.trace_ops.specs.Held.{Holds}
 use Rattle.trace_ops.specs.Request.{started_by}
+use Rattle.trace_ops.proofs.Behind.{read_there}
 use Rattle.trace_ops.proofs.Holding.{before_count, before_more, listed_more}
 use Rattle.trace_ops.proofs.held.holding_of.Goals as goal
 
@@ -11,13 +13,15 @@ pub loop-n-preserved : goal.loop-n-preserved
 loop-n-preserved c =
     let calls = c.args.calls.now in
     let n = c.loop-n.n in
-    let entry = c.index-calls-n.result in
+    let lt : c.loop-n.n < length c.args.calls.now = omega arith in
+    let entry = plain_called c.at-called.result in
+    let at = read_there calls n entry c.at-called.ensures in
     let old = get int_eq c.loop-n.held in
-    let pushed : c.push_held.new.inits.items ≡ c.loop-n.inits.items ++ map (get int_eq c.loop-n.held) (started_by c.index-calls-n.result.call) =
-    c.in_ok-push_held.ensures ∙ ap (λ (l : List _). c.loop-n.inits.items ++ map (get int_eq c.loop-n.held) l) (c.started_by.ensures ∙ ap started_by c.call-call.ensures) in
+    let pushed : c.push_held.new.inits.items ≡ c.loop-n.inits.items ++ map (get int_eq c.loop-n.held) (started_by entry.call) =
+    c.in_ok-push_held.ensures ∙ ap (λ (l : List _). c.loop-n.inits.items ++ map (get int_eq c.loop-n.held) l) c.started_by.ensures in
     let held = c.in_ok-hold.ensures (reverse (take n calls)) (before_count calls n c.loop-n.invariant.within) c.loop-n.invariant.held in
     record {
       within = omega arith;
-      listed = listed_more calls n entry old c.loop-n.inits.items c.push_held.new.inits.items c.loop-n-test.true c.index-calls-n.is pushed c.loop-n.invariant.held c.loop-n.invariant.listed;
-      held = subst (λ (l : List Entry). Holds l (get int_eq c.hold.new.held)) (sym (before_more calls n entry c.loop-n-test.true c.index-calls-n.is)) held;
+      listed = listed_more calls n entry old c.loop-n.inits.items c.push_held.new.inits.items lt at pushed c.loop-n.invariant.held c.loop-n.invariant.listed;
+      held = subst (λ (l : List Entry). Holds l (get int_eq c.hold.new.held)) (sym (before_more calls n entry lt at)) held;
     }

@@ -1,7 +1,7 @@
-use Rattle.std.proofs.Common.{◌≡◌, ◌≤◌, List, ◌++◌, drop, length}
-use Rattle.std.specs.Prelude.{Some, slice_get}
+use Rattle.std.proofs.Common.{◌≡◌, ◌≤◌, List, drop, length}
+use Rattle.trace_ops.specs.Called.{plain_called}
 use Rattle.trace_ops.specs.Calls.{Entry}
-use Rattle.trace_ops.specs.Gathered.{Adds, IsStartAt}
+use Rattle.trace_ops.specs.Gathered.{Adds}
 use Rattle.trace_ops.specs.Held.{AreInitsAt}
 use Rattle.trace_ops.specs.Request.{started_by}
 use Rattle.trace_ops.specs.Steps.{parts_from}
@@ -14,6 +14,6 @@ abbrev pub invariant-loop-place : goal.invariant-loop-place
 invariant-loop-place l = record {
   within : l.place ≤ length l.requests;
   few : l.self.foreign ≡ l.initial.self.foreign;
-  gathered : IsStartAt l.calls l.n → (before : List Entry) (c : Entry) → slice_get l.calls l.n ≡ Some c → length before ≡ l.n → AreInitsAt before c l.inits →
-      Adds l.layout l.rank l.calls (parts_from before c l.place (drop l.place (started_by c.call))) l.initial.self l.self;
+  gathered : (before : List Entry) → length before ≡ l.n → AreInitsAt before (plain_called l.called) l.inits →
+      Adds l.layout l.rank l.calls (parts_from before (plain_called l.called) l.place (drop l.place (started_by l.called.call.now))) l.initial.self l.self;
 }
