@@ -2,7 +2,7 @@
 
 ghost use Rattle.std.specs.Prelude.{◌≡◌};
 ghost use Rattle.trace_ops.specs.Foreign.{are_within, comm_of, group_named, group_of, is_foreign, is_foreign_in, is_root_within, is_within, peer_rank};
-ghost use Rattle.trace_ops.specs.Groups.{plain_group};
+ghost use Rattle.trace_ops.specs.Groups.{IsWorldOf, plain_group};
 
 use mpi_model::{Call, Collective, CommRef, Layout, Peer};
 
@@ -110,18 +110,58 @@ fn are_within(members: &[u32], call: &Call) -> bool
     }
 }
 
-/// The group in which call `n` of the rank takes part: none where the call names no communicator,
-/// or is foreign.
+/// The group of the world, which all calls of a rank name alike.
+pub(crate) fn world_of<'a>(layout: &'a Layout, rank: u32) -> Option<Group<'a>>
+    ensures { IsWorldOf layout.now rank result }
+{
+    group_named(layout, rank, 0, CommRef::World)
+}
+
+/// The group of the communicator that call `n` of the rank names, where the group of the world is at hand.
 #[inline(always)]
-pub(crate) fn group_of<'a>(layout: &'a Layout, rank: u32, n: u64, call: &Call) -> Option<Group<'a>>
+fn named_given_world<'a>(
+    layout: &'a Layout,
+    rank: u32,
+    n: u64,
+    comm: CommRef,
+    world: Option<Group<'a>>,
+) -> Option<Group<'a>>
+    requires { IsWorldOf layout.now rank world }
+    ensures { plain_group result ≡ group_named layout.now rank n comm }
+{
+    match comm {
+        CommRef::World => world,
+        CommRef::Id(_) => group_named(layout, rank, n, comm),
+    }
+}
+
+/// The group in which call `n` of the rank takes part, where the group of the world is at hand: none where the call names
+/// no communicator, or is foreign.
+#[inline(always)]
+pub(crate) fn group_given_world<'a>(
+    layout: &'a Layout,
+    rank: u32,
+    n: u64,
+    call: &Call,
+    world: Option<Group<'a>>,
+) -> Option<Group<'a>>
+    requires { IsWorldOf layout.now rank world }
     ensures { plain_group result ≡ group_of layout.now rank n call.now }
 {
-    let group = group_named(layout, rank, n, comm_of(call)?)?;
+    let group = named_given_world(layout, rank, n, comm_of(call)?, world)?;
     if are_within(group.members, call) {
         Some(group)
     } else {
         None
     }
+}
+
+/// The group in which call `n` of the rank takes part: none where the call names no communicator,
+/// or is foreign.
+fn group_of<'a>(layout: &'a Layout, rank: u32, n: u64, call: &Call) -> Option<Group<'a>>
+    ensures { plain_group result ≡ group_of layout.now rank n call.now }
+{
+    group_given_world(layout, rank, n, call, world_of(layout, rank))
 }
 
 /// Whether the call, which takes part in this group, if in any, is foreign: the layout gives its

@@ -4,7 +4,7 @@ ghost use Rattle.std.specs.Prelude.{◌≡◌, ◌<◌, ◌≤◌, ◌+◌, if�
 ghost use Rattle.std.specs.Ordering.{int_eq};
 ghost use Rattle.indexmap.specs.IndexMap.{get};
 ghost use Rattle.trace_ops.specs.Foreign.{is_foreign_in};
-ghost use Rattle.trace_ops.specs.Groups.{plain_group};
+ghost use Rattle.trace_ops.specs.Groups.{IsWorldOf, plain_group};
 ghost use Rattle.trace_ops.specs.Held.{Holds};
 ghost use Rattle.trace_ops.specs.RankOps.{all_ops, ops_by_calls, ops_of};
 ghost use Rattle.trace_ops.specs.Steps.{steps_of};
@@ -14,7 +14,7 @@ use crate::called::{Called, Calls};
 use crate::completed::push_some;
 use crate::entered::Entered;
 use crate::fate::fate_of;
-use crate::group::{Group, group_of, is_foreign_in};
+use crate::group::{Group, group_given_world, is_foreign_in, world_of};
 use crate::held::{Held, Init, Part, as_started, begun_at, holding_of, is_start, started_by};
 use crate::message::{entered_in, message_in};
 use crate::ops::RankOps;
@@ -68,8 +68,10 @@ impl Gathered {
         calls: &Calls<'_>,
         n: usize,
         called: &Called<'_>,
+        world: Option<Group<'_>>,
     ) -> Result<(), AllocError>
         requires place { IsCallAt calls.now n (plain_called called.now) }
+        requires world { IsWorldOf layout.now rank world }
         requires few { self.old.foreign < u64.MAX }
         ensures few { OnOk result (self.new.foreign ≤ self.old.foreign + 1) }
         ensures gathered { OnOk result (AddsWhole layout.now rank calls.now n called.now self.old self.new) }
@@ -81,7 +83,7 @@ impl Gathered {
             call: number,
             part: 0,
         };
-        let group = group_of(layout, rank, number, call);
+        let group = group_given_world(layout, rank, number, call, world);
         let posted = called.posted();
         let touch = note(&mut self.touched, n, called)?;
         let fate = fate_of(touch, calls, posted);
@@ -106,9 +108,11 @@ impl Gathered {
         calls: &Calls<'_>,
         n: usize,
         called: &Called<'_>,
+        world: Option<Group<'_>>,
         part: Part<'_>,
     ) -> Result<(), AllocError>
         requires place { IsCallAt calls.now n (plain_called called.now) }
+        requires world { IsWorldOf layout.now rank world }
         requires start { IsTrue (is_start called.now.call.now) }
         ensures few { OnOk result (self.new.foreign ≡ self.old.foreign) }
         ensures gathered { OnOk result (AddsPart layout.now rank calls.now n called.now part.entry self.old self.new) }
@@ -119,7 +123,7 @@ impl Gathered {
             call: n as u64,
             part: part.part,
         };
-        let group = group_of(layout, rank, part.init.number, &call);
+        let group = group_given_world(layout, rank, part.init.number, &call, world);
         let given = called.restarts(part.request);
         let touch = note_part(&mut self.touched, n, given)?;
         let fate = fate_of(touch, calls, given);
@@ -142,9 +146,11 @@ impl Gathered {
         calls: &Calls<'_>,
         n: usize,
         called: &Called<'_>,
+        world: Option<Group<'_>>,
         inits: &[Option<Init<'_>>],
     ) -> Result<(), AllocError>
         requires place { IsCallAt calls.now n (plain_called called.now) }
+        requires world { IsWorldOf layout.now rank world }
         requires start { IsTrue (is_start called.now.call.now) }
         ensures few { OnOk result (self.new.foreign ≡ self.old.foreign) }
         ensures gathered { OnOk result (AddsCall layout.now rank calls.now n called.now inits.now self.old self.new) }
@@ -154,7 +160,7 @@ impl Gathered {
         while place > 0 {
             place -= 1;
             match begun_at(inits, requests, place) {
-                Some(part) => self.add_part(layout, rank, calls, n, called, part)?,
+                Some(part) => self.add_part(layout, rank, calls, n, called, world, part)?,
                 None => {}
             }
         }
@@ -171,17 +177,19 @@ impl Gathered {
         calls: &Calls<'_>,
         n: usize,
         called: &Called<'_>,
+        world: Option<Group<'_>>,
         inits: &[Option<Init<'_>>],
     ) -> Result<(), AllocError>
         requires place { IsCallAt calls.now n (plain_called called.now) }
+        requires world { IsWorldOf layout.now rank world }
         requires few { self.old.foreign < u64.MAX }
         ensures few { OnOk result (self.new.foreign ≤ self.old.foreign + 1) }
         ensures gathered { OnOk result (AddsCall layout.now rank calls.now n called.now inits.now self.old self.new) }
     {
         if is_start(called.call) {
-            self.add_parts(layout, rank, calls, n, called, inits)
+            self.add_parts(layout, rank, calls, n, called, world, inits)
         } else {
-            self.add_whole(layout, rank, calls, n, called)
+            self.add_whole(layout, rank, calls, n, called, world)
         }
     }
 
@@ -252,6 +260,7 @@ fn gather(
         given_back: false,
         touched: Touched::new(alloc),
     };
+    let world = world_of(layout, rank);
     let mut left = holding.inits.len();
     let mut n = calls.len();
     while n > 0 {
@@ -259,7 +268,15 @@ fn gather(
         let called = calls.at(n);
         let end = left;
         left -= started_by(called.call).len();
-        gathered.add(layout, rank, calls, n, &called, &holding.inits[left..end])?;
+        gathered.add(
+            layout,
+            rank,
+            calls,
+            n,
+            &called,
+            world,
+            &holding.inits[left..end],
+        )?;
     }
     gathered.into_ops(alloc, layout, rank, beyond, calls, &holding.held)
 }

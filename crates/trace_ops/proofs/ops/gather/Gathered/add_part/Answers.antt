@@ -37,9 +37,9 @@ returns-clause-gathered c later before =
     let told : IsFateOf (posted_by s) later c.fate_of-fate.result = subst (λ (o : Option ℤ). IsFateOf o later c.fate_of-fate.result) posted fate in
     record {
       sends = turned_more c.args.self.now.sends.items c.push_some.new.list.items (sends_of layout rank later) c.message_in.result (message_of layout rank p)
-          (cc (c.message_in.ensures s later told c.as_started-call.ensures, c.group_of-group.ensures, c.as_started-call.ensures)) c.in_ok-push_some.ensures before.sends;
+          (cc (c.message_in.ensures s later told c.as_started-call.ensures, c.group_given_world-group.ensures, c.as_started-call.ensures)) c.in_ok-push_some.ensures before.sends;
       receives = turned_more c.args.self.now.receives.items c.push_some-2.new.list.items (receives_of layout rank later) c.receive_in.result (receive_of layout rank p)
-          (cc (c.receive_in.ensures s later told refl before.given_back c.as_started-call.ensures, c.group_of-group.ensures, c.as_started-call.ensures)) c.in_ok-push_some-2.ensures before.receives;
+          (cc (c.receive_in.ensures s later told refl before.given_back c.as_started-call.ensures, c.group_given_world-group.ensures, c.as_started-call.ensures)) c.in_ok-push_some-2.ensures before.receives;
       rounds = before.rounds ∙ sym (ap (λ (o : Option Entered). cons_option o (rounds_of layout rank later)) (start_enters_none layout rank n read.call start));
       active = turned_more c.args.self.now.active.items c.push_some-3.new.list.items (active_of rank later) c.still_active.result (active_post rank p)
           (c.still_active.ensures later (posted_by s) told) c.in_ok-push_some-3.ensures before.active;
