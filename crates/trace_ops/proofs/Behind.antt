@@ -1,5 +1,5 @@
 -- What is kept of the steps behind, one step more.
-use Rattle.std.proofs.Common.{◌≡◌, ℕ, zero, suc, ◌+◌, ◌<◌, Bool, true, false, ◌||◌, cond, List, [], ◌∷◌, drop, get_or, length, refl, sym, ◌∙◌, ap, subst, arith}
+use Rattle.std.proofs.Common.{◌≡◌, ℕ, zero, suc, ◌+◌, Bool, true, false, ◌||◌, cond, List, [], ◌∷◌, drop, get_or, length, refl, sym, ◌∙◌, ap, arith}
 use Rattle.std.specs.Prelude.{ℤ, Option, Some, None, is_some, slice_get, if◌then◌else◌}
 use Rattle.std.specs.List.{list_any}
 use Rattle.std.specs.Ordering.{int_eq}

@@ -13,7 +13,7 @@ use Rattle.mpi_model.specs.declared.told.Told.TheVariants.{Nothing}
 use Rattle.trace_ops.specs.declared.completed.Completed.{Completed}
 use Rattle.trace_ops.specs.declared.touched.Touch.{Touch}
 use Rattle.trace_ops.specs.Places.{all_places, completed_in, places_of}
-use Rattle.trace_ops.specs.Request.{all_of, completes, completions, element_of, is_completed}
+use Rattle.trace_ops.specs.Request.{completes, completions, element_of, is_completed}
 use Rattle.trace_ops.specs.Source.{told_in}
 use Rattle.trace_ops.specs.Touched.{ends_at, is_completed_at, told_at_place, with_firsts, with_place, with_tellings}
 

@@ -1,12 +1,12 @@
 -- One element more of a list that is gone through.
-use Rattle.std.proofs.Common.{◌≡◌, ℕ, zero, suc, ◌+◌, ◌*◌, ◌/◌, ◌%◌, ◌<◌, List, [], ◌∷◌, ◌++◌, map, take, drop, get_or, length, reverse, refl, sym, ◌∙◌, ap, arith, append_assoc, Bor}
+use Rattle.std.proofs.Common.{◌≡◌, ℕ, zero, suc, ◌+◌, ◌*◌, ◌/◌, ◌%◌, ◌<◌, List, [], ◌∷◌, ◌++◌, map, take, get_or, length, reverse, refl, sym, ◌∙◌, ap, arith, Bor}
 use Rattle.std.specs.Prelude.{Bool, true, false, if◌then◌else◌, filter, Option, Some, None, slice_get}
 use Rattle.std.specs.List.{filter_map, cons_option}
 use Rattle.std.specs.Option.{option_and_then, option_map}
 use Rattle.std.proofs.lemmas.List.{take_more, reverse-append, append-nil}
 use Rattle.std.proofs.lemmas.List.Elements.{filter_map-append}
 use Rattle.mpi_model.specs.declared.event.Event.{Event}
-use Rattle.trace_ops.specs.Calls.{Entry, call_of, outs_of, calls_of}
+use Rattle.trace_ops.specs.Calls.{call_of, outs_of, calls_of}
 use Rattle.trace_ops.specs.Steps.{Step}
 
 -- the call at a place, by the events at its places

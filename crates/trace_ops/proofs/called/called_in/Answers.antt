@@ -1,4 +1,4 @@
-use Rattle.std.proofs.Common.{◌≡◌, ◌<◌, ◌*◌, length, refl, arith}
+use Rattle.std.proofs.Common.{◌<◌, ◌*◌, length, refl, arith}
 use Rattle.trace_ops.proofs.Taken.{call_placed, calls_count}
 use Rattle.trace_ops.proofs.called.called_in.Goals as goal
 

@@ -1,4 +1,3 @@
-use Rattle.std.proofs.Common.{◌≡◌}
 use Rattle.trace_ops.specs.Called.{places_by}
 use Rattle.trace_ops.specs.Touched.{is_any_cancelled, is_cancelled_at}
 use Rattle.trace_ops.proofs.Placing.{any_found, any_passed}
