@@ -26,6 +26,7 @@ pub mod Fronts
 pub mod Tabled
 pub mod Members
 pub mod PutAt
+pub mod Keyed
 pub mod Orders
 pub mod Same
 pub mod Queued
@@ -34,7 +35,6 @@ pub mod LaterEnds
 pub mod Laned
 pub mod LaneSteps
 pub mod LaneKeys
-pub mod Turned
 pub mod Twice
 pub mod Slotted
 pub mod Mutual

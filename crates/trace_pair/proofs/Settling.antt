@@ -19,7 +19,7 @@ use Rattle.trace_pair.specs.Rising.{AreRising}
 use Rattle.trace_pair.specs.Sets.{AddsTo, DropsFrom}
 use Rattle.trace_pair.specs.Settled.{Settles, IsOfferedAt, IsTakenAt, couples_of, waiting_of}
 use Rattle.trace_pair.specs.Table.{sends_of, receives_of}
-use Rattle.trace_pair.specs.Waiting.{Takings, untaken, with_taker, taker_at, live, couples_with, IsSolePlace}
+use Rattle.trace_pair.specs.Waiting.{Takings, untaken, with_taker, taker_at, live, couples_with, ArePlain, IsSolePlace}
 use Rattle.trace_pair.specs.declared.batch.Batch.{Batch}
 use Rattle.trace_pair.specs.declared.ends.Ends.{Ends}
 use Rattle.trace_pair.specs.declared.pair.Couple.{Couple}
@@ -47,6 +47,13 @@ module _ (after : After) (ms : List Message) (qs more call : List Receive) (q : 
   module _ (settled : is_settled q ≡ true) (b : Batch) (free opened : List Receive) (is : b.messages.messages ≡ ms) (held : AwaitReceives after ms qs more (waiting_of b) free opened (couples_of b)) where
     pub no_place : IsSolePlace b.messages q None → IsOfferedAt after ms qs more q None
     no_place none = none_offered after ms qs more call adds q c settled (waiting_of b) free opened (couples_of b) held (none (λ n i. held.senders n (held.waits n i).0))
+
+    pub plain_at : (place : ℕ) → IsSolePlace b.messages q (Some place) → ArePlain b.messages.messages → ((u : Receive) → Has opened u → ⊥) → IsOfferedAt after ms qs more q (Some place)
+    plain_at place sole plain none = (
+      sole.0,
+      ap (λ (k : List Message). slice_get k place) (sym is) ∙ sole.1,
+      is_offered after ms qs more call adds q c settled (waiting_of b) free opened (couples_of b) held sole.0 sole.2 (plain sole.0 (stands b.messages.messages place sole.0 sole.1)).sure (λ u h f. absurd (none u h)),
+    )
 
     module _ (place : ℕ) (l : List Message) (d : Message) (sole : IsSolePlace b.messages q (Some place)) (same : l ≡ b.messages.messages) where
       stands_at : get_or l place d ≡ sole.0

@@ -3,7 +3,6 @@ use Rattle.std.proofs.Common.{subst, ◌≡◌, ℕ, zero, ◌<◌, Bool, true, 
 use Rattle.std.proofs.lemmas.Bool.Decides.{nat_tests}
 use Rattle.std.specs.Prelude.{slice_get, is_some}
 use Rattle.std.specs.declared.cmp.Ordering.{Ordering}
-use Rattle.std.specs.BTreeMap.{BTreeMap}
 use Rattle.mpi_model.specs.declared.event.OpName.{OpName}
 use Rattle.mpi_model.specs.declared.message.Message.{Message}
 use Rattle.mpi_model.specs.declared.message.Receive.{Receive}
@@ -13,13 +12,14 @@ use Rattle.trace_pair.specs.Calls.{is_live, IsOwnMessage}
 use Rattle.trace_pair.specs.Indexed.{IsSoleMessage, name_lt}
 use Rattle.trace_pair.specs.Places.{earlier, together, no_later}
 use Rattle.trace_pair.specs.Rising.{AreRising}
-use Rattle.trace_pair.specs.Waiting.{left_in, waits_at, waiting_in, from_waiting, is_of_call, is_followed, call_at, sole_of, places_at, AreRisingPlaces, ArePlaces, IsSolePlace}
+use Rattle.trace_pair.specs.Waiting.{left_in, waits_at, waiting_in, from_waiting, is_of_call, is_followed, call_at, sole_of, sole_or_first, places_at, AreRisingPlaces, ArePlaces, ArePlain, IsSolePlace, Keyed}
 use Rattle.trace_pair.specs.declared.pair.Taker.{Taker}
 use Rattle.trace_pair.proofs.Certain.{no_later_apart, one_call, one_part}
 use Rattle.trace_pair.proofs.Fitting.{one_sender}
 use Rattle.trace_pair.proofs.Obeyed.{either}
 use Rattle.trace_pair.proofs.Queued.{fit_parts}
 use Rattle.trace_pair.proofs.Taken.{left_found, left_there, live_has, live_was}
+use Rattle.trace_pair.proofs.Searched.{stands}
 use Rattle.trace_pair.proofs.Waited.{stays, was, still_rise, front_waits, rising_at}
 
 -- At the places stand messages that fit the receive, in their order, among them all that wait; the one in front does.
@@ -29,7 +29,7 @@ pub record IsLine (ms : List Message) (ts : List (Option Taker)) (q : Receive) (
   pub rise : AreRisingPlaces ps
   pub front : (i : ℕ) → slice_get ps zero ≡ Some i → waits_at ts i ≡ true
 
-pub line_at : {K : Type 0} (cmp : K → K → Ordering) (key_of : Message → K) (ms : List Message) (ts : List (Option Taker)) (places : BTreeMap K (List ℕ)) → ArePlaces cmp key_of ms ts places
+pub line_at : {K : Type 0} (cmp : K → K → Ordering) (key_of : Message → K) (ms : List Message) (ts : List (Option Taker)) (places : Keyed K) → ArePlaces cmp key_of ms ts places
     → (q : Receive) (k : K) → ((m : Message) → envelopes_fit m q ≡ true → k ≡ key_of m) → ((m : Message) → k ≡ key_of m → envelopes_fit m q ≡ true) → IsLine ms ts q (from_waiting ts (places_at cmp places k))
 line_at {K = K} cmp key_of ms ts places are q k at fit = record {
   all = λ n h f.
@@ -64,6 +64,10 @@ behind_together a b h e f = grind (arith, nat_tests)
 
 earlier_name : (a b : OpName) → name_lt a b ≡ true → a.rank ≡ b.rank → no_later a b ≡ true
 earlier_name a b h e = grind (arith, nat_tests)
+
+-- of two first parts of one rank the later is of another call
+other_call : (a b : OpName) → name_lt a b ≡ true → a.rank ≡ b.rank → a.part ≡ 0 → b.part ≡ 0 → b.call ≡ a.call → ⊥
+other_call a b h e f g d = grind (arith, nat_tests)
 
 module _ (ms : List Message) (ts : List (Option Taker)) where
   of_its_call : (j : ℕ) (n : Message) → slice_get ms j ≡ Some n → (c : ℕ) → n.name.call ≡ c → is_of_call ms j c ≡ true
@@ -164,3 +168,27 @@ module _ (ms : List Message) (ts : List (Option Taker)) where
         | true ↦ λ f owned m s. none_sole rise q i ps line told owned f m s
         | false ↦ λ f. let o = line.own i (inl refl) in (o.0, o.1, is_sole rise q i ps line f)
       ] refl)
+
+  -- where each message is alone of its call, the place in front is the one
+  first_is_sole : AreRising (λ (m : Message). m.name) ms → ArePlain ms → (q : Receive) → is_some q.source ≡ true → (ps : List ℕ) → IsLine ms ts q ps → slice_get ps zero ≡ sole_of ms ts ps
+  first_is_sole rise plain q told [] line = refl
+  first_is_sole rise plain q told (i ∷ []) line = refl
+  first_is_sole rise plain q told (i ∷ j ∷ ps) line =
+      let a = line.own i (inl refl) in
+      let b = line.own j (inr (inl refl)) in
+      let p = plain a.0 (stands ms i a.0 a.1) in
+      let r = plain b.0 (stands ms j b.0 b.1) in
+      let lt : name_lt a.0.name b.0.name ≡ true = rising_at ms i j a.0 b.0 rise a.1 b.1 (line.rise.0 j (inl refl)) in
+      let rank : a.0.name.rank ≡ b.0.name.rank = p.own ∙ one_sender q.source a.0.from b.0.from told (fit_parts a.0 q a.3).2 (fit_parts b.0 q b.3).2 ∙ sym r.own in
+      let its : call_at ms i ≡ a.0.name.call = let e = a.1 in cc in
+      let other : is_of_call ms j (call_at ms i) ≡ false =
+      elim (is_of_call ms j (call_at ms i)) as (λ x. is_of_call ms j (call_at ms i) ≡ x → x ≡ false) [
+        | true ↦ λ e. absurd (other_call a.0.name b.0.name lt rank p.first r.first (from_its_call j b.0 b.1 (call_at ms i) e ∙ its))
+        | false ↦ λ e. refl
+      ] refl in
+      sym (ap (λ (x : Bool). cond (cond x (cond (waits_at ts j) true (is_followed ms ts (call_at ms i) ps)) false) None (Some i)) other)
+
+  pub sole_if_first : AreRising (λ (m : Message). m.name) ms → (marked : Bool) → (marked ≡ true → ArePlain ms) → (q : Receive) → is_some q.source ≡ true → (ps : List ℕ) → IsLine ms ts q ps
+      → sole_or_first marked ms ts ps ≡ sole_of ms ts ps
+  sole_if_first rise true plain q told ps line = first_is_sole rise (plain refl) q told ps line
+  sole_if_first rise false plain q told ps line = refl

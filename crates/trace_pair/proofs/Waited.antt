@@ -5,8 +5,6 @@ use Rattle.std.specs.Prelude.{slice_get, slice_set, IfOk}
 use Rattle.std.specs.declared.cmp.Ordering.{Ordering}
 use Rattle.std.specs.Ordering.{is_eq}
 use Rattle.std.specs.Cmp.{IsTotalOrder}
-use Rattle.std.specs.BTreeMap.{BTreeMap, get, IsOrdered, WritesThrough}
-use Rattle.std.specs.Option.{IsSome}
 use Rattle.std.proofs.lemmas.Cmp.{tied_itself}
 use Rattle.std.proofs.lemmas.Map.Lookups.{CmpEqualImpliesEq}
 use Rattle.std.proofs.lemmas.Map.Views.{tells_apart}
@@ -16,32 +14,10 @@ use Rattle.trace_ops.specs.Order.{Has}
 use Rattle.trace_pair.specs.Calls.{is_live}
 use Rattle.trace_pair.specs.Indexed.{name_lt}
 use Rattle.trace_pair.specs.Rising.{AreRising}
-use Rattle.trace_pair.specs.Waiting.{items_of, waits_at, from_waiting, places_at, AreRisingPlaces, ArePlaces}
+use Rattle.trace_pair.specs.Waiting.{waits_at, from_waiting, is_followed, call_at, sole_or_first, places_at, AreRisingPlaces, ArePlaces, ArePlain, IsPlain, Keyed}
 use Rattle.trace_pair.specs.declared.pair.Taker.{Taker}
-use Rattle.trace_pair.proofs.PutAt.{at_equal, says_equal}
 use Rattle.trace_pair.proofs.Ranks.{has_left, has_right, has_either}
 use Rattle.trace_pair.proofs.Searched.{stands}
-
--- What stood at a key is changed by f.
-module _ {K : Type 0} {cmp : K → K → Ordering} (keys : IsTotalOrder cmp) (old : BTreeMap K (List ℕ)) (key : K) (f : List ℕ → List ℕ) where
-  put_at : (new : BTreeMap K (List ℕ)) (xs ys : List ℕ) → items_of (get cmp old key) ≡ xs → ys ≡ f xs → ((k : K) → get cmp new k ≡ cond (is_eq (cmp key k)) (Some ys) (get cmp old k)) →
-      (k : K) → places_at cmp new k ≡ cond (is_eq (cmp key k)) (f (places_at cmp old k)) (places_at cmp old k)
-  put_at new xs ys stood made puts k =
-      ap (λ (g : Option (List ℕ)). items_of g) (puts k) ∙ (elim (is_eq (cmp key k)) as (λ b. is_eq (cmp key k) ≡ b → items_of (cond b (Some ys) (get cmp old k)) ≡ cond b (f (items_of (get cmp old k))) (items_of (get cmp old k))) [
-        | true ↦ λ h. made ∙ ap f (sym stood ∙ ap (λ (g : Option (List ℕ)). items_of g) (at_equal keys old key k (says_equal (cmp key k) h)))
-        | false ↦ λ h. refl
-      ] refl)
-
-  -- what `get_mut` lent, where xs stood, is ys now
-  pub written_at : (new : BTreeMap K (List ℕ)) (xs ys : List ℕ) → Some xs ≡ get cmp old key → WritesThrough cmp (cmp key) old ys new → ys ≡ f xs →
-      (k : K) → places_at cmp new k ≡ cond (is_eq (cmp key k)) (f (places_at cmp old k)) (places_at cmp old k)
-  written_at new xs ys stood written made =
-      put_at new xs ys (ap (λ (g : Option (List ℕ)). items_of g) (sym stood)) made ((written.3 (subst (λ (g : Option (List ℕ)). IsSome g) stood refl)).0)
-
-  -- nothing stood there, and ys was put
-  pub put_new_at : (new : BTreeMap K (List ℕ)) (ys : List ℕ) → None ≡ get cmp old key → ys ≡ f [] → ((k : K) → get cmp new k ≡ cond (is_eq (cmp key k)) (Some ys) (get cmp old k)) →
-      (k : K) → places_at cmp new k ≡ cond (is_eq (cmp key k)) (f (places_at cmp old k)) (places_at cmp old k)
-  put_new_at new ys none made puts = put_at new [] ys (ap (λ (g : Option (List ℕ)). items_of g) (sym none)) made puts
 
 pub if_ok : {X E : Type 0} {P Q : X → Type 0} (r : Result X E) → ((x : X) → P x → Q x) → IfOk r P → IfOk r Q
 if_ok (Ok x) f h = f x h
@@ -116,6 +92,28 @@ pub all_passed : (ts : List (Option Taker)) (xs old : List ℕ) → None ≡ sli
 all_passed ts [] old e h = h
 all_passed ts (x ∷ xs) old e h = absurd (cc)
 
+-- the place that is told: the first, or where calls may have several parts, the sole one
+pub none_first : (plain : Bool) (ms : List Message) (ts : List (Option Taker)) (ps : List ℕ) → None ≡ slice_get ps zero → None ≡ sole_or_first plain ms ts ps
+none_first true ms ts ps e = e
+none_first false ms ts [] e = refl
+none_first false ms ts (i ∷ ps) e = absurd (cc)
+
+pub plain_first : (plain : Bool) (ms : List Message) (ts : List (Option Taker)) (ps : List ℕ) (p : ℕ) → plain ≡ true → Some p ≡ slice_get ps zero → Some p ≡ sole_or_first plain ms ts ps
+plain_first true ms ts ps p h e = e
+plain_first false ms ts ps p h e = absurd (cc)
+
+told_one : (b : Bool) (ms : List Message) (ts : List (Option Taker)) (ps : List ℕ) (p : ℕ) → Some p ≡ slice_get ps zero → b ≡ is_followed ms ts (call_at ms p) (drop 1 ps) → cond b None (Some p) ≡ sole_or_first false ms ts ps
+told_one b ms ts [] p e f = absurd (cc)
+told_one b ms ts (i ∷ ps) p e f =
+    let d : p ≡ i = cc in
+    ap (λ (x : ℕ). cond b None (Some x)) d ∙ ap (λ (x : Bool). cond x None (Some i)) (f ∙ ap (λ (x : ℕ). is_followed ms ts (call_at ms x) ps) d)
+
+pub followed_first : (plain : Bool) (ms : List Message) (ts : List (Option Taker)) (ps rest : List ℕ) (p call : ℕ) → plain ≡ false → Some p ≡ slice_get ps zero → rest ≡ ps → call ≡ call_at ms p
+    → (b c : Bool) → b ≡ is_followed ms ts call (drop 1 rest) → b ≡ c → cond c None (Some p) ≡ sole_or_first plain ms ts ps
+followed_first plain ms ts ps rest p call h e r d b c f g =
+    let made : c ≡ is_followed ms ts (call_at ms p) (drop 1 ps) = sym g ∙ f ∙ ap (λ (l : List ℕ). is_followed ms ts call (drop 1 l)) r ∙ ap (λ (x : ℕ). is_followed ms ts x (drop 1 ps)) d in
+    told_one c ms ts ps p e made ∙ ap (λ (x : Bool). sole_or_first x ms ts ps) (sym h)
+
 -- a place more
 more_rise : (xs : List ℕ) (n : ℕ) → AreRisingPlaces xs → ((i : ℕ) → Has xs i → i < n) → AreRisingPlaces (xs ++ n ∷ [])
 more_rise [] n r b = (λ j h. absurd h, tt)
@@ -151,10 +149,9 @@ last_there (y ∷ ms) x = last_there ms x
 
 module _ {K : Type 0} {cmp : K → K → Ordering} (keys : IsTotalOrder cmp) (exact : CmpEqualImpliesEq cmp) (key_of : Message → K) where
   -- places were passed at a key
-  pub places_passed : (ms : List Message) (ts : List (Option Taker)) (old new : BTreeMap K (List ℕ)) (key : K) → ArePlaces cmp key_of ms ts old → IsOrdered cmp new →
+  pub places_passed : (ms : List Message) (ts : List (Option Taker)) (old new : Keyed K) (key : K) → ArePlaces cmp key_of ms ts old →
       ((k : K) → places_at cmp new k ≡ cond (is_eq (cmp key k)) (from_waiting ts (places_at cmp old k)) (places_at cmp old k)) → ArePlaces cmp key_of ms ts new
-  places_passed ms ts old new key are ordered law = record {
-    ordered = ordered;
+  places_passed ms ts old new key are law = record {
     all = λ i m e l w. stays_if ts (is_eq (cmp key (key_of m))) (places_at cmp old (key_of m)) (places_at cmp new (key_of m)) i (law (key_of m)) w (are.all i m e l w);
     own = λ k i h. are.own k i (was_if ts (is_eq (cmp key k)) (places_at cmp old k) (places_at cmp new k) i (law k) h);
     rise = λ k. rise_if ts (is_eq (cmp key k)) (places_at cmp old k) (places_at cmp new k) (law k) (are.rise k);
@@ -178,10 +175,9 @@ module _ {K : Type 0} {cmp : K → K → Ordering} (keys : IsTotalOrder cmp) (ex
   added_rise false xs ys n e r b = subst (λ (l : List ℕ). AreRisingPlaces l) (sym e) r
 
   -- a message comes that is not void
-  pub places_more : (ms : List Message) (x : Message) (ts : List (Option Taker)) (n : ℕ) (old new : BTreeMap K (List ℕ)) → n ≡ length ms → is_live x.trust ≡ true → ((us : List (Option Taker)) → ArePlaces cmp key_of ms us old) → IsOrdered cmp new →
+  pub places_more : (ms : List Message) (x : Message) (ts : List (Option Taker)) (n : ℕ) (old new : Keyed K) → n ≡ length ms → is_live x.trust ≡ true → ((us : List (Option Taker)) → ArePlaces cmp key_of ms us old) →
       ((k : K) → places_at cmp new k ≡ cond (is_eq (cmp (key_of x) k)) (places_at cmp old k ++ n ∷ []) (places_at cmp old k)) → ArePlaces cmp key_of (ms ++ x ∷ []) ts new
-  places_more ms x ts n old new len live are ordered law = record {
-    ordered = ordered;
+  places_more ms x ts n old new len live are law = record {
     all = λ i m e l w. ⊎_elim
         (λ (f : slice_get ms i ≡ Some m). added_left (is_eq (cmp (key_of x) (key_of m))) (places_at cmp old (key_of m)) (places_at cmp new (key_of m)) n i (law (key_of m)) ((are ts).all i m f l w))
         (λ (v : (i ≡ length ms) × (m ≡ x)).
@@ -199,26 +195,25 @@ module _ {K : Type 0} {cmp : K → K → Ordering} (keys : IsTotalOrder cmp) (ex
   }
 
   -- a void one comes
-  places_void : (ms : List Message) (x : Message) (ts : List (Option Taker)) (places : BTreeMap K (List ℕ)) → (is_live x.trust ≡ true → ⊥) → ArePlaces cmp key_of ms ts places → ArePlaces cmp key_of (ms ++ x ∷ []) ts places
+  places_void : (ms : List Message) (x : Message) (ts : List (Option Taker)) (places : Keyed K) → (is_live x.trust ≡ true → ⊥) → ArePlaces cmp key_of ms ts places → ArePlaces cmp key_of (ms ++ x ∷ []) ts places
   places_void ms x ts places void are = record {
-    ordered = are.ordered;
     all = λ i m e l w. ⊎_elim (λ (f : slice_get ms i ≡ Some m). are.all i m f l w)
         (λ (v : (i ≡ length ms) × (m ≡ x)). absurd (void (subst (λ (y : Message). is_live y.trust ≡ true) v.1 l))) (last_or_old ms x i m e);
     own = λ k i h. let o = are.own k i h in (o.0, still_there ms x i o.0 o.1, o.2, o.3);
     rise = are.rise;
   }
 
-  pub places_passes : (ms : List Message) (i : ℕ) (d : Message) (ts : List (Option Taker)) (places : BTreeMap K (List ℕ)) → i < length ms → (is_live (get_or ms i d).trust ≡ true → ⊥) →
+  pub places_passes : (ms : List Message) (i : ℕ) (d : Message) (ts : List (Option Taker)) (places : Keyed K) → i < length ms → (is_live (get_or ms i d).trust ≡ true → ⊥) →
       ((us : List (Option Taker)) → ArePlaces cmp key_of (take i ms) us places) → ArePlaces cmp key_of (take (i + 1) ms) ts places
   places_passes ms i d ts places lt void are =
       subst (λ (l : List Message). ArePlaces cmp key_of l ts places) (sym (take_more ms i d lt)) (places_void (take i ms) (get_or ms i d) ts places void (are ts))
 
   -- the next of the messages comes
-  pub places_next : (ms : List Message) (i : ℕ) (d : Message) (ts : List (Option Taker)) (old new : BTreeMap K (List ℕ)) → i < length ms → is_live (get_or ms i d).trust ≡ true → ((us : List (Option Taker)) → ArePlaces cmp key_of (take i ms) us old) → IsOrdered cmp new →
+  pub places_next : (ms : List Message) (i : ℕ) (d : Message) (ts : List (Option Taker)) (old new : Keyed K) → i < length ms → is_live (get_or ms i d).trust ≡ true → ((us : List (Option Taker)) → ArePlaces cmp key_of (take i ms) us old) →
       ((k : K) → places_at cmp new k ≡ cond (is_eq (cmp (key_of (get_or ms i d)) k)) (places_at cmp old k ++ i ∷ []) (places_at cmp old k)) → ArePlaces cmp key_of (take (i + 1) ms) ts new
-  places_next ms i d ts old new lt live are ordered law =
+  places_next ms i d ts old new lt live are law =
       subst (λ (l : List Message). ArePlaces cmp key_of l ts new) (sym (take_more ms i d lt))
-      (places_more (take i ms) (get_or ms i d) ts i old new (sym (length-take-le i ms (omega arith))) live are ordered law)
+      (places_more (take i ms) (get_or ms i d) ts i old new (sym (length-take-le i ms (omega arith))) live are law)
 
 -- where one more is taken, the places stand as they are
 waits_less : (ts : List (Option Taker)) (place : ℕ) (t : Taker) (i : ℕ) → waits_at (slice_set ts place (Some t)) i ≡ true → waits_at ts i ≡ true
@@ -228,11 +223,17 @@ waits_less (x ∷ ts) zero t (suc i) h = h
 waits_less (x ∷ ts) (suc place) t zero h = h
 waits_less (x ∷ ts) (suc place) t (suc i) h = waits_less ts place t i h
 
-pub places_with : {K : Type 0} (cmp : K → K → Ordering) (key_of : Message → K) (ms : List Message) (ts : List (Option Taker)) (place : ℕ) (t : Taker) (places : BTreeMap K (List ℕ)) → ArePlaces cmp key_of ms ts places
+pub places_with : {K : Type 0} (cmp : K → K → Ordering) (key_of : Message → K) (ms : List Message) (ts : List (Option Taker)) (place : ℕ) (t : Taker) (places : Keyed K) → ArePlaces cmp key_of ms ts places
     → ArePlaces cmp key_of ms (slice_set ts place (Some t)) places
 places_with cmp key_of ms ts place t places are = record {
-  ordered = are.ordered;
   all = λ i m e l w. are.all i m e l (waits_less ts place t i w);
   own = are.own;
   rise = are.rise;
 }
+
+-- the next of the messages is plain too
+pub plain_next : (ms : List Message) (i : ℕ) (d : Message) → i < length ms → ArePlain (take i ms) → IsPlain (get_or ms i d) → ArePlain (take (i + 1) ms)
+plain_next ms i d lt before next m h =
+    ⊎_elim (λ (k : Has (take i ms) m). before m k)
+    (λ (k : Has (get_or ms i d ∷ []) m). ⊎_elim (λ (e : m ≡ get_or ms i d). subst (λ (x : Message). IsPlain x) (sym e) next) (λ f. absurd f) k)
+    (has_either (take i ms) (get_or ms i d ∷ []) m (subst (λ (l : List Message). Has l m) (take_more ms i d lt) h))

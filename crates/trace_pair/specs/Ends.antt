@@ -1,6 +1,7 @@
 -- The ends of receives: at each key the end of the one that ends last.
-use Rattle.std.specs.Prelude.{◌≡◌, ◌≤◌, ℕ, Bool, true, false, nat_lt, nat_le, if◌then◌else◌, Option, Some, None, List}
+use Rattle.std.specs.Prelude.{◌≡◌, ◌≤◌, ℕ, Bool, true, false, nat_lt, nat_le, Option, Some, None, List, ◌||◌, ◌&&◌, not, if◌then◌else◌}
 use Rattle.std.specs.BTreeMap.{get}
+use Rattle.std.specs.List.{list_any}
 use Rattle.mpi_model.specs.declared.message.Message.{Message}
 use Rattle.mpi_model.specs.declared.message.Receive.{Receive}
 use Rattle.mpi_model.specs.Fit.{envelopes_fit}
@@ -34,16 +35,28 @@ pub record AreLast (opened : List Receive) (s : Ends) : Type 0 where
   pub within : (u : Receive) → Has opened u → (e : Option ℕ) × (get receive_key_cmp s.last (receive_key_of u) ≡ Some e) × (ends_by u.ended e ≡ true)
   pub own : (k : ReceiveKey) (e : Option ℕ) → get receive_key_cmp s.last k ≡ Some e → (u : Receive) × Has opened u × (receive_key_of u ≡ k) × (u.ended ≡ e)
 
+-- the ends of no receives
+abbrev pub IsOfNone : Ends → Type 0
+IsOfNone s = (opened : List Receive) → AreLast opened s → (u : Receive) → Has opened u → ⊥
+
 -- Of the receives that pass the test and whose envelopes fit the message's, this is the end of the one that ends last. Some
 -- receive whose envelope fits ends so.
 abbrev pub IsLastAmong : List Receive → Message → (Receive → Bool) → Option (Option ℕ) → Type 0
 IsLastAmong xs m p None = (r : Receive) → Has xs r → p r ≡ true → envelopes_fit m r ≡ true → ⊥
 IsLastAmong xs m p (Some e) = ((u : Receive) × Has xs u × (envelopes_fit m u ≡ true) × (u.ended ≡ e)) × ((r : Receive) → Has xs r → p r ≡ true → envelopes_fit m r ≡ true → ends_by r.ended e ≡ true)
 
+-- the later of two ends is that of both kinds of receives
+abbrev pub IsLaterOf : Option (Option ℕ) → Option (Option ℕ) → Option (Option ℕ) → Type 0
+IsLaterOf a b later = (xs : List Receive) (m : Message) (p t : Receive → Bool) → IsLastAmong xs m p a → IsLastAmong xs m t b → IsLastAmong xs m (λ r. p r || t r) later
+
 -- The same of all receives whose envelopes fit.
 abbrev pub IsLastFor : List Receive → Message → Option (Option ℕ) → Type 0
 IsLastFor xs m None = (r : Receive) → Has xs r → envelopes_fit m r ≡ true → ⊥
 IsLastFor xs m (Some e) = ((u : Receive) × Has xs u × (envelopes_fit m u ≡ true) × (u.ended ≡ e)) × ((r : Receive) → Has xs r → envelopes_fit m r ≡ true → ends_by r.ended e ≡ true)
+
+-- Some of the receives may take the message: their envelopes fit, and the message doesn't come after the receive.
+abbrev pub may_take : After → List Receive → Message → Bool
+may_take after xs m = list_any (λ q. envelopes_fit m q && not (after m q)) xs
 
 -- One of these receives may have taken the message: its envelope fits, and the message doesn't come after it.
 abbrev pub SomeHides : After → List Receive → Message → Type 0

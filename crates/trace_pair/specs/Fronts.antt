@@ -1,5 +1,5 @@
 -- What stays of an index where a rank did other calls than was held.
-use Rattle.std.specs.Prelude.{◌≡◌, ◌≤◌, ◌-◌, ◌^◌, ◌⊎◌, ℕ, Option, Some, None, List, length, take, drop, slice_get}
+use Rattle.std.specs.Prelude.{◌≡◌, ◌≤◌, ◌<◌, ◌-◌, ◌^◌, ◌⊎◌, ℕ, Option, Some, None, IfSome, List, length, take, drop, slice_get}
 use Rattle.std.specs.List.{AllZip}
 use Rattle.mpi_model.specs.declared.message.Message.{Message}
 use Rattle.mpi_model.specs.declared.message.Receive.{Receive}
@@ -54,3 +54,7 @@ pub record AreFronts (old new : Ops) (f : Fronts) : Type 0 where
   pub same_sends : take f.sends old.sends ≡ take f.sends new.sends
   pub same_receives : take f.receives old.receives ≡ take f.receives new.receives
   pub as_before : ((f.sends ≡ 0) × (f.receives ≡ 0)) ⊎ AreAsBefore old new f
+
+-- where both lists go on with the same element at the place, the test says why it isn't in common
+abbrev pub StopsWhere : {X : Type 0} → (X → Type 0) → List X → List X → ℕ → Type 0
+StopsWhere P a b place = place < length a → place < length b → slice_get a place ≡ slice_get b place → IfSome (slice_get a place) P

@@ -1,7 +1,7 @@
 -- The open receives of one key, each with the latest end of it and all in front of it.
-use Rattle.std.specs.Prelude.{◌≡◌, ◌⊎◌, ℕ, ◌-◌, Bool, true, nat_lt, nat_le, Option, Some, None, List, [], ◌∷◌, length, map, take}
+use Rattle.std.specs.Prelude.{◌≡◌, ◌⊎◌, ℕ, ◌-◌, Bool, true, false, nat_lt, nat_le, Option, Some, None, List, [], ◌∷◌, length, map, take}
 use Rattle.std.specs.BTreeSet.{BTreeSet}
-use Rattle.std.specs.List.Sorted.{IsNonDecreasingBy}
+use Rattle.std.specs.List.Sorted.{IsNonDecreasingBy, IsPartitionPoint}
 use Rattle.mpi_model.specs.declared.message.Receive.{Receive}
 use Rattle.trace_ops.specs.Order.{Has}
 use Rattle.trace_pair.specs.Ends.{ends_by, with_end}
@@ -38,6 +38,10 @@ pub record IsLane (steps : List Step) : Type 0 where
 pub record EndsWith (steps : List Step) (q : Receive) : Type 0 where
   pub before : (s : Step) → Has (take (length steps - 1) steps) s → nat_lt (call_of s) q.name.call ≡ true
   pub last : (s : Step) → Has steps s → Has (take (length steps - 1) steps) s ⊎ (s.receive ≡ q)
+
+-- the steps before the place pass the test, and those from there on don't
+abbrev pub IsSplitBy : (Step → Bool) → List Step → ℕ → Type 0
+IsSplitBy test steps place = IsPartitionPoint (λ s. test s ≡ true) (λ s. test s ≡ false) steps place
 
 -- called no later than the limit, where there is one
 abbrev pub is_within : Option ℕ → Receive → Bool

@@ -5,7 +5,6 @@ pub mod Barriers
 pub mod Reach
 pub mod Matching
 pub mod Table
-pub mod Turns
 pub mod Searched
 pub mod Certainty
 pub mod Rising
@@ -25,5 +24,6 @@ pub mod Queues
 pub mod Ends
 pub mod Lanes
 pub mod Waiting
+pub mod ByKey
 pub mod Settled
 pub mod Worked

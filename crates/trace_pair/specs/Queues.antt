@@ -50,7 +50,15 @@ SomeFits xs m = (r : Receive) × Has xs r × (envelopes_fit m r ≡ true)
 abbrev pub NoneFits : List Receive → Message → Type 0
 NoneFits xs m = (r : Receive) → Has xs r → envelopes_fit m r ≡ true → ⊥
 
+-- the envelope of none of the messages fits the receive's
+abbrev pub NoneFitsReceive : List Message → Receive → Type 0
+NoneFitsReceive ms q = (n : Message) → Has ms n → envelopes_fit n q ≡ true → ⊥
+
 -- the first of the receives that pass the test and whose envelopes fit the message's
 abbrev pub IsBestAmong : List Receive → Message → (Receive → Bool) → Option Receive → Type 0
 IsBestAmong xs m p None = (r : Receive) → Has xs r → p r ≡ true → envelopes_fit m r ≡ true → ⊥
 IsBestAmong xs m p (Some q) = Has xs q × (envelopes_fit m q ≡ true) × ((r : Receive) → Has xs r → p r ≡ true → envelopes_fit m r ≡ true → name_lt r.name q.name ≡ true → ⊥)
+
+-- the earlier of two receives is the first of both kinds
+abbrev pub IsEarlierOf : Option Receive → Option Receive → Option Receive → Type 0
+IsEarlierOf a b earlier = (xs : List Receive) (m : Message) (p t : Receive → Bool) → IsBestAmong xs m p a → IsBestAmong xs m t b → IsBestAmong xs m (λ r. p r || t r) earlier

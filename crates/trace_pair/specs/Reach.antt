@@ -1,5 +1,5 @@
 -- The table by which it is asked what comes after a receive.
-use Rattle.std.specs.Prelude.{◌≡◌, ℕ, Bool, true, false, ◌==◌, ◌&&◌, ◌||◌, nat_le, cond, unwrap_or, Option, Some, None, List, [], ◌∷◌, length, filter, slice_index}
+use Rattle.std.specs.Prelude.{◌≡◌, ℕ, Bool, true, false, ◌==◌, ◌&&◌, ◌||◌, nat_le, cond, unwrap_or, Option, Some, None, List, [], ◌∷◌, length, filter, slice_index, slice_set}
 use Rattle.std.specs.List.{list_any, AllZip}
 use Rattle.std.specs.List.Sorted.{IsNonDecreasing}
 use Rattle.std.specs.Ordering.{nat_cmp}
@@ -53,6 +53,10 @@ pub record IsReachOf (ops : Ops) (reach : RankReach) : Type 0 where
 
 abbrev pub AreReachesOf : List Ops → List RankReach → Type 0
 AreReachesOf ops reaches = AllZip IsReachOf ops reaches
+
+-- the table follows the new ops of a rank
+abbrev pub RenewsReach : ℕ → Ops → List RankReach → List RankReach → Type 0
+RenewsReach rank own old new = (ops : List Ops) → AreReachesOf ops old → AreReachesOf (slice_set ops rank own) new
 
 -- The call with so many calls before it isn't there, or isn't before call `ended`.
 abbrev pub is_entered_behind : List ℕ → ℕ → ℕ → Bool

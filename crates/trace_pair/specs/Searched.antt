@@ -1,5 +1,5 @@
 -- Pairs in which a call is found by halving.
-use Rattle.std.specs.Prelude.{◌≡◌, ◌<◌, ℕ, Option, List, slice_get, length}
+use Rattle.std.specs.Prelude.{◌≡◌, ◌<◌, ℕ, Option, List, slice_get, length, Bool, true, false, slice_index_or}
 use Rattle.std.specs.List.{find}
 use Rattle.std.specs.List.Sorted.{IsSortedBy}
 use Rattle.std.specs.Option.{option_map, option_cmp}
@@ -31,6 +31,10 @@ message_at pairs place = option_map (λ p. p.message) (slice_get pairs place)
 -- places in order of the receives that stand there
 abbrev pub AreByReceive : List Pair → List ℕ → Type 0
 AreByReceive pairs places = IsSortedBy (λ a b. is_lt (option_cmp name_cmp (receive_at pairs a) (receive_at pairs b))) places
+
+-- the place is marked as seen
+abbrev pub IsSeen : List Bool → ℕ → Type 0
+IsSeen seen place = slice_index_or seen place false ≡ true
 
 -- and the places of all of them
 pub record IsSearchable (pairs : List Pair) (places : List ℕ) : Type 0 where

@@ -1,7 +1,7 @@
 -- The pairs and the postponed messages of all ranks' ops.
 use Rattle.std.specs.Ordering.{int_eq}
-use Rattle.std.specs.Prelude.{ℕ, Bool, ◌&&◌, ◌==◌, not, cond, nat_lt, Option, Some, None, is_none, List, replicate}
-use Rattle.std.specs.List.{flat_map, filter_map, list_any, find}
+use Rattle.std.specs.Prelude.{ℕ, Bool, ◌&&◌, ◌==◌, not, cond, nat_lt, Option, Some, None, is_none, List, replicate, ◌++◌, []}
+use Rattle.std.specs.List.{flat_map, filter_map, list_any, find, cons_option}
 use Rattle.std.specs.Option.{option_map}
 use Rattle.mpi_model.specs.declared.event.OpName.{OpName}
 use Rattle.mpi_model.specs.declared.message.Message.{Message}
@@ -50,6 +50,14 @@ postponed_name after ms qs m = cond (is_postponed after ms qs m) (Some m.name) N
 -- the postponed messages, in their order
 abbrev pub postponed_of : After → List Message → List Receive → List OpName
 postponed_of after ms qs = filter_map (postponed_name after ms qs) ms
+
+-- the pairs, and that of the message, if it is in one
+abbrev pub with_pair : After → List Message → List Receive → Message → List Pair → List Pair
+with_pair after ms qs m pairs = pairs ++ cons_option (option_map (pair_of m) (receive_of after ms qs m)) []
+
+-- the postponed messages, and this one, if it is postponed
+abbrev pub with_postponed : After → List Message → List Receive → Message → List OpName → List OpName
+with_postponed after ms qs m names = names ++ cons_option (postponed_name after ms qs m) []
 
 -- what a table shows
 pub record Table : Type 0 where

@@ -1,10 +1,12 @@
 -- All messages in their order, what takes each, and the places of those that wait.
-use Rattle.std.specs.Prelude.{◌≡◌, ◌<◌, ◌==◌, ◌++◌, if◌then◌else◌, ℕ, Bool, true, false, cond, Option, Some, None, IfSome, List, [], ◌∷◌, filter, length, replicate, slice_get, slice_set}
+use Rattle.std.specs.Prelude.{◌≡◌, ◌<◌, ◌==◌, ◌++◌, ℕ, Bool, true, false, cond, Option, Some, None, IfSome, List, [], ◌∷◌, filter, length, replicate, slice_get, slice_set, if◌then◌else◌}
 use Rattle.std.specs.declared.cmp.Ordering.{Ordering}
 use Rattle.std.specs.Ordering.{is_eq}
-use Rattle.std.specs.BTreeMap.{BTreeMap, get, IsOrdered}
+use Rattle.std.specs.BTreeMap.{is_at}
+use Rattle.std.specs.Map.{lookup}
 use Rattle.mpi_model.specs.declared.message.Message.{Message}
 use Rattle.mpi_model.specs.declared.message.Receive.{Receive}
+use Rattle.mpi_model.specs.Trusts.{is_sure}
 use Rattle.trace_ops.specs.Order.{Has}
 use Rattle.trace_pair.specs.Calls.{is_live, IsOwnMessage}
 use Rattle.trace_pair.specs.Coupled.{receive_by}
@@ -90,21 +92,29 @@ abbrev pub sole_of : List Message → List (Option Taker) → List ℕ → Optio
 sole_of ms takers [] = None
 sole_of ms takers (i ∷ places) = cond (is_followed ms takers (call_at ms i) places) None (Some i)
 
+-- The place in front; where calls may have several parts, if at none of those behind it a message of its call waits.
+abbrev pub sole_or_first : Bool → List Message → List (Option Taker) → List ℕ → Option ℕ
+sole_or_first plain ms takers places = cond plain (slice_get places 0) (sole_of ms takers places)
+
 -- the places that are listed, none where there is no list
 abbrev pub items_of : Option (List ℕ) → List ℕ
 items_of None = []
 items_of (Some places) = places
 
+-- places by keys
+abbrev pub Keyed : Type 0 → Type 0
+Keyed K = List (K × List ℕ)
+
 -- the places at a key
-abbrev pub places_at : {K : Type 0} → (K → K → Ordering) → BTreeMap K (List ℕ) → K → List ℕ
-places_at cmp places k = items_of (get cmp places k)
+abbrev pub places_at : {K : Type 0} → (K → K → Ordering) → Keyed K → K → List ℕ
+places_at cmp places k = items_of (lookup (is_at (cmp k)) places)
 
 -- the place stands behind the others at the key
-abbrev pub AddsPlace : {K : Type 0} → (K → K → Ordering) → K → ℕ → BTreeMap K (List ℕ) → BTreeMap K (List ℕ) → Type 0
+abbrev pub AddsPlace : {K : Type 0} → (K → K → Ordering) → K → ℕ → Keyed K → Keyed K → Type 0
 AddsPlace {K} cmp key place old new = (k : K) → places_at cmp new k ≡ (if is_eq (cmp key k) then places_at cmp old k ++ place ∷ [] else places_at cmp old k)
 
 -- at the key those before the first that waits are gone
-abbrev pub DropsTaken : {K : Type 0} → (K → K → Ordering) → K → List (Option Taker) → BTreeMap K (List ℕ) → BTreeMap K (List ℕ) → Type 0
+abbrev pub DropsTaken : {K : Type 0} → (K → K → Ordering) → K → List (Option Taker) → Keyed K → Keyed K → Type 0
 DropsTaken {K} cmp key takers old new = (k : K) → places_at cmp new k ≡ (if is_eq (cmp key k) then from_waiting takers (places_at cmp old k) else places_at cmp old k)
 
 -- Each place is below those that follow.
@@ -114,16 +124,30 @@ AreRisingPlaces (i ∷ places) = ((j : ℕ) → Has places j → i < j) × AreRi
 
 -- Each message that waits has its place at its key. What stands at a key are places of its messages, in their order, and
 -- of none that is void.
-pub record ArePlaces {K : Type 0} (cmp : K → K → Ordering) (key_of : Message → K) (ms : List Message) (takers : List (Option Taker)) (places : BTreeMap K (List ℕ)) : Type 0 where
-  pub ordered : IsOrdered cmp places
+pub record ArePlaces {K : Type 0} (cmp : K → K → Ordering) (key_of : Message → K) (ms : List Message) (takers : List (Option Taker)) (places : Keyed K) : Type 0 where
   pub all : (i : ℕ) (m : Message) → slice_get ms i ≡ Some m → is_live m.trust ≡ true → waits_at takers i ≡ true → Has (places_at cmp places (key_of m)) i
   pub own : (k : K) (i : ℕ) → Has (places_at cmp places k) i → (m : Message) × (slice_get ms i ≡ Some m) × (key_of m ≡ k) × (is_live m.trust ≡ true)
   pub rise : (k : K) → AreRisingPlaces (places_at cmp places k)
 
--- places by queue, and where they were made, by lane
-pub record AreTakings (ms : List Message) (takers : List (Option Taker)) (queues : BTreeMap Queue (List ℕ)) (lanes : Option (BTreeMap Lane (List ℕ))) : Type 0 where
+-- places by lane, where those that there were are
+abbrev pub AreLanesOrNew : List Message → Option (Keyed Lane) → Keyed Lane → Type 0
+AreLanesOrNew ms had made = (takers : List (Option Taker)) → IfSome had (ArePlaces lane_cmp lane_of ms takers) → ArePlaces lane_cmp lane_of ms takers made
+
+-- The message is sure, its sender's own, and the first part of its call.
+pub record IsPlain (m : Message) : Type 0 where
+  pub sure : is_sure m.trust ≡ true
+  pub own : IsOwnMessage m
+  pub first : m.name.part ≡ 0
+
+-- Each message is. So it is alone of its call.
+abbrev pub ArePlain : List Message → Type 0
+ArePlain ms = (m : Message) → Has ms m → IsPlain m
+
+-- Places by queue, and where they were made, by lane. Where they are marked as plain, the messages are.
+pub record AreTakings (ms : List Message) (marked : Bool) (takers : List (Option Taker)) (queues : Keyed Queue) (lanes : Option (Keyed Lane)) : Type 0 where
   pub rise : AreRising (λ m. m.name) ms
   pub many : length takers ≡ length ms
+  pub plain : marked ≡ true → ArePlain ms
   pub queued : ArePlaces queue_cmp queue_of ms takers queues
   pub laned : IfSome lanes (ArePlaces lane_cmp lane_of ms takers)
 

@@ -12,23 +12,20 @@
 //! Then a part takes what it is offered, if no other free receive fits it: those of any tag before those
 //! of a tag, since one of a tag can wait for one of any to be out of the way, and not the other way round.
 
-ghost use Rattle.std.specs.Prelude.{◌≡◌, ◌∷◌, true, false, None, Some, IfOk, OnOk, [], List, length, slice_get};
-ghost use Rattle.std.specs.List.{All, AllZip};
+ghost use Rattle.std.specs.Prelude.{◌≡◌, ◌∷◌, true, false, None, Some, IfOk, OnOk, [], List, length};
+ghost use Rattle.std.specs.List.{All};
 ghost use Rattle.mpi_model.specs.declared.message.Message.{Message};
 ghost use Rattle.mpi_model.specs.declared.message.Receive.{Receive};
 ghost use Rattle.mpi_model.specs.Trusts.{is_settled};
 ghost use Rattle.trace_ops.specs.Ops.{AreOwn};
-ghost use Rattle.trace_ops.specs.Order.{Has};
 ghost use Rattle.trace_pair.specs.After.{comes_after};
-ghost use Rattle.trace_pair.specs.Calls.{AddsReceives, ArePostedApart, IsOwnReceive, between, IsPosting};
-ghost use Rattle.trace_pair.specs.Indexed.{AwaitReceives, with_kind};
-ghost use Rattle.trace_pair.specs.Settled.{Settles, SettlesAmong, SettlesCall, IsNextKind, IsNextPart, IsOfferedAt, IsTakenAt, IsWithin, couples_of, waiting_of};
-ghost use Rattle.trace_pair.specs.Sets.{AddsTo};
-ghost use Rattle.trace_pair.specs.Ends.{AreLast, NoneHides, SomeHides};
-ghost use Rattle.trace_pair.specs.Pairing.{After, receive_of};
-ghost use Rattle.trace_pair.specs.Table.{fits_open, sends_of, receives_of};
+ghost use Rattle.trace_pair.specs.Settled.{Settles, SettlesCall, IsWithin, IsTakerAt, TellsOpenFit, OffersPlace, OffersPlaces, TakesPlace, EntersReceive, EntersCall, SettlesPart, SettlesKind, SettlesRank};
+ghost use Rattle.trace_pair.specs.Ends.{AreLast, NoneHides, SomeHides, IsOfNone};
+ghost use Rattle.trace_pair.specs.Pairing.{receive_of};
+ghost use Rattle.trace_pair.specs.Table.{sends_of, receives_of};
+ghost use Rattle.trace_pair.specs.Waiting.{ArePlain};
 
-use crate::couples::{receive_by, taker_of};
+use crate::couples::receive_by;
 use crate::ends::Ends;
 use crate::queues::Receives;
 use crate::reach::Reaches;
@@ -42,13 +39,13 @@ use trace_ops::RankOps;
 /// All messages with what takes each, and of the receives so far those that are free, and the ends of
 /// those that are open.
 #[derive(Drop)]
-pub(crate) struct Batch {
-    messages: Takings,
+pub(crate) struct Batch<'a> {
+    messages: Takings<'a>,
     free: Receives,
     opened: Ends,
 }
 
-impl Batch {
+impl<'a> Batch<'a> {
     /// All messages, in their order.
     pub(crate) fn messages(&self) -> &[Message]
         ensures { result.now ≡ self.now.messages.messages }
@@ -63,7 +60,7 @@ impl Batch {
 
     /// The receive that takes the message at a place.
     pub(crate) fn receive_of(&self, place: usize, m: &Message) -> Option<Receive>
-        ensures { (after : After) (ms : List Message) (qs : List Receive) → Settles after ms qs self.now → slice_get ms place ≡ Some m.now → result ≡ receive_of after ms qs m.now }
+        ensures { IsTakerAt self.now place m.now result }
     {
         match self.messages.taker_at(place) {
             Some(taker) => Some(receive_by(m, taker)),
@@ -73,7 +70,7 @@ impl Batch {
 
     /// Whether an open receive fits the message, which doesn't come after it.
     pub(crate) fn does_open_fit(&self, reaches: &Reaches, m: &Message) -> bool
-        ensures { (ms : List Message) (qs : List Receive) → Settles (comes_after reaches.now) ms qs self.now → result ≡ fits_open (comes_after reaches.now) qs m.now }
+        ensures { TellsOpenFit (comes_after reaches.now) self.now m.now result }
     {
         !m.trust.is_void() && is_hidden(reaches, &self.opened, m)
     }
@@ -87,6 +84,17 @@ fn is_hidden(reaches: &Reaches, opened: &Ends, m: &Message) -> bool
     opened.may_take(reaches, m)
 }
 
+/// Whether it is known that each message is sure, and no receive open.
+fn has_no_doubt(batch: &Batch) -> bool
+    ensures plain { result ≡ true → ArePlain batch.now.messages.messages }
+    ensures closed { result ≡ true → IsOfNone batch.now.opened }
+{
+    if batch.opened.has_some() {
+        return false;
+    }
+    batch.messages.are_plain()
+}
+
 /// The place of the message that a part of a new call takes, if no other free receive fits it.
 fn offered_place(
     batch: &mut Batch,
@@ -95,9 +103,7 @@ fn offered_place(
 ) -> Result<Option<usize>, AllocError>
     ensures kept { batch.new ≡ batch.old }
     ensures within { IfOk result (IsWithin batch.old) }
-    ensures found { IfOk result (λ place. (ms : List Message) (qs more call free opened : List Receive) → AddsReceives qs more call → Has call part.now → AreLast opened batch.old.opened → batch.old.messages.messages ≡ ms
-        → AwaitReceives (comes_after reaches.now) ms qs more (waiting_of batch.old) free opened (couples_of batch.old)
-        → IsOfferedAt (comes_after reaches.now) ms qs more part.now place) }
+    ensures found { IfOk result (OffersPlace (comes_after reaches.now) batch.old part.now) }
 {
     if !part.is_settled() {
         return Ok(None);
@@ -105,6 +111,9 @@ fn offered_place(
     let Some(place) = batch.messages.sole_for(part)? else {
         return Ok(None);
     };
+    if has_no_doubt(batch) {
+        return Ok(Some(place));
+    }
     let m = batch.messages.messages()[place];
     if !m.trust.is_sure() {
         return Ok(None);
@@ -120,11 +129,14 @@ fn taken_by(batch: &mut Batch, reaches: &Reaches, q: &Receive) -> Result<Option<
     requires { is_settled q.now ≡ true }
     ensures kept { batch.new ≡ batch.old }
     ensures within { IfOk result (IsWithin batch.old) }
-    ensures found { IfOk result (λ place. (ms : List Message) (qs more : List Receive) → AddsReceives qs more (q.now ∷ []) → ArePostedApart more → Settles (comes_after reaches.now) ms qs batch.old → IsTakenAt (comes_after reaches.now) ms qs more q.now place) }
+    ensures found { IfOk result (TakesPlace (comes_after reaches.now) batch.old q.now) }
 {
     let Some(place) = offered_place(batch, reaches, q)? else {
         return Ok(None);
     };
+    if !batch.free.has_some() {
+        return Ok(Some(place));
+    }
     let m = batch.messages.messages()[place];
     if batch.free.fits_some(&m) {
         return Ok(None);
@@ -133,27 +145,30 @@ fn taken_by(batch: &mut Batch, reaches: &Reaches, q: &Receive) -> Result<Option<
 }
 
 /// Puts a receive that is alone of its call behind those of its rank.
-fn add_receive(batch: &mut Batch, reaches: &Reaches, q: Receive) -> Result<(), AllocError>
-    ensures { OnOk result (SettlesCall (comes_after reaches.now) (q ∷ []) batch.old batch.new) }
+fn add_receive<'a>(
+    batch: &mut Batch<'a>,
+    reaches: &Reaches,
+    q: &'a Receive,
+) -> Result<(), AllocError>
+    ensures { OnOk result (SettlesCall (comes_after reaches.now) (q.now ∷ []) batch.old batch.new) }
 {
     if q.is_open() {
-        batch.opened.insert(&q)?;
+        batch.opened.insert(q)?;
         return Ok(());
     }
     if !q.is_settled() {
         return Ok(());
     }
-    match taken_by(batch, reaches, &q)? {
-        Some(place) => batch.messages.take(place, taker_of(&q))?,
-        None => batch.free.insert(q)?,
+    match taken_by(batch, reaches, q)? {
+        Some(place) => batch.messages.take(place, q)?,
+        None => batch.free.insert(*q)?,
     }
     Ok(())
 }
 
 /// Puts a receive that takes nothing yet into its set.
 fn enter_receive(batch: &mut Batch, q: &Receive) -> Result<(), AllocError>
-    ensures { OnOk result ((after : After) (ms : List Message) (all done qs more : List Receive) → AddsTo qs more q.now → IsOwnReceive q.now → ArePostedApart more → (Has done q.now → ⊥)
-        → SettlesAmong after ms all done qs batch.old → SettlesAmong after ms all done more batch.new) }
+    ensures { OnOk result (EntersReceive q.now batch.old batch.new) }
 {
     if q.is_settled() {
         batch.free.insert(*q)?;
@@ -168,7 +183,7 @@ fn enter_receive(batch: &mut Batch, q: &Receive) -> Result<(), AllocError>
 
 /// Puts the receives of a call into their sets.
 fn enter_receives(batch: &mut Batch, call: &[Receive]) -> Result<(), AllocError>
-    ensures { OnOk result ((after : After) (ms : List Message) (qs more : List Receive) → AddsReceives qs more call.now → ArePostedApart more → Settles after ms qs batch.old → SettlesAmong after ms more qs more batch.new) }
+    ensures { OnOk result (EntersCall call.now batch.old batch.new) }
 {
     for q in call {
         enter_receive(batch, q)?;
@@ -185,8 +200,7 @@ fn offered_places(
     ensures kept { batch.new ≡ batch.old }
     ensures long { IfOk result (λ found. length found.items ≡ length call.now) }
     ensures within { IfOk result (λ found. All (IsWithin batch.old) found.items) }
-    ensures found { IfOk result (λ found. (ms : List Message) (qs more : List Receive) → AddsReceives qs more call.now → SettlesAmong (comes_after reaches.now) ms more qs more batch.old
-        → AllZip (IsOfferedAt (comes_after reaches.now) ms qs more) call.now found.items) }
+    ensures found { IfOk result (λ found. OffersPlaces (comes_after reaches.now) batch.old call.now found.items) }
 {
     let mut found = Vec::with_capacity(*batch.messages.allocator(), call.len())?;
     for q in call {
@@ -197,11 +211,14 @@ fn offered_places(
 }
 
 /// The part takes the message that it is offered, if no other free receive fits it.
-fn settle_receive(batch: &mut Batch, offered: Option<usize>, q: &Receive) -> Result<(), AllocError>
+fn settle_receive<'a>(
+    batch: &mut Batch<'a>,
+    offered: Option<usize>,
+    q: &'a Receive,
+) -> Result<(), AllocError>
     requires { IsWithin batch.old offered }
     ensures kept { OnOk result (batch.new.messages.messages ≡ batch.old.messages.messages) }
-    ensures settled { OnOk result ((after : After) (ms : List Message) (qs more call done : List Receive) → AddsReceives qs more call → Has call q.now → IsOfferedAt after ms qs more q.now offered
-        → IsNextPart qs call done q.now → SettlesAmong after ms more done more batch.old → SettlesAmong after ms more (q.now ∷ done) more batch.new) }
+    ensures settled { OnOk result (SettlesPart q.now offered batch.old batch.new) }
 {
     let Some(place) = offered else {
         return Ok(());
@@ -210,23 +227,22 @@ fn settle_receive(batch: &mut Batch, offered: Option<usize>, q: &Receive) -> Res
     batch.free.remove(q);
     match batch.free.first_for(&m) {
         Some(_) => batch.free.insert(*q)?,
-        None => batch.messages.take(place, taker_of(q))?,
+        None => batch.messages.take(place, q)?,
     }
     Ok(())
 }
 
 /// The parts of a call that are of any tag take what they are offered, or those of a tag.
-fn settle_receives(
-    batch: &mut Batch,
-    call: &[Receive],
+fn settle_receives<'a>(
+    batch: &mut Batch<'a>,
+    call: &'a [Receive],
     found: &[Option<usize>],
     any_tag: bool,
 ) -> Result<(), AllocError>
     requires long { length found.now ≡ length call.now }
     requires within { All (IsWithin batch.old) found.now }
     ensures kept { OnOk result (batch.new.messages.messages ≡ batch.old.messages.messages) }
-    ensures settled { OnOk result ((after : After) (ms : List Message) (qs more done : List Receive) → AddsReceives qs more call.now → AllZip (IsOfferedAt after ms qs more) call.now found.now
-        → IsNextKind any_tag qs call.now done → SettlesAmong after ms more done more batch.old → SettlesAmong after ms more (with_kind any_tag call.now done) more batch.new) }
+    ensures settled { OnOk result (SettlesKind any_tag call.now found.now batch.old batch.new) }
 {
     for (i, q) in call.iter().enumerate() {
         if q.tag.is_none() != any_tag {
@@ -239,7 +255,11 @@ fn settle_receives(
 
 /// Puts the receives of a call of several parts behind those of its rank. Parts that are alike each need
 /// the other to go first, and none of them takes anything.
-fn add_parts(batch: &mut Batch, reaches: &Reaches, call: &[Receive]) -> Result<(), AllocError>
+fn add_parts<'a>(
+    batch: &mut Batch<'a>,
+    reaches: &Reaches,
+    call: &'a [Receive],
+) -> Result<(), AllocError>
     ensures { OnOk result (SettlesCall (comes_after reaches.now) call.now batch.old batch.new) }
 {
     enter_receives(batch, call)?;
@@ -250,19 +270,26 @@ fn add_parts(batch: &mut Batch, reaches: &Reaches, call: &[Receive]) -> Result<(
 }
 
 /// Puts the receives of a call behind those of its rank.
-fn add_call(batch: &mut Batch, reaches: &Reaches, call: &[Receive]) -> Result<(), AllocError>
+fn add_call<'a>(
+    batch: &mut Batch<'a>,
+    reaches: &Reaches,
+    call: &'a [Receive],
+) -> Result<(), AllocError>
     ensures { OnOk result (SettlesCall (comes_after reaches.now) call.now batch.old batch.new) }
 {
     if call.len() == 1 {
-        return add_receive(batch, reaches, call[0]);
+        return add_receive(batch, reaches, &call[0]);
     }
     add_parts(batch, reaches, call)
 }
 
 /// Adds the receives of a rank behind the ranks before it, call by call.
-fn add_receives(batch: &mut Batch, reaches: &Reaches, own: &[Receive]) -> Result<(), AllocError>
-    ensures { OnOk result ((ms : List Message) (before : List Receive) → IsPosting before [] own.now → ArePostedApart (between before own.now [])
-        → Settles (comes_after reaches.now) ms (between before [] []) batch.old → Settles (comes_after reaches.now) ms (between before own.now []) batch.new) }
+fn add_receives<'a>(
+    batch: &mut Batch<'a>,
+    reaches: &Reaches,
+    own: &'a [Receive],
+) -> Result<(), AllocError>
+    ensures { OnOk result (SettlesRank (comes_after reaches.now) own.now batch.old batch.new) }
 {
     let mut next = 0;
     while next < own.len() {
@@ -274,7 +301,7 @@ fn add_receives(batch: &mut Batch, reaches: &Reaches, own: &[Receive]) -> Result
 }
 
 /// All messages, with no receive yet.
-fn all_waiting(alloc: Global, ops: &[RankOps]) -> Result<Batch, AllocError>
+fn all_waiting<'a>(alloc: Global, ops: &[RankOps]) -> Result<Batch<'a>, AllocError>
     requires { AreOwn 0 ops.now }
     ensures { IfOk result (Settles (comes_after ops.now) (sends_of ops.now) []) }
 {
@@ -299,7 +326,7 @@ fn all_sends(alloc: Global, ops: &[RankOps]) -> Result<Vec<Message>, AllocError>
 }
 
 /// The pairing of all ranks' calls.
-pub(crate) fn batch_of(alloc: Global, reaches: &Reaches) -> Result<Batch, AllocError>
+pub(crate) fn batch_of<'a>(alloc: Global, reaches: &Reaches<'a>) -> Result<Batch<'a>, AllocError>
     requires { AreOwn 0 reaches.now }
     ensures { IfOk result (Settles (comes_after reaches.now) (sends_of reaches.now) (receives_of reaches.now)) }
 {

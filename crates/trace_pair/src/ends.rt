@@ -1,12 +1,11 @@
 //! The ends of receives: at each key the end of the one that ends last, which is all that a message asks of them.
 
-ghost use Rattle.std.specs.Prelude.{◌≡◌, ◌∷◌, ◌&&◌, not, true, [], OnOk, List};
-ghost use Rattle.std.specs.List.{list_any};
+ghost use Rattle.std.specs.Prelude.{◌≡◌, ◌∷◌, true, false, [], OnOk, List};
 ghost use Rattle.mpi_model.specs.declared.message.Receive.{Receive};
 ghost use Rattle.mpi_model.specs.declared.message.Message.{Message};
-ghost use Rattle.mpi_model.specs.Fit.{admits, envelopes_fit};
+ghost use Rattle.mpi_model.specs.Fit.{admits};
 ghost use Rattle.trace_pair.specs.After.{comes_after};
-ghost use Rattle.trace_pair.specs.Ends.{AreLast, IsLastAmong, IsLastFor};
+ghost use Rattle.trace_pair.specs.Ends.{AreLast, IsLastAmong, IsLastFor, may_take, IsOfNone};
 ghost use Rattle.trace_pair.specs.Queues.{of_kind};
 
 use crate::later::{later_of, with_end};
@@ -33,6 +32,13 @@ impl Ends {
             kinds: NO_KINDS,
             last: BTreeMap::new(alloc),
         }
+    }
+
+    /// Whether there are any.
+    pub(crate) fn has_some(&self) -> bool
+        ensures { result ≡ false → IsOfNone self.now }
+    {
+        self.kinds.is_any()
     }
 
     /// And the end of this receive.
@@ -75,7 +81,7 @@ impl Ends {
     /// Whether some of the receives may take the message: their envelopes fit, and the message doesn't come after the
     /// receive. A few questions of a map, and one of the Barriers.
     pub fn may_take(&self, reaches: &Reaches, m: &Message) -> bool
-        ensures { (xs : List Receive) → AreLast xs self.now → result ≡ list_any (λ q. envelopes_fit m.now q && not (comes_after reaches.now m.now q)) xs }
+        ensures { (xs : List Receive) → AreLast xs self.now → result ≡ may_take (comes_after reaches.now) xs m.now }
     {
         match self.last_for(m) {
             None => false,

@@ -1,16 +1,14 @@
 //! The sets of an index, as the calls of one rank become others.
 
-ghost use Rattle.std.specs.Prelude.{◌≡◌, ◌↔◌, ◌≤◌, ◌<◌, List, OnOk, IfOk, IfSome, IsTrue, take, length, slice_get, slice_index_or};
+ghost use Rattle.std.specs.Prelude.{◌≡◌, ◌↔◌, ◌≤◌, ◌<◌, OnOk, IfOk, IsTrue, take, length, slice_index_or};
 ghost use Rattle.std.specs.List.{AllZip};
 ghost use Rattle.mpi_model.specs.declared.message.Message.{Message};
 ghost use Rattle.mpi_model.specs.declared.message.Receive.{Receive};
 ghost use Rattle.trace_ops.specs.Ops.{AreOwn, no_ops};
 ghost use Rattle.trace_ops.specs.Order.{AreEntered, Has};
-ghost use Rattle.trace_pair.specs.Calls.{between, IsSequence, IsPostingByCall};
 ghost use Rattle.trace_pair.specs.After.{comes_after};
-ghost use Rattle.trace_pair.specs.Followed.{Adds, Drops, Indexes};
-ghost use Rattle.trace_pair.specs.Fronts.{AreFronts, AreOneBefore, IsAlike, IsEndedBy, call_at};
-ghost use Rattle.trace_pair.specs.Pairing.{After};
+ghost use Rattle.trace_pair.specs.Followed.{Adds, Drops, DropsMessages, AddsMessages, DropsPosted, AddsPosted};
+ghost use Rattle.trace_pair.specs.Fronts.{AreFronts, AreOneBefore, IsAlike, IsEndedBy, call_at, StopsWhere};
 ghost use Rattle.trace_pair.specs.Reach.{AreReachesOf};
 
 use crate::matched::{Matched, add_message, add_receive, pop_message, pop_receive};
@@ -34,8 +32,7 @@ fn is_same_receive(a: &Receive, b: &Receive) -> bool
 /// Takes back the messages of a rank behind the first `keep`.
 fn drop_messages(state: &mut Matched, held: &[Message], keep: usize) -> Result<(), AllocError>
     requires { keep ≤ length held.now }
-    ensures { OnOk result ((after : After) (before behind : List Message) (qs : List Receive) → IsSequence before behind held.now
-        → Indexes after (between before held.now behind) qs state.old → Indexes after (between before (take keep held.now) behind) qs state.new) }
+    ensures { OnOk result (DropsMessages held.now keep state.old state.new) }
 {
     let mut left = held.len();
     while left > keep {
@@ -53,8 +50,7 @@ pub(crate) fn add_messages(
     keep: usize,
 ) -> Result<(), AllocError>
     requires { keep ≤ length held.now }
-    ensures { OnOk result ((before behind : List Message) (qs : List Receive) → IsSequence before behind held.now
-        → Indexes (comes_after reaches.now) (between before (take keep held.now) behind) qs state.old → Indexes (comes_after reaches.now) (between before held.now behind) qs state.new) }
+    ensures { OnOk result (AddsMessages (comes_after reaches.now) held.now keep state.old state.new) }
 {
     let mut next = keep;
     while next < held.len() {
@@ -77,7 +73,7 @@ fn common_messages(a: &[Message], b: &[Message], last: u64) -> usize
     ensures second { result ≤ length b.now }
     ensures same { take result a.now ≡ take result b.now }
     ensures within { (m : Message) → Has (take result a.now) m → m.name.call ≤ last }
-    ensures longest { result < length a.now → result < length b.now → slice_get a.now result ≡ slice_get b.now result → IfSome (slice_get a.now result) (λ m. last < m.name.call) }
+    ensures longest { StopsWhere (λ m. last < m.name.call) a.now b.now result }
 {
     let mut i = 0;
     while i < a.len() && i < b.len() {
@@ -92,8 +88,7 @@ fn common_messages(a: &[Message], b: &[Message], last: u64) -> usize
 /// Takes back the receives of a rank behind the first `keep`.
 fn drop_receives(state: &mut Matched, held: &[Receive], keep: usize) -> Result<(), AllocError>
     requires { keep ≤ length held.now }
-    ensures { OnOk result ((after : After) (before behind : List Receive) (ms : List Message) → IsPostingByCall before behind held.now
-        → Indexes after ms (between before held.now behind) state.old → Indexes after ms (between before (take keep held.now) behind) state.new) }
+    ensures { OnOk result (DropsPosted held.now keep state.old state.new) }
 {
     let mut left = held.len();
     while left > keep {
@@ -111,8 +106,7 @@ pub(crate) fn add_receives(
     keep: usize,
 ) -> Result<(), AllocError>
     requires { keep ≤ length held.now }
-    ensures { OnOk result ((before behind : List Receive) (ms : List Message) → IsPostingByCall before behind held.now
-        → Indexes (comes_after reaches.now) ms (between before (take keep held.now) behind) state.old → Indexes (comes_after reaches.now) ms (between before held.now behind) state.new) }
+    ensures { OnOk result (AddsPosted (comes_after reaches.now) held.now keep state.old state.new) }
 {
     let mut next = keep;
     while next < held.len() {
@@ -146,7 +140,7 @@ fn common_receives(a: &[Receive], b: &[Receive], last: u64) -> usize
     ensures second { result ≤ length b.now }
     ensures same { take result a.now ≡ take result b.now }
     ensures within { (q : Receive) → Has (take result a.now) q → IsEndedBy q last }
-    ensures longest { result < length a.now → result < length b.now → slice_get a.now result ≡ slice_get b.now result → IfSome (slice_get a.now result) (λ q. IsEndedBy q last → ⊥) }
+    ensures longest { StopsWhere (λ q. IsEndedBy q last → ⊥) a.now b.now result }
 {
     let mut i = 0;
     while i < a.len() && i < b.len() {

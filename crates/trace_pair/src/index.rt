@@ -6,7 +6,7 @@ ghost use Rattle.trace_ops.specs.Order.{AreInOrder, ArePosted};
 ghost use Rattle.trace_pair.specs.Calls.{IsSingle};
 ghost use Rattle.trace_pair.specs.Certainty.{AreCertain, AreAllSettled, AreLegal, AreNoneAfter, AreTheOnlyLegal};
 ghost use Rattle.trace_pair.specs.Kept.{IfSets, IsFollowed};
-ghost use Rattle.trace_pair.specs.Reach.{AreReachesOf};
+ghost use Rattle.trace_pair.specs.Reach.{RenewsReach};
 ghost use Rattle.trace_pair.specs.Table.{fresh, table_of};
 
 use crate::follow::{add_calls, drop_calls};
@@ -248,7 +248,7 @@ fn renew_rank(
 ) -> Result<(), AllocError>
     requires rank { rank < length table.old.items }
     requires own { IsOwn rank own.now }
-    ensures { OnOk result ((ops : List Ops) → AreReachesOf ops table.old.items → AreReachesOf (slice_set ops rank own.now) table.new.items) }
+    ensures { OnOk result (RenewsReach rank own.now table.old.items table.new.items) }
 {
     renew(alloc, table, rank, own)
 }

@@ -3,15 +3,15 @@
 //! A message asks a lane for that end alone, of the whole lane or of the front that is called no later than some call. Receives
 //! come and go at the end of a lane, but for a few: so one costs a search, and a push or a pop.
 
-ghost use Rattle.std.specs.Prelude.{◌≡◌, ◌||◌, ◌≤◌, not, true, false, if◌then◌else◌, nat_lt, nat_le, take, filter, length, IfOk, OnOk, OnErr, IsTrue, None};
+ghost use Rattle.std.specs.Prelude.{◌≡◌, ◌≤◌, not, false, nat_lt, nat_le, take, filter, length, IfOk, OnOk, OnErr, IsTrue, None};
 ghost use Rattle.std.specs.BTreeSet.{contains};
-ghost use Rattle.std.specs.List.Sorted.{IsNonDecreasingBy, IsPartitionPoint};
+ghost use Rattle.std.specs.List.Sorted.{IsNonDecreasingBy};
 ghost use Rattle.std.specs.Ordering.{is_eq};
 ghost use Rattle.mpi_model.specs.declared.message.Receive.{Receive};
-ghost use Rattle.trace_pair.specs.Groups.{HasMember};
+ghost use Rattle.trace_pair.specs.Groups.{HasMember, PutsMember, TakesMember};
 ghost use Rattle.trace_pair.specs.KeyOrders.{receive_cmp, same_receive};
 ghost use Rattle.trace_pair.specs.Sets.{DropsFrom};
-ghost use Rattle.trace_pair.specs.Lanes.{AreLatest, EndsWith, IsLane, IsLatestOf, call_of, end_of, is_within, receives_of};
+ghost use Rattle.trace_pair.specs.Lanes.{AreLatest, EndsWith, IsLane, IsLatestOf, call_of, end_of, is_within, receives_of, IsSplitBy};
 
 use crate::later::with_end;
 use mpi_model::Receive;
@@ -58,7 +58,7 @@ fn end_of_front(steps: &[Step], count: usize) -> Option<Option<u64>>
 /// How many steps are called before that call.
 fn called_before(steps: &[Step], call: u64) -> usize
     requires { IsNonDecreasingBy call_of steps.now }
-    ensures parted { IsPartitionPoint (λ s. nat_lt (call_of s) call ≡ true) (λ s. nat_lt (call_of s) call ≡ false) steps.now result }
+    ensures parted { IsSplitBy (λ s. nat_lt (call_of s) call) steps.now result }
     ensures bound { result ≤ length steps.now }
 {
     steps.partition_point(
@@ -71,7 +71,7 @@ fn called_before(steps: &[Step], call: u64) -> usize
 /// How many steps are called no later than that call.
 fn called_by(steps: &[Step], call: u64) -> usize
     requires { IsNonDecreasingBy call_of steps.now }
-    ensures parted { IsPartitionPoint (λ s. nat_le (call_of s) call ≡ true) (λ s. nat_le (call_of s) call ≡ false) steps.now result }
+    ensures parted { IsSplitBy (λ s. nat_le (call_of s) call) steps.now result }
     ensures bound { result ≤ length steps.now }
 {
     steps.partition_point(
@@ -139,7 +139,7 @@ impl Lane {
 
     /// Puts a receive at its place, which is nearly always the end: then no other end is made anew.
     pub(crate) fn insert(&mut self, q: Receive) -> Result<(), AllocError>
-        ensures ok { OnOk result ((d : Receive) → contains receive_cmp self.new d ≡ (is_eq (receive_cmp q d) || contains receive_cmp self.old d)) }
+        ensures ok { OnOk result (PutsMember receive_cmp q self.old self.new) }
         ensures err { OnErr result ((d : Receive) → contains receive_cmp self.new d ≡ contains receive_cmp self.old d) }
     {
         let place = called_before(&self.steps, q.name.call);
@@ -156,7 +156,7 @@ impl Lane {
 
     /// Takes a receive out, which nearly always is the last: then no other end changes.
     pub(crate) fn remove(&mut self, q: &Receive)
-        ensures { (d : Receive) → contains receive_cmp self.new d ≡ (if is_eq (receive_cmp q.now d) then false else contains receive_cmp self.old d) }
+        ensures { TakesMember receive_cmp q.now self.old self.new }
     {
         if stands_last(&self.steps, q) {
             self.steps.pop();

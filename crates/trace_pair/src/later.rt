@@ -1,9 +1,7 @@
 //! Which of two receives ends later, where `None` is an end that never comes.
 
-ghost use Rattle.std.specs.Prelude.{◌≡◌, ◌||◌, Bool, List};
-ghost use Rattle.mpi_model.specs.declared.message.Message.{Message};
-ghost use Rattle.mpi_model.specs.declared.message.Receive.{Receive};
-ghost use Rattle.trace_pair.specs.Ends.{IsLastAmong, later_end, with_end};
+ghost use Rattle.std.specs.Prelude.{◌≡◌};
+ghost use Rattle.trace_pair.specs.Ends.{later_end, with_end, IsLaterOf};
 
 /// The later of two ends.
 fn later_end(a: Option<u64>, b: Option<u64>) -> Option<u64>
@@ -30,7 +28,7 @@ pub(crate) fn with_end(had: Option<Option<u64>>, end: Option<u64>) -> Option<u64
 
 /// The later of two ends, where there are any.
 pub(crate) fn later_of(a: Option<Option<u64>>, b: Option<Option<u64>>) -> Option<Option<u64>>
-    ensures { (xs : List Receive) (m : Message) (p t : Receive → Bool) → IsLastAmong xs m p a → IsLastAmong xs m t b → IsLastAmong xs m (λ r. p r || t r) result }
+    ensures { IsLaterOf a b result }
 {
     match a {
         None => b,

@@ -15,7 +15,7 @@
 //!
 //! - [`pair`]: a pair, and the two sides of one
 //! - [`scratch`]: the pairing from scratch; [`batch`]: its pass over all receives; [`takings`]: all
-//!   messages with what takes each; [`turns`]: in little memory; [`places`]: where those that wait stand;
+//!   messages with what takes each; [`taken_by`]: in little memory; [`places`], [`by_key`]: where those that wait stand;
 //!   [`ends`]: the ends of receives, and whether some of them may take a message
 //! - [`rules`]: whether names are one, and a message is its receiver's own; [`reach`]: which messages come after which
 //!   receives, asked of a table
@@ -34,6 +34,7 @@
 #![tactic(auto)]
 
 mod batch;
+mod by_key;
 mod couples;
 mod ends;
 mod follow;
@@ -55,9 +56,9 @@ mod rules;
 mod scratch;
 mod slots;
 mod table;
+mod taken_by;
 mod takings;
 mod together;
-mod turns;
 mod whole;
 
 pub use ends::Ends;

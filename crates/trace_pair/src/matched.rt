@@ -1,17 +1,13 @@
 //! The sets of an index, as one call comes to the end of its rank or goes from there. Each call has
 //! one part.
 
-ghost use Rattle.std.specs.Prelude.{◌≡◌, List, true, OnOk, IfSome, IfNone, [], ◌∷◌};
+ghost use Rattle.std.specs.Prelude.{◌≡◌, true, OnOk, IfSome, IfNone, []};
 ghost use Rattle.mpi_model.specs.declared.message.Message.{Message};
 ghost use Rattle.mpi_model.specs.declared.message.Receive.{Receive};
 ghost use Rattle.mpi_model.specs.Trusts.{is_settled};
-ghost use Rattle.trace_ops.specs.Order.{Has};
 ghost use Rattle.trace_pair.specs.After.{comes_after};
-ghost use Rattle.trace_pair.specs.Calls.{AddsReceives};
-ghost use Rattle.trace_pair.specs.Followed.{GainsMessage, GainsReceive, Indexes, KeepsCalls, LosesMessage, LosesReceive};
-ghost use Rattle.trace_pair.specs.Indexed.{IsFree, OffersMessage, TakesMessage};
-ghost use Rattle.trace_pair.specs.Pairing.{After, Paired, receive_of};
-ghost use Rattle.trace_pair.specs.Table.{fits_open};
+ghost use Rattle.trace_pair.specs.Followed.{GainsMessage, GainsReceive, Indexes, KeepsCalls, LosesMessage, LosesReceive, IsTakerIn, IsMessageIn, IsFreeIn, TellsOpenFitIn, IsTakerFor, HasNoTakerFor, IsMessageFor, HasNoMessageFor};
+ghost use Rattle.trace_pair.specs.Pairing.{After};
 
 use crate::couples::Couples;
 use crate::opened::Opened;
@@ -60,7 +56,7 @@ impl Matched {
     /// The receive that takes the held message. The next message of its sender is found without a
     /// search if it is asked for with the same `next`.
     pub(crate) fn partner_of(&self, next: &mut usize, m: &Message) -> Option<Receive>
-        ensures { (after : After) (ms : List Message) (qs : List Receive) → Indexes after ms qs self.now → Has ms m.now → result ≡ receive_of after ms qs m.now }
+        ensures { IsTakerIn self.now m.now result }
     {
         match self.couples.of_message(next, m) {
             Some(q) => Some(q),
@@ -70,8 +66,8 @@ impl Matched {
 
     /// The message that the held receive takes; `next` likewise for the receives of its rank.
     pub(crate) fn message_of(&self, next: &mut usize, q: &Receive) -> Option<Message>
-        ensures some { IfSome result (λ m. (after : After) (ms : List Message) (qs : List Receive) → Indexes after ms qs self.now → Has qs q.now → Has ms m × Paired after ms qs m q.now) }
-        ensures none { IfNone result ((after : After) (ms : List Message) (qs : List Receive) → Indexes after ms qs self.now → Has qs q.now → IsFree after ms qs q.now) }
+        ensures some { IfSome result (IsMessageIn self.now q.now) }
+        ensures none { IfNone result (IsFreeIn self.now q.now) }
     {
         match self.couples.of_receive(next, q) {
             Some(m) => Some(m),
@@ -81,7 +77,7 @@ impl Matched {
 
     /// Whether an open receive fits the message, which doesn't come after it.
     pub(crate) fn does_open_fit(&self, reaches: &Reaches, m: &Message) -> bool
-        ensures { (ms : List Message) (qs : List Receive) → Indexes (comes_after reaches.now) ms qs self.now → result ≡ fits_open (comes_after reaches.now) qs m.now }
+        ensures { TellsOpenFitIn (comes_after reaches.now) self.now m.now result }
     {
         !m.trust.is_void() && self.opened.hides(reaches, m)
     }
@@ -89,8 +85,8 @@ impl Matched {
 
 /// The receive that takes the new message.
 fn taker_for(state: &Matched, reaches: &Reaches, m: &Message) -> Option<Receive>
-    ensures some { IfSome result (λ q. (ms : List Message) (qs : List Receive) → Indexes (comes_after reaches.now) ms qs state.now → Has qs q × TakesMessage (comes_after reaches.now) ms qs m.now q) }
-    ensures none { IfNone result ((ms : List Message) (qs : List Receive) → Indexes (comes_after reaches.now) ms qs state.now → (q : Receive) → Has qs q → TakesMessage (comes_after reaches.now) ms qs m.now q → ⊥) }
+    ensures some { IfSome result (IsTakerFor (comes_after reaches.now) state.now m.now) }
+    ensures none { IfNone result (HasNoTakerFor (comes_after reaches.now) state.now m.now) }
 {
     if !m.trust.is_sure() {
         return None;
@@ -110,10 +106,8 @@ fn taker_for(state: &Matched, reaches: &Reaches, m: &Message) -> Option<Receive>
 /// The message that the new receive takes.
 fn taken_by(state: &Matched, reaches: &Reaches, q: &Receive) -> Option<Message>
     requires { is_settled q.now ≡ true }
-    ensures some { IfSome result (λ m. (ms : List Message) (qs more : List Receive) → AddsReceives qs more (q.now ∷ []) → Indexes (comes_after reaches.now) ms qs state.now
-        → OffersMessage (comes_after reaches.now) ms qs more q.now m × Paired (comes_after reaches.now) ms more m q.now) }
-    ensures none { IfNone result ((ms : List Message) (qs more : List Receive) → AddsReceives qs more (q.now ∷ []) → Indexes (comes_after reaches.now) ms qs state.now
-        → (m : Message) → Has ms m → Paired (comes_after reaches.now) ms more m q.now → ⊥) }
+    ensures some { IfSome result (IsMessageFor (comes_after reaches.now) state.now q.now) }
+    ensures none { IfNone result (HasNoMessageFor (comes_after reaches.now) state.now q.now) }
 {
     let Some(m) = state.waiting.first_for(q) else {
         return None;

@@ -1,8 +1,8 @@
 //! A sorted set that has no tree of its own while it has one member.
-ghost use Rattle.std.specs.Prelude.{◌≡◌, true, false, IfSome, IfNone, OnOk, OnErr, IfOk, IsTrue, if◌then◌else◌, ◌||◌};
+ghost use Rattle.std.specs.Prelude.{◌≡◌, false, IfSome, IfNone, OnOk, OnErr, IfOk, IsTrue, ◌||◌, if◌then◌else◌};
 ghost use Rattle.std.specs.BTreeSet.{contains};
-ghost use Rattle.std.specs.Ordering.{is_eq, is_gt};
-ghost use Rattle.trace_pair.specs.Groups.{HasMember};
+ghost use Rattle.std.specs.Ordering.{is_eq};
+ghost use Rattle.trace_pair.specs.Groups.{HasMember, IsFirstMember};
 
 use std::alloc::{AllocError, Global};
 use std::collections::BTreeSet;
@@ -62,7 +62,7 @@ impl<T: Ord> Members<T> {
     pub(crate) fn first(&self) -> Option<T>
     where
         T: Copy,
-        ensures some { IfSome result (λ c. IsTrue (contains T.cmp self.now c) × ((d : T) → contains T.cmp self.now d ≡ true → is_gt (T.cmp c d) ≡ false)) }
+        ensures some { IfSome result (IsFirstMember T.cmp self.now) }
         ensures none { IfNone result ((d : T) → contains T.cmp self.now d ≡ false) }
     {
         match &self.kept {

@@ -1,14 +1,13 @@
-//! Places of messages, in their order, at keys: where the first message that waits is found without
-//! going through those that were taken again.
+//! Places of messages, in their order: where the first message that waits is found without going through those that were
+//! taken again.
 
-ghost use Rattle.std.specs.Prelude.{◌≡◌, ◌++◌, ◌∷◌, [], None, OnOk, IfOk, drop, slice_get};
-ghost use Rattle.std.specs.BTreeMap.{IsOrdered, get};
-ghost use Rattle.trace_pair.specs.Waiting.{AddsPlace, DropsTaken, from_waiting, is_followed, is_of_call, call_at, sole_of, places_at};
+ghost use Rattle.std.specs.Prelude.{◌≡◌, ◌++◌, ◌∷◌, [], OnOk, IfOk, drop, slice_get};
+ghost use Rattle.trace_pair.specs.Waiting.{from_waiting, is_followed, is_of_call, call_at, sole_or_first};
 
-use crate::turns::Turns;
+use crate::taken_by::TakenBy;
 use mpi_model::Message;
 use std::alloc::{AllocError, Global};
-use std::collections::{BTreeMap, VecDeque};
+use std::collections::VecDeque;
 use std::marker::Model;
 
 /// Places, the first in front.
@@ -27,7 +26,7 @@ impl Model for Places {
 
 impl Places {
     /// A place alone.
-    fn one(alloc: Global, place: usize) -> Result<Places, AllocError>
+    pub(crate) fn one(alloc: Global, place: usize) -> Result<Places, AllocError>
         ensures { IfOk result (λ places. places ≡ place ∷ []) }
     {
         let mut kept = VecDeque::new(alloc);
@@ -36,7 +35,7 @@ impl Places {
     }
 
     /// A place more, behind the others.
-    fn push(&mut self, place: usize) -> Result<(), AllocError>
+    pub(crate) fn push(&mut self, place: usize) -> Result<(), AllocError>
         ensures { OnOk result (self.new ≡ self.old ++ place ∷ []) }
     {
         self.kept.push_back(place)?;
@@ -58,7 +57,7 @@ impl Places {
     }
 
     /// The first place at which a message waits. Those before it go.
-    fn first_waiting(&mut self, takers: &Turns) -> Option<usize>
+    fn first_waiting(&mut self, takers: &TakenBy) -> Option<usize>
         ensures first { result ≡ slice_get (from_waiting takers.now self.old) 0 }
         ensures left { self.new ≡ from_waiting takers.now self.old }
     {
@@ -72,7 +71,7 @@ impl Places {
     }
 
     /// Whether a message waits behind the one in front that is of its call.
-    fn has_sibling(&self, messages: &[Message], takers: &Turns, call: u64) -> bool
+    fn has_sibling(&self, messages: &[Message], takers: &TakenBy, call: u64) -> bool
         ensures { result ≡ is_followed messages.now takers.now call (drop 1 self.now) }
     {
         let mut next = 1;
@@ -88,13 +87,23 @@ impl Places {
         false
     }
 
-    /// The first place at which a message waits, if no other one of its call does. Those before the first
-    /// go.
-    fn sole_waiting(&mut self, messages: &[Message], takers: &Turns) -> Option<usize>
-        ensures sole { result ≡ sole_of messages.now takers.now (from_waiting takers.now self.old) }
+    /// The first place at which a message waits; where calls may have several parts, if no other one of
+    /// its call does. Those before the first go.
+    pub(crate) fn sole_waiting(
+        &mut self,
+        plain: bool,
+        messages: &[Message],
+        takers: &TakenBy,
+    ) -> Option<usize>
+        ensures sole { result ≡ sole_or_first plain messages.now takers.now (from_waiting takers.now self.old) }
         ensures left { self.new ≡ from_waiting takers.now self.old }
     {
-        let place = self.first_waiting(takers)?;
+        let Some(place) = self.first_waiting(takers) else {
+            return None;
+        };
+        if plain {
+            return Some(place);
+        }
         let call = call_at(messages, place);
         if self.has_sibling(messages, takers, call) {
             return None;
@@ -121,55 +130,4 @@ fn call_at(messages: &[Message], place: usize) -> u64
         Some(m) => m.name.call,
         None => 0,
     }
-}
-
-/// The first place at a key at which a message waits, if no other one of its call does. Those before
-/// the first go.
-pub(crate) fn sole_at<K: Ord>(
-    places: &mut BTreeMap<K, Places>,
-    key: &K,
-    messages: &[Message],
-    takers: &Turns,
-) -> Option<usize>
-    ensures sole { result ≡ sole_of messages.now takers.now (from_waiting takers.now (places_at K.cmp places.old key.now)) }
-    ensures left { DropsTaken K.cmp key.now takers.now places.old places.new }
-    ensures ordered { IsOrdered K.cmp places.new }
-{
-    match places.get_mut(key) {
-        Some(own) => own.sole_waiting(messages, takers),
-        None => None,
-    }
-}
-
-/// Puts a place at a key where none stands.
-fn put_first<K: Ord + Drop>(
-    alloc: Global,
-    places: &mut BTreeMap<K, Places>,
-    key: K,
-    place: usize,
-) -> Result<(), AllocError>
-    requires { get K.cmp places.old key ≡ None }
-    ensures added { OnOk result (AddsPlace K.cmp key place places.old places.new) }
-    ensures ordered { OnOk result (IsOrdered K.cmp places.new) }
-{
-    let own = Places::one(alloc, place)?;
-    places.insert(key, own)?;
-    Ok(())
-}
-
-/// Puts a place behind the others at its key.
-pub(crate) fn add_place<K: Ord + Drop>(
-    alloc: Global,
-    places: &mut BTreeMap<K, Places>,
-    key: K,
-    place: usize,
-) -> Result<(), AllocError>
-    ensures added { OnOk result (AddsPlace K.cmp key place places.old places.new) }
-    ensures ordered { OnOk result (IsOrdered K.cmp places.new) }
-{
-    if let Some(own) = places.get_mut(&key) {
-        own.push(place)?;
-        return Ok(());
-    }
-    put_first(alloc, places, key, place)
 }

@@ -1,10 +1,10 @@
 //! The sets of an index: messages and receives, found by a few probes of an ordered map.
-ghost use Rattle.std.specs.Prelude.{◌≡◌, ◌||◌, true, false, None, OnOk, IfSome, IfNone, is_some, List, Bool, []};
-ghost use Rattle.mpi_model.specs.Fit.{envelopes_fit, admits};
+ghost use Rattle.std.specs.Prelude.{◌≡◌, ◌||◌, ℕ, true, false, None, OnOk, IfSome, IfNone, is_some, List, Option, []};
+ghost use Rattle.mpi_model.specs.Fit.{admits};
 ghost use Rattle.trace_ops.specs.Order.{Has};
 ghost use Rattle.trace_pair.specs.Sets.{AddsTo, DropsFrom};
 ghost use Rattle.trace_pair.specs.Indexed.{IsFirstMessage, IsFirstReceive, name_lt};
-ghost use Rattle.trace_pair.specs.Queues.{IsBestAmong, NoneFits, SomeFits, of_kind, had, kinds_with};
+ghost use Rattle.trace_pair.specs.Queues.{IsBestAmong, NoneFits, SomeFits, of_kind, had, kinds_with, IsEarlierOf, NoneFitsReceive};
 
 use crate::groups::{add, drop_at, first_at};
 use crate::one_or_many::Members;
@@ -84,7 +84,7 @@ impl Messages {
     /// The first message whose envelope fits that of a receive whose source is told.
     pub(crate) fn first_for(&self, q: &Receive) -> Option<Message>
         ensures some { IfSome result (IsFirstMessage self.now q.now) }
-        ensures none { IfNone result (is_some q.now.source ≡ true → (n : Message) → Has self.now n → envelopes_fit n q.now ≡ true → ⊥) }
+        ensures none { IfNone result (is_some q.now.source ≡ true → NoneFitsReceive self.now q.now) }
     {
         match q.source {
             None => None,
@@ -113,6 +113,13 @@ pub(crate) const NO_KINDS: Kinds = Kinds {
 };
 
 impl Kinds {
+    /// Whether there were any.
+    pub(crate) fn is_any(self) -> bool
+        ensures { result ≡ false → (source tag : Option ℕ) → had self source tag ≡ false }
+    {
+        self.told || self.told_any_tag || self.untold || self.untold_any_tag
+    }
+
     /// Whether receives with such a source and tag were among them.
     pub(crate) fn has(self, source: Option<u32>, tag: Option<u32>) -> bool
         ensures { result ≡ had self source tag }
@@ -172,6 +179,13 @@ impl Receives {
             kinds: NO_KINDS,
             groups: BTreeMap::new(alloc),
         }
+    }
+
+    /// Whether there were ever any.
+    pub(crate) fn has_some(&self) -> bool
+        ensures { result ≡ false → (q : Receive) → Has self.now q → ⊥ }
+    {
+        self.kinds.is_any()
     }
 
     pub(crate) fn insert(&mut self, q: Receive) -> Result<(), AllocError>
@@ -271,7 +285,7 @@ fn is_named_before(a: &OpName, b: &OpName) -> bool
 
 /// The earlier of two receives.
 fn earlier_of(a: Option<Receive>, b: Option<Receive>) -> Option<Receive>
-    ensures { (xs : List Receive) (m : Message) (p t : Receive → Bool) → IsBestAmong xs m p a → IsBestAmong xs m t b → IsBestAmong xs m (λ r. p r || t r) result }
+    ensures { IsEarlierOf a b result }
 {
     match a {
         None => b,

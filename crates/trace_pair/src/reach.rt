@@ -5,14 +5,14 @@
 //! decides. That is one search in the sender's Barriers, for each communicator on which it entered any, and one look at
 //! the call with which the receiver's rank entered that Barrier's round.
 
-ghost use Rattle.std.specs.Prelude.{◌≡◌, ◌==◌, ◌<◌, ◌≤◌, ℕ, Some, List, IfOk, IfSome, IfNone, OnOk, OnErr, length, nat_lt, get_or, slice_get, slice_set};
+ghost use Rattle.std.specs.Prelude.{◌≡◌, ◌==◌, ◌<◌, ◌≤◌, ℕ, Some, List, IfOk, IfSome, IfNone, OnOk, OnErr, length, nat_lt, get_or, slice_get};
 ghost use Rattle.std.specs.List.{list_any};
 ghost use Rattle.std.specs.List.Sorted.{IsNonDecreasing};
 ghost use Rattle.trace_ops.specs.Ops.{Ops, AreOwn, IsOwn, no_ops};
 ghost use Rattle.trace_ops.specs.Order.{AreEntered};
 ghost use Rattle.trace_pair.specs.After.{is_after};
 ghost use Rattle.trace_pair.specs.Barriers.{Rise, last_before, no_entries, with_barrier, with_entry};
-ghost use Rattle.trace_pair.specs.Reach.{AddsEntry, AreReachesOf, AreRowsOf, AreRowsRising, IsReachOf, has_barrier, holds, is_entered_behind, is_passed_on, row_at, with_barriers};
+ghost use Rattle.trace_pair.specs.Reach.{AddsEntry, AreReachesOf, AreRowsOf, AreRowsRising, IsReachOf, has_barrier, holds, is_entered_behind, is_passed_on, row_at, with_barriers, RenewsReach};
 
 use crate::rules::is_own;
 use mpi_model::Message;
@@ -290,7 +290,7 @@ pub(crate) fn renew(
 ) -> Result<(), AllocError>
     requires rank { rank < length table.old }
     requires own { IsOwn rank own.now }
-    ensures ok { OnOk result ((ops : List Ops) → AreReachesOf ops table.old → AreReachesOf (slice_set ops rank own.now) table.new) }
+    ensures ok { OnOk result (RenewsReach rank own.now table.old table.new) }
     ensures err { OnErr result (table.new ≡ table.old) }
 {
     let reach = RankReach::of(alloc, own)?;

@@ -1,17 +1,13 @@
 //! The rows of a table, as they are found message by message.
 
-ghost use Rattle.std.specs.Prelude.{◌≡◌, ◌++◌, ◌∷◌, [], Some, slice_get, List, OnOk, IfOk};
-ghost use Rattle.std.specs.List.{cons_option, filter_map};
-ghost use Rattle.std.specs.Option.{option_map};
+ghost use Rattle.std.specs.Prelude.{◌≡◌, ◌++◌, ◌∷◌, [], Some, OnOk, IfOk};
 ghost use Rattle.mpi_model.specs.declared.message.Message.{Message};
-ghost use Rattle.mpi_model.specs.declared.message.Receive.{Receive};
-ghost use Rattle.trace_ops.specs.Order.{Has};
 ghost use Rattle.trace_pair.specs.After.{comes_after};
-ghost use Rattle.trace_pair.specs.Followed.{Indexes, Follows};
+ghost use Rattle.trace_pair.specs.Followed.{Follows, PutsPair, Postpones, PutsPairs, PostponesAll};
 ghost use Rattle.trace_pair.specs.Pairing.{receive_of};
 ghost use Rattle.trace_pair.specs.Reach.{AreReachesOf};
-ghost use Rattle.trace_pair.specs.Settled.{Settles};
-ghost use Rattle.trace_pair.specs.Table.{pair_of, postponed_name, table_of, table_with};
+ghost use Rattle.trace_pair.specs.Settled.{IsTableOf, PostponesAt, PutsPairAt};
+ghost use Rattle.trace_pair.specs.Table.{table_of};
 
 use crate::batch::Batch;
 use crate::matched::Matched;
@@ -82,10 +78,9 @@ impl Rows {
         next: &mut usize,
         m: &Message,
     ) -> Result<(), AllocError>
-        ensures pairs { OnOk result ((ms : List Message) (qs : List Receive) → Indexes (comes_after reaches.now) ms qs state.now → Has ms m.now →
-            self.new.pairs ≡ self.old.pairs ++ cons_option (option_map (pair_of m.now) (receive_of (comes_after reaches.now) ms qs m.now)) []) }
-        ensures postponed { OnOk result ((ms : List Message) (qs : List Receive) → Indexes (comes_after reaches.now) ms qs state.now → Has ms m.now →
-            self.new.postponed ≡ self.old.postponed ++ cons_option (postponed_name (comes_after reaches.now) ms qs m.now) []) }
+        ensures pairs { OnOk result (PutsPair (comes_after reaches.now) state.now m.now self.old.pairs self.new.pairs) }
+        ensures postponed { OnOk result (Postpones (comes_after reaches.now) state.now m.now
+            self.old.postponed self.new.postponed) }
     {
         match state.partner_of(next, m) {
             Some(q) => self.put(make_pair(m, &q))?,
@@ -106,10 +101,10 @@ impl Rows {
         place: usize,
         m: &Message,
     ) -> Result<(), AllocError>
-        ensures pairs { OnOk result ((ms : List Message) (qs : List Receive) → Settles (comes_after reaches.now) ms qs batch.now → slice_get ms place ≡ Some m.now →
-            self.new.pairs ≡ self.old.pairs ++ cons_option (option_map (pair_of m.now) (receive_of (comes_after reaches.now) ms qs m.now)) []) }
-        ensures postponed { OnOk result ((ms : List Message) (qs : List Receive) → Settles (comes_after reaches.now) ms qs batch.now → slice_get ms place ≡ Some m.now →
-            self.new.postponed ≡ self.old.postponed ++ cons_option (postponed_name (comes_after reaches.now) ms qs m.now) []) }
+        ensures pairs { OnOk result (PutsPairAt (comes_after reaches.now) batch.now place m.now
+            self.old.pairs self.new.pairs) }
+        ensures postponed { OnOk result (PostponesAt (comes_after reaches.now) batch.now place m.now
+            self.old.postponed self.new.postponed) }
     {
         match batch.receive_of(place, m) {
             Some(receive) => self.put(make_pair(m, &receive))?,
@@ -128,7 +123,7 @@ impl Rows {
         batch: &Batch,
         reaches: &Reaches,
     ) -> Result<Rows, AllocError>
-        ensures { IfOk result (λ rows. (ms : List Message) (qs : List Receive) → Settles (comes_after reaches.now) ms qs batch.now → rows ≡ table_with (comes_after reaches.now) ms qs) }
+        ensures { IfOk result (IsTableOf (comes_after reaches.now) batch.now) }
     {
         let messages = batch.messages();
         let mut rows = Rows::with_room(alloc, messages.len())?;
@@ -145,10 +140,9 @@ impl Rows {
         reaches: &Reaches,
         some: &[Message],
     ) -> Result<(), AllocError>
-        ensures pairs { OnOk result ((ms : List Message) (qs : List Receive) → Indexes (comes_after reaches.now) ms qs state.now → ((m : Message) → Has some.now m → Has ms m) →
-            self.new.pairs ≡ self.old.pairs ++ filter_map (λ m. option_map (pair_of m) (receive_of (comes_after reaches.now) ms qs m)) some.now) }
-        ensures postponed { OnOk result ((ms : List Message) (qs : List Receive) → Indexes (comes_after reaches.now) ms qs state.now → ((m : Message) → Has some.now m → Has ms m) →
-            self.new.postponed ≡ self.old.postponed ++ filter_map (postponed_name (comes_after reaches.now) ms qs) some.now) }
+        ensures pairs { OnOk result (PutsPairs (comes_after reaches.now) state.now some.now self.old.pairs self.new.pairs) }
+        ensures postponed { OnOk result (PostponesAll (comes_after reaches.now) state.now some.now
+            self.old.postponed self.new.postponed) }
     {
         let mut next = 0;
         for m in some {

@@ -5,7 +5,7 @@ ghost use Rattle.trace_ops.specs.Ops.{AreOwn};
 ghost use Rattle.trace_ops.specs.Order.{Has};
 ghost use Rattle.trace_pair.specs.Followed.{Follows};
 ghost use Rattle.trace_pair.specs.Reach.{AreReachesOf};
-ghost use Rattle.trace_pair.specs.Searched.{ArePairs, AreByReceive, IsSearchable, receive_at, message_at};
+ghost use Rattle.trace_pair.specs.Searched.{ArePairs, AreByReceive, IsSearchable, receive_at, message_at, IsSeen};
 ghost use Rattle.trace_pair.specs.Table.{table_of, partner_in, taken_by, given_by};
 
 use crate::matched::Matched;
@@ -151,7 +151,7 @@ fn seen_places(alloc: Global, places: &[usize], count: usize) -> Result<Vec<bool
 /// Puts the place behind the others, if it isn't seen among them.
 fn put_unseen(places: &mut Vec<usize>, seen: &[bool], place: usize) -> Result<(), AllocError>
     ensures kept { OnOk result ((i : ℕ) → Has places.old.items i → Has places.new.items i) }
-    ensures there { OnOk result ((slice_index_or seen.now place false ≡ true → Has places.old.items place) → Has places.new.items place) }
+    ensures there { OnOk result ((IsSeen seen.now place → Has places.old.items place) → Has places.new.items place) }
 {
     if seen.get(place).copied().unwrap_or(false) {
         return Ok(());

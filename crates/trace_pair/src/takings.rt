@@ -1,56 +1,77 @@
 //! All messages, in their order, with what takes each; those that wait are found by a receive that
 //! they fit.
 
-ghost use Rattle.std.specs.Prelude.{◌≡◌, ◌<◌, true, false, Some, IfOk, IfSome, OnOk, is_some, length, List, None, Option};
+ghost use Rattle.std.specs.Prelude.{◌≡◌, ◌<◌, true, Some, IfOk, OnOk, is_some, length, List, None, Option};
+ghost use Rattle.trace_pair.specs.Coupled.{taker_of};
 ghost use Rattle.trace_pair.specs.KeyOrders.{queue_cmp, queue_of, lane_cmp, lane_of};
 ghost use Rattle.trace_pair.specs.Rising.{AreRising};
-ghost use Rattle.trace_pair.specs.Waiting.{ArePlaces, IsSolePlace, taker_at, untaken, with_taker};
+ghost use Rattle.trace_pair.specs.Waiting.{ArePlaces, ArePlain, IsPlain, IsSolePlace, taker_at, untaken, with_taker, AreLanesOrNew};
 ghost use Rattle.trace_pair.specs.declared.pair.Taker.{Taker};
 
+use crate::by_key::PlacesByKey;
 use crate::pair::Taker;
-use crate::places::{Places, add_place, sole_at};
-use crate::turns::Turns;
+use crate::taken_by::TakenBy;
 use mpi_model::{Message, Receive};
 use std::alloc::{AllocError, Global};
-use std::collections::BTreeMap;
 use std::marker::Model;
 
 /// Places by receiver, sender, tag and communicator.
-type Queues = BTreeMap<(u32, u32, u32, u32), Places>;
+type Queues = PlacesByKey<(u32, u32, u32, u32)>;
 
 /// The same ones without the tag.
-type Lanes = BTreeMap<(u32, u32, u32), Places>;
+type Lanes = PlacesByKey<(u32, u32, u32)>;
 
 /// All messages, and what takes each.
 #[derive(Drop)]
-pub(crate) struct Takings {
+pub(crate) struct Takings<'a> {
     messages: Vec<Message>,
-    takers: Turns,
+    /// Whether each message is sure, and alone of its call.
+    plain: bool,
+    takers: TakenBy<'a>,
     queues: Queues,
     /// Made when the first receive of any tag comes.
     lanes: Option<Lanes>,
 }
 
-impl Model for Takings {
+impl<'a> Model for Takings<'a> {
     ghost use Rattle.trace_pair.specs.Waiting.{Takings, AreTakings};
 
     ghost Value = { Takings };
 
     ghost view = { λ s. record { messages = s.messages.items; takers = s.takers } };
 
-    ghost invariant = { λ s. AreTakings s.messages.items s.takers s.queues s.lanes };
+    ghost invariant = { λ s. AreTakings s.messages.items s.plain s.takers s.queues s.lanes };
+}
+
+/// Whether the message is sure, its sender's own, and the first part of its call.
+fn is_plain(m: &Message) -> bool
+    ensures { result ≡ true → IsPlain m.now }
+{
+    m.trust.is_sure() && m.name.rank == m.from && m.name.part == 0
+}
+
+/// Whether all messages are. Each is alone of its call then.
+fn are_plain(messages: &[Message]) -> bool
+    ensures { result ≡ true → ArePlain messages.now }
+{
+    for m in messages {
+        if !is_plain(m) {
+            return false;
+        }
+    }
+    true
 }
 
 /// The places of the messages by queue.
 fn queues_of(alloc: Global, messages: &[Message]) -> Result<Queues, AllocError>
     ensures { IfOk result (λ queues. (takers : List (Option Taker)) → ArePlaces queue_cmp queue_of messages.now takers queues) }
 {
-    let mut queues = Queues::new(alloc);
+    let mut queues = Queues::empty(alloc);
     for (place, m) in messages.iter().enumerate() {
         if m.trust.is_void() {
             continue;
         }
-        add_place(alloc, &mut queues, (m.to, m.from, m.tag, m.comm), place)?;
+        queues.add(alloc, (m.to, m.from, m.tag, m.comm), place)?;
     }
     Ok(queues)
 }
@@ -59,12 +80,12 @@ fn queues_of(alloc: Global, messages: &[Message]) -> Result<Queues, AllocError>
 fn lanes_of(alloc: Global, messages: &[Message]) -> Result<Lanes, AllocError>
     ensures { IfOk result (λ lanes. (takers : List (Option Taker)) → ArePlaces lane_cmp lane_of messages.now takers lanes) }
 {
-    let mut lanes = Lanes::new(alloc);
+    let mut lanes = Lanes::empty(alloc);
     for (place, m) in messages.iter().enumerate() {
         if m.trust.is_void() {
             continue;
         }
-        add_place(alloc, &mut lanes, (m.to, m.from, m.comm), place)?;
+        lanes.add(alloc, (m.to, m.from, m.comm), place)?;
     }
     Ok(lanes)
 }
@@ -75,7 +96,7 @@ fn lanes_or_new(
     messages: &[Message],
     lanes: Option<Lanes>,
 ) -> Result<Lanes, AllocError>
-    ensures { IfOk result (λ made. (takers : List (Option Taker)) → IfSome lanes (ArePlaces lane_cmp lane_of messages.now takers) → ArePlaces lane_cmp lane_of messages.now takers made) }
+    ensures { IfOk result (AreLanesOrNew messages.now lanes) }
 {
     match lanes {
         Some(lanes) => Ok(lanes),
@@ -83,16 +104,18 @@ fn lanes_or_new(
     }
 }
 
-impl Takings {
+impl<'a> Takings<'a> {
     /// Nothing takes any of these messages.
-    pub(crate) fn new(alloc: Global, messages: Vec<Message>) -> Result<Takings, AllocError>
+    pub(crate) fn new(alloc: Global, messages: Vec<Message>) -> Result<Takings<'a>, AllocError>
         requires { AreRising (λ m. m.name) messages.items }
         ensures { IfOk result (λ t. t ≡ untaken messages.items) }
     {
         let queues = queues_of(alloc, &messages)?;
-        let takers = Turns::none(alloc, messages.len())?;
+        let takers = TakenBy::none(alloc, messages.len())?;
+        let plain = are_plain(&messages);
         Ok(Takings {
             messages,
+            plain,
             takers,
             queues,
             lanes: None,
@@ -103,6 +126,13 @@ impl Takings {
         ensures { result.now ≡ self.now.messages }
     {
         &self.messages
+    }
+
+    /// Whether each message is known to be sure, and alone of its call.
+    pub(crate) fn are_plain(&self) -> bool
+        ensures { result ≡ true → ArePlain self.now.messages }
+    {
+        self.plain
     }
 
     pub(crate) fn allocator(&self) -> &Global {
@@ -123,9 +153,9 @@ impl Takings {
         ensures kept { self.new ≡ self.old }
         ensures sole { IsSolePlace self.old q.now result }
     {
-        sole_at(
-            &mut self.queues,
+        self.queues.sole_at(
             &(q.at, source, tag, q.comm),
+            self.plain,
             &self.messages,
             &self.takers,
         )
@@ -141,9 +171,9 @@ impl Takings {
         let alloc = *self.messages.allocator();
         let had = self.lanes.take();
         let mut lanes = lanes_or_new(alloc, &self.messages, had)?;
-        let place = sole_at(
-            &mut lanes,
+        let place = lanes.sole_at(
             &(q.at, source, q.comm),
+            self.plain,
             &self.messages,
             &self.takers,
         );
@@ -167,12 +197,12 @@ impl Takings {
         }
     }
 
-    /// The message at the place is taken.
-    pub(crate) fn take(&mut self, place: usize, taker: Taker) -> Result<(), AllocError>
+    /// The message at the place is taken by this receive.
+    pub(crate) fn take(&mut self, place: usize, q: &'a Receive) -> Result<(), AllocError>
         requires { place < length self.old.messages }
-        ensures { OnOk result (self.new ≡ with_taker self.old place taker) }
+        ensures { OnOk result (self.new ≡ with_taker self.old place (taker_of q.now)) }
     {
-        self.takers.take(place, taker)?;
+        self.takers.take(place, q)?;
         Ok(())
     }
 

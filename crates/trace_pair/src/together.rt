@@ -10,8 +10,8 @@ ghost use Rattle.std.specs.Prelude.{◌≡◌, ◌≤◌, ◌<◌, ◌+◌, All,
 ghost use Rattle.trace_ops.specs.Ops.{AreOwn};
 ghost use Rattle.trace_pair.specs.After.{comes_after};
 ghost use Rattle.trace_pair.specs.Calls.{IsSingle};
-ghost use Rattle.trace_pair.specs.Followed.{Indexes, Follows, FollowsBy, KeepsCalls, Moves};
-ghost use Rattle.trace_pair.specs.Parts.{first_parts, begun, all_begun};
+ghost use Rattle.trace_pair.specs.Followed.{Indexes, Follows, KeepsCalls, FollowsParts, BeginsPart};
+ghost use Rattle.trace_pair.specs.Parts.{first_parts};
 ghost use Rattle.trace_pair.specs.Reach.{AreReachesOf};
 
 use crate::follow::{add_messages, add_receives};
@@ -87,7 +87,7 @@ fn add_part(
     done: usize,
 ) -> Result<(), AllocError>
     requires { done < parts }
-    ensures { OnOk result (Moves (comes_after reaches.now) (begun parts done own.now) (begun parts (done + 1) own.now) state.old state.new) }
+    ensures { OnOk result (BeginsPart (comes_after reaches.now) own.now parts done state.old state.new) }
 {
     let sends = own.sends();
     let sent = front_of(sends, parts, done).len();
@@ -108,7 +108,8 @@ fn add_parts(
 ) -> Result<(), AllocError>
     requires done { done < parts }
     requires table { AreReachesOf ops.now table.now }
-    ensures { OnOk result (AreOwn 0 ops.now → All IsSingle ops.now → FollowsBy (comes_after ops.now) (all_begun parts done ops.now) state.old → FollowsBy (comes_after ops.now) (all_begun parts (done + 1) ops.now) state.new) }
+    ensures { OnOk result (AreOwn 0 ops.now → All IsSingle ops.now → FollowsParts ops.now parts done state.old
+        → FollowsParts ops.now parts (done + 1) state.new) }
 {
     let reaches = Reaches::new(ops, table);
     for own in ops {
@@ -124,7 +125,8 @@ pub(crate) fn add_ranks(
     table: &[RankReach],
 ) -> Result<(), AllocError>
     requires { AreReachesOf ops.now table.now }
-    ensures { OnOk result (AreOwn 0 ops.now → All IsSingle ops.now → Indexes (comes_after ops.now) [] [] state.old → Follows ops.now state.new) }
+    ensures { OnOk result (AreOwn 0 ops.now → All IsSingle ops.now → Indexes (comes_after ops.now) [] [] state.old
+        → Follows ops.now state.new) }
 {
     reserve_ranks(state, ops)?;
     let parts = count_parts(ops);

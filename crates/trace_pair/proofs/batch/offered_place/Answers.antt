@@ -2,8 +2,8 @@ use Rattle.std.proofs.Common.{ℕ, Option, List, ◌<◌, length, subst, sym, �
 use Rattle.std.proofs.lemmas.Option.{slice_get_within}
 use Rattle.mpi_model.specs.declared.message.Message.{Message}
 use Rattle.trace_pair.specs.After.{comes_after}
-use Rattle.trace_pair.specs.Waiting.{Takings, IsSolePlace}
-use Rattle.trace_pair.proofs.Settling.{unsettled_at, no_place, not_sure_at, open_at, offered_at}
+use Rattle.trace_pair.specs.Waiting.{Takings, ArePlain, IsSolePlace}
+use Rattle.trace_pair.proofs.Settling.{unsettled_at, no_place, plain_at, not_sure_at, open_at, offered_at}
 use Rattle.trace_pair.proofs.batch.offered_place.Goals as goal
 
 pub returns-then-not-is_settled-clause-found : goal.returns-then-not-is_settled-clause-found
@@ -14,6 +14,17 @@ pub returns-in_default-clause-found : goal.returns-in_default-clause-found
 returns-in_default-clause-found c = λ ms qs more call free opened adds i last is held.
     no_place (comes_after c.args.reaches.now) ms qs more call c.args.part.now adds i (sym c.is_settled.ensures ∙ c.if-not-is_settled.false) c.args.batch.now free opened is held
     (subst (λ (o : Option ℕ). IsSolePlace c.args.batch.now.messages c.args.part.now o) c.in_default.is c.in_ok-place.ensures.sole)
+
+pub returns-then-has_no_doubt-clause-within : goal.returns-then-has_no_doubt-clause-within
+returns-then-has_no_doubt-clause-within c =
+    let sole = subst (λ (o : Option ℕ). IsSolePlace c.args.batch.now.messages c.args.part.now o) c.in-Some.is c.in_ok-place.ensures.sole in
+    slice_get_within c.args.batch.now.messages.messages c.in-Some.place sole.0 sole.1
+
+pub returns-then-has_no_doubt-clause-found : goal.returns-then-has_no_doubt-clause-found
+returns-then-has_no_doubt-clause-found c = λ ms qs more call free opened adds i last is held.
+    let sole = subst (λ (o : Option ℕ). IsSolePlace c.args.batch.now.messages c.args.part.now o) c.in-Some.is c.in_ok-place.ensures.sole in
+    plain_at (comes_after c.args.reaches.now) ms qs more call c.args.part.now adds i (sym c.is_settled.ensures ∙ c.if-not-is_settled.false) c.args.batch.now free opened is held c.in-Some.place sole
+    (subst (λ (t : Takings). ArePlain t.messages) c.sole_for.ensures.kept (c.has_no_doubt.ensures.plain c.if-has_no_doubt.true)) (c.has_no_doubt.ensures.closed c.if-has_no_doubt.true opened last)
 
 pub bounds-messages-place : goal.bounds-messages-place
 bounds-messages-place c =

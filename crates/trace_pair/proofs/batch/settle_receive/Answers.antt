@@ -1,4 +1,5 @@
-use Rattle.std.proofs.Common.{ℕ, Option, subst}
+use Rattle.std.proofs.Common.{ℕ, Option, subst, refl}
+use Rattle.trace_pair.specs.Coupled.{taker_of}
 use Rattle.trace_pair.specs.Settled.{IsOfferedAt}
 use Rattle.trace_pair.proofs.SettlingParts.{settles_none, settles_left, settles_taken}
 use Rattle.trace_pair.proofs.batch.settle_receive.Goals as goal
@@ -15,4 +16,4 @@ returns-in_ok-insert-in-Some-first_for-clause-settled c = λ after ms qs more ca
 pub returns-in_ok-take-in-None-clause-settled : goal.returns-in_ok-take-in-None-clause-settled
 returns-in_ok-take-in-None-clause-settled c = λ after ms qs more call done adds i offered next s.
     settles_taken after ms qs more call adds c.args.q.now i done next c.args.batch.now s c.in-Some.place (subst (λ (o : Option ℕ). IsOfferedAt after ms qs more c.args.q.now o) c.in-Some.is offered) c.messages.result.now _ c.messages.ensures
-    c.remove.new.self c.remove.ensures c.in-None.ensures.none c.taker_of.result c.take.new.self c.taker_of.ensures c.in_ok-take-in-None.ensures
+    c.remove.new.self c.remove.ensures c.in-None.ensures.none (taker_of c.args.q.now) c.take.new.self refl c.in_ok-take-in-None.ensures

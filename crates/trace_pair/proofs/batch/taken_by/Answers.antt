@@ -10,6 +10,14 @@ returns-in_default-clause-found c = λ ms qs more adds apart s.
     let held = awaits_here (comes_after c.args.reaches.now) ms qs c.args.batch.now s more q adds apart c.requires in
     subst (λ (o : Option ℕ). IsOfferedAt (comes_after c.args.reaches.now) ms qs more q o) c.in_default.is (c.in_ok-place.ensures.found ms qs more (q ∷ []) _ s.opened adds (inl refl) s.last s.messages held)
 
+pub returns-then-not-has_some-clause-found : goal.returns-then-not-has_some-clause-found
+returns-then-not-has_some-clause-found c = λ ms qs more adds apart s.
+    let q = c.args.q.now in
+    let held = awaits_here (comes_after c.args.reaches.now) ms qs c.args.batch.now s more q adds apart c.requires in
+    let offered = subst (λ (o : Option ℕ). IsOfferedAt (comes_after c.args.reaches.now) ms qs more q o) c.in-Some.is (c.in_ok-place.ensures.found ms qs more (q ∷ []) _ s.opened adds (inl refl) s.last s.messages held) in
+    taken_at (comes_after c.args.reaches.now) ms qs c.args.batch.now s more q adds apart c.requires c.offered_place.new.batch c.offered_place.ensures.kept c.in-Some.place c.offered_place.new.batch.messages.messages offered.0 refl offered
+    (λ r h f. absurd (c.has_some.ensures c.if-not-has_some.true r h))
+
 pub returns-then-fits_some-clause-found : goal.returns-then-fits_some-clause-found
 returns-then-fits_some-clause-found c = λ ms qs more adds apart s.
     let q = c.args.q.now in

@@ -16,7 +16,7 @@ loop-place-preserved-then-is_void c = λ takers.
 
 pub loop-place-preserved : goal.loop-place-preserved
 loop-place-preserved c = λ takers.
-    places_next lanes_total exact_lanes lane_of c.args.messages.now c.loop-place.place _ takers c.loop-place.lanes c.add_place.new.places c.loop-place-test.true (ap not (sym c.is_void.ensures ∙ c.if-is_void.false)) c.loop-place.invariant c.in_ok-add_place.ensures.ordered c.in_ok-add_place.ensures.added
+    places_next lanes_total exact_lanes lane_of c.args.messages.now c.loop-place.place _ takers c.loop-place.lanes c.add.new.self c.loop-place-test.true (ap not (sym c.is_void.ensures ∙ c.if-is_void.false)) c.loop-place.invariant c.in_ok-add.ensures
 
 pub returns : goal.returns
 returns c = λ takers. subst (λ (l : List Message). ArePlaces lane_cmp lane_of l takers c.loop-place.lanes) (take_all c.loop-place.place c.args.messages.now (omega arith)) (c.loop-place.invariant takers)
