@@ -12,6 +12,10 @@ pub record IsMore (before after : Held) : Type 0 where
   pub fresh : after.is_stale ≡ false
   pub keeps : IsBelow before.know after.know
 
+-- It does, and knows this too, and nothing else.
+abbrev pub HasLearned : Held → View → Held → Type 0
+HasLearned before told after = IsMore before after × (after.know ≡ join before.know told)
+
 -- Over a stream that was closed then, the frame of what is known was written and one was read, or that was refused.
 abbrev pub HasExchanged : Stream → View → Result View ExchangeFault → Type 0
 HasExchanged old know result = (new : Stream) × ExchangesFrames old new know result

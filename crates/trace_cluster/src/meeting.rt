@@ -4,7 +4,7 @@ ghost use Rattle.std.specs.Prelude.{◌≡◌, Ok, IfSome, IfOk, IfErr, OnOk};
 ghost use Rattle.trace_cluster.specs.Exchange.{HaveFrames, IsOfFrame};
 ghost use Rattle.trace_cluster.specs.Crews.{IsFirstEnd, IsOfMeeting, IsOwnCause, sureness_of};
 ghost use Rattle.trace_cluster.specs.Meeting.{HasExchanged, HasJoined, IsMore};
-ghost use Rattle.trace_cluster.specs.Stream.{IsStream, halves, side};
+ghost use Rattle.trace_cluster.specs.Stream.{OverStream, half};
 
 use crate::exchange::{ExchangeFault, exchange_frames};
 use crate::fault::ClusterFault;
@@ -48,8 +48,8 @@ fn led<S: Read + Write>(
     stream: S,
 ) -> Result<Knowledge, ExchangeFault>
     // over a stream whose halves tell of each other
-    ensures told { IsStream (λ s. side (S.left s) (S.Read.failures s)) S.read_side (λ s. side (S.written s) (S.Write.failures s)) S.write_side
-        → HasExchanged (halves (side (S.left stream) (S.Read.failures stream)) (side (S.written stream) (S.Write.failures stream))) know.now result }
+    ensures told { OverStream (half S.left S.Read.failures) S.read_side (half S.written S.Write.failures) S.write_side
+        (λ at. HasExchanged (at stream) know.now result) }
 
     // over any stream
     ensures framed { IfOk result (λ heard. HaveFrames know.now heard) }

@@ -4,7 +4,7 @@ ghost use Rattle.std.specs.Prelude.{◌≡◌, IfOk, IfErr};
 ghost use Rattle.trace_know.specs.View.{join};
 ghost use Rattle.trace_node.specs.Node.{IsWithin};
 ghost use Rattle.trace_cluster.specs.Clustered.{KnowsOwn};
-ghost use Rattle.trace_cluster.specs.Meeting.{IsMore};
+ghost use Rattle.trace_cluster.specs.Meeting.{HasLearned, IsMore};
 ghost use Rattle.trace_cluster.specs.Pieces.{all_pieces};
 ghost use Rattle.trace_cluster.specs.Stopped.{IsStopped};
 
@@ -71,8 +71,8 @@ fn both_told<N: Peer>(
 ) -> Result<(N, N), ClusterFault>
     requires one { IsWithin (N.held nodes.0).layout first.now }
     requires other { IsWithin (N.held nodes.1).layout second.now }
-    ensures leader { IfOk result (λ told. IsMore (N.held nodes.0) (N.held told.0) × ((N.held told.0).know ≡ join (N.held nodes.0).know first.now)) }
-    ensures follower { IfOk result (λ told. IsMore (N.held nodes.1) (N.held told.1) × ((N.held told.1).know ≡ join (N.held nodes.1).know second.now)) }
+    ensures leader { IfOk result (λ told. HasLearned (N.held nodes.0) first.now (N.held told.0)) }
+    ensures follower { IfOk result (λ told. HasLearned (N.held nodes.1) second.now (N.held told.1)) }
     ensures err { IfErr result (λ fault. fault ≡ ClusterFault.Node NodeFault.Memory) }
 {
     let (one, other) = nodes;

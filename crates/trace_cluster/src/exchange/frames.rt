@@ -5,7 +5,7 @@ ghost use Rattle.std.specs.FinMap.{entries};
 ghost use Rattle.mpi_model.specs.Side.{LeavesSide};
 ghost use Rattle.trace_wire.specs.Frames.{HasFrame};
 ghost use Rattle.trace_cluster.specs.Exchange.{ExchangesFrames, GetsFrame, HaveFrames, IsOfFrame};
-ghost use Rattle.trace_cluster.specs.Stream.{IsStream, halves, side};
+ghost use Rattle.trace_cluster.specs.Stream.{OverStream, half};
 
 use crate::exchange::fault::ExchangeFault;
 use mpi_model::{Read, Write};
@@ -18,7 +18,7 @@ pub(crate) fn heard_frame<R: Read>(
     alloc: Global,
     reader: &mut R,
 ) -> Result<Knowledge, ExchangeFault>
-    ensures value { GetsFrame (side (R.left reader.old) (R.failures reader.old)) (side (R.left reader.new) (R.failures reader.new)) result }
+    ensures value { GetsFrame (half R.left R.failures reader.old) (half R.left R.failures reader.new) result }
     ensures framed { IfOk result (λ heard. HasFrame (entries heard)) }
     ensures beside { LeavesSide (R.write_side reader.old) (R.write_side reader.new) }
 {
@@ -36,9 +36,8 @@ pub fn exchange_frames<S: Read + Write>(
     know: &Knowledge,
 ) -> Result<Knowledge, ExchangeFault>
     // over a stream whose halves tell of each other
-    ensures told { IsStream (λ s. side (S.left s) (S.Read.failures s)) S.read_side (λ s. side (S.written s) (S.Write.failures s)) S.write_side
-        → ExchangesFrames (halves (side (S.left stream.old) (S.Read.failures stream.old)) (side (S.written stream.old) (S.Write.failures stream.old)))
-        (halves (side (S.left stream.new) (S.Read.failures stream.new)) (side (S.written stream.new) (S.Write.failures stream.new))) know.now result }
+    ensures told { OverStream (half S.left S.Read.failures) S.read_side (half S.written S.Write.failures) S.write_side
+        (λ at. ExchangesFrames (at stream.old) (at stream.new) know.now result) }
 
     // over any stream
     ensures framed { IfOk result (λ heard. HaveFrames know.now heard) }

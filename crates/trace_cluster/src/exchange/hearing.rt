@@ -2,7 +2,7 @@
 
 ghost use Rattle.mpi_model.specs.Side.{LeavesSide};
 ghost use Rattle.trace_cluster.specs.Exchange.{Hears, Merges};
-ghost use Rattle.trace_cluster.specs.Stream.{side};
+ghost use Rattle.trace_cluster.specs.Stream.{half};
 
 use crate::exchange::fault::ExchangeFault;
 use crate::exchange::frames::heard_frame;
@@ -27,7 +27,7 @@ pub(crate) fn hear<'a, R: Read>(
     reader: &mut R,
     node: &mut Node<'a>,
 ) -> Result<(), ExchangeFault>
-    ensures value { Hears (side (R.left reader.old) (R.failures reader.old)) (side (R.left reader.new) (R.failures reader.new)) node.old node.new result }
+    ensures value { Hears (half R.left R.failures reader.old) (half R.left R.failures reader.new) node.old node.new result }
     ensures beside { LeavesSide (R.write_side reader.old) (R.write_side reader.new) }
 {
     match heard_frame(alloc, reader) {

@@ -3,7 +3,7 @@
 ghost use Rattle.std.specs.Prelude.{◌≡◌};
 ghost use Rattle.trace_know.specs.View.{IsBelow};
 ghost use Rattle.trace_cluster.specs.Exchange.{Leads, LeadLeaves};
-ghost use Rattle.trace_cluster.specs.Stream.{IsStream, halves, side};
+ghost use Rattle.trace_cluster.specs.Stream.{OverStream, half};
 
 use crate::exchange::fault::ExchangeFault;
 use crate::exchange::frames::exchange_frames;
@@ -23,9 +23,8 @@ pub fn lead<'a, S: Read + Write>(
     node: &mut Node<'a>,
 ) -> Result<(), ExchangeFault>
     // over a stream whose halves tell of each other
-    ensures told { IsStream (λ s. side (S.left s) (S.Read.failures s)) S.read_side (λ s. side (S.written s) (S.Write.failures s)) S.write_side
-        → Leads (halves (side (S.left stream.old) (S.Read.failures stream.old)) (side (S.written stream.old) (S.Write.failures stream.old)))
-        (halves (side (S.left stream.new) (S.Read.failures stream.new)) (side (S.written stream.new) (S.Write.failures stream.new))) node.old node.new result }
+    ensures told { OverStream (half S.left S.Read.failures) S.read_side (half S.written S.Write.failures) S.write_side
+        (λ at. Leads (at stream.old) (at stream.new) node.old node.new result) }
 
     // over any stream
     ensures leaves { LeadLeaves node.old node.new result }
