@@ -49,3 +49,9 @@ opening device = record { lent = 0; device = device; pending = []; count = 0; fa
 -- a device after a report, where nothing is held any more
 abbrev pub closing : Outlet → ℕ → Bool → Page
 closing device count failed = record { lent = 0; device = device; pending = []; count = count; failed = failed }
+
+-- The text was printed to a device by itself: nothing was held before it, and nothing is held behind it. The device is
+-- seen by its bytes, by how often it has failed, and by its other side.
+abbrev pub PrintsAlone : {X : Type 0} → (X → Option (List ℕ)) → (X → ℕ) → (X → Side) → X → X → ℕ → Bool → List ℕ → Type 0
+PrintsAlone bytes failures other old new count failed text =
+    Prints (opening (outlet (bytes old) (failures old) (other old))) (closing (outlet (bytes new) (failures new) (other new)) count failed) text

@@ -45,6 +45,10 @@ abbrev mutual
   more_text words none = []
   more_text words (and next rest) = words.between ++ wait_text words next ++ more_text words rest
 
+-- the parts behind the head of their list, with what ends it
+abbrev pub list_text : WaitWords → List ℕ → Waits → List ℕ
+list_text words head parts = head ++ parts_text words parts ++ words.close
+
 -- what stands before a part, by its place among the parts
 abbrev pub before_part : WaitWords → ℕ → List ℕ
 before_part words zero = []

@@ -13,6 +13,7 @@
 //!   [`rounds`]: rounds of collective calls; [`stuck`]: stuck ranks and the end
 //! - [`json`]: the same as JSON; [`form`]: the words in which the two differ
 //! - [`waits`]: what a stuck rank waits for; [`seconds`]: times; [`words`]: words and numbers
+//! - [`line`]: a line that is put whole
 //! - [`sink`]: where lines go; [`paged`]: page by page; [`direct`]: to the device; [`fault`]: why a report is not whole
 //!
 //! Its tests are in `crates/node_tests/src/node.rt` and `tests/cases/`.
@@ -22,6 +23,7 @@ mod direct;
 mod fault;
 mod form;
 mod json;
+mod line;
 mod matching;
 mod paged;
 mod ranks;

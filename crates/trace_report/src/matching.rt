@@ -1,11 +1,12 @@
 //! Contradictions, pairs and postponed messages.
 
+ghost use Rattle.std.specs.Prelude.{◌≡◌, ◌+◌, ◌≤◌, ◌++◌, length};
 ghost use Rattle.std.specs.List.{flat_map};
 ghost use Rattle.trace_report.specs.Page.{Prints};
 ghost use Rattle.trace_report.specs.Report.{conflict_line, name_text, pair_line, postponed_line};
 
+use crate::line::{Line, ROOM};
 use crate::sink::Sink;
-use crate::words::{put_number, put_part, put_where};
 use mpi_model::OpName;
 use trace_pair::Pair;
 
@@ -22,21 +23,26 @@ pub(crate) fn put_conflicts<S: Sink>(out: &mut S, places: &[(u32, u64)])
 fn put_conflict<S: Sink>(out: &mut S, at: &(u32, u64))
     ensures { Prints (S.page out.old) (S.page out.new) (conflict_line at.now) }
 {
-    out.put(b"conflict ");
-    put_number(out, at.0 as u64);
-    out.put(b" ");
-    put_number(out, at.1);
-    out.put(b"\n");
+    let mut line = Line::new();
+    line.prepend_number(at.1);
+    line.prepend(b" ");
+    line.prepend_number(at.0 as u64);
+    line.prepend(b"conflict ");
+    out.put(line.text());
 }
 
-/// An operation by its rank and the number of its call, `R:CALL`, or `R:CALL.PART` behind the first part of a Startall.
-fn put_name<S: Sink>(out: &mut S, name: &OpName)
-    ensures { Prints (S.page out.old) (S.page out.new) (name_text name.now) }
+/// Puts an operation in front of a line, by its rank and the number of its call, `R:CALL`, or `R:CALL.PART` behind the
+/// first part of a Startall.
+#[inline(always)]
+fn prepend_name(line: &mut Line, name: &OpName)
+    requires { 62 + length line.old ≤ ROOM }
+    ensures text { line.new ≡ name_text name.now ++ line.old }
+    ensures short { length line.new ≤ 62 + length line.old }
 {
-    put_number(out, name.rank as u64);
-    out.put(b":");
-    put_number(out, name.call);
-    put_part(out, b".", name.part);
+    line.prepend_part(name.part);
+    line.prepend_number(name.call);
+    line.prepend(b":");
+    line.prepend_number(name.rank as u64);
 }
 
 #[tactic(auto, using(crate::proofs::Printing::nothing))]
@@ -52,12 +58,13 @@ pub(crate) fn put_pairs<S: Sink>(out: &mut S, pairs: &[Pair])
 fn put_pair<S: Sink>(out: &mut S, pair: &Pair)
     ensures { Prints (S.page out.old) (S.page out.new) (pair_line pair.now) }
 {
-    out.put(b"pair ");
-    put_name(out, &pair.message);
-    out.put(b" ");
-    put_name(out, &pair.receive);
-    put_where(out, pair.over, b" over");
-    out.put(b"\n");
+    let mut line = Line::new();
+    line.prepend_where(pair.over, b" over");
+    prepend_name(&mut line, &pair.receive);
+    line.prepend(b" ");
+    prepend_name(&mut line, &pair.message);
+    line.prepend(b"pair ");
+    out.put(line.text());
 }
 
 #[tactic(auto, using(crate::proofs::Printing::nothing))]
@@ -73,7 +80,8 @@ pub(crate) fn put_all_postponed<S: Sink>(out: &mut S, names: &[OpName])
 fn put_postponed<S: Sink>(out: &mut S, name: &OpName)
     ensures { Prints (S.page out.old) (S.page out.new) (postponed_line name.now) }
 {
-    out.put(b"postponed ");
-    put_name(out, name);
-    out.put(b"\n");
+    let mut line = Line::new();
+    prepend_name(&mut line, name);
+    line.prepend(b"postponed ");
+    out.put(line.text());
 }

@@ -5,7 +5,7 @@ ghost use Rattle.std.specs.Io.KnownBytes.{Appends};
 ghost use Rattle.mpi_model.specs.Failures.{CountsFailure};
 ghost use Rattle.mpi_model.specs.Side.{LeavesSide};
 ghost use Rattle.trace_report.specs.BrokenOff.{WritesFront};
-ghost use Rattle.trace_report.specs.Page.{Prints, capped, closing, opening, outlet};
+ghost use Rattle.trace_report.specs.Page.{Prints, PrintsAlone, capped};
 ghost use Rattle.trace_report.specs.Json.{json_text};
 ghost use Rattle.trace_report.specs.Forms.{text_in};
 ghost use Rattle.trace_report.specs.Report.{report_text};
@@ -31,7 +31,7 @@ pub fn write_report<W: Write>(answer: &Answer, writer: &mut W) -> Result<u64, Re
     ensures length { IfOk result (λ n. n ≡ capped (length (report_text answer.now))) }
 
     // at a refused write just the first `written` bytes of the text were written
-    ensures err { IfErr result (λ fault. WritesFront (W.written writer.old) (W.written writer.new) (report_text answer.now) fault) }
+    ensures err { IfErr result (WritesFront (W.written writer.old) (W.written writer.new) (report_text answer.now)) }
     ensures failures { CountsFailure (W.failures writer.old) (W.failures writer.new) result }
     ensures beside { LeavesSide (W.read_side writer.old) (W.read_side writer.new) }
 {
@@ -46,7 +46,7 @@ pub fn write_json<W: Write>(answer: &Answer, writer: &mut W) -> Result<u64, Repo
     ensures length { IfOk result (λ n. n ≡ capped (length (json_text answer.now))) }
 
     // at a refused write just the first `written` bytes of the text were written
-    ensures err { IfErr result (λ fault. WritesFront (W.written writer.old) (W.written writer.new) (json_text answer.now) fault) }
+    ensures err { IfErr result (WritesFront (W.written writer.old) (W.written writer.new) (json_text answer.now)) }
     ensures failures { CountsFailure (W.failures writer.old) (W.failures writer.new) result }
     ensures beside { LeavesSide (W.read_side writer.old) (W.read_side writer.new) }
 {
@@ -57,7 +57,7 @@ pub fn write_json<W: Write>(answer: &Answer, writer: &mut W) -> Result<u64, Repo
 fn write_as<W: Write>(form: Form, answer: &Answer, writer: &mut W) -> Result<u64, ReportFault>
     ensures ok { OnOk result (Appends (W.written writer.old) (W.written writer.new) (text_in form answer.now)) }
     ensures length { IfOk result (λ n. n ≡ capped (length (text_in form answer.now))) }
-    ensures err { IfErr result (λ fault. WritesFront (W.written writer.old) (W.written writer.new) (text_in form answer.now) fault) }
+    ensures err { IfErr result (WritesFront (W.written writer.old) (W.written writer.new) (text_in form answer.now)) }
     ensures failures { CountsFailure (W.failures writer.old) (W.failures writer.new) result }
     ensures beside { LeavesSide (W.read_side writer.old) (W.read_side writer.new) }
 {
@@ -71,7 +71,7 @@ fn write_as<W: Write>(form: Form, answer: &Answer, writer: &mut W) -> Result<u64
 
 /// Prints the report, and answers how many bytes the device took, and whether a write failed.
 fn print<W: Write>(form: Form, answer: &Answer, writer: &mut W) -> (u64, bool)
-    ensures { Prints (opening (outlet (W.written writer.old) (W.failures writer.old) (W.read_side writer.old))) (closing (outlet (W.written writer.new) (W.failures writer.new) (W.read_side writer.new)) result.0 result.1) (text_in form answer.now) }
+    ensures { PrintsAlone W.written W.failures W.read_side writer.old writer.new result.0 result.1 (text_in form answer.now) }
 {
     let direct = Direct {
         writer,

@@ -1,9 +1,9 @@
 //! What a stuck rank waits for, in words.
 
-ghost use Rattle.std.specs.Prelude.{◌≡◌, ◌++◌, decimal, map};
+ghost use Rattle.std.specs.Prelude.{◌≡◌, map};
 ghost use Rattle.trace_report.specs.Page.{Prints};
 ghost use Rattle.trace_stuck.specs.Shape.{shape, waits_of, OnRank};
-ghost use Rattle.trace_report.specs.Waits.{before_part, part_text, parts_text, wait_text, words_of};
+ghost use Rattle.trace_report.specs.Waits.{before_part, list_text, part_text, parts_text, wait_text, words_of};
 
 use crate::form::Form;
 use crate::sink::Sink;
@@ -28,7 +28,7 @@ pub(crate) fn put_wait<S: Sink>(out: &mut S, form: Form, condition: &Condition)
 /// All of, or one of, these parts, behind its head.
 #[cycle(wait)]
 fn put_list<S: Sink>(out: &mut S, form: Form, head: &[u8], parts: &[Condition])
-    ensures { Prints (S.page out.old) (S.page out.new) (head.now ++ parts_text (words_of form) (waits_of (map shape parts.now)) ++ (words_of form).close) }
+    ensures { Prints (S.page out.old) (S.page out.new) (list_text (words_of form) head.now (waits_of (map shape parts.now))) }
 {
     out.put(head);
     put_parts(out, form, parts);
@@ -56,7 +56,7 @@ fn put_part<S: Sink>(out: &mut S, form: Form, i: usize, part: &Condition)
 
 /// The same of parts that are plain ranks.
 fn put_rank_list<S: Sink>(out: &mut S, form: Form, head: &[u8], ranks: &[u32])
-    ensures { Prints (S.page out.old) (S.page out.new) (head.now ++ parts_text (words_of form) (waits_of (map OnRank ranks.now)) ++ (words_of form).close) }
+    ensures { Prints (S.page out.old) (S.page out.new) (list_text (words_of form) head.now (waits_of (map OnRank ranks.now))) }
 {
     out.put(head);
     put_ranks(out, form, ranks);
