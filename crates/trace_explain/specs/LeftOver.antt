@@ -109,9 +109,13 @@ abbrev pub is_starved : List OpName → List OpName → List Message → Receive
 is_starved pending given messages q =
     has_name pending q.name && not (has_name given q.name) && not (is_void q.trust) && not (fits_some messages q)
 
+-- those of the receives that starve
+abbrev pub starved_among : List OpName → List OpName → List Message → List Receive → List Receive
+starved_among pending given messages receives = filter (is_starved pending given messages) receives
+
 -- all receives that starve
 abbrev pub starved : List OpName → List OpName → List Message → List Ops → List Receive
-starved pending given messages ops = flat_map (λ o. filter (is_starved pending given messages) o.receives) ops
+starved pending given messages ops = flat_map (λ o. starved_among pending given messages o.receives) ops
 
 -- the receives in whose call no stuck rank stands
 abbrev pub is_other : List OpName → Receive → Bool

@@ -1,7 +1,7 @@
 //! What is left over where it may be why ranks wait.
 
 ghost use Rattle.std.specs.Prelude.{◌≡◌, ◌++◌, IfOk, OnOk, filter, map, slice_get};
-ghost use Rattle.trace_explain.specs.LeftOver.{AreSorted, given, is_left, is_loose, is_starved, is_undecided, is_unsaid, left_in, left_names, loose, loose_in, named, near_in, near_misses, other_names, others_in, pending_at, pending_below, pending_of, standing, starved, starved_beside, taken, undecided_in, undecided_names, wanting_in};
+ghost use Rattle.trace_explain.specs.LeftOver.{AreSorted, given, is_left, is_loose, is_starved, is_undecided, is_unsaid, left_in, left_names, loose, loose_in, named, near_in, near_misses, other_names, others_in, pending_at, pending_below, pending_of, standing, starved, starved_among, starved_beside, taken, undecided_in, undecided_names, wanting_in};
 
 use crate::names::Names;
 use crate::offers::Offers;
@@ -193,7 +193,7 @@ fn push_starved(
     receives: &[Receive],
     found: &mut Vec<Receive>,
 ) -> Result<(), AllocError>
-    ensures { OnOk result (found.new.items ≡ found.old.items ++ filter (is_starved pending.now given.now offers.now) receives.now) }
+    ensures { OnOk result (found.new.items ≡ found.old.items ++ starved_among pending.now given.now offers.now receives.now) }
 {
     for q in receives {
         if is_starved(pending, given, offers, q) {

@@ -6,11 +6,10 @@
 
 ghost use Rattle.std.specs.Prelude.{◌≡◌, IfOk, None, OnOk, Some};
 ghost use Rattle.std.specs.List.{find};
-ghost use Rattle.std.specs.Ordering.{is_eq};
 ghost use Rattle.std.specs.BTreeMap.{get};
 ghost use Rattle.trace_wait.specs.Patterns.{Pattern as Named, pattern_cmp, suits};
 ghost use Rattle.trace_explain.specs.LeftOver.{fits_some, near_miss};
-ghost use Rattle.trace_explain.specs.Offers.{Keeps, first_suiting};
+ghost use Rattle.trace_explain.specs.Offers.{Keeps, first_suiting, is_pattern};
 
 use mpi_model::{Message, OpName, Receive};
 use std::alloc::{AllocError, Global};
@@ -47,7 +46,7 @@ fn keep(
     pattern: Pattern,
     name: OpName,
 ) -> Result<(), AllocError>
-    ensures { OnOk result (Keeps (λ p. is_eq (pattern_cmp pattern p)) name (get pattern_cmp first.old) (get pattern_cmp first.new)) }
+    ensures { OnOk result (Keeps (is_pattern pattern) name (get pattern_cmp first.old) (get pattern_cmp first.new)) }
 {
     first.insert(pattern, name)?;
     Ok(())
