@@ -3,12 +3,17 @@ use Rattle.std.specs.Prelude.{ℕ, ◌+◌, ◌==◌, Bool, true, false, if◌th
 use denote.Bor.{Bor}
 use Rattle.std.specs.List.{cons_option}
 use Rattle.trace_stuck.specs.Shape as waits
-use Rattle.trace_stuck.specs.Shape.{Waits, OnNothing, OnRank, OnAll, OnOne, none, and}
+use Rattle.trace_stuck.specs.Shape.{Waits, OnNothing, OnRank, OnAll, OnOne, none, and, shape, waits_of}
+use Rattle.trace_stuck.specs.declared.condition.Condition.{Condition}
 use Rattle.call_words.specs.Ranges.{ranges_text}
 
 -- the nodes behind a reference, where there are some
 abbrev pub nodes_in : Option (Bor (List ℕ)) → Option (List ℕ)
 nodes_in nodes = option_map (λ n. n.now) nodes
+
+-- the waits of the parts of a condition
+abbrev pub waits_in : List Condition → Waits
+waits_in parts = waits_of (map shape parts)
 
 -- the node that has a rank, where the list has that of each; a rank that it lacks has its own
 abbrev pub node_at : List ℕ → ℕ → ℕ

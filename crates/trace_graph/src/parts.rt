@@ -1,9 +1,9 @@
 //! For whom a rank waits, drawn.
 
-ghost use Rattle.std.specs.Prelude.{◌≡◌, IfOk, map};
-ghost use Rattle.trace_stuck.specs.Shape.{shape, waits_of};
+ghost use Rattle.std.specs.Prelude.{◌≡◌, IfOk};
+ghost use Rattle.trace_stuck.specs.Shape.{shape};
 ghost use Rattle.call_words.specs.Texts.{Adds};
-ghost use Rattle.trace_graph.specs.Edges.{list_text, nested_text, nodes_in, part_text, parts_text, rank_of, ranks_among, ranks_text, wait_text};
+ghost use Rattle.trace_graph.specs.Edges.{list_text, nested_text, nodes_in, part_text, parts_text, rank_of, ranks_among, ranks_text, wait_text, waits_in};
 
 use crate::edges::{origin, place_below, put_edges, put_opening};
 use call_words::Text;
@@ -22,7 +22,7 @@ fn rank_of(part: &Condition) -> Option<u32>
 
 /// The parts that are ranks.
 fn ranks_among(alloc: Global, parts: &[Condition]) -> Result<Vec<u32>, AllocError>
-    ensures { IfOk result (λ ranks. ranks.items ≡ ranks_among (waits_of (map shape parts.now))) }
+    ensures { IfOk result (λ ranks. ranks.items ≡ ranks_among (waits_in parts.now)) }
 {
     let mut ranks = Vec::new(alloc);
     for part in parts {
@@ -89,7 +89,7 @@ fn put_list(
     place: &[u8],
     parts: &[Condition],
 )
-    ensures { Adds out.old out.new (list_text (nodes_in nodes.entry) outer all from.now place.now (waits_of (map shape parts.now))) }
+    ensures { Adds out.old out.new (list_text (nodes_in nodes.entry) outer all from.now place.now (waits_in parts.now)) }
 {
     put_opening(out, outer, all, from, place);
     match origin(alloc, outer, all, from, place) {
@@ -109,7 +109,7 @@ fn put_parts(
     place: &[u8],
     parts: &[Condition],
 )
-    ensures { Adds out.old out.new (parts_text (nodes_in nodes.entry) all from.now place.now (waits_of (map shape parts.now))) }
+    ensures { Adds out.old out.new (parts_text (nodes_in nodes.entry) all from.now place.now (waits_in parts.now)) }
 {
     match ranks_among(alloc, parts) {
         Ok(ranks) => {
@@ -131,7 +131,7 @@ fn put_nested(
     place: &[u8],
     parts: &[Condition],
 )
-    ensures { Adds out.old out.new (nested_text (nodes_in nodes.entry) all from.now place.now 0 (waits_of (map shape parts.now))) }
+    ensures { Adds out.old out.new (nested_text (nodes_in nodes.entry) all from.now place.now 0 (waits_in parts.now)) }
 {
     for (i, part) in parts.iter().enumerate() {
         put_part(alloc, out, nodes, all, from, place, i, part);
