@@ -13,10 +13,14 @@ use Rattle.trace_world.specs.Worlds.{layouts}
 abbrev pub joined : List View → ℕ → View → List View
 joined known node more = slice_set known node (join (slice_index_or known node empty) more)
 
+-- One node has an answer then, or none; the others have or lack theirs as before.
+abbrev pub StaleAt : List Held → ℕ → Bool → List Held → Type 0
+StaleAt old node is_stale new = stale new ≡ slice_set (stale old) node is_stale
+
 -- One node joined more, and then has an answer or none; nothing else has changed.
 pub record Joined (old : List Held) (node : ℕ) (more : View) (is_stale : Bool) (new : List Held) : Type 0 where
   pub knows : knows new ≡ joined (knows old) node more
-  pub stale : stale new ≡ slice_set (stale old) node is_stale
+  pub stale : StaleAt old node is_stale new
   pub layouts : layouts new ≡ layouts old
 
 -- One node is given more, and makes no answer. It has one then only if it had one before. No refusal but for want of

@@ -16,6 +16,10 @@ pub record State : Type 0 where
 abbrev pub at : List (List PlacedEvents) → ℕ → List PlacedEvents
 at lists i = slice_index_or lists i []
 
+-- the segments of each node, with one more at the end of one node's
+abbrev pub with_segment : List (List PlacedEvents) → ℕ → PlacedEvents → List (List PlacedEvents)
+with_segment lists node segment = slice_set lists node (at lists node ++ segment ∷ [])
+
 -- so many nodes that nothing has happened to
 abbrev pub opening : ℕ → State
 opening nodes = record { inboxes = replicate nodes []; reached = replicate nodes []; mails = [] }
@@ -23,7 +27,7 @@ opening nodes = record { inboxes = replicate nodes []; reached = replicate nodes
 -- A post adds a segment to the inbox. A take moves the inbox's front to what reached the node. A shipment mails all that
 -- reached it. A delivery adds a mail's segments to what reached the node. A restart leaves the node with nothing.
 abbrev pub after : Step → State → State
-after (Post worker node segment) s = record s { inboxes = slice_set s.inboxes node (at s.inboxes node ++ segment ∷ []) }
+after (Post worker node segment) s = record s { inboxes = with_segment s.inboxes node segment }
 after (Take node) s = record s { inboxes = slice_set s.inboxes node (drop 1 (at s.inboxes node)); reached = slice_set s.reached node (at s.reached node ++ take 1 (at s.inboxes node)) }
 after (Ship node) s = record s { mails = s.mails ++ at s.reached node ∷ [] }
 after (Deliver mail node) s = record s { reached = slice_set s.reached node (at s.reached node ++ at s.mails mail) }

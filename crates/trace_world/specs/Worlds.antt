@@ -1,5 +1,6 @@
 -- What holds of every world.
-use Rattle.std.specs.Prelude.{◌≡◌, ℕ, ◌<◌, ◌≤◌, List, [], ◌∷◌, map, length, replicate, slice_index_or, ⊤}
+use Rattle.std.specs.Prelude.{◌≡◌, ℕ, ◌<◌, ◌≤◌, Some, List, [], ◌∷◌, map, length, replicate, slice_index_or, ⊤}
+use Rattle.std.specs.List.{slice_get}
 use Rattle.std.specs.FinMap.{entries}
 use Rattle.mpi_model.specs.Layouts.{Parts}
 use Rattle.trace_know.specs.Segment.{PlacedEvents}
@@ -12,6 +13,10 @@ use Rattle.trace_world.specs.Shows.{most_nodes}
 -- the layouts of the nodes
 abbrev pub layouts : List Held → List Parts
 layouts nodes = map (λ n. n.layout) nodes
+
+-- The layout of this node has the rank.
+abbrev pub HasRank : List Held → ℕ → ℕ → Type 0
+HasRank nodes node rank = (layout : Parts) → slice_get (layouts nodes) node ≡ Some layout → rank < layout.ranks
 
 -- The segments are of ranks of the layout.
 abbrev pub AreWithin : Parts → List PlacedEvents → Type 0

@@ -1,10 +1,8 @@
 //! Laws of all worlds, as the contracts of calls that do nothing, so that the check proves them.
 
-ghost use Rattle.std.specs.Prelude.{◌≡◌, ℕ};
-ghost use Rattle.trace_node.specs.Answer.{Answered, IsAnswer};
-ghost use Rattle.trace_report.specs.Report.{report_text};
+ghost use Rattle.std.specs.Prelude.{◌≡◌};
 ghost use Rattle.trace_world.specs.Schedule.{State};
-ghost use Rattle.trace_world.specs.Equal.{ReachedAlike, know_at};
+ghost use Rattle.trace_world.specs.Equal.{AnswerAlike, KnowAlike, NodesReachedAlike, ReportAlike};
 ghost use Rattle.trace_world.specs.Possible.{world_in};
 ghost use Rattle.trace_world.specs.Refusals.{refusal};
 ghost use Rattle.trace_world.specs.Shows.{Shows, WorldState};
@@ -16,9 +14,9 @@ use trace_node::answers_are_one;
 /// Two nodes of a world that the same facts reached, in any orders, groupings and repetitions, know
 /// the same, their answers are equal, and so are their reports, byte for byte.
 pub fn equal_nodes()
-    ensures knowledge { (w : WorldState) (s : State) (one other : ℕ) → Shows w s → ReachedAlike s one other → know_at w one ≡ know_at w other }
-    ensures answers { (w : WorldState) (s : State) (one other : ℕ) → Shows w s → ReachedAlike s one other → (a b : Answered) → IsAnswer w.layout (know_at w one) a → IsAnswer w.layout (know_at w other) b → a ≡ b }
-    ensures reports { (w : WorldState) (s : State) (one other : ℕ) → Shows w s → ReachedAlike s one other → (a b : Answered) → IsAnswer w.layout (know_at w one) a → IsAnswer w.layout (know_at w other) b → report_text a ≡ report_text b }
+    ensures knowledge { NodesReachedAlike KnowAlike }
+    ensures answers { NodesReachedAlike AnswerAlike }
+    ensures reports { NodesReachedAlike ReportAlike }
 {
     view_laws();
     answers_are_one();

@@ -1,17 +1,15 @@
 //! What a step does to nodes and inboxes.
 
-ghost use Rattle.std.specs.Prelude.{◌≡◌, ◌<◌, ◌++◌, ◌∷◌, [], ℕ, true, false, OnOk, OnErr, IfErr, IsErrOf, Some, drop, length, slice_set};
+ghost use Rattle.std.specs.Prelude.{◌≡◌, ◌<◌, true, false, OnOk, OnErr, IfErr, Some, length};
 ghost use Rattle.std.specs.List.{slice_get};
 ghost use Rattle.mpi_model.specs.Layouts.{Parts};
-ghost use Rattle.trace_know.specs.Segment.{PlacedEvents};
 ghost use Rattle.trace_know.specs.Trace.{facts_of, view_of};
 ghost use Rattle.trace_node.specs.Node.{IsWithin};
-ghost use Rattle.trace_world.specs.Moves.{Holds, SameKnown};
+ghost use Rattle.trace_world.specs.Moves.{Holds, SameKnown, StaleAt};
 ghost use Rattle.trace_world.specs.Answers.{AllAnswered};
-ghost use Rattle.trace_world.specs.Refusals.{is_done, stale};
-ghost use Rattle.trace_world.specs.Schedule.{at};
+ghost use Rattle.trace_world.specs.Schedule.{with_segment};
 ghost use Rattle.trace_world.specs.Shows.{knows};
-ghost use Rattle.trace_world.specs.Worlds.{layouts, AreWithin};
+ghost use Rattle.trace_world.specs.Worlds.{HasRank, layouts};
 
 use crate::inbox::Inbox;
 use crate::shared::SharedSegment;
@@ -27,7 +25,7 @@ pub(crate) fn post(
     segment: &SharedSegment,
 ) -> Result<(), WorldFault>
     requires there { node < length inboxes.old.items }
-    ensures ok { OnOk result (inboxes.new.items ≡ slice_set inboxes.old.items node (at inboxes.old.items node ++ segment.now ∷ [])) }
+    ensures ok { OnOk result (inboxes.new.items ≡ with_segment inboxes.old.items node segment.now) }
     ensures err { IfErr result (λ fault. (fault ≡ WorldFault.Memory) × (inboxes.new.items ≡ inboxes.old.items)) }
 {
     let Ok(segment) = segment.try_clone() else {
@@ -47,7 +45,7 @@ pub(crate) fn hold<'a>(
     segment: &Segment,
 ) -> Result<(), WorldFault>
     requires there { node < length nodes.old.items }
-    requires within { (layout : Parts) → slice_get (layouts nodes.old.items) node ≡ Some layout → segment.now.rank < layout.ranks }
+    requires within { HasRank nodes.old.items node segment.now.rank }
     ensures { Holds nodes.old.items node (view_of (facts_of segment.now)) result nodes.new.items }
 {
     let place = &mut nodes[node];
@@ -84,8 +82,8 @@ pub(crate) fn hold_all<'a>(
 pub(crate) fn answer<'a>(nodes: &mut Vec<Node<'a>>, node: usize) -> Result<(), AllocError>
     requires there { node < length nodes.old.items }
     ensures same { SameKnown nodes.old.items nodes.new.items }
-    ensures ok { OnOk result (stale nodes.new.items ≡ slice_set (stale nodes.old.items) node false) }
-    ensures err { OnErr result (stale nodes.new.items ≡ slice_set (stale nodes.old.items) node true) }
+    ensures ok { OnOk result (StaleAt nodes.old.items node false nodes.new.items) }
+    ensures err { OnErr result (StaleAt nodes.old.items node true nodes.new.items) }
 {
     let place = &mut nodes[node];
     place.catch_up()
@@ -108,8 +106,8 @@ pub(crate) fn refresh<'a>(nodes: &mut Vec<Node<'a>>, node: usize) -> Result<(), 
     ensures knows { knows nodes.new.items ≡ knows nodes.old.items }
     ensures layouts { layouts nodes.new.items ≡ layouts nodes.old.items }
     ensures length { length nodes.new.items ≡ length nodes.old.items }
-    ensures ok { OnOk result (stale nodes.new.items ≡ slice_set (stale nodes.old.items) node false) }
-    ensures err { IfErr result (λ fault. (fault ≡ WorldFault.Memory) × (stale nodes.new.items ≡ slice_set (stale nodes.old.items) node true)) }
+    ensures ok { OnOk result (StaleAt nodes.old.items node false nodes.new.items) }
+    ensures err { IfErr result (λ fault. (fault ≡ WorldFault.Memory) × StaleAt nodes.old.items node true nodes.new.items) }
 {
     let place = &mut nodes[node];
     match place.refresh() {
