@@ -6,11 +6,10 @@ ghost use Rattle.std.specs.FinMap.{empty};
 ghost use Rattle.std.specs.List.{All, AllWithin, HoldsAt};
 ghost use Rattle.std.specs.List.Sorted.{IsNonDecreasingBy};
 ghost use Rattle.dumpi_text.specs.Failing.{Fails};
-ghost use Rattle.trace_know.specs.View.{View, join};
+ghost use Rattle.trace_know.specs.View.{View};
 ghost use Rattle.trace_node.specs.Answer.{IsAnswer};
-ghost use Rattle.trace_node.specs.ByRank.{AreTold};
 ghost use Rattle.command_runs.specs.Files.{NamesFailed};
-ghost use Rattle.command_runs.specs.Ranks.{TellRanks};
+ghost use Rattle.command_runs.specs.Ranks.{TellNext, TellRanks};
 ghost use Rattle.command_runs.specs.Refusals.{RefusesFirst, RefusesPieces};
 ghost use Rattle.command_runs.specs.Traces.{IsInside, IsKnown};
 
@@ -66,7 +65,7 @@ fn with_rank<O: Opener, V: Watcher>(
 ) -> Result<RankByRank, RunFault>
     requires rank { rank < layout.now.ranks }
     requires own { All (λ p. p.rank ≡ rank) pieces.now }
-    ensures ok { IfOk result (λ more. (own : View) × IsKnown (O.file files.old) pieces.now own × ((view : View) → AreTold layout.now view rank told → AreTold layout.now (join view own) (rank + 1) more)) }
+    ensures ok { IfOk result (TellNext (O.file files.old) layout.now pieces.now rank told) }
     ensures err { IfErr result (λ fault. (fault ≡ RunFault.Memory) ⊎ RefusesFirst (O.file files.old) pieces.now fault) }
     ensures failed { IfErr result (NamesFailed (Fails O.R.failures)) }
     ensures same { O.file files.new ≡ O.file files.old }

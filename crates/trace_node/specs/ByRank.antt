@@ -1,15 +1,15 @@
 -- What is told of the ranks of a layout one after another, each by what is known of it alone.
-use Rattle.std.specs.Prelude.{◌≡◌, ℕ, ◌<◌, Option, List, [], ◌∷◌, ◌++◌, IsSome, map, slice_index_or}
+use Rattle.std.specs.Prelude.{◌≡◌, ℕ, ◌+◌, ◌<◌, Option, List, [], ◌∷◌, ◌++◌, IsSome, map, slice_index_or}
 use Rattle.std.specs.List.{range_with_len}
 use Rattle.mpi_model.specs.Layouts.{Parts}
-use Rattle.trace_know.specs.View.{View, cell}
+use Rattle.trace_know.specs.View.{View, cell, join}
 use Rattle.trace_know.specs.Prefix.{prefix_of, is_beyond, is_unread}
 use Rattle.trace_know.specs.Listing.{conflicts_of}
 use Rattle.trace_ops.specs.Ops.{Ops}
 use Rattle.trace_ops.specs.RankOps as ranks
 use Rattle.trace_stuck.specs.Shape.{Wait}
 use Rattle.trace_wait.specs.Ranks.{ops_of}
-use Rattle.trace_node.specs.Answer.{AreStuck, Stopped, call_of, states_of, wait_at, waits_of, wall_of}
+use Rattle.trace_node.specs.Answer.{Answered, AreStuck, IsAnswerBy, Stopped, call_of, states_of, wait_at, waits_of, wall_of}
 use Rattle.trace_node.specs.declared.answer.parts.Reading.{Reading}
 use Rattle.trace_node.specs.declared.by_rank.RankByRank.{RankByRank}
 
@@ -62,3 +62,11 @@ pub record AreTold (layout : Parts) (view : View) (count : ℕ) (t : RankByRank)
   pub reading : IsReading count view t.reading
   pub ops : t.ops.items ≡ map (ranks.ops_of layout view) (range_with_len 0 count)
   pub walls : t.walls.items ≡ map (λ r. entered_by view r (ranks.ops_of layout view r)) (range_with_len 0 count)
+
+-- The next rank was told too, by what is known of it alone: then all of them were told by the join.
+abbrev pub TellsNext : Parts → ℕ → View → RankByRank → RankByRank → Type 0
+TellsNext layout rank know old new = (view : View) → AreTold layout view rank old → IsOfRank know rank → AreTold layout (join view know) (rank + 1) new
+
+-- The answer of each view of which this was told.
+abbrev pub AnswersWhatIsTold : Parts → Reading → List ℕ → List Ops → Answered → Type 0
+AnswersWhatIsTold layout reading walls ops answer = (view : View) → IsReading layout.ranks view reading → AreWalls view ops walls → IsAnswerBy layout view ops answer

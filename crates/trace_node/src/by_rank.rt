@@ -1,11 +1,11 @@
 //! An answer by what is known of one rank after another.
 
-ghost use Rattle.std.specs.Prelude.{◌≡◌, ◌+◌, IfOk};
+ghost use Rattle.std.specs.Prelude.{IfOk};
 ghost use Rattle.std.specs.FinMap.{empty};
 ghost use Rattle.mpi_model.specs.Layouts.{Parts};
-ghost use Rattle.trace_know.specs.View.{View, join};
+ghost use Rattle.trace_know.specs.View.{View};
 ghost use Rattle.trace_node.specs.Answer.{IsAnswer};
-ghost use Rattle.trace_node.specs.ByRank.{AreTold, IsOfRank, IsReading};
+ghost use Rattle.trace_node.specs.ByRank.{AreTold, TellsNext};
 ghost use Rattle.trace_node.specs.Node.{IsWithin};
 
 use crate::answer::{Answer, Reading, answer_of, reading_of, waiting_call, wall_of, walls_of};
@@ -65,7 +65,7 @@ impl RankByRank {
         rank: u32,
         know: &Knowledge,
     ) -> Result<RankByRank, AllocError>
-        ensures { IfOk result (λ told. (view : View) → AreTold layout.now view rank self → IsOfRank know.now rank → AreTold layout.now (join view know.now) (rank + 1) told) }
+        ensures { IfOk result (TellsNext layout.now rank know.now self) }
     {
         join_laws();
         prefix_laws();

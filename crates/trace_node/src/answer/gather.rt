@@ -4,14 +4,13 @@ ghost use Rattle.std.specs.Prelude.{◌≡◌, ◌<◌, ◌^◌, ℕ, List, IfOk
 ghost use Rattle.std.specs.List.Sorted.{IsStrictlyIncreasing};
 ghost use Rattle.std.specs.Option.{option_copied, option_map};
 ghost use Rattle.trace_know.specs.Prefix.{event_at};
-ghost use Rattle.trace_know.specs.View.{View};
 ghost use Rattle.trace_ops.specs.Ops.{AreOwn};
 ghost use Rattle.trace_pair.specs.Table.{table_of};
 ghost use Rattle.trace_stuck.specs.Shape.{OnNothing, shape};
 ghost use Rattle.trace_wait.specs.Ranks.{ops_of};
 ghost use Rattle.trace_wait.specs.Rounds.{rounds_of};
-ghost use Rattle.trace_node.specs.Answer.{IsAnswerBy, beyond_of, call_of, entry_of, foreign_of, prefixes_of, shapes, states_of, unread_of, wait_at, wall_of};
-ghost use Rattle.trace_node.specs.ByRank.{AreStopped, AreWalls, IsReading, stopped_by, walls_of};
+ghost use Rattle.trace_node.specs.Answer.{beyond_of, call_of, entry_of, foreign_of, prefixes_of, shapes, states_of, unread_of, wait_at, wall_of};
+ghost use Rattle.trace_node.specs.ByRank.{AnswersWhatIsTold, AreStopped, IsReading, stopped_by, walls_of};
 ghost use Rattle.trace_node.specs.Stopped.{stopped};
 
 use crate::answer::Answer;
@@ -267,7 +266,7 @@ pub(crate) fn answer_of(
     requires few { length ops.now < 2 ^ 32 }
     requires own { AreOwn 0 ops.now }
     requires table { table ≡ table_of ops.now }
-    ensures { IfOk result (λ a. (view : View) → IsReading layout.now.ranks view reading → AreWalls view ops.now walls.now → IsAnswerBy layout.now view ops.now a) }
+    ensures { IfOk result (AnswersWhatIsTold layout.now reading walls.now ops.now) }
 {
     let waiting = waiting_of(alloc, layout, walls, ops, &table)?;
     Ok(Answer {
