@@ -81,17 +81,10 @@ fn checker_with<'a, O: Opener, V: Watcher>(
     let Ok(nothing) = Checker::new(alloc, layout) else {
         return Err(RunFault::Memory);
     };
-    announce(manifest.pieces(), files, watcher);
+    let pieces = manifest.pieces();
+    announce(pieces, files, watcher);
     let mut buffer = Vec::new(alloc);
-    let checker = match know_of(
-        alloc,
-        layout,
-        manifest.pieces(),
-        files,
-        watcher,
-        &mut buffer,
-        nothing,
-    ) {
+    let checker = match know_of(alloc, layout, pieces, files, watcher, &mut buffer, nothing) {
         Ok(checker) => checker,
         Err(fault) => return Err(fault),
     };

@@ -27,7 +27,7 @@ returns-in-Err-know_of-clause-err g c =
     let tell : TellPacked file c.args.layout.now.ranks c.in-Ok.manifest.packed c.in-Ok-packed_of.packed =
     rw (c.manifest_at.ensures.same, c.packed-listed.ensures) at c.in-Ok-packed_of.ensures.ok in
     let refuses : RefusesPieces file c.args.layout.now.ranks c.in-Ok.manifest.pieces c.in-Err-know_of.fault =
-    rw (c.packed_of.ensures.same, c.manifest_at.ensures.same, c.pieces.ensures) at c.in-Err-know_of.ensures.err in
+    rw (c.packed_of.ensures.same, c.manifest_at.ensures.same, c.pieces-pieces.ensures) at c.in-Err-know_of.ensures.err in
     texts_refused file c.args.layout.now c.args.manifest_name.now c.in-Ok.manifest c.in-Ok-packed_of.packed c.in-Err-know_of.fault c.in-Ok.ensures.ok tell refuses
 
 pub returns-then-is_empty-clause-ok : goal.returns-then-is_empty-clause-ok
@@ -37,9 +37,9 @@ returns-then-is_empty-clause-ok g c =
     let m = c.in-Ok.manifest in
     let checker = c.in-Ok-know_of.checker in
     let tell : TellPacked file ranks m.packed c.in-Ok-packed_of.packed = rw (c.manifest_at.ensures.same, c.packed-listed.ensures) at c.in-Ok-packed_of.ensures.ok in
-    let known : IsKnown file m.pieces checker.know = rw (c.packed_of.ensures.same, c.manifest_at.ensures.same, c.pieces.ensures) at c.in-Ok-know_of.ensures.ok in
+    let known : IsKnown file m.pieces checker.know = rw (c.packed_of.ensures.same, c.manifest_at.ensures.same, c.pieces-pieces.ensures) at c.in-Ok-know_of.ensures.ok in
     let inside : All (IsInside file ranks) m.pieces =
-    rw (c.packed_of.ensures.same, c.manifest_at.ensures.same, c.pieces.ensures) at c.in-Ok-know_of.ensures.inside in
+    rw (c.packed_of.ensures.same, c.manifest_at.ensures.same, c.pieces-pieces.ensures) at c.in-Ok-know_of.ensures.inside in
     let layout : checker.layout ≡ c.args.layout.now = c.in-Ok-know_of.ensures.layout ∙ (λ i. (c.in-Ok-new.ensures i).layout) in
     let count : length m.packed ≡ 0 =
     ap (λ (ps : List PackedParts). length ps) (sym c.packed-listed.ensures) ∙ eqb-true (length c.packed-listed.result.now) 0 (sym c.is_empty.ensures ∙ c.if-is_empty.true) in
@@ -56,9 +56,9 @@ returns-in-Ok-joining-clause-ok g c =
     let read = c.in-Ok-know_of.checker in
     let packed = c.in-Ok-packed_of.packed in
     let tell : TellPacked file ranks m.packed packed = rw (c.manifest_at.ensures.same, c.packed-listed.ensures) at c.in-Ok-packed_of.ensures.ok in
-    let known : IsKnown file m.pieces read.know = rw (c.packed_of.ensures.same, c.manifest_at.ensures.same, c.pieces.ensures) at c.in-Ok-know_of.ensures.ok in
+    let known : IsKnown file m.pieces read.know = rw (c.packed_of.ensures.same, c.manifest_at.ensures.same, c.pieces-pieces.ensures) at c.in-Ok-know_of.ensures.ok in
     let inside : All (IsInside file ranks) m.pieces =
-    rw (c.packed_of.ensures.same, c.manifest_at.ensures.same, c.pieces.ensures) at c.in-Ok-know_of.ensures.inside in
+    rw (c.packed_of.ensures.same, c.manifest_at.ensures.same, c.pieces-pieces.ensures) at c.in-Ok-know_of.ensures.inside in
     let layout : read.layout ≡ c.args.layout.now = c.in-Ok-know_of.ensures.layout ∙ (λ i. (c.in-Ok-new.ensures i).layout) in
     let view = join read.know packed in
     let is : view ≡ join packed read.know = c.join_laws.ensures.commutative read.know packed in (
