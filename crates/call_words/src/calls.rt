@@ -10,6 +10,7 @@ use mpi_model::{
     Call, Collective, CollectiveFunction, CommRef, Envelope, Exchange, Kind, Mode, ProbeEnvelope,
 };
 
+/// The function of a blocking send of a mode (MPI 4.0, 3.4).
 pub(crate) fn send_name(mode: Mode) -> &'static [u8]
     ensures { result.now ≡ send_name mode }
 {
@@ -21,6 +22,7 @@ pub(crate) fn send_name(mode: Mode) -> &'static [u8]
     }
 }
 
+/// The function of a nonblocking send of a mode (MPI 4.0, 3.7.2).
 pub(crate) fn immediate_name(mode: Mode) -> &'static [u8]
     ensures { result.now ≡ immediate_name mode }
 {
@@ -32,6 +34,7 @@ pub(crate) fn immediate_name(mode: Mode) -> &'static [u8]
     }
 }
 
+/// The function that makes a persistent send of a mode (MPI 4.0, 3.9).
 pub(crate) fn init_name(mode: Mode) -> &'static [u8]
     ensures { result.now ≡ init_name mode }
 {
@@ -43,6 +46,7 @@ pub(crate) fn init_name(mode: Mode) -> &'static [u8]
     }
 }
 
+/// The function of a collective call, by whether it is nonblocking, and its kind.
 pub(crate) fn collective_name(nonblocking: bool, kind: Kind) -> &'static [u8]
     ensures { result.now ≡ collective_name nonblocking kind }
 {
@@ -73,6 +77,7 @@ fn put_probe(out: &mut Text, name: &[u8], envelope: ProbeEnvelope)
     put_probed(out, envelope);
 }
 
+/// A Sendrecv, by both of its envelopes.
 fn put_exchange(out: &mut Text, exchange: &Exchange)
     ensures { Adds out.old out.new (exchange_text exchange.now) }
 {
@@ -82,6 +87,7 @@ fn put_exchange(out: &mut Text, exchange: &Exchange)
     put_received(out, exchange.receive());
 }
 
+/// `MPI_Barrier on communicator 5`.
 pub(crate) fn put_on(out: &mut Text, name: &[u8], comm: CommRef)
     ensures { Adds out.old out.new (on_text name.now comm) }
 {
@@ -99,6 +105,7 @@ fn put_root(out: &mut Text, root: Option<u32>)
     }
 }
 
+/// A root, by its rank in the communicator.
 pub(crate) fn put_one_root(out: &mut Text, root: u32)
     ensures { Adds out.old out.new (one_root_text root) }
 {

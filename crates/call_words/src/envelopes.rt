@@ -7,6 +7,7 @@ ghost use Rattle.call_words.specs.Words.{comm_text, count_text, elements_word, i
 use crate::text::Text;
 use mpi_model::{CommRef, Envelope, Peer, ProbeEnvelope};
 
+/// `MPI_COMM_WORLD`, or `communicator 5`.
 pub(crate) fn put_comm(out: &mut Text, comm: CommRef)
     ensures { Adds out.old out.new (comm_text comm) }
 {
