@@ -212,10 +212,11 @@ abbrev pub open_with : ℕ → Option ℕ → ℕ → (ℕ → Option ℕ) → �
 open_with number None next going m = cond (number == m) (Some next) (going m)
 open_with number (Some at) next going m = going m
 
--- which group of a number goes on, and where the next group comes, as is noted of the calls so far
+-- which group of a number goes on, as is noted of the calls so far
 abbrev pub going_in : NumberUses → ℕ → Option ℕ
 going_in uses = get nat_eq uses.going
 
+-- where the next group comes, behind those of the calls so far
 abbrev pub next_in : NumberUses → ℕ
 next_in uses = length uses.groups.items
 

@@ -92,6 +92,7 @@ fn flag_by(number: Option<i64>) -> Option<bool>
     Some(is_set(number?))
 }
 
+/// A rank or a number of a communicator, as a parameter's text says it; `None` where it says none.
 pub(crate) fn natural_in(alloc: Global, text: Option<&[u8]>) -> Result<Option<u32>, Memory>
     ensures { IfOk result (λ n. n ≡ natural_in (option_copied text.entry)) }
 {
@@ -101,6 +102,7 @@ pub(crate) fn natural_in(alloc: Global, text: Option<&[u8]>) -> Result<Option<u3
     }
 }
 
+/// A C `int`, as a parameter's text says it; `None` where it says none.
 pub(crate) fn int_in(alloc: Global, text: Option<&[u8]>) -> Result<Option<i32>, Memory>
     ensures { IfOk result (λ n. n ≡ int_in (option_copied text.entry)) }
 {
@@ -110,6 +112,7 @@ pub(crate) fn int_in(alloc: Global, text: Option<&[u8]>) -> Result<Option<i32>, 
     }
 }
 
+/// A flag, as a parameter's text says it; `None` where it says none.
 pub(crate) fn flag_in(alloc: Global, text: Option<&[u8]>) -> Result<Option<bool>, Memory>
     ensures { IfOk result (λ b. b ≡ flag_in (option_copied text.entry)) }
 {
