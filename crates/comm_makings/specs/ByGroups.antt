@@ -24,6 +24,7 @@ pub record IsRightOffer (ranks : List RankCalls) (views : List RankView) (values
   pub call : IsGroupCall ranks views members offer.tag offer.place offer.here
   pub group : group_of values comms offer.here ≡ Some offer.ranks.now
 
+-- Each call is one of a member, noted with its tag and the ranks of its group.
 pub record AreRightOffers (ranks : List RankCalls) (views : List RankView) (values : List (Vec GroupValue Global)) (comms : List Made) (members : List Member) (calls : List Offer) : Type 0 where
   pub each : (k : ℕ) (offer : Offer) → slice_get calls k ≡ Some offer → IsRightOffer ranks views values comms members offer
 
@@ -38,6 +39,7 @@ pub record IsNoted (ranks : List RankCalls) (views : List RankView) (values : Li
   pub group : group_of values comms offer.here ≡ Some offer.ranks.now
   pub placed : offer.place ≡ place
 
+-- A call of a rank that counts as known is noted with its own tag and the ranks of its group.
 abbrev pub IsKnownOffer : List RankCalls → List RankView → List (Vec GroupValue Global) → List Made → ℕ → ℕ → ℕ → Offered → Type 0
 IsKnownOffer ranks views values comms rank place at (offers.Known offer) = IsNoted ranks views values comms rank place at offer
 IsKnownOffer ranks views values comms rank place at offers.Waits = Unit {0}
@@ -71,6 +73,7 @@ pub record AreSameTo (calls : List Offer) (group : List ℕ) (tag : ℤ) (count 
 pub record AreSame (calls : List Offer) (group : List ℕ) (tag : ℤ) : Type 0 where
   pub each : (k : ℕ) (offer : Offer) → slice_get calls k ≡ Some offer → (offer.ranks.now ≡ group) × (offer.tag ≡ tag)
 
+-- a communicator of the members at these places of the parent, without dimensions
 abbrev pub part_at : List ℕ → Selection
 part_at places = record { places = places; dims = None }
 
@@ -96,6 +99,7 @@ pub record IsFound (calls : List Offer) (members : List Member) (ranks : List �
   pub sound : IsSoundAt places all
   pub made : IsMadeOf members all (part_at places) comm
 
+-- Each communicator is made by some of the calls, which name one group of members with one tag.
 pub record AreFound (calls : List Offer) (members : List Member) (ranks : List ℕ) (comms : List Made) : Type 0 where
   pub each : (at : ℕ) (comm : Made) → slice_get comms at ≡ Some comm → IsFound calls members ranks comm
 

@@ -30,6 +30,7 @@ pub data Thing : Type 0 where
   communicator : List Member → Option (List ℕ) → Thing
   ranks_of : ℕ → GroupAt → List ℕ → Thing
 
+-- a member of this rank, which names the communicator by this handle
 abbrev pub member_with : ℕ → ℕ → Member
 member_with handle rank = record { rank = rank; handle = Some handle }
 
@@ -53,30 +54,37 @@ members_at members all places = filter_map (member_at members all) places
 abbrev pub ArePlaces : List ℕ → List ℕ → List ℕ → Type 0
 ArePlaces ranks places group = map (slice_get ranks) places ≡ map Some group
 
--- the group call of a rank at a place of its list
+-- what an action says of the group that it gives
 abbrev pub group_call : Action → Option GroupCall
 group_call (actions.Group group given) = Some group
 group_call _ = None
 
+-- the group call of a rank at a place of its list
 abbrev pub group_call_at : List RankCalls → ℕ → ℕ → Option GroupCall
 group_call_at ranks rank at = option_and_then (λ call. group_call call.action) (call_at ranks rank at)
 
+-- the handle of the communicator that a call of a rank names
 abbrev pub comm_meant : List RankView → ℕ → ℕ → Option ℕ
 comm_meant views rank at = option_and_then (λ m. m.comm) (meant_at views rank at)
 
+-- the group that a call of a rank names, or the first of two
 abbrev pub first_meant : List RankView → ℕ → ℕ → Option GroupAt
 first_meant views rank at = option_map (λ m. m.group) (meant_at views rank at)
 
+-- the second of two groups that a call of a rank names
 abbrev pub second_meant : List RankView → ℕ → ℕ → Option GroupAt
 second_meant views rank at = option_map (λ m. m.second) (meant_at views rank at)
 
+-- The call is MPI_Comm_group: it gives the group of a communicator (MPI 4.0, 7.3.2).
 abbrev pub is_of_comm : GroupCall → Type 0
 is_of_comm (calls.OfComm comm) = Unit {0}
 is_of_comm _ = ⊥
 
+-- the place of a rank's k-th call of MPI_Comm_create_group on a handle (MPI 4.0, 7.4.2)
 abbrev pub by_group_at : List RankView → ℕ → ℕ → ℕ → Option ℕ
 by_group_at views rank handle k = option_and_then (λ v. option_and_then (λ calls. slice_get calls.items k) (slice_get v.by_group.items handle)) (slice_get views rank)
 
+-- the tag that a call of MPI_Comm_create_group says
 abbrev pub tag_in : Making → Option ℤ
 tag_in (makings.CreateGroup group tag) = tag
 tag_in _ = None
@@ -122,6 +130,8 @@ pub record IsGroupMaking (ranks : List RankCalls) (views : List RankView) (membe
   pub readable : list_any gives_unknown all ≡ false
   pub given : AreGiven false all (record { places = places; dims = None } ∷ [])
 
+-- A communicator or a group derives: it is the world, MPI_COMM_SELF or the empty group, or calls make it of ones that
+-- derive.
 pub data Derives (ranks : List RankCalls) (views : List RankView) : Thing → Type 0 where
   -- the world, and MPI_COMM_SELF of a rank that tells its number
   world : Derives ranks views (communicator (world_members (length ranks)) None)

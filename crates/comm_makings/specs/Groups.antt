@@ -73,17 +73,21 @@ abbrev pub last_from : ℕ → ℕ → ℕ → Option ℕ
 last_from first below stride =
     cond (stride == 0) None (cond (nat_le ((first + below) - (first + below) % stride) first) (Some (first - ((first + below) - (first + below) % stride))) None)
 
+-- A number is below 0: a range with such a stride falls.
 abbrev pub is_below_zero : ℤ → Bool
 is_below_zero (pos n) = false
 is_below_zero (negsuc n) = true
 
+-- The last rank of a range: the one that it says, or where a falling range says one below 0, its last that isn't.
 abbrev pub last_of : ℕ → ℤ → ℕ → Bool → Option ℕ
 last_of first (pos last) stride falls = Some last
 last_of first (negsuc n) stride falls = cond falls (last_from first (suc n) stride) None
 
+-- a range by its first and its last rank, with the size of its stride and whether it falls
 abbrev pub with_last : ℕ → ℤ → ℕ → Ranks
 with_last first stride last = record { first = first; last = last; stride = nat_abs stride; falls = is_below_zero stride }
 
+-- the range from this first rank on, where it has a last one
 abbrev pub with_first : RankRange → ℕ → Option Ranks
 with_first range first = option_map (with_last first range.stride) (last_of first range.last (nat_abs range.stride) (is_below_zero range.stride))
 
@@ -122,6 +126,7 @@ IsMadeOfTwo call None second waits value = value ≡ unlisted waits
 IsMadeOfTwo call (Some first) None waits value = value ≡ unlisted waits
 IsMadeOfTwo call (Some first) (Some second) waits value = IsListed (made_of_two call first second) value
 
+-- the group that a call makes of one other, by its ranks, where they are known
 abbrev pub IsMadeOfOne : GroupCall → Option (List ℕ) → Bool → GroupValue → Type 0
 IsMadeOfOne call None waits value = value ≡ unlisted waits
 IsMadeOfOne call (Some members) waits value = IsListed (made_of_one call members) value

@@ -110,10 +110,11 @@ pub record IsKnownGraph (ranks : List RankCalls) (views : List RankView) (all : 
   pub same_reorder : AllSay ranks reorder_in reorder all
   pub made : IsOfMany views all reorder nodes None parts
 
--- A grid or a graph, of which the dimensions or nodes are known or not.
+-- A grid, of which the dimensions are known or not.
 abbrev pub IsGrid : List RankCalls → List RankView → List (Option Here) → List Selection → Type 0
 IsGrid ranks views all parts = IsKnownGrid ranks views all parts ⊎ IsUnknownGrid ranks views all parts
 
+-- A graph, of which the number of nodes is known or not.
 abbrev pub IsGraph : List RankCalls → List RankView → List (Option Here) → List Selection → Type 0
 IsGraph ranks views all parts = IsKnownGraph ranks views all parts ⊎ IsUnknownGrid ranks views all parts
 

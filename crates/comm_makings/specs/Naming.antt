@@ -139,10 +139,11 @@ after_number taken naming call number = record {
 abbrev pub after_given : (ℕ → Bool) → Naming → CommCall → Given → Naming
 after_given taken naming call given = after_number taken naming call.call (number_given call.returned given)
 
--- what these names say behind a call that gives this number, and behind one that gives a communicator
+-- what these names say behind a call that gives this number
 abbrev pub with_number : Names → ℕ → ℕ → Naming
 with_number names call number = after_number (taken_by names) (naming_of names) call (Some number)
 
+-- what these names say behind a call that gives a communicator, by what is given
 abbrev pub with_given : Names → CommCall → Given → Naming
 with_given names call given = after_given (taken_by names) (naming_of names) call given
 

@@ -18,6 +18,7 @@ use Rattle.comm_makings.specs.declared.state.Made.{Made}
 abbrev pub group_of : List (Vec GroupValue Global) → List Made → Here → Option (List ℕ)
 group_of values comms here = option_and_then (λ row. ranks_at comms row.items here.group) (slice_get values here.rank)
 
+-- The ranks of the group that a call names are known, where the call is there.
 abbrev pub IsKnown : List (Vec GroupValue Global) → List Made → Option Here → Type 0
 IsKnown values comms None = Unit {0}
 IsKnown values comms (Some here) = is_some (group_of values comms here) ≡ true
@@ -26,6 +27,7 @@ IsKnown values comms (Some here) = is_some (group_of values comms here) ≡ true
 pub record AreKnownTo (values : List (Vec GroupValue Global)) (comms : List Made) (all : List (Option Here)) (count : ℕ) : Type 0 where
   pub each : (place : ℕ) (here : Option Here) → slice_get all place ≡ Some here → place < count → IsKnown values comms here
 
+-- The ranks of the groups that all calls name are known.
 pub record AreKnown (values : List (Vec GroupValue Global)) (comms : List Made) (all : List (Option Here)) : Type 0 where
   pub each : (place : ℕ) (here : Option Here) → slice_get all place ≡ Some here → IsKnown values comms here
 
@@ -56,6 +58,7 @@ pub record IsOfferedPart (ranks : List ℕ) (offers : List Offer) (part : Select
   pub places : ArePlaces ranks part.places offer.ranks.items
   pub dims : part.dims ≡ None
 
+-- Each communicator is one of the offers that are marked, by the places of its ranks.
 pub record AreOfferedParts (ranks : List ℕ) (offers : List Offer) (parts : List Selection) : Type 0 where
   pub each : (at : ℕ) (part : Selection) → slice_get parts at ≡ Some part → IsOfferedPart ranks offers part
 
@@ -66,6 +69,7 @@ pub record IsOfWanted (values : List (Vec GroupValue Global)) (comms : List Made
   pub places : ArePlaces ranks part.places group
   pub dims : part.dims ≡ None
 
+-- Each communicator is that of a group that one of its own ranks names.
 pub record AreOfWanted (values : List (Vec GroupValue Global)) (comms : List Made) (all : List (Option Here)) (ranks : List ℕ) (parts : List Selection) : Type 0 where
   pub each : (at : ℕ) (part : Selection) → slice_get parts at ≡ Some part → IsOfWanted values comms all ranks part
 

@@ -39,6 +39,7 @@ pub record AreDerived (ranks : List RankCalls) (views : List RankView) (comms : 
 abbrev pub standing_at : List (Vec Standing Global) → ℕ → ℕ → Option Standing
 standing_at rows rank handle = option_and_then (λ row. slice_get row.items handle) (slice_get rows rank)
 
+-- A handle of a rank stands for the derived communicator at this place.
 abbrev pub StandsFor : List (Vec Standing Global) → ℕ → ℕ → ℕ → Type 0
 StandsFor rows rank handle place = standing_at rows rank handle ≡ Some (standings.Derived place)
 
@@ -46,6 +47,7 @@ StandsFor rows rank handle place = standing_at rows rank handle ≡ Some (standi
 abbrev pub IsMember : List Member → ℕ → ℕ → Type 0
 IsMember members rank handle = (place : ℕ) × (slice_get members place ≡ Some (member_with handle rank))
 
+-- The rank is a member, by this handle, of the communicator at this place.
 pub record IsMemberOf (comms : List Made) (place rank handle : ℕ) : Type 0 where
   pub comm : Made
   pub here : slice_get comms place ≡ Some comm
@@ -55,6 +57,7 @@ pub record IsMemberOf (comms : List Made) (place rank handle : ℕ) : Type 0 whe
 pub record AreMembersIn (comms : List Made) (rank : ℕ) (row : List Standing) : Type 0 where
   pub each : (handle place : ℕ) → slice_get row handle ≡ Some (standings.Derived place) → IsMemberOf comms place rank handle
 
+-- A handle of any rank stands for a communicator only where the rank is a member of it by that handle.
 pub record AreMembers (comms : List Made) (rows : List (Vec Standing Global)) : Type 0 where
   pub each : (rank handle place : ℕ) → StandsFor rows rank handle place → IsMemberOf comms place rank handle
 
@@ -65,12 +68,16 @@ IsDerivedGroup ranks views comms rank at values.Unknown = Unit {0}
 IsDerivedGroup ranks views comms rank at (values.Whole place) = (comm : Made) × (slice_get comms place ≡ Some comm) × Derives ranks views (ranks_of rank (groups.Given at) comm.ranks.items)
 IsDerivedGroup ranks views comms rank at (values.Listed list) = Derives ranks views (ranks_of rank (groups.Given at) list.items)
 
+-- The groups that the calls of a rank give derive, where they are known.
 pub record AreDerivedGroups (ranks : List RankCalls) (views : List RankView) (comms : List Made) (rank : ℕ) (row : List GroupValue) : Type 0 where
   pub each : (at : ℕ) (value : GroupValue) → slice_get row at ≡ Some value → IsDerivedGroup ranks views comms rank at value
 
+-- The groups that the calls of all ranks give derive, where they are known.
 pub record AreAllDerivedGroups (ranks : List RankCalls) (views : List RankView) (comms : List Made) (rows : List (Vec GroupValue Global)) : Type 0 where
   pub each : (rank : ℕ) (row : Vec GroupValue Global) → slice_get rows rank ≡ Some row → AreDerivedGroups ranks views comms rank row.items
 
+-- What is derived so far is right: the communicators and groups derive, and handles stand for communicators only as
+-- those of members.
 pub record IsRight (ranks : List RankCalls) (views : List RankView) (stand : List (Vec Standing Global)) (groups : List (Vec GroupValue Global)) (comms : List Made) : Type 0 where
   pub comms_derive : AreDerived ranks views comms
   pub handles_named : AreMembers comms stand
@@ -96,9 +103,11 @@ pub record NamesMembers (members : List Member) (place : ℕ) (old new : List (V
 pub record NoneStands (row : List Standing) : Type 0 where
   pub each : (handle place : ℕ) → slice_get row handle ≡ Some (standings.Derived place) → ⊥
 
+-- No handle of any rank stands for a communicator.
 pub record NoneStandsAt (rows : List (Vec Standing Global)) : Type 0 where
   pub each : (rank : ℕ) (row : Vec Standing Global) → slice_get rows rank ≡ Some row → NoneStands row.items
 
+-- The ranks of the group are not known, whether they may become so or not.
 abbrev pub IsNotListed : GroupValue → Type 0
 IsNotListed values.Waits = Unit {0}
 IsNotListed values.Unknown = Unit {0}
@@ -109,6 +118,7 @@ IsNotListed (values.Listed list) = ⊥
 pub record NoneListed (row : List GroupValue) : Type 0 where
   pub each : (at : ℕ) (value : GroupValue) → slice_get row at ≡ Some value → IsNotListed value
 
+-- No group of any rank is known.
 pub record NoneListedAt (rows : List (Vec GroupValue Global)) : Type 0 where
   pub each : (rank : ℕ) (row : Vec GroupValue Global) → slice_get rows rank ≡ Some row → NoneListed row.items
 

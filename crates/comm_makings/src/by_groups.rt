@@ -50,6 +50,7 @@ struct Offers<'a> {
     waits: Vec<bool>,
 }
 
+/// The tag that a call of MPI_Comm_create_group says.
 fn tag_of(making: Option<&Making>) -> Option<i32>
     ensures { result ≡ said_by tag_in (option_copied making.entry) }
 {
@@ -88,6 +89,7 @@ enum Offered<'a> {
     Unknown,
 }
 
+/// Whether the ranks of the group that a call names may become known.
 fn group_waits(values: &[Vec<GroupValue>], here: Here) -> bool {
     match values.get(here.rank as usize) {
         Some(values) => waits_at(values, here.group),
@@ -172,6 +174,7 @@ fn offer_all<'a>(
     Ok(false)
 }
 
+/// The calls of MPI_Comm_create_group of a member on its handle: none where it has no handle.
 fn calls_of(views: &[RankView], member: Member) -> &[usize]
     ensures { IsListOn views.now member result.now }
 {
@@ -290,6 +293,7 @@ fn kth_of(
     only_at(alloc, &kth, places)
 }
 
+/// Sets what stands at this place, where the list has it.
 fn put(all: &mut Vec<Option<Here>>, place: usize, here: Option<Here>)
     ensures { all.new.items ≡ slice_set all.old.items place here }
 {

@@ -67,6 +67,7 @@ pub(crate) fn places_of(
     Ok(Some(found))
 }
 
+/// Whether the rank is one of these.
 fn has_rank(ranks: &[u32], rank: u32) -> bool
     ensures { IsTrue result → has ranks.now rank ≡ true }
 {
@@ -177,6 +178,7 @@ pub(crate) fn group_of<'a>(
     ranks_at(values.get(here.rank as usize)?, comms, here.group)
 }
 
+/// Whether the group that a call names is known, or may become so. A call that isn't there names none.
 fn knows(values: &[Vec<GroupValue>], comms: &[Made], here: Option<Here>) -> Known
     ensures { result ≡ knowing.Yes → IsKnown values.now comms.now here }
 {
@@ -198,6 +200,7 @@ fn knows(values: &[Vec<GroupValue>], comms: &[Made], here: Option<Here>) -> Know
     }
 }
 
+/// Whether all groups are known that the calls name: `Waits` where some may become so, and `No` where one can't.
 fn knows_all(values: &[Vec<GroupValue>], comms: &[Made], all: &[Option<Here>]) -> Known
     ensures { result ≡ knowing.Yes → AreKnown values.now comms.now all.now }
 {

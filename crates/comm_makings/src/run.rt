@@ -39,6 +39,7 @@ pub(crate) struct Run {
     pub read: u64,
 }
 
+/// Sets how a handle stands, where the rank has it.
 fn set_in(row: &mut Vec<Standing>, handle: usize, standing: Standing)
     ensures { row.new.items ≡ slice_set row.old.items handle standing }
 {
@@ -47,6 +48,7 @@ fn set_in(row: &mut Vec<Standing>, handle: usize, standing: Standing)
     }
 }
 
+/// Sets how a handle of a rank stands, where there is one. All others stand as before.
 #[tactic(auto, using(crate::proofs::Standings::set_one, crate::proofs::Standings::set_none))]
 pub(crate) fn set(standings: &mut Vec<Vec<Standing>>, rank: u32, handle: usize, standing: Standing)
     ensures { SetsStanding standings.old.items standings.new.items rank handle standing }
@@ -641,6 +643,7 @@ fn extend_at(lists: &mut Vec<Vec<Over>>, at: usize, more: Vec<Over>) -> Result<(
     Ok(())
 }
 
+/// Marks these calls as read, each by its rank and its place in the rank's list.
 fn mark_all(taken: &mut Vec<Vec<bool>>, read: &[(u32, usize)]) {
     for (rank, at) in read {
         mark(taken, *rank, *at);
@@ -657,6 +660,7 @@ fn leave_handles(standings: &mut Vec<Vec<Standing>>, left: &[(u32, usize)])
     }
 }
 
+/// Whether the call gives a group.
 fn is_group(call: &CommCall) -> bool {
     match &call.action {
         Action::Group { .. } => true,
@@ -664,6 +668,7 @@ fn is_group(call: &CommCall) -> bool {
     }
 }
 
+/// What the calls of a rank give before anything is derived: those that give groups wait, and the others give none.
 #[tactic(auto, using(crate::proofs::Right::listed_none, crate::proofs::Right::listed_more))]
 fn first_values(alloc: Global, calls: &[CommCall]) -> Result<Vec<GroupValue>, AllocError>
     ensures { IfOk result (λ v. NoneListed v.items) }
@@ -790,6 +795,8 @@ fn leave_others(calls: &[CommCall], meant: &[Meant], standings: &mut Vec<Standin
     }
 }
 
+/// How a rank's handles stand before anything is derived: open, but for those of functions from which nothing is
+/// derived.
 #[tactic(auto, using(crate::proofs::Right::stands_open))]
 fn first_standings(
     alloc: Global,
