@@ -50,6 +50,7 @@ impl<'a> fmt::Display for Advice<'a> {
     }
 }
 
+/// What is said of a fault, by its kind. Only some kinds ask what was found out of the file.
 fn put_advice<W: fmt::Write>(
     f: &mut fmt::Formatter<W>,
     fault: &RunFault,

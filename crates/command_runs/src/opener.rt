@@ -93,6 +93,7 @@ impl<'a, F: Files> Opener for Disk<'a, F> {
     }
 }
 
+/// The reason that a person is told for what the system answered, where there is one.
 fn reason_of(kind: io::ErrorKind) -> Option<Reason> {
     match kind {
         io::ErrorKind::NotFound => Some(Reason::Absent),

@@ -162,6 +162,7 @@ fn write_line<W: Write>(n: usize, out: &mut W) -> Result<(), Failed>
     write_piece(b"\n", out)
 }
 
+/// Writes the whole piece; a failure doesn't tell how much of it was written.
 pub(crate) fn write_piece<W: Write>(piece: &[u8], out: &mut W) -> Result<(), Failed>
     ensures ok { OnOk result (Appends (W.written out.old) (W.written out.new) piece.now) }
     ensures err { OnErr result (AppendsFront (W.written out.old) (W.written out.new) piece.now) }

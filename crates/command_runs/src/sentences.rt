@@ -169,6 +169,7 @@ pub(crate) fn packed_text(cause: PackedCause) -> &'static str
     }
 }
 
+/// What is said of a frame that is refused: nothing where memory was lacking or the output failed.
 fn wire_text(fault: WireFault) -> &'static str
     ensures { result.now ≡ wire_text fault }
 {

@@ -30,6 +30,7 @@ impl<'a> fmt::Display for ShownBytes<'a> {
     }
 }
 
+/// Each byte as a line shows it.
 fn put_bytes<W: fmt::Write>(f: &mut fmt::Formatter<W>, bytes: &[u8]) -> fmt::Result
     ensures { WritesOnOk W.write_str_gives f.old result (shown_bytes bytes.now) f.new }
 {
@@ -39,6 +40,7 @@ fn put_bytes<W: fmt::Write>(f: &mut fmt::Formatter<W>, bytes: &[u8]) -> fmt::Res
     Ok(())
 }
 
+/// A byte: an ASCII character as in a file's name, any other by its number, as Rust escapes it.
 fn put_byte<W: fmt::Write>(f: &mut fmt::Formatter<W>, byte: u8) -> fmt::Result
     ensures { WritesOnOk W.write_str_gives f.old result (shown_byte byte) f.new }
 {
