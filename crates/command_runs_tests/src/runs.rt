@@ -56,6 +56,7 @@ MPI_Comm comm=2
 MPI_Barrier returning at walltime 1.75, cputime 0.25 seconds in thread 0.
 ";
 
+/// The verb of a replay or of a report: none of these runs is a cluster's.
 fn verb_of(replays: bool) -> Verb
     ensures { result ≢ Verb.Cluster }
 {
