@@ -41,6 +41,7 @@ kept_call keep call = record call { params = kept_params keep call.name call.par
 abbrev pub kept_content : Choice → CallContent → CallContent
 kept_content keep content = record content { params = kept_params keep content.name content.params }
 
+-- a call that was entered, with when and where that was, so
 abbrev pub kept_opening : Choice → Opening → Opening
 kept_opening keep current = record current { content = kept_content keep current.content }
 
@@ -61,6 +62,7 @@ kept_taken keep (Gives call) = Gives (kept_call keep call)
 kept_taken keep (Ends call) = Ends (kept_call keep call)
 kept_taken keep (Refuses fault) = Refuses fault
 
+-- what a line leaves, and the position behind it, so
 abbrev pub kept_at : Choice → Taken × Position → Taken × Position
 kept_at keep (taken, at) = (kept_taken keep taken, at)
 
