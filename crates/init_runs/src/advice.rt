@@ -32,6 +32,7 @@ impl<'a> fmt::Display for InitAdvice<'a> {
     }
 }
 
+/// What is said of a fault of a text, as in other runs, of a text without calls or of a layout; else nothing.
 fn put_advice<W: fmt::Write>(
     f: &mut fmt::Formatter<W>,
     fault: &InitFault,
