@@ -28,12 +28,14 @@ pub(crate) fn value_of(alloc: Global, text: &[u8]) -> Result<Value, InputFault>
     }
 }
 
+/// The whole number from 0 to 2^64 - 1 that a field holds.
 pub(crate) fn u64_at(value: &Value, name: &str) -> Option<u64>
     ensures { result ≡ option_and_then u64_in (get name.now (view value.now)) }
 {
     value.get(name)?.as_u64()
 }
 
+/// The whole number from 0 to 2^32 - 1 that a field holds.
 pub(crate) fn u32_at(value: &Value, name: &str) -> Option<u32>
     ensures { result ≡ option_and_then u32_in (get name.now (view value.now)) }
 {
@@ -60,12 +62,14 @@ pub(crate) fn bit_or_0(value: &Value, name: &str) -> Option<u8>
     }
 }
 
+/// The text that a field holds.
 pub(crate) fn str_at<'v>(value: &'v Value, name: &str) -> Option<&'v str>
     ensures { option_map (λ s. s.now) result ≡ option_and_then as_str (get name.now (view value.now)) }
 {
     value.get(name)?.as_str()
 }
 
+/// The items of the array that a field holds.
 pub(crate) fn list_at<'v>(value: &'v Value, name: &str) -> Option<&'v [Value]>
     ensures { option_map (λ s. items_view s.now) result ≡ option_and_then as_array (get name.now (view value.now)) }
 {
@@ -80,6 +84,7 @@ pub(crate) fn parted<'v>(values: &'v [Value]) -> Option<(&'v Value, &'v [Value])
     values.split_first()
 }
 
+/// The whole numbers from 0 to 2^32 - 1 of a list; `None` inside where one item is no such number.
 pub(crate) fn u32s_of(alloc: Global, values: &[Value]) -> Result<Option<Vec<u32>>, AllocError>
     ensures { IfOk result (λ o. option_map (λ v. v.items) o ≡ u32s_in (items_view values.now)) }
 {

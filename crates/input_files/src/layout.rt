@@ -95,6 +95,7 @@ fn unreadable_field(value: &Value) -> Field
     }
 }
 
+/// How sends of standard mode complete, by the word that a field holds: `wait` or `buffer`.
 fn sends_at(value: &Value, name: &str) -> Option<Sends>
     ensures { result ≡ option_and_then sends_named (option_and_then as_str (get name.now (view value.now))) }
 {
