@@ -192,7 +192,7 @@ fn some_double_member(alloc: Global, comms: &[Comm], ranks: u32) -> Result<bool,
     Ok(false)
 }
 
-// one mark for each rank, so the time is linear in the members
+/// Whether a rank stands twice among the members. One mark for each rank spares comparing each two of them.
 #[tactic(auto, using(crate::proofs::Doubles::unmarked))]
 fn double_in(alloc: Global, members: &[u32], ranks: u32) -> Result<bool, AllocError>
     requires { has_stranger ranks members.now ≡ false }
