@@ -13,6 +13,7 @@ use std::alloc::AllocError;
 use std::io::{self, IsTerminal};
 use std::process::ExitCode;
 
+/// Runs what the words ask for, writes its errors to standard error, and ends with its status.
 fn main(rt: HostRuntime) -> ExitCode {
     let alloc = rt.alloc();
     let ending = match std::env::args(&rt) {
