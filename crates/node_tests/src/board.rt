@@ -76,6 +76,7 @@ fn publish_calls<'a, R: Wait + Abort>(
 /// when that was published; and when a new node was, and then whether the last was older (1) or not.
 type InTurn = (Prefixes, Prefixes, Prefixes, Prefixes, u64);
 
+/// What a board shows while one node, and then a new one, is published on it.
 fn shown_in_turn<R: Wait + Abort>(rt: &R, alloc: Global) -> InTurn {
     let layout = layout(rt, alloc);
     let board = Board::new(alloc, &layout).expect(rt, "memory");

@@ -61,6 +61,7 @@ pub(crate) fn layout_of<R: Abort>(rt: &R, alloc: Global, ranks: u32) -> Layout {
     Layout::new(alloc, ranks, 2, comms, Sends::Wait).expect(rt, "a layout")
 }
 
+/// An envelope of four elements on communicator 2, the world.
 fn envelope(peer: Peer, tag: u32) -> Envelope {
     Envelope {
         peer,
@@ -71,6 +72,7 @@ fn envelope(peer: Peer, tag: u32) -> Envelope {
     }
 }
 
+/// The same as a receive's envelope, where a receive can have it.
 fn receive(peer: Peer, tag: u32) -> Option<ReceiveEnvelope> {
     ReceiveEnvelope::new(envelope(peer, tag))
 }

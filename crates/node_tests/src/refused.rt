@@ -17,6 +17,7 @@ use trace_world::{Step, World, WorldFault};
 /// How much is known, how many contradictions, and the readable prefixes of two ranks.
 type Known = (usize, usize, u64, u64);
 
+/// What a knowledge tells that a refusal has to leave as it was.
 fn known(know: &Knowledge) -> Known {
     (
         know.count(),
@@ -218,6 +219,7 @@ fn shows_at(world: &World, node: usize) -> Option<(u64, u64, usize)> {
     Some((know.prefix(0), know.prefix(1), waiting))
 }
 
+/// What both nodes show, and how many mails were shipped.
 fn shows(world: &World) -> Option<Shows> {
     let one = shows_at(world, 0)?;
     let other = shows_at(world, 1)?;
