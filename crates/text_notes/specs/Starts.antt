@@ -19,6 +19,7 @@ abbrev pub is_marked : List ℕ → Bool
 is_marked (first ∷ second ∷ third ∷ bytes) = if first == 239 then (if second == 187 then third == 191 else false) else false
 is_marked _ = false
 
+-- some byte is 0, as a binary trace has one
 abbrev pub has_zero : List ℕ → Bool
 has_zero front = list_any (λ byte. byte == 0) front
 

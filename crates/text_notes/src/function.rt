@@ -63,6 +63,7 @@ impl UnreadFunction {
         UnreadFunction::new(alloc, self.name(), self.first, self.count)
     }
 
+    /// Counts so many calls more. The count stays at the greatest of its type.
     pub(crate) fn add(&mut self, count: u64)
         ensures { self.new ≡ with_count count self.old }
     {

@@ -43,6 +43,7 @@ fn is_utf16(front: &[u8]) -> bool
     begins(0xff, 0xfe, front) || begins(0xfe, 0xff, front)
 }
 
+/// Whether the byte order mark of UTF-8 stands in front.
 fn is_marked(front: &[u8]) -> bool
     ensures { result ≡ is_marked front.now }
 {
@@ -52,6 +53,7 @@ fn is_marked(front: &[u8]) -> bool
     }
 }
 
+/// Whether some byte is 0, as a binary trace has one.
 fn has_zero(front: &[u8]) -> bool
     ensures { result ≡ has_zero front.now }
 {

@@ -168,6 +168,7 @@ fn put_callless(out: &mut Text, note: &TextNote)
     out.put(start_of(note.start()));
 }
 
+/// `, the first of them line 9`, where that line is told.
 fn put_first_skipped(out: &mut Text, line: Option<u64>)
     ensures { Adds out.old out.new (first_skipped_text line) }
 {
