@@ -43,10 +43,12 @@ abbrev mutual
   wait_text does (OnAll parts) = list_text does (codes "all of") (plain_ranks parts) (parts_text does parts)
   wait_text does (OnOne parts) = list_text does (codes "one of") (plain_ranks parts) (parts_text does parts)
 
+  -- the parts in their order
   pub parts_text : (ℕ → List ℕ) → Waits → List ℕ
   parts_text does none = []
   parts_text does (and first rest) = wait_text does first ++ more_text does rest
 
+  -- the parts that follow another, each behind a semicolon
   pub more_text : (ℕ → List ℕ) → Waits → List ℕ
   more_text does none = []
   more_text does (and next rest) = codes "; " ++ wait_text does next ++ more_text does rest

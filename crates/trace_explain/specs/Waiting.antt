@@ -19,6 +19,7 @@ abbrev mutual
   ranks_in (OnAll parts) = ranks_of parts
   ranks_in (OnOne parts) = ranks_of parts
 
+  -- the ranks that stand in some parts, in order
   pub ranks_of : Waits → List ℕ
   ranks_of none = []
   ranks_of (and first rest) = ranks_in first ++ ranks_of rest

@@ -74,6 +74,7 @@ fn has_mismatched(rounds: &[Round]) -> bool
     rounds.iter().any(|round| is_mismatched(round))
 }
 
+/// Whether what the ranks did is spoken of: a rank waits, or a round is mismatched.
 pub(crate) fn needs_ops(answer: &Answer) -> bool
     ensures { result ≡ needs_ops answer.now }
 {

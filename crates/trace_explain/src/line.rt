@@ -43,6 +43,7 @@ fn put_words(
     put_not_entered(out, round, &stuck.waits);
 }
 
+/// What is said of a stuck rank: its call, since when it stands there, and whom it waits for.
 pub(crate) fn line_of(
     alloc: Global,
     ops: &[RankOps],

@@ -7,12 +7,14 @@ ghost use Rattle.trace_explain.specs.Search.{GoesOn, GoesThrough, IsFirst, Label
 
 use std::alloc::{AllocError, Global};
 
+/// The flag of a rank: down where the list has none.
 pub(crate) fn is_up(flags: &[bool], r: u32) -> bool
     ensures { result ≡ is_up flags.now r }
 {
     flags.get(r as usize).copied().unwrap_or(false)
 }
 
+/// The label of a rank: none where it has none, or where the list ends before it.
 pub(crate) fn label_at(labels: &[Option<u32>], r: u32) -> Option<u32>
     ensures { result ≡ heart_at labels.now r }
 {

@@ -73,6 +73,7 @@ fn put_who(out: &mut Text, line: &Line, ranks: &[u32])
     }
 }
 
+/// The line of a stuck rank, or one of several ranks of which the same is said.
 pub(crate) fn put_line(out: &mut Text, line: &Line, ranks: &[u32])
     ensures { Adds out.old out.new (line_text (said line.now) ranks.now) }
 {
