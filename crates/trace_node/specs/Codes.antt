@@ -29,6 +29,7 @@ abbrev mutual
   tree (OnAll parts) = gcons gnil (trees parts)
   tree (OnOne parts) = gcons (gnum 0) (trees parts)
 
+  -- some parts as a tree of numbers
   pub trees : Waits → Gv
   trees none = gnil
   trees (and first rest) = gcons (tree first) (trees rest)
@@ -46,18 +47,21 @@ abbrev mutual
   wait_in (gnum r) = OnRank r
   wait_in (gcons kind parts) = of_kind kind (waits_in parts)
 
+  -- the parts of a tree
   pub waits_in : Gv → Waits
   waits_in gnil = none
   waits_in (gnum r) = none
   waits_in (gcons first rest) = and (wait_in first) (waits_in rest)
 
 mutual
+  -- The tree of a wait tells that wait.
   pub wait-tree : (w : Wait) → wait_in (tree w) ≡ w
   wait-tree OnNothing = refl
   wait-tree (OnRank r) = refl
   wait-tree (OnAll parts) = ap OnAll (waits-trees parts)
   wait-tree (OnOne parts) = ap OnOne (waits-trees parts)
 
+  -- The tree of some parts tells those parts.
   pub waits-trees : (ws : Waits) → waits_in (trees ws) ≡ ws
   waits-trees none = refl
   waits-trees (and first rest) = λ i. and (wait-tree first i) (waits-trees rest i)

@@ -63,6 +63,7 @@ fn is_same_root(first: Option<u32>, second: Option<u32>) -> bool
     }
 }
 
+/// Whether two rounds stand alike: both mismatched, complete or open, of one function and root, with equal counts.
 fn is_same_standing(first: Standing, second: Standing) -> bool
     ensures { IsTrue result ↔ (first ≡ second) }
 {
@@ -78,6 +79,7 @@ fn is_same_standing(first: Standing, second: Standing) -> bool
     }
 }
 
+/// Whether the two are the same round of one communicator, and stand alike.
 fn is_same_round(first: Round, second: Round) -> bool
     ensures { IsTrue result ↔ (first ≡ second) }
 {
@@ -86,6 +88,7 @@ fn is_same_round(first: Round, second: Round) -> bool
         && is_same_standing(first.standing, second.standing)
 }
 
+/// Whether the two lists have the same rounds, in the same order and standing alike.
 fn are_same_rounds(first: &[Round], second: &[Round]) -> bool
     ensures { IsTrue result ↔ (first.now ≡ second.now) }
 {
