@@ -110,6 +110,7 @@ abbrev pub given_with : Entry → Option Begun → Option ℤ
 given_with c None = given_of c.call c.outs
 given_with c (Some b) = if is_some c.outs then Some b.request else None
 
+-- the number that a step gives, by its entry and the init that it starts, if any
 abbrev pub given_by : Step → Option ℤ
 given_by s = given_with s.entry s.begun
 

@@ -172,6 +172,7 @@ pub(crate) fn is_foreign_in(group: Option<Group<'_>>, call: &Call) -> bool
     group.is_none() && comm_of(call).is_some()
 }
 
+/// Whether call `n` of the rank is foreign, by the group in which it takes part.
 pub(crate) fn is_foreign(layout: &Layout, rank: u32, n: u64, call: &Call) -> bool
     ensures { result ≡ is_foreign layout.now rank n call.now }
 {

@@ -43,6 +43,7 @@ pub(crate) fn touch_of(touched: &Touched, x: i64) -> Option<Touch>
     touched.get(&x).copied()
 }
 
+/// The call that ends a number, where one does.
 pub(crate) fn end_of(touch: Option<Touch>) -> Option<End>
     ensures { result ≡ end_of touch }
 {
