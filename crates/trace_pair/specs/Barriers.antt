@@ -10,13 +10,16 @@ pub record OnComm : Type 0 where
   pub calls : List ℕ
   pub barriers : List Barrier
 
+-- a communicator on which the rank entered no call
 abbrev pub no_entries : OnComm
 no_entries = record { calls = []; barriers = [] }
 
+-- the collective calls on a communicator, in their order
 abbrev pub calls_on : ℕ → List Entered → List ℕ
 calls_on comm [] = []
 calls_on comm (x ∷ xs) = cond (x.comm == comm) (x.call ∷ calls_on comm xs) (calls_on comm xs)
 
+-- a Barrier by its call, and by how many calls on its communicator stand before it
 abbrev pub barrier_at : ℕ → Entered → Barrier
 barrier_at before x = record { call = x.call; before = before }
 
@@ -28,9 +31,11 @@ barriers_on comm before (x ∷ xs) =
     (cond (is_barrier x) (barrier_at before x ∷ barriers_on comm (suc before) xs) (barriers_on comm (suc before) xs))
     (barriers_on comm before xs)
 
+-- the collective calls on a communicator, and the Barriers among them
 abbrev pub on_comm : ℕ → List Entered → OnComm
 on_comm comm rounds = record { calls = calls_on comm rounds; barriers = barriers_on comm 0 rounds }
 
+-- the Barriers, and behind them an entered call with so many calls before it, where that is a Barrier too
 abbrev pub with_barrier : List Barrier → ℕ → Entered → List Barrier
 with_barrier barriers before x = cond (is_barrier x) (barriers ++ barrier_at before x ∷ []) barriers
 
@@ -43,6 +48,7 @@ abbrev pub last_before : ℕ → List Barrier → Option ℕ
 last_before call [] = None
 last_before call (b ∷ bs) = cond (nat_lt b.call call) (Some (unwrap_or (last_before call bs) b.before)) None
 
+-- The first Barrier is entered before the second, and no more calls stand before it than before the second.
 pub record IsBarrierBefore (a b : Barrier) : Type 0 where
   pub call : a.call < b.call
   pub before : a.before ≤ b.before

@@ -70,5 +70,6 @@ NoneHides after xs m = (u : Receive) → Has xs u → envelopes_fit m u ≡ true
 abbrev pub SomeHidesUpTo : After → List Receive → Message → Receive → Type 0
 SomeHidesUpTo after xs m q = (u : Receive) × Has xs u × (envelopes_fit m u ≡ true) × (after m u ≡ false) × (u.at ≡ q.at) × (u.name.call ≤ q.name.call)
 
+-- None of those whose calls aren't later than the receive's may have taken the message.
 abbrev pub NoneHidesUpTo : After → List Receive → Message → Receive → Type 0
 NoneHidesUpTo after xs m q = (u : Receive) → Has xs u → envelopes_fit m u ≡ true → u.at ≡ q.at → u.name.call ≤ q.name.call → after m u ≡ true

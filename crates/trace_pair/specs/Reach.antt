@@ -51,6 +51,7 @@ pub record IsReachOf (ops : Ops) (reach : RankReach) : Type 0 where
   pub comms : (c : ℕ) → holds reach c ≡ list_any (λ x. x == c) ops.comms
   pub comms_rise : IsNonDecreasing reach.comms.items
 
+-- The table has of each rank the part that its ops decide.
 abbrev pub AreReachesOf : List Ops → List RankReach → Type 0
 AreReachesOf ops reaches = AllZip IsReachOf ops reaches
 
@@ -62,6 +63,7 @@ RenewsReach rank own old new = (ops : List Ops) → AreReachesOf ops old → Are
 abbrev pub is_entered_behind : List ℕ → ℕ → ℕ → Bool
 is_entered_behind calls ended before = nat_le (length calls) before || nat_le ended (slice_index calls before)
 
+-- A Barrier with so many calls before it was found, and the receiver's rank didn't enter it before call `ended`.
 abbrev pub is_met : Option ℕ → List ℕ → ℕ → Bool
 is_met None calls ended = false
 is_met (Some before) calls ended = is_entered_behind calls ended before

@@ -17,10 +17,11 @@ use Rattle.trace_pair.specs.declared.batch.Batch.{Batch}
 use Rattle.trace_pair.specs.declared.pair.Couple.{Couple}
 use Rattle.trace_pair.specs.declared.pair.Pair.{Pair}
 
--- the messages that wait, and the couples
+-- the messages that wait
 abbrev pub waiting_of : Batch → List Message
 waiting_of b = waiting_in b.messages.messages b.messages.takers
 
+-- the couples: messages with the receives that take them
 abbrev pub couples_of : Batch → List Couple
 couples_of b = couples_with b.messages.messages b.messages.takers
 

@@ -171,10 +171,11 @@ BehindTheEnd = table_of (to_itself 0) ≡ table (pair 0 2 0 1 ∷ []) (op 1 0 �
 abbrev pub NotBehindTheEnd : Type 0
 NotBehindTheEnd = table_of (to_itself 3) ≡ table [] (op 0 2 ∷ op 1 0 ∷ [])
 
--- a part of a Startall that sends, and one that receives from rank 0
+-- a part of a Startall of rank 0, which sends to rank 1
 abbrev sends_part : ℕ → ℕ → Message
 sends_part part tag = record (sends 0 2 1 tag) { name = part_of 0 2 part }
 
+-- a part of a Startall of rank 1, which receives from rank 0
 abbrev receives_part : ℕ → Option ℕ → Receive
 receives_part part tag = record (receives 1 2 (Some 0) tag) { name = part_of 1 2 part }
 

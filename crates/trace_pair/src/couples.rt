@@ -104,6 +104,8 @@ impl Couples {
         }
     }
 
+    /// Takes out a couple of the set: its message by the name of its receive, and then its receive by that of its
+    /// message.
     pub(crate) fn remove(&mut self, c: &Couple)
         ensures { Has self.old c.now → DropsFrom self.old self.new c.now }
     {

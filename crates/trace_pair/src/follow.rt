@@ -162,6 +162,7 @@ fn call_at(rounds: &[Entered], place: usize) -> u64
     }
 }
 
+/// Whether two calls are the same to what comes after what: one call on one communicator, both Barriers or neither.
 fn is_alike(a: &Entered, b: &Entered) -> bool
     ensures { IsTrue result ↔ IsAlike a.now b.now }
 {
@@ -208,6 +209,7 @@ pub(crate) struct Fronts {
     pub(crate) receives: usize,
 }
 
+/// How many messages and receives stay where a rank did other calls: none where its communicators are others.
 fn fronts_of(held: &RankOps, new: &RankOps) -> Fronts
     requires held { AreEntered held.now.rounds }
     requires new { AreEntered new.now.rounds }

@@ -92,6 +92,7 @@ fn renew(steps: &mut [Step], from: usize)
     }
 }
 
+/// Whether the step is of another receive, and so stays where this one is taken out.
 fn is_of_another(step: &Step, q: &Receive) -> bool
     ensures { result ≡ not (same_receive step.now.receive q.now) }
 {

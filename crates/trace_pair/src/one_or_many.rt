@@ -51,6 +51,7 @@ fn set_of_both<T: Ord + Drop>(alloc: Global, x: T, y: T) -> Result<BTreeSet<T>, 
 }
 
 impl<T: Ord> Members<T> {
+    /// The set of one member, without a tree.
     pub(crate) fn one(x: T) -> Members<T>
         ensures { (d : T) → contains T.cmp result d ≡ is_eq (T.cmp x d) }
     {
@@ -59,6 +60,7 @@ impl<T: Ord> Members<T> {
         }
     }
 
+    /// The first member in the set's order; `None` where it has none.
     pub(crate) fn first(&self) -> Option<T>
     where
         T: Copy,
@@ -81,6 +83,7 @@ impl<T: Ord> Members<T> {
         self.first().is_none()
     }
 
+    /// Puts a member in, for which a set of one gets its tree. Where memory is lacking, the set stays the same.
     pub(crate) fn insert(&mut self, alloc: Global, x: T) -> Result<(), AllocError>
     where
         T: Copy + Drop,

@@ -122,6 +122,7 @@ impl Opened {
         }
     }
 
+    /// Puts an open receive in, and marks its kind.
     pub(crate) fn insert(&mut self, q: Receive) -> Result<(), AllocError>
         ensures { OnOk result (AddsTo self.old self.new q) }
     {
@@ -130,6 +131,7 @@ impl Opened {
         Ok(())
     }
 
+    /// Takes a receive out. Its kind stays marked: the set had it.
     pub(crate) fn remove(&mut self, q: &Receive)
         ensures { DropsFrom self.old self.new q.now }
     {

@@ -40,6 +40,7 @@ pub(crate) struct Taker {
     pub(crate) ended: Option<u64>,
 }
 
+/// The pair of a message and its receive, which is over where both have one datatype and the message the greater count.
 pub(crate) fn make_pair(m: &Message, q: &Receive) -> Pair
     ensures { result ≡ pair_of m.now q.now }
 {

@@ -45,6 +45,7 @@ impl Messages {
         }
     }
 
+    /// Puts a message into both maps: where the second lacks memory, it is taken out of the first again.
     pub(crate) fn insert(&mut self, m: Message) -> Result<(), AllocError>
         ensures { OnOk result (AddsTo self.old self.new m) }
     {
@@ -69,6 +70,7 @@ impl Messages {
         }
     }
 
+    /// Takes a message out of both maps.
     pub(crate) fn remove(&mut self, m: &Message)
         ensures { DropsFrom self.old self.new m.now }
     {
@@ -188,6 +190,7 @@ impl Receives {
         self.kinds.is_any()
     }
 
+    /// Puts a receive in, and marks its kind.
     pub(crate) fn insert(&mut self, q: Receive) -> Result<(), AllocError>
         ensures { OnOk result (AddsTo self.old self.new q) }
     {
@@ -201,6 +204,7 @@ impl Receives {
         Ok(())
     }
 
+    /// Takes a receive out. Its kind stays marked: the set had it.
     pub(crate) fn remove(&mut self, q: &Receive)
         ensures { DropsFrom self.old self.new q.now }
     {

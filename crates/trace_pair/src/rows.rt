@@ -53,6 +53,7 @@ impl Rows {
         })
     }
 
+    /// Adds a pair behind the others.
     pub(crate) fn put(&mut self, pair: Pair) -> Result<(), AllocError>
         ensures pairs { OnOk result (self.new.pairs ≡ self.old.pairs ++ pair ∷ []) }
         ensures postponed { self.new.postponed ≡ self.old.postponed }
@@ -61,6 +62,7 @@ impl Rows {
         Ok(())
     }
 
+    /// Adds a message that is postponed behind the others.
     pub(crate) fn postpone(&mut self, name: OpName) -> Result<(), AllocError>
         ensures pairs { self.new.pairs ≡ self.old.pairs }
         ensures postponed { OnOk result (self.new.postponed ≡ self.old.postponed ++ name ∷ []) }

@@ -13,6 +13,7 @@ pub(crate) fn is_own(m: &Message, at: u32, ended: u64) -> bool
     m.from == at && ended < m.name.call
 }
 
+/// Whether two names are of one operation: the same part of the same call of a rank.
 pub(crate) fn is_same_name(a: &OpName, b: &OpName) -> bool
     ensures { result ≡ same_name a.now b.now }
 {

@@ -135,6 +135,7 @@ impl<'a> Takings<'a> {
         self.plain
     }
 
+    /// Whose memory the messages stand in.
     pub(crate) fn allocator(&self) -> &Global {
         self.messages.allocator()
     }
