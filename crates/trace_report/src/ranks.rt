@@ -10,6 +10,7 @@ use crate::words::{put_number, put_where, sends_word, state_word};
 use trace_node::Answer;
 use trace_ops::State;
 
+/// `mpimatch report 1`, and `ranks N sends wait`.
 pub(crate) fn put_head<S: Sink>(out: &mut S, answer: &Answer)
     ensures { Prints (S.page out.old) (S.page out.new) (head_lines answer.now) }
 {
@@ -20,6 +21,7 @@ pub(crate) fn put_head<S: Sink>(out: &mut S, answer: &Answer)
     out.put(b"\n");
 }
 
+/// The lines of the ranks, in rising order.
 #[tactic(auto, using(crate::proofs::Printing::nothing))]
 pub(crate) fn put_ranks<S: Sink>(out: &mut S, answer: &Answer)
     ensures { Prints (S.page out.old) (S.page out.new) (rank_lines answer.now answer.now.ranks) }

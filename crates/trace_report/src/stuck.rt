@@ -13,6 +13,7 @@ use crate::waits::put_wait;
 use crate::words::put_number;
 use trace_node::{Answer, Stuck};
 
+/// A line for each stuck rank, or `stuck none`.
 pub(crate) fn put_all_stuck<S: Sink>(out: &mut S, ranks: &[Stuck])
     ensures { Prints (S.page out.old) (S.page out.new) (stuck_lines (map stopped ranks.now)) }
 {
@@ -48,6 +49,7 @@ fn put_stuck<S: Sink>(out: &mut S, stuck: &Stuck)
     out.put(b"\n");
 }
 
+/// `foreign N`, the calls that count as local for their communicator or their peer, and `end`.
 pub(crate) fn put_last<S: Sink>(out: &mut S, answer: &Answer)
     ensures { Prints (S.page out.old) (S.page out.new) (last_lines answer.now) }
 {

@@ -10,6 +10,7 @@ use crate::sink::Sink;
 use crate::words::put_number;
 use trace_wait::Condition;
 
+/// What a condition waits for, in the words of a form: nothing, a rank, or all or one of its parts.
 #[cycle(wait)]
 #[tactic(auto, using(crate::proofs::Shapes::shapes))]
 pub(crate) fn put_wait<S: Sink>(out: &mut S, form: Form, condition: &Condition)

@@ -9,6 +9,7 @@ use itoa::Buffer;
 use mpi_model::{CollectiveFunction, Sends};
 use trace_ops::State;
 
+/// A number by its decimal digits.
 pub(crate) fn put_number<S: Sink>(out: &mut S, n: u64)
     ensures { Prints (S.page out.old) (S.page out.new) (decimal n) }
 {
@@ -42,6 +43,7 @@ fn put_further_part<S: Sink>(out: &mut S, lead: &[u8], part: u32)
     put_number(out, part as u64);
 }
 
+/// How sends of standard mode complete: `wait` or `buffer`.
 pub(crate) fn sends_word(sends: Sends) -> &'static [u8]
     ensures { result.now ≡ sends_word sends }
 {
@@ -51,6 +53,7 @@ pub(crate) fn sends_word(sends: Sends) -> &'static [u8]
     }
 }
 
+/// How a rank stands: `free`, `waiting` or `ended`.
 pub(crate) fn state_word(state: State) -> &'static [u8]
     ensures { result.now ≡ state_word state }
 {

@@ -11,6 +11,7 @@ pub(crate) trait Value {
     /// The text of its value.
     ghost value: { Self → List ℕ };
 
+    /// Puts the text of the value.
     fn put<S: Sink>(&self, out: &mut S)
         ensures { Prints (S.page out.old) (S.page out.new) (value self.now) };
 }
