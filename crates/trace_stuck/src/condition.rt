@@ -88,6 +88,7 @@ impl Condition {
     }
 }
 
+/// A copy, with equal parts. Lists of ranks are shared with it.
 #[cycle(copy)]
 fn copy_of(alloc: Global, condition: &Condition) -> Result<Condition, AllocError>
     ensures { IfOk result (λ c. shape c ≡ shape condition.now) }
@@ -102,6 +103,7 @@ fn copy_of(alloc: Global, condition: &Condition) -> Result<Condition, AllocError
     }
 }
 
+/// Copies of the parts, in their order.
 #[cycle(copy)]
 fn copies_of(alloc: Global, parts: &[Condition]) -> Result<Vec<Condition>, AllocError>
     ensures { IfOk result (λ v. map shape v.items ≡ map shape parts.now) }

@@ -30,6 +30,7 @@ impl<'a> Able for Flags<'a> {
     }
 }
 
+/// The flag of a rank: down where the list has none.
 pub(crate) fn flag_at(flags: &[bool], r: usize) -> bool
     ensures { result ≡ flag flags.now r }
 {
@@ -101,6 +102,7 @@ fn does_some_hold<A: Able>(able: &A, parts: &[Condition]) -> bool
     false
 }
 
+/// Whether a rank has a condition, and it holds where just these ranks can go on.
 pub(crate) fn may_rank_go<A: Able>(conditions: &[Option<Condition>], able: &A, r: usize) -> bool
     ensures { result ≡ may_go conditions.now (A.able able.now) r }
 {

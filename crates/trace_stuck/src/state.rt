@@ -5,6 +5,7 @@ ghost use Rattle.trace_stuck.specs.States.{is_waiting, is_free, is_ended};
 
 use trace_ops::State;
 
+/// Whether the rank is waiting. What is no rank isn't.
 pub(crate) fn is_rank_waiting(states: &[State], r: usize) -> bool
     ensures { result ≡ is_waiting states.now r }
 {
@@ -14,6 +15,7 @@ pub(crate) fn is_rank_waiting(states: &[State], r: usize) -> bool
     }
 }
 
+/// Whether the rank is free. What is no rank isn't.
 pub(crate) fn is_rank_free(states: &[State], r: usize) -> bool
     ensures { result ≡ is_free states.now r }
 {
