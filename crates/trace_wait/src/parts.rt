@@ -37,6 +37,7 @@ fn may_receive(run: &Overview, q: &Receive) -> bool
     run.is_given(q) || run.fits_some_message(q)
 }
 
+/// What a send waits for: its destination, or nothing.
 pub(crate) fn send_part(run: &Overview, m: &Message) -> Condition
     ensures { shape result ≡ send_part run.now m.now }
 {
@@ -64,6 +65,7 @@ fn source_part(alloc: Global, run: &Overview, q: &Receive) -> Result<Condition, 
     }
 }
 
+/// What a receive waits for: its source, or nothing.
 pub(crate) fn receive_part(
     alloc: Global,
     run: &Overview,
@@ -107,6 +109,7 @@ fn named(r: u32, n: u64) -> OpName
     }
 }
 
+/// What the send of a call waits for: nothing where it started no message.
 pub(crate) fn send_of_call(run: &Overview, r: u32, o: &RankOps, n: u64) -> Condition
     requires { AreInOrder o.now.sends }
     ensures { shape result ≡ send_of_call run.now r o.now n }
@@ -117,6 +120,7 @@ pub(crate) fn send_of_call(run: &Overview, r: u32, o: &RankOps, n: u64) -> Condi
     }
 }
 
+/// What the receive of a call waits for: nothing where it posted none.
 pub(crate) fn receive_of_call(
     alloc: Global,
     run: &Overview,

@@ -136,6 +136,7 @@ fn push_rounds(
     Ok(())
 }
 
+/// The members of a communicator, in group order: none where the layout doesn't have it.
 pub(crate) fn members_of<'a>(layout: &'a Layout, comm: u32) -> &'a [u32]
     ensures value { result.now ≡ group layout.now.comms comm }
     ensures few { length result.now ≤ 1024 }
