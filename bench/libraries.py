@@ -51,7 +51,7 @@ USES = {
     "takes": ["mpi_model", "trace_know", "anyhow"],
     "pairs": ["mpi_model", "trace_know", "trace_ops", "trace_pair", "anyhow"],
     "names": ["mpi_model", "anyhow"],
-    "waiting": ["mpi_model", "dumpi_calls", "trace_know", "trace_ops", "trace_pair", "trace_wait", "anyhow"],
+    "waiting": ["mpi_model", "dumpi_calls", "trace_know", "trace_ops", "trace_pair", "trace_stuck", "trace_wait", "anyhow"],
     "frames": ["mpi_model", "trace_know", "trace_wire", "anyhow"],
 }
 TAKES = ["16 1 11574 0", "16 6250 2 0", "16 6250 2 1", "1 100000 2 1", "16 12500 2 1", "16 1 11574 2"]

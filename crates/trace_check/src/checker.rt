@@ -16,7 +16,8 @@ use std::marker::Model;
 use trace_know::{Knowledge, ReadySegment, join_laws, prefix_laws, view_laws};
 use trace_ops::{RankOps, State, all_ops, ops_laws, ops_of};
 use trace_pair::{PairIndex, PairTable, pair_all};
-use trace_wait::{conditions, rounds, stuck};
+use trace_stuck::stuck;
+use trace_wait::{conditions, rounds};
 
 /// All that is known of the run of a layout, and an index of its pairs that follows it segment by segment.
 #[derive(Drop)]

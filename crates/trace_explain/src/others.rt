@@ -13,7 +13,8 @@ use trace_know::Knowledge;
 use trace_node::{Answer, stuck_go_by_shape};
 use trace_ops::{RankOps, State, ops_laws};
 use trace_pair::pair_all;
-use trace_wait::{Round, conditions, stuck};
+use trace_stuck::stuck;
+use trace_wait::{Round, conditions};
 
 /// The stuck ranks of what the ranks did, by their states and rounds.
 fn stuck_by(

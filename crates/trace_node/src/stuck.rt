@@ -4,7 +4,7 @@ ghost use Rattle.std.specs.Prelude.{◌≡◌, ◌↔◌, IsTrue, IfOk};
 ghost use Rattle.trace_node.specs.Stopped.{stopped};
 
 use std::alloc::{AllocError, Global};
-use trace_wait::Condition;
+use trace_stuck::Condition;
 
 /// A rank that waits for ever: no run of what is known lets it go on.
 #[derive(Debug, Drop)]

@@ -8,7 +8,7 @@ ghost use Rattle.trace_report.specs.Waits.{before_part, list_text, part_text, pa
 use crate::form::Form;
 use crate::sink::Sink;
 use crate::words::put_number;
-use trace_wait::Condition;
+use trace_stuck::Condition;
 
 /// What a condition waits for, in the words of a form: nothing, a rank, or all or one of its parts.
 #[cycle(wait)]

@@ -45,8 +45,4 @@ mod waiting;
 
 pub use round::{Round, Standing};
 pub use tally::rounds;
-pub use trace_stuck::{
-    Condition, Verdict, check_closed, check_release, checked_verdicts_are_right,
-    conditions_are_monotone, rising_lists_are_one, stuck, stuck_ranks_are_closed,
-};
 pub use waiting::conditions;

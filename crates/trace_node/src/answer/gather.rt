@@ -21,7 +21,8 @@ use std::alloc::{AllocError, Global};
 use trace_know::{Cell, Knowledge};
 use trace_ops::{RankOps, State};
 use trace_pair::PairTable;
-use trace_wait::{Condition, conditions, rounds, stuck};
+use trace_stuck::{Condition, stuck};
+use trace_wait::{conditions, rounds};
 
 /// The readable prefix of each rank.
 fn prefixes_of(alloc: Global, layout: &Layout, know: &Knowledge) -> Result<Vec<u64>, AllocError>
