@@ -46,7 +46,12 @@ fn elements_after(rank: u32, elements: u64, call: &Call) -> u64
 impl SentTo {
     /// Adds what a call sends, unless too many came.
     fn add(&mut self, call: Call) -> Result<(), Full>
-        ensures ok { OnOk result (self.new ≡ record { rank = self.old.rank; elements = elements_after self.old.rank self.old.elements call; calls_left = self.old.calls_left - 1; asked = self.old.asked }) }
+        ensures ok { OnOk result (self.new ≡ record {
+          rank = self.old.rank;
+          elements = elements_after self.old.rank self.old.elements call;
+          calls_left = self.old.calls_left - 1;
+          asked = self.old.asked;
+        }) }
         ensures err { OnErr result (self.new ≡ self.old) }
     {
         self.asked.set(self.asked.get().saturating_add(1));
@@ -65,7 +70,12 @@ impl CallSink for SentTo {
 
     type Fault = Full;
 
-    ghost step = { λ sink seen. record { rank = sink.rank; elements = elements_after sink.rank sink.elements seen.call; calls_left = sink.calls_left - 1; asked = sink.asked } };
+    ghost step = { λ sink seen. record {
+      rank = sink.rank;
+      elements = elements_after sink.rank sink.elements seen.call;
+      calls_left = sink.calls_left - 1;
+      asked = sink.asked;
+    } };
 
     fn on_send(&mut self, call: Call, _enter: Stamp, _exit: Option<Exit>) -> Result<(), Full> {
         self.add(call)
