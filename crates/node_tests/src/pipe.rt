@@ -48,5 +48,6 @@ impl<'a> Write for Pipe<'a> {
 /// Asks of a type that each half tells of the other: then the contracts of an exchange over it hold
 /// whole. It does nothing.
 pub(crate) fn is_stream<S: Read + Write>(_stream: &S)
-    requires { IsStream (λ s. side (S.left s) (S.Read.failures s)) S.read_side (λ s. side (S.written s) (S.Write.failures s)) S.write_side }
+    requires { IsStream (λ s. side (S.left s) (S.Read.failures s)) S.read_side
+        (λ s. side (S.written s) (S.Write.failures s)) S.write_side }
 {}
