@@ -29,7 +29,8 @@ pub(crate) fn explain_rank_with<O: Opener, V: Watcher, W: Write>(
     watcher: &mut V,
     out: &mut W,
 ) -> Result<bool, RunFault>
-    ensures ran { Ran (O.file files.old) (Verb.ExplainRank rank) layout.now manifest.now result W.written W.failures out.old out.new }
+    ensures ran { Ran (O.file files.old) (Verb.ExplainRank rank) layout.now manifest.now result
+        W.written W.failures out.old out.new }
     ensures unread { IfErr result (λ fault. NamesUnreadable LONGEST_FILE (Fails O.R.failures) (O.file files.old) fault) }
     ensures failed { IfErr result (NamesFailed (Fails O.R.failures)) }
     ensures same { O.file files.new ≡ O.file files.old }

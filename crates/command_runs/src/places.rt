@@ -43,7 +43,8 @@ pub(crate) fn places_of(
     stuck: &[Stuck],
     notes: &[TextNote],
 ) -> Result<Vec<CallPlace>, AllocError>
-    ensures { WhereTrue notes.now (λ file. IfOk result (λ places. ArePlacesOf file notes.now (map stopped stuck.now) places.items)) }
+    ensures { WhereTrue notes.now (λ file. IfOk result (λ places.
+        ArePlacesOf file notes.now (map stopped stuck.now) places.items)) }
 {
     let mut places = Vec::new(alloc);
     for one in stuck {
