@@ -89,7 +89,8 @@ pub fn ending_of_texts<R: Eprint, O: Opener, V: Watcher, W: Write>(
     watcher: &mut V,
     out: &mut W,
 ) -> Result<Ending, AllocError>
-    ensures { verb ≢ Verb.Cluster → IfOk result (EndsTexts (O.file files.old) verb (texts_of texts.now) W.written out.old out.new) }
+    ensures { verb ≢ Verb.Cluster → IfOk result (EndsTexts (O.file files.old) verb (texts_of texts.now)
+        W.written out.old out.new) }
 {
     if let Verb::Cluster = verb {
         return no_cluster(alloc);
