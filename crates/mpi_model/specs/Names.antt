@@ -2,6 +2,7 @@
 -- communicator is freed (MPI 4.0, 7.4.3). So a number names a communicator for one rank, over a stretch of its calls.
 use Rattle.std.specs.Prelude.{◌≡◌, ℕ, ◌==◌, ◌&&◌, ◌||◌, Bool, true, false, List, [], ◌∷◌, ◌++◌, Option, Some, None, option_map, find, length, nat_le, nat_lt, slice_index_or, ◌<◌, ◌≤◌, if◌then◌else◌}
 use Rattle.std.specs.List.{flat_map, list_any}
+use Rattle.std.specs.List.Sorted.{IsPartitionPoint}
 use Rattle.mpi_model.specs.declared.layout.comm.Stretch.{Stretch}
 use Rattle.mpi_model.specs.declared.layout.names.Name.{Name}
 use Rattle.mpi_model.specs.Communicators.{Communicator, has_pair}
@@ -80,6 +81,10 @@ precedes rank number call x = nat_lt x.rank rank || ((x.rank == rank) && (nat_lt
 abbrev pub AreOrdered : List Name → Type 0
 AreOrdered names = (i j : ℕ) (d : Name) → i ≤ j → j < length names
     → (let y = slice_index_or names j d in precedes y.rank y.stretch.number y.stretch.first (slice_index_or names i d)) ≡ true
+
+-- So many names, the first ones, are not behind this place, and no others.
+abbrev pub PrecedeUpTo : ℕ → ℕ → ℕ → List Name → ℕ → Type 0
+PrecedeUpTo rank number call names n = IsPartitionPoint (λ x. precedes rank number call x ≡ true) (λ x. precedes rank number call x ≡ false) names n
 
 -- The names of these communicators in their order, of which no two clash.
 pub record AreNames (gs : List Communicator) (names : List Name) : Type 0 where

@@ -54,7 +54,13 @@ pub struct KindRow {
 impl Kind {
     /// The row of the kind in the table.
     pub fn row(self) -> KindRow
-        ensures { record { word = result.word.now; function = result.function.now; nonblocking_function = result.nonblocking_function.now; category = result.category; has_counts = result.has_counts } ≡ row self }
+        ensures { record {
+          word = result.word.now;
+          function = result.function.now;
+          nonblocking_function = result.nonblocking_function.now;
+          category = result.category;
+          has_counts = result.has_counts;
+        } ≡ row self }
     {
         match self {
             Kind::Barrier => KindRow {

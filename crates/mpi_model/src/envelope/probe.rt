@@ -30,7 +30,8 @@ impl Model for ProbeEnvelope {
 impl ProbeEnvelope {
     /// The envelope, or none where no probe can have it.
     pub fn new(source: Peer, tag: Option<u32>, comm: CommRef) -> Option<ProbeEnvelope>
-        ensures { SomeIff result (IsSource source × IsAskedTag tag × IsComm comm) (record { source = source; tag = tag; comm = comm }) }
+        ensures { SomeIff result (IsSource source × IsAskedTag tag × IsComm comm)
+            (record { source = source; tag = tag; comm = comm }) }
     {
         if can_be_probed(source, tag, comm) {
             Some(ProbeEnvelope { source, tag, comm })

@@ -1,10 +1,10 @@
 //! By which numbers the calls of ranks name communicators, in an order in which a look-up halves.
 
 ghost use Rattle.std.specs.Prelude.{◌≡◌, ◌++◌, ◌<◌, ◌≤◌, ◌^◌, All, IfOk, OnOk, false, find, length, option_map, true};
-ghost use Rattle.std.specs.List.Sorted.{IsPartitionPoint, IsPartitionedBy, IsPermutation};
+ghost use Rattle.std.specs.List.Sorted.{IsPartitionedBy, IsPermutation};
 ghost use Rattle.std.specs.List.{AllWithin};
 ghost use Rattle.mpi_model.specs.Communicators.{has_pair};
-ghost use Rattle.mpi_model.specs.Names.{AreOrdered, always, clashes, has_calls, holds, is_before, is_name, name_by, names_by_id, names_by_numbers, names_in, names_of, precedes, shares};
+ghost use Rattle.mpi_model.specs.Names.{AreOrdered, PrecedeUpTo, always, clashes, has_calls, holds, is_before, is_name, name_by, names_by_id, names_by_numbers, names_in, names_of, precedes, shares};
 ghost use Rattle.mpi_model.specs.Starts.{AreStarts, IsStart};
 
 use crate::layout::comm::{Comm, Stretch};
@@ -241,7 +241,7 @@ fn range_of(names: &[Name], starts: &[usize], rank: u32) -> (usize, usize)
 fn place_among(names: &[Name], rank: u32, number: u32, call: u64) -> usize
     requires { IsPartitionedBy (precedes rank number call) names.now }
     ensures bound { result ≤ length names.now }
-    ensures point { IsPartitionPoint (λ x. precedes rank number call x ≡ true) (λ x. precedes rank number call x ≡ false) names.now result }
+    ensures point { PrecedeUpTo rank number call names.now result }
 {
     names.partition_point(|name| precedes(rank, number, call, *name))
 }
@@ -251,7 +251,7 @@ fn place_of(names: &[Name], starts: &[usize], rank: u32, number: u32, call: u64)
     requires order { AreOrdered names.now }
     requires starts { AreStarts names.now starts.now }
     ensures bound { result ≤ length names.now }
-    ensures point { IsPartitionPoint (λ x. precedes rank number call x ≡ true) (λ x. precedes rank number call x ≡ false) names.now result }
+    ensures point { PrecedeUpTo rank number call names.now result }
 {
     let (low, high) = range_of(names, starts, rank);
     low + place_among(&names[low..high], rank, number, call)
