@@ -59,6 +59,38 @@ HasPlacesPast first events = (0 < length events) × (2 ^ 40 < enter_place first 
 
 -- ---- counts
 
+-- no call of any callback
+abbrev pub none_tallied : Tally
+none_tallied = record {
+  on_send = 0;
+  on_isend = 0;
+  on_recv = 0;
+  on_irecv = 0;
+  on_sendrecv = 0;
+  on_probe = 0;
+  on_wait = 0;
+  on_waitall = 0;
+  on_waitany = 0;
+  on_waitsome = 0;
+  on_test = 0;
+  on_testall = 0;
+  on_testany = 0;
+  on_testsome = 0;
+  on_cancel = 0;
+  on_request_free = 0;
+  on_collective = 0;
+  on_icollective = 0;
+  on_send_init = 0;
+  on_recv_init = 0;
+  on_start = 0;
+  on_startall = 0;
+  on_mprobe = 0;
+  on_improbe = 0;
+  on_imrecv = 0;
+  on_unread = 0;
+  on_other = 0;
+}
+
 -- one call more of a callback
 abbrev pub tallied : Tally → Callback → Tally
 tallied t OnSend = record t { on_send = one_more t.on_send }

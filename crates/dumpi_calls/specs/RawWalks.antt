@@ -1,5 +1,5 @@
 -- What a walk over a text does whose calls are handed on as they stand there.
-use Rattle.std.specs.Prelude.{◌≡◌, ℕ, List, [], ◌∷◌, ◌++◌, length, Option, Some, None, Ok}
+use Rattle.std.specs.Prelude.{◌≡◌, ℕ, List, [], ◌∷◌, ◌++◌, length, Option, Some, None, Result, Ok, IfOk}
 use Rattle.mpi_model.specs.declared.call.Call.{Call}
 use Rattle.dumpi_text.specs.Call.{TextCall}
 use Rattle.dumpi_text.specs.Grammar.{Complete}
@@ -41,6 +41,11 @@ pub record TakesNextRaw {S : Type 0} (step : S → TextCall → Call → S → T
 abbrev pub AdvancesRaw : {S : Type 0} → (S → TextCall → Call → S → Type 0) → Option (List ℕ) → List TextCall → Option HandedCall → TextState → S → S → Type 0
 AdvancesRaw step text calls (Some handed) view old new = TakesNextRaw step text calls handed.open_line view old new
 AdvancesRaw step text calls None view old new = MeansAll text calls (Complete view.told) × (new ≡ old)
+
+-- The sink took the next call as it stands, or the text was over, whichever text is walked and whichever of its calls were read before.
+abbrev pub StepsOnRaw : {S F : Type 0} → (S → TextCall → Call → S → Type 0) → TextState → Result (Option HandedCall) (WalkFault F) → TextState → S → S → Type 0
+StepsOnRaw step texts result left old new =
+    (text : Option (List ℕ)) (before : List TextCall) → IsRead text before texts → IfOk result (λ found. AdvancesRaw step text before found left old new)
 
 -- The whole text was walked.
 pub record IsWalkedRaw {S : Type 0} (step : S → TextCall → Call → S → Type 0) (text : Option (List ℕ)) (old new : S) (walked : Walked) : Type 0 where

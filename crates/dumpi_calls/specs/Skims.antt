@@ -1,13 +1,20 @@
 -- What lists tell, item by item: of a group's fields of one name the first counts.
-use Rattle.std.specs.Prelude.{ℕ, ℤ, List, ◌++◌, map, Option, Some, None, codes, option_map, if◌then◌else◌}
+use Rattle.std.specs.Prelude.{◌≡◌, ℕ, ℤ, List, ◌++◌, map, Option, Some, None, codes, option_map, if◌then◌else◌}
 use Rattle.std.specs.Str.{bytes_eq}
 use Rattle.mpi_model.specs.declared.told.Told.{Told}
+use Rattle.dumpi_text.specs.Bytes.{closing_brace}
+use Rattle.dumpi_text.specs.Items.{field_item, group_item, items_front}
+use Rattle.dumpi_text.specs.Number.{number_item}
 use Rattle.dumpi_text.specs.declared.group.Field.{Field}
 use Rattle.dumpi_text.specs.declared.number.Num.{Num}
 use Rattle.dumpi_text.specs.declared.value.Value.{Value}
 use Rattle.dumpi_calls.specs.Outcomes.{first_number, told_from, told_of}
 use Rattle.dumpi_calls.specs.Readings.{all_numbers, requests_of}
 use Rattle.dumpi_calls.specs.declared.skim.Seen.{Seen}
+
+-- A text begins with the field of this word and this number, and then comes the rest.
+abbrev pub HasField : List ℕ → List ℕ → Num → List ℕ → Type 0
+HasField text word number rest = field_item text ≡ Some (record { word = word; number = number }, rest)
 
 -- the number of the first field of a name, with one field more
 abbrev pub number_with : List ℕ → Option Num → Field → Option Num
@@ -40,6 +47,14 @@ unseen = record { cancelled = None; source = None }
 abbrev pub tolds_with : List Told → Option (List (List Field) × List ℕ) → Option (List Told × List ℕ)
 tolds_with tolds None = None
 tolds_with tolds (Some (groups, rest)) = Some (tolds ++ map told_of groups, rest)
+
+-- the numbers of a list, by what follows its `{`, and what follows its `}`
+abbrev pub numbers_front : List ℕ → Option (List Num × List ℕ)
+numbers_front list = items_front number_item closing_brace list
+
+-- the groups of a list, and what follows its `}`, so
+abbrev pub groups_front : List ℕ → Option (List (List Field) × List ℕ)
+groups_front list = items_front group_item closing_brace list
 
 -- the requests that a value lists, where it is numbers
 abbrev pub requests_from : Option Value → Option (List ℤ)

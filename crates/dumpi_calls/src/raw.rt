@@ -5,8 +5,9 @@ ghost use Rattle.mpi_model.specs.declared.call.Call.{Call};
 ghost use Rattle.dumpi_text.specs.Call.{TextCall};
 ghost use Rattle.dumpi_text.specs.Failing.{Fails};
 ghost use Rattle.dumpi_text.specs.declared.step.TheConstants.{MOST_LINES};
-ghost use Rattle.dumpi_calls.specs.RawWalks.{AdvancesRaw, IsStoppedRaw, IsWalkedRaw, TakesRaw};
-ghost use Rattle.dumpi_calls.specs.Walks.{FailsAfter, FailsIn, IsRead, IsReadStop, RefusesCall, StopsWalk};
+ghost use Rattle.dumpi_calls.specs.RawWalks.{IsStoppedRaw, IsWalkedRaw, StepsOnRaw, TakesRaw};
+ghost use Rattle.dumpi_calls.specs.Steps.{FailsThere, StopsThere};
+ghost use Rattle.dumpi_calls.specs.Walks.{FailsIn, IsReadStop, RefusesCall};
 
 use crate::fault::{WalkCause, WalkFault};
 use crate::function::function_in;
@@ -67,10 +68,10 @@ fn advance_raw<R: Read, S: RawSink>(
     sink: &mut S,
     calls: u64,
 ) -> Result<Option<HandedCall>, WalkFault<S::Fault>>
-    ensures ok { (text : Option (List ℕ)) (before : List TextCall) → IsRead text before texts.old → IfOk result (λ found. AdvancesRaw S.step text before found texts.new sink.old sink.new) }
-    ensures err { (text : Option (List ℕ)) (before : List TextCall) → IsRead text before texts.old → IfErr result (λ fault. StopsWalk text before fault.cause fault.line) }
+    ensures ok { StepsOnRaw S.step texts.old result texts.new sink.old sink.new }
+    ensures err { StopsThere texts.old result }
     ensures failed { IfErr result (λ fault. IsReadStop fault.cause → Fails R.failures) }
-    ensures failure { (text : Option (List ℕ)) (before : List TextCall) → IsRead text before texts.old → IfErr result (λ fault. IsReadStop fault.cause → FailsAfter R.left R.failures text texts.old.rest.failures before fault.line) }
+    ensures failure { FailsThere R.left R.failures texts.old result }
     ensures no_failure { OnOk result (texts.new.rest.failures ≡ texts.old.rest.failures) }
     ensures calls { IfErr result (λ fault. fault.calls ≡ calls) }
     ensures unchanged { OnErr result (sink.new ≡ sink.old) }

@@ -2,7 +2,7 @@
 //! functions don't answer for is read as any value is.
 
 ghost use Rattle.std.specs.Prelude.{◌≡◌, ◌∷◌, [], IfOk, IfSome, Some, true};
-ghost use Rattle.dumpi_calls.specs.Skims.{requests_from, requests_with};
+ghost use Rattle.dumpi_calls.specs.Skims.{numbers_front, requests_from, requests_with};
 ghost use Rattle.dumpi_text.specs.Bytes.{closing_brace, opening_bracket};
 ghost use Rattle.dumpi_text.specs.Items.{items_front};
 ghost use Rattle.dumpi_text.specs.Number.{number_item};
@@ -18,7 +18,7 @@ use std::alloc::Global;
 
 /// Whether digits stand in front that a `,` or a `}` ends, so that what follows a `{` is numbers.
 fn begins_numbers(list: &[u8]) -> bool
-    ensures { result ≡ true → brace_rest (after_spaces list.now) ≡ all_numbers (items_front number_item closing_brace list.now) }
+    ensures { result ≡ true → brace_rest (after_spaces list.now) ≡ all_numbers (numbers_front list.now) }
 {
     let (_, count) = digits_front(list);
     if count == 0 {
@@ -29,7 +29,7 @@ fn begins_numbers(list: &[u8]) -> bool
 
 /// The list of numbers of requests, by what follows their `[`: the count, and what stands after its `] {`.
 fn counted_numbers(text: &[u8]) -> Option<(u64, &[u8])>
-    ensures { IfSome result (λ x. core_front (opening_bracket ∷ text.now) ≡ all_numbers (items_front number_item closing_brace x.1.now)) }
+    ensures { IfSome result (λ x. core_front (opening_bracket ∷ text.now) ≡ all_numbers (numbers_front x.1.now)) }
 {
     let (room, count) = digits_front(text);
     if count == 0 || text.len() - count < 3 {
@@ -49,7 +49,7 @@ fn counted_numbers(text: &[u8]) -> Option<(u64, &[u8])>
 /// The request that each number of a list names, and what follows the list's `}`; `BadValue` is no answer. There is
 /// room for so many at first, but for no more than the list has bytes.
 fn named_front(alloc: Global, room: u64, list: &[u8]) -> Result<(Vec<i64>, &[u8]), ValueFault>
-    ensures { IfOk result (λ x. requests_with [] (items_front number_item closing_brace list.now) ≡ Some (x.0.items, x.1.now)) }
+    ensures { IfOk result (λ x. requests_with [] (numbers_front list.now) ≡ Some (x.0.items, x.1.now)) }
 {
     let mut requests = Vec::with_capacity(alloc, list.len().min(room as usize))?;
     let mut left = list;
@@ -71,7 +71,7 @@ fn named_front(alloc: Global, room: u64, list: &[u8]) -> Result<(Vec<i64>, &[u8]
 
 /// The request that each number of a list names that nothing follows.
 fn named_in(alloc: Global, room: u64, list: &[u8]) -> Option<Vec<i64>>
-    ensures { IfSome result (λ requests. requests_with [] (items_front number_item closing_brace list.now) ≡ Some (requests.items, [])) }
+    ensures { IfSome result (λ requests. requests_with [] (numbers_front list.now) ≡ Some (requests.items, [])) }
 {
     match named_front(alloc, room, list) {
         Err(_) => None,

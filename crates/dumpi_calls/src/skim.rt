@@ -5,7 +5,7 @@ ghost use Rattle.std.specs.Prelude.{◌≡◌, ◌<◌, ◌≤◌, ◌∷◌, �
 ghost use Rattle.std.specs.List.{list_all};
 ghost use Rattle.std.specs.Option.{option_map};
 ghost use Rattle.dumpi_calls.specs.Outcomes.{groups_from, told_at, told_of};
-ghost use Rattle.dumpi_calls.specs.Skims.{number_with, seen_with, told_with, tolds_with, unseen, with_told};
+ghost use Rattle.dumpi_calls.specs.Skims.{HasField, groups_front, number_with, seen_with, told_with, tolds_with, unseen, with_told};
 ghost use Rattle.dumpi_text.specs.Bytes.{closing_brace, equals, opening_bracket};
 ghost use Rattle.dumpi_text.specs.Items.{field_item, fields_front, group_item, items_front, next_front};
 ghost use Rattle.dumpi_text.specs.Number.{note_front, number_front, number_item};
@@ -75,7 +75,7 @@ pub fn split_number(text: &[u8]) -> Option<(Num, &[u8])>
 /// The word and the number of the field in front, and what follows it.
 #[tactic(auto, unfolding(dumpi_text::specs::Items::field_item))]
 fn split_field(text: &[u8]) -> Option<(&[u8], Num, &[u8])>
-    ensures { IfSome result (λ x. field_item text.now ≡ Some (record { word = x.0.now; number = x.1 }, x.2.now)) }
+    ensures { IfSome result (λ x. HasField text.now x.0.now x.1 x.2.now) }
 {
     let (word, rest) = read_word(text)?;
     let rest = after_equals(rest)?;
@@ -89,7 +89,7 @@ fn split_field(text: &[u8]) -> Option<(&[u8], Num, &[u8])>
 fn field_named<'a>(word: &[u8], text: &'a [u8]) -> Option<(Num, &'a [u8])>
     requires some { 0 < length word.now }
     requires word { list_all is_word_byte word.now ≡ true }
-    ensures field { IfSome result (λ x. field_item (after_spaces text.now) ≡ Some (record { word = word.now; number = x.0 }, x.1.now)) }
+    ensures field { IfSome result (λ x. HasField (after_spaces text.now) word.now x.0 x.1.now) }
     ensures there { IfSome result (λ x. length word.now ≤ length text.now) }
 {
     let rest = strip(word, text)?;
@@ -247,7 +247,7 @@ fn told_group(text: &[u8]) -> Option<(Told, &[u8])>
 /// What each group of a list tells, and what follows the list's `}`; `BadValue` is no answer.
 #[tactic(auto, using(crate::proofs::GroupByGroup::one_more, crate::proofs::GroupByGroup::the_last))]
 fn tolds_front(alloc: Global, list: &[u8]) -> Result<(Vec<Told>, &[u8]), ValueFault>
-    ensures { IfOk result (λ x. tolds_with [] (items_front group_item closing_brace list.now) ≡ Some (x.0.items, x.1.now)) }
+    ensures { IfOk result (λ x. tolds_with [] (groups_front list.now) ≡ Some (x.0.items, x.1.now)) }
 {
     let mut tolds = Vec::new(alloc);
     let mut left = list;
@@ -269,7 +269,7 @@ fn tolds_front(alloc: Global, list: &[u8]) -> Result<(Vec<Told>, &[u8]), ValueFa
 
 /// The list of groups of statuses, by what follows their `[`: what stands after the count, `] {`.
 fn counted_groups(text: &[u8]) -> Option<&[u8]>
-    ensures { IfSome result (λ list. core_front (opening_bracket ∷ text.now) ≡ all_groups (items_front group_item closing_brace list.now)) }
+    ensures { IfSome result (λ list. core_front (opening_bracket ∷ text.now) ≡ all_groups (groups_front list.now)) }
 {
     let (_, count) = digits_front(text);
     if count == 0 || text.len() - count < 4 {
@@ -286,7 +286,7 @@ fn counted_groups(text: &[u8]) -> Option<&[u8]>
 
 /// What each group of a list tells that nothing follows; `BadValue` is no answer.
 fn tolds_in(alloc: Global, list: &[u8]) -> Result<Vec<Told>, ValueFault>
-    ensures { IfOk result (λ tolds. tolds_with [] (items_front group_item closing_brace list.now) ≡ Some (tolds.items, [])) }
+    ensures { IfOk result (λ tolds. tolds_with [] (groups_front list.now) ≡ Some (tolds.items, [])) }
 {
     let (tolds, rest) = tolds_front(alloc, list)?;
     if rest.is_empty() {

@@ -7,7 +7,8 @@ ghost use Rattle.dumpi_text.specs.Shown.{put_in};
 ghost use Rattle.dumpi_text.specs.declared.source.TheConstants.{CHUNK};
 ghost use Rattle.dumpi_text.specs.declared.step.TheConstants.{MOST_LINES};
 ghost use Rattle.dumpi_calls.specs.Rows.{row_of, typed, typed_by, row};
-ghost use Rattle.dumpi_calls.specs.Walks.{Advances, FailsAfter, FailsIn, Follows, FollowsKept, FollowsWhole, IsRead, IsReadFault, IsReadStop, IsStopped, IsTypedAs, IsWalked, LacksNext, RefusesCall, RefusesNext, StopsWalk, Takes, open_line};
+ghost use Rattle.dumpi_calls.specs.Steps.{EndsAtFault, FailsAtFault, FailsThere, GoesOn, GoesOnKept, GoesOnWhole, LacksSo, RefusesTyped, StepsOn, StopsThere, TakesTyped};
+ghost use Rattle.dumpi_calls.specs.Walks.{FailsIn, IsReadFault, IsReadStop, IsStopped, IsWalked, RefusesCall, Takes, open_line};
 
 use crate::fault::{WalkCause, WalkFault};
 use crate::function::function_in;
@@ -121,10 +122,10 @@ pub(crate) fn handed(raw: &RawCall) -> HandedCall
 /// this where no sink is to be told of its calls. Nothing of its parameters is looked at.
 #[tactic(auto, using(crate::proofs::Failing::fails))]
 pub fn next_call<R: Read>(texts: &mut Texts<R>, raw: &mut RawCall) -> Result<bool, TextFault>
-    ensures goes_on { (text : Option (List ℕ)) (calls : List TextCall) → IsRead text calls texts.old → IfOk result (λ found. Follows text calls (put_in found raw.new) texts.new) }
-    ensures stops { (text : Option (List ℕ)) (calls : List TextCall) → IsRead text calls texts.old → IfErr result (λ fault. RefusesNext text calls fault texts.new.told.line) }
+    ensures goes_on { GoesOn texts.old result raw.new texts.new }
+    ensures stops { EndsAtFault texts.old result texts.new }
     ensures failed { IfErr result (λ fault. IsReadFault fault → Fails R.failures) }
-    ensures failure { (text : Option (List ℕ)) (calls : List TextCall) → IsRead text calls texts.old → IfErr result (λ fault. IsReadFault fault → FailsAfter R.left R.failures text texts.old.rest.failures calls texts.new.told.line) }
+    ensures failure { FailsAtFault R.left R.failures texts.old result texts.new }
     ensures no_failure { OnOk result (texts.new.rest.failures ≡ texts.old.rest.failures) }
     ensures progress { result ≡ Ok true → texts.old.at.line < texts.new.at.line }
     ensures lines { texts.new.at.line ≤ MOST_LINES }
@@ -142,10 +143,10 @@ pub fn next_call<R: Read>(texts: &mut Texts<R>, raw: &mut RawCall) -> Result<boo
 /// The next call of the text, as [`next_call`], of which no more is kept than what it is read by.
 #[tactic(auto, using(crate::proofs::Failing::fails))]
 fn next_looked<R: Read>(texts: &mut Texts<R>, raw: &mut RawCall) -> Result<bool, TextFault>
-    ensures goes_on { (text : Option (List ℕ)) (calls : List TextCall) → IsRead text calls texts.old → IfOk result (λ found. FollowsKept text calls (put_in found raw.new) texts.new) }
-    ensures stops { (text : Option (List ℕ)) (calls : List TextCall) → IsRead text calls texts.old → IfErr result (λ fault. RefusesNext text calls fault texts.new.told.line) }
+    ensures goes_on { GoesOnKept texts.old result raw.new texts.new }
+    ensures stops { EndsAtFault texts.old result texts.new }
     ensures failed { IfErr result (λ fault. IsReadFault fault → Fails R.failures) }
-    ensures failure { (text : Option (List ℕ)) (calls : List TextCall) → IsRead text calls texts.old → IfErr result (λ fault. IsReadFault fault → FailsAfter R.left R.failures text texts.old.rest.failures calls texts.new.told.line) }
+    ensures failure { FailsAtFault R.left R.failures texts.old result texts.new }
     ensures no_failure { OnOk result (texts.new.rest.failures ≡ texts.old.rest.failures) }
     ensures progress { result ≡ Ok true → texts.old.at.line < texts.new.at.line }
     ensures lines { texts.new.at.line ≤ MOST_LINES }
@@ -162,7 +163,7 @@ fn next_looked<R: Read>(texts: &mut Texts<R>, raw: &mut RawCall) -> Result<bool,
 
 /// Why a text has no next call.
 pub(crate) fn lack<F: Drop>(fault: TextFault, line: u64, calls: u64) -> WalkFault<F>
-    ensures cause { (text : Option (List ℕ)) (before : List TextCall) → RefusesNext text before fault line → LacksNext text before result.cause result.line }
+    ensures cause { LacksSo fault line result.cause result.line }
     ensures failed { IsReadStop result.cause → IsReadFault fault }
     ensures line { result.line ≡ line }
     ensures calls { result.calls ≡ calls }
@@ -185,7 +186,7 @@ pub(crate) fn lack<F: Drop>(fault: TextFault, line: u64, calls: u64) -> WalkFaul
 #[inline(always)]
 #[tactic(auto, using(crate::proofs::Advancing::follows_whole, crate::proofs::Advancing::stands_whole))]
 fn whole_of<R: Read>(alloc: Global, texts: &mut Texts<R>) -> Option<(Whole, u64)>
-    ensures goes_on { (text : Option (List ℕ)) (calls : List TextCall) → IsRead text calls texts.old → IfSome result (λ x. FollowsWhole text calls x.0.function x.0.call x.1 texts.new) }
+    ensures goes_on { GoesOnWhole texts.old result texts.new }
     ensures none { IfNone result (texts.new ≡ texts.old) }
     ensures no_failure { texts.new.rest.failures ≡ texts.old.rest.failures }
     ensures progress { IfSome result (λ x. texts.old.at.line < texts.new.at.line) }
@@ -208,8 +209,8 @@ fn take_whole<S: CallSink>(
     sink: &mut S,
     calls: u64,
 ) -> Result<(), WalkFault<S::Fault>>
-    ensures ok { (raw : TextCall) → IsTypedAs raw whole.function whole.call line → IfOk result (λ done. Takes S.step raw sink.old sink.new) }
-    ensures err { (raw : TextCall) → IsTypedAs raw whole.function whole.call line → IfErr result (λ fault. RefusesCall raw fault.cause fault.line) }
+    ensures ok { TakesTyped S.step whole line result sink.old sink.new }
+    ensures err { RefusesTyped whole line result }
     ensures whole { IfErr result (λ fault. ¬ IsReadStop fault.cause) }
     ensures calls { IfErr result (λ fault. fault.calls ≡ calls) }
     ensures unchanged { OnErr result (sink.new ≡ sink.old) }
@@ -234,10 +235,10 @@ fn advance<R: Read, S: CallSink>(
     sink: &mut S,
     calls: u64,
 ) -> Result<Option<HandedCall>, WalkFault<S::Fault>>
-    ensures ok { (text : Option (List ℕ)) (before : List TextCall) → IsRead text before texts.old → IfOk result (λ found. Advances S.step text before found texts.new sink.old sink.new) }
-    ensures err { (text : Option (List ℕ)) (before : List TextCall) → IsRead text before texts.old → IfErr result (λ fault. StopsWalk text before fault.cause fault.line) }
+    ensures ok { StepsOn S.step texts.old result texts.new sink.old sink.new }
+    ensures err { StopsThere texts.old result }
     ensures failed { IfErr result (λ fault. IsReadStop fault.cause → Fails R.failures) }
-    ensures failure { (text : Option (List ℕ)) (before : List TextCall) → IsRead text before texts.old → IfErr result (λ fault. IsReadStop fault.cause → FailsAfter R.left R.failures text texts.old.rest.failures before fault.line) }
+    ensures failure { FailsThere R.left R.failures texts.old result }
     ensures no_failure { OnOk result (texts.new.rest.failures ≡ texts.old.rest.failures) }
     ensures calls { IfErr result (λ fault. fault.calls ≡ calls) }
     ensures unchanged { OnErr result (sink.new ≡ sink.old) }
