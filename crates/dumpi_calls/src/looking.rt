@@ -3,12 +3,14 @@
 
 ghost use Rattle.std.specs.Prelude.{◌≡◌};
 ghost use Rattle.dumpi_calls.specs.Looked.{is_named_in, looked_parameters};
-ghost use Rattle.dumpi_calls.specs.Rows.{collective_parameters};
 
 use crate::function::{Function, function_of, is};
 use crate::parameter::Parameter;
+use crate::parameter::Parameter::{
+    Comm, Count, Datatype, Dest, Flag, Index, Indices, RecvCount, RecvTag, RecvType, Request,
+    Requests, Root, SendCount, SendTag, SendType, Source, Status, Statuses, Tag,
+};
 use dumpi_text::{Keeping, RawCall};
-use mpi_model::Kind;
 
 /// Whether a name is of one of these parameters.
 fn is_one_of(name: &[u8], parameters: &[Parameter]) -> bool
@@ -22,14 +24,37 @@ fn is_one_of(name: &[u8], parameters: &[Parameter]) -> bool
     false
 }
 
-/// Whether a name is of a parameter of a collective call.
-fn is_collective(name: &[u8], kind: Kind) -> bool
-    ensures { result ≡ is_named_in (collective_parameters kind) name.now }
+/// The parameters that a call of a function is read by: those of its row, and those that tell how it returned.
+fn looked_parameters(function: Function) -> &'static [Parameter]
+    ensures { result.now ≡ looked_parameters function }
 {
-    if kind.has_root() {
-        is_one_of(name, &[Parameter::Root, Parameter::Comm])
-    } else {
-        is_one_of(name, &[Parameter::Comm])
+    match function {
+        Function::Send(_) => &[Count, Datatype, Dest, Tag, Comm],
+        Function::Isend(_) | Function::SendInit(_) => &[Count, Datatype, Dest, Tag, Comm, Request],
+        Function::Recv => &[Count, Datatype, Source, Tag, Comm, Status],
+        Function::Irecv | Function::RecvInit => &[Count, Datatype, Source, Tag, Comm, Request],
+        Function::Sendrecv => &[
+            SendCount, SendType, Dest, SendTag, RecvCount, RecvType, Source, RecvTag, Comm, Status,
+        ],
+        Function::SendrecvReplace => &[
+            Count, Datatype, Dest, SendTag, Source, RecvTag, Comm, Status,
+        ],
+        Function::Probe | Function::Mprobe => &[Source, Tag, Comm, Status],
+        Function::Improbe => &[Source, Tag, Comm, Flag, Status],
+        Function::Wait => &[Request, Status],
+        Function::Waitall => &[Requests, Statuses],
+        Function::Waitany => &[Requests, Index, Status],
+        Function::Waitsome | Function::Testsome => &[Requests, Indices, Statuses],
+        Function::Test => &[Request, Flag, Status],
+        Function::Testall => &[Requests, Flag, Statuses],
+        Function::Testany => &[Requests, Flag, Index, Status],
+        Function::Cancel | Function::Free | Function::Start | Function::Imrecv => &[Request],
+        Function::Startall => &[Requests],
+        Function::Collective(kind) if kind.has_root() => &[Root, Comm],
+        Function::Collective(_) => &[Comm],
+        Function::Icollective(kind) if kind.has_root() => &[Request, Root, Comm],
+        Function::Icollective(_) => &[Request, Comm],
+        Function::Unread | Function::Finalize | Function::Other => &[],
     }
 }
 
@@ -37,134 +62,7 @@ fn is_collective(name: &[u8], kind: Kind) -> bool
 fn is_looked_at(function: Function, name: &[u8]) -> bool
     ensures { result ≡ is_named_in (looked_parameters function) name.now }
 {
-    match function {
-        Function::Send(_) => is_one_of(
-            name,
-            &[
-                Parameter::Count,
-                Parameter::Datatype,
-                Parameter::Dest,
-                Parameter::Tag,
-                Parameter::Comm,
-            ],
-        ),
-        Function::Isend(_) | Function::SendInit(_) => is_one_of(
-            name,
-            &[
-                Parameter::Count,
-                Parameter::Datatype,
-                Parameter::Dest,
-                Parameter::Tag,
-                Parameter::Comm,
-                Parameter::Request,
-            ],
-        ),
-        Function::Recv => is_one_of(
-            name,
-            &[
-                Parameter::Count,
-                Parameter::Datatype,
-                Parameter::Source,
-                Parameter::Tag,
-                Parameter::Comm,
-                Parameter::Status,
-            ],
-        ),
-        Function::Irecv | Function::RecvInit => is_one_of(
-            name,
-            &[
-                Parameter::Count,
-                Parameter::Datatype,
-                Parameter::Source,
-                Parameter::Tag,
-                Parameter::Comm,
-                Parameter::Request,
-            ],
-        ),
-        Function::Sendrecv => is_one_of(
-            name,
-            &[
-                Parameter::SendCount,
-                Parameter::SendType,
-                Parameter::Dest,
-                Parameter::SendTag,
-                Parameter::RecvCount,
-                Parameter::RecvType,
-                Parameter::Source,
-                Parameter::RecvTag,
-                Parameter::Comm,
-                Parameter::Status,
-            ],
-        ),
-        Function::SendrecvReplace => is_one_of(
-            name,
-            &[
-                Parameter::Count,
-                Parameter::Datatype,
-                Parameter::Dest,
-                Parameter::SendTag,
-                Parameter::Source,
-                Parameter::RecvTag,
-                Parameter::Comm,
-                Parameter::Status,
-            ],
-        ),
-        Function::Probe | Function::Mprobe => is_one_of(
-            name,
-            &[
-                Parameter::Source,
-                Parameter::Tag,
-                Parameter::Comm,
-                Parameter::Status,
-            ],
-        ),
-        Function::Improbe => is_one_of(
-            name,
-            &[
-                Parameter::Source,
-                Parameter::Tag,
-                Parameter::Comm,
-                Parameter::Flag,
-                Parameter::Status,
-            ],
-        ),
-        Function::Wait => is_one_of(name, &[Parameter::Request, Parameter::Status]),
-        Function::Waitall => is_one_of(name, &[Parameter::Requests, Parameter::Statuses]),
-        Function::Waitany => is_one_of(
-            name,
-            &[Parameter::Requests, Parameter::Index, Parameter::Status],
-        ),
-        Function::Waitsome | Function::Testsome => is_one_of(
-            name,
-            &[Parameter::Requests, Parameter::Indices, Parameter::Statuses],
-        ),
-        Function::Test => is_one_of(
-            name,
-            &[Parameter::Request, Parameter::Flag, Parameter::Status],
-        ),
-        Function::Testall => is_one_of(
-            name,
-            &[Parameter::Requests, Parameter::Flag, Parameter::Statuses],
-        ),
-        Function::Testany => is_one_of(
-            name,
-            &[
-                Parameter::Requests,
-                Parameter::Flag,
-                Parameter::Index,
-                Parameter::Status,
-            ],
-        ),
-        Function::Cancel | Function::Free | Function::Start | Function::Imrecv => {
-            is_one_of(name, &[Parameter::Request])
-        }
-        Function::Startall => is_one_of(name, &[Parameter::Requests]),
-        Function::Collective(kind) => is_collective(name, kind),
-        Function::Icollective(kind) => {
-            is(name, Parameter::Request.name()) || is_collective(name, kind)
-        }
-        Function::Unread | Function::Finalize | Function::Other => false,
-    }
+    is_one_of(name, looked_parameters(function))
 }
 
 /// What a call's function has a use for is kept: the first parameter of each name that the call is read by.
