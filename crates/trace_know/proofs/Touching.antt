@@ -5,9 +5,10 @@ use Rattle.std.specs.VecDeque.{deque_capacity}
 use Rattle.trace_know.specs.declared.cell.Known.{Known}
 use Rattle.trace_know.specs.declared.run.Run.{Run}
 use Rattle.trace_know.specs.Among.{AreTouched, Each, IfAt, IsReached}
-use Rattle.trace_know.specs.Runs.{spot, end_place, start_of, end_of, IsFilled, IsAlike, Above, last_end}
-use Rattle.trace_know.specs.Touching.{GoesInto, IsNoLonger, Touches}
-use Rattle.trace_know.proofs.Order.{filled, same-rank, ends-rise, starts-rise, taken_below}
+use Rattle.trace_know.specs.Runs.{of_run, spot, end_place, start_of, end_of, IsFilled, IsAlike, Above, last_end}
+use Rattle.trace_know.specs.Touching.{CanTakeIn, GoesInto, IsNoLonger, TakesIn, Touches}
+use Rattle.trace_know.specs.View.{View, join}
+use Rattle.trace_know.proofs.Order.{counted-alike, filled, same-rank, ends-rise, starts-rise, taken_below, view-alike}
 
 -- ---- a run of the list, under the name that the code has for it
 
@@ -71,6 +72,29 @@ reached-alike from to piece one other same r =
     let low = r.low in
     let high = r.high in
     record { ranked = omega arith; touches = (omega arith, omega arith); low = omega arith; high = omega arith }
+
+-- a run that can take in a piece can so with other memory too
+pub can-take-alike : (piece one other : Run) → IsAlike one other → CanTakeIn piece other → CanTakeIn piece one
+can-take-alike piece one other same can =
+    let cells : length one.cells.items ≡ length other.cells.items = ap (λ (ks : List Known). length ks) same.cells in
+    let first = same.first in
+    let touches = can.touches in
+    record { rank = can.rank ∙ sym same.rank; touches = (omega arith, omega arith); places = can.places; counted = counted-alike one other same can.counted }
+
+-- what took in a piece with other memory took it in
+pub taken-alike : (piece one other new : Run) → IsAlike one other → TakesIn piece one new → TakesIn piece other new
+taken-alike piece one other new same taken =
+    let cells : length one.cells.items ≡ length other.cells.items = ap (λ (ks : List Known). length ks) same.cells in
+    let at = same.first in
+    let first = taken.first in
+    let end = taken.end in
+    record {
+      view = taken.view ∙ ap (λ (v : View). join v (of_run piece)) (view-alike one other same);
+      rank = taken.rank ∙ same.rank;
+      first = omega arith;
+      end = omega arith;
+      counted = taken.counted;
+    }
 
 -- ---- a base that runs go into
 

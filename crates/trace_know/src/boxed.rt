@@ -1,12 +1,15 @@
 //! A run as it stands in a list: in memory of its own, so that what moves is a pointer.
+//!
+//! In a contract a boxed run is the run. So `absorb`, `extend`, `fill` and `give_back` have the clauses of those of the
+//! same name in `run`: they open the box, which a list of pointers asks for, and hand on.
 
-ghost use Rattle.std.specs.Prelude.{◌≡◌, ◌+◌, ◌<◌, ◌≤◌, length, min, max, slice_index_or, map, [], IfOk, IfErr, OnOk, OnErr, vec_len, vec_capacity};
+ghost use Rattle.std.specs.Prelude.{◌≡◌, ◌+◌, ◌<◌, ◌≤◌, length, slice_index_or, map, [], IfOk, IfErr, OnOk, OnErr, vec_len, vec_capacity};
 ghost use Rattle.std.specs.VecDeque.{deque_capacity};
 ghost use Rattle.trace_know.specs.declared.segment.TheConstants.{PLACES};
 ghost use Rattle.trace_know.specs.View.{join};
 ghost use Rattle.trace_know.specs.Rows.{single};
 ghost use Rattle.trace_know.specs.Runs.{of_run, end_place, IsAlike, IsCounted, conflicts_among};
-ghost use Rattle.trace_know.specs.Touching.{FitTogether, IsNoLonger, Touches};
+ghost use Rattle.trace_know.specs.Touching.{CanTakeIn, FitTogether, IsNoLonger, TakesIn};
 ghost use Rattle.trace_know.specs.declared.cell.Known.TheVariants.{One};
 
 use crate::cell::Known;
@@ -135,18 +138,11 @@ impl BoxedRun {
 /// Takes all that another piece of the same rank has. The piece is no longer than the run, and
 /// touches or overlaps it.
 pub(crate) fn absorb(run: &mut BoxedRun, piece: BoxedRun)
-    requires rank { piece.rank ≡ run.old.rank }
-    requires touches { Touches piece run.old }
+    requires piece { CanTakeIn piece run.old }
     requires shorter { IsNoLonger piece run.old }
     requires room { FitTogether (deque_capacity run.old.cells) piece run.old }
-    requires ends { (end_place run.old ≤ PLACES) × (end_place piece ≤ PLACES) }
-    requires counted { IsCounted run.old }
-    ensures view { of_run run.new ≡ join (of_run run.old) (of_run piece) }
-    ensures rank { run.new.rank ≡ run.old.rank }
-    ensures first { run.new.first ≡ min run.old.first piece.first }
-    ensures end { end_place run.new ≡ max (end_place run.old) (end_place piece) }
+    ensures taken { TakesIn piece run.old run.new }
     ensures capacity { deque_capacity run.new.cells ≡ deque_capacity run.old.cells }
-    ensures counted { IsCounted run.new }
 {
     run::absorb(&mut run.run, piece.into_run())
 }
@@ -154,16 +150,10 @@ pub(crate) fn absorb(run: &mut BoxedRun, piece: BoxedRun)
 /// Gives the run room for a piece that it touches, and takes all that the piece has. At `Err` the
 /// run has what it had, and the piece comes back.
 pub(crate) fn grow_by(run: &mut BoxedRun, piece: BoxedRun) -> Result<(), BoxedRun>
-    requires rank { piece.rank ≡ run.old.rank }
-    requires touches { Touches piece run.old }
+    requires piece { CanTakeIn piece run.old }
     requires shorter { IsNoLonger piece run.old }
-    requires ends { (end_place run.old ≤ PLACES) × (end_place piece ≤ PLACES) }
-    requires counted { IsCounted run.old }
-    ensures ok { OnOk result (of_run run.new ≡ join (of_run run.old) (of_run piece)) }
-    ensures rank { run.new.rank ≡ run.old.rank }
-    ensures first { OnOk result (run.new.first ≡ min run.old.first piece.first) }
-    ensures end { OnOk result (end_place run.new ≡ max (end_place run.old) (end_place piece)) }
-    ensures counted { IsCounted run.new }
+    requires end { end_place run.old ≤ PLACES }
+    ensures ok { OnOk result (TakesIn piece run.old run.new) }
     ensures err { OnErr result (IsAlike run.new run.old) }
     ensures back { IfErr result (λ b. b ≡ piece) }
 {

@@ -1,6 +1,6 @@
 //! A run: cells of one rank without a gap, and how it takes in another.
 
-ghost use Rattle.std.specs.Prelude.{◌≡◌, ◌+◌, ◌-◌, ◌<◌, ◌≤◌, ◌++◌, length, min, max, true, false, IfOk, OnOk, OnErr, IsTrue, IsFalse, slice_set, slice_index_or, map, [], ◌∷◌, vec_len, vec_capacity};
+ghost use Rattle.std.specs.Prelude.{◌≡◌, ◌+◌, ◌-◌, ◌<◌, ◌≤◌, ◌++◌, length, max, true, false, IfOk, OnOk, OnErr, IsTrue, IsFalse, slice_set, slice_index_or, map, [], ◌∷◌, vec_len, vec_capacity};
 ghost use Rattle.std.specs.VecDeque.{deque_len, deque_capacity};
 ghost use Rattle.trace_know.specs.declared.cell.Known.{Known as KnownValue};
 ghost use Rattle.trace_know.specs.declared.cell.Known.TheVariants.{Contradiction, One};
@@ -9,7 +9,7 @@ ghost use Rattle.trace_know.specs.Cell.{join_known, is_contradiction};
 ghost use Rattle.trace_know.specs.View.{join};
 ghost use Rattle.trace_know.specs.Rows.{single};
 ghost use Rattle.trace_know.specs.Runs.{of_run, end_place, IsAlike, IsCounted, conflicts_among, ends_prefix, sound_among};
-ghost use Rattle.trace_know.specs.Touching.{FitTogether, IsNoLonger, Touches};
+ghost use Rattle.trace_know.specs.Touching.{CanTakeIn, FitTogether, IsNoLonger, TakesIn, Touches};
 
 use crate::cell::{Known, enters_unread};
 use mpi_model::Event;
@@ -180,18 +180,11 @@ fn meet_back(run: &mut Run, at: usize, known: Known)
 /// Takes all that another piece of the same rank has. The piece is no longer than the run, and
 /// touches or overlaps it.
 pub(crate) fn absorb(run: &mut Run, piece: Run)
-    requires rank { piece.rank ≡ run.old.rank }
-    requires touches { Touches piece run.old }
+    requires piece { CanTakeIn piece run.old }
     requires shorter { IsNoLonger piece run.old }
     requires room { FitTogether (deque_capacity run.old.cells) piece run.old }
-    requires ends { (end_place run.old ≤ PLACES) × (end_place piece ≤ PLACES) }
-    requires counted { IsCounted run.old }
-    ensures view { of_run run.new ≡ join (of_run run.old) (of_run piece) }
-    ensures rank { run.new.rank ≡ run.old.rank }
-    ensures first { run.new.first ≡ min run.old.first piece.first }
-    ensures end { end_place run.new ≡ max (end_place run.old) (end_place piece) }
+    ensures taken { TakesIn piece run.old run.new }
     ensures capacity { deque_capacity run.new.cells ≡ deque_capacity run.old.cells }
-    ensures counted { IsCounted run.new }
 {
     if piece.first >= run.first {
         absorb_back(run, piece);
@@ -216,17 +209,11 @@ pub(crate) fn make_room(run: &mut Run, piece: &Run) -> Result<(), AllocError>
 
 /// Joins a piece that begins within the run, or right behind it, and for which there is room.
 fn absorb_back(run: &mut Run, piece: Run)
-    requires rank { piece.rank ≡ run.old.rank }
-    requires touches { (run.old.first ≤ piece.first) × (piece.first ≤ end_place run.old) }
+    requires piece { CanTakeIn piece run.old }
+    requires begins { run.old.first ≤ piece.first }
     requires room { end_place piece ≤ run.old.first + deque_capacity run.old.cells }
-    requires ends { end_place piece ≤ PLACES }
-    requires counted { IsCounted run.old }
-    ensures view { of_run run.new ≡ join (of_run run.old) (of_run piece) }
-    ensures rank { run.new.rank ≡ run.old.rank }
-    ensures first { run.new.first ≡ run.old.first }
-    ensures end { end_place run.new ≡ max (end_place run.old) (end_place piece) }
+    ensures taken { TakesIn piece run.old run.new }
     ensures capacity { deque_capacity run.new.cells ≡ deque_capacity run.old.cells }
-    ensures counted { IsCounted run.new }
 {
     let mut cells = piece.cells;
     let mut at = (piece.first - run.first) as usize;
@@ -238,18 +225,12 @@ fn absorb_back(run: &mut Run, piece: Run)
 
 /// Joins a piece that begins no later than the run and ends within it, or right before it.
 fn absorb_front(run: &mut Run, piece: Run)
-    requires rank { piece.rank ≡ run.old.rank }
-    requires touches { (piece.first ≤ run.old.first) × (run.old.first ≤ end_place piece) }
-    requires inside { end_place piece ≤ end_place run.old }
+    requires piece { CanTakeIn piece run.old }
+    requires begins { piece.first ≤ run.old.first }
+    requires ends { end_place piece ≤ end_place run.old }
     requires room { end_place run.old ≤ piece.first + deque_capacity run.old.cells }
-    requires ends { end_place piece ≤ PLACES }
-    requires counted { IsCounted run.old }
-    ensures view { of_run run.new ≡ join (of_run run.old) (of_run piece) }
-    ensures rank { run.new.rank ≡ run.old.rank }
-    ensures first { run.new.first ≡ piece.first }
-    ensures end { end_place run.new ≡ end_place run.old }
+    ensures taken { TakesIn piece run.old run.new }
     ensures capacity { deque_capacity run.new.cells ≡ deque_capacity run.old.cells }
-    ensures counted { IsCounted run.new }
 {
     let mut cells = piece.cells;
     let mut place = piece.first + cells.len() as u64;
