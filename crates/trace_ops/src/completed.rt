@@ -150,6 +150,7 @@ pub(crate) fn place_at(call: &Call, outs: Option<&Outs>, place: usize) -> Option
 }
 
 /// Adds the item at the end, where there is one.
+#[inline(always)]
 pub(crate) fn push_some<T: Drop>(list: &mut Vec<T>, item: Option<T>) -> Result<(), AllocError>
     ensures { OnOk result (list.new.items ≡ list.old.items ++ cons_option item []) }
 {

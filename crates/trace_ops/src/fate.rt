@@ -35,6 +35,7 @@ fn told_at(members: &[u32], x: i64, completed: Option<Completed>) -> Option<u32>
 }
 
 /// What the completions from a place on tell of the number.
+#[inline(always)]
 fn told_in(members: &[u32], x: i64, called: &Called<'_>, first: usize) -> Option<u32>
     ensures { result ≡ told_in members.now x (completed_in (drop first (places_by called.now))) }
 {
@@ -89,6 +90,7 @@ fn called_at<'a>(calls: &'a Calls<'_>, n: usize) -> Option<Called<'a>>
 }
 
 /// What the completions of the call that ends a number tell of it.
+#[inline(always)]
 fn tellings_of(members: &[u32], x: i64, calls: &Calls<'_>, end: Option<End>) -> Option<u32>
     ensures { result ≡ told_in members.now x (tellings_of calls.now end) }
 {
@@ -129,6 +131,7 @@ pub(crate) fn fate_of<'a>(
 }
 
 /// What is told of the source of an Irecv, by the fate of its request.
+#[inline(always)]
 pub(crate) fn told_of_post(members: &[u32], fate: Option<Fate<'_>>) -> Option<u32>
     ensures { OfFate fate.entry (λ later posted. result ≡ told_of_post members.now later posted) }
 {
@@ -137,6 +140,7 @@ pub(crate) fn told_of_post(members: &[u32], fate: Option<Fate<'_>>) -> Option<u3
 }
 
 /// The call whose outcome completes an Irecv, by the fate of its request.
+#[inline(always)]
 pub(crate) fn ended_of_post(fate: Option<Fate<'_>>) -> Option<u64>
     ensures { OfFate fate.entry (λ later posted. result ≡ ended_of_post later posted) }
 {

@@ -65,6 +65,7 @@ fn ends_at(call: usize, place: usize) -> Touch
 }
 
 /// Notes the number that a place of the call completes.
+#[inline(always)]
 fn note_end(
     touched: &mut Touched,
     call: usize,
