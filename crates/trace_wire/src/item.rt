@@ -11,7 +11,7 @@ use crate::write::sink::Sink;
 use mpi_model::{Element, Told};
 
 /// What can stand in a counted list of a frame.
-pub(crate) trait Item: Drop {
+pub(crate) trait FrameItem: Drop {
     ghost form: { Form Self };
 
     /// The value in front of bytes, and the bytes after it.
@@ -23,7 +23,7 @@ pub(crate) trait Item: Drop {
         ensures { Sends (S.page out.old) (S.page out.new) (form.spell self.now) };
 }
 
-impl Item for i64 {
+impl FrameItem for i64 {
     ghost form = { signed };
 
     fn read(bytes: &[u8]) -> Result<(i64, &[u8]), FieldFault> {
@@ -35,7 +35,7 @@ impl Item for i64 {
     }
 }
 
-impl Item for Told {
+impl FrameItem for Told {
     ghost form = { told };
 
     fn read(bytes: &[u8]) -> Result<(Told, &[u8]), FieldFault> {
@@ -47,7 +47,7 @@ impl Item for Told {
     }
 }
 
-impl Item for Element {
+impl FrameItem for Element {
     ghost form = { element };
 
     fn read(bytes: &[u8]) -> Result<(Element, &[u8]), FieldFault> {

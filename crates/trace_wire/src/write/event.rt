@@ -7,7 +7,7 @@ ghost use Rattle.trace_wire.specs.Fields.{stamp};
 ghost use Rattle.trace_wire.specs.Events.{call_code, call_fields, event_bytes, icollective_code, outs_code, outs_fields};
 ghost use Rattle.trace_wire.specs.Sending.{Sends};
 
-use crate::item::Item;
+use crate::item::FrameItem;
 use crate::kind::is_barrier;
 use crate::write::field::{
     put_byte, put_collective, put_envelope, put_exchange, put_flag, put_i64, put_icollective,
@@ -17,7 +17,7 @@ use crate::write::sink::Sink;
 use mpi_model::{Call, Event, Kind, Outs, Stamp};
 
 /// Items one after another.
-fn put_items<T: Item, S: Sink>(out: &mut S, items: &[T])
+fn put_items<T: FrameItem, S: Sink>(out: &mut S, items: &[T])
     ensures { Sends (S.page out.old) (S.page out.new) (flat_map T.form.spell items.now) }
 {
     for item in items {
@@ -26,7 +26,7 @@ fn put_items<T: Item, S: Sink>(out: &mut S, items: &[T])
 }
 
 /// A count and the items.
-fn put_list<T: Item, S: Sink>(out: &mut S, items: &[T])
+fn put_list<T: FrameItem, S: Sink>(out: &mut S, items: &[T])
     requires { length items.now < 2 ^ 32 }
     ensures { Sends (S.page out.old) (S.page out.new) ((list T.form).spell items.now) }
 {

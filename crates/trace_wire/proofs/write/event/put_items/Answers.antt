@@ -7,4 +7,4 @@ loop-item-init g c = nothing _
 
 pub loop-item-preserved : goal.loop-item-preserved
 loop-item-preserved g c =
-    reads (then c.loop-item.invariant c.put.ensures) (sym (one_more_item g.T.Item.form.spell c.args.items.now c.loop-item.item-index c.item-item.result c.loop-item-test.true c.item-item.is))
+    reads (then c.loop-item.invariant c.put.ensures) (sym (one_more_item g.T.FrameItem.form.spell c.args.items.now c.loop-item.item-index c.item-item.result c.loop-item-test.true c.item-item.is))

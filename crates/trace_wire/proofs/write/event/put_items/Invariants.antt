@@ -4,4 +4,4 @@ use Rattle.trace_wire.specs.Sending.{Sends}
 use Rattle.trace_wire.proofs.write.event.put_items.Given as goal
 
 abbrev pub invariant-loop-item : goal.invariant-loop-item
-invariant-loop-item g l = Sends (g.S.Sink.page l.fn.out) (g.S.Sink.page l.out) (flat_map g.T.Item.form.spell (take l.item-index l.items))
+invariant-loop-item g l = Sends (g.S.Sink.page l.fn.out) (g.S.Sink.page l.out) (flat_map g.T.FrameItem.form.spell (take l.item-index l.items))
