@@ -1,6 +1,7 @@
 -- The matchings that MPI leaves open, and how a run can go on (MPI 4.0, 3.5: order and progress; 3.8.4: Cancel; 3.9:
 -- Startall).
-use Rattle.std.specs.Prelude.{◌≡◌, ◌≢◌, true, false, List, ◌⊎◌}
+use Rattle.std.specs.Prelude.{◌≡◌, ◌≢◌, Bool, true, false, List, ◌⊎◌}
+use Rattle.mpi_model.specs.declared.event.OpName.{OpName}
 use Rattle.mpi_model.specs.declared.message.Message.{Message}
 use Rattle.mpi_model.specs.declared.message.Receive.{Receive}
 use Rattle.mpi_model.specs.Fit.{fits}
@@ -51,6 +52,18 @@ pub record IsLegalBeside (after : After) (ms : List Message) (qs : List Receive)
   pub not_after : (m : Message) (q : Receive) → Has ms m → Has qs q → Couple m q → after m q ≡ false
   pub progress : (m : Message) (q : Receive) → Has ms m → Has qs q → fits m q ≡ true → (Couple m q → ⊥) → (Unsent m → ⊥) → (Unposted q → ⊥)
       → IsTaken ms qs Couple m q ⊎ MayBeGivenBack after qs m q
+
+-- The relation of calls says that the message and the receive are a couple.
+abbrev pub IsCoupledBy : (OpName → OpName → Bool) → Message → Receive → Type 0
+IsCoupledBy couple = λ m q. couple m.name q.name ≡ true
+
+-- The message is doubtful, and in no couple.
+abbrev pub IsLeftUnsent : List Receive → (OpName → OpName → Bool) → Message → Type 0
+IsLeftUnsent qs couple = λ m. (is_doubtful m.trust ≡ true) × (SomeOf qs (λ r. couple m.name r.name ≡ true) → ⊥)
+
+-- The receive is doubtful, and in no couple.
+abbrev pub IsLeftUnposted : List Message → (OpName → OpName → Bool) → Receive → Type 0
+IsLeftUnposted ms couple = λ q. (is_doubtful q.trust ≡ true) × (SomeOf ms (λ n. couple n.name q.name ≡ true) → ⊥)
 
 -- A continuation: each rank goes on from what it did. Nothing comes in before the calls that there were or beside their
 -- parts, a source that was told stays as it is, what is void stays void, what is sure stays sure wherever it stands again

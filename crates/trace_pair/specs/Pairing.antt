@@ -66,3 +66,23 @@ pub record Obeys (after : After) (ms : List Message) (qs : List Receive) (P : Me
 -- the receive that takes the message
 abbrev pub receive_of : After → List Message → List Receive → Message → Option Receive
 receive_of after ms qs m = find (paired after ms qs m) qs
+
+-- Each pair obeys the rules.
+abbrev pub PairsObey : After → List Message → List Receive → Type 0
+PairsObey after ms qs = (m : Message) (q : Receive) → Paired after ms qs m q → Obeys after ms qs (Paired after ms qs) m q
+
+-- What obeys the rules is a pair.
+abbrev pub WhatObeysIsPaired : After → List Message → List Receive → Type 0
+WhatObeysIsPaired after ms qs = (m : Message) (q : Receive) → Obeys after ms qs (Paired after ms qs) m q → Paired after ms qs m q
+
+-- Two relations say the same of all these messages and receives.
+abbrev pub AgreeOn : List Message → List Receive → (Message → Receive → Bool) → (Message → Receive → Bool) → Type 0
+AgreeOn ms qs one other = (m : Message) (q : Receive) → Has ms m → Has qs q → one m q ≡ other m q
+
+-- No message is paired with two receives.
+abbrev pub HaveOneReceive : After → List Message → List Receive → Type 0
+HaveOneReceive after ms qs = (m : Message) (q r : Receive) → Has ms m → Has qs q → Has qs r → Paired after ms qs m q → Paired after ms qs m r → q ≡ r
+
+-- No receive is paired with two messages.
+abbrev pub HaveOneMessage : After → List Message → List Receive → Type 0
+HaveOneMessage after ms qs = (m n : Message) (q : Receive) → Has ms m → Has ms n → Has qs q → Paired after ms qs m q → Paired after ms qs n q → m ≡ n

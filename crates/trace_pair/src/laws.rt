@@ -5,54 +5,50 @@ ghost use Rattle.std.specs.List.{AllZip};
 ghost use Rattle.mpi_model.specs.declared.event.OpName.{OpName};
 ghost use Rattle.mpi_model.specs.declared.message.Message.{Message};
 ghost use Rattle.mpi_model.specs.declared.message.Receive.{Receive};
-ghost use Rattle.mpi_model.specs.Trusts.{is_doubtful};
-ghost use Rattle.trace_ops.specs.Ops.{Ops, AreOwn, Grows, SameSend, TellsMore};
-ghost use Rattle.trace_ops.specs.Order.{Has};
-ghost use Rattle.trace_pair.specs.After.{comes_after};
+ghost use Rattle.trace_ops.specs.Ops.{Ops, AreOwn, Grows};
 ghost use Rattle.trace_pair.specs.Calls.{AreApart, ArePostedApart};
-ghost use Rattle.trace_pair.specs.Certainty.{AreAllSettled, AreCertain, AreLegal, AreNoneAfter, AreTheOnlyLegal};
-ghost use Rattle.trace_pair.specs.Pairing.{After, paired, obeys, Paired, Obeys};
-ghost use Rattle.trace_pair.specs.Matching.{Continues, IsLegal, IsLegalBeside, SomeOf};
-ghost use Rattle.trace_pair.specs.Table.{receives_of, sends_of, table_of};
+ghost use Rattle.trace_pair.specs.Certainty.{AreAllSettled, AreCertain, AreLegalIfSettled, AreTheOnlyLegal, PairsAreCertain, StaysAfter, WasAfter};
+ghost use Rattle.trace_pair.specs.Pairing.{After, AgreeOn, HaveOneMessage, HaveOneReceive, PairsObey, WhatObeysIsPaired, obeys, paired};
+ghost use Rattle.trace_pair.specs.Matching.{IsCoupledBy, IsLeftUnposted, IsLeftUnsent, IsLegal, IsLegalBeside};
+ghost use Rattle.trace_pair.specs.Table.{table_of};
 ghost use Rattle.trace_pair.specs.Worked.{Over, AnyTag, Hidden, ToldLater, InOrder, CutBack, Exchanged, Interleaved, Freed, TwoCommunicators, CancelledReceive, ToldCancelled, CancelledMessage, BehindABarrier, NotBehindABarrier, OfAnotherBarrier, BehindTheEnd, NotBehindTheEnd, PartsByTag, PartsInAnyOrder, PartBehindPart, OpenPart, GivenBack};
 
 /// A pair obeys the five rules, what obeys them is a pair, and no other relation obeys them. Each
 /// message has at most one receive, and each receive at most one message.
 pub fn pairs_are_the_rules()
-    ensures rules { (after : After) (ms : List Message) (qs : List Receive) (m : Message) (q : Receive) → Paired after ms qs m q → Obeys after ms qs (Paired after ms qs) m q }
-    ensures all { (after : After) (ms : List Message) (qs : List Receive) (m : Message) (q : Receive) → Obeys after ms qs (Paired after ms qs) m q → Paired after ms qs m q }
-    ensures only { (after : After) (ms : List Message) (qs : List Receive) (other : Message → Receive → Bool) → ((m : Message) (q : Receive) → Has ms m → Has qs q → other m q ≡ obeys after ms qs other m q)
-        → (m : Message) (q : Receive) → Has ms m → Has qs q → other m q ≡ paired after ms qs m q }
-    ensures one_receive { (after : After) (ms : List Message) (qs : List Receive) → ArePostedApart qs → (m : Message) (q r : Receive) → Has ms m → Has qs q → Has qs r → Paired after ms qs m q → Paired after ms qs m r → q ≡ r }
-    ensures one_message { (after : After) (ms : List Message) (qs : List Receive) → AreApart ms → (m n : Message) (q : Receive) → Has ms m → Has ms n → Has qs q → Paired after ms qs m q → Paired after ms qs n q → m ≡ n }
+    ensures rules { (after : After) (ms : List Message) (qs : List Receive) → PairsObey after ms qs }
+    ensures all { (after : After) (ms : List Message) (qs : List Receive) → WhatObeysIsPaired after ms qs }
+    ensures only { (after : After) (ms : List Message) (qs : List Receive) (other : Message → Receive → Bool)
+        → AgreeOn ms qs other (obeys after ms qs other) → AgreeOn ms qs other (paired after ms qs) }
+    ensures one_receive { (after : After) (ms : List Message) (qs : List Receive)
+        → ArePostedApart qs → HaveOneReceive after ms qs }
+    ensures one_message { (after : After) (ms : List Message) (qs : List Receive)
+        → AreApart ms → HaveOneMessage after ms qs }
 {}
 
 /// Each pair is a couple of every legal matching of every continuation in which no later Cancel names
 /// what is sure.
 pub fn pairs_are_certain()
-    ensures { (after : After) (ms : List Message) (qs : List Receive) (more_after : After) (more_ms : List Message) (more_qs : List Receive) (couple : OpName → OpName → Bool) →
-        Continues after ms qs more_after more_ms more_qs → IsLegal more_after more_ms more_qs (λ m q. couple m.name q.name ≡ true) →
-        (m : Message) (q : Receive) → Has ms m → Has qs q → Paired after ms qs m q → couple m.name q.name ≡ true }
+    ensures { (after : After) (ms : List Message) (qs : List Receive) → PairsAreCertain after ms qs }
 {}
 
 /// A message that comes after a receive does so however the ranks go on; and where it comes to do
 /// so, an outcome completed the receive meanwhile.
 pub fn what_comes_after_stays()
-    ensures stays { (held more : List Ops) → AreOwn 0 held → AreOwn 0 more → AllZip Grows held more
-        → (m n : Message) (q r : Receive) → Has (sends_of held) m → SameSend m n → Has (receives_of held) q → TellsMore q r → comes_after held m q ≡ true → comes_after more n r ≡ true }
-    ensures was { (held more : List Ops) → AreOwn 0 held → AreOwn 0 more → AllZip Grows held more
-        → (m n : Message) (q r : Receive) → Has (sends_of held) m → SameSend m n → Has (receives_of held) q → TellsMore q r → r.ended ≡ q.ended → comes_after more n r ≡ true → comes_after held m q ≡ true }
+    ensures stays { (held more : List Ops) → AreOwn 0 held → AreOwn 0 more → AllZip Grows held more → StaysAfter held more }
+    ensures was { (held more : List Ops) → AreOwn 0 held → AreOwn 0 more → AllZip Grows held more → WasAfter held more }
 {}
 
 /// A matching is legal where, for some doubtful messages and receives that are in no couple, it is
 /// legal as if those were void; and beside a legal one stand all doubtful ones that are in no couple.
 pub fn doubtful_may_stand_outside()
-    ensures legal { (after : After) (ms : List Message) (qs : List Receive) (couple : Message → Receive → Bool) (unsent : Message → Bool) (unposted : Receive → Bool) →
-        IsLegalBeside after ms qs (λ m q. couple m q ≡ true) (λ m. unsent m ≡ true) (λ q. unposted q ≡ true) → IsLegal after ms qs (λ m q. couple m q ≡ true) }
-    ensures beside { (after : After) (ms : List Message) (qs : List Receive) (couple : OpName → OpName → Bool) → IsLegal after ms qs (λ m q. couple m.name q.name ≡ true)
-        → IsLegalBeside after ms qs (λ m q. couple m.name q.name ≡ true)
-        (λ m. (is_doubtful m.trust ≡ true) × (SomeOf qs (λ r. couple m.name r.name ≡ true) → ⊥))
-        (λ q. (is_doubtful q.trust ≡ true) × (SomeOf ms (λ n. couple n.name q.name ≡ true) → ⊥)) }
+    ensures legal { (after : After) (ms : List Message) (qs : List Receive)
+        (couple : Message → Receive → Bool) (unsent : Message → Bool) (unposted : Receive → Bool)
+        → IsLegalBeside after ms qs (λ m q. couple m q ≡ true) (λ m. unsent m ≡ true) (λ q. unposted q ≡ true)
+        → IsLegal after ms qs (λ m q. couple m q ≡ true) }
+    ensures beside { (after : After) (ms : List Message) (qs : List Receive) (couple : OpName → OpName → Bool)
+        → IsLegal after ms qs (IsCoupledBy couple)
+        → IsLegalBeside after ms qs (IsCoupledBy couple) (IsLeftUnsent qs couple) (IsLeftUnposted ms couple) }
 {}
 
 /// What the pairs of a table are worth: each is a couple of every legal matching of every continuation; and
@@ -61,7 +57,7 @@ pub fn doubtful_may_stand_outside()
 /// a pair comes after its receive.
 pub fn tables_are_certain()
     ensures certain { (held : List Ops) → AreOwn 0 held → AreCertain held (table_of held).pairs }
-    ensures legal { (held : List Ops) → AreOwn 0 held → AreAllSettled held → AreNoneAfter held (table_of held).pairs → AreLegal held (table_of held).pairs }
+    ensures legal { (held : List Ops) → AreOwn 0 held → AreLegalIfSettled held (table_of held).pairs }
     ensures only { (held : List Ops) → AreOwn 0 held → AreAllSettled held → AreTheOnlyLegal held (table_of held).pairs }
 {}
 

@@ -2,7 +2,7 @@
 
 ghost use Rattle.std.specs.Prelude.{◌≡◌, IfOk};
 ghost use Rattle.trace_ops.specs.Ops.{AreOwn};
-ghost use Rattle.trace_pair.specs.Certainty.{AreCertain, AreAllSettled, AreLegal, AreNoneAfter, AreTheOnlyLegal};
+ghost use Rattle.trace_pair.specs.Certainty.{AreCertain, AreAllSettled, AreLegalIfSettled, AreTheOnlyLegal};
 ghost use Rattle.trace_pair.specs.Table.{table_of};
 
 use crate::batch::batch_of;
@@ -21,7 +21,7 @@ pub fn pair_all(alloc: Global, ops: &[RankOps]) -> Result<PairTable, AllocError>
     requires own { AreOwn 0 ops.now }
     ensures table { IfOk result (λ table. table ≡ table_of ops.now) }
     ensures certain { IfOk result (λ table. AreCertain ops.now table.pairs) }
-    ensures legal { IfOk result (λ table. AreAllSettled ops.now → AreNoneAfter ops.now table.pairs → AreLegal ops.now table.pairs) }
+    ensures legal { IfOk result (λ table. AreLegalIfSettled ops.now table.pairs) }
     ensures only { IfOk result (λ table. AreAllSettled ops.now → AreTheOnlyLegal ops.now table.pairs) }
 {
     let table = reaches_of(alloc, ops)?;
