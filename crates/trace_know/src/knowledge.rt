@@ -139,7 +139,8 @@ impl Knowledge {
         events: &mut Vec<Event>,
     ) -> Result<(), AllocError>
         requires { IsSegment (placed_events rank first_place events.old.items) }
-        ensures ok { OnOk result (self.new ≡ join self.old (view_of (facts_of (placed_events rank first_place events.old.items)))) }
+        ensures ok { OnOk result (self.new ≡ join self.old
+            (view_of (facts_of (placed_events rank first_place events.old.items)))) }
         ensures err { OnErr result (self.new ≡ self.old) }
         ensures back { OnErr result (events.new.items ≡ events.old.items) }
     {
