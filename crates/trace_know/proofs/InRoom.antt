@@ -1,5 +1,5 @@
 -- Lists of runs, and the chunks that they are kept in.
-use Rattle.std.proofs.Common.{◌≡◌, ℕ, ◌<◌, List, length, sym, ap, subst, ◌∙◌, arith}
+use Rattle.std.proofs.Common.{◌≡◌, ℕ, List, length, sym, ap, ◌∙◌}
 use Rattle.trace_know.specs.declared.run.Run.{Run}
 use Rattle.trace_know.specs.Chunks.{ChunkValue, RunsInRoom, in_chunks, IsPacked}
 use Rattle.trace_know.proofs.Packing.{packed-length}

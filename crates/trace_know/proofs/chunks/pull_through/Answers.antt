@@ -1,10 +1,6 @@
-use Rattle.std.proofs.Common.{◌≡◌, ◌+◌, ◌-◌, ◌*◌, ◌/◌, ◌%◌, ◌<◌, ◌≤◌, ℕ, List, [], ◌∷◌, ◌++◌, length, slice_index_or, slice_set, refl, sym, ap, subst, ◌∙◌, arith}
+use Rattle.std.proofs.Common.{◌≡◌, ◌≤◌, List, [], ◌∷◌, ◌++◌, length, ap, ◌∙◌, arith}
 use Rattle.std.specs.List.{insert, remove}
-use Rattle.std.specs.VecDeque.{deque_capacity}
 use Rattle.trace_know.specs.declared.run.Run.{Run}
-use Rattle.trace_know.specs.declared.chunks.TheConstants.{CHUNK}
-use Rattle.trace_know.specs.Chunks.{ChunkValue, in_chunks, IsPacked}
-use Rattle.trace_know.proofs.Packing.{packed-length, chunk-there, room-there, room-within, chunk-len, chunk-room, item-at, packed-set, packed-more, packed-less, packed-wider, packed-behind, in-behind, in-same, in-item, put-last, taken-last, passed-on, passed-back, put-value, put-rest, put-length, put-below, put-above, less-last}
 use Rattle.std.proofs.lemmas.List.Edits.{insert-append_left, length-remove}
 use Rattle.trace_know.proofs.Packing.{taken-out}
 use Rattle.trace_know.proofs.chunks.pull_through.Goals as goal

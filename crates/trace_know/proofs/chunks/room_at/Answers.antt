@@ -1,7 +1,6 @@
-use Rattle.std.proofs.Common.{◌≡◌, ◌+◌, ◌-◌, ◌*◌, ◌/◌, ◌%◌, ◌<◌, ◌≤◌, ℕ, List, [], ◌∷◌, ◌++◌, length, slice_index_or, slice_set, refl, sym, ap, subst, ◌∙◌, arith}
+use Rattle.std.proofs.Common.{List, length, ap, ◌∙◌}
 use Rattle.trace_know.specs.declared.run.Run.{Run}
-use Rattle.trace_know.specs.Chunks.{ChunkValue, in_chunks, IsPacked}
-use Rattle.trace_know.proofs.Packing.{room-within, packed-set, packed-wider, packed-behind, in-behind, in-same}
+use Rattle.trace_know.proofs.Packing.{packed-set, in-same}
 use Rattle.trace_know.proofs.chunks.room_at.Goals as goal
 
 pub returns-clause-items : goal.returns-clause-items

@@ -1,7 +1,5 @@
-use Rattle.std.proofs.Common.{◌≡◌, ◌+◌, ◌-◌, ◌*◌, ◌/◌, ◌%◌, ◌<◌, ◌≤◌, ℕ, List, [], ◌∷◌, ◌++◌, length, slice_index_or, slice_set, refl, sym, ap, subst, ◌∙◌, arith}
-use Rattle.trace_know.specs.declared.run.Run.{Run}
-use Rattle.trace_know.specs.Chunks.{ChunkValue, in_chunks, IsPacked}
-use Rattle.trace_know.proofs.Packing.{room-within, packed-set, packed-wider, packed-behind, in-behind, in-same}
+use Rattle.std.proofs.Common.{◌+◌, ◌/◌, arith}
+use Rattle.trace_know.proofs.Packing.{room-within, packed-wider}
 use Rattle.trace_know.proofs.chunks.widen.Goals as goal
 
 pub room_at-requires : goal.room_at-requires

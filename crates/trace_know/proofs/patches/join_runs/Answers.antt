@@ -1,6 +1,6 @@
-use Rattle.std.proofs.Common.{◌≡◌, List, [], ◌∷◌, length, sym, subst, ap, ◌∙◌, arith, rules}
+use Rattle.std.proofs.Common.{◌≡◌, List, [], ◌∷◌, length, sym, subst, ap, ◌∙◌, arith}
 use Rattle.trace_know.specs.declared.run.Run.{Run}
-use Rattle.trace_know.specs.Patches.{AddTheSame, AllSettled, Covers}
+use Rattle.trace_know.specs.Patches.{AllSettled, Covers}
 use Rattle.trace_know.specs.Runs.{of_runs}
 use Rattle.trace_know.specs.View.{View, join}
 use Rattle.trace_know.proofs.Covering.{settled-covers}

@@ -1,6 +1,5 @@
 use Rattle.std.proofs.Common.{sym, ap, ◌∙◌}
 use Rattle.std.specs.FinMap.{entries}
-use Rattle.trace_know.specs.Runs.{listed}
 use Rattle.trace_know.proofs.Listing.{entries-listed}
 use Rattle.trace_know.proofs.knowledge.Knowledge.cells.Goals as goal
 

@@ -1,9 +1,7 @@
-use Rattle.std.proofs.Common.{List, sym, ap, ◌∙◌}
+use Rattle.std.proofs.Common.{sym, ap, ◌∙◌}
 use Rattle.std.specs.List.{slice_get}
 use Rattle.std.specs.FinMap.{entries}
-use Rattle.trace_know.specs.declared.run.Run.{Run}
 use Rattle.trace_know.specs.Listing.{conflicts_in}
-use Rattle.trace_know.specs.Runs.{listed}
 use Rattle.trace_know.proofs.Listing.{entries-listed}
 use Rattle.trace_know.proofs.knowledge.Knowledge.conflict.Goals as goal
 

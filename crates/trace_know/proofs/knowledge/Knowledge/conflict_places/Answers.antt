@@ -1,9 +1,7 @@
 use Rattle.std.proofs.Common.{◌≡◌, ℕ, List, sym, ap, subst, ◌∙◌}
 use Rattle.std.specs.Prelude.{IfOk}
 use Rattle.std.specs.FinMap.{entries}
-use Rattle.trace_know.specs.declared.run.Run.{Run}
 use Rattle.trace_know.specs.Listing.{conflicts_in}
-use Rattle.trace_know.specs.Runs.{listed}
 use Rattle.trace_know.proofs.Listing.{entries-listed}
 use Rattle.trace_know.proofs.knowledge.Knowledge.conflict_places.Goals as goal
 

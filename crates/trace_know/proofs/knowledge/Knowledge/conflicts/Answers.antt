@@ -1,8 +1,6 @@
-use Rattle.std.proofs.Common.{◌<◌, ◌^◌, List, length, sym, ap, subst, ◌∙◌, arith}
+use Rattle.std.proofs.Common.{length, sym, ap, ◌∙◌, arith}
 use Rattle.std.specs.FinMap.{entries}
-use Rattle.trace_know.specs.declared.run.Run.{Run}
 use Rattle.trace_know.specs.Listing.{conflicts_in}
-use Rattle.trace_know.specs.Runs.{listed}
 use Rattle.trace_know.proofs.Listing.{len-listed, entries-listed}
 use Rattle.trace_know.proofs.knowledge.Knowledge.conflicts.Goals as goal
 

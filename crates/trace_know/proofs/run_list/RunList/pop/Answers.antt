@@ -1,10 +1,7 @@
 use Rattle.std.proofs.lemmas.List.{get_or_default}
-use Rattle.std.proofs.Common.{◌≡◌, ◌+◌, ◌-◌, ◌*◌, ◌/◌, ◌%◌, ◌<◌, ◌≤◌, ℕ, List, [], ◌∷◌, ◌++◌, length, take, slice_index_or, slice_set, refl, sym, ap, subst, ◌∙◌, arith}
-use Rattle.std.specs.List.{insert, remove}
-use Rattle.trace_know.specs.declared.run.Run.{Run}
-use Rattle.trace_know.specs.Chunks.{ChunkValue, RunsInRoom, in_chunks, IsPacked}
-use Rattle.trace_know.proofs.InRoom.{IsSized, sized}
-use Rattle.trace_know.proofs.Packing.{packed-length, put-value, put-rest, put-length, put-below, put-above, less-last}
+use Rattle.std.proofs.Common.{◌≡◌, ◌-◌, ℕ, length, slice_index_or, ap, ◌∙◌, arith}
+use Rattle.std.specs.List.{remove}
+use Rattle.trace_know.proofs.Packing.{less-last}
 use Rattle.trace_know.proofs.run_list.RunList.pop.Goals as goal
 
 pub returns-clause-items : goal.returns-clause-items

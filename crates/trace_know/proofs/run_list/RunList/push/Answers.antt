@@ -1,9 +1,5 @@
-use Rattle.std.proofs.Common.{◌≡◌, ◌+◌, ◌-◌, ◌*◌, ◌/◌, ◌%◌, ◌<◌, ◌≤◌, ℕ, List, [], ◌∷◌, ◌++◌, length, take, slice_index_or, slice_set, refl, sym, ap, subst, ◌∙◌, arith}
-use Rattle.std.specs.List.{insert, remove}
-use Rattle.trace_know.specs.declared.run.Run.{Run}
-use Rattle.trace_know.specs.Chunks.{ChunkValue, RunsInRoom, in_chunks, IsPacked}
-use Rattle.trace_know.proofs.InRoom.{IsSized, sized}
-use Rattle.trace_know.proofs.Packing.{packed-length, put-value, put-rest, put-length, put-below, put-above, less-last}
+use Rattle.std.proofs.Common.{ℕ, ap, ◌∙◌}
+use Rattle.std.specs.List.{insert}
 use Rattle.std.proofs.lemmas.List.Edits.{insert_end}
 use Rattle.trace_know.proofs.run_list.RunList.push.Goals as goal
 

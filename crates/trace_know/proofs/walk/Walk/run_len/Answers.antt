@@ -1,7 +1,5 @@
-use Rattle.std.proofs.Common.{◌≡◌, ◌+◌, ◌-◌, ◌<◌, ◌∷◌, List, length, drop, sym, ap, subst, ◌∙◌, arith}
-use Rattle.trace_know.specs.declared.run.Run.{Run}
+use Rattle.std.proofs.Common.{◌+◌, ◌<◌, length, drop, sym, ap, ◌∙◌, arith}
 use Rattle.trace_know.specs.Listing.{run_len}
-use Rattle.trace_know.specs.Runs.{IsWalk}
 use Rattle.trace_know.proofs.Behind.{walk-first}
 use Rattle.trace_know.proofs.Listing.{next_run}
 use Rattle.trace_know.proofs.Walks.{walk-ended}
