@@ -46,7 +46,8 @@ fn held_still(held: &Held<'_>, n: u64, given: Option<i64>) -> Option<i64>
 
 /// The numbers that inits hold at the end, by the calls of the inits.
 fn held_of(alloc: Global, held: &Held<'_>, calls: &Calls<'_>) -> Result<Vec<i64>, AllocError>
-    ensures { IfOk result (λ found. (all : List Entry) → Holds all (get int_eq held.now) → found.items ≡ held_of all 0 calls.now) }
+    ensures { IfOk result (λ found. (all : List Entry) → Holds all (get int_eq held.now)
+        → found.items ≡ held_of all 0 calls.now) }
 {
     let mut numbers = Vec::new(alloc);
     for n in 0..calls.len() {

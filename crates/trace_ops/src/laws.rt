@@ -16,7 +16,8 @@ use trace_know::{growth_laws, join_laws};
 /// new ones; sources that were not told may be told now, and a Cancel may come, or what became of
 /// it. Read the other way round it says what becomes of them where the readable events get shorter.
 pub fn ops_laws()
-    ensures own { (layout : Parts) (rank : ℕ) (beyond : Bool) (events : List Event) → IsOwn rank (ops_by layout rank beyond events) }
+    ensures own { (layout : Parts) (rank : ℕ) (beyond : Bool) (events : List Event)
+        → IsOwn rank (ops_by layout rank beyond events) }
     ensures all { (layout : Parts) (view : View) → AreOwn 0 (all_ops layout view) }
     ensures grow { OpsGrow }
 {}

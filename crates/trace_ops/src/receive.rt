@@ -202,7 +202,8 @@ pub(crate) fn receive_in(
     fate: Option<Fate<'_>>,
     given_back: bool,
 ) -> Option<Receive>
-    ensures { OfStep outs.entry fate.entry given_back (λ p. call.now ≡ starting p.step → result ≡ receive_in (plain_group group.entry) name p) }
+    ensures { OfStep outs.entry fate.entry given_back (λ p. call.now ≡ starting p.step
+        → result ≡ receive_in (plain_group group.entry) name p) }
 {
     taken_by(group?, name, call, outs, fate, given_back)
 }
