@@ -9,8 +9,8 @@ use Rattle.dumpi_text.specs.Skips.{IsFirstSkipped, TellsFirstSkipped}
 use Rattle.dumpi_text.specs.Source.{rest_of}
 use Rattle.dumpi_text.specs.Standing.{TextState}
 use Rattle.dumpi_text.specs.Usual.{StandsWhole, call_after}
-use Rattle.dumpi_text.specs.declared.standing.Standing.{Standing}
-use Rattle.dumpi_text.specs.declared.standing.Standing.TheVariants.{Reading, Finished}
+use Rattle.dumpi_text.specs.declared.standing.TextStanding.{TextStanding}
+use Rattle.dumpi_text.specs.declared.standing.TextStanding.TheVariants.{Reading, Finished}
 use Rattle.dumpi_text.specs.declared.step.Position.{Position}
 use Rattle.dumpi_calls.specs.InPlace.{IsWhole, usual_name}
 use Rattle.dumpi_calls.specs.Looked.{looked_choice}
@@ -106,7 +106,7 @@ begins text calls view is_read = elim is_read.stands [ inl e ↦ inl (view.at, r
 
 -- a text that is read on begins with them
 pub still_read : (text : Option (List ℕ)) (calls : List TextCall) (view : TextState) → view.standing ≡ Reading → IsRead text calls view → HasRead text calls view.at (rest_of view.rest)
-still_read text calls view reading is_read = elim is_read.stands [ inl e ↦ e.1 | inr e ↦ (let both : ◌≡◌ {A = Standing} Reading Finished = sym reading ∙ e.0 in cc) ]
+still_read text calls view reading is_read = elim is_read.stands [ inl e ↦ e.1 | inr e ↦ (let both : ◌≡◌ {A = TextStanding} Reading Finished = sym reading ∙ e.0 in cc) ]
 
 -- ---- the next call, read whole or line by line
 

@@ -11,7 +11,7 @@ use Rattle.dumpi_text.specs.Standing.{Stops, TextState}
 use Rattle.dumpi_text.specs.declared.fault.TextCause.TheVariants as causes
 use Rattle.dumpi_text.specs.declared.fault.TextFault.{TextFault}
 use Rattle.dumpi_text.specs.declared.fault.TextFault.TheVariants as faults
-use Rattle.dumpi_text.specs.declared.standing.Standing.TheVariants.{Reading, Finished}
+use Rattle.dumpi_text.specs.declared.standing.TextStanding.TheVariants.{Reading, Finished}
 use Rattle.dumpi_calls.specs.Walks.{FailsAfter, FailsIn, IsRead, IsReadFault}
 
 -- The next call couldn't be read.

@@ -4,7 +4,7 @@ use Rattle.dumpi_text.specs.Call.{TextCall}
 use Rattle.dumpi_calls.specs.Rows.{Row, row_of, typed}
 use Rattle.dumpi_calls.specs.Seen.{Seen, after, seen_by, seen_in, with_seen}
 use Rattle.dumpi_text.specs.Grammar.{start}
-use Rattle.dumpi_text.specs.declared.standing.Standing.TheVariants.{Reading}
+use Rattle.dumpi_text.specs.declared.standing.TextStanding.TheVariants.{Reading}
 use Rattle.dumpi_text.specs.Reading.{StartsUnread}
 use Rattle.dumpi_calls.specs.Walks.{HandedOn, IsRead, IsStopped, Takes, open_line, unfinished_line}
 use Rattle.dumpi_calls.specs.declared.fault.WalkCause.TheVariants.{Memory}

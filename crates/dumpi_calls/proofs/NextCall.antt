@@ -14,21 +14,21 @@ use Rattle.dumpi_text.specs.declared.fault.TextCause.{TextCause}
 use Rattle.dumpi_text.specs.declared.fault.TextCause.TheVariants as causes
 use Rattle.dumpi_text.specs.declared.fault.TextFault.{TextFault}
 use Rattle.dumpi_text.specs.declared.fault.TextFault.TheVariants as faults
-use Rattle.dumpi_text.specs.declared.standing.Standing.{Standing}
-use Rattle.dumpi_text.specs.declared.standing.Standing.TheVariants.{Reading, Finished, Ended}
+use Rattle.dumpi_text.specs.declared.standing.TextStanding.{TextStanding}
+use Rattle.dumpi_text.specs.declared.standing.TextStanding.TheVariants.{Reading, Finished, Ended}
 use Rattle.dumpi_text.specs.declared.step.Position.{Position}
 use Rattle.dumpi_calls.specs.Looked.{looked_choice}
 use Rattle.dumpi_calls.specs.Walks.{Follows, FollowsKept, IsRead, RefusesNext}
 
 -- how a text stands after one call more that no other thread ended
-stands_on : EndsAfterTheLast → (text : Option (List ℕ)) (calls : List TextCall) (standing : Standing) (at : Position) (rest : Option (List ℕ)) → HasRead text calls at rest
+stands_on : EndsAfterTheLast → (text : Option (List ℕ)) (calls : List TextCall) (standing : TextStanding) (at : Position) (rest : Option (List ℕ)) → HasRead text calls at rest
     → (standing ≡ Ended → ⊥) → (standing ≡ Finished → IsAtEnd rest) → ((standing ≡ Reading) × HasRead text calls at rest) ⊎ ((standing ≡ Finished) × MeansAll text calls (Complete at))
 stands_on after_the_last text calls Reading at rest read goes over = inl (refl, read)
 stands_on after_the_last text calls Finished at rest read goes over = inr (refl, after_the_last text calls at rest read (over refl))
 stands_on after_the_last text calls Ended at rest read goes over = absurd (goes refl)
 
 -- how it stands after one that another thread ended
-stands_cut : (text : Option (List ℕ)) (calls : List TextCall) (standing : Standing) (at : Position) (rest : Option (List ℕ)) → MeansAll text calls (Complete at)
+stands_cut : (text : Option (List ℕ)) (calls : List TextCall) (standing : TextStanding) (at : Position) (rest : Option (List ℕ)) → MeansAll text calls (Complete at)
     → (standing ≡ Ended → ⊥) → (standing ≡ Reading → ⊥) → ((standing ≡ Reading) × HasRead text calls at rest) ⊎ ((standing ≡ Finished) × MeansAll text calls (Complete at))
 stands_cut text calls Reading at rest means goes last = absurd (last refl)
 stands_cut text calls Finished at rest means goes last = inr (refl, means)

@@ -12,7 +12,7 @@ use Rattle.dumpi_text.specs.Reading.{HasRead, MeansAll}
 use Rattle.dumpi_text.specs.Skips.{IsFirstSkipped}
 use Rattle.dumpi_text.specs.Source.{rest_of}
 use Rattle.dumpi_text.specs.Standing.{TextState}
-use Rattle.dumpi_text.specs.declared.standing.Standing.TheVariants.{Reading, Finished}
+use Rattle.dumpi_text.specs.declared.standing.TextStanding.TheVariants.{Reading, Finished}
 use Rattle.dumpi_text.specs.declared.fault.LineFault.TheVariants.{Truncated}
 use Rattle.dumpi_text.specs.declared.fault.TextCause.{TextCause}
 use Rattle.dumpi_text.specs.declared.fault.TextCause.TheVariants as causes
