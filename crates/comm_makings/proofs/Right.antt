@@ -8,14 +8,14 @@ use Rattle.comm_makings.specs.declared.calls.RankCalls.{RankCalls}
 use Rattle.comm_makings.specs.declared.group_value.GroupValue.{GroupValue}
 use Rattle.comm_makings.specs.declared.group_value.GroupValue.TheVariants as values
 use Rattle.comm_makings.specs.declared.state.Made.{Made}
-use Rattle.comm_makings.specs.declared.state.Standing.{Standing}
-use Rattle.comm_makings.specs.declared.state.Standing.TheVariants as standings
+use Rattle.comm_makings.specs.declared.state.HandleState.{HandleState}
+use Rattle.comm_makings.specs.declared.state.HandleState.TheVariants as standings
 use Rattle.comm_makings.specs.declared.view.RankView.{RankView}
 use Rattle.comm_makings.proofs.Derivations.{derived_more, derived_none}
 use Rattle.comm_makings.proofs.Lists.{each_more, get_keep, get_last, get_set}
 
 -- No handle stands for a communicator.
-pub stands_set : (row : List Standing) (handle : ℕ) (why : Why) → NoneStands row → NoneStands (set row handle (standings.Left why))
+pub stands_set : (row : List HandleState) (handle : ℕ) (why : Why) → NoneStands row → NoneStands (set row handle (standings.Left why))
 stands_set row handle why none = record {
   each = λ h place e. elim (get_set row handle (standings.Left why) h (standings.Derived place) e) [
     | inl before ↦ none.each h place before
@@ -23,7 +23,7 @@ stands_set row handle why none = record {
   ];
 }
 
-open_at : (count h : ℕ) (s : Standing) → slice_get (replicate count standings.Open) h ≡ Some s → s ≡ standings.Open
+open_at : (count h : ℕ) (s : HandleState) → slice_get (replicate count standings.Open) h ≡ Some s → s ≡ standings.Open
 open_at zero h s e = absurd (cc)
 open_at (suc count) zero s e = cc
 open_at (suc count) (suc h) s e = open_at count h s e
@@ -34,8 +34,8 @@ stands_open count = record { each = λ h place e. let is = open_at count h (stan
 pub stands_none : NoneStandsAt []
 stands_none = record { each = λ rank row e. absurd (cc) }
 
-pub stands_more : (rows : List (Vec Standing Global)) (row : Vec Standing Global) → NoneStandsAt rows → NoneStands row.items → NoneStandsAt (rows ++ row ∷ [])
-stands_more rows row none is = record { each = each_more (λ (v : Vec Standing Global). NoneStands v.items) rows row none.each is }
+pub stands_more : (rows : List (Vec HandleState Global)) (row : Vec HandleState Global) → NoneStandsAt rows → NoneStands row.items → NoneStandsAt (rows ++ row ∷ [])
+stands_more rows row none is = record { each = each_more (λ (v : Vec HandleState Global). NoneStands v.items) rows row none.each is }
 
 pub listed_none : NoneListed []
 listed_none = record { each = λ at value e. absurd (cc) }
@@ -49,7 +49,7 @@ all_listed_none = record { each = λ rank row e. absurd (cc) }
 pub all_listed_more : (rows : List (Vec GroupValue Global)) (row : Vec GroupValue Global) → NoneListedAt rows → NoneListed row.items → NoneListedAt (rows ++ row ∷ [])
 all_listed_more rows row none is = record { each = each_more (λ (v : Vec GroupValue Global). NoneListed v.items) rows row none.each is }
 
-none_at : (rows : List (Vec Standing Global)) → NoneStandsAt rows → (rank handle place : ℕ) (o : Option (Vec Standing Global)) → slice_get rows rank ≡ o
+none_at : (rows : List (Vec HandleState Global)) → NoneStandsAt rows → (rank handle place : ℕ) (o : Option (Vec HandleState Global)) → slice_get rows rank ≡ o
     → option_and_then (λ row. slice_get row.items handle) o ≡ Some (standings.Derived place) → ⊥
 none_at rows none rank handle place None here e = absurd (cc)
 none_at rows none rank handle place (Some row) here e = (none.each rank row here).each handle place e
@@ -62,7 +62,7 @@ module _ (ranks : List RankCalls) (views : List RankView) where
   not_listed comms rank at (values.Listed list) h = absurd h
 
   -- before anything is derived
-  pub right_first : (stand : List (Vec Standing Global)) (rows : List (Vec GroupValue Global)) → NoneStandsAt stand → NoneListedAt rows → IsRight ranks views stand rows []
+  pub right_first : (stand : List (Vec HandleState Global)) (rows : List (Vec GroupValue Global)) → NoneStandsAt stand → NoneListedAt rows → IsRight ranks views stand rows []
   right_first stand rows bare unlisted = record {
     comms_derive = derived_none ranks views;
     handles_named = record { each = λ rank handle place e. absurd (none_at stand bare rank handle place (slice_get stand rank) refl e) };
@@ -79,7 +79,7 @@ module _ (ranks : List RankCalls) (views : List RankView) where
   group_kept comms more rank at (values.Listed list) d = d
 
   -- one more communicator, which its members' handles may name
-  pub right_added : (stand stands : List (Vec Standing Global)) (rows : List (Vec GroupValue Global)) (comms : List Made) (comm : Made)
+  pub right_added : (stand stands : List (Vec HandleState Global)) (rows : List (Vec GroupValue Global)) (comms : List Made) (comm : Made)
       → IsRight ranks views stand rows comms → NamesMembers comm.members.items (length comms) stand stands → IsDerivedComm ranks views comm
       → IsRight ranks views stands rows (comms ++ comm ∷ [])
   right_added stand stands rows comms comm right names derived = record {
@@ -102,12 +102,12 @@ module _ (ranks : List RankCalls) (views : List RankView) where
   }
 
   -- one of the communicators
-  pub right_comm : (stand : List (Vec Standing Global)) (rows : List (Vec GroupValue Global)) (comms : List Made) (at : ℕ) (comm : Made)
+  pub right_comm : (stand : List (Vec HandleState Global)) (rows : List (Vec GroupValue Global)) (comms : List Made) (at : ℕ) (comm : Made)
       → IsRight ranks views stand rows comms → slice_get comms at ≡ Some comm → IsDerivedComm ranks views comm
   right_comm stand rows comms at comm right here = right.comms_derive.each at comm here
 
   -- Handles that are left out name nothing.
-  pub right_left : (stand stands : List (Vec Standing Global)) (rows : List (Vec GroupValue Global)) (comms : List Made)
+  pub right_left : (stand stands : List (Vec HandleState Global)) (rows : List (Vec GroupValue Global)) (comms : List Made)
       → IsRight ranks views stand rows comms → KeepsDerived stand stands → IsRight ranks views stands rows comms
   right_left stand stands rows comms right keeps = record {
     comms_derive = right.comms_derive;
@@ -115,6 +115,6 @@ module _ (ranks : List RankCalls) (views : List RankView) where
     groups_derive = right.groups_derive;
   }
 
-  pub right_refreshed : (stand : List (Vec Standing Global)) (rows new : List (Vec GroupValue Global)) (comms : List Made)
+  pub right_refreshed : (stand : List (Vec HandleState Global)) (rows new : List (Vec GroupValue Global)) (comms : List Made)
       → IsRight ranks views stand rows comms → AreAllDerivedGroups ranks views comms new → IsRight ranks views stand new comms
   right_refreshed stand rows new comms right groups = record { comms_derive = right.comms_derive; handles_named = right.handles_named; groups_derive = groups }

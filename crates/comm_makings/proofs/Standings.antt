@@ -6,26 +6,26 @@ use Rattle.comm_makings.specs.Derives.{member_with}
 use Rattle.comm_makings.specs.State.{BindsMember, IsMember, KeepsDerived, NamesMembers, SetsStanding, StandsFor, standing_at}
 use Rattle.comm_makings.specs.declared.answer.Why.{Why}
 use Rattle.comm_makings.specs.declared.state.Member.{Member}
-use Rattle.comm_makings.specs.declared.state.Standing.{Standing}
-use Rattle.comm_makings.specs.declared.state.Standing.TheVariants as standings
+use Rattle.comm_makings.specs.declared.state.HandleState.{HandleState}
+use Rattle.comm_makings.specs.declared.state.HandleState.TheVariants as standings
 use Rattle.comm_makings.proofs.Lists.{get_set}
 
-abbrev handle_in : ℕ → Vec Standing Global → Option Standing
+abbrev handle_in : ℕ → Vec HandleState Global → Option HandleState
 handle_in handle row = slice_get row.items handle
 
-module _ (rows : List (Vec Standing Global)) (rank : ℕ) (row changed : Vec Standing Global) (handle : ℕ) (standing : Standing)
+module _ (rows : List (Vec HandleState Global)) (rank : ℕ) (row changed : Vec HandleState Global) (handle : ℕ) (standing : HandleState)
     (there : slice_get rows rank ≡ Some row) (sets : changed.items ≡ set row.items handle standing) where
-  in_row : (r h : ℕ) (s : Standing) (v : Vec Standing Global) → r ≡ rank → v ≡ changed → slice_get v.items h ≡ Some s
+  in_row : (r h : ℕ) (s : HandleState) (v : Vec HandleState Global) → r ≡ rank → v ≡ changed → slice_get v.items h ≡ Some s
       → (standing_at rows r h ≡ Some s) ⊎ ((r ≡ rank) × (h ≡ handle) × (s ≡ standing))
   in_row r h s v same is e =
       let now : slice_get (set row.items handle standing) h ≡ Some s =
-      ap (λ (l : List Standing). slice_get l h) (sym sets) ∙ ap (handle_in h) (sym is) ∙ e in
+      ap (λ (l : List HandleState). slice_get l h) (sym sets) ∙ ap (handle_in h) (sym is) ∙ e in
       elim (get_set row.items handle standing h s now) [
         | inl before ↦ inl (ap (λ (k : ℕ). standing_at rows k h) same ∙ ap (option_and_then (handle_in h)) there ∙ before)
         | inr at ↦ inr (same, at.0, at.1)
       ]
 
-  set_by : (r h : ℕ) (s : Standing) (o : Option (Vec Standing Global)) → slice_get (set rows rank changed) r ≡ o → option_and_then (handle_in h) o ≡ Some s
+  set_by : (r h : ℕ) (s : HandleState) (o : Option (Vec HandleState Global)) → slice_get (set rows rank changed) r ≡ o → option_and_then (handle_in h) o ≡ Some s
       → (standing_at rows r h ≡ Some s) ⊎ ((r ≡ rank) × (h ≡ handle) × (s ≡ standing))
   set_by r h s None here e = absurd (cc)
   set_by r h s (Some v) here e = elim (get_set rows rank changed r v here) [
@@ -36,11 +36,11 @@ module _ (rows : List (Vec Standing Global)) (rank : ℕ) (row changed : Vec Sta
   pub set_one : SetsStanding rows (set rows rank changed) rank handle standing
   set_one = record { each = λ r h s e. set_by r h s (slice_get (set rows rank changed) r) refl e }
 
-pub set_none : (rows : List (Vec Standing Global)) (rank handle : ℕ) (standing : Standing) → SetsStanding rows rows rank handle standing
+pub set_none : (rows : List (Vec HandleState Global)) (rank handle : ℕ) (standing : HandleState) → SetsStanding rows rows rank handle standing
 set_none rows rank handle standing = record { each = λ r h s e. inl e }
 
 -- A handle that is left out stands for nothing.
-pub keeps_set : (old new : List (Vec Standing Global)) (rank handle : ℕ) (why : Why) → SetsStanding old new rank handle (standings.Left why) → KeepsDerived old new
+pub keeps_set : (old new : List (Vec HandleState Global)) (rank handle : ℕ) (why : Why) → SetsStanding old new rank handle (standings.Left why) → KeepsDerived old new
 keeps_set old new rank handle why sets = record {
   each = λ r h place e. elim (sets.each r h (standings.Derived place) e) [
     | inl before ↦ before
@@ -48,10 +48,10 @@ keeps_set old new rank handle why sets = record {
   ];
 }
 
-pub keeps_all : (rows : List (Vec Standing Global)) → KeepsDerived rows rows
+pub keeps_all : (rows : List (Vec HandleState Global)) → KeepsDerived rows rows
 keeps_all rows = record { each = λ rank handle place e. e }
 
-pub keeps_more : (old mid new : List (Vec Standing Global)) → KeepsDerived old mid → KeepsDerived mid new → KeepsDerived old new
+pub keeps_more : (old mid new : List (Vec HandleState Global)) → KeepsDerived old mid → KeepsDerived mid new → KeepsDerived old new
 keeps_more old mid new first then = record { each = λ rank handle place e. first.each rank handle place (then.each rank handle place e) }
 
 abbrev member_of : ℕ → Option ℕ → Member
@@ -62,7 +62,7 @@ member_is : (member : Member) (rank handle : ℕ) → rank ≡ member.rank → m
 member_is member rank handle same named = ap (member_of member.rank) named ∙ ap (member_with handle) (sym same)
 
 -- a member's handle is bound
-pub binds_set : (member : Member) (place handle : ℕ) (old new : List (Vec Standing Global)) → SetsStanding old new member.rank handle (standings.Derived place)
+pub binds_set : (member : Member) (place handle : ℕ) (old new : List (Vec HandleState Global)) → SetsStanding old new member.rank handle (standings.Derived place)
     → member.handle ≡ Some handle → BindsMember member place old new
 binds_set member place handle old new sets named = record {
   each = λ r h at e. elim (sets.each r h (standings.Derived at) e) [
@@ -73,14 +73,14 @@ binds_set member place handle old new sets named = record {
   ];
 }
 
-pub binds_none : (member : Member) (place : ℕ) (rows : List (Vec Standing Global)) → BindsMember member place rows rows
+pub binds_none : (member : Member) (place : ℕ) (rows : List (Vec HandleState Global)) → BindsMember member place rows rows
 binds_none member place rows = record { each = λ r h at e. inl e }
 
-pub names_none : (members : List Member) (place : ℕ) (rows : List (Vec Standing Global)) → NamesMembers members place rows rows
+pub names_none : (members : List Member) (place : ℕ) (rows : List (Vec HandleState Global)) → NamesMembers members place rows rows
 names_none members place rows = record { each = λ r h at e. inl e }
 
 -- one more member's handle is bound
-pub names_bound : (members : List Member) (place : ℕ) (old mid new : List (Vec Standing Global)) (i : ℕ) (member : Member)
+pub names_bound : (members : List Member) (place : ℕ) (old mid new : List (Vec HandleState Global)) (i : ℕ) (member : Member)
     → NamesMembers members place old mid → BindsMember member place mid new → slice_get members i ≡ Some member → NamesMembers members place old new
 names_bound members place old mid new i member names binds here = record {
   each = λ r h at e. elim (binds.each r h at e) [

@@ -19,18 +19,18 @@ use Rattle.comm_makings.specs.declared.handle.GroupAt.TheVariants as groups
 use Rattle.comm_makings.specs.declared.handle.Meant.{Meant}
 use Rattle.comm_makings.specs.declared.here.Here.{Here}
 use Rattle.comm_makings.specs.declared.state.Made.{Made}
-use Rattle.comm_makings.specs.declared.state.Standing.{Standing}
-use Rattle.comm_makings.specs.declared.state.Standing.TheVariants as standings
+use Rattle.comm_makings.specs.declared.state.HandleState.{HandleState}
+use Rattle.comm_makings.specs.declared.state.HandleState.TheVariants as standings
 use Rattle.comm_makings.specs.declared.view.RankView.{RankView}
 use Rattle.comm_makings.proofs.Lists.{get_set}
 
 -- the handles of one rank
-pub members_in : (comms : List Made) (rows : List (Vec Standing Global)) (rank : ℕ) (row : Vec Standing Global) → AreMembers comms rows → rank < length rows
+pub members_in : (comms : List Made) (rows : List (Vec HandleState Global)) (rank : ℕ) (row : Vec HandleState Global) → AreMembers comms rows → rank < length rows
     → row ≡ get_or rows rank row → AreMembersIn comms rank row.items
 members_in comms rows rank row members below is =
     let here : slice_get rows rank ≡ Some row = slice_get-get_or rows rank row below ∙ ap Some (sym is) in
     record {
-      each = λ handle place e. members.each rank handle place (ap (option_and_then (λ (r : Vec Standing Global). slice_get r.items handle)) here ∙ e);
+      each = λ handle place e. members.each rank handle place (ap (option_and_then (λ (r : Vec HandleState Global). slice_get r.items handle)) here ∙ e);
     }
 
 module _ (ranks : List RankCalls) (views : List RankView) where
@@ -97,9 +97,9 @@ module _ (ranks : List RankCalls) (views : List RankView) where
         (named_derives comms rank row all meant.group ones e) (named_derives comms rank row all meant.second others f) is)
 
   -- the group of a communicator
-  of_standing : (comms : List Made) (rank at : ℕ) (row : List Standing) (call : GroupCall) → group_call_at ranks rank at ≡ Some call → is_of_comm call
+  of_standing : (comms : List Made) (rank at : ℕ) (row : List HandleState) (call : GroupCall) → group_call_at ranks rank at ≡ Some call → is_of_comm call
       → AreDerived ranks views comms → AreMembersIn comms rank row
-      → (handle : Option ℕ) → comm_meant views rank at ≡ handle → (standing : Option Standing) → option_and_then (slice_get row) handle ≡ standing
+      → (handle : Option ℕ) → comm_meant views rank at ≡ handle → (standing : Option HandleState) → option_and_then (slice_get row) handle ≡ standing
       → (value : GroupValue) → value ≡ group_of_comm standing → IsDerivedGroup ranks views comms rank at value
   of_standing comms rank at row call called is all members handle means None e value f = subst (IsDerivedGroup ranks views comms rank at) (sym f) tt
   of_standing comms rank at row call called is all members handle means (Some standings.Open) e value f = subst (IsDerivedGroup ranks views comms rank at) (sym f) tt
@@ -115,7 +115,7 @@ module _ (ranks : List RankCalls) (views : List RankView) where
       subst (IsDerivedGroup ranks views comms rank at) (sym f) (comm, member.here, same)
 
   -- what a call of a rank gives, by what is known before it
-  pub given_value : (comms : List Made) (rank at : ℕ) (standings : List Standing) (row : List GroupValue) (call : GroupCall) (meant : Meant)
+  pub given_value : (comms : List Made) (rank at : ℕ) (standings : List HandleState) (row : List GroupValue) (call : GroupCall) (meant : Meant)
       → group_call_at ranks rank at ≡ Some call → meant_at views rank at ≡ Some meant
       → AreDerived ranks views comms → AreMembersIn comms rank standings → AreDerivedGroups ranks views comms rank row
       → (value : GroupValue) → IsValueOf call (option_and_then (slice_get standings) meant.comm) (ranks_at comms row meant.group) (ranks_at comms row meant.second) value

@@ -14,8 +14,8 @@ use Rattle.comm_makings.specs.declared.handle.GroupAt.{GroupAt}
 use Rattle.comm_makings.specs.declared.handle.GroupAt.TheVariants as groups
 use Rattle.comm_makings.specs.declared.handle.Meant.{Meant}
 use Rattle.comm_makings.specs.declared.state.Made.{Made}
-use Rattle.comm_makings.specs.declared.state.Standing.{Standing}
-use Rattle.comm_makings.specs.declared.state.Standing.TheVariants as standings
+use Rattle.comm_makings.specs.declared.state.HandleState.{HandleState}
+use Rattle.comm_makings.specs.declared.state.HandleState.TheVariants as standings
 
 -- the ranks of a group, where they are known
 abbrev pub ranks_of : List Made → GroupValue → Option (List ℕ)
@@ -47,7 +47,7 @@ waits_at values groups.Unknown = false
 waits_at values (groups.Given call) = waits_some (slice_get values call)
 
 -- the group of a communicator, by how its handle stands
-abbrev pub group_of_comm : Option Standing → GroupValue
+abbrev pub group_of_comm : Option HandleState → GroupValue
 group_of_comm None = values.Unknown
 group_of_comm (Some standings.Open) = values.Waits
 group_of_comm (Some (standings.Derived place)) = values.Whole place
@@ -141,7 +141,7 @@ abbrev pub IsOfOneNamed : List Made → List GroupValue → GroupCall → Meant 
 IsOfOneNamed comms values call meant value = (waits : Bool) × IsMadeOfOne call (ranks_at comms values meant.group) waits value
 
 -- The group that a call gives: of a communicator, by how its handle stands, or of one or two groups, where they are known.
-abbrev pub IsValueOf : GroupCall → Option Standing → Option (List ℕ) → Option (List ℕ) → GroupValue → Type 0
+abbrev pub IsValueOf : GroupCall → Option HandleState → Option (List ℕ) → Option (List ℕ) → GroupValue → Type 0
 IsValueOf (calls.OfComm comm) standing first second value = value ≡ group_of_comm standing
 IsValueOf calls.Unread standing first second value = value ≡ values.Unknown
 IsValueOf (calls.Union a b) standing first second value = (waits : Bool) × IsMadeOfTwo (calls.Union a b) first second waits value
@@ -153,6 +153,6 @@ IsValueOf (calls.RangeIncl group ranges) standing first second value = (waits : 
 IsValueOf (calls.RangeExcl group ranges) standing first second value = (waits : Bool) × IsMadeOfOne (calls.RangeExcl group ranges) first waits value
 
 -- the same, by how the handles of the rank stand and what the groups of its other calls are
-abbrev pub IsValueNamed : List Standing → List GroupValue → List Made → GroupCall → Meant → GroupValue → Type 0
+abbrev pub IsValueNamed : List HandleState → List GroupValue → List Made → GroupCall → Meant → GroupValue → Type 0
 IsValueNamed standings values comms call meant value =
     IsValueOf call (option_and_then (slice_get standings) meant.comm) (ranks_at comms values meant.group) (ranks_at comms values meant.second) value

@@ -18,8 +18,8 @@ use Rattle.comm_makings.specs.declared.run.Gained.{Gained}
 use Rattle.comm_makings.specs.declared.run.Gained.TheVariants as gains
 use Rattle.comm_makings.specs.declared.state.Made.{Made}
 use Rattle.comm_makings.specs.declared.state.Member.{Member}
-use Rattle.comm_makings.specs.declared.state.Standing.{Standing}
-use Rattle.comm_makings.specs.declared.state.Standing.TheVariants as standings
+use Rattle.comm_makings.specs.declared.state.HandleState.{HandleState}
+use Rattle.comm_makings.specs.declared.state.HandleState.TheVariants as standings
 use Rattle.comm_makings.specs.declared.view.RankView.{RankView}
 
 -- the sizes of a communicator's dimensions, where it is a grid and they are known
@@ -36,11 +36,11 @@ pub record AreDerived (ranks : List RankCalls) (views : List RankView) (comms : 
   pub each : (at : ℕ) (comm : Made) → slice_get comms at ≡ Some comm → IsDerivedComm ranks views comm
 
 -- how a handle of a rank stands
-abbrev pub standing_at : List (Vec Standing Global) → ℕ → ℕ → Option Standing
+abbrev pub standing_at : List (Vec HandleState Global) → ℕ → ℕ → Option HandleState
 standing_at rows rank handle = option_and_then (λ row. slice_get row.items handle) (slice_get rows rank)
 
 -- A handle of a rank stands for the derived communicator at this place.
-abbrev pub StandsFor : List (Vec Standing Global) → ℕ → ℕ → ℕ → Type 0
+abbrev pub StandsFor : List (Vec HandleState Global) → ℕ → ℕ → ℕ → Type 0
 StandsFor rows rank handle place = standing_at rows rank handle ≡ Some (standings.Derived place)
 
 -- The rank is a member, by this handle.
@@ -54,11 +54,11 @@ pub record IsMemberOf (comms : List Made) (place rank handle : ℕ) : Type 0 whe
   pub member : IsMember comm.members.items rank handle
 
 -- A handle stands for a communicator only where it is that of a member.
-pub record AreMembersIn (comms : List Made) (rank : ℕ) (row : List Standing) : Type 0 where
+pub record AreMembersIn (comms : List Made) (rank : ℕ) (row : List HandleState) : Type 0 where
   pub each : (handle place : ℕ) → slice_get row handle ≡ Some (standings.Derived place) → IsMemberOf comms place rank handle
 
 -- A handle of any rank stands for a communicator only where the rank is a member of it by that handle.
-pub record AreMembers (comms : List Made) (rows : List (Vec Standing Global)) : Type 0 where
+pub record AreMembers (comms : List Made) (rows : List (Vec HandleState Global)) : Type 0 where
   pub each : (rank handle place : ℕ) → StandsFor rows rank handle place → IsMemberOf comms place rank handle
 
 -- the group that a call of a rank gives
@@ -78,34 +78,34 @@ pub record AreAllDerivedGroups (ranks : List RankCalls) (views : List RankView) 
 
 -- What is derived so far is right: the communicators and groups derive, and handles stand for communicators only as
 -- those of members.
-pub record IsRight (ranks : List RankCalls) (views : List RankView) (stand : List (Vec Standing Global)) (groups : List (Vec GroupValue Global)) (comms : List Made) : Type 0 where
+pub record IsRight (ranks : List RankCalls) (views : List RankView) (stand : List (Vec HandleState Global)) (groups : List (Vec GroupValue Global)) (comms : List Made) : Type 0 where
   pub comms_derive : AreDerived ranks views comms
   pub handles_named : AreMembers comms stand
   pub groups_derive : AreAllDerivedGroups ranks views comms groups
 
 -- A handle stands for a derived communicator only where it did before.
-pub record KeepsDerived (old new : List (Vec Standing Global)) : Type 0 where
+pub record KeepsDerived (old new : List (Vec HandleState Global)) : Type 0 where
   pub each : (rank handle place : ℕ) → StandsFor new rank handle place → StandsFor old rank handle place
 
 -- Only this handle stands otherwise than before.
-pub record SetsStanding (old new : List (Vec Standing Global)) (rank handle : ℕ) (standing : Standing) : Type 0 where
-  pub each : (r h : ℕ) (s : Standing) → standing_at new r h ≡ Some s → (standing_at old r h ≡ Some s) ⊎ ((r ≡ rank) × (h ≡ handle) × (s ≡ standing))
+pub record SetsStanding (old new : List (Vec HandleState Global)) (rank handle : ℕ) (standing : HandleState) : Type 0 where
+  pub each : (r h : ℕ) (s : HandleState) → standing_at new r h ≡ Some s → (standing_at old r h ≡ Some s) ⊎ ((r ≡ rank) × (h ≡ handle) × (s ≡ standing))
 
 -- The member's handle may stand for the communicator at this place, and otherwise none that did not before.
-pub record BindsMember (member : Member) (place : ℕ) (old new : List (Vec Standing Global)) : Type 0 where
+pub record BindsMember (member : Member) (place : ℕ) (old new : List (Vec HandleState Global)) : Type 0 where
   pub each : (rank handle at : ℕ) → StandsFor new rank handle at → StandsFor old rank handle at ⊎ ((at ≡ place) × (member ≡ member_with handle rank))
 
 -- The same of all members.
-pub record NamesMembers (members : List Member) (place : ℕ) (old new : List (Vec Standing Global)) : Type 0 where
+pub record NamesMembers (members : List Member) (place : ℕ) (old new : List (Vec HandleState Global)) : Type 0 where
   pub each : (rank handle at : ℕ) → StandsFor new rank handle at → StandsFor old rank handle at ⊎ ((at ≡ place) × IsMember members rank handle)
 
 -- No handle of a rank stands for a communicator.
-pub record NoneStands (row : List Standing) : Type 0 where
+pub record NoneStands (row : List HandleState) : Type 0 where
   pub each : (handle place : ℕ) → slice_get row handle ≡ Some (standings.Derived place) → ⊥
 
 -- No handle of any rank stands for a communicator.
-pub record NoneStandsAt (rows : List (Vec Standing Global)) : Type 0 where
-  pub each : (rank : ℕ) (row : Vec Standing Global) → slice_get rows rank ≡ Some row → NoneStands row.items
+pub record NoneStandsAt (rows : List (Vec HandleState Global)) : Type 0 where
+  pub each : (rank : ℕ) (row : Vec HandleState Global) → slice_get rows rank ≡ Some row → NoneStands row.items
 
 -- The ranks of the group are not known, whether they may become so or not.
 abbrev pub IsNotListed : GroupValue → Type 0

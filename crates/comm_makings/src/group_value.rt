@@ -9,7 +9,7 @@ ghost use Rattle.comm_makings.specs.Groups.{IsListed, IsMadeOfTwo, IsOfOneNamed,
 
 use crate::calls::{GroupCall, RankRange};
 use crate::handle::{GroupAt, Meant};
-use crate::state::{Made, Standing};
+use crate::state::{HandleState, Made};
 use std::alloc::{AllocError, Global};
 
 /// A group that a call gives.
@@ -76,19 +76,19 @@ pub(crate) fn waits_at(values: &[GroupValue], group: GroupAt) -> bool
 }
 
 /// The group of a communicator, by how its handle stands.
-fn group_of(standing: Option<Standing>) -> GroupValue
+fn group_of(standing: Option<HandleState>) -> GroupValue
     ensures { result ≡ group_of_comm standing }
 {
     match standing {
         None => GroupValue::Unknown,
-        Some(Standing::Open) => GroupValue::Waits,
-        Some(Standing::Derived(place)) => GroupValue::Whole(place),
-        Some(Standing::Left(_)) => GroupValue::Unknown,
+        Some(HandleState::Open) => GroupValue::Waits,
+        Some(HandleState::Derived(place)) => GroupValue::Whole(place),
+        Some(HandleState::Left(_)) => GroupValue::Unknown,
     }
 }
 
 /// How the handle stands that a call names.
-fn standing_at(standings: &[Standing], comm: Option<usize>) -> Option<Standing>
+fn standing_at(standings: &[HandleState], comm: Option<usize>) -> Option<HandleState>
     ensures { result ≡ option_and_then (slice_get standings.now) comm }
 {
     standings.get(comm?).copied()
@@ -329,7 +329,7 @@ pub(crate) fn value_of(
     group: &GroupCall,
     meant: &Meant,
     values: &[GroupValue],
-    standings: &[Standing],
+    standings: &[HandleState],
     comms: &[Made],
 ) -> Result<GroupValue, AllocError>
     ensures { IfOk result (IsValueNamed standings.now values.now comms.now group.now meant.now) }

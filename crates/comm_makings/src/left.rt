@@ -4,7 +4,7 @@ use crate::answer::{LeftOut, MadeBy, Why};
 use crate::calls::{Action, CommCall, Given, RankCalls};
 use crate::handle::Gives;
 use crate::here::{function_of, gives_later};
-use crate::state::Standing;
+use crate::state::HandleState;
 use crate::uses::HandleUses;
 use crate::view::RankView;
 use std::alloc::{AllocError, Global};
@@ -27,11 +27,11 @@ fn number_of(given: Given) -> Option<u32> {
 }
 
 /// Why a handle is left out, where it is.
-fn why_left(standing: Standing, is_read: bool, function: MadeBy) -> Option<Why> {
+fn why_left(standing: HandleState, is_read: bool, function: MadeBy) -> Option<Why> {
     match standing {
-        Standing::Derived(_) => None,
-        Standing::Left(why) => Some(why),
-        Standing::Open => {
+        HandleState::Derived(_) => None,
+        HandleState::Left(why) => Some(why),
+        HandleState::Open => {
             if function == MadeBy::Other {
                 Some(Why::Function)
             } else if is_read {
@@ -45,7 +45,7 @@ fn why_left(standing: Standing, is_read: bool, function: MadeBy) -> Option<Why> 
 
 /// Why what a call gives is left out, where it is, and the handle that it gives.
 fn why_of(
-    standings: &[Standing],
+    standings: &[HandleState],
     gives: Gives,
     is_read: bool,
     function: MadeBy,
@@ -85,7 +85,7 @@ fn left_by(
     call: &CommCall,
     gives: Gives,
     is_read: bool,
-    standings: &[Standing],
+    standings: &[HandleState],
     uses: &HandleUses,
 ) -> Option<LeftOut> {
     let (made_by, number) = giving(&call.action)?;
@@ -105,7 +105,7 @@ fn add_left(
     rank: u32,
     calls: &[CommCall],
     view: &RankView,
-    standings: &[Standing],
+    standings: &[HandleState],
     uses: &HandleUses,
     all: &mut Vec<LeftOut>,
 ) -> Result<(), AllocError> {
@@ -124,7 +124,7 @@ pub(crate) fn left_out(
     alloc: Global,
     ranks: &[RankCalls],
     views: &[RankView],
-    standings: &[Vec<Standing>],
+    standings: &[Vec<HandleState>],
     uses: &[HandleUses],
 ) -> Result<Vec<LeftOut>, AllocError> {
     let mut all = Vec::new(alloc);

@@ -17,7 +17,7 @@ use crate::here::{Here, all_kth, call_at, handle_of, meant_at};
 use crate::outcomes::outcome_in;
 use crate::part::Part;
 use crate::parts::Outcome;
-use crate::state::{Made, Member, Order, Standing, comm_at, dims_of};
+use crate::state::{HandleState, Made, Member, Order, comm_at, dims_of};
 use crate::view::RankView;
 use std::alloc::{AllocError, Global};
 
@@ -25,7 +25,7 @@ use std::alloc::{AllocError, Global};
 #[derive(Drop)]
 pub(crate) struct Run {
     /// Of each rank how its handles stand.
-    pub standings: Vec<Vec<Standing>>,
+    pub standings: Vec<Vec<HandleState>>,
     /// Of each rank what its calls give, where they give groups.
     pub values: Vec<Vec<GroupValue>>,
     pub comms: Vec<Made>,
@@ -40,7 +40,7 @@ pub(crate) struct Run {
 }
 
 /// Sets how a handle stands, where the rank has it.
-fn set_in(row: &mut Vec<Standing>, handle: usize, standing: Standing)
+fn set_in(row: &mut Vec<HandleState>, handle: usize, standing: HandleState)
     ensures { row.new.items ≡ slice_set row.old.items handle standing }
 {
     if handle < row.len() {
@@ -50,7 +50,12 @@ fn set_in(row: &mut Vec<Standing>, handle: usize, standing: Standing)
 
 /// Sets how a handle of a rank stands, where there is one. All others stand as before.
 #[tactic(auto, using(crate::proofs::Standings::set_one, crate::proofs::Standings::set_none))]
-pub(crate) fn set(standings: &mut Vec<Vec<Standing>>, rank: u32, handle: usize, standing: Standing)
+pub(crate) fn set(
+    standings: &mut Vec<Vec<HandleState>>,
+    rank: u32,
+    handle: usize,
+    standing: HandleState,
+)
     ensures { SetsStanding standings.old.items standings.new.items rank handle standing }
 {
     let rank = rank as usize;
@@ -61,15 +66,15 @@ pub(crate) fn set(standings: &mut Vec<Vec<Standing>>, rank: u32, handle: usize, 
 
 /// A handle is left out.
 #[tactic(auto, using(crate::proofs::Standings::keeps_set))]
-fn leave_one(standings: &mut Vec<Vec<Standing>>, rank: u32, handle: usize, why: Why)
+fn leave_one(standings: &mut Vec<Vec<HandleState>>, rank: u32, handle: usize, why: Why)
     ensures { KeepsDerived standings.old.items standings.new.items }
 {
-    set(standings, rank, handle, Standing::Left(why));
+    set(standings, rank, handle, HandleState::Left(why));
 }
 
 /// What the calls give is left out.
 #[tactic(auto, using(crate::proofs::Standings::keeps_all, crate::proofs::Standings::keeps_more))]
-pub(crate) fn leave(standings: &mut Vec<Vec<Standing>>, all: &[Option<Here>], why: Why)
+pub(crate) fn leave(standings: &mut Vec<Vec<HandleState>>, all: &[Option<Here>], why: Why)
     ensures { KeepsDerived standings.old.items standings.new.items }
 {
     for here in all {
@@ -90,7 +95,7 @@ fn leave_behind(
     members: &[Member],
     k: usize,
     end: usize,
-    standings: &mut Vec<Vec<Standing>>,
+    standings: &mut Vec<Vec<HandleState>>,
 ) -> Result<(), AllocError>
     ensures { KeepsDerived standings.old.items standings.new.items }
 {
@@ -178,17 +183,17 @@ pub(crate) fn made_of(
 
 /// The member's handle names the communicator at this place.
 #[tactic(auto, using(crate::proofs::Standings::binds_set, crate::proofs::Standings::binds_none))]
-fn bind_member(standings: &mut Vec<Vec<Standing>>, member: Member, place: usize)
+fn bind_member(standings: &mut Vec<Vec<HandleState>>, member: Member, place: usize)
     ensures { BindsMember member place standings.old.items standings.new.items }
 {
     if let Some(handle) = member.handle {
-        set(standings, member.rank, handle, Standing::Derived(place));
+        set(standings, member.rank, handle, HandleState::Derived(place));
     }
 }
 
 /// The members' handles name the communicator at this place.
 #[tactic(auto, using(crate::proofs::Standings::names_none, crate::proofs::Standings::names_bound))]
-pub(crate) fn bind(standings: &mut Vec<Vec<Standing>>, members: &[Member], place: usize)
+pub(crate) fn bind(standings: &mut Vec<Vec<HandleState>>, members: &[Member], place: usize)
     ensures { NamesMembers members.now place standings.old.items standings.new.items }
 {
     for member in members {
@@ -236,7 +241,7 @@ fn value_at(
     ranks: &[RankCalls],
     views: &[RankView],
     comms: &[Made],
-    standings: &[Standing],
+    standings: &[HandleState],
     values: &[GroupValue],
     rank: usize,
     at: usize,
@@ -263,7 +268,7 @@ fn refresh(
     ranks: &[RankCalls],
     views: &[RankView],
     comms: &[Made],
-    standings: &[Standing],
+    standings: &[HandleState],
     rank: usize,
     values: &mut Vec<GroupValue>,
 ) -> Result<(), AllocError>
@@ -290,7 +295,7 @@ fn refresh_all(
     ranks: &[RankCalls],
     views: &[RankView],
     comms: &[Made],
-    standings: &[Vec<Standing>],
+    standings: &[Vec<HandleState>],
     values: &mut Vec<Vec<GroupValue>>,
 ) -> Result<(), AllocError>
     requires comms { AreDerived ranks.now views.now comms.now }
@@ -652,7 +657,7 @@ fn mark_all(taken: &mut Vec<Vec<bool>>, read: &[(u32, usize)]) {
 
 /// These handles are left out: the calls that give them are unsound.
 #[tactic(auto, using(crate::proofs::Standings::keeps_all, crate::proofs::Standings::keeps_more))]
-fn leave_handles(standings: &mut Vec<Vec<Standing>>, left: &[(u32, usize)])
+fn leave_handles(standings: &mut Vec<Vec<HandleState>>, left: &[(u32, usize)])
     ensures { KeepsDerived standings.old.items standings.new.items }
 {
     for (rank, handle) in left {
@@ -782,14 +787,14 @@ fn handle_at(meant: &[Meant], at: usize) -> Option<usize> {
 
 /// A function that gives communicators from which nothing is derived leaves its handle out.
 #[tactic(auto, using(crate::proofs::Right::stands_set))]
-fn leave_others(calls: &[CommCall], meant: &[Meant], standings: &mut Vec<Standing>)
+fn leave_others(calls: &[CommCall], meant: &[Meant], standings: &mut Vec<HandleState>)
     requires { NoneStands standings.old.items }
     ensures { NoneStands standings.new.items }
 {
     for (at, call) in calls.iter().enumerate() {
         if let Action::GivesComm { .. } = &call.action {
             if let Some(handle) = handle_at(meant, at) {
-                set_in(standings, handle, Standing::Left(Why::Function));
+                set_in(standings, handle, HandleState::Left(Why::Function));
             }
         }
     }
@@ -802,10 +807,10 @@ fn first_standings(
     alloc: Global,
     calls: &[CommCall],
     view: &RankView,
-) -> Result<Vec<Standing>, AllocError>
+) -> Result<Vec<HandleState>, AllocError>
     ensures { IfOk result (λ v. NoneStands v.items) }
 {
-    let mut standings = vec![in alloc; Standing::Open; view.handles.len()]?;
+    let mut standings = vec![in alloc; HandleState::Open; view.handles.len()]?;
     leave_others(calls, &view.meant, &mut standings);
     Ok(standings)
 }

@@ -10,7 +10,7 @@ use std::alloc::{AllocError, Global};
 
 /// How a handle of a rank stands.
 #[derive(Clone, Copy)]
-pub(crate) enum Standing {
+pub(crate) enum HandleState {
     /// Nothing is known of it yet.
     Open,
     /// It names the derived communicator at this place.
