@@ -1,8 +1,8 @@
 -- Where a piece stands among runs in their order.
-use Rattle.std.specs.Prelude.{◌≡◌, ℕ, ◌<◌, ◌≤◌, List, length, take, slice_index_or}
+use Rattle.std.specs.Prelude.{◌≡◌, ℕ, ◌+◌, ◌<◌, ◌≤◌, List, length, take, slice_index_or}
 use Rattle.trace_know.specs.declared.run.Run.{Run}
-use Rattle.trace_know.specs.Runs.{end_place, start_of, end_of, last_end, last_of}
-use Rattle.trace_know.specs.Touching.{Touches, IsNoLonger}
+use Rattle.trace_know.specs.Runs.{spot, end_place, start_of, end_of, last_end, last_of}
+use Rattle.trace_know.specs.Touching.{GoesInto, Touches, IsNoLonger}
 
 -- what holds of the run at an index, if there is one
 abbrev pub IfAt : ℕ → List Run → (Run → Type 0) → Type 0
@@ -32,6 +32,14 @@ pub record IsReached (from to : ℕ) (piece run : Run) : Type 0 where
   pub touches : Touches run piece
   pub low : from ≤ run.first
   pub high : end_place run ≤ to
+
+-- So many runs from an index on can go into the base, where a piece goes too. The runs before them end before the lowest
+-- place that the base has room for, and the next one after them begins past the piece.
+pub record AllGoInto (low at count : ℕ) (runs : List Run) (base piece : Run) : Type 0 where
+  pub bound : at + count ≤ length runs
+  pub before : last_end 0 (take at runs) < spot piece.rank low
+  pub each : Each at (at + count) runs (GoesInto low base piece)
+  pub after : IfAt (at + count) runs (λ next. end_of piece < start_of next)
 
 -- none of the runs from an index to below another has more cells than this one of them
 pub record IsLongest (longest low high : ℕ) (runs : List Run) : Type 0 where
