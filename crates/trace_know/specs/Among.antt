@@ -1,5 +1,6 @@
 -- Where a piece stands among runs in their order.
 use Rattle.std.specs.Prelude.{◌≡◌, ℕ, ◌+◌, ◌<◌, ◌≤◌, List, length, take, slice_index_or}
+use Rattle.std.specs.List.{SameBelow, ShiftedDown}
 use Rattle.trace_know.specs.declared.run.Run.{Run}
 use Rattle.trace_know.specs.Runs.{spot, end_place, start_of, end_of, last_end, last_of}
 use Rattle.trace_know.specs.Touching.{GoesInto, Touches, IsNoLonger}
@@ -40,6 +41,13 @@ pub record AllGoInto (low at count : ℕ) (runs : List Run) (base piece : Run) :
   pub before : last_end 0 (take at runs) < spot piece.rank low
   pub each : Each at (at + count) runs (GoesInto low base piece)
   pub after : IfAt (at + count) runs (λ next. end_of piece < start_of next)
+
+-- the new runs are the old ones without the one at an index
+pub record IsWithout (at : ℕ) (old new : List Run) : Type 0 where
+  pub len : length new + 1 ≡ length old
+  pub below : SameBelow old new at
+  pub beyond : ShiftedDown old new at
+  pub front : (k : ℕ) → k ≤ at → take k new ≡ take k old
 
 -- none of the runs from an index to below another has more cells than this one of them
 pub record IsLongest (longest low high : ℕ) (runs : List Run) : Type 0 where
