@@ -1,6 +1,6 @@
 //! A walk that hands on the calls of a text as they stand there, with all their parameters.
 
-ghost use Rattle.std.specs.Prelude.{◌≡◌, ◌<◌, ◌≤◌, ℕ, List, Option, IfErr, IfOk, IfSome, OnErr, OnOk};
+ghost use Rattle.std.specs.Prelude.{◌≡◌, ◌<◌, ◌≤◌, Option, IfErr, IfOk, IfSome, OnErr, OnOk};
 ghost use Rattle.mpi_model.specs.declared.call.Call.{Call};
 ghost use Rattle.dumpi_text.specs.Call.{TextCall};
 ghost use Rattle.dumpi_text.specs.Failing.{Fails};

@@ -3,9 +3,7 @@
 
 ghost use Rattle.std.specs.Prelude.{◌≡◌, ◌∷◌, [], IfOk, IfSome, Some, true};
 ghost use Rattle.dumpi_calls.specs.Skims.{numbers_front, requests_from, requests_with};
-ghost use Rattle.dumpi_text.specs.Bytes.{closing_brace, opening_bracket};
-ghost use Rattle.dumpi_text.specs.Items.{items_front};
-ghost use Rattle.dumpi_text.specs.Number.{number_item};
+ghost use Rattle.dumpi_text.specs.Bytes.{opening_bracket};
 ghost use Rattle.dumpi_text.specs.Tokens.{after_spaces};
 ghost use Rattle.dumpi_text.specs.Value.{all_numbers, brace_rest, core_front, value_of};
 

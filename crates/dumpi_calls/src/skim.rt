@@ -7,7 +7,7 @@ ghost use Rattle.std.specs.Option.{option_map};
 ghost use Rattle.dumpi_calls.specs.Outcomes.{groups_from, told_at, told_of};
 ghost use Rattle.dumpi_calls.specs.Skims.{HasField, groups_front, number_with, seen_with, told_with, tolds_with, unseen, with_told};
 ghost use Rattle.dumpi_text.specs.Bytes.{closing_brace, equals, opening_bracket};
-ghost use Rattle.dumpi_text.specs.Items.{field_item, fields_front, group_item, items_front, next_front};
+ghost use Rattle.dumpi_text.specs.Items.{field_item, fields_front, group_item, next_front};
 ghost use Rattle.dumpi_text.specs.Number.{note_front, number_front, number_item};
 ghost use Rattle.dumpi_text.specs.Tokens.{after_byte, after_spaces, digit_parts, word_front};
 ghost use Rattle.dumpi_text.specs.Value.{all_groups, core_front, value_of};

@@ -1,9 +1,7 @@
 //! A walk over the calls of a text.
 
-ghost use Rattle.std.specs.Prelude.{◌≡◌, ◌<◌, ◌≤◌, ℕ, List, Option, Err, Ok, Some, None, IfErr, IfNone, IfOk, IfSome, OnErr, OnOk, true, vec_len};
-ghost use Rattle.dumpi_text.specs.Call.{TextCall};
+ghost use Rattle.std.specs.Prelude.{◌≡◌, ◌<◌, ◌≤◌, Option, Err, Ok, Some, None, IfErr, IfNone, IfOk, IfSome, OnErr, OnOk, true, vec_len};
 ghost use Rattle.dumpi_text.specs.Failing.{Fails};
-ghost use Rattle.dumpi_text.specs.Shown.{put_in};
 ghost use Rattle.dumpi_text.specs.declared.source.TheConstants.{CHUNK};
 ghost use Rattle.dumpi_text.specs.declared.step.TheConstants.{MOST_LINES};
 ghost use Rattle.dumpi_calls.specs.Rows.{row_of, typed, typed_by, row};
