@@ -15,7 +15,7 @@ use std::alloc::{AllocError, Global};
 use std::marker::Model;
 
 /// A file with some calls of one rank, one after another.
-#[derive(Debug, Drop)]
+#[derive(Clone, Debug, Drop)]
 pub struct Piece {
     rank: u32,
     first: u64,
