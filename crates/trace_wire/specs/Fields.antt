@@ -16,38 +16,46 @@ use Rattle.mpi_model.specs.declared.envelope.Envelope.{Envelope}
 use Rattle.mpi_model.specs.declared.list.elements.Element.{Element}
 use Rattle.mpi_model.specs.declared.told.Told.{Told}
 use Rattle.mpi_model.specs.declared.told.Told.TheVariants as tolds
-use Rattle.trace_wire.specs.Forms.{◌>>=◌, Form, number, byte, mapped, guarded, pair, small, marked, signed, small_of}
+use Rattle.trace_wire.specs.Forms.{◌>>=◌, Form, number, byte, mapped, guarded, pair, small, marked, no_number, signed, small_of}
 
 -- ---- codes of the fields
 
+-- the mark of the null process: 2^32 - 2
+abbrev pub null_process : ℕ
+null_process = 4294967294
+
+-- the mark of an operation that was cancelled: 2^32 - 2 again
+abbrev pub cancelled : ℕ
+cancelled = 4294967294
+
 -- a peer: a rank, or a mark for any source or for the null process (MPI 4.0, 3.2.4 and 3.10)
 abbrev pub peer_code : Peer → ℕ
-peer_code peers.Any = 4294967295
-peer_code peers.Null = 4294967294
+peer_code peers.Any = no_number
+peer_code peers.Null = null_process
 peer_code (peers.Rank n) = n
 
 -- the peer of a code, where it is one
 abbrev pub peer_of : ℕ → Option Peer
-peer_of n = if n == 4294967295 then Some peers.Any else (if n == 4294967294 then Some peers.Null else (small_of n >>= λ m. Some (peers.Rank m)))
+peer_of n = if n == no_number then Some peers.Any else (if n == null_process then Some peers.Null else (small_of n >>= λ m. Some (peers.Rank m)))
 
 -- what is told: a source, or a mark that nothing is told, or that the operation was cancelled (MPI 4.0, 3.2.5 and 3.8.4)
 abbrev pub told_code : Told → ℕ
-told_code tolds.Nothing = 4294967295
-told_code tolds.Cancelled = 4294967294
+told_code tolds.Nothing = no_number
+told_code tolds.Cancelled = cancelled
 told_code (tolds.Source n) = n
 
 -- what is told, by its code, where it is one
 abbrev pub told_of : ℕ → Option Told
-told_of n = if n == 4294967295 then Some tolds.Nothing else (if n == 4294967294 then Some tolds.Cancelled else (small_of n >>= λ m. Some (tolds.Source m)))
+told_of n = if n == no_number then Some tolds.Nothing else (if n == cancelled then Some tolds.Cancelled else (small_of n >>= λ m. Some (tolds.Source m)))
 
 -- a communicator: its number, or a mark for MPI_COMM_WORLD
 abbrev pub comm_code : CommRef → ℕ
-comm_code comms.World = 4294967295
+comm_code comms.World = no_number
 comm_code (comms.Id n) = n
 
 -- the communicator of a code, where it is one
 abbrev pub comm_of : ℕ → Option CommRef
-comm_of n = if n == 4294967295 then Some comms.World else (small_of n >>= λ m. Some (comms.Id m))
+comm_of n = if n == no_number then Some comms.World else (small_of n >>= λ m. Some (comms.Id m))
 
 -- the mode of a send (MPI 4.0, 3.4)
 abbrev pub mode_code : Mode → ℕ

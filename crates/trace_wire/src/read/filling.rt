@@ -37,7 +37,7 @@ pub(crate) fn fill_to<R: Read>(
 #[inline(always)]
 pub(crate) fn ready<R: Read>(reader: &mut R, window: &mut Window) -> Result<(), WireFault>
     ensures ok { OnOk result (Comes (R.left reader.old) (R.left reader.new) window.old window.new IsLeft) }
-    ensures enough { OnOk result (0 < window.new.coming → 4096 ≤ length window.new.bytes) }
+    ensures enough { OnOk result (0 < window.new.coming → ENOUGH ≤ length window.new.bytes) }
     ensures no_failure { OnOk result (R.failures reader.new ≡ R.failures reader.old) }
     ensures err { IfErr result (StaysUnfilled R.left R.failures reader.old reader.new window.old.coming) }
     ensures taken { TakesAtMost window.old.coming (R.left reader.old) (R.left reader.new) }
