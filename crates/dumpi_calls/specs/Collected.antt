@@ -8,6 +8,7 @@ use Rattle.trace_know.specs.Segment.{PlacedEvents, enter_place}
 use Rattle.trace_know.specs.declared.segment.TheConstants.{MOST_EVENTS}
 use Rattle.dumpi_calls.specs.Rows.{Callback, OnSend, OnIsend, OnRecv, OnIrecv, OnSendrecv, OnProbe, OnWait, OnWaitall, OnWaitany, OnWaitsome, OnTest, OnTestall, OnTestany, OnTestsome, OnCancel, OnRequestFree, OnCollective, OnIcollective, OnSendInit, OnRecvInit, OnStart, OnStartall, OnMprobe, OnImprobe, OnImrecv, OnUnread, OnOther}
 use Rattle.dumpi_calls.specs.Seen.{Seen}
+use Rattle.dumpi_calls.specs.declared.parts.TheConstants.{MOST_CALLS}
 use Rattle.dumpi_calls.specs.declared.tally.Tally.{Tally}
 
 -- ---- events
@@ -51,7 +52,7 @@ pub record IsPart (part rest : List Event) : Type 0 where
 abbrev pub AreSegments : ℕ → ℕ → List Event → List PlacedEvents → Type 0
 AreSegments rank first events [] = events ≡ []
 AreSegments rank first events (segment ∷ segments) = (rest : List Event) × (events ≡ segment.events ++ rest) × IsPart segment.events rest
-    × (segment ≡ placed rank first segment.events) × AreSegments rank (first + 32768) rest segments
+    × (segment ≡ placed rank first segment.events) × AreSegments rank (first + MOST_CALLS) rest segments
 
 -- there are events, and the last has a place at 2^40 or past it
 abbrev pub HasPlacesPast : ℕ → List Event → Type 0

@@ -103,9 +103,13 @@ numbers_in parameter call = do
   value ← value_in parameter call
   or_wrong parameter (all_numbers value)
 
+-- A C `int` is below this: 2^31.
+abbrev pub int_bound : ℕ
+int_bound = 2147483648
+
 -- a number from 0 to 2^31 - 1, as a non-negative `int` is
 abbrev pub non_negative : ℤ → Option ℕ
-non_negative (pos n) = if nat_lt n 2147483648 then Some n else None
+non_negative (pos n) = if nat_lt n int_bound then Some n else None
 non_negative (negsuc n) = None
 
 -- ---- what numbers tell: a name that is meant there wins over the number, and -1 and -2 stand for what has no rank
