@@ -354,7 +354,7 @@ fn put<T: Drop>(kept: &mut Option<T>, value: Option<T>)
 /// The index of all that is known, and the answer by it. Both are made before a node is touched: a
 /// function is proved over all that it holds at each of its ways out, and a node holds much.
 #[derive(Drop)]
-struct Told {
+struct IndexedAnswer {
     followed: Followed,
     answer: SharedAnswer,
 }
@@ -365,7 +365,7 @@ fn told_after(
     layout: &Layout,
     know: &Knowledge,
     before: Option<Followed>,
-) -> Result<Told, AllocError>
+) -> Result<IndexedAnswer, AllocError>
     requires follows { IfSome before (IsFollowing layout.now know.now) }
     requires within { IsWithin layout.now know.now }
     ensures follows { IfOk result (λ told. IsFollowing layout.now know.now told.followed) }
@@ -374,7 +374,7 @@ fn told_after(
     let followed = caught_up(alloc, layout, know, before)?;
     let answer = answer_to(alloc, layout, know, &followed.index)?;
     let answer = SharedAnswer::new(alloc, answer)?;
-    Ok(Told { followed, answer })
+    Ok(IndexedAnswer { followed, answer })
 }
 
 /// The answer to all that is known, of the index of its ops.
