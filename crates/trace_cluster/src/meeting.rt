@@ -8,7 +8,7 @@ ghost use Rattle.trace_cluster.specs.Stream.{OverStream, half};
 
 use crate::exchange::{ExchangeFault, exchange_frames};
 use crate::fault::ClusterFault;
-use crate::peer::Peer;
+use crate::peer::Participant;
 use mpi_model::{Device, Read, Write};
 use std::alloc::Global;
 use std::net::{Net, TcpListener, TcpStream};
@@ -67,7 +67,7 @@ struct Met<N> {
 }
 
 /// Follows in an exchange.
-fn followed<N: Peer>(alloc: Global, stream: TcpStream, node: N) -> Met<N>
+fn followed<N: Participant>(alloc: Global, stream: TcpStream, node: N) -> Met<N>
     ensures { OnOk result.end (IsMore (N.held node) (N.held result.node)) }
 {
     let mut node = node;
@@ -77,7 +77,7 @@ fn followed<N: Peer>(alloc: Global, stream: TcpStream, node: N) -> Met<N>
 
 /// The leader's side on a thread of its own, for one who knows this, beside the second node, which
 /// follows: what the first side heard, and the second node. Nothing where no thread could be started.
-fn meet<R: Threads + Wait + Sync, N: Peer>(
+fn meet<R: Threads + Wait + Sync, N: Participant>(
     rt: &R,
     alloc: Global,
     know: &Knowledge,
@@ -134,7 +134,7 @@ fn sureness(fault: &ExchangeFault) -> u8
 /// Both nodes, the first with what its side heard; or why that was refused, or the other side before
 /// it, else why the first node did not join it, else why the follower was refused.
 #[tactic(auto, using(crate::proofs::Ending::unmerged_end, crate::proofs::Ending::followed_end, crate::proofs::Ending::refused_end))]
-fn both<N: Peer>(
+fn both<N: Participant>(
     leader: N,
     led: Result<Knowledge, ExchangeFault>,
     follower: Met<N>,
@@ -163,7 +163,7 @@ fn both<N: Peer>(
 #[tactic(auto, using(crate::proofs::Ending::of_meeting))]
 pub(crate) fn exchange<
     R: Net<Listener = TcpListener, Stream = TcpStream> + Threads + Wait + Sync,
-    N: Peer,
+    N: Participant,
 >(rt: &R, alloc: Global, leader: N, follower: N) -> Result<(N, N), ClusterFault>
     ensures ok { IfOk result (λ nodes. IsMore (N.held leader) (N.held nodes.0) × IsMore (N.held follower) (N.held nodes.1)) }
     ensures err { IfErr result (λ fault. IsOfMeeting fault) }

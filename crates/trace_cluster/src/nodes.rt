@@ -11,7 +11,7 @@ ghost use Rattle.trace_cluster.specs.Stopped.{IsStopped};
 use crate::crews::{crew_of, nodes_of};
 use crate::fault::ClusterFault;
 use crate::meeting::exchange;
-use crate::peer::Peer;
+use crate::peer::Participant;
 use crate::workload::Workload;
 use mpi_model::Layout;
 use std::alloc::Global;
@@ -49,7 +49,7 @@ pub fn cluster<'a, R: Net<Listener = TcpListener, Stream = TcpStream> + Threads 
 }
 
 /// A node that was told this too.
-fn told<N: Peer>(node: N, known: &Knowledge) -> Result<N, ClusterFault>
+fn told<N: Participant>(node: N, known: &Knowledge) -> Result<N, ClusterFault>
     requires { IsWithin (N.held node).layout known.now }
     ensures more { IfOk result (λ more. IsMore (N.held node) (N.held more)) }
     ensures learned { IfOk result (λ more. (N.held more).know ≡ join (N.held node).know known.now) }
@@ -64,7 +64,7 @@ fn told<N: Peer>(node: N, known: &Knowledge) -> Result<N, ClusterFault>
 }
 
 /// Both nodes, each of which was told this of its own too.
-fn both_told<N: Peer>(
+fn both_told<N: Participant>(
     nodes: (N, N),
     first: &Knowledge,
     second: &Knowledge,

@@ -15,7 +15,7 @@ use trace_node::{Node, NodeFault};
 /// One who takes part in an exchange. Whoever lets two meet knows a node by this trait alone: what a
 /// closure of a scope captures can't name the lifetime inside a node, and a function that owns nodes
 /// is proved over all that a node holds.
-pub trait Peer: Drop {
+pub trait Participant: Drop {
     /// What its node holds.
     ghost held: { Self → Held };
 
@@ -37,7 +37,7 @@ pub trait Peer: Drop {
         ensures { OnOk result (IsMore (held self.old) (held self.new)) };
 }
 
-impl<'a> Peer for Node<'a> {
+impl<'a> Participant for Node<'a> {
     ghost held = { λ n. n };
 
     fn knowledge(&self) -> &Knowledge {
