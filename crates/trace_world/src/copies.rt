@@ -2,7 +2,7 @@
 
 ghost use Rattle.std.specs.Prelude.{◌≡◌, IfOk};
 
-use crate::inbox::Inbox;
+use crate::inbox::SegmentQueue;
 use crate::mail::Mail;
 use std::alloc::{AllocError, Global};
 use trace_node::Node;
@@ -19,7 +19,10 @@ pub(crate) fn nodes_of<'a>(alloc: Global, nodes: &[Node<'a>]) -> Result<Vec<Node
 }
 
 /// Inboxes that share segments with these.
-pub(crate) fn inboxes_of(alloc: Global, inboxes: &[Inbox]) -> Result<Vec<Inbox>, AllocError>
+pub(crate) fn inboxes_of(
+    alloc: Global,
+    inboxes: &[SegmentQueue],
+) -> Result<Vec<SegmentQueue>, AllocError>
     ensures { IfOk result (λ copies. copies.items ≡ inboxes.now) }
 {
     let mut copies = Vec::new(alloc);

@@ -9,12 +9,12 @@ use std::marker::Model;
 
 /// Segments in the order in which they were posted.
 #[derive(Drop)]
-pub(crate) struct Inbox {
+pub(crate) struct SegmentQueue {
     alloc: Global,
     queue: VecDeque<SharedSegment>,
 }
 
-impl Model for Inbox {
+impl Model for SegmentQueue {
     ghost use Rattle.std.specs.Prelude.{List};
     ghost use Rattle.trace_know.specs.Segment.{PlacedEvents};
 
@@ -23,11 +23,11 @@ impl Model for Inbox {
     ghost view = { λ i. i.queue.items };
 }
 
-impl Inbox {
-    pub(crate) fn new(alloc: Global) -> Inbox
+impl SegmentQueue {
+    pub(crate) fn new(alloc: Global) -> SegmentQueue
         ensures { result ≡ [] }
     {
-        Inbox {
+        SegmentQueue {
             alloc,
             queue: VecDeque::new(alloc),
         }
@@ -70,10 +70,10 @@ impl Inbox {
     }
 
     /// The same segments, which both share.
-    pub(crate) fn try_clone(&self) -> Result<Inbox, AllocError>
+    pub(crate) fn try_clone(&self) -> Result<SegmentQueue, AllocError>
         ensures { IfOk result (λ copy. copy ≡ self.now) }
     {
-        let mut copy = Inbox::new(self.alloc);
+        let mut copy = SegmentQueue::new(self.alloc);
         for segment in self.queue.iter() {
             copy.push(segment.try_clone()?)?;
         }

@@ -11,7 +11,7 @@ ghost use Rattle.trace_world.specs.Schedule.{with_segment};
 ghost use Rattle.trace_world.specs.Shows.{knows};
 ghost use Rattle.trace_world.specs.Worlds.{HasRank, layouts};
 
-use crate::inbox::Inbox;
+use crate::inbox::SegmentQueue;
 use crate::shared::SharedSegment;
 use crate::step::WorldFault;
 use std::alloc::AllocError;
@@ -20,7 +20,7 @@ use trace_node::{Node, NodeFault};
 
 /// Adds a segment to a node's inbox, which shares it.
 pub(crate) fn post(
-    inboxes: &mut Vec<Inbox>,
+    inboxes: &mut Vec<SegmentQueue>,
     node: usize,
     segment: &SharedSegment,
 ) -> Result<(), WorldFault>

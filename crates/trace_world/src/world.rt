@@ -16,7 +16,7 @@ ghost use Rattle.trace_world.specs.Worlds.{IsWorld};
 
 use crate::copies::{inboxes_of, mails_of, nodes_of};
 use crate::heard::Heard;
-use crate::inbox::Inbox;
+use crate::inbox::SegmentQueue;
 use crate::mail::Mail;
 use crate::moves;
 use crate::shared::SharedSegment;
@@ -41,7 +41,7 @@ pub struct World<'a> {
     alloc: Global,
     layout: &'a Layout,
     nodes: Vec<Node<'a>>,
-    inboxes: Vec<Inbox>,
+    inboxes: Vec<SegmentQueue>,
     mails: Vec<Mail>,
     /// Of each node the mails that it has joined.
     heard: Vec<Heard>,
@@ -430,12 +430,12 @@ fn new_nodes<'a>(
 }
 
 /// So many inboxes with nothing in them.
-fn empty_inboxes(alloc: Global, count: usize) -> Result<Vec<Inbox>, AllocError>
+fn empty_inboxes(alloc: Global, count: usize) -> Result<Vec<SegmentQueue>, AllocError>
     ensures { IfOk result (λ inboxes. inboxes.items ≡ replicate count []) }
 {
     let mut inboxes = Vec::new(alloc);
     for _ in 0..count {
-        inboxes.push(Inbox::new(alloc))?;
+        inboxes.push(SegmentQueue::new(alloc))?;
     }
     Ok(inboxes)
 }
