@@ -12,49 +12,49 @@ use Rattle.mpi_model.specs.Communicators.{Communicator}
 use Rattle.trace_ops.specs.declared.entered.Entered.{Entered}
 use Rattle.trace_wait.specs.declared.round.Round.{Round}
 use Rattle.trace_wait.specs.declared.round.Standing.{Standing}
-use Rattle.trace_wait.specs.declared.tally.Tally.{Tally}
+use Rattle.trace_wait.specs.declared.tally.RoundTally.{RoundTally}
 use Rattle.trace_ops.specs.Ops.{Ops}
 use Rattle.trace_wait.specs.Ranks.{ops_of}
 use Rattle.trace_wait.specs.Rounds.{same_function, same_root, alike, on_comm, rows, column, round_of, depth, rounds_on, group}
 use Rattle.trace_wait.specs.Tallies.{start, add, put, merged, tallied, stands, rounds_from}
 
 -- one call more at the end of the row
-pub merged_push : (xs : List Entered) (ts : List Tally) (e : Entered) → merged (xs ++ e ∷ []) ts ≡ put (merged xs ts) (length xs) e
+pub merged_push : (xs : List Entered) (ts : List RoundTally) (e : Entered) → merged (xs ++ e ∷ []) ts ≡ put (merged xs ts) (length xs) e
 merged_push [] [] e = refl
 merged_push [] (t ∷ ts) e = refl
-merged_push (x ∷ xs) [] e = ap (λ (l : List Tally). start x ∷ l) (merged_push xs [] e)
-merged_push (x ∷ xs) (t ∷ ts) e = ap (λ (l : List Tally). add t x ∷ l) (merged_push xs ts e)
+merged_push (x ∷ xs) [] e = ap (λ (l : List RoundTally). start x ∷ l) (merged_push xs [] e)
+merged_push (x ∷ xs) (t ∷ ts) e = ap (λ (l : List RoundTally). add t x ∷ l) (merged_push xs ts e)
 
-pub merged_long : (xs : List Entered) (ts : List Tally) → length xs ≤ length (merged xs ts)
+pub merged_long : (xs : List Entered) (ts : List RoundTally) → length xs ≤ length (merged xs ts)
 merged_long [] ts = omega arith
 merged_long (x ∷ xs) [] = omega (arith, merged_long xs [])
 merged_long (x ∷ xs) (t ∷ ts) = omega (arith, merged_long xs ts)
 
-pub put_set : (ts : List Tally) (k : ℕ) (e : Entered) (d : Tally) → k < length ts → set ts k (add (get_or ts k d) e) ≡ put ts k e
+pub put_set : (ts : List RoundTally) (k : ℕ) (e : Entered) (d : RoundTally) → k < length ts → set ts k (add (get_or ts k d) e) ≡ put ts k e
 put_set [] k e d lt = absurd (omega arith)
 put_set (t ∷ ts) zero e d lt = refl
-put_set (t ∷ ts) (suc k) e d lt = ap (λ (l : List Tally). t ∷ l) (put_set ts k e d (omega arith))
+put_set (t ∷ ts) (suc k) e d lt = ap (λ (l : List RoundTally). t ∷ l) (put_set ts k e d (omega arith))
 
-pub put_push : (ts : List Tally) (k : ℕ) (e : Entered) → k ≡ length ts → ts ++ start e ∷ [] ≡ put ts k e
+pub put_push : (ts : List RoundTally) (k : ℕ) (e : Entered) → k ≡ length ts → ts ++ start e ∷ [] ≡ put ts k e
 put_push [] k e h = refl
 put_push (t ∷ ts) zero e h = absurd (omega (arith, h))
-put_push (t ∷ ts) (suc k) e h = ap (λ (l : List Tally). t ∷ l) (put_push ts k e (omega (arith, h)))
+put_push (t ∷ ts) (suc k) e h = ap (λ (l : List RoundTally). t ∷ l) (put_push ts k e (omega (arith, h)))
 
 -- the tally of a round that these have entered
-abbrev tally_of : List Entered → Option Tally
+abbrev tally_of : List Entered → Option RoundTally
 tally_of [] = None
 tally_of (e ∷ es) = Some (record { function = e.function; root = e.root; is_alike = list_all (alike e) es; entered = min (length es + 1) (2 ^ 32 - 1) })
 
-abbrev added : Option Tally → Option Entered → Option Tally
+abbrev added : Option RoundTally → Option Entered → Option RoundTally
 added t None = t
 added None (Some e) = Some (start e)
 added (Some t) (Some e) = Some (add t e)
 
-added_none : (t : Option Tally) → added t None ≡ t
+added_none : (t : Option RoundTally) → added t None ≡ t
 added_none None = refl
 added_none (Some t) = refl
 
-merged_at : (xs : List Entered) (ts : List Tally) (k : ℕ) → slice_get (merged xs ts) k ≡ added (slice_get ts k) (slice_get xs k)
+merged_at : (xs : List Entered) (ts : List RoundTally) (k : ℕ) → slice_get (merged xs ts) k ≡ added (slice_get ts k) (slice_get xs k)
 merged_at [] ts k = sym (added_none (slice_get ts k))
 merged_at (x ∷ xs) [] zero = refl
 merged_at (x ∷ xs) [] (suc k) = merged_at xs [] k
@@ -67,7 +67,7 @@ and_more true true false = refl
 and_more true false c = refl
 and_more false b c = refl
 
-abbrev made : Entered → Bool → ℕ → Option Tally
+abbrev made : Entered → Bool → ℕ → Option RoundTally
 made e b n = Some (record { function = e.function; root = e.root; is_alike = b; entered = n })
 
 counted_more : (n m : ℕ) → m ≡ n + 1 → min (min (n + 1) (2 ^ 32 - 1) + 1) (2 ^ 32 - 1) ≡ min (m + 1) (2 ^ 32 - 1)
@@ -86,11 +86,11 @@ regroup : (xs : List Entered) (o : Option Entered) (rest : List Entered) → (xs
 regroup xs None rest = ap (λ (l : List Entered). l ++ rest) (append-nil xs)
 regroup xs (Some e) rest = append_assoc xs (e ∷ []) rest
 
-abbrev gather : List Tally → List (List Entered) → List Tally
+abbrev gather : List RoundTally → List (List Entered) → List RoundTally
 gather ts calls = fold (λ ts row. merged row ts) ts calls
 
 -- a tally for each column
-gathered_at : (calls : List (List Entered)) (ts : List Tally) (so_far : ℕ → List Entered) → ((k : ℕ) → slice_get ts k ≡ tally_of (so_far k)) →
+gathered_at : (calls : List (List Entered)) (ts : List RoundTally) (so_far : ℕ → List Entered) → ((k : ℕ) → slice_get ts k ≡ tally_of (so_far k)) →
     (k : ℕ) → slice_get (gather ts calls) k ≡ tally_of (so_far k ++ column k calls)
 gathered_at [] ts so_far h k = h k ∙ ap tally_of (sym (append-nil (so_far k)))
 gathered_at (row ∷ calls) ts so_far h k =
@@ -98,12 +98,12 @@ gathered_at (row ∷ calls) ts so_far h k =
     (λ k. merged_at row ts k ∙ ap (λ t. added t (slice_get row k)) (h k) ∙ tally_push (so_far k) (slice_get row k)) k
     ∙ ap tally_of (regroup (so_far k) (slice_get row k) (column k calls))
 
-merged_len : (xs : List Entered) (ts : List Tally) → length (merged xs ts) ≡ max (length xs) (length ts)
+merged_len : (xs : List Entered) (ts : List RoundTally) → length (merged xs ts) ≡ max (length xs) (length ts)
 merged_len [] ts = omega arith
 merged_len (x ∷ xs) [] = omega (arith, merged_len xs [])
 merged_len (x ∷ xs) (t ∷ ts) = omega (arith, merged_len xs ts)
 
-gathered_len : (calls : List (List Entered)) (ts : List Tally) → length (gather ts calls) ≡ max (length ts) (depth calls)
+gathered_len : (calls : List (List Entered)) (ts : List RoundTally) → length (gather ts calls) ≡ max (length ts) (depth calls)
 gathered_len [] ts = omega arith
 gathered_len (row ∷ calls) ts = omega (arith, gathered_len calls (merged row ts), merged_len row ts)
 
@@ -116,15 +116,15 @@ column_short [] k = omega arith
 column_short (row ∷ calls) k = let rest = column_short calls k in omega (arith, one_more (slice_get row k) (column k calls), rest)
 
 -- what one round says
-stands_at : (c members k : ℕ) (xs : List Entered) (t : Tally) → Some t ≡ tally_of xs → length xs < 2 ^ 32 → round_of c members k xs ≡ Some (record { comm = c; k = k; standing = stands members t })
+stands_at : (c members k : ℕ) (xs : List Entered) (t : RoundTally) → Some t ≡ tally_of xs → length xs < 2 ^ 32 → round_of c members k xs ≡ Some (record { comm = c; k = k; standing = stands members t })
 stands_at c members k [] t h lt = absurd (cc)
 stands_at c members k (e ∷ es) t h lt =
     let u : t ≡ record { function = e.function; root = e.root; is_alike = list_all (alike e) es; entered = min (length es + 1) (2 ^ 32 - 1) } = cc in
     let n : length es + 1 ≡ min (length es + 1) (2 ^ 32 - 1) = omega (arith, lt) in
     ap (λ (w : ℕ). Some (record { comm = c; k = k; standing = stands members (record { function = e.function; root = e.root; is_alike = list_all (alike e) es; entered = w }) })) n
-    ∙ ap (λ (w : Tally). Some (record { comm = c; k = k; standing = stands members w })) (sym u)
+    ∙ ap (λ (w : RoundTally). Some (record { comm = c; k = k; standing = stands members w })) (sym u)
 
-emitted : (c members : ℕ) (col : ℕ → List Entered) → ((k : ℕ) → length (col k) < 2 ^ 32) → (first : ℕ) (ts : List Tally) → ((j : ℕ) → slice_get ts j ≡ tally_of (col (first + j))) →
+emitted : (c members : ℕ) (col : ℕ → List Entered) → ((k : ℕ) → length (col k) < 2 ^ 32) → (first : ℕ) (ts : List RoundTally) → ((j : ℕ) → slice_get ts j ≡ tally_of (col (first + j))) →
     rounds_from c members first ts ≡ filter_map (λ k. round_of c members k (col k)) (range_with_len first (length ts))
 emitted c members col short first [] h = refl
 emitted c members col short first (t ∷ ts) h =
@@ -155,20 +155,20 @@ rounds_are comms ops c few =
 -- steps of the loops
 
 -- one call more of a member
-pub merged_more : (calls : List Entered) (k : ℕ) (d : Entered) (first ts after : List Tally) → k < length calls →
+pub merged_more : (calls : List Entered) (k : ℕ) (d : Entered) (first ts after : List RoundTally) → k < length calls →
     ts ≡ merged (take k calls) first → after ≡ put ts k (get_or calls k d) → after ≡ merged (take (k + 1) calls) first
 merged_more calls k d first ts after lt h e =
-    e ∙ ap (λ (l : List Tally). put l k (get_or calls k d)) h
+    e ∙ ap (λ (l : List RoundTally). put l k (get_or calls k d)) h
     ∙ ap (λ n. put (merged (take k calls) first) n (get_or calls k d)) (sym (length-take-le k calls (omega (arith, lt))))
     ∙ sym (merged_push (take k calls) first (get_or calls k d)) ∙ ap (λ (l : List Entered). merged l first) (sym (take_more calls k d lt))
 
 -- the k-th call goes to a round that is there, or is the next
-pub merged_reaches : (calls : List Entered) (k : ℕ) (first ts : List Tally) → k < length calls → ts ≡ merged (take k calls) first → k ≤ length ts
+pub merged_reaches : (calls : List Entered) (k : ℕ) (first ts : List RoundTally) → k < length calls → ts ≡ merged (take k calls) first → k ≤ length ts
 merged_reaches calls k first ts lt h =
     let n = length-take-le k calls (omega (arith, lt)) in
     omega (arith, n, merged_long (take k calls) first, ap length h)
 
-pub rounds_from_more : (c members first : ℕ) (ts : List Tally) (i k : ℕ) (d : Tally) → k ≡ first + i → i < length ts →
+pub rounds_from_more : (c members first : ℕ) (ts : List RoundTally) (i k : ℕ) (d : RoundTally) → k ≡ first + i → i < length ts →
     rounds_from c members first (take (i + 1) ts) ≡ rounds_from c members first (take i ts) ++ record { comm = c; k = k; standing = stands members (get_or ts i d) } ∷ []
 rounds_from_more c members first [] i k d e lt = absurd (omega arith)
 rounds_from_more c members first (t ∷ ts) zero k d e lt = let f : k ≡ first = omega (arith, e) in rw f refl
@@ -206,7 +206,7 @@ member_below n (x ∷ xs) h q a = ⊎_elim (λ (e : eqb q x ≡ true). let f : q
 pub small_group : (ranks : ℕ) (members : List ℕ) → IsGroup ranks members → length members ≤ ranks
 small_group ranks members g = length-le_from_distinct_below members ranks g.distinct (member_below ranks members g.in_range)
 
-pub pushed_more : (c members k : ℕ) (ts : List Tally) (d : Tally) (st : Standing) (first out after : List Round) → k < length ts →
+pub pushed_more : (c members k : ℕ) (ts : List RoundTally) (d : RoundTally) (st : Standing) (first out after : List Round) → k < length ts →
     after ≡ out ++ record { comm = c; k = k; standing = st } ∷ [] → st ≡ stands members (get_or ts k d) → out ≡ first ++ rounds_from c members 0 (take k ts) →
     after ≡ first ++ rounds_from c members 0 (take (k + 1) ts)
 pushed_more c members k ts d st first out after lt a s h =

@@ -12,7 +12,7 @@ use trace_ops::{Entered, RankOps};
 
 /// What is known of a round while its calls come in.
 #[derive(Clone, Copy, Debug)]
-struct Tally {
+struct RoundTally {
     function: CollectiveFunction,
     root: Option<u32>,
     is_alike: bool,
@@ -39,10 +39,10 @@ fn is_same_root(a: Option<u32>, b: Option<u32>) -> bool
 }
 
 /// The tally of a round that one member has entered.
-fn start(e: &Entered) -> Tally
+fn start(e: &Entered) -> RoundTally
     ensures { result ≡ start e.now }
 {
-    Tally {
+    RoundTally {
         function: e.function,
         root: e.root,
         is_alike: true,
@@ -51,13 +51,13 @@ fn start(e: &Entered) -> Tally
 }
 
 /// The tally once one member more has entered.
-fn add(t: Tally, e: &Entered) -> Tally
+fn add(t: RoundTally, e: &Entered) -> RoundTally
     ensures { result ≡ add t e.now }
 {
     let is_alike = t.is_alike
         && is_same_function(t.function, e.function)
         && is_same_root(t.root, e.root);
-    Tally {
+    RoundTally {
         function: t.function,
         root: t.root,
         is_alike,
@@ -66,7 +66,7 @@ fn add(t: Tally, e: &Entered) -> Tally
 }
 
 /// Counts one more call of the k-th round.
-fn put(tallies: &mut Vec<Tally>, k: usize, e: &Entered) -> Result<(), AllocError>
+fn put(tallies: &mut Vec<RoundTally>, k: usize, e: &Entered) -> Result<(), AllocError>
     requires { k ≤ length tallies.old.items }
     ensures { OnOk result (tallies.new.items ≡ put tallies.old.items k e.now) }
 {
@@ -79,7 +79,7 @@ fn put(tallies: &mut Vec<Tally>, k: usize, e: &Entered) -> Result<(), AllocError
 }
 
 /// The k-th call of a member goes to the k-th round.
-fn merge(tallies: &mut Vec<Tally>, calls: &[Entered]) -> Result<(), AllocError>
+fn merge(tallies: &mut Vec<RoundTally>, calls: &[Entered]) -> Result<(), AllocError>
     ensures { OnOk result (tallies.new.items ≡ merged calls.now tallies.old.items) }
 {
     for (k, e) in calls.iter().enumerate() {
@@ -94,7 +94,7 @@ fn tallies_of(
     entries: &Entries,
     comm: u32,
     members: &[u32],
-) -> Result<Vec<Tally>, AllocError>
+) -> Result<Vec<RoundTally>, AllocError>
     ensures { IfOk result (λ v. v.items ≡ tallied entries.now comm members.now) }
 {
     let mut tallies = Vec::new(alloc);
@@ -105,7 +105,7 @@ fn tallies_of(
 }
 
 /// How a round of so many members stands.
-fn stands(members: u32, t: &Tally) -> Standing
+fn stands(members: u32, t: &RoundTally) -> Standing
     ensures { result ≡ stands members t.now }
 {
     if !t.is_alike {
@@ -121,7 +121,7 @@ fn stands(members: u32, t: &Tally) -> Standing
 fn push_rounds(
     comm: u32,
     members: u32,
-    tallies: &[Tally],
+    tallies: &[RoundTally],
     out: &mut Vec<Round>,
 ) -> Result<(), AllocError>
     ensures { OnOk result (out.new.items ≡ out.old.items ++ rounds_from comm members 0 tallies.now) }
