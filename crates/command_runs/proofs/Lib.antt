@@ -8,6 +8,7 @@ pub mod Looks
 pub mod Worlds
 pub mod Within
 pub mod ByRank
+pub mod AnyOrder
 pub mod Unpacking
 pub mod AllTold
 pub mod Packing

@@ -1,14 +1,13 @@
 //! The answer to all that the pieces of a manifest tell.
 
 ghost use Rattle.std.specs.Prelude.{◌≡◌, [], IfErr, IfOk};
-ghost use Rattle.std.specs.List.Sorted.{IsNonDecreasingBy};
 ghost use Rattle.dumpi_text.specs.Failing.{Fails};
 ghost use Rattle.command_runs.specs.Files.{NamesFailed, NamesUnreadable};
 ghost use Rattle.command_runs.specs.Nodes.{AnswersAll, IsAnswerOf};
 ghost use Rattle.command_runs.specs.Refusals.{RefusesNamed, RefusesNode};
 ghost use Rattle.command_runs.specs.declared.whole.TheConstants.{LONGEST_FILE};
 
-use crate::by_rank::{answer_by_rank, are_by_rank};
+use crate::any_order::{answer_in_any_order, can_go_by_rank};
 use crate::fault::RunFault;
 use crate::input::manifest_at;
 use crate::known::known_of;
@@ -58,14 +57,13 @@ fn answer_of<O: Opener, V: Watcher>(
     ensures failed { IfErr result (NamesFailed (Fails O.R.failures)) }
     ensures same { O.file files.new ≡ O.file files.old }
 {
-    if manifest.packed().is_empty() && are_by_rank(manifest.pieces()) {
+    if manifest.packed().is_empty() && can_go_by_rank(manifest.pieces(), files) {
         return answer_of_texts(alloc, layout, manifest, files, watcher);
     }
     answer_of_all(alloc, layout, manifest, files, watcher)
 }
 
-/// The answer to what texts tell that are listed by their ranks: of one rank after another, whose events go
-/// once what it did is known.
+/// The answer to what texts tell: of one rank after another, whose events go once what it did is known.
 fn answer_of_texts<O: Opener, V: Watcher>(
     alloc: Global,
     layout: &Layout,
@@ -73,8 +71,7 @@ fn answer_of_texts<O: Opener, V: Watcher>(
     files: &mut O,
     watcher: &mut V,
 ) -> Result<Answer, RunFault>
-    requires texts { manifest.now.packed ≡ [] }
-    requires by_rank { IsNonDecreasingBy (λ p. p.rank) manifest.now.pieces }
+    requires { manifest.now.packed ≡ [] }
     ensures ok { IfOk result (AnswersAll (O.file files.old) layout.now manifest.now) }
     ensures err { IfErr result (RefusesNamed (O.file files.old) layout.now.ranks manifest.now) }
     ensures unread { IfErr result (λ fault. NamesUnreadable LONGEST_FILE (Fails O.R.failures) (O.file files.old) fault) }
@@ -83,13 +80,13 @@ fn answer_of_texts<O: Opener, V: Watcher>(
 {
     join_laws();
     announce(manifest.pieces(), files, watcher);
-    match answer_by_rank(alloc, layout, manifest.pieces(), files, watcher) {
+    match answer_in_any_order(alloc, layout, manifest.pieces(), files, watcher) {
         Ok(answer) => Ok(answer),
         Err(fault) => Err(fault),
     }
 }
 
-/// The answer to what packed files and texts in any order tell, once all of it is known.
+/// The answer to what packed files and texts tell, once all of it is known.
 fn answer_of_all<O: Opener, V: Watcher>(
     alloc: Global,
     layout: &Layout,

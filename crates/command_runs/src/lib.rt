@@ -20,6 +20,7 @@
 //! - [`piece`]: the segments of a piece; [`pieces`]: those of all pieces
 //! - [`input`]: the layout and the manifest; [`gatherer`], [`knowing`]: what the texts tell together; [`packed`]: what packed files
 //!   do; [`known`]: both joined; [`laws`]: that their order doesn't show
+//! - [`answering`]: the answer to it; [`by_rank`], [`any_order`]: of texts rank by rank
 //! - [`watch`]: who is told how the reading comes along; [`watched`]: a reader that tells it;
 //!   [`terminal`]: what a person then sees
 //! - [`schedule`]: the steps that a manifest's schedule stands for; [`replay`]: their run, and the reports
@@ -44,6 +45,7 @@
 mod advice;
 mod answerer;
 mod answering;
+mod any_order;
 mod by_rank;
 mod check;
 mod cluster;

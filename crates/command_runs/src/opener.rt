@@ -34,8 +34,8 @@ pub trait Opener: Drop {
         ensures same { file self.new ≡ file self.old };
 
     /// How many bytes the file of a name has now, where that can be told: a pipe has no length. It is
-    /// for who watches a run and for the room that a piece's events get, and nothing that a run answers
-    /// hangs on it.
+    /// for who watches a run, for the room that a piece's events get and for whether texts are read by rank, and nothing
+    /// that a run answers hangs on it.
     fn length(&self, _path: &str) -> Option<u64> {
         None
     }

@@ -7,7 +7,7 @@ use input_files::Piece;
 /// Is told how the reading of a run's pieces comes along. Nothing that a run answers or writes
 /// hangs on it.
 pub trait Watcher: Drop {
-    /// Whether what is told is shown to anyone. Else the files are not asked for their lengths before they are read.
+    /// Whether what is told is shown to anyone. Else the files' lengths are not added up before they are read.
     fn is_watching(&self) -> bool;
 
     /// So many pieces are read from here on, of so many bytes together, where each file tells its

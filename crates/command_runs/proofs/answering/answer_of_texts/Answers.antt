@@ -16,7 +16,7 @@ returns-in-Ok-clause-ok g c =
     let m = c.args.manifest.now in
     let ok = c.in-Ok.ensures.ok in
     let view : View = ok.0 in
-    let tell : TellPacked file ranks m.packed empty = subst (λ (ps : List PackedParts). TellPacked file ranks ps empty) (sym c.requires.texts) refl in
+    let tell : TellPacked file ranks m.packed empty = subst (λ (ps : List PackedParts). TellPacked file ranks ps empty) (sym c.requires) refl in
     let known : IsKnown file m.pieces view = subst (λ (ps : List PieceParts). IsKnown file ps view) c.pieces-2.ensures ok.1 in
     let inside : All (IsInside file ranks) m.pieces = subst (λ (ps : List PieceParts). All (IsInside file ranks) ps) c.pieces-2.ensures c.in-Ok.ensures.inside in
     let both : view ≡ join empty view = sym (c.join_laws.ensures.commutative empty view ∙ c.join_laws.ensures.unit view) in
@@ -27,5 +27,5 @@ returns-in-Err-clause-err g c =
     let file = g.O.Opener.file c.args.files.now in
     let ranks = c.args.layout.now.ranks in
     let m = c.args.manifest.now in
-    let tell : TellPacked file ranks m.packed empty = subst (λ (ps : List PackedParts). TellPacked file ranks ps empty) (sym c.requires.texts) refl in
+    let tell : TellPacked file ranks m.packed empty = subst (λ (ps : List PackedParts). TellPacked file ranks ps empty) (sym c.requires) refl in
     texts_named file ranks m empty c.in-Err.fault tell (subst (λ (ps : List PieceParts). RefusesPieces file ranks ps c.in-Err.fault) c.pieces-2.ensures c.in-Err.ensures.err)
