@@ -4,8 +4,8 @@ use Rattle.std.specs.Prelude.{◌≡◌, ◌≢◌, ◌<◌, ◌≤◌, ℕ, ◌
 use Rattle.std.specs.List.{range_with_len}
 use Rattle.std.specs.Option.{option_and_then}
 use Rattle.indexmap.specs.IndexMap.{get}
+use Rattle.mpi_model.specs.Calls.{comm_of}
 use Rattle.mpi_model.specs.declared.call.Call.{Call}
-use Rattle.mpi_model.specs.declared.call.Call.TheVariants as mpi
 use Rattle.mpi_model.specs.declared.envelope.CommRef.{CommRef}
 use Rattle.mpi_model.specs.declared.envelope.CommRef.TheVariants as comms
 use Rattle.dumpi_text.specs.Call.{TextCall}
@@ -26,37 +26,6 @@ use Rattle.comm_calls.specs.declared.function.Function.TheVariants as functions
 use Rattle.comm_calls.specs.declared.uses.NumberUses.{NumberUses}
 
 -- ---- what one call says
-
--- The communicator that a call of the profile names: both sides of a Sendrecv name one (MPI 4.0, 3.10).
-abbrev pub comm_of : Call → Option CommRef
-comm_of (mpi.Send mode e) = Some e.comm
-comm_of (mpi.Isend mode e) = Some e.comm
-comm_of (mpi.Recv e) = Some e.comm
-comm_of (mpi.Irecv e) = Some e.comm
-comm_of (mpi.Sendrecv both) = Some both.send.comm
-comm_of (mpi.Collective c) = Some c.comm
-comm_of (mpi.Icollective c) = Some c.comm
-comm_of (mpi.Probe e) = Some e.comm
-comm_of (mpi.SendInit mode e) = Some e.comm
-comm_of (mpi.RecvInit e) = Some e.comm
-comm_of (mpi.Mprobe e) = Some e.comm
-comm_of (mpi.Improbe e) = Some e.comm
-comm_of mpi.Local = None
-comm_of mpi.Finalize = None
-comm_of (mpi.Wait request) = None
-comm_of (mpi.Waitall requests) = None
-comm_of (mpi.Waitany requests) = None
-comm_of (mpi.Waitsome requests) = None
-comm_of (mpi.Test request) = None
-comm_of (mpi.Testall requests) = None
-comm_of (mpi.Testany requests) = None
-comm_of (mpi.Testsome requests) = None
-comm_of (mpi.Cancel request) = None
-comm_of (mpi.Free request) = None
-comm_of (mpi.Start request) = None
-comm_of (mpi.Startall requests) = None
-comm_of mpi.Imrecv = None
-comm_of mpi.Unread = None
 
 -- its number; MPI_COMM_WORLD is named by no number
 abbrev pub number_of : CommRef → Option ℕ

@@ -1,7 +1,7 @@
 //! Which calls of the profile name which communicators by their numbers.
 
 ghost use Rattle.std.specs.Prelude.{◌≡◌, ◌++◌, ◌∷◌, [], None, OnErr, OnOk, slice_get};
-ghost use Rattle.comm_calls.specs.Uses.{AreGoing, comm_of, first_use, going_in, longer_at, named_number, next_in, number_of, open_after, open_with, uses_after};
+ghost use Rattle.comm_calls.specs.Uses.{AreGoing, first_use, going_in, longer_at, named_number, next_in, number_of, open_after, open_with, uses_after};
 
 use crate::fault::Memory;
 use comm_makings::Uses;
@@ -9,40 +9,11 @@ use indexmap::IndexMap;
 use mpi_model::{Call, CommRef};
 use std::alloc::Global;
 
-/// The communicator that a call of the profile names.
-fn comm_of(call: &Call) -> Option<CommRef>
-    ensures { result ≡ comm_of call.now }
-{
-    match call {
-        Call::Send(_, e) | Call::Isend(_, e) | Call::SendInit(_, e) => Some(e.envelope().comm),
-        Call::Recv(e) | Call::Irecv(e) | Call::RecvInit(e) => Some(e.envelope().comm),
-        Call::Sendrecv(both) => Some(both.send().comm),
-        Call::Collective(c) | Call::Icollective(c) => Some(c.comm()),
-        Call::Probe(e) | Call::Mprobe(e) | Call::Improbe(e) => Some(e.comm()),
-        Call::Local
-        | Call::Finalize
-        | Call::Wait(_)
-        | Call::Waitall(_)
-        | Call::Waitany(_)
-        | Call::Waitsome(_)
-        | Call::Test(_)
-        | Call::Testall(_)
-        | Call::Testany(_)
-        | Call::Testsome(_)
-        | Call::Cancel(_)
-        | Call::Free(_)
-        | Call::Start(_)
-        | Call::Startall(_)
-        | Call::Imrecv
-        | Call::Unread => None,
-    }
-}
-
 /// The number of the communicator that a call names: MPI_COMM_WORLD is named by none.
 pub(crate) fn named_number(call: &Call) -> Option<u32>
     ensures { result ≡ named_number call.now }
 {
-    match comm_of(call) {
+    match call.comm() {
         Some(CommRef::Id(number)) => Some(number),
         Some(CommRef::World) | None => None,
     }

@@ -3,6 +3,7 @@ use Rattle.std.specs.Prelude.{◌≡◌, ◌<◌, ◌≤◌, ℕ, ◌+◌, ◌==
 use Rattle.std.specs.List.{list_any, IsDistinct, range_with_len}
 use Rattle.std.specs.List.Sorted.{IsPermutation, IsStrictlyIncreasing}
 use Rattle.mpi_model.specs.declared.layout.Sends.{Sends}
+use Rattle.mpi_model.specs.declared.layout.TheConstants.{MOST_RANKS, MOST_COMMS}
 use Rattle.mpi_model.specs.declared.layout.fault.LayoutFault.{LayoutFault}
 use Rattle.mpi_model.specs.declared.layout.fault.LayoutFault.TheVariants.{RankCount, CommCount, DoubleComm, EmptyComm, MemberRange, DoubleMember, World, Numbers}
 use Rattle.mpi_model.specs.declared.layout.comm.Stretch.{Stretch}
@@ -27,8 +28,8 @@ pub record IsGroup (ranks : ℕ) (members : List ℕ) : Type 0 where
 -- What holds of every layout. The world has all ranks, in their order (MPI 4.0, 11.2).
 pub record IsLayout (l : Parts) : Type 0 where
   pub some_rank : 0 < l.ranks
-  pub few_ranks : l.ranks ≤ 1024
-  pub few_comms : length l.comms ≤ 65536
+  pub few_ranks : l.ranks ≤ MOST_RANKS
+  pub few_comms : length l.comms ≤ MOST_COMMS
   pub rising : IsStrictlyIncreasing (ids l.comms)
   pub groups : All (λ g. IsGroup l.ranks g.members) l.comms
   pub world : members_of l.comms l.world ≡ Some (range_with_len 0 l.ranks)
@@ -102,8 +103,8 @@ comm_fault ranks world gs =
 -- The first fault of a layout of these communicators, in the order of the numbers.
 abbrev pub fault_of : ℕ → ℕ → List Communicator → Option LayoutFault
 fault_of ranks world gs =
-    if (ranks == 0) || nat_lt 1024 ranks then Some RankCount
-    else if nat_lt 65536 (length gs) then Some CommCount
+    if (ranks == 0) || nat_lt MOST_RANKS ranks then Some RankCount
+    else if nat_lt MOST_COMMS (length gs) then Some CommCount
     else comm_fault ranks world gs
 
 -- The communicator that a call of a rank names: the world for every rank of the run, or the one that the rank names so in

@@ -15,4 +15,5 @@ pub mod Devices
 pub mod Trusts
 pub mod Fit
 pub mod Events
+pub mod Calls
 pub mod Packing

@@ -1,10 +1,11 @@
 //! Calls of MPI, with what they name.
 
 ghost use Rattle.std.specs.Prelude.{◌≡◌, ◌↔◌, IsTrue, IfOk};
+ghost use Rattle.mpi_model.specs.Calls.{comm_of};
 ghost use Rattle.mpi_model.specs.Events.{IsCall};
 
 use crate::collective::Collective;
-use crate::envelope::{Exchange, Mode, ProbeEnvelope, ReceiveEnvelope, SendEnvelope};
+use crate::envelope::{CommRef, Exchange, Mode, ProbeEnvelope, ReceiveEnvelope, SendEnvelope};
 use crate::list::Requests;
 use std::alloc::AllocError;
 
@@ -94,6 +95,35 @@ impl Call {
             Call::Imrecv => Call::Imrecv,
             Call::Unread => Call::Unread,
         })
+    }
+
+    /// The communicator that the call names, where it names one: both sides of a Sendrecv name one (MPI 4.0, 3.10).
+    pub fn comm(&self) -> Option<CommRef>
+        ensures { result ≡ comm_of self.now }
+    {
+        match self {
+            Call::Send(_, e) | Call::Isend(_, e) | Call::SendInit(_, e) => Some(e.envelope().comm),
+            Call::Recv(e) | Call::Irecv(e) | Call::RecvInit(e) => Some(e.envelope().comm),
+            Call::Sendrecv(both) => Some(both.send().comm),
+            Call::Collective(c) | Call::Icollective(c) => Some(c.comm()),
+            Call::Probe(e) | Call::Mprobe(e) | Call::Improbe(e) => Some(e.comm()),
+            Call::Local
+            | Call::Finalize
+            | Call::Wait(_)
+            | Call::Waitall(_)
+            | Call::Waitany(_)
+            | Call::Waitsome(_)
+            | Call::Test(_)
+            | Call::Testall(_)
+            | Call::Testany(_)
+            | Call::Testsome(_)
+            | Call::Cancel(_)
+            | Call::Free(_)
+            | Call::Start(_)
+            | Call::Startall(_)
+            | Call::Imrecv
+            | Call::Unread => None,
+        }
     }
 
     /// Tells that every value of the call lies in its range. It does nothing: it is for proofs.

@@ -4,6 +4,7 @@ ghost use Rattle.std.specs.Prelude.{◌≡◌, ◌≢◌, ◌==◌, ◌<◌, ◌
 ghost use Rattle.std.specs.List.{position_from};
 ghost use Rattle.mpi_model.specs.Communicators.{communicators, ids_with, members_of};
 ghost use Rattle.mpi_model.specs.Layouts.{Holds, IsGroup, IsLayout, fault_of, named};
+ghost use Rattle.mpi_model.specs.declared.layout.TheConstants.{MOST_RANKS};
 ghost use Rattle.mpi_model.specs.declared.layout.fault.LayoutFault.TheVariants.{Memory};
 
 use crate::envelope::CommRef;
@@ -144,7 +145,7 @@ impl Layout {
     /// The number of ranks, 1 to [`MOST_RANKS`].
     pub fn ranks(&self) -> u32
         ensures value { result ≡ self.now.ranks }
-        ensures range { (0 < result) × (result ≤ 1024) }
+        ensures range { (0 < result) × (result ≤ MOST_RANKS) }
     {
         self.ranks
     }

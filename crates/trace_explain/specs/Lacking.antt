@@ -1,6 +1,7 @@
 -- The communicators that calls name and the layout doesn't have: by the number in the call, with how many calls name it.
 use Rattle.std.specs.Prelude.{ℕ, zero, suc, ◌+◌, ◌/◌, ◌%◌, ◌==◌, Bool, if◌then◌else◌, is_none, nat_lt, position, Option, Some, None, List, [], ◌∷◌, ◌++◌, codes, decimal, length, slice_get, unwrap_or}
 use Rattle.std.specs.List.{flat_map}
+use Rattle.mpi_model.specs.Calls.{comm_of}
 use Rattle.mpi_model.specs.Failures.{one_more}
 use Rattle.mpi_model.specs.Layouts.{Parts, named}
 use Rattle.mpi_model.specs.declared.envelope.CommRef.{CommRef}
@@ -9,7 +10,6 @@ use Rattle.mpi_model.specs.declared.event.Event.{Event}
 use Rattle.mpi_model.specs.declared.event.Event.TheVariants.{Enter, Return}
 use Rattle.trace_know.specs.Prefix.{event_at}
 use Rattle.trace_know.specs.View.{View}
-use Rattle.trace_ops.specs.Foreign.{comm_of}
 use Rattle.trace_node.specs.Answer.{Answered}
 use Rattle.trace_explain.specs.declared.lacking.Lacked.{Lacked}
 use Rattle.trace_explain.specs.Sections.{entry_of}

@@ -6,7 +6,6 @@ ghost use Rattle.call_words.specs.Texts.{Adds};
 ghost use Rattle.trace_know.specs.Cell.{shown};
 ghost use Rattle.trace_know.specs.Prefix.{event_at, event_of};
 ghost use Rattle.trace_explain.specs.Sections.{entry_of};
-ghost use Rattle.trace_ops.specs.Foreign.{comm_of};
 ghost use Rattle.trace_explain.specs.Lacking.{calls_read, calls_word, has_number, lacked_by, lacked_number, lacked_text, lacking_below, lacking_line, lacking_line_of, lacking_text, next_lacked_text, no_lacking, once_more, other_lacked_text, some_lacking_text, with_calls, with_new, with_number, with_place};
 
 use crate::shown::MOST_SHOWN;
@@ -103,35 +102,6 @@ impl Lacking {
     }
 }
 
-/// The communicator that a call names.
-fn comm_of(call: &Call) -> Option<CommRef>
-    ensures { result ≡ comm_of call.now }
-{
-    match call {
-        Call::Send(_, e) | Call::Isend(_, e) | Call::SendInit(_, e) => Some(e.envelope().comm),
-        Call::Recv(e) | Call::Irecv(e) | Call::RecvInit(e) => Some(e.envelope().comm),
-        Call::Sendrecv(both) => Some(both.send().comm),
-        Call::Collective(c) | Call::Icollective(c) => Some(c.comm()),
-        Call::Probe(e) | Call::Mprobe(e) | Call::Improbe(e) => Some(e.comm()),
-        Call::Local
-        | Call::Finalize
-        | Call::Wait(_)
-        | Call::Waitall(_)
-        | Call::Waitany(_)
-        | Call::Waitsome(_)
-        | Call::Test(_)
-        | Call::Testall(_)
-        | Call::Testany(_)
-        | Call::Testsome(_)
-        | Call::Cancel(_)
-        | Call::Free(_)
-        | Call::Start(_)
-        | Call::Startall(_)
-        | Call::Imrecv
-        | Call::Unread => None,
-    }
-}
-
 /// The number by which call `n` of the rank names a communicator that the layout doesn't have.
 fn lacked_number(layout: &Layout, rank: u32, n: u64, comm: Option<CommRef>) -> Option<u32>
     ensures { result ≡ lacked_number layout.now rank n comm }
@@ -154,7 +124,7 @@ fn lacked_by(layout: &Layout, rank: u32, n: u64, cell: Cell<'_>) -> Option<u32>
     ensures { result ≡ lacked_by layout.now rank n (event_of (shown cell.entry)) }
 {
     match cell {
-        Cell::One(Event::Enter(call, _)) => lacked_number(layout, rank, n, comm_of(call)),
+        Cell::One(Event::Enter(call, _)) => lacked_number(layout, rank, n, call.comm()),
         Cell::One(Event::Return(_, _)) => None,
         Cell::Nothing | Cell::Contradiction => None,
     }

@@ -4,6 +4,7 @@ use Rattle.std.specs.Option.{option_map, option_and_then}
 use Rattle.mpi_model.specs.declared.envelope.Peer.{Peer}
 use Rattle.mpi_model.specs.declared.envelope.Peer.TheVariants as peers
 use Rattle.mpi_model.specs.declared.envelope.CommRef.{CommRef}
+use Rattle.mpi_model.specs.Calls.{comm_of}
 use Rattle.mpi_model.specs.declared.call.Call.{Call}
 use Rattle.mpi_model.specs.declared.call.Call.TheVariants as calls
 use Rattle.mpi_model.specs.Kinds.{has_root}
@@ -25,38 +26,6 @@ group_at layout comm = option_map (λ members. record { comm = comm; members = m
 -- then a member, names a communicator so in that call.
 abbrev pub group_named : Parts → ℕ → ℕ → CommRef → Option Group
 group_named layout rank n comm = option_and_then (group_at layout) (named layout rank n comm)
-
--- The communicator that a call names, where it names one; both sides of a Sendrecv name one (MPI 4.0, 3.10). A start names
--- none: that of its init says where it takes part.
-abbrev pub comm_of : Call → Option CommRef
-comm_of (calls.Send mode e) = Some e.comm
-comm_of (calls.Isend mode e) = Some e.comm
-comm_of (calls.Recv e) = Some e.comm
-comm_of (calls.Irecv e) = Some e.comm
-comm_of (calls.Sendrecv x) = Some x.send.comm
-comm_of (calls.Collective c) = Some c.comm
-comm_of (calls.Icollective c) = Some c.comm
-comm_of (calls.Probe e) = Some e.comm
-comm_of (calls.SendInit mode e) = Some e.comm
-comm_of (calls.RecvInit e) = Some e.comm
-comm_of (calls.Mprobe e) = Some e.comm
-comm_of (calls.Improbe e) = Some e.comm
-comm_of calls.Local = None
-comm_of calls.Finalize = None
-comm_of (calls.Wait request) = None
-comm_of (calls.Waitall requests) = None
-comm_of (calls.Waitany requests) = None
-comm_of (calls.Waitsome requests) = None
-comm_of (calls.Test request) = None
-comm_of (calls.Testall requests) = None
-comm_of (calls.Testany requests) = None
-comm_of (calls.Testsome requests) = None
-comm_of (calls.Cancel request) = None
-comm_of (calls.Free request) = None
-comm_of (calls.Start request) = None
-comm_of (calls.Startall requests) = None
-comm_of calls.Imrecv = None
-comm_of calls.Unread = None
 
 -- the rank in the group that a peer names
 abbrev pub peer_rank : Peer → Option ℕ

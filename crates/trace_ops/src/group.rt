@@ -1,7 +1,7 @@
 //! The communicators that calls name, and the calls that the layout doesn't know.
 
 ghost use Rattle.std.specs.Prelude.{◌≡◌};
-ghost use Rattle.trace_ops.specs.Foreign.{are_within, comm_of, group_named, group_of, is_foreign, is_foreign_in, is_root_within, is_within, peer_rank};
+ghost use Rattle.trace_ops.specs.Foreign.{are_within, group_named, group_of, is_foreign, is_foreign_in, is_root_within, is_within, peer_rank};
 ghost use Rattle.trace_ops.specs.Groups.{IsWorldOf, plain_group};
 
 use mpi_model::{Call, Collective, CommRef, Layout, Peer};
@@ -28,35 +28,6 @@ pub(crate) fn group_named<'a>(
     let comm = layout.named(rank, n, comm)?;
     let members = layout.members(comm)?;
     Some(Group { comm, members })
-}
-
-/// The communicator that a call names, where it names one; both sides of a Sendrecv name one (MPI 4.0, 3.10).
-fn comm_of(call: &Call) -> Option<CommRef>
-    ensures { result ≡ comm_of call.now }
-{
-    match call {
-        Call::Send(_, e) | Call::Isend(_, e) | Call::SendInit(_, e) => Some(e.envelope().comm),
-        Call::Recv(e) | Call::Irecv(e) | Call::RecvInit(e) => Some(e.envelope().comm),
-        Call::Sendrecv(both) => Some(both.send().comm),
-        Call::Collective(c) | Call::Icollective(c) => Some(c.comm()),
-        Call::Probe(e) | Call::Mprobe(e) | Call::Improbe(e) => Some(e.comm()),
-        Call::Local
-        | Call::Finalize
-        | Call::Wait(_)
-        | Call::Waitall(_)
-        | Call::Waitany(_)
-        | Call::Waitsome(_)
-        | Call::Test(_)
-        | Call::Testall(_)
-        | Call::Testany(_)
-        | Call::Testsome(_)
-        | Call::Cancel(_)
-        | Call::Free(_)
-        | Call::Start(_)
-        | Call::Startall(_)
-        | Call::Imrecv
-        | Call::Unread => None,
-    }
 }
 
 /// The rank in the group that a peer names.
@@ -148,7 +119,7 @@ pub(crate) fn group_given_world<'a>(
     requires { IsWorldOf layout.now rank world }
     ensures { plain_group result ≡ group_of layout.now rank n call.now }
 {
-    let group = named_given_world(layout, rank, n, comm_of(call)?, world)?;
+    let group = named_given_world(layout, rank, n, call.comm()?, world)?;
     if are_within(group.members, call) {
         Some(group)
     } else {
@@ -169,7 +140,7 @@ fn group_of<'a>(layout: &'a Layout, rank: u32, n: u64, call: &Call) -> Option<Gr
 pub(crate) fn is_foreign_in(group: Option<Group<'_>>, call: &Call) -> bool
     ensures { result ≡ is_foreign_in (plain_group group.entry) call.now }
 {
-    group.is_none() && comm_of(call).is_some()
+    group.is_none() && call.comm().is_some()
 }
 
 /// Whether call `n` of the rank is foreign, by the group in which it takes part.
