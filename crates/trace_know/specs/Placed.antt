@@ -3,6 +3,7 @@ use Rattle.std.specs.Prelude.{◌≡◌, ℕ, ◌+◌, ◌%◌, ◌^◌, ◌<◌
 use Rattle.std.specs.declared.cmp.Ordering.TheVariants.{Less}
 use Rattle.mpi_model.specs.declared.event.Event.TheVariants.{Enter, Return}
 use Rattle.trace_know.specs.declared.cell.Known.{Known}
+use Rattle.trace_know.specs.declared.segment.TheConstants.{PLACES}
 use Rattle.trace_know.specs.declared.cell.Known.TheVariants.{One, Contradiction}
 use Rattle.trace_know.specs.View.{View, place_cmp, cell}
 
@@ -15,7 +16,7 @@ IsHalfOf place Contradiction = ⊤
 -- what is known stands at a place that a trace can have
 pub record IsPlaced (rank place : ℕ) (known : Known) : Type 0 where
   pub ranks : rank < 2 ^ 32
-  pub places : place < 2 ^ 40
+  pub places : place < PLACES
   pub half : IsHalfOf place known
 
 -- what holds of the view of every knowledge

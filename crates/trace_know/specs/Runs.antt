@@ -5,6 +5,7 @@ use Rattle.std.specs.FinMap.{empty, get, len}
 use Rattle.trace_know.specs.declared.cell.Known.{Known}
 use Rattle.trace_know.specs.declared.cell.Known.TheVariants.{One, Contradiction}
 use Rattle.trace_know.specs.declared.run.Run.{Run}
+use Rattle.trace_know.specs.declared.segment.TheConstants.{PLACES}
 use Rattle.trace_know.specs.View.{View, join}
 use Rattle.trace_know.specs.Rows.{row}
 use Rattle.trace_know.specs.Cell.{IsAtMost}
@@ -60,7 +61,7 @@ pub record IsCounted (run : Run) : Type 0 where
 -- the run has cells, all at places of a trace, and counts them rightly
 pub record IsFilled (run : Run) : Type 0 where
   pub some : 0 < length run.cells.items
-  pub places : end_place run ≤ 2 ^ 40
+  pub places : end_place run ≤ PLACES
   pub counted : IsCounted run
 
 -- the runs rise from a spot on, with a gap before each

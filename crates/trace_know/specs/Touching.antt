@@ -1,7 +1,8 @@
 -- Runs that touch, room for them, and what comes of the one that takes in the other.
-use Rattle.std.specs.Prelude.{◌≡◌, ℕ, ◌+◌, ◌^◌, ◌≤◌, length, max, min}
+use Rattle.std.specs.Prelude.{◌≡◌, ℕ, ◌+◌, ◌≤◌, length, max, min}
 use Rattle.std.specs.VecDeque.{deque_capacity}
 use Rattle.trace_know.specs.declared.run.Run.{Run}
+use Rattle.trace_know.specs.declared.segment.TheConstants.{PLACES}
 use Rattle.trace_know.specs.Runs.{IsCounted, end_place, of_run}
 use Rattle.trace_know.specs.View.{join}
 
@@ -32,7 +33,7 @@ pub record GoesInto (low : ℕ) (base piece run : Run) : Type 0 where
 pub record CanTakeIn (piece run : Run) : Type 0 where
   pub rank : piece.rank ≡ run.rank
   pub touches : Touches piece run
-  pub places : end_place piece ≤ 2 ^ 40
+  pub places : end_place piece ≤ PLACES
   pub counted : IsCounted run
 
 -- the new run has what the old one and a piece had together, from where the first of them begins to where the last ends

@@ -3,6 +3,7 @@
 ghost use Rattle.std.specs.Prelude.{◌≡◌, ◌↔◌, ◌+◌, ◌++◌, ◌∷◌, [], ◌^◌, ◌<◌, ◌≤◌, IsTrue, OnOk, OnErr, IfOk, IfErr, IfSome, IsSome, length, map, slice_get};
 ghost use Rattle.std.specs.FinMap.{empty, insert, entries, len};
 ghost use Rattle.std.specs.Option.{option_map, option_copied};
+ghost use Rattle.trace_know.specs.declared.segment.TheConstants.{PLACES};
 ghost use Rattle.trace_know.specs.Cell.{shown, put_known};
 ghost use Rattle.trace_know.specs.Placed.{ArePlaced, IsPast, IsPlaced, IsKnowledge};
 ghost use Rattle.trace_know.specs.Listing.{cells_of, conflicts_of};
@@ -216,7 +217,7 @@ impl Knowledge {
     /// memory nothing changes.
     pub fn put_run(&mut self, rank: u32, first: u64, cells: Vec<Known>) -> Result<(), AllocError>
         requires some { 0 < length cells.items }
-        requires places { first + length cells.items ≤ 2 ^ 40 }
+        requires places { first + length cells.items ≤ PLACES }
         requires placed { ArePlaced rank first cells.items }
         requires last { IsPast self.old rank first }
         ensures ok { OnOk result (entries self.new ≡ entries self.old ++ placed_cells rank first cells.items) }
