@@ -1,7 +1,7 @@
 -- Runs, and a patch that takes the place of those that it touches.
-use Rattle.std.proofs.Common.{inl, inr, ◌≡◌, ℕ, ◌+◌, ◌-◌, ◌^◌, ◌<◌, ◌≤◌, max, suc, zero, Bool, cond, Option, Some, None, List, [], ◌∷◌, ◌++◌, length, take, drop, reverse, slice_index_or, refl, sym, ap, subst, ◌∙◌, arith}
+use Rattle.std.proofs.Common.{inl, inr, ◌≡◌, ℕ, ◌+◌, ◌-◌, ◌^◌, ◌<◌, ◌≤◌, max, suc, zero, Bool, cond, Option, Some, None, List, [], ◌∷◌, ◌++◌, length, take, drop, slice_index_or, refl, sym, ap, subst, ◌∙◌, arith}
 use Rattle.std.proofs.lemmas.Bool.{cases_lt}
-use Rattle.std.proofs.lemmas.List.{get_or_default, reverse-append, take_more}
+use Rattle.std.proofs.lemmas.List.{get_or_default, take_more}
 use Rattle.std.specs.Ordering.{eq_by_cmp}
 use Rattle.std.specs.FinMap.{empty, get}
 use Rattle.trace_know.specs.declared.cell.Known.{Known}
@@ -15,7 +15,7 @@ use Rattle.trace_know.specs.View.{View, IsBelow, place_cmp, join}
 use Rattle.trace_know.proofs.Fronts.{between, runs-past}
 use Rattle.trace_know.proofs.Joins.{exact_places, equal, get-join, join-assoc, join-comm, join-idem, join-empty, join-below, above_other, least_above}
 use Rattle.trace_know.proofs.Lookups.{nothing, row-in, runs-found}
-use Rattle.trace_know.proofs.Order.{filled, lower, rises, same-rank, runs-remove, taken_below, last_end-next}
+use Rattle.trace_know.proofs.Order.{filled, rises, same-rank, runs-remove, taken_below, last_end-next}
 use Rattle.trace_know.proofs.Rows.{get-single, join-swap}
 use Rattle.trace_know.proofs.SameEvents.{false_or_true}
 
@@ -205,49 +205,17 @@ pub above-last : (low : ℕ) (rs : List Run) (x : Run) → Above low rs → last
 above-last low [] x a b f = (b, f, tt)
 above-last low (r ∷ rs) x a b f = (a.0, a.1, above-last (end_of r) rs x a.2 b f)
 
--- ---- the last run of a list moved, or dropped
+-- ---- the last run of a list
 
-last-run : (rs : List Run) (n : ℕ) (d : Run) → suc n ≡ length rs → rs ≡ take n rs ++ slice_index_or rs n d ∷ []
+pub last-run : (rs : List Run) (n : ℕ) (d : Run) → suc n ≡ length rs → rs ≡ take n rs ++ slice_index_or rs n d ∷ []
 last-run [] n d h = absurd (omega arith)
 last-run (r ∷ []) zero d h = refl
 last-run (r ∷ []) (suc n) d h = absurd (omega arith)
 last-run (r ∷ s ∷ rs) zero d h = absurd (omega arith)
 last-run (r ∷ s ∷ rs) (suc n) d h = ap (λ (xs : List Run). r ∷ xs) (last-run (s ∷ rs) n d (omega arith))
 
-pub split-last : (rs : List Run) (d : Run) → 0 < length rs → of_runs rs ≡ join (of_runs (take (length rs - 1) rs)) (of_run (last_of rs d))
-split-last rs d h = ap of_runs (last-run rs (length rs - 1) d (omega arith)) ∙ of-last (take (length rs - 1) rs) (last_of rs d)
-
 pub end-last : (rs : List Run) (d : Run) → 0 < length rs → last_end 0 rs ≡ end_of (last_of rs d)
 end-last rs d h = ap (last_end 0) (last-run rs (length rs - 1) d (omega arith)) ∙ last_end-last 0 (take (length rs - 1) rs) (last_of rs d)
-
-pub above-take : (low i : ℕ) (rs : List Run) → Above low rs → Above low (take i rs)
-above-take low zero rs a = tt
-above-take low (suc i) [] a = tt
-above-take low (suc i) (r ∷ rs) a = (a.0, a.1, above-take (end_of r) i rs a.2)
-
-pub take-at : (rs : List Run) (n i : ℕ) (d : Run) → i < n → slice_index_or (take n rs) i d ≡ slice_index_or rs i d
-take-at rs zero i d h = absurd (omega arith)
-take-at [] (suc n) i d h = refl
-take-at (r ∷ rs) (suc n) zero d h = refl
-take-at (r ∷ rs) (suc n) (suc i) d h = take-at rs n i d (omega arith)
-
-shorter : (n : ℕ) (rs : List Run) → length (take n rs) ≤ n
-shorter zero rs = omega arith
-shorter (suc n) [] = omega arith
-shorter (suc n) (r ∷ rs) = let rest = shorter n rs in omega arith
-
-pub reverse-last : (falling : List Run) (x : Run) → reverse (falling ++ x ∷ []) ≡ x ∷ reverse falling
-reverse-last falling x = reverse-append falling (x ∷ [])
-
--- the first view is that of runs without the last, which is put before those that were moved
-pub moved : (a other x up : View) → join (join a other) (join x up) ≡ join (join (join a x) other) up
-moved a other x up = sym (join-assoc (join a other) x up) ∙ ap (λ (v : View). join v up) (join-swap a other x)
-
--- what is dropped is in the last of the patch
-pub dropped : (a x rest p up : View) → join p x ≡ p → join (join a (join rest p)) up ≡ join (join (join a x) (join rest p)) up
-dropped a x rest p up has =
-    let grown : join (join rest p) x ≡ join rest p = join-assoc rest p x ∙ ap (join rest) has in
-    ap (λ (v : View). join v up) (ap (join a) (sym grown) ∙ sym (join-assoc a (join rest p) x) ∙ join-swap a (join rest p) x)
 
 -- ---- the first runs of a list, and one more
 
@@ -271,63 +239,3 @@ added held patch taken x so_far = sym (join-assoc held patch x) ∙ ap (λ (v : 
 -- one of the runs that are held is put into the patch
 pub touched : (held patch before x : View) → join held patch ≡ join held before → join held x ≡ held → join held (join patch x) ≡ join held before
 touched held patch before x so_far has = sym (join-assoc held patch x) ∙ join-swap held patch x ∙ ap (λ (v : View). join v patch) has ∙ so_far
-
--- ---- a step of the walk from behind over runs and a patch
-
--- the last of some runs, behind all others, is put before those that were moved
-pub moved-runs : (rs other up : List Run) (d : Run) → Above 0 rs → 0 < length rs → last_end 0 other < start_of (last_of rs d) → Above (last_end 0 rs) up
-    → Above (last_end 0 (take (length rs - 1) rs)) (last_of rs d ∷ up) × Above (last_end 0 other) (last_of rs d ∷ up)
-moved-runs rs other up d a h before behind =
-    let f = filled 0 (length rs - 1) rs d a (omega arith) in
-    let below = taken_below 0 (length rs - 1) rs d a (omega arith) in
-    let rest = subst (λ (n : ℕ). Above n up) (end-last rs d h) behind in
-    ((below, f, rest), (before, f, rest))
-
-pub moved-view : (rs other up : List Run) (d : Run) → 0 < length rs → join (join (of_runs (take (length rs - 1) rs)) (of_runs other)) (of_runs (last_of rs d ∷ up)) ≡ join (join (of_runs rs) (of_runs other)) (of_runs up)
-moved-view rs other up d h = moved (of_runs (take (length rs - 1) rs)) (of_runs other) (of_run (last_of rs d)) (of_runs up)
-    ∙ ap (λ (v : View). join (join v (of_runs other)) (of_runs up)) (sym (split-last rs d h))
-
--- the same of the patch
-pub moved-patch : (rs patch up : List Run) (d : Run) → 0 < length patch → join (join (of_runs rs) (of_runs (take (length patch - 1) patch))) (of_runs (last_of patch d ∷ up)) ≡ join (join (of_runs rs) (of_runs patch)) (of_runs up)
-moved-patch rs patch up d h =
-    ap (λ (v : View). join v (of_runs (last_of patch d ∷ up))) (join-comm (of_runs rs) (of_runs (take (length patch - 1) patch)))
-    ∙ moved-view patch rs up d h ∙ ap (λ (v : View). join v (of_runs up)) (join-comm (of_runs patch) (of_runs rs))
-
--- the last of the runs is dropped, since the last of the patch covers it
-pub dropped-view : (rs patch up : List Run) (d e : Run) → 0 < length rs → 0 < length patch → join (of_run (last_of patch e)) (of_run (last_of rs d)) ≡ of_run (last_of patch e)
-    → join (join (of_runs (take (length rs - 1) rs)) (of_runs patch)) (of_runs up) ≡ join (join (of_runs rs) (of_runs patch)) (of_runs up)
-dropped-view rs patch up d e h k has =
-    let a = of_runs (take (length rs - 1) rs) in
-    let rest = of_runs (take (length patch - 1) patch) in
-    ap (λ (v : View). join (join a v) (of_runs up)) (split-last patch e k)
-    ∙ dropped a (of_run (last_of rs d)) rest (of_run (last_of patch e)) (of_runs up) has
-    ∙ ap (λ (v : View). join (join v (join rest (of_run (last_of patch e)))) (of_runs up)) (sym (split-last rs d h))
-    ∙ ap (λ (v : View). join (join (of_runs rs) v) (of_runs up)) (sym (split-last patch e k))
-
-pub less-behind : (rs up : List Run) (d : Run) → Above 0 rs → 0 < length rs → Above (last_end 0 rs) up → Above (last_end 0 (take (length rs - 1) rs)) up
-less-behind rs up d a h behind =
-    let below = taken_below 0 (length rs - 1) rs d a (omega arith) in
-    let end = end-last rs d h in
-    lower (last_end 0 rs) (last_end 0 (take (length rs - 1) rs)) up (omega arith) behind
-
--- fewer runs on either side
-pub covers-fewer : (patch runs : List Run) → Covers patch runs → 0 < length runs → Covers patch (take (length runs - 1) runs)
-covers-fewer patch runs c h = λ i j d e k l s t.
-    let n = length runs - 1 in
-    let size : length (take n runs) ≤ n = shorter n runs in
-    let same : slice_index_or (take n runs) i d ≡ slice_index_or runs i d = take-at runs n i d (omega arith) in
-    subst (λ (r : Run). join (of_run (slice_index_or patch j e)) (of_run r) ≡ of_run (slice_index_or patch j e)) (sym same)
-    (c i j d e (omega arith) l (subst (λ (r : Run). start_of r ≤ end_of (slice_index_or patch j e)) same s) (subst (λ (r : Run). start_of (slice_index_or patch j e) ≤ end_of r) same t))
-
-pub covers-less : (patch runs : List Run) → Covers patch runs → 0 < length patch → Covers (take (length patch - 1) patch) runs
-covers-less patch runs c h = λ i j d e k l s t.
-    let n = length patch - 1 in
-    let size : length (take n patch) ≤ n = shorter n patch in
-    let same : slice_index_or (take n patch) j e ≡ slice_index_or patch j e = take-at patch n j e (omega arith) in
-    subst (λ (p : Run). join (of_run p) (of_run (slice_index_or runs i d)) ≡ of_run p) (sym same)
-    (c i j d e k (omega arith) (subst (λ (p : Run). start_of (slice_index_or runs i d) ≤ end_of p) same s) (subst (λ (p : Run). start_of p ≤ end_of (slice_index_or runs i d)) same t))
-
--- a list that is not empty has a run
-pub some-run : {P : Type 0} → (rs : List Run) → 0 < length rs → ((d : Run) → P) → P
-some-run [] h f = absurd (omega arith)
-some-run (r ∷ rs) h f = f r

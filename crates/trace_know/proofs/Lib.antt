@@ -24,6 +24,7 @@ pub mod Behind
 pub mod Below
 pub mod Beyond
 pub mod Covering
+pub mod Merging
 pub mod AnyOrder
 pub mod Alone
 pub mod Packing

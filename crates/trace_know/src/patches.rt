@@ -1,9 +1,8 @@
 //! Joining whole lists of runs by a patch: runs that take the place of those that they touch.
 
-ghost use Rattle.std.specs.Prelude.{◌≡◌, ◌+◌, ◌-◌, ◌<◌, ◌≤◌, vec_len, vec_capacity, length, take, reverse, IsTrue, IsFalse, OnOk, OnErr, IfOk, [], ◌∷◌, ◌++◌};
-ghost use Rattle.trace_know.specs.declared.run.Run.{Run as RunValue};
-ghost use Rattle.trace_know.specs.Patches.{AddTheSame, AllSettled, Covers, IsClear, LastIsBehind, LastIsReached};
-ghost use Rattle.trace_know.specs.Runs.{Above, IsFilled, of_runs, last_of};
+ghost use Rattle.std.specs.Prelude.{◌≡◌, ◌+◌, ◌<◌, ◌≤◌, vec_len, vec_capacity, length, reverse, IsTrue, IsFalse, OnOk, OnErr, IfOk, []};
+ghost use Rattle.trace_know.specs.Patches.{AddTheSame, AllSettled, Covers, IsClear, IsMerging, LastIsBehind, LastIsReached, of_all};
+ghost use Rattle.trace_know.specs.Runs.{Above, IsFilled, of_runs};
 ghost use Rattle.trace_know.specs.View.{join};
 
 use crate::boxed::BoxedRun;
@@ -87,25 +86,27 @@ fn is_behind(runs: &RunList, others: &RunList) -> bool
     true
 }
 
-/// Moves the last run of a list to the end of another.
-fn move_last(runs: &mut RunList, falling: &mut Vec<BoxedRun>)
-    requires some { 0 < length runs.old.items }
+/// Takes the last run out of two lists: it goes over to those that fall. One of the runs that a run of the patch
+/// touches is let go, since that one has all of it.
+fn merge_last(runs: &mut RunList, patch: &mut RunList, falling: &mut Vec<BoxedRun>)
+    requires some { 0 < length runs.old.items + length patch.old.items }
     requires room { vec_len falling.old < vec_capacity falling.old }
-    ensures runs { runs.new.items ≡ take (length runs.old.items - 1) runs.old.items }
-    ensures len { length runs.new.items + 1 ≡ length runs.old.items }
-    ensures falling { (d : RunValue) → falling.new.items ≡ falling.old.items ++ last_of runs.old.items d ∷ [] }
-    ensures room { (vec_len falling.new ≡ vec_len falling.old + 1) × (vec_capacity falling.new ≡ vec_capacity falling.old) }
+    requires merging { IsMerging runs.old.items patch.old.items falling.old.items }
+    ensures merging { IsMerging runs.new.items patch.new.items falling.new.items }
+    ensures view { of_all runs.new.items patch.new.items falling.new.items
+        ≡ of_all runs.old.items patch.old.items falling.old.items }
+    ensures fewer { length runs.new.items + length patch.new.items + 1 ≡ length runs.old.items + length patch.old.items }
+    ensures room { (vec_len falling.new ≤ vec_len falling.old + 1) × (vec_capacity falling.new ≡ vec_capacity falling.old) }
 {
-    let run = runs.pop();
-    falling.push_reserved(run);
-}
-
-/// Lets the last run of a list go.
-fn drop_last(runs: &mut RunList)
-    requires some { 0 < length runs.old.items }
-    ensures runs { runs.new.items ≡ take (length runs.old.items - 1) runs.old.items }
-    ensures len { length runs.new.items + 1 ≡ length runs.old.items }
-{
+    if is_behind(runs, patch) {
+        falling.push_reserved(runs.pop());
+        return;
+    }
+    if is_behind(patch, runs) {
+        falling.push_reserved(patch.pop());
+        return;
+    }
+    // (the patch has all that this one has)
     runs.pop();
 }
 
@@ -138,16 +139,7 @@ fn patched(runs: RunList, patch: RunList, between: Vec<BoxedRun>, room: RunList)
     let mut patch = patch;
     let mut falling = between;
     while runs.len() + patch.len() > 0 {
-        if is_behind(&runs, &patch) {
-            move_last(&mut runs, &mut falling);
-            continue;
-        }
-        if is_behind(&patch, &runs) {
-            move_last(&mut patch, &mut falling);
-            continue;
-        }
-        // (the patch has all that this one has)
-        drop_last(&mut runs);
+        merge_last(&mut runs, &mut patch, &mut falling);
     }
     turned(falling, room)
 }

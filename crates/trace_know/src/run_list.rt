@@ -1,9 +1,8 @@
 //! A list of runs in chunks: to put one among a million others moves about a thousand pointers, and so does taking one out.
 
-ghost use Rattle.std.specs.Prelude.{◌≡◌, ◌+◌, ◌-◌, ◌<◌, ◌≤◌, ◌++◌, ◌∷◌, [], length, take, slice_index_or, slice_set, OnOk, IfOk};
+ghost use Rattle.std.specs.Prelude.{◌≡◌, ◌+◌, ◌-◌, ◌<◌, ◌≤◌, ◌++◌, ◌∷◌, [], length, slice_index_or, slice_set, OnOk, IfOk};
 ghost use Rattle.std.specs.Borrow.{sem};
 ghost use Rattle.std.specs.List.{SameBelow, ShiftedDown, insert, remove};
-ghost use Rattle.trace_know.specs.declared.run.Run.{Run as RunValue};
 ghost use Rattle.trace_know.specs.Lent.{LendsRun};
 
 use crate::boxed::BoxedRun;
@@ -145,8 +144,7 @@ impl RunList {
     /// Takes out the last run.
     pub(crate) fn pop(&mut self) -> BoxedRun
         requires { 0 < length self.old.items }
-        ensures value { (d : RunValue) → result ≡ slice_index_or self.old.items (length self.old.items - 1) d }
-        ensures items { self.new.items ≡ take (length self.old.items - 1) self.old.items }
+        ensures items { self.old.items ≡ self.new.items ++ result ∷ [] }
         ensures len { length self.new.items + 1 ≡ length self.old.items }
         ensures room { self.new.room ≡ self.old.room }
     {
