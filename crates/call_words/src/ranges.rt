@@ -8,9 +8,9 @@ use crate::text::Text;
 
 /// Ranks from the first to the last, which are held until it shows whether the next one joins them.
 #[derive(Clone, Copy, Debug)]
-pub struct Range {
-    pub first: u32,
-    pub last: u32,
+struct Range {
+    first: u32,
+    last: u32,
 }
 
 /// Whether the rank stands directly behind the range.
@@ -21,7 +21,7 @@ fn follows(held: Range, rank: u32) -> bool
 }
 
 /// Goes on to a rank: it joins the range that is held, or that range is added and the rank begins one.
-pub fn put_next(out: &mut Text, held: Option<Range>, rank: u32) -> Option<Range>
+fn put_next(out: &mut Text, held: Option<Range>, rank: u32) -> Option<Range>
     ensures text { Adds out.old out.new (text_before held rank) }
     ensures held { result ≡ next_range held rank }
 {
@@ -54,7 +54,7 @@ fn put_behind(out: &mut Text, held: Range, rank: u32) -> Range
 }
 
 /// Adds the range that is held.
-pub fn put_held(out: &mut Text, held: Option<Range>)
+fn put_held(out: &mut Text, held: Option<Range>)
     ensures { Adds out.old out.new (held_text held) }
 {
     if let Some(range) = held {

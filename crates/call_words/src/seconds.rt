@@ -16,7 +16,7 @@ pub fn put_seconds(out: &mut Text, nanoseconds: u64)
 }
 
 /// The last nine decimal digits of a number.
-fn nine_digits(n: u64) -> [u8; 9]
+pub fn nine_digits(n: u64) -> [u8; 9]
     ensures { result ≡ nine_digits n }
 {
     [
