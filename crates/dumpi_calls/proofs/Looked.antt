@@ -19,7 +19,7 @@ use Rattle.dumpi_text.specs.Kept.{kept_after, kept_call, more_kept}
 use Rattle.dumpi_calls.specs.Looked.{is_named_in, looked_choice, looked_parameters}
 use Rattle.dumpi_calls.specs.Outcomes.{all_done, any_done, flag, groups_in, index, index_where_set, indices_in, is_flagged, outcome_in, posted, several, status, statuses}
 use Rattle.dumpi_calls.specs.Readings.{◌>>=◌, asked_tag_in, comm_in, dest_in, name_of, non_negative_in, number_in, numbers_in, request_in, requests_in, root_in, root_named, source_in, text_of}
-use Rattle.dumpi_calls.specs.Rows.{Row, cancel_call, collective_call, collective_in, collective_parameters, envelope_of, envelope_of_receive, envelope_of_send, exit_in, first_missing, free_call, function_in, function_named, icollective_call, improbe_call, irecv_call, isend_call, missing_by, missing_in, mprobe_call, probe_call, probe_parameters, probed_in, read_by, receive_parameters, receive_part, recv_call, recv_init_call, returned, row, row_of, send_call, send_init_call, send_parameters, send_part, sendrecv_call, sendrecv_parameters, sendrecv_replace_call, sendrecv_replace_parameters, start_call, startall_call, test_call, testall_call, testany_call, testsome_call, typed, typed_by, unless_missing, wait_call, waitall_call, waitany_call, waitsome_call}
+use Rattle.dumpi_calls.specs.Rows.{Row, cancel_call, collective_call, collective_in, collective_parameters, envelope_of, envelope_of_receive, envelope_of_send, exit_in, first_missing, free_call, function_named, icollective_call, improbe_call, irecv_call, isend_call, missing_by, missing_in, mprobe_call, probe_call, probe_parameters, probed_in, read_by, receive_parameters, receive_part, recv_call, recv_init_call, returned, row, send_call, send_init_call, send_parameters, send_part, sendrecv_call, sendrecv_parameters, sendrecv_replace_call, sendrecv_replace_parameters, start_call, startall_call, test_call, testall_call, testany_call, testsome_call, typed, typed_by, unless_missing, wait_call, waitall_call, waitany_call, waitsome_call}
 use Rattle.dumpi_calls.specs.declared.envelope.Part.{Part}
 use Rattle.dumpi_calls.specs.declared.function.Function.{Function}
 use Rattle.dumpi_calls.specs.declared.function.Function.TheVariants as functions

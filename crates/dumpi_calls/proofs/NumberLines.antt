@@ -1,12 +1,11 @@
 -- Numbers that fill the rest of a line: digits, and a note after a space or none.
-use Rattle.std.proofs.Common.{◌≡◌, ◌∙◌, ℕ, ◌-◌, ◌<◌, ◌≤◌, true, false, not, ℤ, pos, neg_ℤ, Option, Some, List, [], ◌∷◌, ◌++◌, append_assoc, codes, length, length-append, drop, take, arith, ap, sym, refl}
+use Rattle.std.proofs.Common.{◌≡◌, ◌∙◌, ℕ, ◌-◌, ◌<◌, ◌≤◌, true, ℤ, pos, neg_ℤ, Option, Some, List, [], ◌∷◌, ◌++◌, append_assoc, codes, length, length-append, drop, take, arith, ap, sym, refl}
 use Rattle.std.specs.List.{list_all}
 use Rattle.std.proofs.lemmas.List.{append-nil, length-take-le, take-append-drop, take_rest}
 use Rattle.dumpi_text.specs.Number.{name_of, note_front}
 use Rattle.dumpi_text.specs.Time.{is_digit, number_of}
 use Rattle.dumpi_text.specs.Tokens.{after_spaces, digit_parts}
-use Rattle.dumpi_text.specs.Usual.{EndsLine, begins_bare, ends_bare, is_inside}
-use Rattle.dumpi_text.specs.Value.{value_of}
+use Rattle.dumpi_text.specs.Usual.{begins_bare, ends_bare, is_inside}
 use Rattle.dumpi_text.specs.declared.number.NumName.{NumName}
 use Rattle.dumpi_text.specs.declared.number.NumName.TheVariants.{AnySource, AnyTag, CommWorld, Other}
 use Rattle.dumpi_text.specs.declared.value.Value.{Value}

@@ -8,9 +8,7 @@ use Rattle.dumpi_calls.specs.Seen.{Seen}
 use Rattle.dumpi_calls.specs.Walks.{Advances, FailsAfter, Follows, FollowsKept, FollowsWhole, IsRead, IsReadFault, IsReadStop, IsTypedAs, LacksNext, RefusesCall, RefusesNext, StopsWalk, Takes}
 use Rattle.dumpi_calls.specs.declared.fault.WalkCause.{WalkCause}
 use Rattle.dumpi_calls.specs.declared.fault.WalkFault.{WalkFault}
-use Rattle.dumpi_calls.specs.declared.function.Function.{Function}
 use Rattle.dumpi_calls.specs.declared.in_place.Whole.{Whole}
-use Rattle.dumpi_calls.specs.declared.typing.TypedCall.{TypedCall}
 use Rattle.dumpi_calls.specs.declared.walking.HandedCall.{HandedCall}
 
 -- ---- the next call of a text

@@ -1,4 +1,4 @@
-use Rattle.std.proofs.Common.{arith, of_z, to_z, w64}
+use Rattle.std.proofs.Common.{arith, to_z, w64}
 use Rattle.std.proofs.lemmas.Int.{ints}
 use Rattle.dumpi_calls.proofs.NumberLines.{digits_told}
 use Rattle.dumpi_calls.proofs.number_lines.digits_line.Goals as goal
