@@ -1,5 +1,5 @@
 -- What one parameter says. What is missing or can't be read is unknown.
-use Rattle.std.specs.Prelude.{ℕ, ℤ, pos, negsuc, ◌==◌, Bool, true, false, not, List, [], ◌∷◌, Option, Some, None, codes, nat_lt, option_and_then, option_map, if◌then◌else◌}
+use Rattle.std.specs.Prelude.{ℕ, ℤ, pos, negsuc, ◌^◌, ◌==◌, Bool, true, false, not, List, [], ◌∷◌, Option, Some, None, codes, nat_lt, option_and_then, option_map, if◌then◌else◌}
 use Rattle.std.specs.Str.{bytes_eq}
 use Rattle.dumpi_text.specs.Value.{value_of}
 use Rattle.dumpi_text.specs.declared.number.Num.{Num}
@@ -31,12 +31,12 @@ number_of text = option_and_then one_number (value_of text)
 
 -- the values of a C `int` (MPI 4.0, 2.6.3)
 abbrev pub int_of : ℤ → Option ℤ
-int_of (pos n) = if nat_lt n 2147483648 then Some (pos n) else None
-int_of (negsuc n) = if nat_lt n 2147483648 then Some (negsuc n) else None
+int_of (pos n) = if nat_lt n (2 ^ 31) then Some (pos n) else None
+int_of (negsuc n) = if nat_lt n (2 ^ 31) then Some (negsuc n) else None
 
 -- a number from 0 to 2^31 - 1
 abbrev pub natural_of : ℤ → Option ℕ
-natural_of (pos n) = if nat_lt n 2147483648 then Some n else None
+natural_of (pos n) = if nat_lt n (2 ^ 31) then Some n else None
 natural_of (negsuc n) = None
 
 -- whether a flag is set
@@ -102,7 +102,7 @@ group_in (Some text) = group_by (bytes_eq (note_of text) (codes "MPI_GROUP_EMPTY
 
 -- a color, by its number: none where that is negative
 abbrev pub color_number : ℤ → Option Color
-color_number (pos n) = if nat_lt n 2147483648 then Some (colors.Number n) else None
+color_number (pos n) = if nat_lt n (2 ^ 31) then Some (colors.Number n) else None
 color_number (negsuc n) = Some colors.Undefined
 
 -- a color: none under the note of MPI_UNDEFINED, else by its number

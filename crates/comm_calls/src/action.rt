@@ -4,13 +4,13 @@ ghost use Rattle.std.specs.Prelude.{◌≡◌, IfOk};
 ghost use Rattle.std.specs.Option.{option_copied};
 ghost use Rattle.comm_calls.specs.Actions.{IsAction, IsGroup, IsMake, other_of};
 
-use crate::fault::Memory;
 use crate::function::{Function, Giver, Grouper, Maker};
 use crate::group::{group_call_in, grouped_in};
 use crate::making::{made_of, making_in, parent_of};
 use crate::number::{comm_in, given_in, natural_in};
 use crate::parameter::{any_of, text_of};
 use comm_makings::Action;
+use dumpi_calls::Memory;
 use dumpi_text::RawCall;
 use std::alloc::Global;
 

@@ -3,8 +3,8 @@
 ghost use Rattle.std.specs.Prelude.{◌≡◌, IfOk};
 ghost use Rattle.comm_calls.specs.Calls.{beside_at, beside_in, or_number};
 
-use crate::fault::Memory;
 use crate::number::beside;
+use dumpi_calls::Memory;
 use dumpi_text::RawCall;
 use std::alloc::Global;
 

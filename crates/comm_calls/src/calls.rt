@@ -8,12 +8,11 @@ ghost use Rattle.comm_calls.specs.Uses.{changed_of_call};
 
 use crate::action::action_in;
 use crate::beside::known_or_beside;
-use crate::fault::Memory;
 use crate::function::{Function, function_named};
 use crate::size::known_or_size;
 use crate::uses::{NumberUses, named_number};
 use comm_makings::{Action, CommCall, Given, RankCalls};
-use dumpi_calls::RawSink;
+use dumpi_calls::{Memory, RawSink};
 use dumpi_text::RawCall;
 use mpi_model::Call;
 use std::alloc::Global;

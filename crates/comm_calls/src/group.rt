@@ -3,12 +3,12 @@
 ghost use Rattle.std.specs.Prelude.{◌≡◌, IfOk};
 ghost use Rattle.comm_calls.specs.Actions.{IsGroupCall, group_at, grouped_in};
 
-use crate::fault::Memory;
 use crate::function::Grouper;
 use crate::lists::{ranges_in, ranks_in};
 use crate::number::{comm_in, group_in};
 use crate::parameter::text_of;
 use comm_makings::{GroupCall, GroupName};
+use dumpi_calls::Memory;
 use dumpi_text::RawCall;
 use std::alloc::Global;
 

@@ -11,13 +11,12 @@
 //! - [`making`], [`group`], [`action`]: what a call does
 //! - [`beside`]: the number that stands beside a name; [`size`]: the size of the world
 //! - [`uses`]: which calls of the profile name which numbers
-//! - [`calls`]: the calls of a text; [`fault`]: that memory was lacking; [`laws`]: what holds of all of them
+//! - [`calls`]: the calls of a text; [`laws`]: what holds of all of them
 #![tactic(auto)]
 
 mod action;
 mod beside;
 mod calls;
-mod fault;
 mod function;
 mod group;
 mod laws;
@@ -29,5 +28,4 @@ mod size;
 mod uses;
 
 pub use calls::CommCalls;
-pub use fault::Memory;
 pub use laws::calls_read_in_turn;

@@ -6,9 +6,9 @@ ghost use Rattle.comm_calls.specs.Lists.{all_ints, flags_in, ints_in, ints_of, n
 ghost use Rattle.comm_calls.specs.Numbers.{is_set};
 ghost use Rattle.dumpi_text.specs.Value.{value_of};
 
-use crate::fault::Memory;
 use crate::number::{int_of, natural_of};
 use comm_makings::RankRange;
+use dumpi_calls::Memory;
 use dumpi_text::{Num, Value, ValueFault, parse_value};
 use std::alloc::Global;
 

@@ -6,12 +6,12 @@ ghost use Rattle.comm_calls.specs.Actions.{IsCart, IsCartSub, IsMaking, made_of,
 ghost use Rattle.comm_calls.specs.Lists.{flags_in, sizes_in};
 ghost use Rattle.comm_calls.specs.Parameters.{text_of};
 
-use crate::fault::Memory;
 use crate::function::Maker;
 use crate::lists::{flags_in, sizes_in};
 use crate::number::{color_in, flag_in, group_in, int_in};
 use crate::parameter::{any_of, either_of, text_of};
 use comm_makings::Making;
+use dumpi_calls::Memory;
 use dumpi_text::RawCall;
 use std::alloc::Global;
 

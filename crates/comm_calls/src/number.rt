@@ -4,9 +4,9 @@ ghost use Rattle.std.specs.Prelude.{◌≡◌, IfOk, option_and_then, option_map
 ghost use Rattle.std.specs.Option.{option_copied};
 ghost use Rattle.comm_calls.specs.Numbers.{beside, color_by, color_in, color_number, comm_in, comm_of, flag_in, given_by, given_in, given_number, group_by, group_in, group_number, int_in, int_of, is_null, is_set, natural_in, natural_of, number_of, one_number, only};
 
-use crate::fault::Memory;
 use crate::parameter::has_note;
 use comm_makings::{Color, Given, GroupName};
+use dumpi_calls::Memory;
 use dumpi_text::{Num, Value, ValueFault, parse_value};
 use std::alloc::Global;
 

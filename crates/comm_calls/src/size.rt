@@ -4,10 +4,10 @@ ghost use Rattle.std.specs.Prelude.{◌≡◌, IfOk};
 ghost use Rattle.std.specs.Option.{option_copied};
 ghost use Rattle.comm_calls.specs.Calls.{is_of_world, or_number, size_in, tells_size};
 
-use crate::fault::Memory;
 use crate::function::is;
 use crate::number::natural_in;
 use crate::parameter::{has_note, text_of};
+use dumpi_calls::Memory;
 use dumpi_text::RawCall;
 use std::alloc::Global;
 

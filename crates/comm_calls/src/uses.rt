@@ -3,8 +3,8 @@
 ghost use Rattle.std.specs.Prelude.{◌≡◌, ◌++◌, ◌∷◌, [], None, OnErr, OnOk, slice_get};
 ghost use Rattle.comm_calls.specs.Uses.{AreGoing, first_use, going_in, longer_at, named_number, next_in, number_of, open_after, open_with, uses_after};
 
-use crate::fault::Memory;
 use comm_makings::Uses;
+use dumpi_calls::Memory;
 use indexmap::IndexMap;
 use mpi_model::{Call, CommRef};
 use std::alloc::Global;
