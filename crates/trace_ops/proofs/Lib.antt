@@ -3,6 +3,7 @@ pub mod Sorting
 pub mod Placing
 pub mod Behind
 pub mod Holding
+pub mod Nothing
 pub mod Parts
 pub mod Rising
 pub mod Owned

@@ -1,7 +1,5 @@
 -- What is gathered of a rank's steps from a place on, while they are gone through from the last to the first.
 use Rattle.std.specs.Prelude.{◌≡◌, ℕ, Option, List, [], ◌∷◌, ◌++◌, length, reverse}
-use Rattle.std.specs.Ordering.{int_eq}
-use Rattle.indexmap.specs.IndexMap.{get}
 use Rattle.mpi_model.specs.Layouts.{Parts}
 use Rattle.trace_ops.specs.Active.{active_of}
 use Rattle.trace_ops.specs.Called.{plain_called}
@@ -12,6 +10,7 @@ use Rattle.trace_ops.specs.RankOps.{foreign_of}
 use Rattle.trace_ops.specs.Receive.{receives_of}
 use Rattle.trace_ops.specs.Round.{rounds_of}
 use Rattle.trace_ops.specs.Steps.{Step, begun_step, steps_at, whole}
+use Rattle.trace_ops.specs.Tables.{kept_of}
 use Rattle.trace_ops.specs.Touched.{Follows}
 use Rattle.trace_ops.specs.Trust.{cancelled_of, gives_back}
 use Rattle.trace_ops.specs.declared.called.Called.{Called}
@@ -29,7 +28,7 @@ pub record IsGathered (layout : Parts) (rank : ℕ) (calls : List Entry) (steps 
   pub cancelled : reverse g.cancelled.items ≡ cancelled_of rank steps
   pub foreign : g.foreign ≡ foreign_of layout rank steps
   pub given_back : g.given_back ≡ gives_back steps
-  pub touched : Follows calls steps (get int_eq g.touched)
+  pub touched : Follows calls steps (kept_of g.touched)
 
 -- These steps are added: whatever steps behind them were gathered, now both are.
 abbrev pub Adds : Parts → ℕ → List Entry → List Step → (old new : Gathered) → Type 0

@@ -3,12 +3,12 @@ use Rattle.std.specs.Prelude.{◌≡◌, ℕ, ℤ, ◌+◌, Bool, false, true, i
 use Rattle.std.specs.List.{list_any}
 use Rattle.std.specs.Option.{option_map, option_and_then}
 use Rattle.std.specs.Ordering.{int_eq}
-use Rattle.indexmap.specs.IndexMap.{IndexMap, get}
 use Rattle.mpi_model.specs.declared.told.Told.{Told}
 use Rattle.mpi_model.specs.declared.told.Told.TheVariants.{Nothing, Source, Cancelled}
 use Rattle.mpi_model.specs.Tells.{is_cancelled}
 use Rattle.trace_ops.specs.declared.completed.Completed.{Completed}
 use Rattle.trace_ops.specs.declared.touched.End.{End}
+use Rattle.trace_ops.specs.declared.table.Touched.{Touched}
 use Rattle.trace_ops.specs.declared.touched.Touch.{Touch}
 use Rattle.trace_ops.specs.Calls.{Entry}
 use Rattle.trace_ops.specs.Ended.{ended_by}
@@ -16,7 +16,7 @@ use Rattle.trace_ops.specs.Places.{completed_in, places_of}
 use Rattle.trace_ops.specs.Request.{given_in, is_completing}
 use Rattle.trace_ops.specs.Steps.{IsPartOf, Step, given_by, touches, whole}
 use Rattle.trace_ops.specs.Source.{told_at, told_in, told_by}
-use Rattle.trace_ops.specs.Tables.{Becomes}
+use Rattle.trace_ops.specs.Tables.{Becomes, kept_of}
 use Rattle.trace_ops.specs.Trust.{cancel_of, has_cancel, said_by}
 
 -- a call ends the number, and its completions from a place on tell of it
@@ -135,19 +135,19 @@ abbrev pub IsKept : Option ℤ → (ℤ → Option Touch) → Option Touch → T
 IsKept given kept touch = (x : ℤ) → given ≡ Some x → touch ≡ kept x
 
 -- The step is noted: of whatever steps behind it something was kept, now it is kept of both.
-abbrev pub Notes : {S : Type 0} → List Entry → Step → (old new : IndexMap ℤ Touch S) → Type 0
-Notes calls s old new = (later : List Step) → Follows calls later (get int_eq old) → Follows calls (s ∷ later) (get int_eq new)
+abbrev pub Notes : List Entry → Step → (old new : Touched) → Type 0
+Notes calls s old new = (later : List Step) → Follows calls later (kept_of old) → Follows calls (s ∷ later) (kept_of new)
 
 -- the number that a place completes, if one, is noted
-abbrev pub NotesEnd : {S : Type 0} → ℕ → ℕ → Option Completed → (old new : IndexMap ℤ Touch S) → Type 0
-NotesEnd call place completed old new = Becomes (λ x touch. if is_completed_at x completed then Some (ends_at call place) else touch) old new
+abbrev pub NotesEnd : ℕ → ℕ → Option Completed → (old new : Touched) → Type 0
+NotesEnd call place completed old new = Becomes (λ x touch. if is_completed_at x completed then Some (ends_at call place) else touch) (kept_of old) (kept_of new)
 
 -- call n, which is one step, is noted
-abbrev pub NotesCall : {S : Type 0} → ℕ → Entry → (old new : IndexMap ℤ Touch S) → Type 0
+abbrev pub NotesCall : ℕ → Entry → (old new : Touched) → Type 0
 NotesCall n c old new = (calls : List Entry) → slice_get calls n ≡ Some c → Notes calls (whole n c) old new
 
 -- a part of call n that gives this number, if one, is noted
-abbrev pub NotesPart : {S : Type 0} → ℕ → Option ℤ → (old new : IndexMap ℤ Touch S) → Type 0
+abbrev pub NotesPart : ℕ → Option ℤ → (old new : Touched) → Type 0
 NotesPart n given old new = (calls : List Entry) (s : Step) → IsPartOf calls n s → given ≡ given_by s → Notes calls s old new
 
 -- The call cancels no request, and gives no number.
@@ -156,5 +156,5 @@ pub record IsQuiet (c : Entry) : Type 0 where
   pub gives_none : given_in c ≡ None
 
 -- Call n, which cancels no request and gives no number, is noted.
-abbrev pub NotesQuiet : {S : Type 0} → ℕ → Entry → (old new : IndexMap ℤ Touch S) → Type 0
+abbrev pub NotesQuiet : ℕ → Entry → (old new : Touched) → Type 0
 NotesQuiet n c old new = IsQuiet c → NotesCall n c old new

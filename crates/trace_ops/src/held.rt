@@ -71,7 +71,7 @@ pub(crate) fn init_of<'a>(held: &Held<'a>, x: i64) -> Option<Init<'a>>
 
 /// Notes that an init holds the number.
 fn note_init<'a>(held: &mut Held<'a>, x: i64, init: Init<'a>) -> Result<(), AllocError>
-    ensures { OnOk result (ChangesAt x (λ before. Some init.entry) held.old held.new) }
+    ensures { OnOk result (ChangesAt x (λ before. Some init.entry) (get int_eq held.old) (get int_eq held.new)) }
 {
     held.insert(x, init)?;
     Ok(())
@@ -79,7 +79,7 @@ fn note_init<'a>(held: &mut Held<'a>, x: i64, init: Init<'a>) -> Result<(), Allo
 
 /// Notes that no init holds the number.
 fn note_none(held: &mut Held<'_>, x: i64)
-    ensures { ChangesAt x (λ before. None) held.old held.new }
+    ensures { ChangesAt x (λ before. None) (get int_eq held.old) (get int_eq held.new) }
 {
     let _init = held.swap_remove(&x);
 }

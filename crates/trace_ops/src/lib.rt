@@ -15,7 +15,7 @@
 //! - [`group`]: the groups that calls name, and the calls that the layout doesn't know
 //! - [`held`]: which inits hold the numbers that calls start: each part of a Startall is a step of
 //!   its own, as each other call is one
-//! - [`touched`], [`fate`]: what the steps behind a post tell of its request; [`trust`]: what a
+//! - [`table`], [`touched`], [`fate`]: what the steps behind a post tell of its request; [`trust`]: what a
 //!   Cancel leaves of it; [`active`]: the active requests, and the idle numbers
 //! - [`message`]: messages and collective entries; [`receive`]: receives with their told sources,
 //!   and what a probe looks for
@@ -40,6 +40,7 @@ mod rank_state;
 mod receive;
 mod room;
 mod state;
+mod table;
 mod touched;
 mod trust;
 

@@ -2,16 +2,14 @@
 
 ghost use Rattle.std.specs.Prelude.{◌≡◌, Some, IfOk, OnOk};
 ghost use Rattle.std.specs.Option.{option_map};
-ghost use Rattle.indexmap.specs.IndexMap.{get};
-ghost use Rattle.std.specs.Ordering.{int_eq};
 ghost use Rattle.trace_ops.specs.Called.{places_by, plain_called};
 ghost use Rattle.trace_ops.specs.Request.{given_in};
-ghost use Rattle.trace_ops.specs.Tables.{Becomes, ChangesAt};
+ghost use Rattle.trace_ops.specs.Tables.{Becomes, ChangesAt, kept_of};
 ghost use Rattle.trace_ops.specs.Touched.{IsKept, NotesCall, NotesEnd, NotesPart, NotesQuiet, end_of, ends_at, is_any_cancelled, is_cancelled_at, marked, voided, with_ends, with_firsts, with_place, with_tellings};
 
 use crate::called::Called;
 use crate::completed::Completed;
-use indexmap::IndexMap;
+use crate::table::Touched;
 use mpi_model::Told;
 use std::alloc::AllocError;
 
@@ -33,14 +31,11 @@ pub(crate) struct Touch {
     pub cancelled: bool,
 }
 
-/// By number, what the calls behind do with it.
-pub(crate) type Touched = IndexMap<i64, Touch>;
-
 /// What is kept of the number.
 pub(crate) fn touch_of(touched: &Touched, x: i64) -> Option<Touch>
-    ensures { result ≡ get int_eq touched.now x }
+    ensures { result ≡ kept_of touched.now x }
 {
-    touched.get(&x).copied()
+    touched.get(x)
 }
 
 /// The call that ends a number, where one does.
@@ -82,7 +77,7 @@ fn note_end(
 
 /// Notes all numbers that the call completes, as if it told nothing.
 fn note_completed(touched: &mut Touched, call: usize, called: &Called<'_>) -> Result<(), AllocError>
-    ensures { OnOk result (Becomes (with_ends call (places_by called.now)) touched.old touched.new) }
+    ensures { OnOk result (Becomes (with_ends call (places_by called.now)) (kept_of touched.old) (kept_of touched.new)) }
 {
     let count = called.places();
     let mut place = count;
@@ -96,7 +91,7 @@ fn note_completed(touched: &mut Touched, call: usize, called: &Called<'_>) -> Re
 /// Notes for each number what the completions tell of it: the last of them first, so that at the
 /// end the first one decides.
 fn note_tellings(touched: &mut Touched, call: usize, called: &Called<'_>) -> Result<(), AllocError>
-    ensures { OnOk result (Becomes (with_tellings call 0 (places_by called.now)) touched.old touched.new) }
+    ensures { OnOk result (Becomes (with_tellings call 0 (places_by called.now)) (kept_of touched.old) (kept_of touched.new)) }
 {
     let mut place = called.places();
     while place > 0 {
@@ -132,7 +127,7 @@ fn is_any_cancelled(called: &Called<'_>) -> bool
 /// Notes for each number its first completion: the last of them first, so that at the end the first one stays.
 #[inline(always)]
 fn note_firsts(touched: &mut Touched, call: usize, called: &Called<'_>) -> Result<(), AllocError>
-    ensures { OnOk result (Becomes (with_firsts call 0 (places_by called.now)) touched.old touched.new) }
+    ensures { OnOk result (Becomes (with_firsts call 0 (places_by called.now)) (kept_of touched.old) (kept_of touched.new)) }
 {
     let mut place = called.places();
     while place > 0 {
@@ -173,7 +168,7 @@ fn note_telling(
     place: usize,
     completed: Option<Completed>,
 ) -> Result<(), AllocError>
-    ensures { OnOk result (Becomes (λ x touch. with_place call place x completed touch) touched.old touched.new) }
+    ensures { OnOk result (Becomes (λ x touch. with_place call place x completed touch) (kept_of touched.old) (kept_of touched.new)) }
 {
     let Some(completed) = completed else {
         return Ok(());
@@ -190,7 +185,7 @@ fn note_telling(
 
 /// Notes that the call which ends the number says that its request was cancelled.
 fn note_void(touched: &mut Touched, request: i64) -> Result<(), AllocError>
-    ensures { OnOk result (ChangesAt request (option_map voided) touched.old touched.new) }
+    ensures { OnOk result (ChangesAt request (option_map voided) (kept_of touched.old) (kept_of touched.new)) }
 {
     if let Some(touch) = touch_of(touched, request) {
         touched.insert(request, voided(touch))?;
@@ -214,8 +209,8 @@ fn voided(touch: Touch) -> Touch
 /// Notes the number that the call posts, and answers what was kept of it.
 #[inline(always)]
 fn note_post(touched: &mut Touched, call: usize, request: i64) -> Result<Option<Touch>, AllocError>
-    ensures noted { OnOk result (ChangesAt request (λ touch. Some (ends_at call 0)) touched.old touched.new) }
-    ensures kept { IfOk result (λ touch. touch ≡ get int_eq touched.old request) }
+    ensures noted { OnOk result (ChangesAt request (λ touch. Some (ends_at call 0)) (kept_of touched.old) (kept_of touched.new)) }
+    ensures kept { IfOk result (λ touch. touch ≡ kept_of touched.old request) }
 {
     let touch = touched.insert(request, ends_at(call, 0))?;
     Ok(touch)
@@ -223,7 +218,7 @@ fn note_post(touched: &mut Touched, call: usize, request: i64) -> Result<Option<
 
 /// Notes the number that a Cancel names.
 fn note_cancel(touched: &mut Touched, request: i64) -> Result<(), AllocError>
-    ensures { OnOk result (ChangesAt request (λ touch. Some (marked touch)) touched.old touched.new) }
+    ensures { OnOk result (ChangesAt request (λ touch. Some (marked touch)) (kept_of touched.old) (kept_of touched.new)) }
 {
     let end = end_of(touch_of(touched, request));
     touched.insert(
@@ -244,7 +239,7 @@ pub(crate) fn note(
     called: &Called<'_>,
 ) -> Result<Option<Touch>, AllocError>
     ensures follows { OnOk result (NotesCall n (plain_called called.now) touched.old touched.new) }
-    ensures kept { IfOk result (IsKept (given_in (plain_called called.now)) (get int_eq touched.old)) }
+    ensures kept { IfOk result (IsKept (given_in (plain_called called.now)) (kept_of touched.old)) }
 {
     match (called.cancels(), called.given()) {
         (Some(request), _) => {
@@ -270,7 +265,7 @@ pub(crate) fn note_part(
     given: Option<i64>,
 ) -> Result<Option<Touch>, AllocError>
     ensures follows { OnOk result (NotesPart n given touched.old touched.new) }
-    ensures kept { IfOk result (IsKept given (get int_eq touched.old)) }
+    ensures kept { IfOk result (IsKept given (kept_of touched.old)) }
 {
     match given {
         Some(request) => {

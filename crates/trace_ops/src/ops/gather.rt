@@ -20,7 +20,8 @@ use crate::message::{entered_in, message_in};
 use crate::ops::RankOps;
 use crate::rank_state::{state_of, waiting_of};
 use crate::receive::receive_in;
-use crate::touched::{Touched, note, note_part};
+use crate::table::Touched;
+use crate::touched::{note, note_part};
 use crate::trust::{cancelled_with, gives_back};
 use mpi_model::{Call, Layout, Message, OpName, Receive};
 use std::alloc::{AllocError, Global};
@@ -258,7 +259,7 @@ fn gather(
         cancelled: Vec::new(alloc),
         foreign: 0,
         given_back: false,
-        touched: Touched::new(alloc),
+        touched: Touched::new(alloc, calls.len())?,
     };
     let world = world_of(layout, rank);
     let mut left = holding.inits.len();

@@ -1,8 +1,6 @@
 use Rattle.std.proofs.Common.{◌≡◌, refl, sym, ◌∙◌, ap, subst, rules, w64, to_z, of_z}
 use Rattle.std.specs.Prelude.{ℤ, Option, Some, None, is_some, if◌then◌else◌}
 use Rattle.std.specs.List.{cons_option}
-use Rattle.std.specs.Ordering.{int_eq}
-use Rattle.indexmap.specs.IndexMap.{get}
 use Rattle.std.proofs.lemmas.Int.{to_z-of_z}
 use Rattle.trace_ops.specs.declared.entered.Entered.{Entered}
 use Rattle.trace_ops.specs.Active.{active_of, active_post}
@@ -17,6 +15,7 @@ use Rattle.trace_ops.specs.Steps.{Placed, Step, part_step, posted_by}
 use Rattle.trace_ops.specs.Trust.{cancelled_of, cancelled_post}
 use Rattle.trace_ops.proofs.Parts.{part_gives, part_gives_nothing_back, part_posts, start_enters_none, start_is_known}
 use Rattle.trace_ops.proofs.Taken.{turned_more, uncounted}
+use Rattle.trace_ops.specs.Tables.{kept_of}
 use Rattle.trace_ops.proofs.ops.gather.Gathered.add_part.Goals as goal
 
 pub returns-clause-gathered : goal.returns-clause-gathered
@@ -30,7 +29,7 @@ returns-clause-gathered c later before =
     let init = plain_init c.args.part.init in
     let s = part_step n c.args.part.part read x init in
     let p : Placed = record { step = s; later = later } in
-    let fate = c.fate_of-fate.ensures later (get int_eq c.args.self.now.touched) before.touched c.in_ok-touch.ensures.kept in
+    let fate = c.fate_of-fate.ensures later (kept_of c.args.self.now.touched) before.touched c.in_ok-touch.ensures.kept in
     let back : to_z w64 (of_z w64 x) ≡ x = to_z-of_z w64 x (search rules) in
     let posted : c.restarts-given.result ≡ posted_by s =
     c.restarts-given.ensures ∙ ap (λ (z : ℤ). if is_some read.outs then Some z else None) back ∙ sym (part_posts n c.args.part.part read x init start) in

@@ -1,7 +1,5 @@
 use Rattle.std.proofs.Common.{◌≡◌, refl, sym, ◌∙◌, subst}
 use Rattle.std.specs.Prelude.{ℤ, Option}
-use Rattle.std.specs.Ordering.{int_eq}
-use Rattle.indexmap.specs.IndexMap.{get}
 use Rattle.trace_ops.specs.Active.{active_of, active_post}
 use Rattle.trace_ops.specs.Called.{plain_called}
 use Rattle.trace_ops.specs.Fate.{IsFateOf}
@@ -13,6 +11,7 @@ use Rattle.trace_ops.specs.Steps.{Placed, Step, posted_by, whole}
 use Rattle.trace_ops.specs.Trust.{cancelled_of, cancelled_post}
 use Rattle.trace_ops.proofs.Behind.{posts_given}
 use Rattle.trace_ops.proofs.Taken.{counted_more, turned_more}
+use Rattle.trace_ops.specs.Tables.{kept_of}
 use Rattle.trace_ops.proofs.ops.gather.Gathered.add_whole.Goals as goal
 
 pub returns-clause-gathered : goal.returns-clause-gathered
@@ -24,7 +23,7 @@ returns-clause-gathered c later before =
     let s = whole n read in
     let p : Placed = record { step = s; later = later } in
     let posted : c.posted-posted.result ≡ posted_by s = c.posted-posted.ensures in
-    let fate = c.fate_of-fate.ensures later (get int_eq c.args.self.now.touched) before.touched (λ x h. c.in_ok-touch.ensures.kept x (posts_given n read x (sym posted ∙ h))) in
+    let fate = c.fate_of-fate.ensures later (kept_of c.args.self.now.touched) before.touched (λ x h. c.in_ok-touch.ensures.kept x (posts_given n read x (sym posted ∙ h))) in
     let told : IsFateOf (posted_by s) later c.fate_of-fate.result = subst (λ (o : Option ℤ). IsFateOf o later c.fate_of-fate.result) posted fate in
     record {
       sends = turned_more c.args.self.now.sends.items c.push_some.new.list.items (sends_of layout rank later) c.message_in.result (message_of layout rank p)
