@@ -4,7 +4,8 @@ use Rattle.std.specs.Str.{bytes_eq}
 use Rattle.text_notes.specs.Noted.{UnreadParts, counted, with_count}
 use Rattle.std.proofs.lemmas.Bool.{le-ltb, lt-ltb}
 use Rattle.text_notes.specs.Places.{first_where, place_of}
-use Rattle.text_notes.specs.Words.{Totals, added, all_added, most_shown}
+use Rattle.text_notes.specs.Words.{Totals, added, all_added}
+use Rattle.text_notes.specs.declared.totals.TheConstants.{MOST_SHOWN}
 use Rattle.text_notes.specs.Noted.{sum_of}
 
 -- the place in a list, by that in its rest
@@ -81,30 +82,30 @@ within name (f ∷ fs) i e = is_within (bytes_eq f.name name) (place_of name fs)
 
 -- ---- totals, with the calls of one function more
 
-by_place : (t : Totals) (f : UnreadParts) (p : Option ℕ) (b : Bool) → place_of f.name t.functions ≡ p → nat_lt (length t.functions) most_shown ≡ b
+by_place : (t : Totals) (f : UnreadParts) (p : Option ℕ) (b : Bool) → place_of f.name t.functions ≡ p → nat_lt (length t.functions) MOST_SHOWN ≡ b
     → added t f ≡ cond (is_some p || b) (record { functions = counted f.first f.count f.name t.functions; others = t.others }) (record { functions = t.functions; others = sum_of t.others f.count })
 by_place t f p b e room =
-    ap (λ (o : Option ℕ). cond (is_some o || nat_lt (length t.functions) most_shown) (record { functions = counted f.first f.count f.name t.functions; others = t.others }) (record { functions = t.functions; others = sum_of t.others f.count })) e
+    ap (λ (o : Option ℕ). cond (is_some o || nat_lt (length t.functions) MOST_SHOWN) (record { functions = counted f.first f.count f.name t.functions; others = t.others }) (record { functions = t.functions; others = sum_of t.others f.count })) e
     ∙ ap (λ (c : Bool). cond (is_some p || c) (record { functions = counted f.first f.count f.name t.functions; others = t.others }) (record { functions = t.functions; others = sum_of t.others f.count })) room
 
 -- one that is listed
 pub added_at : (t : Totals) (f : UnreadParts) (i : ℕ) (d : UnreadParts) → place_of f.name t.functions ≡ Some i
     → added t f ≡ record { functions = set t.functions i (with_count f.count (get_or t.functions i d)); others = t.others }
 added_at t f i d e =
-    by_place t f (Some i) (nat_lt (length t.functions) most_shown) e refl
+    by_place t f (Some i) (nat_lt (length t.functions) MOST_SHOWN) e refl
     ∙ ap (λ (fs : List UnreadParts). record { functions = fs; others = t.others }) (counted_at f.first f.count f.name t.functions i d e)
 
 -- one that isn't, where there is room
-pub added_last : (t : Totals) (f : UnreadParts) → place_of f.name t.functions ≡ None → length t.functions < most_shown
+pub added_last : (t : Totals) (f : UnreadParts) → place_of f.name t.functions ≡ None → length t.functions < MOST_SHOWN
     → added t f ≡ record { functions = t.functions ++ f ∷ []; others = t.others }
 added_last t f e room =
-    by_place t f None true e (lt-ltb (length t.functions) most_shown room)
+    by_place t f None true e (lt-ltb (length t.functions) MOST_SHOWN room)
     ∙ ap (λ (fs : List UnreadParts). record { functions = fs; others = t.others }) (counted_last f.first f.count f.name t.functions e)
 
 -- one that isn't, where there is none
-pub added_beside : (t : Totals) (f : UnreadParts) → place_of f.name t.functions ≡ None → most_shown ≤ length t.functions
+pub added_beside : (t : Totals) (f : UnreadParts) → place_of f.name t.functions ≡ None → MOST_SHOWN ≤ length t.functions
     → added t f ≡ record { functions = t.functions; others = sum_of t.others f.count }
-added_beside t f e full = by_place t f None false e (le-ltb (length t.functions) most_shown full)
+added_beside t f e full = by_place t f None false e (le-ltb (length t.functions) MOST_SHOWN full)
 
 -- those of some functions and of more
 pub added_more : (t : Totals) (fs gs : List UnreadParts) → all_added t (fs ++ gs) ≡ all_added (all_added t fs) gs

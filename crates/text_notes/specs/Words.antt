@@ -1,10 +1,12 @@
 -- What is said of the texts that were read.
 use Rattle.std.specs.Prelude.{◌+◌, ◌-◌, ◌&&◌, ◌||◌, ◌==◌, ℕ, zero, suc, Bool, true, false, not, List, [], ◌∷◌, ◌++◌, length, codes, decimal, filter, take, nat_le, nat_lt, is_some, Option, Some, None, if◌then◌else◌}
 use Rattle.std.specs.List.{flat_map, list_any}
+use Rattle.call_words.specs.More.{more_text}
 use Rattle.call_words.specs.Ranges.{named_ranks_text}
 use Rattle.text_notes.specs.Noted.{UnreadParts, counted, sum_of}
 use Rattle.text_notes.specs.Places.{first_where, place_of}
 use Rattle.dumpi_calls.specs.declared.walking.Walked.{Walked}
+use Rattle.text_notes.specs.declared.totals.TheConstants.{MOST_SHOWN}
 use Rattle.text_notes.specs.declared.start.Start.{Start}
 use Rattle.text_notes.specs.declared.start.Start.TheVariants.{Empty, Gzip, Utf16, Mark, Binary, Lines}
 use Rattle.text_notes.specs.declared.words.Kind.{Kind}
@@ -44,15 +46,6 @@ noted_of piece path file walked unread start = record {
 abbrev pub walked_in : NoteParts → Walked
 walked_in note = record { calls = note.calls; skipped = note.skipped; first_skipped = note.first_skipped; unfinished = note.unfinished }
 
--- how many of a kind are shown
-abbrev pub most_shown : ℕ
-most_shown = 10
-
--- `  and 3 more`
-abbrev pub more_text : ℕ → List ℕ
-more_text zero = []
-more_text (suc n) = codes "  and " ++ decimal (suc n) ++ codes " more\n"
-
 -- ---- names of functions: what isn't printed of ASCII stands as `?`, so nothing of a name is an order to a terminal
 
 -- a byte of a name: a printed character of ASCII, or `?`
@@ -76,7 +69,7 @@ no_totals = record { functions = []; others = 0 }
 
 -- a function is listed, or there is room for it
 abbrev pub has_room : List ℕ → List UnreadParts → Bool
-has_room name functions = is_some (place_of name functions) || nat_lt (length functions) most_shown
+has_room name functions = is_some (place_of name functions) || nat_lt (length functions) MOST_SHOWN
 
 -- the calls of a function of one text more
 abbrev pub added : Totals → UnreadParts → Totals
@@ -203,7 +196,7 @@ of_kind kind notes = filter (has_kind kind) notes
 
 -- a line for each of the first ten, and how many more there are
 abbrev pub kind_text : Kind → List NoteParts → List ℕ
-kind_text kind notes = flat_map (line_text kind) (take most_shown (of_kind kind notes)) ++ more_text (length (of_kind kind notes) - most_shown)
+kind_text kind notes = flat_map (line_text kind) (take MOST_SHOWN (of_kind kind notes)) ++ more_text (length (of_kind kind notes) - MOST_SHOWN)
 
 -- ---- the whole
 

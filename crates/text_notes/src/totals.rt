@@ -2,7 +2,8 @@
 
 ghost use Rattle.std.specs.Prelude.{◌≡◌, IfOk, OnOk};
 ghost use Rattle.std.specs.List.{flat_map};
-ghost use Rattle.text_notes.specs.Words.{added, all_added, most_shown, no_totals, totals_of, unread_of};
+ghost use Rattle.text_notes.specs.Words.{added, all_added, no_totals, totals_of, unread_of};
+ghost use Rattle.text_notes.specs.declared.totals.TheConstants.{MOST_SHOWN};
 
 use crate::function::{UnreadFunction, place_of};
 use crate::note::TextNote;

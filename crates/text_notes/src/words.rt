@@ -3,14 +3,15 @@
 ghost use Rattle.std.specs.Prelude.{◌≡◌, IfOk, if◌then◌else◌, nat_lt, [], ◌∷◌};
 ghost use Rattle.std.specs.List.{flat_map};
 ghost use Rattle.call_words.specs.Texts.{Adds};
-ghost use Rattle.text_notes.specs.Words.{at_line_text, byte_text, callless_text, count_text, first_skipped_text, functions_text, guess_text, has_kind, has_unread, kind_text, line_text, more_text, most_shown, name_text, next_text, notes_text, others_text, place_text, places_text, skipped_text, start_text, totals_of, totals_text, unread_text};
+ghost use Rattle.text_notes.specs.Words.{at_line_text, byte_text, callless_text, count_text, first_skipped_text, functions_text, guess_text, has_kind, has_unread, kind_text, line_text, name_text, next_text, notes_text, others_text, place_text, places_text, skipped_text, start_text, totals_of, totals_text, unread_text};
+ghost use Rattle.text_notes.specs.declared.totals.TheConstants.{MOST_SHOWN};
 
 use crate::function::UnreadFunction;
 use crate::note::TextNote;
 use crate::place::CallPlace;
 use crate::start::Start;
 use crate::totals::{MOST_SHOWN, Totals, totals_of};
-use call_words::Text;
+use call_words::{Text, put_more};
 use std::alloc::Global;
 
 /// What is said of a text.
@@ -22,17 +23,6 @@ pub enum Kind {
     Callless,
     /// How many of its lines were skipped.
     Skipped,
-}
-
-/// How many more there are, as `  and 3 more`.
-fn put_more(out: &mut Text, more: usize)
-    ensures { Adds out.old out.new (more_text more) }
-{
-    if more > 0 {
-        out.put(b"  and ");
-        out.put_number(more as u64);
-        out.put(b" more\n");
-    }
 }
 
 /// A byte of a name: a printed character of ASCII, or `?`.
@@ -221,7 +211,7 @@ fn put_line(out: &mut Text, kind: Kind, note: &TextNote)
 
 /// The line of a text, where fewer than ten stand before it.
 fn put_shown(out: &mut Text, kind: Kind, note: &TextNote, before: usize)
-    ensures { Adds out.old out.new (if nat_lt before most_shown then line_text kind note.now else []) }
+    ensures { Adds out.old out.new (if nat_lt before MOST_SHOWN then line_text kind note.now else []) }
 {
     if before < MOST_SHOWN {
         put_line(out, kind, note);

@@ -1,7 +1,8 @@
 use Rattle.std.proofs.Common.{◌≡◌, ◌∙◌, ◌<◌, ◌++◌, ◌∷◌, [], ℕ, List, None, Some, sym, ap, get_or, length, set, arith}
 use Rattle.text_notes.specs.Noted.{UnreadParts, with_count}
 use Rattle.text_notes.specs.Places.{place_of}
-use Rattle.text_notes.specs.Words.{Totals as TotalParts, added, most_shown}
+use Rattle.text_notes.specs.Words.{Totals as TotalParts, added}
+use Rattle.text_notes.specs.declared.totals.TheConstants.{MOST_SHOWN}
 use Rattle.text_notes.proofs.Found.{added_at, added_last, within}
 use Rattle.text_notes.proofs.totals.Totals.add.Goals as goal
 
@@ -28,7 +29,7 @@ returns-in_ok-push-in-None c =
     let items = c.self.inside.functions.items in
     let f = c.args.function.now in
     let place : place_of f.name items ≡ None = cc in
-    let room : length items < most_shown = omega arith in
+    let room : length items < MOST_SHOWN = omega arith in
     let t : TotalParts = record { functions = items; others = c.self.inside.others } in
     let more : c.push.new.self.items ≡ items ++ f ∷ [] = c.in_ok-push-in-None.ensures.items ∙ ap (λ (g : UnreadParts). items ++ g ∷ []) c.in_ok-copy-in-None.ensures in
     ap (λ (fs : List UnreadParts). record { functions = fs; others = c.self.inside.others }) more
