@@ -1,7 +1,6 @@
 -- A pairing of all messages, as a receive comes.
 use Rattle.std.proofs.Common.{subst, ◌≡◌, ℕ, zero, suc, ◌+◌, ◌<◌, true, false, List, [], ◌∷◌, ◌++◌, inl, ⊎_elim, sym, refl, ◌∙◌, ap, arith, length, take, get_or, Some, None}
 use Rattle.std.proofs.lemmas.List.{take_more, flat_map_more, append-nil}
-use Rattle.std.proofs.lemmas.Option.{get_or_from_slice_get}
 use Rattle.std.specs.Prelude.{slice_get}
 use Rattle.mpi_model.specs.declared.message.Message.{Message}
 use Rattle.mpi_model.specs.declared.message.Receive.{Receive}
@@ -39,6 +38,10 @@ use Rattle.trace_pair.proofs.Searched.{stands}
 use Rattle.trace_pair.proofs.Steps.{receive-taken}
 use Rattle.trace_pair.proofs.Taken.{taken_drops, taken_adds, taker_there, no_taker, all_wait, none_coupled, none_posted, waits_where}
 
+-- one message stands at a place
+pub one_there : (ms : List Message) (place : ℕ) (m n : Message) → slice_get ms place ≡ Some m → slice_get ms place ≡ Some n → m ≡ n
+one_there ms place m n e f = cc
+
 -- a receive of a new call is offered the message at a place, or none
 module _ (after : After) (ms : List Message) (qs more call : List Receive) (q : Receive) (adds : AddsReceives qs more call) (c : Has call q) where
   pub unsettled_at : is_settled q ≡ false → IsOfferedAt after ms qs more q None
@@ -55,17 +58,17 @@ module _ (after : After) (ms : List Message) (qs more call : List Receive) (q : 
       is_offered after ms qs more call adds q c settled (waiting_of b) free opened (couples_of b) held sole.0 sole.2 (plain sole.0 (stands b.messages.messages place sole.0 sole.1)).sure (λ u h f. absurd (none u h)),
     )
 
-    module _ (place : ℕ) (l : List Message) (d : Message) (sole : IsSolePlace b.messages q (Some place)) (same : l ≡ b.messages.messages) where
-      stands_at : get_or l place d ≡ sole.0
-      stands_at = get_or_from_slice_get l place sole.0 d (ap (λ (k : List Message). slice_get k place) same ∙ sole.1)
+    module _ (place : ℕ) (m : Message) (sole : IsSolePlace b.messages q (Some place)) (there : slice_get b.messages.messages place ≡ Some m) where
+      stands_at : m ≡ sole.0
+      stands_at = one_there b.messages.messages place m sole.0 there sole.1
 
-      pub not_sure_at : is_sure (get_or l place d).trust ≡ false → IsOfferedAt after ms qs more q None
+      pub not_sure_at : is_sure m.trust ≡ false → IsOfferedAt after ms qs more q None
       not_sure_at not = unsure_offered after ms qs more call adds q c settled (waiting_of b) free opened (couples_of b) held sole.0 sole.2 (subst (λ (x : Message). is_sure x.trust ≡ false) stands_at not)
 
-      pub open_at : SomeHides after opened (get_or l place d) → IsOfferedAt after ms qs more q None
+      pub open_at : SomeHides after opened m → IsOfferedAt after ms qs more q None
       open_at w = hidden_offered after ms qs more call adds q c settled (waiting_of b) free opened (couples_of b) held sole.0 sole.2 (subst (λ (x : Message). SomeHides after opened x) stands_at w)
 
-      pub offered_at : is_sure (get_or l place d).trust ≡ true → NoneHides after opened (get_or l place d) → IsOfferedAt after ms qs more q (Some place)
+      pub offered_at : is_sure m.trust ≡ true → NoneHides after opened m → IsOfferedAt after ms qs more q (Some place)
       offered_at sure none = (
         sole.0,
         ap (λ (k : List Message). slice_get k place) (sym is) ∙ sole.1,
@@ -78,17 +81,17 @@ module _ (after : After) (ms : List Message) (qs : List Receive) (b : Batch) (s 
     pub awaits_here : AwaitReceives after ms qs more (waiting_of b) (q ∷ b.free) s.opened (couples_of b)
     awaits_here = awaits_free after ms qs more q adds apart _ _ _ _ s.held settled (q ∷ b.free) (put_front b.free q)
 
-    module _ (new : Batch) (kept : new ≡ b) (place : ℕ) (l : List Message) (d : Message) (same : l ≡ new.messages.messages) (offered : IsOfferedAt after ms qs more q (Some place)) where
-      stands_there : get_or l place d ≡ offered.0
-      stands_there = get_or_from_slice_get l place offered.0 d (ap (λ (k : List Message). slice_get k place) (same ∙ ap (λ (x : Batch). x.messages.messages) kept ∙ s.messages) ∙ offered.1)
+    module _ (new : Batch) (kept : new ≡ b) (place : ℕ) (m : Message) (there : slice_get new.messages.messages place ≡ Some m) (offered : IsOfferedAt after ms qs more q (Some place)) where
+      stands_there : m ≡ offered.0
+      stands_there = one_there ms place m offered.0 (ap (λ (k : List Message). slice_get k place) (sym (ap (λ (x : Batch). x.messages.messages) kept ∙ s.messages)) ∙ there) offered.1
 
-      pub free_at : SomeFits new.free (get_or l place d) → IsTakenAt after ms qs more q None
+      pub free_at : SomeFits new.free m → IsTakenAt after ms qs more q None
       free_at f =
           let g = subst (λ (x : Batch). SomeFits x.free offered.0) kept (subst (λ (x : Message). SomeFits new.free x) stands_there f) in
           receive_left after ms qs more q adds apart settled _ b.free _ _ _ (put_front b.free q) awaits_here offered.0 offered.2.1
           (λ i. absent_receive after ms qs more q adds apart _ _ _ _ s.held (s.held.frees q i).0) g.0 g.1 g.2
 
-      pub taken_at : NoneFits new.free (get_or l place d) → IsTakenAt after ms qs more q (Some place)
+      pub taken_at : NoneFits new.free m → IsTakenAt after ms qs more q (Some place)
       taken_at none = (
         offered.0,
         offered.1,

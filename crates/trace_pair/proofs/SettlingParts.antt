@@ -1,7 +1,6 @@
 -- A pairing of all messages, as a call of several receives comes.
 use Rattle.std.proofs.Common.{subst, ◌≡◌, ◌⊎◌, ℕ, ◌+◌, ◌<◌, ◌≤◌, true, List, [], ◌∷◌, ◌++◌, inl, inr, ⊎_elim, sym, refl, ◌∙◌, ap, arith, length, take, get_or, Some, None}
 use Rattle.std.proofs.lemmas.List.{take_more, take_all}
-use Rattle.std.proofs.lemmas.Option.{get_or_from_slice_get}
 use Rattle.std.specs.Prelude.{slice_get}
 use Rattle.mpi_model.specs.declared.message.Message.{Message}
 use Rattle.mpi_model.specs.declared.message.Receive.{Receive}
@@ -26,7 +25,7 @@ use Rattle.trace_pair.proofs.Obeyed.{posted_lt}
 use Rattle.trace_pair.proofs.Listed.{has_take}
 use Rattle.trace_pair.proofs.Ranks.{has_left, has_right, has_either}
 use Rattle.trace_pair.proofs.ReceiveParts as parts
-use Rattle.trace_pair.proofs.Settling.{takes_at}
+use Rattle.trace_pair.proofs.Settling.{one_there, takes_at}
 use Rattle.trace_pair.proofs.Steps.{receive-keeps, receive-adds_none}
 
 -- the same receives are done, or the same ones stand in another list
@@ -122,7 +121,7 @@ module _ (after : After) (ms : List Message) (qs more call : List Receive) (adds
       last = s.last;
     }
 
-    module _ (place : ℕ) (offered : IsOfferedAt after ms qs more q (Some place)) (l : List Message) (d : Message) (same : l ≡ b.messages.messages) where
+    module _ (place : ℕ) (offered : IsOfferedAt after ms qs more q (Some place)) (n : Message) (is_there : slice_get b.messages.messages place ≡ Some n) where
       abbrev m : Message
       m = offered.0
 
@@ -135,8 +134,8 @@ module _ (after : After) (ms : List Message) (qs more call : List Receive) (adds
       there : slice_get b.messages.messages place ≡ Some m
       there = ap (λ (k : List Message). slice_get k place) s.messages ∙ offered.1
 
-      stands_there : get_or l place d ≡ m
-      stands_there = get_or_from_slice_get l place m d (ap (λ (k : List Message). slice_get k place) same ∙ there)
+      stands_there : n ≡ m
+      stands_there = one_there b.messages.messages place n m is_there there
 
       still_waits : Has (waiting_of b) m
       still_waits = s.held.waits_all m offer.member (sure_stands m.trust offer.sure)
@@ -148,7 +147,7 @@ module _ (after : After) (ms : List Message) (qs more call : List Receive) (adds
       still_free = s.held.frees_all q (adds.new q c) settled (λ n i h. next.fresh h.1)
 
       -- another free receive fits the message
-      pub settles_left : (frees back : List Receive) → DropsFrom b.free frees q → AddsTo frees back q → (r : Receive) → IsFirstReceive frees (get_or l place d) r → SettlesAmong after ms more (q ∷ done) more (record b { free = back })
+      pub settles_left : (frees back : List Receive) → DropsFrom b.free frees q → AddsTo frees back q → (r : Receive) → IsFirstReceive frees n r → SettlesAmong after ms more (q ∷ done) more (record b { free = back })
       settles_left frees back removed put r f =
           let first = subst (λ (x : Message). IsFirstReceive frees x r) stands_there f in
           record {
@@ -167,10 +166,10 @@ module _ (after : After) (ms : List Message) (qs more call : List Receive) (adds
           }
 
       -- none does
-      pub settles_taken : (frees : List Receive) → DropsFrom b.free frees q → ((r : Receive) → Has frees r → envelopes_fit (get_or l place d) r ≡ true → ⊥) → (t : Taker) (new : Takings) → t ≡ taker_of q → new ≡ with_taker b.messages place t
+      pub settles_taken : (frees : List Receive) → DropsFrom b.free frees q → ((r : Receive) → Has frees r → envelopes_fit n r ≡ true → ⊥) → (t : Taker) (new : Takings) → t ≡ taker_of q → new ≡ with_taker b.messages place t
           → SettlesAmong after ms more (q ∷ done) more (record b { free = frees; messages = new })
-      settles_taken frees removed n t new is made =
-          let none = subst (λ (x : Message). (r : Receive) → Has frees r → envelopes_fit x r ≡ true → ⊥) stands_there n in
+      settles_taken frees removed misfit t new is made =
+          let none = subst (λ (x : Message). (r : Receive) → Has frees r → envelopes_fit x r ≡ true → ⊥) stands_there misfit in
           let u = takes_at m q t b place (subst (λ (l : List Message). AreRising (λ (m : Message). m.name) l) (sym s.messages) s.rise) there still_waits (told_by m q (adds.own q c) settled offer.fit) is in
           subst (λ (x : Takings). SettlesAmong after ms more (q ∷ done) more (record b { free = frees; messages = x })) (sym made) (record {
             messages = s.messages;

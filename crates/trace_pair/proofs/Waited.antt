@@ -1,6 +1,6 @@
 -- Places of messages at keys, as one comes, as some are passed, and as a message is taken.
-use Rattle.std.proofs.Common.{subst, ◌≡◌, ℕ, zero, suc, ◌+◌, ◌<◌, Bool, true, false, List, [], ◌∷◌, ◌++◌, inl, inr, ⊎_elim, sym, refl, ◌∙◌, ap, arith, ◌⊎◌, cond, Option, Some, None, Result, Ok, Err, length, drop, take, get_or}
-use Rattle.std.proofs.lemmas.List.{take_more, length-take-le}
+use Rattle.std.proofs.Common.{subst, ◌≡◌, ℕ, zero, suc, ◌+◌, ◌<◌, Bool, true, false, List, [], ◌∷◌, ◌++◌, inl, inr, ⊎_elim, sym, refl, ◌∙◌, ap, arith, ◌⊎◌, cond, Option, Some, None, Result, Ok, Err, length, drop, take}
+use Rattle.std.proofs.lemmas.List.{length-take-le}
 use Rattle.std.specs.Prelude.{slice_get, slice_set, IfOk}
 use Rattle.std.specs.declared.cmp.Ordering.{Ordering}
 use Rattle.std.specs.Ordering.{is_eq}
@@ -18,6 +18,7 @@ use Rattle.trace_pair.specs.Waiting.{waits_at, from_waiting, is_followed, call_a
 use Rattle.trace_pair.specs.declared.pair.Taker.{Taker}
 use Rattle.trace_pair.proofs.Ranks.{has_left, has_right, has_either}
 use Rattle.trace_pair.proofs.Searched.{stands}
+use Rattle.trace_pair.proofs.Tabled.{take_there}
 
 pub if_ok : {X E : Type 0} {P Q : X → Type 0} (r : Result X E) → ((x : X) → P x → Q x) → IfOk r P → IfOk r Q
 if_ok (Ok x) f h = f x h
@@ -203,17 +204,18 @@ module _ {K : Type 0} {cmp : K → K → Ordering} (keys : IsTotalOrder cmp) (ex
     rise = are.rise;
   }
 
-  pub places_passes : (ms : List Message) (i : ℕ) (d : Message) (ts : List (Option Taker)) (places : Keyed K) → i < length ms → (is_live (get_or ms i d).trust ≡ true → ⊥) →
+  pub places_passes : (ms : List Message) (i : ℕ) (m : Message) (ts : List (Option Taker)) (places : Keyed K) → slice_get ms i ≡ Some m → (is_live m.trust ≡ true → ⊥) →
       ((us : List (Option Taker)) → ArePlaces cmp key_of (take i ms) us places) → ArePlaces cmp key_of (take (i + 1) ms) ts places
-  places_passes ms i d ts places lt void are =
-      subst (λ (l : List Message). ArePlaces cmp key_of l ts places) (sym (take_more ms i d lt)) (places_void (take i ms) (get_or ms i d) ts places void (are ts))
+  places_passes ms i m ts places e void are =
+      subst (λ (l : List Message). ArePlaces cmp key_of l ts places) (sym (take_there ms i m e)) (places_void (take i ms) m ts places void (are ts))
 
   -- the next of the messages comes
-  pub places_next : (ms : List Message) (i : ℕ) (d : Message) (ts : List (Option Taker)) (old new : Keyed K) → i < length ms → is_live (get_or ms i d).trust ≡ true → ((us : List (Option Taker)) → ArePlaces cmp key_of (take i ms) us old) →
-      ((k : K) → places_at cmp new k ≡ cond (is_eq (cmp (key_of (get_or ms i d)) k)) (places_at cmp old k ++ i ∷ []) (places_at cmp old k)) → ArePlaces cmp key_of (take (i + 1) ms) ts new
-  places_next ms i d ts old new lt live are law =
-      subst (λ (l : List Message). ArePlaces cmp key_of l ts new) (sym (take_more ms i d lt))
-      (places_more (take i ms) (get_or ms i d) ts i old new (sym (length-take-le i ms (omega arith))) live are law)
+  pub places_next : (ms : List Message) (i : ℕ) (m : Message) (ts : List (Option Taker)) (old new : Keyed K) → slice_get ms i ≡ Some m → is_live m.trust ≡ true → ((us : List (Option Taker)) → ArePlaces cmp key_of (take i ms) us old) →
+      ((k : K) → places_at cmp new k ≡ cond (is_eq (cmp (key_of m) k)) (places_at cmp old k ++ i ∷ []) (places_at cmp old k)) → ArePlaces cmp key_of (take (i + 1) ms) ts new
+  places_next ms i m ts old new e live are law =
+      let lt = slice_get_within ms i m e in
+      subst (λ (l : List Message). ArePlaces cmp key_of l ts new) (sym (take_there ms i m e))
+      (places_more (take i ms) m ts i old new (sym (length-take-le i ms (omega arith))) live are law)
 
 -- where one more is taken, the places stand as they are
 waits_less : (ts : List (Option Taker)) (place : ℕ) (t : Taker) (i : ℕ) → waits_at (slice_set ts place (Some t)) i ≡ true → waits_at ts i ≡ true
@@ -232,8 +234,8 @@ places_with cmp key_of ms ts place t places are = record {
 }
 
 -- the next of the messages is plain too
-pub plain_next : (ms : List Message) (i : ℕ) (d : Message) → i < length ms → ArePlain (take i ms) → IsPlain (get_or ms i d) → ArePlain (take (i + 1) ms)
-plain_next ms i d lt before next m h =
+pub plain_next : (ms : List Message) (i : ℕ) (n : Message) → slice_get ms i ≡ Some n → ArePlain (take i ms) → IsPlain n → ArePlain (take (i + 1) ms)
+plain_next ms i n e before next m h =
     ⊎_elim (λ (k : Has (take i ms) m). before m k)
-    (λ (k : Has (get_or ms i d ∷ []) m). ⊎_elim (λ (e : m ≡ get_or ms i d). subst (λ (x : Message). IsPlain x) (sym e) next) (λ f. absurd f) k)
-    (has_either (take i ms) (get_or ms i d ∷ []) m (subst (λ (l : List Message). Has l m) (take_more ms i d lt) h))
+    (λ (k : Has (n ∷ []) m). ⊎_elim (λ (f : m ≡ n). subst (λ (x : Message). IsPlain x) (sym f) next) (λ f. absurd f) k)
+    (has_either (take i ms) (n ∷ []) m (subst (λ (l : List Message). Has l m) (take_there ms i n e) h))

@@ -1,5 +1,6 @@
 -- All messages in their order, what takes each, and the places of those that wait.
-use Rattle.std.specs.Prelude.{◌≡◌, ◌<◌, ◌==◌, ◌++◌, ℕ, Bool, true, false, cond, Option, Some, None, IfSome, List, [], ◌∷◌, filter, length, replicate, slice_get, slice_set, if◌then◌else◌}
+use Rattle.std.specs.Prelude.{◌≡◌, ◌<◌, ◌==◌, ◌++◌, ℕ, Bool, true, false, cond, Option, Some, None, IfSome, List, [], ◌∷◌, filter, length, map, replicate, slice_get, slice_set, if◌then◌else◌}
+use Rattle.std.specs.Borrow.{Bor}
 use Rattle.std.specs.declared.cmp.Ordering.{Ordering}
 use Rattle.std.specs.Ordering.{is_eq}
 use Rattle.std.specs.BTreeMap.{is_at}
@@ -15,6 +16,10 @@ use Rattle.trace_pair.specs.KeyOrders.{Queue, queue_cmp, queue_of, Lane, lane_cm
 use Rattle.trace_pair.specs.Rising.{AreRising}
 use Rattle.trace_pair.specs.declared.pair.Couple.{Couple}
 use Rattle.trace_pair.specs.declared.pair.Taker.{Taker}
+
+-- the messages that a list refers to
+abbrev pub referred : List (Bor Message) → List Message
+referred ms = map (λ m. m.now) ms
 
 -- all messages, and at the place of each what takes it
 pub record Takings : Type 0 where

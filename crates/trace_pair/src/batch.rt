@@ -29,7 +29,7 @@ use crate::couples::receive_by;
 use crate::ends::Ends;
 use crate::queues::Receives;
 use crate::reach::Reaches;
-use crate::rows::count_sends;
+use crate::sends::Sends;
 use crate::takings::Takings;
 use crate::whole::end_of_receives;
 use mpi_model::{Message, Receive};
@@ -47,7 +47,7 @@ pub(crate) struct Batch<'a> {
 
 impl<'a> Batch<'a> {
     /// All messages, in their order.
-    pub(crate) fn messages(&self) -> &[Message]
+    pub(crate) fn messages(&self) -> &Sends<'a>
         ensures { result.now ≡ self.now.messages.messages }
     {
         self.messages.messages()
@@ -114,11 +114,11 @@ fn offered_place(
     if has_no_doubt(batch) {
         return Ok(Some(place));
     }
-    let m = batch.messages.messages()[place];
+    let m = batch.messages.messages().at(place);
     if !m.trust.is_sure() {
         return Ok(None);
     }
-    if is_hidden(reaches, &batch.opened, &m) {
+    if is_hidden(reaches, &batch.opened, m) {
         return Ok(None);
     }
     Ok(Some(place))
@@ -137,8 +137,8 @@ fn taken_by(batch: &mut Batch, reaches: &Reaches, q: &Receive) -> Result<Option<
     if !batch.free.has_some() {
         return Ok(Some(place));
     }
-    let m = batch.messages.messages()[place];
-    if batch.free.fits_some(&m) {
+    let m = batch.messages.messages().at(place);
+    if batch.free.fits_some(m) {
         return Ok(None);
     }
     Ok(Some(place))
@@ -223,9 +223,9 @@ fn settle_receive<'a>(
     let Some(place) = offered else {
         return Ok(());
     };
-    let m = batch.messages.messages()[place];
+    let m = batch.messages.messages().at(place);
     batch.free.remove(q);
-    match batch.free.first_for(&m) {
+    match batch.free.first_for(m) {
         Some(_) => batch.free.insert(*q)?,
         None => batch.messages.take(place, q)?,
     }
@@ -301,28 +301,17 @@ fn add_receives<'a>(
 }
 
 /// All messages, with no receive yet.
-fn all_waiting<'a>(alloc: Global, ops: &[RankOps]) -> Result<Batch<'a>, AllocError>
+fn all_waiting<'a>(alloc: Global, ops: &'a [RankOps]) -> Result<Batch<'a>, AllocError>
     requires { AreOwn 0 ops.now }
     ensures { IfOk result (Settles (comes_after ops.now) (sends_of ops.now) []) }
 {
-    let sends = all_sends(alloc, ops)?;
+    let sends = Sends::of_ops(alloc, ops)?;
     let messages = Takings::new(alloc, sends)?;
     Ok(Batch {
         messages,
         free: Receives::empty(alloc),
         opened: Ends::empty(alloc),
     })
-}
-
-/// The messages of all ranks.
-fn all_sends(alloc: Global, ops: &[RankOps]) -> Result<Vec<Message>, AllocError>
-    ensures { IfOk result (λ all. all.items ≡ sends_of ops.now) }
-{
-    let mut all = Vec::with_capacity(alloc, count_sends(ops))?;
-    for own in ops {
-        all.extend_from_slice(own.sends())?;
-    }
-    Ok(all)
 }
 
 /// The pairing of all ranks' calls.

@@ -7,8 +7,8 @@ ghost use Rattle.trace_pair.specs.ByKey.{AreRows, HasNoRow, IsKeyAt, PutsRow};
 ghost use Rattle.trace_pair.specs.Waiting.{AddsPlace, DropsTaken, from_waiting, sole_or_first, places_at};
 
 use crate::places::Places;
+use crate::sends::Sends;
 use crate::taken_by::TakenBy;
-use mpi_model::Message;
 use std::alloc::{AllocError, Global};
 use std::collections::BTreeMap;
 use std::marker::Model;
@@ -113,12 +113,7 @@ fn push_in<K>(row: &mut Row<K>, place: usize) -> Result<(), AllocError>
 
 /// The first place of a row at which a message waits; where calls may have several parts, if no other
 /// one of its call does. Those before the first go.
-fn sole_in<K>(
-    row: &mut Row<K>,
-    plain: bool,
-    messages: &[Message],
-    takers: &TakenBy,
-) -> Option<usize>
+fn sole_in<K>(row: &mut Row<K>, plain: bool, messages: &Sends, takers: &TakenBy) -> Option<usize>
     ensures key { row.new.key ≡ row.old.key }
     ensures sole { result ≡ sole_or_first plain messages.now takers.now (from_waiting takers.now row.old.places) }
     ensures left { row.new.places ≡ from_waiting takers.now row.old.places }
@@ -189,7 +184,7 @@ impl<K: Ord + Copy + Drop> PlacesByKey<K> {
         &mut self,
         key: &K,
         plain: bool,
-        messages: &[Message],
+        messages: &Sends,
         takers: &TakenBy,
     ) -> Option<usize>
         ensures sole { result ≡ sole_or_first plain messages.now takers.now

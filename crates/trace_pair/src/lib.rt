@@ -54,6 +54,7 @@ mod reach;
 mod rows;
 mod rules;
 mod scratch;
+mod sends;
 mod slots;
 mod table;
 mod taken_by;

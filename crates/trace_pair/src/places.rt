@@ -4,8 +4,8 @@
 ghost use Rattle.std.specs.Prelude.{◌≡◌, ◌++◌, ◌∷◌, [], OnOk, IfOk, drop, slice_get};
 ghost use Rattle.trace_pair.specs.Waiting.{from_waiting, is_followed, is_of_call, call_at, sole_or_first};
 
+use crate::sends::Sends;
 use crate::taken_by::TakenBy;
-use mpi_model::Message;
 use std::alloc::{AllocError, Global};
 use std::collections::VecDeque;
 use std::marker::Model;
@@ -71,7 +71,7 @@ impl Places {
     }
 
     /// Whether a message waits behind the one in front that is of its call.
-    fn has_sibling(&self, messages: &[Message], takers: &TakenBy, call: u64) -> bool
+    fn has_sibling(&self, messages: &Sends, takers: &TakenBy, call: u64) -> bool
         ensures { result ≡ is_followed messages.now takers.now call (drop 1 self.now) }
     {
         let mut next = 1;
@@ -92,7 +92,7 @@ impl Places {
     pub(crate) fn sole_waiting(
         &mut self,
         plain: bool,
-        messages: &[Message],
+        messages: &Sends,
         takers: &TakenBy,
     ) -> Option<usize>
         ensures sole { result ≡ sole_or_first plain messages.now takers.now (from_waiting takers.now self.old) }
@@ -113,7 +113,7 @@ impl Places {
 }
 
 /// Whether the message at a place is of that call of its rank.
-fn is_of_call(messages: &[Message], place: usize, call: u64) -> bool
+fn is_of_call(messages: &Sends, place: usize, call: u64) -> bool
     ensures { result ≡ is_of_call messages.now place call }
 {
     match messages.get(place) {
@@ -123,7 +123,7 @@ fn is_of_call(messages: &[Message], place: usize, call: u64) -> bool
 }
 
 /// The call of the message at a place.
-fn call_at(messages: &[Message], place: usize) -> u64
+fn call_at(messages: &Sends, place: usize) -> u64
     ensures { result ≡ call_at messages.now place }
 {
     match messages.get(place) {

@@ -129,8 +129,8 @@ impl Rows {
     {
         let messages = batch.messages();
         let mut rows = Rows::with_room(alloc, messages.len())?;
-        for (place, m) in messages.iter().enumerate() {
-            rows.add_settled(batch, reaches, place, m)?;
+        for place in 0..messages.len() {
+            rows.add_settled(batch, reaches, place, messages.at(place))?;
         }
         Ok(rows)
     }

@@ -10,6 +10,7 @@ ghost use Rattle.trace_pair.specs.declared.pair.Taker.{Taker};
 
 use crate::by_key::PlacesByKey;
 use crate::pair::Taker;
+use crate::sends::Sends;
 use crate::taken_by::TakenBy;
 use mpi_model::{Message, Receive};
 use std::alloc::{AllocError, Global};
@@ -24,7 +25,7 @@ type Lanes = PlacesByKey<(u32, u32, u32)>;
 /// All messages, and what takes each.
 #[derive(Drop)]
 pub(crate) struct Takings<'a> {
-    messages: Vec<Message>,
+    messages: Sends<'a>,
     /// Whether each message is sure, and alone of its call.
     plain: bool,
     takers: TakenBy<'a>,
@@ -38,9 +39,9 @@ impl<'a> Model for Takings<'a> {
 
     ghost Value = { Takings };
 
-    ghost view = { λ s. record { messages = s.messages.items; takers = s.takers } };
+    ghost view = { λ s. record { messages = s.messages; takers = s.takers } };
 
-    ghost invariant = { λ s. AreTakings s.messages.items s.plain s.takers s.queues s.lanes };
+    ghost invariant = { λ s. AreTakings s.messages s.plain s.takers s.queues s.lanes };
 }
 
 /// Whether the message is sure, its sender's own, and the first part of its call.
@@ -51,11 +52,11 @@ fn is_plain(m: &Message) -> bool
 }
 
 /// Whether all messages are. Each is alone of its call then.
-fn are_plain(messages: &[Message]) -> bool
+fn are_plain(messages: &Sends) -> bool
     ensures { result ≡ true → ArePlain messages.now }
 {
-    for m in messages {
-        if !is_plain(m) {
+    for place in 0..messages.len() {
+        if !is_plain(messages.at(place)) {
             return false;
         }
     }
@@ -63,11 +64,12 @@ fn are_plain(messages: &[Message]) -> bool
 }
 
 /// The places of the messages by queue.
-fn queues_of(alloc: Global, messages: &[Message]) -> Result<Queues, AllocError>
+fn queues_of(alloc: Global, messages: &Sends) -> Result<Queues, AllocError>
     ensures { IfOk result (λ queues. (takers : List (Option Taker)) → ArePlaces queue_cmp queue_of messages.now takers queues) }
 {
     let mut queues = Queues::empty(alloc);
-    for (place, m) in messages.iter().enumerate() {
+    for place in 0..messages.len() {
+        let m = messages.at(place);
         if m.trust.is_void() {
             continue;
         }
@@ -77,11 +79,12 @@ fn queues_of(alloc: Global, messages: &[Message]) -> Result<Queues, AllocError>
 }
 
 /// The places of the messages by lane.
-fn lanes_of(alloc: Global, messages: &[Message]) -> Result<Lanes, AllocError>
+fn lanes_of(alloc: Global, messages: &Sends) -> Result<Lanes, AllocError>
     ensures { IfOk result (λ lanes. (takers : List (Option Taker)) → ArePlaces lane_cmp lane_of messages.now takers lanes) }
 {
     let mut lanes = Lanes::empty(alloc);
-    for (place, m) in messages.iter().enumerate() {
+    for place in 0..messages.len() {
+        let m = messages.at(place);
         if m.trust.is_void() {
             continue;
         }
@@ -91,11 +94,7 @@ fn lanes_of(alloc: Global, messages: &[Message]) -> Result<Lanes, AllocError>
 }
 
 /// These lanes, or new ones where there are none.
-fn lanes_or_new(
-    alloc: Global,
-    messages: &[Message],
-    lanes: Option<Lanes>,
-) -> Result<Lanes, AllocError>
+fn lanes_or_new(alloc: Global, messages: &Sends, lanes: Option<Lanes>) -> Result<Lanes, AllocError>
     ensures { IfOk result (AreLanesOrNew messages.now lanes) }
 {
     match lanes {
@@ -106,9 +105,9 @@ fn lanes_or_new(
 
 impl<'a> Takings<'a> {
     /// Nothing takes any of these messages.
-    pub(crate) fn new(alloc: Global, messages: Vec<Message>) -> Result<Takings<'a>, AllocError>
-        requires { AreRising (λ m. m.name) messages.items }
-        ensures { IfOk result (λ t. t ≡ untaken messages.items) }
+    pub(crate) fn new(alloc: Global, messages: Sends<'a>) -> Result<Takings<'a>, AllocError>
+        requires { AreRising (λ m. m.name) messages }
+        ensures { IfOk result (λ t. t ≡ untaken messages.entry) }
     {
         let queues = queues_of(alloc, &messages)?;
         let takers = TakenBy::none(alloc, messages.len())?;
@@ -122,7 +121,8 @@ impl<'a> Takings<'a> {
         })
     }
 
-    pub(crate) fn messages(&self) -> &[Message]
+    /// All of them.
+    pub(crate) fn messages(&self) -> &Sends<'a>
         ensures { result.now ≡ self.now.messages }
     {
         &self.messages

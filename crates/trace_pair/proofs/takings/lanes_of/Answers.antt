@@ -12,11 +12,11 @@ use Rattle.trace_pair.proofs.takings.lanes_of.Goals as goal
 pub loop-place-preserved-then-is_void : goal.loop-place-preserved-then-is_void
 loop-place-preserved-then-is_void c = λ takers.
     let void = ap not (sym c.is_void.ensures ∙ c.if-is_void.true) in
-    places_passes lanes_total exact_lanes lane_of c.args.messages.now c.loop-place.place _ takers c.loop-place.lanes c.loop-place-test.true (false_apart _ void) c.loop-place.invariant
+    places_passes lanes_total exact_lanes lane_of c.args.messages.now c.loop-place.place _ takers c.loop-place.lanes c.at-m.ensures (false_apart _ void) c.loop-place.invariant
 
 pub loop-place-preserved : goal.loop-place-preserved
 loop-place-preserved c = λ takers.
-    places_next lanes_total exact_lanes lane_of c.args.messages.now c.loop-place.place _ takers c.loop-place.lanes c.add.new.self c.loop-place-test.true (ap not (sym c.is_void.ensures ∙ c.if-is_void.false)) c.loop-place.invariant c.in_ok-add.ensures
+    places_next lanes_total exact_lanes lane_of c.args.messages.now c.loop-place.place _ takers c.loop-place.lanes c.add.new.self c.at-m.ensures (ap not (sym c.is_void.ensures ∙ c.if-is_void.false)) c.loop-place.invariant c.in_ok-add.ensures
 
 pub returns : goal.returns
 returns c = λ takers. subst (λ (l : List Message). ArePlaces lane_cmp lane_of l takers c.loop-place.lanes) (take_all c.loop-place.place c.args.messages.now (omega arith)) (c.loop-place.invariant takers)

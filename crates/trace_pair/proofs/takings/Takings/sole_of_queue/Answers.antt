@@ -9,4 +9,4 @@ invariant_of-self c = queue_passed _ _ _ _ _ c.self.invariant c.sole_at.new.self
 
 pub returns-clause-sole : goal.returns-clause-sole
 returns-clause-sole c = subst (λ (t : Takings). IsSolePlace t c.args.q.now c.sole_at.result) c.self.view_is
-    (sole_in_queue _ _ _ _ _ c.self.invariant c.args.q.now c.args.source c.args.tag c.deref.result.now c.self.inside.takers c.sole_at.result c.deref.ensures.value refl c.requires.source c.requires.tag c.sole_at.ensures.sole)
+    (sole_in_queue _ _ _ _ _ c.self.invariant c.args.q.now c.args.source c.args.tag c.self.inside.messages c.self.inside.takers c.sole_at.result refl refl c.requires.source c.requires.tag c.sole_at.ensures.sole)
