@@ -54,8 +54,8 @@ impl<'a> Batch<'a> {
     }
 
     /// The places of the pairs, nearly in order of the receive.
-    pub(crate) fn places_near(&self, alloc: Global) -> Result<Vec<usize>, AllocError> {
-        self.messages.places_near(alloc)
+    pub(crate) fn into_places_near(self, alloc: Global) -> Result<Vec<usize>, AllocError> {
+        self.messages.into_places_near(alloc)
     }
 
     /// The receive that takes the message at a place.

@@ -28,7 +28,7 @@ pub fn pair_all(alloc: Global, ops: &[RankOps]) -> Result<PairTable, AllocError>
     let reaches = Reaches::new(ops, &table);
     let batch = batch_of(alloc, &reaches)?;
     let rows = Rows::of_batch(alloc, &batch, &reaches)?;
-    let near = batch.places_near(alloc)?;
+    let near = batch.into_places_near(alloc)?;
     let pairs = PairTable::of_rows(alloc, rows, near)?;
     Ok(pairs)
 }

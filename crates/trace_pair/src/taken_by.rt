@@ -1,6 +1,6 @@
-//! What takes each message, and whether it waits, which is asked much more often: for that a message has no more than a reference.
+//! What takes each message, and whether it waits, which is asked much more often: for that a message has a byte of its own.
 
-ghost use Rattle.std.specs.Prelude.{◌≡◌, ◌<◌, Some, None, IfOk, OnOk, OnErr, length, replicate, slice_get, slice_set};
+ghost use Rattle.std.specs.Prelude.{◌≡◌, ◌<◌, true, false, Some, None, IfOk, OnOk, OnErr, length, replicate, slice_get, slice_index_or, slice_set};
 ghost use Rattle.trace_pair.specs.Coupled.{taker_of};
 ghost use Rattle.trace_pair.specs.Waiting.{waits_at, taker_in};
 
@@ -15,12 +15,14 @@ use std::marker::Model;
 pub(crate) struct TakenBy<'a> {
     /// Of each message the receive that takes it, where one does.
     receives: Vec<Option<&'a Receive>>,
+    /// Of each message whether it waits: in a byte, since that is asked of any of them in turn.
+    waiting: Vec<bool>,
     /// The places of those that are taken, as their receives came.
     came: Vec<usize>,
 }
 
 impl<'a> Model for TakenBy<'a> {
-    ghost use Rattle.std.specs.Prelude.{List, Option, map};
+    ghost use Rattle.std.specs.Prelude.{◌≡◌, List, Option, is_none, map};
     ghost use Rattle.std.specs.Option.{option_map};
     ghost use Rattle.trace_pair.specs.Coupled.{taker_of};
     ghost use Rattle.trace_pair.specs.declared.pair.Taker.{Taker};
@@ -28,6 +30,8 @@ impl<'a> Model for TakenBy<'a> {
     ghost Value = { List (Option Taker) };
 
     ghost view = { λ s. map (option_map (λ q. taker_of q.now)) s.receives.items };
+
+    ghost invariant = { λ s. s.waiting.items ≡ map is_none s.receives.items };
 }
 
 /// So many messages, and nothing takes them.
@@ -38,24 +42,54 @@ fn no_receives<'a>(alloc: Global, count: usize) -> Result<Vec<Option<&'a Receive
     Ok(receives)
 }
 
+/// So many messages, and all wait.
+fn all_wait(alloc: Global, count: usize) -> Result<Vec<bool>, AllocError>
+    ensures { IfOk result (λ waiting. waiting.items ≡ replicate count true) }
+{
+    let waiting = Vec::from_elem(alloc, true, count)?;
+    Ok(waiting)
+}
+
+/// The mark at a place, false where none stands there.
+fn mark_at(marks: &[bool], place: usize) -> bool
+    ensures { result ≡ slice_index_or marks.now place false }
+{
+    marks.get(place).copied().unwrap_or(false)
+}
+
+/// Of each message how many before it are taken.
+fn taken_before(alloc: Global, waiting: &[bool]) -> Result<Vec<u32>, AllocError> {
+    let mut counts = Vec::with_capacity(alloc, waiting.len())?;
+    let mut count: u32 = 0;
+    for waits in waiting {
+        counts.push(count)?;
+        if !*waits {
+            count = count.saturating_add(1);
+        }
+    }
+    Ok(counts)
+}
+
 impl<'a> TakenBy<'a> {
     /// Nothing takes any of so many messages.
     pub(crate) fn none(alloc: Global, count: usize) -> Result<TakenBy<'a>, AllocError>
         ensures { IfOk result (λ takers. takers ≡ replicate count None) }
     {
         let receives = no_receives(alloc, count)?;
+        let waiting = all_wait(alloc, count)?;
         let came = Vec::with_capacity(alloc, count)?;
-        Ok(TakenBy { receives, came })
+        Ok(TakenBy {
+            receives,
+            waiting,
+            came,
+        })
     }
 
     /// Whether the message at a place waits.
     pub(crate) fn waits_at(&self, place: usize) -> bool
         ensures { result ≡ waits_at self.now place }
     {
-        match self.receives.get(place) {
-            Some(receive) => receive.is_none(),
-            None => false,
-        }
+        mark_at(&self.waiting, place)
     }
 
     /// What takes the message at a place.
@@ -76,29 +110,21 @@ impl<'a> TakenBy<'a> {
     {
         self.came.push(place)?;
         self.receives[place] = Some(q);
+        self.waiting[place] = false;
         Ok(())
     }
 
-    /// Of each message how many before it are taken.
-    fn taken_before(&self, alloc: Global) -> Result<Vec<usize>, AllocError> {
-        let mut counts = Vec::with_capacity(alloc, self.receives.len())?;
-        let mut count: usize = 0;
-        for receive in &self.receives {
-            counts.push(count)?;
-            if receive.is_some() {
-                count = count.saturating_add(1);
-            }
-        }
-        Ok(counts)
-    }
-
     /// The places of the pairs, as the receives that take them came: a start from which the sort by the
-    /// receive has nothing left to do. Nothing is claimed of that order.
-    pub(crate) fn places_near(&self, alloc: Global) -> Result<Vec<usize>, AllocError> {
-        let counts = self.taken_before(alloc)?;
-        let mut places = Vec::with_capacity(alloc, self.came.len())?;
-        for place in &self.came {
-            places.push(counts.get(*place).copied().unwrap_or(0))?;
+    /// receive has nothing left to do. Nothing is claimed of that order. Where each message is taken, its
+    /// pair stands at its place.
+    pub(crate) fn into_places_near(self, alloc: Global) -> Result<Vec<usize>, AllocError> {
+        let mut places = self.came;
+        if places.len() == self.waiting.len() {
+            return Ok(places);
+        }
+        let counts = taken_before(alloc, &self.waiting)?;
+        for i in 0..places.len() {
+            places[i] = counts.get(places[i]).copied().unwrap_or(0) as usize;
         }
         Ok(places)
     }

@@ -208,7 +208,7 @@ impl<'a> Takings<'a> {
     }
 
     /// The places of the pairs, nearly in order of the receive.
-    pub(crate) fn places_near(&self, alloc: Global) -> Result<Vec<usize>, AllocError> {
-        self.takers.places_near(alloc)
+    pub(crate) fn into_places_near(self, alloc: Global) -> Result<Vec<usize>, AllocError> {
+        self.takers.into_places_near(alloc)
     }
 }
