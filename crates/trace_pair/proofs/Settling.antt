@@ -11,7 +11,7 @@ use Rattle.trace_pair.specs.Calls.{AddsReceives, ArePostedApart, IsPosting, betw
 use Rattle.trace_pair.specs.Coupled.{taker_of, receive_by}
 use Rattle.trace_pair.specs.Indexed.{AwaitReceives, IsIndexed, couple_of}
 use Rattle.trace_pair.specs.After.{comes_after}
-use Rattle.trace_pair.specs.Ends.{AreLast, NoneHides, SomeHides}
+use Rattle.trace_pair.specs.Ends.{AreRanked, NoneHides, SomeHides}
 use Rattle.trace_pair.specs.Pairing.{After, receive_of}
 use Rattle.trace_pair.specs.Queues.{NoneFits, SomeFits}
 use Rattle.trace_pair.specs.Rising.{AreRising}
@@ -20,11 +20,11 @@ use Rattle.trace_pair.specs.Settled.{Settles, IsOfferedAt, IsTakenAt, couples_of
 use Rattle.trace_pair.specs.Table.{sends_of, receives_of}
 use Rattle.trace_pair.specs.Waiting.{Takings, untaken, with_taker, taker_at, live, couples_with, ArePlain, IsSolePlace}
 use Rattle.trace_pair.specs.declared.batch.Batch.{Batch}
-use Rattle.trace_pair.specs.declared.ends.Ends.{Ends}
+use Rattle.trace_pair.specs.declared.ranked_ends.RankedEnds.{RankedEnds}
 use Rattle.trace_pair.specs.declared.pair.Couple.{Couple}
 use Rattle.trace_pair.specs.declared.pair.Taker.{Taker}
 use Rattle.trace_pair.proofs.Alone.{receive_left, receive_taken}
-use Rattle.trace_pair.proofs.Fitting.{false_apart, settled_from, sure_stands}
+use Rattle.trace_pair.proofs.Fitting.{envelopes_at, false_apart, settled_from, sure_stands}
 use Rattle.trace_pair.proofs.Holding.{fewer_apart}
 use Rattle.trace_pair.proofs.Listed.{has_take}
 use Rattle.trace_pair.proofs.Offers.{none_offered, unsure_offered, hidden_offered, is_offered}
@@ -51,11 +51,11 @@ module _ (after : After) (ms : List Message) (qs more call : List Receive) (q : 
     pub no_place : IsSolePlace b.messages q None → IsOfferedAt after ms qs more q None
     no_place none = none_offered after ms qs more call adds q c settled (waiting_of b) free opened (couples_of b) held (none (λ n i. held.senders n (held.waits n i).0))
 
-    pub plain_at : (place : ℕ) → IsSolePlace b.messages q (Some place) → ArePlain b.messages.messages → ((u : Receive) → Has opened u → ⊥) → IsOfferedAt after ms qs more q (Some place)
+    pub plain_at : (place : ℕ) → IsSolePlace b.messages q (Some place) → ArePlain b.messages.messages → ((u : Receive) → Has opened u → u.at ≡ q.at → ⊥) → IsOfferedAt after ms qs more q (Some place)
     plain_at place sole plain none = (
       sole.0,
       ap (λ (k : List Message). slice_get k place) (sym is) ∙ sole.1,
-      is_offered after ms qs more call adds q c settled (waiting_of b) free opened (couples_of b) held sole.0 sole.2 (plain sole.0 (stands b.messages.messages place sole.0 sole.1)).sure (λ u h f. absurd (none u h)),
+      is_offered after ms qs more call adds q c settled (waiting_of b) free opened (couples_of b) held sole.0 sole.2 (plain sole.0 (stands b.messages.messages place sole.0 sole.1)).sure (λ u h f. absurd (none u h (sym (envelopes_at sole.0 u f) ∙ envelopes_at sole.0 q sole.2.fit))),
     )
 
     module _ (place : ℕ) (m : Message) (sole : IsSolePlace b.messages q (Some place)) (there : slice_get b.messages.messages place ≡ Some m) where
@@ -144,7 +144,7 @@ module _ (after : After) (ms : List Message) (qs more : List Receive) (q : Recei
   pub adds_free : (new : List Receive) → is_settled q ≡ true → IsTakenAt after ms qs more q None → AddsTo b.free new q → Settles after ms more (record b { free = new })
   adds_free new settled none added = record { messages = now.messages; rise = now.rise; opened = now.opened; last = now.last; held = push_receive_free after ms qs more q adds apart _ _ _ _ now.held settled none new added }
 
-  pub adds_open : (new : Ends) → is_open q ≡ true → ((opened : List Receive) → AreLast opened b.opened → AreLast (q ∷ opened) new) → Settles after ms more (record b { opened = new })
+  pub adds_open : (new : RankedEnds) → is_open q ≡ true → ((opened : List Receive) → AreRanked opened b.opened → AreRanked (q ∷ opened) new) → Settles after ms more (record b { opened = new })
   adds_open new is law = record {
     messages = now.messages;
     rise = now.rise;
@@ -158,7 +158,7 @@ module _ (after : After) (ms : List Message) (qs more : List Receive) (q : Recei
   adds_void not_open not_settled = record { messages = now.messages; rise = now.rise; opened = now.opened; last = now.last; held = push_receive_void after ms qs more q adds apart _ _ _ _ now.held not_open not_settled }
 
 -- no receive has come
-pub settled_none : (os : List Ops) (t : Takings) (free : List Receive) (opened : Ends) → AreOwn 0 os → t ≡ untaken (sends_of os) → free ≡ [] → AreLast [] opened →
+pub settled_none : (os : List Ops) (t : Takings) (free : List Receive) (opened : RankedEnds) → AreOwn 0 os → t ≡ untaken (sends_of os) → free ≡ [] → AreRanked [] opened →
     Settles (comes_after os) (sends_of os) [] (record { messages = t; free = free; opened = opened })
 settled_none os t free opened a e f last =
     let ms = sends_of os in

@@ -1,5 +1,5 @@
 -- The ends of receives: at each key the end of the one that ends last.
-use Rattle.std.specs.Prelude.{◌≡◌, ◌≤◌, ℕ, Bool, true, false, nat_lt, nat_le, Option, Some, None, List, ◌||◌, ◌&&◌, not, if◌then◌else◌}
+use Rattle.std.specs.Prelude.{◌≡◌, ◌<◌, ◌≤◌, ℕ, Bool, true, false, nat_lt, nat_le, Option, Some, None, List, ◌||◌, ◌&&◌, not, if◌then◌else◌}
 use Rattle.std.specs.BTreeMap.{get}
 use Rattle.std.specs.List.{list_any}
 use Rattle.mpi_model.specs.declared.message.Message.{Message}
@@ -10,6 +10,7 @@ use Rattle.trace_pair.specs.KeyOrders.{ReceiveKey, receive_key_cmp, receive_key_
 use Rattle.trace_pair.specs.Pairing.{After}
 use Rattle.trace_pair.specs.Queues.{had}
 use Rattle.trace_pair.specs.declared.ends.Ends.{Ends}
+use Rattle.trace_pair.specs.declared.ranked_ends.RankedEnds.{RankedEnds}
 
 -- A receive that ends with the one call ends no later than one that ends with the other; None is no end at all.
 abbrev pub ends_by : Option ℕ → Option ℕ → Bool
@@ -35,9 +36,14 @@ pub record AreLast (opened : List Receive) (s : Ends) : Type 0 where
   pub within : (u : Receive) → Has opened u → (e : Option ℕ) × (get receive_key_cmp s.last (receive_key_of u) ≡ Some e) × (ends_by u.ended e ≡ true)
   pub own : (k : ReceiveKey) (e : Option ℕ) → get receive_key_cmp s.last k ≡ Some e → (u : Receive) × Has opened u × (receive_key_of u ≡ k) × (u.ended ≡ e)
 
--- the ends of no receives
-abbrev pub IsOfNone : Ends → Type 0
-IsOfNone s = (opened : List Receive) → AreLast opened s → (u : Receive) → Has opened u → ⊥
+-- The same, with a bound: each of these receives is of a rank below it.
+pub record AreRanked (opened : List Receive) (s : RankedEnds) : Type 0 where
+  pub last : AreLast opened s.ends
+  pub below : (u : Receive) → Has opened u → u.at < s.below
+
+-- the ends of no receives of the rank
+abbrev pub IsOfNoneAt : RankedEnds → ℕ → Type 0
+IsOfNoneAt s rank = (opened : List Receive) → AreRanked opened s → (u : Receive) → Has opened u → u.at ≡ rank → ⊥
 
 -- Of the receives that pass the test and whose envelopes fit the message's, this is the end of the one that ends last. Some
 -- receive whose envelope fits ends so.

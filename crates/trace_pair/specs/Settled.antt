@@ -6,7 +6,7 @@ use Rattle.mpi_model.specs.declared.message.Message.{Message}
 use Rattle.mpi_model.specs.declared.message.Receive.{Receive}
 use Rattle.trace_ops.specs.Order.{Has}
 use Rattle.trace_pair.specs.Calls.{AddsReceives, ArePostedApart, IsOwnReceive, IsPosting, between}
-use Rattle.trace_pair.specs.Ends.{AreLast}
+use Rattle.trace_pair.specs.Ends.{AreRanked}
 use Rattle.trace_pair.specs.Indexed.{AreSets, Found, IsIndexed, IsOfferedMessage, OffersMessage, is_of, AwaitReceives, with_kind}
 use Rattle.trace_pair.specs.Pairing.{After, Paired, receive_of}
 use Rattle.trace_pair.specs.Rising.{AreRising}
@@ -32,7 +32,7 @@ pub record Settles (after : After) (ms : List Message) (qs : List Receive) (b : 
   pub rise : AreRising (λ m. m.name) ms
   pub opened : List Receive
   pub held : IsIndexed after ms qs (waiting_of b) b.free opened (couples_of b)
-  pub last : AreLast opened b.opened
+  pub last : AreRanked opened b.opened
 
 -- it stands for the receives of a call more, behind those of their rank
 abbrev pub SettlesCall : After → List Receive → Batch → Batch → Type 0
@@ -44,7 +44,7 @@ pub record SettlesAmong (after : After) (ms : List Message) (all done qs : List 
   pub rise : AreRising (λ m. m.name) ms
   pub opened : List Receive
   pub held : AreSets (Found after ms all (λ m r. Has done r)) ms qs (waiting_of b) b.free opened (couples_of b)
-  pub last : AreLast opened b.opened
+  pub last : AreRanked opened b.opened
 
 -- Of the receives that are done are those that were there. The parts of the call that are of any tag, or those of a tag, come
 -- next: none of them is done, and before those of a tag all of any tag are.
@@ -83,7 +83,7 @@ TellsOpenFit after b m told = (ms : List Message) (qs : List Receive) → Settle
 
 -- a receive of a new call is offered the message at the place, or none
 abbrev pub OffersPlace : After → Batch → Receive → Option ℕ → Type 0
-OffersPlace after b q place = (ms : List Message) (qs more call free opened : List Receive) → AddsReceives qs more call → Has call q → AreLast opened b.opened → b.messages.messages ≡ ms
+OffersPlace after b q place = (ms : List Message) (qs more call free opened : List Receive) → AddsReceives qs more call → Has call q → AreRanked opened b.opened → b.messages.messages ≡ ms
     → AwaitReceives after ms qs more (waiting_of b) free opened (couples_of b) → IsOfferedAt after ms qs more q place
 
 -- a receive that is alone of its call takes the message at the place, or none

@@ -20,14 +20,14 @@ ghost use Rattle.mpi_model.specs.Trusts.{is_settled};
 ghost use Rattle.trace_ops.specs.Ops.{AreOwn};
 ghost use Rattle.trace_pair.specs.After.{comes_after};
 ghost use Rattle.trace_pair.specs.Settled.{Settles, SettlesCall, IsWithin, IsTakerAt, TellsOpenFit, OffersPlace, OffersPlaces, TakesPlace, EntersReceive, EntersCall, SettlesPart, SettlesKind, SettlesRank};
-ghost use Rattle.trace_pair.specs.Ends.{AreLast, NoneHides, SomeHides, IsOfNone};
+ghost use Rattle.trace_pair.specs.Ends.{AreRanked, NoneHides, SomeHides, IsOfNoneAt};
 ghost use Rattle.trace_pair.specs.Pairing.{receive_of};
 ghost use Rattle.trace_pair.specs.Table.{sends_of, receives_of};
 ghost use Rattle.trace_pair.specs.Waiting.{ArePlain};
 
 use crate::couples::receive_by;
-use crate::ends::Ends;
 use crate::queues::Receives;
+use crate::ranked_ends::RankedEnds;
 use crate::reach::Reaches;
 use crate::sends::Sends;
 use crate::takings::Takings;
@@ -42,7 +42,7 @@ use trace_ops::RankOps;
 pub(crate) struct Batch<'a> {
     messages: Takings<'a>,
     free: Receives,
-    opened: Ends,
+    opened: RankedEnds,
 }
 
 impl<'a> Batch<'a> {
@@ -77,19 +77,19 @@ impl<'a> Batch<'a> {
 }
 
 /// Whether some open receive may have taken the message.
-fn is_hidden(reaches: &Reaches, opened: &Ends, m: &Message) -> bool
-    ensures yes { result ≡ true → (qs : List Receive) → AreLast qs opened.now → SomeHides (comes_after reaches.now) qs m.now }
-    ensures no { result ≡ false → (qs : List Receive) → AreLast qs opened.now → NoneHides (comes_after reaches.now) qs m.now }
+fn is_hidden(reaches: &Reaches, opened: &RankedEnds, m: &Message) -> bool
+    ensures yes { result ≡ true → (qs : List Receive) → AreRanked qs opened.now → SomeHides (comes_after reaches.now) qs m.now }
+    ensures no { result ≡ false → (qs : List Receive) → AreRanked qs opened.now → NoneHides (comes_after reaches.now) qs m.now }
 {
     opened.may_take(reaches, m)
 }
 
-/// Whether it is known that each message is sure, and no receive open.
-fn has_no_doubt(batch: &Batch) -> bool
+/// Whether it is known that each message is sure, and no receive of the rank open.
+fn has_no_doubt(batch: &Batch, rank: u32) -> bool
     ensures plain { result ≡ true → ArePlain batch.now.messages.messages }
-    ensures closed { result ≡ true → IsOfNone batch.now.opened }
+    ensures closed { result ≡ true → IsOfNoneAt batch.now.opened rank }
 {
-    if batch.opened.has_some() {
+    if batch.opened.may_be_of(rank) {
         return false;
     }
     batch.messages.are_plain()
@@ -111,7 +111,7 @@ fn offered_place(
     let Some(place) = batch.messages.sole_for(part)? else {
         return Ok(None);
     };
-    if has_no_doubt(batch) {
+    if has_no_doubt(batch, part.at) {
         return Ok(Some(place));
     }
     let m = batch.messages.messages().at(place);
@@ -310,7 +310,7 @@ fn all_waiting<'a>(alloc: Global, ops: &'a [RankOps]) -> Result<Batch<'a>, Alloc
     Ok(Batch {
         messages,
         free: Receives::empty(alloc),
-        opened: Ends::empty(alloc),
+        opened: RankedEnds::empty(alloc),
     })
 }
 

@@ -1,11 +1,11 @@
 //! The ends of receives: at each key the end of the one that ends last, which is all that a message asks of them.
 
-ghost use Rattle.std.specs.Prelude.{◌≡◌, ◌∷◌, true, false, [], OnOk, List};
+ghost use Rattle.std.specs.Prelude.{◌≡◌, ◌∷◌, true, [], OnOk, List};
 ghost use Rattle.mpi_model.specs.declared.message.Receive.{Receive};
 ghost use Rattle.mpi_model.specs.declared.message.Message.{Message};
 ghost use Rattle.mpi_model.specs.Fit.{admits};
 ghost use Rattle.trace_pair.specs.After.{comes_after};
-ghost use Rattle.trace_pair.specs.Ends.{AreLast, IsLastAmong, IsLastFor, may_take, IsOfNone};
+ghost use Rattle.trace_pair.specs.Ends.{AreLast, IsLastAmong, IsLastFor, may_take};
 ghost use Rattle.trace_pair.specs.Queues.{of_kind};
 
 use crate::later::{later_of, with_end};
@@ -32,13 +32,6 @@ impl Ends {
             kinds: NO_KINDS,
             last: BTreeMap::new(alloc),
         }
-    }
-
-    /// Whether there are any.
-    pub(crate) fn has_some(&self) -> bool
-        ensures { result ≡ false → IsOfNone self.now }
-    {
-        self.kinds.is_any()
     }
 
     /// And the end of this receive.

@@ -14,9 +14,10 @@
 //! makes one, by a pass over all messages.
 //!
 //! - [`pair`]: a pair, and the two sides of one
-//! - [`scratch`]: the pairing from scratch; [`batch`]: its pass over all receives; [`takings`]: all
-//!   messages with what takes each; [`taken_by`]: in little memory; [`places`], [`by_key`]: where those that wait stand;
-//!   [`ends`]: the ends of receives, and whether some of them may take a message
+//! - [`scratch`]: the pairing from scratch; [`batch`]: its pass over all receives; [`sends`]: all
+//!   messages, where they stand; [`takings`]: with what takes each; [`taken_by`]: in little memory;
+//!   [`places`], [`by_key`]: where those that wait stand; [`ends`]: the ends of receives, and whether
+//!   some of them may take a message; [`ranked_ends`]: none where their ranks come before
 //! - [`rules`]: whether names are one, and a message is its receiver's own; [`reach`]: which messages come after which
 //!   receives, asked of a table
 //! - [`rows`], [`near`], [`table`]: the pairs and the postponed messages, their order by the receive,
@@ -50,6 +51,7 @@ mod opened;
 mod pair;
 mod places;
 mod queues;
+mod ranked_ends;
 mod reach;
 mod rows;
 mod rules;
