@@ -4,6 +4,7 @@ pub mod Steps
 pub mod Keys
 pub mod Free
 pub mod Searches
+pub mod Before
 pub mod Fronts
 pub mod Rows
 pub mod Posted

@@ -14,7 +14,7 @@ use Rattle.mpi_model.specs.declared.event.OpName.{OpName}
 use Rattle.mpi_model.specs.declared.message.Message.{Message}
 use Rattle.mpi_model.specs.declared.message.Receive.{Receive}
 use Rattle.trace_ops.specs.Ops.{Ops, AreOwn}
-use Rattle.trace_ops.specs.Order.{Has, named_before, AreInOrder, ArePosted, AreCalledInOrder}
+use Rattle.trace_ops.specs.Order.{Has, named_before, AreEntered, AreInOrder, ArePosted, AreCalledInOrder}
 use Rattle.trace_wait.specs.Parts.{is_of}
 use Rattle.trace_wait.proofs.Keys.{nat_same, place_same}
 
@@ -27,7 +27,7 @@ Rises {X} name (x ∷ xs) = ((y : X) → Has xs y → named_before (name x) (nam
 abbrev pub name_cmp : OpName → OpName → Ordering
 name_cmp a b = ordering_then (nat_cmp a.call b.call) (nat_cmp a.part b.part)
 
-has_at : {X : Type 0} (xs : List X) (i : ℕ) (d : X) → i < length xs → Has xs (get_or xs i d)
+pub has_at : {X : Type 0} (xs : List X) (i : ℕ) (d : X) → i < length xs → Has xs (get_or xs i d)
 has_at [] i d lt = absurd (omega arith)
 has_at (x ∷ xs) zero d lt = inl refl
 has_at (x ∷ xs) (suc i) d lt = inr (has_at xs i d (omega (arith, lt)))
@@ -155,8 +155,9 @@ pub record StandInOrder (o : Ops) : Type 0 where
   pub sends : AreInOrder o.sends
   pub receives : ArePosted o.receives
   pub cancelled : AreCalledInOrder o.cancelled
+  pub rounds : AreEntered o.rounds
 
 pub own_at : (first : ℕ) (ops : List Ops) (i : ℕ) (d : Ops) → AreOwn first ops → i < length ops → StandInOrder (get_or ops i d)
 own_at first [] i d own lt = absurd (omega arith)
-own_at first (o ∷ ops) zero d own lt = record { sends = own.0.sends_rise; receives = own.0.receives_rise; cancelled = own.0.cancelled_rise }
+own_at first (o ∷ ops) zero d own lt = record { sends = own.0.sends_rise; receives = own.0.receives_rise; cancelled = own.0.cancelled_rise; rounds = own.0.rounds_rise }
 own_at first (o ∷ ops) (suc i) d own lt = own_at (first + 1) ops i d own.1 (omega (arith, lt))

@@ -1,13 +1,14 @@
 //! The conditions of collective calls, a function for each row of their table.
 
-ghost use Rattle.std.specs.Prelude.{Some, IfSome, take, length, ◌≤◌, option_map, ◌≡◌, ◌==◌, ◌++◌, ◌∷◌, [], if◌then◌else◌, slice_get, IfOk, OnOk};
-ghost use Rattle.std.specs.List.{find};
+ghost use Rattle.std.specs.Prelude.{Some, IfSome, take, length, ◌≤◌, option_map, ◌≡◌, ◌++◌, ◌∷◌, [], if◌then◌else◌, slice_get, IfOk, OnOk};
 ghost use Rattle.trace_wait.specs.Parts.{members};
 ghost use Rattle.trace_stuck.specs.Shape.{shape};
+ghost use Rattle.trace_wait.specs.Ranks.{IsOfRank};
 ghost use Rattle.trace_wait.specs.Collectives.{has_entered, missing, absent, absent_of, lower, other_side, scanned, root_first, root_rank, from_root, to_root, by_category, may_be_owed_nothing, by_kind, round_part, collective_of_call};
 
 use crate::counts::has_more;
-use crate::overview::{Overview, round_number};
+use crate::entries::entered_at;
+use crate::overview::Overview;
 use mpi_model::{Category, Kind, Sends};
 use std::alloc::{AllocError, Global};
 use std::sync::Arc;
@@ -243,13 +244,6 @@ fn round_part(
     }
 }
 
-/// The entry of call n into a round, where it is collective.
-fn entered_by(o: &RankOps, n: u64) -> Option<Entered>
-    ensures { result ≡ find (λ e. e.call == n) o.now.rounds }
-{
-    o.rounds().iter().copied().find(|e| e.call == n)
-}
-
 /// What call n of the rank waits for, where it is collective, or the request that it posted.
 pub(crate) fn collective_of_call(
     alloc: Global,
@@ -258,10 +252,11 @@ pub(crate) fn collective_of_call(
     o: &RankOps,
     n: u64,
 ) -> Result<Condition, AllocError>
+    requires { IsOfRank run.now.ops r o.now }
     ensures { IfOk result (λ c. shape c ≡ collective_of_call run.now r o.now n) }
 {
-    match entered_by(o, n) {
-        Some(entered) => round_part(alloc, run, r, &entered, round_number(o, &entered)),
+    match entered_at(o.rounds(), n) {
+        Some(entered) => round_part(alloc, run, r, &entered, run.round_number(r, &entered)),
         None => Ok(Condition::yes()),
     }
 }

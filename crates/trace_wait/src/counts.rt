@@ -4,12 +4,11 @@ ghost use Rattle.std.specs.Prelude.{◌≡◌, ◌<◌, map, nat_lt, slice_index
 ghost use Rattle.trace_wait.specs.Rounds.{group};
 ghost use Rattle.trace_wait.specs.Calls.{calls_of, counts, table, row_of};
 
-use crate::entries::{Entries, entries_of};
+use crate::entries::Entries;
 use crate::tally::members_of;
 use mpi_model::Layout;
 use std::alloc::{AllocError, Global};
 use std::marker::Model;
-use trace_ops::RankOps;
 
 /// The calls on a communicator, by member.
 #[derive(Debug, Drop)]
@@ -77,7 +76,11 @@ fn row(
 }
 
 /// How many collective calls each member of each communicator has entered.
-fn rows_of(alloc: Global, layout: &Layout, entries: &Entries) -> Result<Vec<CommCalls>, AllocError>
+pub(crate) fn all_calls(
+    alloc: Global,
+    layout: &Layout,
+    entries: &Entries,
+) -> Result<Vec<CommCalls>, AllocError>
     ensures { IfOk result (λ v. v.items ≡ table layout.now.comms entries.now layout.now.comms) }
 {
     layout.known();
@@ -88,18 +91,6 @@ fn rows_of(alloc: Global, layout: &Layout, entries: &Entries) -> Result<Vec<Comm
         i += 1;
     }
     Ok(rows)
-}
-
-/// The rows of all communicators.
-pub(crate) fn all_calls(
-    alloc: Global,
-    layout: &Layout,
-    ops: &[RankOps],
-) -> Result<Vec<CommCalls>, AllocError>
-    ensures { IfOk result (λ v. v.items ≡ table layout.now.comms ops.now layout.now.comms) }
-{
-    let entries = entries_of(alloc, ops)?;
-    rows_of(alloc, layout, &entries)
 }
 
 /// The calls on a communicator, by member.

@@ -1,6 +1,9 @@
-//! The collective calls of each rank, by communicator: all are gone through once.
+//! The collective calls of each rank, by communicator: all are gone through once, and found by halves.
 
-ghost use Rattle.std.specs.Prelude.{◌≡◌, ◌++◌, ◌∷◌, [], ℕ, IfOk, OnOk};
+ghost use Rattle.std.specs.Prelude.{◌≡◌, ◌==◌, ◌++◌, ◌∷◌, [], ℕ, IfOk, OnOk, count_by, nat_lt, slice_get};
+ghost use Rattle.std.specs.List.{find};
+ghost use Rattle.std.specs.List.Sorted.{IsNonDecreasingBy};
+ghost use Rattle.trace_ops.specs.Order.{AreEntered};
 ghost use Rattle.trace_wait.specs.Ranks.{ops_of};
 ghost use Rattle.trace_wait.specs.Rounds.{on_comm};
 ghost use Rattle.trace_wait.specs.Entries.{listed, listed_at, IsRowOf};
@@ -9,6 +12,36 @@ use std::alloc::{AllocError, Global};
 use std::collections::BTreeMap;
 use std::marker::Model;
 use trace_ops::{Entered, RankOps};
+
+/// How many of these calls came before call n.
+pub(crate) fn count_before(entries: &[Entered], n: u64) -> usize
+    requires { IsNonDecreasingBy (λ e. e.call) entries.now }
+    ensures { result ≡ count_by (λ e. nat_lt e.call n) entries.now }
+{
+    entries.partition_point(|e| e.call < n)
+}
+
+/// The call at a place.
+fn entry_at(entries: &[Entered], at: usize) -> Option<Entered>
+    ensures { result ≡ slice_get entries.now at }
+{
+    entries.get(at).copied()
+}
+
+/// Call n, where it is among these.
+pub(crate) fn entered_at(entries: &[Entered], n: u64) -> Option<Entered>
+    requires { AreEntered entries.now }
+    ensures { result ≡ find (λ e. e.call == n) entries.now }
+{
+    match entry_at(entries, count_before(entries, n)) {
+        Some(entered) => if entered.call == n {
+            Some(entered)
+        } else {
+            None
+        },
+        None => None,
+    }
+}
 
 /// The collective calls of one rank, by communicator, each in their order.
 type Row = BTreeMap<u32, Vec<Entered>>;

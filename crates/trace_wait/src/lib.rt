@@ -10,10 +10,10 @@
 //! messages and receives, each looked for in the table of pairs by halving, and keep only what those
 //! in no pair name, and when the receives end; a part of a condition costs some look-ups more, and
 //! that of a send the question whether its message comes after a receive. A request that a call lists
-//! twice is looked at once. That of a nonblocking collective call goes through the rank's collective
-//! calls, and its list of members is shared.
+//! twice is looked at once. That of a nonblocking collective call, and the number of its round, are
+//! found by halving, and its list of members is shared.
 //!
-//! - [`entries`]: collective calls by communicator; [`counts`]: how many each member has entered
+//! - [`entries`]: collective calls by communicator, found by halves; [`counts`]: how many each member has entered
 //! - [`round`]: how a round stands; [`tally`]: the rounds of all communicators
 //! - [`sets`], [`paired`], [`unpaired`], [`mismatch`]: what is looked up for the conditions; [`overview`]: all of it together
 //! - [`groups`]: the members of each communicator, in one list that all conditions share

@@ -1,16 +1,19 @@
 //! What the conditions are made from.
 
-ghost use Rattle.std.specs.Prelude.{◌≡◌, ◌==◌, ◌&&◌, true, false, IfOk, count_by, is_some, nat_lt, slice_index};
+ghost use Rattle.std.specs.Prelude.{◌≡◌, true, false, IfOk, is_some};
 ghost use Rattle.std.specs.List.{list_any};
 ghost use Rattle.mpi_model.specs.Fit.{envelopes_fit, fits};
 ghost use Rattle.trace_pair.specs.Table.{taken_by, given_by};
+ghost use Rattle.trace_ops.specs.Order.{AreEntered};
 ghost use Rattle.trace_wait.specs.Matching.{may_take, unpaired_messages, unpaired_receives};
 ghost use Rattle.trace_wait.specs.Parts.{members};
 ghost use Rattle.trace_wait.specs.Patterns.{offers, pattern_of};
 ghost use Rattle.trace_wait.specs.Calls.{counts};
 ghost use Rattle.trace_wait.specs.Collectives.{is_mismatched, round_number};
+ghost use Rattle.trace_wait.specs.Ranks.{ops_of};
 
 use crate::counts::{CommCalls, row_of};
+use crate::entries::{Entries, count_before};
 use crate::groups::{Group, shared_members};
 use crate::round::Round;
 use crate::unpaired::Pattern;
@@ -24,8 +27,8 @@ use trace_pair::{Ends, PairTable, Reaches, Side};
 
 /// The whole run, and what was gathered of it to be looked up: which messages are in no pair, which
 /// of them were cancelled, when the receives end that are in no pair, which messages come after which
-/// receives, which rounds are mismatched, how many calls each member has entered, and the members of
-/// each communicator in a list to be shared.
+/// receives, which rounds are mismatched, how many calls each member has entered and which, and the
+/// members of each communicator in a list to be shared.
 #[derive(Drop)]
 pub(crate) struct Overview<'a> {
     pub layout: &'a Layout,
@@ -39,6 +42,7 @@ pub(crate) struct Overview<'a> {
     pub mismatched: &'a BTreeSet<(u32, u64)>,
     pub calls: &'a [CommCalls],
     pub groups: &'a [Group],
+    pub entries: &'a Entries<'a>,
 }
 
 impl<'a> Model for Overview<'a> {
@@ -64,7 +68,8 @@ impl<'a> Model for Overview<'a> {
         × (s.calls.now ≡ table s.layout.now.comms s.ops.now s.layout.now.comms)
         × (AreGroups s.layout.now.comms s.groups.now)
         × ((p : Named) → contains pattern_cmp s.withdrawn.now p ≡ list_any (λ m. offers true m p) (unpaired_messages s.ops.now s.pairs.now.pairs))
-        × (s.reaches.now ≡ s.ops.now) };
+        × (s.reaches.now ≡ s.ops.now)
+        × (s.entries.now ≡ s.ops.now) };
 }
 
 impl<'a> Overview<'a> {
@@ -147,16 +152,12 @@ impl<'a> Overview<'a> {
     {
         self.mismatched.contains(&(comm, k))
     }
-}
 
-/// The number of the round that the call entered.
-pub(crate) fn round_number(o: &RankOps, entered: &Entered) -> u64
-    ensures { result ≡ round_number o.now entered.now }
-{
-    let before = o
-        .rounds()
-        .iter()
-        .filter(|d| d.comm == entered.comm && d.call < entered.call)
-        .count();
-    before as u64
+    /// The number of the round that a call of the rank entered.
+    pub fn round_number(&self, r: u32, entered: &Entered) -> u64
+        requires { AreEntered (ops_of self.now.ops r).rounds }
+        ensures { result ≡ round_number (ops_of self.now.ops r) entered.now }
+    {
+        count_before(self.entries.on(r, entered.comm), entered.call) as u64
+    }
 }

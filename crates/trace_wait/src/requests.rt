@@ -6,6 +6,7 @@ ghost use Rattle.std.specs.Ordering.{int_eq};
 ghost use Rattle.indexmap.specs.IndexMap.{get};
 ghost use Rattle.trace_ops.specs.Order.{AreCalledInOrder, AreInOrder, ArePosted};
 ghost use Rattle.trace_stuck.specs.Shape.{shape};
+ghost use Rattle.trace_wait.specs.Ranks.{IsOfRank};
 ghost use Rattle.trace_wait.specs.Requests.{AddsShapes, AreMade, PutsAt, choices, post_part, posted_by, request, requests, some_of, started_part};
 
 use crate::active::{Posts, posts_of};
@@ -27,6 +28,7 @@ fn started_part(
     o: &RankOps,
     name: OpName,
 ) -> Result<Condition, AllocError>
+    requires rank { IsOfRank run.now.ops r o.now }
     requires sends { AreInOrder o.now.sends }
     requires receives { ArePosted o.now.receives }
     ensures { IfOk result (λ c. shape c ≡ started_part run.now r o.now name) }
@@ -48,6 +50,7 @@ fn post_part(
     o: &RankOps,
     name: OpName,
 ) -> Result<Condition, AllocError>
+    requires rank { IsOfRank run.now.ops r o.now }
     requires sends { AreInOrder o.now.sends }
     requires receives { ArePosted o.now.receives }
     requires cancelled { AreCalledInOrder o.now.cancelled }
@@ -97,6 +100,7 @@ fn part_of(
     made: &mut Made,
 ) -> Result<Condition, AllocError>
     requires posted { posted_by o.now x ≡ Some name }
+    requires rank { IsOfRank run.now.ops r o.now }
     requires sends { AreInOrder o.now.sends }
     requires receives { ArePosted o.now.receives }
     requires cancelled { AreCalledInOrder o.now.cancelled }
@@ -120,6 +124,7 @@ fn requests_of(
     posts: &Posts,
     xs: &[i64],
 ) -> Result<Vec<Condition>, AllocError>
+    requires rank { IsOfRank run.now.ops r posts.now }
     requires sends { AreInOrder posts.now.sends }
     requires receives { ArePosted posts.now.receives }
     requires cancelled { AreCalledInOrder posts.now.cancelled }
@@ -141,6 +146,7 @@ pub(crate) fn requests(
     o: &RankOps,
     xs: &[i64],
 ) -> Result<Vec<Condition>, AllocError>
+    requires rank { IsOfRank run.now.ops r o.now }
     requires sends { AreInOrder o.now.sends }
     requires receives { ArePosted o.now.receives }
     requires cancelled { AreCalledInOrder o.now.cancelled }
@@ -160,6 +166,7 @@ fn push_request(
     made: &mut Made,
     parts: &mut Vec<Condition>,
 ) -> Result<(), AllocError>
+    requires rank { IsOfRank run.now.ops r posts.now }
     requires sends { AreInOrder posts.now.sends }
     requires receives { ArePosted posts.now.receives }
     requires cancelled { AreCalledInOrder posts.now.cancelled }
@@ -181,6 +188,7 @@ fn choices_of(
     posts: &Posts,
     xs: &[i64],
 ) -> Result<Vec<Condition>, AllocError>
+    requires rank { IsOfRank run.now.ops r posts.now }
     requires sends { AreInOrder posts.now.sends }
     requires receives { ArePosted posts.now.receives }
     requires cancelled { AreCalledInOrder posts.now.cancelled }
@@ -202,6 +210,7 @@ pub(crate) fn choices(
     o: &RankOps,
     xs: &[i64],
 ) -> Result<Vec<Condition>, AllocError>
+    requires rank { IsOfRank run.now.ops r o.now }
     requires sends { AreInOrder o.now.sends }
     requires receives { ArePosted o.now.receives }
     requires cancelled { AreCalledInOrder o.now.cancelled }
@@ -221,6 +230,7 @@ fn push_choice(
     made: &mut Made,
     parts: &mut Vec<Condition>,
 ) -> Result<(), AllocError>
+    requires rank { IsOfRank run.now.ops r posts.now }
     requires sends { AreInOrder posts.now.sends }
     requires receives { ArePosted posts.now.receives }
     requires cancelled { AreCalledInOrder posts.now.cancelled }
@@ -258,6 +268,7 @@ pub(crate) fn request(
     o: &RankOps,
     x: &i64,
 ) -> Result<Condition, AllocError>
+    requires rank { IsOfRank run.now.ops r o.now }
     requires sends { AreInOrder o.now.sends }
     requires receives { ArePosted o.now.receives }
     requires cancelled { AreCalledInOrder o.now.cancelled }

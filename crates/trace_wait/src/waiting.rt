@@ -7,10 +7,12 @@ ghost use Rattle.trace_ops.specs.Order.{AreCalledInOrder, AreInOrder, ArePosted}
 ghost use Rattle.trace_stuck.specs.Shape.{shape, waits_of, OnAll};
 ghost use Rattle.trace_wait.specs.Conditions.{both_of_call, condition_of, conditions_from, conditions_of, does_one_wait, waits_for};
 ghost use Rattle.trace_wait.specs.Parts.{Run};
+ghost use Rattle.trace_wait.specs.Ranks.{IsOfRank};
 ghost use Rattle.trace_wait.specs.Requests.{choices, requests, some_of};
 
 use crate::collective::collective_of_call;
 use crate::counts::all_calls;
+use crate::entries::entries_of;
 use crate::groups::groups_of;
 use crate::mismatch::mismatched_rounds;
 use crate::overview::Overview;
@@ -51,6 +53,7 @@ fn all_of_list(
     o: &RankOps,
     xs: &[i64],
 ) -> Result<Condition, AllocError>
+    requires rank { IsOfRank run.now.ops r o.now }
     requires sends { AreInOrder o.now.sends }
     requires receives { ArePosted o.now.receives }
     requires cancelled { AreCalledInOrder o.now.cancelled }
@@ -67,6 +70,7 @@ fn some_of_list(
     o: &RankOps,
     xs: &[i64],
 ) -> Result<Condition, AllocError>
+    requires rank { IsOfRank run.now.ops r o.now }
     requires sends { AreInOrder o.now.sends }
     requires receives { ArePosted o.now.receives }
     requires cancelled { AreCalledInOrder o.now.cancelled }
@@ -84,6 +88,7 @@ fn waits_for(
     n: u64,
     call: &Call,
 ) -> Result<Condition, AllocError>
+    requires rank { IsOfRank run.now.ops r o.now }
     requires sends { AreInOrder o.now.sends }
     requires receives { ArePosted o.now.receives }
     requires cancelled { AreCalledInOrder o.now.cancelled }
@@ -127,6 +132,7 @@ fn condition_of(
     r: u32,
     o: &RankOps,
 ) -> Result<Option<Condition>, AllocError>
+    requires rank { IsOfRank run.now.ops r o.now }
     requires sends { AreInOrder o.now.sends }
     requires receives { ArePosted o.now.receives }
     requires cancelled { AreCalledInOrder o.now.cancelled }
@@ -144,6 +150,7 @@ fn conditions_in(
     run: &Overview,
     ops: &[RankOps],
 ) -> Result<Vec<Option<Condition>>, AllocError>
+    requires run { run.now.ops ≡ ops.now }
     requires few { length ops.now < 2 ^ 32 }
     requires own { AreOwn 0 ops.now }
     ensures { IfOk result (λ v. map (option_map shape) v.items ≡ conditions_from run.now 0 ops.now) }
@@ -173,7 +180,8 @@ fn conditions_gathered(
     let table = reaches_of(alloc, ops)?;
     let reaches = Reaches::new(ops, &table);
     let mismatched = mismatched_rounds(alloc, rounds)?;
-    let calls = all_calls(alloc, layout, ops)?;
+    let entries = entries_of(alloc, ops)?;
+    let calls = all_calls(alloc, layout, &entries)?;
     let groups = groups_of(alloc, layout)?;
     let run = Overview {
         layout,
@@ -187,6 +195,7 @@ fn conditions_gathered(
         mismatched: &mismatched,
         calls: &calls,
         groups: &groups,
+        entries: &entries,
     };
     conditions_in(alloc, &run, ops)
 }

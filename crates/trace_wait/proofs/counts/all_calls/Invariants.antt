@@ -1,6 +1,6 @@
 use Rattle.std.proofs.Common.{◌≡◌, ◌≤◌, ◌-◌, length, take}
 use Rattle.trace_wait.specs.Calls.{table}
-use Rattle.trace_wait.proofs.counts.rows_of.Given as goal
+use Rattle.trace_wait.proofs.counts.all_calls.Given as goal
 
 abbrev pub invariant-loop-comm : goal.invariant-loop-comm
 invariant-loop-comm l = record {
