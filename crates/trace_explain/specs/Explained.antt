@@ -17,7 +17,8 @@ use Rattle.trace_explain.specs.Lacking.{lacking_text}
 use Rattle.trace_explain.specs.LeftText.{left_over_text, named_call_text}
 use Rattle.trace_explain.specs.Mismatches.{is_mismatched, mismatched, mismatches_text}
 use Rattle.trace_explain.specs.Sections.{headed_text, lines_of}
-use Rattle.trace_explain.specs.Shown.{more_text, most_shown}
+use Rattle.trace_explain.specs.declared.shown.TheConstants.{MOST_SHOWN}
+use Rattle.call_words.specs.More.{more_text}
 
 -- How it stands
 
@@ -87,7 +88,7 @@ conflict_text at = codes "  rank " ++ decimal at.0 ++ codes ": two pieces disagr
 
 -- the first contradictions, and how many more there are
 abbrev pub conflicts_text : List (ℕ × ℕ) → List ℕ
-conflicts_text places = flat_map conflict_text (take most_shown places) ++ more_text (length places - most_shown)
+conflicts_text places = flat_map conflict_text (take MOST_SHOWN places) ++ more_text (length places - MOST_SHOWN)
 
 -- a message that is in no pair, since an open receive may have taken it
 abbrev pub postponed_text : View → OpName → List ℕ
@@ -96,7 +97,7 @@ postponed_text view n = codes "  " ++ named_call_text view n
 
 -- the first postponed messages, and how many more there are
 abbrev pub all_postponed_text : View → List OpName → List ℕ
-all_postponed_text view names = flat_map (postponed_text view) (take most_shown names) ++ more_text (length names - most_shown)
+all_postponed_text view names = flat_map (postponed_text view) (take MOST_SHOWN names) ++ more_text (length names - MOST_SHOWN)
 
 -- nothing can be read of the rank
 abbrev pub is_unread : Answered → ℕ → Bool

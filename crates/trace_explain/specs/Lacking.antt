@@ -13,7 +13,7 @@ use Rattle.trace_know.specs.View.{View}
 use Rattle.trace_node.specs.Answer.{Answered}
 use Rattle.trace_explain.specs.declared.lacking.Lacked.{Lacked}
 use Rattle.trace_explain.specs.Sections.{entry_of}
-use Rattle.trace_explain.specs.Shown.{most_shown}
+use Rattle.trace_explain.specs.declared.shown.TheConstants.{MOST_SHOWN}
 
 -- the number by which call n of a rank names a communicator, where the layout gives the rank none of that number; each rank
 -- of the layout has the world
@@ -54,7 +54,7 @@ counted_at (suc at) (l ∷ listed) = l ∷ counted_at at listed
 -- a call of a number that isn't listed
 abbrev pub with_new : LackingParts → ℕ → LackingParts
 with_new k number =
-    if nat_lt (length k.listed) most_shown
+    if nat_lt (length k.listed) MOST_SHOWN
     then record { listed = k.listed ++ (record { number = number; count = 1 }) ∷ []; others = k.others }
     else record { listed = k.listed; others = one_more k.others }
 

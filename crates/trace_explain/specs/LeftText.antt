@@ -7,7 +7,8 @@ use Rattle.trace_know.specs.View.{View}
 use Rattle.trace_ops.specs.Ops.{Ops}
 use Rattle.trace_node.specs.Answer.{Answered}
 use Rattle.trace_explain.specs.LeftOver.{left_in, near_in, others_in, undecided_in}
-use Rattle.trace_explain.specs.Shown.{more_text, most_shown}
+use Rattle.trace_explain.specs.declared.shown.TheConstants.{MOST_SHOWN}
+use Rattle.call_words.specs.More.{more_text}
 use Rattle.trace_explain.specs.Started.{op_text}
 use Rattle.trace_explain.specs.declared.left_over.LeftOver.{LeftOver}
 
@@ -25,7 +26,7 @@ near_line view p = codes "  " ++ named_call_text view p.0 ++ codes "; but " ++ n
 
 -- the first operations below a head, and how many more there are
 abbrev pub these_calls : View → List ℕ → List OpName → List ℕ
-these_calls view head ns = head ++ flat_map (call_line view) (take most_shown ns) ++ more_text (length ns - most_shown)
+these_calls view head ns = head ++ flat_map (call_line view) (take MOST_SHOWN ns) ++ more_text (length ns - MOST_SHOWN)
 
 -- some calls below a head, where there are any
 abbrev pub calls_below : View → List ℕ → List OpName → List ℕ
@@ -35,7 +36,7 @@ calls_below view head (n ∷ ns) = these_calls view head (n ∷ ns)
 -- the first nearest misses, and how many more there are
 abbrev pub these_near : View → List (OpName × OpName) → List ℕ
 these_near view ps = codes "\nNearest misses (same communicator and peer, another tag):\n"
-    ++ flat_map (near_line view) (take most_shown ps) ++ more_text (length ps - most_shown)
+    ++ flat_map (near_line view) (take MOST_SHOWN ps) ++ more_text (length ps - MOST_SHOWN)
 
 -- the nearest misses: nothing where there is none
 abbrev pub near_below : View → List (OpName × OpName) → List ℕ

@@ -7,7 +7,6 @@ pub mod Started
 pub mod Waited
 pub mod Rounds
 pub mod Sections
-pub mod Shown
 pub mod Mismatches
 pub mod LeftOver
 pub mod LeftText

@@ -10,7 +10,8 @@ use Rattle.trace_wait.specs.declared.round.Round.{Round}
 use Rattle.call_words.specs.Ranges.{named_ranks_text}
 use Rattle.call_words.specs.Words.{kind_text}
 use Rattle.trace_explain.specs.declared.mismatch.Entrant.{Entrant}
-use Rattle.trace_explain.specs.Shown.{more_text, most_shown}
+use Rattle.trace_explain.specs.declared.shown.TheConstants.{MOST_SHOWN}
+use Rattle.call_words.specs.More.{more_text}
 
 -- functions or roots differ among those that have entered the round
 abbrev pub is_mismatched : Round → Bool
@@ -70,7 +71,7 @@ mismatch_text comms ops r = mismatch_head r ++ calls_text (entrants comms ops r)
 -- the first mismatched rounds, and how many more there are
 abbrev pub these_text : List Communicator → List Ops → List Round → List ℕ
 these_text comms ops rs = codes "\nCollective calls of one round that don't match:\n"
-    ++ flat_map (mismatch_text comms ops) (take most_shown rs) ++ more_text (length rs - most_shown)
+    ++ flat_map (mismatch_text comms ops) (take MOST_SHOWN rs) ++ more_text (length rs - MOST_SHOWN)
 
 -- the mismatched rounds: nothing where there is none
 abbrev pub mismatches_text : List Communicator → List Ops → List Round → List ℕ

@@ -17,7 +17,7 @@ use Rattle.call_words.specs.Seconds.{seconds_text}
 use Rattle.trace_explain.specs.Explained.{ends_unread, is_gapped, is_waiting, needed_ops}
 use Rattle.trace_explain.specs.Lacking.{calls_read}
 use Rattle.trace_explain.specs.Sections.{Said, entry_of, line_text, said_of}
-use Rattle.trace_explain.specs.Shown.{most_shown}
+use Rattle.trace_explain.specs.declared.shown.TheConstants.{MOST_SHOWN}
 use Rattle.trace_explain.specs.Standing.{rank_text}
 use Rattle.trace_explain.specs.Started.{has_parts, whole_text}
 
@@ -109,7 +109,7 @@ calls_from a view rank first (suc count) = calls_from a view rank first count ++
 -- the last ten of so many
 abbrev pub last_calls_text : Answered → View → ℕ → ℕ → List ℕ
 last_calls_text a view rank count =
-    codes "\nIts last calls, of " ++ decimal count ++ codes " that can be read:\n" ++ calls_from a view rank (count - most_shown) (count - (count - most_shown))
+    codes "\nIts last calls, of " ++ decimal count ++ codes " that can be read:\n" ++ calls_from a view rank (count - MOST_SHOWN) (count - (count - MOST_SHOWN))
 
 -- the last calls of a rank: nothing where none can be read
 abbrev pub calls_text : Answered → View → ℕ → ℕ → List ℕ

@@ -7,8 +7,8 @@ ghost use Rattle.trace_explain.specs.Explained.{all_postponed_text, conflict_tex
 
 use crate::lacking::put_lacking;
 use crate::left_text::put_named_call;
-use crate::shown::{MOST_SHOWN, put_more, shown};
-use call_words::{Text, put_named_ranks, put_ranges};
+use crate::shown::{MOST_SHOWN, shown};
+use call_words::{Text, put_more, put_named_ranks, put_ranges};
 use mpi_model::{Layout, OpName};
 use std::alloc::{AllocError, Global};
 use trace_know::Knowledge;

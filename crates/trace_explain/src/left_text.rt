@@ -6,9 +6,9 @@ ghost use Rattle.call_words.specs.Texts.{Adds};
 ghost use Rattle.trace_explain.specs.LeftText.{call_line, calls_below, found_left_text, left_over_text, messages_head, named_call_text, near_below, near_line, receives_head, these_calls, these_near, undecided_head};
 
 use crate::left_over::{LeftOver, left_over};
-use crate::shown::{MOST_SHOWN, put_more, shown};
+use crate::shown::{MOST_SHOWN, shown};
 use crate::started::put_op;
-use call_words::{Text, put_op_number};
+use call_words::{Text, put_more, put_op_number};
 use mpi_model::OpName;
 use std::alloc::Global;
 use trace_know::Knowledge;

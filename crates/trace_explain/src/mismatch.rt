@@ -6,8 +6,8 @@ ghost use Rattle.trace_wait.specs.Rounds.{group, on_comm, same_function, same_ro
 ghost use Rattle.call_words.specs.Texts.{Adds};
 ghost use Rattle.trace_explain.specs.Mismatches.{calls_group, calls_line, calls_text, do_match, entrant_at, entrant_in, entrants, is_mismatched, mismatch_head, mismatch_text, mismatched, mismatches_text, ranks_matching, these_text};
 
-use crate::shown::{MOST_SHOWN, push_some, put_more, shown};
-use call_words::{Text, put_kind, put_named_ranks};
+use crate::shown::{MOST_SHOWN, push_some, shown};
+use call_words::{Text, put_kind, put_more, put_named_ranks};
 use mpi_model::{CollectiveFunction, Layout};
 use std::alloc::{AllocError, Global};
 use trace_ops::{Entered, RankOps};

@@ -2,10 +2,8 @@
 
 ghost use Rattle.std.specs.Prelude.{◌≡◌, ◌++◌, [], OnOk, take};
 ghost use Rattle.std.specs.List.{cons_option};
-ghost use Rattle.call_words.specs.Texts.{Adds};
-ghost use Rattle.trace_explain.specs.Shown.{more_text, most_shown};
+ghost use Rattle.trace_explain.specs.declared.shown.TheConstants.{MOST_SHOWN};
 
-use call_words::Text;
 use std::alloc::AllocError;
 
 /// How many lines of a kind are shown.
@@ -13,20 +11,9 @@ pub(crate) const MOST_SHOWN: usize = 10;
 
 /// The first of some items, as many as are shown.
 pub(crate) fn shown<X>(items: &[X]) -> &[X]
-    ensures { result.now ≡ take most_shown items.now }
+    ensures { result.now ≡ take MOST_SHOWN items.now }
 {
     &items[..items.len().min(MOST_SHOWN)]
-}
-
-/// How many more there are.
-pub(crate) fn put_more(out: &mut Text, more: usize)
-    ensures { Adds out.old out.new (more_text more) }
-{
-    if more > 0 {
-        out.put(b"  and ");
-        out.put_number(more as u64);
-        out.put(b" more\n");
-    }
 }
 
 /// Adds the item at the end, where there is one.

@@ -1,7 +1,7 @@
 use Rattle.std.proofs.Common.{ap}
 use Rattle.std.specs.List.{flat_map}
 use Rattle.trace_explain.specs.Mismatches.{mismatch_text}
-use Rattle.trace_explain.specs.Shown.{more_text}
+use Rattle.call_words.specs.More.{more_text}
 use Rattle.trace_explain.proofs.Adding.{then, reads}
 use Rattle.trace_explain.proofs.mismatch.put_these.Goals as goal
 
