@@ -1,6 +1,7 @@
 -- Why no layout is made, by what refuses it.
 use Rattle.std.proofs.Common.{◌≡◌, ◌<◌, ◌==◌, ◌⊎◌, ℕ, nat_lt, List, [], Some, length, inl, inr, subst}
 use Rattle.std.proofs.lemmas.Bool.{cond-true, eq-eqb, lt-ltb, or_left, or_right}
+use Rattle.mpi_model.specs.declared.layout.TheConstants.{MOST_RANKS}
 use Rattle.mpi_model.specs.Communicators.{Communicator}
 use Rattle.mpi_model.specs.Layouts.{fault_of}
 use Rattle.mpi_model.specs.declared.layout.Sends.{Sends}
@@ -12,11 +13,11 @@ use Rattle.text_layouts.specs.Making.{RefusesLayout, RefusesLayoutFile, RefusesM
 use Rattle.text_layouts.specs.declared.fault.MadeFault.{MadeFault}
 use Rattle.text_layouts.specs.declared.fault.MadeFault.TheVariants as faults
 
-no_ranks : (n world : ℕ) → (n ≡ 0) ⊎ (1024 < n) → fault_of n world [] ≡ Some RankCount
-no_ranks n world (inl e) = cond-true _ _ _ (or_left (n == 0) (nat_lt 1024 n) (eq-eqb n 0 e))
-no_ranks n world (inr h) = cond-true _ _ _ (or_right (n == 0) (nat_lt 1024 n) (lt-ltb 1024 n h))
+no_ranks : (n world : ℕ) → (n ≡ 0) ⊎ (MOST_RANKS < n) → fault_of n world [] ≡ Some RankCount
+no_ranks n world (inl e) = cond-true _ _ _ (or_left (n == 0) (nat_lt MOST_RANKS n) (eq-eqb n 0 e))
+no_ranks n world (inr h) = cond-true _ _ _ (or_right (n == 0) (nat_lt MOST_RANKS n) (lt-ltb MOST_RANKS n h))
 
-pub by_count : (sends : Sends) (files : List (List ℕ)) (ranks : List RankCalls) → (length ranks ≡ 0) ⊎ (1024 < length ranks) → RefusesMaking sends files ranks (faults.Layout RankCount)
+pub by_count : (sends : Sends) (files : List (List ℕ)) (ranks : List RankCalls) → (length ranks ≡ 0) ⊎ (MOST_RANKS < length ranks) → RefusesMaking sends files ranks (faults.Layout RankCount)
 by_count sends files ranks h = record { comms = []; why = inl (no_ranks (length ranks) (world_of ranks) h) }
 
 pub by_world : (sends : Sends) (files : List (List ℕ)) (ranks : List RankCalls) (fault : MadeFault) → RefusesWorld ranks fault → RefusesMaking sends files ranks fault

@@ -5,7 +5,7 @@ use Rattle.dumpi_calls.specs.declared.fault.WalkFault.{WalkFault}
 use Rattle.dumpi_calls.specs.declared.walking.Walked.{Walked}
 use Rattle.comm_makings.specs.declared.calls.RankCalls.{RankCalls}
 use Rattle.comm_calls.specs.Calls.{ReadCalls, ReadsWhole, nothing_read, reading}
-use Rattle.comm_calls.specs.declared.fault.Memory.{Memory}
+use Rattle.dumpi_calls.specs.declared.collect.Memory.{Memory}
 use Rattle.text_layouts.specs.Texts.{AreOfRank, IsReadFrom, StopsIn}
 
 -- a walk over the whole text read all of it

@@ -10,17 +10,14 @@ use Rattle.comm_makings.specs.declared.answer.Derived.{Derived}
 use Rattle.comm_makings.specs.declared.calls.RankCalls.{RankCalls}
 use Rattle.layout_files.specs.Values.{layout_value, line_of, manifest_value, parts_of}
 use Rattle.text_layouts.specs.Sizes.{size_fault}
+use Rattle.text_layouts.specs.declared.made.TheConstants.{LONGEST_FILE}
 use Rattle.text_layouts.specs.declared.fault.MadeFault.{MadeFault}
 use Rattle.text_layouts.specs.declared.fault.MadeFault.TheVariants as faults
-
--- the most bytes of a file
-abbrev pub longest : ℕ
-longest = 16777216
 
 -- The file of this value: its line, which isn't too long.
 pub record IsFile (value : Json) (file : List ℕ) : Type 0 where
   pub bytes : file ≡ line_of value
-  pub short : length file ≤ longest
+  pub short : length file ≤ LONGEST_FILE
 
 -- the number of MPI_COMM_WORLD is refused, unless memory was wanting
 abbrev pub RefusesWorld : List RankCalls → MadeFault → Type 0
@@ -41,13 +38,13 @@ made_layout ranks sends derived = layout_value (parts_of ranks derived.world sen
 -- why the file of the layout isn't made: it is too long
 abbrev pub RefusesLayoutFile : Json → MadeFault → Type 0
 RefusesLayoutFile value faults.Memory = Unit {0}
-RefusesLayoutFile value faults.LayoutFile = longest < length (line_of value)
+RefusesLayoutFile value faults.LayoutFile = LONGEST_FILE < length (line_of value)
 RefusesLayoutFile value _ = ⊥
 
 -- why the file of the manifest isn't made: it is too long
 abbrev pub RefusesManifestFile : Json → MadeFault → Type 0
 RefusesManifestFile value faults.Memory = Unit {0}
-RefusesManifestFile value faults.ManifestFile = longest < length (line_of value)
+RefusesManifestFile value faults.ManifestFile = LONGEST_FILE < length (line_of value)
 RefusesManifestFile value _ = ⊥
 
 -- Some communicators of these ranks make no layout, by a rule of layouts or since its file is too long.
@@ -62,4 +59,4 @@ RefusesMaking sends files ranks (faults.Size rank size) = size_fault ranks ≡ S
 RefusesMaking sends files ranks (faults.World first second) = world_fault ranks ≡ Some (derives.World first second)
 RefusesMaking sends files ranks (faults.Layout fault) = RefusesComms sends ranks (faults.Layout fault)
 RefusesMaking sends files ranks faults.LayoutFile = RefusesComms sends ranks faults.LayoutFile
-RefusesMaking sends files ranks faults.ManifestFile = longest < length (line_of (manifest_value files))
+RefusesMaking sends files ranks faults.ManifestFile = LONGEST_FILE < length (line_of (manifest_value files))

@@ -10,7 +10,7 @@ use Rattle.dumpi_calls.specs.declared.fault.WalkFault.{WalkFault}
 use Rattle.dumpi_calls.specs.declared.walking.Walked.{Walked}
 use Rattle.comm_makings.specs.declared.calls.RankCalls.{RankCalls}
 use Rattle.comm_calls.specs.Calls.{IsReadOf, ReadCalls}
-use Rattle.comm_calls.specs.declared.fault.Memory.{Memory}
+use Rattle.dumpi_calls.specs.declared.collect.Memory.{Memory}
 
 -- what was read, as the calls of a rank
 pub record AreOfRank (read : ReadCalls) (rank : RankCalls) : Type 0 where

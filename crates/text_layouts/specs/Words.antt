@@ -1,6 +1,7 @@
 -- What is said of a layout that was made.
-use Rattle.std.specs.Prelude.{◌-◌, ℕ, zero, suc, List, [], ◌++◌, Option, Some, None, length, codes, decimal, nat_lt, take, if◌then◌else◌}
+use Rattle.std.specs.Prelude.{◌-◌, ℕ, List, [], ◌++◌, Option, Some, None, length, codes, decimal, nat_lt, take, if◌then◌else◌}
 use Rattle.std.specs.List.{flat_map}
+use Rattle.call_words.specs.More.{more_text}
 use Rattle.call_words.specs.Ranges.{named_ranks_text}
 use Rattle.mpi_model.specs.Communicators.{Communicator}
 use Rattle.comm_makings.specs.declared.answer.LeftOut.{LeftOut}
@@ -8,11 +9,7 @@ use Rattle.comm_makings.specs.declared.answer.MadeBy.{MadeBy}
 use Rattle.comm_makings.specs.declared.answer.MadeBy.TheVariants as makers
 use Rattle.comm_makings.specs.declared.answer.Why.{Why}
 use Rattle.comm_makings.specs.declared.answer.Why.TheVariants as reasons
-
--- `  and 3 more`
-abbrev pub more_text : ℕ → List ℕ
-more_text zero = []
-more_text (suc n) = codes "  and " ++ decimal (suc n) ++ codes " more\n"
+use Rattle.text_layouts.specs.declared.words.TheConstants.{MOST_SHOWN}
 
 -- `ranks: 4, calls: 120`
 abbrev pub counts_text : ℕ → ℕ → List ℕ
@@ -24,7 +21,8 @@ comm_text g = codes "  " ++ decimal g.comm ++ codes ": " ++ named_ranks_text g.m
 
 -- how many communicators there are, and the first twenty of them
 abbrev pub comms_text : List Communicator → List ℕ
-comms_text comms = codes "communicators: " ++ decimal (length comms) ++ codes "\n" ++ flat_map comm_text (take 20 comms) ++ more_text (length comms - 20)
+comms_text comms = codes "communicators: " ++ decimal (length comms) ++ codes "\n"
+    ++ flat_map comm_text (take MOST_SHOWN comms) ++ more_text (length comms - MOST_SHOWN)
 
 -- the function that gave a communicator
 abbrev pub function_text : MadeBy → List ℕ
@@ -64,7 +62,8 @@ left_text l = codes "  rank " ++ decimal l.rank ++ codes ", call " ++ decimal l.
 
 -- how many communicators are left out, and the first twenty of them
 abbrev pub some_left_text : List LeftOut → List ℕ
-some_left_text left_out = codes "left out: " ++ decimal (length left_out) ++ codes "\n" ++ flat_map left_text (take 20 left_out) ++ more_text (length left_out - 20)
+some_left_text left_out = codes "left out: " ++ decimal (length left_out) ++ codes "\n"
+    ++ flat_map left_text (take MOST_SHOWN left_out) ++ more_text (length left_out - MOST_SHOWN)
 
 -- what is said of communicators that are left out: nothing where there is none
 abbrev pub left_out_text : List LeftOut → List ℕ

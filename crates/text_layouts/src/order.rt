@@ -1,6 +1,7 @@
 //! Which text is of which rank, by the names of their files.
 
 ghost use Rattle.std.specs.Prelude.{◌≡◌, ◌<◌, ◌≤◌, IfNone, IfOk, IfSome, drop, length, map, string_bytes};
+ghost use Rattle.mpi_model.specs.declared.layout.TheConstants.{MOST_RANKS};
 ghost use Rattle.text_layouts.specs.Names.{IsByDigits, IsOrder, LacksRank, again_at, are_numbered, byte_after, digit_after, first_from, is_number, number_of, numbers_of, twice_from};
 
 use std::alloc::{AllocError, Global};
@@ -168,10 +169,11 @@ fn twice_in(numbers: &[Option<u64>]) -> Option<(usize, usize)>
     None
 }
 
-/// Which text is of which rank, by the names of at most 1,024 files. A number above 2^64 - 1 counts as that.
+/// Which text is of which rank, by the names of its files, no more than a layout can have ranks. A number above 2^64 - 1
+/// counts as that.
 #[tactic(auto, using(crate::proofs::Orders::lacks_and_apart, crate::proofs::Orders::lacks_unnumbered, crate::proofs::Orders::twice))]
 pub fn order_of(alloc: Global, names: &[String]) -> Result<Order, AllocError>
-    requires { length names.now ≤ 1024 }
+    requires { length names.now ≤ MOST_RANKS }
     ensures { IfOk result (IsOrder (numbers_of (map string_bytes names.now))) }
 {
     let numbers = numbers_of(alloc, names)?;

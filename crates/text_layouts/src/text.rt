@@ -5,9 +5,9 @@ ghost use Rattle.dumpi_text.specs.Failing.{Fails};
 ghost use Rattle.dumpi_calls.specs.Walks.{FailsIn, IsReadStop};
 ghost use Rattle.text_layouts.specs.Texts.{IsReadFrom, StopsIn};
 
-use comm_calls::{CommCalls, Memory, calls_read_in_turn};
+use comm_calls::{CommCalls, calls_read_in_turn};
 use comm_makings::RankCalls;
-use dumpi_calls::{WalkFault, Walked, walk_raw};
+use dumpi_calls::{Memory, WalkFault, Walked, walk_raw};
 use mpi_model::Read;
 use std::alloc::Global;
 

@@ -3,29 +3,19 @@
 ghost use Rattle.std.specs.Prelude.{◌≡◌, ◌-◌, length, take};
 ghost use Rattle.std.specs.List.{flat_map};
 ghost use Rattle.call_words.specs.Texts.{Adds};
-ghost use Rattle.text_layouts.specs.Words.{comm_text, comms_text, counts_text, function_text, given_text, left_out_text, left_text, more_text, notes_text, some_left_text, why_text};
+ghost use Rattle.text_layouts.specs.declared.words.TheConstants.{MOST_SHOWN};
+ghost use Rattle.text_layouts.specs.Words.{comm_text, comms_text, counts_text, function_text, given_text, left_out_text, left_text, notes_text, some_left_text, why_text};
 
-use call_words::{Text, put_named_ranks};
+use call_words::{Text, put_more, put_named_ranks};
 use comm_makings::{Derived, LeftOut, MadeBy, Why};
 use mpi_model::Comm;
 
 /// How many lines of a kind are written.
 pub const MOST_SHOWN: usize = 20;
 
-/// How many more there are, as `  and 3 more`.
-fn put_more(out: &mut Text, more: usize)
-    ensures { Adds out.old out.new (more_text more) }
-{
-    if more > 0 {
-        out.put(b"  and ");
-        out.put_number(more as u64);
-        out.put(b" more\n");
-    }
-}
-
 /// At most so many of the items.
 fn shown<T>(items: &[T]) -> &[T]
-    ensures { result.now ≡ take 20 items.now }
+    ensures { result.now ≡ take MOST_SHOWN items.now }
 {
     if items.len() > MOST_SHOWN {
         &items[..MOST_SHOWN]

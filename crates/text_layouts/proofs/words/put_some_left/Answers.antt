@@ -1,10 +1,12 @@
 use Rattle.std.proofs.Common.{◌≡◌, ◌-◌, ap, length}
 use Rattle.std.specs.List.{flat_map}
-use Rattle.text_layouts.specs.Words.{left_text, more_text}
+use Rattle.call_words.specs.More.{more_text}
+use Rattle.text_layouts.specs.Words.{left_text}
+use Rattle.text_layouts.specs.declared.words.TheConstants.{MOST_SHOWN}
 use Rattle.text_layouts.proofs.Adding.{reads, then}
 use Rattle.text_layouts.proofs.words.put_some_left.Goals as goal
 
 pub returns : goal.returns
 returns c =
-    let less : c.saturating_sub.result ≡ length c.args.left_out.now - 20 = cc in
+    let less : c.saturating_sub.result ≡ length c.args.left_out.now - MOST_SHOWN = cc in
     then (then (then (then c.put.ensures c.put_number.ensures) c.put-2.ensures) (reads c.put_each_left.ensures (ap (flat_map left_text) c.shown.ensures))) (reads c.put_more.ensures (ap more_text less))
