@@ -12,9 +12,9 @@ use Rattle.trace_know.specs.Segment.{PlacedEvents}
 use Rattle.trace_know.specs.Trace.{Trace, facts_of_all, view_of}
 use Rattle.trace_cluster.specs.declared.side.Side.{Side}
 use Rattle.trace_cluster.specs.declared.side.Side.TheVariants as sides
-use Rattle.trace_crew.specs.declared.inbox.item.Worker.{Worker}
-use Rattle.trace_crew.specs.declared.inbox.item.Worker.TheVariants as workers
-use Rattle.trace_crew.specs.declared.piece.Piece.{Piece}
+use Rattle.trace_crew.specs.declared.queue.item.Worker.{Worker}
+use Rattle.trace_crew.specs.declared.queue.item.Worker.TheVariants as workers
+use Rattle.trace_crew.specs.declared.piece.TextPiece.{TextPiece}
 use Rattle.trace_crew.specs.Pieces.{place_of}
 use Rattle.trace_cluster.specs.Pieces.{IsForeign, IsWhole, IsWithin, Placed, all_pieces, placed_from}
 use Rattle.input_files.specs.Manifests.{PieceParts}
@@ -48,16 +48,16 @@ get_at [] x back = refl
 get_at (y ∷ ys) x back = get_at ys x back
 
 -- the rest of a share, from a place on
-at_from : (file : List ℕ → Option (List ℕ)) (all : List PieceParts) (node : Side) (worker : Worker) (place : ℕ) (front pieces : List PieceParts) (texts : List Piece)
+at_from : (file : List ℕ → Option (List ℕ)) (all : List PieceParts) (node : Side) (worker : Worker) (place : ℕ) (front pieces : List PieceParts) (texts : List TextPiece)
     → share_of node worker all ≡ front ++ pieces → place ≡ length front → AreTextsOf file pieces texts
     → AreAt file all (placed_from node worker place texts) pieces
 at_from file all node worker place front [] texts cut at are =
-    subst (λ (ts : List Piece). AreAt file all (placed_from node worker place ts) []) (sym are) tt
+    subst (λ (ts : List TextPiece). AreAt file all (placed_from node worker place ts) []) (sym are) tt
 at_from file all node worker place front (p ∷ ps) texts cut at are =
     let here : piece_at all node (place_of worker place) ≡ Some p =
     ap₂ (λ (qs : List PieceParts) (n : ℕ). slice_get qs n) cut at ∙ get_at front p ps in
     let next : place + 1 ≡ length (front ++ p ∷ []) = ap (λ (n : ℕ). n + 1) at ∙ sym (length-append front (p ∷ [])) in
-    subst (λ (ts : List Piece). AreAt file all (placed_from node worker place ts) (p ∷ ps)) (sym are.4)
+    subst (λ (ts : List TextPiece). AreAt file all (placed_from node worker place ts) (p ∷ ps)) (sym are.4)
     ((are.2, here), at_from file all node worker (place + 1) (front ++ p ∷ []) ps are.1 (cut ∙ sym (append_assoc front (p ∷ []) ps)) next are.3)
 
 pub all_at : (file : List ℕ → Option (List ℕ)) (pieces : List PieceParts) (texts : AllTexts) → AreShares file pieces texts
@@ -129,7 +129,7 @@ tell_some : (rank first : ℕ) (events : List Event) (segments : List PlacedEven
 tell_some rank first events [] i are below = absurd (omega (arith, below))
 tell_some rank first events (s ∷ ss) i are below = facts_of_first (s ∷ ss) s (omega arith) refl are.2.some
 
-inside_of : SegmentsTellAll → (file : List ℕ → Option (List ℕ)) (layout : Parts) (piece : PieceParts) (text : Piece) → IsTextOf file piece text
+inside_of : SegmentsTellAll → (file : List ℕ → Option (List ℕ)) (layout : Parts) (piece : PieceParts) (text : TextPiece) → IsTextOf file piece text
     → IsWithin layout text → IsInside file layout.ranks piece
 inside_of tells file layout piece text is ([], gives, all) = inr (facts_given tells file piece text [] is gives)
 inside_of tells file layout piece text is (s ∷ ss, gives, all) =
@@ -173,7 +173,7 @@ piece_of file all (t ∷ ts) (p ∷ ps) (suc i) one are below e =
     let among : suc rest.1.0 < length (p ∷ ps) = omega (arith, rest.1.1) in
     (rest.0, (suc rest.1.0, among, rest.1.2), rest.2)
 
-outside_of : SegmentsTellAll → (file : List ℕ → Option (List ℕ)) (layout : Parts) (piece : PieceParts) (text : Piece) → IsTextOf file piece text
+outside_of : SegmentsTellAll → (file : List ℕ → Option (List ℕ)) (layout : Parts) (piece : PieceParts) (text : TextPiece) → IsTextOf file piece text
     → IsForeign layout text → IsOutside file layout.ranks piece
 outside_of tells file layout piece text is (segments, segment, gives, among, past) =
     let own : segment.rank ≡ text.rank = rank_of text.rank text.first gives.0 segments among.0 segment gives.2 among.1 among.2 in (

@@ -4,7 +4,7 @@ use Rattle.mpi_model.specs.declared.event.Event.{Event}
 use Rattle.dumpi_calls.specs.Whole.{AreEvents, SegmentsTellAll, TellsEvents}
 use Rattle.trace_know.specs.Segment.{PlacedEvents, enter_place}
 use Rattle.trace_know.specs.Trace.{facts_from, facts_of_all}
-use Rattle.trace_crew.specs.declared.piece.Piece.{Piece}
+use Rattle.trace_crew.specs.declared.piece.TextPiece.{TextPiece}
 use Rattle.trace_crew.specs.Pieces.{GivesSegments}
 use Rattle.input_files.specs.Manifests.{PieceParts}
 use Rattle.command_runs.specs.Files.{IsFile}
@@ -16,7 +16,7 @@ events_told None bytes events is are = tt
 events_told (Some told) bytes events is are = subst (λ (t : List ℕ). AreEvents t events) (sym is) are
 
 -- the segments of its text are facts of the piece
-pub facts_given : SegmentsTellAll → (file : List ℕ → Option (List ℕ)) (piece : PieceParts) (text : Piece) (segments : List PlacedEvents) → IsTextOf file piece text
+pub facts_given : SegmentsTellAll → (file : List ℕ → Option (List ℕ)) (piece : PieceParts) (text : TextPiece) (segments : List PlacedEvents) → IsTextOf file piece text
     → GivesSegments text segments → TellsFacts (file piece.file) piece.rank piece.first (facts_of_all segments)
 facts_given tells file piece text segments is gives = (
   gives.0,

@@ -9,9 +9,9 @@ use Rattle.trace_know.specs.View.{View, IsBelow}
 use Rattle.trace_node.specs.Node.{Held}
 use Rattle.trace_cluster.specs.declared.side.Side.{Side}
 use Rattle.trace_cluster.specs.declared.side.Side.TheVariants as sides
-use Rattle.trace_crew.specs.declared.inbox.item.Worker.{Worker}
-use Rattle.trace_crew.specs.declared.inbox.item.Worker.TheVariants as workers
-use Rattle.trace_crew.specs.declared.piece.Piece.{Piece}
+use Rattle.trace_crew.specs.declared.queue.item.Worker.{Worker}
+use Rattle.trace_crew.specs.declared.queue.item.Worker.TheVariants as workers
+use Rattle.trace_crew.specs.declared.piece.TextPiece.{TextPiece}
 use Rattle.trace_crew.specs.Views.{is_from}
 use Rattle.trace_cluster.specs.Clustered.{KnowsOwn, KnowsPiece}
 use Rattle.input_files.specs.Manifests.{PieceParts}
@@ -25,11 +25,11 @@ use Rattle.command_runs.proofs.GivenFacts.{facts_given}
 abbrev pub IsToldTo : (List ℕ → Option (List ℕ)) → View → PieceParts → Type 0
 IsToldTo file know piece = (facts : Trace) × TellsFacts (file piece.file) piece.rank piece.first facts × IsBelow (view_of facts) know
 
-told_each : SegmentsTellAll → (file : List ℕ → Option (List ℕ)) (know : View) (pieces : List PieceParts) (texts : List Piece)
+told_each : SegmentsTellAll → (file : List ℕ → Option (List ℕ)) (know : View) (pieces : List PieceParts) (texts : List TextPiece)
     → AreTextsOf file pieces texts → All (KnowsPiece know) texts → All (IsToldTo file know) pieces
 told_each tells file know [] texts are all = All-nil (IsToldTo file know)
 told_each tells file know (p ∷ ps) texts are all =
-    let both : All (KnowsPiece know) (are.0 ∷ are.1) = subst (λ (ts : List Piece). All (KnowsPiece know) ts) are.4 all in
+    let both : All (KnowsPiece know) (are.0 ∷ are.1) = subst (λ (ts : List TextPiece). All (KnowsPiece know) ts) are.4 all in
     let first : KnowsPiece know are.0 = All-head (KnowsPiece know) are.0 are.1 both in
     All-cons (IsToldTo file know) p ps (facts_of_all first.0, facts_given tells file p are.0 first.0 are.2 first.1, first.2)
     (told_each tells file know ps are.1 are.3 (All-tail (KnowsPiece know) are.0 are.1 both))

@@ -8,7 +8,7 @@ use Rattle.trace_cluster.specs.declared.exchange.fault.ExchangeFault.{ExchangeFa
 use Rattle.trace_cluster.specs.declared.exchange.fault.ExchangeFault.TheVariants as exchanges
 use Rattle.trace_wire.specs.declared.fault.WireFault.{WireFault}
 use Rattle.trace_wire.specs.declared.fault.WireFault.TheVariants as wires
-use Rattle.trace_crew.specs.declared.piece.Piece.{Piece}
+use Rattle.trace_crew.specs.declared.piece.TextPiece.{TextPiece}
 use Rattle.trace_crew.specs.declared.piece.PieceAt.{PieceAt}
 use Rattle.trace_crew.specs.declared.piece.PieceFault.{PieceFault}
 use Rattle.trace_crew.specs.declared.piece.PieceFault.TheVariants as causes
@@ -36,7 +36,7 @@ bytes_told : (file : Option (List ℕ)) (bytes : List ℕ) → IsFile file bytes
 bytes_told None bytes is = tt
 bytes_told (Some told) bytes is = ap (λ (t : List ℕ). Some t) (sym is)
 
-text_refused : (file : List ℕ → Option (List ℕ)) (piece : PieceParts) (text : Piece) (fault : PieceFault) (run : RunFault) → IsTextOf file piece text
+text_refused : (file : List ℕ → Option (List ℕ)) (piece : PieceParts) (text : TextPiece) (fault : PieceFault) (run : RunFault) → IsTextOf file piece text
     → IsRefusedFor text fault → IsTextFault piece.file fault run → RefusesPiece piece.file piece.first (file piece.file) run
 text_refused file piece text (causes.Walk fault) run is why names =
     walk_told piece.file piece.first (file piece.file) (Some text.text.items) [] why.0 fault run (bytes_told (file piece.file) text.text.items is.2) why.1 names

@@ -6,7 +6,7 @@ use Rattle.std.specs.declared.alloc.Global.{Global}
 use Rattle.dumpi_text.specs.declared.fault.TextCause.TheVariants.{Read}
 use Rattle.trace_crew.specs.declared.piece.PieceFault.{PieceFault}
 use Rattle.trace_crew.specs.declared.piece.PieceFault.TheVariants as causes
-use Rattle.trace_crew.specs.declared.piece.Piece as texts
+use Rattle.trace_crew.specs.declared.piece.TextPiece as texts
 use Rattle.trace_crew.specs.Pieces.{IsOwn, IsRefusedFor}
 use Rattle.trace_cluster.specs.declared.fault.ClusterFault.{ClusterFault}
 use Rattle.trace_cluster.specs.declared.fault.ClusterFault.TheVariants as clusters
@@ -102,7 +102,7 @@ pub file_untold : (name : List ℕ) (fault : RunFault) → RefusesFile name faul
 file_untold name fault refused path line e = subst (λ (f : RunFault). RefusesFile name f) e refused
 
 -- a text in memory
-text_untold : (piece : texts.Piece) (name : List ℕ) (fault : PieceFault) (path : String Global) (line : ℕ) → IsRefusedFor piece fault → IsTextFault name fault (Text Read path line) → ⊥
+text_untold : (piece : texts.TextPiece) (name : List ℕ) (fault : PieceFault) (path : String Global) (line : ℕ) → IsRefusedFor piece fault → IsTextFault name fault (Text Read path line) → ⊥
 text_untold piece name (causes.Walk fault) path line why is = subst (λ (cause : WalkCause NoMemory). IsOwn cause) is.1 why.2
 text_untold piece name (causes.Segment fault) path line why is = is
 text_untold piece name causes.Memory path line why is = cc

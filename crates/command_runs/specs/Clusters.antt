@@ -13,7 +13,7 @@ use Rattle.trace_cluster.specs.declared.exchange.fault.ExchangeFault.{ExchangeFa
 use Rattle.trace_cluster.specs.declared.exchange.fault.ExchangeFault.TheVariants as exchanges
 use Rattle.trace_wire.specs.declared.fault.WireFault.{WireFault}
 use Rattle.trace_wire.specs.declared.fault.WireFault.TheVariants as wires
-use Rattle.trace_crew.specs.declared.inbox.item.Worker.TheVariants as workers
+use Rattle.trace_crew.specs.declared.queue.item.Worker.TheVariants as workers
 use Rattle.trace_crew.specs.declared.piece.PieceAt.{PieceAt}
 use Rattle.trace_crew.specs.declared.piece.PieceFault.{PieceFault}
 use Rattle.trace_crew.specs.declared.piece.PieceFault.TheVariants as causes

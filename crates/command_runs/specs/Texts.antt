@@ -3,9 +3,9 @@ use Rattle.std.specs.Prelude.{◌≡◌, ◌⊎◌, ◌&&◌, ◌==◌, ℕ, Boo
 use Rattle.std.specs.List.{All, filter}
 use Rattle.trace_cluster.specs.declared.side.Side.{Side}
 use Rattle.trace_cluster.specs.declared.side.Side.TheVariants as sides
-use Rattle.trace_crew.specs.declared.inbox.item.Worker.{Worker}
-use Rattle.trace_crew.specs.declared.inbox.item.Worker.TheVariants as workers
-use Rattle.trace_crew.specs.declared.piece.Piece.{Piece}
+use Rattle.trace_crew.specs.declared.queue.item.Worker.{Worker}
+use Rattle.trace_crew.specs.declared.queue.item.Worker.TheVariants as workers
+use Rattle.trace_crew.specs.declared.piece.TextPiece.{TextPiece}
 use Rattle.trace_crew.specs.Views.{is_from}
 use Rattle.trace_know.specs.View.{View}
 use Rattle.input_files.specs.Manifests.{PieceParts}
@@ -41,14 +41,14 @@ abbrev pub share_of : Side → Worker → List PieceParts → List PieceParts
 share_of node worker pieces = filter (is_share node worker) pieces
 
 -- the texts of a node's worker
-abbrev pub share_in : AllTexts → Side → Worker → List Piece
+abbrev pub share_in : AllTexts → Side → Worker → List TextPiece
 share_in texts sides.First workers.First = texts.first.first.items
 share_in texts sides.First workers.Second = texts.first.second.items
 share_in texts sides.Second workers.First = texts.second.first.items
 share_in texts sides.Second workers.Second = texts.second.second.items
 
 -- This worker of this node has a text more, and no other has.
-abbrev pub AddsText : Side → Worker → Piece → AllTexts → AllTexts → Type 0
+abbrev pub AddsText : Side → Worker → TextPiece → AllTexts → AllTexts → Type 0
 AddsText node worker text old new = (one : Side) (by : Worker) → share_in new one by ≡ share_in old one by ++ (if is_side one node && is_from by worker then text ∷ [] else [])
 
 -- what a node is told besides
@@ -57,13 +57,13 @@ known_in texts sides.First = texts.first.known
 known_in texts sides.Second = texts.second.known
 
 -- The piece has its rank, its first call and the bytes of its file.
-abbrev pub IsTextOf : (List ℕ → Option (List ℕ)) → PieceParts → Piece → Type 0
+abbrev pub IsTextOf : (List ℕ → Option (List ℕ)) → PieceParts → TextPiece → Type 0
 IsTextOf file piece text = (text.rank ≡ piece.rank) × (text.first ≡ piece.first) × IsFile (file piece.file) text.text.items
 
 -- The texts are those of these pieces, in their order.
-abbrev pub AreTextsOf : (List ℕ → Option (List ℕ)) → List PieceParts → List Piece → Type 0
+abbrev pub AreTextsOf : (List ℕ → Option (List ℕ)) → List PieceParts → List TextPiece → Type 0
 AreTextsOf file [] texts = texts ≡ []
-AreTextsOf file (piece ∷ pieces) texts = (text : Piece) × (rest : List Piece)
+AreTextsOf file (piece ∷ pieces) texts = (text : TextPiece) × (rest : List TextPiece)
     × IsTextOf file piece text × AreTextsOf file pieces rest × (texts ≡ text ∷ rest)
 
 -- Each worker of each node has the texts of its pieces.

@@ -2,7 +2,7 @@
 
 ghost use Rattle.std.specs.Prelude.{◌≡◌, [], IfErr, IfOk, OnOk};
 ghost use Rattle.trace_cluster.specs.declared.side.Side.{Side as SideValue};
-ghost use Rattle.trace_crew.specs.declared.inbox.item.Worker.{Worker as WorkerValue};
+ghost use Rattle.trace_crew.specs.declared.queue.item.Worker.{Worker as WorkerValue};
 ghost use Rattle.dumpi_text.specs.Failing.{Fails};
 ghost use Rattle.command_runs.specs.Files.{NamesFailed, NamesUnreadable};
 ghost use Rattle.command_runs.specs.declared.whole.TheConstants.{LONGEST_PIECE};
@@ -17,7 +17,7 @@ use crate::whole::LONGEST_PIECE;
 use input_files::Piece;
 use std::alloc::{AllocError, Global};
 use trace_cluster::{Side, Workload};
-use trace_crew::{Piece as TextPiece, Worker};
+use trace_crew::{TextPiece, Worker};
 
 /// The texts of two nodes, of each by the worker who reads them, and what each is told besides.
 #[derive(Drop)]

@@ -5,7 +5,7 @@ use std::alloc::Global;
 use std::process::Abort;
 use std::sync::Wait;
 use std::thread::Threads;
-use trace_crew::{Board, CrewOut, Gate, Piece, Shown, crew};
+use trace_crew::{Board, CrewOut, Gate, Shown, TextPiece, crew};
 
 /// One call of no matching that enters at 0 s and returns at half a second.
 pub(crate) const CALL: &str =
@@ -17,8 +17,8 @@ MPI_Nothing returning at walltime 0.5, cputime 0.0 seconds in thread 0.
 pub(crate) type Row = (u32, u64, &'static str);
 
 /// A piece.
-pub(crate) fn piece<R: Abort>(rt: &R, alloc: Global, row: &Row) -> Piece {
-    Piece {
+pub(crate) fn piece<R: Abort>(rt: &R, alloc: Global, row: &Row) -> TextPiece {
+    TextPiece {
         rank: row.0,
         first: row.1,
         text: row.2.as_bytes().to_vec(alloc).expect(rt, "memory"),
@@ -26,7 +26,7 @@ pub(crate) fn piece<R: Abort>(rt: &R, alloc: Global, row: &Row) -> Piece {
 }
 
 /// The pieces of one worker.
-pub(crate) fn pieces<R: Abort>(rt: &R, alloc: Global, rows: &[Row]) -> Vec<Piece> {
+pub(crate) fn pieces<R: Abort>(rt: &R, alloc: Global, rows: &[Row]) -> Vec<TextPiece> {
     let mut all = Vec::new(alloc);
     for row in rows {
         all.push(piece(rt, alloc, row)).expect(rt, "memory");
@@ -53,8 +53,8 @@ fn told(out: &CrewOut<'_>, shown: &Shown<'_>) -> Told {
 pub(crate) fn left<R: Threads + Wait + Sync + Abort, G: Gate>(
     rt: &R,
     alloc: Global,
-    first: &[Piece],
-    second: &[Piece],
+    first: &[TextPiece],
+    second: &[TextPiece],
     gate: &G,
 ) -> Told {
     let layout = layout(rt, alloc);

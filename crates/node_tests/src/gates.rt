@@ -9,7 +9,7 @@ use std::sync::{Mutex, Wait};
 use std::thread;
 use std::thread::Threads;
 use std::time::Duration;
-use trace_crew::{Gate, Piece, PieceAt, Worker};
+use trace_crew::{Gate, PieceAt, TextPiece, Worker};
 
 /// How often something was announced, for threads that wait until it was.
 #[derive(Drop)]
@@ -129,7 +129,7 @@ fn workers_and_owner_run_at_once(rt: HostRuntime) {
 }
 
 /// Twenty calls of a rank, each a piece.
-fn twenty<R: Abort>(rt: &R, alloc: Global, rank: u32) -> Vec<Piece> {
+fn twenty<R: Abort>(rt: &R, alloc: Global, rank: u32) -> Vec<TextPiece> {
     let mut all = Vec::new(alloc);
     for call in 0..20 {
         all.push(piece(rt, alloc, &(rank, call, CALL)))
@@ -153,7 +153,7 @@ fn crowded<R: Threads + Wait + Clock + Sync + Abort>(rt: &R, alloc: Global) -> H
 }
 
 #[test]
-fn workers_fill_the_inbox(rt: HostRuntime) {
+fn workers_fill_the_queue(rt: HostRuntime) {
     let found = crowded(&rt, rt.alloc());
     assert!(rt; found == (((40, 40), (40, 40), 0, 0), false));
 }

@@ -3,9 +3,9 @@ use Rattle.std.proofs.Common.{◌≡◌, ℕ, ◌+◌, Ok, Err, List, [], ◌∷
 use Rattle.std.specs.List.{All, AllByRecursion, Contains, flat_map}
 use Rattle.std.proofs.lemmas.List.Elements.{All-append, All-nil, All-cons, All-weaker, Contains-append_cases, Contains-append_left, Contains-append_right}
 use Rattle.trace_know.specs.Segment.{PlacedEvents}
-use Rattle.trace_crew.specs.declared.inbox.item.Worker.{Worker}
-use Rattle.trace_crew.specs.declared.inbox.item.Worker.TheVariants.{First, Second}
-use Rattle.trace_crew.specs.declared.piece.Piece.{Piece}
+use Rattle.trace_crew.specs.declared.queue.item.Worker.{Worker}
+use Rattle.trace_crew.specs.declared.queue.item.Worker.TheVariants.{First, Second}
+use Rattle.trace_crew.specs.declared.piece.TextPiece.{TextPiece}
 use Rattle.trace_crew.specs.declared.piece.FaultyPiece.{FaultyPiece}
 use Rattle.trace_crew.specs.declared.piece.PieceAt.{PieceAt}
 use Rattle.trace_crew.specs.declared.piece.PieceFault.{PieceFault}
@@ -23,10 +23,10 @@ Faults = List FaultyPiece
 -- ---- pieces without a fault
 
 -- the segments of a piece were found, and this holds of each
-abbrev pub Found : (PlacedEvents → Type 0) → Piece → Type 0
+abbrev pub Found : (PlacedEvents → Type 0) → TextPiece → Type 0
 Found P piece = (segments : List PlacedEvents) × GivesSegments piece segments × AllByRecursion P segments
 
-each_found : (P : PlacedEvents → Type 0) (worker : Worker) (place : ℕ) (pieces : List Piece) (outcomes : List Outcome) → AreOutcomes pieces outcomes → faults_from worker place outcomes ≡ []
+each_found : (P : PlacedEvents → Type 0) (worker : Worker) (place : ℕ) (pieces : List TextPiece) (outcomes : List Outcome) → AreOutcomes pieces outcomes → faults_from worker place outcomes ≡ []
     → AllByRecursion P (flat_map segments_in outcomes) → AllByRecursion (Found P) pieces
 each_found P worker place [] outcomes are none h = tt
 each_found P worker place (p ∷ ps) [] are none h = absurd are
@@ -35,12 +35,12 @@ each_found P worker place (p ∷ ps) (Ok s ∷ os) are none h =
 each_found P worker place (p ∷ ps) (Err f ∷ os) are none h = absurd (no_element (faulty worker place f) (faults_from worker (place + 1) os) none)
 
 -- Where no piece has a fault, the segments of each were found.
-pub all_found : (P : PlacedEvents → Type 0) (worker : Worker) (pieces : List Piece) (segments : List PlacedEvents) (faults : Faults) → Gave worker pieces segments faults → faults ≡ [] → AllByRecursion P segments
+pub all_found : (P : PlacedEvents → Type 0) (worker : Worker) (pieces : List TextPiece) (segments : List PlacedEvents) (faults : Faults) → Gave worker pieces segments faults → faults ≡ [] → AllByRecursion P segments
     → AllByRecursion (Found P) pieces
 all_found P worker pieces segments faults gave none h =
     each_found P worker 0 pieces gave.outcomes gave.are (sym gave.faults_are ∙ none) (subst (λ (l : List PlacedEvents). AllByRecursion P l) gave.segments_are h)
 
-all_placed : (P : Piece → Type 0) (node : Side) (worker : Worker) (place : ℕ) (pieces : List Piece) → AllByRecursion P pieces → All (λ (q : Placed). P q.piece) (placed_from node worker place pieces)
+all_placed : (P : TextPiece → Type 0) (node : Side) (worker : Worker) (place : ℕ) (pieces : List TextPiece) → AllByRecursion P pieces → All (λ (q : Placed). P q.piece) (placed_from node worker place pieces)
 all_placed P node worker place [] h = All-nil (λ (q : Placed). P q.piece)
 all_placed P node worker place (p ∷ ps) h =
     All-cons (λ (q : Placed). P q.piece) (placed node (place_of worker place) p) (placed_from node worker (place + 1) ps) h.0 (all_placed P node worker (place + 1) ps h.1)
@@ -64,7 +64,7 @@ all_are_something (s ∷ ss) = (tt, all_are_something ss)
 abbrev pub AreWhole : List Placed → Type 0
 AreWhole all = All (λ (q : Placed). IsWhole q.piece) all
 
-worker_whole : (node : Side) (worker : Worker) (pieces : List Piece) (segments : List PlacedEvents) (faults : Faults) → Gave worker pieces segments faults → faults ≡ [] → AreWhole (placed_from node worker 0 pieces)
+worker_whole : (node : Side) (worker : Worker) (pieces : List TextPiece) (segments : List PlacedEvents) (faults : Faults) → Gave worker pieces segments faults → faults ≡ [] → AreWhole (placed_from node worker 0 pieces)
 worker_whole node worker pieces segments faults gave none =
     All-weaker (λ (q : Placed). Found Anything q.piece) (λ (q : Placed). IsWhole q.piece) (λ q h. (h.0, h.1)) (placed_from node worker 0 pieces)
     (all_placed (Found Anything) node worker 0 pieces (all_found Anything worker pieces segments faults gave none (all_are_something segments)))
@@ -101,7 +101,7 @@ ahead all more node at fault f =
       why = f.why;
     }
 
-first_from : (node : Side) (worker : Worker) (place : ℕ) (pieces : List Piece) (outcomes : List Outcome) (f : FaultyPiece) (rest : Faults) → AreOutcomes pieces outcomes → faults_from worker place outcomes ≡ f ∷ rest
+first_from : (node : Side) (worker : Worker) (place : ℕ) (pieces : List TextPiece) (outcomes : List Outcome) (f : FaultyPiece) (rest : Faults) → AreOutcomes pieces outcomes → faults_from worker place outcomes ≡ f ∷ rest
     → IsFirstFault (placed_from node worker place pieces) node f.at f.fault
 first_from node worker place [] [] f rest are e = absurd (no_element f rest (sym e))
 first_from node worker place [] (o ∷ os) f rest are e = absurd are
@@ -121,7 +121,7 @@ first_from node worker place (p ∷ ps) (Err g ∷ os) f rest are e =
       why = are.0;
     })
 
-first_of_worker : (node : Side) (worker : Worker) (pieces : List Piece) (segments : List PlacedEvents) (faults : Faults) (f : FaultyPiece) (rest : Faults) → Gave worker pieces segments faults → faults ≡ f ∷ rest
+first_of_worker : (node : Side) (worker : Worker) (pieces : List TextPiece) (segments : List PlacedEvents) (faults : Faults) (f : FaultyPiece) (rest : Faults) → Gave worker pieces segments faults → faults ≡ f ∷ rest
     → IsFirstFault (placed_from node worker 0 pieces) node f.at f.fault
 first_of_worker node worker pieces segments faults f rest gave e = first_from node worker 0 pieces gave.outcomes f rest gave.are (sym gave.faults_are ∙ e)
 
@@ -139,14 +139,14 @@ first_of_node node load ones others (g ∷ gs) faults' f rest gave gave' e =
 -- ---- the piece of a segment
 
 -- the piece gave this segment among others
-abbrev pub IsGivenBy : Piece → PlacedEvents → Type 0
+abbrev pub IsGivenBy : TextPiece → PlacedEvents → Type 0
 IsGivenBy piece s = (segments : List PlacedEvents) × GivesSegments piece segments × Contains segments s
 
 -- a piece of these did
 abbrev pub IsOfPiece : List Placed → PlacedEvents → Type 0
 IsOfPiece all s = (one : Placed) × Contains all one × IsGivenBy one.piece s
 
-of_piece_from : (node : Side) (worker : Worker) (place : ℕ) (pieces : List Piece) (outcomes : List Outcome) (s : PlacedEvents) → AreOutcomes pieces outcomes → Contains (flat_map segments_in outcomes) s
+of_piece_from : (node : Side) (worker : Worker) (place : ℕ) (pieces : List TextPiece) (outcomes : List Outcome) (s : PlacedEvents) → AreOutcomes pieces outcomes → Contains (flat_map segments_in outcomes) s
     → IsOfPiece (placed_from node worker place pieces) s
 of_piece_from node worker place [] [] s are h = absurd (contains_none s h)
 of_piece_from node worker place [] (o ∷ os) s are h = absurd are
@@ -161,7 +161,7 @@ of_piece_from node worker place (p ∷ ps) (Ok g ∷ os) s are h =
     (r.0, Contains-append_right (placed node (place_of worker place) p ∷ []) (placed_from node worker (place + 1) ps) r.0 r.1, r.2))
     (Contains-append_cases g (flat_map segments_in os) s h)
 
-of_worker : (node : Side) (worker : Worker) (pieces : List Piece) (segments : List PlacedEvents) (faults : Faults) (s : PlacedEvents) → Gave worker pieces segments faults → Contains segments s
+of_worker : (node : Side) (worker : Worker) (pieces : List TextPiece) (segments : List PlacedEvents) (faults : Faults) (s : PlacedEvents) → Gave worker pieces segments faults → Contains segments s
     → IsOfPiece (placed_from node worker 0 pieces) s
 of_worker node worker pieces segments faults s gave h = of_piece_from node worker 0 pieces gave.outcomes s gave.are (subst (λ (l : List PlacedEvents). Contains l s) gave.segments_are h)
 

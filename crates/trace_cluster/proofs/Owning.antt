@@ -9,9 +9,9 @@ use Rattle.trace_know.specs.Trace.{Trace, facts_of, view_of}
 use Rattle.trace_know.specs.View.{View, IsBelow, join}
 use Rattle.trace_node.specs.Node.{Held}
 use Rattle.trace_node.specs.declared.fault.NodeFault.{NodeFault}
-use Rattle.trace_crew.specs.declared.inbox.item.Worker.{Worker}
-use Rattle.trace_crew.specs.declared.inbox.item.Worker.TheVariants.{First, Second}
-use Rattle.trace_crew.specs.declared.piece.Piece.{Piece}
+use Rattle.trace_crew.specs.declared.queue.item.Worker.{Worker}
+use Rattle.trace_crew.specs.declared.queue.item.Worker.TheVariants.{First, Second}
+use Rattle.trace_crew.specs.declared.piece.TextPiece.{TextPiece}
 use Rattle.trace_crew.specs.declared.threads.CrewOut.{CrewOut}
 use Rattle.trace_crew.specs.Crewed.{IsCrewOut, segments_by}
 use Rattle.trace_crew.specs.Pieces.{Gave}
@@ -68,7 +68,7 @@ module _
   all_known (s ∷ ss) know h =
       subst (λ (v : View). IsBelow v know) (sym (union (facts_of s) (flat_map facts_of ss))) (least (view_of (facts_of s)) (view_of (flat_map facts_of ss)) know h.0 (all_known ss know h.1))
 
-  worker_known : (know : View) (worker : Worker) (pieces : List Piece) (segments : List PlacedEvents) (faults : Faults) → Gave worker pieces segments faults → faults ≡ [] → AllByRecursion (IsKnown know) segments
+  worker_known : (know : View) (worker : Worker) (pieces : List TextPiece) (segments : List PlacedEvents) (faults : Faults) → Gave worker pieces segments faults → faults ≡ [] → AllByRecursion (IsKnown know) segments
       → All (KnowsPiece know) pieces
   worker_known know worker pieces segments faults gave none h =
       All-weaker (Found (IsKnown know)) (KnowsPiece know) (λ p f. (f.0, f.1, all_known f.0 know f.2)) pieces

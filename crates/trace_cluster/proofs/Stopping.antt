@@ -7,8 +7,8 @@ use Rattle.mpi_model.specs.Layouts.{Parts}
 use Rattle.trace_know.specs.Segment.{PlacedEvents}
 use Rattle.trace_node.specs.declared.fault.NodeFault.{NodeFault}
 use Rattle.trace_node.specs.declared.fault.NodeFault.TheVariants as nodes
-use Rattle.trace_crew.specs.declared.inbox.item.Worker.{Worker}
-use Rattle.trace_crew.specs.declared.inbox.item.Worker.TheVariants.{First, Second}
+use Rattle.trace_crew.specs.declared.queue.item.Worker.{Worker}
+use Rattle.trace_crew.specs.declared.queue.item.Worker.TheVariants.{First, Second}
 use Rattle.trace_crew.specs.declared.piece.FaultyPiece.{FaultyPiece}
 use Rattle.trace_crew.specs.declared.threads.CrewOut.{CrewOut}
 use Rattle.trace_crew.specs.declared.owner.Refusal.{Refusal}

@@ -5,8 +5,8 @@ use Rattle.std.proofs.lemmas.List.Elements.{Contains-append_right}
 use Rattle.mpi_model.specs.Layouts.{Parts}
 use Rattle.trace_know.specs.Segment.{PlacedEvents}
 use Rattle.trace_node.specs.declared.fault.NodeFault.{NodeFault}
-use Rattle.trace_crew.specs.declared.inbox.item.Worker.{Worker}
-use Rattle.trace_crew.specs.declared.inbox.item.Worker.TheVariants.{First, Second}
+use Rattle.trace_crew.specs.declared.queue.item.Worker.{Worker}
+use Rattle.trace_crew.specs.declared.queue.item.Worker.TheVariants.{First, Second}
 use Rattle.trace_crew.specs.declared.owner.Refusal.{Refusal}
 use Rattle.trace_crew.specs.Views.{is_from}
 use Rattle.trace_crew.specs.Crewed.{segments_by}

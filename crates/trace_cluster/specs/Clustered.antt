@@ -6,12 +6,12 @@ use Rattle.trace_know.specs.Segment.{PlacedEvents}
 use Rattle.trace_know.specs.Trace.{facts_of, view_of}
 use Rattle.trace_know.specs.View.{View, IsBelow}
 use Rattle.trace_node.specs.Node.{Held}
-use Rattle.trace_crew.specs.declared.piece.Piece.{Piece}
+use Rattle.trace_crew.specs.declared.piece.TextPiece.{TextPiece}
 use Rattle.trace_crew.specs.Pieces.{GivesSegments}
 use Rattle.trace_cluster.specs.declared.workload.Workload.{Workload}
 
 -- The facts of a piece's whole text are known.
-abbrev pub KnowsPiece : View → Piece → Type 0
+abbrev pub KnowsPiece : View → TextPiece → Type 0
 KnowsPiece know piece = (segments : List PlacedEvents) × GivesSegments piece segments × IsBelow (view_of (flat_map facts_of segments)) know
 
 -- A node of this layout knows each of its own pieces and what it is told besides, and has an answer to all that it knows.

@@ -3,7 +3,7 @@ use Rattle.std.specs.Prelude.{◌≡◌, List, ◌∷◌, ◌++◌, ⊤, All, Co
 use Rattle.mpi_model.specs.Layouts.{Parts}
 use Rattle.trace_node.specs.declared.fault.NodeFault.{NodeFault}
 use Rattle.trace_node.specs.declared.fault.NodeFault.TheVariants as nodes
-use Rattle.trace_crew.specs.declared.piece.Piece as pieces
+use Rattle.trace_crew.specs.declared.piece.TextPiece as pieces
 use Rattle.trace_crew.specs.declared.piece.PieceAt.{PieceAt}
 use Rattle.trace_crew.specs.declared.piece.PieceFault.{PieceFault}
 use Rattle.trace_crew.specs.Pieces.{IsRefusedFor}
@@ -15,7 +15,7 @@ use Rattle.trace_cluster.specs.Pieces.{Placed, IsForeign, IsWhole, IsWithin, pla
 -- Of all pieces this is the first whose segments were not found, and this is why.
 pub record IsFirstFault (all : List Placed) (node : Side) (at : PieceAt) (fault : PieceFault) : Type 0 where
   pub before : List Placed
-  pub piece : pieces.Piece
+  pub piece : pieces.TextPiece
   pub after : List Placed
   pub all_are : all ≡ before ++ placed node at piece ∷ after
   pub whole : All (λ p. IsWhole p.piece) before

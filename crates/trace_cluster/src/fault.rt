@@ -12,7 +12,7 @@ use trace_node::NodeFault;
 /// Why a cluster leaves nothing, tried in this order.
 #[derive(Debug, Drop, Error)]
 pub enum ClusterFault {
-    /// A worker's thread couldn't be started, or an end of an inbox was refused.
+    /// A worker's thread couldn't be started, or an end of a queue was refused.
     #[error("Y1 Worker")]
     Worker,
     /// No memory was left for a crew.

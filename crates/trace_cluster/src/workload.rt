@@ -1,13 +1,13 @@
 //! The pieces of a node, and what it is told besides them.
 
-use trace_crew::Piece;
+use trace_crew::TextPiece;
 use trace_know::Knowledge;
 
 /// The pieces of a node's two workers, of each in the order in which it reads them, and what the node is
 /// told besides, as by packed files.
 #[derive(Debug, Drop)]
 pub struct Workload {
-    pub first: Vec<Piece>,
-    pub second: Vec<Piece>,
+    pub first: Vec<TextPiece>,
+    pub second: Vec<TextPiece>,
     pub known: Knowledge,
 }

@@ -4,13 +4,13 @@ use Rattle.std.specs.List.{flat_map}
 use Rattle.std.proofs.lemmas.Grind.{flat_map-append}
 use Rattle.std.proofs.lemmas.List.{append-nil, length-take, map-append, take_more}
 use Rattle.trace_know.specs.Segment.{PlacedEvents}
-use Rattle.trace_crew.specs.declared.inbox.item.Item.{Item}
-use Rattle.trace_crew.specs.declared.inbox.item.Worker.{Worker}
-use Rattle.trace_crew.specs.declared.inbox.rule.View.{View}
-use Rattle.trace_crew.specs.declared.inbox.rule.View.TheVariants.{Owner, Poster, Spent}
+use Rattle.trace_crew.specs.declared.queue.item.WorkerPost.{WorkerPost}
+use Rattle.trace_crew.specs.declared.queue.item.Worker.{Worker}
+use Rattle.trace_crew.specs.declared.queue.rule.SeatView.{SeatView}
+use Rattle.trace_crew.specs.declared.queue.rule.SeatView.TheVariants.{Owner, Poster, Spent}
 use Rattle.trace_crew.specs.Views.{IsPoster, after_post, end_item, segment_item}
 use Rattle.trace_crew.specs.Taking.{ends_in}
-use Rattle.trace_crew.specs.declared.piece.Piece.{Piece}
+use Rattle.trace_crew.specs.declared.piece.TextPiece.{TextPiece}
 use Rattle.trace_crew.specs.declared.piece.FaultyPiece.{FaultyPiece}
 use Rattle.trace_crew.specs.Pieces.{AreOutcomes, IsOutcome, Outcome, faults_from, faults_in, segments_in}
 use Rattle.trace_crew.specs.declared.worker.Stop.{Stop}
@@ -19,14 +19,14 @@ use Rattle.trace_crew.specs.Work.{Ends, HasEnded, HasRead, HasWorked, ReadsOne, 
 use Rattle.trace_crew.proofs.Sorting.{ends_more}
 
 -- one outcome more
-are_snoc : (pieces : List Piece) (outcomes : List Outcome) (piece : Piece) (o : Outcome) → AreOutcomes pieces outcomes → IsOutcome piece o → AreOutcomes (pieces ++ piece ∷ []) (outcomes ++ o ∷ [])
+are_snoc : (pieces : List TextPiece) (outcomes : List Outcome) (piece : TextPiece) (o : Outcome) → AreOutcomes pieces outcomes → IsOutcome piece o → AreOutcomes (pieces ++ piece ∷ []) (outcomes ++ o ∷ [])
 are_snoc [] [] piece o h is = (is, tt)
 are_snoc [] (p ∷ ps) piece o h is = absurd h
 are_snoc (q ∷ qs) [] piece o h is = absurd h
 are_snoc (q ∷ qs) (p ∷ ps) piece o h is = (h.0, are_snoc qs ps piece o h.1 is)
 
 -- there are as many outcomes as pieces
-as_many : (pieces : List Piece) (outcomes : List Outcome) → AreOutcomes pieces outcomes → length outcomes ≡ length pieces
+as_many : (pieces : List TextPiece) (outcomes : List Outcome) → AreOutcomes pieces outcomes → length outcomes ≡ length pieces
 as_many [] [] h = refl
 as_many [] (p ∷ ps) h = absurd h
 as_many (q ∷ qs) [] h = absurd h
@@ -42,11 +42,11 @@ faults_snoc worker place (p ∷ ps) o =
     ∙ ap (λ n. (faults_in worker place p ++ faults_from worker (place + 1) ps) ++ faults_in worker n o) (omega arith)
 
 -- A worker that has read no text has posted nothing.
-pub none_read : (w : Worker) (seat : View) (faults : List FaultyPiece) → seat ≡ Poster w [] → faults ≡ [] → HasRead w [] seat faults
+pub none_read : (w : Worker) (seat : SeatView) (faults : List FaultyPiece) → seat ≡ Poster w [] → faults ≡ [] → HasRead w [] seat faults
 none_read w seat faults is none = record { segments = []; posted = is; gave = record { outcomes = []; are = tt; segments_are = refl; faults_are = none } }
 
 -- One text more was read.
-pub one_read : (w : Worker) (place : ℕ) (pieces : List Piece) (piece : Piece) (old new : View) (faults more : List FaultyPiece)
+pub one_read : (w : Worker) (place : ℕ) (pieces : List TextPiece) (piece : TextPiece) (old new : SeatView) (faults more : List FaultyPiece)
     → place ≡ length pieces → HasRead w pieces old faults → ReadsOne w place piece old faults new more → HasRead w (pieces ++ piece ∷ []) new more
 one_read w place pieces piece old new faults more at h r =
     let g = h.gave in
@@ -67,30 +67,30 @@ one_read w place pieces piece old new faults more at h r =
     }
 
 -- One text more of a list was read, by a worker that has not changed.
-pub read_further : (w v : Worker) (pieces : List Piece) (place : ℕ) (piece : Piece) (old new : View) (faults more : List FaultyPiece)
+pub read_further : (w v : Worker) (pieces : List TextPiece) (place : ℕ) (piece : TextPiece) (old new : SeatView) (faults more : List FaultyPiece)
     → v ≡ w → place < length pieces → piece ≡ get_or pieces place piece → HasRead w (take place pieces) old faults → ReadsOne v place piece old faults new more → HasRead w (take (place + 1) pieces) new more
 read_further w v pieces place piece old new faults more same inside is h r =
-    let upto : take (place + 1) pieces ≡ take place pieces ++ piece ∷ [] = take_more pieces place piece inside ∙ ap (λ (p : Piece). take place pieces ++ p ∷ []) (sym is) in
+    let upto : take (place + 1) pieces ≡ take place pieces ++ piece ∷ [] = take_more pieces place piece inside ∙ ap (λ (p : TextPiece). take place pieces ++ p ∷ []) (sym is) in
     let at : place ≡ length (take place pieces) = omega (arith, inside, length-take place pieces) in
     let r' : ReadsOne w place piece old faults new more = subst (λ (u : Worker). ReadsOne u place piece old faults new more) same r in
-    subst (λ (l : List Piece). HasRead w l new more) (sym upto) (one_read w place (take place pieces) piece old new faults more at h r')
+    subst (λ (l : List TextPiece). HasRead w l new more) (sym upto) (one_read w place (take place pieces) piece old new faults more at h r')
 
 -- Nothing more was posted.
-pub none_more : (w : Worker) (v : View) (posted : List Item) → v ≡ Poster w posted → v ≡ after_posts v []
+pub none_more : (w : Worker) (v : SeatView) (posted : List WorkerPost) → v ≡ Poster w posted → v ≡ after_posts v []
 none_more w v posted e = e ∙ ap (Poster w) (sym (append-nil posted)) ∙ sym (ap (λ u. after_posts u []) e)
 
 -- All texts were read, and the end was posted.
-all_read : (w : Worker) (pieces : List Piece) (old new : View) (faults : List FaultyPiece) → HasRead w pieces old faults → new ≡ after_posts old (end_item w ∷ []) → HasEnded w pieces new faults
+all_read : (w : Worker) (pieces : List TextPiece) (old new : SeatView) (faults : List FaultyPiece) → HasRead w pieces old faults → new ≡ after_posts old (end_item w ∷ []) → HasEnded w pieces new faults
 all_read w pieces old new faults h e = record { segments = h.segments; posted = e ∙ ap (λ v. after_posts v (end_item w ∷ [])) h.posted; gave = h.gave }
 
 -- A segment that is posted is no end.
-pub no_end_more : (w : Worker) (segment : PlacedEvents) (v : View) → ends_posted (after_post v (segment_item w segment)) ≡ ends_posted v
+pub no_end_more : (w : Worker) (segment : PlacedEvents) (v : SeatView) → ends_posted (after_post v (segment_item w segment)) ≡ ends_posted v
 no_end_more w segment (Poster u posted) = let h = ends_more posted (segment_item w segment) in omega (arith, h)
 no_end_more w segment (Owner d) = refl
 no_end_more w segment Spent = refl
 
 -- one end more
-one_end : (w u : Worker) (posted : List Item) (old new : View) → old ≡ Poster w posted → ends_posted old ≡ 0 → new ≡ after_posts old (end_item u ∷ []) → ends_posted new ≡ 1
+one_end : (w u : Worker) (posted : List WorkerPost) (old new : SeatView) → old ≡ Poster w posted → ends_posted old ≡ 0 → new ≡ after_posts old (end_item u ∷ []) → ends_posted new ≡ 1
 one_end w u posted old new is none e =
     let before : ends_in posted ≡ 0 = sym (ap ends_posted is) ∙ none in
     let more = ends_more posted (end_item u) in
@@ -98,7 +98,7 @@ one_end w u posted old new is none e =
     ap ends_posted (e ∙ ap (λ v. after_posts v (end_item u ∷ [])) is) ∙ after
 
 -- what a worker leaves that has posted its end
-left_ended : (w u : Worker) (pieces : List Piece) (old new : View) (faults : List FaultyPiece) (stop : Option Stop) → ends_at stop ≡ 1 → IsPoster w old → ends_posted old ≡ 0
+left_ended : (w u : Worker) (pieces : List TextPiece) (old new : SeatView) (faults : List FaultyPiece) (stop : Option Stop) → ends_at stop ≡ 1 → IsPoster w old → ends_posted old ≡ 0
     → new ≡ after_posts old (end_item u ∷ []) → (stop ≡ None → HasEnded w pieces new faults) → HasWorked w pieces new faults stop
 left_ended w u pieces old new faults stop one p none e whole = record {
   poster = (p.0 ++ end_item u ∷ [], e ∙ ap (λ v. after_posts v (end_item u ∷ [])) p.1);
@@ -107,17 +107,17 @@ left_ended w u pieces old new faults stop one p none e whole = record {
 }
 
 -- A worker whose owner had left leaves what it posted.
-pub closed_work : (w : Worker) (pieces : List Piece) (seat : View) (faults : List FaultyPiece) → IsPoster w seat → ends_posted seat ≡ 0 → HasWorked w pieces seat faults (Some Closed)
+pub closed_work : (w : Worker) (pieces : List TextPiece) (seat : SeatView) (faults : List FaultyPiece) → IsPoster w seat → ends_posted seat ≡ 0 → HasWorked w pieces seat faults (Some Closed)
 closed_work w pieces seat faults p none = record { poster = p; ends = none; whole = λ is. absurd (cc) }
 
 -- the same, where it found that by its last post
-left_closed : (w : Worker) (pieces : List Piece) (old new : View) (faults : List FaultyPiece) (result : Option Stop) → IsPoster w old → ends_posted old ≡ 0 → result ≡ Some Closed → new ≡ old
+left_closed : (w : Worker) (pieces : List TextPiece) (old new : SeatView) (faults : List FaultyPiece) (result : Option Stop) → IsPoster w old → ends_posted old ≡ 0 → result ≡ Some Closed → new ≡ old
     → HasWorked w pieces new faults result
 left_closed w pieces old new faults result p none is same =
-    subst (λ (q : View × Option Stop). HasWorked w pieces q.0 faults q.1) (λ i. (sym same i, sym is i)) (closed_work w pieces old faults p none)
+    subst (λ (q : SeatView × Option Stop). HasWorked w pieces q.0 faults q.1) (λ i. (sym same i, sym is i)) (closed_work w pieces old faults p none)
 
 -- A worker that read all its texts leaves them.
-pub ended_work : (v w : Worker) (pieces : List Piece) (old new : View) (faults more : List FaultyPiece) (result : Option Stop) → v ≡ w → IsPoster w old → ends_posted old ≡ 0 → more ≡ faults
+pub ended_work : (v w : Worker) (pieces : List TextPiece) (old new : SeatView) (faults more : List FaultyPiece) (result : Option Stop) → v ≡ w → IsPoster w old → ends_posted old ≡ 0 → more ≡ faults
     → HasRead w pieces old faults → Ends v None old result new → HasWorked w pieces new more result
 ended_work v w pieces old new faults more result same p none kept read (inl h) =
     let e : new ≡ after_posts old (end_item w ∷ []) = h.1 ∙ ap (λ u. after_posts old (end_item u ∷ [])) same in
@@ -125,7 +125,7 @@ ended_work v w pieces old new faults more result same p none kept read (inl h) =
 ended_work v w pieces old new faults more result same p none kept read (inr h) = left_closed w pieces old new more result p none h.0 h.1
 
 -- A worker that had no memory to note a fault leaves an end all the same.
-pub stopped_work : (v w : Worker) (pieces : List Piece) (old new : View) (more : List FaultyPiece) (result : Option Stop) → IsPoster w old → ends_posted old ≡ 0 → Ends v (Some Memory) old result new
+pub stopped_work : (v w : Worker) (pieces : List TextPiece) (old new : SeatView) (more : List FaultyPiece) (result : Option Stop) → IsPoster w old → ends_posted old ≡ 0 → Ends v (Some Memory) old result new
     → HasWorked w pieces new more result
 stopped_work v w pieces old new more result p none (inl h) =
     subst (λ (s : Option Stop). HasWorked w pieces new more s) (sym h.0) (left_ended w v pieces old new more (Some Memory) refl p none h.1 (λ is. absurd (cc)))

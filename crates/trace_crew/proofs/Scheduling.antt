@@ -11,38 +11,38 @@ use Rattle.trace_know.specs.Trace.{facts_of}
 use Rattle.trace_node.specs.Schedule.{NodeState, node_state, with_post, with_take}
 use Rattle.trace_node.specs.declared.fault.NodeFault.{NodeFault}
 use Rattle.trace_node.specs.declared.fault.NodeFault.TheVariants.{Rank, Memory}
-use Rattle.trace_crew.specs.declared.inbox.item.Item.{Item}
-use Rattle.trace_crew.specs.declared.inbox.item.Post.TheVariants.{Segment, End}
+use Rattle.trace_crew.specs.declared.queue.item.WorkerPost.{WorkerPost}
+use Rattle.trace_crew.specs.declared.queue.item.Post.TheVariants.{Segment, End}
 use Rattle.trace_crew.specs.Taking.{Taken, joined_in, joined_for, taken_as}
 use Rattle.trace_crew.specs.Scheduled.{CanMove, FollowsSchedule, LeadsTo, Move, Posts, Takes, Without, after_all, reached_for, state_of, waiting_in}
 
 -- ---- one item more
 
 -- the segments of a queue
-abbrev waiting : Parts → List Item → List PlacedEvents
+abbrev waiting : Parts → List WorkerPost → List PlacedEvents
 waiting layout queue = flat_map (λ item. waiting_in layout item.post) queue
 
 -- the segments that were joined
 abbrev reached : List Taken → List PlacedEvents
 reached taken = flat_map (λ t. reached_for t.segment t.fault) taken
 
-sent_more : (layout : Parts) (queue : List Item) (item : Item) → waiting layout (queue ++ item ∷ []) ≡ waiting layout queue ++ waiting_in layout item.post
-sent_more layout queue item = flat_map-append (λ (i : Item). waiting_in layout i.post) queue (item ∷ []) ∙ ap (λ l. waiting layout queue ++ l) (append-nil (waiting_in layout item.post))
+sent_more : (layout : Parts) (queue : List WorkerPost) (item : WorkerPost) → waiting layout (queue ++ item ∷ []) ≡ waiting layout queue ++ waiting_in layout item.post
+sent_more layout queue item = flat_map-append (λ (i : WorkerPost). waiting_in layout i.post) queue (item ∷ []) ∙ ap (λ l. waiting layout queue ++ l) (append-nil (waiting_in layout item.post))
 
 taken_more : (taken : List Taken) (t : Taken) → reached (taken ++ t ∷ []) ≡ reached taken ++ reached_for t.segment t.fault
 taken_more taken t = flat_map-append (λ (u : Taken). reached_for u.segment u.fault) taken (t ∷ []) ∙ ap (λ l. reached taken ++ l) (append-nil (reached_for t.segment t.fault))
 
-own_post : (layout : Parts) (item : Item) (segment : PlacedEvents) → item.post ≡ Segment segment → segment.rank < layout.ranks → waiting_in layout item.post ≡ segment ∷ []
+own_post : (layout : Parts) (item : WorkerPost) (segment : PlacedEvents) → item.post ≡ Segment segment → segment.rank < layout.ranks → waiting_in layout item.post ≡ segment ∷ []
 own_post layout item segment is lt = ap (waiting_in layout) is ∙ ap (λ (b : Bool). if b then segment ∷ [] else []) (lt-ltb segment.rank layout.ranks lt)
 
-other_post : (layout : Parts) (item : Item) (segment : PlacedEvents) → item.post ≡ Segment segment → layout.ranks ≤ segment.rank → waiting_in layout item.post ≡ []
+other_post : (layout : Parts) (item : WorkerPost) (segment : PlacedEvents) → item.post ≡ Segment segment → layout.ranks ≤ segment.rank → waiting_in layout item.post ≡ []
 other_post layout item segment is le = ap (waiting_in layout) is ∙ ap (λ (b : Bool). if b then segment ∷ [] else []) (le-ltb segment.rank layout.ranks le)
 
-end_post : (layout : Parts) (item : Item) → item.post ≡ End → waiting_in layout item.post ≡ []
+end_post : (layout : Parts) (item : WorkerPost) → item.post ≡ End → waiting_in layout item.post ≡ []
 end_post layout item is = ap (waiting_in layout) is
 
 -- an item that waits for nothing changes no queue
-unsent : (layout : Parts) (queue : List Item) (item : Item) → waiting_in layout item.post ≡ [] → waiting layout (queue ++ item ∷ []) ≡ waiting layout queue
+unsent : (layout : Parts) (queue : List WorkerPost) (item : WorkerPost) → waiting_in layout item.post ≡ [] → waiting layout (queue ++ item ∷ []) ≡ waiting layout queue
 unsent layout queue item none = sent_more layout queue item ∙ ap (λ l. waiting layout queue ++ l) none ∙ append-nil (waiting layout queue)
 
 same_facts : (segment : PlacedEvents) (fault : Option NodeFault) → joined_for segment fault ≡ flat_map facts_of (reached_for segment fault)
@@ -193,7 +193,7 @@ without_front front rest moves s leads at =
 
 -- ---- crews
 
-pub crew_follows : (layout : Parts) (queue : List Item) (taken : List Taken) → FollowsSchedule layout queue taken
+pub crew_follows : (layout : Parts) (queue : List WorkerPost) (taken : List Taken) → FollowsSchedule layout queue taken
 crew_follows layout queue taken = record {
   sends = λ item segment is lt. ap (λ (l : List PlacedEvents). node_state l (reached taken)) (sent_more layout queue item ∙ ap (λ l. waiting layout queue ++ l) (own_post layout item segment is lt));
   receives = λ item segment is lt. λ i. node_state

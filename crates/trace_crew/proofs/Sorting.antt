@@ -13,8 +13,8 @@ use Rattle.trace_node.specs.Node.{Held, held}
 use Rattle.std.proofs.lemmas.Bool.{cases_lt}
 use Rattle.trace_node.specs.declared.fault.NodeFault.{NodeFault}
 use Rattle.trace_node.specs.declared.fault.NodeFault.TheVariants.{Rank, Memory, Stale}
-use Rattle.trace_crew.specs.declared.inbox.item.Item.{Item}
-use Rattle.trace_crew.specs.declared.inbox.item.Post.TheVariants.{Segment, End}
+use Rattle.trace_crew.specs.declared.queue.item.WorkerPost.{WorkerPost}
+use Rattle.trace_crew.specs.declared.queue.item.Post.TheVariants.{Segment, End}
 use Rattle.trace_crew.specs.declared.owner.Refusal.{Refusal}
 use Rattle.trace_crew.specs.Taking.{Handles, IsFair, IsFairFor, IsKept, Sorted, Taken, counted, ends_in, is_end, joined_for, joined_in, known_after, refused_in, sent, source, taken_as}
 
@@ -34,8 +34,8 @@ known_grows union facts segment None = sym (union facts (facts_of segment))
 known_grows union facts segment (Some fault) = ap view_of (sym (append-nil facts))
 
 -- One segment more was joined or refused.
-pub sorted_segment : ((a b : Trace) → view_of (a ++ b) ≡ join (view_of a) (view_of b)) → (item : Item) (segment : PlacedEvents) (old new : Held) (refused refusals : List Refusal)
-    → item.post ≡ Segment segment → Handles item.from segment old refused new refusals → (layout : Parts) (items : List Item) → Sorted layout items old refused → Sorted layout (items ++ item ∷ []) new refusals
+pub sorted_segment : ((a b : Trace) → view_of (a ++ b) ≡ join (view_of a) (view_of b)) → (item : WorkerPost) (segment : PlacedEvents) (old new : Held) (refused refusals : List Refusal)
+    → item.post ≡ Segment segment → Handles item.from segment old refused new refusals → (layout : Parts) (items : List WorkerPost) → Sorted layout items old refused → Sorted layout (items ++ item ∷ []) new refusals
 sorted_segment union item segment old new refused refusals is how layout items h =
     let t = taken_as item.from segment how.fault in
     let s = h.1 in
@@ -56,8 +56,8 @@ sorted_segment union item segment old new refused refusals is how layout items h
     )
 
 -- The same, where what was made of it stayed as it was since.
-pub sorted_next : ((a b : Trace) → view_of (a ++ b) ≡ join (view_of a) (view_of b)) → (item : Item) (segment : PlacedEvents) (old new later : Held) (refused refusals still : List Refusal)
-    → item.post ≡ Segment segment → Handles item.from segment old refused new refusals → later ≡ new → still ≡ refusals → (layout : Parts) (items : List Item) → Sorted layout items old refused
+pub sorted_next : ((a b : Trace) → view_of (a ++ b) ≡ join (view_of a) (view_of b)) → (item : WorkerPost) (segment : PlacedEvents) (old new later : Held) (refused refusals still : List Refusal)
+    → item.post ≡ Segment segment → Handles item.from segment old refused new refusals → later ≡ new → still ≡ refusals → (layout : Parts) (items : List WorkerPost) → Sorted layout items old refused
     → Sorted layout (items ++ item ∷ []) later still
 sorted_next union item segment old new later refused refusals still is how same same' layout items h =
     subst (λ (p : Held × List Refusal). Sorted layout (items ++ item ∷ []) p.0 p.1) (λ i. (sym same i, sym same' i)) (sorted_segment union item segment old new refused refusals is how layout items h)
@@ -67,7 +67,7 @@ pub kept_as_it_is : (node : Held) → IsKept node node
 kept_as_it_is node = record { layout = refl; know = refl }
 
 -- The same was taken, and the node is kept.
-pub sorted_kept : (layout : Parts) (items : List Item) (node later : Held) (refused still : List Refusal) → IsKept node later → still ≡ refused → Sorted layout items node refused → Sorted layout items later still
+pub sorted_kept : (layout : Parts) (items : List WorkerPost) (node later : Held) (refused still : List Refusal) → IsKept node later → still ≡ refused → Sorted layout items node refused → Sorted layout items later still
 sorted_kept layout items node later refused still kept same h =
     let s = h.1 in (h.0, record { all = s.all; fair = s.fair; listed = same ∙ s.listed; layout_is = kept.layout ∙ s.layout_is; know = kept.know ∙ s.know })
 
@@ -78,12 +78,12 @@ fault_is_fair layout Memory rank whole only = ⊎_elim (λ lt. lt) (λ (le : lay
 fault_is_fair layout Stale rank whole only = absurd (whole refl)
 
 -- one item more that ends a worker's posts, or doesn't
-pub ends_more : (items : List Item) (item : Item) → ends_in (items ++ item ∷ []) ≡ ends_in items + counted (is_end item)
+pub ends_more : (items : List WorkerPost) (item : WorkerPost) → ends_in (items ++ item ∷ []) ≡ ends_in items + counted (is_end item)
 ends_more [] item = omega arith
 ends_more (i ∷ is) item = let h = ends_more is item in omega (arith, h)
 
 -- An end is no segment.
-pub sorted_end : (item : Item) (node : Held) (refused : List Refusal) → item.post ≡ End → (layout : Parts) (items : List Item) → Sorted layout items node refused → Sorted layout (items ++ item ∷ []) node refused
+pub sorted_end : (item : WorkerPost) (node : Held) (refused : List Refusal) → item.post ≡ End → (layout : Parts) (items : List WorkerPost) → Sorted layout items node refused → Sorted layout (items ++ item ∷ []) node refused
 sorted_end item node refused is layout items h =
     let s = h.1 in
     let at : filter_map sent (item ∷ []) ≡ [] = ap (λ p. filter_map sent (record { from = item.from; post = p } ∷ [])) is in (

@@ -6,18 +6,18 @@ use Rattle.mpi_model.specs.Layouts.{Parts}
 use Rattle.trace_know.specs.Segment.{PlacedEvents}
 use Rattle.trace_know.specs.Trace.{view_of}
 use Rattle.trace_node.specs.Node.{Held}
-use Rattle.trace_crew.specs.declared.inbox.item.Item.{Item}
-use Rattle.trace_crew.specs.declared.inbox.item.Worker.{Worker}
-use Rattle.trace_crew.specs.declared.inbox.item.Worker.TheVariants.{First, Second}
-use Rattle.trace_crew.specs.declared.inbox.rule.Standing.TheVariants.{Running}
-use Rattle.trace_crew.specs.declared.inbox.rule.View.{View}
-use Rattle.trace_crew.specs.declared.inbox.rule.View.TheVariants.{Owner}
+use Rattle.trace_crew.specs.declared.queue.item.WorkerPost.{WorkerPost}
+use Rattle.trace_crew.specs.declared.queue.item.Worker.{Worker}
+use Rattle.trace_crew.specs.declared.queue.item.Worker.TheVariants.{First, Second}
+use Rattle.trace_crew.specs.declared.queue.rule.WorkerStanding.TheVariants.{Running}
+use Rattle.trace_crew.specs.declared.queue.rule.SeatView.{SeatView}
+use Rattle.trace_crew.specs.declared.queue.rule.SeatView.TheVariants.{Owner}
 use Rattle.trace_crew.specs.Views.{desk, is_from, posts_of}
 use Rattle.trace_crew.specs.declared.threads.CrewOut.{CrewOut}
 use Rattle.trace_crew.specs.declared.threads.Left.{Left}
 use Rattle.trace_crew.specs.declared.threads.Ran.{Ran}
 use Rattle.trace_crew.specs.declared.worker.Worked.{Worked}
-use Rattle.trace_crew.specs.declared.piece.Piece.{Piece}
+use Rattle.trace_crew.specs.declared.piece.TextPiece.{TextPiece}
 use Rattle.trace_crew.specs.declared.piece.FaultyPiece.{FaultyPiece}
 use Rattle.trace_crew.specs.declared.owner.Refusal.{Refusal}
 use Rattle.trace_crew.specs.Pieces.{Gave}
@@ -34,7 +34,7 @@ segments_by w taken = map (λ t. t.segment) (filter (λ t. is_from w t.from) tak
 -- the segments that were refused are listed, in their order: as of a rank that isn't the layout's just where that is so,
 -- else for want of memory;
 -- and the node, which is the layout's, knows the facts of the others and nothing else.
-pub record IsCrewOut (layout : Parts) (first second : List Piece) (out : CrewOut) : Type 0 where
+pub record IsCrewOut (layout : Parts) (first second : List TextPiece) (out : CrewOut) : Type 0 where
   pub taken : List Taken
   pub first_faults : List FaultyPiece
   pub second_faults : List FaultyPiece
@@ -48,7 +48,7 @@ pub record IsCrewOut (layout : Parts) (first second : List Piece) (out : CrewOut
 
 -- The owner has taken all that both workers posted: the segments of their texts, but for the texts with a fault, which
 -- are listed.
-pub record HasGathered (layout : Parts) (first second : List Piece) (node : Held) (refused : List Refusal) (faults : List FaultyPiece) : Type 0 where
+pub record HasGathered (layout : Parts) (first second : List TextPiece) (node : Held) (refused : List Refusal) (faults : List FaultyPiece) : Type 0 where
   pub ones : List PlacedEvents
   pub others : List PlacedEvents
   pub first_faults : List FaultyPiece
@@ -59,8 +59,8 @@ pub record HasGathered (layout : Parts) (first second : List Piece) (node : Held
   pub all : HasAll layout (posts_of First ones) (posts_of Second others) node refused
 
 -- The workers have left, and the owner has taken some of what they posted, with two ends among it.
-pub record HasRun (layout : Parts) (first second : List Piece) (owner : View) (node : Held) (refused : List Refusal) (one other : Worked) : Type 0 where
-  pub taken : List Item
+pub record HasRun (layout : Parts) (first second : List TextPiece) (owner : SeatView) (node : Held) (refused : List Refusal) (one other : Worked) : Type 0 where
+  pub taken : List WorkerPost
   pub owner_is : owner ≡ Owner (desk taken Running Running)
   pub sorted : Sorted layout taken node refused
   pub two : ends_in taken ≡ 2
@@ -70,28 +70,28 @@ pub record HasRun (layout : Parts) (first second : List Piece) (owner : View) (n
 -- ---- from a new node on
 
 -- Where the node was new, the owner has taken all that both workers posted.
-abbrev pub Gathers : List Piece → List Piece → Keeping → Keeping → List FaultyPiece → Type 0
+abbrev pub Gathers : List TextPiece → List TextPiece → Keeping → Keeping → List FaultyPiece → Type 0
 Gathers first second old new faults = (layout : Parts) → IsNew layout old → HasGathered layout first second new.node new.refused faults
 
 -- Where the node was new, the workers have left, and the owner has taken two ends.
-abbrev pub Runs : List Piece → List Piece → Keeping → Pass Item View → Keeping → Worked → Worked → Type 0
+abbrev pub Runs : List TextPiece → List TextPiece → Keeping → Pass WorkerPost SeatView → Keeping → Worked → Worked → Type 0
 Runs first second old seat new one other = (layout : Parts) → IsNew layout old → HasRun layout first second (view seat) new.node new.refused one other
 
 -- The same of what the threads leave, by what the owner keeps in its hall.
-abbrev pub RunsBoth : {H : Type 0} → (H → Keeping) → List Piece → List Piece → H → Ran H → Type 0
+abbrev pub RunsBoth : {H : Type 0} → (H → Keeping) → List TextPiece → List TextPiece → H → Ran H → Type 0
 RunsBoth kept first second hall ran = Runs first second (kept hall) ran.seat (kept ran.hall) ran.first ran.second
 
 -- Where the node in the hall was new, all that both workers posted was taken, and their faults are listed.
-abbrev pub GathersAll : {H : Type 0} → (H → Keeping) → List Piece → List Piece → H → Left H → Type 0
+abbrev pub GathersAll : {H : Type 0} → (H → Keeping) → List TextPiece → List TextPiece → H → Left H → Type 0
 GathersAll kept first second hall left = Gathers first second (kept hall) (kept left.hall) left.faults.items
 
 -- of some layout and some texts the workers have left, and the owner has taken two ends
-abbrev pub HasRunSome : Pass Item View → Keeping → Worked → Worked → Type 0
-HasRunSome seat kept one other = (layout : Parts) × (first : List Piece) × (second : List Piece) × HasRun layout first second (view seat) kept.node kept.refused one other
+abbrev pub HasRunSome : Pass WorkerPost SeatView → Keeping → Worked → Worked → Type 0
+HasRunSome seat kept one other = (layout : Parts) × (first : List TextPiece) × (second : List TextPiece) × HasRun layout first second (view seat) kept.node kept.refused one other
 
 -- Whatever the layout and the texts were of which this is left, the owner has now taken all that both workers posted.
-abbrev pub Finishes : Pass Item View → Keeping → Worked → Worked → Keeping → List FaultyPiece → Type 0
-Finishes seat old one other new faults = (layout : Parts) (first second : List Piece) → HasRun layout first second (view seat) old.node old.refused one other → HasGathered layout first second new.node new.refused faults
+abbrev pub Finishes : Pass WorkerPost SeatView → Keeping → Worked → Worked → Keeping → List FaultyPiece → Type 0
+Finishes seat old one other new faults = (layout : Parts) (first second : List TextPiece) → HasRun layout first second (view seat) old.node old.refused one other → HasGathered layout first second new.node new.refused faults
 
 -- The same of what the threads have left, by what the owner keeps in its hall.
 abbrev pub FinishesAll : {H : Type 0} → (H → Keeping) → Ran H → Left H → Type 0

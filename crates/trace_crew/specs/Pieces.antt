@@ -15,8 +15,8 @@ use Rattle.dumpi_calls.specs.declared.collect.Memory.{Memory as NoMemory}
 use Rattle.dumpi_calls.specs.declared.fault.WalkCause.{WalkCause}
 use Rattle.dumpi_calls.specs.declared.fault.WalkFault.{WalkFault}
 use Rattle.dumpi_calls.specs.declared.fault.WalkCause.TheVariants.{Text, Missing, Wrong, Sink, Memory}
-use Rattle.trace_crew.specs.declared.piece.Piece.{Piece}
-use Rattle.trace_crew.specs.declared.inbox.item.Worker.{Worker}
+use Rattle.trace_crew.specs.declared.piece.TextPiece.{TextPiece}
+use Rattle.trace_crew.specs.declared.queue.item.Worker.{Worker}
 use Rattle.trace_crew.specs.declared.piece.FaultyPiece.{FaultyPiece}
 use Rattle.trace_crew.specs.declared.piece.PieceAt.{PieceAt}
 use Rattle.trace_crew.specs.declared.piece.PieceFault.{PieceFault}
@@ -25,7 +25,7 @@ use Rattle.trace_crew.specs.declared.piece.PieceFault.TheVariants as pieces
 -- ---- one piece
 
 -- the segments of the events of the piece's whole text
-abbrev pub GivesSegments : Piece → List PlacedEvents → Type 0
+abbrev pub GivesSegments : TextPiece → List PlacedEvents → Type 0
 GivesSegments piece segments = (events : List Event) × AreEvents piece.text.items events × AreSegments piece.rank piece.first events segments
 
 -- a cause that a line of the text gives, and no reader
@@ -48,14 +48,14 @@ IsOwn (Sink fault) = ⊥
 IsOwn Memory = ⊥
 
 -- Why a piece gives no segments: its text's first fault, or a place past the last; or there was no memory.
-abbrev pub IsRefusedFor : Piece → PieceFault → Type 0
+abbrev pub IsRefusedFor : TextPiece → PieceFault → Type 0
 IsRefusedFor piece (pieces.Walk fault) = (held : List Event) × IsStopped collected (Some piece.text.items) [] held fault × IsOwn fault.cause
 IsRefusedFor piece (pieces.Segment fault) = (fault ≡ Place) × ((events : List Event) × AreEvents piece.text.items events × HasPlacesPast piece.first events)
 IsRefusedFor piece pieces.Memory = ⊤
 
 -- of a piece at which a walk stops for this, that is why it gives no segments
 abbrev pub IsFaultOfWalk : WalkFault NoMemory → PieceFault → Type 0
-IsFaultOfWalk fault told = (piece : Piece) (held : List Event) → IsStopped collected (Some piece.text.items) [] held fault → IsRefusedFor piece told
+IsFaultOfWalk fault told = (piece : TextPiece) (held : List Event) → IsStopped collected (Some piece.text.items) [] held fault → IsRefusedFor piece told
 
 -- ---- the pieces of a worker
 
@@ -64,12 +64,12 @@ abbrev pub Outcome : Type 0
 Outcome = Result (List PlacedEvents) PieceFault
 
 -- what became of a piece: its segments, or why it has none
-abbrev pub IsOutcome : Piece → Outcome → Type 0
+abbrev pub IsOutcome : TextPiece → Outcome → Type 0
 IsOutcome piece (Ok segments) = GivesSegments piece segments
 IsOutcome piece (Err fault) = IsRefusedFor piece fault
 
 -- an outcome for each piece
-abbrev pub AreOutcomes : List Piece → List Outcome → Type 0
+abbrev pub AreOutcomes : List TextPiece → List Outcome → Type 0
 AreOutcomes [] [] = ⊤
 AreOutcomes [] (o ∷ os) = ⊥
 AreOutcomes (piece ∷ pieces) [] = ⊥
@@ -100,7 +100,7 @@ faults_from worker place (o ∷ os) = faults_in worker place o ++ faults_from wo
 
 -- A worker's pieces gave these segments, whole, each as often as given, and in their order; and these faults, with the
 -- worker and the places of their pieces. Each piece gave its segments or its fault.
-pub record Gave (worker : Worker) (pieces : List Piece) (segments : List PlacedEvents) (faults : List FaultyPiece) : Type 0 where
+pub record Gave (worker : Worker) (pieces : List TextPiece) (segments : List PlacedEvents) (faults : List FaultyPiece) : Type 0 where
   pub outcomes : List Outcome
   pub are : AreOutcomes pieces outcomes
   pub segments_are : segments ≡ flat_map segments_in outcomes

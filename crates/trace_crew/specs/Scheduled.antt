@@ -7,9 +7,9 @@ use Rattle.trace_know.specs.Trace.{facts_of}
 use Rattle.trace_node.specs.Schedule.{NodeState, node_state, with_post, with_take}
 use Rattle.trace_node.specs.declared.fault.NodeFault.{NodeFault}
 use Rattle.trace_node.specs.declared.fault.NodeFault.TheVariants.{Rank, Memory}
-use Rattle.trace_crew.specs.declared.inbox.item.Item.{Item}
-use Rattle.trace_crew.specs.declared.inbox.item.Post.{Post}
-use Rattle.trace_crew.specs.declared.inbox.item.Post.TheVariants.{Segment, End}
+use Rattle.trace_crew.specs.declared.queue.item.WorkerPost.{WorkerPost}
+use Rattle.trace_crew.specs.declared.queue.item.Post.{Post}
+use Rattle.trace_crew.specs.declared.queue.item.Post.TheVariants.{Segment, End}
 use Rattle.trace_crew.specs.Taking.{Taken, joined_in, taken_as}
 
 -- ---- schedules of one node
@@ -65,23 +65,23 @@ reached_for segment (Some fault) = []
 
 -- The state for which a crew stands: what waits is the segments in the queue whose rank is the layout's, and what reached
 -- the node is the segments that were taken and joined.
-abbrev pub state_of : Parts → List Item → List Taken → NodeState
+abbrev pub state_of : Parts → List WorkerPost → List Taken → NodeState
 state_of layout queue taken = node_state (flat_map (λ item. waiting_in layout item.post) queue) (flat_map (λ t. reached_for t.segment t.fault) taken)
 
 -- What the steps of a crew are to the schedule, whatever waits and was taken before.
-pub record FollowsSchedule (layout : Parts) (queue : List Item) (taken : List Taken) : Type 0 where
+pub record FollowsSchedule (layout : Parts) (queue : List WorkerPost) (taken : List Taken) : Type 0 where
   -- the send of a segment whose rank is the layout's is a post, and its receive with the join that follows a take
-  pub sends : (item : Item) (segment : PlacedEvents) → item.post ≡ Segment segment → segment.rank < layout.ranks → state_of layout (queue ++ item ∷ []) taken ≡ with_post segment (state_of layout queue taken)
-  pub receives : (item : Item) (segment : PlacedEvents) → item.post ≡ Segment segment → segment.rank < layout.ranks
+  pub sends : (item : WorkerPost) (segment : PlacedEvents) → item.post ≡ Segment segment → segment.rank < layout.ranks → state_of layout (queue ++ item ∷ []) taken ≡ with_post segment (state_of layout queue taken)
+  pub receives : (item : WorkerPost) (segment : PlacedEvents) → item.post ≡ Segment segment → segment.rank < layout.ranks
       → state_of layout queue (taken ++ taken_as item.from segment None ∷ []) ≡ with_take (state_of layout (item ∷ queue) taken)
   -- the send and the receive of an end or of another segment are no step
-  pub sends_end : (item : Item) → item.post ≡ End → state_of layout (queue ++ item ∷ []) taken ≡ state_of layout queue taken
-  pub receives_end : (item : Item) → item.post ≡ End → state_of layout queue taken ≡ state_of layout (item ∷ queue) taken
-  pub sends_other : (item : Item) (segment : PlacedEvents) → item.post ≡ Segment segment → layout.ranks ≤ segment.rank → state_of layout (queue ++ item ∷ []) taken ≡ state_of layout queue taken
-  pub receives_other : (item : Item) (segment : PlacedEvents) → item.post ≡ Segment segment → layout.ranks ≤ segment.rank
+  pub sends_end : (item : WorkerPost) → item.post ≡ End → state_of layout (queue ++ item ∷ []) taken ≡ state_of layout queue taken
+  pub receives_end : (item : WorkerPost) → item.post ≡ End → state_of layout queue taken ≡ state_of layout (item ∷ queue) taken
+  pub sends_other : (item : WorkerPost) (segment : PlacedEvents) → item.post ≡ Segment segment → layout.ranks ≤ segment.rank → state_of layout (queue ++ item ∷ []) taken ≡ state_of layout queue taken
+  pub receives_other : (item : WorkerPost) (segment : PlacedEvents) → item.post ≡ Segment segment → layout.ranks ≤ segment.rank
       → state_of layout queue (taken ++ taken_as item.from segment (Some Rank) ∷ []) ≡ state_of layout (item ∷ queue) taken
   -- a receive whose join is refused for want of memory leaves the state of the same schedule without this post
-  pub refuses : (item : Item) (segment : PlacedEvents) (moves : List Move) → item.post ≡ Segment segment → segment.rank < layout.ranks → LeadsTo moves (state_of layout (item ∷ queue) taken)
+  pub refuses : (item : WorkerPost) (segment : PlacedEvents) (moves : List Move) → item.post ≡ Segment segment → segment.rank < layout.ranks → LeadsTo moves (state_of layout (item ∷ queue) taken)
       → (others : List Move) × Without segment moves others × LeadsTo others (state_of layout queue (taken ++ taken_as item.from segment (Some Memory) ∷ []))
   -- and the node, which knows just what was joined, knows just what reached it
   pub knows : flat_map joined_in taken ≡ flat_map facts_of (state_of layout queue taken).reached

@@ -8,16 +8,17 @@ use Rattle.trace_know.specs.View.{View, join}
 use Rattle.trace_node.specs.Node.{Held}
 use Rattle.trace_node.specs.declared.fault.NodeFault.{NodeFault}
 use Rattle.trace_node.specs.declared.fault.NodeFault.TheVariants.{Rank, Memory, Stale}
-use Rattle.trace_crew.specs.declared.inbox.item.Item.{Item}
-use Rattle.trace_crew.specs.declared.inbox.item.Post.{Post}
-use Rattle.trace_crew.specs.declared.inbox.item.Post.TheVariants.{Segment, End}
-use Rattle.trace_crew.specs.declared.inbox.item.Worker.{Worker}
-use Rattle.trace_crew.specs.declared.inbox.item.Worker.TheVariants.{First, Second}
+use Rattle.trace_crew.specs.declared.queue.item.WorkerPost.{WorkerPost}
+use Rattle.trace_crew.specs.declared.queue.item.Post.{Post}
+use Rattle.trace_crew.specs.declared.queue.item.Post.TheVariants.{Segment, End}
+use Rattle.trace_crew.specs.declared.queue.item.Worker.{Worker}
+use Rattle.trace_crew.specs.declared.queue.item.Worker.TheVariants.{First, Second}
+use Rattle.trace_crew.specs.declared.hold.RefusedSegment.{RefusedSegment}
 use Rattle.trace_crew.specs.declared.owner.Hall.{Hall}
 use Rattle.trace_crew.specs.declared.owner.Refusal.{Refusal}
-use Rattle.trace_crew.specs.declared.inbox.rule.Standing.TheVariants.{Joined, Running}
-use Rattle.trace_crew.specs.declared.inbox.rule.View.{View as InboxView}
-use Rattle.trace_crew.specs.declared.inbox.rule.View.TheVariants.{Owner}
+use Rattle.trace_crew.specs.declared.queue.rule.WorkerStanding.TheVariants.{Joined, Running}
+use Rattle.trace_crew.specs.declared.queue.rule.SeatView.{SeatView}
+use Rattle.trace_crew.specs.declared.queue.rule.SeatView.TheVariants.{Owner}
 use Rattle.trace_crew.specs.Views.{desk, of}
 
 -- ---- one segment
@@ -44,9 +45,9 @@ abbrev pub IsFair : Parts → Taken → Type 0
 IsFair layout t = IsFairFor layout t.segment.rank t.fault
 
 -- why a segment was given back, where one was
-abbrev pub fault_in : Option (PlacedEvents × NodeFault) → Option NodeFault
+abbrev pub fault_in : Option RefusedSegment → Option NodeFault
 fault_in None = None
-fault_in (Some refused) = Some refused.1
+fault_in (Some refused) = Some refused.fault
 
 -- a segment that was not joined, with its worker and its fault
 abbrev pub refused_as : Worker → PlacedEvents → NodeFault → Refusal
@@ -96,7 +97,7 @@ sent_by from (Segment segment) = Some (from, segment)
 sent_by from End = None
 
 -- the segment that an item carries, with its worker: none where it is an end
-abbrev pub sent : Item → Option (Worker × PlacedEvents)
+abbrev pub sent : WorkerPost → Option (Worker × PlacedEvents)
 sent item = sent_by item.from item.post
 
 -- the segment that was taken, with its worker
@@ -105,7 +106,7 @@ source t = (t.from, t.segment)
 
 -- These are the segments of the items, in their order: the refused ones are listed, in that order, each for its cause,
 -- and the node, which is the layout's, knows just the facts of the others.
-pub record Sorts (layout : Parts) (items : List Item) (segments : List Taken) (node : Held) (refused : List Refusal) : Type 0 where
+pub record Sorts (layout : Parts) (items : List WorkerPost) (segments : List Taken) (node : Held) (refused : List Refusal) : Type 0 where
   pub all : map source segments ≡ filter_map sent items
   pub fair : All (IsFair layout) segments
   pub listed : refused ≡ flat_map refused_in segments
@@ -113,7 +114,7 @@ pub record Sorts (layout : Parts) (items : List Item) (segments : List Taken) (n
   pub know : node.know ≡ view_of (flat_map joined_in segments)
 
 -- the items were taken in some order, which left this node and these refusals
-abbrev pub Sorted : Parts → List Item → Held → List Refusal → Type 0
+abbrev pub Sorted : Parts → List WorkerPost → Held → List Refusal → Type 0
 Sorted layout items node refused = (segments : List Taken) × Sorts layout items segments node refused
 
 -- What an owner keeps: what its node holds, and the segments that it refused.
@@ -126,7 +127,7 @@ abbrev pub kept_in : Hall → Keeping
 kept_in hall = record { node = hall.node; refused = hall.refused.items }
 
 -- what is kept is what was made of these items
-abbrev pub IsOfItems : Parts → List Item → Keeping → Type 0
+abbrev pub IsOfItems : Parts → List WorkerPost → Keeping → Type 0
 IsOfItems layout items kept = Sorted layout items kept.node kept.refused
 
 -- nothing was taken yet
@@ -134,12 +135,12 @@ abbrev pub IsNew : Parts → Keeping → Type 0
 IsNew layout kept = IsOfItems layout [] kept
 
 -- What was made of some items is, with this one more, what is made of them and it.
-abbrev pub TakesIn : Item → Keeping → Keeping → Type 0
-TakesIn item old new = (layout : Parts) (taken : List Item) → IsOfItems layout taken old → IsOfItems layout (taken ++ item ∷ []) new
+abbrev pub TakesIn : WorkerPost → Keeping → Keeping → Type 0
+TakesIn item old new = (layout : Parts) (taken : List WorkerPost) → IsOfItems layout taken old → IsOfItems layout (taken ++ item ∷ []) new
 
 -- The owner took all that the two workers posted, in an order of its own.
-pub record HasAll (layout : Parts) (first second : List Item) (node : Held) (refused : List Refusal) : Type 0 where
-  pub items : List Item
+pub record HasAll (layout : Parts) (first second : List WorkerPost) (node : Held) (refused : List Refusal) : Type 0 where
+  pub items : List WorkerPost
   pub first_all : of First items ≡ first
   pub second_all : of Second items ≡ second
   pub sorted : Sorted layout items node refused
@@ -152,7 +153,7 @@ is_end_post (Segment segment) = false
 is_end_post End = true
 
 -- the item ends its worker's posts
-abbrev pub is_end : Item → Bool
+abbrev pub is_end : WorkerPost → Bool
 is_end item = is_end_post item.post
 
 -- 1 for one end, and 0 for none
@@ -161,7 +162,7 @@ counted true = 1
 counted false = 0
 
 -- how many of the items end a worker's posts
-abbrev pub ends_in : List Item → ℕ
+abbrev pub ends_in : List WorkerPost → ℕ
 ends_in [] = 0
 ends_in (item ∷ items) = counted (is_end item) + ends_in items
 
@@ -173,25 +174,25 @@ ends_told (Some segment) = 0
 -- ---- both workers
 
 -- The owner has taken two ends among its items, both workers run still, and what is kept is what was made of the items.
-abbrev pub HasBothEnds : Parts → InboxView → Keeping → Type 0
-HasBothEnds layout owner kept = (taken : List Item) × (owner ≡ Owner (desk taken Running Running)) × (ends_in taken ≡ 2) × IsOfItems layout taken kept
+abbrev pub HasBothEnds : Parts → SeatView → Keeping → Type 0
+HasBothEnds layout owner kept = (taken : List WorkerPost) × (owner ≡ Owner (desk taken Running Running)) × (ends_in taken ≡ 2) × IsOfItems layout taken kept
 
 -- Where the node was new, the owner has taken two ends among its items, and keeps what was made of them.
-abbrev pub TakesBothEnds : InboxView → Keeping → Keeping → Type 0
+abbrev pub TakesBothEnds : SeatView → Keeping → Keeping → Type 0
 TakesBothEnds owner old new = (layout : Parts) → IsNew layout old → HasBothEnds layout owner new
 
 -- the owner has taken these items, and has joined both workers, which posted these
-abbrev pub IsJoined : InboxView → List Item → List Item → List Item → Type 0
+abbrev pub IsJoined : SeatView → List WorkerPost → List WorkerPost → List WorkerPost → Type 0
 IsJoined owner taken first second = owner ≡ Owner (desk taken (Joined first) (Joined second))
 
 -- the owner has joined both workers
-abbrev pub HasJoined : InboxView → Type 0
-HasJoined owner = (taken : List Item) × (first : List Item) × (second : List Item) × IsJoined owner taken first second
+abbrev pub HasJoined : SeatView → Type 0
+HasJoined owner = (taken : List WorkerPost) × (first : List WorkerPost) × (second : List WorkerPost) × IsJoined owner taken first second
 
 -- Of an owner that had joined both workers, and kept what it had made of its items: it has taken all that they posted.
-abbrev pub TakesTheRest : InboxView → Keeping → Keeping → Type 0
-TakesTheRest owner old new = (layout : Parts) (taken first second : List Item) → IsJoined owner taken first second → IsOfItems layout taken old → HasAll layout first second new.node new.refused
+abbrev pub TakesTheRest : SeatView → Keeping → Keeping → Type 0
+TakesTheRest owner old new = (layout : Parts) (taken first second : List WorkerPost) → IsJoined owner taken first second → IsOfItems layout taken old → HasAll layout first second new.node new.refused
 
 -- The items that the owner had taken have no more ends than both workers posted.
-abbrev pub HasTheirEnds : InboxView → Type 0
-HasTheirEnds owner = (taken first second : List Item) → IsJoined owner taken first second → ends_in taken ≤ ends_in first + ends_in second
+abbrev pub HasTheirEnds : SeatView → Type 0
+HasTheirEnds owner = (taken first second : List WorkerPost) → IsJoined owner taken first second → ends_in taken ≤ ends_in first + ends_in second

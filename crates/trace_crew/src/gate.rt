@@ -1,7 +1,7 @@
 //! Where a crew may be held.
 
-use crate::inbox::Worker;
 use crate::piece::PieceAt;
+use crate::queue::Worker;
 
 /// What each thread of a crew calls before or after its steps, so that a test can hold it there.
 pub trait Gate: Sync {

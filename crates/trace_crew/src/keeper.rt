@@ -4,12 +4,12 @@ ghost use Rattle.std.specs.Prelude.{◌≡◌, ◌≤◌, [], false, IfNone, IfO
 ghost use Rattle.crossbeam_channel.specs.Claims.{view, IsSeatAt};
 ghost use Rattle.crossbeam_channel.specs.Ends.{receives_on};
 ghost use Rattle.trace_crew.specs.Views.{IsOwner, after_take, desk};
-ghost use Rattle.trace_crew.specs.declared.inbox.rule.Standing.TheVariants.{Running};
-ghost use Rattle.trace_crew.specs.declared.inbox.rule.View.TheVariants.{Owner};
+ghost use Rattle.trace_crew.specs.declared.queue.rule.WorkerStanding.TheVariants.{Running};
+ghost use Rattle.trace_crew.specs.declared.queue.rule.SeatView.TheVariants.{Owner};
 ghost use Rattle.trace_crew.specs.Taking.{HasJoined, HasTheirEnds, IsKept, Keeping, TakesBothEnds, TakesIn, TakesTheRest, counted, ends_told, is_end};
 
 use crate::gate::Gate;
-use crate::inbox::{InboxReceiver, Item, Seat, Worker, take, take_now};
+use crate::queue::{PostReceiver, Seat, Worker, WorkerPost, take, take_now};
 use std::alloc::AllocError;
 use std::sync::Wait;
 
@@ -21,7 +21,7 @@ pub trait Keeper: Drop {
 
     /// Takes one item in, and answers which segment of which worker it was: None where it ends its
     /// worker's posts. Only a segment can be refused: no memory was left to list it.
-    fn take_in(&mut self, item: Item) -> Result<Option<(Worker, u64)>, AllocError>
+    fn take_in(&mut self, item: WorkerPost) -> Result<Option<(Worker, u64)>, AllocError>
         ensures err { OnErr result (is_end item ≡ false) }
         ensures end { IfOk result (λ taken. ends_told taken ≡ counted (is_end item)) }
         ensures sorted { OnOk result (TakesIn item (kept self.old) (kept self.new)) };
@@ -58,37 +58,37 @@ fn announce<G: Gate>(gate: &G, taken: Option<(Worker, u64)>) -> u8
 #[tactic(auto, using(crate::proofs::Sorting::kept_as_it_is))]
 fn next_item<R: Wait, H: Keeper>(
     rt: &R,
-    inbox: &InboxReceiver,
+    queue: &PostReceiver,
     seat: &mut Seat,
     hall: &mut H,
-) -> Option<Item>
-    requires seat { IsSeatAt (receives_on inbox.now) seat.old }
+) -> Option<WorkerPost>
+    requires seat { IsSeatAt (receives_on queue.now) seat.old }
     requires owner { IsOwner (view seat.old) }
-    ensures seat { IsSeatAt (receives_on inbox.now) seat.new }
+    ensures seat { IsSeatAt (receives_on queue.now) seat.new }
     ensures some { IfSome result (λ item. view seat.new ≡ after_take (view seat.old) item) }
     ensures none { IfNone result (view seat.new ≡ view seat.old) }
     ensures kept { IsKept (H.kept hall.old).node (H.kept hall.new).node }
     ensures listed { (H.kept hall.new).refused ≡ (H.kept hall.old).refused }
 {
-    if let Some(item) = take_now(rt, inbox, seat) {
+    if let Some(item) = take_now(rt, queue, seat) {
         return Some(item);
     }
     hall.rest(rt);
-    take(rt, inbox, seat)
+    take(rt, queue, seat)
 }
 
-/// Takes until both workers have ended. The crew holds an end of the inbox at which items are posted, so no
+/// Takes until both workers have ended. The crew holds an end of the queue at which items are posted, so no
 /// take of the owner finds it closed.
 pub fn own<R: Wait, G: Gate, H: Keeper>(
     rt: &R,
-    inbox: &InboxReceiver,
+    queue: &PostReceiver,
     seat: &mut Seat,
     hall: &mut H,
     gate: &G,
 ) -> Result<(), AllocError>
-    requires seat { IsSeatAt (receives_on inbox.now) seat.old }
+    requires seat { IsSeatAt (receives_on queue.now) seat.old }
     requires new { view seat.old ≡ Owner (desk [] Running Running) }
-    ensures seat { IsSeatAt (receives_on inbox.now) seat.new }
+    ensures seat { IsSeatAt (receives_on queue.now) seat.new }
     ensures ok { OnOk result (TakesBothEnds (view seat.new) (H.kept hall.old) (H.kept hall.new)) }
 {
     let mut ends: u8 = 0;
@@ -96,7 +96,7 @@ pub fn own<R: Wait, G: Gate, H: Keeper>(
         if ends == 2 {
             return Ok(());
         }
-        let Some(item) = next_item(rt, inbox, seat, hall) else {
+        let Some(item) = next_item(rt, queue, seat, hall) else {
             continue;
         };
         let taken = hall.take_in(item)?;
@@ -106,21 +106,21 @@ pub fn own<R: Wait, G: Gate, H: Keeper>(
     unreachable!()
 }
 
-/// Takes what is left after both workers were joined, until the inbox is found empty.
+/// Takes what is left after both workers were joined, until the queue is found empty.
 pub fn drain<R: Wait, G: Gate, H: Keeper>(
     rt: &R,
-    inbox: &InboxReceiver,
+    queue: &PostReceiver,
     seat: &mut Seat,
     hall: &mut H,
     gate: &G,
 ) -> Result<(), AllocError>
-    requires seat { IsSeatAt (receives_on inbox.now) seat.old }
+    requires seat { IsSeatAt (receives_on queue.now) seat.old }
     requires joined { HasJoined (view seat.old) }
     ensures all { OnOk result (TakesTheRest (view seat.old) (H.kept hall.old) (H.kept hall.new)) }
     ensures ends { OnOk result (HasTheirEnds (view seat.old)) }
 {
     for _ in rt.forever() {
-        let Some(item) = take_now(rt, inbox, seat) else {
+        let Some(item) = take_now(rt, queue, seat) else {
             return Ok(());
         };
         let taken = hall.take_in(item)?;

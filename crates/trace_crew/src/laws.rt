@@ -2,11 +2,11 @@
 
 ghost use Rattle.std.specs.Prelude.{List};
 ghost use Rattle.mpi_model.specs.Layouts.{Parts};
-ghost use Rattle.trace_crew.specs.declared.inbox.item.Item.{Item};
+ghost use Rattle.trace_crew.specs.declared.queue.item.WorkerPost.{WorkerPost};
 ghost use Rattle.trace_crew.specs.Scheduled.{FollowsSchedule};
 ghost use Rattle.trace_crew.specs.Taking.{Taken};
 
 /// A crew's queue and its owner's node stand for a state of a schedule of one node, whatever the crew does.
 pub fn crews_follow()
-    ensures { (layout : Parts) (queue : List Item) (taken : List Taken) → FollowsSchedule layout queue taken }
+    ensures { (layout : Parts) (queue : List WorkerPost) (taken : List Taken) → FollowsSchedule layout queue taken }
 {}

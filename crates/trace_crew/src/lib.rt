@@ -1,9 +1,9 @@
 //! A crew: two workers read texts side by side, and the owner of a node joins their segments.
 //!
-//! Each worker walks its texts in order, posts the segments of each whole text into an inbox of eight
+//! Each worker walks its texts in order, posts the segments of each whole text into a queue of eight
 //! places, and at last that it ends; a text with a fault is listed and none of it is posted. The owner,
 //! in the thread that called [`crew`], takes until both have ended. It alone holds the node: it joins
-//! each segment as it comes. Where it finds the inbox empty it brings the index of the pairs up to what
+//! each segment as it comes. Where it finds the queue empty it brings the index of the pairs up to what
 //! was joined; it makes an answer at the end, and on the way where it shows one on the board: once a
 //! million events are joined, and then where three times as much was joined since the last showing as
 //! before it. What was taken is just the segments of each worker's texts in that worker's order, and
@@ -12,12 +12,12 @@
 //! Cost: reading goes at the speed of two threads, joining at that of one. The workers move the events
 //! of each segment to where they stand in what a node knows, so the owner moves no more than a pointer
 //! for a segment that none before it touches, unless a board shows what the node knows (below); at most
-//! eight wait in the inbox. The last answer, for which all wait, costs what is new to the index and one
+//! eight wait in the queue. The last answer, for which all wait, costs what is new to the index and one
 //! pass over all messages. The board shares what the node knows and its answer, so showing them costs
 //! nothing at the end. Before it costs an answer, and a copy of all that is known, which the next segment
 //! takes: all of these together at most a third more than the last of them.
 //!
-//! - [`inbox`]: the queue between the workers and the owner, and the rule that each of its steps keeps
+//! - [`queue`]: the queue between the workers and the owner, and the rule that each of its steps keeps
 //! - [`board`]: the newest published answer, for any number of threads
 //! - [`piece`]: a text of a rank, its segments, and why it gives none
 //! - [`gate`]: where a test may hold a crew
@@ -35,18 +35,18 @@
 mod board;
 mod gate;
 mod hold;
-pub mod inbox;
 mod keeper;
 mod laws;
 mod owner;
 mod piece;
+pub mod queue;
 mod threads;
 mod worker;
 
 pub use board::{Board, PutFault, ShowFault, Shown};
 pub use gate::{Gate, OpenGate};
-pub use inbox::Worker;
 pub use laws::crews_follow;
 pub use owner::Refusal;
-pub use piece::{FaultyPiece, Piece, PieceAt, PieceFault};
+pub use piece::{FaultyPiece, PieceAt, PieceFault, TextPiece};
+pub use queue::Worker;
 pub use threads::{CrewFault, CrewOut, crew};

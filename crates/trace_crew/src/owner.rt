@@ -4,9 +4,9 @@ ghost use Rattle.std.specs.Prelude.{◌≡◌, [], false, IfOk, OnErr, OnOk};
 ghost use Rattle.trace_crew.specs.Taking.{Handles, IsKept, Sorted, TakesIn, counted, ends_told, is_end, kept_in};
 
 use crate::board::Board;
-use crate::hold::hold;
-use crate::inbox::{Item, Post, Worker};
+use crate::hold::{RefusedSegment, hold};
 use crate::keeper::Keeper;
+use crate::queue::{Post, Worker, WorkerPost};
 use mpi_model::Layout;
 use std::alloc::{AllocError, Global};
 use std::sync::Wait;
@@ -115,7 +115,7 @@ impl<'s, 'a> Hall<'s, 'a> {
                 self.joined = self.joined.saturating_add(count);
                 Ok(())
             }
-            Some((segment, fault)) => {
+            Some(RefusedSegment { segment, fault }) => {
                 let segment = segment.into_segment(*self.refused.allocator())?;
                 self.refused.push(Refusal {
                     from,
@@ -149,7 +149,7 @@ impl<'s, 'a> Hall<'s, 'a> {
     /// Handles one item, and answers which segment of which worker it was: None where it ends its
     /// worker's posts.
     #[tactic(auto, using(crate::proofs::Sorting::sorted_end))]
-    fn handle(&mut self, item: Item) -> Result<Option<(Worker, u64)>, AllocError>
+    fn handle(&mut self, item: WorkerPost) -> Result<Option<(Worker, u64)>, AllocError>
         ensures err { OnErr result (is_end item ≡ false) }
         ensures end { IfOk result (λ taken. ends_told taken ≡ counted (is_end item)) }
         ensures sorted { OnOk result (TakesIn item (kept_in self.old) (kept_in self.new)) }
@@ -170,7 +170,7 @@ impl<'s, 'a> Hall<'s, 'a> {
 impl<'s, 'a> Keeper for Hall<'s, 'a> {
     ghost kept = { λ h. kept_in h };
 
-    fn take_in(&mut self, item: Item) -> Result<Option<(Worker, u64)>, AllocError> {
+    fn take_in(&mut self, item: WorkerPost) -> Result<Option<(Worker, u64)>, AllocError> {
         self.handle(item)
     }
 

@@ -4,7 +4,7 @@ ghost use Rattle.std.specs.Prelude.{◌≡◌, IfOk, IfErr};
 ghost use Rattle.trace_crew.specs.Pieces.{GivesSegments, IsFaultOfWalk, IsOwn, IsRefusedFor};
 ghost use Rattle.trace_crew.specs.declared.piece.PieceFault.TheVariants.{Walk};
 
-use crate::inbox::Worker;
+use crate::queue::Worker;
 use dumpi_calls::{Collect, Memory, WalkCause, WalkFault, walk, whole_texts};
 use dumpi_text::{TextCause, TextFault};
 use mpi_model::Device;
@@ -14,7 +14,7 @@ use trace_know::{ReadySegment, SegmentFault};
 
 /// The text of a rank's trace, from one of its calls on.
 #[derive(Debug, Drop)]
-pub struct Piece {
+pub struct TextPiece {
     /// The rank among all ranks of the run.
     pub rank: u32,
     /// The number of the rank's call with which the text begins.
@@ -52,7 +52,7 @@ pub struct FaultyPiece {
 
 /// The segments of a piece's whole text, ready to be joined, none of one without calls. The worker
 /// makes them ready, so that the owner, for whom both workers wait at last, has less to do.
-pub(crate) fn segments_of(alloc: Global, piece: &Piece) -> Result<Vec<ReadySegment>, PieceFault>
+pub(crate) fn segments_of(alloc: Global, piece: &TextPiece) -> Result<Vec<ReadySegment>, PieceFault>
     ensures ok { IfOk result (λ segments. GivesSegments piece.now segments.items) }
     ensures err { IfErr result (λ fault. IsRefusedFor piece.now fault) }
 {

@@ -5,10 +5,10 @@ ghost use Rattle.crossbeam_channel.specs.Claims.{view, IsSeatAt};
 ghost use Rattle.crossbeam_channel.specs.Ends.{receives_on, sends_on};
 ghost use Rattle.mpi_model.specs.Layouts.{Parts};
 ghost use Rattle.trace_crew.specs.Views.{AreSeatsAt, IsPoster, after_join, desk};
-ghost use Rattle.trace_crew.specs.declared.inbox.item.Item.{Item as ItemValue};
-ghost use Rattle.trace_crew.specs.declared.inbox.item.Worker.TheVariants.{First, Second};
-ghost use Rattle.trace_crew.specs.declared.inbox.rule.Standing.TheVariants.{Running};
-ghost use Rattle.trace_crew.specs.declared.inbox.rule.View.TheVariants.{Owner, Poster};
+ghost use Rattle.trace_crew.specs.declared.queue.item.WorkerPost.{WorkerPost as WorkerPostValue};
+ghost use Rattle.trace_crew.specs.declared.queue.item.Worker.TheVariants.{First, Second};
+ghost use Rattle.trace_crew.specs.declared.queue.rule.WorkerStanding.TheVariants.{Running};
+ghost use Rattle.trace_crew.specs.declared.queue.rule.SeatView.TheVariants.{Owner, Poster};
 ghost use Rattle.trace_crew.specs.Crewed.{FinishesAll, GathersAll, HasRunSome, IsCrewOut, RunsBoth};
 ghost use Rattle.trace_crew.specs.Taking.{IsNew};
 ghost use Rattle.trace_crew.specs.Work.{HasWorked, is_closed};
@@ -16,10 +16,10 @@ ghost use Rattle.trace_crew.specs.declared.threads.CrewFault.TheVariants.{Memory
 
 use crate::board::Board;
 use crate::gate::Gate;
-use crate::inbox::{InboxReceiver, InboxSender, Seat, Worker, join, make_first, make_second, open};
 use crate::keeper::{Keeper, drain, own};
 use crate::owner::{Hall, Refusal};
-use crate::piece::{FaultyPiece, Piece};
+use crate::piece::{FaultyPiece, TextPiece};
+use crate::queue::{PostReceiver, PostSender, Seat, Worker, join, make_first, make_second, open};
 use crate::worker::{Stop, Worked, Working, work};
 use mpi_model::Layout;
 use std::alloc::{AllocError, Global};
@@ -47,7 +47,7 @@ pub enum CrewFault {
     /// A worker's thread couldn't be started.
     #[error("Y1 Worker")]
     Worker,
-    /// No memory was left for the inbox, the node, or the list of the faults or of the refused
+    /// No memory was left for the queue, the node, or the list of the faults or of the refused
     /// segments.
     #[error("Memory")]
     Memory,
@@ -64,7 +64,7 @@ impl From<AllocError> for CrewFault {
 /// What the threads of a crew leave.
 #[derive(Drop)]
 struct Ran<H> {
-    receiver: InboxReceiver,
+    receiver: PostReceiver,
     seat: Seat,
     hall: H,
     first: Worked,
@@ -78,15 +78,15 @@ struct Left<H> {
     faults: Vec<FaultyPiece>,
 }
 
-/// Two workers read their texts side by side and post the segments into an inbox of eight places; the
+/// Two workers read their texts side by side and post the segments into a queue of eight places; the
 /// owner joins what it takes into a new node, and shows answers on the board: of much that it takes some
-/// on the way, and the last. It waits for the workers, and they wait for it where the inbox is full.
+/// on the way, and the last. It waits for the workers, and they wait for it where the queue is full.
 pub fn crew<'a, R: Threads + Wait + Sync, G: Gate>(
     rt: &R,
     alloc: Global,
     layout: &'a Layout,
-    first: &[Piece],
-    second: &[Piece],
+    first: &[TextPiece],
+    second: &[TextPiece],
     board: &Board<'a>,
     gate: &G,
 ) -> Result<CrewOut<'a>, CrewFault>
@@ -110,11 +110,11 @@ fn out_of<'s, 'a>(hall: Hall<'s, 'a>, faults: Vec<FaultyPiece>) -> CrewOut<'a>
     }
 }
 
-/// Opens an inbox, runs both workers beside the owner, and takes what is left in it.
+/// Opens a queue, runs both workers beside the owner, and takes what is left in it.
 fn gathered<R: Threads + Wait + Sync, G: Gate, H: Keeper>(
     rt: &R,
     alloc: Global,
-    pieces: (&[Piece], &[Piece]),
+    pieces: (&[TextPiece], &[TextPiece]),
     hall: H,
     gate: &G,
 ) -> Result<Left<H>, CrewFault>
@@ -136,10 +136,10 @@ fn gathered<R: Threads + Wait + Sync, G: Gate, H: Keeper>(
 fn run<R: Threads + Wait + Sync, G: Gate, H: Keeper>(
     rt: &R,
     alloc: Global,
-    sender: &InboxSender,
-    receiver: InboxReceiver,
+    sender: &PostSender,
+    receiver: PostReceiver,
     seats: (Seat, Seat, Seat),
-    pieces: (&[Piece], &[Piece]),
+    pieces: (&[TextPiece], &[TextPiece]),
     hall: H,
     gate: &G,
 ) -> Result<Ran<H>, CrewFault>
@@ -188,21 +188,21 @@ fn start<'s, E, R: Wait + Sync, G: Gate>(
     scope: &Scope<'s, E>,
     rt: &'s R,
     alloc: Global,
-    sender: &'s InboxSender,
+    sender: &'s PostSender,
     worker: Worker,
     seat: Seat,
-    pieces: &'s [Piece],
+    pieces: &'s [TextPiece],
     gate: &'s G,
 ) -> Result<PromisedHandle<Worked, Working<'s>>, CrewFault>
     requires seat { IsSeatAt (sends_on sender.now) seat }
     requires new { view seat ≡ Poster worker [] }
-    ensures inbox { IfOk result (λ handle. handle.promise.inbox.value ≡ sender.now) }
+    ensures queue { IfOk result (λ handle. handle.promise.queue.value ≡ sender.now) }
     ensures worker { IfOk result (λ handle. handle.promise.worker ≡ worker) }
     ensures pieces { IfOk result (λ handle. handle.promise.pieces.now ≡ pieces.now) }
     ensures err { IfErr result (λ fault. fault ≡ CrewFault.Worker) }
 {
     let promise = Working {
-        inbox: Snapshot::of(sender),
+        queue: Snapshot::of(sender),
         worker,
         pieces,
     };
@@ -244,10 +244,10 @@ fn both_read(first: Option<Stop>, second: Option<Stop>) -> Result<(), AllocError
 }
 
 /// Joins the seats of both workers, and takes what is left. By then each of the two ends that the owner
-/// took is seen to be of a worker of its own: so neither found the inbox closed.
+/// took is seen to be of a worker of its own: so neither found the queue closed.
 fn finish<R: Wait, G: Gate, H: Keeper>(
     rt: &R,
-    sender: &InboxSender,
+    sender: &PostSender,
     ran: Ran<H>,
     gate: &G,
 ) -> Result<Left<H>, AllocError>
@@ -273,9 +273,9 @@ fn finish<R: Wait, G: Gate, H: Keeper>(
 }
 
 /// Joins the seats of both workers.
-fn join_both(sender: &InboxSender, owner: &mut Seat, first: Seat, second: Seat)
+fn join_both(sender: &PostSender, owner: &mut Seat, first: Seat, second: Seat)
     requires seat { IsSeatAt (sends_on sender.now) owner.old }
-    requires owner { (taken : List ItemValue) × (view owner.old ≡ Owner (desk taken Running Running)) }
+    requires owner { (taken : List WorkerPostValue) × (view owner.old ≡ Owner (desk taken Running Running)) }
     requires first { IsSeatAt (sends_on sender.now) first × IsPoster First (view first) }
     requires second { IsSeatAt (sends_on sender.now) second × IsPoster Second (view second) }
     ensures seat { IsSeatAt (sends_on sender.now) owner.new }

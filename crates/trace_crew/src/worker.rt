@@ -4,12 +4,12 @@ ghost use Rattle.std.specs.Prelude.{◌≡◌, [], OnOk};
 ghost use Rattle.crossbeam_channel.specs.Claims.{view, IsSeatAt};
 ghost use Rattle.crossbeam_channel.specs.Ends.{sends_on};
 ghost use Rattle.trace_crew.specs.Views.{IsPoster};
-ghost use Rattle.trace_crew.specs.declared.inbox.rule.View.TheVariants.{Poster};
+ghost use Rattle.trace_crew.specs.declared.queue.rule.SeatView.TheVariants.{Poster};
 ghost use Rattle.trace_crew.specs.Work.{Ends, HasRead, HasWorked, PostsAll, ReadsNext, ends_posted};
 
 use crate::gate::Gate;
-use crate::inbox::{Closed, InboxSender, Item, Post, Seat, Worker, post};
-use crate::piece::{FaultyPiece, Piece, PieceAt, segments_of};
+use crate::piece::{FaultyPiece, PieceAt, TextPiece, segments_of};
+use crate::queue::{Closed, Post, PostSender, Seat, Worker, WorkerPost, post};
 use std::alloc::Global;
 use std::snapshot::Snapshot;
 use std::sync::Wait;
@@ -41,13 +41,13 @@ impl Hand {
     fn post_text<R: Wait, G: Gate>(
         &mut self,
         rt: &R,
-        inbox: &InboxSender,
+        queue: &PostSender,
         segments: Vec<ReadySegment>,
         gate: &G,
     ) -> Result<(), Closed>
-        requires seat { IsSeatAt (sends_on inbox.now) self.old.seat }
+        requires seat { IsSeatAt (sends_on queue.now) self.old.seat }
         requires poster { IsPoster self.old.worker (view self.old.seat) }
-        ensures seat { IsSeatAt (sends_on inbox.now) self.new.seat }
+        ensures seat { IsSeatAt (sends_on queue.now) self.new.seat }
         ensures poster { IsPoster self.old.worker (view self.new.seat) }
         ensures worker { self.new.worker ≡ self.old.worker }
         ensures faults { self.new.faults.items ≡ self.old.faults.items }
@@ -57,11 +57,11 @@ impl Hand {
         for segment in segments {
             gate.before_post(self.worker, self.posted);
             self.posted = self.posted.saturating_add(1);
-            let item = Item {
+            let item = WorkerPost {
                 from: self.worker,
                 post: Post::Segment(segment),
             };
-            post(rt, inbox, &mut self.seat, item)?;
+            post(rt, queue, &mut self.seat, item)?;
         }
         Ok(())
     }
@@ -71,14 +71,14 @@ impl Hand {
         &mut self,
         rt: &R,
         alloc: Global,
-        inbox: &InboxSender,
+        queue: &PostSender,
         place: u64,
-        piece: &Piece,
+        piece: &TextPiece,
         gate: &G,
     ) -> Result<(), Stop>
-        requires seat { IsSeatAt (sends_on inbox.now) self.old.seat }
+        requires seat { IsSeatAt (sends_on queue.now) self.old.seat }
         requires poster { IsPoster self.old.worker (view self.old.seat) }
-        ensures seat { IsSeatAt (sends_on inbox.now) self.new.seat }
+        ensures seat { IsSeatAt (sends_on queue.now) self.new.seat }
         ensures poster { IsPoster self.old.worker (view self.new.seat) }
         ensures worker { self.new.worker ≡ self.old.worker }
         ensures ends { ends_posted (view self.new.seat) ≡ ends_posted (view self.old.seat) }
@@ -90,7 +90,7 @@ impl Hand {
         };
         gate.before_walk(at);
         match segments_of(alloc, piece) {
-            Ok(segments) => match self.post_text(rt, inbox, segments, gate) {
+            Ok(segments) => match self.post_text(rt, queue, segments, gate) {
                 Ok(()) => Ok(()),
                 Err(Closed) => Err(Stop::Closed),
             },
@@ -107,38 +107,38 @@ impl Hand {
         &mut self,
         rt: &R,
         alloc: Global,
-        inbox: &InboxSender,
-        pieces: &[Piece],
+        queue: &PostSender,
+        pieces: &[TextPiece],
         gate: &G,
     ) -> Result<(), Stop>
-        requires seat { IsSeatAt (sends_on inbox.now) self.old.seat }
+        requires seat { IsSeatAt (sends_on queue.now) self.old.seat }
         requires new { view self.old.seat ≡ Poster self.old.worker [] }
         requires none { self.old.faults.items ≡ [] }
-        ensures seat { IsSeatAt (sends_on inbox.now) self.new.seat }
+        ensures seat { IsSeatAt (sends_on queue.now) self.new.seat }
         ensures poster { IsPoster self.old.worker (view self.new.seat) }
         ensures worker { self.new.worker ≡ self.old.worker }
         ensures ends { ends_posted (view self.new.seat) ≡ 0 }
         ensures ok { OnOk result (HasRead self.old.worker pieces.now (view self.new.seat) self.new.faults.items) }
     {
         for place in 0..pieces.len() {
-            self.read_one(rt, alloc, inbox, place as u64, &pieces[place], gate)?;
+            self.read_one(rt, alloc, queue, place as u64, &pieces[place], gate)?;
         }
         Ok(())
     }
 
     /// Posts that the worker ends, which stopped for this before: why it has stopped then.
-    fn end<R: Wait>(&mut self, rt: &R, inbox: &InboxSender, stop: Option<Stop>) -> Option<Stop>
-        requires seat { IsSeatAt (sends_on inbox.now) self.old.seat }
+    fn end<R: Wait>(&mut self, rt: &R, queue: &PostSender, stop: Option<Stop>) -> Option<Stop>
+        requires seat { IsSeatAt (sends_on queue.now) self.old.seat }
         requires poster { IsPoster self.old.worker (view self.old.seat) }
-        ensures seat { IsSeatAt (sends_on inbox.now) self.new.seat }
+        ensures seat { IsSeatAt (sends_on queue.now) self.new.seat }
         ensures faults { self.new.faults.items ≡ self.old.faults.items }
         ensures ends { Ends self.old.worker stop (view self.old.seat) result (view self.new.seat) }
     {
-        let item = Item {
+        let item = WorkerPost {
             from: self.worker,
             post: Post::End,
         };
-        match post(rt, inbox, &mut self.seat, item) {
+        match post(rt, queue, &mut self.seat, item) {
             Ok(()) => stop,
             Err(Closed) => Some(Stop::Closed),
         }
@@ -151,19 +151,19 @@ impl Hand {
         &mut self,
         rt: &R,
         alloc: Global,
-        inbox: &InboxSender,
-        pieces: &[Piece],
+        queue: &PostSender,
+        pieces: &[TextPiece],
         gate: &G,
     ) -> Option<Stop>
-        requires seat { IsSeatAt (sends_on inbox.now) self.old.seat }
+        requires seat { IsSeatAt (sends_on queue.now) self.old.seat }
         requires new { view self.old.seat ≡ Poster self.old.worker [] }
         requires none { self.old.faults.items ≡ [] }
-        ensures seat { IsSeatAt (sends_on inbox.now) self.new.seat }
+        ensures seat { IsSeatAt (sends_on queue.now) self.new.seat }
         ensures worked { HasWorked self.old.worker pieces.now (view self.new.seat) self.new.faults.items result }
     {
-        match self.read_all(rt, alloc, inbox, pieces, gate) {
-            Ok(()) => self.end(rt, inbox, None),
-            Err(Stop::Memory) => self.end(rt, inbox, Some(Stop::Memory)),
+        match self.read_all(rt, alloc, queue, pieces, gate) {
+            Ok(()) => self.end(rt, queue, None),
+            Err(Stop::Memory) => self.end(rt, queue, Some(Stop::Memory)),
             Err(Stop::Closed) => Some(Stop::Closed),
         }
     }
@@ -183,15 +183,15 @@ pub struct Worked {
 pub fn work<R: Wait, G: Gate>(
     rt: &R,
     alloc: Global,
-    inbox: &InboxSender,
+    queue: &PostSender,
     worker: Worker,
     seat: Seat,
-    pieces: &[Piece],
+    pieces: &[TextPiece],
     gate: &G,
 ) -> Worked
-    requires seat { IsSeatAt (sends_on inbox.now) seat }
+    requires seat { IsSeatAt (sends_on queue.now) seat }
     requires new { view seat ≡ Poster worker [] }
-    ensures seat { IsSeatAt (sends_on inbox.now) result.seat }
+    ensures seat { IsSeatAt (sends_on queue.now) result.seat }
     ensures worked { HasWorked worker pieces.now (view result.seat) result.faults.items result.stop }
 {
     let mut hand = Hand {
@@ -200,7 +200,7 @@ pub fn work<R: Wait, G: Gate>(
         posted: 0,
         faults: Vec::new(alloc),
     };
-    let stop = hand.read_and_end(rt, alloc, inbox, pieces, gate);
+    let stop = hand.read_and_end(rt, alloc, queue, pieces, gate);
     Worked {
         seat: hand.seat,
         faults: hand.faults,
@@ -211,9 +211,9 @@ pub fn work<R: Wait, G: Gate>(
 /// That a worker keeps what [`work`] ensures, for the thread that joins it.
 #[derive(Drop)]
 pub struct Working<'a> {
-    pub inbox: Snapshot<InboxSender>,
+    pub queue: Snapshot<PostSender>,
     pub worker: Worker,
-    pub pieces: &'a [Piece],
+    pub pieces: &'a [TextPiece],
 }
 
 impl<'a> Promise<Worked> for Working<'a> {
@@ -221,5 +221,5 @@ impl<'a> Promise<Worked> for Working<'a> {
     ghost use Rattle.crossbeam_channel.specs.Ends.{sends_on};
     ghost use Rattle.trace_crew.specs.Work.{Leaves};
 
-    ghost kept_by = { λ p r. IsSeatAt (sends_on p.inbox.value) r.seat × Leaves p.worker p.pieces.now r };
+    ghost kept_by = { λ p r. IsSeatAt (sends_on p.queue.value) r.seat × Leaves p.worker p.pieces.now r };
 }

@@ -3,7 +3,7 @@ use Rattle.std.specs.List.{All}
 use Rattle.std.proofs.Math.Seq.{take-length}
 use Rattle.std.proofs.lemmas.List.Elements.{All-append, All-cons, All-nil}
 use Rattle.std.proofs.lemmas.List.{take_more}
-use Rattle.trace_crew.specs.declared.piece.Piece.{Piece}
+use Rattle.trace_crew.specs.declared.piece.TextPiece.{TextPiece}
 use Rattle.input_files.specs.Manifests.{PieceParts}
 use Rattle.command_runs.specs.Files.{IsFile}
 use Rattle.command_runs.specs.Inputs.{RefusesFile}
@@ -21,7 +21,7 @@ loop-piece-preserved g c =
     let more : take (c.loop-piece.piece-index + 1) c.args.pieces.now ≡ take c.loop-piece.piece-index c.args.pieces.now ++ c.piece-item.result ∷ [] =
     take_more c.args.pieces.now c.loop-piece.piece-index c.piece-item.result below
     ∙ ap (λ (p : PieceParts). take c.loop-piece.piece-index c.args.pieces.now ++ p ∷ []) (sym c.piece-item.is) in
-    let text : Piece = record { rank = c.rank-rank.result; first = c.first-first.result; text = c.in-Ok.text } in
+    let text : TextPiece = record { rank = c.rank-rank.result; first = c.first-first.result; text = c.in-Ok.text } in
     let bytes : IsFile (file c.piece-item.result.file) c.in-Ok.text.items = rw (c.file.ensures, c.loop-piece.invariant.files) at c.in-Ok.ensures.ok in
     let adds : Adds c.piece-item.result text c.loop-piece.texts c.add.new.self = rw (c.side_of.ensures, c.node.ensures, c.worker_of.ensures) at c.in_ok-add.ensures.shares in
     record {

@@ -1,8 +1,8 @@
 use Rattle.std.proofs.Common.{◌≡◌, ◌∙◌}
 use Rattle.crossbeam_channel.specs.Claims.{view}
-use Rattle.trace_crew.specs.declared.inbox.item.Worker.TheVariants.{First, Second}
-use Rattle.trace_crew.specs.declared.inbox.rule.Standing.TheVariants.{Joined}
-use Rattle.trace_crew.specs.declared.inbox.rule.View.TheVariants.{Owner}
+use Rattle.trace_crew.specs.declared.queue.item.Worker.TheVariants.{First, Second}
+use Rattle.trace_crew.specs.declared.queue.rule.WorkerStanding.TheVariants.{Joined}
+use Rattle.trace_crew.specs.declared.queue.rule.SeatView.TheVariants.{Owner}
 use Rattle.trace_crew.specs.Views.{after_join, desk, posts_of}
 use Rattle.trace_crew.proofs.Crewing.{neither_closed, settled}
 use Rattle.trace_crew.proofs.threads.finish.Goals as goal

@@ -7,7 +7,7 @@ use Rattle.trace_crew.proofs.worker.Hand.post_text.Given as goal
 
 abbrev pub invariant-loop-segment : goal.invariant-loop-segment
 invariant-loop-segment g l = record {
-  seat : IsSeatAt (sends_on l.inbox) l.self.seat;
+  seat : IsSeatAt (sends_on l.queue) l.self.seat;
   worker : l.self.worker ≡ l.fn.self.worker;
   faults : l.self.faults.items ≡ l.fn.self.faults.items;
   poster : IsPoster l.fn.self.worker (view l.self.seat);

@@ -1,5 +1,5 @@
 use Rattle.std.proofs.Common.{rules, ◌∙◌, ap}
-use Rattle.trace_crew.specs.declared.inbox.rule.View.TheVariants.{Poster}
+use Rattle.trace_crew.specs.declared.queue.rule.SeatView.TheVariants.{Poster}
 use Rattle.trace_crew.proofs.Reading.{read_further}
 use Rattle.trace_crew.proofs.worker.Hand.read_all.Goals as goal
 

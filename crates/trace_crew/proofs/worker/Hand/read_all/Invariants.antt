@@ -7,7 +7,7 @@ use Rattle.trace_crew.proofs.worker.Hand.read_all.Given as goal
 
 abbrev pub invariant-loop-place : goal.invariant-loop-place
 invariant-loop-place g l = record {
-  seat : IsSeatAt (sends_on l.inbox) l.self.seat;
+  seat : IsSeatAt (sends_on l.queue) l.self.seat;
   worker : l.self.worker ≡ l.fn.self.worker;
   poster : IsPoster l.fn.self.worker (view l.self.seat);
   ends : ends_posted (view l.self.seat) ≡ 0;

@@ -1,7 +1,7 @@
 use Rattle.std.proofs.Common.{rules}
 use Rattle.crossbeam_channel.specs.Claims.{view, IsSeatAt}
 use Rattle.crossbeam_channel.specs.Ends.{sends_on}
-use Rattle.trace_crew.specs.declared.inbox.item.Worker.TheVariants.{First, Second}
+use Rattle.trace_crew.specs.declared.queue.item.Worker.TheVariants.{First, Second}
 use Rattle.trace_crew.specs.Work.{HasWorked}
 use Rattle.trace_crew.proofs.threads.fn.run.scope.Goals as goal
 

@@ -1,4 +1,4 @@
-//! What is posted into an inbox, and by whom.
+//! What is posted into a queue, and by whom.
 
 use trace_know::ReadySegment;
 
@@ -16,9 +16,9 @@ pub enum Post {
     End,
 }
 
-/// What lies in an inbox.
+/// What lies in a queue: a post, and the worker that it is of.
 #[derive(Debug, Drop)]
-pub struct Item {
+pub struct WorkerPost {
     pub from: Worker,
     pub post: Post,
 }
