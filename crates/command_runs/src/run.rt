@@ -23,9 +23,20 @@ use crate::replay::replay_with;
 use crate::watch::Watcher;
 use command_line::Verb;
 use mpi_model::{Layout, Write};
-use std::alloc::Global;
+use std::alloc::{AllocError, Global};
 use trace_node::{Node, NodeFault};
 use trace_report::write_report;
+
+/// The bytes of the block that is asked for and given back before a run.
+const FIRST_BLOCK: usize = 1_048_576;
+
+/// Asks for a block of memory and gives it back. From that glibc's allocator learns how large the blocks are that a run
+/// frees: it then keeps the last two megabytes of them for what is asked for next, and each page isn't fetched anew from
+/// the system. Where the block is refused, nothing changes.
+fn keep_freed_memory(alloc: Global) {
+    let block: Result<Vec<u8>, AllocError> = Vec::with_capacity(alloc, FIRST_BLOCK);
+    drop(block);
+}
 
 /// Runs a verb over a layout and a manifest, which it names by their files. Nothing is written
 /// before the whole run is good. The answer is whether all that was checked held: that of a check whether
@@ -46,6 +57,7 @@ pub fn run_with<O: Opener, V: Watcher, W: Write>(
     ensures failed { IfErr result (NamesFailed (Fails O.R.failures)) }
     ensures same { O.file files.new ≡ O.file files.old }
 {
+    keep_freed_memory(alloc);
     match verb {
         Verb::Explain => explain_with(alloc, layout, manifest, files, watcher, out),
         Verb::ExplainRank(rank) => {
