@@ -1,5 +1,4 @@
 pub mod Words
-pub mod Seconds
 pub mod Waits
 pub mod Report
 pub mod Json

@@ -10,7 +10,7 @@ use Rattle.trace_wait.specs.declared.round.Round.{Round}
 use Rattle.trace_wait.specs.declared.round.Standing.{Standing}
 use Rattle.trace_wait.specs.declared.round.Standing.TheVariants.{Mismatched, Complete, Partial}
 use Rattle.trace_node.specs.Answer.{Answered, Stopped}
-use Rattle.trace_report.specs.Seconds.{seconds_text}
+use Rattle.call_words.specs.Seconds.{seconds_text}
 use Rattle.trace_report.specs.Waits.{wait_text, of_lines}
 use Rattle.trace_report.specs.Words.{function_word, part_text, sends_word, state_word, where_so}
 
