@@ -4,7 +4,7 @@
 //! stuck, by a queue of released ranks. All are proved to keep to the rules. A [`Checker`] doesn't lean on
 //! that: it reads the same segments, holds the index against the pass
 //! ([`pair_all`](trace_pair::pair_all)), and looks at each stuck and each released rank by itself
-//! ([`check_lines`]). So who trusts no proof can see on a trace of their own that both ways to the pairs
+//! ([`Checker::lines`]). So who trusts no proof can see on a trace of their own that both ways to the pairs
 //! give the same, and that the two checks of `trace_stuck` accept the verdict.
 //!
 //! Cost: a segment costs one pass over all calls of its rank; n ranks whose conditions have c parts
@@ -23,5 +23,3 @@ mod tables;
 mod verdict;
 
 pub use checker::Checker;
-pub use lines::check_lines;
-pub use verdict::is_right_verdict;

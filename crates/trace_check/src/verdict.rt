@@ -13,7 +13,7 @@ use trace_stuck::{
 
 /// Whether the verdict is right: it lists the stuck ranks, each once, and a release order of all other
 /// waiting ranks. No memory is taken.
-pub fn is_right_verdict(
+pub(crate) fn is_right_verdict(
     states: &[State],
     conditions: &[Option<Condition>],
     stuck: &[u32],
