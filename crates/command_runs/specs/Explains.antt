@@ -7,7 +7,8 @@ use Rattle.trace_know.specs.View.{View}
 use Rattle.trace_node.specs.Answer.{Answered, IsAnswer}
 use Rattle.trace_node.specs.Node.{Held, held}
 use Rattle.trace_explain.specs.Explained.{IsExplained, unknown_in}
-use Rattle.text_notes.specs.Words.{NoteParts, PlaceParts, most_shown, notes_text, pieceless, pieceless_text, places_text}
+use Rattle.text_notes.specs.Words.{NoteParts, PlaceParts, notes_text, pieceless, pieceless_text, places_text}
+use Rattle.text_notes.specs.declared.totals.TheConstants.{MOST_SHOWN}
 use Rattle.input_files.specs.Manifests.{ManifestParts}
 use Rattle.command_runs.specs.Inputs.{TellsLayout, TellsManifest}
 use Rattle.command_runs.specs.Known.{TellAll}
@@ -34,7 +35,7 @@ told_text said unknown notes places more = said ++ pieceless_text (pieceless not
 -- The text says that, then of which ranks nothing is known and no text was given, what is noted of the texts that were read, and then where the first ten stuck calls stand in them.
 abbrev pub IsTold : (List ℕ → Option (List ℕ)) → Parts → View → List NoteParts → List ℕ → Type 0
 IsTold file l view notes text = (answer : Answered) × (said : List ℕ) × (places : List PlaceParts)
-    × IsAnswer l view answer × SaysAnswer l view answer said × ArePlacesOf file notes (take most_shown answer.stuck) places
+    × IsAnswer l view answer × SaysAnswer l view answer said × ArePlacesOf file notes (take MOST_SHOWN answer.stuck) places
     × (text ≡ told_text said (unknown_in answer) notes places (length answer.stuck - length places))
 
 -- The text says that of what a node holds.

@@ -15,7 +15,7 @@ use crate::answerer::Answerer;
 use crate::fault::RunFault;
 use crate::input::{layout_at, manifest_at};
 use crate::opener::Opener;
-use crate::piece::refusal;
+use crate::piece::fault_of_walk;
 use crate::replay::{write_node, write_piece};
 use crate::shares::shares_of;
 use crate::texts::{side_of, texts_of_all, worker_of};
@@ -170,7 +170,7 @@ fn of_text(alloc: Global, path: &str, fault: PieceFault) -> Result<RunFault, All
     ensures { IfOk result (IsTextFault path.now fault) }
 {
     match fault {
-        PieceFault::Walk(fault) => refusal(alloc, path, fault),
+        PieceFault::Walk(fault) => fault_of_walk(alloc, path, fault),
         PieceFault::Segment(_) => Ok(RunFault::Place {
             path: path.to_string(alloc)?,
         }),

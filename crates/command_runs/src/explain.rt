@@ -2,7 +2,7 @@
 
 ghost use Rattle.std.specs.Prelude.{◌≡◌, false, IfErr, IfOk, take};
 ghost use Rattle.dumpi_text.specs.Failing.{Fails};
-ghost use Rattle.text_notes.specs.Words.{most_shown};
+ghost use Rattle.text_notes.specs.declared.totals.TheConstants.{MOST_SHOWN};
 ghost use Rattle.command_runs.specs.Explains.{IsExplainOf, IsNodeTold, IsNotedNodeOf, other_sends, told_text, under_other};
 ghost use Rattle.command_runs.specs.Files.{NamesFailed, NamesUnreadable};
 ghost use Rattle.command_runs.specs.Notes.{WhereTrue};
@@ -188,7 +188,7 @@ fn text_of(
 
 /// The first ten stuck ranks.
 fn shown_first(stuck: &[Stuck]) -> &[Stuck]
-    ensures { result.now ≡ take most_shown stuck.now }
+    ensures { result.now ≡ take MOST_SHOWN stuck.now }
 {
     &stuck[..stuck.len().min(MOST_SHOWN)]
 }

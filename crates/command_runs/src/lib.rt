@@ -92,6 +92,7 @@ pub use file_name::FileName;
 pub use found::{Found, NOTHING, found_of, looked_at};
 pub use laws::packed_laws;
 pub use opener::{Disk, OpenFault, Opener};
+pub use piece::fault_of_walk;
 pub use reason::Reason;
 pub use run::run_with;
 pub use sentences::{begun_text, layout_text};

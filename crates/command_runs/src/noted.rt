@@ -18,7 +18,7 @@ use crate::file_name::FileName;
 use crate::gatherer::Gatherer;
 use crate::knowing::{take_all, with_stranger};
 use crate::opener::{OpenFault, Opener};
-use crate::piece::refusal;
+use crate::piece::fault_of_walk;
 use crate::second_look::start_at;
 use crate::watch::{Watcher, announce};
 use crate::watched::Watched;
@@ -85,7 +85,7 @@ fn noted_piece<O: Opener, V: Watcher>(
     let mut noting = Noting::new(alloc);
     let walked = match walk(alloc, Watched::new(reader, watcher), &mut noting) {
         Ok(walked) => walked,
-        Err(fault) => return Err(refusal(alloc, path, fault)?),
+        Err(fault) => return Err(fault_of_walk(alloc, path, fault)?),
     };
     watcher.has_read(path, &walked);
     let (collect, unread) = noting.into_parts();

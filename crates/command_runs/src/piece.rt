@@ -50,7 +50,7 @@ pub fn segments_of<O: Opener, V: Watcher>(
     let watched = Watched::new(reader, watcher);
     let walked = match walk_with_buffer(alloc, watched, &mut collect, buffer) {
         Ok(walked) => walked,
-        Err(fault) => return Err(refusal(alloc, path, fault)?),
+        Err(fault) => return Err(fault_of_walk(alloc, path, fault)?),
     };
     watcher.has_read(path, &walked);
     match collect.into_ready(piece.rank(), piece.first()) {
@@ -62,8 +62,8 @@ pub fn segments_of<O: Opener, V: Watcher>(
     }
 }
 
-/// The fault of a run whose walk was stopped, which names the file.
-pub(crate) fn refusal(
+/// The fault of a run over a text whose walk was stopped, which names the file.
+pub fn fault_of_walk(
     alloc: Global,
     path: &str,
     fault: WalkFault<Memory>,

@@ -5,7 +5,8 @@ use Rattle.trace_know.specs.View.{View}
 use Rattle.trace_node.specs.Answer.{IsAnswer, Stopped}
 use Rattle.trace_node.specs.Stopped.{stopped}
 use Rattle.trace_node.specs.declared.stuck.Stuck.{Stuck}
-use Rattle.text_notes.specs.Words.{PlaceParts, most_shown, notes_text, pieceless, pieceless_text, places_text}
+use Rattle.text_notes.specs.Words.{PlaceParts, notes_text, pieceless, pieceless_text, places_text}
+use Rattle.text_notes.specs.declared.totals.TheConstants.{MOST_SHOWN}
 use Rattle.trace_explain.specs.Explained.{DifferInSends, IsExplained, unknown_in}
 use Rattle.command_runs.specs.Explains.{SaysAnswer, under_other}
 use Rattle.command_runs.specs.Notes.{ArePlacesOf}
@@ -24,9 +25,9 @@ returns g c = λ file notes_true.
     (subst (λ (v : View). IsExplained c.args.layout.now c.args.other.now answer v text) c.knowledge.ensures c.in_ok-said.ensures)) in
     let notes = c.args.notes.now in
     let places = c.in_ok-places.places.items in
-    let first : map stopped c.shown_first.result.now ≡ take most_shown answer.stuck =
-    ap (λ (l : List Stuck). map stopped l) c.shown_first.ensures ∙ sym (take-map stopped most_shown c.stuck.result.now) ∙ ap (λ (l : List Stopped). take most_shown l) c.stuck.ensures in
-    let stand : ArePlacesOf file notes (take most_shown answer.stuck) places =
+    let first : map stopped c.shown_first.result.now ≡ take MOST_SHOWN answer.stuck =
+    ap (λ (l : List Stuck). map stopped l) c.shown_first.ensures ∙ sym (take-map stopped MOST_SHOWN c.stuck.result.now) ∙ ap (λ (l : List Stopped). take MOST_SHOWN l) c.stuck.ensures in
+    let stand : ArePlacesOf file notes (take MOST_SHOWN answer.stuck) places =
     subst (λ (l : List Stopped). ArePlacesOf file notes l places) first (c.in_ok-places.ensures file notes_true) in
     let count : length c.stuck-2.result.now ≡ length answer.stuck = stopped_count c.stuck-2.result.now answer.stuck c.stuck-2.ensures in
     let more : c.saturating_sub-more.result ≡ length answer.stuck - length places = omega (arith, count, c.saturating_sub-more.ensures, c.len.ensures) in
