@@ -1,8 +1,8 @@
 -- What holds of a reader's text holds of the file where it is told; and texts, one more.
 use Rattle.std.proofs.Common.{◌≡◌, ◌++◌, ◌∷◌, [], ℕ, List, Option, Some, None, ap, refl, subst, true}
+use Rattle.dumpi_calls.specs.declared.collect.Memory.{Memory as NoMemory}
 use Rattle.dumpi_calls.specs.declared.fault.WalkFault.{WalkFault}
 use Rattle.dumpi_calls.specs.declared.walking.Walked.{Walked}
-use Rattle.comm_calls.specs.declared.fault.Memory.{Memory as NoMemory}
 use Rattle.comm_makings.specs.declared.calls.RankCalls.{RankCalls}
 use Rattle.text_layouts.specs.Texts.{IsReadFrom, StopsIn}
 use Rattle.command_runs.specs.Files.{StandsAtFirst}

@@ -2,6 +2,7 @@
 use Rattle.std.specs.Prelude.{◌≡◌, ◌<◌, ◌⊎◌, ◌++◌, ℕ, Bool, true, false, List, [], Option, Some, codes, length, map, slice_get, string_bytes}
 use Rattle.mpi_model.specs.Layouts.{Holds}
 use Rattle.mpi_model.specs.declared.layout.Sends.{Sends}
+use Rattle.mpi_model.specs.declared.layout.TheConstants.{MOST_RANKS}
 use Rattle.comm_makings.specs.World.{world_of}
 use Rattle.comm_makings.specs.declared.calls.RankCalls.{RankCalls}
 use Rattle.layout_files.specs.Values.{manifest_value}
@@ -45,7 +46,7 @@ pub record IsMadeOf (file : List ℕ → Option (List ℕ)) (sends : Sends) (wor
 -- More texts than a layout can have ranks, or two texts of one rank by the digits of their names.
 abbrev pub RefusesNames : List (List ℕ) → InitFault → Type 0
 RefusesNames words Memory = Unit {0}
-RefusesNames words TooMany = 1024 < length words
+RefusesNames words TooMany = MOST_RANKS < length words
 RefusesNames words (Twice path) = (one other : ℕ) × IsTwice (numbers_of words) one other × (slice_get words other ≡ Some (string_bytes path))
 RefusesNames words _ = ⊥
 

@@ -1,13 +1,12 @@
 -- What the texts of all ranks say, and why one is refused.
-use Rattle.std.specs.Prelude.{◌≡◌, ◌⊎◌, ◌&&◌, ◌==◌, ℕ, Bool, true, List, [], ◌∷◌, Contains, Option, Some, None, String, nat_lt, string_bytes}
+use Rattle.std.specs.Prelude.{◌≡◌, ◌⊎◌, ◌&&◌, ◌==◌, ℕ, Bool, true, List, [], ◌∷◌, Contains, Option, Some, None, String, nat_lt}
 use Rattle.std.specs.declared.alloc.Global.{Global}
-use Rattle.dumpi_text.specs.declared.fault.TextFault.TheVariants.{At}
-use Rattle.dumpi_calls.specs.declared.fault.WalkCause.TheVariants as causes
+use Rattle.dumpi_calls.specs.declared.collect.Memory.{Memory as NoMemory}
 use Rattle.dumpi_calls.specs.declared.fault.WalkFault.{WalkFault}
 use Rattle.dumpi_calls.specs.declared.walking.Walked.{Walked}
-use Rattle.comm_calls.specs.declared.fault.Memory.{Memory as NoMemory}
 use Rattle.comm_makings.specs.declared.calls.RankCalls.{RankCalls}
 use Rattle.text_layouts.specs.Texts.{IsReadFrom, StopsIn}
+use Rattle.command_runs.specs.Pieces.{IsNamed, IsWalkFault}
 use Rattle.command_runs.specs.declared.fault.RunFault.{RunFault}
 use Rattle.command_runs.specs.declared.fault.RunFault.TheVariants as runs
 use Rattle.init_runs.specs.declared.fault.InitFault.{InitFault}
@@ -25,18 +24,6 @@ AllSay file (name ∷ names) ranks = (rank : RankCalls) × (rest : List RankCall
 
 -- ---- why a text is refused
 
--- a path is that of a word
-abbrev pub IsNamed : String Global → List ℕ → Type 0
-IsNamed path name = string_bytes path ≡ name
-
--- The fault of a run stands for the fault of a walk, and names the file.
-abbrev pub StandsFor : List ℕ → WalkFault NoMemory → RunFault → Type 0
-StandsFor name fault runs.Memory = Unit {0}
-StandsFor name fault (runs.Text cause path line) = IsNamed path name × (fault.cause ≡ causes.Text (At line cause))
-StandsFor name fault (runs.Missing parameter path line) = IsNamed path name × (fault.cause ≡ causes.Missing parameter) × (line ≡ fault.line)
-StandsFor name fault (runs.Wrong parameter path line) = IsNamed path name × (fault.cause ≡ causes.Wrong parameter) × (line ≡ fault.line)
-StandsFor name fault _ = ⊥
-
 -- where its bytes are told, the text is refused so
 abbrev pub StopsSo : Option (List ℕ) → WalkFault NoMemory → Type 0
 StopsSo None fault = Unit {0}
@@ -45,7 +32,7 @@ StopsSo (Some text) fault = StopsIn (Some text) fault
 -- The file can't be opened, so that nothing tells its text, or its text is refused.
 abbrev pub RefusesRead : List ℕ → Option (List ℕ) → RunFault → Type 0
 RefusesRead name text fault = ((path : String Global) × (fault ≡ runs.File path) × IsNamed path name × (text ≡ None))
-    ⊎ ((walk : WalkFault NoMemory) × StandsFor name walk fault × StopsSo text walk)
+    ⊎ ((walk : WalkFault NoMemory) × IsWalkFault name walk fault × StopsSo text walk)
 
 -- a text that has lines and no call is none
 abbrev pub is_no_text : Walked → Bool

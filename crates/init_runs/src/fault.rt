@@ -14,7 +14,7 @@ use text_layouts::MadeFault;
 /// Why nothing is made of the texts of all ranks, or why what was made isn't kept. Each names its files as the words
 /// spell them.
 #[derive(Drop)]
-pub enum InitFault {
+pub(crate) enum InitFault {
     Memory,
     /// A text can't be opened or read, or it is refused as `report` refuses it.
     Text(RunFault),
@@ -149,7 +149,7 @@ impl fmt::Display for InitFault {
 }
 
 /// The line for standard error, with its line feed.
-pub fn init_fault_line(alloc: Global, fault: &InitFault) -> Result<String, AllocError>
+pub(crate) fn init_fault_line(alloc: Global, fault: &InitFault) -> Result<String, AllocError>
     ensures { IfOk result (λ line. string_bytes line ≡ init_fault_line_of fault.now) }
 {
     format!(in alloc; "mpimatch: {fault}\n")

@@ -15,5 +15,3 @@ mod reader;
 mod texts;
 
 pub use ending::{ending_of_init, ending_of_texts};
-pub use fault::{InitFault, init_fault_line};
-pub use prepared::{Prepared, prepare};

@@ -2,6 +2,7 @@
 
 ghost use Rattle.std.specs.Prelude.{◌≡◌, ◌<◌, ◌≤◌, IfErr, IfOk, length, map, string_bytes};
 ghost use Rattle.std.specs.List.{All};
+ghost use Rattle.mpi_model.specs.declared.layout.TheConstants.{MOST_RANKS};
 ghost use Rattle.command_line.specs.Program.{texts_of};
 ghost use Rattle.init_runs.specs.Prepared.{AreAt, AreNotes, IsByRank, IsMadeOf, RefusesNames, RefusesWords, made_notes};
 
@@ -15,10 +16,10 @@ use text_layouts::{Made, Order, made_of, order_of, put_notes};
 
 /// A layout and a manifest that were made of texts.
 #[derive(Drop)]
-pub struct Prepared {
-    pub made: Made,
+pub(crate) struct Prepared {
+    pub(crate) made: Made,
     /// What was found in the texts, and what is left out, for a person.
-    pub notes: Vec<u8>,
+    pub(crate) notes: Vec<u8>,
 }
 
 /// Copies of the words, as names that faults may keep.
@@ -47,7 +48,7 @@ fn in_order(alloc: Global, names: &[String], places: &[usize]) -> Result<Vec<Str
 /// The texts by rank, and whether the digits of their names say so.
 fn by_rank(alloc: Global, words: &[&str]) -> Result<(Vec<String>, bool), InitFault>
     ensures ok { IfOk result (λ read. IsByRank (texts_of words.now) (map string_bytes read.0.items)) }
-    ensures few { IfOk result (λ read. length read.0.items ≤ 1024) }
+    ensures few { IfOk result (λ read. length read.0.items ≤ MOST_RANKS) }
     ensures err { IfErr result (RefusesNames (texts_of words.now)) }
 {
     if words.len() > MOST_RANKS as usize {
@@ -83,7 +84,7 @@ fn notes_of(
 
 /// The layout and the manifest of the run of these texts, rank 0 first, or by the digits at the ends of their names where
 /// those are 0 to n - 1. Each text is read once.
-pub fn prepare<O: Opener>(
+pub(crate) fn prepare<O: Opener>(
     alloc: Global,
     sends: Sends,
     words: &[&str],

@@ -1,49 +1,22 @@
 //! The texts of all ranks, as what their calls say of communicators.
 
 ghost use Rattle.std.specs.Prelude.{◌≡◌, IfErr, IfOk, map, string_bytes};
-ghost use Rattle.init_runs.specs.Texts.{AllSay, RefusesOne, RefusesText, Says, StandsFor, is_no_text};
+ghost use Rattle.init_runs.specs.Texts.{AllSay, RefusesOne, RefusesText, Says, is_no_text};
 
 use crate::fault::InitFault;
-use comm_calls::Memory;
 use comm_makings::RankCalls;
-use command_runs::{OpenFault, Opener, RunFault};
-use dumpi_calls::{WalkCause, WalkFault, Walked};
-use dumpi_text::TextFault;
+use command_runs::{OpenFault, Opener, RunFault, fault_of_walk};
+use dumpi_calls::Walked;
 use std::alloc::{AllocError, Global};
 use text_layouts::rank_calls_of;
 
 /// What the texts of all ranks say.
 #[derive(Drop)]
-pub struct AllCalls {
+pub(crate) struct AllCalls {
     /// What each rank's text says of communicators.
-    pub ranks: Vec<RankCalls>,
+    pub(crate) ranks: Vec<RankCalls>,
     /// How many calls they have together.
-    pub calls: u64,
-}
-
-/// The fault of a text whose walk was stopped.
-fn refusal(alloc: Global, path: &str, fault: WalkFault<Memory>) -> Result<RunFault, AllocError>
-    ensures { IfOk result (StandsFor path.now fault) }
-{
-    let line = fault.line;
-    match fault.cause {
-        WalkCause::Text(TextFault::At { line, cause }) => Ok(RunFault::Text {
-            cause,
-            path: path.to_string(alloc)?,
-            line,
-        }),
-        WalkCause::Missing(parameter) => Ok(RunFault::Missing {
-            parameter,
-            path: path.to_string(alloc)?,
-            line,
-        }),
-        WalkCause::Wrong(parameter) => Ok(RunFault::Wrong {
-            parameter,
-            path: path.to_string(alloc)?,
-            line,
-        }),
-        _ => Ok(RunFault::Memory),
-    }
+    pub(crate) calls: u64,
 }
 
 /// A text with lines and no call is none.
@@ -82,7 +55,7 @@ fn calls_of<O: Opener>(
             }
             Ok((calls, walked.calls))
         }
-        Err(fault) => Err(InitFault::Text(refusal(alloc, path, fault)?)),
+        Err(fault) => Err(InitFault::Text(fault_of_walk(alloc, path, fault)?)),
     }
 }
 
