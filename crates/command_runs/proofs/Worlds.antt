@@ -5,7 +5,7 @@ use Rattle.std.proofs.lemmas.List.{length-map, length-replicate}
 use Rattle.mpi_model.specs.Layouts.{Parts}
 use Rattle.trace_node.specs.Node.{Held}
 use Rattle.trace_world.specs.Possible.{Allows, CanDo, world_in}
-use Rattle.trace_world.specs.Refusals.{IsCountFault, IsOutcome, NoneStaler, SameNodes, StopsAt, done, is_done, refusal, stale}
+use Rattle.trace_world.specs.Refusals.{IsCountFault, IsOutcome, NoneStaler, SameNodes, StopsAt, done_at, ended_at, is_done, refusal, stale}
 use Rattle.trace_world.specs.Schedule.{State, after_all, opening}
 use Rattle.trace_world.specs.Shows.{Follows, Shows, WorldState, most_nodes}
 use Rattle.trace_world.specs.Worlds.{IsWorld}
@@ -78,7 +78,7 @@ undone FrameLength stale = refl
 undone NodeCount stale = refl
 undone Memory stale = refl
 
-done_is : (k : ℕ) (fault : WorldFault) → (fault ≡ Stale → ⊥) → done (k, fault) ≡ k
+done_is : (k : ℕ) (fault : WorldFault) → (fault ≡ Stale → ⊥) → done_at k fault ≡ k
 done_is k Stale stale = absurd (stale refl)
 done_is k NoNode stale = refl
 done_is k NoMail stale = refl
@@ -94,24 +94,24 @@ StateLaw = (w : WorldState) (s : State) (step : Step) → Shows w s → refusal 
 
 -- a step was refused, for no want of memory
 step_refused : StateLaw → (l : Parts) (nodes : ℕ) (steps : List Step) (old new : WorldState) (k : ℕ) (fault : WorldFault) → IsNew l nodes old → SameNodes old new
-    → IsWorld new.layout new.nodes new.inboxes new.mails → Follows old (take (done (k, fault)) steps) new → Allows old (take (done (k, fault)) steps) → StopsAt new steps (k, fault)
+    → IsWorld new.layout new.nodes new.inboxes new.mails → Follows old (take (done_at k fault) steps) new → Allows old (take (done_at k fault) steps) → StopsAt new steps (ended_at k fault)
     → (fault ≡ Stale → ⊥) → (fault ≡ Memory → ⊥) → RefusesStep l nodes steps k fault
 step_refused law l nodes steps old new k fault is same world follows could stops stale memory =
     let s : ℕ → State = λ n. after_all (take n steps) (opening nodes) in
     let refused : refusal new stops.0 ≡ Some fault = refused_for (refusal new stops.0) fault stale memory (stops.2 (undone fault stale)) in
-    let shown : Shows new (s (done (k, fault))) = follows (opening nodes) is.shows in
-    let in_state : refusal (world_in l (s (done (k, fault)))) stops.0 ≡ Some fault =
-    ap (λ (p : Parts). refusal (world_in p (s (done (k, fault)))) stops.0) (sym (same.layout ∙ is.layout)) ∙ law new (s (done (k, fault))) stops.0 shown ∙ refused in
+    let shown : Shows new (s (done_at k fault)) = follows (opening nodes) is.shows in
+    let in_state : refusal (world_in l (s (done_at k fault))) stops.0 ≡ Some fault =
+    ap (λ (p : Parts). refusal (world_in p (s (done_at k fault))) stops.0) (sym (same.layout ∙ is.layout)) ∙ law new (s (done_at k fault)) stops.0 shown ∙ refused in
     record {
       step = stops.0;
       at = stops.1;
-      before = subst (λ (n : ℕ). CanReplay l nodes (take n steps)) (done_is k fault stale) (replayed l nodes (take (done (k, fault)) steps) old new is same world could);
+      before = subst (λ (n : ℕ). CanReplay l nodes (take n steps)) (done_is k fault stale) (replayed l nodes (take (done_at k fault) steps) old new is same world could);
       refuses = subst (λ (n : ℕ). refusal (world_in l (s n)) stops.0 ≡ Some fault) (done_is k fault stale) in_state;
     }
 
 -- a run ended at a step
 pub stopped : StateLaw → (l : Parts) (nodes : ℕ) (steps : List Step) (old new : WorldState) (k : ℕ) (fault : WorldFault) → IsNew l nodes old → SameNodes old new
-    → IsWorld new.layout new.nodes new.inboxes new.mails → Follows old (take (done (k, fault)) steps) new → Allows old (take (done (k, fault)) steps) → StopsAt new steps (k, fault)
+    → IsWorld new.layout new.nodes new.inboxes new.mails → Follows old (take (done_at k fault) steps) new → Allows old (take (done_at k fault) steps) → StopsAt new steps (ended_at k fault)
     → RefusesSteps l nodes steps (stop_of fault k)
 stopped law l nodes steps old new k Stale is same world follows could stops = tt
 stopped law l nodes steps old new k Memory is same world follows could stops = tt

@@ -12,7 +12,7 @@ use std::thread::Threads;
 use trace_crew::{Board, CrewFault, CrewOut, OpenGate, PieceFault, PutFault, crew};
 use trace_know::{Knowledge, Segment};
 use trace_node::{Node, NodeFault};
-use trace_world::{Step, World, WorldFault};
+use trace_world::{Step, StepFault, World, WorldFault};
 
 /// How much is known, how many contradictions, and the readable prefixes of two ranks.
 type Known = (usize, usize, u64, u64);
@@ -276,9 +276,9 @@ fn done<R: Abort>(rt: &R, k: usize, fault: WorldFault) -> usize {
 /// Runs the steps. After a refusal the world shows what the steps before it led to; both nodes are refreshed, and the rest is
 /// run.
 fn run<R: Abort>(rt: &R, world: &mut World, steps: &[Step]) {
-    if let Err((k, fault)) = world.run(steps) {
-        let count = done(rt, k, fault);
-        assert!(rt; shows(world) == SHOWN.get(count).copied(), "step {k}");
+    if let Err(StepFault { step, fault }) = world.run(steps) {
+        let count = done(rt, step, fault);
+        assert!(rt; shows(world) == SHOWN.get(count).copied(), "step {step}");
         world.refresh(0).expect(rt, "a refreshment");
         world.refresh(1).expect(rt, "a refreshment");
         let rest = steps.get(count..).expect(rt, "the rest");

@@ -11,7 +11,7 @@ use Rattle.trace_world.specs.declared.step.Step.{Step}
 use Rattle.trace_world.specs.declared.step.Step.TheVariants.{Post, Take, Ship, Deliver, Restart}
 use Rattle.trace_world.specs.declared.step.WorldFault.{WorldFault}
 use Rattle.trace_world.specs.declared.step.WorldFault.TheVariants.{NoNode, NoMail, EmptyInbox, Rank, FrameLength, Stale, NodeCount, Memory}
-use Rattle.trace_world.specs.Answers.{AnswersFresh, AnswersMore, AnswersStill, AnswersAfter, AnswersAgain, HoldsAfter, HoldsMore, JoinsMore, LosesOne, joins_more}
+use Rattle.trace_world.specs.Answers.{AnswersFresh, AnswersMore, AnswersStill, AnswersAfter, AnswersAgain, HoldsAfter, HoldsMore, JoinsMore, LosesAt, joins_more}
 use Rattle.trace_world.specs.Moves.{Holds}
 use Rattle.trace_world.specs.Refusals.{IsFrameFault, IsOutcome, NoneStaler, is_done, node_of, refusal, refusal_there, stale}
 use Rattle.trace_world.specs.Shows.{WorldState}
@@ -143,7 +143,7 @@ stale_there (Restart node) old new lt h = absurd h
 
 -- where a run ends
 pub loses : (old : List Held) (mid new : WorldState) (steps : List Step) (k : ℕ) (x : Step) (fault : WorldFault) → k < length steps → x ≡ get_or steps k x → NoneStaler old mid.nodes
-    → AnswersAfter x (Err fault) (stale mid.nodes) (stale new.nodes) → IsOutcome (refusal mid x) (Err fault) → (is_done (Err fault) ≡ false → new ≡ mid) → LosesOne steps (k, fault) old new.nodes
+    → AnswersAfter x (Err fault) (stale mid.nodes) (stale new.nodes) → IsOutcome (refusal mid x) (Err fault) → (is_done (Err fault) ≡ false → new ≡ mid) → LosesAt steps k fault old new.nodes
 loses old mid new steps k x Stale lt is so_far h may undone = (
   x,
   slice_get-get_or steps k x lt ∙ ap Some (sym is),

@@ -9,9 +9,10 @@ use Rattle.trace_node.specs.Node.{Held}
 use Rattle.mpi_model.specs.Layouts.{Parts}
 use Rattle.trace_world.specs.declared.step.Step.{Step}
 use Rattle.trace_world.specs.declared.step.Step.TheVariants.{Post, Take, Ship, Deliver, Restart}
+use Rattle.trace_world.specs.declared.step.StepFault.{StepFault}
 use Rattle.trace_world.specs.declared.step.WorldFault.{WorldFault}
 use Rattle.trace_world.specs.declared.step.WorldFault.TheVariants.{NoNode, NoMail, EmptyInbox, Rank, FrameLength, Stale, NodeCount, Memory}
-use Rattle.trace_world.specs.Answers.{AllAnswered, LosesOne}
+use Rattle.trace_world.specs.Answers.{AllAnswered, LosesAt}
 use Rattle.trace_world.specs.Ends.{Ends, EndsHeld, SameButAnswers}
 use Rattle.trace_world.specs.Refusals.{IsOutcome, SameNodes, done, no_front, refusal, refusal_there, too_long}
 use Rattle.trace_world.specs.Schedule.{at}
@@ -56,7 +57,7 @@ refused_same mid new (Deliver mail node) same = by_parts mid new (Deliver mail n
 refused_same mid new (Restart node) same = by_parts mid new (Restart node) node refl refl same
 
 -- no answer is lost
-none_lost : (steps : List Step) (k : ℕ) (fault : WorldFault) (old new : List Held) → (fault ≡ Stale → ⊥) → AllAnswered new → LosesOne steps (k, fault) old new
+none_lost : (steps : List Step) (k : ℕ) (fault : WorldFault) (old new : List Held) → (fault ≡ Stale → ⊥) → AllAnswered new → LosesAt steps k fault old new
 none_lost steps k Stale old new whole all = absurd (whole refl)
 none_lost steps k NoNode old new whole all = λ i had. all i
 none_lost steps k NoMail old new whole all = λ i had. all i
@@ -67,7 +68,7 @@ none_lost steps k NodeCount old new whole all = λ i had. all i
 none_lost steps k Memory old new whole all = λ i had. all i
 
 -- the answers are made
-pub answered : (old mid new : WorldState) (steps : List Step) (r : Result (Unit {0}) (ℕ × WorldFault)) → EndsHeld old steps r mid → SameButAnswers mid new → AllAnswered new.nodes → Ends old steps r new
+pub answered : (old mid new : WorldState) (steps : List Step) (r : Result (Unit {0}) StepFault) → EndsHeld old steps r mid → SameButAnswers mid new → AllAnswered new.nodes → Ends old steps r new
 answered old mid new steps (Ok x) ended same all = record {
   ok = follows_on old mid new steps ended.ok same;
   possible = ended.possible;
@@ -78,14 +79,14 @@ answered old mid new steps (Ok x) ended same all = record {
   lost = tt;
   same = same_then old mid new ended.same (same_nodes mid new same);
 }
-answered old mid new steps (Err (k, fault)) ended same all = record {
+answered old mid new steps (Err e) ended same all = record {
   ok = tt;
   possible = tt;
   fresh = tt;
-  err = (ended.err.0, follows_on old mid new (take (done (k, fault)) steps) ended.err.1 same);
+  err = (ended.err.0, follows_on old mid new (take (done e) steps) ended.err.1 same);
   possible_before = ended.possible_before;
-  cause = (ended.cause.0, ended.cause.1, λ undone. subst (λ (found : Option WorldFault). IsOutcome found (Err fault)) (sym (refused_same mid new ended.cause.0 same)) (ended.cause.2 undone));
-  lost = none_lost steps k fault old.nodes new.nodes ended.whole all;
+  cause = (ended.cause.0, ended.cause.1, λ undone. subst (λ (found : Option WorldFault). IsOutcome found (Err e.fault)) (sym (refused_same mid new ended.cause.0 same)) (ended.cause.2 undone));
+  lost = none_lost steps e.step e.fault old.nodes new.nodes ended.whole all;
   same = same_then old mid new ended.same (same_nodes mid new same);
 }
 

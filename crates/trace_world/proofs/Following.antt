@@ -16,7 +16,7 @@ use Rattle.trace_wire.specs.Frames.{frame_of, HasFrame}
 use Rattle.trace_world.specs.Schedule.{State, after, after_all, at}
 use Rattle.trace_world.specs.Shows.{knowledge_of, knows, AllFramed, Shows, Follows, WorldState, world_state}
 use Rattle.trace_world.specs.Moves.{joined}
-use Rattle.trace_world.specs.Refusals.{is_done, done, refusal, IsOutcome, SameNodes, StopsAt}
+use Rattle.trace_world.specs.Refusals.{is_done, done_at, ended_at, refusal, IsOutcome, SameNodes, StopsAt}
 use Rattle.trace_world.specs.declared.step.WorldFault.{WorldFault}
 use Rattle.trace_world.specs.declared.step.WorldFault.TheVariants.{NoNode, NoMail, EmptyInbox, Rank, FrameLength, Stale, NodeCount, Memory}
 use Rattle.trace_world.specs.declared.step.Step.{Step}
@@ -135,7 +135,7 @@ goes_on old mid new steps k x lt is so_far next s h =
 
 -- where a run ends
 pub stops : (old mid new : WorldState) (steps : List Step) (k : ℕ) (x : Step) (fault : WorldFault) → k < length steps → x ≡ get_or steps k x → Follows old (take k steps) mid
-    → (is_done (Err fault) ≡ true → Follows mid (x ∷ []) new) → (is_done (Err fault) ≡ false → new ≡ mid) → Follows old (take (done (k, fault)) steps) new
+    → (is_done (Err fault) ≡ true → Follows mid (x ∷ []) new) → (is_done (Err fault) ≡ false → new ≡ mid) → Follows old (take (done_at k fault) steps) new
 stops old mid new steps k x Stale lt is so_far went kept = goes_on old mid new steps k x lt is so_far (went refl)
 stops old mid new steps k x NoNode lt is so_far went kept = subst (Follows old (take k steps)) (sym (kept refl)) so_far
 stops old mid new steps k x NoMail lt is so_far went kept = subst (Follows old (take k steps)) (sym (kept refl)) so_far
@@ -146,6 +146,6 @@ stops old mid new steps k x NodeCount lt is so_far went kept = subst (Follows ol
 stops old mid new steps k x Memory lt is so_far went kept = subst (Follows old (take k steps)) (sym (kept refl)) so_far
 
 -- the step at which a run ends
-pub caused : (mid new : WorldState) (steps : List Step) (k : ℕ) (x : Step) (fault : WorldFault) → k < length steps → x ≡ get_or steps k x → IsOutcome (refusal mid x) (Err fault) → (is_done (Err fault) ≡ false → new ≡ mid) → StopsAt new steps (k, fault)
+pub caused : (mid new : WorldState) (steps : List Step) (k : ℕ) (x : Step) (fault : WorldFault) → k < length steps → x ≡ get_or steps k x → IsOutcome (refusal mid x) (Err fault) → (is_done (Err fault) ≡ false → new ≡ mid) → StopsAt new steps (ended_at k fault)
 caused mid new steps k x fault lt is outcome kept =
     (x, slice_get-get_or steps k x lt ∙ ap Some (sym is), λ undone. subst (λ w. IsOutcome (refusal w x) (Err fault)) (sym (kept undone)) outcome)

@@ -13,7 +13,7 @@ use Rattle.trace_world.specs.declared.step.Step.TheVariants.{Post, Take, Ship, D
 use Rattle.trace_world.specs.declared.step.WorldFault.{WorldFault}
 use Rattle.trace_world.specs.declared.step.WorldFault.TheVariants.{NoNode, NoMail, EmptyInbox, Rank, FrameLength, Stale, NodeCount, Memory}
 use Rattle.trace_world.specs.Possible.{Allows, CanDo, world_in}
-use Rattle.trace_world.specs.Refusals.{IsOutcome, SameNodes, done, no_front, refusal, refusal_there, too_long}
+use Rattle.trace_world.specs.Refusals.{IsOutcome, SameNodes, done_at, no_front, refusal, refusal_there, too_long}
 use Rattle.trace_world.specs.Schedule.{State, after, after_all, at}
 use Rattle.trace_world.specs.Shows.{Follows, Shows, WorldState, knowledge_of, knows}
 
@@ -115,7 +115,7 @@ could_go_on old mid steps k x y lt is so_far same could outcome = could_more old
 
 -- where a run ends, the steps that were done could be done
 pub could_stop : (old mid : WorldState) (steps : List Step) (k : ℕ) (x : Step) (fault : WorldFault) → k < length steps → x ≡ get_or steps k x → Follows old (take k steps) mid → SameNodes old mid
-    → Allows old (take k steps) → IsOutcome (refusal mid x) (Err fault) → Allows old (take (done (k, fault)) steps)
+    → Allows old (take k steps) → IsOutcome (refusal mid x) (Err fault) → Allows old (take (done_at k fault) steps)
 could_stop old mid steps k x Stale lt is so_far same could outcome = could_more old mid steps k x lt is so_far same could (answerless (refusal mid x) (not_stale mid x) outcome)
 could_stop old mid steps k x NoNode lt is so_far same could outcome = could
 could_stop old mid steps k x NoMail lt is so_far same could outcome = could

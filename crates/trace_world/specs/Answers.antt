@@ -4,6 +4,7 @@ use Rattle.std.specs.List.{slice_get}
 use Rattle.trace_node.specs.Node.{Held}
 use Rattle.trace_world.specs.declared.step.Step.{Step}
 use Rattle.trace_world.specs.declared.step.Step.TheVariants.{Post, Take, Ship, Deliver, Restart}
+use Rattle.trace_world.specs.declared.step.StepFault.{StepFault}
 use Rattle.trace_world.specs.declared.step.WorldFault.{WorldFault}
 use Rattle.trace_world.specs.declared.step.WorldFault.TheVariants.{Memory, NoNode, Stale}
 use Rattle.trace_world.specs.Refusals.{NoneStaler, node_of, stale}
@@ -81,9 +82,13 @@ JoinsMore (Take node) = ⊤
 JoinsMore (Deliver mail node) = ⊤
 JoinsMore step = ⊥
 
--- A run ended at one of its steps. No node that had an answer has lost it, but where that step ended in `Stale`: then its
--- own node joined more, and has none.
-abbrev pub LosesOne : List Step → ℕ × WorldFault → List Held → List Held → Type 0
-LosesOne steps (k, Stale) old new = (step : Step) × (slice_get steps k ≡ Some step) × JoinsMore step × (slice_index_or (stale new) (node_of step) false ≡ true)
+-- A run ended at this step for this. No node that had an answer has lost it, but at `Stale`: then the step's own node
+-- joined more, and has none.
+abbrev pub LosesAt : List Step → ℕ → WorldFault → List Held → List Held → Type 0
+LosesAt steps k Stale old new = (step : Step) × (slice_get steps k ≡ Some step) × JoinsMore step × (slice_index_or (stale new) (node_of step) false ≡ true)
     × ((i : ℕ) → i ≢ node_of step → slice_index_or (stale old) i false ≡ false → slice_index_or (stale new) i false ≡ false)
-LosesOne steps (k, fault) old new = NoneStaler old new
+LosesAt steps k fault old new = NoneStaler old new
+
+-- A run ended so, and no node but one at most has lost its answer.
+abbrev pub LosesOne : List Step → StepFault → List Held → List Held → Type 0
+LosesOne steps e old new = LosesAt steps e.step e.fault old new

@@ -8,6 +8,7 @@ use Rattle.trace_node.specs.Node.{Held}
 use Rattle.trace_wire.specs.Frames.{payload, longest}
 use Rattle.trace_world.specs.declared.step.Step.{Step}
 use Rattle.trace_world.specs.declared.step.Step.TheVariants.{Post, Take, Ship, Deliver, Restart}
+use Rattle.trace_world.specs.declared.step.StepFault.{StepFault}
 use Rattle.trace_world.specs.declared.step.WorldFault.{WorldFault}
 use Rattle.trace_world.specs.declared.step.WorldFault.TheVariants.{NoNode, NoMail, EmptyInbox, Rank, FrameLength, Stale, NodeCount, Memory}
 use Rattle.trace_world.specs.Schedule.{at}
@@ -68,20 +69,28 @@ is_done (Err FrameLength) = false
 is_done (Err NodeCount) = false
 is_done (Err Memory) = false
 
--- how many steps were done where a run ended at a step with a fault
-abbrev pub done : ℕ × WorldFault → ℕ
-done (k, Stale) = k + 1
-done (k, NoNode) = k
-done (k, NoMail) = k
-done (k, EmptyInbox) = k
-done (k, Rank) = k
-done (k, FrameLength) = k
-done (k, NodeCount) = k
-done (k, Memory) = k
+-- how many steps were done of a run that ended at this step for this
+abbrev pub done_at : ℕ → WorldFault → ℕ
+done_at k Stale = k + 1
+done_at k NoNode = k
+done_at k NoMail = k
+done_at k EmptyInbox = k
+done_at k Rank = k
+done_at k FrameLength = k
+done_at k NodeCount = k
+done_at k Memory = k
+
+-- how many steps were done of a run that ended so
+abbrev pub done : StepFault → ℕ
+done e = done_at e.step e.fault
+
+-- a run ended at this step for this
+abbrev pub ended_at : ℕ → WorldFault → StepFault
+ended_at k fault = record { step = k; fault = fault }
 
 -- A run ended at one of its steps. Where that step was not done, the world that is left refuses it so.
-abbrev pub StopsAt : WorldState → List Step → ℕ × WorldFault → Type 0
-StopsAt w steps e = (step : Step) × (slice_get steps e.0 ≡ Some step) × (is_done (Err e.1) ≡ false → IsOutcome (refusal w step) (Err e.1))
+abbrev pub StopsAt : WorldState → List Step → StepFault → Type 0
+StopsAt w steps e = (step : Step) × (slice_get steps e.step ≡ Some step) × (is_done (Err e.fault) ≡ false → IsOutcome (refusal w step) (Err e.fault))
 
 -- which nodes have no answer
 abbrev pub stale : List Held → List Bool

@@ -35,5 +35,5 @@ mod world;
 
 pub use laws::{equal_nodes, states_refuse};
 pub use shared::SharedSegment;
-pub use step::{Step, WorldFault};
+pub use step::{Step, StepFault, WorldFault};
 pub use world::World;

@@ -93,3 +93,10 @@ pub enum WorldFault {
     #[error("Memory")]
     Memory,
 }
+
+/// The step at which a run of steps ended, from 0, and why.
+#[derive(Clone, Copy, Debug, PartialEq, Eq)]
+pub struct StepFault {
+    pub step: usize,
+    pub fault: WorldFault,
+}

@@ -20,7 +20,7 @@ use crate::inbox::SegmentQueue;
 use crate::mail::Mail;
 use crate::moves;
 use crate::shared::SharedSegment;
-use crate::step::{Step, WorldFault};
+use crate::step::{Step, StepFault, WorldFault};
 use mpi_model::Layout;
 use std::alloc::{AllocError, Global};
 use std::marker::Model;
@@ -115,11 +115,11 @@ impl<'a> World<'a> {
     /// Does the steps in order, up to the first that is refused, which it names. The answers are made
     /// once, at the end. Where there is no memory for that, the steps are undone and done again, each
     /// with its answer, so that the one is named that lacks it.
-    pub fn run(&mut self, steps: &[Step]) -> Result<(), (usize, WorldFault)>
+    pub fn run(&mut self, steps: &[Step]) -> Result<(), StepFault>
         ensures ok { OnOk result (Follows self.old steps.now self.new) }
         ensures possible { OnOk result (Allows self.old steps.now) }
         ensures fresh { OnOk result (NoneStaler self.old.nodes self.new.nodes) }
-        ensures err { IfErr result (λ e. (e.0 < length steps.now) × Follows self.old (take (done e) steps.now) self.new) }
+        ensures err { IfErr result (λ e. (e.step < length steps.now) × Follows self.old (take (done e) steps.now) self.new) }
         ensures possible_before { IfErr result (λ e. Allows self.old (take (done e) steps.now)) }
         ensures cause { IfErr result (λ e. StopsAt self.new steps.now e) }
         ensures lost { IfErr result (λ e. LosesOne steps.now e self.old.nodes self.new.nodes) }
@@ -177,7 +177,7 @@ impl<'a> World<'a> {
 
     /// Runs the steps, and makes the answers once, at the end. Where there is no memory for them, or a
     /// node has none before, nothing has changed.
-    fn run_at_once(&mut self, steps: &[Step]) -> Option<Result<(), (usize, WorldFault)>>
+    fn run_at_once(&mut self, steps: &[Step]) -> Option<Result<(), StepFault>>
         ensures some { IfSome result (λ ended. Ends self.old steps.now ended self.new) }
         ensures none { IfNone result (self.new ≡ self.old) }
     {
@@ -191,24 +191,24 @@ impl<'a> World<'a> {
     }
 
     /// Runs the steps, each with its answer.
-    fn run_each(&mut self, steps: &[Step]) -> Result<(), (usize, WorldFault)>
+    fn run_each(&mut self, steps: &[Step]) -> Result<(), StepFault>
         ensures { Ends self.old steps.now result self.new }
     {
         for k in 0..steps.len() {
             if let Err(fault) = self.step(&steps[k]) {
-                return Err((k, fault));
+                return Err(StepFault { step: k, fault });
             }
         }
         Ok(())
     }
 
     /// Runs the steps, and makes no answer.
-    fn hold_steps(&mut self, steps: &[Step]) -> Result<(), (usize, WorldFault)>
+    fn hold_steps(&mut self, steps: &[Step]) -> Result<(), StepFault>
         ensures { EndsHeld self.old steps.now result self.new }
     {
         for i in 0..steps.len() {
             if let Err(fault) = self.hold_step(&steps[i]) {
-                return Err((i, fault));
+                return Err(StepFault { step: i, fault });
             }
         }
         Ok(())
