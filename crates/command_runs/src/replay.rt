@@ -22,7 +22,7 @@ use mpi_model::{Failed, Layout, Write, write_all};
 use std::alloc::Global;
 use trace_node::Answer;
 use trace_report::write_report;
-use trace_world::{Step, StepFault, World, WorldFault, states_refuse};
+use trace_world::{Step, World, WorldFault, states_refuse};
 
 /// Writes, for each node that the schedule leaves, its line and its report.
 pub(crate) fn replay_with<O: Opener, V: Watcher, W: Write>(
@@ -104,7 +104,7 @@ fn world_after<'a>(
     world.known();
     match ran {
         Ok(()) => Ok(world),
-        Err(StepFault { step, fault }) => Err(stop_of(fault, step)),
+        Err(stop) => Err(stop_of(stop.fault, stop.step)),
     }
 }
 

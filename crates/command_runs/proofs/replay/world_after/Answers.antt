@@ -10,5 +10,5 @@ returns-in-Ok-ran-clause-ok c =
 pub returns-clause-err : goal.returns-clause-err
 returns-clause-err c =
     let new : IsNew c.args.layout.now c.args.nodes c.in-Ok.world = record { shows = c.in-Ok.ensures.shows; layout = c.in-Ok.ensures.layout; fresh = c.in-Ok.ensures.fresh } in
-    rw c.stop_of.ensures (stopped c.states_refuse.ensures c.args.layout.now c.args.nodes c.args.steps.now c.in-Ok.world c.run-ran.new.self c.in-Err-ran.step c.in-Err-ran.fault new c.run-ran.ensures.same
+    rw c.stop_of.ensures (stopped c.states_refuse.ensures c.args.layout.now c.args.nodes c.args.steps.now c.in-Ok.world c.run-ran.new.self c.in-Err-ran.stop.step c.in-Err-ran.stop.fault new c.run-ran.ensures.same
     c.known.ensures c.in-Err-ran.ensures.err.1 c.in-Err-ran.ensures.possible_before c.in-Err-ran.ensures.cause)
