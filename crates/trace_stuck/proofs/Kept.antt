@@ -1,5 +1,5 @@
 -- Parts that come twice may be left out.
-use Rattle.std.proofs.Common.{Vec, Global, ◌≡◌, ℕ, zero, suc, ◌+◌, ◌<◌, Bool, true, false, ◌&&◌, ◌||◌, List, [], ◌∷◌, ◌++◌, Option, Some, None, IsTrue, map, length, take, get_or, refl, sym, ◌∙◌, ap, arith}
+use Rattle.std.proofs.Common.{Vec, Global, ◌≡◌, ℕ, zero, suc, ◌+◌, ◌<◌, Bool, true, false, ◌&&◌, ◌||◌, List, [], ◌∷◌, ◌++◌, Option, Some, None, length, take, get_or, refl, sym, ◌∙◌, ap, arith}
 use Rattle.std.specs.Prelude.{slice_get, unwrap_or}
 use Rattle.std.specs.Option.{option_map}
 use Rattle.std.specs.List.{list_any, list_all}
@@ -11,7 +11,7 @@ use Rattle.trace_stuck.specs.declared.condition.Condition.{Condition}
 use Rattle.trace_stuck.specs.declared.condition.Condition.TheViews as views
 use Rattle.trace_stuck.specs.Holds.{holds, may_go}
 use Rattle.trace_stuck.specs.States.{is_free}
-use Rattle.trace_stuck.specs.Release.{among, left, IsReleasedAfter, IsWhole}
+use Rattle.trace_stuck.specs.Release.{among, IsReleasedAfter, IsWhole}
 use Rattle.trace_stuck.specs.Distinct.{HoldAlike, PartsHoldAlike, HasAlike, held, AllHoldAlike}
 use Rattle.trace_stuck.proofs.Holds.{holds_All, holds_One, holds_OneRank, holds_AllRanks}
 use Rattle.trace_stuck.proofs.Shapes.{map_push}

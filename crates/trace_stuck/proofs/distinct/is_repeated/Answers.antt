@@ -1,4 +1,4 @@
-use Rattle.std.proofs.Common.{◌≡◌, ◌∙◌, ap, sym, Vec, Global, ℕ}
+use Rattle.std.proofs.Common.{◌∙◌, ap, sym, Vec, Global, ℕ}
 use Rattle.trace_stuck.proofs.Orders.{is_equal}
 use Rattle.trace_stuck.proofs.Kept.{alike_ranks, alike_one, alike_all}
 use Rattle.trace_stuck.proofs.distinct.is_repeated.Goals as goal
